@@ -1,0 +1,5 @@
+use Rattle.bpf_machine.proofs.Spellings.{decodes}
+use Rattle.bpf_machine.proofs.laws.decodes_spelling.Goals as goal
+
+pub returns : goal.returns
+returns c = decodes c.spelled_is_spelling.ensures

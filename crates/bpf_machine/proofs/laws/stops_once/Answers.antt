@@ -1,0 +1,5 @@
+use Rattle.bpf_machine.specs.Laws.{stop_place_only}
+use Rattle.bpf_machine.proofs.laws.stops_once.Goals as goal
+
+pub returns : goal.returns
+returns c = stop_place_only

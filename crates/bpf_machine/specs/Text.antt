@@ -1,0 +1,57 @@
+-- The printed text of a state: what the debugger answers to a move and to `r`.
+use Rattle.std.specs.Prelude.{ℕ, ℤ, zero, suc, ◌+◌, ◌/◌, ◌%◌, List, [], ◌∷◌, ◌++◌, codes, decimal, nat_lt, slice_index, if◌then◌else◌}
+use Rattle.std.specs.Fmt.{signed_decimal}
+use Rattle.bpf_machine.specs.State.{State}
+use Rattle.bpf_machine.specs.declared.fault.Fault as fault
+use Rattle.bpf_machine.specs.declared.fault.Fault.TheVariants.{F1, F2, F3, F4, F5, F6, F7, F8, F9}
+use Rattle.bpf_machine.specs.declared.status.Status.{Status}
+use Rattle.bpf_machine.specs.declared.status.Status.TheVariants.{Running, Exited, Fault}
+
+-- a hex digit in lower case
+abbrev pub hex_digit : ℕ → ℕ
+hex_digit d = if nat_lt d 10 then 48 + d else 87 + d
+
+-- the lowest k hex digits of n, the highest of them first
+unfoldable pub hex_digits : ℕ → ℕ → List ℕ
+hex_digits zero n = []
+hex_digits (suc k) n = hex_digits k (n / 16) ++ hex_digit (n % 16) ∷ []
+
+-- a word of 64 bits: `0x` and 16 digits
+abbrev pub word_text : ℕ → List ℕ
+word_text w = codes "0x" ++ hex_digits 16 w
+
+abbrev pub fault_text : fault.Fault → List ℕ
+fault_text F1 = codes "F1"
+fault_text F2 = codes "F2"
+fault_text F3 = codes "F3"
+fault_text F4 = codes "F4"
+fault_text F5 = codes "F5"
+fault_text F6 = codes "F6"
+fault_text F7 = codes "F7"
+fault_text F8 = codes "F8"
+fault_text F9 = codes "F9"
+
+abbrev pub status_text : Status → List ℕ
+status_text Running = codes "running"
+status_text (Exited w) = codes "exited " ++ word_text w
+status_text (Fault f) = codes "fault " ++ fault_text f
+
+-- the line of a move to step k, at this `pc` and with this status
+unfoldable pub move_line : ℕ → ℤ → Status → List ℕ
+move_line k pc status = codes "step " ++ (decimal k ++ (codes " pc " ++ (signed_decimal pc ++ (codes " " ++ (status_text status ++ 10 ∷ [])))))
+
+abbrev pub move_text : ℕ → State → List ℕ
+move_text k s = move_line k s.pc s.status
+
+-- the line of a register
+unfoldable pub register_line : ℕ → ℕ → List ℕ
+register_line number w = codes "r" ++ (decimal number ++ (codes " " ++ (word_text w ++ 10 ∷ [])))
+
+-- the lines of the first n registers
+unfoldable pub register_lines : ℕ → State → List ℕ
+register_lines zero s = []
+register_lines (suc n) s = register_lines n s ++ register_line n (slice_index s.registers n)
+
+-- the lines of r0 to r10
+unfoldable pub registers_text : State → List ℕ
+registers_text s = register_lines 11 s

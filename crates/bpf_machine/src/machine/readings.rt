@@ -1,0 +1,44 @@
+//! What can be read of a machine.
+ghost use Rattle.std.specs.Prelude.{◌≡◌, ◌<◌, slice_index};
+
+use super::Machine;
+use crate::frame::Frame;
+use crate::status::Status;
+use loader::Image;
+
+impl Machine {
+    /// The image that it runs.
+    pub fn image(&self) -> &Image
+        ensures { result.now ≡ self.now.image }
+    {
+        &self.image
+    }
+
+    pub fn status(&self) -> Status
+        ensures { result ≡ self.now.status }
+    {
+        self.status
+    }
+
+    /// The slot of the next instruction, counted from 0; it may lie outside the code.
+    pub fn pc(&self) -> i64
+        ensures { result ≡ self.now.pc }
+    {
+        self.pc
+    }
+
+    /// The word of the register with this number.
+    pub fn register(&self, number: usize) -> u64
+        requires { number < 11 }
+        ensures { result ≡ slice_index self.now.registers number }
+    {
+        self.registers[number]
+    }
+
+    /// The frames of the callers, the newest last.
+    pub fn records(&self) -> &[Frame]
+        ensures { result.now ≡ self.now.records }
+    {
+        self.records.as_slice()
+    }
+}

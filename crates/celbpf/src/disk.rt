@@ -1,0 +1,46 @@
+//! The files of the system.
+ghost use Rattle.std.specs.Prelude.{None};
+
+use review_runner::{FileError, Files};
+use std::alloc::Global;
+use std::io::{Error, ErrorKind};
+use std::{fs, rt};
+
+/// The files of the system, of which nothing is known before they are read.
+#[derive(Drop)]
+pub struct Disk<'a, R> {
+    rt: &'a R,
+}
+
+impl<'a, R: rt::Files + AllocGlobal> Disk<'a, R> {
+    pub fn new(rt: &'a R) -> Disk<'a, R> {
+        Disk { rt }
+    }
+}
+
+impl<'a, R: rt::Files + AllocGlobal> Files for Disk<'a, R> {
+    ghost use Rattle.std.specs.Prelude.{None};
+
+    ghost known = { λ _. None };
+
+    fn read(&mut self, _alloc: Global, name: &str) -> Result<Vec<u8>, FileError> {
+        match fs::read(self.rt, name) {
+            Ok(bytes) => Ok(bytes),
+            Err(error) => Err(file_error(error)),
+        }
+    }
+
+    fn write(&mut self, name: &str, bytes: &[u8]) -> Result<(), FileError> {
+        match fs::write(self.rt, name, bytes) {
+            Ok(()) => Ok(()),
+            Err(error) => Err(file_error(error)),
+        }
+    }
+}
+
+fn file_error(error: Error) -> FileError {
+    match error.kind() {
+        ErrorKind::OutOfMemory => FileError::Memory,
+        _ => FileError::Failed,
+    }
+}

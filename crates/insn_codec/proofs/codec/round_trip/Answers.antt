@@ -1,0 +1,5 @@
+use Rattle.std.proofs.Common.{[], append-nil, sym, ◌∙◌}
+use Rattle.insn_codec.proofs.codec.round_trip.Goals as goal
+
+pub returns : goal.returns
+returns c = c.decode.ensures.only c.args.insn.now c.in_range.ensures ([], c.encode-first.ensures ∙ sym (append-nil _))

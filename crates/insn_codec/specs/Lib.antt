@@ -1,0 +1,6 @@
+pub mod Codes
+pub mod Slots
+pub mod Spelling
+pub mod Candidate
+pub mod Spelled
+pub mod Rows

@@ -1,0 +1,58 @@
+ghost use Rattle.std.specs.Prelude.{◌≡◌};
+
+use crate::register::Register;
+use crate::slot::Slot;
+
+/// The second operand of an instruction (RFC 9669, section 4).
+#[derive(Clone, Copy, Debug, PartialEq, Eq)]
+pub enum Operand {
+    /// A signed number of 32 bits, from the slot's imm.
+    Imm(i32),
+    /// The content of the slot's src register.
+    Reg(Register),
+}
+
+impl Operand {
+    ghost use Rattle.insn_codec.specs.Codes.{operand_at, operand_flag, operand_imm, operand_src};
+
+    /// The operand that a slot's flag and fields say; the number of a register can be too high.
+    pub(crate) fn at(slot: Slot) -> Option<Operand>
+        ensures { result ≡ operand_at slot }
+    {
+        if slot.opcode / 8 % 2 == 0 {
+            Some(Operand::Imm(slot.imm))
+        } else {
+            Some(Operand::Reg(Register::of(slot.src)?))
+        }
+    }
+
+    /// The flag that says in an opcode, worth 8 there, which of the two it is.
+    pub(crate) fn flag(self) -> u8
+        ensures { result ≡ operand_flag self }
+    {
+        match self {
+            Operand::Imm(_) => 0,
+            Operand::Reg(_) => 1,
+        }
+    }
+
+    /// What stands in the slot's src field.
+    pub(crate) fn src(self) -> u8
+        ensures { result ≡ operand_src self }
+    {
+        match self {
+            Operand::Imm(_) => 0,
+            Operand::Reg(register) => register.number(),
+        }
+    }
+
+    /// What stands in the slot's imm field.
+    pub(crate) fn imm(self) -> i32
+        ensures { result ≡ operand_imm self }
+    {
+        match self {
+            Operand::Imm(imm) => imm,
+            Operand::Reg(_) => 0,
+        }
+    }
+}

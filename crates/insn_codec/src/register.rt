@@ -1,0 +1,48 @@
+ghost use Rattle.std.specs.Prelude.{◌≡◌};
+
+/// One of the machine's eleven registers, each of 64 bits, by its number in a slot (RFC 9669, section 3).
+#[derive(Clone, Copy, Debug, PartialEq, Eq)]
+pub enum Register {
+    R0,
+    R1,
+    R2,
+    R3,
+    R4,
+    R5,
+    R6,
+    R7,
+    R8,
+    R9,
+    R10,
+}
+
+impl Register {
+    ghost use Rattle.insn_codec.specs.Codes.{register_number, register_of};
+
+    /// The register that a slot's field of four bits names; the numbers from 11 on name none.
+    pub fn of(number: u8) -> Option<Register>
+        ensures { result ≡ register_of number }
+    {
+        match number {
+            0 => Some(Register::R0),
+            1 => Some(Register::R1),
+            2 => Some(Register::R2),
+            3 => Some(Register::R3),
+            4 => Some(Register::R4),
+            5 => Some(Register::R5),
+            6 => Some(Register::R6),
+            7 => Some(Register::R7),
+            8 => Some(Register::R8),
+            9 => Some(Register::R9),
+            10 => Some(Register::R10),
+            _ => None,
+        }
+    }
+
+    /// The number that names the register in a slot, from 0 to 10.
+    pub fn number(self) -> u8
+        ensures { result ≡ register_number self }
+    {
+        self as u8
+    }
+}

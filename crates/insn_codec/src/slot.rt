@@ -1,0 +1,60 @@
+ghost use Rattle.std.specs.Prelude.{◌≡◌, ◌<◌};
+ghost use Rattle.std.specs.Int.{w64, to_le_bytes};
+
+/// The fields of one slot of eight bytes (RFC 9669, section 3); `dst` and `src` have four bits each.
+#[derive(Clone, Copy, Debug, PartialEq, Eq)]
+pub struct Slot {
+    pub opcode: u8,
+    pub dst: u8,
+    pub src: u8,
+    pub offset: i16,
+    pub imm: i32,
+}
+
+impl Slot {
+    ghost use Rattle.insn_codec.specs.Slots.{IsSlot, slot_bytes};
+
+    /// The fields of the slot whose bytes, read little-endian, are the word.
+    pub fn of_word(word: u64) -> Slot
+        ensures bytes { slot_bytes result ≡ to_le_bytes w64 word }
+        ensures ranges { IsSlot result }
+    {
+        let [
+            opcode,
+            registers,
+            offset_0,
+            offset_1,
+            imm_0,
+            imm_1,
+            imm_2,
+            imm_3,
+        ] = word.to_le_bytes();
+        Slot {
+            opcode,
+            dst: registers % 16,
+            src: registers / 16,
+            offset: i16::from_le_bytes([offset_0, offset_1]),
+            imm: i32::from_le_bytes([imm_0, imm_1, imm_2, imm_3]),
+        }
+    }
+
+    /// The slot's bytes, read little-endian.
+    pub fn word(self) -> u64
+        requires dst { self.dst < 16 }
+        requires src { self.src < 16 }
+        ensures { to_le_bytes w64 result ≡ slot_bytes self }
+    {
+        let [offset_0, offset_1] = self.offset.to_le_bytes();
+        let [imm_0, imm_1, imm_2, imm_3] = self.imm.to_le_bytes();
+        u64::from_le_bytes([
+            self.opcode,
+            16 * self.src + self.dst,
+            offset_0,
+            offset_1,
+            imm_0,
+            imm_1,
+            imm_2,
+            imm_3,
+        ])
+    }
+}

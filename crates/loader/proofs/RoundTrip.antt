@@ -1,0 +1,139 @@
+-- What is read and written again is the same.
+use Rattle.std.proofs.Common.{◌≡◌, ◌≤◌, ℕ, zero, suc, ◌+◌, ◌*◌, ◌/◌, List, [], ◌∷◌, ◌++◌, length, take, drop, refl, sym, ap, ◌∙◌, arith, length-append, length-drop, Ok}
+use Rattle.std.proofs.lemmas.List.{take-append-drop, drop-drop, take_all, length-take-le}
+use Rattle.std.proofs.Math.Seq.{take-append_seam, drop-append_seam, take-length}
+use Rattle.std.proofs.Math.Nat.{mul-div_cancel_left}
+use Rattle.byteorder.specs.Endian.{little_number, little_bytes}
+use Rattle.byteorder.specs.Numbers.{little_number-reads_back}
+use Rattle.loader.specs.Contents.{Contents, IsImage, AreBytes}
+use Rattle.loader.specs.Format.{magic, slots_in, constants_in, contents_in, file_of, image_in}
+use Rattle.loader.proofs.Numbers.{number_back}
+use Rattle.loader.proofs.Faults.{HasNoFault, HasShape, shape_of, no_fault, holds}
+
+-- ---- a file without a fault is the file of its contents
+
+-- a list from place i on: the next n items, and what follows
+cut : (i n : ℕ) (xs : List ℕ) → drop i xs ≡ take n (drop i xs) ++ drop (i + n) xs
+cut i n xs = sym (take-append-drop n (drop i xs)) ∙ ap (λ (ys : List ℕ). take n (drop i xs) ++ ys) (drop-drop n i xs)
+
+bytes-drop : (n : ℕ) (xs : List ℕ) → AreBytes xs → AreBytes (drop n xs)
+bytes-drop zero xs bytes i = bytes i
+bytes-drop (suc n) [] bytes i = bytes i
+bytes-drop (suc n) (x ∷ xs) bytes i = bytes-drop n xs (λ j. bytes (suc j)) i
+
+four : (n : ℕ) (xs : List ℕ) → n + 4 ≤ length xs → AreBytes xs → drop n xs ≡ little_bytes 4 (little_number 4 (drop n xs)) ++ drop (n + 4) xs
+four n xs h bytes =
+    let enough : 4 ≤ length (drop n xs) = omega (arith, length-drop n xs) in
+    cut n 4 xs ∙ ap (λ (ys : List ℕ). ys ++ drop (n + 4) xs) (sym (number_back (drop n xs) enough (bytes-drop n xs bytes)))
+
+-- the lengths of the two parts
+pub record HasParts (file : List ℕ) : Type 0 where
+  pub code : length (take (8 * slots_in file) (drop 16 file)) ≡ 8 * slots_in file
+  pub constants : length (take (constants_in file) (drop (16 + 8 * slots_in file) file)) ≡ constants_in file
+
+parts_of : (file : List ℕ) → HasShape file → HasParts file
+parts_of file s =
+    let e = s.length_is in
+    record {
+      code = length-take-le (8 * slots_in file) (drop 16 file) (omega (arith, length-drop 16 file));
+      constants =
+          length-take-le (constants_in file) (drop (16 + 8 * slots_in file) file) (omega (arith, length-drop (16 + 8 * slots_in file) file));
+    }
+
+slots_first : (file : List ℕ) → 12 ≤ length file → AreBytes file → drop 8 file ≡ little_bytes 4 (slots_in file) ++ drop 12 file
+unfolding slots_in
+slots_first file h bytes = four 8 file h bytes
+
+constants_next : (file : List ℕ) → 16 ≤ length file → AreBytes file → drop 12 file ≡ little_bytes 4 (constants_in file) ++ drop 16 file
+unfolding constants_in
+constants_next file h bytes = four 12 file h bytes
+
+joined : (file head from_8 slots from_12 constants from_16 code rest last : List ℕ) → file ≡ head ++ from_8 → from_8 ≡ slots ++ from_12 → from_12 ≡ constants ++ from_16 → from_16 ≡ code ++ rest → rest ≡ last → file ≡ head ++ (slots ++ (constants ++ (code ++ last)))
+joined file head from_8 slots from_12 constants from_16 code rest last a b c d e = cc
+
+-- a file is its head, its code and its constants
+whole : (file : List ℕ) → AreBytes file → HasShape file → file ≡ magic ++ (little_bytes 4 (slots_in file) ++ (little_bytes 4 (constants_in file) ++ (take (8 * slots_in file) (drop 16 file) ++ take (constants_in file) (drop (16 + 8 * slots_in file) file))))
+whole file bytes s =
+    let e = s.length_is in
+    joined file magic (drop 8 file) (little_bytes 4 (slots_in file)) (drop 12 file) (little_bytes 4 (constants_in file)) (drop 16 file) (take (8 * slots_in file) (drop 16 file)) (drop (16 + 8 * slots_in file) file) (take (constants_in file) (drop (16 + 8 * slots_in file) file)) (sym (take-append-drop 8 file) ∙ ap (λ (xs : List ℕ). xs ++ drop 8 file) s.magic_is) (slots_first file (omega arith) bytes) (constants_next file (omega arith) bytes) (cut 16 (8 * slots_in file) file) (sym (take_all (constants_in file) (drop (16 + 8 * slots_in file) file) (omega (arith, length-drop (16 + 8 * slots_in file) file))))
+
+-- the file of the contents is written with the numbers that were read
+pub file_whole : (file : List ℕ) → AreBytes file → HasNoFault file → file ≡ file_of (contents_in file)
+unfolding file_of
+file_whole file bytes f =
+    let s = shape_of file f in
+    let p = parts_of file s in
+    let slots : length (take (8 * slots_in file) (drop 16 file)) / 8 ≡ slots_in file = ap (λ (n : ℕ). n / 8) p.code ∙ mul-div_cancel_left (slots_in file) (omega arith) in
+    rw (slots, p.constants) (whole file bytes s)
+
+pub file_image : (file : List ℕ) → HasNoFault file → IsImage (contents_in file)
+file_image file f =
+    let s = shape_of file f in
+    let p = parts_of file s in
+    let some = s.some_slots in
+    let most = s.most_slots in
+    let limit = s.most_constants in
+    let code = p.code in
+    let constants = p.constants in
+    record { whole_slots = omega arith; some_slots = omega arith; most_slots = omega arith; most_constants = omega arith }
+
+-- ---- the file of an image holds it
+
+-- the fields of a file as it is written
+pub record HasFields (c : Contents) : Type 0 where
+  pub slots : slots_in (file_of c) ≡ length c.code / 8
+  pub constants : constants_in (file_of c) ≡ length c.constants
+  pub parts : drop 16 (file_of c) ≡ c.code ++ c.constants
+  pub length_is : length (file_of c) ≡ 16 + (length c.code + length c.constants)
+  pub magic_is : take 8 (file_of c) ≡ magic
+
+fields_of : (c : Contents) → IsImage c → HasFields c
+unfolding magic file_of slots_in constants_in
+fields_of c i =
+    let most = i.most_slots in
+    let limit = i.most_constants in
+    record {
+      slots = little_number-reads_back 4 (length c.code / 8) (little_bytes 4 (length c.constants) ++ (c.code ++ c.constants)) (omega arith);
+      constants = little_number-reads_back 4 (length c.constants) (c.code ++ c.constants) (omega arith);
+      parts = refl;
+      length_is = omega (arith, length-append c.code c.constants);
+      magic_is = refl;
+    }
+
+shape_written : (c : Contents) → IsImage c → HasShape (file_of c)
+shape_written c i =
+    let f = fields_of c i in
+    let slots = f.slots in
+    let constants = f.constants in
+    let length_is = f.length_is in
+    let whole_slots = i.whole_slots in
+    let some = i.some_slots in
+    let most = i.most_slots in
+    let limit = i.most_constants in
+    record {
+      magic_is = f.magic_is;
+      some_slots = omega arith;
+      most_slots = omega arith;
+      most_constants = omega arith;
+      length_is = omega arith;
+    }
+
+contents_written : (c : Contents) → IsImage c → contents_in (file_of c) ≡ c
+contents_written c i =
+    let f = fields_of c i in
+    let slots = f.slots in
+    let whole_slots = i.whole_slots in
+    let bytes : 8 * slots_in (file_of c) ≡ length c.code = omega arith in
+    let code : take (8 * slots_in (file_of c)) (drop 16 (file_of c)) ≡ c.code =
+    ap (λ (n : ℕ). take n (drop 16 (file_of c))) bytes
+    ∙ (ap (take (length c.code)) f.parts ∙ take-append_seam c.code c.constants) in
+    let rest : drop (16 + 8 * slots_in (file_of c)) (file_of c) ≡ c.constants =
+    ap (λ (n : ℕ). drop (16 + n) (file_of c)) bytes
+    ∙ (sym (drop-drop (length c.code) 16 (file_of c)) ∙ (ap (drop (length c.code)) f.parts ∙ drop-append_seam c.code c.constants)) in
+    let constants : take (constants_in (file_of c)) (drop (16 + 8 * slots_in (file_of c)) (file_of c)) ≡ c.constants =
+    ap (λ (n : ℕ). take n (drop (16 + 8 * slots_in (file_of c)) (file_of c))) f.constants
+    ∙ (ap (take (length c.constants)) rest ∙ take-length c.constants) in
+    λ j. record { code = code j; constants = constants j }
+
+pub reads_back : (c : Contents) → IsImage c → image_in (file_of c) ≡ Ok c
+reads_back c i = holds (file_of c) (no_fault (file_of c) (shape_written c i)) ∙ ap Ok (contents_written c i)

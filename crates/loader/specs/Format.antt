@@ -1,0 +1,81 @@
+-- The file of an image. It has the eight bytes CELBPF01, the number of slots of the code, the
+-- number of bytes of the constants, the code at 8 bytes a slot, and the constants, with nothing
+-- after them. Each number has four bytes, the lowest first.
+use Rattle.std.specs.Prelude.{ℕ, ◌+◌, ◌*◌, ◌/◌, ◌%◌, Bool, not, ◌||◌, nat_eq, nat_lt, if◌then◌else◌, List, ◌++◌, length, take, drop, Result, Ok, Err, codes}
+use Rattle.std.specs.Str.{bytes_eq}
+use Rattle.byteorder.specs.Endian.{little_number, little_bytes}
+use Rattle.loader.specs.Contents.{Contents}
+use Rattle.loader.specs.declared.load_error.LoadError.{LoadError}
+use Rattle.loader.specs.declared.load_error.LoadError.TheVariants.{L1, L2, L3, L4, L5}
+
+-- what each file begins with
+unfoldable pub magic : List ℕ
+magic = codes "CELBPF01"
+
+-- the file of an image
+unfoldable pub file_of : Contents → List ℕ
+file_of c =
+    magic
+    ++ (little_bytes 4 (length c.code / 8) ++ (little_bytes 4 (length c.constants) ++ (c.code ++ c.constants)))
+
+-- the number of slots that a file states
+unfoldable pub slots_in : List ℕ → ℕ
+slots_in file = little_number 4 (drop 8 file)
+
+-- the number of bytes of constants that a file states
+unfoldable pub constants_in : List ℕ → ℕ
+constants_in file = little_number 4 (drop 12 file)
+
+-- no image has that many slots
+abbrev pub is_bad_count : ℕ → Bool
+is_bad_count slots = nat_eq slots 0 || nat_lt 65536 slots
+
+-- no image has that many bytes of constants
+abbrev pub is_too_long : ℕ → Bool
+is_too_long constants = nat_lt 1048576 constants
+
+-- the causes for which a file holds no image, in the order in which they count
+
+abbrev pub is_too_short : List ℕ → Bool
+is_too_short file = nat_lt (length file) 16
+
+abbrev pub has_other_magic : List ℕ → Bool
+has_other_magic file = not (bytes_eq (take 8 file) magic)
+
+abbrev pub has_bad_slots : List ℕ → Bool
+has_bad_slots file = is_bad_count (slots_in file)
+
+abbrev pub has_long_constants : List ℕ → Bool
+has_long_constants file = is_too_long (constants_in file)
+
+abbrev pub has_other_length : List ℕ → Bool
+has_other_length file = not (nat_eq (length file) (16 + 8 * slots_in file + constants_in file))
+
+-- the code and the constants where a file that has none of these causes holds them
+abbrev pub contents_in : List ℕ → Contents
+contents_in file = record {
+  code = take (8 * slots_in file) (drop 16 file);
+  constants = take (constants_in file) (drop (16 + 8 * slots_in file) file);
+}
+
+-- the image that a file holds, or the first cause for which it holds none
+unfoldable pub image_in : List ℕ → Result Contents LoadError
+image_in file =
+    if is_too_short file then Err L1
+    else (if has_other_magic file then Err L2
+    else (if has_bad_slots file then Err L3
+    else (if has_long_constants file then Err L4
+    else (if has_other_length file then Err L5
+    else Ok (contents_in file)))))
+
+-- the code ends within a slot
+abbrev pub has_part_of_slot : List ℕ → Bool
+has_part_of_slot code = not (nat_eq (length code % 8) 0)
+
+-- the image of some code and constants, or the first cause for which they are none
+unfoldable pub image_from : List ℕ → List ℕ → Result Contents LoadError
+image_from code constants =
+    if has_part_of_slot code then Err L5
+    else (if is_bad_count (length code / 8) then Err L3
+    else (if is_too_long (length constants) then Err L4
+    else Ok (record { code = code; constants = constants })))

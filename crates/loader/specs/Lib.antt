@@ -1,0 +1,4 @@
+pub mod Contents
+pub mod Format
+pub mod Answers
+pub mod Laws

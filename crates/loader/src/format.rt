@@ -1,0 +1,101 @@
+//! The fields of an image's file, and the causes for which a file holds no image.
+
+ghost use Rattle.std.specs.Prelude.{◌≡◌, ◌≤◌, length, false};
+ghost use Rattle.byteorder.specs.Endian.{little_bytes};
+ghost use Rattle.loader.specs.Format as format;
+
+use byteorder::{ByteOrder, LittleEndian};
+
+/// The bytes that each image's file begins with.
+pub const MAGIC: &[u8; 8] = b"CELBPF01";
+
+/// The length in bytes of what stands before the code.
+pub const HEAD: usize = 16;
+
+/// The most slots of code.
+const MOST_SLOTS: u64 = 65_536;
+
+/// The most bytes of constants.
+const MOST_CONSTANTS: u64 = 1_048_576;
+
+/// The number of slots that the file states.
+#[tactic(auto, unfolding(crate::specs::Format::slots_in))]
+pub fn slots_in(file: &[u8]) -> u32
+    requires { 16 ≤ length file.now }
+    ensures { result ≡ format.slots_in file.now }
+{
+    LittleEndian::read_u32(&file[8..])
+}
+
+/// The number of bytes of constants that the file states.
+#[tactic(auto, unfolding(crate::specs::Format::constants_in))]
+pub fn constants_in(file: &[u8]) -> u32
+    requires { 16 ≤ length file.now }
+    ensures { result ≡ format.constants_in file.now }
+{
+    LittleEndian::read_u32(&file[12..])
+}
+
+/// Whether no image has this many slots.
+pub fn is_bad_count(slots: u64) -> bool
+    ensures { result ≡ format.is_bad_count slots }
+{
+    slots == 0 || slots > MOST_SLOTS
+}
+
+/// Whether no image has this many bytes of constants.
+pub fn is_too_long(constants: u64) -> bool
+    ensures { result ≡ format.is_too_long constants }
+{
+    constants > MOST_CONSTANTS
+}
+
+/// Whether the file is shorter than a head.
+pub fn is_too_short(file: &[u8]) -> bool
+    ensures { result ≡ format.is_too_short file.now }
+{
+    file.len() < HEAD
+}
+
+/// Whether the file begins with other bytes than each image's file.
+#[tactic(auto, unfolding(crate::specs::Format::magic))]
+pub fn has_other_magic(file: &[u8]) -> bool
+    requires { 16 ≤ length file.now }
+    ensures { result ≡ format.has_other_magic file.now }
+{
+    &file[..8] != MAGIC.as_slice()
+}
+
+/// Whether the file states a number of slots that no image has.
+pub fn has_bad_slots(file: &[u8]) -> bool
+    requires { 16 ≤ length file.now }
+    ensures { result ≡ format.has_bad_slots file.now }
+{
+    is_bad_count(u64::from(slots_in(file)))
+}
+
+/// Whether the file states more constants than an image has.
+pub fn has_long_constants(file: &[u8]) -> bool
+    requires { 16 ≤ length file.now }
+    ensures { result ≡ format.has_long_constants file.now }
+{
+    is_too_long(u64::from(constants_in(file)))
+}
+
+/// Whether the file is not as long as its head says.
+pub fn has_other_length(file: &[u8]) -> bool
+    requires { 16 ≤ length file.now }
+    ensures { result ≡ format.has_other_length file.now }
+{
+    let stated = HEAD as u64 + 8 * u64::from(slots_in(file)) + u64::from(constants_in(file));
+    file.len() as u64 != stated
+}
+
+/// The four bytes of a number, the lowest first.
+pub fn number_bytes(number: u32) -> [u8; 4]
+    ensures { result ≡ little_bytes 4 number }
+{
+    let mut bytes = [0; 4];
+    LittleEndian::write_u32(&mut bytes, number);
+    bytes
+}

@@ -1,0 +1,140 @@
+//! Images.
+
+ghost use Rattle.std.specs.Prelude.{◌≡◌, ◌≤◌, length, false, IfOk, IsOk, Err};
+ghost use Rattle.loader.specs.Contents.{IsImage};
+ghost use Rattle.loader.specs.Format as format;
+ghost use Rattle.loader.specs.Format.{image_in, image_from, contents_in, file_of};
+ghost use Rattle.loader.specs.Answers.{Loads};
+ghost use Rattle.loader.specs.declared.load_error.LoadError.TheVariants.{Memory};
+
+use crate::format::{
+    HEAD, MAGIC, constants_in, has_bad_slots, has_long_constants, has_other_length,
+    has_other_magic, is_bad_count, is_too_long, is_too_short, number_bytes, slots_in,
+};
+use crate::load_error::LoadError;
+use std::alloc::{AllocError, Global};
+use std::marker::Model;
+
+/// What the machine runs: 1 to 65,536 slots of code, 8 bytes each, and at most 1,048,576 bytes of
+/// constants. The bytes of the code are not judged.
+#[derive(Debug, Drop)]
+pub struct Image {
+    code: Vec<u8>,
+    constants: Vec<u8>,
+}
+
+impl Model for Image {
+    ghost use Rattle.loader.specs.Contents.{Contents, IsImage};
+
+    ghost Value = { Contents };
+
+    ghost view = { λ i. record { code = i.code.items; constants = i.constants.items } };
+
+    ghost invariant = { λ i. IsImage (record { code = i.code.items; constants = i.constants.items }) };
+}
+
+impl Image {
+    /// The image that a file's bytes hold. Else the error says which fault counts first, in the
+    /// order of [`LoadError`], or that there is no memory for the image.
+    #[tactic(auto, unfolding(crate::specs::Format::image_in))]
+    pub fn read(alloc: Global, file: &[u8]) -> Result<Image, LoadError>
+        ensures loads { Loads (image_in file.now) result }
+        ensures whole { IfOk result (λ image. file.now ≡ file_of image) }
+        // Memory is asked for only where there is an image to hold.
+        ensures memory { result ≡ Err Memory → IsOk (image_in file.now) }
+    {
+        if is_too_short(file) {
+            return Err(LoadError::L1);
+        }
+        if has_other_magic(file) {
+            return Err(LoadError::L2);
+        }
+        if has_bad_slots(file) {
+            return Err(LoadError::L3);
+        }
+        if has_long_constants(file) {
+            return Err(LoadError::L4);
+        }
+        if has_other_length(file) {
+            return Err(LoadError::L5);
+        }
+        Ok(Image::parts(alloc, file)?)
+    }
+
+    /// The code and the constants of a file that has no fault.
+    fn parts(alloc: Global, file: &[u8]) -> Result<Image, AllocError>
+        requires head { 16 ≤ length file.now }
+        requires slots { format.has_bad_slots file.now ≡ false }
+        requires constants { format.has_long_constants file.now ≡ false }
+        requires whole { format.has_other_length file.now ≡ false }
+        ensures { IfOk result (λ image. image ≡ contents_in file.now) }
+    {
+        let middle = HEAD + 8 * slots_in(file) as usize;
+        let end = middle + constants_in(file) as usize;
+        Ok(Image {
+            code: Vec::from_slice(alloc, &file[HEAD..middle])?,
+            constants: Vec::from_slice(alloc, &file[middle..end])?,
+        })
+    }
+
+    /// The image of this code, 8 bytes a slot, and these constants. It takes no memory, and what
+    /// it refuses it drops: `L5` for code that ends within a slot, else `L3` for no slots or too
+    /// many, else `L4` for constants that are too long.
+    #[tactic(auto, unfolding(crate::specs::Format::image_from))]
+    pub fn new(code: Vec<u8>, constants: Vec<u8>) -> Result<Image, LoadError>
+        ensures { result ≡ image_from code.items constants.items }
+    {
+        if code.len() % 8 != 0 {
+            return Err(LoadError::L5);
+        }
+        if is_bad_count((code.len() / 8) as u64) {
+            return Err(LoadError::L3);
+        }
+        if is_too_long(constants.len() as u64) {
+            return Err(LoadError::L4);
+        }
+        Ok(Image { code, constants })
+    }
+
+    /// The bytes of the image's file. The error says that there is no memory for them.
+    #[tactic(auto, unfolding(crate::specs::Format::file_of, crate::specs::Format::magic))]
+    pub fn write(&self) -> Result<Vec<u8>, AllocError>
+        ensures { IfOk result (λ file. file.items ≡ file_of self.now) }
+    {
+        let length = HEAD + self.code.len() + self.constants.len();
+        let mut file = Vec::with_capacity(*self.code.allocator(), length)?;
+        file.extend_from_slice(MAGIC)?;
+        file.extend_from_slice(&number_bytes((self.code.len() / 8) as u32))?;
+        file.extend_from_slice(&number_bytes(self.constants.len() as u32))?;
+        file.extend_from_slice(self.code.as_slice())?;
+        file.extend_from_slice(self.constants.as_slice())?;
+        Ok(file)
+    }
+
+    /// The code, 8 bytes a slot.
+    pub fn code(&self) -> &[u8]
+        ensures value { result.now ≡ self.now.code }
+        ensures valid { IsImage self.now }
+    {
+        &self.code
+    }
+
+    /// The constants, in bytes.
+    pub fn constants(&self) -> &[u8]
+        ensures value { result.now ≡ self.now.constants }
+        ensures valid { IsImage self.now }
+    {
+        &self.constants
+    }
+
+    /// An equal image, in memory of its own. The error says that there is none.
+    pub fn copy(&self) -> Result<Image, AllocError>
+        ensures { IfOk result (λ image. image ≡ self.now) }
+    {
+        let alloc = *self.code.allocator();
+        Ok(Image {
+            code: Vec::from_slice(alloc, self.code.as_slice())?,
+            constants: Vec::from_slice(alloc, self.constants.as_slice())?,
+        })
+    }
+}

@@ -1,0 +1,16 @@
+//! The laws of the format, each proved as the contract of an empty function.
+
+ghost use Rattle.loader.specs.Laws.{HoldsItsFile, ReadsBack, KeepsTheLimits, RowsStand};
+
+/// What is read from a file and written again is that file, and what is written as a file and
+/// read again is that image. Code and constants make an image exactly within the limits.
+pub fn read_is_the_format()
+    ensures holds_its_file { HoldsItsFile }
+    ensures reads_back { ReadsBack }
+    ensures keeps_the_limits { KeepsTheLimits }
+{}
+
+/// Files that were read by hand: a program of three slots, and one for each way to be none.
+pub fn rows_stand()
+    ensures { RowsStand }
+{}

@@ -1,0 +1,99 @@
+//! Files and parts that were made by hand.
+
+use crate::{Image, LoadError};
+use std::test::Fail;
+
+/// A program of three slots, `r0 = 5`, `r0 += 2` and `exit`, without constants.
+const PROGRAM: &[u8] =
+    b"CELBPF01\x03\0\0\0\0\0\0\0\xb7\0\0\0\x05\0\0\0\x07\0\0\0\x02\0\0\0\x95\0\0\0\0\0\0\0";
+
+/// Files that hold no image, and why.
+const REFUSED: [(&[u8], LoadError); 10] = [
+    (b"", LoadError::L1),
+    (b"CELBPF01\x01\0\0\0\0\0\0", LoadError::L1),
+    (
+        b"CELBPF02\x01\0\0\0\0\0\0\0\x95\0\0\0\0\0\0\0",
+        LoadError::L2,
+    ),
+    (b"CELBPF01\0\0\0\0\0\0\0\0", LoadError::L3),
+    (b"CELBPF01\x01\0\x01\0\0\0\0\0", LoadError::L3),
+    (b"CELBPF01\0\0\0\0\xff\xff\xff\xff", LoadError::L3),
+    (b"CELBPF01\x01\0\0\0\x01\0\x10\0", LoadError::L4),
+    (b"CELBPF01\x01\0\0\0\0\0\0\0\x95\0\0\0\0\0\0", LoadError::L5),
+    (
+        b"CELBPF01\x01\0\0\0\0\0\0\0\x95\0\0\0\0\0\0\0\0",
+        LoadError::L5,
+    ),
+    (
+        b"CELBPF01\x01\0\0\0\x01\0\0\0\x95\0\0\0\0\0\0\0",
+        LoadError::L5,
+    ),
+];
+
+#[test]
+fn refuses_files(rt: HostRuntime) {
+    for (file, cause) in REFUSED {
+        let answer = Image::read(rt.alloc(), file);
+        assert_eq!(rt; answer.err(), Some(cause));
+    }
+}
+
+#[test]
+fn reads_and_writes_a_program(rt: HostRuntime) -> Result<(), Fail> {
+    let image = Image::read(rt.alloc(), PROGRAM)?;
+    assert_eq!(rt; image.code(), &PROGRAM[16..]);
+    assert_eq!(rt; image.constants(), b"".as_slice());
+    assert_eq!(rt; image.write()?.as_slice(), PROGRAM);
+    Ok(())
+}
+
+#[test]
+fn makes_images_of_parts(rt: HostRuntime) -> Result<(), Fail> {
+    let code = Vec::from_slice(rt.alloc(), &PROGRAM[32..])?;
+    let constants = Vec::from_slice(rt.alloc(), b"abc")?;
+    let image = Image::new(code, constants)?;
+    let copy = image.copy()?;
+    let file = b"CELBPF01\x01\0\0\0\x03\0\0\0\x95\0\0\0\0\0\0\0abc";
+    assert_eq!(rt; image.write()?.as_slice(), file.as_slice());
+    assert_eq!(rt; copy.write()?.as_slice(), file.as_slice());
+    assert_eq!(rt; copy.constants(), b"abc".as_slice());
+    Ok(())
+}
+
+#[test]
+fn refuses_parts(rt: HostRuntime) -> Result<(), Fail> {
+    let rows = [
+        (12, 0, LoadError::L5),
+        (524_292, 1_048_577, LoadError::L5),
+        (0, 0, LoadError::L3),
+        (524_296, 1_048_577, LoadError::L3),
+        (524_288, 1_048_577, LoadError::L4),
+    ];
+    for (code_length, constants_length, cause) in rows {
+        let code = vec![in rt.alloc(); 0; code_length]?;
+        let constants = vec![in rt.alloc(); 0; constants_length]?;
+        assert_eq!(rt; Image::new(code, constants).err(), Some(cause));
+    }
+    Ok(())
+}
+
+#[test]
+fn takes_the_longest_parts(rt: HostRuntime) -> Result<(), Fail> {
+    let code = vec![in rt.alloc(); 0; 524_288]?;
+    let constants = vec![in rt.alloc(); 0; 1_048_576]?;
+    let file = Image::new(code, constants)?.write()?;
+    let image = Image::read(rt.alloc(), file.as_slice())?;
+    assert_eq!(rt; image.code().len(), 524_288);
+    assert_eq!(rt; image.constants().len(), 1_048_576);
+    Ok(())
+}
+
+#[test]
+fn says_what_is_wrong(rt: HostRuntime) -> Result<(), Fail> {
+    let text = format!(in rt.alloc(); "{}, {}", LoadError::L2, LoadError::Memory)?;
+    assert_eq!(rt;
+        text.as_str(),
+        "the file does not begin with CELBPF01, out of memory"
+    );
+    Ok(())
+}

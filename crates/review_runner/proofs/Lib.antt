@@ -1,0 +1,4 @@
+pub mod Kept
+pub mod Limit
+pub mod Number
+pub mod Shape

@@ -1,0 +1,232 @@
+-- The steps of an order whose words are taken are at most 1,000,000,000.
+use Rattle.std.proofs.Common.{◌≡◌, ℕ, ◌≤◌, List, [], ◌∷◌, ◌++◌, Option, Some, None, Result, Ok, Err}
+use Rattle.std.proofs.Common.{IfOk, Bool, true, false, refl, subst, arith, codes}
+use Rattle.std.specs.Prelude.{if◌then◌else◌, find, ◌&&◌, nat_le, unwrap_or, option_map}
+use Rattle.std.specs.Prelude.{option_and_then, slice_get}
+use Rattle.std.specs.Str.{bytes_eq}
+use Rattle.std.specs.Str.Parse.{digits_value, without_leading_plus}
+use Rattle.std.specs.Option.{option_map_or}
+use Rattle.std.proofs.lemmas.Slice.Eq.{bytes_eq-Decides}
+use Rattle.std.proofs.lemmas.Bool.Decides.{nat_tests}
+use Rattle.clap.specs.ValueTests.{is_numeral, is_unsigned_in}
+use Rattle.clap.specs.Kinds.{values_kinds}
+use Rattle.clap.specs.Simple.{App, Shape, built, entered as entered_of, label_of, rows_at}
+use Rattle.clap.specs.Values.{read_as}
+use Rattle.clap.specs.Walk.{Row, Rule, Text, answers_to, at_row, default_rows, has_row, more_values}
+use Rattle.clap.specs.Walk.{nothing_held, one_of, reading_by, row_text, rows_after, walk, walk_from}
+use Rattle.clap.specs.Walk.{with_default, with_values, without}
+use Rattle.clap.specs.Faults.{entered_fault, level_fault}
+use Rattle.clap.specs.declared.builder.value_parser.Reading.{Reading}
+use Rattle.clap.specs.declared.builder.value_parser.Reading.TheVariants as reading
+use Rattle.clap.specs.declared.builder.value_parser.ValueParser.TheVariants as parser
+use Rattle.clap.specs.declared.error.kind.ErrorKind.{ErrorKind}
+use Rattle.clap.specs.declared.parser.matches.ValueSource.{ValueSource}
+use Rattle.clap.specs.declared.parser.matches.ValueSource.TheVariants.{CommandLine, DefaultValue}
+use Rattle.review_runner.specs.Commands.{image_rule, steps_rule, run_image_app, bare_app}
+use Rattle.review_runner.specs.Commands.{celbpf_app, faults, entered}
+use Rattle.review_runner.specs.Number.{number_of, number_written, writes_u64}
+use Rattle.review_runner.specs.Order.{Ordered, IsWithinLimits, order_in, order_view, run_image_in}
+use Rattle.review_runner.specs.Order.{task_named}
+use Rattle.review_runner.specs.declared.order.Order.{Order}
+use Rattle.review_runner.specs.declared.order_error.OrderError.{OrderError}
+use Rattle.review_runner.proofs.Kept.{AtOption, Each, Keeps, defaults_keep, found, nothing}
+use Rattle.review_runner.proofs.Kept.{settle_keeps, walk_keeps}
+
+-- ---- rows
+
+abbrev Within : Text → Type 0
+Within t = is_unsigned_in 0 1000000000 t ≡ true
+
+abbrev RowOk : Row → Type 0
+RowOk r = bytes_eq r.id (codes "steps") ≡ true → Each Within r.values × (r.reading ≡ reading.AsWritten)
+
+abbrev RowsOk : List Row → Type 0
+RowsOk = Each RowOk
+
+each_append : {X : Type 0} (Q : X → Type 0) (xs ys : List X) → Each Q xs → Each Q ys
+    → Each Q (xs ++ ys)
+each_append Q [] ys h k = k
+each_append Q (x ∷ xs) ys h k = (h.0, each_append Q xs ys h.1 k)
+
+at_row_keeps : (id : Text) (f : Row → List Row) (new rows : List Row) → ((r : Row)
+    → bytes_eq r.id id ≡ true → RowOk r → RowsOk (f r)) → RowsOk new → RowsOk rows
+    → RowsOk (at_row id f new rows)
+at_row_keeps id f new [] change n g = n
+at_row_keeps id f new (r ∷ rs) change n g = by (at_row_keeps id f new rs change n g.1) (bytes_eq r.id id) refl
+  where
+    by : RowsOk (at_row id f new rs) → (b : Bool) → bytes_eq r.id id ≡ b
+        → RowsOk (if b then f r ++ rs else r ∷ at_row id f new rs)
+    by rest true e = each_append RowOk (f r) rs (change r e g.0) g.1
+    by rest false e = (g.0, rest)
+
+without_keeps : (id : Text) (rows : List Row) → RowsOk rows → RowsOk (without id rows)
+without_keeps id rows g = at_row_keeps id (λ _. []) [] rows (λ r e ok. tt) tt g
+
+same_id : (a b c : Text) → bytes_eq a b ≡ true → bytes_eq a c ≡ true → bytes_eq b c ≡ true
+same_id a b c e f = subst (λ t. bytes_eq t c ≡ true) ((bytes_eq-Decides a b).0 e) f
+
+with_keeps : (id : Text) (how : Reading) (from : ValueSource) (values : List Text) (rows : List Row)
+    → (bytes_eq id (codes "steps") ≡ true → Each Within values × (how ≡ reading.AsWritten))
+    → RowsOk rows → RowsOk (with_values id how from values rows)
+with_keeps id how from values rows h g =
+    at_row_keeps id (more_values from values) _ rows
+    (λ r e ok. ((λ is. (each_append Within r.values values (ok is).0 (h (same_id r.id id (codes "steps") e is)).0, (ok is).1)), tt))
+    (h, tt) g
+
+set_keeps : (id : Text) (how : Reading) (values : List Text) (rows : List Row)
+    → (bytes_eq id (codes "steps") ≡ true → Each Within values × (how ≡ reading.AsWritten))
+    → RowsOk rows → RowsOk (with_values id how CommandLine values (without id rows))
+set_keeps id how values rows h g = with_keeps id how CommandLine values (without id rows) h (without_keeps id rows g)
+
+-- ---- uses and defaults
+
+passed : (b : Bool) (k : ErrorKind) → (if b then [] else k ∷ []) ≡ [] → b ≡ true
+passed true k e = refl
+passed false k e = cc
+
+values_within : (ic : Bool) (vs : List Text)
+    → values_kinds ic (parser.Unsigned 0 1000000000) vs ≡ [] → Each Within vs
+values_within ic [] e = tt
+values_within ic (v ∷ vs) e = let p = nothing _ _ e in (passed (is_unsigned_in 0 1000000000 v) _ p.0, values_within ic vs p.1)
+
+default_rows_keep : (id : Text) (how : Reading) (values : List Text) (rows : List Row)
+    → (bytes_eq id (codes "steps") ≡ true → Each Within values × (how ≡ reading.AsWritten))
+    → RowsOk rows → RowsOk (default_rows id how values rows)
+default_rows_keep id how [] rows h g = g
+default_rows_keep id how (v ∷ vs) rows h g = with_keeps id how DefaultValue (v ∷ vs) rows h g
+
+abbrev DefaultOk : Rule → Type 0
+DefaultOk a = bytes_eq a.id (codes "steps") ≡ true → Each Within a.defaults × (reading_by a ≡ reading.AsWritten)
+
+abbrev DefaultKeeps : Rule → Type 0
+DefaultKeeps a = (rows : List Row) → RowsOk rows → RowsOk (with_default rows a)
+
+default_keeps : (a : Rule) → DefaultOk a → DefaultKeeps a
+default_keeps a h rows g = by (has_row a.id rows)
+  where
+    by : (b : Bool) → RowsOk (if b then rows else default_rows a.id (reading_by a) a.defaults rows)
+    by true = g
+    by false = default_rows_keep a.id (reading_by a) a.defaults rows h g
+
+all_defaults_keep : (c : List Rule) → Each DefaultOk c → Each DefaultKeeps c
+all_defaults_keep [] h = tt
+all_defaults_keep (a ∷ c) h = (default_keeps a h.0, all_defaults_keep c h.1)
+
+-- ---- a command
+
+abbrev ShapeOk : Shape → Type 0
+ShapeOk s = Each (Keeps RowsOk s.args_override_self) s.rules × Each DefaultOk s.rules
+
+level_keeps : (s : Shape) (words : List Text) → ShapeOk s
+    → level_fault s [] nothing_held words false [] ≡ [] → RowsOk (rows_after s.rules [] words)
+level_keeps s words ok e =
+    let p = nothing _ _ e in
+    let q = nothing _ _ p.1 in
+    let end = (walk s.rules [] nothing_held words).held in
+    defaults_keep RowsOk s.rules _ (all_defaults_keep s.rules ok.1) (settle_keeps RowsOk s [] ok.0 end q.0 (walk_keeps RowsOk s [] ok.0 words (walk_from nothing_held) p.0 tt))
+
+shapes : Each ShapeOk (built celbpf_app).subs
+unfolding celbpf_app bare_app run_image_app image_rule steps_rule
+shapes = (
+  (
+    (
+      (λ vs rows e g. set_keeps _ _ _ rows (λ is. cc) g),
+      (
+        (λ vs rows e g. set_keeps _ _ _ rows (λ is. (values_within false _ (nothing _ _ (nothing _ _ e).1).1, refl)) g),
+        ((λ vs rows e g. g), tt),
+      ),
+    ),
+    ((λ is. cc), ((λ is. ((refl, tt), refl)), ((λ is. cc), tt))),
+  ),
+  (
+    (
+      ((λ vs rows e g. with_keeps _ _ CommandLine _ rows (λ is. cc) g), tt),
+      ((λ is. cc), tt),
+    ),
+    tt,
+  ),
+)
+
+-- ---- a command line
+
+found_so : {X : Type 0} (Q : X → Type 0) (p : X → Bool) (c : List X) → Each Q c
+    → AtOption (λ x. Q x × (p x ≡ true)) (find p c)
+found_so Q p [] h = tt
+found_so Q p (x ∷ xs) h = by (found_so Q p xs h.1) (p x) refl
+  where
+    by : AtOption (λ x. Q x × (p x ≡ true)) (find p xs) → (b : Bool) → p x ≡ b
+        → AtOption (λ x. Q x × (p x ≡ true)) (if b then Some x else find p xs)
+    by rest true e = (h.0, e)
+    by rest false e = rest
+
+both : (a b : Bool) → (a && b) ≡ true → (a ≡ true) × (b ≡ true)
+both true true e = (refl, refl)
+both true false e = cc
+both false b e = cc
+
+at_most : (m n : ℕ) → nat_le m n ≡ true → m ≤ n
+at_most m n e = grind (arith, nat_tests)
+
+small : (v : Text) → Within v → digits_value 10 (without_leading_plus v) ≤ 1000000000
+small v w =
+    let a = both (is_numeral (without_leading_plus v)) _ w in
+    let b = both _ _ a.1 in
+    let c = both _ _ b.1 in
+    at_most _ _ c.1
+
+written_within : (t : Text) → digits_value 10 t ≤ 1000000000
+    → unwrap_or (number_written t) 10000000 ≤ 1000000000
+written_within t h = by (writes_u64 t)
+  where
+    by : (b : Bool) → unwrap_or (if b then Some (digits_value 10 t) else None) 10000000 ≤ 1000000000
+    by true = h
+    by false = omega arith
+
+of_values : (how : Reading) (vs : List Text) → Each Within vs → how ≡ reading.AsWritten
+    → unwrap_or (number_of (option_map (read_as how) (slice_get vs 0))) 10000000 ≤ 1000000000
+unfolding number_of
+of_values how [] h is = omega arith
+of_values how (v ∷ vs) h is = rw is (written_within (without_leading_plus v) (small v h.0))
+
+of_row : (o : Option Row) → AtOption (λ r. RowOk r × (bytes_eq r.id (codes "steps") ≡ true)) o
+    → unwrap_or (number_of (option_and_then row_text o)) 10000000 ≤ 1000000000
+unfolding number_of
+of_row None h = omega arith
+of_row (Some r) h = let ok = h.0 h.1 in of_values r.reading r.values ok.0 ok.1
+
+of_rows : (rows : List Row) → RowsOk rows
+    → unwrap_or (number_of (one_of (codes "steps") rows)) 10000000 ≤ 1000000000
+of_rows rows g = of_row (find (λ r. bytes_eq r.id (codes "steps")) rows) (found_so RowOk (λ r. bytes_eq r.id (codes "steps")) rows g)
+
+of_task : (name : Text) (rows : List Row) → RowsOk rows → IsWithinLimits (task_named name rows)
+unfolding run_image_in
+of_task name rows g = of_rows rows g
+
+abbrev TakenIsOk : List Text → Shape → Type 0
+TakenIsOk words s = level_fault s [] nothing_held words false [] ≡ [] → RowsOk (rows_after s.rules [] words)
+
+of_shape : (o : Option Shape) (words : List Text) → AtOption ShapeOk o
+    → option_map_or (λ s. level_fault s [] nothing_held words false []) o [] ≡ []
+    → AtOption (λ q. RowsOk q.1) (option_map (λ s. rows_at s words) o)
+of_shape None words ok e = tt
+of_shape (Some s) words ok e = level_keeps s words ok e
+
+of_stop : (a : App) (stop : Option (Text × List Text)) → Each ShapeOk a.subs
+    → entered_fault a stop ≡ [] → AtOption (λ q. RowsOk q.1) (entered_of a stop)
+of_stop a None ok e = tt
+of_stop a (Some p) ok e = of_shape (find (λ s. answers_to p.0 (label_of s)) a.subs) p.1 (found ShapeOk (λ s. answers_to p.0 (label_of s)) a.subs ok) e
+
+of_words : (words : List Text) → faults words ≡ [] → AtOption (λ q. RowsOk q.1) (entered words)
+unfolding faults entered
+of_words words e = let p = nothing _ _ e in of_stop (built celbpf_app) _ shapes (nothing _ _ p.1).0
+
+of_order : (o : Option (Text × List Row)) → AtOption (λ q. RowsOk q.1) o
+    → AtOption IsWithinLimits (order_in o)
+of_order None h = tt
+of_order (Some q) h = of_task q.0 q.1 h
+
+-- the answer's order is within the limits
+pub within_limits : (words : List Text) (r : Result Order OrderError) → Ordered words r
+    → IfOk r (λ o. IsWithinLimits (order_view o))
+within_limits words (Ok o) h = subst (AtOption IsWithinLimits) h.1 (of_order (entered words) (of_words words h.0))
+within_limits words (Err e) h = tt

@@ -1,0 +1,43 @@
+-- The commands of celbpf in clap's own words, and what clap makes of a command line.
+use Rattle.std.specs.Prelude.{true, List, [], ◌∷◌, Option, Some, codes}
+use Rattle.clap.specs.Words.{App, Kinds, Row, Rule, Text, fault_of, new_app, new_rule}
+use Rattle.clap.specs.Words.{subcommand_of, with_rule, with_subcommand}
+use Rattle.clap.specs.Simple.{on_top}
+use Rattle.clap.specs.declared.builder.value_parser.ValueParser.TheVariants as parser
+
+-- ---- arguments
+
+-- a file name, which has to be there
+unfoldable pub image_rule : Rule
+image_rule = record (new_rule (codes "IMAGE")) { required = true }
+
+-- a number of steps, at most 1,000,000,000 of them
+unfoldable pub steps_rule : Rule
+steps_rule = record (new_rule (codes "steps")) {
+  long = Some (codes "steps");
+  defaults = codes "10000000" ∷ [];
+  parser = Some (parser.Unsigned 0 1000000000);
+}
+
+-- ---- commands
+
+-- run-image IMAGE [--steps N]
+unfoldable pub run_image_app : App
+run_image_app = with_rule (with_rule (new_app (codes "run-image")) image_rule) steps_rule
+
+-- celbpf alone does nothing: it wants a command
+unfoldable pub bare_app : App
+bare_app = on_top (λ s. record s { subcommand_required = true }) (new_app (codes "celbpf"))
+
+unfoldable pub celbpf_app : App
+celbpf_app = with_subcommand bare_app run_image_app.top
+
+-- ---- a command line
+
+-- the reasons to refuse the words, of which there are none where they are taken
+unfoldable pub faults : List Text → Kinds
+faults words = fault_of celbpf_app words
+
+-- the name of the command that the words call, with the values of its arguments
+unfoldable pub entered : List Text → Option (Text × List Row)
+entered words = subcommand_of celbpf_app words

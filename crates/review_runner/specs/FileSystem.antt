@@ -1,0 +1,32 @@
+-- Files by their names.
+use Rattle.std.specs.Prelude.{◌≡◌, ℕ, Bool, true, false, List, Option, Some, None, Result, Ok, Err, Vec, if◌then◌else◌}
+use Rattle.std.specs.Str.{bytes_eq}
+use Rattle.std.specs.declared.alloc.Global.{Global}
+use Rattle.review_runner.specs.declared.file_error.FileError.{FileError}
+use Rattle.review_runner.specs.declared.file_error.FileError.TheVariants.{Failed, Memory}
+
+-- what each file holds that can be read, and which can be written
+pub record FileSystem : Type 0 where
+  pub holds : List ℕ → Option (List ℕ)
+  pub takes : List ℕ → Bool
+
+-- the bytes that a name's file holds; it fails exactly where there are none
+abbrev pub ReadsFile : Option (List ℕ) → Result (Vec ℕ Global) FileError → Type 0
+ReadsFile held (Ok bytes) = held ≡ Some bytes.items
+ReadsFile held (Err Failed) = held ≡ None
+ReadsFile held (Err Memory) = Unit {0}
+
+-- all names hold what they did, but for one that holds these bytes
+abbrev pub with_file : FileSystem → List ℕ → List ℕ → List ℕ → Option (List ℕ)
+with_file files name bytes other = if bytes_eq other name then Some bytes else files.holds other
+
+-- a write that succeeds changes its own file alone; it fails exactly where the name is not taken, and then no file is known to have changed
+pub record WritesFile (old new : FileSystem) (name bytes : List ℕ) (succeeds : Bool) : Type 0 where
+  pub taken : old.takes name ≡ succeeds
+  pub takes : new.takes ≡ old.takes
+  pub holds : (other : List ℕ) → new.holds other ≡ (if succeeds then with_file old name bytes other else old.holds other)
+
+abbrev pub AnswersWrite : FileSystem → FileSystem → List ℕ → List ℕ → Result (Unit {0}) FileError → Type 0
+AnswersWrite old new name bytes (Ok u) = WritesFile old new name bytes true
+AnswersWrite old new name bytes (Err Failed) = WritesFile old new name bytes false
+AnswersWrite old new name bytes (Err Memory) = new ≡ old

@@ -1,0 +1,21 @@
+-- The number that a text stands for, of those that a `u64` holds.
+use Rattle.std.specs.Prelude.{ℕ, ◌^◌, ◌&&◌, Bool, true, List, [], ◌∷◌, length, Option, Some}
+use Rattle.std.specs.Prelude.{None, nat_lt, if◌then◌else◌}
+use Rattle.std.specs.Char.{digit_value}
+use Rattle.std.specs.Str.Parse.{digits_value, without_leading_plus}
+
+abbrev pub are_digits : List ℕ → Bool
+are_digits [] = true
+are_digits (c ∷ cs) = nat_lt (digit_value c) 10 && are_digits cs
+
+-- one decimal digit or more, with a value that fits
+abbrev pub writes_u64 : List ℕ → Bool
+writes_u64 t = nat_lt 0 (length t) && (are_digits t && nat_lt (digits_value 10 t) (2 ^ 64))
+
+abbrev pub number_written : List ℕ → Option ℕ
+number_written t = if writes_u64 t then Some (digits_value 10 t) else None
+
+-- one plus sign may stand before the digits
+unfoldable pub number_of : Option (List ℕ) → Option ℕ
+number_of (Some t) = number_written (without_leading_plus t)
+number_of None = None

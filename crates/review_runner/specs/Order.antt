@@ -1,0 +1,54 @@
+-- The order that a command line gives.
+use Rattle.std.specs.Prelude.{◌≡◌, ◌≤◌, ℕ, List, [], Option, Some, None, unwrap_or, Result, Ok, Err}
+use Rattle.std.specs.Prelude.{codes, string_bytes}
+use Rattle.clap.specs.Words.{Row, Text, first_of, one_of}
+use Rattle.review_runner.specs.Number.{number_of}
+use Rattle.review_runner.specs.Commands.{faults, entered}
+use Rattle.review_runner.specs.declared.order.Order.{Order}
+use Rattle.review_runner.specs.declared.order.Order.TheVariants as code
+use Rattle.review_runner.specs.declared.order_error.OrderError.{OrderError}
+use Rattle.review_runner.specs.declared.order_error.OrderError.TheVariants.{U1, Memory}
+
+-- what is asked for, as plain data: a constructor for each command
+pub data Task : Type 0 where
+  -- the image's file name, and the most steps
+  run_image : Text → ℕ → Task
+
+abbrev pub order_view : Order → Task
+order_view (code.RunImage image steps) = run_image (string_bytes image) steps
+
+-- ---- from the values of a command's arguments to its task
+
+-- a value that is not there is read as the empty name, or as the default number of steps
+unfoldable pub run_image_in : List Row → Task
+run_image_in rows = run_image (unwrap_or (first_of (codes "IMAGE") rows) [])
+    (unwrap_or (number_of (one_of (codes "steps") rows)) 10000000)
+
+-- by the command's name; the last command is the one that is left
+abbrev pub task_named : Text → List Row → Task
+task_named name rows = run_image_in rows
+
+abbrev pub order_in : Option (Text × List Row) → Option Task
+order_in (Some p) = Some (task_named p.0 p.1)
+order_in None = None
+
+-- ---- answers
+
+-- of one command, whose words were taken: its task, unless memory runs out
+abbrev pub Gives : Task → Result Order OrderError → Type 0
+Gives task (Ok o) = task ≡ order_view o
+Gives task (Err U1) = ⊥
+Gives task (Err Memory) = Unit {0}
+
+-- of the whole command line: an order only where the words are taken, and then theirs; U1 only
+-- where they are refused
+abbrev pub Ordered : List Text → Result Order OrderError → Type 0
+Ordered words (Ok o) = (faults words ≡ []) × (order_in (entered words) ≡ Some (order_view o))
+Ordered words (Err U1) = faults words ≡ [] → ⊥
+Ordered words (Err Memory) = Unit {0}
+
+-- ---- limits
+
+-- no task asks for more steps than a run may have
+abbrev pub IsWithinLimits : Task → Type 0
+IsWithinLimits (run_image image steps) = steps ≤ 1000000000

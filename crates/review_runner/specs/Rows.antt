@@ -1,0 +1,21 @@
+-- Command lines written out.
+use Rattle.std.specs.Prelude.{◌≡◌, List, [], ◌∷◌, ◌++◌, Some, codes}
+use Rattle.clap.specs.Words.{Text}
+use Rattle.review_runner.specs.Commands.{faults, entered}
+use Rattle.review_runner.specs.Order.{Task, order_in}
+
+-- the words are taken, and ask for this
+abbrev pub IsTakenAs : List Text → Task → Type 0
+IsTakenAs words task = (faults words ≡ []) × (order_in (entered words) ≡ Some task)
+
+-- clap does not take the words
+abbrev pub IsRefused : List Text → Type 0
+IsRefused words = faults words ≡ [] → ⊥
+
+-- celbpf run-image a.img
+abbrev pub without_steps : List Text
+without_steps = codes "celbpf" ∷ codes "run-image" ∷ codes "a.img" ∷ []
+
+-- celbpf run-image a.img --steps N
+abbrev pub with_steps : Text → List Text
+with_steps number = without_steps ++ codes "--steps" ∷ number ∷ []

@@ -1,0 +1,59 @@
+// The commands of the program as `clap` is told them, and the parse of the words.
+ghost use Rattle.std.specs.Prelude.{◌≡◌, map, IfOk, false, true};
+ghost use Rattle.clap.specs.Words.{app_of, has_subcommand, rule_of, subcommand_rows_of, FailsBy};
+ghost use Rattle.clap.specs.declared.builder.command.Command.TheViews.{out-Command as fields_of};
+ghost use Rattle.review_runner.specs.Commands.{image_rule, steps_rule, run_image_app, celbpf_app};
+ghost use Rattle.review_runner.specs.Commands.{faults, entered};
+
+use clap::{Arg, ArgMatches, Command, Error, value_parser};
+use std::alloc::{AllocError, Global};
+
+// IMAGE, the file to run
+#[tactic(auto, unfolding(crate::specs::Commands::image_rule))]
+fn image_argument<'a>(alloc: Global) -> Arg<'a>
+    ensures rule { rule_of result ≡ image_rule }
+    ensures local { result.global ≡ false }
+{
+    Arg::new(alloc, "IMAGE").required(true)
+}
+
+// --steps N, the most instructions that may run
+#[tactic(auto, unfolding(crate::specs::Commands::steps_rule))]
+fn steps_argument<'a>(alloc: Global) -> Arg<'a>
+    ensures rule { rule_of result ≡ steps_rule }
+    ensures local { result.global ≡ false }
+{
+    Arg::new(alloc, "steps")
+        .long("steps")
+        .value_parser(value_parser!(u64).range(0..=1_000_000_000))
+        .default_value("10000000")
+}
+
+#[tactic(auto, unfolding(crate::specs::Commands::run_image_app))]
+fn run_image_command<'a>(alloc: Global) -> Result<Command<'a>, AllocError>
+    ensures shape { IfOk result (λ c. app_of c ≡ run_image_app) }
+    ensures local { IfOk result (λ c. (fields_of c).has_globals ≡ false) }
+{
+    let command = Command::new(alloc, "run-image").arg(image_argument(alloc))?;
+    command.arg(steps_argument(alloc))
+}
+
+// the program, with each of its commands
+#[tactic(auto, unfolding(crate::specs::Commands::celbpf_app, crate::specs::Commands::bare_app))]
+fn celbpf_command<'a>(alloc: Global) -> Result<Command<'a>, AllocError>
+    ensures shape { IfOk result (λ c. app_of c ≡ celbpf_app) }
+    ensures local { IfOk result (λ c. (fields_of c).has_globals ≡ false) }
+{
+    let command = Command::new(alloc, "celbpf").subcommand_required(true);
+    command.subcommand(run_image_command(alloc)?)
+}
+
+// What `clap` makes of the words, the program's name first.
+pub fn parse<'a>(alloc: Global, words: &'a [&'a str]) -> Result<ArgMatches<'a>, Error>
+    ensures rows { IfOk result (λ m. subcommand_rows_of m ≡ entered (map (λ s. s.now) words.entry.now)) }
+    ensures faults { FailsBy (faults (map (λ s. s.now) words.entry.now)) result }
+    ensures named { IfOk result (λ m. has_subcommand m ≡ true) }
+{
+    let command = celbpf_command(alloc)?;
+    command.try_get_matches_from(words)
+}

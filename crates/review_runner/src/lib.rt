@@ -1,0 +1,29 @@
+//! What the program does: orders read from the words of a command line, and done with files that
+//! the caller gives. `reader::order` reads the words, `perform` does the order.
+#![tactic(auto)]
+
+mod command_line;
+mod done;
+mod file_error;
+mod files;
+mod order;
+mod order_error;
+#[cfg(test)]
+mod order_tests;
+mod performing;
+#[cfg(test)]
+mod performing_tests;
+pub mod reader;
+mod refusal;
+pub mod rows;
+mod running;
+mod values;
+
+pub use done::Done;
+pub use file_error::FileError;
+pub use files::Files;
+pub use order::Order;
+pub use order_error::OrderError;
+pub use performing::perform;
+pub use refusal::Refusal;
+pub use running::{RunImageError, run_image};

@@ -1,0 +1,14 @@
+// One order to the program: a command with its arguments.
+
+/// What the program is asked to do, one variant a command.
+#[derive(Debug, Drop)]
+pub enum Order {
+    /// `run-image IMAGE [--steps N]`: run a program image.
+    RunImage {
+        /// The image's file name as it was given, which may be empty.
+        image: String,
+        /// The most instructions that may run, from 0 to 1,000,000,000; 10,000,000 where no number
+        /// was given.
+        steps: u64,
+    },
+}

@@ -1,0 +1,65 @@
+//! From the words of a command line to the order that they give.
+ghost use Rattle.std.specs.Prelude.{map, IfOk};
+ghost use Rattle.clap.specs.Words.{found_of, rows_of};
+ghost use Rattle.review_runner.specs.Order.{order_view, run_image_in, task_named};
+ghost use Rattle.review_runner.specs.Order.{Gives, IsWithinLimits, Ordered};
+
+use crate::command_line::parse;
+use crate::order::Order;
+use crate::order_error::OrderError;
+use crate::values::{number_in, text_or_empty};
+use clap::ArgMatches;
+use clap::error::ErrorKind;
+use std::alloc::Global;
+
+// the steps of a run where the words give no number
+const DEFAULT_STEPS: u64 = 10_000_000;
+
+#[tactic(auto, unfolding(crate::specs::Order::run_image_in))]
+fn run_image_order(alloc: Global, matches: &ArgMatches) -> Result<Order, OrderError>
+    ensures { Gives (run_image_in (rows_of (found_of matches.now))) result }
+{
+    let image = String::from_str(alloc, text_or_empty(matches, "IMAGE"))?;
+    let steps = number_in(matches, "steps").unwrap_or(DEFAULT_STEPS);
+    Ok(Order::RunImage { image, steps })
+}
+
+// the order of the command `name`: the last command answers to every name that is left
+fn order_named(alloc: Global, name: &str, matches: &ArgMatches) -> Result<Order, OrderError>
+    ensures { Gives (task_named name.now (rows_of (found_of matches.now))) result }
+{
+    match name {
+        _ => run_image_order(alloc, matches),
+    }
+}
+
+// the order that the words give
+fn given_order<'a>(alloc: Global, words: &'a [&'a str]) -> Result<Order, OrderError>
+    ensures { Ordered (map (λ s. s.now) words.entry.now) result }
+{
+    match parse(alloc, words) {
+        Ok(matches) => match matches.subcommand() {
+            Some((name, inner)) => order_named(alloc, name, inner),
+            None => unreachable!(),
+        },
+        Err(error) => match error.kind() {
+            ErrorKind::OutOfMemory => Err(OrderError::Memory),
+            _ => Err(OrderError::U1),
+        },
+    }
+}
+
+/// Reads the words of a command line, the program's own name first.
+///
+/// Of a number, a leading `+` and leading zeros are taken. A file name may be empty.
+///
+/// # Errors
+///
+/// `U1` exactly where `clap` refuses the words, as it does at `--help`; `Memory` where memory runs
+/// out, which says nothing of the words.
+pub fn order<'a>(alloc: Global, words: &'a [&'a str]) -> Result<Order, OrderError>
+    ensures answer { Ordered (map (λ s. s.now) words.entry.now) result }
+    ensures limits { IfOk result (λ o. IsWithinLimits (order_view o)) }
+{
+    given_order(alloc, words)
+}

@@ -1,0 +1,93 @@
+//! Why the program does not do what it is asked.
+ghost use Rattle.std.specs.Prelude.{◌≡◌, Some, IfOk};
+ghost use Rattle.review_runner.specs.Output.{image_refusal, order_refusal, output_of, refusal_status, refusal_text, refused};
+ghost use Rattle.review_runner.specs.declared.refusal.Refusal.TheVariants as refusal;
+
+use crate::done::Done;
+use crate::order_error::OrderError;
+use loader::LoadError;
+use std::alloc::{AllocError, Global};
+use std::fmt;
+
+/// Why the program does not do what it is asked. It is shown as its number or its word.
+#[derive(Clone, Copy, Debug, PartialEq, Eq)]
+pub enum Refusal {
+    /// The words of the command line are not taken.
+    Words,
+    /// The image's file holds no image.
+    Image(LoadError),
+    /// A file cannot be read or written.
+    File,
+    /// Memory ran out.
+    Memory,
+}
+
+impl Refusal {
+    /// The status that the program ends with.
+    pub fn status(self) -> u8
+        ensures { result ≡ refusal_status self }
+    {
+        match self {
+            Refusal::Words => 2,
+            Refusal::Image(_) | Refusal::File | Refusal::Memory => 3,
+        }
+    }
+
+    /// What the program writes in place of an answer.
+    pub fn done(self, alloc: Global) -> Result<Done, AllocError>
+        ensures { IfOk result (λ d. output_of d ≡ refused self) }
+    {
+        let line = format!(in alloc; "celbpf: {self}\n")?;
+        Ok(Done {
+            status: self.status(),
+            out: Vec::new(alloc),
+            err: line.into_bytes(),
+        })
+    }
+}
+
+impl From<OrderError> for Refusal {
+    ghost from_gives = { λ e r. r ≡ order_refusal e };
+
+    fn from(error: OrderError) -> Refusal {
+        match error {
+            OrderError::U1 => Refusal::Words,
+            OrderError::Memory => Refusal::Memory,
+        }
+    }
+}
+
+impl From<AllocError> for Refusal {
+    ghost from_gives = { λ _ r. r ≡ refusal.Memory };
+
+    fn from(_error: AllocError) -> Refusal {
+        Refusal::Memory
+    }
+}
+
+impl fmt::Display for Refusal {
+    ghost output = { λ r. Some (refusal_text r) };
+
+    fn fmt<W: fmt::Write>(&self, f: &mut fmt::Formatter<W>) -> fmt::Result {
+        f.write_str(match self {
+            Refusal::Words => "U1",
+            Refusal::Image(error) => image_refusal(*error),
+            Refusal::File => "file",
+            Refusal::Memory => "memory",
+        })
+    }
+}
+
+/// The number of a refused image.
+fn image_refusal(error: LoadError) -> &'static str
+    ensures { result.now ≡ image_refusal error }
+{
+    match error {
+        LoadError::L1 => "L1",
+        LoadError::L2 => "L2",
+        LoadError::L3 => "L3",
+        LoadError::L4 => "L4",
+        LoadError::L5 => "L5",
+        LoadError::Memory => "memory",
+    }
+}

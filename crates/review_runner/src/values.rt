@@ -1,0 +1,27 @@
+// Single values of a command's matches, each read totally.
+ghost use Rattle.std.specs.Prelude.{◌≡◌, option_map, unwrap_or, []};
+ghost use Rattle.clap.specs.Words.{first_of, found_of, one_of, rows_of};
+ghost use Rattle.review_runner.specs.Number.{number_of};
+
+use clap::ArgMatches;
+
+// the text of the argument `id`, where it has one
+pub fn text_in<'a>(matches: &ArgMatches<'a>, id: &str) -> Option<&'a str>
+    ensures { option_map (λ s. s.now) result ≡ first_of id.now (rows_of (found_of matches.now)) }
+{
+    matches.get_str(id)
+}
+
+// the text of the argument `id`, and the empty one where it has none
+pub fn text_or_empty<'a>(matches: &ArgMatches<'a>, id: &str) -> &'a str
+    ensures { result.now ≡ unwrap_or (first_of id.now (rows_of (found_of matches.now))) [] }
+{
+    text_in(matches, id).unwrap_or("")
+}
+
+// the number of the argument `id`, where it has one
+pub fn number_in(matches: &ArgMatches, id: &str) -> Option<u64>
+    ensures { result ≡ number_of (one_of id.now (rows_of (found_of matches.now))) }
+{
+    matches.get_one::<u64>(id)
+}
