@@ -6,3 +6,5 @@ pub mod Laws
 pub mod Text
 pub mod Inside
 pub mod Rows
+pub use Rattle.insn_codec.specs.Spelled
+pub use Rattle.insn_codec.specs.Candidate

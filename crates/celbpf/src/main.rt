@@ -5,13 +5,15 @@
 mod disk;
 mod writing;
 
+use debugger::Counting;
 use disk::Disk;
 use review_runner::reader::order;
-use review_runner::{Done, Refusal, perform};
-use std::env;
+use review_runner::{Done, Order, Refusal, debug, perform};
+use std::alloc::Global;
 use std::io::ErrorKind;
 use std::process::ExitCode;
 use std::rt::{Env, Files};
+use std::{env, io};
 use writing::{refuse, write};
 
 fn main(rt: HostRuntime) -> ExitCode {
@@ -22,12 +24,35 @@ fn main(rt: HostRuntime) -> ExitCode {
 }
 
 /// What the words of the command line ask for, done.
-fn done<R: AllocGlobal + Env + Files>(rt: &R) -> Result<Done, Refusal> {
+fn done<R: AllocGlobal + Env + Files + Input + Print>(rt: &R) -> Result<Done, Refusal> {
     let words = words(rt)?;
     let parts: Vec<&str> = words.iter().map(|word| word.as_str()).collect(rt.alloc())?;
     let order = order(rt.alloc(), parts.as_slice())?;
     let mut disk = Disk::new(rt);
-    Ok(perform(rt.alloc(), &order, &mut disk)?)
+    match &order {
+        Order::RunImage { .. } => Ok(perform(rt.alloc(), &order, &mut disk)?),
+        Order::Debug { image } => {
+            let mut input = Counting::new(rt.reader());
+            let mut output = Counting::new(io::writer(rt));
+            debug(
+                rt.alloc(),
+                image.as_str(),
+                &mut disk,
+                &mut input,
+                &mut output,
+            )?;
+            Ok(nothing_more(rt.alloc()))
+        }
+    }
+}
+
+/// What is left after a session, which has written its answers.
+fn nothing_more(alloc: Global) -> Done {
+    Done {
+        status: 0,
+        out: Vec::new(alloc),
+        err: Vec::new(alloc),
+    }
 }
 
 /// The words of the command line, the program's name first. Words that are no text are not taken.

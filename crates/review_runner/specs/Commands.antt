@@ -25,12 +25,16 @@ steps_rule = record (new_rule (codes "steps")) {
 unfoldable pub run_image_app : App
 run_image_app = with_rule (with_rule (new_app (codes "run-image")) image_rule) steps_rule
 
+-- debug IMAGE
+unfoldable pub debug_app : App
+debug_app = with_rule (new_app (codes "debug")) image_rule
+
 -- celbpf alone does nothing: it wants a command
 unfoldable pub bare_app : App
 bare_app = on_top (λ s. record s { subcommand_required = true }) (new_app (codes "celbpf"))
 
 unfoldable pub celbpf_app : App
-celbpf_app = with_subcommand bare_app run_image_app.top
+celbpf_app = with_subcommand (with_subcommand bare_app run_image_app.top) debug_app.top
 
 -- ---- a command line
 

@@ -5,3 +5,4 @@ pub mod Commands
 pub mod Number
 pub mod Order
 pub mod Rows
+pub mod Debugging

@@ -1,6 +1,7 @@
 -- The order that a command line gives.
-use Rattle.std.specs.Prelude.{◌≡◌, ◌≤◌, ℕ, List, [], Option, Some, None, unwrap_or, Result, Ok, Err}
-use Rattle.std.specs.Prelude.{codes, string_bytes}
+use Rattle.std.specs.Prelude.{◌≡◌, ◌≤◌, ℕ, Bool, true, false, List, [], Option, Some, None, unwrap_or, Result, Ok, Err}
+use Rattle.std.specs.Prelude.{codes, string_bytes, if◌then◌else◌}
+use Rattle.std.specs.Str.{bytes_eq}
 use Rattle.clap.specs.Words.{Row, Text, first_of, one_of}
 use Rattle.review_runner.specs.Number.{number_of}
 use Rattle.review_runner.specs.Commands.{faults, entered}
@@ -13,9 +14,12 @@ use Rattle.review_runner.specs.declared.order_error.OrderError.TheVariants.{U1, 
 pub data Task : Type 0 where
   -- the image's file name, and the most steps
   run_image : Text → ℕ → Task
+  -- the image's file name
+  debug : Text → Task
 
 abbrev pub order_view : Order → Task
 order_view (code.RunImage image steps) = run_image (string_bytes image) steps
+order_view (code.Debug image) = debug (string_bytes image)
 
 -- ---- from the values of a command's arguments to its task
 
@@ -24,9 +28,12 @@ unfoldable pub run_image_in : List Row → Task
 run_image_in rows = run_image (unwrap_or (first_of (codes "IMAGE") rows) [])
     (unwrap_or (number_of (one_of (codes "steps") rows)) 10000000)
 
+unfoldable pub debug_in : List Row → Task
+debug_in rows = debug (unwrap_or (first_of (codes "IMAGE") rows) [])
+
 -- by the command's name; the last command is the one that is left
 abbrev pub task_named : Text → List Row → Task
-task_named name rows = run_image_in rows
+task_named name rows = if bytes_eq name (codes "run-image") then run_image_in rows else debug_in rows
 
 abbrev pub order_in : Option (Text × List Row) → Option Task
 order_in (Some p) = Some (task_named p.0 p.1)
@@ -47,8 +54,16 @@ Ordered words (Ok o) = (faults words ≡ []) × (order_in (entered words) ≡ So
 Ordered words (Err U1) = faults words ≡ [] → ⊥
 Ordered words (Err Memory) = Unit {0}
 
+-- ---- kinds
+
+-- a session, which reads and writes as it goes on
+abbrev pub is_session : Task → Bool
+is_session (run_image image steps) = false
+is_session (debug image) = true
+
 -- ---- limits
 
 -- no task asks for more steps than a run may have
 abbrev pub IsWithinLimits : Task → Type 0
 IsWithinLimits (run_image image steps) = steps ≤ 1000000000
+IsWithinLimits (debug image) = Unit {0}

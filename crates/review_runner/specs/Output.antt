@@ -5,7 +5,7 @@ use Rattle.loader.specs.declared.load_error.LoadError.TheVariants.{L1, L2, L3, L
 use Rattle.bpf_machine.specs.declared.status.Status.{Status}
 use Rattle.bpf_machine.specs.declared.status.Status.TheVariants.{Running, Exited, Fault}
 use Rattle.review_runner.specs.FileSystem.{FileSystem}
-use Rattle.review_runner.specs.Order.{Task, run_image}
+use Rattle.review_runner.specs.Order.{Task, debug, run_image}
 use Rattle.review_runner.specs.Running.{Shown, run_of_file}
 use Rattle.review_runner.specs.declared.done.Done.{Done}
 use Rattle.review_runner.specs.declared.order_error.OrderError.{OrderError}
@@ -35,6 +35,8 @@ abbrev pub refusal_text : Refusal → List ℕ
 refusal_text refusal.Words = codes "U1"
 refusal_text (refusal.Image e) = image_refusal e
 refusal_text refusal.File = codes "file"
+refusal_text refusal.Input = codes "S1"
+refusal_text refusal.Output = codes "S2"
 refusal_text refusal.Memory = codes "memory"
 
 -- why no order was read
@@ -47,6 +49,8 @@ abbrev pub refusal_status : Refusal → ℕ
 refusal_status refusal.Words = 2
 refusal_status (refusal.Image e) = 3
 refusal_status refusal.File = 3
+refusal_status refusal.Input = 3
+refusal_status refusal.Output = 3
 refusal_status refusal.Memory = 3
 
 -- a refusal is one line of standard error
@@ -68,6 +72,7 @@ abbrev pub run_image_output : Option (List ℕ) → ℕ → Output
 run_image_output (Some file) n = run_output (run_of_file file n)
 run_image_output None n = refused refusal.File
 
--- what a task writes where the files are known
+-- what a task writes where the files are known: a session does not go this way
 abbrev pub task_output : FileSystem → Task → Output
 task_output files (run_image image n) = run_image_output (files.holds image) n
+task_output files (debug image) = record { status = 0; out = []; err = [] }

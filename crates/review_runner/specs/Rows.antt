@@ -16,6 +16,10 @@ IsRefused words = faults words ≡ [] → ⊥
 abbrev pub without_steps : List Text
 without_steps = codes "celbpf" ∷ codes "run-image" ∷ codes "a.img" ∷ []
 
+-- celbpf debug a.img
+abbrev pub debug_words : List Text
+debug_words = codes "celbpf" ∷ codes "debug" ∷ codes "a.img" ∷ []
+
 -- celbpf run-image a.img --steps N
 abbrev pub with_steps : Text → List Text
 with_steps number = without_steps ++ codes "--steps" ∷ number ∷ []

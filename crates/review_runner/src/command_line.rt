@@ -2,7 +2,7 @@
 ghost use Rattle.std.specs.Prelude.{◌≡◌, map, IfOk, false, true};
 ghost use Rattle.clap.specs.Words.{app_of, has_subcommand, rule_of, subcommand_rows_of, FailsBy};
 ghost use Rattle.clap.specs.declared.builder.command.Command.TheViews.{out-Command as fields_of};
-ghost use Rattle.review_runner.specs.Commands.{image_rule, steps_rule, run_image_app, celbpf_app};
+ghost use Rattle.review_runner.specs.Commands.{image_rule, steps_rule, run_image_app, debug_app, celbpf_app};
 ghost use Rattle.review_runner.specs.Commands.{faults, entered};
 
 use clap::{Arg, ArgMatches, Command, Error, value_parser};
@@ -38,6 +38,14 @@ fn run_image_command<'a>(alloc: Global) -> Result<Command<'a>, AllocError>
     command.arg(steps_argument(alloc))
 }
 
+#[tactic(auto, unfolding(crate::specs::Commands::debug_app))]
+fn debug_command<'a>(alloc: Global) -> Result<Command<'a>, AllocError>
+    ensures shape { IfOk result (λ c. app_of c ≡ debug_app) }
+    ensures local { IfOk result (λ c. (fields_of c).has_globals ≡ false) }
+{
+    Command::new(alloc, "debug").arg(image_argument(alloc))
+}
+
 // the program, with each of its commands
 #[tactic(auto, unfolding(crate::specs::Commands::celbpf_app, crate::specs::Commands::bare_app))]
 fn celbpf_command<'a>(alloc: Global) -> Result<Command<'a>, AllocError>
@@ -45,7 +53,8 @@ fn celbpf_command<'a>(alloc: Global) -> Result<Command<'a>, AllocError>
     ensures local { IfOk result (λ c. (fields_of c).has_globals ≡ false) }
 {
     let command = Command::new(alloc, "celbpf").subcommand_required(true);
-    command.subcommand(run_image_command(alloc)?)
+    let command = command.subcommand(run_image_command(alloc)?)?;
+    command.subcommand(debug_command(alloc)?)
 }
 
 // What `clap` makes of the words, the program's name first.

@@ -3,6 +3,7 @@
 #![tactic(auto)]
 
 mod command_line;
+mod debugging;
 mod done;
 mod file_error;
 mod files;
@@ -19,6 +20,7 @@ pub mod rows;
 mod running;
 mod values;
 
+pub use debugging::debug;
 pub use done::Done;
 pub use file_error::FileError;
 pub use files::Files;

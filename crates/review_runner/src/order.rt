@@ -11,4 +11,9 @@ pub enum Order {
         /// was given.
         steps: u64,
     },
+    /// `debug IMAGE`: a session with a program image, on standard input and output.
+    Debug {
+        /// The image's file name as it was given, which may be empty.
+        image: String,
+    },
 }

@@ -29,6 +29,7 @@ fn words_that_are_taken(rt: HostRuntime) -> Result<(), Fail> {
                 assert!(rt; image.as_str() == name, "the name in row {row}");
                 assert_eq!(rt; *steps, number, "the steps in row {row}");
             }
+            Ok(Order::Debug { .. }) => assert!(rt; false, "row {row}: a session"),
             Err(error) => assert!(rt; false, "row {row}: {error}"),
         }
     }
@@ -56,6 +57,8 @@ fn words_that_are_refused(rt: HostRuntime) -> Result<(), Fail> {
         "2",
     ];
     let flag = ["celbpf", "run-image", "a.img", "--fast"];
+    let debug_alone = ["celbpf", "debug"];
+    let debug_steps = ["celbpf", "debug", "a.img", "--steps", "1"];
     let help = ["celbpf", "--help"];
     let command_help = ["celbpf", "run-image", "--help"];
     let help_command = ["celbpf", "help"];
@@ -71,6 +74,8 @@ fn words_that_are_refused(rt: HostRuntime) -> Result<(), Fail> {
         no_number.as_slice(),
         twice.as_slice(),
         flag.as_slice(),
+        debug_alone.as_slice(),
+        debug_steps.as_slice(),
         help.as_slice(),
         command_help.as_slice(),
         help_command.as_slice(),
@@ -80,6 +85,16 @@ fn words_that_are_refused(rt: HostRuntime) -> Result<(), Fail> {
             Ok(_) => assert!(rt; false, "row {row}: an order"),
             Err(error) => assert!(rt; *error == OrderError::U1, "row {row}: {error}"),
         }
+    }
+    Ok(())
+}
+
+#[test]
+fn sessions(rt: HostRuntime) -> Result<(), Fail> {
+    let words = ["celbpf", "debug", "a.img"];
+    match &order(rt.alloc(), words.as_slice()) {
+        Ok(Order::Debug { image }) => assert!(rt; image.as_str() == "a.img"),
+        _ => assert!(rt; false),
     }
     Ok(())
 }

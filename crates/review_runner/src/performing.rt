@@ -1,7 +1,7 @@
 //! Orders, done with files that the caller gives.
-ghost use Rattle.std.specs.Prelude.{◌≡◌, Some, IfOk, option_map};
+ghost use Rattle.std.specs.Prelude.{◌≡◌, false, Some, IfOk};
 ghost use Rattle.review_runner.specs.FileSystem.{FileSystem, ReadsFile};
-ghost use Rattle.review_runner.specs.Order.{order_view};
+ghost use Rattle.review_runner.specs.Order.{is_session, order_view};
 ghost use Rattle.review_runner.specs.Output.{output_of, run_image_output, run_output, run_status, task_output};
 ghost use Rattle.review_runner.specs.Running.{run_of_file};
 
@@ -16,13 +16,15 @@ use loader::LoadError;
 use std::alloc::{AllocError, Global};
 
 /// Does the order and answers what is to be written and the program's status. A refusal is an
-/// answer too; the one error is want of memory.
+/// answer too; the one error is want of memory. A session is for `debug`.
 pub fn perform<F: Files>(alloc: Global, order: &Order, files: &mut F) -> Result<Done, AllocError>
+    requires { is_session (order_view order.now) ≡ false }
     ensures done { (f : FileSystem) → F.known files.old ≡ Some f → IfOk result (λ d. output_of d ≡ task_output f (order_view order.now)) }
     ensures known { F.known files.new ≡ F.known files.old }
 {
     match order {
         Order::RunImage { image, steps } => perform_run(alloc, image.as_str(), *steps, files),
+        Order::Debug { .. } => unreachable!(),
     }
 }
 

@@ -1,5 +1,6 @@
-use crate::{Done, FileError, Files, Order, OrderError, Refusal, perform, run_image};
+use crate::{Done, FileError, Files, Order, OrderError, Refusal, debug, perform, run_image};
 use bpf_machine::Status;
+use debugger::Counting;
 use std::alloc::{AllocError, Global};
 use std::test::Fail;
 
@@ -127,6 +128,29 @@ fn refuses_files(rt: HostRuntime) -> Result<(), Fail> {
         assert!(rt; done.out.is_empty(), "row {row}");
         assert!(rt; done.err.as_slice() == line.as_bytes(), "row {row}");
         assert_eq!(rt; done.status, 3, "row {row}");
+    }
+    Ok(())
+}
+
+/// The bytes of a session on `a.img`, its input and its result: a full output is one that failed.
+#[test]
+fn debugs_images(rt: HostRuntime) -> Result<(), Fail> {
+    let file = file(rt.alloc(), [SET_FIVE, EXIT].as_slice())?;
+    let said = b"step 1 pc 1 running\nstep 0 pc 0 running\n? what\n".as_slice();
+    let table = [
+        ("a.img", said.len(), Ok(())),
+        ("a.img", 25, Err(Refusal::Output)),
+        ("b.img", 0, Err(Refusal::File)),
+    ];
+    for (row, (name, room, result)) in table.into_iter().enumerate() {
+        let mut files = OneFile { bytes: &file };
+        let mut input = Counting::new(b"s 1\nrs 1\nx\nq\ns 1\n".as_slice());
+        let mut written = [0u8; 64];
+        let (front, _) = written.split_at_mut(room.min(64));
+        let mut output = Counting::new(&mut *front);
+        let ended = debug(rt.alloc(), name, &mut files, &mut input, &mut output);
+        assert_eq!(rt; ended, result, "row {row}");
+        assert!(rt; said.starts_with(&written[..room.min(64)]), "row {row}");
     }
     Ok(())
 }

@@ -1,7 +1,7 @@
 //! From the words of a command line to the order that they give.
 ghost use Rattle.std.specs.Prelude.{map, IfOk};
 ghost use Rattle.clap.specs.Words.{found_of, rows_of};
-ghost use Rattle.review_runner.specs.Order.{order_view, run_image_in, task_named};
+ghost use Rattle.review_runner.specs.Order.{debug_in, order_view, run_image_in, task_named};
 ghost use Rattle.review_runner.specs.Order.{Gives, IsWithinLimits, Ordered};
 
 use crate::command_line::parse;
@@ -24,12 +24,21 @@ fn run_image_order(alloc: Global, matches: &ArgMatches) -> Result<Order, OrderEr
     Ok(Order::RunImage { image, steps })
 }
 
+#[tactic(auto, unfolding(crate::specs::Order::debug_in))]
+fn debug_order(alloc: Global, matches: &ArgMatches) -> Result<Order, OrderError>
+    ensures { Gives (debug_in (rows_of (found_of matches.now))) result }
+{
+    let image = String::from_str(alloc, text_or_empty(matches, "IMAGE"))?;
+    Ok(Order::Debug { image })
+}
+
 // the order of the command `name`: the last command answers to every name that is left
 fn order_named(alloc: Global, name: &str, matches: &ArgMatches) -> Result<Order, OrderError>
     ensures { Gives (task_named name.now (rows_of (found_of matches.now))) result }
 {
     match name {
-        _ => run_image_order(alloc, matches),
+        "run-image" => run_image_order(alloc, matches),
+        _ => debug_order(alloc, matches),
     }
 }
 

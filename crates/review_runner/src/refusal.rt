@@ -18,6 +18,10 @@ pub enum Refusal {
     Image(LoadError),
     /// A file cannot be read or written.
     File,
+    /// The input of a session could not be read.
+    Input,
+    /// The output of a session could not be written.
+    Output,
     /// Memory ran out.
     Memory,
 }
@@ -29,7 +33,7 @@ impl Refusal {
     {
         match self {
             Refusal::Words => 2,
-            Refusal::Image(_) | Refusal::File | Refusal::Memory => 3,
+            _ => 3,
         }
     }
 
@@ -73,6 +77,8 @@ impl fmt::Display for Refusal {
             Refusal::Words => "U1",
             Refusal::Image(error) => image_refusal(*error),
             Refusal::File => "file",
+            Refusal::Input => "S1",
+            Refusal::Output => "S2",
             Refusal::Memory => "memory",
         })
     }

@@ -1,6 +1,6 @@
 //! Command lines written out, with the orders that the definitions give for them.
-ghost use Rattle.review_runner.specs.Rows.{without_steps, with_steps, IsRefused, IsTakenAs};
-ghost use Rattle.review_runner.specs.Order.{run_image};
+ghost use Rattle.review_runner.specs.Rows.{debug_words, without_steps, with_steps, IsRefused, IsTakenAs};
+ghost use Rattle.review_runner.specs.Order.{debug, run_image};
 ghost use Rattle.std.specs.Prelude.{codes};
 
 /// `celbpf run-image a.img --steps 5` runs `a.img` for at most 5 steps, and without `--steps` it is
@@ -10,4 +10,9 @@ pub fn run_image_rows_stand()
     ensures left_out { IsTakenAs without_steps (run_image (codes "a.img") 10000000) }
     ensures most { IsTakenAs (with_steps (codes "1000000000")) (run_image (codes "a.img") 1000000000) }
     ensures past_most { IsRefused (with_steps (codes "1000000001")) }
+{}
+
+/// `celbpf debug a.img` debugs `a.img`.
+pub fn debug_row_stands()
+    ensures { IsTakenAs debug_words (debug (codes "a.img")) }
 {}

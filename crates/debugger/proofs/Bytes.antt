@@ -1,0 +1,44 @@
+-- Bytes that are read one by one, and written in pieces.
+use Rattle.std.proofs.Common.{◌≡◌, ℕ, ◌+◌, ◌-◌, ◌≤◌, List, [], ◌∷◌, ◌++◌, take, drop, get_or, length, Option, Some, None, refl, sym, ap, ◌∙◌, append_assoc, append-nil, arith, subst, ◌<◌}
+use Rattle.std.proofs.lemmas.Grind.{common_steps}
+use Rattle.std.proofs.Math.Seq.{take-add}
+use Rattle.std.proofs.lemmas.List.{take_all}
+use Rattle.debugger.specs.Streams.{AddsBytes, GivesBytes, KeepsBytes}
+
+-- a read of no byte into a buffer of one
+pub no_byte : (left : List ℕ) (after : Option (List ℕ)) (n : ℕ) (buffer : List ℕ) → GivesBytes left after 1 n buffer → n ≡ 0 → (left ≡ []) × (after ≡ Some [])
+no_byte left after n buffer gives none =
+    let empty : left ≡ [] = gives.end none (omega arith) in
+    (empty, gives.rest ∙ ap (λ (k : ℕ). Some (drop k left)) none ∙ ap Some empty)
+
+front_is : (left buffer : List ℕ) → 1 ≤ length left → take 1 buffer ≡ take 1 left → left ≡ get_or buffer 0 0 ∷ drop 1 left
+front_is [] buffer some same = absurd (omega (arith, some))
+front_is (x ∷ xs) [] some same = cc
+front_is (x ∷ xs) (b ∷ bs) some same = cc
+
+-- a read of one byte
+pub first_byte : (left : List ℕ) (after : Option (List ℕ)) (n : ℕ) (buffer : List ℕ) → GivesBytes left after 1 n buffer → n ≡ 1 → (left ≡ get_or buffer 0 0 ∷ drop 1 left) × (after ≡ Some (drop 1 left))
+first_byte left after n buffer gives one =
+    let some : 1 ≤ length left = omega (arith, one, gives.within) in
+    let front : take 1 buffer ≡ take 1 left = subst (λ (k : ℕ). take k buffer ≡ take k left) one gives.front in
+    (front_is left buffer some front, gives.rest ∙ ap (λ (k : ℕ). Some (drop k left)) one)
+
+rest_of : (bytes : List ℕ) (i : ℕ) → take (length bytes - i) (drop i bytes) ≡ drop i bytes
+rest_of bytes i = grind (arith, common_steps)
+
+pub adds_none : (old : Option (List ℕ)) (bytes : List ℕ) → AddsBytes old old (take 0 bytes)
+adds_none old bytes before known = known ∙ ap Some (sym (append-nil before))
+
+-- the first i bytes, and then n of those that are left
+pub adds_more : (old known new : Option (List ℕ)) (bytes : List ℕ) (i n : ℕ) → AddsBytes old known (take i bytes) → AddsBytes known new (take n (take (length bytes - i) (drop i bytes))) → AddsBytes old new (take (i + n) bytes)
+adds_more old known new bytes i n so_far more before is =
+    more (before ++ take i bytes) (so_far before is)
+    ∙ ap (λ (piece : List ℕ). Some ((before ++ take i bytes) ++ take n piece)) (rest_of bytes i)
+    ∙ ap Some (append_assoc before (take i bytes) (take n (drop i bytes)) ∙ ap (λ (piece : List ℕ). before ++ piece) (sym (take-add i n bytes)))
+
+-- a write that fails adds nothing to the first i bytes
+pub adds_kept : (old known new : Option (List ℕ)) (bytes : List ℕ) → AddsBytes old known bytes → KeepsBytes known new → AddsBytes old new bytes
+adds_kept old known new bytes so_far kept before is = kept (before ++ bytes) (so_far before is)
+
+pub adds_all : (old new : Option (List ℕ)) (bytes : List ℕ) (i : ℕ) → length bytes ≤ i → AddsBytes old new (take i bytes) → AddsBytes old new bytes
+adds_all old new bytes i end so_far before is = so_far before is ∙ ap (λ (piece : List ℕ). Some (before ++ piece)) (take_all i bytes end)

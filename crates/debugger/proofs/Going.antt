@@ -1,0 +1,209 @@
+-- How a session goes on.
+use Rattle.std.proofs.Common.{◌≡◌, ℕ, ◌+◌, ◌-◌, ◌<◌, ◌≤◌, Bool, true, false, List, [], ◌∷◌, ◌++◌, length, take, drop, map, fold, Option, Some, None, refl, sym, ap, ◌∙◌, subst, arith, append_assoc, append-nil, add-zero}
+use Rattle.std.proofs.lemmas.List.{map-append, take-append-drop}
+use Rattle.std.proofs.lemmas.List.Sums.{fold_push, fold-append}
+use Rattle.bpf_machine.specs.State.{State}
+use Rattle.debugger.specs.Streams.{AddsBytes, KeepsBytes}
+use Rattle.debugger.specs.Byte.{GivesByte}
+use Rattle.debugger.specs.Answers.{World, Line, world_at, is_refused}
+use Rattle.debugger.specs.Session.{Talk, first_talk, hear, with_answer, one_if, granted, cut, input_lines}
+use Rattle.debugger.specs.Told.{Heard, Answers, HeardLine, HeardPart, Going, ToldAll, ToldSome, ToldPart}
+use Rattle.debugger.proofs.Asked.{answers_whole}
+use Rattle.debugger.proofs.Cut.{Pieces, cut-none, cut-feed, cut-plain, input_lines-append, input_lines-ended, input_lines-open, take-split, take-push, one_within, drop-one}
+
+hear-on : (s : State) (t : Talk) (l : Line) → t.world.ended ≡ false → hear s t l ≡ with_answer s t l
+unfolding hear
+hear-on s t l on = rw on refl
+
+hear-off : (s : State) (t : Talk) (l : Line) → t.world.ended ≡ true → hear s t l ≡ t
+unfolding hear
+hear-off s t l off = rw off refl
+
+-- one line more
+heard-more : (s : State) (lines : List (List ℕ)) (t : Talk) (line : List ℕ) (mark : Bool) → Heard s lines t → t.world.ended ≡ false → is_refused t.world (line, mark) ≡ mark → Heard s (lines ++ line ∷ []) (with_answer s t (line, mark))
+heard-more s lines t line mark h on right = record {
+  marked = h.marked ++ (line, mark) ∷ [];
+  lines_are = map-append (λ (l : Line). l.0) h.marked ((line, mark) ∷ []) ∙ ap (λ (ls : List (List ℕ)). ls ++ line ∷ []) h.lines_are;
+  talk_is = fold_push (hear s) first_talk h.marked (line, mark) ∙ ap (λ (u : Talk). hear s u (line, mark)) h.talk_is ∙ hear-on s t (line, mark) on;
+  marks = fold_push (λ (n : ℕ) (l : Line). n + one_if l.1) 0 h.marked (line, mark) ∙ ap (λ (n : ℕ). n + one_if mark) h.marks ∙ ap (λ (b : Bool). t.refusals + one_if b) (sym right);
+}
+
+granted-lines : (lines : List (List ℕ)) → map (λ (l : Line). l.0) (map granted lines) ≡ lines
+granted-lines [] = refl
+granted-lines (line ∷ lines) = ap (λ (ls : List (List ℕ)). line ∷ ls) (granted-lines lines)
+
+granted-off : (s : State) (t : Talk) (lines : List (List ℕ)) → t.world.ended ≡ true → fold (hear s) t (map granted lines) ≡ t
+granted-off s t [] off = refl
+granted-off s t (line ∷ lines) off = ap (λ (u : Talk). fold (hear s) u (map granted lines)) (hear-off s t (granted line) off) ∙ granted-off s t lines off
+
+granted-marks : (n : ℕ) (lines : List (List ℕ)) → fold (λ (n : ℕ) (l : Line). n + one_if l.1) n (map granted lines) ≡ n
+granted-marks n [] = refl
+granted-marks n (line ∷ lines) = ap (λ (m : ℕ). fold (λ (k : ℕ) (l : Line). k + one_if l.1) m (map granted lines)) (add-zero n) ∙ granted-marks n lines
+
+-- lines after the end change nothing
+heard-off : (s : State) (lines more : List (List ℕ)) (t : Talk) → Heard s lines t → t.world.ended ≡ true → Heard s (lines ++ more) t
+heard-off s lines more t h off = record {
+  marked = h.marked ++ map granted more;
+  lines_are = map-append (λ (l : Line). l.0) h.marked (map granted more) ∙ (λ i. h.lines_are i ++ granted-lines more i);
+  talk_is = fold-append (hear s) first_talk h.marked (map granted more) ∙ ap (λ (u : Talk). fold (hear s) u (map granted more)) h.talk_is ∙ granted-off s t more off;
+  marks = fold-append (λ (n : ℕ) (l : Line). n + one_if l.1) 0 h.marked (map granted more) ∙ granted-marks _ more ∙ h.marks;
+}
+
+pub going_start : (s : State) (input before : List ℕ) (left written : Option (List ℕ)) (line : List ℕ) (k : ℕ) → left ≡ Some input → written ≡ Some before → line ≡ [] → k ≡ 0 → Going s input before 0 left written line k
+going_start s input before left written line k l w n e = record {
+  talk = first_talk;
+  lines = record { marked = []; lines_are = ap (λ (p : Pieces). p.0) (sym cut-none); talk_is = refl; marks = refl };
+  rest = n ∙ ap (λ (p : Pieces). take 65 p.1) (sym cut-none);
+  left_is = l;
+  written_is = w ∙ ap Some (sym (append-nil before));
+  world_is = ap (λ (j : ℕ). world_at j false) (sym e);
+  within = omega arith;
+}
+
+-- what reading a byte says of the bytes that were left
+byte_read : (input : List ℕ) (i b : ℕ) (left after : Option (List ℕ)) → left ≡ Some (drop i input) → ((bytes : List ℕ) → left ≡ Some bytes → GivesByte bytes after (Some b)) → (drop i input ≡ b ∷ drop 1 (drop i input)) × (after ≡ Some (drop (i + 1) input))
+byte_read input i b left after e gives = let g = gives (drop i input) e in (g.0, g.1 ∙ ap Some (drop-one input i))
+
+pub end_read : (input : List ℕ) (i : ℕ) (left after : Option (List ℕ)) → left ≡ Some (drop i input) → ((bytes : List ℕ) → left ≡ Some bytes → GivesByte bytes after None) → (drop i input ≡ []) × (after ≡ Some (drop i input))
+end_read input i left after e gives = let g = gives (drop i input) e in (g.0, g.1 ∙ ap Some (sym g.0))
+
+-- a byte that ends no line
+pub going_byte : (s : State) (input before : List ℕ) (i b : ℕ) (left after written : Option (List ℕ)) (line more : List ℕ) (k : ℕ) → Going s input before i left written line k → ((bytes : List ℕ) → left ≡ Some bytes → GivesByte bytes after (Some b)) → (b ≡ 10 → ⊥) → more ≡ take 65 (line ++ b ∷ []) → Going s input before (i + 1) after written more k
+going_byte s input before i b left after written line more k g gives plain e =
+    let one = byte_read input i b left after g.left_is gives in
+    let c = cut-plain input i b one.0 plain in
+    record {
+      talk = g.talk;
+      lines = subst (λ (ls : List (List ℕ)). Heard s ls g.talk) (ap (λ (p : Pieces). p.0) (sym c)) g.lines;
+      rest = e ∙ ap (λ (l : List ℕ). take 65 (l ++ b ∷ [])) g.rest ∙ take-push 65 (cut (take i input)).1 b ∙ ap (λ (p : Pieces). take 65 p.1) (sym c);
+      left_is = one.1;
+      written_is = g.written_is;
+      world_is = g.world_is;
+      within = one_within input i b one.0;
+    }
+
+-- a line's answer, at the world of the talk and the whole line
+answers_here : (s : State) (w v next : World) (line whole text : List ℕ) → w ≡ v → line ≡ take 65 whole → Answers s v line next text → Answers s w whole next text
+answers_here s w v next line whole text here short a =
+    answers_whole s w next whole text (subst (λ (l : List ℕ). Answers s w l next text) short (subst (λ (u : World). Answers s u line next text) (sym here) a))
+
+written-more : (before so_far text said : List ℕ) (written new : Option (List ℕ)) → written ≡ Some (before ++ so_far) → AddsBytes written new text → said ≡ text → new ≡ Some (before ++ (so_far ++ said))
+written-more before so_far text said written new old e same =
+    e (before ++ so_far) old ∙ ap Some (append_assoc before so_far text) ∙ ap (λ (t : List ℕ). Some (before ++ (so_far ++ t))) (sym same)
+
+-- the talk after one more line
+record Said (s : State) (before : List ℕ) (lines : List (List ℕ)) (line : List ℕ) (next : World) (new : Option (List ℕ)) : Type 0 where
+  talk : Talk
+  heard : Heard s (lines ++ line ∷ []) talk
+  said_written : new ≡ Some (before ++ talk.text)
+  said_world : talk.world ≡ next
+
+said_line : (s : State) (input before : List ℕ) (i : ℕ) (left written new : Option (List ℕ)) (line : List ℕ) (k : ℕ) (next : World) → Going s input before i left written line k → HeardLine s (world_at k false) line next written new → Said s before (cut (take i input)).0 (cut (take i input)).1 next new
+said_line s input before i left written new line k next g h =
+    let whole = (cut (take i input)).1 in
+    let a = answers_here s g.talk.world (world_at k false) next line whole h.text g.world_is g.rest h.answers in
+    record {
+      talk = with_answer s g.talk (whole, a.mark);
+      heard = heard-more s _ g.talk whole a.mark g.lines (ap (λ (w : World). w.ended) g.world_is) a.mark_is;
+      said_written = written-more before g.talk.text h.text _ written new g.written_is h.line_written a.text_is;
+      said_world = a.next_is;
+    }
+
+-- a line after which the session goes on
+pub going_line : (s : State) (input before : List ℕ) (i b : ℕ) (left after written new : Option (List ℕ)) (line more : List ℕ) (k j : ℕ) (ended : Bool) → Going s input before i left written line k → ((bytes : List ℕ) → left ≡ Some bytes → GivesByte bytes after (Some b)) → b ≡ 10 → HeardLine s (world_at k false) line (world_at j ended) written new → ended ≡ false → more ≡ [] → Going s input before (i + 1) after new more j
+going_line s input before i b left after written new line more k j ended g gives feed h on none =
+    let one = byte_read input i b left after g.left_is gives in
+    let c = cut-feed input i b one.0 feed in
+    let said = said_line s input before i left written new line k (world_at j ended) g h in
+    record {
+      talk = said.talk;
+      lines = subst (λ (ls : List (List ℕ)). Heard s ls said.talk) (ap (λ (p : Pieces). p.0) (sym c)) said.heard;
+      rest = none ∙ ap (λ (p : Pieces). take 65 p.1) (sym c);
+      left_is = one.1;
+      written_is = said.said_written;
+      world_is = said.said_world ∙ ap (world_at j) on;
+      within = one_within input i b one.0;
+    }
+
+-- a line that ends the session
+pub told_quit : (s : State) (input before : List ℕ) (i b : ℕ) (left after written new : Option (List ℕ)) (line : List ℕ) (k j limit : ℕ) (ended : Bool) → Going s input before i left written line k → ((bytes : List ℕ) → left ≡ Some bytes → GivesByte bytes after (Some b)) → b ≡ 10 → HeardLine s (world_at k false) line (world_at j ended) written new → ended ≡ true → i < limit → ToldAll s (take limit input) before new
+told_quit s input before i b left after written new line k j limit ended g gives feed h off below =
+    let one = byte_read input i b left after g.left_is gives in
+    let c = cut-feed input i b one.0 feed in
+    let said = said_line s input before i left written new line k (world_at j ended) g h in
+    let rest = input_lines-append (take (i + 1) input) (take (limit - (i + 1)) (drop (i + 1) input)) in
+    let all = ap input_lines (sym (take-split limit (i + 1) input (omega (arith, below)))) ∙ rest.1 ∙ ap (λ (p : Pieces). p.0 ++ rest.0) c in
+    record {
+      talk = said.talk;
+      all_lines = subst (λ (ls : List (List ℕ)). Heard s ls said.talk) (sym all) (heard-off s _ rest.0 said.talk said.heard (ap (λ (w : World). w.ended) said.said_world ∙ off));
+      all_written = said.said_written;
+    }
+
+-- a read that failed
+pub told_some : (s : State) (input before : List ℕ) (i : ℕ) (left after written : Option (List ℕ)) (line : List ℕ) (k : ℕ) → Going s input before i left written line k → KeepsBytes left after → ToldSome s input before after written
+told_some s input before i left after written line k g kept = record { read = i; talk = g.talk; some_lines = g.lines; some_left = kept (drop i input) g.left_is; some_within = g.within; some_written = g.written_is }
+
+-- an answer that was written in part, when so many bytes were read
+part_told : (s : State) (input before : List ℕ) (i read : ℕ) (left after written new : Option (List ℕ)) (line : List ℕ) (k : ℕ) → Going s input before i left written line k → HeardPart s (world_at k false) line written new → input_lines (take read input) ≡ (cut (take i input)).0 ++ (cut (take i input)).1 ∷ [] → after ≡ Some (drop read input) → read ≤ length input → ToldPart s input before after new
+part_told s input before i read left after written new line k g h all gone inside =
+    let whole = (cut (take i input)).1 in
+    let a = answers_here s g.talk.world (world_at k false) h.next line whole h.text g.world_is g.rest h.answers in
+    let said = with_answer s g.talk (whole, a.mark) in
+    record {
+      read = read;
+      talk = said;
+      part_lines = subst (λ (ls : List (List ℕ)). Heard s ls said) (sym all) (heard-more s _ g.talk whole a.mark g.lines (ap (λ (w : World). w.ended) g.world_is) a.mark_is);
+      part_left = gone;
+      part_within = inside;
+      part = g.talk.text ++ take h.many h.text;
+      rest = drop h.many h.text;
+      part_is = append_assoc g.talk.text (take h.many h.text) (drop h.many h.text) ∙ ap (λ (t : List ℕ). g.talk.text ++ t) (take-append-drop h.many h.text ∙ sym a.text_is);
+      part_written = written-more before g.talk.text (take h.many h.text) (take h.many h.text) written new g.written_is h.line_written refl;
+    }
+
+-- at a line's end, and at the input's
+pub told_part : (s : State) (input before : List ℕ) (i b : ℕ) (left after written new : Option (List ℕ)) (line : List ℕ) (k : ℕ) → Going s input before i left written line k → ((bytes : List ℕ) → left ≡ Some bytes → GivesByte bytes after (Some b)) → b ≡ 10 → HeardPart s (world_at k false) line written new → ToldPart s input before after new
+told_part s input before i b left after written new line k g gives feed h =
+    let one = byte_read input i b left after g.left_is gives in
+    let c = cut-feed input i b one.0 feed in
+    let all = input_lines-ended (take (i + 1) input) (ap (λ (p : Pieces). take 65 p.1) c) ∙ ap (λ (p : Pieces). p.0) c in
+    part_told s input before i (i + 1) left after written new line k g h all one.1 (one_within input i b one.0)
+
+open_line : (s : State) (input before : List ℕ) (i : ℕ) (left written : Option (List ℕ)) (line : List ℕ) (k : ℕ) → Going s input before i left written line k → 0 < length line → input_lines (take i input) ≡ (cut (take i input)).0 ++ (cut (take i input)).1 ∷ []
+open_line s input before i left written line k g some = input_lines-open (take i input) (subst (λ (l : List ℕ). 0 < length l) g.rest some)
+
+pub told_part-last : (s : State) (input before : List ℕ) (i : ℕ) (left after written new : Option (List ℕ)) (line : List ℕ) (k : ℕ) → Going s input before i left written line k → after ≡ Some (drop i input) → 0 < length line → HeardPart s (world_at k false) line written new → ToldPart s input before after new
+told_part-last s input before i left after written new line k g gone some h =
+    part_told s input before i i left after written new line k g h (open_line s input before i left written line k g some) gone g.within
+
+-- where all is read, and the last line has ended
+pub told_end : (s : State) (input before : List ℕ) (i : ℕ) (left written : Option (List ℕ)) (line : List ℕ) (k limit : ℕ) → Going s input before i left written line k → take limit input ≡ take i input → line ≡ [] → ToldAll s (take limit input) before written
+told_end s input before i left written line k limit g e none =
+    let all = ap input_lines e ∙ input_lines-ended (take i input) (sym g.rest ∙ none) in
+    record {
+      talk = g.talk;
+      all_lines = subst (λ (ls : List (List ℕ)). Heard s ls g.talk) (sym all) g.lines;
+      all_written = g.written_is;
+    }
+
+-- where all is read, and the last line has no line feed
+pub told_last : (s : State) (input before : List ℕ) (i : ℕ) (left written new : Option (List ℕ)) (line : List ℕ) (k limit : ℕ) (next : World) → Going s input before i left written line k → take limit input ≡ take i input → 0 < length line → HeardLine s (world_at k false) line next written new → ToldAll s (take limit input) before new
+told_last s input before i left written new line k limit next g e some h =
+    let said = said_line s input before i left written new line k next g h in
+    let all = ap input_lines e ∙ open_line s input before i left written line k g some in
+    record {
+      talk = said.talk;
+      all_lines = subst (λ (ls : List (List ℕ)). Heard s ls said.talk) (sym all) said.heard;
+      all_written = said.said_written;
+    }
+
+-- the same in the same run and at the same line
+pub heard_at : (s r : State) (w next : World) (line same : List ℕ) (written new : Option (List ℕ)) → r ≡ s → same ≡ line → HeardLine r w same next written new → HeardLine s w line next written new
+heard_at s r w next line same written new a b h = subst (λ (x : State). HeardLine x w line next written new) a (subst (λ (l : List ℕ). HeardLine r w l next written new) b h)
+
+pub part_at : (s r : State) (w : World) (line same : List ℕ) (written new : Option (List ℕ)) → r ≡ s → same ≡ line → HeardPart r w same written new → HeardPart s w line written new
+part_at s r w line same written new a b h = subst (λ (x : State). HeardPart x w line written new) a (subst (λ (l : List ℕ). HeardPart r w l written new) b h)
+
+pub no_items : (xs : List ℕ) → length xs ≡ 0 → xs ≡ []
+no_items [] none = refl
+no_items (x ∷ xs) none = absurd (omega (arith, none))

@@ -1,0 +1,21 @@
+use Rattle.std.proofs.Common.{length, arith, ap}
+use Rattle.debugger.proofs.Texts.{registers_none, registers_more, registers_all}
+use Rattle.debugger.proofs.answer_text.AnswerText.push_registers.Goals as goal
+
+pub loop-number-init : goal.loop-number-init
+loop-number-init g c = record {
+  text = registers_none _ _ c.requires;
+  length = let none = ap length c.requires in omega (arith, none);
+}
+
+pub push_register-requires-clause-room : goal.push_register-requires-clause-room
+push_register-requires-clause-room g c = omega (arith, c.loop-number.invariant.length, c.loop-number-test.true)
+
+pub loop-number-preserved : goal.loop-number-preserved
+loop-number-preserved g c = record {
+  text = registers_more _ _ _ _ _ c.register.ensures c.loop-number.invariant.text c.push_register.ensures.text;
+  length = omega (arith, c.loop-number.invariant.length, c.push_register.ensures.length);
+}
+
+pub returns : goal.returns
+returns g c = registers_all _ _ _ (omega (arith, c.loop-number.auto.number-end, c.loop-number-test.false)) c.loop-number.invariant.text

@@ -1,0 +1,9 @@
+use Rattle.std.proofs.Common.{◌≡◌, ◌≤◌, ◌*◌, length}
+use Rattle.bpf_machine.specs.Text.{register_lines}
+use Rattle.debugger.proofs.answer_text.AnswerText.push_registers.Given as goal
+
+abbrev pub invariant-loop-number : goal.invariant-loop-number
+invariant-loop-number g l = record {
+  text : l.self ≡ register_lines l.number (g.E.Emulator.state l.machine);
+  length : length l.self ≤ 23 * l.number;
+}

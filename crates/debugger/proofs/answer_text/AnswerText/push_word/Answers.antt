@@ -1,0 +1,12 @@
+use Rattle.std.proofs.Common.{[], ◌∷◌, length, arith, ap, ◌∙◌}
+use Rattle.std.proofs.lemmas.List.{length-append}
+use Rattle.bpf_machine.specs.Text.{hex_digits}
+use Rattle.debugger.proofs.Texts.{hex_length}
+use Rattle.debugger.proofs.answer_text.AnswerText.push_word.Goals as goal
+
+pub returns-clause-length : goal.returns-clause-length
+returns-clause-length c =
+    let front = ap length c.push_bytes.ensures ∙ length-append c.args.self.now (48 ∷ 120 ∷ []) in
+    let long = ap length c.push_hex.ensures ∙ length-append c.push_bytes.new.self (hex_digits 16 c.args.word) in
+    let digits = hex_length 16 c.args.word in
+    omega (arith, front, long, digits)

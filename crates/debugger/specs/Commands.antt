@@ -1,0 +1,62 @@
+-- What a line asks for.
+use Rattle.std.specs.Prelude.{ℕ, ◌+◌, ◌-◌, ◌*◌, Bool, ◌&&◌, List, [], ◌∷◌, length, take, drop, min, Option, Some, None, codes, nat_eq, nat_le, nat_lt, slice_index, if◌then◌else◌}
+use Rattle.std.specs.Str.{bytes_eq}
+use Rattle.debugger.specs.declared.command.Command.{Command}
+use Rattle.debugger.specs.declared.command.Command.TheVariants.{Forward, Back, Registers, Quit, Unknown}
+
+abbrev pub is_digit : ℕ → Bool
+is_digit c = nat_le 48 c && nat_le c 57
+
+-- the number that begins with n and goes on with these decimal digits
+abbrev pub read_digits : ℕ → List ℕ → Option ℕ
+read_digits n [] = Some n
+read_digits n (c ∷ cs) = if is_digit c then read_digits (n * 10 + (c - 48)) cs else None
+
+abbrev pub leads_with_zero : List ℕ → Bool
+leads_with_zero digits = nat_lt 1 (length digits) && nat_eq (slice_index digits 0) 48
+
+-- a number: decimal digits, of which the first is 0 only where it is the only one
+unfoldable pub number_of : List ℕ → Option ℕ
+number_of digits =
+    if nat_eq (length digits) 0 then None
+    else (if leads_with_zero digits then None
+    else read_digits 0 digits)
+
+abbrev pub begins_with : List ℕ → List ℕ → Bool
+begins_with front line = bytes_eq front (take (length front) line)
+
+abbrev pub forward_by : Option ℕ → Command
+forward_by None = Unknown
+forward_by (Some n) = Forward n
+
+abbrev pub back_by : Option ℕ → Command
+back_by None = Unknown
+back_by (Some n) = Back n
+
+-- the command that a line of any length would write
+unfoldable pub form_of : List ℕ → Command
+form_of line =
+    if bytes_eq line (codes "q") then Quit
+    else (if bytes_eq line (codes "r") then Registers
+    else (if begins_with (codes "s ") line then forward_by (number_of (drop 2 line))
+    else (if begins_with (codes "rs ") line then back_by (number_of (drop 3 line))
+    else Unknown)))
+
+-- a line's command: a line of more than 64 bytes has no form
+unfoldable pub command_of : List ℕ → Command
+command_of line = if nat_le (length line) 64 then form_of line else Unknown
+
+-- a number that is out of every range stands for those above it
+abbrev pub capped : ℕ → ℕ
+capped n = min n 1000001
+
+abbrev pub capped_number : Option ℕ → Option ℕ
+capped_number None = None
+capped_number (Some n) = Some (capped n)
+
+abbrev pub capped_command : Command → Command
+capped_command (Forward n) = Forward (capped n)
+capped_command (Back n) = Back (capped n)
+capped_command Registers = Registers
+capped_command Quit = Quit
+capped_command Unknown = Unknown

@@ -1,0 +1,55 @@
+-- The text of a session.
+use Rattle.std.specs.Prelude.{ℕ, ◌+◌, Bool, true, false, List, [], ◌∷◌, ◌++◌, fold, map, nat_eq, if◌then◌else◌}
+use Rattle.bpf_machine.specs.State.{State}
+use Rattle.debugger.specs.Answers.{World, Line, world_at, is_refused, answer_to}
+
+-- the lines that have ended, and the bytes after them
+abbrev pub cut_byte : List (List ℕ) × List ℕ → ℕ → List (List ℕ) × List ℕ
+cut_byte p b = if nat_eq b 10 then (p.0 ++ p.1 ∷ [], []) else (p.0, p.1 ++ b ∷ [])
+
+-- an input cut at its line feeds
+unfoldable pub cut : List ℕ → List (List ℕ) × List ℕ
+cut input = fold cut_byte ([], []) input
+
+abbrev pub with_rest : List (List ℕ) → List ℕ → List (List ℕ)
+with_rest lines [] = lines
+with_rest lines (b ∷ bs) = lines ++ (b ∷ bs) ∷ []
+
+-- an input's lines: the last may lack its line feed, and nothing after the last line feed is no line
+abbrev pub input_lines : List ℕ → List (List ℕ)
+input_lines input = with_rest (cut input).0 (cut input).1
+
+-- the world and the text so far, and at how many lines memory was refused
+pub record Talk : Type 0 where
+  pub world : World
+  pub text : List ℕ
+  pub refusals : ℕ
+
+abbrev pub first_talk : Talk
+first_talk = record { world = world_at 0 false; text = []; refusals = 0 }
+
+abbrev pub one_if : Bool → ℕ
+one_if true = 1
+one_if false = 0
+
+abbrev pub with_answer : State → Talk → Line → Talk
+with_answer s t l = record {
+  world = (answer_to s t.world l).next;
+  text = t.text ++ (answer_to s t.world l).text;
+  refusals = t.refusals + one_if (is_refused t.world l);
+}
+
+-- one more line, which is not heard once the session has ended
+unfoldable pub hear : State → Talk → Line → Talk
+hear s t l = if t.world.ended then t else with_answer s t l
+
+-- what is said to these lines, from step 0 of the run from s on
+abbrev pub talk_of : State → List Line → Talk
+talk_of s lines = fold (hear s) first_talk lines
+
+abbrev pub granted : List ℕ → Line
+granted line = (line, false)
+
+-- the text of a session on an input
+abbrev pub session_text : State → List ℕ → List ℕ
+session_text s input = (talk_of s (map granted (input_lines input))).text

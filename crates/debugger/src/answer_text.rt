@@ -1,0 +1,222 @@
+//! The text of an answer.
+ghost use Rattle.std.specs.Prelude.{◌≡◌, ◌≤◌, ◌<◌, ◌+◌, [], ◌++◌, ◌∷◌, ℕ, length, decimal};
+ghost use Rattle.std.specs.Fmt.{signed_decimal};
+ghost use Rattle.bpf_machine.specs.Text.{fault_text, hex_digit, hex_digits, move_line, register_line, register_lines, registers_text, status_text, word_text};
+
+use crate::emulator::Emulator;
+use arrayvec::ArrayVec;
+use bpf_machine::{Fault, Status};
+use std::marker::Model;
+
+/// The text of an answer, in room of its own for 256 bytes, the most being the 243 of the
+/// registers.
+#[derive(Drop)]
+pub struct AnswerText {
+    bytes: ArrayVec<u8, 256>,
+}
+
+impl Model for AnswerText {
+    ghost use Rattle.std.specs.Prelude.{ℕ, List};
+    ghost use Rattle.std.specs.Coded.{codes};
+
+    ghost Value = { List ℕ };
+
+    ghost view = { λ t. t.bytes.items };
+}
+
+impl AnswerText {
+    /// No text.
+    pub fn new() -> AnswerText
+        ensures { result ≡ [] }
+    {
+        AnswerText {
+            bytes: ArrayVec::new(),
+        }
+    }
+
+    pub fn clear(&mut self)
+        ensures { self.new ≡ [] }
+    {
+        self.bytes.clear();
+    }
+
+    pub fn as_slice(&self) -> &[u8]
+        ensures { result.now ≡ self.now }
+    {
+        self.bytes.as_slice()
+    }
+
+    /// Appends these bytes.
+    pub fn push_bytes(&mut self, bytes: &[u8])
+        requires { length self.old + length bytes.now ≤ 256 }
+        ensures { self.new ≡ self.old ++ bytes.now }
+    {
+        match self.bytes.try_extend_from_slice(bytes) {
+            Ok(()) => {}
+            Err(_) => unreachable!(),
+        }
+    }
+
+    fn push_byte(&mut self, byte: u8)
+        requires { length self.old < 256 }
+        ensures { self.new ≡ self.old ++ byte ∷ [] }
+    {
+        self.bytes.push(byte);
+    }
+
+    /// Appends a number's decimal digits.
+    fn push_decimal(&mut self, n: u64)
+        requires { length self.old + length (decimal n) ≤ 256 }
+        ensures { self.new ≡ self.old ++ decimal n }
+    {
+        if n < 10 {
+            self.push_byte(48 + n as u8);
+            return;
+        }
+        self.push_decimal(n / 10);
+        self.push_byte(48 + (n % 10) as u8);
+    }
+
+    /// Appends the lowest `count` hex digits of a word.
+    fn push_hex(&mut self, count: u32, word: u64)
+        requires { length self.old + count ≤ 256 }
+        ensures { self.new ≡ self.old ++ hex_digits count word }
+    {
+        if count == 0 {
+            return;
+        }
+        self.push_hex(count - 1, word / 16);
+        self.push_byte(hex_digit(word % 16));
+    }
+
+    /// Appends a number.
+    fn push_number(&mut self, n: u64)
+        requires { length self.old ≤ 236 }
+        ensures text { self.new ≡ self.old ++ decimal n }
+        ensures length { length self.new ≤ length self.old + 20 }
+    {
+        self.push_decimal(n);
+    }
+
+    /// Appends a number of at most two digits.
+    fn push_small(&mut self, n: u64)
+        requires small { n < 100 }
+        requires room { length self.old ≤ 254 }
+        ensures text { self.new ≡ self.old ++ decimal n }
+        ensures length { length self.new ≤ length self.old + 2 }
+    {
+        self.push_decimal(n);
+    }
+
+    /// Appends a number with `-` where it is negative.
+    fn push_signed(&mut self, n: i64)
+        requires { length self.old ≤ 235 }
+        ensures text { self.new ≡ self.old ++ signed_decimal n }
+        ensures length { length self.new ≤ length self.old + 21 }
+    {
+        if n < 0 {
+            self.push_byte(b'-');
+            self.push_number(n.unsigned_abs());
+            return;
+        }
+        self.push_number(n.unsigned_abs());
+    }
+
+    /// Appends a word as `0x` and 16 hex digits.
+    fn push_word(&mut self, word: u64)
+        requires { length self.old ≤ 238 }
+        ensures text { self.new ≡ self.old ++ word_text word }
+        ensures length { length self.new ≡ length self.old + 18 }
+    {
+        self.push_bytes(b"0x");
+        self.push_hex(16, word);
+    }
+
+    /// Appends whether a machine goes on.
+    fn push_status(&mut self, status: Status)
+        requires { length self.old ≤ 231 }
+        ensures text { self.new ≡ self.old ++ status_text status }
+        ensures length { length self.new ≤ length self.old + 25 }
+    {
+        match status {
+            Status::Running => self.push_bytes(b"running"),
+            Status::Exited(word) => {
+                self.push_bytes(b"exited ");
+                self.push_word(word);
+            }
+            Status::Fault(fault) => {
+                self.push_bytes(b"fault ");
+                self.push_bytes(fault_name(fault));
+            }
+        }
+    }
+
+    /// Appends the line of a move to step `k`.
+    #[tactic(auto, unfolding(bpf_machine::specs::Text::move_line))]
+    pub fn push_move(&mut self, k: u64, pc: i64, status: Status)
+        requires { length self.old ≤ 179 }
+        ensures { self.new ≡ self.old ++ move_line k pc status }
+    {
+        self.push_bytes(b"step ");
+        self.push_number(k);
+        self.push_bytes(b" pc ");
+        self.push_signed(pc);
+        self.push_bytes(b" ");
+        self.push_status(status);
+        self.push_byte(b'\n');
+    }
+
+    /// Appends a register's line.
+    #[tactic(auto, unfolding(bpf_machine::specs::Text::register_line))]
+    fn push_register(&mut self, number: u64, word: u64)
+        requires number { number < 11 }
+        requires room { length self.old ≤ 233 }
+        ensures text { self.new ≡ self.old ++ register_line number word }
+        ensures length { length self.new ≤ length self.old + 23 }
+    {
+        self.push_bytes(b"r");
+        self.push_small(number);
+        self.push_bytes(b" ");
+        self.push_word(word);
+        self.push_byte(b'\n');
+    }
+
+    /// Appends the lines of the eleven registers.
+    #[tactic(auto, unfolding(bpf_machine::specs::Text::registers_text))]
+    pub fn push_registers<E: Emulator>(&mut self, machine: &E)
+        requires { self.old ≡ [] }
+        ensures { self.new ≡ registers_text (E.state machine.now) }
+    {
+        for number in 0..11usize {
+            self.push_register(number as u64, machine.register(number));
+        }
+    }
+}
+
+fn hex_digit(digit: u64) -> u8
+    requires { digit < 16 }
+    ensures { result ≡ hex_digit digit }
+{
+    if digit < 10 {
+        48 + digit as u8
+    } else {
+        87 + digit as u8
+    }
+}
+
+fn fault_name(fault: Fault) -> &'static [u8]
+    ensures name { result.now ≡ fault_text fault }
+    ensures length { length result.now ≡ 2 }
+{
+    match fault {
+        Fault::F1 => b"F1",
+        Fault::F2 => b"F2",
+        Fault::F3 => b"F3",
+        Fault::F4 => b"F4",
+        Fault::F5 => b"F5",
+        Fault::F6 => b"F6",
+        Fault::F7 => b"F7",
+        Fault::F8 => b"F8",
+        Fault::F9 => b"F9",
+    }
+}

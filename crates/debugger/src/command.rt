@@ -1,0 +1,132 @@
+//! What a line asks for.
+ghost use Rattle.std.specs.Prelude.{◌≡◌, ◌≤◌, ◌-◌, ◌+◌, ◌*◌, ℕ, true, drop, min, option_map};
+ghost use Rattle.std.specs.Str.{bytes_eq};
+ghost use Rattle.debugger.specs.Commands.{begins_with, capped, capped_command, capped_number, command_of, form_of, is_digit, leads_with_zero, number_of, read_digits};
+
+/// What a line asks for. A number above 1,000,000 is in no range: 1,000,001 stands for each.
+#[derive(Clone, Copy, Debug, PartialEq, Eq)]
+pub enum Command {
+    /// `s N`: to the step that lies N further.
+    Forward(u64),
+    /// `rs N`: to the step that lies N before.
+    Back(u64),
+    /// `r`: the registers.
+    Registers,
+    /// `q`: the end of the session.
+    Quit,
+    /// A line that has no form.
+    Unknown,
+}
+
+impl Command {
+    /// The command of a line.
+    #[tactic(auto, unfolding(crate::specs::Commands::command_of))]
+    pub fn of(line: &[u8]) -> Command
+        ensures { result ≡ capped_command (command_of line.now) }
+    {
+        if line.len() <= 64 {
+            form(line)
+        } else {
+            Command::Unknown
+        }
+    }
+}
+
+/// The command that a line of any length would write.
+#[tactic(auto, unfolding(crate::specs::Commands::form_of))]
+fn form(line: &[u8]) -> Command
+    ensures { result ≡ capped_command (form_of line.now) }
+{
+    if is_bytes(line, b"q") {
+        return Command::Quit;
+    }
+    if is_bytes(line, b"r") {
+        return Command::Registers;
+    }
+    if begins_with(line, b"s ") {
+        return match number(after(line, 2)) {
+            Some(n) => Command::Forward(n),
+            None => Command::Unknown,
+        };
+    }
+    if begins_with(line, b"rs ") {
+        return match number(after(line, 3)) {
+            Some(n) => Command::Back(n),
+            None => Command::Unknown,
+        };
+    }
+    Command::Unknown
+}
+
+fn is_bytes(line: &[u8], bytes: &[u8]) -> bool
+    ensures { result ≡ bytes_eq line.now bytes.now }
+{
+    line == bytes
+}
+
+fn begins_with(line: &[u8], front: &[u8]) -> bool
+    ensures { result ≡ begins_with front.now line.now }
+{
+    line.starts_with(front)
+}
+
+/// The bytes of a line after the first n.
+fn after(line: &[u8], n: usize) -> &[u8]
+    ensures { result.now ≡ drop n line.now }
+{
+    if n <= line.len() { &line[n..] } else { &[] }
+}
+
+/// The number that a line's last part writes, if it is one.
+#[tactic(auto, unfolding(crate::specs::Commands::number_of))]
+fn number(digits: &[u8]) -> Option<u64>
+    ensures { result ≡ capped_number (number_of digits.now) }
+{
+    if digits.is_empty() {
+        return None;
+    }
+    if leads_with_zero(digits) {
+        return None;
+    }
+    value(0, digits)
+}
+
+/// Whether there are more digits after a first zero.
+fn leads_with_zero(digits: &[u8]) -> bool
+    ensures { result ≡ leads_with_zero digits.now }
+{
+    digits.len() > 1 && digits[0] == b'0'
+}
+
+/// The number that begins with `n` and goes on with these digits.
+fn value(n: u64, digits: &[u8]) -> Option<u64>
+    ensures { (m : ℕ) → n ≡ capped m → result ≡ capped_number (read_digits m digits.now) }
+{
+    match digits {
+        [] => Some(n),
+        [first, rest @ ..] => {
+            if is_digit(*first) {
+                value(with_digit(n, *first), rest)
+            } else {
+                None
+            }
+        }
+    }
+}
+
+fn is_digit(c: u8) -> bool
+    ensures { result ≡ is_digit c }
+{
+    48 <= c && c <= 57
+}
+
+/// The number with one more digit.
+fn with_digit(n: u64, c: u8) -> u64
+    requires { is_digit c ≡ true }
+    ensures { (m : ℕ) → n ≡ capped m → result ≡ capped (m * 10 + (c - 48)) }
+{
+    if n > 1_000_000 {
+        return 1_000_001;
+    }
+    (n * 10 + u64::from(c - 48)).min(1_000_001)
+}
