@@ -1,9 +1,8 @@
 -- The printed text of a state: what the debugger answers to a move and to `r`.
 use Rattle.std.specs.Prelude.{ℕ, ℤ, zero, suc, ◌+◌, ◌/◌, ◌%◌, List, [], ◌∷◌, ◌++◌, codes, decimal, nat_lt, slice_index, if◌then◌else◌}
 use Rattle.std.specs.Fmt.{signed_decimal}
+use Rattle.guest_memory.specs.Text.{fault_text}
 use Rattle.bpf_machine.specs.State.{State}
-use Rattle.bpf_machine.specs.declared.fault.Fault as fault
-use Rattle.bpf_machine.specs.declared.fault.Fault.TheVariants.{F1, F2, F3, F4, F5, F6, F7, F8, F9}
 use Rattle.bpf_machine.specs.declared.status.Status.{Status}
 use Rattle.bpf_machine.specs.declared.status.Status.TheVariants.{Running, Exited, Fault}
 
@@ -19,17 +18,6 @@ hex_digits (suc k) n = hex_digits k (n / 16) ++ hex_digit (n % 16) ∷ []
 -- a word of 64 bits: `0x` and 16 digits
 abbrev pub word_text : ℕ → List ℕ
 word_text w = codes "0x" ++ hex_digits 16 w
-
-abbrev pub fault_text : fault.Fault → List ℕ
-fault_text F1 = codes "F1"
-fault_text F2 = codes "F2"
-fault_text F3 = codes "F3"
-fault_text F4 = codes "F4"
-fault_text F5 = codes "F5"
-fault_text F6 = codes "F6"
-fault_text F7 = codes "F7"
-fault_text F8 = codes "F8"
-fault_text F9 = codes "F9"
 
 abbrev pub status_text : Status → List ℕ
 status_text Running = codes "running"

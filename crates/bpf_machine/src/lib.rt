@@ -2,18 +2,18 @@
 #![tactic(auto)]
 
 mod decoding;
-mod fault;
 mod frame;
 pub mod laws;
 mod machine;
+mod places;
 mod status;
 mod table;
 #[cfg(test)]
 mod tests;
 mod value;
 mod word_text;
+mod words;
 
-pub use fault::Fault;
 pub use frame::Frame;
 pub use machine::Machine;
 pub use status::Status;

@@ -2,8 +2,8 @@
 ghost use Rattle.std.specs.Prelude.{Some};
 ghost use Rattle.bpf_machine.specs.Text.{status_text};
 
-use crate::fault::Fault;
 use crate::word_text::WordText;
+use guest_memory::Fault;
 use std::fmt;
 
 /// Whether a machine goes on, or how it has stopped.

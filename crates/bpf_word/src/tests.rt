@@ -1,21 +1,281 @@
-use crate::{Operation, alu64};
+use crate::{
+    Comparison, Operation, SignBits, SwapWidth, alu32, alu64, holds, rows_stand, sext, swap,
+    upper_half_is_zero,
+};
+
+const LEAST: u64 = 0x8000_0000_0000_0000;
 
 /// The operation, the destination's word, the operand's and the result.
 #[test]
-fn results_of_64_bits(rt: HostRuntime) {
+fn sums_and_bits_of_64(rt: HostRuntime) {
     let table = [
         (Operation::Add, 5, 2, 7),
         (Operation::Add, u64::MAX, 1, 0),
-        (
-            Operation::Add,
-            0x8000_0000_0000_0000,
-            0x8000_0000_0000_0001,
-            1,
-        ),
+        (Operation::Add, LEAST, 0x8000_0000_0000_0001, 1),
+        (Operation::Sub, 5, 2, 3),
+        (Operation::Sub, 2, 5, 0xffff_ffff_ffff_fffd),
+        (Operation::Sub, 0, LEAST, LEAST),
+        (Operation::Mul, 7, 6, 42),
+        (Operation::Mul, 0x1_0000_0001, 0x1_0000_0001, 0x2_0000_0001),
+        (Operation::Mul, u64::MAX, u64::MAX, 1),
+        (Operation::Or, 0x0f0f, 0x00ff, 0x0fff),
+        (Operation::Or, LEAST, 1, 0x8000_0000_0000_0001),
+        (Operation::And, 0x0f0f, 0x00ff, 0x000f),
+        (Operation::And, u64::MAX, LEAST, LEAST),
+        (Operation::Xor, 0x0f0f, 0x00ff, 0x0ff0),
+        (Operation::Xor, u64::MAX, LEAST, 0x7fff_ffff_ffff_ffff),
         (Operation::Mov, 5, 2, 2),
         (Operation::Mov, 5, u64::MAX, u64::MAX),
     ];
     for (row, (operation, dst, operand, result)) in table.into_iter().enumerate() {
         assert_eq!(rt; alu64(operation, dst, operand), result, "row {row}");
     }
+}
+
+/// Among them divisors of zero and the least value by -1.
+#[test]
+fn quotients_of_64(rt: HostRuntime) {
+    let table = [
+        (Operation::Div, 7, 2, 3),
+        (Operation::Div, 7, 0, 0),
+        (Operation::Div, 5, u64::MAX, 0),
+        (Operation::Div, u64::MAX, 2, 0x7fff_ffff_ffff_ffff),
+        (Operation::Sdiv, 7, 2, 3),
+        (
+            Operation::Sdiv,
+            0xffff_ffff_ffff_fff9,
+            2,
+            0xffff_ffff_ffff_fffd,
+        ),
+        (
+            Operation::Sdiv,
+            7,
+            0xffff_ffff_ffff_fffe,
+            0xffff_ffff_ffff_fffd,
+        ),
+        (
+            Operation::Sdiv,
+            0xffff_ffff_ffff_fff9,
+            0xffff_ffff_ffff_fffe,
+            3,
+        ),
+        (Operation::Sdiv, 0xffff_ffff_ffff_fff9, 0, 0),
+        (Operation::Sdiv, LEAST, u64::MAX, LEAST),
+        (Operation::Mod, 7, 3, 1),
+        (Operation::Mod, u64::MAX, 10, 5),
+        (
+            Operation::Mod,
+            0xffff_ffff_0000_0007,
+            0,
+            0xffff_ffff_0000_0007,
+        ),
+        (Operation::Smod, 0xffff_ffff_ffff_fff3, 3, u64::MAX),
+        (Operation::Smod, 13, 0xffff_ffff_ffff_fffd, 1),
+        (
+            Operation::Smod,
+            0xffff_ffff_ffff_fff3,
+            0xffff_ffff_ffff_fffd,
+            u64::MAX,
+        ),
+        (
+            Operation::Smod,
+            0xffff_ffff_ffff_fff3,
+            0,
+            0xffff_ffff_ffff_fff3,
+        ),
+        (Operation::Smod, LEAST, u64::MAX, 0),
+    ];
+    for (row, (operation, dst, operand, result)) in table.into_iter().enumerate() {
+        assert_eq!(rt; alu64(operation, dst, operand), result, "row {row}");
+    }
+}
+
+/// Among them amounts at and above the width.
+#[test]
+fn shifts_of_64(rt: HostRuntime) {
+    let table = [
+        (Operation::Lsh, 1, 32, 0x1_0000_0000),
+        (Operation::Lsh, 3, 63, LEAST),
+        (Operation::Lsh, 1, 64, 1),
+        (Operation::Lsh, 1, 65, 2),
+        (Operation::Lsh, 1, u64::MAX, LEAST),
+        (Operation::Rsh, u64::MAX, 4, 0x0fff_ffff_ffff_ffff),
+        (Operation::Rsh, LEAST, 63, 1),
+        (Operation::Rsh, LEAST, 64, LEAST),
+        (Operation::Rsh, LEAST, 127, 1),
+        (Operation::Arsh, LEAST, 63, u64::MAX),
+        (Operation::Arsh, LEAST, 64, LEAST),
+        (Operation::Arsh, LEAST, 65, 0xc000_0000_0000_0000),
+        (
+            Operation::Arsh,
+            0xffff_ffff_ffff_fff3,
+            1,
+            0xffff_ffff_ffff_fff9,
+        ),
+        (Operation::Arsh, 13, 1, 6),
+        (Operation::Arsh, 0x4000_0000_0000_0000, 62, 1),
+    ];
+    for (row, (operation, dst, operand, result)) in table.into_iter().enumerate() {
+        assert_eq!(rt; alu64(operation, dst, operand), result, "row {row}");
+    }
+}
+
+/// What stands in the upper halves changes nothing.
+#[test]
+fn sums_and_bits_of_32(rt: HostRuntime) {
+    let table = [
+        (Operation::Add, 0xffff_ffff, 1, 0),
+        (
+            Operation::Add,
+            0xaaaa_aaaa_0000_0005,
+            0xbbbb_bbbb_0000_0002,
+            7,
+        ),
+        (Operation::Sub, 2, 5, 0xffff_fffd),
+        (Operation::Mul, 0x1_0001, 0x1_0001, 0x2_0001),
+        (Operation::Or, 0xffff_ffff_0000_0f0f, 0xff, 0xfff),
+        (Operation::And, u64::MAX, u64::MAX, 0xffff_ffff),
+        (Operation::Xor, 0xffff_ffff_0000_0f0f, 0xff, 0xff0),
+        (Operation::Mov, 5, u64::MAX, 0xffff_ffff),
+    ];
+    for (row, (operation, dst, operand, result)) in table.into_iter().enumerate() {
+        assert_eq!(rt; alu32(operation, dst, operand), result, "row {row}");
+    }
+}
+
+/// Among them divisors whose low half is zero, and the least value by -1.
+#[test]
+fn quotients_of_32(rt: HostRuntime) {
+    let table = [
+        (Operation::Div, 0x5_0000_0007, 0x9_0000_0002, 3),
+        (Operation::Div, 7, 0x1_0000_0000, 0),
+        (Operation::Sdiv, 0xffff_fff9, 2, 0xffff_fffd),
+        (
+            Operation::Sdiv,
+            0xffff_ffff_0000_0007,
+            0xffff_fffe,
+            0xffff_fffd,
+        ),
+        (Operation::Sdiv, 7, 0x1_0000_0000, 0),
+        (Operation::Sdiv, 0x8000_0000, 0xffff_ffff, 0x8000_0000),
+        (Operation::Mod, 0x1_0000_0007, 4, 3),
+        (Operation::Mod, 0x1_0000_0007, 0, 7),
+        (Operation::Smod, 0xffff_fff3, 3, 0xffff_ffff),
+        (Operation::Smod, 13, 0xffff_fffd, 1),
+        (Operation::Smod, 0xffff_ffff_ffff_fff3, 0, 0xffff_fff3),
+        (Operation::Smod, 0x8000_0000, 0xffff_ffff, 0),
+    ];
+    for (row, (operation, dst, operand, result)) in table.into_iter().enumerate() {
+        assert_eq!(rt; alu32(operation, dst, operand), result, "row {row}");
+    }
+}
+
+/// Among them amounts at and above the width.
+#[test]
+fn shifts_of_32(rt: HostRuntime) {
+    let table = [
+        (Operation::Lsh, 3, 31, 0x8000_0000),
+        (Operation::Lsh, 1, 32, 1),
+        (Operation::Lsh, 1, 33, 2),
+        (Operation::Lsh, 1, 63, 0x8000_0000),
+        (Operation::Rsh, 0xffff_ffff_8000_0000, 31, 1),
+        (Operation::Rsh, 0x8000_0000, 32, 0x8000_0000),
+        (Operation::Rsh, 0x1_0000_0000, 1, 0),
+        (Operation::Arsh, 0x8000_0000, 31, 0xffff_ffff),
+        (Operation::Arsh, 0x8000_0000, 32, 0x8000_0000),
+        (Operation::Arsh, 0xffff_fff3, 1, 0xffff_fff9),
+        (Operation::Arsh, 0xffff_ffff_7fff_ffff, 30, 1),
+    ];
+    for (row, (operation, dst, operand, result)) in table.into_iter().enumerate() {
+        assert_eq!(rt; alu32(operation, dst, operand), result, "row {row}");
+    }
+}
+
+/// The bits that are read, the word and the extended word.
+#[test]
+fn extends_signs(rt: HostRuntime) {
+    let table = [
+        (SignBits::B8, 0x7f, 0x7f),
+        (SignBits::B8, 0x80, 0xffff_ffff_ffff_ff80),
+        (SignBits::B8, 0xabcd_ef01_2345_6701, 1),
+        (SignBits::B16, 0x7fff, 0x7fff),
+        (SignBits::B16, 0x1_8000, 0xffff_ffff_ffff_8000),
+        (SignBits::B32, 0x7fff_ffff, 0x7fff_ffff),
+        (SignBits::B32, 0x8000_0000, 0xffff_ffff_8000_0000),
+        (SignBits::B32, 0xffff_ffff_0000_0001, 1),
+    ];
+    for (row, (bits, word, extended)) in table.into_iter().enumerate() {
+        assert_eq!(rt; sext(bits, word), extended, "row {row}");
+    }
+}
+
+/// The bits that are read, the word and the swapped word.
+#[test]
+fn swaps_bytes(rt: HostRuntime) {
+    let table = [
+        (SwapWidth::Bits16, 0x1234, 0x3412),
+        (SwapWidth::Bits16, 0xffff_ffff_ffff_1234, 0x3412),
+        (SwapWidth::Bits32, 0x1234, 0x3412_0000),
+        (SwapWidth::Bits32, 0xffff_ffff_1234_5678, 0x7856_3412),
+        (SwapWidth::Bits64, 1, 0x0100_0000_0000_0000),
+        (
+            SwapWidth::Bits64,
+            0x0123_4567_89ab_cdef,
+            0xefcd_ab89_6745_2301,
+        ),
+    ];
+    for (row, (width, word, swapped)) in table.into_iter().enumerate() {
+        assert_eq!(rt; swap(width, word), swapped, "row {row}");
+    }
+}
+
+/// The comparison, the left word, the right one and whether it holds.
+#[test]
+fn compares_unsigned(rt: HostRuntime) {
+    let table = [
+        (Comparison::Eq, 5, 5, true),
+        (Comparison::Eq, 0x1_0000_0005, 5, false),
+        (Comparison::Ne, 5, 6, true),
+        (Comparison::Ne, 5, 5, false),
+        (Comparison::Gt, u64::MAX, 1, true),
+        (Comparison::Gt, 1, 1, false),
+        (Comparison::Ge, 1, 1, true),
+        (Comparison::Ge, 0, u64::MAX, false),
+        (Comparison::Lt, 1, u64::MAX, true),
+        (Comparison::Lt, 1, 1, false),
+        (Comparison::Le, 1, 1, true),
+        (Comparison::Le, u64::MAX, 1, false),
+        (Comparison::Set, 6, 2, true),
+        (Comparison::Set, 6, 1, false),
+        (Comparison::Set, LEAST, LEAST, true),
+    ];
+    for (row, (comparison, left, right, result)) in table.into_iter().enumerate() {
+        assert_eq!(rt; holds(comparison, left, right), result, "row {row}");
+    }
+}
+
+/// The same with both words signed: the greatest word is -1.
+#[test]
+fn compares_signed(rt: HostRuntime) {
+    let table = [
+        (Comparison::Sgt, 1, u64::MAX, true),
+        (Comparison::Sgt, u64::MAX, LEAST, true),
+        (Comparison::Sgt, 1, 1, false),
+        (Comparison::Sge, 1, 1, true),
+        (Comparison::Sge, LEAST, 0, false),
+        (Comparison::Slt, u64::MAX, 1, true),
+        (Comparison::Slt, LEAST, u64::MAX, true),
+        (Comparison::Slt, 1, 1, false),
+        (Comparison::Sle, 1, 1, true),
+        (Comparison::Sle, 0, u64::MAX, false),
+    ];
+    for (row, (comparison, left, right, result)) in table.into_iter().enumerate() {
+        assert_eq!(rt; holds(comparison, left, right), result, "row {row}");
+    }
+}
+
+#[test]
+fn laws_can_be_called(_rt: HostRuntime) {
+    rows_stand();
+    upper_half_is_zero();
 }

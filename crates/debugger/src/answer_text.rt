@@ -1,11 +1,13 @@
 //! The text of an answer.
 ghost use Rattle.std.specs.Prelude.{◌≡◌, ◌≤◌, ◌<◌, ◌+◌, [], ◌++◌, ◌∷◌, ℕ, length, decimal};
 ghost use Rattle.std.specs.Fmt.{signed_decimal};
-ghost use Rattle.bpf_machine.specs.Text.{fault_text, hex_digit, hex_digits, move_line, register_line, register_lines, registers_text, status_text, word_text};
+ghost use Rattle.guest_memory.specs.Text.{fault_text};
+ghost use Rattle.bpf_machine.specs.Text.{hex_digit, hex_digits, move_line, register_line, register_lines, registers_text, status_text, word_text};
 
 use crate::emulator::Emulator;
 use arrayvec::ArrayVec;
-use bpf_machine::{Fault, Status};
+use bpf_machine::Status;
+use guest_memory::Fault;
 use std::marker::Model;
 
 /// The text of an answer, in room of its own for 256 bytes, the most being the 243 of the

@@ -5,6 +5,7 @@ ghost use Rattle.bpf_machine.specs.Step.{next_state};
 ghost use Rattle.bpf_machine.specs.Trace.{state_after, IsReached};
 
 use bpf_machine::{Machine, Status};
+use guest_memory::Regions;
 use std::alloc::AllocError;
 
 /// A machine whose run can be kept: what a history and a session need of it.
@@ -39,7 +40,7 @@ pub trait Emulator: Drop {
         ensures { result ≡ slice_index (state self.now).registers number };
 }
 
-impl Emulator for Machine {
+impl<M: Regions> Emulator for Machine<M> {
     ghost state = { λ m. m };
 
     fn step(&mut self) -> Result<Status, AllocError> {
@@ -51,7 +52,7 @@ impl Emulator for Machine {
         Ok(())
     }
 
-    fn copy(&self) -> Result<Machine, AllocError> {
+    fn copy(&self) -> Result<Machine<M>, AllocError> {
         self.copy()
     }
 

@@ -62,6 +62,28 @@ fn answers_lines(rt: HostRuntime) -> Result<(), Fail> {
     Ok(())
 }
 
+/// `r1 = 0x200000000`, `r0 = [r1]`, `r0 += 5`, `[r1] = r0`, `r2 = [r1]` and `exit`.
+const STORES: &[u8] =
+    b"\x18\x01\0\0\0\0\0\0\0\0\0\0\x02\0\0\0\x79\x10\0\0\0\0\0\0\x07\0\0\0\x05\0\0\0\x7b\x01\0\0\0\0\0\0\x79\x12\0\0\0\0\0\0\x95\0\0\0\0\0\0\0";
+
+/// Moves behind a store, back and on to the load before it, which finds the zero of the start.
+const BACK: &[u8] = b"s 5\nrs 4\ns 2\nr\ns 3\n";
+
+const WENT_BACK: &[u8] =
+    b"step 5 pc 6 running\nstep 1 pc 2 running\nstep 3 pc 4 running\nr0 0x0000000000000005\nr1 0x0000000200000000\nr2 0x0000000000000000\nr3 0x0000000000000000\nr4 0x0000000000000000\nr5 0x0000000000000000\nr6 0x0000000000000000\nr7 0x0000000000000000\nr8 0x0000000000000000\nr9 0x0000000000000000\nr10 0x0000000100000200\nstep 6 pc 6 exited 0x0000000000000005\n";
+
+#[test]
+fn goes_back_over_a_store(rt: HostRuntime) -> Result<(), Fail> {
+    let code = Vec::from_slice(rt.alloc(), STORES)?;
+    let image = Image::new(code, Vec::new(rt.alloc()))?;
+    let mut feed = Feed::new(Vec::from_slice(rt.alloc(), BACK)?, 1000, 0);
+    let mut tape = Tape::new(Vec::new(rt.alloc()), 1000, 0, 0);
+    let answer = session(rt.alloc(), image, Table::nulls(), &mut feed, &mut tape);
+    assert_eq!(rt; answer, Ok(()));
+    assert_eq!(rt; tape.bytes(), WENT_BACK);
+    Ok(())
+}
+
 /// What two moves and a line without form write, where the memory for one of the moves is refused
 /// and where none is.
 const REFUSED: [&[u8]; 3] = [

@@ -20,6 +20,7 @@ use crate::source::Source;
 use crate::transfer::{next_byte, write_all};
 use arrayvec::ArrayVec;
 use bpf_machine::{Machine, Table};
+use guest_memory::Guest;
 use loader::Image;
 use std::alloc::{AllocError, Global};
 
@@ -94,8 +95,8 @@ pub fn session<R: Source, W: Sink>(
     ensures memory { result ≡ Err SessionError.Memory → (R.failed r.new ≡ R.failed r.old) × (W.failed w.new ≡ W.failed w.old) }
     ensures ok { OnOk result ((R.failed r.new ≡ R.failed r.old) × (W.failed w.new ≡ W.failed w.old)) }
 {
-    let machine = Machine::start(alloc, image, table)?;
-    session_from::<Past<Machine>, R, W>(alloc, machine, r, w)
+    let machine = Machine::<Guest>::start(alloc, image, table)?;
+    session_from::<Past<Machine<Guest>>, R, W>(alloc, machine, r, w)
 }
 
 /// A session with the run of a machine, shown by a history of the caller's kind.

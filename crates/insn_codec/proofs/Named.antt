@@ -1,40 +1,28 @@
-use Rattle.std.proofs.Common.{◌≡◌, ◌∙◌, ℕ, ◌+◌, ◌*◌, ◌/◌, ◌%◌, ◌<◌, ◌≤◌, lit<, lit≤, Option, Some, None, refl, arith, FitsSigned}
-use Rattle.std.specs.Prelude.{IfSome, option_map, Bool, true, false, if◌then◌else◌, ◌==◌}
-use Rattle.std.specs.Int.{w32}
-use Rattle.insn_codec.specs.Candidate.{◌>>=◌, arithmetic_at, candidate_at, jump_at}
-use Rattle.insn_codec.specs.Codes.{alu_class, alu_code, alu_of, operand_at, operand_flag, operand_imm, operand_src, register_number, register_of}
-use Rattle.insn_codec.specs.Slots.{IsSlot}
-use Rattle.insn_codec.specs.Spelling.{IsInsn, IsOperand, first_slot}
+use Rattle.std.proofs.Common.{◌≡◌, ◌∙◌, ℕ, suc, ◌+◌, ◌*◌, ◌/◌, ◌%◌, ◌^◌, ◌<◌, Some, refl, sym, ap, arith}
+use Rattle.std.specs.Prelude.{false, ◌==◌}
+use Rattle.std.specs.Int.{w32, cast_signed, cast_unsigned}
+use Rattle.std.proofs.lemmas.Bool.{ne_eqb}
+use Rattle.std.proofs.lemmas.Int.{of_z-to_z}
+use Rattle.insn_codec.specs.Candidate.{arithmetic_at, branch_at, candidate_at, jump_at, memory_at, wide_at}
+use Rattle.insn_codec.specs.Codes.{alu_class, jump_class, operand_at, operand_flag, operand_imm, operand_src, register_number}
+use Rattle.insn_codec.specs.Families.{alu_code, alu_offset, comparison_code}
+use Rattle.insn_codec.specs.Spelling.{first_slot}
 use Rattle.insn_codec.specs.declared.alu_op.AluOp.{AluOp}
-use Rattle.insn_codec.specs.declared.alu_op.AluOp.TheVariants.{Add, Mov}
+use Rattle.insn_codec.specs.declared.byte_order.ByteOrder.TheVariants.{Little, Big, Swap}
+use Rattle.insn_codec.specs.declared.comparison.Comparison.{Comparison}
+use Rattle.insn_codec.specs.declared.extension.Extension.TheVariants.{From8To32, From16To32, From8To64, From16To64, From32To64}
 use Rattle.insn_codec.specs.declared.insn.Insn.{Insn}
-use Rattle.insn_codec.specs.declared.insn.Insn.TheVariants.{Alu, Exit}
+use Rattle.insn_codec.specs.declared.insn.Insn.TheVariants.{Alu, Neg, SignExtend, ByteSwap, Jump, JumpLong, Branch, Call, CallLocal, Exit, Load, LoadSigned, StoreImm, Store, LoadWide}
 use Rattle.insn_codec.specs.declared.operand.Operand.{Operand}
 use Rattle.insn_codec.specs.declared.operand.Operand.TheVariants.{Imm, Reg}
 use Rattle.insn_codec.specs.declared.register.Register.{Register}
-use Rattle.insn_codec.specs.declared.register.Register.TheVariants.{R0, R1, R2, R3, R4, R5, R6, R7, R8, R9, R10}
+use Rattle.insn_codec.specs.declared.signed_size.SignedSize.TheVariants as signed
+use Rattle.insn_codec.specs.declared.size.Size.TheVariants as size
 use Rattle.insn_codec.specs.declared.slot.Slot.{Slot}
+use Rattle.insn_codec.specs.declared.swap_width.SwapWidth.TheVariants as swap
 use Rattle.insn_codec.specs.declared.width.Width.{Width}
-use Rattle.insn_codec.specs.declared.width.Width.TheVariants.{W64}
-
--- each code names what it is the code of
-
-register_of-register_number : (r : Register) → register_of (register_number r) ≡ Some r
-register_of-register_number R0 = refl
-register_of-register_number R1 = refl
-register_of-register_number R2 = refl
-register_of-register_number R3 = refl
-register_of-register_number R4 = refl
-register_of-register_number R5 = refl
-register_of-register_number R6 = refl
-register_of-register_number R7 = refl
-register_of-register_number R8 = refl
-register_of-register_number R9 = refl
-register_of-register_number R10 = refl
-
-alu_of-alu_code : (op : AluOp) → alu_of (alu_code op) ≡ Some op
-alu_of-alu_code Add = refl
-alu_of-alu_code Mov = refl
+use Rattle.insn_codec.specs.declared.width.Width.TheVariants.{W32, W64}
+use Rattle.insn_codec.proofs.Families.{alu_again, alu_class_below, alu_plain, comparison_again, comparison_plain, jump_class_below, register_again}
 
 -- the three parts of an opcode are read back
 
@@ -52,94 +40,90 @@ flag_part code (Reg r) class h = omega arith
 
 operand_again : (s : Slot) (operand : Operand) → s.opcode / 8 % 2 ≡ operand_flag operand → s.src ≡ operand_src operand → s.imm ≡ operand_imm operand → operand_at s ≡ Some operand
 operand_again s (Imm n) flag src imm = rw (flag, imm) refl
-operand_again s (Reg r) flag src imm = rw (flag, src, register_of-register_number r) refl
+operand_again s (Reg r) flag src imm = rw (flag, src, register_again r) refl
 
-class_below : (width : Width) → alu_class width < 8
-class_below W64 = lit< tt
+-- a class that is not 0 is none of the wide load
+not_wide : (opcode k : ℕ) → opcode % 8 ≡ suc k → (opcode == 0x18) ≡ false
+not_wide opcode k h = ne_eqb _ _ (λ e. let z : 0 ≡ suc k = ap (λ o. o % 8) (sym e) ∙ h in cc)
 
-at_class : (s : Slot) (width : Width) → s.opcode % 8 ≡ alu_class width → candidate_at s ≡ arithmetic_at s width
+at_arithmetic : (s : Slot) (high : ℕ) (width : Width) → s.opcode % 8 ≡ alu_class width → candidate_at s high ≡ arithmetic_at s width
 unfolding candidate_at
-at_class s W64 h = rw h refl
+at_arithmetic s high W32 h = rw (not_wide s.opcode 3 h, h) refl
+at_arithmetic s high W64 h = rw (not_wide s.opcode 6 h, h) refl
 
-arithmetic_again : (s : Slot) (op : AluOp) (width : Width) (dst : Register) (operand : Operand) → s.opcode / 16 ≡ alu_code op → s.dst ≡ register_number dst → operand_at s ≡ Some operand → arithmetic_at s width ≡ Some (Alu op width dst operand)
+at_jump : (s : Slot) (high : ℕ) (width : Width) → s.opcode % 8 ≡ jump_class width → candidate_at s high ≡ jump_at s width
+unfolding candidate_at
+at_jump s high W32 h = rw (not_wide s.opcode 5 h, h) refl
+at_jump s high W64 h = rw (not_wide s.opcode 4 h, h) refl
+
+arithmetic_again : (s : Slot) (width : Width) (dst : Register) (op : AluOp) (operand : Operand) → s.opcode / 16 ≡ alu_code op → s.offset ≡ alu_offset op → s.dst ≡ register_number dst → operand_at s ≡ Some operand → arithmetic_at s width ≡ Some (Alu op width dst operand)
 unfolding arithmetic_at
-arithmetic_again s op width dst operand code number at = rw (code, alu_of-alu_code op, number, register_of-register_number dst, at) refl
+arithmetic_again s width dst op operand code offset number at = rw (number, register_again dst, code, offset, (alu_plain op).0, (alu_plain op).1, (alu_plain op).2, alu_again op, at) refl
 
--- the fields of an instruction's first slot name that instruction
-pub candidate_at-first_slot : (i : Insn) → candidate_at (first_slot i) ≡ Some i
-unfolding candidate_at jump_at
-candidate_at-first_slot (Alu op width dst operand) =
+branch_again : (s : Slot) (width : Width) (dst : Register) (x : Comparison) (operand : Operand) → s.opcode / 16 ≡ comparison_code x → s.dst ≡ register_number dst → operand_at s ≡ Some operand → jump_at s width ≡ Some (Branch x width dst operand s.offset)
+unfolding jump_at branch_at
+branch_again s width dst x operand code number at =
+    let not_jump : (s.opcode == 0x05) ≡ false = ne_eqb _ _ (λ e. (comparison_plain x).0 (sym code ∙ ap (λ o. o / 16) e)) in
+    let not_long : (s.opcode == 0x06) ≡ false = ne_eqb _ _ (λ e. (comparison_plain x).0 (sym code ∙ ap (λ o. o / 16) e)) in
+    let not_call : (s.opcode == 0x85) ≡ false = ne_eqb _ _ (λ e. (comparison_plain x).1 (sym code ∙ ap (λ o. o / 16) e)) in
+    let not_exit : (s.opcode == 0x95) ≡ false = ne_eqb _ _ (λ e. (comparison_plain x).2 (sym code ∙ ap (λ o. o / 16) e)) in
+    rw (not_jump, not_long, not_call, not_exit, code, comparison_again x, number, register_again dst, at) refl
+
+-- the number is the high half of a wide load's value
+abbrev pub HighOf : Insn → ℕ → Type 0
+HighOf (LoadWide dst value) high = (high ≡ value / 2 ^ 32) × (value < 2 ^ 64)
+HighOf _ high = Unit {0}
+
+wide : (value : ℕ) → value < 2 ^ 64 → cast_unsigned w32 (cast_signed w32 (value % 2 ^ 32)) + 2 ^ 32 * (value / 2 ^ 32) ≡ value
+wide value h = rw (of_z-to_z w32 (value % 2 ^ 32) (omega arith)) (omega arith)
+
+-- the fields of an instruction's first slot, with the high half of a wide one, name that instruction
+pub candidate_at-first_slot : (i : Insn) (high : ℕ) → HighOf i high → candidate_at (first_slot i) high ≡ Some i
+unfolding candidate_at arithmetic_at jump_at memory_at wide_at
+candidate_at-first_slot (Alu op width dst operand) high h =
     let s : Slot = first_slot (Alu op width dst operand) in
-    let below : alu_class width < 8 = class_below width in
+    let below : alu_class width < 8 = alu_class_below width in
     let operand_is : operand_at s ≡ Some operand = operand_again s operand (flag_part (alu_code op) operand (alu_class width) below) refl refl in
-    at_class s width (class_part (alu_code op) operand (alu_class width) below) ∙ arithmetic_again s op width dst operand (code_part (alu_code op) operand (alu_class width) below) refl operand_is
-candidate_at-first_slot Exit = refl
-
--- the fields of an instruction's first slot are in range
-
-register_below : (r : Register) → register_number r < 16
-register_below R0 = lit< tt
-register_below R1 = lit< tt
-register_below R2 = lit< tt
-register_below R3 = lit< tt
-register_below R4 = lit< tt
-register_below R5 = lit< tt
-register_below R6 = lit< tt
-register_below R7 = lit< tt
-register_below R8 = lit< tt
-register_below R9 = lit< tt
-register_below R10 = lit< tt
-
-code_below : (op : AluOp) → alu_code op < 15
-code_below Add = lit< tt
-code_below Mov = lit< tt
-
-flag_below : (operand : Operand) → operand_flag operand ≤ 1
-flag_below (Imm n) = lit≤ tt
-flag_below (Reg r) = lit≤ tt
-
-src_below : (operand : Operand) → operand_src operand < 16
-src_below (Imm n) = lit< tt
-src_below (Reg r) = register_below r
-
-operand_fits : (operand : Operand) → IsOperand operand → FitsSigned w32 (operand_imm operand)
-operand_fits (Imm n) h = h
-operand_fits (Reg r) h = record { sfits = lit< tt }
-
-pub first_slot_fits : (i : Insn) → IsInsn i → IsSlot (first_slot i)
-first_slot_fits (Alu op width dst operand) h = record { opcode = omega (arith, code_below op, flag_below operand, class_below width); dst = register_below dst; src = src_below operand; offset = record { sfits = lit< tt }; imm = operand_fits operand h }
-first_slot_fits Exit h = record { opcode = lit< tt; dst = lit< tt; src = lit< tt; offset = record { sfits = lit< tt }; imm = record { sfits = lit< tt } }
-
--- what the fields name is in range where they are
-
-either : {B : Type 0} (P : B → Type 0) (t : Bool) (x y : Option B) → IfSome x P → IfSome y P → IfSome (if t then x else y) P
-either P true x y p q = p
-either P false x y p q = q
-
-register_operand : (o : Option Register) → IfSome (option_map Reg o) IsOperand
-register_operand None = tt
-register_operand (Some r) = tt
-
-operand_in_range : (s : Slot) → FitsSigned w32 s.imm → IfSome (operand_at s) IsOperand
-operand_in_range s h = either IsOperand (s.opcode / 8 % 2 == 0) (Some (Imm s.imm)) (option_map Reg (register_of s.src)) h (register_operand (register_of s.src))
-
-alu_in_range : (width : Width) (op : Option AluOp) (dst : Option Register) (operand : Option Operand) → IfSome operand IsOperand → IfSome (op >>= λ o. dst >>= λ d. operand >>= λ x. Some (Alu o width d x)) IsInsn
-alu_in_range width None dst operand h = tt
-alu_in_range width (Some o) None operand h = tt
-alu_in_range width (Some o) (Some d) None h = tt
-alu_in_range width (Some o) (Some d) (Some x) h = h
-
-arithmetic_in_range : (s : Slot) (width : Width) → FitsSigned w32 s.imm → IfSome (arithmetic_at s width) IsInsn
-unfolding arithmetic_at
-arithmetic_in_range s width h = alu_in_range width (alu_of (s.opcode / 16)) (register_of s.dst) (operand_at s) (operand_in_range s h)
-
-jump_in_range : (s : Slot) → IfSome (jump_at s) IsInsn
-unfolding jump_at
-jump_in_range s = either IsInsn (s.opcode == 0x95) (Some Exit) None tt tt
-
-pub candidate_in_range : (s : Slot) → FitsSigned w32 s.imm → IfSome (candidate_at s) IsInsn
-unfolding candidate_at
-candidate_in_range s h =
-    let arithmetic : Option Insn = if s.opcode % 8 == 7 then arithmetic_at s W64 else None in
-    either IsInsn (s.opcode % 8 == 5) (jump_at s) arithmetic (jump_in_range s)
-    (either IsInsn (s.opcode % 8 == 7) (arithmetic_at s W64) None (arithmetic_in_range s W64 h) tt)
+    at_arithmetic s high width (class_part (alu_code op) operand (alu_class width) below) ∙ arithmetic_again s width dst op operand (code_part (alu_code op) operand (alu_class width) below) refl refl operand_is
+candidate_at-first_slot (Neg W32 dst) high h = rw (register_again dst) refl
+candidate_at-first_slot (Neg W64 dst) high h = rw (register_again dst) refl
+candidate_at-first_slot (SignExtend From8To32 dst src) high h = rw (register_again dst, register_again src) refl
+candidate_at-first_slot (SignExtend From16To32 dst src) high h = rw (register_again dst, register_again src) refl
+candidate_at-first_slot (SignExtend From8To64 dst src) high h = rw (register_again dst, register_again src) refl
+candidate_at-first_slot (SignExtend From16To64 dst src) high h = rw (register_again dst, register_again src) refl
+candidate_at-first_slot (SignExtend From32To64 dst src) high h = rw (register_again dst, register_again src) refl
+candidate_at-first_slot (ByteSwap Little swap.Bits16 dst) high h = rw (register_again dst) refl
+candidate_at-first_slot (ByteSwap Little swap.Bits32 dst) high h = rw (register_again dst) refl
+candidate_at-first_slot (ByteSwap Little swap.Bits64 dst) high h = rw (register_again dst) refl
+candidate_at-first_slot (ByteSwap Big swap.Bits16 dst) high h = rw (register_again dst) refl
+candidate_at-first_slot (ByteSwap Big swap.Bits32 dst) high h = rw (register_again dst) refl
+candidate_at-first_slot (ByteSwap Big swap.Bits64 dst) high h = rw (register_again dst) refl
+candidate_at-first_slot (ByteSwap Swap swap.Bits16 dst) high h = rw (register_again dst) refl
+candidate_at-first_slot (ByteSwap Swap swap.Bits32 dst) high h = rw (register_again dst) refl
+candidate_at-first_slot (ByteSwap Swap swap.Bits64 dst) high h = rw (register_again dst) refl
+candidate_at-first_slot (Jump offset) high h = refl
+candidate_at-first_slot (JumpLong offset) high h = refl
+candidate_at-first_slot (Branch x width dst operand offset) high h =
+    let s : Slot = first_slot (Branch x width dst operand offset) in
+    let below : jump_class width < 8 = jump_class_below width in
+    let operand_is : operand_at s ≡ Some operand = operand_again s operand (flag_part (comparison_code x) operand (jump_class width) below) refl refl in
+    at_jump s high width (class_part (comparison_code x) operand (jump_class width) below) ∙ branch_again s width dst x operand (code_part (comparison_code x) operand (jump_class width) below) refl operand_is
+candidate_at-first_slot (Call helper) high h = refl
+candidate_at-first_slot (CallLocal offset) high h = refl
+candidate_at-first_slot Exit high h = refl
+candidate_at-first_slot (Load size.W dst src offset) high h = rw (register_again dst, register_again src) refl
+candidate_at-first_slot (Load size.H dst src offset) high h = rw (register_again dst, register_again src) refl
+candidate_at-first_slot (Load size.B dst src offset) high h = rw (register_again dst, register_again src) refl
+candidate_at-first_slot (Load size.Dw dst src offset) high h = rw (register_again dst, register_again src) refl
+candidate_at-first_slot (LoadSigned signed.W dst src offset) high h = rw (register_again dst, register_again src) refl
+candidate_at-first_slot (LoadSigned signed.H dst src offset) high h = rw (register_again dst, register_again src) refl
+candidate_at-first_slot (LoadSigned signed.B dst src offset) high h = rw (register_again dst, register_again src) refl
+candidate_at-first_slot (StoreImm size.W dst offset imm) high h = rw (register_again dst) refl
+candidate_at-first_slot (StoreImm size.H dst offset imm) high h = rw (register_again dst) refl
+candidate_at-first_slot (StoreImm size.B dst offset imm) high h = rw (register_again dst) refl
+candidate_at-first_slot (StoreImm size.Dw dst offset imm) high h = rw (register_again dst) refl
+candidate_at-first_slot (Store size.W dst offset src) high h = rw (register_again dst, register_again src) refl
+candidate_at-first_slot (Store size.H dst offset src) high h = rw (register_again dst, register_again src) refl
+candidate_at-first_slot (Store size.B dst offset src) high h = rw (register_again dst, register_again src) refl
+candidate_at-first_slot (Store size.Dw dst offset src) high h = rw (register_again dst, register_again src) refl
+candidate_at-first_slot (LoadWide dst value) high h = rw (register_again dst, h.0, wide value h.1) refl

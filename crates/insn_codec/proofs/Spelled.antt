@@ -1,18 +1,20 @@
-use Rattle.std.proofs.Common.{◌≡◌, ℕ, Option, Some, None, refl, sym, ◌∙◌, ap, subst, List, ◌++◌}
-use Rattle.std.specs.Prelude.{Bool, true, false, Decides, IfSome, nat_eq, if◌then◌else◌}
+use Rattle.std.proofs.Common.{◌≡◌, ◌≢◌, ℕ, ◌/◌, ◌%◌, ◌^◌, Option, Some, None, refl, sym, ◌∙◌, ap, subst, arith, List, ◌++◌, drop}
+use Rattle.std.specs.Prelude.{Bool, true, false, Decides, IfSome, nat_eq, if◌then◌else◌, slice_index}
 use Rattle.std.specs.List.{starts_with}
-use Rattle.std.specs.Int.{w64, to_le_bytes}
-use Rattle.std.proofs.lemmas.Bool.{eqb-true, eq-eqb, false_from_ne_true}
+use Rattle.std.specs.Int.{w32, w64, from_le_bytes, to_le_bytes}
+use Rattle.std.proofs.lemmas.Bool.{eqb-true, eq-eqb, false_from_ne_true, ne_eqb}
 use Rattle.std.proofs.lemmas.Slice.Eq.{starts_is}
 use Rattle.insn_codec.specs.Candidate.{◌>>=◌, candidate_at}
-use Rattle.insn_codec.specs.Slots.{slot_of, slot_bytes, IsSlot}
+use Rattle.insn_codec.specs.Slots.{second_imm, slot_bytes, slot_of, IsSlot}
 use Rattle.insn_codec.specs.Spelled.{SpelledIsSpelling, spelled}
 use Rattle.insn_codec.specs.Spelling.{Begins, IsInsn, first_slot, more_bytes, on_hand, second_bytes, spelling}
 use Rattle.insn_codec.specs.declared.insn.Insn.{Insn}
-use Rattle.insn_codec.specs.declared.insn.Insn.TheVariants.{Alu, Exit}
+use Rattle.insn_codec.specs.declared.insn.Insn.TheVariants.{Alu, Neg, SignExtend, ByteSwap, Jump, JumpLong, Branch, Call, CallLocal, Exit, Load, LoadSigned, StoreImm, Store, LoadWide}
+use Rattle.insn_codec.specs.declared.register.Register.{Register}
 use Rattle.insn_codec.specs.declared.slot.Slot.{Slot}
-use Rattle.insn_codec.proofs.Bytes.{imm_fits, slot_of-slot_bytes}
-use Rattle.insn_codec.proofs.Named.{candidate_at-first_slot, candidate_in_range, first_slot_fits}
+use Rattle.insn_codec.proofs.Bytes.{imm_fits, offset_fits, second_imm-slot_bytes, second_imm_below, slot_of-slot_bytes}
+use Rattle.insn_codec.proofs.Named.{HighOf, candidate_at-first_slot}
+use Rattle.insn_codec.proofs.Ranges.{candidate_in_range, first_slot_fits}
 
 -- the candidate, kept where the text begins with its spelling
 abbrev kept : List ℕ → Insn → Option Insn
@@ -45,22 +47,40 @@ kept_is text (Some j) i e = by (starts_with nat_eq text (spelling j)) refl e
     by false h g = absurd (none_some i g)
 
 -- by the candidate of the first slot
-pub spelled_none : (text : List ℕ) → candidate_at (slot_of text) ≡ None → spelled text ≡ None
+pub spelled_none : (text : List ℕ) → candidate_at (slot_of text) (second_imm text) ≡ None → spelled text ≡ None
 unfolding spelled
 spelled_none text e = rw e refl
 
-pub spelled_some : (text : List ℕ) (i : Insn) → candidate_at (slot_of text) ≡ Some i → Begins (spelling i) text → spelled text ≡ Some i
+pub spelled_some : (text : List ℕ) (i : Insn) → candidate_at (slot_of text) (second_imm text) ≡ Some i → Begins (spelling i) text → spelled text ≡ Some i
 unfolding spelled
 spelled_some text i e b = rw e (kept_begins text i b)
 
-pub spelled_other : (text : List ℕ) (i : Insn) → candidate_at (slot_of text) ≡ Some i → (Begins (spelling i) text → ⊥) → spelled text ≡ None
+pub spelled_other : (text : List ℕ) (i : Insn) → candidate_at (slot_of text) (second_imm text) ≡ Some i → (Begins (spelling i) text → ⊥) → spelled text ≡ None
 unfolding spelled
 spelled_other text i e n = rw e (kept_not text i n)
 
-candidate_of_spelling : (i : Insn) (text : List ℕ) → IsInsn i → Begins (spelling i) text → candidate_at (slot_of text) ≡ Some i
+high_of : (i : Insn) (rest : List ℕ) → IsInsn i → HighOf i (second_imm (slot_bytes (first_slot i) ++ (second_bytes i ++ rest)))
+high_of (LoadWide dst value) rest f = (second_imm-slot_bytes (first_slot (LoadWide dst value)) (value / 2 ^ 32) rest (omega arith), f)
+high_of (Alu op width dst operand) rest f = tt
+high_of (Neg width dst) rest f = tt
+high_of (SignExtend extension dst src) rest f = tt
+high_of (ByteSwap order width dst) rest f = tt
+high_of (Jump offset) rest f = tt
+high_of (JumpLong offset) rest f = tt
+high_of (Branch x width dst operand offset) rest f = tt
+high_of (Call helper) rest f = tt
+high_of (CallLocal offset) rest f = tt
+high_of Exit rest f = tt
+high_of (Load size dst src offset) rest f = tt
+high_of (LoadSigned size dst src offset) rest f = tt
+high_of (StoreImm size dst offset imm) rest f = tt
+high_of (Store size dst offset src) rest f = tt
+
+candidate_of_spelling : (i : Insn) (text : List ℕ) → IsInsn i → Begins (spelling i) text → candidate_at (slot_of text) (second_imm text) ≡ Some i
 candidate_of_spelling i text f b =
     let s : Slot = first_slot i in
-    ap (λ t. candidate_at (slot_of t)) b.1 ∙ ap candidate_at (slot_of-slot_bytes s (second_bytes i ++ b.0) (first_slot_fits i f)) ∙ candidate_at-first_slot i
+    let high : ℕ = second_imm (slot_bytes s ++ (second_bytes i ++ b.0)) in
+    ap (λ t. candidate_at (slot_of t) (second_imm t)) b.1 ∙ ap (λ x. candidate_at x high) (slot_of-slot_bytes s (second_bytes i ++ b.0) (first_slot_fits i f)) ∙ candidate_at-first_slot i high (high_of i b.0 f)
 
 pub spelled_begins : (i : Insn) (text : List ℕ) → IsInsn i → Begins (spelling i) text → spelled text ≡ Some i
 spelled_begins i text f b = spelled_some text i (candidate_of_spelling i text f b) b
@@ -72,21 +92,50 @@ found_in_range (Some j) i e h = subst IsInsn (same_some j i e) h
 pub spelled_is : SpelledIsSpelling
 unfolding spelled
 spelled_is text small i =
-    ((λ e. let k : (candidate_at (slot_of text) ≡ Some i) × Begins (spelling i) text = kept_is text (candidate_at (slot_of text)) i e in (k.1, found_in_range _ i k.0 (candidate_in_range (slot_of text) (imm_fits text small)))), spelled_begins i text)
+    ((λ e. let k : (candidate_at (slot_of text) (second_imm text) ≡ Some i) × Begins (spelling i) text = kept_is text (candidate_at (slot_of text) (second_imm text)) i e in (k.1, found_in_range _ i k.0 (candidate_in_range (slot_of text) (second_imm text) (offset_fits text small) (imm_fits text small) (second_imm_below text small)))), spelled_begins i text)
 
 pub one_reading_of : (i j : Insn) (text : List ℕ) → IsInsn i → IsInsn j → Begins (spelling i) text → Begins (spelling j) text → i ≡ j
 one_reading_of i j text f g x y = same_some i j (sym (spelled_begins i text f x) ∙ spelled_begins j text g y)
 
--- the bytes behind the first slot do not matter to an instruction of one slot
-kept_alone : (first : ℕ) (second : Option ℕ) (o : Option Insn) → (o >>= kept (on_hand first second)) ≡ (o >>= kept (on_hand first None))
-kept_alone first second None = refl
-kept_alone first second (Some (Alu op width dst operand)) = refl
-kept_alone first second (Some Exit) = refl
+-- the bytes behind the first slot do not matter to an opcode that is not a wide load's
+candidate_alone : (s : Slot) (high other : ℕ) → s.opcode ≢ 0x18 → candidate_at s high ≡ candidate_at s other
+unfolding candidate_at
+candidate_alone s high other n = rw (ne_eqb s.opcode 0x18 n) refl
 
-pub spelled_alone : (first : ℕ) (second : Option ℕ) → spelled (on_hand first second) ≡ spelled (on_hand first None)
+wide_opcode : (first : ℕ) (second : Option ℕ) (dst : Register) (value : ℕ) → Begins (spelling (LoadWide dst value)) (on_hand first second) → first % 256 ≡ 0x18
+wide_opcode first second dst value b = ap (λ t. slice_index t 0) b.1
+
+kept_alone : (first : ℕ) (second : Option ℕ) (o : Option Insn) → first % 256 ≢ 0x18 → (o >>= kept (on_hand first second)) ≡ (o >>= kept (on_hand first None))
+kept_alone first second None n = refl
+kept_alone first second (Some (Alu op width dst operand)) n = refl
+kept_alone first second (Some (Neg width dst)) n = refl
+kept_alone first second (Some (SignExtend extension dst src)) n = refl
+kept_alone first second (Some (ByteSwap order width dst)) n = refl
+kept_alone first second (Some (Jump offset)) n = refl
+kept_alone first second (Some (JumpLong offset)) n = refl
+kept_alone first second (Some (Branch x width dst operand offset)) n = refl
+kept_alone first second (Some (Call helper)) n = refl
+kept_alone first second (Some (CallLocal offset)) n = refl
+kept_alone first second (Some Exit) n = refl
+kept_alone first second (Some (Load size dst src offset)) n = refl
+kept_alone first second (Some (LoadSigned size dst src offset)) n = refl
+kept_alone first second (Some (StoreImm size dst offset imm)) n = refl
+kept_alone first second (Some (Store size dst offset src)) n = refl
+kept_alone first second (Some (LoadWide dst value)) n =
+    let i : Insn = LoadWide dst value in
+    kept_not (on_hand first second) i (λ b. n (wide_opcode first second dst value b)) ∙ sym (kept_not (on_hand first None) i (λ b. n (wide_opcode first None dst value b)))
+
+pub spelled_alone : (first : ℕ) (second : Option ℕ) → first % 256 ≢ 0x18 → spelled (on_hand first second) ≡ spelled (on_hand first None)
 unfolding spelled
-spelled_alone first second = kept_alone first second (candidate_at (slot_of (on_hand first None)))
+spelled_alone first second n =
+    let s : Slot = slot_of (on_hand first None) in
+    ap (λ o. o >>= kept (on_hand first second)) (candidate_alone s (second_imm (on_hand first second)) (second_imm (on_hand first None)) n) ∙ kept_alone first second (candidate_at s (second_imm (on_hand first None))) n
 
--- the fields of the first word, where its slot was read
-pub candidate_of_word : (s : Slot) (first : ℕ) (second : Option ℕ) → IsSlot s → slot_bytes s ≡ to_le_bytes w64 first → candidate_at (slot_of (on_hand first second)) ≡ candidate_at s
-candidate_of_word s first second f e = ap (λ t. candidate_at (slot_of (t ++ more_bytes second))) (sym e) ∙ ap candidate_at (slot_of-slot_bytes s (more_bytes second) f)
+-- the fields of the words, where the first one's slot was read
+pub candidate_of_words : (s : Slot) (first : ℕ) (second : Option ℕ) (high : ℕ) → IsSlot s → slot_bytes s ≡ to_le_bytes w64 first → high ≡ from_le_bytes w32 (drop 4 (more_bytes second)) → candidate_at (slot_of (on_hand first second)) (second_imm (on_hand first second)) ≡ candidate_at s high
+candidate_of_words s first second high f e h =
+    ap (λ t. candidate_at (slot_of (t ++ more_bytes second)) (from_le_bytes w32 (drop 4 (more_bytes second)))) (sym e) ∙ ap (λ x. candidate_at x (from_le_bytes w32 (drop 4 (more_bytes second)))) (slot_of-slot_bytes s (more_bytes second) f) ∙ ap (candidate_at s) (sym h)
+
+-- words begin with the spelling of one slot where the first is its word
+pub one_begins : (front : List ℕ) (own first : ℕ) (more second : Option ℕ) → more ≡ None → on_hand own more ≡ front → own ≡ first → Begins front (on_hand first second)
+one_begins front own first more second n e h = (more_bytes second, ap (λ x. x ++ more_bytes second) (ap (λ x. on_hand x None) (sym h) ∙ ap (on_hand own) (sym n) ∙ e))

@@ -1,4 +1,5 @@
 pub mod Codes
+pub mod Families
 pub mod Slots
 pub mod Spelling
 pub mod Candidate

@@ -5,20 +5,57 @@ ghost use Rattle.std.specs.Prelude.{◌≡◌};
 pub enum AluOp {
     /// The sum of the destination and the operand.
     Add,
+    /// The difference, the destination less the operand.
+    Sub,
+    /// The product.
+    Mul,
+    /// The quotient of unsigned numbers, and 0 where the operand is 0.
+    Div,
+    /// The quotient of signed numbers, cut towards 0, and 0 where the operand is 0.
+    Sdiv,
+    /// The bits that are set in either.
+    Or,
+    /// The bits that are set in both.
+    And,
+    /// The destination, shifted left by the operand.
+    Lsh,
+    /// The destination, shifted right by the operand, with zeros from the left.
+    Rsh,
+    /// The remainder of unsigned numbers, and the destination where the operand is 0.
+    Mod,
+    /// The remainder of signed numbers, and the destination where the operand is 0.
+    Smod,
+    /// The bits that are set in just one of both.
+    Xor,
     /// The operand.
     Mov,
+    /// The destination, shifted right by the operand, with its sign from the left.
+    Arsh,
 }
 
 impl AluOp {
-    ghost use Rattle.insn_codec.specs.Codes.{alu_code, alu_of};
+    ghost use Rattle.insn_codec.specs.Families.{alu_code, alu_of, alu_offset};
 
-    /// The operation of this code, which is the opcode's high four bits.
-    pub(crate) fn of(code: u8) -> Option<AluOp>
-        ensures { result ≡ alu_of code }
+    /// The operation of this code, which is the opcode's high four bits, and of this offset,
+    /// which tells signed division from unsigned.
+    pub(crate) fn of(code: u8, offset: i16) -> Option<AluOp>
+        ensures { result ≡ alu_of code offset }
     {
-        match code {
-            0x0 => Some(AluOp::Add),
-            0xb => Some(AluOp::Mov),
+        match (code, offset) {
+            (0x0, _) => Some(AluOp::Add),
+            (0x1, _) => Some(AluOp::Sub),
+            (0x2, _) => Some(AluOp::Mul),
+            (0x3, 0) => Some(AluOp::Div),
+            (0x3, 1) => Some(AluOp::Sdiv),
+            (0x4, _) => Some(AluOp::Or),
+            (0x5, _) => Some(AluOp::And),
+            (0x6, _) => Some(AluOp::Lsh),
+            (0x7, _) => Some(AluOp::Rsh),
+            (0x9, 0) => Some(AluOp::Mod),
+            (0x9, 1) => Some(AluOp::Smod),
+            (0xa, _) => Some(AluOp::Xor),
+            (0xb, _) => Some(AluOp::Mov),
+            (0xc, _) => Some(AluOp::Arsh),
             _ => None,
         }
     }
@@ -29,7 +66,27 @@ impl AluOp {
     {
         match self {
             AluOp::Add => 0x0,
+            AluOp::Sub => 0x1,
+            AluOp::Mul => 0x2,
+            AluOp::Div | AluOp::Sdiv => 0x3,
+            AluOp::Or => 0x4,
+            AluOp::And => 0x5,
+            AluOp::Lsh => 0x6,
+            AluOp::Rsh => 0x7,
+            AluOp::Mod | AluOp::Smod => 0x9,
+            AluOp::Xor => 0xa,
             AluOp::Mov => 0xb,
+            AluOp::Arsh => 0xc,
+        }
+    }
+
+    /// What stands in the slot's offset field: 1 for signed division and remainder, or 0.
+    pub(crate) fn offset(self) -> i16
+        ensures { result ≡ alu_offset self }
+    {
+        match self {
+            AluOp::Sdiv | AluOp::Smod => 1,
+            _ => 0,
         }
     }
 }

@@ -1,8 +1,9 @@
 //! Instructions into words and words into instructions, and the laws of both.
-ghost use Rattle.std.specs.Prelude.{ℕ, ◌%◌, ◌≡◌, ◌≢◌, ◌↔◌, List, None, Some, IfSome, IsTrue};
+ghost use Rattle.std.specs.Prelude.{ℕ, ◌%◌, ◌≡◌, ◌≢◌, ◌↔◌, List, drop, None, Some, IfSome, IsTrue};
+ghost use Rattle.std.specs.Int.{w32, from_le_bytes};
 ghost use Rattle.insn_codec.specs.Rows.{RowsStand};
 ghost use Rattle.insn_codec.specs.Spelled.{SpelledIsSpelling, spelled};
-ghost use Rattle.insn_codec.specs.Spelling.{Begins, IsInsn, on_hand, spelling};
+ghost use Rattle.insn_codec.specs.Spelling.{Begins, IsInsn, more_bytes, on_hand, second_bytes, spelling};
 ghost use Rattle.insn_codec.specs.declared.insn.Insn.{Insn};
 
 use crate::candidate::candidate;
@@ -19,12 +20,25 @@ pub fn decode(first: u64, second: Option<u64>) -> Option<Insn>
     // Only an opcode of 0x18 makes the second word matter.
     ensures alone { first % 256 ≢ 0x18 → result ≡ spelled (on_hand first None) }
 {
-    let insn = candidate(Slot::of_word(first))?;
+    let insn = candidate(Slot::of_word(first), high_part(second))?;
     // The fields that the instruction does not name have to be 0.
     if spells(&insn, first, second) {
         Some(insn)
     } else {
         None
+    }
+}
+
+/// The bits of the second slot's imm; 0 where there is no second slot.
+fn high_part(second: Option<u64>) -> u32
+    ensures { result ≡ from_le_bytes w32 (drop 4 (more_bytes second)) }
+{
+    match second {
+        Some(word) => {
+            let [_, _, _, _, imm_0, imm_1, imm_2, imm_3] = word.to_le_bytes();
+            u32::from_le_bytes([imm_0, imm_1, imm_2, imm_3])
+        }
+        None => 0,
     }
 }
 
@@ -36,7 +50,7 @@ fn spells(insn: &Insn, first: u64, second: Option<u64>) -> bool
     own_first == first
         && match (own_second, second) {
             (None, _) => true,
-            (Some(own), Some(word)) => own == word,
+            (Some(expected), Some(word)) => expected == word,
             (Some(_), None) => false,
         }
 }
@@ -45,7 +59,27 @@ fn spells(insn: &Insn, first: u64, second: Option<u64>) -> bool
 pub fn encode(insn: &Insn) -> (u64, Option<u64>)
     ensures { on_hand result.0 result.1 ≡ spelling insn.now }
 {
-    (insn.first_slot().word(), None)
+    (insn.first_slot().word(), second_word(insn))
+}
+
+/// The word of the second slot, which only a wide load has: the high half of its value is the imm.
+fn second_word(insn: &Insn) -> Option<u64>
+    ensures { more_bytes result ≡ second_bytes insn.now }
+{
+    match *insn {
+        Insn::LoadWide { value, .. } => {
+            let high = (value / 0x1_0000_0000) as u32;
+            let slot = Slot {
+                opcode: 0,
+                dst: 0,
+                src: 0,
+                offset: 0,
+                imm: high.cast_signed(),
+            };
+            Some(slot.word())
+        }
+        _ => None,
+    }
 }
 
 /// No bytes begin with the spellings of two instructions, so each has one, and none begins another's.

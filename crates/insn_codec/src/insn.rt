@@ -1,12 +1,18 @@
 ghost use Rattle.std.specs.Prelude.{◌≡◌, ◌*◌, length};
 
 use crate::alu_op::AluOp;
+use crate::byte_order::ByteOrder;
+use crate::comparison::Comparison;
+use crate::extension::Extension;
 use crate::operand::Operand;
 use crate::register::Register;
+use crate::signed_size::SignedSize;
+use crate::size::Size;
 use crate::slot::Slot;
+use crate::swap_width::SwapWidth;
 use crate::width::Width;
 
-/// An instruction of the machine (RFC 9669, section 4).
+/// An instruction of the machine (RFC 9669, sections 4 and 5).
 #[derive(Clone, Copy, Debug, PartialEq, Eq)]
 pub enum Insn {
     /// Arithmetic on a register, which it writes (section 4.1).
@@ -16,8 +22,82 @@ pub enum Insn {
         dst: Register,
         operand: Operand,
     },
-    /// The end of the program, whose answer is R0 (section 4.3).
+    /// The register's negative (section 4.1).
+    Neg {
+        width: Width,
+        dst: Register,
+    },
+    /// A move that extends a sign (section 4.1).
+    SignExtend {
+        extension: Extension,
+        dst: Register,
+        src: Register,
+    },
+    /// The low bytes of a register in another order (section 4.2).
+    ByteSwap {
+        order: ByteOrder,
+        width: SwapWidth,
+        dst: Register,
+    },
+    /// A jump by so many slots from the next one on (section 4.3).
+    Jump {
+        offset: i16,
+    },
+    /// A jump with an offset of 32 bits (section 4.3).
+    JumpLong {
+        offset: i32,
+    },
+    /// A jump where the comparison holds (section 4.3).
+    Branch {
+        comparison: Comparison,
+        width: Width,
+        dst: Register,
+        operand: Operand,
+        offset: i16,
+    },
+    /// A call of the helper function of this number (section 4.3.1).
+    Call {
+        helper: i32,
+    },
+    /// A call of the program's own function, by so many slots from the next one on (section 4.3.2).
+    CallLocal {
+        offset: i32,
+    },
+    /// The end of the function, or of the program, whose answer is R0 (section 4.3).
     Exit,
+    /// A load of the bytes at src + offset (section 5.1).
+    Load {
+        size: Size,
+        dst: Register,
+        src: Register,
+        offset: i16,
+    },
+    /// A load that extends a sign (section 5.2).
+    LoadSigned {
+        size: SignedSize,
+        dst: Register,
+        src: Register,
+        offset: i16,
+    },
+    /// A store of a constant at dst + offset (section 5.1).
+    StoreImm {
+        size: Size,
+        dst: Register,
+        offset: i16,
+        imm: i32,
+    },
+    /// A store of a register at dst + offset (section 5.1).
+    Store {
+        size: Size,
+        dst: Register,
+        offset: i16,
+        src: Register,
+    },
+    /// A constant of 64 bits, in two slots (section 5.4).
+    LoadWide {
+        dst: Register,
+        value: u64,
+    },
 }
 
 impl Insn {
@@ -29,7 +109,8 @@ impl Insn {
         ensures bytes { result * 8 ≡ length (spelling self.now) }
     {
         match self {
-            Insn::Alu { .. } | Insn::Exit => 1,
+            Insn::LoadWide { .. } => 2,
+            _ => 1,
         }
     }
 
@@ -37,43 +118,115 @@ impl Insn {
     pub(crate) fn first_slot(self) -> Slot
         ensures { result ≡ first_slot self }
     {
+        Slot {
+            opcode: self.opcode(),
+            dst: self.dst(),
+            src: self.src(),
+            offset: self.offset(),
+            imm: self.imm(),
+        }
+    }
+
+    /// The opcode of the first slot.
+    fn opcode(self) -> u8
+        ensures { result ≡ (first_slot self).opcode }
+    {
         match self {
             Insn::Alu {
                 op,
                 width,
-                dst,
                 operand,
-            } => Slot {
-                opcode: 16 * op.code() + 8 * operand.flag() + width.alu_class(),
-                dst: dst.number(),
-                src: operand.src(),
-                offset: 0,
-                imm: operand.imm(),
-            },
-            Insn::Exit => Slot {
-                opcode: 0x95,
-                dst: 0,
-                src: 0,
-                offset: 0,
-                imm: 0,
-            },
+                ..
+            } => 16 * op.code() + 8 * operand.flag() + width.alu_class(),
+            Insn::Neg { width, .. } => 0x80 + width.alu_class(),
+            Insn::SignExtend { extension, .. } => 0xb8 + extension.width().alu_class(),
+            Insn::ByteSwap { order, .. } => order.opcode(),
+            Insn::Jump { .. } => 0x05,
+            Insn::JumpLong { .. } => 0x06,
+            Insn::Branch {
+                comparison,
+                width,
+                operand,
+                ..
+            } => 16 * comparison.code() + 8 * operand.flag() + width.jump_class(),
+            Insn::Call { .. } | Insn::CallLocal { .. } => 0x85,
+            Insn::Exit => 0x95,
+            Insn::Load { size, .. } => 0x61 + 8 * size.code(),
+            Insn::LoadSigned { size, .. } => 0x81 + 8 * size.code(),
+            Insn::StoreImm { size, .. } => 0x62 + 8 * size.code(),
+            Insn::Store { size, .. } => 0x63 + 8 * size.code(),
+            Insn::LoadWide { .. } => 0x18,
+        }
+    }
+
+    /// What stands in the first slot's dst field.
+    fn dst(self) -> u8
+        ensures { result ≡ (first_slot self).dst }
+    {
+        match self {
+            Insn::Alu { dst, .. }
+            | Insn::Neg { dst, .. }
+            | Insn::SignExtend { dst, .. }
+            | Insn::ByteSwap { dst, .. }
+            | Insn::Branch { dst, .. }
+            | Insn::Load { dst, .. }
+            | Insn::LoadSigned { dst, .. }
+            | Insn::StoreImm { dst, .. }
+            | Insn::Store { dst, .. }
+            | Insn::LoadWide { dst, .. } => dst.number(),
+            _ => 0,
+        }
+    }
+
+    /// What stands in the first slot's src field: a register, or which of the calls it is.
+    fn src(self) -> u8
+        ensures { result ≡ (first_slot self).src }
+    {
+        match self {
+            Insn::Alu { operand, .. } | Insn::Branch { operand, .. } => operand.src(),
+            Insn::SignExtend { src, .. }
+            | Insn::Load { src, .. }
+            | Insn::LoadSigned { src, .. }
+            | Insn::Store { src, .. } => src.number(),
+            Insn::CallLocal { .. } => 1,
+            _ => 0,
+        }
+    }
+
+    /// What stands in the first slot's offset field.
+    fn offset(self) -> i16
+        ensures { result ≡ (first_slot self).offset }
+    {
+        match self {
+            Insn::Alu { op, .. } => op.offset(),
+            Insn::SignExtend { extension, .. } => extension.bits(),
+            Insn::Jump { offset }
+            | Insn::Branch { offset, .. }
+            | Insn::Load { offset, .. }
+            | Insn::LoadSigned { offset, .. }
+            | Insn::StoreImm { offset, .. }
+            | Insn::Store { offset, .. } => offset,
+            _ => 0,
+        }
+    }
+
+    /// What stands in the first slot's imm field.
+    fn imm(self) -> i32
+        ensures { result ≡ (first_slot self).imm }
+    {
+        match self {
+            Insn::Alu { operand, .. } | Insn::Branch { operand, .. } => operand.imm(),
+            Insn::ByteSwap { width, .. } => width.bits(),
+            Insn::JumpLong { offset } | Insn::CallLocal { offset } => offset,
+            Insn::Call { helper } => helper,
+            Insn::StoreImm { imm, .. } => imm,
+            Insn::LoadWide { value, .. } => ((value % 0x1_0000_0000) as u32).cast_signed(),
+            _ => 0,
         }
     }
 
     /// Its numbers are in the ranges of their types, as laws on instructions ask.
-    pub(crate) fn in_range(self)
+    pub fn in_range(self)
         ensures { IsInsn self }
-    {
-        match self {
-            Insn::Alu {
-                operand: Operand::Imm(_imm),
-                ..
-            } => {}
-            Insn::Alu {
-                operand: Operand::Reg(_),
-                ..
-            } => {}
-            Insn::Exit => {}
-        }
-    }
+    {}
 }

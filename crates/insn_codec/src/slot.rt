@@ -12,10 +12,11 @@ pub struct Slot {
 }
 
 impl Slot {
+    ghost use Rattle.insn_codec.specs.Candidate.{extends_at};
     ghost use Rattle.insn_codec.specs.Slots.{IsSlot, slot_bytes};
 
     /// The fields of the slot whose bytes, read little-endian, are the word.
-    pub fn of_word(word: u64) -> Slot
+    pub(crate) fn of_word(word: u64) -> Slot
         ensures bytes { slot_bytes result ≡ to_le_bytes w64 word }
         ensures ranges { IsSlot result }
     {
@@ -39,7 +40,7 @@ impl Slot {
     }
 
     /// The slot's bytes, read little-endian.
-    pub fn word(self) -> u64
+    pub(crate) fn word(self) -> u64
         requires dst { self.dst < 16 }
         requires src { self.src < 16 }
         ensures { to_le_bytes w64 result ≡ slot_bytes self }
@@ -56,5 +57,11 @@ impl Slot {
             imm_2,
             imm_3,
         ])
+    }
+    /// Whether it is a move whose offset says how many bits it extends (RFC 9669, section 4.1).
+    pub(crate) fn extends(self) -> bool
+        ensures { result ≡ extends_at self }
+    {
+        self.opcode / 16 == 0xb && self.offset != 0
     }
 }

@@ -3,19 +3,32 @@ ghost use Rattle.std.specs.Prelude.{◌≡◌};
 /// How many bits of its operands an instruction computes on.
 #[derive(Clone, Copy, Debug, PartialEq, Eq)]
 pub enum Width {
+    /// The low 32 bits; what arithmetic writes has its high 32 bits 0.
+    W32,
     /// All 64 bits.
     W64,
 }
 
 impl Width {
-    ghost use Rattle.insn_codec.specs.Codes.{alu_class};
+    ghost use Rattle.insn_codec.specs.Codes.{alu_class, jump_class};
 
     /// The class of arithmetic at this width, the opcode's low three bits (RFC 9669, section 3).
     pub(crate) fn alu_class(self) -> u8
         ensures { result ≡ alu_class self }
     {
         match self {
+            Width::W32 => 4,
             Width::W64 => 7,
+        }
+    }
+
+    /// The class of jumps that compare at this width, the opcode's low three bits (RFC 9669, section 3).
+    pub(crate) fn jump_class(self) -> u8
+        ensures { result ≡ jump_class self }
+    {
+        match self {
+            Width::W32 => 6,
+            Width::W64 => 5,
         }
     }
 }

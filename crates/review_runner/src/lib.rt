@@ -18,6 +18,8 @@ pub mod reader;
 mod refusal;
 pub mod rows;
 mod running;
+#[cfg(test)]
+mod running_tests;
 mod values;
 
 pub use debugging::debug;

@@ -4,6 +4,7 @@ ghost use Rattle.bpf_machine.specs.Text.{move_line, move_text, register_line, re
 ghost use Rattle.review_runner.specs.Running.{run_of_file, Runs};
 
 use bpf_machine::{Machine, Status, Table, WordText};
+use guest_memory::Guest;
 use loader::{Image, LoadError};
 use std::alloc::{AllocError, Global};
 
@@ -21,14 +22,14 @@ pub fn run_image(alloc: Global, file: &[u8], n: u64) -> Result<(Vec<u8>, Status)
     ensures { Runs (run_of_file file.now n) result }
 {
     let image = Image::read(alloc, file)?;
-    let mut machine = Machine::start(alloc, image, Table::nulls())?;
+    let mut machine = Machine::<Guest>::start(alloc, image, Table::nulls())?;
     let (steps, status) = machine.run(n)?;
     let text = answers(alloc, &machine, steps)?;
     Ok((text.into_bytes(), status))
 }
 
 /// The answers to `r` and to the move to this step.
-fn answers(alloc: Global, machine: &Machine, steps: u64) -> Result<String, AllocError>
+fn answers(alloc: Global, machine: &Machine<Guest>, steps: u64) -> Result<String, AllocError>
     ensures { IfOk result (λ t. string_bytes t ≡ registers_text machine.now ++ move_text steps machine.now) }
 {
     let mut text = registers(alloc, machine)?;
@@ -38,7 +39,7 @@ fn answers(alloc: Global, machine: &Machine, steps: u64) -> Result<String, Alloc
 
 /// The lines of r0 to r10.
 #[tactic(auto, unfolding(bpf_machine::specs::Text::registers_text, bpf_machine::specs::Text::register_lines))]
-fn registers(alloc: Global, machine: &Machine) -> Result<String, AllocError>
+fn registers(alloc: Global, machine: &Machine<Guest>) -> Result<String, AllocError>
     ensures { IfOk result (λ t. string_bytes t ≡ registers_text machine.now) }
 {
     let mut text = String::new(alloc);

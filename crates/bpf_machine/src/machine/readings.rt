@@ -4,9 +4,11 @@ ghost use Rattle.std.specs.Prelude.{◌≡◌, ◌<◌, slice_index};
 use super::Machine;
 use crate::frame::Frame;
 use crate::status::Status;
+use crate::table::Table;
+use guest_memory::Regions;
 use loader::Image;
 
-impl Machine {
+impl<M: Regions> Machine<M> {
     /// The image that it runs.
     pub fn image(&self) -> &Image
         ensures { result.now ≡ self.now.image }
@@ -40,5 +42,18 @@ impl Machine {
         ensures { result.now ≡ self.now.records }
     {
         self.records.as_slice()
+    }
+
+    pub fn memory(&self) -> &M
+        ensures { M.bytes result.now ≡ self.now.memory }
+    {
+        &self.memory
+    }
+
+    /// The values that the program can name, and their charge.
+    pub fn values(&self) -> &Table
+        ensures { result.now ≡ self.now.values }
+    {
+        &self.table
     }
 }

@@ -1,6 +1,6 @@
 //! Why a machine stops.
 ghost use Rattle.std.specs.Prelude.{Some};
-ghost use Rattle.bpf_machine.specs.Text.{fault_text};
+ghost use Rattle.guest_memory.specs.Text.{fault_text};
 
 use std::fmt;
 

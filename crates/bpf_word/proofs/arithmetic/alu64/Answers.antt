@@ -1,0 +1,7 @@
+use Rattle.bpf_word.specs.Arithmetic.{alu64_of, operated}
+use Rattle.bpf_word.proofs.Casts.{difference_is}
+use Rattle.bpf_word.proofs.arithmetic.alu64.Goals as goal
+
+pub returns-in-Sub : goal.returns-in-Sub
+unfolding alu64_of operated
+returns-in-Sub c = rw c.in-Sub.is (difference_is 64 c.args.dst c.args.operand c.ranges.operand.fits)

@@ -1,0 +1,9 @@
+pub mod Bytes
+pub mod Start
+pub mod Digits
+pub mod Places
+pub mod Map
+pub mod Reading
+pub mod Overlays
+pub mod Writing
+pub mod Lending

@@ -1,0 +1,73 @@
+-- The memory at the start of a program.
+use Rattle.std.proofs.Common.{◌≡◌, ℕ, ◌+◌, ◌-◌, ◌<◌, ◌≤◌, List, replicate, Bool, true, false, if◌then◌else◌, Option, Some, None, refl, ap, ◌∙◌, arith, inl, inr}
+use Rattle.std.specs.Prelude.{All, ◌||◌}
+use Rattle.std.proofs.lemmas.Bool.{cases_lt}
+use Rattle.std.proofs.lemmas.List.{length-replicate, get_or-replicate}
+use Rattle.std.proofs.lemmas.List.Elements.{All-replicate}
+use Rattle.guest_memory.specs.Memory.{Memory, Region, Stack, Scratch, Verdict, Constants, IsMemory, is_writable, is_among, bytes_in, base_of, byte_at, byte_from, or_else, start_memory}
+use Rattle.guest_memory.specs.Laws.{StartIsZero}
+use Rattle.guest_memory.proofs.Map.{is_among-inside, is_among-below, is_among-past, byte_from-below, byte_from-past, byte_from-inside}
+
+same_regions : (stack scratch verdict constants stack' scratch' verdict' constants' : List ℕ) → stack ≡ stack' → scratch ≡ scratch' → verdict ≡ verdict' → constants ≡ constants' → ◌≡◌ {A = Memory} (record { stack = stack; scratch = scratch; verdict = verdict; constants = constants }) (record { stack = stack'; scratch = scratch'; verdict = verdict'; constants = constants' })
+same_regions stack scratch verdict constants stack' scratch' verdict' constants' a b c d = λ i. record { stack = a i; scratch = b i; verdict = c i; constants = d i }
+
+pub started : (stack scratch verdict constants given : List ℕ) → stack ≡ replicate 4096 0 → scratch ≡ replicate 4096 0 → verdict ≡ replicate 2048 0 → constants ≡ given → ◌≡◌ {A = Memory} (record { stack = stack; scratch = scratch; verdict = verdict; constants = constants }) (start_memory given)
+unfolding start_memory
+started stack scratch verdict constants given a b c d = same_regions stack scratch verdict constants _ _ _ given a b c d
+
+start_bytes : (constants : List ℕ) → All (λ b. b < 256) constants → (r : Region) → All (λ b. b < 256) (bytes_in r (start_memory constants))
+unfolding start_memory
+start_bytes constants bytes Stack = All-replicate (λ b. b < 256) 4096 0 (omega arith)
+start_bytes constants bytes Scratch = All-replicate (λ b. b < 256) 4096 0 (omega arith)
+start_bytes constants bytes Verdict = All-replicate (λ b. b < 256) 2048 0 (omega arith)
+start_bytes constants bytes Constants = bytes
+
+start_is_memory : (constants : List ℕ) → All (λ b. b < 256) constants → IsMemory (start_memory constants)
+unfolding start_memory
+start_is_memory constants bytes = record {
+  stack = length-replicate {A = ℕ} 4096 0;
+  scratch = length-replicate {A = ℕ} 4096 0;
+  verdict = length-replicate {A = ℕ} 2048 0;
+  bytes = start_bytes constants bytes;
+}
+
+zero_inside : (base n address : ℕ) → base ≤ address → address < base + n → byte_from base (replicate n 0) address ≡ Some 0
+zero_inside base n address low high =
+    let long = length-replicate {A = ℕ} n 0 in
+    byte_from-inside base (replicate n 0) address low (omega (arith, long)) ∙ ap Some (get_or-replicate {A = ℕ} n (address - base) 0 0 (omega arith))
+
+none_past : (base n address : ℕ) → base + n ≤ address → byte_from base (replicate n 0) address ≡ None
+none_past base n address h = let long = length-replicate {A = ℕ} n 0 in byte_from-past base (replicate n 0) address (omega (arith, long))
+
+-- the byte at an address of zeros
+zeros : (base n address : ℕ) → byte_from base (replicate n 0) address ≡ (if is_among base n address then Some 0 else None)
+zeros base n address =
+    elim (cases_lt address base) [
+      | inl low ↦ byte_from-below base (replicate n 0) address low ∙ (rw (is_among-below base n address low) refl)
+      | inr above ↦ elim (cases_lt address (base + n)) [
+        | inl high ↦ zero_inside base n address above high ∙ (rw (is_among-inside base n address above high) refl)
+        | inr high ↦ none_past base n address high ∙ (rw (is_among-past base n address high) refl)
+      ]
+    ]
+
+one_of_three : (p q r : Bool) (other : Option ℕ) → or_else (if p then Some 0 else None) (or_else (if q then Some 0 else None) (or_else (if r then Some 0 else None) other)) ≡ (if (p || (q || r)) then Some 0 else other)
+one_of_three true q r other = refl
+one_of_three false true r other = refl
+one_of_three false false true other = refl
+one_of_three false false false other = refl
+
+zeros_or : (stack scratch verdict : List ℕ) (constants : List ℕ) (address : ℕ) → stack ≡ replicate 4096 0 → scratch ≡ replicate 4096 0 → verdict ≡ replicate 2048 0 → byte_at (record { stack = stack; scratch = scratch; verdict = verdict; constants = constants }) address ≡ (if is_writable address then Some 0 else byte_from (base_of Constants) constants address)
+unfolding byte_at is_writable
+zeros_or stack scratch verdict constants address a b c =
+    let s = ap (λ (bs : List ℕ). byte_from (base_of Stack) bs address) a ∙ zeros (base_of Stack) 4096 address in
+    let t = ap (λ (bs : List ℕ). byte_from (base_of Scratch) bs address) b ∙ zeros (base_of Scratch) 4096 address in
+    let v = ap (λ (bs : List ℕ). byte_from (base_of Verdict) bs address) c ∙ zeros (base_of Verdict) 2048 address in
+    (λ i. or_else (s i) (or_else (t i) (or_else (v i) (byte_from (base_of Constants) constants address))))
+    ∙ one_of_three (is_among (base_of Stack) 4096 address) (is_among (base_of Scratch) 4096 address) (is_among (base_of Verdict) 2048 address) _
+
+start_byte : (constants : List ℕ) (address : ℕ) → byte_at (start_memory constants) address ≡ (if is_writable address then Some 0 else byte_from (base_of Constants) constants address)
+unfolding start_memory
+start_byte constants address = zeros_or (replicate 4096 0) (replicate 4096 0) (replicate 2048 0) constants address refl refl refl
+
+pub start_laws : StartIsZero
+start_laws = record { memory = start_is_memory; bytes = start_byte }

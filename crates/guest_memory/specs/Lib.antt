@@ -1,0 +1,6 @@
+pub mod Text
+pub mod Memory
+pub mod Word
+pub mod Access
+pub mod Laws
+pub mod Rows

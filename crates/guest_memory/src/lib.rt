@@ -1,0 +1,19 @@
+//! The memory that a BPF program sees: regions of bytes at fixed addresses, read and written by
+//! the machine.
+#![tactic(auto)]
+
+mod fault;
+mod guest;
+pub mod laws;
+mod regions;
+mod size;
+#[cfg(test)]
+mod tests;
+mod words;
+mod write_error;
+
+pub use fault::Fault;
+pub use guest::Guest;
+pub use regions::Regions;
+pub use size::Size;
+pub use write_error::WriteError;

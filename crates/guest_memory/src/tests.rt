@@ -1,0 +1,162 @@
+//! Loads and stores worked by hand.
+use crate::{Fault, Guest, Regions, Size, WriteError};
+use std::test::Fail;
+
+/// Addresses, sizes and what a load answers at the start, with nine constants.
+const LOADS: [(u64, Size, Result<u64, Fault>); 24] = [
+    (0x0, Size::B, Err(Fault::F3)),
+    (0xffff_ffff, Size::B, Err(Fault::F3)),
+    (0xffff_ffff, Size::H, Err(Fault::F3)),
+    (0x1_0000_0000, Size::Dw, Ok(0)),
+    (0x1_0000_0ff8, Size::Dw, Ok(0)),
+    (0x1_0000_0ff9, Size::Dw, Err(Fault::F3)),
+    (0x1_0000_0fff, Size::B, Ok(0)),
+    (0x1_0000_0fff, Size::H, Err(Fault::F3)),
+    (0x1_0000_1000, Size::B, Err(Fault::F3)),
+    (0x2_0000_0000, Size::W, Ok(0)),
+    (0x2_0000_0ffc, Size::W, Ok(0)),
+    (0x2_0000_0ffd, Size::W, Err(Fault::F3)),
+    (0x3_0000_07f8, Size::Dw, Ok(0)),
+    (0x3_0000_07f9, Size::Dw, Err(Fault::F3)),
+    (0x3_0000_0800, Size::B, Err(Fault::F3)),
+    (0x3_ffff_ffff, Size::H, Err(Fault::F3)),
+    (0x4_0000_0000, Size::B, Ok(0x11)),
+    (0x4_0000_0000, Size::H, Ok(0x2211)),
+    (0x4_0000_0000, Size::W, Ok(0x4433_2211)),
+    (0x4_0000_0001, Size::Dw, Ok(0x9988_7766_5544_3322)),
+    (0x4_0000_0002, Size::Dw, Err(Fault::F3)),
+    (0x4_0000_0009, Size::B, Err(Fault::F3)),
+    (0xffff_ffff_ffff_ffff, Size::B, Err(Fault::F3)),
+    (0xffff_ffff_ffff_ffff, Size::Dw, Err(Fault::F3)),
+];
+
+/// Addresses, sizes and what a store answers, in one memory with nine constants.
+const STORES: [(u64, Size, Result<(), WriteError>); 14] = [
+    (0xffff_ffff, Size::H, Err(WriteError::Fault(Fault::F3))),
+    (0x1_0000_0000, Size::Dw, Ok(())),
+    (0x1_0000_0ff8, Size::Dw, Ok(())),
+    (0x1_0000_0ff9, Size::Dw, Err(WriteError::Fault(Fault::F3))),
+    (0x2_0000_0ffe, Size::H, Ok(())),
+    (0x2_0000_0fff, Size::H, Err(WriteError::Fault(Fault::F3))),
+    (0x3_0000_07f8, Size::Dw, Ok(())),
+    (0x3_0000_07f9, Size::Dw, Err(WriteError::Fault(Fault::F3))),
+    (0x3_ffff_ffff, Size::H, Err(WriteError::Fault(Fault::F3))),
+    (0x4_0000_0000, Size::B, Err(WriteError::Fault(Fault::F4))),
+    (0x4_0000_0001, Size::Dw, Err(WriteError::Fault(Fault::F4))),
+    (0x4_0000_0002, Size::Dw, Err(WriteError::Fault(Fault::F3))),
+    (0x4_0000_0009, Size::B, Err(WriteError::Fault(Fault::F3))),
+    (
+        0xffff_ffff_ffff_ffff,
+        Size::Dw,
+        Err(WriteError::Fault(Fault::F3)),
+    ),
+];
+
+/// Sizes, what 0x8877_6655_4433_2211 leaves of eight bytes 0xff, and the word read again.
+const WORDS: [(Size, u64, u64); 4] = [
+    (Size::B, 0xffff_ffff_ffff_ff11, 0x11),
+    (Size::H, 0xffff_ffff_ffff_2211, 0x2211),
+    (Size::W, 0xffff_ffff_4433_2211, 0x4433_2211),
+    (Size::Dw, 0x8877_6655_4433_2211, 0x8877_6655_4433_2211),
+];
+
+/// The nine constants.
+const CONSTANTS: &[u8; 9] = b"\x11\x22\x33\x44\x55\x66\x77\x88\x99";
+
+#[test]
+fn loads(rt: HostRuntime) -> Result<(), Fail> {
+    let guest = Guest::of_constants(rt.alloc(), CONSTANTS)?;
+    for (row, (addr, size, answer)) in LOADS.into_iter().enumerate() {
+        assert_eq!(rt; guest.read(addr, size), answer, "row {row}");
+    }
+    Ok(())
+}
+
+#[test]
+fn stores(rt: HostRuntime) -> Result<(), Fail> {
+    let mut guest = Guest::of_constants(rt.alloc(), CONSTANTS)?;
+    for (row, (addr, size, answer)) in STORES.into_iter().enumerate() {
+        assert_eq!(rt; guest.write(addr, size, 1), answer, "row {row}");
+    }
+    Ok(())
+}
+
+#[test]
+fn stores_low_bytes(rt: HostRuntime) -> Result<(), Fail> {
+    let mut guest = Guest::of_constants(rt.alloc(), b"")?;
+    for (row, (size, left, word)) in WORDS.into_iter().enumerate() {
+        guest.write(0x2_0000_0010, Size::Dw, u64::MAX)?;
+        guest.write(0x2_0000_0010, size, 0x8877_6655_4433_2211)?;
+        assert_eq!(rt; guest.read(0x2_0000_0010, Size::Dw), Ok(left), "row {row}");
+        assert_eq!(rt; guest.read(0x2_0000_0010, size), Ok(word), "row {row}");
+        assert_eq!(rt; guest.read(0x2_0000_0018, Size::Dw), Ok(0), "row {row}");
+        assert_eq!(rt; guest.read(0x2_0000_0008, Size::Dw), Ok(0), "row {row}");
+    }
+    Ok(())
+}
+
+#[test]
+fn copies(rt: HostRuntime) -> Result<(), Fail> {
+    let mut guest = Guest::of_constants(rt.alloc(), b"a")?;
+    guest.write(0x1_0000_0000, Size::B, 1)?;
+    let mut copy = guest.copy()?;
+    copy.write(0x1_0000_0000, Size::B, 2)?;
+    guest.write(0x3_0000_0000, Size::B, 3)?;
+    assert_eq!(rt; guest.read(0x1_0000_0000, Size::B), Ok(1));
+    assert_eq!(rt; copy.read(0x1_0000_0000, Size::B), Ok(2));
+    assert_eq!(rt; copy.read(0x3_0000_0000, Size::B), Ok(0));
+    assert_eq!(rt; copy.read(0x4_0000_0000, Size::B), Ok(0x61));
+    Ok(())
+}
+
+/// Whether these bytes are lent of the constants.
+fn lends(guest: &Guest, addr: u64, len: u64, expected: &[u8]) -> bool {
+    match guest.constants(addr, len) {
+        Some(bytes) => bytes == expected,
+        None => false,
+    }
+}
+
+#[test]
+fn lends_constants(rt: HostRuntime) -> Result<(), Fail> {
+    let guest = Guest::of_constants(rt.alloc(), b"abc")?;
+    assert!(rt; lends(&guest, 0x4_0000_0000, 3, b"abc"));
+    assert!(rt; lends(&guest, 0x4_0000_0001, 2, b"bc"));
+    assert!(rt; lends(&guest, 0x4_0000_0001, 1, b"b"));
+    Ok(())
+}
+
+#[test]
+fn lends_no_bytes_anywhere(rt: HostRuntime) -> Result<(), Fail> {
+    let guest = Guest::of_constants(rt.alloc(), b"abc")?;
+    for addr in [0, 0x1_0000_0000, 0x4_0000_0003, 0x4_0000_0004, u64::MAX] {
+        assert!(rt; lends(&guest, addr, 0, b""), "at {addr}");
+    }
+    Ok(())
+}
+
+/// Addresses and lengths of ranges that do not lie in three constants.
+const OUTSIDE: [(u64, u64); 6] = [
+    (0x4_0000_0001, 3),
+    (0x4_0000_0003, 1),
+    (0x3_ffff_ffff, 2),
+    (0x4_0000_0001, u64::MAX),
+    (u64::MAX, 2),
+    (0x1_0000_0000, 1),
+];
+
+#[test]
+fn lends_nothing_else(rt: HostRuntime) -> Result<(), Fail> {
+    let guest = Guest::of_constants(rt.alloc(), b"abc")?;
+    for (row, (addr, len)) in OUTSIDE.into_iter().enumerate() {
+        assert!(rt; guest.constants(addr, len).is_none(), "row {row}");
+    }
+    Ok(())
+}
+
+#[test]
+fn names_faults(rt: HostRuntime) -> Result<(), Fail> {
+    let text = format!(in rt.alloc(); "{} {}", Fault::F1, Fault::F9)?;
+    assert_eq!(rt; text.as_str(), "F1 F9");
+    Ok(())
+}

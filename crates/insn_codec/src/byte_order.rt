@@ -1,0 +1,39 @@
+ghost use Rattle.std.specs.Prelude.{◌≡◌};
+
+/// How a byte order instruction orders the bytes of its destination (RFC 9669, section 4.2).
+#[derive(Clone, Copy, Debug, PartialEq, Eq)]
+pub enum ByteOrder {
+    /// Between the host's order and little-endian.
+    Little,
+    /// Between the host's order and big-endian.
+    Big,
+    /// The bytes are reversed, whatever the host's order is.
+    Swap,
+}
+
+impl ByteOrder {
+    ghost use Rattle.insn_codec.specs.Families.{order_of, order_opcode};
+
+    /// The order of this opcode.
+    pub(crate) fn of(opcode: u8) -> Option<ByteOrder>
+        ensures { result ≡ order_of opcode }
+    {
+        match opcode {
+            0xd4 => Some(ByteOrder::Little),
+            0xdc => Some(ByteOrder::Big),
+            0xd7 => Some(ByteOrder::Swap),
+            _ => None,
+        }
+    }
+
+    /// The opcode of the order.
+    pub(crate) fn opcode(self) -> u8
+        ensures { result ≡ order_opcode self }
+    {
+        match self {
+            ByteOrder::Little => 0xd4,
+            ByteOrder::Big => 0xdc,
+            ByteOrder::Swap => 0xd7,
+        }
+    }
+}

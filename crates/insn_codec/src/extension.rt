@@ -1,0 +1,57 @@
+ghost use Rattle.std.specs.Prelude.{◌≡◌};
+
+use crate::width::Width;
+
+/// What a sign-extending move takes from the source and fills in the destination (RFC 9669, section 4.1).
+#[derive(Clone, Copy, Debug, PartialEq, Eq)]
+pub enum Extension {
+    /// The low 8 bits, to 32; the high 32 bits become 0.
+    From8To32,
+    /// The low 16 bits, to 32; the high 32 bits become 0.
+    From16To32,
+    /// The low 8 bits, to 64.
+    From8To64,
+    /// The low 16 bits, to 64.
+    From16To64,
+    /// The low 32 bits, to 64.
+    From32To64,
+}
+
+impl Extension {
+    ghost use Rattle.insn_codec.specs.Families.{extension_bits, extension_of, extension_width};
+
+    /// The extension to this width from this many bits, which stand in the slot's offset field.
+    pub(crate) fn of(width: Width, bits: i16) -> Option<Extension>
+        ensures { result ≡ extension_of width bits }
+    {
+        match (width, bits) {
+            (Width::W32, 8) => Some(Extension::From8To32),
+            (Width::W32, 16) => Some(Extension::From16To32),
+            (Width::W64, 8) => Some(Extension::From8To64),
+            (Width::W64, 16) => Some(Extension::From16To64),
+            (Width::W64, 32) => Some(Extension::From32To64),
+            _ => None,
+        }
+    }
+
+    /// How many bits it takes, as they stand in the slot's offset field.
+    pub(crate) fn bits(self) -> i16
+        ensures { result ≡ extension_bits self }
+    {
+        match self {
+            Extension::From8To32 | Extension::From8To64 => 8,
+            Extension::From16To32 | Extension::From16To64 => 16,
+            Extension::From32To64 => 32,
+        }
+    }
+
+    /// The width that it fills.
+    pub(crate) fn width(self) -> Width
+        ensures { result ≡ extension_width self }
+    {
+        match self {
+            Extension::From8To32 | Extension::From16To32 => Width::W32,
+            Extension::From8To64 | Extension::From16To64 | Extension::From32To64 => Width::W64,
+        }
+    }
+}

@@ -1,0 +1,39 @@
+ghost use Rattle.std.specs.Prelude.{◌≡◌};
+
+/// How many bytes a sign-extending load reads (RFC 9669, section 5.2).
+#[derive(Clone, Copy, Debug, PartialEq, Eq)]
+pub enum SignedSize {
+    /// One byte.
+    B,
+    /// Two bytes.
+    H,
+    /// Four bytes.
+    W,
+}
+
+impl SignedSize {
+    ghost use Rattle.insn_codec.specs.Families.{signed_size_code, signed_size_of};
+
+    /// The size of this code, which is the two bits of the opcode that are worth 8 and 16.
+    pub(crate) fn of(code: u8) -> Option<SignedSize>
+        ensures { result ≡ signed_size_of code }
+    {
+        match code {
+            0 => Some(SignedSize::W),
+            1 => Some(SignedSize::H),
+            2 => Some(SignedSize::B),
+            _ => None,
+        }
+    }
+
+    /// The code of the size.
+    pub(crate) fn code(self) -> u8
+        ensures { result ≡ signed_size_code self }
+    {
+        match self {
+            SignedSize::W => 0,
+            SignedSize::H => 1,
+            SignedSize::B => 2,
+        }
+    }
+}

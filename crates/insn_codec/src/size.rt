@@ -1,0 +1,43 @@
+ghost use Rattle.std.specs.Prelude.{◌≡◌};
+
+/// How many bytes a load or a store moves (RFC 9669, section 5).
+#[derive(Clone, Copy, Debug, PartialEq, Eq)]
+pub enum Size {
+    /// One byte.
+    B,
+    /// Two bytes.
+    H,
+    /// Four bytes.
+    W,
+    /// Eight bytes.
+    Dw,
+}
+
+impl Size {
+    ghost use Rattle.insn_codec.specs.Families.{size_code, size_of_code};
+
+    /// The size of this code, which is the two bits of the opcode that are worth 8 and 16.
+    pub(crate) fn of(code: u8) -> Option<Size>
+        ensures { result ≡ size_of_code code }
+    {
+        match code {
+            0 => Some(Size::W),
+            1 => Some(Size::H),
+            2 => Some(Size::B),
+            3 => Some(Size::Dw),
+            _ => None,
+        }
+    }
+
+    /// The code of the size.
+    pub(crate) fn code(self) -> u8
+        ensures { result ≡ size_code self }
+    {
+        match self {
+            Size::W => 0,
+            Size::H => 1,
+            Size::B => 2,
+            Size::Dw => 3,
+        }
+    }
+}

@@ -1,0 +1,39 @@
+ghost use Rattle.std.specs.Prelude.{◌≡◌};
+
+/// How many low bits a byte order instruction orders (RFC 9669, section 4.2); the others become 0.
+#[derive(Clone, Copy, Debug, PartialEq, Eq)]
+pub enum SwapWidth {
+    /// 16 bits.
+    Bits16,
+    /// 32 bits.
+    Bits32,
+    /// All 64 bits.
+    Bits64,
+}
+
+impl SwapWidth {
+    ghost use Rattle.insn_codec.specs.Families.{swap_bits, swap_of};
+
+    /// The width of this many bits, which stand in the slot's imm field.
+    pub(crate) fn of(bits: i32) -> Option<SwapWidth>
+        ensures { result ≡ swap_of bits }
+    {
+        match bits {
+            16 => Some(SwapWidth::Bits16),
+            32 => Some(SwapWidth::Bits32),
+            64 => Some(SwapWidth::Bits64),
+            _ => None,
+        }
+    }
+
+    /// How many bits it is, as they stand in the slot's imm field.
+    pub(crate) fn bits(self) -> i32
+        ensures { result ≡ swap_bits self }
+    {
+        match self {
+            SwapWidth::Bits16 => 16,
+            SwapWidth::Bits32 => 32,
+            SwapWidth::Bits64 => 64,
+        }
+    }
+}

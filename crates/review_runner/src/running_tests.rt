@@ -1,0 +1,60 @@
+//! Images run by their bytes.
+
+use crate::run_image;
+use std::test::Fail;
+
+/// Code without constants, and the last line that its run prints.
+const RUNS: [(&[u8], &[u8]); 10] = [
+    // The wide load lacks its second slot.
+    (b"\x18\0\0\0\0\0\0\0", b"\nstep 1 pc 0 fault F2\n"),
+    // The jump goes to the second slot of a wide load.
+    (
+        b"\x05\0\x01\0\0\0\0\0\x18\0\0\0\x05\0\0\0\0\0\0\0\0\0\0\0\x95\0\0\0\0\0\0\0",
+        b"\nstep 2 pc 2 fault F2\n",
+    ),
+    // The load is from the last address.
+    (
+        b"\xb7\x01\0\0\xff\xff\xff\xff\x79\x10\0\0\0\0\0\0",
+        b"\nstep 2 pc 1 fault F3\n",
+    ),
+    // The function calls itself.
+    (b"\x85\x10\0\0\xff\xff\xff\xff", b"\nstep 8 pc 0 fault F7\n"),
+    // No helper has the number 1.
+    (b"\x85\0\0\0\x01\0\0\0", b"\nstep 1 pc 0 fault F5\n"),
+    // 0x80 as a signed byte, to 64 and to 32 bits.
+    (
+        b"\xb7\x01\0\0\x80\0\0\0\xbf\x10\x08\0\0\0\0\0\x95\0\0\0\0\0\0\0",
+        b"\nstep 3 pc 2 exited 0xffffffffffffff80\n",
+    ),
+    (
+        b"\xb7\x01\0\0\x80\0\0\0\xbc\x10\x08\0\0\0\0\0\x95\0\0\0\0\0\0\0",
+        b"\nstep 3 pc 2 exited 0x00000000ffffff80\n",
+    ),
+    // 0x1234 as two bytes in the other order, and as four.
+    (
+        b"\xb7\0\0\0\x34\x12\0\0\xdc\0\0\0\x10\0\0\0\x95\0\0\0\0\0\0\0",
+        b"\nstep 3 pc 2 exited 0x0000000000003412\n",
+    ),
+    (
+        b"\xb7\0\0\0\x34\x12\0\0\xd7\0\0\0\x20\0\0\0\x95\0\0\0\0\0\0\0",
+        b"\nstep 3 pc 2 exited 0x0000000034120000\n",
+    ),
+    // A move of 32 bits clears the others.
+    (
+        b"\xb4\0\0\0\xff\xff\xff\xff\x95\0\0\0\0\0\0\0",
+        b"\nstep 2 pc 1 exited 0x00000000ffffffff\n",
+    ),
+];
+
+#[test]
+fn runs_to_the_last_line(rt: HostRuntime) -> Result<(), Fail> {
+    for (row, (code, line)) in RUNS.into_iter().enumerate() {
+        let mut file = Vec::from_slice(rt.alloc(), b"CELBPF01")?;
+        file.push((code.len() / 8 % 256) as u8)?;
+        file.extend_from_slice(&[0; 7])?;
+        file.extend_from_slice(code)?;
+        let (text, _) = run_image(rt.alloc(), &file, 99)?;
+        assert!(rt; text.ends_with(line), "row {row}");
+    }
+    Ok(())
+}
