@@ -1,6 +1,7 @@
 use super::{EXIT, machine, wide};
 use crate::Status;
 use guest_memory::Fault;
+use std::alloc::Global;
 use std::test::Fail;
 
 /// `r1 = dst`, `r2 = operand`, the jump over the next slot, `r0 = 1`, `exit`.
@@ -18,46 +19,49 @@ fn over(dst: u64, operand: u64, jump: u64) -> [u64; 7] {
     ]
 }
 
+/// Whether the jump, taken or not by these words, leads to the exit.
+fn is_taken(alloc: Global, dst: u64, operand: u64, jump: [u8; 8]) -> Result<bool, Fail> {
+    let slots = over(dst, operand, u64::from_be_bytes(jump));
+    let mut machine = machine(alloc, &slots, &[])?.ok_or("no image")?;
+    let (_, status) = machine.run(9)?;
+    Ok(status == Status::Exited(0))
+}
+
 /// The opcodes of each comparison (an immediate and a register of 64 bits, the same of 32), and
 /// whether it holds between -1 and 1, between 1 and 1, and between 2 and 1.
+const BRANCHES: [([u8; 4], [bool; 3]); 11] = [
+    ([0x15, 0x1d, 0x16, 0x1e], [false, true, false]),
+    ([0x25, 0x2d, 0x26, 0x2e], [true, false, true]),
+    ([0x35, 0x3d, 0x36, 0x3e], [true, true, true]),
+    ([0x45, 0x4d, 0x46, 0x4e], [true, true, false]),
+    ([0x55, 0x5d, 0x56, 0x5e], [true, false, true]),
+    ([0x65, 0x6d, 0x66, 0x6e], [false, false, true]),
+    ([0x75, 0x7d, 0x76, 0x7e], [false, true, true]),
+    ([0xa5, 0xad, 0xa6, 0xae], [false, false, false]),
+    ([0xb5, 0xbd, 0xb6, 0xbe], [false, true, false]),
+    ([0xc5, 0xcd, 0xc6, 0xce], [true, false, false]),
+    ([0xd5, 0xdd, 0xd6, 0xde], [true, true, false]),
+];
+
+/// Words of 64 bits, and words of which the low halves count, that are compared with 1.
+const COMPARED: [(u64, u64); 3] = [
+    (u64::MAX, 0x7_ffff_ffff),
+    (1, 0x7_0000_0001),
+    (2, 0x7_0000_0002),
+];
+
 #[test]
 fn branches(rt: HostRuntime) -> Result<(), Fail> {
-    let table = [
-        ([0x15, 0x1d, 0x16, 0x1e], [false, true, false]),
-        ([0x25, 0x2d, 0x26, 0x2e], [true, false, true]),
-        ([0x35, 0x3d, 0x36, 0x3e], [true, true, true]),
-        ([0x45, 0x4d, 0x46, 0x4e], [true, true, false]),
-        ([0x55, 0x5d, 0x56, 0x5e], [true, false, true]),
-        ([0x65, 0x6d, 0x66, 0x6e], [false, false, true]),
-        ([0x75, 0x7d, 0x76, 0x7e], [false, true, true]),
-        ([0xa5, 0xad, 0xa6, 0xae], [false, false, false]),
-        ([0xb5, 0xbd, 0xb6, 0xbe], [false, true, false]),
-        ([0xc5, 0xcd, 0xc6, 0xce], [true, false, false]),
-        ([0xd5, 0xdd, 0xd6, 0xde], [true, true, false]),
-    ];
-    for ([imm_64, reg_64, imm_32, reg_32], holds) in table {
-        let pairs = [
-            (u64::MAX, 0x7_ffff_ffff),
-            (1, 0x7_0000_0001),
-            (2, 0x7_0000_0002),
-        ];
-        for ((whole, half), holds) in pairs.into_iter().zip(holds) {
-            let runs = [
-                (whole, 1, [imm_64, 0x01, 1, 0, 1, 0, 0, 0]),
-                (whole, 1, [reg_64, 0x21, 1, 0, 0, 0, 0, 0]),
-                (half, 1, [imm_32, 0x01, 1, 0, 1, 0, 0, 0]),
-                (half, 0x9_0000_0001, [reg_32, 0x21, 1, 0, 0, 0, 0, 0]),
+    let alloc = rt.alloc();
+    for ([imm_64, reg_64, imm_32, reg_32], holds) in BRANCHES {
+        for ((whole, half), holds) in COMPARED.into_iter().zip(holds) {
+            let taken = [
+                is_taken(alloc, whole, 0, [imm_64, 0x01, 1, 0, 1, 0, 0, 0])?,
+                is_taken(alloc, whole, 1, [reg_64, 0x21, 1, 0, 0, 0, 0, 0])?,
+                is_taken(alloc, half, 0, [imm_32, 0x01, 1, 0, 1, 0, 0, 0])?,
+                is_taken(alloc, half, 0x9_0000_0001, [reg_32, 0x21, 1, 0, 0, 0, 0, 0])?,
             ];
-            for (dst, operand, jump) in runs {
-                let slots = over(dst, operand, u64::from_be_bytes(jump));
-                let mut machine = machine(rt.alloc(), &slots, &[])?.ok_or("no image")?;
-                let end = if holds {
-                    (4, Status::Exited(0))
-                } else {
-                    (5, Status::Exited(1))
-                };
-                assert_eq!(rt; machine.run(9)?, end, "{jump:?} {dst} {operand}");
-            }
+            assert_eq!(rt; taken, [holds, holds, holds, holds], "{imm_64} {whole}");
         }
     }
     Ok(())

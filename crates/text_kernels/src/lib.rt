@@ -1,0 +1,12 @@
+//! Scans of text, 32 bytes at a time: counting, comparing and skipping.
+#![tactic(auto)]
+
+mod comparing;
+mod counting;
+mod skipping;
+#[cfg(test)]
+mod tests;
+
+pub use comparing::first_difference;
+pub use counting::code_points;
+pub use skipping::skip_plain;
