@@ -1,0 +1,98 @@
+-- Steps over the pieces of a text.
+use Rattle.std.proofs.Common.{◌≡◌, ℕ, suc, zero, ◌+◌, ◌-◌, ◌<◌, ◌≤◌, List, [], ◌∷◌, ◌++◌, length, get_or, drop, refl, sym, ◌∙◌, ap, arith, Bool, true, false, Some, None, drop-cons, subst, length-append}
+use Rattle.std.specs.Prelude.{◌≢◌, ◌==◌, option_and_then, encode_utf8}
+use Rattle.std.specs.Str.{IsUtf8}
+use Rattle.std.specs.Char.{IsScalar}
+use Rattle.std.proofs.lemmas.Str.{IsUtf8-take, IsUtf8-drop, IsUtf8-append, IsUtf8-encode, IsCharBoundary-before_ascii, IsCharBoundary-after_ascii}
+use Rattle.std.proofs.Math.Seq.{take-append_seam, drop-append-add}
+use Rattle.std.proofs.lemmas.List.{drop-drop, get_or-append-add}
+use Rattle.std.proofs.lemmas.Bool.Decides.{nat_tests}
+use Rattle.cel_tokens.specs.Texts.{content, piece}
+
+ended : (raw : Bool) (quote skip n : ℕ) (said : List ℕ) → content raw quote skip n said [] ≡ None
+unfolding content
+ended raw quote skip n said = refl
+
+past_end : (xs : List ℕ) (n : ℕ) → length xs ≤ n → drop n xs ≡ []
+past_end [] zero h = refl
+past_end [] (suc n) h = refl
+past_end (x ∷ xs) zero h = absurd (omega arith)
+past_end (x ∷ xs) (suc n) h = past_end xs n (omega arith)
+
+pub content_over : (raw : Bool) (quote : ℕ) (said xs : List ℕ) (n : ℕ) → length xs ≤ n → content raw quote 0 n said (drop n xs) ≡ None
+content_over raw quote said xs n h = rw (past_end xs n h) (ended raw quote 0 n said)
+
+skipped : (raw : Bool) (quote skip n : ℕ) (said bs : List ℕ) → skip ≤ length bs → content raw quote skip n said bs ≡ content raw quote 0 (n + skip) said (drop skip bs)
+unfolding content
+skipped raw quote zero n said bs h = let e : n + 0 ≡ n = omega arith in rw e refl
+skipped raw quote (suc skip) n said [] h = absurd (omega arith)
+skipped raw quote (suc skip) n said (b ∷ bs) h =
+    let e : n + 1 + skip ≡ n + suc skip = omega arith in
+    skipped raw quote skip (n + 1) said bs (omega arith) ∙ ap (λ y. content raw quote 0 y said (drop skip bs)) e
+
+closes : (raw : Bool) (quote n b : ℕ) (said bs : List ℕ) → b ≡ quote → content raw quote 0 n said (b ∷ bs) ≡ Some (n + 1, said)
+unfolding content
+closes raw quote n b said bs h = let e : (b == quote) ≡ true = grind (arith, nat_tests) in rw e refl
+
+pub content_closes : (raw : Bool) (quote n : ℕ) (said xs : List ℕ) → n < length xs → get_or xs n 0 ≡ quote → content raw quote 0 n said (drop n xs) ≡ Some (n + 1, said)
+content_closes raw quote n said xs h e =
+    rw (drop-cons xs n 0) (closes raw quote n (get_or xs n 0) said (drop (suc n) xs) e)
+
+goes_on : (raw : Bool) (quote n b : ℕ) (said bs : List ℕ) → b ≢ quote → content raw quote 0 n said (b ∷ bs) ≡ option_and_then (λ x. content raw quote (x.0 - 1) (n + 1) (said ++ x.1) bs) (piece raw (b ∷ bs))
+unfolding content
+goes_on raw quote n b said bs h = let e : (b == quote) ≡ false = grind (arith, nat_tests) in rw e refl
+
+refused_at : (raw : Bool) (quote n b : ℕ) (said bs : List ℕ) → b ≢ quote → piece raw (b ∷ bs) ≡ None → content raw quote 0 n said (b ∷ bs) ≡ None
+refused_at raw quote n b said bs h e =
+    goes_on raw quote n b said bs h ∙ ap (option_and_then (λ x. content raw quote (x.0 - 1) (n + 1) (said ++ x.1) bs)) e
+
+pub content_refused : (raw : Bool) (quote n : ℕ) (said xs : List ℕ) → n < length xs → get_or xs n 0 ≢ quote → piece raw (drop n xs) ≡ None → content raw quote 0 n said (drop n xs) ≡ None
+content_refused raw quote n said xs h d =
+    rw (drop-cons xs n 0) (λ e. refused_at raw quote n (get_or xs n 0) said (drop (suc n) xs) d e)
+
+more_at : (raw : Bool) (quote n b : ℕ) (said bs : List ℕ) (x : ℕ × List ℕ) → b ≢ quote → piece raw (b ∷ bs) ≡ Some x → 1 ≤ x.0 → x.0 ≤ length (b ∷ bs) → content raw quote 0 n said (b ∷ bs) ≡ content raw quote 0 (n + x.0) (said ++ x.1) (drop (x.0 - 1) bs)
+more_at raw quote n b said bs x h e low high =
+    let q : n + 1 + (x.0 - 1) ≡ n + x.0 = omega arith in
+    goes_on raw quote n b said bs h
+    ∙ (ap (option_and_then (λ x. content raw quote (x.0 - 1) (n + 1) (said ++ x.1) bs)) e
+    ∙ (skipped raw quote (x.0 - 1) (n + 1) (said ++ x.1) bs (omega arith) ∙ ap (λ y. content raw quote 0 y (said ++ x.1) (drop (x.0 - 1) bs)) q))
+
+pub content_more : (raw : Bool) (quote n : ℕ) (said xs : List ℕ) (x : ℕ × List ℕ) → n < length xs → get_or xs n 0 ≢ quote → piece raw (drop n xs) ≡ Some x → 1 ≤ x.0 → x.0 ≤ length (drop n xs) → content raw quote 0 n said (drop n xs) ≡ content raw quote 0 (n + x.0) (said ++ x.1) (drop (n + x.0) xs)
+content_more raw quote n said xs x h d e low high =
+    let c = drop-cons xs n 0 h in
+    let q : suc n + (x.0 - 1) ≡ n + x.0 = omega arith in
+    ap (content raw quote 0 n said) c
+    ∙ (more_at raw quote n (get_or xs n 0) said (drop (suc n) xs) x d (ap (piece raw) (sym c) ∙ e) low (subst (λ (ys : List ℕ). x.0 ≤ length ys) c high)
+    ∙ ap (content raw quote 0 (n + x.0) (said ++ x.1)) (drop-drop (x.0 - 1) (suc n) xs ∙ ap (λ y. drop y xs) q))
+
+-- before an ASCII byte a text may be cut
+pub said_utf8 : (said bytes : List ℕ) → IsUtf8 (said ++ bytes) → 0 < length bytes → get_or bytes 0 0 < 128 → IsUtf8 said
+said_utf8 said bytes u l a =
+    let e : get_or (said ++ bytes) (length said + 0) 0 ≡ get_or bytes 0 0 = get_or-append-add said bytes 0 0 in
+    let z : length said + 0 ≡ length said = omega arith in
+    let f : get_or (said ++ bytes) (length said) 0 ≡ get_or bytes 0 0 = ap (λ y. get_or (said ++ bytes) y 0) (sym z) ∙ e in
+    let b = IsCharBoundary-before_ascii (said ++ bytes) (length said) (omega (arith, length-append said bytes)) (omega (arith, f, a)) in
+    subst IsUtf8 (take-append_seam said bytes) (IsUtf8-take (said ++ bytes) (length said) u b)
+
+-- after an ASCII byte too
+pub rest_utf8 : (said bytes : List ℕ) (len : ℕ) → IsUtf8 (said ++ bytes) → len < length bytes → get_or bytes len 0 < 128 → IsUtf8 (drop (len + 1) bytes)
+rest_utf8 said bytes len u l a =
+    let f : get_or (said ++ bytes) (length said + len) 0 ≡ get_or bytes len 0 = get_or-append-add said bytes len 0 in
+    let b = IsCharBoundary-after_ascii (said ++ bytes) (length said + len) u (omega (arith, length-append said bytes)) (omega (arith, f, a)) in
+    let q : length said + len + 1 ≡ length said + (len + 1) = omega arith in
+    subst IsUtf8 (ap (λ y. drop y (said ++ bytes)) q ∙ drop-append-add said bytes (len + 1)) (IsUtf8-drop (said ++ bytes) (length said + len + 1) u b)
+
+-- an escape that ends in an ASCII byte may be put for its code point
+pub escape_utf8 : (said bytes : List ℕ) (code len : ℕ) → IsUtf8 (said ++ bytes) → get_or bytes 0 0 < 128 → len < length bytes → get_or bytes len 0 < 128 → IsScalar code → IsUtf8 ((said ++ encode_utf8 code) ++ drop (len + 1) bytes)
+escape_utf8 said bytes code len u a l z s =
+    IsUtf8-append (said ++ encode_utf8 code) (drop (len + 1) bytes) (IsUtf8-append said (encode_utf8 code) (said_utf8 said bytes u (omega arith) a) (IsUtf8-encode code s)) (rest_utf8 said bytes len u l z)
+
+-- one piece of the loop over a text
+pub piece_step : (raw : Bool) (quote n k : ℕ) (said new rest xs : List ℕ) (x : ℕ × List ℕ) → n < length xs → get_or xs n 0 ≢ quote → rest ≡ drop n xs → Some x ≡ piece raw rest → (1 ≤ x.0) × (x.0 ≤ length rest) → k ≡ x.0 → new ≡ said ++ x.1 → content raw quote 0 (n + k) new (drop (n + k) xs) ≡ content raw quote 0 n said (drop n xs)
+piece_step raw quote n k said new rest xs x h d r e w l a =
+    rw (l, a) (sym (content_more raw quote n said xs x h d (ap (piece raw) (sym r) ∙ sym e) w.0 (subst (λ (ys : List ℕ). x.0 ≤ length ys) r w.1)))
+
+pub utf8_step : (n k : ℕ) (said new rest xs : List ℕ) (x : ℕ × List ℕ) → rest ≡ drop n xs → k ≡ x.0 → new ≡ said ++ x.1 → IsUtf8 ((said ++ x.1) ++ drop x.0 rest) → IsUtf8 (new ++ drop (n + k) xs)
+utf8_step n k said new rest xs x r l a u =
+    let e : (said ++ x.1) ++ drop x.0 rest ≡ new ++ drop (n + k) xs = ap (λ (ys : List ℕ). ys ++ drop x.0 rest) (sym a) ∙ ap (λ (ys : List ℕ). new ++ ys) (ap (drop x.0) r ∙ (drop-drop x.0 n xs ∙ ap (λ y. drop (n + y) xs) (sym l))) in
+    subst IsUtf8 e u

@@ -1,0 +1,46 @@
+-- The definition of what stands at the front, without cases on the text.
+use Rattle.std.proofs.Common.{◌≡◌, ℕ, ◌<◌, ◌≤◌, List, [], ◌∷◌, length, get_or, refl, arith, Bool, true, false}
+use Rattle.std.specs.Prelude.{if◌then◌else◌, nat_lt, ◌==◌}
+use Rattle.std.proofs.lemmas.Bool.Decides.{nat_tests}
+use Rattle.cel_tokens.specs.Bytes.{between}
+use Rattle.std.specs.Str.{IsUtf8}
+use Rattle.std.proofs.Common.{drop}
+use Rattle.cel_tokens.specs.Shown.{IsQuoted, EndsText}
+use Rattle.cel_tokens.proofs.Contents.{rest_utf8}
+use Rattle.cel_tokens.specs.Texts.{opening, opening_len}
+use Rattle.cel_tokens.specs.Front.{front, front_word, over, space}
+
+pub front_nil : (signed : Bool) (xs : List ℕ) → length xs ≤ 0 → front signed xs ≡ over
+unfolding front
+front_nil signed [] h = refl
+front_nil signed (x ∷ xs) h = absurd (omega arith)
+
+pub front_is : (signed : Bool) (xs : List ℕ) → 0 < length xs → front signed xs ≡ (if nat_lt 0 (between false xs) then space (between false xs) else front_word signed (get_or xs 0 0) xs (opening xs))
+unfolding front
+front_is signed [] h = absurd (omega arith)
+front_is signed (x ∷ xs) h = refl
+
+pub front_over : (signed : Bool) (xs : List ℕ) (b : Bool) → b ≡ (length xs == 0) → b ≡ true → front signed xs ≡ over
+front_over signed xs b e t = front_nil signed xs (grind (arith, nat_tests))
+
+pub some_left : (xs : List ℕ) (b : Bool) → b ≡ (length xs == 0) → b ≡ false → 0 < length xs
+some_left xs b e t = grind (arith, nat_tests)
+
+pub front_space : (signed : Bool) (xs : List ℕ) (n : ℕ) → 0 < length xs → n ≡ between false xs → 0 < n → front signed xs ≡ space n
+front_space signed xs n h e l =
+    let t : nat_lt 0 (between false xs) ≡ true = grind (arith, nat_tests) in
+    rw (front_is signed xs h, t, e) refl
+
+pub front_else : (signed : Bool) (xs : List ℕ) (n : ℕ) → 0 < length xs → n ≡ between false xs → n ≤ 0 → front signed xs ≡ front_word signed (get_or xs 0 0) xs (opening xs)
+front_else signed xs n h e l =
+    let t : nat_lt 0 (between false xs) ≡ false = grind (arith, nat_tests) in
+    rw (front_is signed xs h, t) refl
+
+-- what follows the quote of a text literal is UTF-8
+pub opened : (bytes : List ℕ) (raw : Bool) (quote : ℕ) → IsQuoted bytes raw quote → EndsText bytes → IsUtf8 (drop (opening_len raw) bytes)
+opened bytes false quote q u =
+    let e = q.2 in
+    rest_utf8 u.0 bytes 0 u.1 (omega (arith, q.0)) (omega (arith, e, q.1))
+opened bytes true quote q u =
+    let e = q.2 in
+    rest_utf8 u.0 bytes 1 u.1 (omega (arith, q.0)) (omega (arith, e, q.1))

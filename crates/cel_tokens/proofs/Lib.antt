@@ -1,0 +1,9 @@
+pub mod Runs
+pub mod Numbers
+pub mod Escapes
+pub mod Contents
+pub mod Fronts
+pub mod Cutting
+pub mod OneReading
+pub mod NoLonger
+pub mod Marked

@@ -1,0 +1,63 @@
+-- The number that digits spell, kept within 64 bits.
+use Rattle.std.proofs.Common.{◌≡◌, ℕ, suc, zero, ◌+◌, ◌*◌, ◌-◌, ◌^◌, ◌<◌, ◌≤◌, List, [], ◌∷◌, length, get_or, drop, refl, sym, ◌∙◌, arith, drop-cons, Bool, true, false, None}
+use Rattle.std.proofs.Math.Nat.{le-mul_of_pos_right}
+use Rattle.std.proofs.lemmas.Bool.{cases_lt}
+use Rattle.std.specs.Prelude.{min, nat_lt}
+use Rattle.std.proofs.lemmas.Bool.Decides.{nat_tests}
+use mathlib.Core.Logic.{inl, inr}
+use Rattle.std.specs.Char.{digit_value}
+use Rattle.cel_tokens.specs.Ints.{number_from, int_of}
+
+larger : (base n d : ℕ) → 1 ≤ base → n ≤ n * base + d
+larger base n d h = let a = le-mul_of_pos_right {m = base} n (omega arith) in omega (arith, a)
+
+pub number_empty : (base v : ℕ) (xs : List ℕ) (n : ℕ) → length xs ≤ n → number_from base v (drop n xs) ≡ v
+unfolding number_from
+number_empty base v [] zero h = refl
+number_empty base v [] (suc n) h = refl
+number_empty base v (x ∷ xs) zero h = absurd (omega arith)
+number_empty base v (x ∷ xs) (suc n) h = number_empty base v xs n (omega arith)
+
+at_least : (base v : ℕ) (xs : List ℕ) → 1 ≤ base → v ≤ number_from base v xs
+unfolding number_from
+at_least base v [] h = omega arith
+at_least base v (x ∷ xs) h =
+    let a = larger base v (digit_value x) h in
+    let b = at_least base (v * base + digit_value x) xs h in
+    omega (arith, a, b)
+
+kept_small : (base v m : ℕ) (xs : List ℕ) → v ≤ m → min (number_from base (min v m) xs) m ≡ min (number_from base v xs) m
+kept_small base v m xs h = let e : min v m ≡ v = omega arith in rw e refl
+
+kept_large : (base v m : ℕ) (xs : List ℕ) → 1 ≤ base → m ≤ v → min (number_from base (min v m) xs) m ≡ min (number_from base v xs) m
+kept_large base v m xs b h =
+    let e : min v m ≡ m = omega arith in
+    let p = at_least base m xs b in
+    let q = at_least base v xs b in
+    rw e (omega (arith, p, q))
+
+-- digits spell the same below the bound whether what was spelled so far was kept within it or not
+kept : (base v m : ℕ) (xs : List ℕ) → 1 ≤ base → min (number_from base (min v m) xs) m ≡ min (number_from base v xs) m
+kept base v m xs b = elim (cases_lt m v) [ inl h ↦ kept_large base v m xs b (omega arith) | inr h ↦ kept_small base v m xs h ]
+
+step : (base v : ℕ) (xs : List ℕ) (n : ℕ) → n < length xs → number_from base v (drop n xs) ≡ number_from base (v * base + digit_value (get_or xs n 0)) (drop (n + 1) xs)
+unfolding number_from
+step base v xs n h = let q : n + 1 ≡ suc n = omega arith in rw (q, drop-cons xs n 0) refl
+
+pub number_more : (base v m : ℕ) (xs : List ℕ) (n : ℕ) → 1 ≤ base → n < length xs → min (number_from base (min (min (v * base) m + digit_value (get_or xs n 0)) m) (drop (n + 1) xs)) m ≡ min (number_from base v (drop n xs)) m
+number_more base v m xs n b h =
+    let e : min (min (v * base) m + digit_value (get_or xs n 0)) m ≡ min (v * base + digit_value (get_or xs n 0)) m = omega arith in
+    rw (e, step base v xs n h) (kept base (v * base + digit_value (get_or xs n 0)) m (drop (n + 1) xs) b)
+
+not_below : (n : ℕ) → 2 ^ 63 ≤ n → nat_lt n (2 ^ 63) ≡ false
+not_below n h = grind (arith, nat_tests)
+
+none_beyond : (minus : Bool) (n : ℕ) → 2 ^ 64 - 1 ≤ n → int_of minus n ≡ None
+none_beyond false n h = rw (not_below n (omega arith)) refl
+none_beyond true zero h = absurd (omega arith)
+none_beyond true (suc k) h = rw (not_below k (omega arith)) refl
+
+-- an int is the same whether its value was kept within 64 bits or not
+pub kept_int : (minus : Bool) (m : ℕ) → int_of minus (min m (2 ^ 64 - 1)) ≡ int_of minus m
+kept_int minus m =
+    elim (cases_lt m (2 ^ 64)) [ inl h ↦ let e : min m (2 ^ 64 - 1) ≡ m = omega arith in rw e refl | inr h ↦ none_beyond minus (min m (2 ^ 64 - 1)) (omega arith) ∙ sym (none_beyond minus m (omega arith)) ]

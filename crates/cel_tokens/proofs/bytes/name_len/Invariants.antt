@@ -1,0 +1,9 @@
+use Rattle.std.proofs.Common.{◌≡◌, ◌+◌, ◌-◌, ◌≤◌, length, drop}
+use Rattle.cel_tokens.specs.Bytes.{run, is_name_byte}
+use Rattle.cel_tokens.proofs.bytes.name_len.Given as goal
+
+abbrev pub invariant-loop-n : goal.invariant-loop-n
+invariant-loop-n l = record { in_range : l.n ≤ length l.bytes; so_far : l.n + run is_name_byte (drop l.n l.bytes) ≡ run is_name_byte l.bytes }
+
+abbrev pub decreases-loop-n : goal.decreases-loop-n
+decreases-loop-n l = length l.bytes - l.n

@@ -1,0 +1,57 @@
+use Rattle.std.proofs.Common.{ap, arith, length, map, length-drop}
+use Rattle.cel_tokens.specs.Token.{seen}
+use Rattle.cel_tokens.specs.Lexis.Cuts.{over, nothing}
+use Rattle.cel_tokens.proofs.Cutting.{there, ends_text, space_step, token_goes, too_many_words, text_refused, int_refused}
+use Rattle.cel_tokens.proofs.cut.step.Goals as goal
+
+pub front_of-requires-clause-text : goal.front_of-requires-clause-text
+front_of-requires-clause-text c =
+    ends_text c.args.bytes.now c.tail-rest.result.now c.args.at c.requires.text c.tail-rest.ensures
+
+pub returns-in-Over : goal.returns-in-Over
+returns-in-Over c =
+    let s = rw c.in-Over.is at c.in_ok-front_of.ensures.shown in
+    over (there c.args.bytes.now c.tail-rest.result.now c.args.signed c.args.at _ c.tail-rest.ensures s)
+
+pub returns-in-Nothing : goal.returns-in-Nothing
+returns-in-Nothing c =
+    let s = rw c.in-Nothing.is at c.in_ok-front_of.ensures.shown in
+    nothing (there c.args.bytes.now c.tail-rest.result.now c.args.signed c.args.at _ c.tail-rest.ensures s)
+
+pub returns-in-Space : goal.returns-in-Space
+returns-in-Space c =
+    let s = rw c.in-Space.is at c.in_ok-front_of.ensures.shown in
+    let w = rw c.in-Space.is at c.in_ok-front_of.ensures.within in
+    let l = ap length c.tail-rest.ensures in
+    let d = length-drop c.args.at c.args.bytes.now in (
+      omega (arith, w),
+      omega (arith, w, l, d),
+      λ r e. space_step c.args.bytes.now c.args.signed c.args.at c.in-Space.len (map (seen c.args.bytes.now) c.args.out.now.items) r (there c.args.bytes.now c.tail-rest.result.now c.args.signed c.args.at _ c.tail-rest.ensures s) e,
+    )
+
+pub returns-in-WrongText : goal.returns-in-WrongText
+returns-in-WrongText c =
+    let s = rw c.in-WrongText.is at c.in_ok-front_of.ensures.shown in
+    text_refused c.args.bytes.now c.tail-rest.result.now c.args.signed c.args.at c.len.result c.args.out.now.items c.refusal.result c.tail-rest.ensures s (omega (arith, c.len.ensures, c.args.out.now.ok.0)) c.refusal.ensures
+
+pub returns-in-WideInt : goal.returns-in-WideInt
+returns-in-WideInt c =
+    let s = rw c.in-WideInt.is at c.in_ok-front_of.ensures.shown in
+    int_refused c.args.bytes.now c.tail-rest.result.now c.args.signed c.args.at c.in-WideInt.before c.len-in-WideInt.result c.args.out.now.items c.refusal-in-WideInt.result c.tail-rest.ensures s (omega (arith, c.len-in-WideInt.ensures, c.args.out.now.ok.0)) c.refusal-in-WideInt.ensures
+
+pub returns-then-len-ge-MOST_TOKENS : goal.returns-then-len-ge-MOST_TOKENS
+returns-then-len-ge-MOST_TOKENS c =
+    let s = rw c.in-Word.is at c.in_ok-front_of.ensures.shown in
+    too_many_words c.args.bytes.now c.tail-rest.result.now c.args.signed c.args.at c.in-Word.len _ c.args.out.now.items c.tail-rest.ensures s (omega (arith, c.if-len-ge-MOST_TOKENS.true, c.len-in-Word.ensures, c.args.out.now.ok.0))
+
+pub returns-in_ok-next-in-Word : goal.returns-in_ok-next-in-Word
+returns-in_ok-next-in-Word c =
+    let s = rw c.in-Word.is at c.in_ok-front_of.ensures.shown in
+    let w = rw c.in-Word.is at c.in_ok-front_of.ensures.within in
+    let l = ap length c.tail-rest.ensures in
+    let d = length-drop c.args.at c.args.bytes.now in
+    let e = c.in_ok-next-in-Word.ensures in (
+      omega (arith, w, e.next),
+      omega (arith, w, l, d, e.next),
+      λ r k. token_goes c.args.bytes.now c.tail-rest.result.now c.args.signed c.in_ok-next-in-Word.sign c.args.at c.in-Word.len c.in_ok-next-in-Word.next c.in-Word.kind c.args.out.now.items c.add.new.out.items r c.tail-rest.ensures s (omega (arith, c.if-len-ge-MOST_TOKENS.false, c.len-in-Word.ensures, c.args.out.now.ok.0)) e.next e.sign e.added k,
+    )

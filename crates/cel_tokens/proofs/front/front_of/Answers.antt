@@ -1,0 +1,20 @@
+use Rattle.std.proofs.Common.{sym, ◌∙◌, ap, get_or}
+use Rattle.cel_tokens.specs.Front.{front_word}
+use Rattle.cel_tokens.proofs.Fronts.{front_over, some_left, front_space, front_else}
+use Rattle.cel_tokens.proofs.front.front_of.Goals as goal
+
+pub returns-then-is_empty-clause-shown : goal.returns-then-is_empty-clause-shown
+returns-then-is_empty-clause-shown c =
+    sym (front_over c.args.signed c.args.bytes.now c.is_empty.result c.is_empty.ensures c.if-is_empty.true)
+
+pub returns-then-gap-gt0-clause-shown : goal.returns-then-gap-gt0-clause-shown
+returns-then-gap-gt0-clause-shown c =
+    let h = some_left c.args.bytes.now c.is_empty.result c.is_empty.ensures c.if-is_empty.false in
+    sym (front_space c.args.signed c.args.bytes.now c.between-gap.result h c.between-gap.ensures.length c.if-gap-gt0.true)
+
+pub returns-in-None-clause-shown : goal.returns-in-None-clause-shown
+returns-in-None-clause-shown c =
+    let h = some_left c.args.bytes.now c.is_empty.result c.is_empty.ensures c.if-is_empty.false in
+    c.plain.ensures.shown
+    ∙ (ap (front_word c.args.signed (get_or c.args.bytes.now 0 0) c.args.bytes.now) c.in-None.ensures.value
+    ∙ sym (front_else c.args.signed c.args.bytes.now c.between-gap.result h c.between-gap.ensures.length c.if-gap-gt0.false))

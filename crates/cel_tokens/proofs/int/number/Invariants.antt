@@ -1,0 +1,10 @@
+use Rattle.std.proofs.Common.{◌≡◌, ◌-◌, ◌^◌, ◌≤◌, length, drop}
+use Rattle.std.specs.Prelude.{min}
+use Rattle.cel_tokens.specs.Ints.{number, number_from}
+use Rattle.cel_tokens.proofs.int.number.Given as goal
+
+abbrev pub invariant-loop-n : goal.invariant-loop-n
+invariant-loop-n l = record { in_range : l.n ≤ length l.digits; so_far : min (number_from l.base l.value (drop l.n l.digits)) (2 ^ 64 - 1) ≡ min (number l.base l.digits) (2 ^ 64 - 1); small : l.value ≤ 2 ^ 64 - 1 }
+
+abbrev pub decreases-loop-n : goal.decreases-loop-n
+decreases-loop-n l = length l.digits - l.n

@@ -1,0 +1,50 @@
+use Rattle.std.proofs.Common.{◌≡◌, ◌+◌, ◌++◌, get_or, length, drop, arith, sym, ◌∙◌, ap, length-drop, subst}
+use Rattle.std.specs.Str.{IsUtf8}
+use Rattle.cel_tokens.specs.Pieces.{said_by}
+use Rattle.cel_tokens.specs.Texts.{piece}
+use Rattle.cel_tokens.proofs.Contents.{content_over, content_closes, content_refused, piece_step, utf8_step, said_utf8}
+use Rattle.std.proofs.lemmas.List.{get_or-drop}
+use Rattle.cel_tokens.proofs.literal.content.Goals as goal
+
+pub text_of-requires : goal.text_of-requires
+text_of-requires c =
+    let d = length-drop c.loop-n.n c.args.bytes.now in
+    let t = c.loop-n-test.true in
+    let g = get_or-drop c.loop-n.n c.args.bytes.now 0 0 in
+    let e : c.loop-n.n + 0 ≡ c.loop-n.n = omega arith in
+    let z = ap (λ y. get_or c.args.bytes.now y 0) e in
+    said_utf8 c.loop-n.said.items (drop c.loop-n.n c.args.bytes.now) c.loop-n.invariant.utf8 (omega (arith, d, t)) (omega (arith, g, z, c.if-bytes-n.true, c.requires.ascii))
+
+pub returns-then-bytes-n-clause-value : goal.returns-then-bytes-n-clause-value
+returns-then-bytes-n-clause-value c =
+    let e = c.text_of.ensures in
+    rw e (sym (content_closes c.args.raw c.args.quote c.loop-n.n c.loop-n.said.items c.args.bytes.now c.loop-n-test.true c.if-bytes-n.true) ∙ c.loop-n.invariant.so_far)
+
+pub returns-in_default-clause-value : goal.returns-in_default-clause-value
+returns-in_default-clause-value c =
+    let t = c.tail.ensures in
+    let v = c.in_default.ensures.value in
+    sym (content_refused c.args.raw c.args.quote c.loop-n.n c.loop-n.said.items c.args.bytes.now c.loop-n-test.true c.if-bytes-n.false (ap (piece c.args.raw) (sym t) ∙ sym v)) ∙ c.loop-n.invariant.so_far
+
+pub loop-n-preserved : goal.loop-n-preserved
+loop-n-preserved c =
+    let t = c.tail.ensures in
+    let e = c.in-Some.ensures in
+    let w = e.within in
+    let len = c.piece_len-n.ensures in
+    let added = c.in_ok-add.ensures in
+    let d = length-drop c.loop-n.n c.args.bytes.now in
+    let l = ap length t in
+    let p = c.in-Some.piece in
+    let u = e.utf8 c.loop-n.said.items (subst (λ ys. IsUtf8 (c.loop-n.said.items ++ ys)) (sym t) c.loop-n.invariant.utf8) in
+    record {
+      in_range = omega (arith, w, len, d, l);
+      so_far =
+          piece_step c.args.raw c.args.quote c.loop-n.n c.piece_len-n.result c.loop-n.said.items c.add.new.said.items c.tail.result.now c.args.bytes.now (said_by p) c.loop-n-test.true c.if-bytes-n.false t e.value w len added ∙ c.loop-n.invariant.so_far;
+      utf8 =
+          utf8_step c.loop-n.n c.piece_len-n.result c.loop-n.said.items c.add.new.said.items c.tail.result.now c.args.bytes.now (said_by p) t len added u;
+    }
+
+pub returns-clause-value : goal.returns-clause-value
+returns-clause-value c =
+    sym (content_over c.args.raw c.args.quote c.loop-n.said.items c.args.bytes.now c.loop-n.n c.loop-n-test.false) ∙ c.loop-n.invariant.so_far

@@ -1,0 +1,14 @@
+use Rattle.std.proofs.Common.{◌≡◌, ◌-◌, ◌≤◌, ◌++◌, [], length, drop}
+use Rattle.std.specs.Str.{IsUtf8}
+use Rattle.cel_tokens.specs.Texts.{content}
+use Rattle.cel_tokens.proofs.literal.content.Given as goal
+
+abbrev pub invariant-loop-n : goal.invariant-loop-n
+invariant-loop-n l = record {
+  in_range : l.n ≤ length l.bytes;
+  so_far : content l.raw l.quote 0 l.n l.said.items (drop l.n l.bytes) ≡ content l.raw l.quote 0 0 [] l.bytes;
+  utf8 : IsUtf8 (l.said.items ++ drop l.n l.bytes);
+}
+
+abbrev pub decreases-loop-n : goal.decreases-loop-n
+decreases-loop-n l = length l.bytes - l.n

@@ -1,0 +1,71 @@
+-- What stands at the front of a text: its first token, or why there is none.
+use Rattle.std.specs.Prelude.{ℕ, ◌+◌, ℤ, List, [], ◌∷◌, take, drop, Bool, true, false, if◌then◌else◌, ◌==◌, ◌&&◌, nat_lt, Option, Some, None, codes, bytes_eq}
+use Rattle.cel_tokens.specs.declared.mark.Mark.{Mark}
+use Rattle.cel_tokens.specs.declared.mark.Mark.TheVariants.{CloseParen, CloseBracket, CloseBrace}
+use Rattle.cel_tokens.specs.Token.{Word, name, int, text, mark}
+use Rattle.cel_tokens.specs.Bytes.{is_letter, is_name_byte, is_digit_of, run, between}
+use Rattle.cel_tokens.specs.Marks.{mark_at}
+use Rattle.cel_tokens.specs.Ints.{digit_begins, int_at, int_of}
+use Rattle.cel_tokens.specs.Texts.{opening, opening_len, content}
+
+pub data Front : Type 0 where
+  over : Front  -- the text is at its end
+  space : ℕ → Front  -- so many bytes of blanks and comments
+  word : ℕ → Word → Front  -- a token of so many bytes
+  wrong_text : Front  -- a text literal that is not ended, or has a wrong escape
+  wide_int : ℕ → Front  -- so many bytes on, the digits of an int outside 64 bits
+  nothing : Front  -- no token
+
+-- the int whose digits are so many bytes on
+abbrev pub int_front : ℕ → ℕ → Option ℤ → Front
+int_front before len None = wide_int before
+int_front before len (Some z) = word (before + len) (int z)
+
+abbrev pub front_int : Bool → ℕ → List ℕ → Front
+front_int minus before digits = int_front before (int_at digits).0 (int_of minus (int_at digits).1)
+
+abbrev pub front_mark : Option (Mark × ℕ) → Front
+front_mark None = nothing
+front_mark (Some x) = word x.1 (mark x.0)
+
+-- how many bytes stand before the digits that a sign at the front belongs to
+abbrev pub before_digits : List ℕ → ℕ
+before_digits bytes = between false (drop 1 bytes) + 1
+
+-- a sign and its int are at the front
+abbrev pub signed_int_begins : ℕ → List ℕ → Bool
+signed_int_begins b bytes = (b == 45) && digit_begins (drop (before_digits bytes) bytes)
+
+-- a name, an int or a mark
+abbrev pub front_plain : Bool → ℕ → List ℕ → Front
+front_plain signed b bytes =
+    if is_letter b then word (run is_name_byte bytes) (name (take (run is_name_byte bytes) bytes))
+    else (if is_digit_of 10 b then front_int false 0 bytes
+    else (if signed && signed_int_begins b bytes then front_int true (before_digits bytes) (drop (before_digits bytes) bytes)
+    else front_mark (mark_at bytes)))
+
+abbrev pub front_text : ℕ → Option (ℕ × List ℕ) → Front
+front_text before None = wrong_text
+front_text before (Some x) = word (before + x.0) (text x.1)
+
+-- a text literal, else a name, an int or a mark
+abbrev pub front_word : Bool → ℕ → List ℕ → Option (Bool × ℕ) → Front
+front_word signed b bytes None = front_plain signed b bytes
+front_word signed b bytes (Some x) =
+    front_text (opening_len x.0) (content x.0 x.1 0 0 [] (drop (opening_len x.0) bytes))
+
+-- what stands at the front of the text; signed: a minus here may be the sign of an int
+unfoldable pub front : Bool → List ℕ → Front
+front signed [] = over
+front signed (b ∷ bs) =
+    if nat_lt 0 (between false (b ∷ bs)) then space (between false (b ∷ bs)) else front_word signed b (b ∷ bs) (opening (b ∷ bs))
+
+-- after this token a minus may be the sign of an int: it is no identifier but in, no literal and no closing bracket
+abbrev pub sign_may_follow : Word → Bool
+sign_may_follow (name bytes) = bytes_eq bytes (codes "in")
+sign_may_follow (int z) = false
+sign_may_follow (text bytes) = false
+sign_may_follow (mark CloseParen) = false
+sign_may_follow (mark CloseBracket) = false
+sign_may_follow (mark CloseBrace) = false
+sign_may_follow (mark m) = true

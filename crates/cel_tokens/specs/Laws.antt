@@ -1,0 +1,17 @@
+-- The laws of the tokens.
+use Rattle.std.specs.Prelude.{◌≡◌, ◌≤◌, ◌↔◌, ℕ, List, length, Result, Ok}
+use Rattle.cel_tokens.specs.Token.{Lexeme}
+use Rattle.cel_tokens.specs.Lexis.{Lexes, IsTokens}
+use Rattle.cel_tokens.specs.declared.read_error.ReadError.{ReadError}
+
+-- a text ends in one way: in its tokens, or in one refusal
+abbrev pub HasOneEnd : Type 0
+HasOneEnd = (source : List ℕ) (r s : Result (List Lexeme) ReadError) → Lexes source r → Lexes source s → r ≡ s
+
+-- it ends in tokens exactly where it has these tokens and both are within the limits
+abbrev pub EndsInItsTokens : Type 0
+EndsInItsTokens = (source : List ℕ) (lexemes : List Lexeme) → Lexes source (Ok lexemes) ↔ (IsTokens source lexemes × (length source ≤ 65536) × (length lexemes ≤ 4096))
+
+-- a text has one list of tokens
+abbrev pub HasOneReading : Type 0
+HasOneReading = (source : List ℕ) (xs ys : List Lexeme) → IsTokens source xs → IsTokens source ys → xs ≡ ys

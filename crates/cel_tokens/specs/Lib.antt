@@ -1,0 +1,12 @@
+pub mod Token
+pub mod Bytes
+pub mod Marks
+pub mod Ints
+pub mod Texts
+pub mod Pieces
+pub mod Front
+pub mod Shown
+pub mod Lexis
+pub mod Steps
+pub mod Laws
+pub mod Longest

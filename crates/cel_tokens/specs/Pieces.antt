@@ -1,0 +1,9 @@
+-- The pieces of a text, as the code holds them.
+use Rattle.std.specs.Prelude.{ℕ, ◌+◌, List, [], ◌∷◌, encode_utf8}
+use Rattle.cel_tokens.specs.declared.literal.Piece.{Piece}
+use Rattle.cel_tokens.specs.declared.literal.Piece.TheVariants.{Byte, Escape}
+
+-- how many bytes a piece takes, and what it says
+abbrev pub said_by : Piece → ℕ × List ℕ
+said_by (Byte b) = (1, b ∷ [])
+said_by (Escape code len) = (len + 1, encode_utf8 code)

@@ -1,0 +1,33 @@
+-- What the code finds at the front of a text, as the definitions say it.
+use Rattle.std.specs.Prelude.{◌≡◌, ℕ, ◌-◌, ◌<◌, ◌≤◌, List, ◌++◌, take, length, get_or, Bool}
+use Rattle.std.specs.Str.{IsUtf8}
+use Rattle.cel_tokens.specs.Token.{word_of}
+use Rattle.cel_tokens.specs.Texts.{opening_len}
+use Rattle.cel_tokens.specs.Front as front
+use Rattle.cel_tokens.specs.declared.front.Front.{Front}
+use Rattle.cel_tokens.specs.declared.front.Front.TheVariants.{Over, Space, Word, WrongText, WideInt, Nothing}
+
+abbrev pub shown : List ℕ → Front → front.Front
+shown bytes Over = front.over
+shown bytes (Space n) = front.space n
+shown bytes (Word n kind) = front.word n (word_of (take n bytes) kind)
+shown bytes WrongText = front.wrong_text
+shown bytes (WideInt n) = front.wide_int n
+shown bytes Nothing = front.nothing
+
+-- what is found is within a text of this length, and takes some of it
+abbrev pub IsWithin : ℕ → Front → Type 0
+IsWithin len Over = Unit {0}
+IsWithin len (Space n) = (1 ≤ n) × (n ≤ len)
+IsWithin len (Word n kind) = (1 ≤ n) × (n ≤ len)
+IsWithin len WrongText = Unit {0}
+IsWithin len (WideInt n) = n ≤ len
+IsWithin len Nothing = Unit {0}
+
+-- the bytes are the end of a text
+abbrev pub EndsText : List ℕ → Type 0
+EndsText bytes = (before : List ℕ) × IsUtf8 (before ++ bytes)
+
+-- a text literal begins with this quote
+abbrev pub IsQuoted : List ℕ → Bool → ℕ → Type 0
+IsQuoted bytes raw quote = (opening_len raw ≤ length bytes) × (quote < 128) × (get_or bytes (opening_len raw - 1) 0 ≡ quote)

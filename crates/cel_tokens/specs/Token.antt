@@ -1,0 +1,40 @@
+-- What a token is, as plain data.
+use Rattle.std.specs.Prelude.{ℕ, ◌-◌, ℤ, List, [], take, drop, Option, Some, None, string_bytes}
+use Rattle.cel_tokens.specs.Marks.{mark_of}
+use Rattle.cel_tokens.specs.declared.mark.Mark.{Mark}
+use Rattle.cel_tokens.specs.declared.kind.Kind.{Kind}
+use Rattle.cel_tokens.specs.declared.kind.Kind.TheVariants.{Name, Int, Text, Mark as OfMark}
+use Rattle.cel_tokens.specs.declared.token.Token.{Token}
+
+-- a name, by its bytes; an int; a text, by its bytes in UTF-8 with the escapes resolved; an operator or a bracket
+pub data Word : Type 0 where
+  name : List ℕ → Word
+  int : ℤ → Word
+  text : List ℕ → Word
+  mark : Mark → Word
+
+-- a word and the bytes of the text that it takes, from the place to before the end
+pub record Lexeme : Type 0 where
+  pub place : ℕ
+  pub end : ℕ
+  pub word : Word
+
+-- a mark; bytes that are none, which no token of this kind has, would be an empty text
+abbrev pub mark_word : Option Mark → Word
+mark_word (Some m) = mark m
+mark_word None = text []
+
+-- the word that the code's kind stands for, of a token with these bytes
+abbrev pub word_of : List ℕ → Kind → Word
+word_of bytes Name = name bytes
+word_of bytes (Int z) = int z
+word_of bytes (Text s) = text (string_bytes s)
+word_of bytes OfMark = mark_word (mark_of bytes)
+
+-- what the code's token stands for in this text
+abbrev pub seen : List ℕ → Token → Lexeme
+seen source t = record {
+  place = t.place;
+  end = t.end;
+  word = word_of (take (t.end - t.place) (drop t.place source)) t.kind;
+}

@@ -1,0 +1,137 @@
+//! The cutting of a text into its tokens.
+
+ghost use Rattle.std.specs.Prelude.{◌≡◌, ◌≤◌, ◌<◌, length, List, ℕ, take, IfOk, OnOk, ◌+◌, ◌++◌, ◌∷◌, []};
+ghost use Rattle.std.specs.Str.{IsUtf8};
+ghost use Rattle.cel_tokens.specs.Token.{word_of};
+ghost use Rattle.cel_tokens.specs.Front as fronts;
+ghost use Rattle.cel_tokens.specs.Lexis.{Answers};
+ghost use Rattle.cel_tokens.specs.Steps.{Steps, CutsTo, refusal_of};
+
+use crate::bytes::tail;
+use crate::front::{Front, front_of};
+use crate::kind::Kind;
+use crate::mark::{Mark, mark_of};
+use crate::read_error::ReadError;
+use crate::token::Token;
+use std::alloc::{AllocError, Global};
+
+/// The most bytes of a text.
+const MOST_BYTES: usize = 65_536;
+
+/// The most tokens of a text.
+const MOST_TOKENS: usize = 4_096;
+
+/// Whether a minus after this token, of these bytes, may be the sign of an int.
+fn sign_may_follow(bytes: &[u8], kind: &Kind) -> bool
+    ensures { result ≡ fronts.sign_may_follow (word_of bytes.now kind.now) }
+{
+    match kind {
+        Kind::Name => bytes == b"in".as_slice(),
+        Kind::Int(_) | Kind::Text(_) => false,
+        Kind::Mark => match mark_of(bytes) {
+            Some(Mark::CloseParen | Mark::CloseBracket | Mark::CloseBrace) | None => false,
+            Some(_) => true,
+        },
+    }
+}
+
+/// The refusal of what begins at this place, after so many tokens.
+fn refusal(count: usize, at: usize, cause: ReadError) -> ReadError
+    ensures { result ≡ refusal_of count at cause }
+{
+    if count >= MOST_TOKENS {
+        ReadError::P6(at)
+    } else {
+        cause
+    }
+}
+
+/// Appends the token of so many bytes that begins at this place. Gives the place after it, and
+/// whether a sign may stand there.
+fn add(
+    out: &mut Vec<Token>,
+    rest: &[u8],
+    at: usize,
+    len: usize,
+    kind: Kind,
+) -> Result<(usize, bool), AllocError>
+    requires within { len ≤ length rest.now }
+    requires short { at + len ≤ 65536 }
+    ensures next { IfOk result (λ x. x.0 ≡ at + len) }
+    ensures sign { IfOk result (λ x. x.1 ≡ fronts.sign_may_follow (word_of (take len rest.now) kind)) }
+    ensures added { OnOk result (out.new.items ≡ out.old.items ++ (record { place = at; end = at + len; kind = kind }) ∷ []) }
+{
+    let end = at + len;
+    let sign = sign_may_follow(&rest[..len], &kind);
+    out.push(Token {
+        place: at,
+        end,
+        kind,
+    })?;
+    Ok((end, sign))
+}
+
+/// Reads on from a place: appends the token that begins there, or passes what stands before it.
+/// Gives the next place, and whether a sign may stand there, or `None` at the text's end.
+fn step(
+    out: &mut Vec<Token>,
+    bytes: &[u8],
+    at: usize,
+    signed: bool,
+) -> Result<Option<(usize, bool)>, ReadError>
+    requires text { IsUtf8 bytes.now }
+    requires short { length bytes.now ≤ 65536 }
+    requires place { at ≤ length bytes.now }
+    ensures { Steps bytes.now signed at out.old.items out.new.items result }
+{
+    let alloc = *out.allocator();
+    let rest = tail(bytes, at);
+    match front_of(alloc, rest, signed)? {
+        Front::Over => Ok(None),
+        Front::Space(len) => Ok(Some((at + len, signed))),
+        Front::Nothing => Err(ReadError::P1(at)),
+        Front::WrongText => Err(refusal(out.len(), at, ReadError::P2(at))),
+        Front::WideInt(before) => Err(refusal(out.len(), at, ReadError::P3(at + before))),
+        Front::Word(len, kind) => {
+            if out.len() >= MOST_TOKENS {
+                return Err(ReadError::P6(at));
+            }
+            let (next, sign) = add(out, rest, at, len, kind)?;
+            Ok(Some((next, sign)))
+        }
+    }
+}
+
+/// The tokens of the text.
+fn cut(alloc: Global, bytes: &[u8]) -> Result<Vec<Token>, ReadError>
+    requires text { IsUtf8 bytes.now }
+    requires short { length bytes.now ≤ 65536 }
+    ensures { CutsTo bytes.now result }
+{
+    let mut out = Vec::new(alloc);
+    let mut at = 0;
+    let mut signed = true;
+    loop {
+        match step(&mut out, bytes, at, signed) {
+            Ok(Some((next, sign))) => {
+                at = next;
+                signed = sign;
+            }
+            Ok(None) => return Ok(out),
+            Err(error) => return Err(error),
+        }
+    }
+}
+
+/// The tokens of the text. Else the error says the first cause from the left why it has none: P1,
+/// P2 or P3 at its place, or P6 at the 4,097th token; a text above 65,536 bytes is P6 at byte
+/// 65,536 before it is read. (cel-spec, lexis)
+pub fn tokens(alloc: Global, text: &str) -> Result<Vec<Token>, ReadError>
+    ensures answers { Answers text.now result }
+{
+    let bytes = text.as_bytes();
+    if bytes.len() > MOST_BYTES {
+        return Err(ReadError::P6(MOST_BYTES));
+    }
+    cut(alloc, bytes)
+}

@@ -1,0 +1,24 @@
+//! The tokens of a CEL expression: its text is cut, from the left, into the longest token at each
+//! place.
+#![tactic(auto)]
+
+mod bytes;
+mod cut;
+mod escape;
+mod front;
+mod int;
+mod kind;
+mod laws;
+mod literal;
+mod mark;
+mod read_error;
+#[cfg(test)]
+mod tests;
+mod token;
+
+pub use cut::tokens;
+pub use kind::Kind;
+pub use laws::{longest, one_reading};
+pub use mark::Mark;
+pub use read_error::ReadError;
+pub use token::Token;
