@@ -1,5 +1,9 @@
 pub mod Bytes
 pub mod Families
+pub mod Hex
 pub mod Named
+pub mod Numerals
+pub mod Quiet
 pub mod Ranges
 pub mod Spelled
+pub mod Statements

@@ -4,4 +4,7 @@ pub mod Slots
 pub mod Spelling
 pub mod Candidate
 pub mod Spelled
+pub mod Lines
+pub mod Statements
+pub mod StatementLaws
 pub mod Rows

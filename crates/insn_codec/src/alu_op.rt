@@ -1,4 +1,7 @@
-ghost use Rattle.std.specs.Prelude.{◌≡◌};
+ghost use Rattle.std.specs.Prelude.{◌≡◌, Some};
+ghost use Rattle.insn_codec.specs.Lines.{alu_text};
+
+use std::fmt;
 
 /// What an arithmetic instruction writes to its destination (RFC 9669, section 4.1).
 #[derive(Clone, Copy, Debug, PartialEq, Eq)]
@@ -87,6 +90,29 @@ impl AluOp {
         match self {
             AluOp::Sdiv | AluOp::Smod => 1,
             _ => 0,
+        }
+    }
+}
+
+impl fmt::Display for AluOp {
+    ghost output = { λ x. Some (alu_text x) };
+
+    fn fmt<W: fmt::Write>(&self, f: &mut fmt::Formatter<W>) -> fmt::Result {
+        match self {
+            AluOp::Add => write!(f, "add"),
+            AluOp::Sub => write!(f, "sub"),
+            AluOp::Mul => write!(f, "mul"),
+            AluOp::Div => write!(f, "div"),
+            AluOp::Sdiv => write!(f, "sdiv"),
+            AluOp::Or => write!(f, "or"),
+            AluOp::And => write!(f, "and"),
+            AluOp::Lsh => write!(f, "lsh"),
+            AluOp::Rsh => write!(f, "rsh"),
+            AluOp::Mod => write!(f, "mod"),
+            AluOp::Smod => write!(f, "smod"),
+            AluOp::Xor => write!(f, "xor"),
+            AluOp::Mov => write!(f, "mov"),
+            AluOp::Arsh => write!(f, "arsh"),
         }
     }
 }

@@ -1,4 +1,7 @@
-ghost use Rattle.std.specs.Prelude.{◌≡◌};
+ghost use Rattle.std.specs.Prelude.{◌≡◌, Some};
+ghost use Rattle.insn_codec.specs.Lines.{order_text};
+
+use std::fmt;
 
 /// How a byte order instruction orders the bytes of its destination (RFC 9669, section 4.2).
 #[derive(Clone, Copy, Debug, PartialEq, Eq)]
@@ -34,6 +37,18 @@ impl ByteOrder {
             ByteOrder::Little => 0xd4,
             ByteOrder::Big => 0xdc,
             ByteOrder::Swap => 0xd7,
+        }
+    }
+}
+
+impl fmt::Display for ByteOrder {
+    ghost output = { λ x. Some (order_text x) };
+
+    fn fmt<W: fmt::Write>(&self, f: &mut fmt::Formatter<W>) -> fmt::Result {
+        match self {
+            ByteOrder::Little => write!(f, "le"),
+            ByteOrder::Big => write!(f, "be"),
+            ByteOrder::Swap => write!(f, "swap"),
         }
     }
 }

@@ -1,4 +1,7 @@
-ghost use Rattle.std.specs.Prelude.{◌≡◌};
+ghost use Rattle.std.specs.Prelude.{◌≡◌, Some};
+ghost use Rattle.insn_codec.specs.Lines.{comparison_text};
+
+use std::fmt;
 
 /// When a branch is taken, of the destination and the operand (RFC 9669, section 4.3).
 #[derive(Clone, Copy, Debug, PartialEq, Eq)]
@@ -66,6 +69,26 @@ impl Comparison {
             Comparison::Le => 0xb,
             Comparison::Slt => 0xc,
             Comparison::Sle => 0xd,
+        }
+    }
+}
+
+impl fmt::Display for Comparison {
+    ghost output = { λ x. Some (comparison_text x) };
+
+    fn fmt<W: fmt::Write>(&self, f: &mut fmt::Formatter<W>) -> fmt::Result {
+        match self {
+            Comparison::Eq => write!(f, "jeq"),
+            Comparison::Gt => write!(f, "jgt"),
+            Comparison::Ge => write!(f, "jge"),
+            Comparison::Set => write!(f, "jset"),
+            Comparison::Ne => write!(f, "jne"),
+            Comparison::Sgt => write!(f, "jsgt"),
+            Comparison::Sge => write!(f, "jsge"),
+            Comparison::Lt => write!(f, "jlt"),
+            Comparison::Le => write!(f, "jle"),
+            Comparison::Slt => write!(f, "jslt"),
+            Comparison::Sle => write!(f, "jsle"),
         }
     }
 }

@@ -1,6 +1,8 @@
-ghost use Rattle.std.specs.Prelude.{◌≡◌};
+ghost use Rattle.std.specs.Prelude.{◌≡◌, Some};
+ghost use Rattle.insn_codec.specs.Lines.{extension_text};
 
 use crate::width::Width;
+use std::fmt;
 
 /// What a sign-extending move takes from the source and fills in the destination (RFC 9669, section 4.1).
 #[derive(Clone, Copy, Debug, PartialEq, Eq)]
@@ -52,6 +54,20 @@ impl Extension {
         match self {
             Extension::From8To32 | Extension::From16To32 => Width::W32,
             Extension::From8To64 | Extension::From16To64 | Extension::From32To64 => Width::W64,
+        }
+    }
+}
+
+impl fmt::Display for Extension {
+    ghost output = { λ x. Some (extension_text x) };
+
+    fn fmt<W: fmt::Write>(&self, f: &mut fmt::Formatter<W>) -> fmt::Result {
+        match self {
+            Extension::From8To32 => write!(f, "8to32"),
+            Extension::From16To32 => write!(f, "16to32"),
+            Extension::From8To64 => write!(f, "8to64"),
+            Extension::From16To64 => write!(f, "16to64"),
+            Extension::From32To64 => write!(f, "32to64"),
         }
     }
 }

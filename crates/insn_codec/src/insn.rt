@@ -1,16 +1,21 @@
-ghost use Rattle.std.specs.Prelude.{◌≡◌, ◌*◌, length};
+ghost use Rattle.std.specs.Prelude.{◌≡◌, ◌*◌, length, Some};
+ghost use Rattle.insn_codec.specs.Lines.{line_text};
 
 use crate::alu_op::AluOp;
 use crate::byte_order::ByteOrder;
 use crate::comparison::Comparison;
 use crate::extension::Extension;
+use crate::number_text::NumberText;
+use crate::offset_text::OffsetText;
 use crate::operand::Operand;
 use crate::register::Register;
 use crate::signed_size::SignedSize;
 use crate::size::Size;
 use crate::slot::Slot;
 use crate::swap_width::SwapWidth;
+use crate::wide_text::WideText;
 use crate::width::Width;
+use std::fmt;
 
 /// An instruction of the machine (RFC 9669, sections 4 and 5).
 #[derive(Clone, Copy, Debug, PartialEq, Eq)]
@@ -229,4 +234,95 @@ impl Insn {
     pub fn in_range(self)
         ensures { IsInsn self }
     {}
+}
+
+/// The instruction's line: its mnemonic and its operands.
+impl fmt::Display for Insn {
+    ghost output = { λ i. Some (line_text i) };
+
+    fn fmt<W: fmt::Write>(&self, f: &mut fmt::Formatter<W>) -> fmt::Result {
+        match *self {
+            Insn::Alu {
+                op,
+                width,
+                dst,
+                operand,
+            } => write!(f, "{op}{width} {dst}, {operand}"),
+            Insn::Neg { width, dst } => write!(f, "neg{width} {dst}"),
+            Insn::SignExtend {
+                extension,
+                dst,
+                src,
+            } => write!(f, "movsx{extension} {dst}, {src}"),
+            Insn::ByteSwap { order, width, dst } => write!(f, "{order}{width} {dst}"),
+            Insn::Jump { offset } => {
+                let offset = OffsetText(offset as i32);
+                write!(f, "ja {offset}")
+            }
+            Insn::JumpLong { offset } => {
+                let offset = OffsetText(offset);
+                write!(f, "ja32 {offset}")
+            }
+            Insn::Branch {
+                comparison,
+                width,
+                dst,
+                operand,
+                offset,
+            } => {
+                let offset = OffsetText(offset as i32);
+                write!(f, "{comparison}{width} {dst}, {operand}, {offset}")
+            }
+            Insn::Call { helper } => {
+                let helper = NumberText(helper);
+                write!(f, "call {helper}")
+            }
+            Insn::CallLocal { offset } => {
+                let offset = OffsetText(offset);
+                write!(f, "call_local {offset}")
+            }
+            Insn::Exit => write!(f, "exit"),
+            Insn::Load {
+                size,
+                dst,
+                src,
+                offset,
+            } => {
+                let offset = OffsetText(offset as i32);
+                write!(f, "ldx{size} {dst}, [{src}{offset}]")
+            }
+            Insn::LoadSigned {
+                size,
+                dst,
+                src,
+                offset,
+            } => {
+                let offset = OffsetText(offset as i32);
+                write!(f, "ldxs{size} {dst}, [{src}{offset}]")
+            }
+            Insn::StoreImm {
+                size,
+                dst,
+                offset,
+                imm,
+            } => {
+                let offset = OffsetText(offset as i32);
+                let imm = NumberText(imm);
+                write!(f, "st{size} [{dst}{offset}], {imm}")
+            }
+            Insn::Store {
+                size,
+                dst,
+                offset,
+                src,
+            } => {
+                let offset = OffsetText(offset as i32);
+                write!(f, "stx{size} [{dst}{offset}], {src}")
+            }
+            Insn::LoadWide { dst, value } => {
+                let value = WideText(value);
+                write!(f, "lddw {dst}, {value}")
+            }
+        }
+    }
 }

@@ -8,14 +8,21 @@ mod codec;
 mod comparison;
 mod extension;
 mod insn;
+#[cfg(test)]
+mod line_tests;
+mod number_text;
+mod offset_text;
 mod operand;
 mod register;
 mod signed_size;
 mod size;
 mod slot;
+mod statement;
+mod statement_laws;
 mod swap_width;
 #[cfg(test)]
 mod tests;
+mod wide_text;
 mod width;
 
 pub use alu_op::AluOp;
@@ -28,5 +35,7 @@ pub use operand::Operand;
 pub use register::Register;
 pub use signed_size::SignedSize;
 pub use size::Size;
+pub use statement::Statement;
+pub use statement_laws::{no_line_feed, statement_is_spelled};
 pub use swap_width::SwapWidth;
 pub use width::Width;

@@ -1,7 +1,10 @@
-ghost use Rattle.std.specs.Prelude.{◌≡◌};
+ghost use Rattle.std.specs.Prelude.{◌≡◌, Some};
+ghost use Rattle.insn_codec.specs.Lines.{operand_text};
 
+use crate::number_text::NumberText;
 use crate::register::Register;
 use crate::slot::Slot;
+use std::fmt;
 
 /// The second operand of an instruction (RFC 9669, section 4).
 #[derive(Clone, Copy, Debug, PartialEq, Eq)]
@@ -53,6 +56,20 @@ impl Operand {
         match self {
             Operand::Imm(imm) => imm,
             Operand::Reg(_) => 0,
+        }
+    }
+}
+
+impl fmt::Display for Operand {
+    ghost output = { λ x. Some (operand_text x) };
+
+    fn fmt<W: fmt::Write>(&self, f: &mut fmt::Formatter<W>) -> fmt::Result {
+        match self {
+            Operand::Imm(imm) => {
+                let imm = NumberText(*imm);
+                write!(f, "{imm}")
+            }
+            Operand::Reg(register) => write!(f, "{register}"),
         }
     }
 }

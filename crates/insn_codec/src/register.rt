@@ -1,4 +1,7 @@
-ghost use Rattle.std.specs.Prelude.{◌≡◌};
+ghost use Rattle.std.specs.Prelude.{◌≡◌, Some};
+ghost use Rattle.insn_codec.specs.Lines.{register_text};
+
+use std::fmt;
 
 /// One of the machine's eleven registers, each of 64 bits, by its number in a slot (RFC 9669, section 3).
 #[derive(Clone, Copy, Debug, PartialEq, Eq)]
@@ -44,5 +47,25 @@ impl Register {
         ensures { result ≡ register_number self }
     {
         self as u8
+    }
+}
+
+impl fmt::Display for Register {
+    ghost output = { λ x. Some (register_text x) };
+
+    fn fmt<W: fmt::Write>(&self, f: &mut fmt::Formatter<W>) -> fmt::Result {
+        match self {
+            Register::R0 => write!(f, "r0"),
+            Register::R1 => write!(f, "r1"),
+            Register::R2 => write!(f, "r2"),
+            Register::R3 => write!(f, "r3"),
+            Register::R4 => write!(f, "r4"),
+            Register::R5 => write!(f, "r5"),
+            Register::R6 => write!(f, "r6"),
+            Register::R7 => write!(f, "r7"),
+            Register::R8 => write!(f, "r8"),
+            Register::R9 => write!(f, "r9"),
+            Register::R10 => write!(f, "r10"),
+        }
     }
 }

@@ -1,4 +1,7 @@
-ghost use Rattle.std.specs.Prelude.{◌≡◌};
+ghost use Rattle.std.specs.Prelude.{◌≡◌, Some};
+ghost use Rattle.insn_codec.specs.Lines.{signed_size_text};
+
+use std::fmt;
 
 /// How many bytes a sign-extending load reads (RFC 9669, section 5.2).
 #[derive(Clone, Copy, Debug, PartialEq, Eq)]
@@ -34,6 +37,18 @@ impl SignedSize {
             SignedSize::W => 0,
             SignedSize::H => 1,
             SignedSize::B => 2,
+        }
+    }
+}
+
+impl fmt::Display for SignedSize {
+    ghost output = { λ x. Some (signed_size_text x) };
+
+    fn fmt<W: fmt::Write>(&self, f: &mut fmt::Formatter<W>) -> fmt::Result {
+        match self {
+            SignedSize::B => write!(f, "b"),
+            SignedSize::H => write!(f, "h"),
+            SignedSize::W => write!(f, "w"),
         }
     }
 }

@@ -1,4 +1,7 @@
-ghost use Rattle.std.specs.Prelude.{◌≡◌};
+ghost use Rattle.std.specs.Prelude.{◌≡◌, Some};
+ghost use Rattle.insn_codec.specs.Lines.{size_text};
+
+use std::fmt;
 
 /// How many bytes a load or a store moves (RFC 9669, section 5).
 #[derive(Clone, Copy, Debug, PartialEq, Eq)]
@@ -38,6 +41,19 @@ impl Size {
             Size::H => 1,
             Size::B => 2,
             Size::Dw => 3,
+        }
+    }
+}
+
+impl fmt::Display for Size {
+    ghost output = { λ x. Some (size_text x) };
+
+    fn fmt<W: fmt::Write>(&self, f: &mut fmt::Formatter<W>) -> fmt::Result {
+        match self {
+            Size::B => write!(f, "b"),
+            Size::H => write!(f, "h"),
+            Size::W => write!(f, "w"),
+            Size::Dw => write!(f, "dw"),
         }
     }
 }

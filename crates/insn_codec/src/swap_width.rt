@@ -1,4 +1,7 @@
-ghost use Rattle.std.specs.Prelude.{◌≡◌};
+ghost use Rattle.std.specs.Prelude.{◌≡◌, Some};
+ghost use Rattle.insn_codec.specs.Lines.{swap_text};
+
+use std::fmt;
 
 /// How many low bits a byte order instruction orders (RFC 9669, section 4.2); the others become 0.
 #[derive(Clone, Copy, Debug, PartialEq, Eq)]
@@ -34,6 +37,18 @@ impl SwapWidth {
             SwapWidth::Bits16 => 16,
             SwapWidth::Bits32 => 32,
             SwapWidth::Bits64 => 64,
+        }
+    }
+}
+
+impl fmt::Display for SwapWidth {
+    ghost output = { λ x. Some (swap_text x) };
+
+    fn fmt<W: fmt::Write>(&self, f: &mut fmt::Formatter<W>) -> fmt::Result {
+        match self {
+            SwapWidth::Bits16 => write!(f, "16"),
+            SwapWidth::Bits32 => write!(f, "32"),
+            SwapWidth::Bits64 => write!(f, "64"),
         }
     }
 }

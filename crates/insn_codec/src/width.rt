@@ -1,4 +1,7 @@
-ghost use Rattle.std.specs.Prelude.{◌≡◌};
+ghost use Rattle.std.specs.Prelude.{◌≡◌, Some};
+ghost use Rattle.insn_codec.specs.Lines.{width_text};
+
+use std::fmt;
 
 /// How many bits of its operands an instruction computes on.
 #[derive(Clone, Copy, Debug, PartialEq, Eq)]
@@ -29,6 +32,17 @@ impl Width {
         match self {
             Width::W32 => 6,
             Width::W64 => 5,
+        }
+    }
+}
+
+impl fmt::Display for Width {
+    ghost output = { λ x. Some (width_text x) };
+
+    fn fmt<W: fmt::Write>(&self, f: &mut fmt::Formatter<W>) -> fmt::Result {
+        match self {
+            Width::W32 => write!(f, "32"),
+            Width::W64 => write!(f, "64"),
         }
     }
 }

@@ -1,0 +1,3 @@
+pub mod Words
+pub mod Going
+pub mod One

@@ -1,0 +1,17 @@
+use Rattle.std.proofs.Common.{refl}
+use Rattle.insn_codec.specs.Candidate.{arithmetic_at, branch_at, candidate_at, jump_at, memory_at, wide_at}
+use Rattle.insn_codec.specs.Lines.{decimal, hex_digits}
+use Rattle.insn_codec.specs.Spelled.{spelled}
+use Rattle.insn_codec.specs.Statements.{statement_of}
+use Rattle.insn_codec.specs.Statements.Lists.{ended, place}
+use Rattle.disassembler.proofs.laws.rows_stand.Goals as goal
+
+pub returns : goal.returns
+unfolding statement_of spelled candidate_at arithmetic_at jump_at branch_at memory_at wide_at decimal hex_digits
+returns c = record {
+  no_code = record { statements = _; lists = ended; text_is = refl };
+  mov_and_exit = record { statements = _; lists = place (place ended); text_is = refl };
+  half_a_wide_load = record { statements = _; lists = place ended; text_is = refl };
+  jump_into_a_wide_load = record { statements = _; lists = place (place (place ended)); text_is = refl };
+  inside_a_wide_load = refl;
+}

@@ -1,0 +1,10 @@
+use Rattle.std.proofs.Common.{◌≡◌, ℕ, ◌%◌, List, ◌++◌, length, string_bytes}
+use Rattle.insn_codec.specs.Statements.{Listing}
+use Rattle.disassembler.proofs.lines.listing.Given as goal
+
+-- whatever lists the rest, behind the text so far, lists the code
+abbrev pub invariant-statements : goal.invariant-statements
+invariant-statements l = (length l.rest % 8 ≡ 0) × ((more : List ℕ) → Listing l.rest more → Listing l.code (string_bytes l.text ++ more))
+
+abbrev pub decreases-statements : goal.decreases-statements
+decreases-statements l = length l.rest

@@ -1,0 +1,13 @@
+//! Laws of listings, each the clause of a function that does nothing.
+ghost use Rattle.disassembler.specs.Laws.{OneListing};
+ghost use Rattle.disassembler.specs.Rows.{RowsStand};
+
+/// Each code has exactly one listing.
+pub fn one_listing()
+    ensures { OneListing }
+{}
+
+/// Listings that were made by hand.
+pub fn rows_stand()
+    ensures { RowsStand }
+{}

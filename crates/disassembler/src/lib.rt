@@ -1,0 +1,13 @@
+//! Machine code as text: its listing, and single lines of it.
+#![tactic(auto)]
+
+mod dis_error;
+mod front;
+mod laws;
+mod lines;
+#[cfg(test)]
+mod tests;
+
+pub use dis_error::DisError;
+pub use laws::{one_listing, rows_stand};
+pub use lines::{line_at, listing};

@@ -1,0 +1,57 @@
+-- Lines that stand for code, and the listing of code.
+use Rattle.std.specs.Prelude.{◌≡◌, ℕ, ◌*◌, ◌^◌, ◌<◌, List, [], ◌∷◌, ◌++◌, codes, take, drop, Option, Some, None}
+use Rattle.std.specs.Int.{w64, to_be_bytes, from_be_bytes}
+use Rattle.insn_codec.specs.Lines.{line_text, wide_text}
+use Rattle.insn_codec.specs.Spelled.{spelled}
+use Rattle.insn_codec.specs.Spelling.{IsInsn, slot_count, spelling}
+use Rattle.insn_codec.specs.declared.insn.Insn.{Insn as Instruction}
+use Rattle.insn_codec.specs.declared.statement.Statement.{Statement}
+use Rattle.insn_codec.specs.declared.statement.Statement.TheVariants.{Insn, Slot}
+
+-- the line of a statement: that of the instruction, or `.slot` and the slot's bytes as 16 digits
+abbrev pub statement_text : Statement → List ℕ
+statement_text (Insn i) = line_text i
+statement_text (Slot word) = codes ".slot " ++ wide_text word
+
+-- the bytes that a statement stands for
+abbrev pub statement_bytes : Statement → List ℕ
+statement_bytes (Insn i) = spelling i
+statement_bytes (Slot word) = to_be_bytes w64 word
+
+-- how many slots it stands for
+abbrev pub statement_slots : Statement → ℕ
+statement_slots (Insn i) = slot_count i
+statement_slots (Slot word) = 1
+
+-- its numbers are in the ranges of their types
+abbrev pub IsStatement : Statement → Type 0
+IsStatement (Insn i) = IsInsn i
+IsStatement (Slot word) = word < 2 ^ 64
+
+abbrev pub insn_or_slot : Option Instruction → List ℕ → Statement
+insn_or_slot (Some i) code = Insn i
+insn_or_slot None code = Slot (from_be_bytes w64 (take 8 code))
+
+-- what stands at the front of code: the instruction that its slots spell, else its first slot
+unfoldable pub statement_of : List ℕ → Statement
+statement_of code = insn_or_slot (spelled (take 16 code)) code
+
+-- the code after the statement at its front
+abbrev pub after_statement : List ℕ → List ℕ
+after_statement code = drop (8 * statement_slots (statement_of code)) code
+
+-- the statements of code, one at each place from its front on
+pub data Lists : List ℕ → List Statement → Type 0 where
+  ended : Lists [] []
+  place : {byte : ℕ} {bytes : List ℕ} {later : List Statement} → Lists (after_statement (byte ∷ bytes)) later → Lists (byte ∷ bytes) (statement_of (byte ∷ bytes) ∷ later)
+
+-- their lines, each ended by a line feed
+abbrev pub lines_text : List Statement → List ℕ
+lines_text [] = []
+lines_text (x ∷ xs) = statement_text x ++ 10 ∷ lines_text xs
+
+-- the text is the listing of the code
+pub record Listing (code text : List ℕ) : Type 0 where
+  pub statements : List Statement
+  pub lists : Lists code statements
+  pub text_is : text ≡ lines_text statements

@@ -1,0 +1,79 @@
+//! Lines that were written by hand.
+use crate::{
+    AluOp, Comparison, Insn, Operand, Register, SignedSize, Size, Statement, Width, no_line_feed,
+    statement_is_spelled,
+};
+use std::test::Fail;
+
+/// Statements, how many slots each has, and its line.
+const LINES: [(Statement, u64, &str); 8] = [
+    (
+        Statement::Insn(Insn::Alu {
+            op: AluOp::Mov,
+            width: Width::W64,
+            dst: Register::R0,
+            operand: Operand::Imm(-2147483648),
+        }),
+        1,
+        "mov64 r0, -2147483648",
+    ),
+    (
+        Statement::Insn(Insn::Branch {
+            comparison: Comparison::Slt,
+            width: Width::W32,
+            dst: Register::R1,
+            operand: Operand::Reg(Register::R10),
+            offset: 0,
+        }),
+        1,
+        "jslt32 r1, r10, +0",
+    ),
+    (Statement::Insn(Insn::JumpLong { offset: -1 }), 1, "ja32 -1"),
+    (
+        Statement::Insn(Insn::LoadSigned {
+            size: SignedSize::H,
+            dst: Register::R3,
+            src: Register::R4,
+            offset: -32768,
+        }),
+        1,
+        "ldxsh r3, [r4-32768]",
+    ),
+    (
+        Statement::Insn(Insn::StoreImm {
+            size: Size::Dw,
+            dst: Register::R5,
+            offset: 32767,
+            imm: 0,
+        }),
+        1,
+        "stdw [r5+32767], 0",
+    ),
+    (
+        Statement::Insn(Insn::LoadWide {
+            dst: Register::R1,
+            value: 0x9122_3344_5566_77af,
+        }),
+        2,
+        "lddw r1, 0x91223344556677af",
+    ),
+    (Statement::Slot(0), 1, ".slot 0x0000000000000000"),
+    (Statement::Slot(u64::MAX), 1, ".slot 0xffffffffffffffff"),
+];
+
+#[test]
+fn each_statement_has_its_line(rt: HostRuntime) -> Result<(), Fail> {
+    for (statement, slots, line) in LINES {
+        statement.in_range();
+        let text = statement.to_string(rt.alloc())?;
+        assert_eq!(rt; text.as_str(), line);
+        assert_eq!(rt; statement.slots(), slots, "counts {line}");
+    }
+    Ok(())
+}
+
+#[test]
+fn laws_can_be_called(_rt: HostRuntime) {
+    no_line_feed();
+    statement_is_spelled();
+}
