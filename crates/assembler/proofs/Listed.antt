@@ -1,0 +1,117 @@
+-- The listing of code is its source.
+use Rattle.std.proofs.Common.{◌≡◌, ◌≢◌, ℕ, ◌+◌, ◌*◌, ◌/◌, ◌%◌, ◌<◌, ◌≤◌, List, [], ◌∷◌, ◌++◌, Option, None, refl, sym, ◌∙◌, ap, subst, arith, length, map, false, length-append}
+use Rattle.std.specs.Prelude.{◌==◌, All}
+use Rattle.std.proofs.lemmas.Bool.{ne_eqb}
+use Rattle.std.proofs.lemmas.List.Elements.{All-tail}
+use Rattle.insn_codec.specs.StatementLaws.{NoLineFeed, StandsFirst, StatementIsSpelled}
+use Rattle.insn_codec.specs.Statements.{IsStatement, Lists, Listing, after_statement, lines_text, statement_bytes, statement_of, statement_slots, statement_text}
+use Rattle.insn_codec.specs.Statements.Lists.{ended, place}
+use Rattle.insn_codec.specs.declared.insn.Insn.TheVariants.{LoadWide}
+use Rattle.insn_codec.specs.declared.statement.Statement.{Statement}
+use Rattle.insn_codec.specs.declared.statement.Statement.TheVariants.{Insn, Slot}
+use Rattle.assembler.specs.Cutting.{lines_of, before_line}
+use Rattle.assembler.specs.Items.{HasDigits, Item, statement, label, slots_of}
+use Rattle.assembler.specs.Source.{EachSays, GivesSlots, Source, StandFor}
+use Rattle.assembler.specs.Source.StandFor.{none, line}
+use Rattle.assembler.specs.Source.StandsFor.{stated}
+
+abbrev IsNoFeed : ℕ → Type 0
+IsNoFeed b = b ≢ 10
+
+is_not : (x : ℕ) → x ≢ 10 → (x == 10) ≡ false
+is_not x ne = ne_eqb x 10 ne
+
+-- a line that holds no line feed is cut off at its own
+cut_off : (text rest : List ℕ) → All IsNoFeed text → lines_of (text ++ 10 ∷ rest) ≡ text ∷ lines_of rest
+cut_off [] rest quiet = refl
+cut_off (x ∷ xs) rest quiet = rw (is_not x (quiet 0 0 (omega arith))) (ap (before_line x) (cut_off xs rest (All-tail IsNoFeed x xs quiet)))
+
+-- the bytes of statements, in order
+abbrev all_bytes : List Statement → List ℕ
+all_bytes [] = []
+all_bytes (x ∷ xs) = statement_bytes x ++ all_bytes xs
+
+abbrev EachStatement : List Statement → Type 0
+EachStatement [] = Unit {0}
+EachStatement (x ∷ xs) = IsStatement x × EachStatement xs
+
+lines_again : NoLineFeed → (xs : List Statement) → EachStatement xs → lines_of (lines_text xs) ≡ map statement_text xs
+lines_again quiet [] each = refl
+lines_again quiet (x ∷ xs) each = cut_off (statement_text x) (lines_text xs) (quiet x each.0) ∙ ap (λ lines. statement_text x ∷ lines) (lines_again quiet xs each.1)
+
+has_digits : (x : Statement) → IsStatement x → HasDigits x
+has_digits (Insn (LoadWide dst value)) h = h
+has_digits (Insn _) h = tt
+has_digits (Slot word) h = h
+
+says_each : (xs : List Statement) → EachStatement xs → EachSays (map statement_text xs) (map statement xs)
+says_each [] each = tt
+says_each (x ∷ xs) each = ((refl, has_digits x each.0, each.0), says_each xs each.1)
+
+abbrev no_labels : List ℕ → Option ℕ
+no_labels q = None
+
+no_label : (xs : List Statement) (before later : List Item) (name : List ℕ) → map statement xs ≡ before ++ label name ∷ later → ⊥
+no_label [] [] later name e = cc
+no_label [] (i ∷ before) later name e = cc
+no_label (x ∷ xs) [] later name e = cc
+no_label (x ∷ xs) (i ∷ before) later name e = no_label xs before later name cc
+
+gives_none : (xs : List Statement) → GivesSlots no_labels (map statement xs)
+gives_none xs = record {
+  gives = λ name before n. absurd (no_label xs before n.0 name n.1);
+  once = λ name before again n m. absurd (no_label xs before n.0 name n.1);
+  named = λ name slot e. absurd cc;
+}
+
+stand_each : (slot : ℕ) (xs : List Statement) → StandFor no_labels slot (map statement xs) (all_bytes xs)
+stand_each slot [] = none
+stand_each slot (x ∷ xs) = line (stated x) (stand_each (slot + statement_slots x) xs)
+
+statement_length : (x : Statement) → length (statement_bytes x) ≡ 8 * statement_slots x
+statement_length (Insn (LoadWide dst value)) = refl
+statement_length (Insn _) = refl
+statement_length (Slot word) = refl
+
+slots_again : (xs : List Statement) → 8 * slots_of (map statement xs) ≡ length (all_bytes xs)
+slots_again [] = refl
+slots_again (x ∷ xs) =
+    let sum : length (statement_bytes x ++ all_bytes xs) ≡ length (statement_bytes x) + length (all_bytes xs) = length-append (statement_bytes x) (all_bytes xs) in
+    omega (arith, sum, statement_length x, slots_again xs)
+
+all_after : (xs ys : List ℕ) → All (λ b. b < 256) (xs ++ ys) → All (λ b. b < 256) ys
+all_after [] ys all = all
+all_after (x ∷ xs) ys all = all_after xs ys (All-tail (λ b. b < 256) x (xs ++ ys) all)
+
+-- what is listed stands in the code, statement by statement
+abbrev Stands : List ℕ → List Statement → Type 0
+Stands code xs = EachStatement xs × (code ≡ all_bytes xs)
+
+whole_after : (x : Statement) (code rest : List ℕ) → code ≡ statement_bytes x ++ rest → length code % 8 ≡ 0 → length rest % 8 ≡ 0
+whole_after x code rest e whole =
+    let sum : length code ≡ length (statement_bytes x) + length rest = ap (λ z. length z) e ∙ length-append (statement_bytes x) rest in
+    let size : length (statement_bytes x) ≡ 8 * statement_slots x = statement_length x in
+    omega (arith, sum, size, whole)
+
+stands_of : StatementIsSpelled → (code : List ℕ) (xs : List Statement) → All (λ b. b < 256) code → length code % 8 ≡ 0 → Lists code xs → Stands code xs
+stands_of spelled code [] small whole ended = (tt, refl)
+stands_of spelled code (x ∷ xs) small whole (place {byte = byte} {bytes = bytes} {later = later} rest) =
+    let full : byte ∷ bytes ≢ [] = λ e. cc in
+    let first : StandsFirst (byte ∷ bytes) = spelled (byte ∷ bytes) small whole full in
+    let after = after_statement (byte ∷ bytes) in
+    let more = stands_of spelled after later (all_after (statement_bytes (statement_of (byte ∷ bytes))) after (subst (λ z. All (λ b. b < 256) z) first.bytes small)) (whole_after (statement_of (byte ∷ bytes)) (byte ∷ bytes) after first.bytes whole) rest in
+    ((first.in_range, more.0), first.bytes ∙ ap (λ z. statement_bytes (statement_of (byte ∷ bytes)) ++ z) more.1)
+
+pub listed : NoLineFeed → StatementIsSpelled → (code text : List ℕ) → All (λ b. b < 256) code → length code % 8 ≡ 0 → length code / 8 ≤ 65536 → Listing code text → Source text code
+listed quiet spelled code text small whole room l =
+    let stands = stands_of spelled code l.statements small whole l.lists in
+    let lines : lines_of text ≡ map statement_text l.statements = ap lines_of l.text_is ∙ lines_again quiet l.statements stands.0 in
+    let slots : 8 * slots_of (map statement l.statements) ≡ length code = slots_again l.statements ∙ ap (λ z. length z) (sym stands.1) in
+    record {
+      items = map statement l.statements;
+      lines = rw lines (says_each l.statements stands.0);
+      labels = no_labels;
+      places = gives_none l.statements;
+      room = omega (arith, slots, room);
+      code = rw stands.1 (stand_each 0 l.statements);
+    }

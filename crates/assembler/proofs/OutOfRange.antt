@@ -1,0 +1,32 @@
+-- Conditional jumps with a number out of range.
+use Rattle.std.proofs.Common.{◌≡◌, ℤ, ℕ, List, refl, ap, ◌∙◌, FitsSigned}
+use Rattle.std.specs.Prelude.{Err}
+use Rattle.std.specs.Int.{w16}
+use Rattle.insn_codec.specs.Lines.{offset_text, operand_text, register_text}
+use Rattle.insn_codec.specs.Spelling.{IsOperand}
+use Rattle.insn_codec.specs.declared.comparison.Comparison.{Comparison}
+use Rattle.insn_codec.specs.declared.insn.Insn.TheVariants as insn
+use Rattle.insn_codec.specs.declared.operand.Operand.{Operand}
+use Rattle.insn_codec.specs.declared.register.Register.{Register}
+use Rattle.insn_codec.specs.declared.statement.Statement.TheVariants as statement_kind
+use Rattle.insn_codec.specs.declared.width.Width.{Width}
+use Rattle.assembler.specs.Forms.{ReadsOperands, listed}
+use Rattle.assembler.specs.Items.{statement, jump}
+use Rattle.assembler.specs.Targets.{TargetIs}
+use Rattle.assembler.specs.declared.jump.Jump.TheVariants as jump_kind
+use Rattle.assembler.specs.declared.line_error.LineError.TheVariants.{OutOfRange}
+use Rattle.assembler.specs.declared.mnemonics.Mnemonic.TheVariants as mnemonic
+use Rattle.assembler.specs.declared.targets.Target.{Target}
+use Rattle.assembler.specs.declared.targets.Target.TheVariants.{Offset, Name}
+
+-- its offset is out of range
+pub offset_out : (comparison : Comparison) (width : Width) (dst : Register) (o : Operand) (z : ℤ) (goal text : List ℕ) → goal ≡ offset_text z → text ≡ listed (register_text dst) (listed (operand_text o) goal) → (FitsSigned w16 z → ⊥) → ReadsOperands (mnemonic.Branch comparison width) text (Err OutOfRange)
+offset_out comparison width dst o z goal text t e out =
+    (statement (statement_kind.Insn (insn.Branch comparison width dst o z)), tt, refl, e ∙ ap (λ g. listed (register_text dst) (listed (operand_text o) g)) t, λ r. out r.1)
+
+-- its immediate is out of range
+pub branch_out : (comparison : Comparison) (width : Width) (dst : Register) (o : Operand) (target : Target) (goal text : List ℕ) → TargetIs target goal → text ≡ listed (register_text dst) (listed (operand_text o) goal) → (IsOperand o → ⊥) → ReadsOperands (mnemonic.Branch comparison width) text (Err OutOfRange)
+branch_out comparison width dst o (Offset n) goal text t e out =
+    (statement (statement_kind.Insn (insn.Branch comparison width dst o t.0)), tt, refl, e ∙ ap (λ g. listed (register_text dst) (listed (operand_text o) g)) t.2, λ r. out r.0)
+branch_out comparison width dst o (Name name) goal text t e out =
+    (jump (jump_kind.Branch comparison width dst o) goal, t.1, refl, e, out)

@@ -1,0 +1,170 @@
+-- A mnemonic and operands are those of one item.
+use Rattle.std.proofs.Common.{◌≡◌, ◌⊎◌, ℕ, suc, ℤ, pos, negsuc, List, [], ◌∷◌, ◌++◌, Some, inl, inr, refl, sym, ◌∙◌, ap, subst}
+use Rattle.insn_codec.specs.Lines.{decimal, offset_text, operand_text, register_text, signed_decimal, wide_text}
+use Rattle.insn_codec.specs.declared.comparison.Comparison.{Comparison}
+use Rattle.insn_codec.specs.declared.insn.Insn.TheVariants as insn
+use Rattle.insn_codec.specs.declared.operand.Operand.{Operand}
+use Rattle.insn_codec.specs.declared.register.Register.{Register}
+use Rattle.insn_codec.specs.declared.statement.Statement.TheVariants as statement_kind
+use Rattle.insn_codec.specs.declared.width.Width.{Width}
+use Rattle.assembler.specs.Items.{HasLine, Item, statement, jump}
+use Rattle.assembler.specs.Forms.{Lacks, address_text, listed, mnemonic_of, operands_text, place_text}
+use Rattle.assembler.specs.declared.jump.Jump.TheVariants as jump_kind
+use Rattle.assembler.specs.declared.mnemonics.Mnemonic.{Mnemonic}
+use Rattle.assembler.specs.declared.mnemonics.Mnemonic.TheVariants as mnemonic
+use Rattle.assembler.proofs.Digits.{wide_injective}
+use Rattle.assembler.proofs.Injective.{name_no_offset, offset_injective, operand_injective, register_injective, signed_injective}
+use Rattle.assembler.proofs.ItemKinds.{of_alu, of_branch, of_byte_swap, of_call, of_call_local, of_ja, of_ja_long, of_load, of_load_signed, of_load_wide, of_neg, of_sign_extend, of_slot, of_store, of_store_imm}
+use Rattle.assembler.proofs.Lacking.{apart, lacks_append, lacks_gone, last_same, split_same, tail_same}
+use Rattle.assembler.proofs.NameBytes.{lacks_decimal, lacks_operand, lacks_place, lacks_register}
+
+-- equal operands of what two items are
+between : (i j v w : Item) → i ≡ v → j ≡ w → operands_text i ≡ operands_text j → operands_text v ≡ operands_text w
+between i j v w p q e = sym (ap operands_text p) ∙ e ∙ ap operands_text q
+
+listed_same : (xs ys vs ws : List ℕ) → Lacks 44 xs → Lacks 44 vs → listed xs ys ≡ listed vs ws → (xs ≡ vs) × (ys ≡ ws)
+listed_same xs ys vs ws h k e =
+    let t = split_same 44 xs (32 ∷ ys) vs (32 ∷ ws) h k e in
+    (t.0, tail_same 32 ys ws t.1)
+
+register_listed : (r s : Register) (ys ws : List ℕ) → listed (register_text r) ys ≡ listed (register_text s) ws → (r ≡ s) × (ys ≡ ws)
+register_listed r s ys ws e =
+    let t = listed_same (register_text r) ys (register_text s) ws (lacks_register 44 refl r) (lacks_register 44 refl s) e in
+    (register_injective r s t.0, t.1)
+
+-- a minus is no plus
+no_plus : (r s : Register) (n m : ℕ) → address_text r (pos n) ≡ address_text s (negsuc m) → ⊥
+no_plus r s n m e = lacks_gone 43 (address_text s (negsuc m)) (register_text r) (decimal n) (lacks_append 43 (register_text s) (45 ∷ decimal (suc m)) (lacks_register 43 refl s) (apart 45 43 refl, lacks_decimal 43 refl (suc m))) (sym e)
+
+address_same : (r s : Register) (y z : ℤ) → address_text r y ≡ address_text s z → (r ≡ s) × (y ≡ z)
+address_same r s (pos n) (pos m) e =
+    let t = split_same 43 (register_text r) (decimal n) (register_text s) (decimal m) (lacks_register 43 refl r) (lacks_register 43 refl s) e in
+    (register_injective r s t.0, offset_injective (pos n) (pos m) (ap (λ ds. 43 ∷ ds) t.1))
+address_same r s (pos n) (negsuc m) e = absurd (no_plus r s n m e)
+address_same r s (negsuc n) (pos m) e = absurd (no_plus s r m n (sym e))
+address_same r s (negsuc n) (negsuc m) e =
+    let t = split_same 45 (register_text r) (decimal (suc n)) (register_text s) (decimal (suc m)) (lacks_register 45 refl r) (lacks_register 45 refl s) e in
+    (register_injective r s t.0, offset_injective (negsuc n) (negsuc m) (ap (λ ds. 45 ∷ ds) t.1))
+
+place_same : (r s : Register) (y z : ℤ) → place_text r y ≡ place_text s z → (r ≡ s) × (y ≡ z)
+place_same r s y z e = address_same r s y z (last_same 93 (address_text r y) (address_text s z) (tail_same 91 (address_text r y ++ 93 ∷ []) (address_text s z ++ 93 ∷ []) e))
+
+place_listed : (r s : Register) (y z : ℤ) (ys ws : List ℕ) → listed (place_text r y) ys ≡ listed (place_text s z) ws → (r ≡ s) × (y ≡ z) × (ys ≡ ws)
+place_listed r s y z ys ws e =
+    let t = listed_same (place_text r y) ys (place_text s z) ws (lacks_place 44 refl refl refl r y) (lacks_place 44 refl refl refl s z) e in
+    let u = place_same r s y z t.0 in
+    (u.0, u.1, t.1)
+
+same_ja : (i j : Item) → ((offset : ℤ) × (i ≡ statement (statement_kind.Insn (insn.Jump offset)))) ⊎ ((name : List ℕ) × (i ≡ jump jump_kind.Near name)) → ((offset : ℤ) × (j ≡ statement (statement_kind.Insn (insn.Jump offset)))) ⊎ ((name : List ℕ) × (j ≡ jump jump_kind.Near name)) → HasLine i → HasLine j → operands_text i ≡ operands_text j → i ≡ j
+same_ja i j (inl p) (inl q) h k e = p.1 ∙ ap (λ z. statement (statement_kind.Insn (insn.Jump z))) (offset_injective p.0 q.0 (between i j _ _ p.1 q.1 e)) ∙ sym q.1
+same_ja i j (inl p) (inr q) h k e = absurd (name_no_offset q.0 p.0 (subst (λ x. HasLine x) q.1 k) (sym (between i j _ _ p.1 q.1 e)))
+same_ja i j (inr p) (inl q) h k e = absurd (name_no_offset p.0 q.0 (subst (λ x. HasLine x) p.1 h) (between i j _ _ p.1 q.1 e))
+same_ja i j (inr p) (inr q) h k e = p.1 ∙ ap (λ n. jump jump_kind.Near n) (between i j _ _ p.1 q.1 e) ∙ sym q.1
+
+same_ja_long : (i j : Item) → ((offset : ℤ) × (i ≡ statement (statement_kind.Insn (insn.JumpLong offset)))) ⊎ ((name : List ℕ) × (i ≡ jump jump_kind.Long name)) → ((offset : ℤ) × (j ≡ statement (statement_kind.Insn (insn.JumpLong offset)))) ⊎ ((name : List ℕ) × (j ≡ jump jump_kind.Long name)) → HasLine i → HasLine j → operands_text i ≡ operands_text j → i ≡ j
+same_ja_long i j (inl p) (inl q) h k e = p.1 ∙ ap (λ z. statement (statement_kind.Insn (insn.JumpLong z))) (offset_injective p.0 q.0 (between i j _ _ p.1 q.1 e)) ∙ sym q.1
+same_ja_long i j (inl p) (inr q) h k e = absurd (name_no_offset q.0 p.0 (subst (λ x. HasLine x) q.1 k) (sym (between i j _ _ p.1 q.1 e)))
+same_ja_long i j (inr p) (inl q) h k e = absurd (name_no_offset p.0 q.0 (subst (λ x. HasLine x) p.1 h) (between i j _ _ p.1 q.1 e))
+same_ja_long i j (inr p) (inr q) h k e = p.1 ∙ ap (λ n. jump jump_kind.Long n) (between i j _ _ p.1 q.1 e) ∙ sym q.1
+
+same_call_local : (i j : Item) → ((offset : ℤ) × (i ≡ statement (statement_kind.Insn (insn.CallLocal offset)))) ⊎ ((name : List ℕ) × (i ≡ jump jump_kind.CallLocal name)) → ((offset : ℤ) × (j ≡ statement (statement_kind.Insn (insn.CallLocal offset)))) ⊎ ((name : List ℕ) × (j ≡ jump jump_kind.CallLocal name)) → HasLine i → HasLine j → operands_text i ≡ operands_text j → i ≡ j
+same_call_local i j (inl p) (inl q) h k e = p.1 ∙ ap (λ z. statement (statement_kind.Insn (insn.CallLocal z))) (offset_injective p.0 q.0 (between i j _ _ p.1 q.1 e)) ∙ sym q.1
+same_call_local i j (inl p) (inr q) h k e = absurd (name_no_offset q.0 p.0 (subst (λ x. HasLine x) q.1 k) (sym (between i j _ _ p.1 q.1 e)))
+same_call_local i j (inr p) (inl q) h k e = absurd (name_no_offset p.0 q.0 (subst (λ x. HasLine x) p.1 h) (between i j _ _ p.1 q.1 e))
+same_call_local i j (inr p) (inr q) h k e = p.1 ∙ ap (λ n. jump jump_kind.CallLocal n) (between i j _ _ p.1 q.1 e) ∙ sym q.1
+
+compared_same : (r s : Register) (o p : Operand) (xs ys : List ℕ) → listed (register_text r) (listed (operand_text o) xs) ≡ listed (register_text s) (listed (operand_text p) ys) → (r ≡ s) × (o ≡ p) × (xs ≡ ys)
+compared_same r s o p xs ys e =
+    let t = register_listed r s (listed (operand_text o) xs) (listed (operand_text p) ys) e in
+    let u = listed_same (operand_text o) xs (operand_text p) ys (lacks_operand 44 refl o) (lacks_operand 44 refl p) t.1 in
+    (t.0, operand_injective o p u.0, u.1)
+
+same_branch : (comparison : Comparison) (width : Width) (i j : Item) → ((dst : Register) × (operand : Operand) × (offset : ℤ) × (i ≡ statement (statement_kind.Insn (insn.Branch comparison width dst operand offset)))) ⊎ ((dst : Register) × (operand : Operand) × (name : List ℕ) × (i ≡ jump (jump_kind.Branch comparison width dst operand) name)) → ((dst : Register) × (operand : Operand) × (offset : ℤ) × (j ≡ statement (statement_kind.Insn (insn.Branch comparison width dst operand offset)))) ⊎ ((dst : Register) × (operand : Operand) × (name : List ℕ) × (j ≡ jump (jump_kind.Branch comparison width dst operand) name)) → HasLine i → HasLine j → operands_text i ≡ operands_text j → i ≡ j
+same_branch comparison width i j (inl p) (inl q) h k e =
+    let t = compared_same p.0 q.0 p.1 q.1 (offset_text p.2) (offset_text q.2) (between i j _ _ p.3 q.3 e) in
+    let z = offset_injective p.2 q.2 t.2 in
+    p.3 ∙ (λ x. statement (statement_kind.Insn (insn.Branch comparison width (t.0 x) (t.1 x) (z x)))) ∙ sym q.3
+same_branch comparison width i j (inl p) (inr q) h k e =
+    let t = compared_same p.0 q.0 p.1 q.1 (offset_text p.2) q.2 (between i j _ _ p.3 q.3 e) in
+    absurd (name_no_offset q.2 p.2 (subst (λ x. HasLine x) q.3 k) (sym t.2))
+same_branch comparison width i j (inr p) (inl q) h k e =
+    let t = compared_same p.0 q.0 p.1 q.1 p.2 (offset_text q.2) (between i j _ _ p.3 q.3 e) in
+    absurd (name_no_offset p.2 q.2 (subst (λ x. HasLine x) p.3 h) t.2)
+same_branch comparison width i j (inr p) (inr q) h k e =
+    let t = compared_same p.0 q.0 p.1 q.1 p.2 q.2 (between i j _ _ p.3 q.3 e) in
+    p.3 ∙ (λ x. jump (jump_kind.Branch comparison width (t.0 x) (t.1 x)) (t.2 x)) ∙ sym q.3
+
+no_exit : (i : Item) → mnemonic_of i ≡ Some mnemonic.Exit → ⊥
+no_exit (statement (statement_kind.Slot word)) e = absurd cc
+no_exit (statement (statement_kind.Insn insn.Exit)) e = absurd cc
+no_exit (jump jump_kind.Near name) e = absurd cc
+no_exit (jump jump_kind.Long name) e = absurd cc
+no_exit (jump jump_kind.CallLocal name) e = absurd cc
+no_exit (jump (jump_kind.Branch comparison width d o) name) e = absurd cc
+no_exit _ e = absurd cc
+
+-- a mnemonic and operands are those of one item
+pub same_code : (m : Mnemonic) (i j : Item) → mnemonic_of i ≡ Some m → mnemonic_of j ≡ Some m → HasLine i → HasLine j → operands_text i ≡ operands_text j → i ≡ j
+same_code (mnemonic.Alu op width) i j a b h k e =
+    let p = of_alu op width i a in
+    let q = of_alu op width j b in
+    let t = register_listed p.0 q.0 (operand_text p.1) (operand_text q.1) (between i j _ _ p.2 q.2 e) in
+    let o = operand_injective p.1 q.1 t.1 in
+    p.2 ∙ (λ x. statement (statement_kind.Insn (insn.Alu op width (t.0 x) (o x)))) ∙ sym q.2
+same_code (mnemonic.Neg width) i j a b h k e =
+    let p = of_neg width i a in
+    let q = of_neg width j b in
+    p.1 ∙ ap (λ r. statement (statement_kind.Insn (insn.Neg width r))) (register_injective p.0 q.0 (between i j _ _ p.1 q.1 e)) ∙ sym q.1
+same_code (mnemonic.SignExtend extension) i j a b h k e =
+    let p = of_sign_extend extension i a in
+    let q = of_sign_extend extension j b in
+    let t = register_listed p.0 q.0 (register_text p.1) (register_text q.1) (between i j _ _ p.2 q.2 e) in
+    let s = register_injective p.1 q.1 t.1 in
+    p.2 ∙ (λ x. statement (statement_kind.Insn (insn.SignExtend extension (t.0 x) (s x)))) ∙ sym q.2
+same_code (mnemonic.ByteSwap order width) i j a b h k e =
+    let p = of_byte_swap order width i a in
+    let q = of_byte_swap order width j b in
+    p.1 ∙ ap (λ r. statement (statement_kind.Insn (insn.ByteSwap order width r))) (register_injective p.0 q.0 (between i j _ _ p.1 q.1 e)) ∙ sym q.1
+same_code mnemonic.Ja i j a b h k e = same_ja i j (of_ja i a) (of_ja j b) h k e
+same_code mnemonic.JaLong i j a b h k e = same_ja_long i j (of_ja_long i a) (of_ja_long j b) h k e
+same_code (mnemonic.Branch comparison width) i j a b h k e = same_branch comparison width i j (of_branch comparison width i a) (of_branch comparison width j b) h k e
+same_code mnemonic.Call i j a b h k e =
+    let p = of_call i a in
+    let q = of_call j b in
+    p.1 ∙ ap (λ n. statement (statement_kind.Insn (insn.Call n))) (signed_injective p.0 q.0 (between i j _ _ p.1 q.1 e)) ∙ sym q.1
+same_code mnemonic.CallLocal i j a b h k e = same_call_local i j (of_call_local i a) (of_call_local j b) h k e
+same_code mnemonic.Exit i j a b h k e = absurd (no_exit i a)
+same_code (mnemonic.Load size) i j a b h k e =
+    let p = of_load size i a in
+    let q = of_load size j b in
+    let t = register_listed p.0 q.0 (place_text p.1 p.2) (place_text q.1 q.2) (between i j _ _ p.3 q.3 e) in
+    let s = place_same p.1 q.1 p.2 q.2 t.1 in
+    p.3 ∙ (λ x. statement (statement_kind.Insn (insn.Load size (t.0 x) (s.0 x) (s.1 x)))) ∙ sym q.3
+same_code (mnemonic.LoadSigned size) i j a b h k e =
+    let p = of_load_signed size i a in
+    let q = of_load_signed size j b in
+    let t = register_listed p.0 q.0 (place_text p.1 p.2) (place_text q.1 q.2) (between i j _ _ p.3 q.3 e) in
+    let s = place_same p.1 q.1 p.2 q.2 t.1 in
+    p.3 ∙ (λ x. statement (statement_kind.Insn (insn.LoadSigned size (t.0 x) (s.0 x) (s.1 x)))) ∙ sym q.3
+same_code (mnemonic.StoreImm size) i j a b h k e =
+    let p = of_store_imm size i a in
+    let q = of_store_imm size j b in
+    let t = place_listed p.0 q.0 p.1 q.1 (signed_decimal p.2) (signed_decimal q.2) (between i j _ _ p.3 q.3 e) in
+    let n = signed_injective p.2 q.2 t.2 in
+    p.3 ∙ (λ x. statement (statement_kind.Insn (insn.StoreImm size (t.0 x) (t.1 x) (n x)))) ∙ sym q.3
+same_code (mnemonic.Store size) i j a b h k e =
+    let p = of_store size i a in
+    let q = of_store size j b in
+    let t = place_listed p.0 q.0 p.1 q.1 (register_text p.2) (register_text q.2) (between i j _ _ p.3 q.3 e) in
+    let s = register_injective p.2 q.2 t.2 in
+    p.3 ∙ (λ x. statement (statement_kind.Insn (insn.Store size (t.0 x) (t.1 x) (s x)))) ∙ sym q.3
+same_code mnemonic.LoadWide i j a b h k e =
+    let p = of_load_wide i a in
+    let q = of_load_wide j b in
+    let t = register_listed p.0 q.0 (wide_text p.1) (wide_text q.1) (between i j _ _ p.2 q.2 e) in
+    let w = wide_injective p.1 q.1 (subst (λ x. HasLine x) p.2 h) (subst (λ x. HasLine x) q.2 k) t.1 in
+    p.2 ∙ (λ x. statement (statement_kind.Insn (insn.LoadWide (t.0 x) (w x)))) ∙ sym q.2
+same_code mnemonic.Slot i j a b h k e =
+    let p = of_slot i a in
+    let q = of_slot j b in
+    p.1 ∙ ap (λ w. statement (statement_kind.Slot w)) (wide_injective p.0 q.0 (subst (λ x. HasLine x) p.1 h) (subst (λ x. HasLine x) q.1 k) (between i j _ _ p.1 q.1 e)) ∙ sym q.1

@@ -1,0 +1,116 @@
+-- Which items have a line.
+use Rattle.std.proofs.Common.{◌≡◌, ◌⊎◌, ℕ, ℤ, List, [], ◌∷◌, ◌++◌, Some, inl, inr, refl, sym, ◌∙◌, ap, subst, false}
+use Rattle.std.specs.Prelude.{codes}
+use Rattle.insn_codec.specs.Lines.{offset_text, operand_text, register_text, signed_decimal, wide_text}
+use Rattle.insn_codec.specs.declared.insn.Insn.TheVariants as insn
+use Rattle.insn_codec.specs.declared.register.Register.{Register}
+use Rattle.insn_codec.specs.declared.statement.Statement.TheVariants as statement_kind
+use Rattle.assembler.specs.Items.{HasLine, IsName, Item, item_text, statement, label, jump}
+use Rattle.assembler.specs.Forms.{Lacks, listed, mnemonic_of, operands_text, place_text}
+use Rattle.assembler.specs.Mnemonics.{mnemonic_text}
+use Rattle.assembler.specs.declared.jump.Jump.TheVariants as jump_kind
+use Rattle.assembler.specs.declared.mnemonics.Mnemonic.{Mnemonic}
+use Rattle.assembler.specs.declared.mnemonics.Mnemonic.TheVariants as mnemonic
+use Rattle.assembler.proofs.Halves.{line_halves}
+use Rattle.assembler.proofs.Lacking.{apart, lacks_append, lacks_by, lacks_gone, last_same, split_same}
+use Rattle.assembler.proofs.NameBytes.{lacks_operand, lacks_place}
+use Rattle.assembler.proofs.Plain.{is_plain, mnemonic_plain, name_plain, offset_plain, plain_lacks, register_plain, signed_decimal_plain, wide_plain}
+
+abbrev pub exit : Item
+exit = statement (statement_kind.Insn insn.Exit)
+
+-- an item has operands, or it is the exit, or a label
+pub kind_of : (i : Item) → ((m : Mnemonic) × (mnemonic_of i ≡ Some m)) ⊎ ((i ≡ exit) ⊎ ((name : List ℕ) × (i ≡ label name)))
+kind_of (statement (statement_kind.Insn (insn.Alu op width dst operand))) = inl (mnemonic.Alu op width, refl)
+kind_of (statement (statement_kind.Insn (insn.Neg width dst))) = inl (mnemonic.Neg width, refl)
+kind_of (statement (statement_kind.Insn (insn.SignExtend extension dst src))) = inl (mnemonic.SignExtend extension, refl)
+kind_of (statement (statement_kind.Insn (insn.ByteSwap order width dst))) = inl (mnemonic.ByteSwap order width, refl)
+kind_of (statement (statement_kind.Insn (insn.Jump offset))) = inl (mnemonic.Ja, refl)
+kind_of (statement (statement_kind.Insn (insn.JumpLong offset))) = inl (mnemonic.JaLong, refl)
+kind_of (statement (statement_kind.Insn (insn.Branch comparison width dst operand offset))) = inl (mnemonic.Branch comparison width, refl)
+kind_of (statement (statement_kind.Insn (insn.Call helper))) = inl (mnemonic.Call, refl)
+kind_of (statement (statement_kind.Insn (insn.CallLocal offset))) = inl (mnemonic.CallLocal, refl)
+kind_of (statement (statement_kind.Insn insn.Exit)) = inr (inl refl)
+kind_of (statement (statement_kind.Insn (insn.Load size dst src offset))) = inl (mnemonic.Load size, refl)
+kind_of (statement (statement_kind.Insn (insn.LoadSigned size dst src offset))) = inl (mnemonic.LoadSigned size, refl)
+kind_of (statement (statement_kind.Insn (insn.StoreImm size dst offset imm))) = inl (mnemonic.StoreImm size, refl)
+kind_of (statement (statement_kind.Insn (insn.Store size dst offset src))) = inl (mnemonic.Store size, refl)
+kind_of (statement (statement_kind.Insn (insn.LoadWide dst value))) = inl (mnemonic.LoadWide, refl)
+kind_of (statement (statement_kind.Slot word)) = inl (mnemonic.Slot, refl)
+kind_of (label name) = inr (inr (name, refl))
+kind_of (jump jump_kind.Near name) = inl (mnemonic.Ja, refl)
+kind_of (jump jump_kind.Long name) = inl (mnemonic.JaLong, refl)
+kind_of (jump jump_kind.CallLocal name) = inl (mnemonic.CallLocal, refl)
+kind_of (jump (jump_kind.Branch comparison width dst operand) name) = inl (mnemonic.Branch comparison width, refl)
+
+name_lacks : (c : ℕ) → is_plain c ≡ false → (name : List ℕ) → IsName name → Lacks c name
+name_lacks c f name h = plain_lacks c f name (name_plain name h)
+
+mnemonic_lacks : (c : ℕ) → is_plain c ≡ false → (m : Mnemonic) → Lacks c (mnemonic_text m)
+mnemonic_lacks c f m = plain_lacks c f (mnemonic_text m) (mnemonic_plain m)
+
+lacks_listed : (xs ys : List ℕ) → Lacks 58 xs → Lacks 58 ys → Lacks 58 (listed xs ys)
+lacks_listed xs ys h k = lacks_append 58 xs (44 ∷ 32 ∷ ys) h (apart 44 58 refl, (apart 32 58 refl, k))
+
+place_lacks_colon : (r : Register) (z : ℤ) → Lacks 58 (place_text r z)
+place_lacks_colon r z = lacks_place 58 refl refl refl r z
+
+-- no operand holds a colon
+operands_lack_colon : (i : Item) → HasLine i → Lacks 58 (operands_text i)
+operands_lack_colon (statement (statement_kind.Insn (insn.Alu op width dst operand))) h = lacks_listed (register_text dst) (operand_text operand) (plain_lacks 58 refl (register_text dst) (register_plain dst)) (lacks_operand 58 refl operand)
+operands_lack_colon (statement (statement_kind.Insn (insn.Neg width dst))) h = plain_lacks 58 refl (register_text dst) (register_plain dst)
+operands_lack_colon (statement (statement_kind.Insn (insn.SignExtend extension dst src))) h = lacks_listed (register_text dst) (register_text src) (plain_lacks 58 refl (register_text dst) (register_plain dst)) (plain_lacks 58 refl (register_text src) (register_plain src))
+operands_lack_colon (statement (statement_kind.Insn (insn.ByteSwap order width dst))) h = plain_lacks 58 refl (register_text dst) (register_plain dst)
+operands_lack_colon (statement (statement_kind.Insn (insn.Jump offset))) h = plain_lacks 58 refl (offset_text offset) (offset_plain offset)
+operands_lack_colon (statement (statement_kind.Insn (insn.JumpLong offset))) h = plain_lacks 58 refl (offset_text offset) (offset_plain offset)
+operands_lack_colon (statement (statement_kind.Insn (insn.Branch comparison width dst operand offset))) h = lacks_listed (register_text dst) (listed (operand_text operand) (offset_text offset)) (plain_lacks 58 refl (register_text dst) (register_plain dst)) (lacks_listed (operand_text operand) (offset_text offset) (lacks_operand 58 refl operand) (plain_lacks 58 refl (offset_text offset) (offset_plain offset)))
+operands_lack_colon (statement (statement_kind.Insn (insn.Call helper))) h = plain_lacks 58 refl (signed_decimal helper) (signed_decimal_plain helper)
+operands_lack_colon (statement (statement_kind.Insn (insn.CallLocal offset))) h = plain_lacks 58 refl (offset_text offset) (offset_plain offset)
+operands_lack_colon (statement (statement_kind.Insn insn.Exit)) h = tt
+operands_lack_colon (statement (statement_kind.Insn (insn.Load size dst src offset))) h = lacks_listed (register_text dst) (place_text src offset) (plain_lacks 58 refl (register_text dst) (register_plain dst)) (place_lacks_colon src offset)
+operands_lack_colon (statement (statement_kind.Insn (insn.LoadSigned size dst src offset))) h = lacks_listed (register_text dst) (place_text src offset) (plain_lacks 58 refl (register_text dst) (register_plain dst)) (place_lacks_colon src offset)
+operands_lack_colon (statement (statement_kind.Insn (insn.StoreImm size dst offset imm))) h = lacks_listed (place_text dst offset) (signed_decimal imm) (place_lacks_colon dst offset) (plain_lacks 58 refl (signed_decimal imm) (signed_decimal_plain imm))
+operands_lack_colon (statement (statement_kind.Insn (insn.Store size dst offset src))) h = lacks_listed (place_text dst offset) (register_text src) (place_lacks_colon dst offset) (plain_lacks 58 refl (register_text src) (register_plain src))
+operands_lack_colon (statement (statement_kind.Insn (insn.LoadWide dst value))) h = lacks_listed (register_text dst) (wide_text value) (plain_lacks 58 refl (register_text dst) (register_plain dst)) (plain_lacks 58 refl (wide_text value) (wide_plain value))
+operands_lack_colon (statement (statement_kind.Slot word)) h = plain_lacks 58 refl (wide_text word) (wide_plain word)
+operands_lack_colon (label name) h = tt
+operands_lack_colon (jump jump_kind.Near name) h = name_lacks 58 refl name h
+operands_lack_colon (jump jump_kind.Long name) h = name_lacks 58 refl name h
+operands_lack_colon (jump jump_kind.CallLocal name) h = name_lacks 58 refl name h
+operands_lack_colon (jump (jump_kind.Branch comparison width dst operand) name) h = lacks_listed (register_text dst) (listed (operand_text operand) name) (plain_lacks 58 refl (register_text dst) (register_plain dst)) (lacks_listed (operand_text operand) name (lacks_operand 58 refl operand) (name_lacks 58 refl name h))
+
+code_lacks_colon : (i : Item) (m : Mnemonic) → HasLine i → mnemonic_of i ≡ Some m → Lacks 58 (item_text i)
+code_lacks_colon i m h e = subst (λ t. Lacks 58 t) (sym (line_halves i m e)) (lacks_append 58 (mnemonic_text m) (32 ∷ operands_text i) (mnemonic_lacks 58 refl m) (apart 32 58 refl, operands_lack_colon i h))
+
+named_lacks_space : (name : List ℕ) → IsName name → Lacks 32 (name ++ 58 ∷ [])
+named_lacks_space name h = lacks_append 32 name (58 ∷ []) (name_lacks 32 refl name h) (apart 58 32 refl, tt)
+
+-- a line that ends with a colon is a label's
+pub label_only : (name : List ℕ) (i : Item) → HasLine i → name ++ 58 ∷ [] ≡ item_text i → i ≡ label name
+label_only name i h e = elim (kind_of i) [
+  | inl k ↦ absurd (lacks_gone 58 (item_text i) name [] (code_lacks_colon i k.0 h k.1) (sym e))
+  | inr k ↦ elim k [
+    | inl p ↦ absurd (lacks_gone 58 (codes "exit") name [] (lacks_by 58 (codes "exit") refl) (sym (e ∙ ap item_text p)))
+    | inr n ↦ n.1 ∙ ap label (sym (last_same 58 name n.0 (e ∙ ap item_text n.1)))
+  ]
+]
+
+-- a line with a space is that of a mnemonic and operands
+pub code_only : (word operands : List ℕ) (i : Item) → Lacks 32 word → HasLine i → word ++ 32 ∷ operands ≡ item_text i → (m : Mnemonic) × (mnemonic_of i ≡ Some m) × (word ≡ mnemonic_text m) × (operands ≡ operands_text i)
+code_only word operands i w h e = elim (kind_of i) [
+  | inl k ↦ let t = split_same 32 word operands (mnemonic_text k.0) (operands_text i) w (mnemonic_lacks 32 refl k.0) (e ∙ line_halves i k.0 k.1) in (k.0, k.1, t.0, t.1)
+  | inr k ↦ elim k [
+    | inl p ↦ absurd (lacks_gone 32 (codes "exit") word operands (lacks_by 32 (codes "exit") refl) (sym (e ∙ ap item_text p)))
+    | inr n ↦ absurd (lacks_gone 32 (n.0 ++ 58 ∷ []) word operands (named_lacks_space n.0 (subst (λ j. HasLine j) n.1 h)) (sym (e ∙ ap item_text n.1)))
+  ]
+]
+
+-- `exit` is the exit's line
+pub exit_only : (i : Item) → HasLine i → codes "exit" ≡ item_text i → i ≡ exit
+exit_only i h e = elim (kind_of i) [
+  | inl k ↦ absurd (lacks_gone 32 (codes "exit") (mnemonic_text k.0) (operands_text i) (lacks_by 32 (codes "exit") refl) (e ∙ line_halves i k.0 k.1))
+  | inr k ↦ elim k [
+    | inl p ↦ p
+    | inr n ↦ absurd (lacks_gone 58 (codes "exit") n.0 [] (lacks_by 58 (codes "exit") refl) (e ∙ ap item_text n.1))
+  ]
+]

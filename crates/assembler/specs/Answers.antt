@@ -1,0 +1,67 @@
+-- What the passes and their parts answer.
+use Rattle.std.specs.Prelude.{◌≡◌, ℕ, ◌≤◌, List, [], Option, Some, None, Result, Ok, Err, Vec, if◌then◌else◌, map}
+use Rattle.std.specs.Global.{Global}
+use Rattle.std.specs.BTreeMap.{get_by_text}
+use Rattle.assembler.specs.Assembles.{Assembles}
+use Rattle.assembler.specs.Cutting.{lines_of}
+use Rattle.assembler.specs.FirstPass.{Scans}
+use Rattle.assembler.specs.Items.{Item, statement, label, jump, item_of, slots_of}
+use Rattle.assembler.specs.Labels.{names, place_of}
+use Rattle.assembler.specs.LineAnswers.{ReadsAs}
+use Rattle.assembler.specs.Source.{Source}
+use Rattle.assembler.specs.declared.asm_error.AsmError.{AsmError}
+use Rattle.assembler.specs.declared.asm_error.AsmError.TheVariants.{A1, A2, A4, Memory}
+use Rattle.assembler.specs.declared.line.Line.{Line}
+use Rattle.assembler.specs.declared.line_error.LineError.TheVariants.{NoForm, OutOfRange}
+use Rattle.assembler.specs.declared.scan.Scanned.{Scanned}
+
+-- the one reading of the line of this number
+abbrev pub ReadsAt : List ℕ → ℕ → Result Line AsmError → Type 0
+ReadsAt text number (Ok l) = ReadsAs text (Ok l)
+ReadsAt text number (Err (A1 n)) = (n ≡ number) × ReadsAs text (Err NoForm)
+ReadsAt text number (Err (A2 n)) = (n ≡ number) × ReadsAs text (Err OutOfRange)
+ReadsAt text number (Err _) = ⊥
+
+-- the map has no slot for the label that the line names
+abbrev pub IsFreeIn : (List ℕ → Option ℕ) → Item → Type 0
+IsFreeIn labels (statement x) = Unit {0}
+IsFreeIn labels (label name) = labels name ≡ None
+IsFreeIn labels (jump j name) = Unit {0}
+
+-- the label that the line names gets the slot, where it has none
+abbrev pub AddsLabel : (List ℕ → Option ℕ) → (List ℕ → Option ℕ) → Item → ℕ → ℕ → Result (Unit {0}) AsmError → Type 0
+AddsLabel old new i slot number (Ok _) = IsFreeIn old i × ((q : List ℕ) → new q ≡ (if names i q then Some slot else old q))
+AddsLabel old new i slot number (Err (A4 n)) = (n ≡ number) × (IsFreeIn old i → ⊥)
+AddsLabel old new i slot number (Err Memory) = Unit {0}
+AddsLabel old new i slot number (Err _) = ⊥
+
+-- the first pass ends so, and in no other way
+abbrev pub ScansOnlyTo : List (List ℕ) → Result (List Item) AsmError → Type 0
+ScansOnlyTo lines r = Scans [] lines r × ((s : Result (List Item) AsmError) → Scans [] lines s → s ≡ r)
+
+-- the map has the slots of the labels
+abbrev pub HasPlaces : (List ℕ → Option ℕ) → List Item → Type 0
+HasPlaces labels items = (q : List ℕ) → labels q ≡ place_of items q
+
+abbrev pub FirstPass : List (List ℕ) → Result Scanned AsmError → Type 0
+FirstPass lines (Ok s) = ScansOnlyTo lines (Ok (map item_of s.lines.items)) × (slots_of (map item_of s.lines.items) ≤ 65536) × HasPlaces (λ q. get_by_text s.labels q) (map item_of s.lines.items)
+FirstPass lines (Err Memory) = Unit {0}
+FirstPass lines (Err error) = ScansOnlyTo lines (Err error)
+
+-- the second pass's answer, but for want of memory
+abbrev pub Emits : Result (List ℕ) AsmError → Result (Vec ℕ Global) AsmError → Type 0
+Emits r (Ok code) = r ≡ Ok code.items
+Emits r (Err Memory) = Unit {0}
+Emits r (Err error) = r ≡ Err error
+
+-- the answer, but for want of memory
+abbrev pub IsAnswer : Result (List ℕ) AsmError → Result (Vec ℕ Global) AsmError → Type 0
+IsAnswer r (Ok code) = r ≡ Ok code.items
+IsAnswer r (Err Memory) = Unit {0}
+IsAnswer r (Err error) = r ≡ Err error
+
+-- the code that the text is the source of, or the refusal of the first line that keeps it from being one
+abbrev pub Answers : List ℕ → Result (Vec ℕ Global) AsmError → Type 0
+Answers text (Ok code) = Source text code.items
+Answers text (Err Memory) = Unit {0}
+Answers text (Err error) = Assembles (lines_of text) (Err error)

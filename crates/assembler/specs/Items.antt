@@ -1,0 +1,86 @@
+-- What lines say.
+use Rattle.std.specs.Prelude.{ℕ, ◌+◌, ◌^◌, ◌<◌, Bool, ◌&&◌, ◌||◌, IsTrue, true, List, [], ◌∷◌, ◌++◌, codes, nat_eq, nat_le}
+use Rattle.insn_codec.specs.Lines.{comparison_text, operand_text, register_text, width_text}
+use Rattle.insn_codec.specs.Spelling.{IsOperand}
+use Rattle.insn_codec.specs.Statements.{IsStatement, statement_slots, statement_text}
+use Rattle.insn_codec.specs.declared.insn.Insn.TheVariants.{LoadWide}
+use Rattle.insn_codec.specs.declared.statement.Statement.{Statement}
+use Rattle.insn_codec.specs.declared.statement.Statement.TheVariants.{Insn, Slot}
+use Rattle.assembler.specs.declared.jump.Jump.{Jump}
+use Rattle.assembler.specs.declared.jump.Jump.TheVariants.{Near, Long, CallLocal, Branch}
+use Rattle.assembler.specs.declared.line.Line.{Line}
+use Rattle.assembler.specs.declared.line.Line.TheVariants as line
+
+-- what a line says: a statement, the name of the next slot, or a jump to a name
+pub data Item : Type 0 where
+  statement : Statement → Item
+  label : List ℕ → Item
+  jump : Jump → List ℕ → Item
+
+-- what a line that was read says
+abbrev pub item_of : Line → Item
+item_of (line.Statement x) = statement x
+item_of (line.Label name) = label name.now
+item_of (line.Jump j name) = jump j name.now
+
+-- a jump's line up to where its offset stands
+abbrev pub jump_text : Jump → List ℕ
+jump_text Near = codes "ja "
+jump_text Long = codes "ja32 "
+jump_text CallLocal = codes "call_local "
+jump_text (Branch comparison width dst operand) = comparison_text comparison ++ width_text width ++ codes " " ++ register_text dst ++ codes ", " ++ operand_text operand ++ codes ", "
+
+-- the line that says it
+abbrev pub item_text : Item → List ℕ
+item_text (statement x) = statement_text x
+item_text (label name) = name ++ codes ":"
+item_text (jump j name) = jump_text j ++ name
+
+-- a letter or an underscore
+abbrev pub begins_name : ℕ → Bool
+begins_name b = (nat_le 97 b && nat_le b 122) || ((nat_le 65 b && nat_le b 90) || nat_eq b 95)
+
+-- a letter, an underscore or a digit
+abbrev pub goes_on_name : ℕ → Bool
+goes_on_name b = begins_name b || (nat_le 48 b && nat_le b 57)
+
+abbrev pub all_go_on : List ℕ → Bool
+all_go_on [] = true
+all_go_on (b ∷ bs) = goes_on_name b && all_go_on bs
+
+-- an identifier: a letter or an underscore, and then any of letters, underscores and digits
+abbrev pub IsName : List ℕ → Type 0
+IsName [] = ⊥
+IsName (b ∷ bs) = IsTrue (begins_name b) × IsTrue (all_go_on bs)
+
+-- sixteen digits hold numbers of 64 bits
+abbrev pub HasDigits : Statement → Type 0
+HasDigits (Insn (LoadWide dst value)) = value < 2 ^ 64
+HasDigits (Insn _) = Unit {0}
+HasDigits (Slot word) = word < 2 ^ 64
+
+-- it has a line: names are identifiers, and wide words have their digits; an immediate or an offset can be any number
+abbrev pub HasLine : Item → Type 0
+HasLine (statement x) = HasDigits x
+HasLine (label name) = IsName name
+HasLine (jump j name) = IsName name
+
+abbrev pub JumpInRange : Jump → Type 0
+JumpInRange (Branch comparison width dst operand) = IsOperand operand
+JumpInRange _ = Unit {0}
+
+-- its immediate and its offset are in their ranges
+abbrev pub InRange : Item → Type 0
+InRange (statement x) = IsStatement x
+InRange (label name) = Unit {0}
+InRange (jump j name) = JumpInRange j
+
+-- how many slots it takes
+abbrev pub item_slots : Item → ℕ
+item_slots (statement x) = statement_slots x
+item_slots (label name) = 0
+item_slots (jump j name) = 1
+
+abbrev pub slots_of : List Item → ℕ
+slots_of [] = 0
+slots_of (i ∷ is) = item_slots i + slots_of is

@@ -1,0 +1,23 @@
+-- Which slot a label names.
+use Rattle.std.specs.Prelude.{◌≡◌, ℕ, ◌+◌, Bool, false, List, [], ◌∷◌, Option, Some, None, if◌then◌else◌, bytes_eq}
+use Rattle.assembler.specs.Items.{Item, statement, label, jump, item_slots}
+
+-- it is the label's line
+abbrev pub names : Item → List ℕ → Bool
+names (label name) q = bytes_eq name q
+names (statement x) q = false
+names (jump j name) q = false
+
+abbrev pub place_from : ℕ → List Item → List ℕ → Option ℕ
+place_from slot [] q = None
+place_from slot (i ∷ is) q = if names i q then Some slot else place_from (slot + item_slots i) is q
+
+-- the slots before the first line that names the label
+abbrev pub place_of : List Item → List ℕ → Option ℕ
+place_of items q = place_from 0 items q
+
+-- no line before names the label that it names
+abbrev pub IsFree : List Item → Item → Type 0
+IsFree before (statement x) = Unit {0}
+IsFree before (label name) = place_of before name ≡ None
+IsFree before (jump j name) = Unit {0}

@@ -1,0 +1,19 @@
+-- Laws on assembling.
+use Rattle.std.specs.Prelude.{◌≡◌, ◌↔◌, ℕ, ◌/◌, ◌%◌, ◌<◌, ◌≤◌, List, Result, Ok, All, length}
+use Rattle.insn_codec.specs.Statements.{Listing}
+use Rattle.assembler.specs.Assembles.{Assembles}
+use Rattle.assembler.specs.Cutting.{lines_of}
+use Rattle.assembler.specs.Source.{Source}
+use Rattle.assembler.specs.declared.asm_error.AsmError.{AsmError}
+
+-- text is the source of exactly the code that assembling it answers
+abbrev pub SourceIsAssembled : Type 0
+SourceIsAssembled = (text bytes : List ℕ) → (Source text bytes ↔ Assembles (lines_of text) (Ok bytes))
+
+-- assembling has one answer
+abbrev pub OneAnswer : Type 0
+OneAnswer = (lines : List (List ℕ)) (r s : Result (List ℕ) AsmError) → Assembles lines r → Assembles lines s → r ≡ s
+
+-- the listing of code, of at most 65,536 whole slots, is its source
+abbrev pub ListingIsSource : Type 0
+ListingIsSource = (code text : List ℕ) → All (λ b. b < 256) code → length code % 8 ≡ 0 → length code / 8 ≤ 65536 → Listing code text → Source text code

@@ -1,0 +1,17 @@
+pub mod Items
+pub mod Reading
+pub mod Numbers
+pub mod Hex
+pub mod Mnemonics
+pub mod Parts
+pub mod Targets
+pub mod Forms
+pub mod LineAnswers
+pub mod Cutting
+pub mod Labels
+pub mod FirstPass
+pub mod SecondPass
+pub mod Assembles
+pub mod Source
+pub mod Answers
+pub mod Laws

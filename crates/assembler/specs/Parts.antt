@@ -1,0 +1,18 @@
+-- What the parts of a line say.
+use Rattle.std.specs.Prelude.{◌≡◌, ℤ, FitsSigned}
+use Rattle.std.specs.Int.{w32}
+use Rattle.insn_codec.specs.declared.operand.Operand.{Operand}
+use Rattle.insn_codec.specs.declared.operand.Operand.TheVariants.{Imm, Reg}
+use Rattle.assembler.specs.declared.numerals.Numeral.{Numeral}
+use Rattle.assembler.specs.declared.numerals.Numeral.TheVariants.{Small, Wide}
+use Rattle.assembler.specs.declared.operands.Value.{Value}
+use Rattle.assembler.specs.declared.operands.Value.TheVariants.{Register, Number}
+
+-- a numeral stands for this number: one of 32 bits signed, or any outside
+abbrev pub NumeralIs : Numeral → ℤ → Type 0
+NumeralIs (Small n) z = z ≡ n
+NumeralIs Wide z = FitsSigned w32 z → ⊥
+
+abbrev pub ValueIs : Value → Operand → Type 0
+ValueIs (Register r) o = o ≡ Reg r
+ValueIs (Number n) o = (z : ℤ) × NumeralIs n z × (o ≡ Imm z)

@@ -1,0 +1,25 @@
+//! The laws of assembling, each proved as the contract of a function that does nothing.
+
+ghost use Rattle.assembler.specs.Laws.{ListingIsSource, OneAnswer, SourceIsAssembled};
+ghost use Rattle.assembler.specs.Reading.{OneReading};
+
+use insn_codec::{no_line_feed, statement_is_spelled};
+
+/// Text is the source of exactly the code that assembling it answers.
+pub fn source_is_assembled()
+    ensures { SourceIsAssembled }
+{}
+
+/// Each line reads in one way, and so assembling has one answer.
+pub fn one_answer()
+    ensures one_reading { OneReading }
+    ensures one_answer { OneAnswer }
+{}
+
+/// The listing of code is its source, so that assembling it answers that code.
+pub fn listing_is_source()
+    ensures { ListingIsSource }
+{
+    no_line_feed();
+    statement_is_spelled();
+}

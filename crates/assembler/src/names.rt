@@ -1,0 +1,42 @@
+//! Names of labels.
+ghost use Rattle.std.specs.Prelude.{◌≡◌, ◌↔◌, true};
+ghost use Rattle.assembler.specs.Items.{IsName, all_go_on, begins_name, goes_on_name};
+
+/// Whether the text is an identifier: a letter or an underscore, and then any of letters, underscores and digits.
+pub(crate) fn is_name(text: &str) -> bool
+    ensures { (result ≡ true) ↔ IsName text.now }
+{
+    match text.as_bytes() {
+        [] => false,
+        [first, rest @ ..] => {
+            if begins_name(*first) {
+                all_go_on(rest)
+            } else {
+                false
+            }
+        }
+    }
+}
+
+fn all_go_on(bytes: &[u8]) -> bool
+    ensures { result ≡ all_go_on bytes.now }
+{
+    for byte in bytes {
+        if !goes_on_name(*byte) {
+            return false;
+        }
+    }
+    true
+}
+
+fn begins_name(byte: u8) -> bool
+    ensures { result ≡ begins_name byte }
+{
+    byte.is_ascii_lowercase() || byte.is_ascii_uppercase() || byte == b'_'
+}
+
+fn goes_on_name(byte: u8) -> bool
+    ensures { result ≡ goes_on_name byte }
+{
+    begins_name(byte) || byte.is_ascii_digit()
+}
