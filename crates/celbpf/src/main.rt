@@ -30,7 +30,9 @@ fn done<R: AllocGlobal + Env + Files + Input + Print>(rt: &R) -> Result<Done, Re
     let order = order(rt.alloc(), parts.as_slice())?;
     let mut disk = Disk::new(rt);
     match &order {
-        Order::RunImage { .. } => Ok(perform(rt.alloc(), &order, &mut disk)?),
+        Order::RunImage { .. } | Order::Assemble { .. } | Order::List { .. } => {
+            Ok(perform(rt.alloc(), &order, &mut disk)?)
+        }
         Order::Debug { image } => {
             let mut input = Counting::new(rt.reader());
             let mut output = Counting::new(io::writer(rt));

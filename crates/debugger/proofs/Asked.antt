@@ -1,62 +1,87 @@
 -- Commands that stand for one another.
-use Rattle.std.proofs.Common.{◌≡◌, ℕ, ◌+◌, ◌-◌, ◌<◌, Bool, true, false, ◌&&◌, List, [], ◌∷◌, ◌++◌, length, length-take, take, nat_le, if◌then◌else◌, codes, refl, sym, ap, ◌∙◌, inl, inr, arith}
+use Rattle.std.proofs.Common.{◌≡◌, ℕ, ◌+◌, ◌-◌, ◌<◌, Bool, true, false, not, ◌&&◌, List, [], ◌∷◌, ◌++◌, length, length-take, take, nat_le, if◌then◌else◌, codes, refl, sym, ap, ◌∙◌, inl, inr, arith}
 use Rattle.std.proofs.lemmas.Bool.{cases_lt}
 use Rattle.std.proofs.lemmas.Bool.Decides.{nat_tests}
 use Rattle.std.proofs.lemmas.List.{take_all, length_push}
 use Rattle.std.proofs.Math.Seq.{take-append_seam}
 use Rattle.bpf_machine.specs.State.{State}
 use Rattle.debugger.specs.Commands.{capped, capped_command, command_of}
-use Rattle.debugger.specs.Answers.{World, Answer, in_range, moves_to, out_of_range, says, answer_of, may_be_refused, is_refused, answer_to}
+use Rattle.history.specs.Search.{first_stop}
+use Rattle.debugger.specs.Breakpoints.{has_breakpoint, with_breakpoint, without_breakpoint}
+use Rattle.debugger.specs.Answers.{World, Answer, is_slot, in_range, can_go_on, can_go_back, can_go_to, break_text, clear_text, sets_breakpoints, moves_to, out_of_range, says, answer_of, may_be_refused, is_refused, answer_to}
 use Rattle.debugger.specs.Told.{Answers}
 use Rattle.debugger.specs.declared.command.Command.{Command}
-use Rattle.debugger.specs.declared.command.Command.TheVariants.{Forward, Back, Registers, Quit, Unknown}
+use Rattle.debugger.specs.declared.command.Command.TheVariants.{SetBreakpoint, ClearBreakpoint, Forward, Back, Go, Continue, ReverseContinue, Registers, Listing, Quit, Unknown}
 
--- a number is in range where the one that stands for it is, and is then that one
-in_range-capped : (n : ℕ) → in_range (capped n) ≡ in_range n
-in_range-capped n =
-    elim (cases_lt 1000000 n) [
+-- what is chosen by a test that no number above 1,000,000,000 passes
+by_range : {A : Type 0} (test : ℕ → Bool) → ((m : ℕ) → 1000000000 < m → test m ≡ false) → (f : ℕ → A) (other : A) (n : ℕ) → (if test (capped n) then f (capped n) else other) ≡ (if test n then f n else other)
+by_range test out f other n =
+    elim (cases_lt 1000000000 n) [
       | inl large ↦
-          let most : capped n ≡ 1000001 = omega (arith, large) in
-          let out : in_range n ≡ false = grind (arith, nat_tests, large) in
-          ap in_range most ∙ sym out
+          let most : 1000000000 < capped n = omega (arith, large) in
+          rw (out (capped n) most, out n large) refl
       | inr small ↦
           let same : capped n ≡ n = omega (arith, small) in
-          ap in_range same
+          ap (λ (m : ℕ). if test m then f m else other) same
     ]
 
-capped-in_range : (n : ℕ) → in_range n ≡ true → capped n ≡ n
-capped-in_range n inside = grind (arith, nat_tests)
+-- such a test itself
+by_test : (test : ℕ → Bool) → ((m : ℕ) → 1000000000 < m → test m ≡ false) → (n : ℕ) → test (capped n) ≡ test n
+by_test test out n =
+    elim (cases_lt 1000000000 n) [
+      | inl large ↦
+          let most : 1000000000 < capped n = omega (arith, large) in
+          out (capped n) most ∙ sym (out n large)
+      | inr small ↦
+          let same : capped n ≡ n = omega (arith, small) in
+          ap test same
+    ]
 
--- what is chosen by a number's range
-by_range : {A : Type 0} (f : ℕ → A) (t : ℕ → Bool) (other : A) (n : ℕ) (inside : Bool) → in_range n ≡ inside → (if in_range (capped n) && t (capped n) then f (capped n) else other) ≡ (if in_range n && t n then f n else other)
-by_range f t other n true inside =
-    let same = capped-in_range n inside in
-    ap (λ (m : ℕ). if in_range m && t m then f m else other) same
-by_range f t other n false outside =
-    let out : in_range (capped n) ≡ false = in_range-capped n ∙ outside in
-    rw (out, outside) refl
+slot_out : (m : ℕ) → 1000000000 < m → is_slot m ≡ false
+slot_out m large = grind (arith, nat_tests, large)
+
+to_out : (m : ℕ) → 1000000000 < m → can_go_to m ≡ false
+to_out m large = grind (arith, nat_tests, large)
+
+range_out : (m : ℕ) → 1000000000 < m → in_range m ≡ false
+range_out m large = grind (arith, nat_tests, large)
+
+on_out : (k m : ℕ) → 1000000000 < m → can_go_on k m ≡ false
+on_out k m large = ap (λ (b : Bool). b && nat_le (k + m) 1000000000) (range_out m large)
+
+back_out : (k m : ℕ) → 1000000000 < m → can_go_back k m ≡ false
+back_out k m large = ap (λ (b : Bool). b && nat_le m k) (range_out m large)
+
+new_out : (slots : List ℕ) (m : ℕ) → 1000000000 < m → is_slot m && not (has_breakpoint m slots) ≡ false
+new_out slots m large = ap (λ (b : Bool). b && not (has_breakpoint m slots)) (slot_out m large)
 
 answer_of-capped : (s : State) (w : World) (c : Command) → answer_of s w (capped_command c) ≡ answer_of s w c
 unfolding answer_of
-answer_of-capped s w (Forward n) = by_range (λ (m : ℕ). moves_to s w (w.place + m)) (λ (m : ℕ). nat_le (w.place + m) 1000000000) (out_of_range w) n (in_range n) refl
-answer_of-capped s w (Back n) = by_range (λ (m : ℕ). moves_to s w (w.place - m)) (λ (m : ℕ). nat_le m w.place) (out_of_range w) n (in_range n) refl
+answer_of-capped s w (SetBreakpoint n) = by_range is_slot slot_out (λ (m : ℕ). sets_breakpoints w (with_breakpoint m w.breakpoints) (break_text m)) (out_of_range w) n
+answer_of-capped s w (ClearBreakpoint n) = by_range is_slot slot_out (λ (m : ℕ). sets_breakpoints w (without_breakpoint m w.breakpoints) (clear_text m)) (out_of_range w) n
+answer_of-capped s w (Forward n) = by_range (can_go_on w.place) (on_out w.place) (λ (m : ℕ). moves_to s w (w.place + m)) (out_of_range w) n
+answer_of-capped s w (Back n) = by_range (can_go_back w.place) (back_out w.place) (λ (m : ℕ). moves_to s w (w.place - m)) (out_of_range w) n
+answer_of-capped s w (Go k) = by_range can_go_to to_out (moves_to s w) (out_of_range w) k
+answer_of-capped s w (Continue n) = by_range (can_go_on w.place) (on_out w.place) (λ (m : ℕ). moves_to s w (first_stop w.breakpoints s w.place m)) (out_of_range w) n
+answer_of-capped s w ReverseContinue = refl
 answer_of-capped s w Registers = refl
+answer_of-capped s w Listing = refl
 answer_of-capped s w Quit = refl
 answer_of-capped s w Unknown = refl
 
-by_range-only : (t : ℕ → Bool) (n : ℕ) (inside : Bool) → in_range n ≡ inside → in_range (capped n) && t (capped n) ≡ in_range n && t n
-by_range-only t n true inside = ap (λ (m : ℕ). in_range m && t m) (capped-in_range n inside)
-by_range-only t n false outside =
-    let out : in_range (capped n) ≡ false = in_range-capped n ∙ outside in
-    rw (out, outside) refl
-
-may_be_refused-capped : (w : World) (c : Command) → may_be_refused w (capped_command c) ≡ may_be_refused w c
+may_be_refused-capped : (s : State) (w : World) (c : Command) → may_be_refused s w (capped_command c) ≡ may_be_refused s w c
 unfolding may_be_refused
-may_be_refused-capped w (Forward n) = by_range-only (λ (m : ℕ). nat_le (w.place + m) 1000000000) n (in_range n) refl
-may_be_refused-capped w (Back n) = by_range-only (λ (m : ℕ). nat_le m w.place) n (in_range n) refl
-may_be_refused-capped w Registers = refl
-may_be_refused-capped w Quit = refl
-may_be_refused-capped w Unknown = refl
+may_be_refused-capped s w (SetBreakpoint n) = by_test (λ (m : ℕ). is_slot m && not (has_breakpoint m w.breakpoints)) (new_out w.breakpoints) n
+may_be_refused-capped s w (ClearBreakpoint n) = refl
+may_be_refused-capped s w (Forward n) = by_test (can_go_on w.place) (on_out w.place) n
+may_be_refused-capped s w (Back n) = by_test (can_go_back w.place) (back_out w.place) n
+may_be_refused-capped s w (Go k) = by_test can_go_to to_out k
+may_be_refused-capped s w (Continue n) = by_test (can_go_on w.place) (on_out w.place) n
+may_be_refused-capped s w ReverseContinue = refl
+may_be_refused-capped s w Registers = refl
+may_be_refused-capped s w Listing = refl
+may_be_refused-capped s w Quit = refl
+may_be_refused-capped s w Unknown = refl
 
 -- a line whose command was obeyed
 pub answers_granted : (s : State) (w next : World) (line : List ℕ) (c : Command) (text : List ℕ) → c ≡ capped_command (command_of line) → (answer_of s w c).next ≡ next → (answer_of s w c).text ≡ text → Answers s w line next text
@@ -71,10 +96,10 @@ answers_granted s w next line c text asked n t =
     }
 
 -- a line at which memory was refused
-pub answers_refused : (s : State) (w next : World) (line : List ℕ) (c : Command) (text : List ℕ) → c ≡ capped_command (command_of line) → may_be_refused w c ≡ true → w ≡ next → codes "? memory\n" ≡ text → Answers s w line next text
+pub answers_refused : (s : State) (w next : World) (line : List ℕ) (c : Command) (text : List ℕ) → c ≡ capped_command (command_of line) → may_be_refused s w c ≡ true → w ≡ next → codes "? memory\n" ≡ text → Answers s w line next text
 unfolding answer_to
 answers_refused s w next line c text asked may n t =
-    let r : may_be_refused w (command_of line) ≡ true = sym (may_be_refused-capped w (command_of line)) ∙ ap (may_be_refused w) (sym asked) ∙ may in
+    let r : may_be_refused s w (command_of line) ≡ true = sym (may_be_refused-capped s w (command_of line)) ∙ ap (may_be_refused s w) (sym asked) ∙ may in
     record {
       mark = true;
       mark_is = r;
@@ -95,17 +120,17 @@ command_of-take line =
       | inr short ↦ ap command_of (take_all 65 line (omega (arith, short)))
     ]
 
-is_refused-take : (w : World) (line : List ℕ) (mark : Bool) → is_refused w (take 65 line, mark) ≡ is_refused w (line, mark)
-is_refused-take w line mark = ap (λ (c : Command). mark && may_be_refused w c) (command_of-take line)
+is_refused-take : (s : State) (w : World) (line : List ℕ) (mark : Bool) → is_refused s w (take 65 line, mark) ≡ is_refused s w (line, mark)
+is_refused-take s w line mark = ap (λ (c : Command). mark && may_be_refused s w c) (command_of-take line)
 
 answer_to-take : (s : State) (w : World) (line : List ℕ) (mark : Bool) → answer_to s w (take 65 line, mark) ≡ answer_to s w (line, mark)
 unfolding answer_to
-answer_to-take s w line mark = ap (λ (c : Command). if mark && may_be_refused w c then says w (codes "? memory\n") else answer_of s w c) (command_of-take line)
+answer_to-take s w line mark = ap (λ (c : Command). if mark && may_be_refused s w c then says w (codes "? memory\n") else answer_of s w c) (command_of-take line)
 
 pub answers_whole : (s : State) (w next : World) (line text : List ℕ) → Answers s w (take 65 line) next text → Answers s w line next text
 answers_whole s w next line text a = record {
   mark = a.mark;
-  mark_is = sym (is_refused-take w line a.mark) ∙ a.mark_is;
+  mark_is = sym (is_refused-take s w line a.mark) ∙ a.mark_is;
   next_is = ap (λ (x : Answer). x.next) (sym (answer_to-take s w line a.mark)) ∙ a.next_is;
   text_is = ap (λ (x : Answer). x.text) (sym (answer_to-take s w line a.mark)) ∙ a.text_is;
 }

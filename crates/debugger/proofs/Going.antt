@@ -20,7 +20,7 @@ unfolding hear
 hear-off s t l off = rw off refl
 
 -- one line more
-heard-more : (s : State) (lines : List (List ℕ)) (t : Talk) (line : List ℕ) (mark : Bool) → Heard s lines t → t.world.ended ≡ false → is_refused t.world (line, mark) ≡ mark → Heard s (lines ++ line ∷ []) (with_answer s t (line, mark))
+heard-more : (s : State) (lines : List (List ℕ)) (t : Talk) (line : List ℕ) (mark : Bool) → Heard s lines t → t.world.ended ≡ false → is_refused s t.world (line, mark) ≡ mark → Heard s (lines ++ line ∷ []) (with_answer s t (line, mark))
 heard-more s lines t line mark h on right = record {
   marked = h.marked ++ (line, mark) ∷ [];
   lines_are = map-append (λ (l : Line). l.0) h.marked ((line, mark) ∷ []) ∙ ap (λ (ls : List (List ℕ)). ls ++ line ∷ []) h.lines_are;
@@ -49,14 +49,14 @@ heard-off s lines more t h off = record {
   marks = fold-append (λ (n : ℕ) (l : Line). n + one_if l.1) 0 h.marked (map granted more) ∙ granted-marks _ more ∙ h.marks;
 }
 
-pub going_start : (s : State) (input before : List ℕ) (left written : Option (List ℕ)) (line : List ℕ) (k : ℕ) → left ≡ Some input → written ≡ Some before → line ≡ [] → k ≡ 0 → Going s input before 0 left written line k
-going_start s input before left written line k l w n e = record {
+pub going_start : (s : State) (input before : List ℕ) (left written : Option (List ℕ)) (line slots : List ℕ) (k : ℕ) → left ≡ Some input → written ≡ Some before → line ≡ [] → slots ≡ [] → k ≡ 0 → Going s input before 0 left written line slots k
+going_start s input before left written line slots k l w n none e = record {
   talk = first_talk;
   lines = record { marked = []; lines_are = ap (λ (p : Pieces). p.0) (sym cut-none); talk_is = refl; marks = refl };
   rest = n ∙ ap (λ (p : Pieces). take 65 p.1) (sym cut-none);
   left_is = l;
   written_is = w ∙ ap Some (sym (append-nil before));
-  world_is = ap (λ (j : ℕ). world_at j false) (sym e);
+  world_is = λ i. world_at (sym none i) (sym e i) false;
   within = omega arith;
 }
 
@@ -68,8 +68,8 @@ pub end_read : (input : List ℕ) (i : ℕ) (left after : Option (List ℕ)) →
 end_read input i left after e gives = let g = gives (drop i input) e in (g.0, g.1 ∙ ap Some (sym g.0))
 
 -- a byte that ends no line
-pub going_byte : (s : State) (input before : List ℕ) (i b : ℕ) (left after written : Option (List ℕ)) (line more : List ℕ) (k : ℕ) → Going s input before i left written line k → ((bytes : List ℕ) → left ≡ Some bytes → GivesByte bytes after (Some b)) → (b ≡ 10 → ⊥) → more ≡ take 65 (line ++ b ∷ []) → Going s input before (i + 1) after written more k
-going_byte s input before i b left after written line more k g gives plain e =
+pub going_byte : (s : State) (input before : List ℕ) (i b : ℕ) (left after written : Option (List ℕ)) (line more slots : List ℕ) (k : ℕ) → Going s input before i left written line slots k → ((bytes : List ℕ) → left ≡ Some bytes → GivesByte bytes after (Some b)) → (b ≡ 10 → ⊥) → more ≡ take 65 (line ++ b ∷ []) → Going s input before (i + 1) after written more slots k
+going_byte s input before i b left after written line more slots k g gives plain e =
     let one = byte_read input i b left after g.left_is gives in
     let c = cut-plain input i b one.0 plain in
     record {
@@ -98,10 +98,10 @@ record Said (s : State) (before : List ℕ) (lines : List (List ℕ)) (line : Li
   said_written : new ≡ Some (before ++ talk.text)
   said_world : talk.world ≡ next
 
-said_line : (s : State) (input before : List ℕ) (i : ℕ) (left written new : Option (List ℕ)) (line : List ℕ) (k : ℕ) (next : World) → Going s input before i left written line k → HeardLine s (world_at k false) line next written new → Said s before (cut (take i input)).0 (cut (take i input)).1 next new
-said_line s input before i left written new line k next g h =
+said_line : (s : State) (input before : List ℕ) (i : ℕ) (left written new : Option (List ℕ)) (line slots : List ℕ) (k : ℕ) (next : World) → Going s input before i left written line slots k → HeardLine s (world_at slots k false) line next written new → Said s before (cut (take i input)).0 (cut (take i input)).1 next new
+said_line s input before i left written new line slots k next g h =
     let whole = (cut (take i input)).1 in
-    let a = answers_here s g.talk.world (world_at k false) next line whole h.text g.world_is g.rest h.answers in
+    let a = answers_here s g.talk.world (world_at slots k false) next line whole h.text g.world_is g.rest h.answers in
     record {
       talk = with_answer s g.talk (whole, a.mark);
       heard = heard-more s _ g.talk whole a.mark g.lines (ap (λ (w : World). w.ended) g.world_is) a.mark_is;
@@ -110,27 +110,27 @@ said_line s input before i left written new line k next g h =
     }
 
 -- a line after which the session goes on
-pub going_line : (s : State) (input before : List ℕ) (i b : ℕ) (left after written new : Option (List ℕ)) (line more : List ℕ) (k j : ℕ) (ended : Bool) → Going s input before i left written line k → ((bytes : List ℕ) → left ≡ Some bytes → GivesByte bytes after (Some b)) → b ≡ 10 → HeardLine s (world_at k false) line (world_at j ended) written new → ended ≡ false → more ≡ [] → Going s input before (i + 1) after new more j
-going_line s input before i b left after written new line more k j ended g gives feed h on none =
+pub going_line : (s : State) (input before : List ℕ) (i b : ℕ) (left after written new : Option (List ℕ)) (line more slots later : List ℕ) (k j : ℕ) (ended : Bool) → Going s input before i left written line slots k → ((bytes : List ℕ) → left ≡ Some bytes → GivesByte bytes after (Some b)) → b ≡ 10 → HeardLine s (world_at slots k false) line (world_at later j ended) written new → ended ≡ false → more ≡ [] → Going s input before (i + 1) after new more later j
+going_line s input before i b left after written new line more slots later k j ended g gives feed h on none =
     let one = byte_read input i b left after g.left_is gives in
     let c = cut-feed input i b one.0 feed in
-    let said = said_line s input before i left written new line k (world_at j ended) g h in
+    let said = said_line s input before i left written new line slots k (world_at later j ended) g h in
     record {
       talk = said.talk;
       lines = subst (λ (ls : List (List ℕ)). Heard s ls said.talk) (ap (λ (p : Pieces). p.0) (sym c)) said.heard;
       rest = none ∙ ap (λ (p : Pieces). take 65 p.1) (sym c);
       left_is = one.1;
       written_is = said.said_written;
-      world_is = said.said_world ∙ ap (world_at j) on;
+      world_is = said.said_world ∙ ap (world_at later j) on;
       within = one_within input i b one.0;
     }
 
 -- a line that ends the session
-pub told_quit : (s : State) (input before : List ℕ) (i b : ℕ) (left after written new : Option (List ℕ)) (line : List ℕ) (k j limit : ℕ) (ended : Bool) → Going s input before i left written line k → ((bytes : List ℕ) → left ≡ Some bytes → GivesByte bytes after (Some b)) → b ≡ 10 → HeardLine s (world_at k false) line (world_at j ended) written new → ended ≡ true → i < limit → ToldAll s (take limit input) before new
-told_quit s input before i b left after written new line k j limit ended g gives feed h off below =
+pub told_quit : (s : State) (input before : List ℕ) (i b : ℕ) (left after written new : Option (List ℕ)) (line slots later : List ℕ) (k j limit : ℕ) (ended : Bool) → Going s input before i left written line slots k → ((bytes : List ℕ) → left ≡ Some bytes → GivesByte bytes after (Some b)) → b ≡ 10 → HeardLine s (world_at slots k false) line (world_at later j ended) written new → ended ≡ true → i < limit → ToldAll s (take limit input) before new
+told_quit s input before i b left after written new line slots later k j limit ended g gives feed h off below =
     let one = byte_read input i b left after g.left_is gives in
     let c = cut-feed input i b one.0 feed in
-    let said = said_line s input before i left written new line k (world_at j ended) g h in
+    let said = said_line s input before i left written new line slots k (world_at later j ended) g h in
     let rest = input_lines-append (take (i + 1) input) (take (limit - (i + 1)) (drop (i + 1) input)) in
     let all = ap input_lines (sym (take-split limit (i + 1) input (omega (arith, below)))) ∙ rest.1 ∙ ap (λ (p : Pieces). p.0 ++ rest.0) c in
     record {
@@ -140,14 +140,14 @@ told_quit s input before i b left after written new line k j limit ended g gives
     }
 
 -- a read that failed
-pub told_some : (s : State) (input before : List ℕ) (i : ℕ) (left after written : Option (List ℕ)) (line : List ℕ) (k : ℕ) → Going s input before i left written line k → KeepsBytes left after → ToldSome s input before after written
-told_some s input before i left after written line k g kept = record { read = i; talk = g.talk; some_lines = g.lines; some_left = kept (drop i input) g.left_is; some_within = g.within; some_written = g.written_is }
+pub told_some : (s : State) (input before : List ℕ) (i : ℕ) (left after written : Option (List ℕ)) (line slots : List ℕ) (k : ℕ) → Going s input before i left written line slots k → KeepsBytes left after → ToldSome s input before after written
+told_some s input before i left after written line slots k g kept = record { read = i; talk = g.talk; some_lines = g.lines; some_left = kept (drop i input) g.left_is; some_within = g.within; some_written = g.written_is }
 
 -- an answer that was written in part, when so many bytes were read
-part_told : (s : State) (input before : List ℕ) (i read : ℕ) (left after written new : Option (List ℕ)) (line : List ℕ) (k : ℕ) → Going s input before i left written line k → HeardPart s (world_at k false) line written new → input_lines (take read input) ≡ (cut (take i input)).0 ++ (cut (take i input)).1 ∷ [] → after ≡ Some (drop read input) → read ≤ length input → ToldPart s input before after new
-part_told s input before i read left after written new line k g h all gone inside =
+part_told : (s : State) (input before : List ℕ) (i read : ℕ) (left after written new : Option (List ℕ)) (line slots : List ℕ) (k : ℕ) → Going s input before i left written line slots k → HeardPart s (world_at slots k false) line written new → input_lines (take read input) ≡ (cut (take i input)).0 ++ (cut (take i input)).1 ∷ [] → after ≡ Some (drop read input) → read ≤ length input → ToldPart s input before after new
+part_told s input before i read left after written new line slots k g h all gone inside =
     let whole = (cut (take i input)).1 in
-    let a = answers_here s g.talk.world (world_at k false) h.next line whole h.text g.world_is g.rest h.answers in
+    let a = answers_here s g.talk.world (world_at slots k false) h.next line whole h.text g.world_is g.rest h.answers in
     let said = with_answer s g.talk (whole, a.mark) in
     record {
       read = read;
@@ -162,23 +162,23 @@ part_told s input before i read left after written new line k g h all gone insid
     }
 
 -- at a line's end, and at the input's
-pub told_part : (s : State) (input before : List ℕ) (i b : ℕ) (left after written new : Option (List ℕ)) (line : List ℕ) (k : ℕ) → Going s input before i left written line k → ((bytes : List ℕ) → left ≡ Some bytes → GivesByte bytes after (Some b)) → b ≡ 10 → HeardPart s (world_at k false) line written new → ToldPart s input before after new
-told_part s input before i b left after written new line k g gives feed h =
+pub told_part : (s : State) (input before : List ℕ) (i b : ℕ) (left after written new : Option (List ℕ)) (line slots : List ℕ) (k : ℕ) → Going s input before i left written line slots k → ((bytes : List ℕ) → left ≡ Some bytes → GivesByte bytes after (Some b)) → b ≡ 10 → HeardPart s (world_at slots k false) line written new → ToldPart s input before after new
+told_part s input before i b left after written new line slots k g gives feed h =
     let one = byte_read input i b left after g.left_is gives in
     let c = cut-feed input i b one.0 feed in
     let all = input_lines-ended (take (i + 1) input) (ap (λ (p : Pieces). take 65 p.1) c) ∙ ap (λ (p : Pieces). p.0) c in
-    part_told s input before i (i + 1) left after written new line k g h all one.1 (one_within input i b one.0)
+    part_told s input before i (i + 1) left after written new line slots k g h all one.1 (one_within input i b one.0)
 
-open_line : (s : State) (input before : List ℕ) (i : ℕ) (left written : Option (List ℕ)) (line : List ℕ) (k : ℕ) → Going s input before i left written line k → 0 < length line → input_lines (take i input) ≡ (cut (take i input)).0 ++ (cut (take i input)).1 ∷ []
-open_line s input before i left written line k g some = input_lines-open (take i input) (subst (λ (l : List ℕ). 0 < length l) g.rest some)
+open_line : (s : State) (input before : List ℕ) (i : ℕ) (left written : Option (List ℕ)) (line slots : List ℕ) (k : ℕ) → Going s input before i left written line slots k → 0 < length line → input_lines (take i input) ≡ (cut (take i input)).0 ++ (cut (take i input)).1 ∷ []
+open_line s input before i left written line slots k g some = input_lines-open (take i input) (subst (λ (l : List ℕ). 0 < length l) g.rest some)
 
-pub told_part-last : (s : State) (input before : List ℕ) (i : ℕ) (left after written new : Option (List ℕ)) (line : List ℕ) (k : ℕ) → Going s input before i left written line k → after ≡ Some (drop i input) → 0 < length line → HeardPart s (world_at k false) line written new → ToldPart s input before after new
-told_part-last s input before i left after written new line k g gone some h =
-    part_told s input before i i left after written new line k g h (open_line s input before i left written line k g some) gone g.within
+pub told_part-last : (s : State) (input before : List ℕ) (i : ℕ) (left after written new : Option (List ℕ)) (line slots : List ℕ) (k : ℕ) → Going s input before i left written line slots k → after ≡ Some (drop i input) → 0 < length line → HeardPart s (world_at slots k false) line written new → ToldPart s input before after new
+told_part-last s input before i left after written new line slots k g gone some h =
+    part_told s input before i i left after written new line slots k g h (open_line s input before i left written line slots k g some) gone g.within
 
 -- where all is read, and the last line has ended
-pub told_end : (s : State) (input before : List ℕ) (i : ℕ) (left written : Option (List ℕ)) (line : List ℕ) (k limit : ℕ) → Going s input before i left written line k → take limit input ≡ take i input → line ≡ [] → ToldAll s (take limit input) before written
-told_end s input before i left written line k limit g e none =
+pub told_end : (s : State) (input before : List ℕ) (i : ℕ) (left written : Option (List ℕ)) (line slots : List ℕ) (k limit : ℕ) → Going s input before i left written line slots k → take limit input ≡ take i input → line ≡ [] → ToldAll s (take limit input) before written
+told_end s input before i left written line slots k limit g e none =
     let all = ap input_lines e ∙ input_lines-ended (take i input) (sym g.rest ∙ none) in
     record {
       talk = g.talk;
@@ -187,10 +187,10 @@ told_end s input before i left written line k limit g e none =
     }
 
 -- where all is read, and the last line has no line feed
-pub told_last : (s : State) (input before : List ℕ) (i : ℕ) (left written new : Option (List ℕ)) (line : List ℕ) (k limit : ℕ) (next : World) → Going s input before i left written line k → take limit input ≡ take i input → 0 < length line → HeardLine s (world_at k false) line next written new → ToldAll s (take limit input) before new
-told_last s input before i left written new line k limit next g e some h =
-    let said = said_line s input before i left written new line k next g h in
-    let all = ap input_lines e ∙ open_line s input before i left written line k g some in
+pub told_last : (s : State) (input before : List ℕ) (i : ℕ) (left written new : Option (List ℕ)) (line slots : List ℕ) (k limit : ℕ) (next : World) → Going s input before i left written line slots k → take limit input ≡ take i input → 0 < length line → HeardLine s (world_at slots k false) line next written new → ToldAll s (take limit input) before new
+told_last s input before i left written new line slots k limit next g e some h =
+    let said = said_line s input before i left written new line slots k next g h in
+    let all = ap input_lines e ∙ open_line s input before i left written line slots k g some in
     record {
       talk = said.talk;
       all_lines = subst (λ (ls : List (List ℕ)). Heard s ls said.talk) (sym all) said.heard;

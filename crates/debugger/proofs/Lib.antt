@@ -1,7 +1,9 @@
 mod Bytes
-mod Places
 mod Texts
 mod Asked
 mod Cut
 mod Going
 mod Marks
+mod Slots
+mod Lines
+mod Order

@@ -1,11 +1,14 @@
 -- What a command answers.
-use Rattle.std.specs.Prelude.{ℕ, ◌+◌, ◌-◌, Bool, true, false, ◌&&◌, List, [], codes, nat_le, if◌then◌else◌}
+use Rattle.std.specs.Prelude.{ℕ, ◌+◌, ◌-◌, Bool, true, false, not, ◌&&◌, List, [], ◌∷◌, ◌++◌, codes, decimal, nat_le, if◌then◌else◌}
 use Rattle.bpf_machine.specs.State.{State}
 use Rattle.bpf_machine.specs.Trace.{state_after}
 use Rattle.bpf_machine.specs.Text.{move_text, registers_text}
+use Rattle.history.specs.Search.{first_stop, last_stop}
+use Rattle.debugger.specs.Breakpoints.{has_breakpoint, with_breakpoint, without_breakpoint}
 use Rattle.debugger.specs.Commands.{command_of}
+use Rattle.debugger.specs.Listing.{is_inside, listing_text}
 use Rattle.debugger.specs.declared.command.Command.{Command}
-use Rattle.debugger.specs.declared.command.Command.TheVariants.{Forward, Back, Registers, Quit, Unknown}
+use Rattle.debugger.specs.declared.command.Command.TheVariants.{SetBreakpoint, ClearBreakpoint, Forward, Back, Go, Continue, ReverseContinue, Registers, Listing, Quit, Unknown}
 
 -- what a session knows between two lines: the step that is shown, the slots with a breakpoint, and whether it has ended
 pub record World : Type 0 where
@@ -18,9 +21,11 @@ pub record Answer : Type 0 where
   pub next : World
   pub text : List ℕ
 
--- a session at a step, without breakpoints
-abbrev pub world_at : ℕ → Bool → World
-world_at k ended = record { place = k; breakpoints = []; ended = ended }
+abbrev pub world_at : List ℕ → ℕ → Bool → World
+world_at slots k ended = record { place = k; breakpoints = slots; ended = ended }
+
+abbrev pub is_slot : ℕ → Bool
+is_slot n = nat_le n 65535
 
 abbrev pub in_range : ℕ → Bool
 in_range n = nat_le 1 n && nat_le n 1000000
@@ -31,9 +36,15 @@ can_go_on k n = in_range n && nat_le (k + n) 1000000000
 abbrev pub can_go_back : ℕ → ℕ → Bool
 can_go_back k n = in_range n && nat_le n k
 
+abbrev pub can_go_to : ℕ → Bool
+can_go_to k = nat_le k 1000000000
+
 -- an answer that leaves the world
 abbrev pub says : World → List ℕ → Answer
 says w text = record { next = w; text = text }
+
+abbrev pub sets_breakpoints : World → List ℕ → List ℕ → Answer
+sets_breakpoints w slots text = record { next = record w { breakpoints = slots }; text = text }
 
 -- a move to step k of the run from s
 abbrev pub moves_to : State → World → ℕ → Answer
@@ -42,30 +53,48 @@ moves_to s w k = record { next = record w { place = k }; text = move_text k (sta
 abbrev pub out_of_range : World → Answer
 out_of_range w = says w (codes "? range\n")
 
+unfoldable pub break_text : ℕ → List ℕ
+break_text slot = codes "break " ++ (decimal slot ++ 10 ∷ [])
+
+unfoldable pub clear_text : ℕ → List ℕ
+clear_text slot = codes "clear " ++ (decimal slot ++ 10 ∷ [])
+
 -- the world after a command, and its answer, in a session with the run from s
 unfoldable pub answer_of : State → World → Command → Answer
+answer_of s w (SetBreakpoint n) = if is_slot n then sets_breakpoints w (with_breakpoint n w.breakpoints) (break_text n) else out_of_range w
+answer_of s w (ClearBreakpoint n) = if is_slot n then sets_breakpoints w (without_breakpoint n w.breakpoints) (clear_text n) else out_of_range w
 answer_of s w (Forward n) = if can_go_on w.place n then moves_to s w (w.place + n) else out_of_range w
 answer_of s w (Back n) = if can_go_back w.place n then moves_to s w (w.place - n) else out_of_range w
+answer_of s w (Go k) = if can_go_to k then moves_to s w k else out_of_range w
+answer_of s w (Continue n) = if can_go_on w.place n then moves_to s w (first_stop w.breakpoints s w.place n) else out_of_range w
+answer_of s w ReverseContinue = moves_to s w (last_stop w.breakpoints s w.place)
 answer_of s w Registers = says w (registers_text (state_after w.place s))
+answer_of s w Listing = says w (listing_text (state_after w.place s))
 answer_of s w Quit = record { next = record w { ended = true }; text = [] }
 answer_of s w Unknown = says w (codes "? what\n")
 
--- whether a command may need memory that is refused: a move that is in range
-unfoldable pub may_be_refused : World → Command → Bool
-may_be_refused w (Forward n) = can_go_on w.place n
-may_be_refused w (Back n) = can_go_back w.place n
-may_be_refused w Registers = false
-may_be_refused w Quit = false
-may_be_refused w Unknown = false
+-- whether a command may need memory that is refused: a breakpoint that is new, a move that is in range, and a listing of code
+unfoldable pub may_be_refused : State → World → Command → Bool
+may_be_refused s w (SetBreakpoint n) = is_slot n && not (has_breakpoint n w.breakpoints)
+may_be_refused s w (ClearBreakpoint n) = false
+may_be_refused s w (Forward n) = can_go_on w.place n
+may_be_refused s w (Back n) = can_go_back w.place n
+may_be_refused s w (Go k) = can_go_to k
+may_be_refused s w (Continue n) = can_go_on w.place n
+may_be_refused s w ReverseContinue = true
+may_be_refused s w Registers = false
+may_be_refused s w Listing = is_inside (state_after w.place s).image.code (state_after w.place s).pc
+may_be_refused s w Quit = false
+may_be_refused s w Unknown = false
 
 -- a line, and whether memory is refused there
 abbrev pub Line : Type 0
 Line = List ℕ × Bool
 
 -- whether the line is one that memory is refused at: elsewhere the mark means nothing
-abbrev pub is_refused : World → Line → Bool
-is_refused w l = l.1 && may_be_refused w (command_of l.0)
+abbrev pub is_refused : State → World → Line → Bool
+is_refused s w l = l.1 && may_be_refused s w (command_of l.0)
 
 -- the world after a line, and its answer
 unfoldable pub answer_to : State → World → Line → Answer
-answer_to s w l = if is_refused w l then says w (codes "? memory\n") else answer_of s w (command_of l.0)
+answer_to s w l = if is_refused s w l then says w (codes "? memory\n") else answer_of s w (command_of l.0)

@@ -1,8 +1,8 @@
 -- What a line asks for.
-use Rattle.std.specs.Prelude.{ℕ, ◌+◌, ◌-◌, ◌*◌, Bool, ◌&&◌, List, [], ◌∷◌, length, take, drop, min, Option, Some, None, codes, nat_eq, nat_le, nat_lt, slice_index, if◌then◌else◌}
+use Rattle.std.specs.Prelude.{ℕ, ◌+◌, ◌-◌, ◌*◌, Bool, true, false, ◌&&◌, List, [], ◌∷◌, length, take, drop, min, Option, Some, None, codes, nat_eq, nat_le, nat_lt, slice_index, if◌then◌else◌}
 use Rattle.std.specs.Str.{bytes_eq}
 use Rattle.debugger.specs.declared.command.Command.{Command}
-use Rattle.debugger.specs.declared.command.Command.TheVariants.{Forward, Back, Registers, Quit, Unknown}
+use Rattle.debugger.specs.declared.command.Command.TheVariants.{SetBreakpoint, ClearBreakpoint, Forward, Back, Go, Continue, ReverseContinue, Registers, Listing, Quit, Unknown}
 
 abbrev pub is_digit : ℕ → Bool
 is_digit c = nat_le 48 c && nat_le c 57
@@ -25,38 +25,61 @@ number_of digits =
 abbrev pub begins_with : List ℕ → List ℕ → Bool
 begins_with front line = bytes_eq front (take (length front) line)
 
-abbrev pub forward_by : Option ℕ → Command
-forward_by None = Unknown
-forward_by (Some n) = Forward n
+-- the command with this number, where one was read
+abbrev pub numbered : (ℕ → Command) → Option ℕ → Command
+numbered command None = Unknown
+numbered command (Some n) = command n
 
-abbrev pub back_by : Option ℕ → Command
-back_by None = Unknown
-back_by (Some n) = Back n
+-- a move: its word, a space and a number
+unfoldable pub move_form_of : List ℕ → Command
+move_form_of line =
+    if begins_with (codes "s ") line then numbered Forward (number_of (drop 2 line))
+    else (if begins_with (codes "rs ") line then numbered Back (number_of (drop 3 line))
+    else (if begins_with (codes "g ") line then numbered Go (number_of (drop 2 line))
+    else (if begins_with (codes "c ") line then numbered Continue (number_of (drop 2 line))
+    else Unknown)))
+
+-- a word, a space and a number
+unfoldable pub numbered_form_of : List ℕ → Command
+numbered_form_of line =
+    if begins_with (codes "b ") line then numbered SetBreakpoint (number_of (drop 2 line))
+    else (if begins_with (codes "d ") line then numbered ClearBreakpoint (number_of (drop 2 line))
+    else move_form_of line)
 
 -- the command that a line of any length would write
 unfoldable pub form_of : List ℕ → Command
 form_of line =
     if bytes_eq line (codes "q") then Quit
     else (if bytes_eq line (codes "r") then Registers
-    else (if begins_with (codes "s ") line then forward_by (number_of (drop 2 line))
-    else (if begins_with (codes "rs ") line then back_by (number_of (drop 3 line))
-    else Unknown)))
+    else (if bytes_eq line (codes "rc") then ReverseContinue
+    else (if bytes_eq line (codes "l") then Listing
+    else numbered_form_of line)))
 
 -- a line's command: a line of more than 64 bytes has no form
 unfoldable pub command_of : List ℕ → Command
 command_of line = if nat_le (length line) 64 then form_of line else Unknown
 
+abbrev pub is_quit : Command → Bool
+is_quit Quit = true
+is_quit other = false
+
 -- a number that is out of every range stands for those above it
 abbrev pub capped : ℕ → ℕ
-capped n = min n 1000001
+capped n = min n 1000000001
 
 abbrev pub capped_number : Option ℕ → Option ℕ
 capped_number None = None
 capped_number (Some n) = Some (capped n)
 
 abbrev pub capped_command : Command → Command
+capped_command (SetBreakpoint n) = SetBreakpoint (capped n)
+capped_command (ClearBreakpoint n) = ClearBreakpoint (capped n)
 capped_command (Forward n) = Forward (capped n)
 capped_command (Back n) = Back (capped n)
+capped_command (Go k) = Go (capped k)
+capped_command (Continue n) = Continue (capped n)
+capped_command ReverseContinue = ReverseContinue
 capped_command Registers = Registers
+capped_command Listing = Listing
 capped_command Quit = Quit
 capped_command Unknown = Unknown

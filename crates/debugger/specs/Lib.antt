@@ -1,8 +1,10 @@
 pub mod Streams
-pub mod Trail
 pub mod Byte
 pub mod Commands
+pub mod Breakpoints
+pub mod Listing
 pub mod Answers
 pub mod Session
+pub mod Replies
 pub mod Told
 pub mod Rows

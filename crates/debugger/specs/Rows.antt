@@ -2,6 +2,8 @@
 use Rattle.std.specs.Prelude.{◌≡◌, ℕ, true, false, List, [], ◌∷◌, ◌++◌, codes, map, replicate}
 use Rattle.bpf_machine.specs.State.{State}
 use Rattle.bpf_machine.specs.Rows.{start_of}
+use Rattle.debugger.specs.Answers.{Line}
+use Rattle.debugger.specs.Breakpoints.{in_order}
 use Rattle.debugger.specs.Commands.{command_of}
 use Rattle.debugger.specs.Session.{Talk, talk_of, granted, session_text}
 use Rattle.debugger.specs.Told.{Heard}
@@ -11,17 +13,48 @@ use Rattle.debugger.specs.declared.command.Command.TheVariants.{Forward, Unknown
 abbrev pub five : State
 five = start_of (0xb7 ∷ 0 ∷ 0 ∷ 0 ∷ 5 ∷ 0 ∷ 0 ∷ 0 ∷ 0x95 ∷ 0 ∷ 0 ∷ 0 ∷ 0 ∷ 0 ∷ 0 ∷ 0 ∷ [])
 
+-- r0 = 5
+abbrev pub open_ended : State
+open_ended = start_of (0xb7 ∷ 0 ∷ 0 ∷ 0 ∷ 5 ∷ 0 ∷ 0 ∷ 0 ∷ [])
+
+-- a jump into the second slot of a wide load, the wide load, and exit
+abbrev pub inside_wide : State
+inside_wide = start_of (0x05 ∷ 0 ∷ 0x01 ∷ 0 ∷ 0 ∷ 0 ∷ 0 ∷ 0 ∷ 0x18 ∷ 0 ∷ 0 ∷ 0 ∷ 5 ∷ 0 ∷ 0 ∷ 0 ∷ 0 ∷ 0 ∷ 0 ∷ 0 ∷ 0 ∷ 0 ∷ 0 ∷ 0 ∷ 0x95 ∷ 0 ∷ 0 ∷ 0 ∷ 0 ∷ 0 ∷ 0 ∷ 0 ∷ [])
+
+-- exit
+abbrev exit_slot : List ℕ
+exit_slot = 0x95 ∷ 0 ∷ 0 ∷ 0 ∷ 0 ∷ 0 ∷ 0 ∷ 0 ∷ []
+
+-- nine times exit
+abbrev pub nine_exits : State
+nine_exits = start_of (exit_slot ++ (exit_slot ++ (exit_slot ++ (exit_slot ++ (exit_slot ++ (exit_slot ++ (exit_slot ++ (exit_slot ++ exit_slot))))))))
+
 pub record RowsStand : Type 0 where
   pub moves : session_text five (codes "s 1\nrs 1\nrs 1\ns 0\ns 01\ns 1000001\nx\nq\n") ≡ codes "step 1 pc 1 running\nstep 0 pc 0 running\n? range\n? range\n? what\n? range\n? what\n"
   pub stops : session_text five (codes "s 2\ns 3\nrs 4") ≡ codes "step 2 pc 1 exited 0x0000000000000005\nstep 5 pc 1 exited 0x0000000000000005\nstep 1 pc 1 running\n"
   pub ends : session_text five (codes "q\ns 1\n") ≡ []
   pub has_no_form : session_text five (codes "\ns\ns \ns  1\n s 1\ns 1 \ns 1\r\ns -1\nrs\nR\n") ≡ codes "? what\n? what\n? what\n? what\n? what\n? what\n? what\n? what\n? what\n? what\n"
   pub shows_registers : session_text five (codes "s 1\nr") ≡ codes "step 1 pc 1 running\nr0 0x0000000000000005\nr1 0x0000000000000000\nr2 0x0000000000000000\nr3 0x0000000000000000\nr4 0x0000000000000000\nr5 0x0000000000000000\nr6 0x0000000000000000\nr7 0x0000000000000000\nr8 0x0000000000000000\nr9 0x0000000000000000\nr10 0x0000000100000200\n"
+  pub breaks : session_text five (codes "b 1\nd 1\nc 10\nr\n") ≡ codes "break 1\nclear 1\nstep 2 pc 1 exited 0x0000000000000005\nr0 0x0000000000000005\nr1 0x0000000000000000\nr2 0x0000000000000000\nr3 0x0000000000000000\nr4 0x0000000000000000\nr5 0x0000000000000000\nr6 0x0000000000000000\nr7 0x0000000000000000\nr8 0x0000000000000000\nr9 0x0000000000000000\nr10 0x0000000100000200\n"
+  pub searches : session_text five (codes "b 1\nc 10\nrs 1\nrs 1\nrc\nbogus\n") ≡ codes "break 1\nstep 1 pc 1 running\nstep 0 pc 0 running\n? range\nstep 0 pc 0 running\n? what\n"
+  pub searches_back : session_text five (codes "b 0\nb 1\ns 2\nrc\nrc\nrc\n") ≡ codes "break 0\nbreak 1\nstep 2 pc 1 exited 0x0000000000000005\nstep 1 pc 1 running\nstep 0 pc 0 running\nstep 0 pc 0 running\n"
+  pub clears_once : session_text five (codes "b 1\nb 1\nd 1\nc 1\nd 1\nd 7\n") ≡ codes "break 1\nbreak 1\nclear 1\nstep 1 pc 1 running\nclear 1\nclear 7\n"
+  pub goes : session_text five (codes "g 2\nc 10\ng 0\n") ≡ codes "step 2 pc 1 exited 0x0000000000000005\nstep 3 pc 1 exited 0x0000000000000005\nstep 0 pc 0 running\n"
+  pub limits : session_text five (codes "b 65535\nb 65536\nd 65536\ng 1000000001\nc 0\nc 1000001\nrc x\nb 01\nl 1\nb\n") ≡ codes "break 65535\n? range\n? range\n? range\n? range\n? range\n? what\n? what\n? what\n? what\n"
+  pub lists_code : session_text five (codes "l\ns 1\nl\n") ≡ codes "0 mov64 r0, 5\n1 exit\nstep 1 pc 1 running\n1 exit\n"
+  pub lists_inside : session_text inside_wide (codes "l\ns 2\nl\n") ≡ codes "0 ja +1\n1 lddw r0, 0x0000000000000005\n3 exit\nstep 2 pc 2 fault F2\n2 .slot 0x0000000000000000\n3 exit\n"
+  pub lists_eight : session_text nine_exits (codes "l\n") ≡ codes "0 exit\n1 exit\n2 exit\n3 exit\n4 exit\n5 exit\n6 exit\n7 exit\n"
+  pub lists_outside : session_text open_ended (codes "s 2\nl\n") ≡ codes "step 2 pc 1 fault F1\n1 outside\n"
   pub reads_64_bytes : command_of (codes "s " ++ replicate 62 49) ≡ Forward 11111111111111111111111111111111111111111111111111111111111111
   pub reads_no_65 : command_of (codes "s " ++ replicate 63 49) ≡ Unknown
   pub refuses_moves : (talk_of five ((codes "s 1", true) ∷ (codes "s 1", false) ∷ [])).text ≡ codes "? memory\nstep 1 pc 1 running\n"
-  pub refuses_no_more : (talk_of five ((codes "s 0", true) ∷ (codes "x", true) ∷ (codes "q", true) ∷ [])).text ≡ codes "? range\n? what\n"
+  pub refuses_new : (talk_of five ((codes "b 1", true) ∷ (codes "b 1", false) ∷ (codes "b 1", true) ∷ (codes "c 5", true) ∷ (codes "l", true) ∷ [])).text ≡ codes "? memory\nbreak 1\nbreak 1\n? memory\n? memory\n"
+  pub refuses_no_more : (talk_of five ((codes "s 0", true) ∷ (codes "b 65536", true) ∷ (codes "d 3", true) ∷ (codes "x", true) ∷ (codes "q", true) ∷ [])).text ≡ codes "? range\n? range\nclear 3\n? what\n"
 
 -- where no line answered `? memory`, all was said that the lines ask for
 abbrev pub TellsAll : Type 0
 TellsAll = (s : State) (lines : List (List ℕ)) (t : Talk) → Heard s lines t → t.refusals ≡ 0 → t ≡ talk_of s (map granted lines)
+
+-- whatever is said, the breakpoints stand in order, none twice
+abbrev pub StaysInOrder : Type 0
+StaysInOrder = (s : State) (lines : List Line) → in_order (talk_of s lines).world.breakpoints ≡ true

@@ -26,7 +26,7 @@ pub record Talk : Type 0 where
   pub refusals : ℕ
 
 abbrev pub first_talk : Talk
-first_talk = record { world = world_at 0 false; text = []; refusals = 0 }
+first_talk = record { world = world_at [] 0 false; text = []; refusals = 0 }
 
 abbrev pub one_if : Bool → ℕ
 one_if true = 1
@@ -36,7 +36,7 @@ abbrev pub with_answer : State → Talk → Line → Talk
 with_answer s t l = record {
   world = (answer_to s t.world l).next;
   text = t.text ++ (answer_to s t.world l).text;
-  refusals = t.refusals + one_if (is_refused t.world l);
+  refusals = t.refusals + one_if (is_refused s t.world l);
 }
 
 -- one more line, which is not heard once the session has ended

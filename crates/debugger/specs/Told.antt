@@ -59,7 +59,7 @@ ByResult s input before left written (Err Memory) = ToldNone input before left w
 -- a line's answer in a world, and the world after it: where memory was refused is told by a mark
 pub record Answers (s : State) (w : World) (line : List ℕ) (next : World) (text : List ℕ) : Type 0 where
   pub mark : Bool
-  pub mark_is : is_refused w (line, mark) ≡ mark
+  pub mark_is : is_refused s w (line, mark) ≡ mark
   pub next_is : (answer_to s w (line, mark)).next ≡ next
   pub text_is : (answer_to s w (line, mark)).text ≡ text
 
@@ -77,12 +77,12 @@ pub record HeardPart (s : State) (w : World) (line : List ℕ) (written new : Op
   pub many : ℕ
   pub line_written : AddsBytes written new (take many text)
 
--- so many bytes were read, and the lines that ended among them were answered; the line after them is kept up to its 65th byte
-pub record Going (s : State) (input before : List ℕ) (read : ℕ) (left written : Option (List ℕ)) (line : List ℕ) (k : ℕ) : Type 0 where
+-- so many bytes were read, and the lines that ended among them were answered; the line after them is kept up to its 65th byte, and the world has these breakpoints and this step
+pub record Going (s : State) (input before : List ℕ) (read : ℕ) (left written : Option (List ℕ)) (line slots : List ℕ) (k : ℕ) : Type 0 where
   pub talk : Talk
   pub lines : Heard s (cut (take read input)).0 talk
   pub rest : line ≡ take 65 (cut (take read input)).1
   pub left_is : left ≡ Some (drop read input)
   pub written_is : written ≡ Some (before ++ talk.text)
-  pub world_is : talk.world ≡ world_at k false
+  pub world_is : talk.world ≡ world_at slots k false
   pub within : read ≤ length input

@@ -2,16 +2,18 @@
 ghost use Rattle.std.specs.Prelude.{◌≡◌, ◌≤◌, ◌<◌, ◌+◌, [], ◌++◌, ◌∷◌, ℕ, length, decimal};
 ghost use Rattle.std.specs.Fmt.{signed_decimal};
 ghost use Rattle.guest_memory.specs.Text.{fault_text};
+ghost use Rattle.debugger.specs.Answers.{break_text, clear_text};
+ghost use Rattle.debugger.specs.Listing.{outside_line};
 ghost use Rattle.bpf_machine.specs.Text.{hex_digit, hex_digits, move_line, register_line, register_lines, registers_text, status_text, word_text};
 
-use crate::emulator::Emulator;
 use arrayvec::ArrayVec;
 use bpf_machine::Status;
 use guest_memory::Fault;
+use history::Emulator;
 use std::marker::Model;
 
-/// The text of an answer, in room of its own for 256 bytes, the most being the 243 of the
-/// registers.
+/// The text of an answer other than a listing, in room of its own for 256 bytes, the most being
+/// the 243 of the registers.
 #[derive(Drop)]
 pub struct AnswerText {
     bytes: ArrayVec<u8, 256>,
@@ -34,12 +36,6 @@ impl AnswerText {
         AnswerText {
             bytes: ArrayVec::new(),
         }
-    }
-
-    pub fn clear(&mut self)
-        ensures { self.new ≡ [] }
-    {
-        self.bytes.clear();
     }
 
     pub fn as_slice(&self) -> &[u8]
@@ -151,6 +147,38 @@ impl AnswerText {
                 self.push_bytes(fault_name(fault));
             }
         }
+    }
+
+    /// Appends the line that tells of a new breakpoint.
+    #[tactic(auto, unfolding(crate::specs::Answers::break_text))]
+    pub fn push_break(&mut self, slot: u64)
+        requires { length self.old ≤ 200 }
+        ensures { self.new ≡ self.old ++ break_text slot }
+    {
+        self.push_bytes(b"break ");
+        self.push_number(slot);
+        self.push_byte(b'\n');
+    }
+
+    /// Appends the line that tells of a breakpoint taken away.
+    #[tactic(auto, unfolding(crate::specs::Answers::clear_text))]
+    pub fn push_clear(&mut self, slot: u64)
+        requires { length self.old ≤ 200 }
+        ensures { self.new ≡ self.old ++ clear_text slot }
+    {
+        self.push_bytes(b"clear ");
+        self.push_number(slot);
+        self.push_byte(b'\n');
+    }
+
+    /// Appends the line that tells that `pc` is outside the code.
+    #[tactic(auto, unfolding(crate::specs::Listing::outside_line))]
+    pub fn push_outside(&mut self, pc: i64)
+        requires { length self.old ≤ 200 }
+        ensures { self.new ≡ self.old ++ outside_line pc }
+    {
+        self.push_signed(pc);
+        self.push_bytes(b" outside\n");
     }
 
     /// Appends the line of a move to step `k`.

@@ -1,17 +1,30 @@
 //! What a line asks for.
 ghost use Rattle.std.specs.Prelude.{◌≡◌, ◌≤◌, ◌-◌, ◌+◌, ◌*◌, ℕ, true, drop, min, option_map};
 ghost use Rattle.std.specs.Str.{bytes_eq};
-ghost use Rattle.debugger.specs.Commands.{begins_with, capped, capped_command, capped_number, command_of, form_of, is_digit, leads_with_zero, number_of, read_digits};
+ghost use Rattle.debugger.specs.Commands.{begins_with, capped, capped_command, capped_number, command_of, form_of, is_digit, leads_with_zero, move_form_of, number_of, numbered_form_of, read_digits};
 
-/// What a line asks for. A number above 1,000,000 is in no range: 1,000,001 stands for each.
+/// What a line asks for. A number above 1,000,000,000 is in no range: 1,000,000,001 stands for
+/// each.
 #[derive(Clone, Copy, Debug, PartialEq, Eq)]
 pub enum Command {
+    /// `b N`: a breakpoint at this slot.
+    SetBreakpoint(u64),
+    /// `d N`: no breakpoint at this slot.
+    ClearBreakpoint(u64),
     /// `s N`: to the step that lies N further.
     Forward(u64),
     /// `rs N`: to the step that lies N before.
     Back(u64),
+    /// `g K`: to step K.
+    Go(u64),
+    /// `c N`: on to the next stop, at most N steps.
+    Continue(u64),
+    /// `rc`: back to the last breakpoint before.
+    ReverseContinue,
     /// `r`: the registers.
     Registers,
+    /// `l`: the code from `pc` on.
+    Listing,
     /// `q`: the end of the session.
     Quit,
     /// A line that has no form.
@@ -43,6 +56,40 @@ fn form(line: &[u8]) -> Command
     if is_bytes(line, b"r") {
         return Command::Registers;
     }
+    if is_bytes(line, b"rc") {
+        return Command::ReverseContinue;
+    }
+    if is_bytes(line, b"l") {
+        return Command::Listing;
+    }
+    numbered_form(line)
+}
+
+/// The command of a word and a number.
+#[tactic(auto, unfolding(crate::specs::Commands::numbered_form_of))]
+fn numbered_form(line: &[u8]) -> Command
+    ensures { result ≡ capped_command (numbered_form_of line.now) }
+{
+    if begins_with(line, b"b ") {
+        return match number(after(line, 2)) {
+            Some(n) => Command::SetBreakpoint(n),
+            None => Command::Unknown,
+        };
+    }
+    if begins_with(line, b"d ") {
+        return match number(after(line, 2)) {
+            Some(n) => Command::ClearBreakpoint(n),
+            None => Command::Unknown,
+        };
+    }
+    move_form(line)
+}
+
+/// The move of a word and a number.
+#[tactic(auto, unfolding(crate::specs::Commands::move_form_of))]
+fn move_form(line: &[u8]) -> Command
+    ensures { result ≡ capped_command (move_form_of line.now) }
+{
     if begins_with(line, b"s ") {
         return match number(after(line, 2)) {
             Some(n) => Command::Forward(n),
@@ -52,6 +99,18 @@ fn form(line: &[u8]) -> Command
     if begins_with(line, b"rs ") {
         return match number(after(line, 3)) {
             Some(n) => Command::Back(n),
+            None => Command::Unknown,
+        };
+    }
+    if begins_with(line, b"g ") {
+        return match number(after(line, 2)) {
+            Some(k) => Command::Go(k),
+            None => Command::Unknown,
+        };
+    }
+    if begins_with(line, b"c ") {
+        return match number(after(line, 2)) {
+            Some(n) => Command::Continue(n),
             None => Command::Unknown,
         };
     }
@@ -125,8 +184,8 @@ fn with_digit(n: u64, c: u8) -> u64
     requires { is_digit c ≡ true }
     ensures { (m : ℕ) → n ≡ capped m → result ≡ capped (m * 10 + (c - 48)) }
 {
-    if n > 1_000_000 {
-        return 1_000_001;
+    if n > 1_000_000_000 {
+        return 1_000_000_001;
     }
-    (n * 10 + u64::from(c - 48)).min(1_000_001)
+    (n * 10 + u64::from(c - 48)).min(1_000_000_001)
 }

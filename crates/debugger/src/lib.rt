@@ -1,18 +1,18 @@
-//! Sessions with a machine, which step forward and back.
+//! Sessions with a machine: moves both ways over its run, breakpoints and listings of its code.
 #![tactic(auto)]
 
 mod answer_text;
+mod answering;
+mod breakpoints;
 mod command;
 mod counting;
 #[cfg(test)]
 mod doubles;
-mod emulator;
 mod failed;
-mod history;
 pub mod laws;
-mod past;
-#[cfg(test)]
-mod past_tests;
+mod listing;
+mod moves;
+mod reply;
 mod session_error;
 #[cfg(test)]
 mod session_tests;
@@ -24,10 +24,7 @@ mod stream_tests;
 mod transfer;
 
 pub use counting::Counting;
-pub use emulator::Emulator;
 pub use failed::Failed;
-pub use history::History;
-pub use past::Past;
 pub use session_error::SessionError;
 pub use sessions::{session, session_from, session_over};
 pub use sink::Sink;

@@ -11,6 +11,10 @@ use Rattle.clap.specs.declared.builder.value_parser.ValueParser.TheVariants as p
 unfoldable pub image_rule : Rule
 image_rule = record (new_rule (codes "IMAGE")) { required = true }
 
+-- the file name of a program's text, which has to be there
+unfoldable pub text_rule : Rule
+text_rule = record (new_rule (codes "TEXT")) { required = true }
+
 -- a number of steps, at most 1,000,000,000 of them
 unfoldable pub steps_rule : Rule
 steps_rule = record (new_rule (codes "steps")) {
@@ -25,6 +29,14 @@ steps_rule = record (new_rule (codes "steps")) {
 unfoldable pub run_image_app : App
 run_image_app = with_rule (with_rule (new_app (codes "run-image")) image_rule) steps_rule
 
+-- asm TEXT IMAGE
+unfoldable pub asm_app : App
+asm_app = with_rule (with_rule (new_app (codes "asm")) text_rule) image_rule
+
+-- list IMAGE
+unfoldable pub list_app : App
+list_app = with_rule (new_app (codes "list")) image_rule
+
 -- debug IMAGE
 unfoldable pub debug_app : App
 debug_app = with_rule (new_app (codes "debug")) image_rule
@@ -33,8 +45,13 @@ debug_app = with_rule (new_app (codes "debug")) image_rule
 unfoldable pub bare_app : App
 bare_app = on_top (λ s. record s { subcommand_required = true }) (new_app (codes "celbpf"))
 
+-- the commands that run an image
+unfoldable pub running_app : App
+running_app = with_subcommand (with_subcommand bare_app run_image_app.top) debug_app.top
+
+-- and those that write one and list one
 unfoldable pub celbpf_app : App
-celbpf_app = with_subcommand (with_subcommand bare_app run_image_app.top) debug_app.top
+celbpf_app = with_subcommand (with_subcommand running_app asm_app.top) list_app.top
 
 -- ---- a command line
 

@@ -3,14 +3,12 @@ use Rattle.std.specs.Prelude.{◌≡◌, ℕ, List, Option, Some, None, Result, 
 use Rattle.loader.specs.Contents.{Contents}
 use Rattle.loader.specs.Format.{image_in}
 use Rattle.loader.specs.declared.load_error.LoadError.{LoadError}
-use Rattle.loader.specs.declared.load_error.LoadError.TheVariants.{L1, L2, L3, L4, L5}
-use Rattle.loader.specs.declared.load_error.LoadError.TheVariants as load_error
 use Rattle.bpf_machine.specs.State.{null_values, start_state}
 use Rattle.debugger.specs.Told.{ByResult, ToldNone}
 use Rattle.debugger.specs.declared.session_error.SessionError.{SessionError}
 use Rattle.debugger.specs.declared.session_error.SessionError.TheVariants.{S1, S2}
 use Rattle.review_runner.specs.declared.refusal.Refusal.{Refusal}
-use Rattle.review_runner.specs.declared.refusal.Refusal.TheVariants.{Words, Image, File, Input, Output, Memory}
+use Rattle.review_runner.specs.declared.refusal.Refusal.TheVariants.{Words, Image, File, Text, Program, Input, Output, Memory}
 
 abbrev pub opened_by : Result Contents LoadError → Result Contents Refusal
 opened_by (Ok image) = Ok image
@@ -45,5 +43,7 @@ DebugsByResult due input before left written (Err Input) = Debugs due input befo
 DebugsByResult due input before left written (Err Output) = Debugs due input before left written (Err S2)
 DebugsByResult due input before left written (Err Memory) = ToldNone input before left written
 DebugsByResult due input before left written (Err Words) = ⊥
+DebugsByResult due input before left written (Err Text) = ⊥
+DebugsByResult due input before left written (Err (Program e)) = ⊥
 DebugsByResult due input before left written (Err File) = OpensNone due File input before left written
 DebugsByResult due input before left written (Err (Image e)) = OpensNone due (Image e) input before left written

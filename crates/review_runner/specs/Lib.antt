@@ -6,3 +6,4 @@ pub mod Number
 pub mod Order
 pub mod Rows
 pub mod Debugging
+pub mod Performing

@@ -14,11 +14,17 @@ use Rattle.review_runner.specs.declared.order_error.OrderError.TheVariants.{U1, 
 pub data Task : Type 0 where
   -- the image's file name, and the most steps
   run_image : Text → ℕ → Task
+  -- the file names of a program's text and of its image
+  assemble : Text → Text → Task
+  -- the image's file name
+  list : Text → Task
   -- the image's file name
   debug : Text → Task
 
 abbrev pub order_view : Order → Task
 order_view (code.RunImage image steps) = run_image (string_bytes image) steps
+order_view (code.Assemble text image) = assemble (string_bytes text) (string_bytes image)
+order_view (code.List image) = list (string_bytes image)
 order_view (code.Debug image) = debug (string_bytes image)
 
 -- ---- from the values of a command's arguments to its task
@@ -28,12 +34,22 @@ unfoldable pub run_image_in : List Row → Task
 run_image_in rows = run_image (unwrap_or (first_of (codes "IMAGE") rows) [])
     (unwrap_or (number_of (one_of (codes "steps") rows)) 10000000)
 
+unfoldable pub assemble_in : List Row → Task
+assemble_in rows = assemble (unwrap_or (first_of (codes "TEXT") rows) []) (unwrap_or (first_of (codes "IMAGE") rows) [])
+
+unfoldable pub list_in : List Row → Task
+list_in rows = list (unwrap_or (first_of (codes "IMAGE") rows) [])
+
 unfoldable pub debug_in : List Row → Task
 debug_in rows = debug (unwrap_or (first_of (codes "IMAGE") rows) [])
 
 -- by the command's name; the last command is the one that is left
 abbrev pub task_named : Text → List Row → Task
-task_named name rows = if bytes_eq name (codes "run-image") then run_image_in rows else debug_in rows
+task_named name rows =
+    if bytes_eq name (codes "run-image") then run_image_in rows
+    else (if bytes_eq name (codes "asm") then assemble_in rows
+    else (if bytes_eq name (codes "list") then list_in rows
+    else debug_in rows))
 
 abbrev pub order_in : Option (Text × List Row) → Option Task
 order_in (Some p) = Some (task_named p.0 p.1)
@@ -59,6 +75,8 @@ Ordered words (Err Memory) = Unit {0}
 -- a session, which reads and writes as it goes on
 abbrev pub is_session : Task → Bool
 is_session (run_image image steps) = false
+is_session (assemble text image) = false
+is_session (list image) = false
 is_session (debug image) = true
 
 -- ---- limits
@@ -66,4 +84,4 @@ is_session (debug image) = true
 -- no task asks for more steps than a run may have
 abbrev pub IsWithinLimits : Task → Type 0
 IsWithinLimits (run_image image steps) = steps ≤ 1000000000
-IsWithinLimits (debug image) = Unit {0}
+IsWithinLimits _ = Unit {0}

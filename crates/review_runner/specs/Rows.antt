@@ -20,6 +20,14 @@ without_steps = codes "celbpf" ∷ codes "run-image" ∷ codes "a.img" ∷ []
 abbrev pub debug_words : List Text
 debug_words = codes "celbpf" ∷ codes "debug" ∷ codes "a.img" ∷ []
 
+-- celbpf asm a.txt a.img
+abbrev pub asm_words : List Text
+asm_words = codes "celbpf" ∷ codes "asm" ∷ codes "a.txt" ∷ codes "a.img" ∷ []
+
+-- celbpf list a.img
+abbrev pub list_words : List Text
+list_words = codes "celbpf" ∷ codes "list" ∷ codes "a.img" ∷ []
+
 -- celbpf run-image a.img --steps N
 abbrev pub with_steps : Text → List Text
 with_steps number = without_steps ++ codes "--steps" ∷ number ∷ []

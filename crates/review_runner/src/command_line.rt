@@ -2,7 +2,7 @@
 ghost use Rattle.std.specs.Prelude.{◌≡◌, map, IfOk, false, true};
 ghost use Rattle.clap.specs.Words.{app_of, has_subcommand, rule_of, subcommand_rows_of, FailsBy};
 ghost use Rattle.clap.specs.declared.builder.command.Command.TheViews.{out-Command as fields_of};
-ghost use Rattle.review_runner.specs.Commands.{image_rule, steps_rule, run_image_app, debug_app, celbpf_app};
+ghost use Rattle.review_runner.specs.Commands.{asm_app, celbpf_app, debug_app, image_rule, list_app, run_image_app, running_app, steps_rule, text_rule};
 ghost use Rattle.review_runner.specs.Commands.{faults, entered};
 
 use clap::{Arg, ArgMatches, Command, Error, value_parser};
@@ -15,6 +15,15 @@ fn image_argument<'a>(alloc: Global) -> Arg<'a>
     ensures local { result.global ≡ false }
 {
     Arg::new(alloc, "IMAGE").required(true)
+}
+
+// TEXT, the file of a program's text
+#[tactic(auto, unfolding(crate::specs::Commands::text_rule))]
+fn text_argument<'a>(alloc: Global) -> Arg<'a>
+    ensures rule { rule_of result ≡ text_rule }
+    ensures local { result.global ≡ false }
+{
+    Arg::new(alloc, "TEXT").required(true)
 }
 
 // --steps N, the most instructions that may run
@@ -38,6 +47,23 @@ fn run_image_command<'a>(alloc: Global) -> Result<Command<'a>, AllocError>
     command.arg(steps_argument(alloc))
 }
 
+#[tactic(auto, unfolding(crate::specs::Commands::asm_app))]
+fn asm_command<'a>(alloc: Global) -> Result<Command<'a>, AllocError>
+    ensures shape { IfOk result (λ c. app_of c ≡ asm_app) }
+    ensures local { IfOk result (λ c. (fields_of c).has_globals ≡ false) }
+{
+    let command = Command::new(alloc, "asm").arg(text_argument(alloc))?;
+    command.arg(image_argument(alloc))
+}
+
+#[tactic(auto, unfolding(crate::specs::Commands::list_app))]
+fn list_command<'a>(alloc: Global) -> Result<Command<'a>, AllocError>
+    ensures shape { IfOk result (λ c. app_of c ≡ list_app) }
+    ensures local { IfOk result (λ c. (fields_of c).has_globals ≡ false) }
+{
+    Command::new(alloc, "list").arg(image_argument(alloc))
+}
+
 #[tactic(auto, unfolding(crate::specs::Commands::debug_app))]
 fn debug_command<'a>(alloc: Global) -> Result<Command<'a>, AllocError>
     ensures shape { IfOk result (λ c. app_of c ≡ debug_app) }
@@ -46,15 +72,26 @@ fn debug_command<'a>(alloc: Global) -> Result<Command<'a>, AllocError>
     Command::new(alloc, "debug").arg(image_argument(alloc))
 }
 
-// the program, with each of its commands
-#[tactic(auto, unfolding(crate::specs::Commands::celbpf_app, crate::specs::Commands::bare_app))]
-fn celbpf_command<'a>(alloc: Global) -> Result<Command<'a>, AllocError>
-    ensures shape { IfOk result (λ c. app_of c ≡ celbpf_app) }
+// the program, with the commands that run an image
+#[tactic(auto, unfolding(crate::specs::Commands::running_app, crate::specs::Commands::bare_app))]
+fn running_command<'a>(alloc: Global) -> Result<Command<'a>, AllocError>
+    ensures shape { IfOk result (λ c. app_of c ≡ running_app) }
     ensures local { IfOk result (λ c. (fields_of c).has_globals ≡ false) }
 {
     let command = Command::new(alloc, "celbpf").subcommand_required(true);
     let command = command.subcommand(run_image_command(alloc)?)?;
     command.subcommand(debug_command(alloc)?)
+}
+
+// the program, with each of its commands
+#[tactic(auto, unfolding(crate::specs::Commands::celbpf_app))]
+fn celbpf_command<'a>(alloc: Global) -> Result<Command<'a>, AllocError>
+    ensures shape { IfOk result (λ c. app_of c ≡ celbpf_app) }
+    ensures local { IfOk result (λ c. (fields_of c).has_globals ≡ false) }
+{
+    let command = running_command(alloc)?;
+    let command = command.subcommand(asm_command(alloc)?)?;
+    command.subcommand(list_command(alloc)?)
 }
 
 // What `clap` makes of the words, the program's name first.

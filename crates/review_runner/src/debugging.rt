@@ -38,7 +38,7 @@ pub fn debug<F: Files, R: Source, W: Sink>(
 }
 
 /// The image in this file.
-fn open<F: Files>(alloc: Global, image: &str, files: &mut F) -> Result<Image, Refusal>
+pub(crate) fn open<F: Files>(alloc: Global, image: &str, files: &mut F) -> Result<Image, Refusal>
     ensures opens { (f : FileSystem) → F.known files.old ≡ Some f → Opens (opened (f.holds image.now)) result }
     ensures known { F.known files.new ≡ F.known files.old }
 {

@@ -2,11 +2,15 @@
 //! the caller gives. `reader::order` reads the words, `perform` does the order.
 #![tactic(auto)]
 
+mod assembling;
+#[cfg(test)]
+mod assembling_tests;
 mod command_line;
 mod debugging;
 mod done;
 mod file_error;
 mod files;
+mod listing;
 mod order;
 mod order_error;
 #[cfg(test)]

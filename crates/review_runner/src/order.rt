@@ -11,6 +11,18 @@ pub enum Order {
         /// was given.
         steps: u64,
     },
+    /// `asm TEXT IMAGE`: the image of a program's text, without constants.
+    Assemble {
+        /// The file name of the text as it was given, which may be empty.
+        text: String,
+        /// The image's file name as it was given, which may be empty.
+        image: String,
+    },
+    /// `list IMAGE`: the listing of a program image's code.
+    List {
+        /// The image's file name as it was given, which may be empty.
+        image: String,
+    },
     /// `debug IMAGE`: a session with a program image, on standard input and output.
     Debug {
         /// The image's file name as it was given, which may be empty.

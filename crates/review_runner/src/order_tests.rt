@@ -29,7 +29,7 @@ fn words_that_are_taken(rt: HostRuntime) -> Result<(), Fail> {
                 assert!(rt; image.as_str() == name, "the name in row {row}");
                 assert_eq!(rt; *steps, number, "the steps in row {row}");
             }
-            Ok(Order::Debug { .. }) => assert!(rt; false, "row {row}: a session"),
+            Ok(_) => assert!(rt; false, "row {row}: another order"),
             Err(error) => assert!(rt; false, "row {row}: {error}"),
         }
     }
@@ -59,6 +59,10 @@ fn words_that_are_refused(rt: HostRuntime) -> Result<(), Fail> {
     let flag = ["celbpf", "run-image", "a.img", "--fast"];
     let debug_alone = ["celbpf", "debug"];
     let debug_steps = ["celbpf", "debug", "a.img", "--steps", "1"];
+    let asm_alone = ["celbpf", "asm", "a.txt"];
+    let asm_steps = ["celbpf", "asm", "a.txt", "a.img", "--steps", "1"];
+    let list_alone = ["celbpf", "list"];
+    let two_lists = ["celbpf", "list", "a.img", "b.img"];
     let help = ["celbpf", "--help"];
     let command_help = ["celbpf", "run-image", "--help"];
     let help_command = ["celbpf", "help"];
@@ -76,6 +80,10 @@ fn words_that_are_refused(rt: HostRuntime) -> Result<(), Fail> {
         flag.as_slice(),
         debug_alone.as_slice(),
         debug_steps.as_slice(),
+        asm_alone.as_slice(),
+        asm_steps.as_slice(),
+        list_alone.as_slice(),
+        two_lists.as_slice(),
         help.as_slice(),
         command_help.as_slice(),
         help_command.as_slice(),
@@ -85,6 +93,24 @@ fn words_that_are_refused(rt: HostRuntime) -> Result<(), Fail> {
             Ok(_) => assert!(rt; false, "row {row}: an order"),
             Err(error) => assert!(rt; *error == OrderError::U1, "row {row}: {error}"),
         }
+    }
+    Ok(())
+}
+
+#[test]
+fn texts_and_listings(rt: HostRuntime) -> Result<(), Fail> {
+    let asm = ["celbpf", "asm", "a.txt", "a.img"];
+    match &order(rt.alloc(), asm.as_slice()) {
+        Ok(Order::Assemble { text, image }) => {
+            assert!(rt; text.as_str() == "a.txt");
+            assert!(rt; image.as_str() == "a.img");
+        }
+        _ => assert!(rt; false, "no text is assembled"),
+    }
+    let list = ["celbpf", "list", "a.img"];
+    match &order(rt.alloc(), list.as_slice()) {
+        Ok(Order::List { image }) => assert!(rt; image.as_str() == "a.img"),
+        _ => assert!(rt; false, "no image is listed"),
     }
     Ok(())
 }

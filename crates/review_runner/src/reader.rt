@@ -1,7 +1,7 @@
 //! From the words of a command line to the order that they give.
 ghost use Rattle.std.specs.Prelude.{map, IfOk};
 ghost use Rattle.clap.specs.Words.{found_of, rows_of};
-ghost use Rattle.review_runner.specs.Order.{debug_in, order_view, run_image_in, task_named};
+ghost use Rattle.review_runner.specs.Order.{assemble_in, debug_in, list_in, order_view, run_image_in, task_named};
 ghost use Rattle.review_runner.specs.Order.{Gives, IsWithinLimits, Ordered};
 
 use crate::command_line::parse;
@@ -24,6 +24,23 @@ fn run_image_order(alloc: Global, matches: &ArgMatches) -> Result<Order, OrderEr
     Ok(Order::RunImage { image, steps })
 }
 
+#[tactic(auto, unfolding(crate::specs::Order::assemble_in))]
+fn assemble_order(alloc: Global, matches: &ArgMatches) -> Result<Order, OrderError>
+    ensures { Gives (assemble_in (rows_of (found_of matches.now))) result }
+{
+    let text = String::from_str(alloc, text_or_empty(matches, "TEXT"))?;
+    let image = String::from_str(alloc, text_or_empty(matches, "IMAGE"))?;
+    Ok(Order::Assemble { text, image })
+}
+
+#[tactic(auto, unfolding(crate::specs::Order::list_in))]
+fn list_order(alloc: Global, matches: &ArgMatches) -> Result<Order, OrderError>
+    ensures { Gives (list_in (rows_of (found_of matches.now))) result }
+{
+    let image = String::from_str(alloc, text_or_empty(matches, "IMAGE"))?;
+    Ok(Order::List { image })
+}
+
 #[tactic(auto, unfolding(crate::specs::Order::debug_in))]
 fn debug_order(alloc: Global, matches: &ArgMatches) -> Result<Order, OrderError>
     ensures { Gives (debug_in (rows_of (found_of matches.now))) result }
@@ -38,6 +55,8 @@ fn order_named(alloc: Global, name: &str, matches: &ArgMatches) -> Result<Order,
 {
     match name {
         "run-image" => run_image_order(alloc, matches),
+        "asm" => assemble_order(alloc, matches),
+        "list" => list_order(alloc, matches),
         _ => debug_order(alloc, matches),
     }
 }

@@ -1,6 +1,6 @@
 //! Command lines written out, with the orders that the definitions give for them.
-ghost use Rattle.review_runner.specs.Rows.{debug_words, without_steps, with_steps, IsRefused, IsTakenAs};
-ghost use Rattle.review_runner.specs.Order.{debug, run_image};
+ghost use Rattle.review_runner.specs.Rows.{asm_words, debug_words, list_words, without_steps, with_steps, IsRefused, IsTakenAs};
+ghost use Rattle.review_runner.specs.Order.{assemble, debug, list, run_image};
 ghost use Rattle.std.specs.Prelude.{codes};
 
 /// `celbpf run-image a.img --steps 5` runs `a.img` for at most 5 steps, and without `--steps` it is
@@ -15,4 +15,14 @@ pub fn run_image_rows_stand()
 /// `celbpf debug a.img` debugs `a.img`.
 pub fn debug_row_stands()
     ensures { IsTakenAs debug_words (debug (codes "a.img")) }
+{}
+
+/// `celbpf asm a.txt a.img` assembles `a.txt` to `a.img`.
+pub fn asm_row_stands()
+    ensures { IsTakenAs asm_words (assemble (codes "a.txt") (codes "a.img")) }
+{}
+
+/// `celbpf list a.img` lists `a.img`.
+pub fn list_row_stands()
+    ensures { IsTakenAs list_words (list (codes "a.img")) }
 {}

@@ -1,30 +1,45 @@
 use Rattle.std.proofs.Common.{refl}
 use Rattle.std.specs.Fmt.{digits}
-use Rattle.bpf_machine.specs.Spelled.{spelled}
-use Rattle.bpf_machine.specs.Candidate.{candidate_at, arithmetic_at, jump_at}
-use Rattle.bpf_machine.specs.WordArithmetic.{alu64_of, operated}
+use Rattle.insn_codec.specs.Spelled.{spelled}
+use Rattle.insn_codec.specs.Candidate.{candidate_at, arithmetic_at, jump_at, branch_at, memory_at, wide_at}
+use Rattle.insn_codec.specs.Lines.{decimal, hex_digits as slot_digits}
+use Rattle.insn_codec.specs.Statements.{statement_of}
+use Rattle.bpf_word.specs.Arithmetic.{alu64_of, operated}
 use Rattle.bpf_machine.specs.State.{null_values, start_state}
 use Rattle.bpf_machine.specs.Decoding.{insn_at}
 use Rattle.bpf_machine.specs.Arithmetic.{alu_row}
-use Rattle.bpf_machine.specs.Jumps.{exit_row}
+use Rattle.bpf_machine.specs.Jumps.{exit_row, jump_row}
 use Rattle.bpf_machine.specs.Step.{next_state}
 use Rattle.bpf_machine.specs.Trace.{state_after}
 use Rattle.bpf_machine.specs.Text.{hex_digits, move_line, register_line, register_lines, registers_text}
-use Rattle.debugger.specs.Commands.{number_of, form_of, command_of}
-use Rattle.debugger.specs.Answers.{answer_of, may_be_refused, answer_to}
+use Rattle.history.specs.Search.{first_stop, is_at, is_stop, last_stop}
+use Rattle.debugger.specs.Commands.{number_of, form_of, numbered_form_of, move_form_of, command_of}
+use Rattle.debugger.specs.Listing.{listing_line, listing_lines, outside_line}
+use Rattle.debugger.specs.Answers.{break_text, clear_text, answer_of, may_be_refused, answer_to}
 use Rattle.debugger.specs.Session.{cut, hear}
 use Rattle.debugger.proofs.laws.rows_stand.Goals as goal
 
 pub returns : goal.returns
-unfolding digits spelled candidate_at arithmetic_at jump_at alu64_of operated null_values start_state insn_at alu_row exit_row next_state state_after hex_digits move_line register_line register_lines registers_text number_of form_of command_of answer_of may_be_refused answer_to cut hear
+unfolding decimal digits spelled candidate_at arithmetic_at jump_at branch_at memory_at wide_at slot_digits statement_of alu64_of operated null_values start_state insn_at alu_row exit_row jump_row next_state state_after hex_digits move_line register_line register_lines registers_text first_stop is_at is_stop last_stop number_of form_of numbered_form_of move_form_of command_of listing_line listing_lines outside_line break_text clear_text answer_of may_be_refused answer_to cut hear
 returns c = record {
   moves = refl;
   stops = refl;
   ends = refl;
   has_no_form = refl;
   shows_registers = refl;
+  breaks = refl;
+  searches = refl;
+  searches_back = refl;
+  clears_once = refl;
+  goes = refl;
+  limits = refl;
+  lists_code = refl;
+  lists_inside = refl;
+  lists_eight = refl;
+  lists_outside = refl;
   reads_64_bytes = refl;
   reads_no_65 = refl;
   refuses_moves = refl;
+  refuses_new = refl;
   refuses_no_more = refl;
 }

@@ -1,5 +1,5 @@
 use Rattle.std.proofs.Common.{rules, arith, refl, ◌∙◌, ◌<◌, ◌+◌}
-use Rattle.debugger.proofs.Bytes.{adds_all, adds_kept, adds_more, adds_none}
+use Rattle.debugger.proofs.Bytes.{adds_more, adds_none}
 use Rattle.debugger.proofs.transfer.write_all.Goals as goal
 
 pub loop-at-init : goal.loop-at-init

@@ -1,5 +1,5 @@
-use Rattle.std.proofs.Common.{add-one, refl, rules, ap, ◌∙◌, ◌++◌, List, ℕ}
-use Rattle.bpf_machine.specs.Text.{register_lines, register_line, registers_text}
+use Rattle.std.proofs.Common.{add-one, refl}
+use Rattle.bpf_machine.specs.Text.{register_lines}
 use Rattle.review_runner.proofs.running.registers.Goals as goal
 
 pub loop-number-preserved : goal.loop-number-preserved

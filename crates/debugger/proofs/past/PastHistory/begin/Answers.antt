@@ -1,5 +1,0 @@
-use Rattle.debugger.proofs.Places.{begins}
-use Rattle.debugger.proofs.past.PastHistory.begin.Goals as goal
-
-pub invariant_of-result : goal.invariant_of-result
-invariant_of-result g c = begins _ _ _ _ c.new.ensures.items

@@ -1,0 +1,79 @@
+//! A machine whose run can be kept.
+ghost use Rattle.std.specs.Prelude.{◌≡◌, ◌<◌, slice_index, IfOk, OnErr, OnOk};
+ghost use Rattle.bpf_machine.specs.State.{State};
+ghost use Rattle.bpf_machine.specs.Step.{next_state};
+ghost use Rattle.bpf_machine.specs.Trace.{state_after, IsReached};
+
+use bpf_machine::{Machine, Status};
+use guest_memory::Regions;
+use loader::Image;
+use std::alloc::AllocError;
+
+/// A machine whose run can be kept: what a history and a session need of it.
+pub trait Emulator: Drop {
+    /// The state that it stands in.
+    ghost state: { Self → State };
+
+    /// One step. A refused growth leaves the state.
+    fn step(&mut self) -> Result<Status, AllocError>
+        ensures ok { OnOk result (state self.new ≡ next_state (state self.old)) }
+        ensures status { IfOk result (λ s. s ≡ (state self.new).status) }
+        ensures err { OnErr result (state self.new ≡ state self.old) };
+
+    /// `n` steps, of which those after a stopped state change nothing.
+    fn run(&mut self, n: u64) -> Result<(), AllocError>
+        ensures ok { OnOk result (state self.new ≡ state_after n (state self.old)) }
+        ensures err { OnErr result (IsReached (state self.old) n (state self.new)) };
+
+    /// An equal machine.
+    fn copy(&self) -> Result<Self, AllocError>
+        ensures { IfOk result (λ m. state m ≡ state self.now) };
+
+    fn status(&self) -> Status
+        ensures { result ≡ (state self.now).status };
+
+    fn pc(&self) -> i64
+        ensures { result ≡ (state self.now).pc };
+
+    /// The image that it runs.
+    fn image(&self) -> &Image
+        ensures { result.now ≡ (state self.now).image };
+
+    /// The word of the register with this number.
+    fn register(&self, number: usize) -> u64
+        requires { number < 11 }
+        ensures { result ≡ slice_index (state self.now).registers number };
+}
+
+impl<M: Regions> Emulator for Machine<M> {
+    ghost state = { λ m. m };
+
+    fn step(&mut self) -> Result<Status, AllocError> {
+        self.step()
+    }
+
+    fn run(&mut self, n: u64) -> Result<(), AllocError> {
+        self.run(n)?;
+        Ok(())
+    }
+
+    fn copy(&self) -> Result<Machine<M>, AllocError> {
+        self.copy()
+    }
+
+    fn status(&self) -> Status {
+        self.status()
+    }
+
+    fn pc(&self) -> i64 {
+        self.pc()
+    }
+
+    fn image(&self) -> &Image {
+        self.image()
+    }
+
+    fn register(&self, number: usize) -> u64 {
+        self.register(number)
+    }
+}

@@ -1,0 +1,15 @@
+//! Runs of a machine that can be shown at each of their places, and searched both ways.
+#![tactic(auto)]
+
+mod emulator;
+mod history;
+pub mod laws;
+mod past;
+#[cfg(test)]
+mod past_tests;
+#[cfg(test)]
+mod search_tests;
+
+pub use emulator::Emulator;
+pub use history::History;
+pub use past::Past;
