@@ -1,0 +1,152 @@
+-- What a phrase begins with.
+use Rattle.std.proofs.Common.{◌≡◌, ℕ, List, [], ◌∷◌, Bool, true, false, inl, inr, Some, None, refl, sym, ◌∙◌, ap, subst}
+use Rattle.std.specs.Prelude.{◌||◌}
+use Rattle.cel_tokens.specs.Token.{Word, name, int, text, mark}
+use Rattle.cel_tokens.specs.declared.mark.Mark.{Mark}
+use Rattle.cel_tokens.specs.declared.mark.Mark.TheVariants.{Not, Minus, Comma, OpenParen, OpenBracket, OpenBrace}
+use Rattle.cel_reader.specs.Tree.{Value}
+use Rattle.cel_reader.specs.Words.{unary_mark, literal_of}
+use Rattle.cel_reader.specs.Look.{NotAt, GoesOn, closing_mark}
+use Rattle.cel_reader.specs.Grammar.{Class, Expression, Infix, Unary, Prefixed, Member, Primary, Items, OptionalItems, Pairs, OptionalPairs, Phrase, below, Derives}
+use Rattle.cel_reader.specs.Grammar as derives
+use Rattle.cel_reader.specs.declared.level.Level.{Level}
+use Rattle.cel_reader.specs.declared.level.Level.TheVariants.{Or, And, Relation, Sum, Product}
+use Rattle.cel_reader.specs.declared.closing.Closing.{Closing}
+use Rattle.cel_reader.specs.declared.closing.Closing.TheVariants.{Call, List as ListLiteral, Map}
+use Rattle.cel_reader.specs.declared.operator.UnaryOperator.{UnaryOperator}
+use Rattle.cel_reader.specs.declared.operator.UnaryOperator.TheVariants as unary
+
+-- ( [ {
+abbrev opens_member : Mark → Bool
+opens_member OpenParen = true
+opens_member OpenBracket = true
+opens_member OpenBrace = true
+opens_member other = false
+
+-- ! -
+abbrev is_prefix : Mark → Bool
+is_prefix Not = true
+is_prefix Minus = true
+is_prefix other = false
+
+-- a word that a member begins with
+abbrev pub begins_member : Word → Bool
+begins_member (name n) = true
+begins_member (int z) = true
+begins_member (text bytes) = true
+begins_member (mark m) = opens_member m
+
+-- a word that an expression begins with
+abbrev pub begins : Word → Bool
+begins (name n) = true
+begins (int z) = true
+begins (text bytes) = true
+begins (mark m) = opens_member m || is_prefix m
+
+abbrev pub FirstIs : (Word → Bool) → List Word → Type 0
+FirstIs p [] = ⊥
+FirstIs p (w ∷ ws) = p w ≡ true
+
+-- what the first word of a phrase of the row is
+abbrev pub Front : Class → List Word → Type 0
+Front Expression ws = FirstIs begins ws
+Front (Infix l) ws = FirstIs begins ws
+Front Unary ws = FirstIs begins ws
+Front (Prefixed op) ws = FirstIs begins ws
+Front Member ws = FirstIs begins_member ws
+Front Primary ws = FirstIs begins_member ws
+Front Items ws = FirstIs begins ws
+Front Pairs ws = FirstIs begins ws
+Front OptionalItems ws = Unit {0}
+Front OptionalPairs ws = Unit {0}
+
+either_way : (a b : Bool) → a ≡ true → (a || b) ≡ true
+either_way true b e = refl
+either_way false b e = absurd (let f : false ≡ true = e in cc)
+
+begins_too : (ws : List Word) → FirstIs begins_member ws → FirstIs begins ws
+begins_too [] x = x
+begins_too (name n ∷ ws) x = refl
+begins_too (int z ∷ ws) x = refl
+begins_too (text bytes ∷ ws) x = refl
+begins_too (mark m ∷ ws) x = either_way (opens_member m) (is_prefix m) x
+
+below_begins : (l : Level) (ws : List Word) → Front (below l) ws → FirstIs begins ws
+below_begins Or ws x = x
+below_begins And ws x = x
+below_begins Relation ws x = x
+below_begins Sum ws x = x
+below_begins Product ws x = x
+
+prefix_begins : (op : UnaryOperator) → begins (mark (unary_mark op)) ≡ true
+prefix_begins unary.Not = refl
+prefix_begins unary.Negate = refl
+
+literal_begins : (w : Word) (v : Value) → literal_of w ≡ Some v → begins_member w ≡ true
+literal_begins (name n) v e = refl
+literal_begins (int z) v e = refl
+literal_begins (text bytes) v e = refl
+literal_begins (mark m) v e = absurd (let f : None ≡ Some v = e in cc)
+
+pub first : {c : Class} {room : ℕ} {ws : List Word} {p : Phrase} {rest : List Word} → Derives c room ws p rest → Front c ws
+first (derives.plain d) = first d
+first (derives.conditional d e f) = first d
+first (derives.operand {ws = ws} l d) = below_begins l ws (first d)
+first (derives.operation op x y d e) = first d
+first (derives.unprefixed {ws = ws} d) = begins_too ws (first d)
+first (derives.prefixed op d) = prefix_begins op
+first (derives.last_prefix {ws = ws} op d) = begins_too ws (first d)
+first (derives.next_prefix op d) = prefix_begins op
+first (derives.whole d) = first d
+first (derives.selection is d) = first d
+first (derives.method_call is d e) = first d
+first (derives.indexing d e) = first d
+first (derives.identifier is) = refl
+first (derives.function_call is d) = refl
+first (derives.bracket d) = refl
+first (derives.constant {w = w} {v = v} x) = literal_begins w v x
+first (derives.list_literal d x) = refl
+first (derives.map_literal d x) = refl
+first (derives.no_items) = tt
+first (derives.some_items d) = tt
+first (derives.first_item d) = first d
+first (derives.next_item d e) = first d
+first (derives.no_pairs) = tt
+first (derives.some_pairs d) = tt
+first (derives.first_pair d e) = first d
+first (derives.next_pair d e f) = first d
+
+-- another mark is first
+pub not_first : (p : Word → Bool) (m : Mark) (ws : List Word) → p (mark m) ≡ false → FirstIs p ws → NotAt m ws
+not_first p m [] none x = tt
+not_first p m (w ∷ ws) none x = λ e. absurd (let f : true ≡ false = sym x ∙ ap p e ∙ none in cc)
+
+pub mark_not_first : (m : Mark) (ws us : List Word) → begins (mark m) ≡ false → FirstIs begins ws → ws ≡ mark m ∷ us → ⊥
+mark_not_first m ws us none x e = let f : begins (mark m) ≡ true = subst (λ (y : List Word). FirstIs begins y) e x in absurd (let g : true ≡ false = sym f ∙ none in cc)
+
+pub closing_not_first : (c : Closing) → begins (mark (closing_mark c)) ≡ false
+closing_not_first Call = refl
+closing_not_first ListLiteral = refl
+closing_not_first Map = refl
+
+-- where an expression begins, no list ends and no comma stands
+pub goes_on : (c : Closing) (ws : List Word) → FirstIs begins ws → GoesOn c ws
+goes_on c ws x rest (inl e) = mark_not_first (closing_mark c) ws rest (closing_not_first c) x e
+goes_on c ws x rest (inr p) = mark_not_first Comma ws (mark (closing_mark c) ∷ rest) refl x p.1
+
+pub no_comma : (ws : List Word) → FirstIs begins ws → NotAt Comma ws
+no_comma ws x = not_first begins Comma ws refl x
+
+-- no member begins with an operator before an operand
+member_prefix : (op : UnaryOperator) → begins_member (mark (unary_mark op)) ≡ false
+member_prefix unary.Not = refl
+member_prefix unary.Negate = refl
+
+pub no_prefix : (op : UnaryOperator) (ws : List Word) → FirstIs begins_member ws → NotAt (unary_mark op) ws
+no_prefix op ws x = not_first begins_member (unary_mark op) ws (member_prefix op) x
+
+pub no_not : (ws : List Word) → FirstIs begins_member ws → NotAt Not ws
+no_not ws x = not_first begins_member Not ws refl x
+
+pub no_minus : (ws : List Word) → FirstIs begins_member ws → NotAt Minus ws
+no_minus ws x = not_first begins_member Minus ws refl x

@@ -1,0 +1,17 @@
+pub mod Names
+pub mod Ranks
+pub mod Prefixed
+pub mod Steps
+pub mod Sound
+pub mod Rooms
+pub mod Openings
+pub mod FirstWords
+pub mod Stops
+pub mod Claims
+pub mod CompleteRows
+pub mod CompletePrimaries
+pub mod CompleteLists
+pub mod Complete
+pub mod Built
+pub mod Theorems
+pub mod Told

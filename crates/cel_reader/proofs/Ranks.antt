@@ -1,0 +1,12 @@
+-- How many rows are tighter than an operator's.
+use Rattle.std.proofs.Common.{ℕ}
+use Rattle.cel_reader.specs.declared.level.Level.{Level}
+use Rattle.cel_reader.specs.declared.level.Level.TheVariants.{Or, And, Relation, Sum, Product}
+
+-- counted twice, above the four rows from a unary operator's on
+abbrev pub rank : Level → ℕ
+rank Or = 14
+rank And = 12
+rank Relation = 10
+rank Sum = 8
+rank Product = 6

@@ -1,0 +1,111 @@
+-- What ends a phrase: the words that go on with none.
+use Rattle.std.proofs.Common.{◌≡◌, List, [], ◌∷◌, inl, inr, Some, None, refl, sym, ◌∙◌, ap, subst}
+use Rattle.cel_tokens.specs.Token.{Word, mark}
+use Rattle.cel_tokens.specs.declared.mark.Mark.{Mark}
+use Rattle.cel_tokens.specs.declared.mark.Mark.TheVariants.{Question, Colon, Dot, Comma, OpenParen, CloseParen, OpenBracket, CloseBracket, CloseBrace}
+use Rattle.cel_reader.specs.Words.{operator_of, operator_mark, level_of}
+use Rattle.cel_reader.specs.Look.{NotAt, NoOperator, Closes, closing_mark}
+use Rattle.cel_reader.specs.Grammar.{Class, Expression, Infix, Unary, Prefixed, Member, Primary, Items, OptionalItems, Pairs, OptionalPairs, below}
+use Rattle.cel_reader.specs.declared.level.Level.{Level}
+use Rattle.cel_reader.specs.declared.level.Level.TheVariants.{Or, And, Relation, Sum, Product}
+use Rattle.cel_reader.specs.declared.closing.Closing.{Closing}
+use Rattle.cel_reader.specs.declared.closing.Closing.TheVariants.{Call, List as ListLiteral, Map}
+use Rattle.cel_reader.specs.declared.operator.BinaryOperator.{BinaryOperator}
+
+-- no word goes on with the phrase; a name before a parenthesis would be a call
+abbrev pub StopsMember : List Word → Type 0
+StopsMember ws = NotAt Dot ws × NotAt OpenBracket ws × NotAt OpenParen ws
+
+abbrev pub StopsProduct : List Word → Type 0
+StopsProduct ws = NoOperator Product ws × (StopsMember ws)
+
+abbrev pub StopsSum : List Word → Type 0
+StopsSum ws = NoOperator Sum ws × (StopsProduct ws)
+
+abbrev pub StopsRelation : List Word → Type 0
+StopsRelation ws = NoOperator Relation ws × (StopsSum ws)
+
+abbrev pub StopsAnd : List Word → Type 0
+StopsAnd ws = NoOperator And ws × (StopsRelation ws)
+
+abbrev pub StopsOr : List Word → Type 0
+StopsOr ws = NoOperator Or ws × (StopsAnd ws)
+
+abbrev pub StopsExpression : List Word → Type 0
+StopsExpression ws = NotAt Question ws × (StopsOr ws)
+
+abbrev pub Stops : Class → List Word → Type 0
+Stops Expression ws = StopsExpression ws
+Stops (Infix Or) ws = StopsOr ws
+Stops (Infix And) ws = StopsAnd ws
+Stops (Infix Relation) ws = StopsRelation ws
+Stops (Infix Sum) ws = StopsSum ws
+Stops (Infix Product) ws = StopsProduct ws
+Stops Unary ws = StopsMember ws
+Stops (Prefixed op) ws = StopsMember ws
+Stops Member ws = StopsMember ws
+Stops Primary ws = NotAt OpenParen ws
+Stops Items ws = StopsExpression ws
+Stops OptionalItems ws = StopsExpression ws
+Stops Pairs ws = StopsExpression ws
+Stops OptionalPairs ws = StopsExpression ws
+
+same_operator : (op other : BinaryOperator) → Some op ≡ Some other → op ≡ other
+same_operator op other e = cc
+
+-- an operator of one level is none of another
+other_level : (k l : Level) (w : Word) (ws : List Word) (op : BinaryOperator) → operator_of w ≡ Some op → level_of op ≡ k → (k ≡ l → ⊥) → NoOperator l (w ∷ ws)
+other_level k l w ws op e level differ = λ other f g. differ (sym level ∙ ap level_of (same_operator op other (sym e ∙ f)) ∙ g)
+
+-- an operator is no other mark
+operator_not : (m : Mark) (w : Word) (op : BinaryOperator) → operator_of w ≡ Some op → operator_mark m ≡ None → w ≡ mark m → ⊥
+operator_not m w op e none f = let g : None ≡ Some op = sym none ∙ ap operator_of (sym f) ∙ e in cc
+
+operator_member : (w : Word) (ws : List Word) (op : BinaryOperator) → operator_of w ≡ Some op → StopsMember (w ∷ ws)
+operator_member w ws op e = (operator_not Dot w op e refl, operator_not OpenBracket w op e refl, operator_not OpenParen w op e refl)
+
+-- an operator of the level ends its left operand
+pub ends_operand : (l : Level) (w : Word) (ws : List Word) (op : BinaryOperator) → operator_of w ≡ Some op → level_of op ≡ l → Stops (below l) (w ∷ ws)
+ends_operand Or w ws op e f = (other_level Or And w ws op e f (λ q. cc), (other_level Or Relation w ws op e f (λ q. cc), (other_level Or Sum w ws op e f (λ q. cc), (other_level Or Product w ws op e f (λ q. cc), operator_member w ws op e))))
+ends_operand And w ws op e f = (other_level And Relation w ws op e f (λ q. cc), (other_level And Sum w ws op e f (λ q. cc), (other_level And Product w ws op e f (λ q. cc), operator_member w ws op e)))
+ends_operand Relation w ws op e f = (other_level Relation Sum w ws op e f (λ q. cc), (other_level Relation Product w ws op e f (λ q. cc), operator_member w ws op e))
+ends_operand Sum w ws op e f = (other_level Sum Product w ws op e f (λ q. cc), operator_member w ws op e)
+ends_operand Product w ws op e f = operator_member w ws op e
+
+no_operator : (l : Level) (m : Mark) (ws : List Word) → operator_mark m ≡ None → NoOperator l (mark m ∷ ws)
+no_operator l m ws none = λ op e f. let g : None ≡ Some op = sym none ∙ e in cc
+
+-- a mark that is no operator and begins no suffix ends an Or
+ends_or : (m : Mark) (ws : List Word) → operator_mark m ≡ None → StopsMember (mark m ∷ ws) → StopsOr (mark m ∷ ws)
+ends_or m ws none member = (no_operator Or m ws none, (no_operator And m ws none, (no_operator Relation m ws none, (no_operator Sum m ws none, (no_operator Product m ws none, member)))))
+
+pub ends_question : (ws : List Word) → StopsOr (mark Question ∷ ws)
+ends_question ws = ends_or Question ws refl ((λ e. cc), (λ e. cc), (λ e. cc))
+
+pub ends_colon : (ws : List Word) → StopsExpression (mark Colon ∷ ws)
+ends_colon ws = ((λ e. cc), ends_or Colon ws refl ((λ e. cc), (λ e. cc), (λ e. cc)))
+
+pub ends_comma : (ws : List Word) → StopsExpression (mark Comma ∷ ws)
+ends_comma ws = ((λ e. cc), ends_or Comma ws refl ((λ e. cc), (λ e. cc), (λ e. cc)))
+
+pub ends_paren : (ws : List Word) → StopsExpression (mark CloseParen ∷ ws)
+ends_paren ws = ((λ e. cc), ends_or CloseParen ws refl ((λ e. cc), (λ e. cc), (λ e. cc)))
+
+pub ends_bracket : (ws : List Word) → StopsExpression (mark CloseBracket ∷ ws)
+ends_bracket ws = ((λ e. cc), ends_or CloseBracket ws refl ((λ e. cc), (λ e. cc), (λ e. cc)))
+
+ends_brace : (ws : List Word) → StopsExpression (mark CloseBrace ∷ ws)
+ends_brace ws = ((λ e. cc), ends_or CloseBrace ws refl ((λ e. cc), (λ e. cc), (λ e. cc)))
+
+ends_closing : (c : Closing) (ws : List Word) → StopsExpression (mark (closing_mark c) ∷ ws)
+ends_closing Call ws = ends_paren ws
+ends_closing ListLiteral ws = ends_bracket ws
+ends_closing Map ws = ends_brace ws
+
+-- the end of a list ends its last item
+pub ends_list : (c : Closing) (ws rest : List Word) → Closes c ws rest → StopsExpression ws
+ends_list c ws rest (inl e) = subst (λ (x : List Word). StopsExpression x) (sym e) (ends_closing c rest)
+ends_list c ws rest (inr p) = subst (λ (x : List Word). StopsExpression x) (sym p.1) (ends_comma (mark (closing_mark c) ∷ rest))
+
+pub ends_all : StopsExpression []
+ends_all = (tt, (tt, (tt, (tt, (tt, (tt, (tt, tt, tt)))))))

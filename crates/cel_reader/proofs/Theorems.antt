@@ -1,0 +1,67 @@
+-- What holds of the grammar and of the reader's runs.
+use Rattle.std.proofs.Common.{◌≡◌, ℕ, ◌+◌, ◌<◌, ◌≤◌, List, [], ◌∷◌, arith}
+use Rattle.cel_tokens.specs.Token.{Word}
+use Rattle.cel_reader.specs.Tree.{Tree}
+use Rattle.cel_reader.specs.Look.{openings}
+use Rattle.cel_reader.specs.Grammar.{Class, Expression, Phrase, One, Derives}
+use Rattle.cel_reader.specs.Reading.{Outcome, Got, Refused, Misfit, Deep, Row, Reads}
+use Rattle.cel_reader.proofs.Stops.{ends_all}
+use Rattle.cel_reader.proofs.Sound.{sound}
+use Rattle.cel_reader.proofs.Rooms.{roomier, wider}
+use Rattle.cel_reader.proofs.Openings.{counted}
+use Rattle.cel_reader.proofs.Complete.{claim}
+use Rattle.cel_reader.proofs.Built.{built}
+
+-- what is read is derived
+pub whole_sound : (room : ℕ) (ws rest : List Word) (a : Tree) → Reads (Row Expression) room ws (Got (One a) rest) → Derives Expression room ws (One a) rest
+whole_sound room ws rest a r = sound r
+
+-- what is derived of all the words is what any run of the reader answers
+pub whole_complete : (room : ℕ) (ws : List Word) (a : Tree) (o : Outcome) → Derives Expression room ws (One a) [] → Reads (Row Expression) room ws o → o ≡ Got (One a) []
+whole_complete room ws a o d r = claim d ends_all o r
+
+-- a phrase is one with more room
+pub more_room : (c : Class) (room more : ℕ) (ws : List Word) (p : Phrase) (rest : List Word) → room ≤ more → Derives c room ws p rest → Derives c more ws p rest
+more_room c room more ws p rest h d = wider d more h
+
+same_tree : (a b : Tree) → Got (One a) [] ≡ Got (One b) [] → a ≡ b
+same_tree a b e = cc
+
+-- all the words have one tree, whatever the room
+pub whole_unique : (room other : ℕ) (ws : List Word) (a b : Tree) → Derives Expression room ws (One a) [] → Derives Expression other ws (One b) [] → a ≡ b
+whole_unique room other ws a b d e = same_tree a b (claim (wider e (room + other) (omega arith)) ends_all (Got (One a) []) (built (wider d (room + other) (omega arith)) ends_all))
+
+-- a run that was not too deep and did not end in this tree leaves no other derivation, whatever the room
+one_answer : (room other : ℕ) (ws : List Word) (b : Tree) (o : Outcome) → (o ≡ Refused Deep → ⊥) → Reads (Row Expression) room ws o → Derives Expression other ws (One b) [] → o ≡ Got (One b) []
+one_answer room other ws b o not r d = claim (wider d (room + other) (omega arith)) ends_all o (roomier r (room + other) (omega arith) not)
+
+misfit_not_deep : Refused Misfit ≡ Refused Deep → ⊥
+misfit_not_deep e = cc
+
+misfit_not_got : (p : Phrase) (rest : List Word) → Refused Misfit ≡ Got p rest → ⊥
+misfit_not_got p rest e = cc
+
+-- a misfit is one with any room
+pub misfit_never : (room other : ℕ) (ws : List Word) (a : Tree) → Reads (Row Expression) room ws (Refused Misfit) → Derives Expression other ws (One a) [] → ⊥
+misfit_never room other ws a r d = misfit_not_got (One a) [] (one_answer room other ws a (Refused Misfit) misfit_not_deep r d)
+
+got_not_deep : (p : Phrase) (rest : List Word) → Got p rest ≡ Refused Deep → ⊥
+got_not_deep p rest e = cc
+
+rest_not_all : (p q : Phrase) (w : Word) (us : List Word) → Got p (w ∷ us) ≡ Got q [] → ⊥
+rest_not_all p q w us e = cc
+
+-- where the reader leaves words, they belong to no phrase of all the words, whatever the room
+pub rest_never : (room other : ℕ) (ws us : List Word) (w : Word) (a b : Tree) → Reads (Row Expression) room ws (Got (One a) (w ∷ us)) → Derives Expression other ws (One b) [] → ⊥
+rest_never room other ws us w a b r d = rest_not_all (One a) (One b) w us (one_answer room other ws b (Got (One a) (w ∷ us)) (got_not_deep (One a) (w ∷ us)) r d)
+
+deep_not_got : (p : Phrase) (rest : List Word) → Refused Deep ≡ Got p rest → ⊥
+deep_not_got p rest e = cc
+
+-- what is too deep for the reader is no phrase with this room
+pub deep_never : (room : ℕ) (ws : List Word) (a : Tree) → Reads (Row Expression) room ws (Refused Deep) → Derives Expression room ws (One a) [] → ⊥
+deep_never room ws a r d = deep_not_got (One a) [] (claim d ends_all (Refused Deep) r)
+
+-- what is too deep has more opening brackets and question marks than the room
+pub deep_openings : (room : ℕ) (ws : List Word) → Reads (Row Expression) room ws (Refused Deep) → room < openings ws
+deep_openings room ws r = counted r

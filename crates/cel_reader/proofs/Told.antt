@@ -1,0 +1,93 @@
+-- What the reader's runs tell of whole texts.
+use Rattle.std.proofs.Common.{◌≡◌, ℕ, List, [], ◌∷◌, map, Ok, Err, Result, refl, sym, subst, MatchResult}
+use Rattle.cel_tokens.specs.Token.{Word, Lexeme, seen}
+use Rattle.cel_tokens.specs.Lexis as tokens
+use Rattle.cel_tokens.specs.Lexis.{Lexes}
+use Rattle.cel_tokens.specs.declared.token.Token.{Token}
+use Rattle.cel_tokens.specs.declared.read_error.ReadError.{ReadError}
+use Rattle.cel_tokens.specs.declared.read_error.ReadError.TheVariants.{P1, P2, P3, P4, P5, P6, Memory}
+use Rattle.cel_tokens.proofs.OneReading.{one_end}
+use Rattle.cel_reader.specs.Tree.{Tree, view}
+use Rattle.cel_reader.specs.Look.{spoken, words}
+use Rattle.cel_reader.specs.Grammar.{Expression, One}
+use Rattle.cel_reader.specs.Reading.{Got, Row, Reads}
+use Rattle.cel_reader.specs.Answers.{IsExpression, IsNoExpression, Answers, Told}
+use Rattle.cel_reader.specs.declared.expr.Expr.{Expr}
+use Rattle.cel_reader.proofs.Steps.{Fails}
+use Rattle.cel_reader.proofs.Theorems.{whole_sound, whole_unique, misfit_never, rest_never, deep_never, deep_openings}
+
+-- the whole is read
+pub told_ok : (ws rest : List Word) (a : Tree) → Reads (Row Expression) 100 ws (Got (One a) rest) → rest ≡ [] → IsExpression 100 ws a
+told_ok ws rest a r e = subst (λ (x : List Word). Reads (Row Expression) 100 ws (Got (One a) x) → IsExpression 100 ws a) (sym e) (λ k. whole_sound 100 ws [] a k) r
+
+-- words are left
+pub told_rest : (ws rest us : List Word) (w : Word) (a : Tree) → Reads (Row Expression) 100 ws (Got (One a) rest) → rest ≡ w ∷ us → IsNoExpression ws
+told_rest ws rest us w a r e = λ room b d. rest_never 100 room ws us w a b (subst (λ (x : List Word). Reads (Row Expression) 100 ws (Got (One a) x)) e r) d
+
+-- the reading is refused
+pub told_fails : (ws : List Word) (e : ReadError) → Fails e (Reads (Row Expression) 100 ws) → Told ws (Err e)
+told_fails ws (P1 place) g = g
+told_fails ws (P2 place) g = g
+told_fails ws (P3 place) g = g
+told_fails ws (P4 place) g = λ room a d. misfit_never 100 room ws a g d
+told_fails ws (P5 place) g = (λ a d. deep_never 100 ws a g d, deep_openings 100 ws g)
+told_fails ws (P6 place) g = g
+told_fails ws Memory g = tt
+
+-- of the words of a text's tokens
+pub told_text : (source : List ℕ) (tokens : List Token) (r : Result Expr ReadError) → Lexes source (Ok (map (seen source) tokens)) → Told (words source tokens) r → Answers source r
+told_text source tokens (Ok e) l t = (map (seen source) tokens, l, t)
+told_text source tokens (Err (P1 place)) l t = absurd t
+told_text source tokens (Err (P2 place)) l t = absurd t
+told_text source tokens (Err (P3 place)) l t = absurd t
+told_text source tokens (Err (P4 place)) l t = (map (seen source) tokens, l, t)
+told_text source tokens (Err (P5 place)) l t = (map (seen source) tokens, l, t)
+told_text source tokens (Err (P6 place)) l t = absurd t
+told_text source tokens (Err Memory) l t = tt
+
+-- a text that has these tokens
+abbrev lexed : List Lexeme → Result (List Lexeme) ReadError
+lexed xs = Ok xs
+
+-- a text that has none, for this cause
+abbrev unlexed : ReadError → Result (List Lexeme) ReadError
+unlexed e = Err e
+
+same_lexemes : (xs ys : List Lexeme) → lexed xs ≡ lexed ys → xs ≡ ys
+same_lexemes xs ys e = cc
+
+one_list : (source : List ℕ) (xs ys : List Lexeme) → Lexes source (Ok xs) → Lexes source (Ok ys) → xs ≡ ys
+one_list source xs ys x y = same_lexemes xs ys (one_end source (Ok xs) (Ok ys) x y)
+
+not_both : (xs : List Lexeme) (e : ReadError) → lexed xs ≡ unlexed e → ⊥
+not_both xs e k = cc
+
+not_refused : {P : Type 0} (source : List ℕ) (xs : List Lexeme) (e : ReadError) → Lexes source (Ok xs) → Lexes source (Err e) → P
+not_refused source xs e x y = absurd (not_both xs e (one_end source (Ok xs) (Err e) x y))
+
+moved : (xs ys : List Lexeme) (a : Tree) → xs ≡ ys → IsExpression 100 (spoken xs) a → IsExpression 100 (spoken ys) a
+moved xs ys a e d = subst (λ (zs : List Lexeme). IsExpression 100 (spoken zs) a) e d
+
+-- where the tokens are an expression, the answer is it, or that there was no memory
+pub only_of : (source : List ℕ) (r : Result Expr ReadError) → Answers source r → (lexemes : List Lexeme) (a : Tree) → Lexes source (Ok lexemes) → IsExpression 100 (spoken lexemes) a → MatchResult r (λ e. view e ≡ a) (λ e. e ≡ Memory)
+only_of source (Ok e) t xs a x d = whole_unique 100 100 (spoken xs) (view e) a (moved t.0 xs (view e) (one_list source t.0 xs t.1 x) t.2) d
+only_of source (Err (P1 place)) t xs a x d = not_refused source xs (P1 place) x t
+only_of source (Err (P2 place)) t xs a x d = not_refused source xs (P2 place) x t
+only_of source (Err (P3 place)) t xs a x d = not_refused source xs (P3 place) x t
+only_of source (Err (P4 place)) t xs a x d = absurd (t.2 100 a (moved xs t.0 a (one_list source xs t.0 x t.1) d))
+only_of source (Err (P5 place)) t xs a x d = absurd (t.2.0 a (moved xs t.0 a (one_list source xs t.0 x t.1) d))
+only_of source (Err (P6 place)) t xs a x d = not_refused source xs (P6 place) x t
+only_of source (Err Memory) t xs a x d = refl
+
+-- an error of the tokens is handed on
+pub tokens_fail : (source : List ℕ) (e : ReadError) → tokens.Answers source (Err e) → Answers source (Err e)
+tokens_fail source (P1 place) t = t
+tokens_fail source (P2 place) t = t
+tokens_fail source (P3 place) t = t
+tokens_fail source (P4 place) t = absurd t
+tokens_fail source (P5 place) t = absurd t
+tokens_fail source (P6 place) t = t
+tokens_fail source Memory t = t
+
+pub told_at : (source bytes : List ℕ) (tokens items : List Token) (r : Result Expr ReadError) → bytes ≡ source → items ≡ tokens → Told (words bytes items) r → Told (words source tokens) r
+told_at source bytes tokens items r e f t = subst (λ (xs : List ℕ). Told (words xs tokens) r) e (subst (λ (ts : List Token). Told (words bytes ts) r) f t)

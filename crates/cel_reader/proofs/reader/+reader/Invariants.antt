@@ -1,0 +1,73 @@
+use Rattle.std.proofs.Common.{◌+◌, ◌*◌, ◌<◌, ◌≤◌, ◌-◌, length, map}
+use Rattle.cel_reader.specs.Tree.{view}
+use Rattle.cel_reader.specs.Grammar.{Infix, Member}
+use Rattle.cel_reader.specs.Look.{words}
+use Rattle.cel_reader.specs.Reading.{Reads, Outcome, Row, Tail, Suffix, Listed, Item, Mapped, Entry}
+use Rattle.cel_reader.proofs.Ranks.{rank}
+use Rattle.cel_reader.proofs.reader.+reader.Given as goal
+
+abbrev pub decreases-enclosed : goal.decreases-enclosed
+decreases-enclosed l = 20 * length l.tokens.now + 17
+
+abbrev pub decreases-entries : goal.decreases-entries
+decreases-entries l = 20 * length l.tokens.now + 17
+
+abbrev pub decreases-items : goal.decreases-items
+decreases-items l = 20 * length l.tokens.now + 17
+
+abbrev pub decreases-expression : goal.decreases-expression
+decreases-expression l = 20 * length l.tokens.now + 16
+
+abbrev pub decreases-infix : goal.decreases-infix
+decreases-infix l = 20 * length l.tokens.now + (rank l.level + 1)
+
+abbrev pub decreases-operand : goal.decreases-operand
+decreases-operand l = 20 * length l.tokens.now + rank l.level
+
+abbrev pub decreases-unary : goal.decreases-unary
+decreases-unary l = 20 * length l.tokens.now + 5
+
+abbrev pub decreases-member : goal.decreases-member
+decreases-member l = 20 * length l.tokens.now + 4
+
+abbrev pub decreases-primary : goal.decreases-primary
+decreases-primary l = 20 * length l.tokens.now + 3
+
+abbrev pub decreases-selection : goal.decreases-selection
+decreases-selection l = 20 * length l.tokens.now
+
+abbrev pub invariant-infix-loop-operator : goal.invariant-infix-loop-operator
+invariant-infix-loop-operator l = record {
+  goes : (o : Outcome) → Reads (Tail l.level (view l.left)) l.room (words l.text l.rest) o → Reads (Row (Infix l.level)) l.room (words l.text l.tokens) o;
+  shorter : length l.rest < length l.tokens;
+}
+
+abbrev pub decreases-infix-loop-operator : goal.decreases-infix-loop-operator
+decreases-infix-loop-operator l = length l.rest
+
+abbrev pub invariant-member-loop-behind : goal.invariant-member-loop-behind
+invariant-member-loop-behind l = record {
+  goes : (o : Outcome) → Reads (Suffix (view l.tree)) l.room (words l.text l.rest) o → Reads (Row Member) l.room (words l.text l.tokens) o;
+  shorter : length l.rest < length l.tokens;
+}
+
+abbrev pub decreases-member-loop-behind : goal.decreases-member-loop-behind
+decreases-member-loop-behind l = length l.rest
+
+abbrev pub invariant-items-loop-items : goal.invariant-items-loop-items
+invariant-items-loop-items l = record {
+  goes : (o : Outcome) → Reads (Item l.closing (map view l.items.items)) (l.room - 1) (words l.text l.rest) o → Reads (Listed l.closing) l.room (words l.text l.tokens) o;
+  within : length l.rest ≤ length l.tokens;
+}
+
+abbrev pub decreases-items-loop-items : goal.decreases-items-loop-items
+decreases-items-loop-items l = length l.rest
+
+abbrev pub invariant-entries-loop-entries : goal.invariant-entries-loop-entries
+invariant-entries-loop-entries l = record {
+  goes : (o : Outcome) → Reads (Entry (map (λ e. (view e.0, view e.1)) l.entries.items)) (l.room - 1) (words l.text l.rest) o → Reads Mapped l.room (words l.text l.tokens) o;
+  within : length l.rest ≤ length l.tokens;
+}
+
+abbrev pub decreases-entries-loop-entries : goal.decreases-entries-loop-entries
+decreases-entries-loop-entries l = length l.rest

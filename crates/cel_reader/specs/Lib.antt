@@ -1,0 +1,10 @@
+pub mod Tree
+pub mod Words
+pub mod Look
+pub mod Grammar
+pub mod Reading
+pub mod Shown
+pub mod Place
+pub mod Prefixes
+pub mod Answers
+pub mod Laws

@@ -1,0 +1,10 @@
+-- What the code's words stand for.
+use Rattle.cel_tokens.specs.Token as word
+use Rattle.cel_reader.specs.declared.word.Word.{Word}
+use Rattle.cel_reader.specs.declared.word.Word.TheVariants.{Name, Int, Text, Mark}
+
+abbrev pub shown : Word → word.Word
+shown (Name bytes) = word.name bytes.now
+shown (Int z) = word.int z
+shown (Text bytes) = word.text bytes.now
+shown (Mark m) = word.mark m

@@ -1,0 +1,72 @@
+-- Expressions as plain data, without where they lie in memory.
+use Rattle.std.specs.Prelude.{ℕ, ℤ, List, [], ◌∷◌, Bool, string_bytes, box_value}
+use Rattle.cel_reader.specs.declared.operator.UnaryOperator.{UnaryOperator}
+use Rattle.cel_reader.specs.declared.operator.BinaryOperator.{BinaryOperator}
+use Rattle.cel_reader.specs.declared.literal.Literal.{Literal}
+use Rattle.cel_reader.specs.declared.literal.Literal.TheVariants as of_code
+use Rattle.cel_reader.specs.declared.expr.Expr.{Expr}
+use Rattle.cel_reader.specs.declared.expr.Expr.TheOpen.{Expr-F}
+use Rattle.cel_reader.specs.declared.expr.Expr.TheOpen as layer
+use Rattle.cel_reader.specs.declared.expr.Expr.TheFolds.{fold-Expr}
+
+-- a literal; a text by its bytes in UTF-8
+pub data Value : Type 0 where
+  int : ℤ → Value
+  text : List ℕ → Value
+  truth : Bool → Value
+  null : Value
+
+-- an expression; names by their bytes
+mutual
+  pub data Tree : Type 0 where
+    literal : Value → Tree
+    name : List ℕ → Tree
+    select : Tree → List ℕ → Tree
+    index : Tree → Tree → Tree
+    call : List ℕ → Trees → Tree
+    method : Tree → List ℕ → Trees → Tree
+    unary : UnaryOperator → Tree → Tree
+    binary : BinaryOperator → Tree → Tree → Tree
+    ternary : Tree → Tree → Tree → Tree
+    list : Trees → Tree
+    map : Entries → Tree
+
+  pub data Trees : Type 0 where
+    no_trees : Trees
+    more_trees : Tree → Trees → Trees
+
+  pub data Entries : Type 0 where
+    no_entries : Entries
+    more_entries : Tree → Tree → Entries → Entries
+
+abbrev pub trees : List Tree → Trees
+trees [] = no_trees
+trees (a ∷ more) = more_trees a (trees more)
+
+abbrev pub entries : List (Tree × Tree) → Entries
+entries [] = no_entries
+entries (e ∷ es) = more_entries e.0 e.1 (entries es)
+
+abbrev pub value_of : Literal → Value
+value_of (of_code.Int z) = int z
+value_of (of_code.Text s) = text (string_bytes s)
+value_of (of_code.Bool b) = truth b
+value_of of_code.Null = null
+
+-- one layer, with what its children are seen as
+abbrev pub view_step : Expr-F Tree → Tree
+view_step (layer.Literal l) = literal (value_of l)
+view_step (layer.Name n) = name (string_bytes n)
+view_step (layer.Select a n) = select (box_value a) (string_bytes n)
+view_step (layer.Index a b) = index (box_value a) (box_value b)
+view_step (layer.Call n more) = call (string_bytes n) (trees more.items)
+view_step (layer.Method a n more) = method (box_value a) (string_bytes n) (trees more.items)
+view_step (layer.Unary op a) = unary op (box_value a)
+view_step (layer.Binary op a b) = binary op (box_value a) (box_value b)
+view_step (layer.Ternary a b c) = ternary (box_value a) (box_value b) (box_value c)
+view_step (layer.List more) = list (trees more.items)
+view_step (layer.Map more) = map (entries more.items)
+
+-- the expression that the code's one stands for
+abbrev pub view : Expr → Tree
+view = fold-Expr Tree view_step

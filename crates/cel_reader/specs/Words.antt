@@ -1,0 +1,127 @@
+-- What a word of a text is for: names, literals and operators.
+use Rattle.std.specs.Prelude.{ℕ, List, [], ◌∷◌, Bool, true, false, if◌then◌else◌, ◌&&◌, ◌||◌, Option, Some, None, codes, bytes_eq}
+use Rattle.std.specs.List.{list_all}
+use Rattle.cel_tokens.specs.Token.{Word, name, int, text, mark}
+use Rattle.cel_tokens.specs.Bytes.{is_letter, is_name_byte}
+use Rattle.cel_tokens.specs.declared.mark.Mark.{Mark}
+use Rattle.cel_tokens.specs.declared.mark.Mark.TheVariants as marks
+use Rattle.cel_reader.specs.Tree as tree
+use Rattle.cel_reader.specs.Tree.{Value}
+use Rattle.cel_reader.specs.declared.level.Level.{Level}
+use Rattle.cel_reader.specs.declared.level.Level.TheVariants as level
+use Rattle.cel_reader.specs.declared.operator.BinaryOperator.{BinaryOperator}
+use Rattle.cel_reader.specs.declared.operator.BinaryOperator.TheVariants.{Or, And, Less, LessEqual, GreaterEqual, Greater, Equal, NotEqual, In, Add, Subtract, Multiply, Divide, Remainder}
+use Rattle.cel_reader.specs.declared.operator.UnaryOperator.{UnaryOperator}
+use Rattle.cel_reader.specs.declared.operator.UnaryOperator.TheVariants.{Not, Negate}
+use Rattle.cel_reader.specs.declared.role.Role.{Role}
+use Rattle.cel_reader.specs.declared.role.Role.TheVariants as role
+
+-- whether the bytes are one of these words
+abbrev pub is_one_of : List (List ℕ) → List ℕ → Bool
+is_one_of [] n = false
+is_one_of (w ∷ []) n = bytes_eq n w
+is_one_of (w ∷ v ∷ ws) n = bytes_eq n w || is_one_of (v ∷ ws) n
+
+-- the words kept for later (cel-spec, RESERVED)
+abbrev pub reserved_words : List (List ℕ)
+reserved_words =
+    codes "as" ∷ codes "break" ∷ codes "const" ∷ codes "continue" ∷ codes "else" ∷ codes "for" ∷
+    codes "function" ∷ codes "if" ∷ codes "import" ∷ codes "let" ∷ codes "loop" ∷ codes "package" ∷
+    codes "namespace" ∷ codes "return" ∷ codes "var" ∷ codes "void" ∷ codes "while" ∷ []
+
+unfoldable pub is_reserved : List ℕ → Bool
+is_reserved n = is_one_of reserved_words n
+
+-- what a name is for; only a plain one is an identifier, and a reserved one may name a field too
+unfoldable pub role_of : List ℕ → Role
+role_of n =
+    if bytes_eq n (codes "true") then role.True
+    else (if bytes_eq n (codes "false") then role.False
+    else (if bytes_eq n (codes "null") then role.Null
+    else (if bytes_eq n (codes "in") then role.In
+    else (if is_reserved n then role.Reserved
+    else role.Plain))))
+
+-- a letter or _, then letters, digits and _ (cel-spec, IDENT)
+abbrev pub is_name : List ℕ → Bool
+is_name [] = false
+is_name (b ∷ bs) = is_letter b && list_all is_name_byte bs
+
+abbrev pub may_select : Role → Bool
+may_select role.Reserved = true
+may_select role.Plain = true
+may_select other = false
+
+abbrev pub may_stand_free : Role → Bool
+may_stand_free role.Plain = true
+may_stand_free other = false
+
+-- a name other than false, in, null and true (cel-spec, SELECTOR)
+abbrev pub is_selector : List ℕ → Bool
+is_selector n = is_name n && may_select (role_of n)
+
+-- a selector that is not reserved (cel-spec, IDENT)
+abbrev pub is_identifier : List ℕ → Bool
+is_identifier n = is_name n && may_stand_free (role_of n)
+
+abbrev pub literal_role : Role → Option Value
+literal_role role.True = Some (tree.truth true)
+literal_role role.False = Some (tree.truth false)
+literal_role role.Null = Some tree.null
+literal_role other = None
+
+-- the literal that a word is (cel-spec, LITERAL)
+abbrev pub literal_of : Word → Option Value
+literal_of (name n) = literal_role (role_of n)
+literal_of (int z) = Some (tree.int z)
+literal_of (text bytes) = Some (tree.text bytes)
+literal_of (mark m) = None
+
+abbrev pub operator_mark : Mark → Option BinaryOperator
+operator_mark marks.Or = Some Or
+operator_mark marks.And = Some And
+operator_mark marks.Less = Some Less
+operator_mark marks.LessEqual = Some LessEqual
+operator_mark marks.GreaterEqual = Some GreaterEqual
+operator_mark marks.Greater = Some Greater
+operator_mark marks.Equal = Some Equal
+operator_mark marks.NotEqual = Some NotEqual
+operator_mark marks.Plus = Some Add
+operator_mark marks.Minus = Some Subtract
+operator_mark marks.Star = Some Multiply
+operator_mark marks.Slash = Some Divide
+operator_mark marks.Percent = Some Remainder
+operator_mark other = None
+
+abbrev pub operator_role : Role → Option BinaryOperator
+operator_role role.In = Some In
+operator_role other = None
+
+-- the operator that a word is between two operands
+abbrev pub operator_of : Word → Option BinaryOperator
+operator_of (name n) = operator_role (role_of n)
+operator_of (int z) = None
+operator_of (text bytes) = None
+operator_of (mark m) = operator_mark m
+
+-- the row of the operator: || && relations sums products
+abbrev pub level_of : BinaryOperator → Level
+level_of Or = level.Or
+level_of And = level.And
+level_of Less = level.Relation
+level_of LessEqual = level.Relation
+level_of GreaterEqual = level.Relation
+level_of Greater = level.Relation
+level_of Equal = level.Relation
+level_of NotEqual = level.Relation
+level_of In = level.Relation
+level_of Add = level.Sum
+level_of Subtract = level.Sum
+level_of Multiply = level.Product
+level_of Divide = level.Product
+level_of Remainder = level.Product
+
+-- the mark that stands before an operand
+abbrev pub unary_mark : UnaryOperator → Mark
+unary_mark Not = marks.Not
+unary_mark Negate = marks.Minus

@@ -1,0 +1,119 @@
+//! Expressions from their parts.
+
+ghost use Rattle.std.specs.Prelude.{◌≡◌, IfOk, string_bytes};
+ghost use Rattle.std.specs.Prelude as list;
+ghost use Rattle.cel_reader.specs.Tree as node;
+ghost use Rattle.cel_reader.specs.Tree.{view, trees, value_of};
+ghost use Rattle.cel_reader.specs.Prefixes.{wrapped};
+
+use crate::expr::Expr;
+use crate::literal::Literal;
+use crate::operator::{BinaryOperator, UnaryOperator};
+use std::alloc::{AllocError, Global};
+
+/// A literal.
+pub fn literal(literal: Literal) -> Expr
+    ensures { view result ≡ node.literal (value_of literal) }
+{
+    Expr::Literal(literal)
+}
+
+/// A name.
+pub fn name(name: String) -> Expr
+    ensures { view result ≡ node.name (string_bytes name) }
+{
+    Expr::Name(name)
+}
+
+/// A call of a function.
+pub fn call(name: String, arguments: Vec<Expr>) -> Expr
+    ensures { view result ≡ node.call (string_bytes name) (trees (list.map view arguments.items)) }
+{
+    Expr::Call(name, arguments)
+}
+
+/// A list literal.
+pub fn list(items: Vec<Expr>) -> Expr
+    ensures { view result ≡ node.list (trees (list.map view items.items)) }
+{
+    Expr::List(items)
+}
+
+/// A map literal.
+pub fn map(entries: Vec<(Expr, Expr)>) -> Expr
+    ensures { view result ≡ node.map (node.entries (list.map (λ e. (view e.0, view e.1)) entries.items)) }
+{
+    Expr::Map(entries)
+}
+
+/// A field of an expression.
+pub fn select(alloc: Global, of: Expr, field: String) -> Result<Expr, AllocError>
+    ensures { IfOk result (λ e. view e ≡ node.select (view of) (string_bytes field)) }
+{
+    Ok(Expr::Select(Box::new(alloc, of)?, field))
+}
+
+/// An item or entry of an expression.
+pub fn index(alloc: Global, of: Expr, at: Expr) -> Result<Expr, AllocError>
+    ensures { IfOk result (λ e. view e ≡ node.index (view of) (view at)) }
+{
+    Ok(Expr::Index(Box::new(alloc, of)?, Box::new(alloc, at)?))
+}
+
+/// A call of a method.
+pub fn method(
+    alloc: Global,
+    of: Expr,
+    name: String,
+    arguments: Vec<Expr>,
+) -> Result<Expr, AllocError>
+    ensures { IfOk result (λ e. view e ≡ node.method (view of) (string_bytes name) (trees (list.map view arguments.items))) }
+{
+    Ok(Expr::Method(Box::new(alloc, of)?, name, arguments))
+}
+
+/// An operator before an operand.
+pub fn unary(alloc: Global, operator: UnaryOperator, operand: Expr) -> Result<Expr, AllocError>
+    ensures { IfOk result (λ e. view e ≡ node.unary operator (view operand)) }
+{
+    Ok(Expr::Unary(operator, Box::new(alloc, operand)?))
+}
+
+/// So many of an operator before an operand.
+pub fn prefixed(
+    alloc: Global,
+    operator: UnaryOperator,
+    count: usize,
+    operand: Expr,
+) -> Result<Expr, AllocError>
+    ensures { IfOk result (λ e. view e ≡ wrapped operator count (view operand)) }
+{
+    let mut tree = operand;
+    for _ in 0..count {
+        tree = unary(alloc, operator, tree)?;
+    }
+    Ok(tree)
+}
+
+/// An operator between operands.
+pub fn binary(
+    alloc: Global,
+    operator: BinaryOperator,
+    left: Expr,
+    right: Expr,
+) -> Result<Expr, AllocError>
+    ensures { IfOk result (λ e. view e ≡ node.binary operator (view left) (view right)) }
+{
+    Ok(Expr::Binary(operator, Box::new(alloc, left)?, Box::new(alloc, right)?))
+}
+
+/// A conditional.
+pub fn ternary(alloc: Global, condition: Expr, yes: Expr, no: Expr) -> Result<Expr, AllocError>
+    ensures { IfOk result (λ e. view e ≡ node.ternary (view condition) (view yes) (view no)) }
+{
+    Ok(Expr::Ternary(
+        Box::new(alloc, condition)?,
+        Box::new(alloc, yes)?,
+        Box::new(alloc, no)?,
+    ))
+}

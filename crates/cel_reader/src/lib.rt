@@ -1,0 +1,27 @@
+//! The expressions of CEL: reads a text into a tree.
+#![tactic(auto)]
+
+mod build;
+mod closing;
+mod expr;
+mod laws;
+mod level;
+mod literal;
+mod look;
+mod mark;
+mod name;
+mod operator;
+mod place;
+mod reader;
+mod role;
+mod source;
+#[cfg(test)]
+mod tests;
+mod word;
+
+pub use cel_tokens::ReadError;
+pub use expr::Expr;
+pub use laws::one_tree;
+pub use literal::Literal;
+pub use operator::{BinaryOperator, UnaryOperator};
+pub use source::read;

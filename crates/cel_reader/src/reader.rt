@@ -1,0 +1,300 @@
+//! The reader: a function for each row of the grammar.
+
+ghost use Rattle.std.specs.Prelude.{◌≡◌, ◌<◌, length, IfOk};
+ghost use Rattle.std.specs.Prelude as list;
+ghost use Rattle.cel_reader.specs.Tree.{view};
+ghost use Rattle.cel_reader.specs.Grammar as row;
+ghost use Rattle.cel_reader.specs.Grammar.{One, Many, Keyed, below};
+ghost use Rattle.cel_reader.specs.Look.{words};
+ghost use Rattle.cel_reader.specs.Reading.{Gives, Reads, Got, Row, Selection, Enclosed, Listed, Mapped};
+
+use crate::build;
+use crate::closing::Closing;
+use crate::expr::Expr;
+use crate::level::Level;
+use crate::look::{
+    after, end_at, identifier_at, literal_at, operator_at, prefix_at, prefixes, selector_at,
+};
+use crate::name::name_of;
+use crate::place::{lone_comma, misfit, place_of};
+use cel_tokens::{Mark, ReadError, Token};
+use std::alloc::Global;
+
+/// The expression that is first, with this many brackets and conditionals to open, and the tokens
+/// behind it.
+#[cycle(reader)]
+pub fn expression<'a>(
+    alloc: Global,
+    text: &'a [u8],
+    tokens: &'a [Token],
+    room: u8,
+) -> Result<(Expr, &'a [Token]), ReadError>
+    ensures reads { Gives (λ x. Got (One (view x.0)) (words text.now x.1.now)) result (Reads (Row row.Expression) room (words text.now tokens.now)) }
+    ensures shorter { IfOk result (λ x. length x.1.now < length tokens.now) }
+{
+    let (condition, rest) = infix(alloc, text, tokens, Level::Or, room)?;
+    let Some(yes_tokens) = after(text, rest, Mark::Question) else {
+        return Ok((condition, rest));
+    };
+    if room == 0 {
+        return Err(ReadError::P5(place_of(text, rest)));
+    }
+    let (yes, yes_end) = infix(alloc, text, yes_tokens, Level::Or, room - 1)?;
+    let Some(no_tokens) = after(text, yes_end, Mark::Colon) else {
+        return Err(misfit(text, yes_end));
+    };
+    let (no, end) = expression(alloc, text, no_tokens, room - 1)?;
+    Ok((build::ternary(alloc, condition, yes, no)?, end))
+}
+
+/// An operand of the level and its operators, from the left.
+#[cycle(reader)]
+fn infix<'a>(
+    alloc: Global,
+    text: &'a [u8],
+    tokens: &'a [Token],
+    level: Level,
+    room: u8,
+) -> Result<(Expr, &'a [Token]), ReadError>
+    ensures reads { Gives (λ x. Got (One (view x.0)) (words text.now x.1.now)) result (Reads (Row (row.Infix level)) room (words text.now tokens.now)) }
+    ensures shorter { IfOk result (λ x. length x.1.now < length tokens.now) }
+{
+    let (mut left, mut rest) = operand(alloc, text, tokens, level, room)?;
+    while let Some((operator, right_tokens)) = operator_at(text, rest, level) {
+        let (right, end) = operand(alloc, text, right_tokens, level, room)?;
+        left = build::binary(alloc, operator, left, right)?;
+        rest = end;
+    }
+    Ok((left, rest))
+}
+
+/// An operand of the level's operators.
+#[cycle(reader)]
+fn operand<'a>(
+    alloc: Global,
+    text: &'a [u8],
+    tokens: &'a [Token],
+    level: Level,
+    room: u8,
+) -> Result<(Expr, &'a [Token]), ReadError>
+    ensures reads { Gives (λ x. Got (One (view x.0)) (words text.now x.1.now)) result (Reads (Row (below level)) room (words text.now tokens.now)) }
+    ensures shorter { IfOk result (λ x. length x.1.now < length tokens.now) }
+{
+    match level {
+        Level::Or => infix(alloc, text, tokens, Level::And, room),
+        Level::And => infix(alloc, text, tokens, Level::Relation, room),
+        Level::Relation => infix(alloc, text, tokens, Level::Sum, room),
+        Level::Sum => infix(alloc, text, tokens, Level::Product, room),
+        Level::Product => unary(alloc, text, tokens, room),
+    }
+}
+
+/// A member and the operators before it.
+#[cycle(reader)]
+fn unary<'a>(
+    alloc: Global,
+    text: &'a [u8],
+    tokens: &'a [Token],
+    room: u8,
+) -> Result<(Expr, &'a [Token]), ReadError>
+    ensures reads { Gives (λ x. Got (One (view x.0)) (words text.now x.1.now)) result (Reads (Row row.Unary) room (words text.now tokens.now)) }
+    ensures shorter { IfOk result (λ x. length x.1.now < length tokens.now) }
+{
+    let Some((operator, behind)) = prefix_at(text, tokens) else {
+        return member(alloc, text, tokens, room);
+    };
+    let (count, rest) = prefixes(text, behind, operator);
+    let (operand, end) = member(alloc, text, rest, room)?;
+    let inner = build::prefixed(alloc, operator, count, operand)?;
+    Ok((build::unary(alloc, operator, inner)?, end))
+}
+
+/// A primary, its selections, calls and indexes.
+#[cycle(reader)]
+fn member<'a>(
+    alloc: Global,
+    text: &'a [u8],
+    tokens: &'a [Token],
+    room: u8,
+) -> Result<(Expr, &'a [Token]), ReadError>
+    ensures reads { Gives (λ x. Got (One (view x.0)) (words text.now x.1.now)) result (Reads (Row row.Member) room (words text.now tokens.now)) }
+    ensures shorter { IfOk result (λ x. length x.1.now < length tokens.now) }
+{
+    let (mut tree, mut rest) = primary(alloc, text, tokens, room)?;
+    loop {
+        if let Some(behind) = after(text, rest, Mark::Dot) {
+            let (selected, end) = selection(alloc, text, behind, tree, room)?;
+            tree = selected;
+            rest = end;
+        } else if let Some(behind) = after(text, rest, Mark::OpenBracket) {
+            let place = place_of(text, rest);
+            let (at, end) = enclosed(alloc, text, behind, place, Mark::CloseBracket, room)?;
+            tree = build::index(alloc, tree, at)?;
+            rest = end;
+        } else {
+            return Ok((tree, rest));
+        }
+    }
+}
+
+/// The field or the method's call that stands behind a dot.
+#[cycle(reader)]
+fn selection<'a>(
+    alloc: Global,
+    text: &'a [u8],
+    tokens: &'a [Token],
+    of: Expr,
+    room: u8,
+) -> Result<(Expr, &'a [Token]), ReadError>
+    ensures reads { Gives (λ x. Got (One (view x.0)) (words text.now x.1.now)) result (Reads (Selection (view of)) room (words text.now tokens.now)) }
+    ensures shorter { IfOk result (λ x. length x.1.now < length tokens.now) }
+{
+    let Some((name, rest)) = selector_at(text, tokens) else {
+        return Err(misfit(text, tokens));
+    };
+    let name = name_of(alloc, name)?;
+    let Some(behind) = after(text, rest, Mark::OpenParen) else {
+        return Ok((build::select(alloc, of, name)?, rest));
+    };
+    let place = place_of(text, rest);
+    let (arguments, end) = items(alloc, text, behind, place, Closing::Call, room)?;
+    Ok((build::method(alloc, of, name, arguments)?, end))
+}
+
+/// A name, a call, a literal or an expression in brackets.
+#[cycle(reader)]
+fn primary<'a>(
+    alloc: Global,
+    text: &'a [u8],
+    tokens: &'a [Token],
+    room: u8,
+) -> Result<(Expr, &'a [Token]), ReadError>
+    ensures reads { Gives (λ x. Got (One (view x.0)) (words text.now x.1.now)) result (Reads (Row row.Primary) room (words text.now tokens.now)) }
+    ensures shorter { IfOk result (λ x. length x.1.now < length tokens.now) }
+{
+    let place = place_of(text, tokens);
+    if let Some(inside) = after(text, tokens, Mark::OpenParen) {
+        return enclosed(alloc, text, inside, place, Mark::CloseParen, room);
+    }
+    if let Some(inside) = after(text, tokens, Mark::OpenBracket) {
+        let (list, end) = items(alloc, text, inside, place, Closing::List, room)?;
+        return Ok((build::list(list), end));
+    }
+    if let Some(inside) = after(text, tokens, Mark::OpenBrace) {
+        let (map, end) = entries(alloc, text, inside, place, room)?;
+        return Ok((build::map(map), end));
+    }
+    if let Some((literal, rest)) = literal_at(alloc, text, tokens)? {
+        return Ok((build::literal(literal), rest));
+    }
+    let Some((name, rest)) = identifier_at(text, tokens) else {
+        return Err(misfit(text, tokens));
+    };
+    let name = name_of(alloc, name)?;
+    let Some(behind) = after(text, rest, Mark::OpenParen) else {
+        return Ok((build::name(name), rest));
+    };
+    let place = place_of(text, rest);
+    let (arguments, end) = items(alloc, text, behind, place, Closing::Call, room)?;
+    Ok((build::call(name, arguments), end))
+}
+
+/// The expression behind a bracket, which stands at this place, up to the bracket's end.
+#[cycle(reader)]
+fn enclosed<'a>(
+    alloc: Global,
+    text: &'a [u8],
+    tokens: &'a [Token],
+    place: usize,
+    close: Mark,
+    room: u8,
+) -> Result<(Expr, &'a [Token]), ReadError>
+    ensures reads { Gives (λ x. Got (One (view x.0)) (words text.now x.1.now)) result (Reads (Enclosed close) room (words text.now tokens.now)) }
+    ensures shorter { IfOk result (λ x. length x.1.now < length tokens.now) }
+{
+    if room == 0 {
+        return Err(ReadError::P5(place));
+    }
+    let (inner, inner_end) = expression(alloc, text, tokens, room - 1)?;
+    let Some(end) = after(text, inner_end, close) else {
+        return Err(misfit(text, inner_end));
+    };
+    Ok((inner, end))
+}
+
+/// The expressions behind a bracket, which stands at this place, up to the list's end.
+#[cycle(reader)]
+fn items<'a>(
+    alloc: Global,
+    text: &'a [u8],
+    tokens: &'a [Token],
+    place: usize,
+    closing: Closing,
+    room: u8,
+) -> Result<(Vec<Expr>, &'a [Token]), ReadError>
+    ensures reads { Gives (λ x. Got (Many (list.map view x.0.items)) (words text.now x.1.now)) result (Reads (Listed closing) room (words text.now tokens.now)) }
+    ensures shorter { IfOk result (λ x. length x.1.now < length tokens.now) }
+{
+    if room == 0 {
+        return Err(ReadError::P5(place));
+    }
+    let mut items = Vec::new(alloc);
+    if let Some(end) = end_at(text, tokens, closing) {
+        return Ok((items, end));
+    }
+    if let Some(behind) = after(text, tokens, Mark::Comma) {
+        return Err(lone_comma(text, tokens, behind, closing));
+    }
+    let mut rest = tokens;
+    loop {
+        let (item, item_end) = expression(alloc, text, rest, room - 1)?;
+        items.push(item)?;
+        if let Some(end) = end_at(text, item_end, closing) {
+            return Ok((items, end));
+        }
+        let Some(behind) = after(text, item_end, Mark::Comma) else {
+            return Err(misfit(text, item_end));
+        };
+        rest = behind;
+    }
+}
+
+/// The entries behind a brace, which stands at this place, up to the map's end.
+#[cycle(reader)]
+fn entries<'a>(
+    alloc: Global,
+    text: &'a [u8],
+    tokens: &'a [Token],
+    place: usize,
+    room: u8,
+) -> Result<(Vec<(Expr, Expr)>, &'a [Token]), ReadError>
+    ensures reads { Gives (λ x. Got (Keyed (list.map (λ e. (view e.0, view e.1)) x.0.items)) (words text.now x.1.now)) result (Reads Mapped room (words text.now tokens.now)) }
+    ensures shorter { IfOk result (λ x. length x.1.now < length tokens.now) }
+{
+    if room == 0 {
+        return Err(ReadError::P5(place));
+    }
+    let mut entries = Vec::new(alloc);
+    if let Some(end) = end_at(text, tokens, Closing::Map) {
+        return Ok((entries, end));
+    }
+    if let Some(behind) = after(text, tokens, Mark::Comma) {
+        return Err(misfit(text, behind));
+    }
+    let mut rest = tokens;
+    loop {
+        let (key, key_end) = expression(alloc, text, rest, room - 1)?;
+        let Some(value_tokens) = after(text, key_end, Mark::Colon) else {
+            return Err(misfit(text, key_end));
+        };
+        let (value, value_end) = expression(alloc, text, value_tokens, room - 1)?;
+        entries.push((key, value))?;
+        if let Some(end) = end_at(text, value_end, Closing::Map) {
+            return Ok((entries, end));
+        }
+        let Some(behind) = after(text, value_end, Mark::Comma) else {
+            return Err(misfit(text, value_end));
+        };
+        rest = behind;
+    }
+}

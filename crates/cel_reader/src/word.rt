@@ -1,0 +1,55 @@
+//! Words of a text.
+
+ghost use Rattle.std.specs.Prelude.{◌≡◌, ◌<◌, ◌-◌, [], ◌∷◌, take, drop, length, IfSome, MatchOption};
+ghost use Rattle.cel_tokens.specs.Token.{seen};
+ghost use Rattle.cel_reader.specs.Look.{words};
+ghost use Rattle.cel_reader.specs.Shown.{shown};
+
+use crate::mark::mark_of;
+use cel_tokens::{Kind, Mark, Token};
+
+/// What a token is, with its bytes.
+#[derive(Clone, Copy, Debug)]
+pub enum Word<'a> {
+    Name(&'a [u8]),
+    Int(i64),
+    /// A text literal, its escapes resolved.
+    Text(&'a str),
+    Mark(Mark),
+}
+
+/// The bytes of the token, as far as the text has them.
+fn bytes_of<'a>(text: &'a [u8], token: &Token) -> &'a [u8]
+    ensures { result.now ≡ take (token.now.end - token.now.place) (drop token.now.place text.now) }
+{
+    let rest = &text[token.place.min(text.len())..];
+    let len = token.end.saturating_sub(token.place);
+    &rest[..len.min(rest.len())]
+}
+
+/// The word of the token. One of a mark's kind whose bytes are none is an empty text.
+fn word_of<'a>(text: &'a [u8], token: &'a Token) -> Word<'a>
+    ensures { shown result ≡ (seen text.now token.now).word }
+{
+    let bytes = bytes_of(text, token);
+    match &token.kind {
+        Kind::Name => Word::Name(bytes),
+        Kind::Int(value) => Word::Int(*value),
+        Kind::Text(said) => Word::Text(said.as_str()),
+        Kind::Mark => match mark_of(bytes) {
+            Some(mark) => Word::Mark(mark),
+            None => Word::Text(""),
+        },
+    }
+}
+
+/// The first word, and the tokens behind it.
+pub fn first<'a>(text: &'a [u8], tokens: &'a [Token]) -> Option<(Word<'a>, &'a [Token])>
+    ensures word { MatchOption result (words text.now tokens.now ≡ []) (λ x. words text.now tokens.now ≡ shown x.0 ∷ words text.now x.1.now) }
+    ensures shorter { IfSome result (λ x. length x.1.now < length tokens.now) }
+{
+    match tokens {
+        [token, rest @ ..] => Some((word_of(text, token), rest)),
+        [] => None,
+    }
+}
