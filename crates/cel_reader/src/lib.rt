@@ -8,7 +8,6 @@ mod laws;
 mod level;
 mod literal;
 mod look;
-mod mark;
 mod name;
 mod operator;
 mod place;

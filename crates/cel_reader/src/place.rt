@@ -1,6 +1,7 @@
 //! Where a text is refused.
 
-ghost use Rattle.std.specs.Prelude.{◌≡◌, ℕ, length};
+ghost use Rattle.std.specs.Prelude.{◌≡◌, length, if◌then◌else◌};
+ghost use Rattle.cel_reader.specs.Look.{takes_comma};
 ghost use Rattle.cel_reader.specs.Place as specs;
 ghost use Rattle.cel_tokens.specs.declared.read_error.ReadError.TheVariants.{P4};
 
@@ -27,7 +28,7 @@ pub fn misfit(text: &[u8], tokens: &[Token]) -> ReadError
 /// The refusal of a comma that stands first in a list that does not end. In a literal the comma
 /// may end an empty one, so what is behind it is at fault.
 pub fn lone_comma(text: &[u8], tokens: &[Token], behind: &[Token], closing: Closing) -> ReadError
-    ensures { (place : ℕ) × (result ≡ P4 place) }
+    ensures { result ≡ P4 (specs.place_of (length text.now) (if takes_comma closing then behind.now else tokens.now)) }
 {
     if closing.takes_comma() {
         misfit(text, behind)

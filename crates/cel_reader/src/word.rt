@@ -5,8 +5,7 @@ ghost use Rattle.cel_tokens.specs.Token.{seen};
 ghost use Rattle.cel_reader.specs.Look.{words};
 ghost use Rattle.cel_reader.specs.Shown.{shown};
 
-use crate::mark::mark_of;
-use cel_tokens::{Kind, Mark, Token};
+use cel_tokens::{Kind, Mark, Token, mark_of};
 
 /// What a token is, with its bytes.
 #[derive(Clone, Copy, Debug)]

@@ -19,6 +19,6 @@ mod token;
 pub use cut::tokens;
 pub use kind::Kind;
 pub use laws::{longest, one_reading};
-pub use mark::Mark;
+pub use mark::{Mark, mark_of};
 pub use read_error::ReadError;
 pub use token::Token;

@@ -97,7 +97,7 @@ pub items-returns-in-Some-clause-reads : goal.items-returns-in-Some-clause-reads
 items-returns-in-Some-clause-reads t c = rw c.new-items.ensures.items (list_empty (has_room c.args.room c.if-room-eq0.false) c.in-Some.ensures.at)
 
 pub items-returns-in-Some-after-clause-reads : goal.items-returns-in-Some-after-clause-reads
-items-returns-in-Some-after-clause-reads t c = rw (c.lone_comma.ensures.1) (list_comma (has_room c.args.room c.if-room-eq0.false) c.in_default.ensures.at c.in-Some-after.ensures.at)
+items-returns-in-Some-after-clause-reads t c = rw c.lone_comma.ensures (list_comma (has_room c.args.room c.if-room-eq0.false) c.in_default.ensures.at c.in-Some-after.ensures.at)
 
 pub items-loop-items-init : goal.items-loop-items-init
 items-loop-items-init t c = rw c.new-items.ensures.items (record { goes = λ o x. list_items (has_room c.args.room c.if-room-eq0.false) c.in_default.ensures.at c.in_default-after.ensures.at x; within = omega arith })
