@@ -4,7 +4,7 @@ use Rattle.insn_codec.specs.Spelled.{spelled}
 use Rattle.insn_codec.specs.Candidate.{candidate_at, arithmetic_at, jump_at, branch_at, memory_at, wide_at}
 use Rattle.insn_codec.specs.Lines.{decimal, hex_digits as slot_digits}
 use Rattle.insn_codec.specs.Statements.{statement_of}
-use Rattle.bpf_word.specs.Arithmetic.{alu64_of, operated}
+use Rattle.bpf_machine.specs.WordArithmetic.{alu64_of, operated}
 use Rattle.bpf_machine.specs.State.{null_values, start_state}
 use Rattle.bpf_machine.specs.Decoding.{insn_at}
 use Rattle.bpf_machine.specs.Arithmetic.{alu_row}
