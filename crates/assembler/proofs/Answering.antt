@@ -1,26 +1,27 @@
 -- The answer of both passes.
-use Rattle.std.proofs.Common.{◌≡◌, ℕ, ◌≤◌, List, [], Option, Some, None, Result, Ok, Err, Vec, refl, sym, ◌∙◌, ap, map}
-use Rattle.std.specs.Prelude.{IfSome}
+use Rattle.std.proofs.Common.{◌≡◌, ◌≢◌, ℕ, ◌≤◌, List, [], ◌∷◌, Option, Some, None, Result, Ok, Err, Vec, refl, sym, ◌∙◌, ap, map}
+use Rattle.std.specs.Prelude.{IfSome, OnErr}
 use Rattle.std.specs.BTreeMap.{get_by_text}
 use Rattle.std.specs.Global.{Global}
 use Rattle.assembler.proofs.OneScan.{one_scan}
 use Rattle.assembler.proofs.Resolving.{emitted_same}
 use Rattle.assembler.proofs.Sources.{scanned_source, slots_fit}
-use Rattle.assembler.specs.Answers.{Answers, Emits, FirstPass, HasPlaces, IsAnswer}
+use Rattle.assembler.specs.Answers.{Answers, Emits, FirstLineSays, FirstPass, HasSlots, IsAnswer}
 use Rattle.assembler.specs.Assembles.{Assembles}
 use Rattle.assembler.specs.Assembles.Assembles.{refused, resolved}
 use Rattle.assembler.specs.Cutting.{lines_of}
 use Rattle.assembler.specs.FirstPass.{Scans}
+use Rattle.assembler.specs.FirstPass.Scans.{ended, next}
 use Rattle.assembler.specs.Items.{Item, item_of, slots_of}
-use Rattle.assembler.specs.Labels.{place_of}
+use Rattle.assembler.specs.Labels.{label_slot}
 use Rattle.assembler.specs.Reading.{OneReading}
 use Rattle.assembler.specs.SecondPass.{emitted}
 use Rattle.assembler.specs.declared.asm_error.AsmError.{AsmError}
 use Rattle.assembler.specs.declared.asm_error.AsmError.TheVariants.{A1, A2, A3, A4, A5, A6, Memory}
-use Rattle.assembler.specs.declared.line.Line.{Line}
-use Rattle.assembler.specs.declared.scan.Scanned.{Scanned}
+use Rattle.assembler.specs.declared.lines.line.Line.{Line}
+use Rattle.assembler.specs.declared.passes.scan.Scanned.{Scanned}
 
-no_place_past : (labels : List ℕ → Option ℕ) (items : List Item) (q : List ℕ) (o : Option ℕ) → HasPlaces labels items → slots_of items ≤ 65536 → labels q ≡ o → IfSome o (λ t. t ≤ 65536)
+no_place_past : (labels : List ℕ → Option ℕ) (items : List Item) (q : List ℕ) (o : Option ℕ) → HasSlots labels items → slots_of items ≤ 65536 → labels q ≡ o → IfSome o (λ t. t ≤ 65536)
 no_place_past labels items q None has room e = tt
 no_place_past labels items q (Some slot) has room e = slots_fit items room q slot (sym (has q) ∙ e)
 
@@ -29,8 +30,8 @@ pub labels_fit : (lines : List (List ℕ)) (s : Scanned) → FirstPass lines (Ok
 labels_fit lines s h q = no_place_past (λ q. get_by_text s.labels q) (map item_of s.lines.items) q (get_by_text s.labels q) h.2 h.1 refl
 
 -- the second pass over the labels that were found is that over their places
-emits_same : (lines : List (List ℕ)) (s : Scanned) (slice : List Line) → slice ≡ s.lines.items → FirstPass lines (Ok s) → emitted (place_of (map item_of s.lines.items)) 1 0 (map item_of s.lines.items) ≡ emitted (λ q. get_by_text s.labels q) 1 0 (map item_of slice)
-emits_same lines s slice e h = sym (emitted_same (λ q. get_by_text s.labels q) (place_of (map item_of s.lines.items)) 1 0 (map item_of s.lines.items) h.2) ∙ ap (λ z. emitted (λ q. get_by_text s.labels q) 1 0 (map item_of z)) (sym e)
+emits_same : (lines : List (List ℕ)) (s : Scanned) (slice : List Line) → slice ≡ s.lines.items → FirstPass lines (Ok s) → emitted (label_slot (map item_of s.lines.items)) 1 0 (map item_of s.lines.items) ≡ emitted (λ q. get_by_text s.labels q) 1 0 (map item_of slice)
+emits_same lines s slice e h = sym (emitted_same (λ q. get_by_text s.labels q) (label_slot (map item_of s.lines.items)) 1 0 (map item_of s.lines.items) h.2) ∙ ap (λ z. emitted (λ q. get_by_text s.labels q) 1 0 (map item_of z)) (sym e)
 
 abbrev scanned : List Item → Result (List Item) AsmError
 scanned items = Ok items
@@ -39,25 +40,34 @@ same_items : (a b : List Item) → scanned a ≡ scanned b → a ≡ b
 same_items a b e = cc
 
 -- whatever the passes answer, where the first ends with these items
-only_resolved : (lines : List (List ℕ)) (items : List Item) (r s : Result (List ℕ) AsmError) → ((t : Result (List Item) AsmError) → Scans [] lines t → t ≡ Ok items) → emitted (place_of items) 1 0 items ≡ r → Assembles lines s → s ≡ r
+only_resolved : (lines : List (List ℕ)) (items : List Item) (r s : Result (List ℕ) AsmError) → ((t : Result (List Item) AsmError) → Scans [] lines t → t ≡ Ok items) → emitted (label_slot items) 1 0 items ≡ r → Assembles lines s → s ≡ r
 only_resolved lines items r s only e (refused {error = error} scans) = let k = only (Err error) scans in absurd cc
 only_resolved lines items r s only e (resolved others scans f) =
     let same : others ≡ items = same_items others items (only (Ok others) scans) in
-    sym f ∙ ap (λ is. emitted (place_of is) 1 0 is) same ∙ e
+    sym f ∙ ap (λ is. emitted (label_slot is) 1 0 is) same ∙ e
 
 only_refused : (lines : List (List ℕ)) (e : AsmError) (s : Result (List ℕ) AsmError) → ((t : Result (List Item) AsmError) → Scans [] lines t → t ≡ Err e) → Assembles lines s → s ≡ Err e
 only_refused lines e s only (refused {error = error} scans) = let k = only (Err error) scans in let same : error ≡ e = cc in ap (λ x. Err x) same
 only_refused lines e s only (resolved others scans f) = let k = only (Ok others) scans in absurd cc
 
-pub answered : (text : List ℕ) (s : Scanned) (slice : List Line) (r : Result (Vec ℕ Global) AsmError) → slice ≡ s.lines.items → FirstPass (lines_of text) (Ok s) → Emits (emitted (λ q. get_by_text s.labels q) 1 0 (map item_of slice)) r → Answers text r
-answered text s slice (Ok code) e h m = scanned_source text code.items (map item_of s.lines.items) h.0.0 (emits_same (lines_of text) s slice e h ∙ m)
-answered text s slice (Err Memory) e h m = tt
-answered text s slice (Err (A1 n)) e h m = resolved (map item_of s.lines.items) h.0.0 (emits_same (lines_of text) s slice e h ∙ m)
-answered text s slice (Err (A2 n)) e h m = resolved (map item_of s.lines.items) h.0.0 (emits_same (lines_of text) s slice e h ∙ m)
-answered text s slice (Err (A3 n)) e h m = resolved (map item_of s.lines.items) h.0.0 (emits_same (lines_of text) s slice e h ∙ m)
-answered text s slice (Err (A4 n)) e h m = resolved (map item_of s.lines.items) h.0.0 (emits_same (lines_of text) s slice e h ∙ m)
-answered text s slice (Err (A5 n)) e h m = resolved (map item_of s.lines.items) h.0.0 (emits_same (lines_of text) s slice e h ∙ m)
-answered text s slice (Err (A6 n)) e h m = resolved (map item_of s.lines.items) h.0.0 (emits_same (lines_of text) s slice e h ∙ m)
+no_lines : (xs : List Line) → map item_of xs ≡ [] → xs ≡ []
+no_lines [] e = refl
+no_lines (x ∷ xs) e = absurd cc
+
+-- where the first pass finds something, the first line says something
+first_says : (before : List Item) (lines : List (List ℕ)) (items : List Item) → Scans before lines (Ok items) → (items ≡ before → ⊥) → FirstLineSays lines
+first_says before lines items ended some = absurd (some refl)
+first_says before lines items (next i reads free room rest) some = (i, reads)
+
+pub answered : (text : List ℕ) (s : Scanned) (slice : List Line) (r : Result (Vec ℕ Global) AsmError) → slice ≡ s.lines.items → FirstPass (lines_of text) (Ok s) → Emits (emitted (λ q. get_by_text s.labels q) 1 0 (map item_of slice)) r → OnErr r (slice ≢ []) → Answers text r
+answered text s slice (Ok code) e h m some = scanned_source text code.items (map item_of s.lines.items) h.0.0 (emits_same (lines_of text) s slice e h ∙ m)
+answered text s slice (Err Memory) e h m some = first_says [] (lines_of text) (map item_of s.lines.items) h.0.0 (λ none. some (e ∙ no_lines s.lines.items none))
+answered text s slice (Err (A1 n)) e h m some = resolved (map item_of s.lines.items) h.0.0 (emits_same (lines_of text) s slice e h ∙ m)
+answered text s slice (Err (A2 n)) e h m some = resolved (map item_of s.lines.items) h.0.0 (emits_same (lines_of text) s slice e h ∙ m)
+answered text s slice (Err (A3 n)) e h m some = resolved (map item_of s.lines.items) h.0.0 (emits_same (lines_of text) s slice e h ∙ m)
+answered text s slice (Err (A4 n)) e h m some = resolved (map item_of s.lines.items) h.0.0 (emits_same (lines_of text) s slice e h ∙ m)
+answered text s slice (Err (A5 n)) e h m some = resolved (map item_of s.lines.items) h.0.0 (emits_same (lines_of text) s slice e h ∙ m)
+answered text s slice (Err (A6 n)) e h m some = resolved (map item_of s.lines.items) h.0.0 (emits_same (lines_of text) s slice e h ∙ m)
 
 pub only_answer : (text : List ℕ) (s : Scanned) (slice : List Line) (r : Result (Vec ℕ Global) AsmError) → slice ≡ s.lines.items → FirstPass (lines_of text) (Ok s) → Emits (emitted (λ q. get_by_text s.labels q) 1 0 (map item_of slice)) r → (t : Result (List ℕ) AsmError) → Assembles (lines_of text) t → IsAnswer t r
 only_answer text s slice (Ok code) e h m t a = only_resolved (lines_of text) (map item_of s.lines.items) (Ok code.items) t h.0.1 (emits_same (lines_of text) s slice e h ∙ m) a
@@ -76,7 +86,7 @@ first_refused text (A3 n) h = refused h.0
 first_refused text (A4 n) h = refused h.0
 first_refused text (A5 n) h = refused h.0
 first_refused text (A6 n) h = refused h.0
-first_refused text Memory h = tt
+first_refused text Memory h = h
 
 pub only_first : (text : List ℕ) (e : AsmError) → FirstPass (lines_of text) (Err e) → (t : Result (List ℕ) AsmError) → Assembles (lines_of text) t → IsAnswer t (Err e)
 only_first text (A1 n) h t a = only_refused (lines_of text) (A1 n) t h.1 a

@@ -1,8 +1,8 @@
--- The digits of numbers.
+-- Digits that are read are those of their number.
 use Rattle.std.proofs.Common.{◌≡◌, ◌≢◌, ◌+◌, ◌*◌, ◌/◌, ◌%◌, ◌<◌, ℕ, zero, suc, List, [], ◌∷◌, ◌++◌, Bool, false, true, get_or, map, refl, sym, ap, ◌∙◌, arith, append_assoc}
 use mathlib.Core.List.{append-nil}
-use Rattle.std.proofs.lemmas.Int.Digits.{digits_of_step, all_below_base_digits_of, all_below_base_from_digits, digits_value_is, first_digits_of, number_after_ge, number_digits_of, number_push}
-use Rattle.std.proofs.lemmas.Bool.{false≢true}
+use Rattle.std.proofs.lemmas.Int.Digits.{digits_of_step, all_below_base_digits_of, all_below_base_from_digits, digits_value_is, first_digits_of, number_after_ge, number_push}
+use Rattle.std.proofs.lemmas.Bool.{and_parts, false≢true}
 use Rattle.std.proofs.lemmas.Bool.Decides.{nat_tests}
 use Rattle.std.proofs.lemmas.Str.{digit_value_digit}
 use Rattle.std.proofs.lemmas.Str.Parse.{IsNumeralModel, digit_from_value, numerals_by_value, tells_all_ascii_digits}
@@ -12,6 +12,7 @@ use Rattle.std.specs.Int.Digits.{AllBelowBase, digits_of, number_from_digits}
 use Rattle.std.specs.Str.{all_ascii_digits}
 use Rattle.std.specs.Str.Parse.{AllDigits, digits_value}
 use Rattle.insn_codec.specs.Lines.{decimal}
+use Rattle.insn_codec.proofs.Decimals.{bytes_digits, decimal_some}
 use Rattle.assembler.specs.Numbers.{is_positive}
 
 -- one more digit at the end
@@ -51,40 +52,6 @@ bytes_again (c ∷ cs) d =
     let h : 48 + digit_value c ≡ c = omega arith in
     (λ i. h i ∷ bytes_again cs d.1 i)
 
-small_digit : (d : ℕ) → d < 10 → digit_value (48 + d) ≡ d
-small_digit d low = grind (arith, nat_tests)
-
-pub values_again : (ds : List ℕ) → AllBelowBase 10 ds → map digit_value (map (λ d. 48 + d) ds) ≡ ds
-values_again [] low = refl
-values_again (d ∷ ds) low = (λ i. small_digit d low.0 i ∷ values_again ds low.1 i)
-
-pub bytes_digits : (ds : List ℕ) → AllBelowBase 10 ds → AllDigits 10 (map (λ d. 48 + d) ds)
-bytes_digits [] low = tt
-bytes_digits (d ∷ ds) low = (omega (arith, small_digit d low.0, low.0), bytes_digits ds low.1)
-
--- what `decimal` writes
-
-pub decimal_zero : decimal 0 ≡ 48 ∷ []
-unfolding decimal
-decimal_zero = refl
-
-pub decimal_some : (n : ℕ) → 0 < n → decimal n ≡ map (λ d. 48 + d) (digits_of 10 n)
-unfolding decimal
-decimal_some n some = let h : nat_eq n 0 ≡ false = grind (arith, nat_tests) in rw h refl
-
-pub decimal_digits : (n : ℕ) → AllDigits 10 (decimal n)
-decimal_digits zero = rw decimal_zero (omega arith, tt)
-decimal_digits (suc n) = rw (decimal_some (suc n) (omega arith)) (bytes_digits (digits_of 10 (suc n)) (all_below_base_digits_of 10 (suc n) (omega arith)))
-
-pub decimal_value : (n : ℕ) → digits_value 10 (decimal n) ≡ n
-decimal_value zero = rw decimal_zero refl
-decimal_value (suc n) =
-    let ds = digits_of 10 (suc n) in
-    ap (digits_value 10) (decimal_some (suc n) (omega arith)) ∙ digits_value_is 10 (map (λ d. 48 + d) ds) ∙ ap (number_from_digits 10) (values_again ds (all_below_base_digits_of 10 (suc n) (omega arith))) ∙ number_digits_of 10 (suc n) (omega arith)
-
-pub decimal_injective : (m n : ℕ) → decimal m ≡ decimal n → m ≡ n
-decimal_injective m n e = sym (decimal_value m) ∙ ap (digits_value 10) e ∙ decimal_value n
-
 -- a list of digits that begins with no zero
 led : (ds : List ℕ) → AllBelowBase 10 ds → 0 < get_or ds 0 0 → is_positive (map (λ d. 48 + d) ds) ≡ true
 led [] low some = absurd (omega arith)
@@ -95,14 +62,10 @@ led (d ∷ ds) low some =
 pub positive_decimal : (n : ℕ) → 0 < n → is_positive (decimal n) ≡ true
 positive_decimal n some = rw (decimal_some n some) (led (digits_of 10 n) (all_below_base_digits_of 10 n (omega arith)) (first_digits_of 10 n (omega arith) some))
 
-both : (x y : Bool) → (x && y) ≡ true → (x ≡ true) × (y ≡ true)
-both true y e = (refl, e)
-both false y e = absurd (false≢true e)
-
 pub decimal_again : (cs : List ℕ) → is_positive cs ≡ true → (decimal (digits_value 10 cs) ≡ cs) × (0 < digits_value 10 cs)
 decimal_again [] e = absurd (false≢true e)
 decimal_again (c ∷ cs) e =
-    let t = both (not (nat_eq c 48)) (all_ascii_digits (c ∷ cs)) e in
+    let t = and_parts (not (nat_eq c 48)) (all_ascii_digits (c ∷ cs)) e in
     let d = own.to (c ∷ cs) t.1 in
     let lead : c ≢ 48 = not_zero c t.0 in
     let k = digit_value_digit c (digit_from_value c d.0) in

@@ -1,7 +1,7 @@
 -- The digits of words.
 use Rattle.std.proofs.Common.{◌≡◌, ◌≢◌, ◌+◌, ◌*◌, ◌/◌, ◌%◌, ◌^◌, ◌<◌, ℕ, zero, suc, List, [], ◌∷◌, ◌++◌, Bool, false, true, length, refl, sym, ap, ◌∙◌, arith, append_assoc, length-append, get_or, pow-suc, subst, Result, Ok, Err}
 use mathlib.Core.List.{append-nil}
-use Rattle.std.proofs.lemmas.Bool.{false≢true}
+use Rattle.std.proofs.lemmas.Bool.{and_parts, false≢true}
 use Rattle.std.proofs.lemmas.Bool.Decides.{nat_tests}
 use Rattle.std.proofs.lemmas.Int.Digits.{digits_value-lt, digits_value_push}
 use Rattle.std.proofs.lemmas.List.{append_cancel_left}
@@ -27,10 +27,6 @@ digit_again c e = (grind (arith, nat_tests), grind (arith, nat_tests))
 digit_is : (d : ℕ) → d < 16 → (is_hex_digit (hex_digit d) ≡ true) × (digit_value (hex_digit d) ≡ d)
 digit_is d low = (grind (arith, nat_tests), grind (arith, nat_tests))
 
-both : (x y : Bool) → (x && y) ≡ true → (x ≡ true) × (y ≡ true)
-both true y e = (refl, e)
-both false y e = absurd (false≢true e)
-
 -- hex digits are those of their number
 
 one_more : (front : List ℕ) (c n : ℕ) → is_hex_digit c ≡ true → n ≡ digits_value 16 front → hex_digits (length front) n ≡ front
@@ -47,7 +43,7 @@ one_more front c n e is again =
 goes_on : (rest front : List ℕ) → hex_digits (length front) (digits_value 16 front) ≡ front → all_hex_digits rest ≡ true → hex_digits (length (front ++ rest)) (digits_value 16 (front ++ rest)) ≡ front ++ rest
 goes_on [] front again e = rw append-nil again
 goes_on (c ∷ rest) front again e =
-    let t = both (is_hex_digit c) (all_hex_digits rest) e in
+    let t = and_parts (is_hex_digit c) (all_hex_digits rest) e in
     let whole = goes_on rest (front ++ c ∷ []) (one_more front c (digits_value 16 front) t.0 refl again) t.1 in
     let h : (front ++ c ∷ []) ++ rest ≡ front ++ c ∷ rest = append_assoc front (c ∷ []) rest in
     rw h at whole
@@ -61,13 +57,13 @@ hex_again ds e = goes_on ds [] none_again e
 
 pub all_digits : (ds : List ℕ) → all_hex_digits ds ≡ true → AllDigits 16 ds
 all_digits [] e = tt
-all_digits (c ∷ ds) e = let t = both (is_hex_digit c) (all_hex_digits ds) e in ((digit_again c t.0).0, all_digits ds t.1)
+all_digits (c ∷ ds) e = let t = and_parts (is_hex_digit c) (all_hex_digits ds) e in ((digit_again c t.0).0, all_digits ds t.1)
 
 -- and numbers those of their digits
 
 all_push : (ds : List ℕ) (c : ℕ) → all_hex_digits ds ≡ true → is_hex_digit c ≡ true → all_hex_digits (ds ++ c ∷ []) ≡ true
 all_push [] c e f = rw f refl
-all_push (d ∷ ds) c e f = let t = both (is_hex_digit d) (all_hex_digits ds) e in rw (t.0, all_push ds c t.1 f) refl
+all_push (d ∷ ds) c e f = let t = and_parts (is_hex_digit d) (all_hex_digits ds) e in rw (t.0, all_push ds c t.1 f) refl
 
 pub hex_all : (k n : ℕ) → all_hex_digits (hex_digits k n) ≡ true
 unfolding hex_digits
@@ -104,7 +100,7 @@ plus_digit c p e = false≢true (sym (ap is_hex_digit p) ∙ e)
 
 no_plus : (ds : List ℕ) → all_hex_digits ds ≡ true → get_or ds 0 0 ≢ 43
 no_plus [] e = omega arith
-no_plus (c ∷ ds) e = let t = (both (is_hex_digit c) (all_hex_digits ds) e).0 in λ p. plus_digit c p t
+no_plus (c ∷ ds) e = let t = (and_parts (is_hex_digit c) (all_hex_digits ds) e).0 in λ p. plus_digit c p t
 
 pub parse_hex : {E : Type 0} (ds : List ℕ) (r : Result ℕ E) → all_hex_digits ds ≡ true → length ds ≡ 16 → ParsesUnsigned 64 16 ds r → r ≡ Ok (digits_value 16 ds)
 parse_hex ds (Ok x) e long h = ap Ok (h.1 ∙ ap (digits_value 16) (without_leading_plus_none ds (no_plus ds e)))

@@ -1,15 +1,11 @@
 -- The second pass, line by line.
 use Rattle.std.proofs.Common.{◌≡◌, ℕ, zero, suc, ◌+◌, ◌<◌, ◌≤◌, List, [], ◌∷◌, ◌++◌, Option, Result, Ok, Err, refl, sym, ◌∙◌, ap, arith, length, map, drop, get_or, append_assoc}
+use Rattle.std.proofs.lemmas.List.{drop_more}
 use Rattle.assembler.specs.Items.{item_of, item_slots, slots_of}
 use Rattle.assembler.specs.SecondPass.{after, and_then, bytes_of, emitted, resolved}
 use Rattle.assembler.specs.declared.asm_error.AsmError.{AsmError}
-use Rattle.assembler.specs.declared.line.Line.{Line}
+use Rattle.assembler.specs.declared.lines.line.Line.{Line}
 use Rattle.insn_codec.specs.declared.statement.Statement.{Statement}
-
-drop_step : (lines : List Line) (i : ℕ) (d : Line) → i < length lines → drop i lines ≡ get_or lines i d ∷ drop (i + 1) lines
-drop_step [] i d h = absurd (omega arith)
-drop_step (x ∷ xs) zero d h = refl
-drop_step (x ∷ xs) (suc i) d h = let e : suc i + 1 ≡ suc (i + 1) = omega arith in rw e (drop_step xs i d (omega arith))
 
 after_after : (out bytes : List ℕ) (r : Result (List ℕ) AsmError) → after out (after bytes r) ≡ after (out ++ bytes) r
 after_after out bytes (Ok more) = ap Ok (sym (append_assoc out bytes more))
@@ -24,10 +20,10 @@ emit_step labels number slot n i lines d out new x r whole inside res ok m bytes
     ∙ ap (λ b. after b rest) bytes
     ∙ sym (after_after out (bytes_of x) rest)
     ∙ ap (λ z. after out (and_then z rest)) (sym ok ∙ res)
-    ∙ ap (λ z. after out (emitted labels number slot (map item_of z))) (sym (drop_step lines i d inside))
+    ∙ ap (λ z. after out (emitted labels number slot (map item_of z))) (sym (drop_more lines i d inside))
     ∙ so_far)
 
 pub room_step : (slot n i : ℕ) (lines : List Line) (d : Line) → i < length lines → n ≡ item_slots (item_of (get_or lines i d)) → slot + slots_of (map item_of (drop i lines)) ≤ 65536 → slot + n + slots_of (map item_of (drop (i + 1) lines)) ≤ 65536
 room_step slot n i lines d inside m room =
-    let e : slots_of (map item_of (drop i lines)) ≡ item_slots (item_of (get_or lines i d)) + slots_of (map item_of (drop (i + 1) lines)) = ap (λ z. slots_of (map item_of z)) (drop_step lines i d inside) in
+    let e : slots_of (map item_of (drop i lines)) ≡ item_slots (item_of (get_or lines i d)) + slots_of (map item_of (drop (i + 1) lines)) = ap (λ z. slots_of (map item_of z)) (drop_more lines i d inside) in
     omega (arith, e, m, room)

@@ -4,7 +4,8 @@ use Rattle.std.specs.Prelude.{nat_eq, ◌&&◌, ◌||◌, ◌⊎◌}
 use Rattle.std.specs.Result.{OkIff}
 use Rattle.std.specs.Str.{bytes_eq}
 use Rattle.std.specs.Str.Parse.{AllDigits, ParsesSigned, digits_value}
-use Rattle.std.proofs.lemmas.Bool.{false≢true}
+use Rattle.std.proofs.lemmas.Bool.{and_parts, false≢true}
+use Rattle.assembler.proofs.Cases.{either}
 use Rattle.std.proofs.lemmas.Bool.Decides.{nat_tests}
 use Rattle.std.proofs.lemmas.Slice.Eq.{bytes_eq-Decides}
 use Rattle.std.proofs.lemmas.Int.{to_z-of_z}
@@ -12,19 +13,8 @@ use Rattle.std.proofs.lemmas.Str.Parse.{digit_from_value, numerals_by_value, tel
 use mir.Syntax.{Width}
 use Rattle.insn_codec.specs.Lines.{decimal, offset_text, signed_decimal}
 use Rattle.assembler.specs.Numbers.{is_decimal, is_immediate, is_offset, is_positive}
-use Rattle.assembler.proofs.Decimals.{decimal_again, decimal_digits, decimal_value, decimal_zero, positive_decimal}
-
-either : {P : Type 0} (b : Bool) → (b ≡ true → P) → (b ≡ false → P) → P
-either true f g = f refl
-either false f g = g refl
-
-first : (x y : Bool) → (x && y) ≡ true → x ≡ true
-first true y e = refl
-first false y e = absurd (false≢true e)
-
-second : (x y : Bool) → (x && y) ≡ true → y ≡ true
-second true y e = e
-second false y e = absurd (false≢true e)
+use Rattle.insn_codec.proofs.Decimals.{decimal_digits, decimal_value, decimal_zero}
+use Rattle.assembler.proofs.Decimals.{decimal_again, positive_decimal}
 
 -- what has the form is a number's text
 
@@ -59,8 +49,8 @@ offset_said (c ∷ cs) e = either (nat_eq c 45)
     let k : c ≡ 45 = grind (arith, nat_tests) in
     (negsuc t.0, (λ i. k i ∷ t.1 i)))
     (λ m. let p : (nat_eq c 43 && is_decimal cs) ≡ true = rw m at e in
-    let t = decimal_said cs (second (nat_eq c 43) (is_decimal cs) p) in
-    let f = first (nat_eq c 43) (is_decimal cs) p in
+    let t = decimal_said cs ((and_parts (nat_eq c 43) (is_decimal cs) p).1) in
+    let f = (and_parts (nat_eq c 43) (is_decimal cs) p).0 in
     let k : c ≡ 43 = grind (arith, nat_tests) in
     (pos t.0, (λ i. k i ∷ t.1 i)))
 

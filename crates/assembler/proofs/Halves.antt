@@ -1,36 +1,25 @@
--- A line of code is its mnemonic, a space and its operands.
-use Rattle.std.proofs.Common.{◌≡◌, ◌∷◌, ◌++◌, Some, append_assoc, refl, subst}
+-- A line with operands is its mnemonic, a space and the operands.
+use Rattle.std.proofs.Common.{◌≡◌, ℕ, List, [], ◌∷◌, ◌++◌, Some, refl, subst}
 use Rattle.std.specs.Prelude.{IfSome}
-use Rattle.insn_codec.specs.declared.insn.Insn.TheVariants as insn
-use Rattle.insn_codec.specs.declared.statement.Statement.TheVariants as statement_kind
+use Rattle.insn_codec.specs.Lines.{line_with, operands_text}
+use Rattle.insn_codec.specs.Mnemonics.{mnemonic_text}
+use Rattle.insn_codec.specs.Statements.{statement_mnemonic, statement_operands}
+use Rattle.insn_codec.specs.declared.mnemonic.Mnemonic.{Mnemonic}
+use Rattle.assembler.specs.Forms.{before_operands, item_mnemonic, item_operands}
 use Rattle.assembler.specs.Items.{Item, item_text, statement, label, jump}
-use Rattle.assembler.specs.Forms.{mnemonic_of, operands_text}
-use Rattle.assembler.specs.Mnemonics.{mnemonic_text}
-use Rattle.assembler.specs.declared.jump.Jump.TheVariants as jump_kind
-use Rattle.assembler.specs.declared.mnemonics.Mnemonic.{Mnemonic}
+use Rattle.assembler.specs.declared.lines.jump.Jump.TheVariants.{Near, Long, CallLocal, Branch}
 
-halves : (i : Item) → IfSome (mnemonic_of i) (λ m. item_text i ≡ mnemonic_text m ++ 32 ∷ operands_text i)
-halves (statement (statement_kind.Insn (insn.Alu op width dst operand))) = simp append_assoc
-halves (statement (statement_kind.Insn (insn.Neg width dst))) = simp append_assoc
-halves (statement (statement_kind.Insn (insn.SignExtend extension dst src))) = simp append_assoc
-halves (statement (statement_kind.Insn (insn.ByteSwap order width dst))) = simp append_assoc
-halves (statement (statement_kind.Insn (insn.Jump offset))) = refl
-halves (statement (statement_kind.Insn (insn.JumpLong offset))) = refl
-halves (statement (statement_kind.Insn (insn.Branch comparison width dst operand offset))) = simp append_assoc
-halves (statement (statement_kind.Insn (insn.Call helper))) = refl
-halves (statement (statement_kind.Insn (insn.CallLocal offset))) = refl
-halves (statement (statement_kind.Insn insn.Exit)) = tt
-halves (statement (statement_kind.Insn (insn.Load size dst src offset))) = simp append_assoc
-halves (statement (statement_kind.Insn (insn.LoadSigned size dst src offset))) = simp append_assoc
-halves (statement (statement_kind.Insn (insn.StoreImm size dst offset imm))) = simp append_assoc
-halves (statement (statement_kind.Insn (insn.Store size dst offset src))) = simp append_assoc
-halves (statement (statement_kind.Insn (insn.LoadWide dst value))) = simp append_assoc
-halves (statement (statement_kind.Slot word)) = refl
+halved : (m : Mnemonic) (xs : List (List ℕ)) → IfSome (before_operands xs m) (λ n. line_with m xs ≡ mnemonic_text n ++ 32 ∷ operands_text xs)
+halved m [] = tt
+halved m (x ∷ xs) = refl
+
+halves : (i : Item) → IfSome (item_mnemonic i) (λ m. item_text i ≡ mnemonic_text m ++ 32 ∷ item_operands i)
+halves (statement x) = halved (statement_mnemonic x) (statement_operands x)
 halves (label name) = tt
-halves (jump jump_kind.Near name) = refl
-halves (jump jump_kind.Long name) = refl
-halves (jump jump_kind.CallLocal name) = refl
-halves (jump (jump_kind.Branch comparison width dst operand) name) = simp append_assoc
+halves (jump Near name) = refl
+halves (jump Long name) = refl
+halves (jump CallLocal name) = refl
+halves (jump (Branch comparison width dst operand) name) = refl
 
-pub line_halves : (i : Item) (m : Mnemonic) → mnemonic_of i ≡ Some m → item_text i ≡ mnemonic_text m ++ 32 ∷ operands_text i
-line_halves i m e = subst (λ o. IfSome o (λ n. item_text i ≡ mnemonic_text n ++ 32 ∷ operands_text i)) e (halves i)
+pub line_halves : (i : Item) (m : Mnemonic) → item_mnemonic i ≡ Some m → item_text i ≡ mnemonic_text m ++ 32 ∷ item_operands i
+line_halves i m e = subst (λ o. IfSome o (λ n. item_text i ≡ mnemonic_text n ++ 32 ∷ item_operands i)) e (halves i)

@@ -15,21 +15,16 @@ use Rattle.insn_codec.specs.declared.signed_size.SignedSize.TheVariants as signe
 use Rattle.insn_codec.specs.declared.size.Size.TheVariants as size
 use Rattle.insn_codec.specs.declared.swap_width.SwapWidth.TheVariants as swap
 use Rattle.insn_codec.specs.declared.width.Width.TheVariants as width
-use Rattle.assembler.specs.Mnemonics.{mnemonic_text}
+use Rattle.insn_codec.specs.Mnemonics.{mnemonic_text}
 use Rattle.assembler.specs.Numbers.{is_immediate}
 use Rattle.assembler.specs.Items.{IsName}
 use Rattle.insn_codec.specs.declared.operand.Operand.{Operand}
 use Rattle.insn_codec.specs.declared.operand.Operand.TheVariants.{Imm, Reg}
-use Rattle.assembler.proofs.Decimals.{decimal_digits, decimal_injective}
+use Rattle.insn_codec.proofs.Decimals.{decimal_digits, decimal_injective}
+use Rattle.assembler.proofs.Ends.{heads, tails}
 use Rattle.assembler.proofs.Forms.{no_immediate}
-use Rattle.assembler.specs.declared.mnemonics.Mnemonic.{Mnemonic}
-use Rattle.assembler.specs.declared.mnemonics.Mnemonic.TheVariants.{Alu, Neg, SignExtend, ByteSwap, Ja, JaLong, Branch, Call, CallLocal, Exit, Load, LoadSigned, StoreImm, Store, LoadWide, Slot}
-
-tail : (x y : ℕ) (xs ys : List ℕ) → x ∷ xs ≡ y ∷ ys → xs ≡ ys
-tail x y xs ys e = cc
-
-head : (x y : ℕ) (xs ys : List ℕ) → x ∷ xs ≡ y ∷ ys → x ≡ y
-head x y xs ys e = cc
+use Rattle.insn_codec.specs.declared.mnemonic.Mnemonic.{Mnemonic}
+use Rattle.insn_codec.specs.declared.mnemonic.Mnemonic.TheVariants.{Alu, Neg, SignExtend, ByteSwap, Ja, JaLong, Branch, Call, CallLocal, Exit, Load, LoadSigned, StoreImm, Store, LoadWide, Slot}
 
 no_minus : (n : ℕ) (cs : List ℕ) → decimal n ≡ 45 ∷ cs → ⊥
 no_minus n cs e = let d = decimal_digits n in let t : AllDigits 10 (45 ∷ cs) = rw e at d in omega (arith, t.0)
@@ -164,13 +159,13 @@ pub signed_injective : (y z : ℤ) → signed_decimal y ≡ signed_decimal z →
 signed_injective (pos m) (pos n) e = ap pos (decimal_injective m n e)
 signed_injective (pos m) (negsuc n) e = absurd (no_minus m (decimal (suc n)) e)
 signed_injective (negsuc m) (pos n) e = absurd (no_minus n (decimal (suc m)) (sym e))
-signed_injective (negsuc m) (negsuc n) e = let h : suc m ≡ suc n = decimal_injective (suc m) (suc n) (tail 45 45 (decimal (suc m)) (decimal (suc n)) e) in let k : m ≡ n = omega arith in ap negsuc k
+signed_injective (negsuc m) (negsuc n) e = let h : suc m ≡ suc n = decimal_injective (suc m) (suc n) (tails 45 45 (decimal (suc m)) (decimal (suc n)) e) in let k : m ≡ n = omega arith in ap negsuc k
 
 pub offset_injective : (y z : ℤ) → offset_text y ≡ offset_text z → y ≡ z
-offset_injective (pos m) (pos n) e = ap pos (decimal_injective m n (tail 43 43 (decimal m) (decimal n) e))
-offset_injective (pos m) (negsuc n) e = absurd (omega (arith, head 43 45 (decimal m) (decimal (suc n)) e))
-offset_injective (negsuc m) (pos n) e = absurd (omega (arith, head 45 43 (decimal (suc m)) (decimal n) e))
-offset_injective (negsuc m) (negsuc n) e = let h : suc m ≡ suc n = decimal_injective (suc m) (suc n) (tail 45 45 (decimal (suc m)) (decimal (suc n)) e) in let k : m ≡ n = omega arith in ap negsuc k
+offset_injective (pos m) (pos n) e = ap pos (decimal_injective m n (tails 43 43 (decimal m) (decimal n) e))
+offset_injective (pos m) (negsuc n) e = absurd (omega (arith, heads 43 45 (decimal m) (decimal (suc n)) e))
+offset_injective (negsuc m) (pos n) e = absurd (omega (arith, heads 45 43 (decimal (suc m)) (decimal n) e))
+offset_injective (negsuc m) (negsuc n) e = let h : suc m ≡ suc n = decimal_injective (suc m) (suc n) (tails 45 45 (decimal (suc m)) (decimal (suc n)) e) in let k : m ≡ n = omega arith in ap negsuc k
 
 no_form : (r : Register) → is_immediate (register_text r) ≡ false
 no_form register.R0 = refl

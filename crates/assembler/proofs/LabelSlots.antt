@@ -3,16 +3,16 @@ use Rattle.std.proofs.Common.{◌≡◌, ℕ, ◌+◌, List, [], ◌∷◌, ◌+
 use Rattle.std.specs.Prelude.{Bool, if◌then◌else◌, bytes_eq}
 use Rattle.std.proofs.lemmas.Slice.Eq.{bytes_eq-Decides}
 use Rattle.assembler.proofs.Cases.{either}
-use Rattle.assembler.specs.Answers.{HasPlaces, IsFreeIn}
+use Rattle.assembler.specs.Answers.{HasSlots, IsFreeIn}
 use Rattle.assembler.specs.Items.{Item, statement, label, jump, item_slots, slots_of}
-use Rattle.assembler.specs.Labels.{IsFree, names, place_from, place_of}
+use Rattle.assembler.specs.Labels.{IsFree, names, label_slot_from, label_slot}
 
-pub free_in : (before : List Item) (labels : List ℕ → Option ℕ) (i : Item) → HasPlaces labels before → IsFree before i → IsFreeIn labels i
+pub free_in : (before : List Item) (labels : List ℕ → Option ℕ) (i : Item) → HasSlots labels before → IsFree before i → IsFreeIn labels i
 free_in before labels (statement x) has free = tt
 free_in before labels (label name) has free = has name ∙ free
 free_in before labels (jump j name) has free = tt
 
-pub free_of : (before : List Item) (labels : List ℕ → Option ℕ) (i : Item) → HasPlaces labels before → IsFreeIn labels i → IsFree before i
+pub free_of : (before : List Item) (labels : List ℕ → Option ℕ) (i : Item) → HasSlots labels before → IsFreeIn labels i → IsFree before i
 free_of before labels (statement x) has free = tt
 free_of before labels (label name) has free = sym (has name) ∙ free
 free_of before labels (jump j name) has free = tt
@@ -29,11 +29,11 @@ or_else None y = y
 abbrev pub slot_if : Bool → ℕ → Option ℕ
 slot_if b slot = if b then Some slot else None
 
-pub place_append : (before later : List Item) (slot : ℕ) (q : List ℕ) → place_from slot (before ++ later) q ≡ or_else (place_from slot before q) (place_from (slot + slots_of before) later q)
-place_append [] later slot q = let e : slot + 0 ≡ slot = omega arith in rw e refl
-place_append (x ∷ xs) later slot q = either (names x q)
+pub label_slot_append : (before later : List Item) (slot : ℕ) (q : List ℕ) → label_slot_from slot (before ++ later) q ≡ or_else (label_slot_from slot before q) (label_slot_from (slot + slots_of before) later q)
+label_slot_append [] later slot q = let e : slot + 0 ≡ slot = omega arith in rw e refl
+label_slot_append (x ∷ xs) later slot q = either (names x q)
     (λ e. rw e refl)
-    (λ e. rw e (place_append xs later (slot + item_slots x) q ∙ ap (λ n. or_else (place_from (slot + item_slots x) xs q) (place_from n later q)) (add_assoc slot (item_slots x) (slots_of xs))))
+    (λ e. rw e (label_slot_append xs later (slot + item_slots x) q ∙ ap (λ n. or_else (label_slot_from (slot + item_slots x) xs q) (label_slot_from n later q)) (add_assoc slot (item_slots x) (slots_of xs))))
 
 pub same_name : (name q : List ℕ) → bytes_eq name q ≡ true → name ≡ q
 same_name name q e = let h = bytes_eq-Decides name q in search (rules, h, e)
@@ -50,9 +50,9 @@ named_last before (label name) q labels slot e free = either (bytes_eq name q)
     (λ is. let none : before ≡ None = sym e ∙ ap labels (sym (same_name name q is)) ∙ free in rw (is, none) refl)
     (λ is. rw is (e ∙ or_none before))
 
-pub places_step : (before : List Item) (i : Item) (old new : List ℕ → Option ℕ) (slot : ℕ) → slot ≡ slots_of before → HasPlaces old before → IsFreeIn old i → ((q : List ℕ) → new q ≡ (if names i q then Some slot else old q)) → HasPlaces new (before ++ (i ∷ []))
-places_step before i old new slot s has free step q =
+pub slots_after_label : (before : List Item) (i : Item) (old new : List ℕ → Option ℕ) (slot : ℕ) → slot ≡ slots_of before → HasSlots old before → IsFreeIn old i → ((q : List ℕ) → new q ≡ (if names i q then Some slot else old q)) → HasSlots new (before ++ (i ∷ []))
+slots_after_label before i old new slot s has free step q =
     step q
-    ∙ named_last (place_of before q) i q old slot (has q) free
-    ∙ ap (λ n. or_else (place_of before q) (slot_if (names i q) n)) (s ∙ sym (zero-add (slots_of before)))
-    ∙ sym (place_append before (i ∷ []) 0 q)
+    ∙ named_last (label_slot before q) i q old slot (has q) free
+    ∙ ap (λ n. or_else (label_slot before q) (slot_if (names i q) n)) (s ∙ sym (zero-add (slots_of before)))
+    ∙ sym (label_slot_append before (i ∷ []) 0 q)

@@ -1,6 +1,7 @@
 -- Texts that are cut at the first byte of a kind.
 use Rattle.std.proofs.Common.{◌≡◌, ◌≢◌, ◌<◌, ℕ, zero, suc, List, [], ◌∷◌, ◌++◌, refl, sym, ◌∙◌, ap, subst, arith, length, get_or, Bool, true, false, eq-eqb}
 use Rattle.std.specs.Prelude.{◌==◌, ◌&&◌, not}
+use Rattle.std.proofs.lemmas.Bool.{and_parts}
 use Rattle.assembler.specs.Items.{all_go_on, goes_on_name}
 use Rattle.assembler.specs.Forms.{Lacks}
 
@@ -35,9 +36,6 @@ split_same c (x ∷ xs) ys (v ∷ vs) ws h k e =
     let r = split_same c xs ys vs ws h.1 k.1 q in
     (ap (λ y. y ∷ xs) p ∙ ap (λ zs. v ∷ zs) r.0, r.1)
 
-pub tail_same : (c : ℕ) (xs ys : List ℕ) → c ∷ xs ≡ c ∷ ys → xs ≡ ys
-tail_same c xs ys e = cc
-
 pub lacks_gone : (c : ℕ) (text xs ys : List ℕ) → Lacks c text → text ≡ xs ++ c ∷ ys → ⊥
 lacks_gone c text xs ys h e = lacks_not c xs ys (subst (λ t. Lacks c t) e h)
 
@@ -49,10 +47,6 @@ lacks c (x ∷ xs) = not (x == c) && lacks c xs
 not_false : (b : Bool) → not b ≡ true → b ≡ false
 not_false true e = absurd (let p : false ≡ true = e in cc)
 not_false false e = refl
-
-pub and_parts : (a b : Bool) → (a && b) ≡ true → (a ≡ true) × (b ≡ true)
-and_parts true b e = (refl, e)
-and_parts false b e = absurd (let p : false ≡ true = e in cc)
 
 pub apart : (x c : ℕ) → (x == c) ≡ false → x ≡ c → ⊥
 apart x c e p = absurd (let z : true ≡ false = sym (eq-eqb x c p) ∙ e in cc)
@@ -67,15 +61,3 @@ go_lacks c h [] e = tt
 go_lacks c h (x ∷ xs) e =
     let p = and_parts (goes_on_name x) (all_go_on xs) e in
     (λ q. let r : goes_on_name c ≡ true = subst (λ y. goes_on_name y ≡ true) q p.0 in absurd (let z : true ≡ false = sym r ∙ h in cc), go_lacks c h xs p.1)
-
--- two texts with the same last byte are equal before it
-pub last_same : (c : ℕ) (xs ys : List ℕ) → xs ++ c ∷ [] ≡ ys ++ c ∷ [] → xs ≡ ys
-last_same c [] [] e = refl
-last_same c [] (y ∷ []) e = absurd cc
-last_same c [] (y ∷ (z ∷ ys)) e = absurd cc
-last_same c (x ∷ []) [] e = absurd cc
-last_same c (x ∷ (z ∷ xs)) [] e = absurd cc
-last_same c (x ∷ xs) (y ∷ ys) e =
-    let p : x ≡ y = cc in
-    let q : xs ++ c ∷ [] ≡ ys ++ c ∷ [] = cc in
-    ap (λ z. z ∷ xs) p ∙ ap (λ zs. y ∷ zs) (last_same c xs ys q)

@@ -1,21 +1,22 @@
 -- The reading of a line, from that of its operands.
 use Rattle.std.proofs.Common.{◌≡◌, ℕ, List, ◌∷◌, ◌++◌, Some, Result, Ok, Err, refl, sym, ◌∙◌, ap, subst}
 use Rattle.assembler.specs.Items.{HasLine, InRange, Item, item_of, item_text}
-use Rattle.assembler.specs.Forms.{ReadsOperands, mnemonic_of, operands_text}
+use Rattle.assembler.specs.Forms.{ReadsOperands, item_mnemonic, item_operands}
 use Rattle.assembler.specs.LineAnswers.{ReadsAs}
-use Rattle.assembler.specs.Mnemonics.{mnemonic_text}
-use Rattle.assembler.specs.declared.line.Line.{Line}
-use Rattle.assembler.specs.declared.line_error.LineError.{LineError}
-use Rattle.assembler.specs.declared.line_error.LineError.TheVariants.{NoForm, OutOfRange}
-use Rattle.assembler.specs.declared.mnemonics.Mnemonic.{Mnemonic}
+use Rattle.insn_codec.specs.Mnemonics.{mnemonic_text}
+use Rattle.assembler.specs.declared.lines.line.Line.{Line}
+use Rattle.assembler.specs.declared.lines.line_error.LineError.{LineError}
+use Rattle.assembler.specs.declared.lines.line_error.LineError.TheVariants.{NoForm, OutOfRange}
+use Rattle.insn_codec.specs.declared.mnemonic.Mnemonic.{Mnemonic}
 use Rattle.assembler.proofs.Halves.{line_halves}
 use Rattle.assembler.proofs.Injective.{mnemonic_injective}
-use Rattle.assembler.proofs.Plain.{mnemonic_plain, plain_lacks}
+use Rattle.insn_codec.proofs.Plain.{mnemonic_plain}
+use Rattle.assembler.proofs.Plain.{plain_lacks}
 use Rattle.assembler.proofs.SameItem.{same_code}
 use Rattle.assembler.proofs.Whole.{code_only}
 
 -- an item with this line has this mnemonic and these operands
-behind : (m : Mnemonic) (operands text : List ℕ) → text ≡ mnemonic_text m ++ 32 ∷ operands → (i : Item) → HasLine i → text ≡ item_text i → (mnemonic_of i ≡ Some m) × (operands ≡ operands_text i)
+behind : (m : Mnemonic) (operands text : List ℕ) → text ≡ mnemonic_text m ++ 32 ∷ operands → (i : Item) → HasLine i → text ≡ item_text i → (item_mnemonic i ≡ Some m) × (operands ≡ item_operands i)
 behind m operands text t i h e =
     let k = code_only (mnemonic_text m) operands i (plain_lacks 32 refl (mnemonic_text m) (mnemonic_plain m)) h (sym t ∙ e) in
     (k.1 ∙ ap (λ n. Some n) (sym (mnemonic_injective m k.0 k.2)), k.3)

@@ -3,7 +3,7 @@ use Rattle.std.proofs.Common.{◌≡◌, ◌≢◌, ℕ, ◌+◌, ◌*◌, ◌/�
 use Rattle.std.specs.Prelude.{◌==◌, All}
 use Rattle.std.proofs.lemmas.Bool.{ne_eqb}
 use Rattle.std.proofs.lemmas.List.Elements.{All-tail}
-use Rattle.insn_codec.specs.StatementLaws.{NoLineFeed, StandsFirst, StatementIsSpelled}
+use Rattle.insn_codec.specs.Laws.{NoLineFeed, SlotsAreFilled, StandsFirst, StatementIsSpelled}
 use Rattle.insn_codec.specs.Statements.{IsStatement, Lists, Listing, after_statement, lines_text, statement_bytes, statement_of, statement_slots, statement_text}
 use Rattle.insn_codec.specs.Statements.Lists.{ended, place}
 use Rattle.insn_codec.specs.declared.insn.Insn.TheVariants.{LoadWide}
@@ -68,16 +68,11 @@ stand_each : (slot : ℕ) (xs : List Statement) → StandFor no_labels slot (map
 stand_each slot [] = none
 stand_each slot (x ∷ xs) = line (stated x) (stand_each (slot + statement_slots x) xs)
 
-statement_length : (x : Statement) → length (statement_bytes x) ≡ 8 * statement_slots x
-statement_length (Insn (LoadWide dst value)) = refl
-statement_length (Insn _) = refl
-statement_length (Slot word) = refl
-
-slots_again : (xs : List Statement) → 8 * slots_of (map statement xs) ≡ length (all_bytes xs)
-slots_again [] = refl
-slots_again (x ∷ xs) =
+slots_again : SlotsAreFilled → (xs : List Statement) → 8 * slots_of (map statement xs) ≡ length (all_bytes xs)
+slots_again filled [] = refl
+slots_again filled (x ∷ xs) =
     let sum : length (statement_bytes x ++ all_bytes xs) ≡ length (statement_bytes x) + length (all_bytes xs) = length-append (statement_bytes x) (all_bytes xs) in
-    omega (arith, sum, statement_length x, slots_again xs)
+    omega (arith, sum, (filled.by_statement x).length_is, slots_again filled xs)
 
 all_after : (xs ys : List ℕ) → All (λ b. b < 256) (xs ++ ys) → All (λ b. b < 256) ys
 all_after [] ys all = all
@@ -87,26 +82,26 @@ all_after (x ∷ xs) ys all = all_after xs ys (All-tail (λ b. b < 256) x (xs ++
 abbrev Stands : List ℕ → List Statement → Type 0
 Stands code xs = EachStatement xs × (code ≡ all_bytes xs)
 
-whole_after : (x : Statement) (code rest : List ℕ) → code ≡ statement_bytes x ++ rest → length code % 8 ≡ 0 → length rest % 8 ≡ 0
-whole_after x code rest e whole =
+whole_after : SlotsAreFilled → (x : Statement) (code rest : List ℕ) → code ≡ statement_bytes x ++ rest → length code % 8 ≡ 0 → length rest % 8 ≡ 0
+whole_after filled x code rest e whole =
     let sum : length code ≡ length (statement_bytes x) + length rest = ap (λ z. length z) e ∙ length-append (statement_bytes x) rest in
-    let size : length (statement_bytes x) ≡ 8 * statement_slots x = statement_length x in
+    let size : length (statement_bytes x) ≡ 8 * statement_slots x = (filled.by_statement x).length_is in
     omega (arith, sum, size, whole)
 
-stands_of : StatementIsSpelled → (code : List ℕ) (xs : List Statement) → All (λ b. b < 256) code → length code % 8 ≡ 0 → Lists code xs → Stands code xs
-stands_of spelled code [] small whole ended = (tt, refl)
-stands_of spelled code (x ∷ xs) small whole (place {byte = byte} {bytes = bytes} {later = later} rest) =
+stands_of : StatementIsSpelled → SlotsAreFilled → (code : List ℕ) (xs : List Statement) → All (λ b. b < 256) code → length code % 8 ≡ 0 → Lists code xs → Stands code xs
+stands_of spelled filled code [] small whole ended = (tt, refl)
+stands_of spelled filled code (x ∷ xs) small whole (place {byte = byte} {bytes = bytes} {later = later} rest) =
     let full : byte ∷ bytes ≢ [] = λ e. cc in
     let first : StandsFirst (byte ∷ bytes) = spelled (byte ∷ bytes) small whole full in
     let after = after_statement (byte ∷ bytes) in
-    let more = stands_of spelled after later (all_after (statement_bytes (statement_of (byte ∷ bytes))) after (subst (λ z. All (λ b. b < 256) z) first.bytes small)) (whole_after (statement_of (byte ∷ bytes)) (byte ∷ bytes) after first.bytes whole) rest in
+    let more = stands_of spelled filled after later (all_after (statement_bytes (statement_of (byte ∷ bytes))) after (subst (λ z. All (λ b. b < 256) z) first.bytes small)) (whole_after filled (statement_of (byte ∷ bytes)) (byte ∷ bytes) after first.bytes whole) rest in
     ((first.in_range, more.0), first.bytes ∙ ap (λ z. statement_bytes (statement_of (byte ∷ bytes)) ++ z) more.1)
 
-pub listed : NoLineFeed → StatementIsSpelled → (code text : List ℕ) → All (λ b. b < 256) code → length code % 8 ≡ 0 → length code / 8 ≤ 65536 → Listing code text → Source text code
-listed quiet spelled code text small whole room l =
-    let stands = stands_of spelled code l.statements small whole l.lists in
+pub listed : NoLineFeed → StatementIsSpelled → SlotsAreFilled → (code text : List ℕ) → All (λ b. b < 256) code → length code % 8 ≡ 0 → length code / 8 ≤ 65536 → Listing code text → Source text code
+listed quiet spelled filled code text small whole room l =
+    let stands = stands_of spelled filled code l.statements small whole l.lists in
     let lines : lines_of text ≡ map statement_text l.statements = ap lines_of l.text_is ∙ lines_again quiet l.statements stands.0 in
-    let slots : 8 * slots_of (map statement l.statements) ≡ length code = slots_again l.statements ∙ ap (λ z. length z) (sym stands.1) in
+    let slots : 8 * slots_of (map statement l.statements) ≡ length code = slots_again filled l.statements ∙ ap (λ z. length z) (sym stands.1) in
     record {
       items = map statement l.statements;
       lines = rw lines (says_each l.statements stands.0);

@@ -4,14 +4,15 @@ use Rattle.std.specs.Prelude.{◌==◌, ◌||◌, nat_le, codes, map, nat_eq}
 use Rattle.std.specs.Int.Digits.{AllBelowBase, digits_of}
 use Rattle.std.proofs.lemmas.Int.Digits.{all_below_base_digits_of}
 use Rattle.std.proofs.lemmas.Bool.Decides.{nat_tests}
-use Rattle.insn_codec.specs.Lines.{decimal, offset_text, operand_text, register_text}
+use Rattle.insn_codec.specs.Lines.{address_text, decimal, offset_text, operand_text, place_text, register_text}
 use Rattle.insn_codec.specs.declared.operand.Operand.{Operand}
 use Rattle.insn_codec.specs.declared.register.Register.{Register}
 use Rattle.insn_codec.specs.declared.register.Register.TheVariants as register
 use Rattle.assembler.specs.Items.{all_go_on, begins_name, goes_on_name}
-use Rattle.assembler.specs.Forms.{Lacks, address_text, place_text}
+use Rattle.assembler.specs.Forms.{Lacks}
 use Rattle.assembler.proofs.Lacking.{apart, go_lacks, lacks_append}
-use Rattle.assembler.proofs.Plain.{is_plain, offset_plain, operand_plain, plain_append, plain_lacks, register_plain}
+use Rattle.insn_codec.proofs.Plain.{is_plain, offset_plain, operand_plain, plain_append, register_plain}
+use Rattle.assembler.proofs.Plain.{plain_lacks}
 
 pub go_register : (r : Register) → all_go_on (register_text r) ≡ true
 go_register register.R0 = refl

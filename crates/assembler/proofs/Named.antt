@@ -3,10 +3,10 @@ use Rattle.std.proofs.Common.{◌≡◌, ℕ, ◌+◌, ◌≤◌, List, [], ◌�
 use Rattle.std.specs.Prelude.{bytes_eq}
 use Rattle.std.proofs.lemmas.Slice.Eq.{bytes_eq-Decides}
 use Rattle.assembler.proofs.Cases.{either}
-use Rattle.assembler.proofs.LabelSlots.{or_else, place_append, same_name}
-use Rattle.assembler.specs.Answers.{HasPlaces}
+use Rattle.assembler.proofs.LabelSlots.{or_else, label_slot_append, same_name}
+use Rattle.assembler.specs.Answers.{HasSlots}
 use Rattle.assembler.specs.Items.{Item, statement, label, jump, item_slots, slots_of}
-use Rattle.assembler.specs.Labels.{IsFree, names, place_from, place_of}
+use Rattle.assembler.specs.Labels.{IsFree, names, label_slot_from, label_slot}
 use Rattle.assembler.specs.Source.{GivesSlots, NamedAfter}
 
 names_itself : (name : List ℕ) → bytes_eq name name ≡ true
@@ -18,27 +18,27 @@ same_label (jump j name) q e = absurd cc
 same_label (label name) q e = ap label (same_name name q e)
 
 -- a label with a place is named by a line, with as many slots before it
-pub found : (items : List Item) (from : ℕ) (q : List ℕ) (slot : ℕ) → place_from from items q ≡ Some slot → (before : List Item) × NamedAfter items q before × (slot ≡ from + slots_of before)
+pub found : (items : List Item) (from : ℕ) (q : List ℕ) (slot : ℕ) → label_slot_from from items q ≡ Some slot → (before : List Item) × NamedAfter items q before × (slot ≡ from + slots_of before)
 found [] from q slot e = absurd cc
 found (i ∷ is) from q slot e = either (names i q)
     (λ is_it. let here : Some from ≡ Some slot = rw is_it at e in ([], (is, ap (λ x. x ∷ is) (same_label i q is_it)), (let same : from ≡ slot = cc in omega (arith, same))))
     (λ other. let rest = found is (from + item_slots i) q slot (rw other at e) in (i ∷ rest.0, (rest.1.0, ap (λ x. i ∷ x) rest.1.1), (let k = rest.2 in omega (arith, k))))
 
 -- no line names a label that has no place
-pub none_named : (before later : List Item) (from : ℕ) (name : List ℕ) → place_from from (before ++ label name ∷ later) name ≡ None → ⊥
+pub none_named : (before later : List Item) (from : ℕ) (name : List ℕ) → label_slot_from from (before ++ label name ∷ later) name ≡ None → ⊥
 none_named [] later from name e = let k = rw (names_itself name) at e in cc
 none_named (i ∷ is) later from name e = either (names i name)
     (λ is_it. let k = rw is_it at e in cc)
     (λ other. none_named is later (from + item_slots i) name (rw other at e))
 
-pub named_none : (items before : List Item) (name : List ℕ) → NamedAfter items name before → place_of items name ≡ None → ⊥
+pub named_none : (items before : List Item) (name : List ℕ) → NamedAfter items name before → label_slot items name ≡ None → ⊥
 named_none items before name n e = none_named before n.0 0 name (rw (n.1) at e)
 
 -- a label that no earlier line names has the slots before its line
-pub first_named : (before later : List Item) (name : List ℕ) → place_of before name ≡ None → place_of (before ++ label name ∷ later) name ≡ Some (slots_of before)
+pub first_named : (before later : List Item) (name : List ℕ) → label_slot before name ≡ None → label_slot (before ++ label name ∷ later) name ≡ Some (slots_of before)
 first_named before later name free =
-    place_append before (label name ∷ later) 0 name
-    ∙ ap (λ o. or_else o (place_from (0 + slots_of before) (label name ∷ later) name)) free
+    label_slot_append before (label name ∷ later) 0 name
+    ∙ ap (λ o. or_else o (label_slot_from (0 + slots_of before) (label name ∷ later) name)) free
     ∙ (let none : 0 + slots_of before ≡ slots_of before = zero-add (slots_of before) in rw (names_itself name, none) refl)
 
 -- no label is named twice
@@ -46,36 +46,36 @@ abbrev pub Once : List Item → List Item → Type 0
 Once before [] = Unit {0}
 Once before (i ∷ is) = IsFree before i × Once (before ++ (i ∷ [])) is
 
-pub once_at : (front before later : List Item) (name : List ℕ) → Once front (before ++ label name ∷ later) → place_of (front ++ before) name ≡ None
+pub once_at : (front before later : List Item) (name : List ℕ) → Once front (before ++ label name ∷ later) → label_slot (front ++ before) name ≡ None
 once_at front [] later name once = rw (append-nil front) once.0
 once_at front (i ∷ before) later name once = let k = once_at (front ++ (i ∷ [])) before later name once.1 in rw append_assoc at k
 
 -- two lines that name a label, with none before that names it, are the same line
-same_front : (before again later other : List Item) (from : ℕ) (name : List ℕ) → before ++ label name ∷ later ≡ again ++ label name ∷ other → place_from from before name ≡ None → place_from from again name ≡ None → before ≡ again
+same_front : (before again later other : List Item) (from : ℕ) (name : List ℕ) → before ++ label name ∷ later ≡ again ++ label name ∷ other → label_slot_from from before name ≡ None → label_slot_from from again name ≡ None → before ≡ again
 same_front [] [] later other from name e f g = refl
 same_front [] (j ∷ again) later other from name e f g =
     let head : label name ≡ j = cc in
-    let k : place_from from (label name ∷ again) name ≡ None = subst (λ x. place_from from (x ∷ again) name ≡ None) (sym head) g in
+    let k : label_slot_from from (label name ∷ again) name ≡ None = subst (λ x. label_slot_from from (x ∷ again) name ≡ None) (sym head) g in
     absurd (none_named [] again from name k)
 same_front (i ∷ before) [] later other from name e f g =
     let head : i ≡ label name = cc in
-    let k : place_from from (label name ∷ before) name ≡ None = subst (λ x. place_from from (x ∷ before) name ≡ None) head f in
+    let k : label_slot_from from (label name ∷ before) name ≡ None = subst (λ x. label_slot_from from (x ∷ before) name ≡ None) head f in
     absurd (none_named [] before from name k)
 same_front (i ∷ before) (j ∷ again) later other from name e f g =
     let head : i ≡ j = cc in
     let tail : before ++ label name ∷ later ≡ again ++ label name ∷ other = cc in
-    let g_i : place_from from (i ∷ again) name ≡ None = subst (λ x. place_from from (x ∷ again) name ≡ None) (sym head) g in
+    let g_i : label_slot_from from (i ∷ again) name ≡ None = subst (λ x. label_slot_from from (x ∷ again) name ≡ None) (sym head) g in
     either (names i name)
     (λ is_it. absurd (let k = rw is_it at f in cc))
     (λ not_it. ap (λ x. x ∷ before) head ∙ ap (λ x. j ∷ x) (same_front before again later other (from + item_slots i) name tail (rw not_it at f) (rw not_it at g_i)))
 
-free_at : (items before : List Item) (name : List ℕ) → Once [] items → NamedAfter items name before → place_of before name ≡ None
+free_at : (items before : List Item) (name : List ℕ) → Once [] items → NamedAfter items name before → label_slot before name ≡ None
 free_at items before name once n = once_at [] before n.0 name (subst (λ x. Once [] x) n.1 once)
 
 -- the places of labels that are named once are such a map
-pub gives_slots : (items : List Item) → Once [] items → GivesSlots (place_of items) items
+pub gives_slots : (items : List Item) → Once [] items → GivesSlots (label_slot items) items
 gives_slots items once = record {
-  gives = λ name before n. ap (λ x. place_of x name) n.1 ∙ first_named before n.0 name (free_at items before name once n);
+  gives = λ name before n. ap (λ x. label_slot x name) n.1 ∙ first_named before n.0 name (free_at items before name once n);
   once = λ name before again n m. same_front before again n.0 m.0 0 name (sym n.1 ∙ m.1) (free_at items before name once n) (free_at items again name once m);
   named = λ name slot e. let h = found items 0 name slot e in (h.0, h.1);
 }
@@ -84,7 +84,7 @@ longer : (before later : List Item) (i : Item) → length before ≡ length (bef
 longer [] later i e = cc
 longer (x ∷ before) later i e = longer before later i (omega (arith, e))
 
-free_from : (labels : List ℕ → Option ℕ) (items front is : List Item) (name : List ℕ) (o : Option ℕ) → GivesSlots labels items → items ≡ front ++ label name ∷ is → place_of front name ≡ o → o ≡ None
+free_from : (labels : List ℕ → Option ℕ) (items front is : List Item) (name : List ℕ) (o : Option ℕ) → GivesSlots labels items → items ≡ front ++ label name ∷ is → label_slot front name ≡ o → o ≡ None
 free_from labels items front is name None g e p = refl
 free_from labels items front is name (Some slot) g e p =
     let h = found front 0 name slot p in
@@ -95,14 +95,14 @@ free_from labels items front is name (Some slot) g e p =
 pub free_of_map : (labels : List ℕ → Option ℕ) (items front is : List Item) (i : Item) → GivesSlots labels items → items ≡ front ++ i ∷ is → IsFree front i
 free_of_map labels items front is (statement x) g e = tt
 free_of_map labels items front is (jump j name) g e = tt
-free_of_map labels items front is (label name) g e = free_from labels items front is name (place_of front name) g e refl
+free_of_map labels items front is (label name) g e = free_from labels items front is name (label_slot front name) g e refl
 
 -- where there is such a map, no label is named twice
 pub once_of : (labels : List ℕ → Option ℕ) (items front is : List Item) → GivesSlots labels items → items ≡ front ++ is → Once front is
 once_of labels items front [] g e = tt
 once_of labels items front (i ∷ is) g e = (free_of_map labels items front is i g e, once_of labels items (front ++ (i ∷ [])) is g (e ∙ sym (append_assoc front (i ∷ []) is)))
 
-same_place : (labels : List ℕ → Option ℕ) (items : List Item) (q : List ℕ) (o p : Option ℕ) → GivesSlots labels items → labels q ≡ o → place_of items q ≡ p → o ≡ p
+same_place : (labels : List ℕ → Option ℕ) (items : List Item) (q : List ℕ) (o p : Option ℕ) → GivesSlots labels items → labels q ≡ o → label_slot items q ≡ p → o ≡ p
 same_place labels items q None None g e f = refl
 same_place labels items q (Some s) None g e f = let n = g.named q s e in absurd (named_none items n.0 q n.1 f)
 same_place labels items q o (Some slot) g e f =
@@ -110,16 +110,16 @@ same_place labels items q o (Some slot) g e f =
     sym e ∙ g.gives q h.0 h.1 ∙ ap Some (sym (h.2 ∙ zero-add (slots_of h.0)))
 
 -- and it has the places of the labels
-pub has_places : (labels : List ℕ → Option ℕ) (items : List Item) → GivesSlots labels items → HasPlaces labels items
-has_places labels items g q = same_place labels items q (labels q) (place_of items q) g refl refl
+pub has_slots : (labels : List ℕ → Option ℕ) (items : List Item) → GivesSlots labels items → HasSlots labels items
+has_slots labels items g q = same_place labels items q (labels q) (label_slot items q) g refl refl
 
 pub slots_append : (before later : List Item) → slots_of (before ++ later) ≡ slots_of before + slots_of later
 slots_append [] later = sym (zero-add (slots_of later))
 slots_append (i ∷ before) later = let e = slots_append before later in omega (arith, e)
 
 -- no place is past the slots
-pub place_bound : (items : List Item) (q : List ℕ) (slot : ℕ) → place_of items q ≡ Some slot → slot ≤ slots_of items
-place_bound items q slot e =
+pub label_slot_bound : (items : List Item) (q : List ℕ) (slot : ℕ) → label_slot items q ≡ Some slot → slot ≤ slots_of items
+label_slot_bound items q slot e =
     let h = found items 0 q slot e in
     let all : slots_of items ≡ slots_of h.0 + slots_of (label q ∷ h.1.0) = ap slots_of h.1.1 ∙ slots_append h.0 (label q ∷ h.1.0) in
     let at : slot ≡ 0 + slots_of h.0 = h.2 in

@@ -1,20 +1,21 @@
 -- Each line reads in one way.
 use Rattle.std.proofs.Common.{◌≡◌, ◌⊎◌, ℕ, List, Some, inl, inr, refl, sym, ◌∙◌, ap, subst}
-use Rattle.assembler.specs.Forms.{mnemonic_of, operands_text}
+use Rattle.assembler.specs.Forms.{item_mnemonic, item_operands}
 use Rattle.assembler.specs.Items.{HasLine, InRange, Item, item_text, label}
-use Rattle.assembler.specs.Mnemonics.{mnemonic_text}
+use Rattle.insn_codec.specs.Mnemonics.{mnemonic_text}
 use Rattle.assembler.specs.Reading.{OneReading, says, out_of_range, no_form}
-use Rattle.assembler.specs.declared.mnemonics.Mnemonic.{Mnemonic}
+use Rattle.insn_codec.specs.declared.mnemonic.Mnemonic.{Mnemonic}
 use Rattle.assembler.proofs.Halves.{line_halves}
 use Rattle.assembler.proofs.Injective.{mnemonic_injective}
 use Rattle.assembler.proofs.OneScan.{only_formless, only_says, only_wide}
-use Rattle.assembler.proofs.Plain.{mnemonic_plain, plain_lacks}
+use Rattle.insn_codec.proofs.Plain.{mnemonic_plain}
+use Rattle.assembler.proofs.Plain.{plain_lacks}
 use Rattle.assembler.proofs.SameItem.{same_code}
 use Rattle.assembler.proofs.Whole.{code_only, exit, exit_only, kind_of, label_only}
 
-of_kind : (i j : Item) → ((m : Mnemonic) × (mnemonic_of i ≡ Some m)) ⊎ ((i ≡ exit) ⊎ ((name : List ℕ) × (i ≡ label name))) → HasLine i → HasLine j → item_text i ≡ item_text j → i ≡ j
+of_kind : (i j : Item) → ((m : Mnemonic) × (item_mnemonic i ≡ Some m)) ⊎ ((i ≡ exit) ⊎ ((name : List ℕ) × (i ≡ label name))) → HasLine i → HasLine j → item_text i ≡ item_text j → i ≡ j
 of_kind i j (inl k) h g e =
-    let t = code_only (mnemonic_text k.0) (operands_text i) j (plain_lacks 32 refl (mnemonic_text k.0) (mnemonic_plain k.0)) g (sym (line_halves i k.0 k.1) ∙ e) in
+    let t = code_only (mnemonic_text k.0) (item_operands i) j (plain_lacks 32 refl (mnemonic_text k.0) (mnemonic_plain k.0)) g (sym (line_halves i k.0 k.1) ∙ e) in
     let m : Some t.0 ≡ Some k.0 = ap (λ n. Some n) (sym (mnemonic_injective k.0 t.0 t.2)) in
     same_code k.0 i j k.1 (t.1 ∙ m) h g t.3
 of_kind i j (inr (inl p)) h g e = p ∙ sym (exit_only j g (sym (ap item_text p) ∙ e))

@@ -13,16 +13,11 @@ use Rattle.insn_codec.specs.declared.width.Width.{Width}
 use Rattle.assembler.specs.Forms.{ReadsOperands, listed}
 use Rattle.assembler.specs.Items.{statement, jump}
 use Rattle.assembler.specs.Targets.{TargetIs}
-use Rattle.assembler.specs.declared.jump.Jump.TheVariants as jump_kind
-use Rattle.assembler.specs.declared.line_error.LineError.TheVariants.{OutOfRange}
-use Rattle.assembler.specs.declared.mnemonics.Mnemonic.TheVariants as mnemonic
-use Rattle.assembler.specs.declared.targets.Target.{Target}
-use Rattle.assembler.specs.declared.targets.Target.TheVariants.{Offset, Name}
-
--- its offset is out of range
-pub offset_out : (comparison : Comparison) (width : Width) (dst : Register) (o : Operand) (z : ℤ) (goal text : List ℕ) → goal ≡ offset_text z → text ≡ listed (register_text dst) (listed (operand_text o) goal) → (FitsSigned w16 z → ⊥) → ReadsOperands (mnemonic.Branch comparison width) text (Err OutOfRange)
-offset_out comparison width dst o z goal text t e out =
-    (statement (statement_kind.Insn (insn.Branch comparison width dst o z)), tt, refl, e ∙ ap (λ g. listed (register_text dst) (listed (operand_text o) g)) t, λ r. out r.1)
+use Rattle.assembler.specs.declared.lines.jump.Jump.TheVariants as jump_kind
+use Rattle.assembler.specs.declared.lines.line_error.LineError.TheVariants.{OutOfRange}
+use Rattle.insn_codec.specs.declared.mnemonic.Mnemonic.TheVariants as mnemonic
+use Rattle.assembler.specs.declared.text.targets.Target.{Target}
+use Rattle.assembler.specs.declared.text.targets.Target.TheVariants.{Offset, Name}
 
 -- its immediate is out of range
 pub branch_out : (comparison : Comparison) (width : Width) (dst : Register) (o : Operand) (target : Target) (goal text : List ℕ) → TargetIs target goal → text ≡ listed (register_text dst) (listed (operand_text o) goal) → (IsOperand o → ⊥) → ReadsOperands (mnemonic.Branch comparison width) text (Err OutOfRange)

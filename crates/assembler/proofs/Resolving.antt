@@ -5,39 +5,21 @@ use Rattle.std.proofs.lemmas.Bool.{lt-ltb, ltb-true}
 use Rattle.std.proofs.lemmas.Int.{ints}
 use Rattle.insn_codec.specs.Statements.{IsStatement}
 use Rattle.insn_codec.specs.declared.statement.Statement.{Statement}
+use Rattle.assembler.specs.Jumps.{JumpInRange, fits_16, jump_by, reaches}
 use Rattle.assembler.proofs.Cases.{either}
-use Rattle.assembler.specs.Items.{InRange, Item, JumpInRange, statement, label, jump, item_slots, slots_of}
-use Rattle.assembler.specs.SecondPass.{after, and_then, bytes_of, emitted, fits_16, jump_at, jump_by, offset_to, reaches, resolved}
+use Rattle.assembler.proofs.JumpLines.{in_range_by, reaches_of}
+use Rattle.assembler.specs.Items.{InRange, Item, statement, label, jump, item_slots, slots_of}
+use Rattle.assembler.specs.SecondPass.{after, and_then, bytes_of, emitted, jump_at, offset_to, resolved}
 use Rattle.assembler.specs.Source.{StandFor, StandsFor}
 use Rattle.assembler.specs.Source.StandFor.{none, line}
 use Rattle.assembler.specs.Source.StandsFor.{stated, named, jumped}
 use Rattle.assembler.specs.declared.asm_error.AsmError.{AsmError}
-use Rattle.assembler.specs.declared.jump.Jump.{Jump}
-use Rattle.assembler.specs.declared.jump.Jump.TheVariants.{Near, Long, CallLocal, Branch}
-
-fits_of : (z : ℤ) → fits_16 z ≡ true → FitsSigned w16 z
-fits_of (pos n) e = let h = ltb-true n 32768 e in omega arith
-fits_of (negsuc n) e = let h = ltb-true n 32768 e in omega arith
-
-of_fits : (z : ℤ) → FitsSigned w16 z → fits_16 z ≡ true
-of_fits (pos n) h = lt-ltb n 32768 (omega (arith, h))
-of_fits (negsuc n) h = lt-ltb n 32768 (omega (arith, h))
+use Rattle.assembler.specs.declared.lines.jump.Jump.{Jump}
+use Rattle.assembler.specs.declared.lines.jump.Jump.TheVariants.{Near, Long, CallLocal, Branch}
 
 -- offsets inside 65,536 slots have room in 32 bits
 offset_fits_32 : (slot target : ℕ) → slot ≤ 65536 → target ≤ 65536 → FitsSigned w32 (offset_to slot target)
 offset_fits_32 slot target a b = search (rules, ints)
-
-in_range_of : (j : Jump) (slot target : ℕ) → JumpInRange j → slot ≤ 65536 → target ≤ 65536 → reaches j (offset_to slot target) ≡ true → IsStatement (jump_by j (offset_to slot target))
-in_range_of Near slot target h a b e = fits_of (offset_to slot target) e
-in_range_of Long slot target h a b e = offset_fits_32 slot target a b
-in_range_of CallLocal slot target h a b e = offset_fits_32 slot target a b
-in_range_of (Branch comparison width dst operand) slot target h a b e = (h, fits_of (offset_to slot target) e)
-
-reaches_of : (j : Jump) (z : ℤ) → IsStatement (jump_by j z) → reaches j z ≡ true
-reaches_of Near z h = of_fits z h
-reaches_of Long z h = refl
-reaches_of CallLocal z h = refl
-reaches_of (Branch comparison width dst operand) z h = of_fits z h.1
 
 -- no label's slot is past 65,536
 abbrev pub SlotsFit : (List ℕ → Option ℕ) → Type 0
@@ -48,7 +30,7 @@ jump_stands labels number slot j name None x fit room h at e = absurd cc
 jump_stands labels number slot j name (Some target) x fit room h at e = either (reaches j (offset_to slot target))
     (λ near. let is : Ok (Some (jump_by j (offset_to slot target))) ≡ Ok x = rw near at e in
     let same : Some (jump_by j (offset_to slot target)) ≡ x = cc in
-    subst (λ y. StandsFor labels slot (jump j name) (bytes_of y)) same (jumped j name target at (in_range_of j slot target h room (fit name target at) near)))
+    subst (λ y. StandsFor labels slot (jump j name) (bytes_of y)) same (jumped j name target at (in_range_by j (offset_to slot target) h (offset_fits_32 slot target room (fit name target at)) near)))
     (λ far. let k = rw far at e in absurd cc)
 
 stands : (labels : List ℕ → Option ℕ) (number slot : ℕ) (i : Item) (x : Option Statement) → SlotsFit labels → slot ≤ 65536 → InRange i → resolved labels number slot i ≡ Ok x → StandsFor labels slot i (bytes_of x)

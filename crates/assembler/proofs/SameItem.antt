@@ -1,6 +1,9 @@
 -- A mnemonic and operands are those of one item.
 use Rattle.std.proofs.Common.{◌≡◌, ◌⊎◌, ℕ, suc, ℤ, pos, negsuc, List, [], ◌∷◌, ◌++◌, Some, inl, inr, refl, sym, ◌∙◌, ap, subst}
-use Rattle.insn_codec.specs.Lines.{decimal, offset_text, operand_text, register_text, signed_decimal, wide_text}
+use Rattle.assembler.specs.declared.lines.jump.Jump.{Jump}
+use Rattle.assembler.specs.declared.lines.jump.Jump.TheVariants.{Near, Long, CallLocal, Branch}
+use Rattle.assembler.specs.Jumps.{jump_by, jump_mnemonic, jump_operands}
+use Rattle.insn_codec.specs.Lines.{operands_text, address_text, decimal, offset_text, operand_text, place_text, register_text, signed_decimal, wide_text}
 use Rattle.insn_codec.specs.declared.comparison.Comparison.{Comparison}
 use Rattle.insn_codec.specs.declared.insn.Insn.TheVariants as insn
 use Rattle.insn_codec.specs.declared.operand.Operand.{Operand}
@@ -8,24 +11,27 @@ use Rattle.insn_codec.specs.declared.register.Register.{Register}
 use Rattle.insn_codec.specs.declared.statement.Statement.TheVariants as statement_kind
 use Rattle.insn_codec.specs.declared.width.Width.{Width}
 use Rattle.assembler.specs.Items.{HasLine, Item, statement, jump}
-use Rattle.assembler.specs.Forms.{Lacks, address_text, listed, mnemonic_of, operands_text, place_text}
-use Rattle.assembler.specs.declared.jump.Jump.TheVariants as jump_kind
-use Rattle.assembler.specs.declared.mnemonics.Mnemonic.{Mnemonic}
-use Rattle.assembler.specs.declared.mnemonics.Mnemonic.TheVariants as mnemonic
+use Rattle.assembler.specs.Forms.{Lacks, item_mnemonic, item_operands, listed}
+use Rattle.assembler.specs.declared.lines.jump.Jump.TheVariants as jump_kind
+use Rattle.insn_codec.specs.declared.mnemonic.Mnemonic.{Mnemonic}
+use Rattle.insn_codec.specs.declared.mnemonic.Mnemonic.TheVariants as mnemonic
 use Rattle.assembler.proofs.Digits.{wide_injective}
 use Rattle.assembler.proofs.Injective.{name_no_offset, offset_injective, operand_injective, register_injective, signed_injective}
-use Rattle.assembler.proofs.ItemKinds.{of_alu, of_branch, of_byte_swap, of_call, of_call_local, of_ja, of_ja_long, of_load, of_load_signed, of_load_wide, of_neg, of_sign_extend, of_slot, of_store, of_store_imm}
-use Rattle.assembler.proofs.Lacking.{apart, lacks_append, lacks_gone, last_same, split_same, tail_same}
+use Rattle.assembler.proofs.ItemKinds.{of_alu, of_byte_swap, of_call, of_load, of_load_signed, of_load_wide, of_neg, of_sign_extend, of_slot, of_store, of_store_imm}
+use Rattle.std.proofs.lemmas.List.{append_cancel_right}
+use Rattle.assembler.proofs.Ends.{tails}
+use Rattle.assembler.proofs.JumpLines.{IsOfJump, JumpsBy, of_jump, operands_are}
+use Rattle.assembler.proofs.Lacking.{apart, lacks_append, lacks_gone, split_same}
 use Rattle.assembler.proofs.NameBytes.{lacks_decimal, lacks_operand, lacks_place, lacks_register}
 
 -- equal operands of what two items are
-between : (i j v w : Item) → i ≡ v → j ≡ w → operands_text i ≡ operands_text j → operands_text v ≡ operands_text w
-between i j v w p q e = sym (ap operands_text p) ∙ e ∙ ap operands_text q
+between : (i j v w : Item) → i ≡ v → j ≡ w → item_operands i ≡ item_operands j → item_operands v ≡ item_operands w
+between i j v w p q e = sym (ap item_operands p) ∙ e ∙ ap item_operands q
 
 listed_same : (xs ys vs ws : List ℕ) → Lacks 44 xs → Lacks 44 vs → listed xs ys ≡ listed vs ws → (xs ≡ vs) × (ys ≡ ws)
 listed_same xs ys vs ws h k e =
     let t = split_same 44 xs (32 ∷ ys) vs (32 ∷ ws) h k e in
-    (t.0, tail_same 32 ys ws t.1)
+    (t.0, tails 32 32 ys ws t.1)
 
 register_listed : (r s : Register) (ys ws : List ℕ) → listed (register_text r) ys ≡ listed (register_text s) ws → (r ≡ s) × (ys ≡ ws)
 register_listed r s ys ws e =
@@ -47,7 +53,7 @@ address_same r s (negsuc n) (negsuc m) e =
     (register_injective r s t.0, offset_injective (negsuc n) (negsuc m) (ap (λ ds. 45 ∷ ds) t.1))
 
 place_same : (r s : Register) (y z : ℤ) → place_text r y ≡ place_text s z → (r ≡ s) × (y ≡ z)
-place_same r s y z e = address_same r s y z (last_same 93 (address_text r y) (address_text s z) (tail_same 91 (address_text r y ++ 93 ∷ []) (address_text s z ++ 93 ∷ []) e))
+place_same r s y z e = address_same r s y z (append_cancel_right (address_text r y) (address_text s z) (93 ∷ []) (tails 91 91 (address_text r y ++ 93 ∷ []) (address_text s z ++ 93 ∷ []) e))
 
 place_listed : (r s : Register) (y z : ℤ) (ys ws : List ℕ) → listed (place_text r y) ys ≡ listed (place_text s z) ws → (r ≡ s) × (y ≡ z) × (ys ≡ ws)
 place_listed r s y z ys ws e =
@@ -55,46 +61,46 @@ place_listed r s y z ys ws e =
     let u = place_same r s y z t.0 in
     (u.0, u.1, t.1)
 
-same_ja : (i j : Item) → ((offset : ℤ) × (i ≡ statement (statement_kind.Insn (insn.Jump offset)))) ⊎ ((name : List ℕ) × (i ≡ jump jump_kind.Near name)) → ((offset : ℤ) × (j ≡ statement (statement_kind.Insn (insn.Jump offset)))) ⊎ ((name : List ℕ) × (j ≡ jump jump_kind.Near name)) → HasLine i → HasLine j → operands_text i ≡ operands_text j → i ≡ j
-same_ja i j (inl p) (inl q) h k e = p.1 ∙ ap (λ z. statement (statement_kind.Insn (insn.Jump z))) (offset_injective p.0 q.0 (between i j _ _ p.1 q.1 e)) ∙ sym q.1
-same_ja i j (inl p) (inr q) h k e = absurd (name_no_offset q.0 p.0 (subst (λ x. HasLine x) q.1 k) (sym (between i j _ _ p.1 q.1 e)))
-same_ja i j (inr p) (inl q) h k e = absurd (name_no_offset p.0 q.0 (subst (λ x. HasLine x) p.1 h) (between i j _ _ p.1 q.1 e))
-same_ja i j (inr p) (inr q) h k e = p.1 ∙ ap (λ n. jump jump_kind.Near n) (between i j _ _ p.1 q.1 e) ∙ sym q.1
-
-same_ja_long : (i j : Item) → ((offset : ℤ) × (i ≡ statement (statement_kind.Insn (insn.JumpLong offset)))) ⊎ ((name : List ℕ) × (i ≡ jump jump_kind.Long name)) → ((offset : ℤ) × (j ≡ statement (statement_kind.Insn (insn.JumpLong offset)))) ⊎ ((name : List ℕ) × (j ≡ jump jump_kind.Long name)) → HasLine i → HasLine j → operands_text i ≡ operands_text j → i ≡ j
-same_ja_long i j (inl p) (inl q) h k e = p.1 ∙ ap (λ z. statement (statement_kind.Insn (insn.JumpLong z))) (offset_injective p.0 q.0 (between i j _ _ p.1 q.1 e)) ∙ sym q.1
-same_ja_long i j (inl p) (inr q) h k e = absurd (name_no_offset q.0 p.0 (subst (λ x. HasLine x) q.1 k) (sym (between i j _ _ p.1 q.1 e)))
-same_ja_long i j (inr p) (inl q) h k e = absurd (name_no_offset p.0 q.0 (subst (λ x. HasLine x) p.1 h) (between i j _ _ p.1 q.1 e))
-same_ja_long i j (inr p) (inr q) h k e = p.1 ∙ ap (λ n. jump jump_kind.Long n) (between i j _ _ p.1 q.1 e) ∙ sym q.1
-
-same_call_local : (i j : Item) → ((offset : ℤ) × (i ≡ statement (statement_kind.Insn (insn.CallLocal offset)))) ⊎ ((name : List ℕ) × (i ≡ jump jump_kind.CallLocal name)) → ((offset : ℤ) × (j ≡ statement (statement_kind.Insn (insn.CallLocal offset)))) ⊎ ((name : List ℕ) × (j ≡ jump jump_kind.CallLocal name)) → HasLine i → HasLine j → operands_text i ≡ operands_text j → i ≡ j
-same_call_local i j (inl p) (inl q) h k e = p.1 ∙ ap (λ z. statement (statement_kind.Insn (insn.CallLocal z))) (offset_injective p.0 q.0 (between i j _ _ p.1 q.1 e)) ∙ sym q.1
-same_call_local i j (inl p) (inr q) h k e = absurd (name_no_offset q.0 p.0 (subst (λ x. HasLine x) q.1 k) (sym (between i j _ _ p.1 q.1 e)))
-same_call_local i j (inr p) (inl q) h k e = absurd (name_no_offset p.0 q.0 (subst (λ x. HasLine x) p.1 h) (between i j _ _ p.1 q.1 e))
-same_call_local i j (inr p) (inr q) h k e = p.1 ∙ ap (λ n. jump jump_kind.CallLocal n) (between i j _ _ p.1 q.1 e) ∙ sym q.1
-
 compared_same : (r s : Register) (o p : Operand) (xs ys : List ℕ) → listed (register_text r) (listed (operand_text o) xs) ≡ listed (register_text s) (listed (operand_text p) ys) → (r ≡ s) × (o ≡ p) × (xs ≡ ys)
 compared_same r s o p xs ys e =
     let t = register_listed r s (listed (operand_text o) xs) (listed (operand_text p) ys) e in
     let u = listed_same (operand_text o) xs (operand_text p) ys (lacks_operand 44 refl o) (lacks_operand 44 refl p) t.1 in
     (t.0, operand_injective o p u.0, u.1)
 
-same_branch : (comparison : Comparison) (width : Width) (i j : Item) → ((dst : Register) × (operand : Operand) × (offset : ℤ) × (i ≡ statement (statement_kind.Insn (insn.Branch comparison width dst operand offset)))) ⊎ ((dst : Register) × (operand : Operand) × (name : List ℕ) × (i ≡ jump (jump_kind.Branch comparison width dst operand) name)) → ((dst : Register) × (operand : Operand) × (offset : ℤ) × (j ≡ statement (statement_kind.Insn (insn.Branch comparison width dst operand offset)))) ⊎ ((dst : Register) × (operand : Operand) × (name : List ℕ) × (j ≡ jump (jump_kind.Branch comparison width dst operand) name)) → HasLine i → HasLine j → operands_text i ≡ operands_text j → i ≡ j
-same_branch comparison width i j (inl p) (inl q) h k e =
-    let t = compared_same p.0 q.0 p.1 q.1 (offset_text p.2) (offset_text q.2) (between i j _ _ p.3 q.3 e) in
-    let z = offset_injective p.2 q.2 t.2 in
-    p.3 ∙ (λ x. statement (statement_kind.Insn (insn.Branch comparison width (t.0 x) (t.1 x) (z x)))) ∙ sym q.3
-same_branch comparison width i j (inl p) (inr q) h k e =
-    let t = compared_same p.0 q.0 p.1 q.1 (offset_text p.2) q.2 (between i j _ _ p.3 q.3 e) in
-    absurd (name_no_offset q.2 p.2 (subst (λ x. HasLine x) q.3 k) (sym t.2))
-same_branch comparison width i j (inr p) (inl q) h k e =
-    let t = compared_same p.0 q.0 p.1 q.1 p.2 (offset_text q.2) (between i j _ _ p.3 q.3 e) in
-    absurd (name_no_offset p.2 q.2 (subst (λ x. HasLine x) p.3 h) t.2)
-same_branch comparison width i j (inr p) (inr q) h k e =
-    let t = compared_same p.0 q.0 p.1 q.1 p.2 q.2 (between i j _ _ p.3 q.3 e) in
-    p.3 ∙ (λ x. jump (jump_kind.Branch comparison width (t.0 x) (t.1 x)) (t.2 x)) ∙ sym q.3
+-- the text of a jump's target
+target_of : (j : Jump) (i : Item) → JumpsBy j i → (target : List ℕ) × (item_operands i ≡ operands_text (jump_operands j target))
+target_of j i (inl p) = (offset_text p.0, ap item_operands p.1 ∙ sym (operands_are j p.0))
+target_of j i (inr p) = (p.0, ap item_operands p.1)
 
-no_exit : (i : Item) → mnemonic_of i ≡ Some mnemonic.Exit → ⊥
+-- two jumps with one mnemonic and the same operands are one, with one target
+jumps_same : (j l : Jump) (t u : List ℕ) → jump_mnemonic j ≡ jump_mnemonic l → operands_text (jump_operands j t) ≡ operands_text (jump_operands l u) → (j ≡ l) × (t ≡ u)
+jumps_same Near Near t u m e = (refl, e)
+jumps_same Long Long t u m e = (refl, e)
+jumps_same CallLocal CallLocal t u m e = (refl, e)
+jumps_same (Branch c w dst o) (Branch c' w' dst' o') t u m e =
+    let s = compared_same dst dst' o o' t u e in
+    let comparison : c ≡ c' = cc in
+    let width : w ≡ w' = cc in
+    ((λ x. Branch (comparison x) (width x) (s.0 x) (s.1 x)), s.2)
+jumps_same _ _ t u m e = absurd cc
+
+same_target : (j l : Jump) (i k : Item) → (p : JumpsBy j i) → (q : JumpsBy l k) → HasLine i → HasLine k → j ≡ l → (target_of j i p).0 ≡ (target_of l k q).0 → i ≡ k
+unfolding target_of
+same_target j l i k (inl p) (inl q) h g e t = p.1 ∙ (λ x. statement (jump_by (e x) (offset_injective p.0 q.0 t x))) ∙ sym q.1
+same_target j l i k (inl p) (inr q) h g e t = absurd (name_no_offset q.0 p.0 (subst (λ x. HasLine x) q.1 g) (sym t))
+same_target j l i k (inr p) (inl q) h g e t = absurd (name_no_offset p.0 q.0 (subst (λ x. HasLine x) p.1 h) t)
+same_target j l i k (inr p) (inr q) h g e t = p.1 ∙ (λ x. jump (e x) (t x)) ∙ sym q.1
+
+same_jump : (m : Mnemonic) → IsOfJump m → (i k : Item) → item_mnemonic i ≡ Some m → item_mnemonic k ≡ Some m → HasLine i → HasLine k → item_operands i ≡ item_operands k → i ≡ k
+same_jump m is i k a b h g e =
+    let p = of_jump m i is a in
+    let q = of_jump m k is b in
+    let t = target_of p.0 i p.2 in
+    let u = target_of q.0 k q.2 in
+    let s = jumps_same p.0 q.0 t.0 u.0 (p.1 ∙ sym q.1) (sym t.1 ∙ e ∙ u.1) in
+    same_target p.0 q.0 i k p.2 q.2 h g s.0 s.1
+
+no_exit : (i : Item) → item_mnemonic i ≡ Some mnemonic.Exit → ⊥
 no_exit (statement (statement_kind.Slot word)) e = absurd cc
 no_exit (statement (statement_kind.Insn insn.Exit)) e = absurd cc
 no_exit (jump jump_kind.Near name) e = absurd cc
@@ -104,7 +110,7 @@ no_exit (jump (jump_kind.Branch comparison width d o) name) e = absurd cc
 no_exit _ e = absurd cc
 
 -- a mnemonic and operands are those of one item
-pub same_code : (m : Mnemonic) (i j : Item) → mnemonic_of i ≡ Some m → mnemonic_of j ≡ Some m → HasLine i → HasLine j → operands_text i ≡ operands_text j → i ≡ j
+pub same_code : (m : Mnemonic) (i j : Item) → item_mnemonic i ≡ Some m → item_mnemonic j ≡ Some m → HasLine i → HasLine j → item_operands i ≡ item_operands j → i ≡ j
 same_code (mnemonic.Alu op width) i j a b h k e =
     let p = of_alu op width i a in
     let q = of_alu op width j b in
@@ -125,14 +131,14 @@ same_code (mnemonic.ByteSwap order width) i j a b h k e =
     let p = of_byte_swap order width i a in
     let q = of_byte_swap order width j b in
     p.1 ∙ ap (λ r. statement (statement_kind.Insn (insn.ByteSwap order width r))) (register_injective p.0 q.0 (between i j _ _ p.1 q.1 e)) ∙ sym q.1
-same_code mnemonic.Ja i j a b h k e = same_ja i j (of_ja i a) (of_ja j b) h k e
-same_code mnemonic.JaLong i j a b h k e = same_ja_long i j (of_ja_long i a) (of_ja_long j b) h k e
-same_code (mnemonic.Branch comparison width) i j a b h k e = same_branch comparison width i j (of_branch comparison width i a) (of_branch comparison width j b) h k e
+same_code mnemonic.Ja i j a b h k e = same_jump mnemonic.Ja tt i j a b h k e
+same_code mnemonic.JaLong i j a b h k e = same_jump mnemonic.JaLong tt i j a b h k e
+same_code (mnemonic.Branch comparison width) i j a b h k e = same_jump (mnemonic.Branch comparison width) tt i j a b h k e
 same_code mnemonic.Call i j a b h k e =
     let p = of_call i a in
     let q = of_call j b in
     p.1 ∙ ap (λ n. statement (statement_kind.Insn (insn.Call n))) (signed_injective p.0 q.0 (between i j _ _ p.1 q.1 e)) ∙ sym q.1
-same_code mnemonic.CallLocal i j a b h k e = same_call_local i j (of_call_local i a) (of_call_local j b) h k e
+same_code mnemonic.CallLocal i j a b h k e = same_jump mnemonic.CallLocal tt i j a b h k e
 same_code mnemonic.Exit i j a b h k e = absurd (no_exit i a)
 same_code (mnemonic.Load size) i j a b h k e =
     let p = of_load size i a in

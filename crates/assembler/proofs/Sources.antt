@@ -1,6 +1,6 @@
 -- Text is the source of exactly the code that assembling it answers.
 use Rattle.std.proofs.Common.{◌≡◌, ℕ, ◌+◌, ◌≤◌, List, [], ◌∷◌, ◌++◌, Ok, refl, sym, ◌∙◌, subst, arith, append_assoc, append-nil}
-use Rattle.assembler.proofs.Named.{Once, gives_slots, has_places, once_of, place_bound, slots_append}
+use Rattle.assembler.proofs.Named.{Once, gives_slots, has_slots, once_of, label_slot_bound, slots_append}
 use Rattle.assembler.proofs.Resolving.{EachInRange, SlotsFit, emitted_of, emitted_same, stand_of}
 use Rattle.assembler.specs.Assembles.{Assembles}
 use Rattle.assembler.specs.Assembles.Assembles.{resolved}
@@ -8,7 +8,7 @@ use Rattle.assembler.specs.Cutting.{lines_of}
 use Rattle.assembler.specs.FirstPass.{Scans}
 use Rattle.assembler.specs.FirstPass.Scans.{ended, next}
 use Rattle.assembler.specs.Items.{Item, slots_of}
-use Rattle.assembler.specs.Labels.{place_of}
+use Rattle.assembler.specs.Labels.{label_slot}
 use Rattle.assembler.specs.SecondPass.{emitted}
 use Rattle.assembler.specs.Source.{EachSays, Source}
 
@@ -45,22 +45,25 @@ in_range_of [] (i ∷ is) told = absurd told
 in_range_of (line ∷ lines) [] told = absurd told
 in_range_of (line ∷ lines) (i ∷ is) told = (told.0.2, in_range_of lines is told.1)
 
-pub slots_fit : (items : List Item) → slots_of items ≤ 65536 → SlotsFit (place_of items)
-slots_fit items room q slot e = let bound = place_bound items q slot e in omega (arith, bound, room)
+pub slots_fit : (items : List Item) → slots_of items ≤ 65536 → SlotsFit (label_slot items)
+slots_fit items room q slot e = let bound = label_slot_bound items q slot e in omega (arith, bound, room)
 
-pub scanned_source : (text bytes : List ℕ) (items : List Item) → Scans [] (lines_of text) (Ok items) → emitted (place_of items) 1 0 items ≡ Ok bytes → Source text bytes
+pub once_scanned : (lines : List (List ℕ)) (items : List Item) → Scans [] lines (Ok items) → Once [] items
+once_scanned lines items scans = let added = added_by [] items lines scans in subst (λ is. Once [] is) (sym added.1) added.3
+
+pub scanned_source : (text bytes : List ℕ) (items : List Item) → Scans [] (lines_of text) (Ok items) → emitted (label_slot items) 1 0 items ≡ Ok bytes → Source text bytes
 scanned_source text bytes items scans e =
     let added = added_by [] items (lines_of text) scans in
     let told : EachSays (lines_of text) items = subst (λ is. EachSays (lines_of text) is) (sym added.1) added.2 in
-    let once : Once [] items = subst (λ is. Once [] is) (sym added.1) added.3 in
+    let once : Once [] items = once_scanned (lines_of text) items scans in
     let room = room_of [] items (lines_of text) scans (omega arith) in
     record {
       items = items;
       lines = told;
-      labels = place_of items;
+      labels = label_slot items;
       places = gives_slots items once;
       room = room;
-      code = stand_of (place_of items) 1 0 items bytes (slots_fit items room) (omega (arith, room)) (in_range_of (lines_of text) items told) e;
+      code = stand_of (label_slot items) 1 0 items bytes (slots_fit items room) (omega (arith, room)) (in_range_of (lines_of text) items told) e;
     }
 
 pub source_of : (text bytes : List ℕ) → Assembles (lines_of text) (Ok bytes) → Source text bytes
@@ -70,4 +73,4 @@ pub of_source : (text bytes : List ℕ) → Source text bytes → Assembles (lin
 of_source text bytes s =
     let once = once_of s.labels s.items [] s.items s.places refl in
     resolved s.items (scanned_of [] (lines_of text) s.items s.lines once s.room)
-    (sym (emitted_same s.labels (place_of s.items) 1 0 s.items (has_places s.labels s.items s.places)) ∙ emitted_of s.labels 1 0 s.items bytes s.code)
+    (sym (emitted_same s.labels (label_slot s.items) 1 0 s.items (has_slots s.labels s.items s.places)) ∙ emitted_of s.labels 1 0 s.items bytes s.code)

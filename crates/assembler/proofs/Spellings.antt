@@ -1,14 +1,14 @@
 -- What a word is not.
 use Rattle.std.proofs.Common.{◌≡◌, ◌≢◌, ℕ, List, ◌++◌, length, refl, sym, ◌∙◌}
 use Rattle.std.specs.Prelude.{codes}
-use Rattle.insn_codec.specs.Lines.{alu_text, comparison_text, width_text}
+use Rattle.insn_codec.specs.Mnemonics.{alu_text, comparison_text, mnemonic_text, width_text}
 use Rattle.insn_codec.specs.declared.alu_op.AluOp.{AluOp}
 use Rattle.insn_codec.specs.declared.comparison.Comparison.{Comparison}
 use Rattle.insn_codec.specs.declared.width.Width.{Width}
 use Rattle.insn_codec.specs.declared.width.Width.TheVariants.{W32, W64}
-use Rattle.assembler.specs.Mnemonics.{IsOfWidth, mnemonic_text}
-use Rattle.assembler.specs.declared.mnemonics.Mnemonic.{Mnemonic}
-use Rattle.assembler.specs.declared.mnemonics.Mnemonic.TheVariants.{Alu, Neg, Branch}
+use Rattle.assembler.specs.Mnemonics.{IsOfWidth}
+use Rattle.insn_codec.specs.declared.mnemonic.Mnemonic.{Mnemonic}
+use Rattle.insn_codec.specs.declared.mnemonic.Mnemonic.TheVariants.{Alu, Neg, Branch}
 use Rattle.assembler.proofs.Ends.{same_fronts}
 
 widths_long : (v w : Width) → length (width_text v) ≡ length (width_text w)

@@ -1,19 +1,20 @@
 -- What the passes and their parts answer.
-use Rattle.std.specs.Prelude.{◌≡◌, ℕ, ◌≤◌, List, [], Option, Some, None, Result, Ok, Err, Vec, if◌then◌else◌, map}
+use Rattle.std.specs.Prelude.{◌≡◌, ℕ, ◌≤◌, List, [], ◌∷◌, Option, Some, None, Result, Ok, Err, Vec, if◌then◌else◌, map}
 use Rattle.std.specs.Global.{Global}
 use Rattle.std.specs.BTreeMap.{get_by_text}
 use Rattle.assembler.specs.Assembles.{Assembles}
 use Rattle.assembler.specs.Cutting.{lines_of}
 use Rattle.assembler.specs.FirstPass.{Scans}
 use Rattle.assembler.specs.Items.{Item, statement, label, jump, item_of, slots_of}
-use Rattle.assembler.specs.Labels.{names, place_of}
+use Rattle.assembler.specs.Labels.{names, label_slot}
 use Rattle.assembler.specs.LineAnswers.{ReadsAs}
+use Rattle.assembler.specs.Reading.{Reads, says}
 use Rattle.assembler.specs.Source.{Source}
 use Rattle.assembler.specs.declared.asm_error.AsmError.{AsmError}
 use Rattle.assembler.specs.declared.asm_error.AsmError.TheVariants.{A1, A2, A4, Memory}
-use Rattle.assembler.specs.declared.line.Line.{Line}
-use Rattle.assembler.specs.declared.line_error.LineError.TheVariants.{NoForm, OutOfRange}
-use Rattle.assembler.specs.declared.scan.Scanned.{Scanned}
+use Rattle.assembler.specs.declared.lines.line.Line.{Line}
+use Rattle.assembler.specs.declared.lines.line_error.LineError.TheVariants.{NoForm, OutOfRange}
+use Rattle.assembler.specs.declared.passes.scan.Scanned.{Scanned}
 
 -- the one reading of the line of this number
 abbrev pub ReadsAt : List ℕ → ℕ → Result Line AsmError → Type 0
@@ -40,12 +41,17 @@ abbrev pub ScansOnlyTo : List (List ℕ) → Result (List Item) AsmError → Typ
 ScansOnlyTo lines r = Scans [] lines r × ((s : Result (List Item) AsmError) → Scans [] lines s → s ≡ r)
 
 -- the map has the slots of the labels
-abbrev pub HasPlaces : (List ℕ → Option ℕ) → List Item → Type 0
-HasPlaces labels items = (q : List ℕ) → labels q ≡ place_of items q
+abbrev pub HasSlots : (List ℕ → Option ℕ) → List Item → Type 0
+HasSlots labels items = (q : List ℕ) → labels q ≡ label_slot items q
+
+-- the first line says something: memory is asked for behind such a line only
+abbrev pub FirstLineSays : List (List ℕ) → Type 0
+FirstLineSays [] = ⊥
+FirstLineSays (line ∷ lines) = (i : Item) × Reads line (says i)
 
 abbrev pub FirstPass : List (List ℕ) → Result Scanned AsmError → Type 0
-FirstPass lines (Ok s) = ScansOnlyTo lines (Ok (map item_of s.lines.items)) × (slots_of (map item_of s.lines.items) ≤ 65536) × HasPlaces (λ q. get_by_text s.labels q) (map item_of s.lines.items)
-FirstPass lines (Err Memory) = Unit {0}
+FirstPass lines (Ok s) = ScansOnlyTo lines (Ok (map item_of s.lines.items)) × (slots_of (map item_of s.lines.items) ≤ 65536) × HasSlots (λ q. get_by_text s.labels q) (map item_of s.lines.items)
+FirstPass lines (Err Memory) = FirstLineSays lines
 FirstPass lines (Err error) = ScansOnlyTo lines (Err error)
 
 -- the second pass's answer, but for want of memory
@@ -60,8 +66,8 @@ IsAnswer r (Ok code) = r ≡ Ok code.items
 IsAnswer r (Err Memory) = Unit {0}
 IsAnswer r (Err error) = r ≡ Err error
 
--- the code that the text is the source of, or the refusal of the first line that keeps it from being one
+-- the code that the text is the source of, or the refusal of the first line that keeps it from being one; a first line that says nothing is refused as that
 abbrev pub Answers : List ℕ → Result (Vec ℕ Global) AsmError → Type 0
 Answers text (Ok code) = Source text code.items
-Answers text (Err Memory) = Unit {0}
+Answers text (Err Memory) = FirstLineSays (lines_of text)
 Answers text (Err error) = Assembles (lines_of text) (Err error)

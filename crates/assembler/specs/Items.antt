@@ -1,15 +1,14 @@
 -- What lines say.
 use Rattle.std.specs.Prelude.{ℕ, ◌+◌, ◌^◌, ◌<◌, Bool, ◌&&◌, ◌||◌, IsTrue, true, List, [], ◌∷◌, ◌++◌, codes, nat_eq, nat_le}
-use Rattle.insn_codec.specs.Lines.{comparison_text, operand_text, register_text, width_text}
-use Rattle.insn_codec.specs.Spelling.{IsOperand}
+use Rattle.insn_codec.specs.Lines.{line_with}
 use Rattle.insn_codec.specs.Statements.{IsStatement, statement_slots, statement_text}
 use Rattle.insn_codec.specs.declared.insn.Insn.TheVariants.{LoadWide}
 use Rattle.insn_codec.specs.declared.statement.Statement.{Statement}
 use Rattle.insn_codec.specs.declared.statement.Statement.TheVariants.{Insn, Slot}
-use Rattle.assembler.specs.declared.jump.Jump.{Jump}
-use Rattle.assembler.specs.declared.jump.Jump.TheVariants.{Near, Long, CallLocal, Branch}
-use Rattle.assembler.specs.declared.line.Line.{Line}
-use Rattle.assembler.specs.declared.line.Line.TheVariants as line
+use Rattle.assembler.specs.Jumps.{JumpInRange, jump_mnemonic, jump_operands}
+use Rattle.assembler.specs.declared.lines.jump.Jump.{Jump}
+use Rattle.assembler.specs.declared.lines.line.Line.{Line}
+use Rattle.assembler.specs.declared.lines.line.Line.TheVariants as line
 
 -- what a line says: a statement, the name of the next slot, or a jump to a name
 pub data Item : Type 0 where
@@ -23,18 +22,11 @@ item_of (line.Statement x) = statement x
 item_of (line.Label name) = label name.now
 item_of (line.Jump j name) = jump j name.now
 
--- a jump's line up to where its offset stands
-abbrev pub jump_text : Jump → List ℕ
-jump_text Near = codes "ja "
-jump_text Long = codes "ja32 "
-jump_text CallLocal = codes "call_local "
-jump_text (Branch comparison width dst operand) = comparison_text comparison ++ width_text width ++ codes " " ++ register_text dst ++ codes ", " ++ operand_text operand ++ codes ", "
-
 -- the line that says it
 abbrev pub item_text : Item → List ℕ
 item_text (statement x) = statement_text x
 item_text (label name) = name ++ codes ":"
-item_text (jump j name) = jump_text j ++ name
+item_text (jump j name) = line_with (jump_mnemonic j) (jump_operands j name)
 
 -- a letter or an underscore
 abbrev pub begins_name : ℕ → Bool
@@ -64,10 +56,6 @@ abbrev pub HasLine : Item → Type 0
 HasLine (statement x) = HasDigits x
 HasLine (label name) = IsName name
 HasLine (jump j name) = IsName name
-
-abbrev pub JumpInRange : Jump → Type 0
-JumpInRange (Branch comparison width dst operand) = IsOperand operand
-JumpInRange _ = Unit {0}
 
 -- its immediate and its offset are in their ranges
 abbrev pub InRange : Item → Type 0

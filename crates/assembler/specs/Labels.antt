@@ -8,16 +8,16 @@ names (label name) q = bytes_eq name q
 names (statement x) q = false
 names (jump j name) q = false
 
-abbrev pub place_from : ℕ → List Item → List ℕ → Option ℕ
-place_from slot [] q = None
-place_from slot (i ∷ is) q = if names i q then Some slot else place_from (slot + item_slots i) is q
+abbrev pub label_slot_from : ℕ → List Item → List ℕ → Option ℕ
+label_slot_from slot [] q = None
+label_slot_from slot (i ∷ is) q = if names i q then Some slot else label_slot_from (slot + item_slots i) is q
 
 -- the slots before the first line that names the label
-abbrev pub place_of : List Item → List ℕ → Option ℕ
-place_of items q = place_from 0 items q
+abbrev pub label_slot : List Item → List ℕ → Option ℕ
+label_slot items q = label_slot_from 0 items q
 
 -- no line before names the label that it names
 abbrev pub IsFree : List Item → Item → Type 0
 IsFree before (statement x) = Unit {0}
-IsFree before (label name) = place_of before name ≡ None
+IsFree before (label name) = label_slot before name ≡ None
 IsFree before (jump j name) = Unit {0}

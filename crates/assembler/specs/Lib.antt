@@ -1,3 +1,4 @@
+pub mod Jumps
 pub mod Items
 pub mod Reading
 pub mod Numbers
@@ -13,5 +14,6 @@ pub mod FirstPass
 pub mod SecondPass
 pub mod Assembles
 pub mod Source
+pub mod Refusals
 pub mod Answers
 pub mod Laws

@@ -1,40 +1,16 @@
 -- The second pass: the bytes of what the lines say, with the labels' slots for offsets.
-use Rattle.std.specs.Prelude.{ℕ, suc, ◌+◌, ℤ, pos, negsuc, ◌-ℤ◌, Bool, true, nat_lt, List, [], ◌∷◌, ◌++◌, Option, Some, None, Result, Ok, Err, if◌then◌else◌}
+use Rattle.std.specs.Prelude.{ℕ, suc, ◌+◌, ℤ, pos, ◌-ℤ◌, List, [], ◌∷◌, ◌++◌, Option, Some, None, Result, Ok, Err}
 use Rattle.insn_codec.specs.Statements.{statement_bytes}
-use Rattle.insn_codec.specs.declared.insn.Insn.TheVariants as insn
 use Rattle.insn_codec.specs.declared.statement.Statement.{Statement}
-use Rattle.insn_codec.specs.declared.statement.Statement.TheVariants.{Insn}
 use Rattle.assembler.specs.Items.{Item, statement, label, jump, item_slots}
-use Rattle.assembler.specs.declared.jump.Jump.{Jump}
-use Rattle.assembler.specs.declared.jump.Jump.TheVariants.{Near, Long, CallLocal, Branch}
+use Rattle.assembler.specs.Jumps.{with_offset}
+use Rattle.assembler.specs.declared.lines.jump.Jump.{Jump}
 use Rattle.assembler.specs.declared.asm_error.AsmError.{AsmError}
 use Rattle.assembler.specs.declared.asm_error.AsmError.TheVariants.{A3, A5}
-
--- the jump with its offset
-abbrev pub jump_by : Jump → ℤ → Statement
-jump_by Near offset = Insn (insn.Jump offset)
-jump_by Long offset = Insn (insn.JumpLong offset)
-jump_by CallLocal offset = Insn (insn.CallLocal offset)
-jump_by (Branch comparison width dst operand) offset = Insn (insn.Branch comparison width dst operand offset)
 
 -- a jump's offset is the label's slot less the slot after the jump
 abbrev pub offset_to : ℕ → ℕ → ℤ
 offset_to slot target = pos target -ℤ pos (suc slot)
-
--- a signed number of 16 bits
-abbrev pub fits_16 : ℤ → Bool
-fits_16 (pos n) = nat_lt n 32768
-fits_16 (negsuc n) = nat_lt n 32768
-
--- the jump has room for the offset; one of 32 bits has it for each that is met in 65,536 slots
-abbrev pub reaches : Jump → ℤ → Bool
-reaches Near offset = fits_16 offset
-reaches Long offset = true
-reaches CallLocal offset = true
-reaches (Branch comparison width dst operand) offset = fits_16 offset
-
-abbrev pub with_offset : Jump → ℤ → Option Statement
-with_offset j offset = if reaches j offset then Some (jump_by j offset) else None
 
 abbrev pub in_reach : ℕ → Option Statement → Result (Option Statement) AsmError
 in_reach number None = Err (A5 number)

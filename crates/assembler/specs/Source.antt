@@ -2,11 +2,11 @@
 use Rattle.std.specs.Prelude.{◌≡◌, ℕ, suc, ◌+◌, ◌≤◌, pos, ◌-ℤ◌, List, [], ◌∷◌, ◌++◌, Option, Some}
 use Rattle.insn_codec.specs.Statements.{IsStatement, statement_bytes}
 use Rattle.insn_codec.specs.declared.statement.Statement.{Statement}
+use Rattle.assembler.specs.Jumps.{jump_by}
 use Rattle.assembler.specs.Cutting.{lines_of}
 use Rattle.assembler.specs.Items.{Item, statement, label, jump, item_slots, slots_of}
 use Rattle.assembler.specs.Reading.{Reads, says}
-use Rattle.assembler.specs.SecondPass.{jump_by}
-use Rattle.assembler.specs.declared.jump.Jump.{Jump}
+use Rattle.assembler.specs.declared.lines.jump.Jump.{Jump}
 
 -- each line says what stands at its place
 abbrev pub EachSays : List (List ℕ) → List Item → Type 0

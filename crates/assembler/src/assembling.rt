@@ -7,8 +7,8 @@ ghost use Rattle.assembler.specs.Cutting.{lines_of};
 ghost use Rattle.assembler.specs.declared.asm_error.AsmError.{AsmError as Refusal};
 
 use crate::asm_error::AsmError;
-use crate::emit::emit;
-use crate::scan::scan;
+use crate::passes::emit::emit;
+use crate::passes::scan::scan;
 use std::alloc::Global;
 
 /// The bytes of the code that the text is the source of, eight for each slot.
@@ -17,7 +17,8 @@ use std::alloc::Global;
 ///
 /// Of the first line that has one, its first of: A1 no form, A2 a number out of range, A4 a label
 /// named a second time, A6 more than 65,536 slots. Where no line has one of these, A3 or A5 of the
-/// first line whose label no line names, or is too far away. Memory where none is left.
+/// first line whose label no line names, or is too far away. Memory where none is left; a first
+/// line that says nothing is refused before any is asked for.
 pub fn assemble(alloc: Global, text: &str) -> Result<Vec<u8>, AsmError>
     ensures answers { Answers text.now result }
     ensures only { (r : Result (List ℕ) Refusal) → Assembles (lines_of text.now) r → IsAnswer r result }

@@ -1,13 +1,19 @@
 //! The laws of assembling, each proved as the contract of a function that does nothing.
 
-ghost use Rattle.assembler.specs.Laws.{ListingIsSource, OneAnswer, SourceIsAssembled};
+ghost use Rattle.assembler.specs.Laws.{ListingIsSource, OneAnswer, RefusedByCause, SourceIsAssembled};
 ghost use Rattle.assembler.specs.Reading.{OneReading};
 
-use insn_codec::{no_line_feed, statement_is_spelled};
+use insn_codec::{no_line_feed, slots_are_filled, statement_is_spelled};
 
 /// Text is the source of exactly the code that assembling it answers.
 pub fn source_is_assembled()
     ensures { SourceIsAssembled }
+{}
+
+/// A text is refused by the first line that has A1, A2, A4 or A6; where none has, by the first
+/// line with a jump to a label that no line names (A3) or that is too far (A5).
+pub fn refused_by_cause()
+    ensures { RefusedByCause }
 {}
 
 /// Each line reads in one way, and so assembling has one answer.
@@ -22,4 +28,5 @@ pub fn listing_is_source()
 {
     no_line_feed();
     statement_is_spelled();
+    slots_are_filled();
 }

@@ -1,3 +1,3 @@
 pub mod Decoded
-pub mod Hex
 pub mod Spellings
+pub mod States

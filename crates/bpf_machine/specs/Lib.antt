@@ -7,6 +7,7 @@ pub mod Jumps
 pub mod Access
 pub mod Step
 pub mod Trace
+pub mod States
 pub mod Laws
 pub mod Text
 pub mod Inside

@@ -1,23 +1,16 @@
 -- The printed text of a state: what the debugger answers to a move and to `r`.
-use Rattle.std.specs.Prelude.{ℕ, ℤ, zero, suc, ◌+◌, ◌/◌, ◌%◌, List, [], ◌∷◌, ◌++◌, codes, decimal, nat_lt, slice_index, if◌then◌else◌}
+use Rattle.std.specs.Prelude.{ℕ, ℤ, zero, suc, List, [], ◌∷◌, ◌++◌, codes, decimal, slice_index}
 use Rattle.std.specs.Fmt.{signed_decimal}
 use Rattle.guest_memory.specs.Text.{fault_text}
+use Rattle.insn_codec.specs.Lines.{wide_text}
+pub use Rattle.insn_codec.specs.Lines.{hex_digit, hex_digits}
 use Rattle.bpf_machine.specs.State.{State}
 use Rattle.bpf_machine.specs.declared.status.Status.{Status}
 use Rattle.bpf_machine.specs.declared.status.Status.TheVariants.{Running, Exited, Fault}
 
--- a hex digit in lower case
-abbrev pub hex_digit : ℕ → ℕ
-hex_digit d = if nat_lt d 10 then 48 + d else 87 + d
-
--- the lowest k hex digits of n, the highest of them first
-unfoldable pub hex_digits : ℕ → ℕ → List ℕ
-hex_digits zero n = []
-hex_digits (suc k) n = hex_digits k (n / 16) ++ hex_digit (n % 16) ∷ []
-
 -- a word of 64 bits: `0x` and 16 digits
 abbrev pub word_text : ℕ → List ℕ
-word_text w = codes "0x" ++ hex_digits 16 w
+word_text w = wide_text w
 
 abbrev pub status_text : Status → List ℕ
 status_text Running = codes "running"

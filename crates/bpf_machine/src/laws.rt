@@ -1,8 +1,11 @@
 //! Laws of the machine, each the clause of a function that does nothing.
 ghost use Rattle.bpf_machine.specs.Decoding.{DecodesSpelling};
 ghost use Rattle.bpf_machine.specs.Rows.{RowsStand};
+ghost use Rattle.bpf_machine.specs.States.{StatesAreKept, StepsAreRows};
 ghost use Rattle.bpf_machine.specs.Trace.{StopsOnce};
 
+use bpf_word::laws::{results_are_words, upper_half_is_zero};
+use guest_memory::laws::{read_is_bytes, start_is_zero, write_is_bytes};
 use insn_codec::spelled_is_spelling;
 
 /// A run of at most n steps stops at one place, which `stop_place` computes.
@@ -20,4 +23,22 @@ pub fn decodes_spelling()
     ensures { DecodesSpelling }
 {
     spelled_is_spelling();
+}
+
+/// The step of a machine that runs is the row of the instruction that stands at `pc`.
+pub fn steps_are_rows()
+    ensures { StepsAreRows }
+{}
+
+/// Every state of a run from a start has eleven registers with a word each, at most seven records,
+/// and memory of its sizes.
+pub fn states_are_kept()
+    ensures { StatesAreKept }
+{
+    decodes_spelling();
+    results_are_words();
+    upper_half_is_zero();
+    read_is_bytes();
+    write_is_bytes();
+    start_is_zero();
 }

@@ -5,9 +5,9 @@ mod decoding;
 mod frame;
 pub mod laws;
 mod machine;
-mod places;
 mod status;
 mod table;
+mod targets;
 #[cfg(test)]
 mod tests;
 mod value;

@@ -45,7 +45,7 @@ impl Table {
     }
 
     /// An equal table.
-    pub fn copy(&self) -> Table
+    pub(crate) fn copy(&self) -> Table
         ensures { result ≡ self.now }
     {
         Table {

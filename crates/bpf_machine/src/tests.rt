@@ -1,11 +1,13 @@
 //! Programs whose ends were computed by hand. A slot is written as its eight bytes in storage order.
-use crate::{Machine, Table};
+use crate::{Machine, Status, Table};
 use guest_memory::Guest;
 use loader::Image;
-use std::alloc::{AllocError, Global};
+use std::alloc::Global;
+use std::test::Fail;
 
 mod accesses;
 mod arithmetic;
+mod copies;
 mod jumps;
 mod runs;
 
@@ -22,18 +24,40 @@ fn wide(register: u8, word: u64) -> [u64; 2] {
     ]
 }
 
-fn machine(
-    alloc: Global,
-    slots: &[u64],
-    constants: &[u8],
-) -> Result<Option<Machine<Guest>>, AllocError> {
+/// The code of these slots.
+fn code(alloc: Global, slots: &[u64]) -> Result<Vec<u8>, Fail> {
     let mut code = Vec::new(alloc);
     for slot in slots {
         code.extend_from_slice(&slot.to_be_bytes())?;
     }
+    Ok(code)
+}
+
+/// The machine at the start of this code with these constants.
+fn machine(alloc: Global, slots: &[u64], constants: &[u8]) -> Result<Machine<Guest>, Fail> {
+    let code = code(alloc, slots)?;
     let constants = Vec::from_slice(alloc, constants)?;
-    match Image::new(code, constants) {
-        Ok(image) => Ok(Some(Machine::start(alloc, image, Table::nulls())?)),
-        Err(_) => Ok(None),
-    }
+    let image = Image::new(code, constants)?;
+    Ok(Machine::start(alloc, image, Table::nulls())?)
+}
+
+/// What a run of at most so many steps answers.
+fn run_answer(mut machine: Machine<Guest>, limit: u64) -> Result<(u64, Status), Fail> {
+    Ok(machine.run(limit)?)
+}
+
+/// The machine after a run of at most so many steps.
+fn run_machine(mut machine: Machine<Guest>, limit: u64) -> Result<Machine<Guest>, Fail> {
+    machine.run(limit)?;
+    Ok(machine)
+}
+
+/// What a run of at most nine steps answers from the start.
+fn answer(alloc: Global, slots: &[u64], constants: &[u8]) -> Result<(u64, Status), Fail> {
+    run_answer(machine(alloc, slots, constants)?, 9)
+}
+
+/// Whether it answers so.
+fn answers(alloc: Global, slots: &[u64], expected: (u64, Status)) -> Result<bool, Fail> {
+    Ok(answer(alloc, slots, &[])? == expected)
 }

@@ -11,7 +11,7 @@ pub struct WordText(pub u64);
 impl fmt::Display for WordText {
     ghost output = { λ w. Some (word_text w.0) };
 
-    #[tactic(auto, using(crate::proofs::Hex::hex_word))]
+    #[tactic(auto, using(insn_codec::proofs::Hex::hex_word))]
     fn fmt<W: fmt::Write>(&self, f: &mut fmt::Formatter<W>) -> fmt::Result {
         let word = self.0;
         write!(f, "0x{word:016x}")

@@ -10,7 +10,7 @@ use Rattle.bpf_word.specs.Signs.{word_of}
 use Rattle.bpf_word.specs.declared.operation.Operation.{Operation}
 use Rattle.bpf_word.specs.declared.operation.Operation.TheVariants.{Add, Sub, Mul, Div, Sdiv, Or, And, Lsh, Rsh, Mod, Smod, Xor, Mov, Arsh}
 
-word_below : (bits : ℕ) (z : ℤ) → word_of bits z < 2 ^ bits
+pub word_below : (bits : ℕ) (z : ℤ) → word_of bits z < 2 ^ bits
 unfolding word_of
 word_below bits (pos a) = mod-lt a (pow_pos bits)
 word_below bits (negsuc a) = omega (arith, pow_pos bits)

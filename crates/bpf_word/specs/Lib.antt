@@ -2,5 +2,7 @@ pub mod Arithmetic
 pub mod Bytes
 pub mod Comparisons
 pub mod Halves
+pub mod Operations
+pub mod Overflow
 pub mod Rows
 pub mod Signs

@@ -36,5 +36,5 @@ pub fn alu32(operation: Operation, dst: u64, operand: u64) -> u64
 {
     let left = arithmetic32::low_half(dst);
     let right = arithmetic32::low_half(operand);
-    u64::from(arithmetic32::operate(operation, left, right))
+    u64::from(arithmetic32::operation_result(operation, left, right))
 }

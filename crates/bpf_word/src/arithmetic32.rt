@@ -60,7 +60,7 @@ pub fn low_half(word: u64) -> u32
 }
 
 /// The 32-bit result of an operation.
-pub fn operate(operation: Operation, dst: u32, operand: u32) -> u32
+pub fn operation_result(operation: Operation, dst: u32, operand: u32) -> u32
     ensures { result ≡ operated 32 operation dst operand }
 {
     match operation {

@@ -1,12 +1,13 @@
 -- The reader's answers at primaries.
 use Rattle.std.proofs.Common.{◌≡◌, ℕ, List, ◌∷◌, Bool, true, false, Some, None, refl, sym, ◌∙◌, ap}
 use Rattle.std.specs.Prelude.{◌&&◌}
+use Rattle.cel_tokens.specs.Bytes.{is_name}
 use Rattle.cel_tokens.specs.Token.{Word, name, mark}
 use Rattle.cel_tokens.specs.declared.mark.Mark.{Mark}
 use Rattle.cel_tokens.specs.declared.mark.Mark.TheVariants.{OpenParen, CloseParen, OpenBracket, OpenBrace}
 use Rattle.cel_reader.specs.Tree as tree
-use Rattle.cel_reader.specs.Tree.{Tree, Value, trees, entries}
-use Rattle.cel_reader.specs.Words.{is_name, is_identifier, may_stand_free, literal_of, literal_role, role_of}
+use Rattle.cel_reader.specs.Tree.{Tree, Literal, trees, entries}
+use Rattle.cel_reader.specs.Words.{is_identifier, may_stand_free, literal_of, literal_role, role_of}
 use Rattle.cel_reader.specs.Look.{NotAt}
 use Rattle.cel_reader.specs.Grammar.{Primary, One, Many, Keyed}
 use Rattle.cel_reader.specs.Reading.{Cause, Outcome, Got, Refused, Step, Row, Enclosed, Listed, Mapped, Reads}
@@ -18,14 +19,14 @@ use Rattle.cel_reader.proofs.Claims.{Always, refused, tails, not_at, again}
 use Rattle.cel_reader.proofs.CompleteRows.{call_words, no_paren}
 
 -- no mark is a literal
-mark_no_literal : {P : Type 0} (m : Mark) (us vs : List Word) (w : Word) (v : Value) → mark m ∷ us ≡ w ∷ vs → literal_of w ≡ Some v → P
+mark_no_literal : {P : Type 0} (m : Mark) (us vs : List Word) (w : Word) (v : Literal) → mark m ∷ us ≡ w ∷ vs → literal_of w ≡ Some v → P
 mark_no_literal m us vs w v e is =
     let same : mark m ≡ w = cc in
     let found : None ≡ Some v = ap literal_of same ∙ is in
     absurd cc
 
 -- no identifier is a literal
-plain_no_literal : (named : Bool) (r : Role) (v : Value) → (named && may_stand_free r) ≡ true → literal_role r ≡ Some v → ⊥
+plain_no_literal : (named : Bool) (r : Role) (v : Literal) → (named && may_stand_free r) ≡ true → literal_role r ≡ Some v → ⊥
 plain_no_literal false r v e f = let g : false ≡ true = e in cc
 plain_no_literal true role.True v e f = let g : false ≡ true = e in cc
 plain_no_literal true role.False v e f = let g : false ≡ true = e in cc
@@ -34,7 +35,7 @@ plain_no_literal true role.In v e f = let g : false ≡ true = e in cc
 plain_no_literal true role.Reserved v e f = let g : false ≡ true = e in cc
 plain_no_literal true role.Plain v e f = let g : None ≡ Some v = f in cc
 
-name_no_literal : {P : Type 0} (n : List ℕ) (us vs : List Word) (w : Word) (v : Value) → is_identifier n ≡ true → name n ∷ us ≡ w ∷ vs → literal_of w ≡ Some v → P
+name_no_literal : {P : Type 0} (n : List ℕ) (us vs : List Word) (w : Word) (v : Literal) → is_identifier n ≡ true → name n ∷ us ≡ w ∷ vs → literal_of w ≡ Some v → P
 name_no_literal n us vs w v is e found =
     let same : name n ≡ w = cc in
     absurd (plain_no_literal (is_name n) (role_of n) v is (ap literal_of same ∙ found))
@@ -62,7 +63,7 @@ call_got k n more items us u x rest e f =
 name_got : (k n : List ℕ) (u rest : List Word) → name n ∷ rest ≡ name k ∷ u → Got (One (tree.name k)) u ≡ Got (One (tree.name n)) rest
 name_got k n u rest e = cc
 
-literal_got : (w k : Word) (v i : Value) (rest u : List Word) → w ∷ rest ≡ k ∷ u → literal_of w ≡ Some v → literal_of k ≡ Some i → Got (One (tree.literal i)) u ≡ Got (One (tree.literal v)) rest
+literal_got : (w k : Word) (v i : Literal) (rest u : List Word) → w ∷ rest ≡ k ∷ u → literal_of w ≡ Some v → literal_of k ≡ Some i → Got (One (tree.literal i)) u ≡ Got (One (tree.literal v)) rest
 literal_got w k v i rest u e is found =
     let same : w ≡ k = cc in
     let both : Some v ≡ Some i = sym is ∙ ap literal_of same ∙ found in
@@ -106,7 +107,7 @@ at_map room us rest pairs f o (reads.identifier q i none) = absurd cc
 at_map room us rest pairs f o (reads.function_fails q i p r) = absurd cc
 at_map room us rest pairs f o (reads.function_call q i p r) = absurd cc
 
-pub at_constant : (room : ℕ) (rest : List Word) (w : Word) (v : Value) → literal_of w ≡ Some v → Always (Row Primary) room (w ∷ rest) (One (tree.literal v)) rest
+pub at_constant : (room : ℕ) (rest : List Word) (w : Word) (v : Literal) → literal_of w ≡ Some v → Always (Row Primary) room (w ∷ rest) (One (tree.literal v)) rest
 at_constant room rest w v is o (reads.no_primary x y z none free) = absurd (let g : None ≡ Some v = sym none ∙ is in cc)
 at_constant room rest w v is o (reads.bracket {us = vs} q r) = mark_no_literal OpenParen vs rest w v (sym q) is
 at_constant room rest w v is o (reads.list_fails {us = vs} q r) = mark_no_literal OpenBracket vs rest w v (sym q) is

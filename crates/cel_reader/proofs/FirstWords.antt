@@ -4,7 +4,7 @@ use Rattle.std.specs.Prelude.{◌||◌}
 use Rattle.cel_tokens.specs.Token.{Word, name, int, text, mark}
 use Rattle.cel_tokens.specs.declared.mark.Mark.{Mark}
 use Rattle.cel_tokens.specs.declared.mark.Mark.TheVariants.{Not, Minus, Comma, OpenParen, OpenBracket, OpenBrace}
-use Rattle.cel_reader.specs.Tree.{Value}
+use Rattle.cel_reader.specs.Tree.{Literal}
 use Rattle.cel_reader.specs.Words.{unary_mark, literal_of}
 use Rattle.cel_reader.specs.Look.{NotAt, GoesOn, closing_mark}
 use Rattle.cel_reader.specs.Grammar.{Class, Expression, Infix, Unary, Prefixed, Member, Primary, Items, OptionalItems, Pairs, OptionalPairs, Phrase, below, Derives}
@@ -82,7 +82,7 @@ prefix_begins : (op : UnaryOperator) → begins (mark (unary_mark op)) ≡ true
 prefix_begins unary.Not = refl
 prefix_begins unary.Negate = refl
 
-literal_begins : (w : Word) (v : Value) → literal_of w ≡ Some v → begins_member w ≡ true
+literal_begins : (w : Word) (v : Literal) → literal_of w ≡ Some v → begins_member w ≡ true
 literal_begins (name n) v e = refl
 literal_begins (int z) v e = refl
 literal_begins (text bytes) v e = refl

@@ -15,3 +15,6 @@ pub mod Complete
 pub mod Built
 pub mod Theorems
 pub mod Told
+pub mod WellFormedTrees
+pub mod TreeLists
+pub mod Equal

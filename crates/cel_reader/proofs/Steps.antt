@@ -1,8 +1,6 @@
 -- Steps over the answers of calls.
 use Rattle.std.proofs.Common.{◌≡◌, ◌≢◌, ℕ, suc, ◌-◌, List, [], ◌∷◌, ◌++◌, map, Ok, Err, Result, ◌∙◌, ap, arith}
 use Rattle.std.proofs.lemmas.List.{map-append}
-use Rattle.cel_reader.specs.Tree.{Tree, view}
-use Rattle.cel_reader.specs.declared.expr.Expr.{Expr}
 use Rattle.cel_reader.specs.Reading.{Outcome, Refused, Cause, Misfit, Deep, Gives}
 use Rattle.cel_tokens.specs.declared.read_error.ReadError.{ReadError}
 use Rattle.cel_tokens.specs.declared.read_error.ReadError.TheVariants.{P1, P2, P3, P4, P5, P6, Memory}
@@ -12,10 +10,6 @@ has_room room n = omega arith
 
 pub pushed : {X Y : Type 0} (f : X → Y) (old new : List X) (x : X) → new ≡ old ++ x ∷ [] → map f new ≡ map f old ++ f x ∷ []
 pushed f old new x e = ap (map f) e ∙ map-append f old (x ∷ [])
-
--- a key and its value
-abbrev pub viewed : Expr × Expr → Tree × Tree
-viewed e = (view e.0, view e.1)
 
 -- what a refusal says of the outcome
 abbrev pub Fails : ReadError → (Outcome → Type 0) → Type 0

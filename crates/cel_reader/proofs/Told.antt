@@ -1,5 +1,5 @@
 -- What the reader's runs tell of whole texts.
-use Rattle.std.proofs.Common.{◌≡◌, ℕ, List, [], ◌∷◌, map, Ok, Err, Result, refl, sym, subst, MatchResult}
+use Rattle.std.proofs.Common.{◌≡◌, ◌≢◌, ℕ, List, [], ◌∷◌, map, Ok, Err, Result, refl, sym, ◌∙◌, ap, subst, MatchResult}
 use Rattle.cel_tokens.specs.Token.{Word, Lexeme, seen}
 use Rattle.cel_tokens.specs.Lexis as tokens
 use Rattle.cel_tokens.specs.Lexis.{Lexes}
@@ -7,12 +7,14 @@ use Rattle.cel_tokens.specs.declared.token.Token.{Token}
 use Rattle.cel_tokens.specs.declared.read_error.ReadError.{ReadError}
 use Rattle.cel_tokens.specs.declared.read_error.ReadError.TheVariants.{P1, P2, P3, P4, P5, P6, Memory}
 use Rattle.cel_tokens.proofs.OneReading.{one_end}
+use Rattle.cel_tokens.proofs.Taking.{some_taken}
 use Rattle.cel_reader.specs.Tree.{Tree, view}
 use Rattle.cel_reader.specs.Look.{spoken, words}
-use Rattle.cel_reader.specs.Grammar.{Expression, One}
+use Rattle.cel_reader.specs.Grammar.{Expression, One, Derives}
 use Rattle.cel_reader.specs.Reading.{Got, Row, Reads}
 use Rattle.cel_reader.specs.Answers.{IsExpression, IsNoExpression, Answers, Told}
 use Rattle.cel_reader.specs.declared.expr.Expr.{Expr}
+use Rattle.cel_reader.proofs.FirstWords.{first}
 use Rattle.cel_reader.proofs.Steps.{Fails}
 use Rattle.cel_reader.proofs.Theorems.{whole_sound, whole_unique, misfit_never, rest_never, deep_never, deep_openings}
 
@@ -25,14 +27,18 @@ pub told_rest : (ws rest us : List Word) (w : Word) (a : Tree) → Reads (Row Ex
 told_rest ws rest us w a r e = λ room b d. rest_never 100 room ws us w a b (subst (λ (x : List Word). Reads (Row Expression) 100 ws (Got (One a) x)) e r) d
 
 -- the reading is refused
-pub told_fails : (ws : List Word) (e : ReadError) → Fails e (Reads (Row Expression) 100 ws) → Told ws (Err e)
-told_fails ws (P1 place) g = g
-told_fails ws (P2 place) g = g
-told_fails ws (P3 place) g = g
-told_fails ws (P4 place) g = λ room a d. misfit_never 100 room ws a g d
-told_fails ws (P5 place) g = (λ a d. deep_never 100 ws a g d, deep_openings 100 ws g)
-told_fails ws (P6 place) g = g
-told_fails ws Memory g = tt
+pub told_fails : (ws : List Word) (e : ReadError) → ws ≢ [] → Fails e (Reads (Row Expression) 100 ws) → Told ws (Err e)
+told_fails ws (P1 place) n g = g
+told_fails ws (P2 place) n g = g
+told_fails ws (P3 place) n g = g
+told_fails ws (P4 place) n g = λ room a d. misfit_never 100 room ws a g d
+told_fails ws (P5 place) n g = (λ a d. deep_never 100 ws a g d, deep_openings 100 ws g)
+told_fails ws (P6 place) n g = g
+told_fails ws Memory n g = n
+
+-- a text of no words is no expression
+pub told_none : (ws : List Word) → ws ≡ [] → IsNoExpression ws
+told_none ws e = λ room a d. first (subst (λ (x : List Word). Derives Expression room x (One a) []) e d)
 
 -- of the words of a text's tokens
 pub told_text : (source : List ℕ) (tokens : List Token) (r : Result Expr ReadError) → Lexes source (Ok (map (seen source) tokens)) → Told (words source tokens) r → Answers source r
@@ -43,7 +49,7 @@ told_text source tokens (Err (P3 place)) l t = absurd t
 told_text source tokens (Err (P4 place)) l t = (map (seen source) tokens, l, t)
 told_text source tokens (Err (P5 place)) l t = (map (seen source) tokens, l, t)
 told_text source tokens (Err (P6 place)) l t = absurd t
-told_text source tokens (Err Memory) l t = tt
+told_text source tokens (Err Memory) l t = some_taken source (map (seen source) tokens) l (λ e. t (ap (map (λ (x : Lexeme). x.word)) e))
 
 -- a text that has these tokens
 abbrev lexed : List Lexeme → Result (List Lexeme) ReadError
@@ -91,3 +97,20 @@ tokens_fail source Memory t = t
 
 pub told_at : (source bytes : List ℕ) (tokens items : List Token) (r : Result Expr ReadError) → bytes ≡ source → items ≡ tokens → Told (words bytes items) r → Told (words source tokens) r
 told_at source bytes tokens items r e f t = subst (λ (xs : List ℕ). Told (words xs tokens) r) e (subst (λ (ts : List Token). Told (words bytes ts) r) f t)
+
+cons_not_nil : (us : List Word) (w : Word) → w ∷ us ≡ [] → ⊥
+cons_not_nil us w e = cc
+
+-- words of which there is one are not none
+pub some_word : (ws us : List Word) (w : Word) → ws ≡ w ∷ us → ws ≢ []
+some_word ws us w e n = cons_not_nil us w (sym e ∙ n)
+
+-- an error that is this one, and an answer that is none
+abbrev failed : (X : Type 0) → ReadError → Result X ReadError
+failed X e = Err e
+
+pub same_error : {X : Type 0} (e f : ReadError) → failed X e ≡ failed X f → e ≡ f
+same_error e f k = cc
+
+pub no_error : {X P : Type 0} (x : X) (e : ReadError) → Ok x ≡ failed X e → P
+no_error x e k = absurd cc

@@ -3,7 +3,7 @@ use Rattle.std.specs.Prelude.{◌≡◌, ℕ, suc, List, [], ◌∷◌, ◌++◌
 use Rattle.cel_tokens.specs.Token.{Word, name, mark}
 use Rattle.cel_tokens.specs.declared.mark.Mark.TheVariants.{Question, Colon, Dot, Comma, OpenParen, CloseParen, OpenBracket, CloseBracket, OpenBrace, CloseBrace}
 use Rattle.cel_reader.specs.Tree as tree
-use Rattle.cel_reader.specs.Tree.{Tree, Value, trees, entries}
+use Rattle.cel_reader.specs.Tree.{Tree, Literal, trees, entries}
 use Rattle.cel_reader.specs.Words.{is_identifier, is_selector, literal_of, operator_of, level_of, unary_mark}
 use Rattle.cel_reader.specs.declared.level.Level.{Level}
 use Rattle.cel_reader.specs.declared.level.Level.TheVariants.{Or, And, Relation, Sum, Product}
@@ -62,7 +62,7 @@ pub data Derives : Class → ℕ → List Word → Phrase → List Word → Type
   identifier : {room : ℕ} {rest : List Word} {n : List ℕ} → is_identifier n ≡ true → Derives Primary room (name n ∷ rest) (One (tree.name n)) rest
   function_call : {room : ℕ} {us rest : List Word} {n : List ℕ} {items : List Tree} → is_identifier n ≡ true → Derives OptionalItems room us (Many items) (mark CloseParen ∷ rest) → Derives Primary (suc room) (name n ∷ mark OpenParen ∷ us) (One (tree.call n (trees items))) rest
   bracket : {room : ℕ} {us rest : List Word} {a : Tree} → Derives Expression room us (One a) (mark CloseParen ∷ rest) → Derives Primary (suc room) (mark OpenParen ∷ us) (One a) rest
-  constant : {room : ℕ} {rest : List Word} {w : Word} {v : Value} → literal_of w ≡ Some v → Derives Primary room (w ∷ rest) (One (tree.literal v)) rest
+  constant : {room : ℕ} {rest : List Word} {w : Word} {v : Literal} → literal_of w ≡ Some v → Derives Primary room (w ∷ rest) (One (tree.literal v)) rest
   list_literal : {room : ℕ} {us vs rest : List Word} {items : List Tree} → Derives OptionalItems room us (Many items) vs → OptionalComma vs (mark CloseBracket ∷ rest) → Derives Primary (suc room) (mark OpenBracket ∷ us) (One (tree.list (trees items))) rest
   map_literal : {room : ℕ} {us vs rest : List Word} {pairs : List (Tree × Tree)} → Derives OptionalPairs room us (Keyed pairs) vs → OptionalComma vs (mark CloseBrace ∷ rest) → Derives Primary (suc room) (mark OpenBrace ∷ us) (One (tree.map (entries pairs))) rest
   no_items : {room : ℕ} {ws : List Word} → Derives OptionalItems room ws (Many []) ws

@@ -1,7 +1,8 @@
 -- The laws of the grammar.
-use Rattle.std.specs.Prelude.{◌≡◌, ℕ, ◌≤◌, List}
+use Rattle.std.specs.Prelude.{◌≡◌, ◌≤◌, ◌↔◌, ℕ, List, length, true}
 use Rattle.cel_tokens.specs.Token.{Word}
-use Rattle.cel_reader.specs.Tree.{Tree}
+use Rattle.cel_reader.specs.Tree.{Tree, Trees, Entries, trees, entries, tree_list, entry_list, tree_count, entry_count}
+use Rattle.cel_reader.specs.Equality.{same_tree}
 use Rattle.cel_reader.specs.Answers.{IsExpression}
 
 -- words are one expression at most, however many brackets and conditionals may be open
@@ -11,3 +12,19 @@ HasOneTree = (room other : ℕ) (ws : List Word) (a b : Tree) → IsExpression r
 -- words that are an expression are the same one where more may be open
 abbrev pub KeepsWithMoreRoom : Type 0
 KeepsWithMoreRoom = (room more : ℕ) (ws : List Word) (a : Tree) → room ≤ more → IsExpression room ws a → IsExpression more ws a
+
+-- trees are the list of them, and as many
+pub record TreesAreLists : Type 0 where
+  pub list : (items : List Tree) → tree_list (trees items) ≡ items
+  pub trees_again : (ts : Trees) → trees (tree_list ts) ≡ ts
+  pub count : (ts : Trees) → tree_count ts ≡ length (tree_list ts)
+
+-- and so are entries
+pub record EntriesAreLists : Type 0 where
+  pub list : (pairs : List (Tree × Tree)) → entry_list (entries pairs) ≡ pairs
+  pub entries_again : (es : Entries) → entries (entry_list es) ≡ es
+  pub count : (es : Entries) → entry_count es ≡ length (entry_list es)
+
+-- the test of `==` is true exactly of equal trees
+abbrev pub TellsEqualTrees : Type 0
+TellsEqualTrees = (a b : Tree) → (same_tree a b ≡ true) ↔ (a ≡ b)

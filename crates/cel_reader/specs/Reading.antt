@@ -6,7 +6,7 @@ use Rattle.cel_tokens.specs.declared.mark.Mark.TheVariants.{Question, Colon, Dot
 use Rattle.cel_tokens.specs.declared.read_error.ReadError.{ReadError}
 use Rattle.cel_tokens.specs.declared.read_error.ReadError.TheVariants.{P1, P2, P3, P4, P5, P6, Memory}
 use Rattle.cel_reader.specs.Tree as tree
-use Rattle.cel_reader.specs.Tree.{Tree, Value, trees, entries}
+use Rattle.cel_reader.specs.Tree.{Tree, Literal, trees, entries}
 use Rattle.cel_reader.specs.Words.{is_identifier, is_selector, literal_of, operator_of, level_of, unary_mark}
 use Rattle.cel_reader.specs.Grammar.{Class, Expression, Infix, Unary, Prefixed, Member, Primary, Phrase, One, Many, Keyed, below}
 use Rattle.cel_reader.specs.Look.{NotAt, NoOperator, NoLiteral, NoSelector, NoIdentifier, Closes, GoesOn}
@@ -78,7 +78,7 @@ pub data Reads : Step → ℕ → List Word → Outcome → Type 0 where
   list_literal : {room : ℕ} {ws us rest : List Word} {items : List Tree} → ws ≡ mark OpenBracket ∷ us → Reads (Listed ListLiteral) room us (Got (Many items) rest) → Reads (Row Primary) room ws (Got (One (tree.list (trees items))) rest)
   map_fails : {room : ℕ} {ws us : List Word} {e : Cause} → ws ≡ mark OpenBrace ∷ us → Reads Mapped room us (Refused e) → Reads (Row Primary) room ws (Refused e)
   map_literal : {room : ℕ} {ws us rest : List Word} {pairs : List (Tree × Tree)} → ws ≡ mark OpenBrace ∷ us → Reads Mapped room us (Got (Keyed pairs) rest) → Reads (Row Primary) room ws (Got (One (tree.map (entries pairs))) rest)
-  constant : {room : ℕ} {ws us : List Word} {w : Word} {v : Value} → ws ≡ w ∷ us → literal_of w ≡ Some v → Reads (Row Primary) room ws (Got (One (tree.literal v)) us)
+  constant : {room : ℕ} {ws us : List Word} {w : Word} {v : Literal} → ws ≡ w ∷ us → literal_of w ≡ Some v → Reads (Row Primary) room ws (Got (One (tree.literal v)) us)
   identifier : {room : ℕ} {ws us : List Word} {n : List ℕ} → ws ≡ name n ∷ us → is_identifier n ≡ true → NotAt OpenParen us → Reads (Row Primary) room ws (Got (One (tree.name n)) us)
   function_fails : {room : ℕ} {ws us vs : List Word} {n : List ℕ} {e : Cause} → ws ≡ name n ∷ us → is_identifier n ≡ true → us ≡ mark OpenParen ∷ vs → Reads (Listed Call) room vs (Refused e) → Reads (Row Primary) room ws (Refused e)
   function_call : {room : ℕ} {ws us vs rest : List Word} {n : List ℕ} {items : List Tree} → ws ≡ name n ∷ us → is_identifier n ≡ true → us ≡ mark OpenParen ∷ vs → Reads (Listed Call) room vs (Got (Many items) rest) → Reads (Row Primary) room ws (Got (One (tree.call n (trees items))) rest)

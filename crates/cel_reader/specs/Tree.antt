@@ -1,8 +1,8 @@
 -- Expressions as plain data, without where they lie in memory.
-use Rattle.std.specs.Prelude.{ℕ, ℤ, List, [], ◌∷◌, Bool, string_bytes, box_value}
+use Rattle.std.specs.Prelude.{ℕ, ◌+◌, ℤ, List, [], ◌∷◌, Bool, string_bytes, box_value}
 use Rattle.cel_reader.specs.declared.operator.UnaryOperator.{UnaryOperator}
 use Rattle.cel_reader.specs.declared.operator.BinaryOperator.{BinaryOperator}
-use Rattle.cel_reader.specs.declared.literal.Literal.{Literal}
+use Rattle.cel_reader.specs.declared.literal.Literal.{Literal as CodeLiteral}
 use Rattle.cel_reader.specs.declared.literal.Literal.TheVariants as of_code
 use Rattle.cel_reader.specs.declared.expr.Expr.{Expr}
 use Rattle.cel_reader.specs.declared.expr.Expr.TheOpen.{Expr-F}
@@ -10,16 +10,16 @@ use Rattle.cel_reader.specs.declared.expr.Expr.TheOpen as layer
 use Rattle.cel_reader.specs.declared.expr.Expr.TheFolds.{fold-Expr}
 
 -- a literal; a text by its bytes in UTF-8
-pub data Value : Type 0 where
-  int : ℤ → Value
-  text : List ℕ → Value
-  truth : Bool → Value
-  null : Value
+pub data Literal : Type 0 where
+  int : ℤ → Literal
+  text : List ℕ → Literal
+  truth : Bool → Literal
+  null : Literal
 
 -- an expression; names by their bytes
 mutual
   pub data Tree : Type 0 where
-    literal : Value → Tree
+    literal : Literal → Tree
     name : List ℕ → Tree
     select : Tree → List ℕ → Tree
     index : Tree → Tree → Tree
@@ -39,6 +39,7 @@ mutual
     no_entries : Entries
     more_entries : Tree → Tree → Entries → Entries
 
+-- trees and entries from lists of them
 abbrev pub trees : List Tree → Trees
 trees [] = no_trees
 trees (a ∷ more) = more_trees a (trees more)
@@ -47,15 +48,34 @@ abbrev pub entries : List (Tree × Tree) → Entries
 entries [] = no_entries
 entries (e ∷ es) = more_entries e.0 e.1 (entries es)
 
-abbrev pub value_of : Literal → Value
-value_of (of_code.Int z) = int z
-value_of (of_code.Text s) = text (string_bytes s)
-value_of (of_code.Bool b) = truth b
-value_of of_code.Null = null
+-- the list of the trees, and of the entries, each a key and its value
+abbrev pub tree_list : Trees → List Tree
+tree_list no_trees = []
+tree_list (more_trees a more) = a ∷ tree_list more
+
+abbrev pub entry_list : Entries → List (Tree × Tree)
+entry_list no_entries = []
+entry_list (more_entries k v more) = (k, v) ∷ entry_list more
+
+-- how many they are
+abbrev pub tree_count : Trees → ℕ
+tree_count no_trees = 0
+tree_count (more_trees a more) = tree_count more + 1
+
+abbrev pub entry_count : Entries → ℕ
+entry_count no_entries = 0
+entry_count (more_entries k v more) = entry_count more + 1
+
+-- the literal that the code's one stands for
+abbrev pub literal_view : CodeLiteral → Literal
+literal_view (of_code.Int z) = int z
+literal_view (of_code.Text s) = text (string_bytes s)
+literal_view (of_code.Bool b) = truth b
+literal_view of_code.Null = null
 
 -- one layer, with what its children are seen as
 abbrev pub view_step : Expr-F Tree → Tree
-view_step (layer.Literal l) = literal (value_of l)
+view_step (layer.Literal l) = literal (literal_view l)
 view_step (layer.Name n) = name (string_bytes n)
 view_step (layer.Select a n) = select (box_value a) (string_bytes n)
 view_step (layer.Index a b) = index (box_value a) (box_value b)
@@ -70,3 +90,7 @@ view_step (layer.Map more) = map (entries more.items)
 -- the expression that the code's one stands for
 abbrev pub view : Expr → Tree
 view = fold-Expr Tree view_step
+
+-- a key and its value
+abbrev pub entry_view : Expr × Expr → Tree × Tree
+entry_view e = (view e.0, view e.1)

@@ -1,12 +1,11 @@
 -- What a word of a text is for: names, literals and operators.
 use Rattle.std.specs.Prelude.{ℕ, List, [], ◌∷◌, Bool, true, false, if◌then◌else◌, ◌&&◌, ◌||◌, Option, Some, None, codes, bytes_eq}
-use Rattle.std.specs.List.{list_all}
 use Rattle.cel_tokens.specs.Token.{Word, name, int, text, mark}
-use Rattle.cel_tokens.specs.Bytes.{is_letter, is_name_byte}
+use Rattle.cel_tokens.specs.Bytes.{is_name}
 use Rattle.cel_tokens.specs.declared.mark.Mark.{Mark}
 use Rattle.cel_tokens.specs.declared.mark.Mark.TheVariants as marks
 use Rattle.cel_reader.specs.Tree as tree
-use Rattle.cel_reader.specs.Tree.{Value}
+use Rattle.cel_reader.specs.Tree.{Literal}
 use Rattle.cel_reader.specs.declared.level.Level.{Level}
 use Rattle.cel_reader.specs.declared.level.Level.TheVariants as level
 use Rattle.cel_reader.specs.declared.operator.BinaryOperator.{BinaryOperator}
@@ -42,11 +41,6 @@ role_of n =
     else (if is_reserved n then role.Reserved
     else role.Plain))))
 
--- a letter or _, then letters, digits and _ (cel-spec, IDENT)
-abbrev pub is_name : List ℕ → Bool
-is_name [] = false
-is_name (b ∷ bs) = is_letter b && list_all is_name_byte bs
-
 abbrev pub may_select : Role → Bool
 may_select role.Reserved = true
 may_select role.Plain = true
@@ -64,14 +58,14 @@ is_selector n = is_name n && may_select (role_of n)
 abbrev pub is_identifier : List ℕ → Bool
 is_identifier n = is_name n && may_stand_free (role_of n)
 
-abbrev pub literal_role : Role → Option Value
+abbrev pub literal_role : Role → Option Literal
 literal_role role.True = Some (tree.truth true)
 literal_role role.False = Some (tree.truth false)
 literal_role role.Null = Some tree.null
 literal_role other = None
 
 -- the literal that a word is (cel-spec, LITERAL)
-abbrev pub literal_of : Word → Option Value
+abbrev pub literal_of : Word → Option Literal
 literal_of (name n) = literal_role (role_of n)
 literal_of (int z) = Some (tree.int z)
 literal_of (text bytes) = Some (tree.text bytes)

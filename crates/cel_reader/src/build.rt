@@ -3,7 +3,7 @@
 ghost use Rattle.std.specs.Prelude.{◌≡◌, IfOk, string_bytes};
 ghost use Rattle.std.specs.Prelude as list;
 ghost use Rattle.cel_reader.specs.Tree as node;
-ghost use Rattle.cel_reader.specs.Tree.{view, trees, value_of};
+ghost use Rattle.cel_reader.specs.Tree.{view, entry_view, trees, literal_view};
 ghost use Rattle.cel_reader.specs.Prefixes.{wrapped};
 
 use crate::expr::Expr;
@@ -13,7 +13,7 @@ use std::alloc::{AllocError, Global};
 
 /// A literal.
 pub fn literal(literal: Literal) -> Expr
-    ensures { view result ≡ node.literal (value_of literal) }
+    ensures { view result ≡ node.literal (literal_view literal) }
 {
     Expr::Literal(literal)
 }
@@ -41,7 +41,7 @@ pub fn list(items: Vec<Expr>) -> Expr
 
 /// A map literal.
 pub fn map(entries: Vec<(Expr, Expr)>) -> Expr
-    ensures { view result ≡ node.map (node.entries (list.map (λ e. (view e.0, view e.1)) entries.items)) }
+    ensures { view result ≡ node.map (node.entries (list.map entry_view entries.items)) }
 {
     Expr::Map(entries)
 }

@@ -1,10 +1,21 @@
 //! The laws of the grammar, each proved as the contract of an empty function.
 
-ghost use Rattle.cel_reader.specs.Laws.{HasOneTree, KeepsWithMoreRoom};
+ghost use Rattle.cel_reader.specs.Laws.{HasOneTree, KeepsWithMoreRoom, TreesAreLists, EntriesAreLists, TellsEqualTrees};
 
 /// Words are one expression at most, and the same one where more brackets and conditionals may be
 /// open.
 pub fn one_tree()
     ensures one { HasOneTree }
     ensures kept { KeepsWithMoreRoom }
+{}
+
+/// The parts of a list and of a map stand in a list, of the same number.
+pub fn parts_in_lists()
+    ensures trees { TreesAreLists }
+    ensures entries { EntriesAreLists }
+{}
+
+/// `==` of expressions is true exactly where they are the same tree.
+pub fn equality_of_trees()
+    ensures { TellsEqualTrees }
 {}

@@ -3,6 +3,7 @@
 
 mod build;
 mod closing;
+mod equality;
 mod expr;
 mod laws;
 mod level;
@@ -20,7 +21,8 @@ mod word;
 
 pub use cel_tokens::ReadError;
 pub use expr::Expr;
-pub use laws::one_tree;
+pub use laws::{equality_of_trees, one_tree, parts_in_lists};
 pub use literal::Literal;
+pub use name::is_identifier;
 pub use operator::{BinaryOperator, UnaryOperator};
 pub use source::read;

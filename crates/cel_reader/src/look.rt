@@ -4,7 +4,7 @@ ghost use Rattle.std.specs.Prelude.{◌≡◌, ◌<◌, ◌≤◌, ◌∷◌, le
 ghost use Rattle.cel_tokens.specs.Token as word;
 ghost use Rattle.cel_reader.specs.Look.{words, NotAt, NoOperator, NoSelector, NoIdentifier, NoLiteral, Closes, GoesOn, closing_mark, takes_comma};
 ghost use Rattle.cel_reader.specs.Words as specs;
-ghost use Rattle.cel_reader.specs.Tree.{value_of};
+ghost use Rattle.cel_reader.specs.Tree.{literal_view};
 ghost use Rattle.cel_reader.specs.Prefixes.{Prefixes};
 ghost use Rattle.cel_reader.specs.Shown.{shown};
 
@@ -133,7 +133,7 @@ pub fn identifier_at<'a>(text: &'a [u8], tokens: &'a [Token]) -> Option<(&'a [u8
 
 /// The literal that the word is.
 fn literal_of(alloc: Global, found: Word) -> Result<Option<Literal>, AllocError>
-    ensures { IfOk result (λ o. option_map value_of o ≡ specs.literal_of (shown found.entry)) }
+    ensures { IfOk result (λ o. option_map literal_view o ≡ specs.literal_of (shown found.entry)) }
 {
     match found {
         Word::Name(name) => Ok(match role_of(name) {
@@ -154,7 +154,7 @@ pub fn literal_at<'a>(
     text: &'a [u8],
     tokens: &'a [Token],
 ) -> Result<Option<(Literal, &'a [Token])>, AllocError>
-    ensures at { IfOk result (λ o. MatchOption o (NoLiteral (words text.now tokens.now)) (λ x. (w : word.Word) × (words text.now tokens.now ≡ w ∷ words text.now x.1.now) × (specs.literal_of w ≡ Some (value_of x.0)))) }
+    ensures at { IfOk result (λ o. MatchOption o (NoLiteral (words text.now tokens.now)) (λ x. (w : word.Word) × (words text.now tokens.now ≡ w ∷ words text.now x.1.now) × (specs.literal_of w ≡ Some (literal_view x.0)))) }
     ensures shorter { IfOk result (λ o. IfSome o (λ x. length x.1.now < length tokens.now)) }
 {
     let Some((found, rest)) = first(text, tokens) else {

@@ -2,7 +2,7 @@
 
 ghost use Rattle.std.specs.Prelude.{◌≡◌, ◌<◌, length, IfOk};
 ghost use Rattle.std.specs.Prelude as list;
-ghost use Rattle.cel_reader.specs.Tree.{view};
+ghost use Rattle.cel_reader.specs.Tree.{view, entry_view};
 ghost use Rattle.cel_reader.specs.Grammar as row;
 ghost use Rattle.cel_reader.specs.Grammar.{One, Many, Keyed, below};
 ghost use Rattle.cel_reader.specs.Look.{words};
@@ -268,7 +268,7 @@ fn entries<'a>(
     place: usize,
     room: u8,
 ) -> Result<(Vec<(Expr, Expr)>, &'a [Token]), ReadError>
-    ensures reads { Gives (λ x. Got (Keyed (list.map (λ e. (view e.0, view e.1)) x.0.items)) (words text.now x.1.now)) result (Reads Mapped room (words text.now tokens.now)) }
+    ensures reads { Gives (λ x. Got (Keyed (list.map entry_view x.0.items)) (words text.now x.1.now)) result (Reads Mapped room (words text.now tokens.now)) }
     ensures shorter { IfOk result (λ x. length x.1.now < length tokens.now) }
 {
     if room == 0 {

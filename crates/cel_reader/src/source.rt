@@ -1,11 +1,12 @@
 //! The reading of a whole text.
 
-ghost use Rattle.std.specs.Prelude.{◌≡◌, List, MatchResult, Ok};
+ghost use Rattle.std.specs.Prelude.{◌≡◌, ◌<◌, List, length, IfOk, MatchResult, Ok, Err};
 ghost use Rattle.cel_tokens.specs.Token.{Lexeme};
 ghost use Rattle.cel_tokens.specs.Lexis.{Lexes};
-ghost use Rattle.cel_tokens.specs.declared.read_error.ReadError.TheVariants.{Memory};
+ghost use Rattle.cel_tokens.specs.declared.read_error.ReadError.TheVariants.{P6, Memory};
 ghost use Rattle.cel_reader.specs.Tree.{Tree, view};
 ghost use Rattle.cel_reader.specs.Look.{spoken, words};
+ghost use Rattle.cel_reader.specs.WellFormed.{IsWellFormed};
 ghost use Rattle.cel_reader.specs.Answers.{Answers, Told, IsExpression};
 
 use crate::expr::Expr;
@@ -22,6 +23,10 @@ const MOST_OPEN: u8 = 100;
 fn whole(alloc: Global, text: &[u8], tokens: &[Token]) -> Result<Expr, ReadError>
     ensures { Told (words text.now tokens.now) result }
 {
+    // A text of no tokens is refused before any memory is taken.
+    let Some(_) = first(text, tokens) else {
+        return Err(misfit(text, tokens));
+    };
     let (tree, rest) = expression(alloc, text, tokens, MOST_OPEN)?;
     match first(text, rest) {
         None => Ok(tree),
@@ -35,6 +40,8 @@ fn whole(alloc: Global, text: &[u8], tokens: &[Token]) -> Result<Expr, ReadError
 /// (cel-spec, syntax)
 pub fn read(alloc: Global, text: &str) -> Result<Expr, ReadError>
     ensures answers { Answers text.now result }
+    ensures long { 65536 < length text.now → result ≡ Err (P6 65536) }
+    ensures well_formed { IfOk result (λ e. IsWellFormed (view e)) }
     ensures only { (lexemes : List Lexeme) (a : Tree) → Lexes text.now (Ok lexemes) → IsExpression 100 (spoken lexemes) a → MatchResult result (λ e. view e ≡ a) (λ e. e ≡ Memory) }
 {
     let tokens = tokens(alloc, text)?;

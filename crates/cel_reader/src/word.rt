@@ -26,7 +26,8 @@ fn bytes_of<'a>(text: &'a [u8], token: &Token) -> &'a [u8]
     &rest[..len.min(rest.len())]
 }
 
-/// The word of the token. One of a mark's kind whose bytes are none is an empty text.
+/// The word of the token. One of a mark's kind whose bytes are none is a name of no bytes, which no
+/// token of a text is.
 fn word_of<'a>(text: &'a [u8], token: &'a Token) -> Word<'a>
     ensures { shown result ≡ (seen text.now token.now).word }
 {
@@ -37,7 +38,7 @@ fn word_of<'a>(text: &'a [u8], token: &'a Token) -> Word<'a>
         Kind::Text(said) => Word::Text(said.as_str()),
         Kind::Mark => match mark_of(bytes) {
             Some(mark) => Word::Mark(mark),
-            None => Word::Text(""),
+            None => Word::Name(&bytes[..0]),
         },
     }
 }

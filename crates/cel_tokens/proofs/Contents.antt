@@ -7,9 +7,9 @@ use Rattle.std.proofs.lemmas.Str.{IsUtf8-take, IsUtf8-drop, IsUtf8-append, IsUtf
 use Rattle.std.proofs.Math.Seq.{take-append_seam, drop-append-add}
 use Rattle.std.proofs.lemmas.List.{drop-drop, get_or-append-add}
 use Rattle.std.proofs.lemmas.Bool.Decides.{nat_tests}
-use Rattle.cel_tokens.specs.Texts.{content, piece}
+use Rattle.cel_tokens.specs.Texts.{content, piece, is_quote}
 
-ended : (raw : Bool) (quote skip n : ℕ) (said : List ℕ) → content raw quote skip n said [] ≡ None
+pub ended : (raw : Bool) (quote skip n : ℕ) (said : List ℕ) → content raw quote skip n said [] ≡ None
 unfolding content
 ended raw quote skip n said = refl
 
@@ -22,7 +22,7 @@ past_end (x ∷ xs) (suc n) h = past_end xs n (omega arith)
 pub content_over : (raw : Bool) (quote : ℕ) (said xs : List ℕ) (n : ℕ) → length xs ≤ n → content raw quote 0 n said (drop n xs) ≡ None
 content_over raw quote said xs n h = rw (past_end xs n h) (ended raw quote 0 n said)
 
-skipped : (raw : Bool) (quote skip n : ℕ) (said bs : List ℕ) → skip ≤ length bs → content raw quote skip n said bs ≡ content raw quote 0 (n + skip) said (drop skip bs)
+pub skipped : (raw : Bool) (quote skip n : ℕ) (said bs : List ℕ) → skip ≤ length bs → content raw quote skip n said bs ≡ content raw quote 0 (n + skip) said (drop skip bs)
 unfolding content
 skipped raw quote zero n said bs h = let e : n + 0 ≡ n = omega arith in rw e refl
 skipped raw quote (suc skip) n said [] h = absurd (omega arith)
@@ -30,7 +30,7 @@ skipped raw quote (suc skip) n said (b ∷ bs) h =
     let e : n + 1 + skip ≡ n + suc skip = omega arith in
     skipped raw quote skip (n + 1) said bs (omega arith) ∙ ap (λ y. content raw quote 0 y said (drop skip bs)) e
 
-closes : (raw : Bool) (quote n b : ℕ) (said bs : List ℕ) → b ≡ quote → content raw quote 0 n said (b ∷ bs) ≡ Some (n + 1, said)
+pub closes : (raw : Bool) (quote n b : ℕ) (said bs : List ℕ) → b ≡ quote → content raw quote 0 n said (b ∷ bs) ≡ Some (n + 1, said)
 unfolding content
 closes raw quote n b said bs h = let e : (b == quote) ≡ true = grind (arith, nat_tests) in rw e refl
 
@@ -38,7 +38,7 @@ pub content_closes : (raw : Bool) (quote n : ℕ) (said xs : List ℕ) → n < l
 content_closes raw quote n said xs h e =
     rw (drop-cons xs n 0) (closes raw quote n (get_or xs n 0) said (drop (suc n) xs) e)
 
-goes_on : (raw : Bool) (quote n b : ℕ) (said bs : List ℕ) → b ≢ quote → content raw quote 0 n said (b ∷ bs) ≡ option_and_then (λ x. content raw quote (x.0 - 1) (n + 1) (said ++ x.1) bs) (piece raw (b ∷ bs))
+pub goes_on : (raw : Bool) (quote n b : ℕ) (said bs : List ℕ) → b ≢ quote → content raw quote 0 n said (b ∷ bs) ≡ option_and_then (λ x. content raw quote (x.0 - 1) (n + 1) (said ++ x.1) bs) (piece raw (b ∷ bs))
 unfolding content
 goes_on raw quote n b said bs h = let e : (b == quote) ≡ false = grind (arith, nat_tests) in rw e refl
 
@@ -50,7 +50,7 @@ pub content_refused : (raw : Bool) (quote n : ℕ) (said xs : List ℕ) → n < 
 content_refused raw quote n said xs h d =
     rw (drop-cons xs n 0) (λ e. refused_at raw quote n (get_or xs n 0) said (drop (suc n) xs) d e)
 
-more_at : (raw : Bool) (quote n b : ℕ) (said bs : List ℕ) (x : ℕ × List ℕ) → b ≢ quote → piece raw (b ∷ bs) ≡ Some x → 1 ≤ x.0 → x.0 ≤ length (b ∷ bs) → content raw quote 0 n said (b ∷ bs) ≡ content raw quote 0 (n + x.0) (said ++ x.1) (drop (x.0 - 1) bs)
+pub more_at : (raw : Bool) (quote n b : ℕ) (said bs : List ℕ) (x : ℕ × List ℕ) → b ≢ quote → piece raw (b ∷ bs) ≡ Some x → 1 ≤ x.0 → x.0 ≤ length (b ∷ bs) → content raw quote 0 n said (b ∷ bs) ≡ content raw quote 0 (n + x.0) (said ++ x.1) (drop (x.0 - 1) bs)
 more_at raw quote n b said bs x h e low high =
     let q : n + 1 + (x.0 - 1) ≡ n + x.0 = omega arith in
     goes_on raw quote n b said bs h
@@ -64,6 +64,9 @@ content_more raw quote n said xs x h d e low high =
     ap (content raw quote 0 n said) c
     ∙ (more_at raw quote n (get_or xs n 0) said (drop (suc n) xs) x d (ap (piece raw) (sym c) ∙ e) low (subst (λ (ys : List ℕ). x.0 ≤ length ys) c high)
     ∙ ap (content raw quote 0 (n + x.0) (said ++ x.1)) (drop-drop (x.0 - 1) (suc n) xs ∙ ap (λ y. drop y xs) q))
+
+pub quote_ascii : (b : ℕ) → is_quote b ≡ true → b < 128
+quote_ascii b h = grind (arith, nat_tests)
 
 -- before an ASCII byte a text may be cut
 pub said_utf8 : (said bytes : List ℕ) → IsUtf8 (said ++ bytes) → 0 < length bytes → get_or bytes 0 0 < 128 → IsUtf8 said

@@ -1,20 +1,21 @@
 -- Steps over the tokens of a text.
-use Rattle.std.proofs.Common.{◌≡◌, ℕ, ◌+◌, ◌-◌, ◌<◌, ◌≤◌, List, [], ◌∷◌, ◌++◌, length, drop, take, map, refl, sym, ◌∙◌, ap, arith, Bool, true, false, Result, Ok, Err, subst}
+use Rattle.std.proofs.Common.{◌≡◌, ℕ, ◌+◌, ◌-◌, ◌<◌, ◌≤◌, List, [], ◌∷◌, ◌++◌, length, drop, take, map, refl, sym, ◌∙◌, ap, arith, Bool, true, false, Option, Some, None, Result, Ok, Err, subst}
 use Rattle.std.specs.Prelude.{nat_le}
 use Rattle.std.specs.Str.{IsUtf8}
 use Rattle.std.proofs.lemmas.List.{drop-drop, take-append-drop, map-append, length-map}
 use Rattle.std.proofs.lemmas.Bool.{cases_lt}
 use Rattle.std.proofs.lemmas.Bool.Decides.{nat_tests}
 use mathlib.Core.Logic.{inl, inr}
-use Rattle.cel_tokens.specs.Token.{Word, Lexeme, seen, word_of}
+use Rattle.cel_tokens.specs.Token.{Word, Lexeme, text, seen, word_of}
 use Rattle.cel_tokens.specs.Front as front
-use Rattle.cel_tokens.specs.Front.{front, sign_may_follow}
+use Rattle.cel_tokens.specs.Front.{front, front_text, sign_may_follow}
 use Rattle.cel_tokens.specs.Shown.{EndsText}
 use Rattle.std.specs.Prelude.{Vec}
 use Rattle.std.specs.Global.{Global}
-use Rattle.cel_tokens.specs.Lexis.{Cuts, Begins, lexeme, Answers}
+use Rattle.cel_tokens.specs.Lexis.{Cuts, Begins, TakesMemory, lexeme, Answers}
 use Rattle.cel_tokens.specs.Lexis.Lexes.{read}
 use Rattle.cel_tokens.specs.Lexis.Cuts.{space as cut_space, token as cut_token, wrong_text as cut_text, wide_int as cut_int, too_many}
+use Rattle.cel_tokens.specs.Lexis.TakesMemory.{for_word, for_text, behind_space}
 use Rattle.cel_tokens.specs.Lexis.Begins.{a_word, a_text, an_int}
 use Rattle.cel_tokens.specs.Steps.{Ends, Refused, refusal_of, CutsTo}
 use Rattle.cel_tokens.specs.declared.kind.Kind.{Kind}
@@ -55,6 +56,23 @@ token_goes source rest signed sign at n next kind old new r e s l x g a d =
     let f : front signed (drop at source) ≡ front.word n (word_of (take n (drop at source)) kind) = there source rest signed at _ e s ∙ ap (front.word n) w in
     token_step source signed at n (map (seen source) old) _ r f (omega (arith, length-map old (seen source))) (moved sign _ (map (seen source) new) _ next (at + n) source r (g ∙ ap sign_may_follow w) (seen_new source at n kind old new a) x d)
 
+-- a place that takes memory, said of the text from there on
+pub taken_at : (source rest : List ℕ) (signed : Bool) (at : ℕ) → rest ≡ drop at source → TakesMemory signed rest → TakesMemory signed (drop at source)
+taken_at source rest signed at e t = subst (TakesMemory signed) e t
+
+-- one that comes behind blanks
+pub taken_behind : (source : List ℕ) (signed : Bool) (at n : ℕ) → front signed (drop at source) ≡ front.space n → TakesMemory signed (drop (at + n) source) → TakesMemory signed (drop at source)
+taken_behind source signed at n f t = behind_space n f (subst (TakesMemory signed) (sym (drop-drop n at source)) t)
+
+-- a token's
+pub taken_for : (source rest : List ℕ) (signed : Bool) (at n : ℕ) (w : Word) → rest ≡ drop at source → front.word n w ≡ front signed rest → TakesMemory signed (drop at source)
+taken_for source rest signed at n w e s = for_word n w (there source rest signed at (front.word n w) e s)
+
+-- a text literal's, whether it is one or not
+pub taken_by_text : (signed : Bool) (bytes : List ℕ) (before : ℕ) (o : Option (ℕ × List ℕ)) → front signed bytes ≡ front_text before o → TakesMemory signed bytes
+taken_by_text signed bytes before None e = for_text e
+taken_by_text signed bytes before (Some x) e = for_word (before + x.0) (text x.1) e
+
 -- after 4,096 tokens what begins is one too many
 pub too_many_words : (source rest : List ℕ) (signed : Bool) (at n : ℕ) (w : Word) (old : List Token) → rest ≡ drop at source → front.word n w ≡ front signed rest → 4096 ≤ length old → Ends source signed at old (Err (P6 at))
 too_many_words source rest signed at n w old e s l =
@@ -66,12 +84,12 @@ full count at cause h = let e : nat_le 4096 count ≡ true = grind (arith, nat_t
 not_full : (count at : ℕ) (cause : ReadError) → count < 4096 → refusal_of count at cause ≡ cause
 not_full count at cause h = let e : nat_le 4096 count ≡ false = grind (arith, nat_tests) in rw e refl
 
-pub text_refused : (source rest : List ℕ) (signed : Bool) (at count : ℕ) (old : List Token) (answer : ReadError) → rest ≡ drop at source → front.wrong_text ≡ front signed rest → count ≡ length old → answer ≡ refusal_of count at (P2 at) → Refused (Ends source signed at old) answer
+pub text_refused : (source rest : List ℕ) (signed : Bool) (at count : ℕ) (old : List Token) (answer : ReadError) → rest ≡ drop at source → front.wrong_text ≡ front signed rest → count ≡ length old → answer ≡ refusal_of count at (P2 at) → Refused (Ends source signed at old) (TakesMemory signed (drop at source)) answer
 text_refused source rest signed at count old answer e s c a =
     let f = there source rest signed at _ e s in
     elim (cases_lt count 4096) [ inl h ↦ rw (a, not_full count at (P2 at) h) (cut_text {so_far = map (seen source) old} f (omega (arith, c, length-map old (seen source)))) | inr h ↦ rw (a, full count at (P2 at) h) (too_many {so_far = map (seen source) old} (subst Begins (sym f) a_text) (omega (arith, c, length-map old (seen source)))) ]
 
-pub int_refused : (source rest : List ℕ) (signed : Bool) (at n count : ℕ) (old : List Token) (answer : ReadError) → rest ≡ drop at source → front.wide_int n ≡ front signed rest → count ≡ length old → answer ≡ refusal_of count at (P3 (at + n)) → Refused (Ends source signed at old) answer
+pub int_refused : (source rest : List ℕ) (signed : Bool) (at n count : ℕ) (old : List Token) (answer : ReadError) → rest ≡ drop at source → front.wide_int n ≡ front signed rest → count ≡ length old → answer ≡ refusal_of count at (P3 (at + n)) → Refused (Ends source signed at old) (TakesMemory signed (drop at source)) answer
 int_refused source rest signed at n count old answer e s c a =
     let f = there source rest signed at _ e s in
     elim (cases_lt count 4096) [ inl h ↦ rw (a, not_full count at (P3 (at + n)) h) (cut_int {so_far = map (seen source) old} n f (omega (arith, c, length-map old (seen source)))) | inr h ↦ rw (a, full count at (P3 (at + n)) h) (too_many {so_far = map (seen source) old} (subst Begins (sym f) (an_int n)) (omega (arith, c, length-map old (seen source)))) ]
@@ -85,4 +103,4 @@ whole source (Err (P3 place)) h c = read h c
 whole source (Err (P4 place)) h c = c
 whole source (Err (P5 place)) h c = c
 whole source (Err (P6 place)) h c = read h c
-whole source (Err Memory) h c = c
+whole source (Err Memory) h c = (h, c)

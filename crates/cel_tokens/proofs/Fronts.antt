@@ -1,12 +1,12 @@
 -- The definition of what stands at the front, without cases on the text.
 use Rattle.std.proofs.Common.{◌≡◌, ℕ, ◌<◌, ◌≤◌, List, [], ◌∷◌, length, get_or, refl, arith, Bool, true, false}
-use Rattle.std.specs.Prelude.{if◌then◌else◌, nat_lt, ◌==◌}
+use Rattle.std.specs.Prelude.{if◌then◌else◌, nat_lt, ◌==◌, Result, Ok, Err, OnErr}
 use Rattle.std.proofs.lemmas.Bool.Decides.{nat_tests}
 use Rattle.cel_tokens.specs.Bytes.{between}
 use Rattle.std.specs.Str.{IsUtf8}
 use Rattle.std.proofs.Common.{drop}
 use Rattle.cel_tokens.specs.Shown.{IsQuoted, EndsText}
-use Rattle.cel_tokens.proofs.Contents.{rest_utf8}
+use Rattle.cel_tokens.proofs.Contents.{rest_utf8, quote_ascii}
 use Rattle.cel_tokens.specs.Texts.{opening, opening_len}
 use Rattle.cel_tokens.specs.Front.{front, front_word, over, space}
 
@@ -40,7 +40,12 @@ front_else signed xs n h e l =
 pub opened : (bytes : List ℕ) (raw : Bool) (quote : ℕ) → IsQuoted bytes raw quote → EndsText bytes → IsUtf8 (drop (opening_len raw) bytes)
 opened bytes false quote q u =
     let e = q.2 in
-    rest_utf8 u.0 bytes 0 u.1 (omega (arith, q.0)) (omega (arith, e, q.1))
+    rest_utf8 u.0 bytes 0 u.1 (omega (arith, q.0)) (omega (arith, e, quote_ascii quote q.1))
 opened bytes true quote q u =
     let e = q.2 in
-    rest_utf8 u.0 bytes 1 u.1 (omega (arith, q.0)) (omega (arith, e, q.1))
+    rest_utf8 u.0 bytes 1 u.1 (omega (arith, q.0)) (omega (arith, e, quote_ascii quote q.1))
+
+-- what holds whatever is answered
+pub in_any_case : {T E P : Type 0} (r : Result T E) → P → OnErr r P
+in_any_case (Ok x) p = tt
+in_any_case (Err e) p = p

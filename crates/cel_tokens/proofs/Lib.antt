@@ -2,8 +2,12 @@ pub mod Runs
 pub mod Numbers
 pub mod Escapes
 pub mod Contents
+pub mod PlainStretches
 pub mod Fronts
 pub mod Cutting
 pub mod OneReading
 pub mod NoLonger
 pub mod Marked
+pub mod IntsFit
+pub mod Taking
+pub mod SaidPieces

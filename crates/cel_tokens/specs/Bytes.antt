@@ -1,5 +1,6 @@
 -- The classes of bytes, and what stands between tokens.
 use Rattle.std.specs.Prelude.{ℕ, ◌+◌, List, [], ◌∷◌, Bool, false, if◌then◌else◌, ◌==◌, ◌&&◌, ◌||◌, not, nat_lt}
+use Rattle.std.specs.List.{list_all}
 use Rattle.std.specs.Char.{is_ascii_digit, is_ascii_alphabetic, digit_value}
 
 -- a letter of a name
@@ -8,6 +9,11 @@ is_letter b = is_ascii_alphabetic b || (b == 95)
 
 abbrev pub is_name_byte : ℕ → Bool
 is_name_byte b = is_letter b || is_ascii_digit b
+
+-- a letter or _, then letters, digits and _ (cel-spec, IDENT)
+abbrev pub is_name : List ℕ → Bool
+is_name [] = false
+is_name (b ∷ bs) = is_letter b && list_all is_name_byte bs
 
 -- a digit in this base, with the letters of either case above 9
 abbrev pub is_digit_of : ℕ → ℕ → Bool

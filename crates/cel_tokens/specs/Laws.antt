@@ -1,6 +1,7 @@
 -- The laws of the tokens.
-use Rattle.std.specs.Prelude.{◌≡◌, ◌≤◌, ◌↔◌, ℕ, List, length, Result, Ok}
-use Rattle.cel_tokens.specs.Token.{Lexeme}
+use Rattle.std.specs.Prelude.{◌≡◌, ◌≤◌, ◌↔◌, ℕ, List, length, All, Result, Ok, FitsSigned}
+use Rattle.std.specs.Int.{w64}
+use Rattle.cel_tokens.specs.Token.{Word, Lexeme, name, int, text, mark}
 use Rattle.cel_tokens.specs.Lexis.{Lexes, IsTokens}
 use Rattle.cel_tokens.specs.declared.read_error.ReadError.{ReadError}
 
@@ -15,3 +16,14 @@ EndsInItsTokens = (source : List ℕ) (lexemes : List Lexeme) → Lexes source (
 -- a text has one list of tokens
 abbrev pub HasOneReading : Type 0
 HasOneReading = (source : List ℕ) (xs ys : List Lexeme) → IsTokens source xs → IsTokens source ys → xs ≡ ys
+
+-- an int of 64 bits signed, or no int
+abbrev pub IntFits : Word → Type 0
+IntFits (int z) = FitsSigned w64 z
+IntFits (name bytes) = Unit {0}
+IntFits (text bytes) = Unit {0}
+IntFits (mark m) = Unit {0}
+
+-- each int of a text's tokens has 64 bits
+abbrev pub HasIntsThatFit : Type 0
+HasIntsThatFit = (source : List ℕ) (lexemes : List Lexeme) → Lexes source (Ok lexemes) → All (λ l. IntFits l.word) lexemes

@@ -43,10 +43,17 @@ pub data Lexes : List ℕ → Result (List Lexeme) ReadError → Type 0 where
   too_long : {source : List ℕ} → 65536 < length source → Lexes source (Err (P6 65536))
   read : {source : List ℕ} {r : Result (List Lexeme) ReadError} → length source ≤ 65536 → Cuts true [] 0 source r → Lexes source r
 
--- what an answer of the code says; that there was no memory may be answered beside
+-- reading on takes memory: for a token or a text literal, the first thing here but for blanks and comments
+pub data TakesMemory : Bool → List ℕ → Type 0 where
+  for_word : {signed : Bool} {rest : List ℕ} (n : ℕ) (w : Word) → front signed rest ≡ front.word n w → TakesMemory signed rest
+  for_text : {signed : Bool} {rest : List ℕ} → front signed rest ≡ front.wrong_text → TakesMemory signed rest
+  behind_space : {signed : Bool} {rest : List ℕ} (n : ℕ) → front signed rest ≡ front.space n → TakesMemory signed (drop n rest) → TakesMemory signed rest
+
+-- what an answer of the code says. That there was no memory may be answered beside, but for a text that is refused
+-- before any is taken: for its length, or at its first byte that is no blank and in no comment
 abbrev pub Answers : List ℕ → Result (Vec Token Global) ReadError → Type 0
 Answers source (Ok tokens) = Lexes source (Ok (map (seen source) tokens.items))
-Answers source (Err Memory) = Unit {0}
+Answers source (Err Memory) = (length source ≤ 65536) × TakesMemory true source
 Answers source (Err (P1 place)) = Lexes source (Err (P1 place))
 Answers source (Err (P2 place)) = Lexes source (Err (P2 place))
 Answers source (Err (P3 place)) = Lexes source (Err (P3 place))

@@ -3,6 +3,7 @@ pub mod Bytes
 pub mod Marks
 pub mod Ints
 pub mod Texts
+pub mod TextLiterals
 pub mod Pieces
 pub mod Front
 pub mod Shown

@@ -1,8 +1,8 @@
 -- What the code finds at the front of a text, as the definitions say it.
-use Rattle.std.specs.Prelude.{◌≡◌, ℕ, ◌-◌, ◌<◌, ◌≤◌, List, ◌++◌, take, length, get_or, Bool}
+use Rattle.std.specs.Prelude.{◌≡◌, ℕ, ◌-◌, ◌≤◌, List, ◌++◌, take, length, get_or, Bool, true}
 use Rattle.std.specs.Str.{IsUtf8}
 use Rattle.cel_tokens.specs.Token.{word_of}
-use Rattle.cel_tokens.specs.Texts.{opening_len}
+use Rattle.cel_tokens.specs.Texts.{is_quote, opening_len}
 use Rattle.cel_tokens.specs.Front as front
 use Rattle.cel_tokens.specs.declared.front.Front.{Front}
 use Rattle.cel_tokens.specs.declared.front.Front.TheVariants.{Over, Space, Word, WrongText, WideInt, Nothing}
@@ -30,4 +30,4 @@ EndsText bytes = (before : List ℕ) × IsUtf8 (before ++ bytes)
 
 -- a text literal begins with this quote
 abbrev pub IsQuoted : List ℕ → Bool → ℕ → Type 0
-IsQuoted bytes raw quote = (opening_len raw ≤ length bytes) × (quote < 128) × (get_or bytes (opening_len raw - 1) 0 ≡ quote)
+IsQuoted bytes raw quote = (opening_len raw ≤ length bytes) × (is_quote quote ≡ true) × (get_or bytes (opening_len raw - 1) 0 ≡ quote)

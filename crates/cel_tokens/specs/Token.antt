@@ -19,10 +19,10 @@ pub record Lexeme : Type 0 where
   pub end : ℕ
   pub word : Word
 
--- a mark; bytes that are none, which no token of this kind has, would be an empty text
+-- a mark; bytes that are none, which no token of this kind has, would be a name of no bytes, which no token is
 abbrev pub mark_word : Option Mark → Word
 mark_word (Some m) = mark m
-mark_word None = text []
+mark_word None = name []
 
 -- the word that the code's kind stands for, of a token with these bytes
 abbrev pub word_of : List ℕ → Kind → Word

@@ -1,6 +1,7 @@
 //! Classes of bytes, and what stands between tokens.
 
 ghost use Rattle.std.specs.Prelude.{◌≡◌, ◌≤◌, ◌<◌, length, drop, get_or, true, false};
+ghost use Rattle.std.specs.List.{list_all};
 ghost use Rattle.std.specs.Char.{digit_value};
 ghost use Rattle.cel_tokens.specs.Bytes as bytes_of;
 ghost use Rattle.cel_tokens.specs.Bytes.{run};
@@ -17,6 +18,23 @@ fn is_name_byte(byte: u8) -> bool
     ensures { result ≡ bytes_of.is_name_byte byte }
 {
     is_letter(byte) || byte.is_ascii_digit()
+}
+
+/// Whether each byte goes on with a name.
+fn are_name_bytes(bytes: &[u8]) -> bool
+    ensures { result ≡ list_all bytes_of.is_name_byte bytes.now }
+{
+    bytes.iter().all(|byte| is_name_byte(*byte))
+}
+
+/// Whether these bytes are a letter or `_`, then letters, digits and `_`. (cel-spec, IDENT)
+pub fn is_name(bytes: &[u8]) -> bool
+    ensures { result ≡ bytes_of.is_name bytes.now }
+{
+    match bytes {
+        [first, rest @ ..] => is_letter(*first) && are_name_bytes(rest),
+        [] => false,
+    }
 }
 
 /// The value of a digit or a letter, and 36 for any other byte.

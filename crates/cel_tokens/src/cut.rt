@@ -1,10 +1,11 @@
 //! The cutting of a text into its tokens.
 
-ghost use Rattle.std.specs.Prelude.{◌≡◌, ◌≤◌, ◌<◌, length, List, ℕ, take, IfOk, OnOk, ◌+◌, ◌++◌, ◌∷◌, []};
+ghost use Rattle.std.specs.Prelude.{◌≡◌, ◌≤◌, ◌<◌, length, List, ℕ, take, Err, IfOk, OnOk, ◌+◌, ◌++◌, ◌∷◌, []};
 ghost use Rattle.std.specs.Str.{IsUtf8};
 ghost use Rattle.cel_tokens.specs.Token.{word_of};
 ghost use Rattle.cel_tokens.specs.Front as fronts;
 ghost use Rattle.cel_tokens.specs.Lexis.{Answers};
+ghost use Rattle.cel_tokens.specs.declared.read_error.ReadError.TheVariants.{P6};
 ghost use Rattle.cel_tokens.specs.Steps.{Steps, CutsTo, refusal_of};
 
 use crate::bytes::tail;
@@ -128,6 +129,7 @@ fn cut(alloc: Global, bytes: &[u8]) -> Result<Vec<Token>, ReadError>
 /// 65,536 before it is read. (cel-spec, lexis)
 pub fn tokens(alloc: Global, text: &str) -> Result<Vec<Token>, ReadError>
     ensures answers { Answers text.now result }
+    ensures long { 65536 < length text.now → result ≡ Err (P6 65536) }
 {
     let bytes = text.as_bytes();
     if bytes.len() > MOST_BYTES {

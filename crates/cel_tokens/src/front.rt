@@ -1,11 +1,12 @@
 //! What stands at the front of a text.
 
-ghost use Rattle.std.specs.Prelude.{◌≡◌, ◌≤◌, ◌<◌, ◌+◌, ℕ, List, [], length, drop, get_or, true, Some, IfOk, IfSome};
+ghost use Rattle.std.specs.Prelude.{◌≡◌, ◌≤◌, ◌<◌, ◌+◌, ℕ, List, [], length, drop, get_or, true, Some, IfOk, IfSome, OnErr};
 ghost use Rattle.cel_tokens.specs.Bytes as bytes_of;
 ghost use Rattle.cel_tokens.specs.Ints as ints;
 ghost use Rattle.cel_tokens.specs.Texts as texts;
 ghost use Rattle.cel_tokens.specs.Marks as marks;
 ghost use Rattle.cel_tokens.specs.Front as fronts;
+ghost use Rattle.cel_tokens.specs.Lexis.{TakesMemory};
 ghost use Rattle.cel_tokens.specs.Shown.{shown, IsWithin, EndsText, IsQuoted};
 
 use crate::bytes::{between, is_digit_of, is_letter, name_len, tail};
@@ -156,6 +157,7 @@ pub fn front_of(alloc: Global, bytes: &[u8], signed: bool) -> Result<Front, Allo
     requires short { length bytes.now ≤ 65536 }
     ensures shown { IfOk result (λ f. shown bytes.now f ≡ fronts.front signed bytes.now) }
     ensures within { IfOk result (λ f. IsWithin (length bytes.now) f) }
+    ensures memory { OnErr result (TakesMemory signed bytes.now) }
 {
     if bytes.is_empty() {
         return Ok(Front::Over);

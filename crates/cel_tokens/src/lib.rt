@@ -16,9 +16,10 @@ mod read_error;
 mod tests;
 mod token;
 
+pub use bytes::is_name;
 pub use cut::tokens;
 pub use kind::Kind;
-pub use laws::{longest, one_reading};
+pub use laws::{ints_that_fit, longest, one_reading, pieces_of_a_text};
 pub use mark::{Mark, mark_of};
 pub use read_error::ReadError;
 pub use token::Token;

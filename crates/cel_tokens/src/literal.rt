@@ -1,6 +1,6 @@
 //! Text literals.
 
-ghost use Rattle.std.specs.Prelude.{◌≡◌, ◌≤◌, ◌<◌, ◌++◌, List, ℕ, [], length, drop, IfSome, IfOk, OnOk, option_map, string_bytes};
+ghost use Rattle.std.specs.Prelude.{◌≡◌, ◌≤◌, ◌++◌, List, ℕ, [], true, length, drop, IfSome, IfOk, OnOk, option_map, string_bytes};
 ghost use Rattle.std.specs.Str.{IsUtf8};
 ghost use Rattle.cel_tokens.specs.Texts as texts;
 ghost use Rattle.cel_tokens.specs.Pieces.{said_by};
@@ -8,6 +8,7 @@ ghost use Rattle.cel_tokens.specs.Pieces.{said_by};
 use crate::bytes::{is_line_end, tail};
 use crate::escape::escape;
 use std::alloc::{AllocError, Global};
+use text_kernels::skip_plain;
 
 /// What stands at one place of a text.
 #[derive(Clone, Copy, Debug, PartialEq, Eq)]
@@ -76,17 +77,24 @@ pub fn content(
 ) -> Result<Option<(usize, String)>, AllocError>
     requires text { IsUtf8 bytes.now }
     requires short { length bytes.now ≤ 65536 }
-    requires ascii { quote < 128 }
+    requires quoted { texts.is_quote quote ≡ true }
     ensures value { IfOk result (λ o. option_map (λ x. (x.0, string_bytes x.1)) o ≡ texts.content raw quote 0 0 [] bytes.now) }
     ensures within { IfOk result (λ o. IfSome o (λ x. x.0 ≤ length bytes.now)) }
 {
     let mut said = Vec::new(alloc);
     let mut n = 0;
     while n < bytes.len() {
+        let rest = tail(bytes, n);
+        let plain = skip_plain(rest);
+        if plain > 0 {
+            said.extend_from_slice(&rest[..plain])?;
+            n += plain;
+            continue;
+        }
         if bytes[n] == quote {
             return Ok(Some((n + 1, text_of(said))));
         }
-        let Some(piece) = piece_at(tail(bytes, n), raw) else {
+        let Some(piece) = piece_at(rest, raw) else {
             return Ok(None);
         };
         add(&mut said, piece)?;

@@ -1,5 +1,6 @@
 //! The files of the system.
-ghost use Rattle.std.specs.Prelude.{None};
+ghost use Rattle.std.specs.Prelude.{◌≡◌};
+ghost use Rattle.std.specs.IoError.{error_kind};
 
 use review_runner::{FileError, Files};
 use std::alloc::Global;
@@ -38,7 +39,11 @@ impl<'a, R: rt::Files + AllocGlobal> Files for Disk<'a, R> {
     }
 }
 
-fn file_error(error: Error) -> FileError {
+/// Why a file was not read or written.
+fn file_error(error: Error) -> FileError
+    ensures memory { error_kind error ≡ ErrorKind.OutOfMemory → result ≡ FileError.Memory }
+    ensures other { (error_kind error ≡ ErrorKind.OutOfMemory → ⊥) → result ≡ FileError.Failed }
+{
     match error.kind() {
         ErrorKind::OutOfMemory => FileError::Memory,
         _ => FileError::Failed,

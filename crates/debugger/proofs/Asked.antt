@@ -8,7 +8,7 @@ use Rattle.bpf_machine.specs.State.{State}
 use Rattle.debugger.specs.Commands.{capped, capped_command, command_of}
 use Rattle.history.specs.Search.{first_stop}
 use Rattle.debugger.specs.Breakpoints.{has_breakpoint, with_breakpoint, without_breakpoint}
-use Rattle.debugger.specs.Answers.{World, Answer, is_slot, in_range, can_go_on, can_go_back, can_go_to, break_text, clear_text, sets_breakpoints, moves_to, out_of_range, says, answer_of, may_be_refused, is_refused, answer_to}
+use Rattle.debugger.specs.Answers.{World, Answer, is_slot, in_range, can_go_on, can_go_back, can_go_to, break_text, clear_text, sets_breakpoints, moves_to, out_of_range, says, answer_of, may_be_refused, answer_to}
 use Rattle.debugger.specs.Told.{Answers}
 use Rattle.debugger.specs.declared.command.Command.{Command}
 use Rattle.debugger.specs.declared.command.Command.TheVariants.{SetBreakpoint, ClearBreakpoint, Forward, Back, Go, Continue, ReverseContinue, Registers, Listing, Quit, Unknown}
@@ -90,7 +90,6 @@ answers_granted s w next line c text asked n t =
     let e : answer_of s w (command_of line) ≡ answer_of s w c = sym (ap (answer_of s w) asked ∙ answer_of-capped s w (command_of line)) in
     record {
       mark = false;
-      mark_is = refl;
       next_is = ap (λ (a : Answer). a.next) e ∙ n;
       text_is = ap (λ (a : Answer). a.text) e ∙ t;
     }
@@ -102,7 +101,6 @@ answers_refused s w next line c text asked may n t =
     let r : may_be_refused s w (command_of line) ≡ true = sym (may_be_refused-capped s w (command_of line)) ∙ ap (may_be_refused s w) (sym asked) ∙ may in
     record {
       mark = true;
-      mark_is = r;
       next_is = rw r n;
       text_is = rw r t;
     }
@@ -120,9 +118,6 @@ command_of-take line =
       | inr short ↦ ap command_of (take_all 65 line (omega (arith, short)))
     ]
 
-is_refused-take : (s : State) (w : World) (line : List ℕ) (mark : Bool) → is_refused s w (take 65 line, mark) ≡ is_refused s w (line, mark)
-is_refused-take s w line mark = ap (λ (c : Command). mark && may_be_refused s w c) (command_of-take line)
-
 answer_to-take : (s : State) (w : World) (line : List ℕ) (mark : Bool) → answer_to s w (take 65 line, mark) ≡ answer_to s w (line, mark)
 unfolding answer_to
 answer_to-take s w line mark = ap (λ (c : Command). if mark && may_be_refused s w c then says w (codes "? memory\n") else answer_of s w c) (command_of-take line)
@@ -130,7 +125,6 @@ answer_to-take s w line mark = ap (λ (c : Command). if mark && may_be_refused s
 pub answers_whole : (s : State) (w next : World) (line text : List ℕ) → Answers s w (take 65 line) next text → Answers s w line next text
 answers_whole s w next line text a = record {
   mark = a.mark;
-  mark_is = sym (is_refused-take s w line a.mark) ∙ a.mark_is;
   next_is = ap (λ (x : Answer). x.next) (sym (answer_to-take s w line a.mark)) ∙ a.next_is;
   text_is = ap (λ (x : Answer). x.text) (sym (answer_to-take s w line a.mark)) ∙ a.text_is;
 }

@@ -1,10 +1,10 @@
 -- How an input's lines grow byte by byte.
-use Rattle.std.proofs.Common.{◌≡◌, ℕ, zero, suc, ◌+◌, ◌-◌, ◌<◌, ◌≤◌, Bool, true, false, List, [], ◌∷◌, ◌++◌, length, take, drop, fold, nat_eq, cond, refl, sym, ap, ◌∙◌, arith, append_assoc, append-nil, length-drop}
+use Rattle.std.proofs.Common.{◌≡◌, ℕ, zero, suc, ◌+◌, ◌-◌, ◌<◌, ◌≤◌, Bool, true, false, List, [], ◌∷◌, ◌++◌, length, take, drop, fold, nat_eq, cond, refl, sym, ap, ◌∙◌, arith, append_assoc, append-nil, length-drop, length-take}
 use Rattle.std.proofs.Math.Seq.{take-add}
 use Rattle.std.proofs.lemmas.List.{drop-drop}
 use Rattle.std.proofs.lemmas.List.Sums.{fold_push, fold-append}
 use Rattle.std.proofs.lemmas.Bool.Decides.{nat_tests}
-use Rattle.debugger.specs.Session.{cut, cut_byte, with_rest, input_lines}
+use Rattle.debugger.specs.Session.{cut, cut_byte, with_rest, input_lines, readable}
 
 abbrev pub Pieces : Type 0
 Pieces = List (List ℕ) × List ℕ
@@ -32,25 +32,57 @@ cut-feed input i b first feed = cut-more input i b first ∙ cut_byte-feed (cut 
 pub cut-plain : (input : List ℕ) (i b : ℕ) → drop i input ≡ b ∷ drop 1 (drop i input) → (b ≡ 10 → ⊥) → cut (take (i + 1) input) ≡ ((cut (take i input)).0, (cut (take i input)).1 ++ b ∷ [])
 cut-plain input i b first plain = cut-more input i b first ∙ cut_byte-plain (cut (take i input)) b plain
 
-lines_from : List ℕ → Pieces → List (List ℕ)
-lines_from bytes p = with_rest (fold cut_byte p bytes).0 (fold cut_byte p bytes).1
+-- these pieces behind lines that have ended
+behind : List (List ℕ) → Pieces → Pieces
+behind lines p = (lines ++ p.0, p.1)
 
-grows_by : (feed : Bool) (b : ℕ) (bytes : List ℕ) (p : Pieces) → ((q : Pieces) → (more : List (List ℕ)) × (lines_from bytes q ≡ q.0 ++ more)) → (more : List (List ℕ)) × (lines_from bytes (cond feed (p.0 ++ p.1 ∷ [], []) (p.0, p.1 ++ b ∷ [])) ≡ p.0 ++ more)
-grows_by true b bytes p grow = let g = grow (p.0 ++ p.1 ∷ [], []) in (p.1 ∷ g.0, g.1 ∙ append_assoc p.0 (p.1 ∷ []) g.0)
-grows_by false b bytes p grow = let g = grow (p.0, p.1 ++ b ∷ []) in (g.0, g.1)
+byte_behind : (feed : Bool) (lines : List (List ℕ)) (p : Pieces) (b : ℕ) → cond feed ((lines ++ p.0) ++ p.1 ∷ [], []) (lines ++ p.0, p.1 ++ b ∷ []) ≡ behind lines (cond feed (p.0 ++ p.1 ∷ [], []) (p.0, p.1 ++ b ∷ []))
+unfolding behind
+byte_behind true lines p b = λ i. (append_assoc lines p.0 (p.1 ∷ []) i, [])
+byte_behind false lines p b = refl
 
--- more bytes only add lines
-grows : (bytes : List ℕ) (p : Pieces) → (more : List (List ℕ)) × (lines_from bytes p ≡ p.0 ++ more)
-unfolding lines_from
-grows [] (lines, []) = ([], sym (append-nil lines))
-grows [] (lines, c ∷ cs) = ((c ∷ cs) ∷ [], refl)
-grows (b ∷ bytes) p = grows_by (nat_eq b 10) b bytes p (λ q. grows bytes q)
+cut_behind : (bytes : List ℕ) (lines : List (List ℕ)) (p : Pieces) → fold cut_byte (behind lines p) bytes ≡ behind lines (fold cut_byte p bytes)
+unfolding behind
+cut_behind [] lines p = refl
+cut_behind (b ∷ bytes) lines p = ap (λ (q : Pieces). fold cut_byte q bytes) (byte_behind (nat_eq b 10) lines p b) ∙ cut_behind bytes lines (cut_byte p b)
+
+-- more bytes go on with the last line, and leave those before it
+cut-append : (front more : List ℕ) → cut (front ++ more) ≡ behind (cut front).0 (fold cut_byte ([], (cut front).1) more)
+unfolding cut behind
+cut-append front more =
+    fold-append cut_byte ([], []) front more
+    ∙ (λ i. fold cut_byte (sym (append-nil (cut front).0) i, (cut front).1) more)
+    ∙ cut_behind more (cut front).0 ([], (cut front).1)
+
+pub lines-append : (front more : List ℕ) → (later : List (List ℕ)) × ((cut (front ++ more)).0 ≡ (cut front).0 ++ later)
+unfolding behind
+lines-append front more = ((fold cut_byte ([], (cut front).1) more).0, ap (λ (p : Pieces). p.0) (cut-append front more))
+
+-- whole lines
+abbrev pub Whole : List ℕ → Type 0
+Whole text = (cut text).1 ≡ []
+
+pub lines-whole : (front more : List ℕ) → Whole front → (cut (front ++ more)).0 ≡ (cut front).0 ++ (cut more).0
+unfolding cut behind
+lines-whole front more whole = ap (λ (p : Pieces). p.0) (cut-append front more) ∙ ap (λ (rest : List ℕ). (cut front).0 ++ (fold cut_byte ([], rest) more).0) whole
+
+pub whole-append : (front more : List ℕ) → Whole front → Whole more → Whole (front ++ more)
+unfolding cut behind
+whole-append front more whole next = ap (λ (p : Pieces). p.1) (cut-append front more) ∙ ap (λ (rest : List ℕ). (fold cut_byte ([], rest) more).1) whole ∙ next
+
+pub whole-feed : (line : List ℕ) → Whole (line ++ 10 ∷ [])
+unfolding cut
+whole-feed line = ap (λ (p : Pieces). p.1) (fold_push cut_byte ([], []) line 10)
+
+with_rest-behind : (lines more : List (List ℕ)) (rest : List ℕ) → with_rest (lines ++ more) rest ≡ lines ++ with_rest more rest
+with_rest-behind lines more [] = refl
+with_rest-behind lines more (b ∷ bs) = append_assoc lines more ((b ∷ bs) ∷ [])
 
 pub input_lines-append : (part rest : List ℕ) → (more : List (List ℕ)) × (input_lines (part ++ rest) ≡ (cut part).0 ++ more)
-unfolding cut lines_from
+unfolding behind
 input_lines-append part rest =
-    let g = grows rest (fold cut_byte ([], []) part) in
-    (g.0, ap (λ (p : Pieces). with_rest p.0 p.1) (fold-append cut_byte ([], []) part rest) ∙ g.1)
+    let p = fold cut_byte ([], (cut part).1) rest in
+    (with_rest p.0 p.1, ap (λ (q : Pieces). with_rest q.0 q.1) (cut-append part rest) ∙ with_rest-behind (cut part).0 p.0 p.1)
 
 with_rest-none : (lines : List (List ℕ)) (n : ℕ) (rest : List ℕ) → take (suc n) rest ≡ [] → with_rest lines rest ≡ lines
 with_rest-none lines n [] none = refl
@@ -90,3 +122,15 @@ one_within input i b first = let one = ap length first in let all = length-drop 
 
 pub drop-one : (input : List ℕ) (i : ℕ) → drop 1 (drop i input) ≡ drop (i + 1) input
 drop-one input i = drop-drop 1 i input
+
+pub readable-is : (input : List ℕ) → readable input ≡ take 9223372036854775808 input
+unfolding readable
+readable-is input = refl
+
+-- a place of the input that is not behind the last byte that may be read
+pub readable-within : (input : List ℕ) (limit i : ℕ) → readable input ≡ take limit input → i ≤ limit → i ≤ length input → i ≤ length (readable input)
+readable-within input limit i all low inside = let long = ap length all ∙ length-take limit input in omega (arith, long, inside, low)
+
+-- the place behind the last byte that may be read
+pub readable-end : (input : List ℕ) (i : ℕ) → i ≤ length input → readable input ≡ take i input → i ≡ length (readable input)
+readable-end input i inside all = let long = ap length all ∙ length-take i input in omega (arith, long, inside)

@@ -2,7 +2,10 @@ mod Bytes
 mod Texts
 mod Asked
 mod Cut
+mod Quit
+mod Words
 mod Going
+mod Whole
 mod Marks
 mod Slots
 mod Lines

@@ -1,25 +1,100 @@
--- Marks beside lines.
-use Rattle.std.proofs.Common.{◌≡◌, ℕ, ◌+◌, ◌≤◌, true, false, List, [], ◌∷◌, map, fold, refl, sym, ap, ◌∙◌, arith}
-use Rattle.debugger.specs.Answers.{Line}
-use Rattle.debugger.specs.Session.{talk_of, one_if, granted}
+-- Sessions in which no line answers `? memory`.
+use Rattle.std.proofs.Common.{◌≡◌, ℕ, Bool, true, false, ◌||◌, List, [], ◌∷◌, ◌++◌, map, fold, refl, sym, ap, ◌∙◌, append_assoc, append-nil, codes, Option, Some, Result, Ok, Err}
+use Rattle.std.specs.Prelude.{OnOk, if◌then◌else◌}
+use Rattle.std.specs.List.{list_any}
+use Rattle.std.specs.Str.{bytes_eq}
+use Rattle.std.proofs.lemmas.List.Folds.{list_any-append}
+use Rattle.std.proofs.lemmas.List.{append_cancel_left}
+use Rattle.bpf_machine.specs.State.{State}
+use Rattle.debugger.specs.Answers.{Line, answer_of, answer_to, is_refused, says}
+use Rattle.debugger.specs.Commands.{command_of}
+use Rattle.debugger.specs.Session.{Talk, first_talk, hear, talk_of, with_answer, granted, cut, input_lines, readable, says_memory, session_text}
+use Rattle.debugger.specs.Told.{lines_of, ByResult}
 use Rattle.debugger.specs.Rows.{TellsAll}
+use Rattle.debugger.specs.declared.session_error.SessionError.{SessionError}
+use Rattle.debugger.proofs.Cut.{Whole, lines-append, lines-whole, whole-append}
+use Rattle.debugger.proofs.Going.{hear-on, hear-off}
+use Rattle.debugger.proofs.Whole.{answers_in_lines}
 
-marks_from : ℕ → List Line → ℕ
-marks_from n lines = fold (λ (m : ℕ) (l : Line). m + one_if l.1) n lines
+or_left : (a b : Bool) → a || b ≡ false → a ≡ false
+or_left true b none = cc
+or_left false b none = refl
 
-marks_grow : (n : ℕ) (lines : List Line) → n ≤ marks_from n lines
-unfolding marks_from
-marks_grow n [] = omega arith
-marks_grow n (l ∷ lines) = let rest = marks_grow (n + one_if l.1) lines in omega (arith, rest)
+or_right : (a b : Bool) → b ≡ true → a || b ≡ true
+or_right true b some = refl
+or_right false b some = some
 
--- without marks
-unmarked : (lines : List Line) (n : ℕ) → marks_from n lines ≡ 0 → lines ≡ map granted (map (λ (l : Line). l.0) lines)
-unfolding marks_from
-unmarked [] n none = refl
-unmarked ((line, false) ∷ lines) n none = ap (λ (ls : List Line). (line, false) ∷ ls) (unmarked lines (n + 0) none)
-unmarked ((line, true) ∷ lines) n none = let rest = marks_grow (n + 1) lines in absurd (omega (arith, rest, none))
+-- a text whose beginning says it says it
+beginning_says : (front more : List ℕ) → says_memory (front ++ more) ≡ false → says_memory front ≡ false
+beginning_says front more none =
+    let later = lines-append front more in
+    or_left (says_memory front) _ (sym (list_any-append (bytes_eq (codes "? memory")) (cut front).0 later.0) ∙ ap (list_any (bytes_eq (codes "? memory"))) (sym later.1) ∙ none)
+
+-- a refused line says it
+refusal_says : (text : List ℕ) → Whole text → says_memory (text ++ codes "? memory\n") ≡ true
+unfolding cut
+refusal_says text whole =
+    ap (list_any (bytes_eq (codes "? memory"))) (lines-whole text (codes "? memory\n") whole)
+    ∙ list_any-append (bytes_eq (codes "? memory")) (cut text).0 _
+    ∙ or_right (says_memory text) _ refl
+
+-- what one line adds to the text
+hear_grows : (s : State) (t : Talk) (l : Line) (ended : Bool) → t.world.ended ≡ ended → (more : List ℕ) × ((hear s t l).text ≡ t.text ++ more)
+hear_grows s t l true off = ([], ap (λ (u : Talk). u.text) (hear-off s t l off) ∙ sym (append-nil t.text))
+hear_grows s t l false on = ((answer_to s t.world l).text, ap (λ (u : Talk). u.text) (hear-on s t l on))
+
+talk_grows : (s : State) (t : Talk) (marked : List Line) → (more : List ℕ) × ((fold (hear s) t marked).text ≡ t.text ++ more)
+talk_grows s t [] = ([], sym (append-nil t.text))
+talk_grows s t (l ∷ marked) =
+    let one = hear_grows s t l t.world.ended refl in
+    let rest = talk_grows s (hear s t l) marked in
+    (one.0 ++ rest.0, rest.1 ∙ ap (λ (text : List ℕ). text ++ rest.0) one.1 ∙ append_assoc t.text one.0 rest.0)
+
+hear_whole : (s : State) (t : Talk) (l : Line) (ended : Bool) → t.world.ended ≡ ended → Whole t.text → Whole (hear s t l).text
+hear_whole s t l true off whole = ap (λ (u : Talk). (cut u.text).1) (hear-off s t l off) ∙ whole
+hear_whole s t l false on whole = ap (λ (u : Talk). (cut u.text).1) (hear-on s t l on) ∙ whole-append t.text (answer_to s t.world l).text whole (answers_in_lines s t.world l)
+
+-- a line that does not answer `? memory` was not refused
+answer_granted : (s : State) (t : Talk) (l : Line) (refused : Bool) → is_refused s t.world l ≡ refused → Whole t.text → says_memory (t.text ++ (answer_to s t.world l).text) ≡ false → answer_to s t.world l ≡ answer_to s t.world (granted l.0)
+unfolding answer_to
+answer_granted s t l true is whole none =
+    let yes = refusal_says t.text whole in
+    let no : says_memory (t.text ++ codes "? memory\n") ≡ false = ap (λ (b : Bool). says_memory (t.text ++ (if b then says t.world (codes "? memory\n") else answer_of s t.world (command_of l.0)).text)) (sym is) ∙ none in
+    cc (yes, no)
+answer_granted s t l false is whole none = ap (λ (b : Bool). if b then says t.world (codes "? memory\n") else answer_of s t.world (command_of l.0)) is
+
+hear_granted : (s : State) (t : Talk) (l : Line) (ended : Bool) → t.world.ended ≡ ended → Whole t.text → says_memory (hear s t l).text ≡ false → hear s t l ≡ hear s t (granted l.0)
+hear_granted s t l true off whole none = hear-off s t l off ∙ sym (hear-off s t (granted l.0) off)
+hear_granted s t l false on whole none =
+    let said : says_memory (t.text ++ (answer_to s t.world l).text) ≡ false = ap (λ (u : Talk). says_memory u.text) (sym (hear-on s t l on)) ∙ none in
+    let same = answer_granted s t l (is_refused s t.world l) refl whole said in
+    let talk : with_answer s t l ≡ with_answer s t (granted l.0) = λ i. record { world = (same i).next; text = t.text ++ (same i).text } in
+    hear-on s t l on ∙ talk ∙ sym (hear-on s t (granted l.0) on)
+
+talk_granted : (s : State) (t : Talk) (marked : List Line) → Whole t.text → says_memory (fold (hear s) t marked).text ≡ false → fold (hear s) t marked ≡ fold (hear s) t (map granted (lines_of marked))
+talk_granted s t [] whole none = refl
+talk_granted s t (l ∷ marked) whole none =
+    let next = talk_grows s (hear s t l) marked in
+    let here : says_memory (hear s t l).text ≡ false = beginning_says (hear s t l).text next.0 (ap says_memory (sym next.1) ∙ none) in
+    talk_granted s (hear s t l) marked (hear_whole s t l t.world.ended refl whole) none
+    ∙ ap (λ (u : Talk). fold (hear s) u (map granted (lines_of marked))) (hear_granted s t l t.world.ended refl whole here)
+
+first_whole : Whole []
+unfolding cut
+first_whole = refl
 
 pub tells_all : TellsAll
-unfolding marks_from
 tells_all s lines t h none =
-    sym h.talk_is ∙ ap (talk_of s) (unmarked h.marked 0 (h.marks ∙ none) ∙ ap (map granted) h.lines_are)
+    sym h.talk_is
+    ∙ talk_granted s first_talk h.marked first_whole (ap (λ (u : Talk). says_memory u.text) h.talk_is ∙ none)
+    ∙ ap (λ (ls : List (List ℕ)). talk_of s (map granted ls)) h.lines_are
+
+some_is : {A : Type 0} (x y : A) → Some x ≡ Some y → x ≡ y
+some_is x y e = cc
+
+-- what a session wrote that wrote no `? memory`
+pub says_text : (s : State) (input before written : List ℕ) (left after : Option (List ℕ)) (result : Result (Unit {0}) SessionError) → ByResult s input before left after result → after ≡ Some (before ++ written) → says_memory written ≡ false → OnOk result (written ≡ session_text s input)
+says_text s input before written left after (Ok u) told is none =
+    let same : written ≡ told.talk.text = append_cancel_left before written told.talk.text (some_is _ _ (sym is ∙ told.all_written)) in
+    same ∙ ap (λ (t : Talk). t.text) (tells_all s (input_lines (readable input)) told.talk told.all_lines (ap says_memory (sym same) ∙ none))
+says_text s input before written left after (Err e) told is none = tt

@@ -1,6 +1,5 @@
 -- Breakpoints stay in order over a session.
-use Rattle.std.proofs.Common.{◌≡◌, Bool, true, false, List, [], ◌∷◌, fold, refl, codes}
-use Rattle.std.specs.Prelude.{if◌then◌else◌}
+use Rattle.std.proofs.Common.{◌≡◌, true, List, [], ◌∷◌, fold, refl, codes}
 use Rattle.bpf_machine.specs.State.{State}
 use Rattle.history.specs.Search.{first_stop}
 use Rattle.debugger.specs.Answers.{Answer, Line, World, answer_of, answer_to, break_text, can_go_back, can_go_on, can_go_to, clear_text, is_refused, is_slot, moves_to, out_of_range, says, sets_breakpoints}
@@ -10,14 +9,11 @@ use Rattle.debugger.specs.Rows.{StaysInOrder}
 use Rattle.debugger.specs.Session.{Talk, first_talk, hear, with_answer}
 use Rattle.debugger.specs.declared.command.Command.{Command}
 use Rattle.debugger.specs.declared.command.Command.TheVariants.{SetBreakpoint, ClearBreakpoint, Forward, Back, Go, Continue, ReverseContinue, Registers, Listing, Quit, Unknown}
+use Rattle.debugger.proofs.Quit.{either}
 use Rattle.debugger.proofs.Slots.{sets_and_clears}
 
 abbrev Ordered : World → Type 0
 Ordered w = in_order w.breakpoints ≡ true
-
-either : {A : Type 0} (P : A → Type 0) (b : Bool) (x y : A) → P x → P y → P (if b then x else y)
-either P true x y first second = first
-either P false x y first second = second
 
 answer_ordered : (s : State) (w : World) (c : Command) → Ordered w → Ordered (answer_of s w c).next
 unfolding answer_of

@@ -1,9 +1,18 @@
 -- Breakpoints that are set and cleared.
-use Rattle.std.proofs.Common.{◌≡◌, ℕ, zero, suc, ◌+◌, ◌<◌, Bool, true, false, not, ◌||◌, ◌&&◌, List, [], ◌∷◌, refl, sym, ap, ◌∙◌, arith, subst}
+use Rattle.std.proofs.Common.{◌≡◌, ℕ, zero, suc, ◌+◌, ◌<◌, Bool, true, false, not, ◌||◌, ◌&&◌, List, [], ◌∷◌, refl, sym, ap, ◌∙◌, arith, subst, cond}
 use Rattle.std.specs.Prelude.{filter, insert, nat_eq, nat_lt, if◌then◌else◌}
 use Rattle.std.specs.List.{list_all, list_any}
+use Rattle.std.specs.List.Retain.{RetainsInTurn}
 use Rattle.std.proofs.lemmas.Bool.Decides.{nat_tests}
 use Rattle.debugger.specs.Breakpoints.{SetsAndClears, has_breakpoint, place_of, without_breakpoint, in_order}
+
+-- what is left where each call says whether the slot passes, and changes nothing
+pub retained : {F : Type 0} (R : F → ℕ → Bool → F → ℕ → Type 0) (keep : ℕ → Bool) (f : F) → ((s : ℕ) (said : Bool) (g : F) (t : ℕ) → R f s said g t → (said ≡ keep s) × (g ≡ f) × (t ≡ s)) → (slots left : List ℕ) → RetainsInTurn R f slots left → left ≡ filter keep slots
+retained R keep f says [] left none = none
+retained R keep f says (s ∷ slots) left kept =
+    let said = says s kept.0 kept.1 kept.2 kept.3 in
+    let rest = retained R keep f says slots kept.4 (subst (λ g. RetainsInTurn R g slots kept.4) said.1 kept.5) in
+    kept.6 ∙ (λ i. cond (said.0 i) (said.2 i ∷ rest i) (rest i))
 
 or_swap : (a b c : Bool) → a || (b || c) ≡ b || (a || c)
 or_swap true true c = refl

@@ -4,7 +4,8 @@ use Rattle.std.proofs.lemmas.List.{length_push}
 use Rattle.std.proofs.lemmas.Fmt.{decimal_digit, decimal_step, length-decimal-le}
 use Rattle.std.specs.Prelude.{slice_index}
 use Rattle.bpf_machine.specs.State.{State}
-use Rattle.bpf_machine.specs.Text.{hex_digits, hex_digit, register_line, register_lines, registers_text}
+use Rattle.insn_codec.specs.Lines.{hex_digits, hex_digit}
+use Rattle.bpf_machine.specs.Text.{register_line, register_lines, registers_text}
 
 -- two pieces, one after the other, are one
 pub then_more : (old mid new a b : List ℕ) → mid ≡ old ++ a → new ≡ mid ++ b → new ≡ old ++ (a ++ b)

@@ -1,6 +1,7 @@
 pub mod Streams
 pub mod Byte
 pub mod Commands
+pub mod CommandLines
 pub mod Breakpoints
 pub mod Listing
 pub mod Answers

@@ -2,10 +2,10 @@
 use Rattle.std.specs.Prelude.{◌≡◌, ℕ, true, false, List, [], ◌∷◌, ◌++◌, codes, map, replicate}
 use Rattle.bpf_machine.specs.State.{State}
 use Rattle.bpf_machine.specs.Rows.{start_of}
-use Rattle.debugger.specs.Answers.{Line}
+use Rattle.debugger.specs.Answers.{Line, World, answer_to}
 use Rattle.debugger.specs.Breakpoints.{in_order}
 use Rattle.debugger.specs.Commands.{command_of}
-use Rattle.debugger.specs.Session.{Talk, talk_of, granted, session_text}
+use Rattle.debugger.specs.Session.{Talk, talk_of, cut, granted, says_memory, session_text}
 use Rattle.debugger.specs.Told.{Heard}
 use Rattle.debugger.specs.declared.command.Command.TheVariants.{Forward, Unknown}
 
@@ -51,9 +51,13 @@ pub record RowsStand : Type 0 where
   pub refuses_new : (talk_of five ((codes "b 1", true) ∷ (codes "b 1", false) ∷ (codes "b 1", true) ∷ (codes "c 5", true) ∷ (codes "l", true) ∷ [])).text ≡ codes "? memory\nbreak 1\nbreak 1\n? memory\n? memory\n"
   pub refuses_no_more : (talk_of five ((codes "s 0", true) ∷ (codes "b 65536", true) ∷ (codes "d 3", true) ∷ (codes "x", true) ∷ (codes "q", true) ∷ [])).text ≡ codes "? range\n? range\nclear 3\n? what\n"
 
--- where no line answered `? memory`, all was said that the lines ask for
+-- where no line of the text is `? memory`, all was said that the lines ask for
 abbrev pub TellsAll : Type 0
-TellsAll = (s : State) (lines : List (List ℕ)) (t : Talk) → Heard s lines t → t.refusals ≡ 0 → t ≡ talk_of s (map granted lines)
+TellsAll = (s : State) (lines : List (List ℕ)) (t : Talk) → Heard s lines t → says_memory t.text ≡ false → t ≡ talk_of s (map granted lines)
+
+-- every answer is whole lines
+abbrev pub AnswersInLines : Type 0
+AnswersInLines = (s : State) (w : World) (l : Line) → (cut (answer_to s w l).text).1 ≡ []
 
 -- whatever is said, the breakpoints stand in order, none twice
 abbrev pub StaysInOrder : Type 0

@@ -1,7 +1,10 @@
 -- The text of a session.
-use Rattle.std.specs.Prelude.{ℕ, ◌+◌, Bool, true, false, List, [], ◌∷◌, ◌++◌, fold, map, nat_eq, if◌then◌else◌}
+use Rattle.std.specs.Prelude.{ℕ, ◌^◌, Bool, false, List, [], ◌∷◌, ◌++◌, codes, fold, map, nat_eq, take, if◌then◌else◌}
+use Rattle.std.specs.List.{list_any}
+use Rattle.std.specs.Str.{bytes_eq}
 use Rattle.bpf_machine.specs.State.{State}
-use Rattle.debugger.specs.Answers.{World, Line, world_at, is_refused, answer_to}
+use Rattle.debugger.specs.Answers.{World, Line, world_at, answer_to}
+use Rattle.debugger.specs.Commands.{command_of, is_quit}
 
 -- the lines that have ended, and the bytes after them
 abbrev pub cut_byte : List (List ℕ) × List ℕ → ℕ → List (List ℕ) × List ℕ
@@ -19,24 +22,26 @@ with_rest lines (b ∷ bs) = lines ++ (b ∷ bs) ∷ []
 abbrev pub input_lines : List ℕ → List (List ℕ)
 input_lines input = with_rest (cut input).0 (cut input).1
 
--- the world and the text so far, and at how many lines memory was refused
+-- of an input only the first 2^63 bytes are read
+unfoldable pub readable : List ℕ → List ℕ
+readable input = take (2 ^ 63) input
+
+-- one of these lines ends a session
+abbrev pub has_quit : List (List ℕ) → Bool
+has_quit lines = list_any (λ line. is_quit (command_of line)) lines
+
+-- the world and the text so far
 pub record Talk : Type 0 where
   pub world : World
   pub text : List ℕ
-  pub refusals : ℕ
 
 abbrev pub first_talk : Talk
-first_talk = record { world = world_at [] 0 false; text = []; refusals = 0 }
-
-abbrev pub one_if : Bool → ℕ
-one_if true = 1
-one_if false = 0
+first_talk = record { world = world_at [] 0 false; text = [] }
 
 abbrev pub with_answer : State → Talk → Line → Talk
 with_answer s t l = record {
   world = (answer_to s t.world l).next;
   text = t.text ++ (answer_to s t.world l).text;
-  refusals = t.refusals + one_if (is_refused s t.world l);
 }
 
 -- one more line, which is not heard once the session has ended
@@ -52,4 +57,8 @@ granted line = (line, false)
 
 -- the text of a session on an input
 abbrev pub session_text : State → List ℕ → List ℕ
-session_text s input = (talk_of s (map granted (input_lines input))).text
+session_text s input = (talk_of s (map granted (input_lines (readable input)))).text
+
+-- a line of this text is `? memory`
+abbrev pub says_memory : List ℕ → Bool
+says_memory text = list_any (bytes_eq (codes "? memory")) (cut text).0

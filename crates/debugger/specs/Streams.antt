@@ -1,6 +1,14 @@
 -- What a read and a write do to known bytes.
 use Rattle.std.specs.Prelude.{◌≡◌, ℕ, ◌+◌, ◌%◌, ◌^◌, ◌<◌, ◌≤◌, List, [], ◌++◌, length, take, drop, Option, Some}
 
+-- a reader or a writer: the bytes that it has left or that it took, where they are known, and how many of its calls have failed
+pub record Stream : Type 0 where
+  pub bytes : Option (List ℕ)
+  pub failed : ℕ
+
+abbrev pub stream : Option (List ℕ) → ℕ → Stream
+stream bytes failed = record { bytes = bytes; failed = failed }
+
 -- one more failure, counted in 64 bits
 abbrev pub one_more : ℕ → ℕ
 one_more failures = (failures + 1) % 2 ^ 64

@@ -2,39 +2,44 @@
 ghost use Rattle.std.specs.Prelude.{◌≡◌, ◌≤◌, ◌<◌, ◌+◌, [], ◌++◌, ◌∷◌, ℕ, length, decimal};
 ghost use Rattle.std.specs.Fmt.{signed_decimal};
 ghost use Rattle.guest_memory.specs.Text.{fault_text};
+ghost use Rattle.insn_codec.specs.Codes.{register_number};
 ghost use Rattle.debugger.specs.Answers.{break_text, clear_text};
 ghost use Rattle.debugger.specs.Listing.{outside_line};
 ghost use Rattle.bpf_machine.specs.Text.{hex_digit, hex_digits, move_line, register_line, register_lines, registers_text, status_text, word_text};
 
-use arrayvec::ArrayVec;
 use bpf_machine::Status;
 use guest_memory::Fault;
 use history::Emulator;
+use insn_codec::Register;
+use smallvec::SmallVec;
+use std::alloc::Global;
 use std::marker::Model;
 
 /// The text of an answer other than a listing, in room of its own for 256 bytes, the most being
 /// the 243 of the registers.
 #[derive(Drop)]
 pub struct AnswerText {
-    bytes: ArrayVec<u8, 256>,
+    bytes: SmallVec<u8, 256>,
 }
 
 impl Model for AnswerText {
-    ghost use Rattle.std.specs.Prelude.{ℕ, List};
+    ghost use Rattle.std.specs.Prelude.{◌≡◌, ℕ, List};
     ghost use Rattle.std.specs.Coded.{codes};
 
     ghost Value = { List ℕ };
 
     ghost view = { λ t. t.bytes.items };
+
+    ghost invariant = { λ t. t.bytes.capacity ≡ 256 };
 }
 
 impl AnswerText {
-    /// No text.
-    pub fn new() -> AnswerText
+    /// No text. It takes no memory.
+    pub fn new(alloc: Global) -> AnswerText
         ensures { result ≡ [] }
     {
         AnswerText {
-            bytes: ArrayVec::new(),
+            bytes: SmallVec::new(alloc),
         }
     }
 
@@ -49,7 +54,7 @@ impl AnswerText {
         requires { length self.old + length bytes.now ≤ 256 }
         ensures { self.new ≡ self.old ++ bytes.now }
     {
-        match self.bytes.try_extend_from_slice(bytes) {
+        match self.bytes.extend_from_slice(bytes) {
             Ok(()) => {}
             Err(_) => unreachable!(),
         }
@@ -59,7 +64,7 @@ impl AnswerText {
         requires { length self.old < 256 }
         ensures { self.new ≡ self.old ++ byte ∷ [] }
     {
-        self.bytes.push(byte);
+        self.bytes.push_reserved(byte);
     }
 
     /// Appends a number's decimal digits.
@@ -198,14 +203,14 @@ impl AnswerText {
 
     /// Appends a register's line.
     #[tactic(auto, unfolding(bpf_machine::specs::Text::register_line))]
-    fn push_register(&mut self, number: u64, word: u64)
+    fn push_register(&mut self, number: u8, word: u64)
         requires number { number < 11 }
         requires room { length self.old ≤ 233 }
         ensures text { self.new ≡ self.old ++ register_line number word }
         ensures length { length self.new ≤ length self.old + 23 }
     {
         self.push_bytes(b"r");
-        self.push_small(number);
+        self.push_small(u64::from(number));
         self.push_bytes(b" ");
         self.push_word(word);
         self.push_byte(b'\n');
@@ -217,9 +222,20 @@ impl AnswerText {
         requires { self.old ≡ [] }
         ensures { self.new ≡ registers_text (E.state machine.now) }
     {
-        for number in 0..11usize {
-            self.push_register(number as u64, machine.register(number));
+        for number in 0..11u8 {
+            self.push_register(number, machine.register(register_numbered(number)));
         }
+    }
+}
+
+/// The register with this number.
+fn register_numbered(number: u8) -> Register
+    requires { number < 11 }
+    ensures { register_number result ≡ number }
+{
+    match Register::of(number) {
+        Some(register) => register,
+        None => unreachable!(),
     }
 }
 

@@ -1,15 +1,26 @@
 //! Laws of sessions, each the clause of a function that does nothing.
 ghost use Rattle.debugger.specs.Breakpoints.{SetsAndClears};
-ghost use Rattle.debugger.specs.Rows.{RowsStand, StaysInOrder, TellsAll};
+ghost use Rattle.debugger.specs.CommandLines.{CommandsHaveLines};
+ghost use Rattle.debugger.specs.Rows.{AnswersInLines, RowsStand, StaysInOrder, TellsAll};
 
 /// Sessions written out by hand.
 pub fn rows_stand()
     ensures { RowsStand }
 {}
 
+/// A line is read as the command whose line it is, and as none where it is the line of none.
+pub fn commands_have_lines()
+    ensures { CommandsHaveLines }
+{}
+
 /// A session in which no line answered `? memory` said all that its lines ask for.
 pub fn tells_all()
     ensures { TellsAll }
+{}
+
+/// Every answer is whole lines.
+pub fn answers_in_lines()
+    ensures { AnswersInLines }
 {}
 
 /// Setting and clearing a breakpoint change whether this slot has one and nothing else.

@@ -1,96 +1,87 @@
 //! Moves over a run.
-ghost use Rattle.std.specs.Prelude.{◌≡◌, ◌+◌, ◌-◌, true, codes, if◌then◌else◌, IfOk, OnErr, OnOk};
-ghost use Rattle.bpf_machine.specs.Text.{move_text};
-ghost use Rattle.bpf_machine.specs.Trace.{state_after};
+ghost use Rattle.std.specs.Prelude.{◌≡◌, ◌+◌, ◌-◌, true};
 ghost use Rattle.history.specs.Search.{first_stop, last_stop};
 ghost use Rattle.debugger.specs.Answers.{can_go_back, can_go_on, can_go_to, in_range};
-ghost use Rattle.debugger.specs.Replies.{reply_text};
+ghost use Rattle.debugger.specs.Replies.{Moves};
 
 use crate::answer_text::AnswerText;
 use crate::reply::Reply;
 use history::{Emulator, History};
-use std::alloc::AllocError;
+use std::alloc::{AllocError, Global};
 
 /// Goes `n` steps on.
-pub fn forward<H: History>(h: &mut H, n: u64) -> Result<Reply, AllocError>
-    ensures place { OnOk result (H.place h.new ≡ (if can_go_on (H.place h.old) n then H.place h.old + n else H.place h.old)) }
-    ensures text { IfOk result (λ reply. reply_text reply ≡ (if can_go_on (H.place h.old) n then move_text (H.place h.old + n) (state_after (H.place h.old + n) (H.origin h.old)) else codes "? range\n")) }
-    ensures refused { OnErr result (can_go_on (H.place h.old) n ≡ true) }
-    ensures err { OnErr result (H.place h.new ≡ H.place h.old) }
+pub fn forward<H: History>(alloc: Global, h: &mut H, n: u64) -> Result<Reply, AllocError>
+    ensures moves { Moves (H.origin h.old) (can_go_on (H.place h.old) n) (H.place h.old) (H.place h.old + n) (H.place h.new) result }
     ensures origin { H.origin h.new ≡ H.origin h.old }
 {
     let now = h.now();
     if !can_go_on(now, n) {
-        return Ok(Reply::of(b"? range\n"));
+        return Ok(Reply::Fixed(b"? range\n"));
     }
-    move_to(h, now + n)
+    move_to(alloc, h, now + n)
 }
 
 /// Goes `n` steps back.
-pub fn back<H: History>(h: &mut H, n: u64) -> Result<Reply, AllocError>
-    ensures place { OnOk result (H.place h.new ≡ (if can_go_back (H.place h.old) n then H.place h.old - n else H.place h.old)) }
-    ensures text { IfOk result (λ reply. reply_text reply ≡ (if can_go_back (H.place h.old) n then move_text (H.place h.old - n) (state_after (H.place h.old - n) (H.origin h.old)) else codes "? range\n")) }
-    ensures refused { OnErr result (can_go_back (H.place h.old) n ≡ true) }
-    ensures err { OnErr result (H.place h.new ≡ H.place h.old) }
+pub fn back<H: History>(alloc: Global, h: &mut H, n: u64) -> Result<Reply, AllocError>
+    ensures moves { Moves (H.origin h.old) (can_go_back (H.place h.old) n) (H.place h.old) (H.place h.old - n) (H.place h.new) result }
     ensures origin { H.origin h.new ≡ H.origin h.old }
 {
     let now = h.now();
     if !can_go_back(now, n) {
-        return Ok(Reply::of(b"? range\n"));
+        return Ok(Reply::Fixed(b"? range\n"));
     }
-    move_to(h, now - n)
+    move_to(alloc, h, now - n)
 }
 
 /// Goes to step `k`.
-pub fn go_to<H: History>(h: &mut H, k: u64) -> Result<Reply, AllocError>
-    ensures place { OnOk result (H.place h.new ≡ (if can_go_to k then k else H.place h.old)) }
-    ensures text { IfOk result (λ reply. reply_text reply ≡ (if can_go_to k then move_text k (state_after k (H.origin h.old)) else codes "? range\n")) }
-    ensures refused { OnErr result (can_go_to k ≡ true) }
-    ensures err { OnErr result (H.place h.new ≡ H.place h.old) }
+pub fn go_to<H: History>(alloc: Global, h: &mut H, k: u64) -> Result<Reply, AllocError>
+    ensures moves { Moves (H.origin h.old) (can_go_to k) (H.place h.old) k (H.place h.new) result }
     ensures origin { H.origin h.new ≡ H.origin h.old }
 {
     if !can_go_to(k) {
-        return Ok(Reply::of(b"? range\n"));
+        return Ok(Reply::Fixed(b"? range\n"));
     }
-    move_to(h, k)
+    move_to(alloc, h, k)
 }
 
 /// Goes on to the next stop, at most `n` steps.
-pub fn continue_on<H: History>(h: &mut H, stops: &[u64], n: u64) -> Result<Reply, AllocError>
-    ensures place { OnOk result (H.place h.new ≡ (if can_go_on (H.place h.old) n then first_stop stops.now (H.origin h.old) (H.place h.old) n else H.place h.old)) }
-    ensures text { IfOk result (λ reply. reply_text reply ≡ (if can_go_on (H.place h.old) n then move_text (first_stop stops.now (H.origin h.old) (H.place h.old) n) (state_after (first_stop stops.now (H.origin h.old) (H.place h.old) n) (H.origin h.old)) else codes "? range\n")) }
-    ensures refused { OnErr result (can_go_on (H.place h.old) n ≡ true) }
-    ensures err { OnErr result (H.place h.new ≡ H.place h.old) }
+pub fn continue_on<H: History>(
+    alloc: Global,
+    h: &mut H,
+    stops: &[u64],
+    n: u64,
+) -> Result<Reply, AllocError>
+    ensures moves { Moves (H.origin h.old) (can_go_on (H.place h.old) n) (H.place h.old) (first_stop stops.now (H.origin h.old) (H.place h.old) n) (H.place h.new) result }
     ensures origin { H.origin h.new ≡ H.origin h.old }
 {
     let now = h.now();
     if !can_go_on(now, n) {
-        return Ok(Reply::of(b"? range\n"));
+        return Ok(Reply::Fixed(b"? range\n"));
     }
     let place = h.first(now + n, stops)?;
-    move_to(h, place)
+    move_to(alloc, h, place)
 }
 
 /// Goes back to the last breakpoint before.
-pub fn continue_back<H: History>(h: &mut H, stops: &[u64]) -> Result<Reply, AllocError>
-    ensures place { OnOk result (H.place h.new ≡ last_stop stops.now (H.origin h.old) (H.place h.old)) }
-    ensures text { IfOk result (λ reply. reply_text reply ≡ move_text (last_stop stops.now (H.origin h.old) (H.place h.old)) (state_after (last_stop stops.now (H.origin h.old) (H.place h.old)) (H.origin h.old))) }
-    ensures err { OnErr result (H.place h.new ≡ H.place h.old) }
+pub fn continue_back<H: History>(
+    alloc: Global,
+    h: &mut H,
+    stops: &[u64],
+) -> Result<Reply, AllocError>
+    ensures moves { Moves (H.origin h.old) true (H.place h.old) (last_stop stops.now (H.origin h.old) (H.place h.old)) (H.place h.new) result }
     ensures origin { H.origin h.new ≡ H.origin h.old }
 {
     let place = h.last(stops)?;
-    move_to(h, place)
+    move_to(alloc, h, place)
 }
 
 /// Moves to step `k`, and answers with its line. The room for the line is there before anything
 /// moves.
-fn move_to<H: History>(h: &mut H, k: u64) -> Result<Reply, AllocError>
-    ensures place { OnOk result (H.place h.new ≡ k) }
-    ensures text { IfOk result (λ reply. reply_text reply ≡ move_text k (state_after k (H.origin h.old))) }
-    ensures err { OnErr result (H.place h.new ≡ H.place h.old) }
+fn move_to<H: History>(alloc: Global, h: &mut H, k: u64) -> Result<Reply, AllocError>
+    ensures moves { Moves (H.origin h.old) true (H.place h.old) k (H.place h.new) result }
     ensures origin { H.origin h.new ≡ H.origin h.old }
 {
-    let mut text = AnswerText::new();
+    let mut text = AnswerText::new(alloc);
     h.go(k)?;
     let machine = h.machine();
     text.push_move(k, machine.pc(), machine.status());

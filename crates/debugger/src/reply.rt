@@ -1,5 +1,5 @@
 //! Answers.
-ghost use Rattle.std.specs.Prelude.{◌≡◌, ◌≤◌, length};
+ghost use Rattle.std.specs.Prelude.{◌≡◌};
 ghost use Rattle.debugger.specs.Replies.{reply_text};
 
 use crate::answer_text::AnswerText;
@@ -7,6 +7,8 @@ use crate::answer_text::AnswerText;
 /// What a line is answered with.
 #[derive(Drop)]
 pub enum Reply {
+    /// A text that is the same each time.
+    Fixed(&'static [u8]),
     /// A text that takes no memory.
     Text(AnswerText),
     /// Lines of code.
@@ -22,20 +24,11 @@ pub struct Answer {
 }
 
 impl Reply {
-    /// These bytes.
-    pub fn of(bytes: &[u8]) -> Reply
-        requires { length bytes.now ≤ 256 }
-        ensures { reply_text result ≡ bytes.now }
-    {
-        let mut text = AnswerText::new();
-        text.push_bytes(bytes);
-        Reply::Text(text)
-    }
-
     pub fn as_bytes(&self) -> &[u8]
         ensures { result.now ≡ reply_text self.now }
     {
         match self {
+            Reply::Fixed(text) => text,
             Reply::Text(text) => text.as_slice(),
             Reply::Lines(lines) => lines.as_bytes(),
         }

@@ -1,12 +1,15 @@
-//! Sessions with a program of two slots.
+//! Sessions with programs of a few slots.
+ghost use Rattle.std.specs.Prelude.{◌<◌};
 
 use crate::doubles::{Feed, Tape};
 use crate::session_error::SessionError;
 use crate::sessions::session;
 use crate::sink::Sink;
 use crate::source::Source;
+use crate::transfer::next_byte;
 use bpf_machine::Table;
 use loader::Image;
+use std::alloc::Global;
 use std::test::Fail;
 
 /// `r0 = 5` and `exit`.
@@ -77,16 +80,35 @@ const COMMANDS: [(&[u8], &[u8], &[u8]); 10] = [
     ),
 ];
 
+/// How a session with this code ends.
+fn ended(alloc: Global, code: &[u8], feed: &mut Feed, tape: &mut Tape) -> Result<Ended, Fail> {
+    let code = Vec::from_slice(alloc, code)?;
+    let image = Image::new(code, Vec::new(alloc))?;
+    Ok(session(alloc, image, Table::nulls(), feed, tape))
+}
+
+type Ended = Result<(), SessionError>;
+
+/// Whether a session with this code, which reads and writes in pieces of this size, says this.
+fn says(
+    alloc: Global,
+    code: &[u8],
+    input: &'static [u8],
+    said: &[u8],
+    piece: usize,
+) -> Result<bool, Fail>
+    requires { 0 < piece }
+{
+    let mut feed = Feed::new(input, piece, 0);
+    let mut tape = Tape::new(Vec::new(alloc), piece, 0, 0);
+    let answer = ended(alloc, code, &mut feed, &mut tape)?;
+    Ok(answer.is_ok() && tape.bytes() == said)
+}
+
 #[test]
 fn breaks_and_lists(rt: HostRuntime) -> Result<(), Fail> {
     for (code, input, said) in COMMANDS {
-        let code = Vec::from_slice(rt.alloc(), code)?;
-        let image = Image::new(code, Vec::new(rt.alloc()))?;
-        let mut feed = Feed::new(Vec::from_slice(rt.alloc(), input)?, 1000, 0);
-        let mut tape = Tape::new(Vec::new(rt.alloc()), 1000, 0, 0);
-        let answer = session(rt.alloc(), image, Table::nulls(), &mut feed, &mut tape);
-        assert_eq!(rt; answer, Ok(()));
-        assert_eq!(rt; tape.bytes(), said);
+        assert!(rt; says(rt.alloc(), code, input, said, 1000)?);
     }
     Ok(())
 }
@@ -118,24 +140,16 @@ const TALKS: [(&[u8], &[u8]); 8] = [
     ),
 ];
 
-/// A short script, and the beginnings of its text after each of its lines.
+/// A short script, and its text.
 const SCRIPT: &[u8] = b"s 1\nx\n";
 
 const SAID: &[u8] = b"step 1 pc 1 running\n? what\n";
-
-const ENDS: [usize; 3] = [0, 20, 27];
 
 #[test]
 fn answers_lines(rt: HostRuntime) -> Result<(), Fail> {
     for (input, said) in TALKS {
         for piece in [1usize, 2, 1000] {
-            let code = Vec::from_slice(rt.alloc(), CODE)?;
-            let image = Image::new(code, Vec::new(rt.alloc()))?;
-            let mut feed = Feed::new(Vec::from_slice(rt.alloc(), input)?, piece, 0);
-            let mut tape = Tape::new(Vec::new(rt.alloc()), piece, 0, 0);
-            let answer = session(rt.alloc(), image, Table::nulls(), &mut feed, &mut tape);
-            assert_eq!(rt; answer, Ok(()));
-            assert_eq!(rt; tape.bytes(), said);
+            assert!(rt; says(rt.alloc(), CODE, input, said, piece)?);
         }
     }
     Ok(())
@@ -153,13 +167,7 @@ const WENT_BACK: &[u8] =
 
 #[test]
 fn goes_back_over_a_store(rt: HostRuntime) -> Result<(), Fail> {
-    let code = Vec::from_slice(rt.alloc(), STORES)?;
-    let image = Image::new(code, Vec::new(rt.alloc()))?;
-    let mut feed = Feed::new(Vec::from_slice(rt.alloc(), BACK)?, 1000, 0);
-    let mut tape = Tape::new(Vec::new(rt.alloc()), 1000, 0, 0);
-    let answer = session(rt.alloc(), image, Table::nulls(), &mut feed, &mut tape);
-    assert_eq!(rt; answer, Ok(()));
-    assert_eq!(rt; tape.bytes(), WENT_BACK);
+    assert!(rt; says(rt.alloc(), STORES, BACK, WENT_BACK, 1000)?);
     Ok(())
 }
 
@@ -192,63 +200,93 @@ const REFUSED: [(&[u8], [&[u8]; 3]); 3] = [
     ),
 ];
 
+/// Whether a session says one of these, or nothing where it could not begin.
+fn says_one_of(alloc: Global, input: &'static [u8], said: &[&[u8]]) -> Result<bool, Fail> {
+    let mut feed = Feed::new(input, 1, 0);
+    let mut tape = Tape::new(Vec::with_capacity(alloc, 200)?, 1000, 0, 0);
+    match ended(alloc, CODE, &mut feed, &mut tape)? {
+        Ok(()) => Ok(said.contains(&tape.bytes())),
+        Err(error) => Ok(error == SessionError::Memory && tape.bytes().is_empty()),
+    }
+}
+
 #[test]
 fn refuses_single_lines(rt: HostRuntime) -> Result<(), Fail> {
     for (input, said) in REFUSED {
-        let code = Vec::from_slice(rt.alloc(), CODE)?;
-        let image = Image::new(code, Vec::new(rt.alloc()))?;
-        let mut feed = Feed::new(Vec::from_slice(rt.alloc(), input)?, 1, 0);
-        let mut tape = Tape::new(Vec::with_capacity(rt.alloc(), 200)?, 1000, 0, 0);
-        let answer = session(rt.alloc(), image, Table::nulls(), &mut feed, &mut tape);
-        if answer == Err(SessionError::Memory) {
-            assert_eq!(rt; tape.bytes(), b"".as_slice());
-            return Ok(());
-        }
-        assert_eq!(rt; answer, Ok(()));
-        assert!(rt; said.contains(&tape.bytes()));
+        assert!(rt; says_one_of(rt.alloc(), input, &said)?);
     }
     Ok(())
 }
 
+/// Whether a session whose read with this number fails says this.
+fn stops_at_read(alloc: Global, fails_at: u64, said: &[u8]) -> Result<bool, Fail> {
+    let mut feed = Feed::new(SCRIPT, 1, fails_at);
+    let mut tape = Tape::new(Vec::new(alloc), 1000, 0, 0);
+    let answer = ended(alloc, CODE, &mut feed, &mut tape)?;
+    let counted = feed.failures() == 1 && tape.bytes() == said;
+    Ok(counted && answer == Err(SessionError::S1))
+}
+
+/// The reads that fail, and what was said.
+const FAILED_READS: [(u64, &[u8]); 7] = [
+    (1, b""),
+    (2, b""),
+    (3, b""),
+    (4, b""),
+    (5, b"step 1 pc 1 running\n"),
+    (6, b"step 1 pc 1 running\n"),
+    (7, SAID),
+];
+
 #[test]
 fn stops_where_a_read_fails(rt: HostRuntime) -> Result<(), Fail> {
-    for fails_at in 1..8u64 {
-        let code = Vec::from_slice(rt.alloc(), CODE)?;
-        let image = Image::new(code, Vec::new(rt.alloc()))?;
-        let mut feed = Feed::new(Vec::from_slice(rt.alloc(), SCRIPT)?, 1, fails_at);
-        let mut tape = Tape::new(Vec::new(rt.alloc()), 1000, 0, 0);
-        let answer = session(rt.alloc(), image, Table::nulls(), &mut feed, &mut tape);
-        assert_eq!(rt; answer, Err(SessionError::S1), "at read {fails_at}");
-        assert_eq!(rt; feed.failures(), 1);
-        let end = match fails_at {
-            1..=4 => ENDS[0],
-            5..=6 => ENDS[1],
-            _ => ENDS[2],
-        };
-        assert_eq!(rt; tape.bytes(), &SAID[..end], "at read {fails_at}");
+    for (fails_at, said) in FAILED_READS {
+        assert!(rt;
+            stops_at_read(rt.alloc(), fails_at, said)?,
+            "at read {fails_at}"
+        );
     }
     Ok(())
+}
+
+/// Whether a session whose write with one of these numbers fails, or takes no byte, says this.
+fn stops_at_write(alloc: Global, fails_at: u64, stalls_at: u64, said: &[u8]) -> Result<bool, Fail> {
+    let mut feed = Feed::new(SCRIPT, 1, 0);
+    let mut tape = Tape::new(Vec::new(alloc), 1, fails_at, stalls_at);
+    let answer = ended(alloc, CODE, &mut feed, &mut tape)?;
+    let counted = tape.failures() == 1 && tape.bytes() == said;
+    Ok(counted && answer == Err(SessionError::S2))
 }
 
 #[test]
 fn stops_where_a_write_fails(rt: HostRuntime) -> Result<(), Fail> {
     for end in 0..27usize {
-        let fails_at = end as u64 + 1;
-        for stalls in [false, true] {
-            let code = Vec::from_slice(rt.alloc(), CODE)?;
-            let image = Image::new(code, Vec::new(rt.alloc()))?;
-            let mut feed = Feed::new(Vec::from_slice(rt.alloc(), SCRIPT)?, 1, 0);
-            let room = Vec::new(rt.alloc());
-            let mut tape = if stalls {
-                Tape::new(room, 1, 0, fails_at)
-            } else {
-                Tape::new(room, 1, fails_at, 0)
-            };
-            let answer = session(rt.alloc(), image, Table::nulls(), &mut feed, &mut tape);
-            assert_eq!(rt; answer, Err(SessionError::S2), "at write {fails_at}");
-            assert_eq!(rt; tape.failures(), 1);
-            assert_eq!(rt; tape.bytes(), &SAID[..end], "at write {fails_at}");
-        }
+        let number = end as u64 + 1;
+        let said = &SAID[..end];
+        assert!(rt;
+            stops_at_write(rt.alloc(), number, 0, said)?,
+            "at write {number}"
+        );
+        assert!(rt;
+            stops_at_write(rt.alloc(), 0, number, said)?,
+            "at write {number}"
+        );
     }
     Ok(())
+}
+
+/// A line behind `q` is left, and so is a line behind one whose answer was not written.
+#[test]
+fn reads_no_further(rt: HostRuntime) -> Result<(), Fail> {
+    assert!(rt; leaves(rt.alloc(), b"x\nq\ns 1\n", 0, b's')?);
+    assert!(rt; leaves(rt.alloc(), b"x\ns 1\n", 1, b's')?);
+    Ok(())
+}
+
+/// Whether this is the first byte that a session leaves whose write with this number fails.
+fn leaves(alloc: Global, input: &'static [u8], fails_at: u64, next: u8) -> Result<bool, Fail> {
+    let mut feed = Feed::new(input, 7, 0);
+    let mut tape = Tape::new(Vec::new(alloc), 1000, fails_at, 0);
+    let _ = ended(alloc, CODE, &mut feed, &mut tape)?;
+    Ok(next_byte(&mut feed) == Ok(Some(next)))
 }

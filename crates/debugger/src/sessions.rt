@@ -1,61 +1,90 @@
 //! Sessions.
-ghost use Rattle.std.specs.Prelude.{◌≡◌, ◌≤◌, ◌<◌, ◌++◌, ◌∷◌, ℕ, List, [], Some, Err, length, take, OnOk};
-ghost use Rattle.arrayvec.specs.ArrayVec.{array_vec_len};
+ghost use Rattle.std.specs.Prelude.{◌≡◌, ℕ, List, [], Some, Err};
 ghost use Rattle.bpf_machine.specs.State.{start_state};
-ghost use Rattle.debugger.specs.Streams.{one_more};
-ghost use Rattle.debugger.specs.Told.{ByResult};
+ghost use Rattle.debugger.specs.Streams.{stream};
+ghost use Rattle.debugger.specs.Told.{ByResult, FailsByResult, IsSession};
 
 use crate::answering::hear_line;
 use crate::breakpoints::Breakpoints;
+use crate::line_start::LineStart;
 use crate::session_error::SessionError;
 use crate::sink::Sink;
 use crate::source::Source;
 use crate::transfer::next_byte;
-use arrayvec::ArrayVec;
 use bpf_machine::{Machine, Table};
 use guest_memory::Guest;
 use history::{History, Past};
 use loader::Image;
 use std::alloc::Global;
 
-/// A session: reads lines, and writes the answer to each before the next is read, until `q` or
-/// the input's end. It begins without breakpoints. Of an input only the first 2^63 bytes are read.
-/// Memory is taken only for a new breakpoint, for a move and for a listing: where it is refused,
-/// the line answers `? memory` and nothing has changed.
-pub fn session_over<H: History, R: Source, W: Sink>(
+/// A session with the run of an image on a table: reads lines, and writes the answer to each before
+/// the next is read, until `q` or the input's end. It begins at step 0 without breakpoints. Of an
+/// input only the first 2^63 bytes are read. Memory is taken to begin, and then only for a new
+/// breakpoint, for a move and for a listing: where it is refused, the line answers `? memory` and
+/// nothing has changed.
+///
+/// # Errors
+///
+/// `S1` where a read failed and `S2` where a write failed or took no byte, which end the session,
+/// and `Memory` before the first line.
+pub fn session<R: Source, W: Sink>(
+    alloc: Global,
+    image: Image,
+    table: Table,
+    r: &mut R,
+    w: &mut W,
+) -> Result<(), SessionError>
+    ensures { IsSession (start_state image table) (stream (R.left r.old) (R.failed r.old)) (stream (R.left r.new) (R.failed r.new)) (stream (W.taken w.old) (W.failed w.old)) (stream (W.taken w.new) (W.failed w.new)) result }
+{
+    let machine = Machine::<Guest>::start(alloc, image, table)?;
+    session_from::<Past<Machine<Guest>>, R, W>(alloc, machine, r, w)
+}
+
+/// A session with the run of a machine, shown by a history of the caller's kind.
+fn session_from<H: History, R: Source, W: Sink>(
+    alloc: Global,
+    machine: H::Machine,
+    r: &mut R,
+    w: &mut W,
+) -> Result<(), SessionError>
+    ensures { IsSession (H.Machine.state machine) (stream (R.left r.old) (R.failed r.old)) (stream (R.left r.new) (R.failed r.new)) (stream (W.taken w.old) (W.failed w.old)) (stream (W.taken w.new) (W.failed w.new)) result }
+{
+    let mut h = H::begin(alloc, machine)?;
+    session_over(alloc, &mut h, r, w)
+}
+
+/// A session with a run that a history shows at step 0.
+fn session_over<H: History, R: Source, W: Sink>(
     alloc: Global,
     h: &mut H,
     r: &mut R,
     w: &mut W,
 ) -> Result<(), SessionError>
     requires { H.place h.old ≡ 0 }
-    ensures told { (input before : List ℕ) → R.left r.old ≡ Some input → W.taken w.old ≡ Some before → ByResult (H.origin h.old) input before (R.left r.new) (W.taken w.new) result }
-    ensures s1 { result ≡ Err SessionError.S1 → (R.failed r.new ≡ one_more (R.failed r.old)) × (W.failed w.new ≡ W.failed w.old) }
-    ensures s2 { result ≡ Err SessionError.S2 → (R.failed r.new ≡ R.failed r.old) × (W.failed w.new ≡ one_more (W.failed w.old)) }
-    ensures ok { OnOk result ((R.failed r.new ≡ R.failed r.old) × (W.failed w.new ≡ W.failed w.old)) }
+    ensures session { IsSession (H.origin h.old) (stream (R.left r.old) (R.failed r.old)) (stream (R.left r.new) (R.failed r.new)) (stream (W.taken w.old) (W.failed w.old)) (stream (W.taken w.new) (W.failed w.new)) result }
     ensures no_memory { result ≡ Err SessionError.Memory → ⊥ }
 {
     let mut breakpoints = Breakpoints::new(alloc);
-    hear_lines(alloc, h, &mut breakpoints, r, w)
+    let mut line = LineStart::new(alloc);
+    hear_lines(alloc, h, &mut breakpoints, &mut line, r, w)
 }
 
-/// Answers line after line, from step 0 and no breakpoint on.
+/// Answers line after line, from step 0 on, without breakpoints.
 fn hear_lines<H: History, R: Source, W: Sink>(
     alloc: Global,
     h: &mut H,
     breakpoints: &mut Breakpoints,
+    line: &mut LineStart,
     r: &mut R,
     w: &mut W,
 ) -> Result<(), SessionError>
     requires place { H.place h.old ≡ 0 }
     requires no_breakpoint { breakpoints.old ≡ [] }
+    requires no_byte { line.old ≡ [] }
     ensures told { (input before : List ℕ) → R.left r.old ≡ Some input → W.taken w.old ≡ Some before → ByResult (H.origin h.old) input before (R.left r.new) (W.taken w.new) result }
-    ensures s1 { result ≡ Err SessionError.S1 → (R.failed r.new ≡ one_more (R.failed r.old)) × (W.failed w.new ≡ W.failed w.old) }
-    ensures s2 { result ≡ Err SessionError.S2 → (R.failed r.new ≡ R.failed r.old) × (W.failed w.new ≡ one_more (W.failed w.old)) }
-    ensures ok { OnOk result ((R.failed r.new ≡ R.failed r.old) × (W.failed w.new ≡ W.failed w.old)) }
+    ensures fails { FailsByResult (R.failed r.old) (R.failed r.new) (W.failed w.old) (W.failed w.new) result }
     ensures no_memory { result ≡ Err SessionError.Memory → ⊥ }
 {
-    let mut line: ArrayVec<u8, 65> = ArrayVec::new();
     for i in 0..9_223_372_036_854_775_808u64 {
         match next_byte(r) {
             Err(_) => return Err(SessionError::S1),
@@ -81,7 +110,7 @@ fn hear_lines<H: History, R: Source, W: Sink>(
                     line.clear();
                     continue;
                 }
-                keep_byte(&mut line, b);
+                line.push(b);
             }
         }
     }
@@ -91,50 +120,5 @@ fn hear_lines<H: History, R: Source, W: Sink>(
     match hear_line(alloc, h, breakpoints, w, line.as_slice()) {
         Ok(_) => Ok(()),
         Err(_) => Err(SessionError::S2),
-    }
-}
-
-/// A session with the run of an image on a table: what was written is the text of the lines that
-/// were read.
-pub fn session<R: Source, W: Sink>(
-    alloc: Global,
-    image: Image,
-    table: Table,
-    r: &mut R,
-    w: &mut W,
-) -> Result<(), SessionError>
-    ensures told { (input before : List ℕ) → R.left r.old ≡ Some input → W.taken w.old ≡ Some before → ByResult (start_state image table) input before (R.left r.new) (W.taken w.new) result }
-    ensures s1 { result ≡ Err SessionError.S1 → (R.failed r.new ≡ one_more (R.failed r.old)) × (W.failed w.new ≡ W.failed w.old) }
-    ensures s2 { result ≡ Err SessionError.S2 → (R.failed r.new ≡ R.failed r.old) × (W.failed w.new ≡ one_more (W.failed w.old)) }
-    ensures memory { result ≡ Err SessionError.Memory → (R.failed r.new ≡ R.failed r.old) × (W.failed w.new ≡ W.failed w.old) }
-    ensures ok { OnOk result ((R.failed r.new ≡ R.failed r.old) × (W.failed w.new ≡ W.failed w.old)) }
-{
-    let machine = Machine::<Guest>::start(alloc, image, table)?;
-    session_from::<Past<Machine<Guest>>, R, W>(alloc, machine, r, w)
-}
-
-/// A session with the run of a machine, shown by a history of the caller's kind.
-pub fn session_from<H: History, R: Source, W: Sink>(
-    alloc: Global,
-    machine: H::Machine,
-    r: &mut R,
-    w: &mut W,
-) -> Result<(), SessionError>
-    ensures told { (input before : List ℕ) → R.left r.old ≡ Some input → W.taken w.old ≡ Some before → ByResult (H.Machine.state machine) input before (R.left r.new) (W.taken w.new) result }
-    ensures s1 { result ≡ Err SessionError.S1 → (R.failed r.new ≡ one_more (R.failed r.old)) × (W.failed w.new ≡ W.failed w.old) }
-    ensures s2 { result ≡ Err SessionError.S2 → (R.failed r.new ≡ R.failed r.old) × (W.failed w.new ≡ one_more (W.failed w.old)) }
-    ensures memory { result ≡ Err SessionError.Memory → (R.failed r.new ≡ R.failed r.old) × (W.failed w.new ≡ W.failed w.old) }
-    ensures ok { OnOk result ((R.failed r.new ≡ R.failed r.old) × (W.failed w.new ≡ W.failed w.old)) }
-{
-    let mut h = H::begin(alloc, machine)?;
-    session_over(alloc, &mut h, r, w)
-}
-
-/// Keeps a line's next byte, up to the 65th: a line of more than 64 bytes has no form.
-fn keep_byte(line: &mut ArrayVec<u8, 65>, b: u8)
-    ensures { line.new.items ≡ take 65 (line.old.items ++ b ∷ []) }
-{
-    if line.len() < 65 {
-        line.push(b);
     }
 }

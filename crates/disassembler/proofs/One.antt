@@ -1,10 +1,9 @@
 -- Each code has one listing.
 use Rattle.std.proofs.Common.{◌≡◌, ℕ, zero, suc, ◌*◌, ◌<◌, ◌≤◌, List, [], ◌∷◌, length, refl, sym, ◌∙◌, ap, arith, length-drop}
+use Rattle.insn_codec.specs.Laws.{SlotsAreFilled}
 use Rattle.insn_codec.specs.Statements.{Listing, Lists, after_statement, lines_text, statement_of, statement_slots}
 use Rattle.insn_codec.specs.Statements.Lists.{ended, place}
-use Rattle.insn_codec.specs.declared.insn.Insn.TheVariants.{LoadWide}
 use Rattle.insn_codec.specs.declared.statement.Statement.{Statement}
-use Rattle.insn_codec.specs.declared.statement.Statement.TheVariants.{Insn, Slot}
 use Rattle.disassembler.specs.Laws.{OneListing}
 use Rattle.disassembler.proofs.Going.{none_left, placed}
 
@@ -31,23 +30,18 @@ same (x ∷ xs) (y ∷ ys) (byte ∷ bytes) p q =
     let first : x ≡ y = left.0 ∙ sym right.0 in
     cc
 
-takes_some : (x : Statement) → 0 < statement_slots x
-takes_some (Insn (LoadWide dst value)) = omega arith
-takes_some (Insn _) = omega arith
-takes_some (Slot word) = omega arith
-
-goes_on : (byte : ℕ) (bytes : List ℕ) → length (after_statement (byte ∷ bytes)) < length (byte ∷ bytes)
-goes_on byte bytes = omega (arith, length-drop (8 * statement_slots (statement_of (byte ∷ bytes))) (byte ∷ bytes), takes_some (statement_of (byte ∷ bytes)))
+goes_on : SlotsAreFilled → (byte : ℕ) (bytes : List ℕ) → length (after_statement (byte ∷ bytes)) < length (byte ∷ bytes)
+goes_on filled byte bytes = omega (arith, length-drop (8 * statement_slots (statement_of (byte ∷ bytes))) (byte ∷ bytes), (filled.by_statement (statement_of (byte ∷ bytes))).some)
 
 -- a listing of code of so many bytes at most
-listed : (n : ℕ) (code : List ℕ) → length code ≤ n → (text : List ℕ) × Listing code text
-listed n [] fits = ([], none_left [] refl)
-listed zero (byte ∷ bytes) fits = absurd (omega arith)
-listed (suc n) (byte ∷ bytes) fits =
-    let later = listed n (after_statement (byte ∷ bytes)) (omega (arith, goes_on byte bytes)) in
+listed : SlotsAreFilled → (n : ℕ) (code : List ℕ) → length code ≤ n → (text : List ℕ) × Listing code text
+listed filled n [] fits = ([], none_left [] refl)
+listed filled zero (byte ∷ bytes) fits = absurd (omega arith)
+listed filled (suc n) (byte ∷ bytes) fits =
+    let later = listed filled n (after_statement (byte ∷ bytes)) (omega (arith, goes_on filled byte bytes)) in
     (_, placed (byte ∷ bytes) later.0 (λ e. cc) later.1)
 
-pub one_of : OneListing
-one_of code =
-    let first = listed (length code) code (omega arith) in
+pub one_of : SlotsAreFilled → OneListing
+one_of filled code =
+    let first = listed filled (length code) code (omega arith) in
     (first.0, first.1, λ other l. l.text_is ∙ ap lines_text (same l.statements first.1.statements code l.lists first.1.lists) ∙ sym first.1.text_is)

@@ -1,5 +1,5 @@
 -- The statement at the front of code, read by words.
-use Rattle.std.proofs.Common.{◌≡◌, ℕ, zero, suc, ◌+◌, ◌*◌, ◌<◌, ◌≤◌, List, [], ◌∷◌, ◌++◌, Option, Some, None, refl, sym, ◌∙◌, ap, arith, lit<, lit≤, length, take, drop, get_or, length-take-le, length-append, take-add}
+use Rattle.std.proofs.Common.{◌≡◌, ℕ, zero, suc, ◌+◌, ◌*◌, ◌<◌, ◌≤◌, List, [], ◌∷◌, ◌++◌, Option, Some, None, refl, sym, ◌∙◌, ap, arith, lit<, lit≤, length, take, drop, get_or, length-take-le, length-append, take-add, take-append-drop}
 use Rattle.std.proofs.lemmas.Nat.{le_bytes_8}
 use Rattle.std.specs.Int.{w64, to_le_bytes, from_le_bytes, from_be_bytes}
 use Rattle.byteorder.specs.Endian.{big_number, little_number}
@@ -7,7 +7,6 @@ use Rattle.insn_codec.specs.Spelled.{spelled}
 use Rattle.insn_codec.specs.Spelling.{Begins, more_bytes, on_hand, slot_count, spelling}
 use Rattle.insn_codec.specs.Statements.{insn_or_slot, statement_of}
 use Rattle.insn_codec.specs.declared.insn.Insn.{Insn as Instruction}
-use Rattle.insn_codec.specs.declared.insn.Insn.TheVariants.{LoadWide}
 use Rattle.insn_codec.specs.declared.statement.Statement.TheVariants.{Insn, Slot}
 
 fits_take : (n : ℕ) (xs : List ℕ) → ((k : ℕ) → get_or xs k 0 < 256) → (k : ℕ) → get_or (take n xs) k 0 < 256
@@ -39,17 +38,3 @@ is_insn code i e = ap (λ (o : Option Instruction). insn_or_slot o code) (sym e)
 pub is_slot : (code : List ℕ) (n : ℕ) → 8 ≤ length code → spelled (take 16 code) ≡ None → n ≡ big_number 8 code → Slot n ≡ statement_of code
 unfolding statement_of
 is_slot code n long e w = ap Slot (w ∙ big_is code long) ∙ ap (λ (o : Option Instruction). insn_or_slot o code) (sym e)
-
-spelling_long : (i : Instruction) → length (spelling i) ≡ 8 * slot_count i
-spelling_long (LoadWide dst value) = refl
-spelling_long _ = refl
-
-take_short : (n : ℕ) (code : List ℕ) → length (take n code) ≤ length code
-take_short zero code = omega arith
-take_short (suc n) [] = lit≤ tt
-take_short (suc n) (x ∷ code) = let less = take_short n code in omega arith
-
-pub insn_inside : (code bytes : List ℕ) (i : Instruction) → bytes ≡ take 16 code → Begins (spelling i) bytes → 8 * slot_count i ≤ length code
-insn_inside code bytes i e b =
-    let long : length (take 16 code) ≡ length (spelling i) + length b.0 = ap length (sym e ∙ b.1) ∙ length-append (spelling i) b.0 in
-    omega (arith, long, spelling_long i, take_short 16 code)

@@ -2,10 +2,14 @@
 ghost use Rattle.disassembler.specs.Laws.{OneListing};
 ghost use Rattle.disassembler.specs.Rows.{RowsStand};
 
+use insn_codec::slots_are_filled;
+
 /// Each code has exactly one listing.
 pub fn one_listing()
     ensures { OneListing }
-{}
+{
+    slots_are_filled();
+}
 
 /// Listings that were made by hand.
 pub fn rows_stand()

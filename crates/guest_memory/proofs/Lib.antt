@@ -1,4 +1,5 @@
 pub mod Bytes
+pub mod Changes
 pub mod Start
 pub mod Digits
 pub mod Places
@@ -7,3 +8,4 @@ pub mod Reading
 pub mod Overlays
 pub mod Writing
 pub mod Lending
+pub mod RegionWords

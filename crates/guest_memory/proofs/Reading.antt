@@ -26,7 +26,7 @@ length-part bytes at n h = length-take-le n (drop at bytes) (omega (arith, lengt
 pub get_or-part : (bytes : List ℕ) (at n i : ℕ) → i < n → get_or (part bytes at n) i 0 ≡ get_or bytes (at + i) 0
 get_or-part bytes at n i h = get_or-take n (drop at bytes) i 0 h ∙ get_or-drop at bytes i 0
 
-all-part : (bytes : List ℕ) (at n : ℕ) → All (λ b. b < 256) bytes → All (λ b. b < 256) (part bytes at n)
+pub all-part : (bytes : List ℕ) (at n : ℕ) → All (λ b. b < 256) bytes → All (λ b. b < 256) (part bytes at n)
 all-part bytes at n all = All-take (λ b. b < 256) n (drop at bytes) (All-drop (λ b. b < 256) at bytes all)
 
 -- a word was loaded: its bytes are those of a region from a place on

@@ -1,25 +1,21 @@
 -- What stores leave.
-use Rattle.std.proofs.Common.{◌≡◌, ℕ, zero, suc, ◌+◌, ◌-◌, ◌%◌, ◌/◌, ◌<◌, ◌≤◌, List, length, get_or, Bool, true, false, Option, Some, Result, Ok, Err, refl, sym, ap, ◌∙◌, arith, inl, inr, subst}
+use Rattle.std.proofs.Common.{◌≡◌, ℕ, ◌+◌, ◌-◌, ◌<◌, ◌≤◌, List, length, get_or, Bool, true, false, Option, Some, Result, Ok, Err, refl, sym, ap, ◌∙◌, arith, inl, inr, subst}
 use Rattle.std.specs.Prelude.{All, IsOk, is_ok, ◌↔◌, ◌⊎◌, slice_get, ◌||◌}
 use Rattle.std.proofs.lemmas.Bool.{cases_lt}
-use Rattle.std.proofs.lemmas.List.Elements.{All-cons, All-nil}
-use Rattle.guest_memory.specs.Memory.{Memory, Region, Stack, Scratch, Verdict, Constants, IsMemory, IsWritable, is_writable, bytes_in, base_of, byte_at, byte_from}
+use Rattle.guest_memory.specs.Memory.{Memory, Region, Stack, Scratch, Verdict, Constants, IsMemory, IsWritable, is_writable, bytes_in, base_of, byte_at, byte_from, with_bytes}
 use Rattle.guest_memory.specs.Word.{low_bytes, overlay}
 use Rattle.guest_memory.specs.Access.{size_bytes, write_at, write_of}
 use Rattle.guest_memory.specs.Laws.{WriteIsBytes, AllStandIn, StandInOne, byte_of}
 use Rattle.guest_memory.specs.declared.fault.Fault.{Fault}
 use Rattle.guest_memory.specs.declared.fault.Fault.TheVariants.{F3, F4}
 use Rattle.guest_memory.specs.declared.size.Size.{Size}
-use Rattle.guest_memory.proofs.Bytes.{length_low}
+use Rattle.guest_memory.proofs.Bytes.{length_low, all-low_bytes}
+use Rattle.guest_memory.proofs.Changes.{with_bytes-either, with_bytes-same}
 use Rattle.guest_memory.proofs.Digits.{get_or-low_bytes}
 use Rattle.guest_memory.proofs.Places.{HasPlace, all_stand, where_stands, one_region}
 use Rattle.guest_memory.proofs.Map.{is_among-inside, is_among-past, byte_at-region, byte_at-same, byte_from-below, byte_from-above}
 use Rattle.guest_memory.proofs.Overlays.{length-overlay, get_or-overlay_inside, slice_get-overlay_outside, all-overlay}
 use Rattle.guest_memory.proofs.Reading.{some_bytes}
-
-all-low_bytes : (n w : ℕ) → All (λ b. b < 256) (low_bytes n w)
-all-low_bytes zero w = All-nil (λ b. b < 256)
-all-low_bytes (suc n) w = All-cons (λ b. b < 256) (w % 256) (low_bytes n (w / 256)) (omega arith) (all-low_bytes n (w / 256))
 
 -- bytes were stored in a region that can be written, and the other regions are as before
 pub record Stores (m after : Memory) (address n : ℕ) (bytes : List ℕ) : Type 0 where
@@ -29,38 +25,26 @@ pub record Stores (m after : Memory) (address n : ℕ) (bytes : List ℕ) : Type
   pub is : bytes_in region after ≡ overlay (bytes_in region m) at bytes
   pub regions : (r : Region) → (bytes_in r after ≡ bytes_in r m) ⊎ ((r ≡ region) × (bytes_in r after ≡ overlay (bytes_in r m) at bytes))
 
-stores_stack : (m after : Memory) (at : ℕ) (bytes : List ℕ) → record m { stack = overlay m.stack at bytes } ≡ after → (r : Region) → (bytes_in r after ≡ bytes_in r m) ⊎ ((r ≡ Stack) × (bytes_in r after ≡ overlay (bytes_in r m) at bytes))
-stores_stack m after at bytes e Stack = inr (refl, ap (λ (x : Memory). x.stack) (sym e))
-stores_stack m after at bytes e Scratch = inl (ap (λ (x : Memory). x.scratch) (sym e))
-stores_stack m after at bytes e Verdict = inl (ap (λ (x : Memory). x.verdict) (sym e))
-stores_stack m after at bytes e Constants = inl (ap (λ (x : Memory). x.constants) (sym e))
-
-stores_scratch : (m after : Memory) (at : ℕ) (bytes : List ℕ) → record m { scratch = overlay m.scratch at bytes } ≡ after → (r : Region) → (bytes_in r after ≡ bytes_in r m) ⊎ ((r ≡ Scratch) × (bytes_in r after ≡ overlay (bytes_in r m) at bytes))
-stores_scratch m after at bytes e Stack = inl (ap (λ (x : Memory). x.stack) (sym e))
-stores_scratch m after at bytes e Scratch = inr (refl, ap (λ (x : Memory). x.scratch) (sym e))
-stores_scratch m after at bytes e Verdict = inl (ap (λ (x : Memory). x.verdict) (sym e))
-stores_scratch m after at bytes e Constants = inl (ap (λ (x : Memory). x.constants) (sym e))
-
-stores_verdict : (m after : Memory) (at : ℕ) (bytes : List ℕ) → record m { verdict = overlay m.verdict at bytes } ≡ after → (r : Region) → (bytes_in r after ≡ bytes_in r m) ⊎ ((r ≡ Verdict) × (bytes_in r after ≡ overlay (bytes_in r m) at bytes))
-stores_verdict m after at bytes e Stack = inl (ap (λ (x : Memory). x.stack) (sym e))
-stores_verdict m after at bytes e Scratch = inl (ap (λ (x : Memory). x.scratch) (sym e))
-stores_verdict m after at bytes e Verdict = inr (refl, ap (λ (x : Memory). x.verdict) (sym e))
-stores_verdict m after at bytes e Constants = inl (ap (λ (x : Memory). x.constants) (sym e))
-
 made : (old new after : Memory) → ◌≡◌ {A = Result Memory Fault} (Ok new) (Ok after) → new ≡ after
 made old new after h = cc
 
+module _ (m after : Memory) (address n at : ℕ) (bytes : List ℕ) (r : Region) (place : HasPlace (base_of r) (length (bytes_in r m)) address n at) (e : with_bytes r (overlay (bytes_in r m) at bytes) m ≡ after) where
+  changed : bytes_in r after ≡ overlay (bytes_in r m) at bytes
+  changed = ap (bytes_in r) (sym e) ∙ with_bytes-same r (overlay (bytes_in r m) at bytes) m
+
+  changed_or_kept : (q : Region) → (bytes_in q after ≡ bytes_in q m) ⊎ ((q ≡ r) × (bytes_in q after ≡ overlay (bytes_in q m) at bytes))
+  changed_or_kept q =
+      elim (with_bytes-either m r q (overlay (bytes_in r m) at bytes)) [
+        | inl same ↦ inr (same, subst (λ (p : Region). bytes_in p after ≡ overlay (bytes_in p m) at bytes) (sym same) changed)
+        | inr kept ↦ inl (ap (bytes_in q) (sym e) ∙ kept)
+      ]
+
+  stores_there : Stores m after address n bytes
+  stores_there = record { region = r; at = at; place = place; is = changed; regions = changed_or_kept }
+
 stores_at : (m after : Memory) (address n at : ℕ) (bytes : List ℕ) (r : Region) → HasPlace (base_of r) (length (bytes_in r m)) address n at → write_at m bytes (Some (r, at)) ≡ Ok after → Stores m after address n bytes
-stores_at m after address n at bytes Stack place h =
-    let e = made m (record m { stack = overlay m.stack at bytes }) after h in
-    record { region = Stack; at = at; place = place; is = ap (λ (x : Memory). x.stack) (sym e); regions = stores_stack m after at bytes e }
-stores_at m after address n at bytes Scratch place h =
-    let e = made m (record m { scratch = overlay m.scratch at bytes }) after h in
-    record { region = Scratch; at = at; place = place; is = ap (λ (x : Memory). x.scratch) (sym e); regions = stores_scratch m after at bytes e }
-stores_at m after address n at bytes Verdict place h =
-    let e = made m (record m { verdict = overlay m.verdict at bytes }) after h in
-    record { region = Verdict; at = at; place = place; is = ap (λ (x : Memory). x.verdict) (sym e); regions = stores_verdict m after at bytes e }
 stores_at m after address n at bytes Constants place h = cc
+stores_at m after address n at bytes r place h = stores_there m after address n at bytes r place (made m _ after h)
 
 stores : (m after : Memory) (address word : ℕ) (size : Size) → write_of m address size word ≡ Ok after → Stores m after address (size_bytes size) (low_bytes (size_bytes size) word)
 unfolding write_of
@@ -171,26 +155,12 @@ not_writable address h =
 abbrev AllWritable : ℕ → ℕ → Type 0
 AllWritable address n = (i : ℕ) → i < n → IsWritable (address + i)
 
-stack_writable : (m : Memory) (address n at : ℕ) → IsMemory m → HasPlace (base_of Stack) (length m.stack) address n at → AllWritable address n
-stack_writable m address n at is p i inside =
+-- each address of a range is writable where each of its region is
+range_writable : (base len address n at : ℕ) → ((a : ℕ) → base ≤ a → a < base + len → is_writable a ≡ true) → HasPlace base len address n at → AllWritable address n
+range_writable base len address n at writable p i inside =
     let low = p.low in
     let high = p.high in
-    let long = is.stack in
-    writable_stack (address + i) (omega arith) (omega arith)
-
-scratch_writable : (m : Memory) (address n at : ℕ) → IsMemory m → HasPlace (base_of Scratch) (length m.scratch) address n at → AllWritable address n
-scratch_writable m address n at is p i inside =
-    let low = p.low in
-    let high = p.high in
-    let long = is.scratch in
-    writable_scratch (address + i) (omega arith) (omega arith)
-
-verdict_writable : (m : Memory) (address n at : ℕ) → IsMemory m → HasPlace (base_of Verdict) (length m.verdict) address n at → AllWritable address n
-verdict_writable m address n at is p i inside =
-    let low = p.low in
-    let high = p.high in
-    let long = is.verdict in
-    writable_verdict (address + i) (omega arith) (omega arith)
+    writable (address + i) (omega arith) (omega arith)
 
 constants_not_writable : (address n at len : ℕ) → 1 ≤ n → HasPlace (base_of Constants) len address n at → AllWritable address n → ⊥
 constants_not_writable address n at len some p all =
@@ -200,9 +170,15 @@ constants_not_writable address n at len some p all =
     cc
 
 made_at : (m : Memory) (address n at : ℕ) (bytes : List ℕ) (r : Region) → 1 ≤ n → IsMemory m → HasPlace (base_of r) (length (bytes_in r m)) address n at → IsOk (write_at m bytes (Some (r, at))) ↔ AllWritable address n
-made_at m address n at bytes Stack some is p = ((λ ok. stack_writable m address n at is p), (λ all. refl))
-made_at m address n at bytes Scratch some is p = ((λ ok. scratch_writable m address n at is p), (λ all. refl))
-made_at m address n at bytes Verdict some is p = ((λ ok. verdict_writable m address n at is p), (λ all. refl))
+made_at m address n at bytes Stack some is p =
+    let long = is.stack in
+    ((λ ok. range_writable (base_of Stack) (length m.stack) address n at (λ a low high. writable_stack a low (omega arith)) p), (λ all. refl))
+made_at m address n at bytes Scratch some is p =
+    let long = is.scratch in
+    ((λ ok. range_writable (base_of Scratch) (length m.scratch) address n at (λ a low high. writable_scratch a low (omega arith)) p), (λ all. refl))
+made_at m address n at bytes Verdict some is p =
+    let long = is.verdict in
+    ((λ ok. range_writable (base_of Verdict) (length m.verdict) address n at (λ a low high. writable_verdict a low (omega arith)) p), (λ all. refl))
 made_at m address n at bytes Constants some is p =
     ((λ ok. cc), (λ all. absurd (constants_not_writable address n at (length m.constants) some p all)))
 
@@ -220,32 +196,23 @@ write_done m address size word is =
           ((λ ok. let k = ap (λ (o : Option (Region × ℕ)). is_ok (write_at m bytes o)) o.is in cc), (λ all. absurd (o.none all.0)))
     ]
 
--- a range in another region is not in the constants
-stack_not_constant : (m : Memory) (address n at : ℕ) → 1 ≤ n → IsMemory m → HasPlace (base_of Stack) (length m.stack) address n at → AllStandIn Constants m address n → ⊥
-stack_not_constant m address n at some is p all =
+-- a range in a region below the constants is not in them
+not_constant : (m : Memory) (base len address n at : ℕ) → base + len ≤ base_of Constants → 1 ≤ n → HasPlace base len address n at → AllStandIn Constants m address n → ⊥
+not_constant m base len address n at below some p all =
     let high = p.high in
-    let long = is.stack in
-    let first = (all 0 (omega arith)).0 in
-    omega (arith, first)
-
-scratch_not_constant : (m : Memory) (address n at : ℕ) → 1 ≤ n → IsMemory m → HasPlace (base_of Scratch) (length m.scratch) address n at → AllStandIn Constants m address n → ⊥
-scratch_not_constant m address n at some is p all =
-    let high = p.high in
-    let long = is.scratch in
-    let first = (all 0 (omega arith)).0 in
-    omega (arith, first)
-
-verdict_not_constant : (m : Memory) (address n at : ℕ) → 1 ≤ n → IsMemory m → HasPlace (base_of Verdict) (length m.verdict) address n at → AllStandIn Constants m address n → ⊥
-verdict_not_constant m address n at some is p all =
-    let high = p.high in
-    let long = is.verdict in
     let first = (all 0 (omega arith)).0 in
     omega (arith, first)
 
 constant_at : (m : Memory) (address n at : ℕ) (bytes : List ℕ) (r : Region) → 1 ≤ n → IsMemory m → HasPlace (base_of r) (length (bytes_in r m)) address n at → (write_at m bytes (Some (r, at)) ≡ Err F4) ↔ AllStandIn Constants m address n
-constant_at m address n at bytes Stack some is p = ((λ err. cc), (λ all. absurd (stack_not_constant m address n at some is p all)))
-constant_at m address n at bytes Scratch some is p = ((λ err. cc), (λ all. absurd (scratch_not_constant m address n at some is p all)))
-constant_at m address n at bytes Verdict some is p = ((λ err. cc), (λ all. absurd (verdict_not_constant m address n at some is p all)))
+constant_at m address n at bytes Stack some is p =
+    let long = is.stack in
+    ((λ err. cc), (λ all. absurd (not_constant m (base_of Stack) (length m.stack) address n at (omega arith) some p all)))
+constant_at m address n at bytes Scratch some is p =
+    let long = is.scratch in
+    ((λ err. cc), (λ all. absurd (not_constant m (base_of Scratch) (length m.scratch) address n at (omega arith) some p all)))
+constant_at m address n at bytes Verdict some is p =
+    let long = is.verdict in
+    ((λ err. cc), (λ all. absurd (not_constant m (base_of Verdict) (length m.verdict) address n at (omega arith) some p all)))
 constant_at m address n at bytes Constants some is p = ((λ err. all_stand Constants m address n at p), (λ all. refl))
 
 write_constant : (m : Memory) (address : ℕ) (size : Size) (word : ℕ) → IsMemory m → (write_of m address size word ≡ Err F4) ↔ AllStandIn Constants m address (size_bytes size)

@@ -2,5 +2,6 @@ pub mod Text
 pub mod Memory
 pub mod Word
 pub mod Access
+pub mod RegionWords
 pub mod Laws
 pub mod Rows

@@ -1,6 +1,7 @@
 //! Laws of the memory, each the clause of a function that does nothing.
 ghost use Rattle.guest_memory.specs.Laws.{ReadIsBytes, WriteIsBytes, StartIsZero, LentIsBytes};
 ghost use Rattle.guest_memory.specs.Rows.{RowsStand};
+ghost use Rattle.guest_memory.specs.RegionWords.{WordsArePut, WordsAreAccessed};
 
 /// A load answers the word whose bytes stand at its addresses, the lowest first, exactly where one
 /// region has them all.
@@ -22,6 +23,16 @@ pub fn start_is_zero()
 /// What is lent of the constants are the bytes at its addresses.
 pub fn lent_is_bytes()
     ensures { LentIsBytes }
+{}
+
+/// A word that is put into a region's bytes stands there, and every other word is as before.
+pub fn words_are_put()
+    ensures { WordsArePut }
+{}
+
+/// Loads and stores of eight bytes, where a word of a region begins, read that word and put it.
+pub fn words_are_accessed()
+    ensures { WordsAreAccessed }
 {}
 
 /// Loads and stores worked by hand.

@@ -17,7 +17,7 @@ pub enum Size {
 
 impl Size {
     /// The number of bytes.
-    pub fn bytes(self) -> usize
+    pub(crate) fn bytes(self) -> usize
         ensures value { result ≡ size_bytes self }
         ensures most { result ≤ 8 }
     {

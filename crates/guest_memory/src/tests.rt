@@ -1,5 +1,10 @@
 //! Loads and stores worked by hand.
+use crate::laws::{
+    lent_is_bytes, read_is_bytes, rows_stand, start_is_zero, words_are_accessed, words_are_put,
+    write_is_bytes,
+};
 use crate::{Fault, Guest, Regions, Size, WriteError};
+use std::alloc::Global;
 use std::test::Fail;
 
 /// Addresses, sizes and what a load answers at the start, with nine constants.
@@ -63,49 +68,113 @@ const WORDS: [(Size, u64, u64); 4] = [
 /// The nine constants.
 const CONSTANTS: &[u8; 9] = b"\x11\x22\x33\x44\x55\x66\x77\x88\x99";
 
+/// The memory at the start with these constants.
+fn start(alloc: Global, constants: &[u8]) -> Result<Guest, Fail> {
+    Ok(Guest::of_constants(alloc, constants)?)
+}
+
+/// What a load answers.
+fn load(guest: &Guest, addr: u64, size: Size) -> Result<u64, Fault> {
+    guest.read(addr, size)
+}
+
+/// Whether a load answers so.
+fn loads_as(guest: &Guest, addr: u64, size: Size, answer: Result<u64, Fault>) -> bool {
+    load(guest, addr, size) == answer
+}
+
+/// The word at an address, if it can be loaded.
+fn word(guest: &Guest, addr: u64, size: Size) -> Option<u64> {
+    load(guest, addr, size).ok()
+}
+
+/// What a store of 1 answers.
+fn store(guest: &mut Guest, addr: u64, size: Size) -> Result<(), WriteError> {
+    guest.write(addr, size, 1)
+}
+
+/// The memory after a store.
+fn stored(mut guest: Guest, addr: u64, size: Size, word: u64) -> Result<Guest, Fail> {
+    guest.write(addr, size, word)?;
+    Ok(guest)
+}
+
+/// Whether a store of 1 answers so.
+fn stores_as(guest: &mut Guest, addr: u64, size: Size, answer: Result<(), WriteError>) -> bool {
+    store(guest, addr, size) == answer
+}
+
 #[test]
 fn loads(rt: HostRuntime) -> Result<(), Fail> {
-    let guest = Guest::of_constants(rt.alloc(), CONSTANTS)?;
+    let guest = start(rt.alloc(), CONSTANTS)?;
     for (row, (addr, size, answer)) in LOADS.into_iter().enumerate() {
-        assert_eq!(rt; guest.read(addr, size), answer, "row {row}");
+        assert!(rt; loads_as(&guest, addr, size, answer), "row {row}");
     }
     Ok(())
 }
 
 #[test]
 fn stores(rt: HostRuntime) -> Result<(), Fail> {
-    let mut guest = Guest::of_constants(rt.alloc(), CONSTANTS)?;
+    let mut guest = start(rt.alloc(), CONSTANTS)?;
     for (row, (addr, size, answer)) in STORES.into_iter().enumerate() {
-        assert_eq!(rt; guest.write(addr, size, 1), answer, "row {row}");
+        assert!(rt; stores_as(&mut guest, addr, size, answer), "row {row}");
     }
     Ok(())
+}
+
+/// The eight bytes, all 0xff, in which a store has put its bytes, and what is loaded again.
+fn overwritten(alloc: Global, size: Size) -> Result<[Option<u64>; 2], Fail> {
+    let guest = stored(start(alloc, b"")?, 0x2_0000_0010, Size::Dw, u64::MAX)?;
+    let guest = stored(guest, 0x2_0000_0010, size, 0x8877_6655_4433_2211)?;
+    Ok([
+        word(&guest, 0x2_0000_0010, Size::Dw),
+        word(&guest, 0x2_0000_0010, size),
+    ])
+}
+
+/// The eight bytes before and behind a store.
+fn around(alloc: Global, size: Size) -> Result<[Option<u64>; 2], Fail> {
+    let guest = stored(start(alloc, b"")?, 0x2_0000_0010, size, u64::MAX)?;
+    Ok([
+        word(&guest, 0x2_0000_0008, Size::Dw),
+        word(&guest, 0x2_0000_0018, Size::Dw),
+    ])
 }
 
 #[test]
 fn stores_low_bytes(rt: HostRuntime) -> Result<(), Fail> {
-    let mut guest = Guest::of_constants(rt.alloc(), b"")?;
     for (row, (size, left, word)) in WORDS.into_iter().enumerate() {
-        guest.write(0x2_0000_0010, Size::Dw, u64::MAX)?;
-        guest.write(0x2_0000_0010, size, 0x8877_6655_4433_2211)?;
-        assert_eq!(rt; guest.read(0x2_0000_0010, Size::Dw), Ok(left), "row {row}");
-        assert_eq!(rt; guest.read(0x2_0000_0010, size), Ok(word), "row {row}");
-        assert_eq!(rt; guest.read(0x2_0000_0018, Size::Dw), Ok(0), "row {row}");
-        assert_eq!(rt; guest.read(0x2_0000_0008, Size::Dw), Ok(0), "row {row}");
+        let bytes = overwritten(rt.alloc(), size)?;
+        assert!(rt; bytes == [Some(left), Some(word)], "row {row}");
     }
     Ok(())
 }
 
 #[test]
+fn stores_nothing_around(rt: HostRuntime) -> Result<(), Fail> {
+    for (row, (size, _, _)) in WORDS.into_iter().enumerate() {
+        let bytes = around(rt.alloc(), size)?;
+        assert!(rt; bytes == [Some(0), Some(0)], "row {row}");
+    }
+    Ok(())
+}
+
+/// The bytes at the base of the stack, of the verdict and of the constants.
+fn bytes(guest: &Guest) -> [Option<u64>; 3] {
+    [
+        word(guest, 0x1_0000_0000, Size::B),
+        word(guest, 0x3_0000_0000, Size::B),
+        word(guest, 0x4_0000_0000, Size::B),
+    ]
+}
+
+#[test]
 fn copies(rt: HostRuntime) -> Result<(), Fail> {
-    let mut guest = Guest::of_constants(rt.alloc(), b"a")?;
-    guest.write(0x1_0000_0000, Size::B, 1)?;
-    let mut copy = guest.copy()?;
-    copy.write(0x1_0000_0000, Size::B, 2)?;
-    guest.write(0x3_0000_0000, Size::B, 3)?;
-    assert_eq!(rt; guest.read(0x1_0000_0000, Size::B), Ok(1));
-    assert_eq!(rt; copy.read(0x1_0000_0000, Size::B), Ok(2));
-    assert_eq!(rt; copy.read(0x3_0000_0000, Size::B), Ok(0));
-    assert_eq!(rt; copy.read(0x4_0000_0000, Size::B), Ok(0x61));
+    let guest = stored(start(rt.alloc(), b"a")?, 0x1_0000_0000, Size::B, 1)?;
+    let copy = stored(guest.copy()?, 0x1_0000_0000, Size::B, 2)?;
+    let guest = stored(guest, 0x3_0000_0000, Size::B, 3)?;
+    assert!(rt; bytes(&guest) == [Some(1), Some(3), Some(0x61)]);
+    assert!(rt; bytes(&copy) == [Some(2), Some(0), Some(0x61)]);
     Ok(())
 }
 
@@ -119,7 +188,7 @@ fn lends(guest: &Guest, addr: u64, len: u64, expected: &[u8]) -> bool {
 
 #[test]
 fn lends_constants(rt: HostRuntime) -> Result<(), Fail> {
-    let guest = Guest::of_constants(rt.alloc(), b"abc")?;
+    let guest = start(rt.alloc(), b"abc")?;
     assert!(rt; lends(&guest, 0x4_0000_0000, 3, b"abc"));
     assert!(rt; lends(&guest, 0x4_0000_0001, 2, b"bc"));
     assert!(rt; lends(&guest, 0x4_0000_0001, 1, b"b"));
@@ -128,11 +197,16 @@ fn lends_constants(rt: HostRuntime) -> Result<(), Fail> {
 
 #[test]
 fn lends_no_bytes_anywhere(rt: HostRuntime) -> Result<(), Fail> {
-    let guest = Guest::of_constants(rt.alloc(), b"abc")?;
+    let guest = start(rt.alloc(), b"abc")?;
     for addr in [0, 0x1_0000_0000, 0x4_0000_0003, 0x4_0000_0004, u64::MAX] {
         assert!(rt; lends(&guest, addr, 0, b""), "at {addr}");
     }
     Ok(())
+}
+
+/// Whether nothing is lent.
+fn lends_none(guest: &Guest, addr: u64, len: u64) -> bool {
+    guest.constants(addr, len).is_none()
 }
 
 /// Addresses and lengths of ranges that do not lie in three constants.
@@ -147,9 +221,9 @@ const OUTSIDE: [(u64, u64); 6] = [
 
 #[test]
 fn lends_nothing_else(rt: HostRuntime) -> Result<(), Fail> {
-    let guest = Guest::of_constants(rt.alloc(), b"abc")?;
+    let guest = start(rt.alloc(), b"abc")?;
     for (row, (addr, len)) in OUTSIDE.into_iter().enumerate() {
-        assert!(rt; guest.constants(addr, len).is_none(), "row {row}");
+        assert!(rt; lends_none(&guest, addr, len), "row {row}");
     }
     Ok(())
 }
@@ -159,4 +233,15 @@ fn names_faults(rt: HostRuntime) -> Result<(), Fail> {
     let text = format!(in rt.alloc(); "{} {}", Fault::F1, Fault::F9)?;
     assert_eq!(rt; text.as_str(), "F1 F9");
     Ok(())
+}
+
+#[test]
+fn laws_can_be_called(_rt: HostRuntime) {
+    read_is_bytes();
+    write_is_bytes();
+    start_is_zero();
+    lent_is_bytes();
+    words_are_put();
+    words_are_accessed();
+    rows_stand();
 }

@@ -1,11 +1,13 @@
 //! A machine whose run can be kept.
-ghost use Rattle.std.specs.Prelude.{◌≡◌, ◌<◌, slice_index, IfOk, OnErr, OnOk};
+ghost use Rattle.std.specs.Prelude.{◌≡◌, IfOk, OnErr, OnOk};
+ghost use Rattle.bpf_machine.specs.Operands.{register_in};
 ghost use Rattle.bpf_machine.specs.State.{State};
 ghost use Rattle.bpf_machine.specs.Step.{next_state};
 ghost use Rattle.bpf_machine.specs.Trace.{state_after, IsReached};
 
 use bpf_machine::{Machine, Status};
 use guest_memory::Regions;
+use insn_codec::Register;
 use loader::Image;
 use std::alloc::AllocError;
 
@@ -20,7 +22,8 @@ pub trait Emulator: Drop {
         ensures status { IfOk result (λ s. s ≡ (state self.new).status) }
         ensures err { OnErr result (state self.new ≡ state self.old) };
 
-    /// `n` steps, of which those after a stopped state change nothing.
+    /// `n` steps, of which those after a stopped state change nothing. Where a growth is refused,
+    /// the machine stands where it was.
     fn run(&mut self, n: u64) -> Result<(), AllocError>
         ensures ok { OnOk result (state self.new ≡ state_after n (state self.old)) }
         ensures err { OnErr result (IsReached (state self.old) n (state self.new)) };
@@ -39,10 +42,9 @@ pub trait Emulator: Drop {
     fn image(&self) -> &Image
         ensures { result.now ≡ (state self.now).image };
 
-    /// The word of the register with this number.
-    fn register(&self, number: usize) -> u64
-        requires { number < 11 }
-        ensures { result ≡ slice_index (state self.now).registers number };
+    /// The word of a register.
+    fn register(&self, register: Register) -> u64
+        ensures { result ≡ register_in (state self.now) register };
 }
 
 impl<M: Regions> Emulator for Machine<M> {
@@ -73,7 +75,7 @@ impl<M: Regions> Emulator for Machine<M> {
         self.image()
     }
 
-    fn register(&self, number: usize) -> u64 {
-        self.register(number)
+    fn register(&self, register: Register) -> u64 {
+        self.register(register)
     }
 }

@@ -3,7 +3,7 @@ ghost use Rattle.std.specs.Prelude.{◌≡◌, ◌-◌, ◌<◌, ◌≤◌, fals
 ghost use Rattle.bpf_machine.specs.Step.{is_running, next_state};
 ghost use Rattle.bpf_machine.specs.Trace.{state_after};
 ghost use Rattle.history.specs.Search.{first_stop, is_at, is_stop, last_stop};
-ghost use Rattle.history.specs.Trail.{IsRun, Reaches};
+ghost use Rattle.history.specs.Trail.{EndsBefore, IsRun, Reaches};
 
 use crate::emulator::Emulator;
 use crate::history::History;
@@ -36,7 +36,7 @@ impl<E: Emulator> Model for Past<E> {
 
 impl<E: Emulator> Past<E> {
     /// The furthest place whose machine is kept.
-    pub fn kept(&self) -> u64
+    pub(crate) fn kept(&self) -> u64
         ensures { result ≡ self.now.kept }
     {
         self.later.len() as u64
@@ -50,7 +50,12 @@ impl<E: Emulator> History for Past<E> {
 
     ghost place = { λ h. h.place };
 
-    fn begin(alloc: Global, machine: E) -> Result<Self, AllocError> {
+    fn begin(alloc: Global, machine: E) -> Result<Self, AllocError>
+        ensures origin { IfOk result (λ h. h.origin ≡ E.state machine) }
+        ensures place { IfOk result (λ h. h.place ≡ 0) }
+        ensures kept { IfOk result (λ h. h.kept ≡ 0) }
+        ensures no_memory { IsOk result }
+    {
         Ok(Past {
             first: machine,
             later: Vec::new(alloc),
@@ -75,6 +80,8 @@ impl<E: Emulator> History for Past<E> {
         // No memory is taken on the way to a place that is kept, nor behind a stopped state.
         ensures no_memory { Reaches self.old.origin self.old.kept k → IsOk result }
         ensures kept { Reaches self.old.origin self.old.kept k → self.new.kept ≡ self.old.kept }
+        // What was kept on the way stays kept where a growth is refused.
+        ensures refused { OnErr result (EndsBefore self.new.origin self.new.kept k) }
     {
         keep(&self.first, &mut self.later, k)?;
         self.place = k;
@@ -92,6 +99,7 @@ impl<E: Emulator> History for Past<E> {
         // No memory is taken where the places up to `to` are kept, nor behind a stopped state.
         ensures no_memory { Reaches self.old.origin self.old.kept to → IsOk result }
         ensures kept { Reaches self.old.origin self.old.kept to → self.new.kept ≡ self.old.kept }
+        ensures refused { OnErr result (EndsBefore self.new.origin self.new.kept to) }
     {
         first_after(&self.first, &mut self.later, self.place, to, stops)
     }
@@ -128,6 +136,7 @@ fn keep<E: Emulator>(first: &E, later: &mut Vec<E>, k: u64) -> Result<(), AllocE
     ensures reaches { OnOk result (Reaches (E.state first.now) (vec_len later.new) k) }
     ensures no_memory { Reaches (E.state first.now) (vec_len later.old) k → IsOk result }
     ensures kept { Reaches (E.state first.now) (vec_len later.old) k → vec_len later.new ≡ vec_len later.old }
+    ensures refused { OnErr result (EndsBefore (E.state first.now) (vec_len later.new) k) }
 {
     while (later.len() as u64) < k {
         let last = kept_at(first, later, k);
@@ -172,6 +181,7 @@ fn first_after<E: Emulator>(
     ensures found { IfOk result (λ j. j ≡ first_stop stops.now (E.state first.now) place (to - place)) }
     ensures no_memory { Reaches (E.state first.now) (vec_len later.old) to → IsOk result }
     ensures kept { Reaches (E.state first.now) (vec_len later.old) to → vec_len later.new ≡ vec_len later.old }
+    ensures refused { OnErr result (EndsBefore (E.state first.now) (vec_len later.new) to) }
 {
     for j in place + 1..to {
         keep(first, later, j)?;

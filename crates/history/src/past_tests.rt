@@ -1,11 +1,13 @@
 //! A run that is shown at places before and behind its end.
 
 use crate::emulator::Emulator;
-use crate::history::History;
+use crate::history::History as _;
 use crate::past::Past;
 use bpf_machine::{Machine, Status, Table};
 use guest_memory::Guest;
+use insn_codec::Register;
 use loader::Image;
+use std::alloc::Global;
 use std::test::Fail;
 
 /// `r0 = 5` and `exit`.
@@ -24,26 +26,43 @@ const SHOWN: [(u64, i64, u64, Status, u64); 8] = [
     (1, 1, 5, Status::Running, 2),
 ];
 
+type History = Past<Machine<Guest>>;
+
+fn begun(alloc: Global, code: &[u8]) -> Result<History, Fail> {
+    let code = Vec::from_slice(alloc, code)?;
+    let image = Image::new(code, Vec::new(alloc))?;
+    let machine = Machine::<Guest>::start(alloc, image, Table::nulls())?;
+    Ok(History::begin(alloc, machine)?)
+}
+
+/// Whether the place is shown, also where the first way there is refused.
+fn goes(history: &mut History, place: u64) -> Result<bool, Fail> {
+    let before = history.now();
+    if history.go(place).is_err() {
+        if history.now() != before {
+            return Ok(false);
+        }
+        history.go(place)?;
+    }
+    Ok(history.now() == place)
+}
+
+/// Where the machine stands: its slot, its r0 and its status.
+fn seen(machine: &Machine<Guest>) -> (i64, u64, Status) {
+    (
+        Emulator::pc(machine),
+        Emulator::register(machine, Register::R0),
+        Emulator::status(machine),
+    )
+}
+
 #[test]
 fn shows_each_place(rt: HostRuntime) -> Result<(), Fail> {
-    let code = Vec::from_slice(rt.alloc(), CODE)?;
-    let image = Image::new(code, Vec::new(rt.alloc()))?;
-    let machine = Machine::<Guest>::start(rt.alloc(), image, Table::nulls())?;
-    let mut history = Past::<Machine<Guest>>::begin(rt.alloc(), machine)?;
-    assert_eq!(rt; history.now(), 0);
+    let mut history = begun(rt.alloc(), CODE)?;
     for (place, pc, r0, status, kept) in SHOWN {
-        let before = history.now();
-        if history.go(place).is_err() {
-            assert_eq!(rt; history.now(), before, "refused at {place}");
-            history.go(place)?;
-        }
-        assert_eq!(rt; history.now(), place);
+        assert!(rt; goes(&mut history, place)?, "to {place}");
+        assert!(rt; seen(history.machine()) == (pc, r0, status), "at {place}");
         assert_eq!(rt; history.kept(), kept, "at {place}");
-        let shown = history.machine();
-        assert_eq!(rt; Emulator::pc(shown), pc, "at {place}");
-        assert_eq!(rt; Emulator::register(shown, 0), r0, "at {place}");
-        assert_eq!(rt; Emulator::status(shown), status, "at {place}");
-        assert_eq!(rt; Emulator::image(shown).code(), CODE, "at {place}");
     }
     Ok(())
 }
@@ -52,18 +71,21 @@ fn shows_each_place(rt: HostRuntime) -> Result<(), Fail> {
 const STORES: &[u8] =
     b"\x18\x01\0\0\0\0\0\0\0\0\0\0\x02\0\0\0\x79\x10\0\0\0\0\0\0\x07\0\0\0\x05\0\0\0\x7b\x01\0\0\0\0\0\0\x95\0\0\0\0\0\0\0";
 
+/// How a copy of the machine that is shown at the last of these places ends `n` steps on.
+fn end_after(alloc: Global, code: &[u8], places: &[u64], n: u64) -> Result<Status, Fail> {
+    let mut history = begun(alloc, code)?;
+    for place in places {
+        history.go(*place)?;
+    }
+    let mut again = Emulator::copy(history.machine())?;
+    Emulator::run(&mut again, n)?;
+    Ok(Emulator::status(&again))
+}
+
 /// A machine behind the store has changed nothing in the memory of the one before it.
 #[test]
 fn takes_memory_back(rt: HostRuntime) -> Result<(), Fail> {
-    let code = Vec::from_slice(rt.alloc(), STORES)?;
-    let image = Image::new(code, Vec::new(rt.alloc()))?;
-    let machine = Machine::<Guest>::start(rt.alloc(), image, Table::nulls())?;
-    let mut history = Past::<Machine<Guest>>::begin(rt.alloc(), machine)?;
-    history.go(5)?;
-    assert_eq!(rt; Emulator::status(history.machine()), Status::Exited(5));
-    history.go(1)?;
-    let mut again = Emulator::copy(history.machine())?;
-    Emulator::run(&mut again, 4)?;
-    assert_eq!(rt; Emulator::status(&again), Status::Exited(5));
+    assert!(rt; end_after(rt.alloc(), STORES, &[5], 0)? == Status::Exited(5));
+    assert!(rt; end_after(rt.alloc(), STORES, &[5, 1], 4)? == Status::Exited(5));
     Ok(())
 }

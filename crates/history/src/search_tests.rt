@@ -1,12 +1,12 @@
 //! Searches of a run both ways. The places are counted by hand from the code.
-ghost use Rattle.std.specs.Prelude.{◌<◌};
+ghost use Rattle.std.specs.Prelude.{◌≡◌, ◌<◌, IfOk};
 
 use crate::history::History;
 use crate::past::Past;
 use bpf_machine::{Machine, Table};
 use guest_memory::Guest;
 use loader::Image;
-use std::alloc::AllocError;
+use std::alloc::{AllocError, Global};
 use std::test::Fail;
 
 /// `r0 = 5` and `exit`: slots 0, 1 and, stopped, 1.
@@ -78,11 +78,15 @@ const LAST: [(&[u8], u64, &[u64], u64); 23] = [
     (BEFORE, 3, &[WRAPPED], 0),
 ];
 
-fn begun(rt: &HostRuntime, code: &[u8]) -> Result<Past<Machine<Guest>>, Fail> {
-    let code = Vec::from_slice(rt.alloc(), code)?;
-    let image = Image::new(code, Vec::new(rt.alloc()))?;
-    let machine = Machine::<Guest>::start(rt.alloc(), image, Table::nulls())?;
-    Ok(Past::<Machine<Guest>>::begin(rt.alloc(), machine)?)
+fn begun(alloc: Global, code: &[u8], now: u64) -> Result<Past<Machine<Guest>>, Fail>
+    ensures { IfOk result (λ history. history.place ≡ now) }
+{
+    let code = Vec::from_slice(alloc, code)?;
+    let image = Image::new(code, Vec::new(alloc))?;
+    let machine = Machine::<Guest>::start(alloc, image, Table::nulls())?;
+    let mut history = Past::<Machine<Guest>>::begin(alloc, machine)?;
+    history.go(now)?;
+    Ok(history)
 }
 
 /// The place that is found, also where the first search is refused.
@@ -95,43 +99,59 @@ fn found_first<H: History>(history: &mut H, to: u64, stops: &[u64]) -> Result<u6
     }
 }
 
+/// The place that a search on from this one finds, and the one that is shown then.
+fn first_from(alloc: Global, code: &[u8], now: u64, to: u64, stops: &[u64]) -> Result<Found, Fail>
+    requires { now < to }
+{
+    let mut history = begun(alloc, code, now)?;
+    let found = found_first(&mut history, to, stops)?;
+    Ok((found, history.now()))
+}
+
+type Found = (u64, u64);
+
 #[test]
 fn finds_the_first(rt: HostRuntime) -> Result<(), Fail> {
     for (code, now, to, stops, found) in FIRST {
-        let mut history = begun(&rt, code)?;
-        history.go(now)?;
-        assert!(rt; history.now() < to);
-        assert_eq!(rt;
-            found_first(&mut history, to, stops)?,
-            found,
-            "from {now} to {to}"
-        );
-        assert_eq!(rt; history.now(), now);
+        assert!(rt; now < to);
+        let first = first_from(rt.alloc(), code, now, to, stops)?;
+        assert!(rt; first == (found, now), "from {now} to {to}");
     }
     Ok(())
+}
+
+/// The place that a search back from this one finds, and the one that is shown then.
+fn last_from(alloc: Global, code: &[u8], now: u64, stops: &[u64]) -> Result<Found, Fail> {
+    let mut history = begun(alloc, code, now)?;
+    let found = history.last(stops)?;
+    Ok((found, history.now()))
 }
 
 #[test]
 fn finds_the_last(rt: HostRuntime) -> Result<(), Fail> {
     for (code, now, stops, found) in LAST {
-        let mut history = begun(&rt, code)?;
-        history.go(now)?;
-        let kept = history.kept();
-        assert_eq!(rt; history.last(stops)?, found, "before {now}");
-        assert_eq!(rt; history.now(), now);
-        assert_eq!(rt; history.kept(), kept);
+        let last = last_from(rt.alloc(), code, now, stops)?;
+        assert!(rt; last == (found, now), "before {now}");
     }
     Ok(())
+}
+
+/// The place that a search on from place 0 finds, and how many machines are kept then.
+fn found_and_kept(history: &mut Past<Machine<Guest>>, stops: &[u64]) -> Result<Found, Fail>
+    requires { history.old.place ≡ 0 }
+    ensures { history.new.place ≡ 0 }
+{
+    let found = history.first(u64::MAX, stops)?;
+    Ok((found, history.kept()))
 }
 
 /// A search keeps no more machines than it looks at, and none behind a stopped one.
 #[test]
 fn keeps_what_it_looks_at(rt: HostRuntime) -> Result<(), Fail> {
-    let mut history = begun(&rt, LOOP)?;
-    for (stops, found, kept) in [(&[1], 1, 1), (&[2], 6, 6), (&[3], 7, 7), (&[0], 2, 7)] {
-        assert_eq!(rt; history.now(), 0);
-        assert_eq!(rt; history.first(u64::MAX, stops)?, found);
-        assert_eq!(rt; history.kept(), kept);
-    }
+    let mut history = begun(rt.alloc(), LOOP, 0)?;
+    assert!(rt; found_and_kept(&mut history, &[1])? == (1, 1));
+    assert!(rt; found_and_kept(&mut history, &[2])? == (6, 6));
+    assert!(rt; found_and_kept(&mut history, &[3])? == (7, 7));
+    assert!(rt; found_and_kept(&mut history, &[0])? == (2, 7));
     Ok(())
 }

@@ -1,9 +1,11 @@
 pub mod Bytes
+pub mod Decimals
 pub mod Families
 pub mod Hex
 pub mod Named
 pub mod Numerals
-pub mod Quiet
+pub mod OneLine
+pub mod Plain
 pub mod Ranges
 pub mod Spelled
 pub mod Statements

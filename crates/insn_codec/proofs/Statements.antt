@@ -7,7 +7,7 @@ use Rattle.std.proofs.lemmas.Nat.{be_bytes_8}
 use Rattle.std.specs.Int.{w64, to_be_bytes, from_be_bytes}
 use Rattle.insn_codec.specs.Spelled.{spelled}
 use Rattle.insn_codec.specs.Spelling.{Begins, IsInsn, slot_count, spelling}
-use Rattle.insn_codec.specs.StatementLaws.{StatementIsSpelled}
+use Rattle.insn_codec.specs.Laws.{StatementIsSpelled}
 use Rattle.insn_codec.specs.Statements.{IsStatement, insn_or_slot, statement_bytes, statement_of, statement_slots}
 use Rattle.insn_codec.specs.declared.insn.Insn.{Insn as Instruction}
 use Rattle.insn_codec.specs.declared.insn.Insn.TheVariants.{LoadWide}

@@ -4,7 +4,8 @@ pub mod Slots
 pub mod Spelling
 pub mod Candidate
 pub mod Spelled
+pub mod Mnemonics
 pub mod Lines
 pub mod Statements
-pub mod StatementLaws
+pub mod Laws
 pub mod Rows

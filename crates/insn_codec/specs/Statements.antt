@@ -1,17 +1,26 @@
 -- Lines that stand for code, and the listing of code.
-use Rattle.std.specs.Prelude.{◌≡◌, ℕ, ◌*◌, ◌^◌, ◌<◌, List, [], ◌∷◌, ◌++◌, codes, take, drop, Option, Some, None}
+use Rattle.std.specs.Prelude.{◌≡◌, ℕ, ◌*◌, ◌^◌, ◌<◌, List, [], ◌∷◌, ◌++◌, take, drop, Option, Some, None}
 use Rattle.std.specs.Int.{w64, to_be_bytes, from_be_bytes}
-use Rattle.insn_codec.specs.Lines.{line_text, wide_text}
+use Rattle.insn_codec.specs.Lines.{line_with, mnemonic_of, operands_of, wide_text}
 use Rattle.insn_codec.specs.Spelled.{spelled}
 use Rattle.insn_codec.specs.Spelling.{IsInsn, slot_count, spelling}
 use Rattle.insn_codec.specs.declared.insn.Insn.{Insn as Instruction}
+use Rattle.insn_codec.specs.declared.mnemonic.Mnemonic.{Mnemonic}
+use Rattle.insn_codec.specs.declared.mnemonic.Mnemonic.TheVariants as mnemonic
 use Rattle.insn_codec.specs.declared.statement.Statement.{Statement}
 use Rattle.insn_codec.specs.declared.statement.Statement.TheVariants.{Insn, Slot}
 
--- the line of a statement: that of the instruction, or `.slot` and the slot's bytes as 16 digits
+-- a statement's line is that of the instruction, or `.slot` and the slot's bytes as 16 digits
+abbrev pub statement_mnemonic : Statement → Mnemonic
+statement_mnemonic (Insn i) = mnemonic_of i
+statement_mnemonic (Slot word) = mnemonic.Slot
+
+abbrev pub statement_operands : Statement → List (List ℕ)
+statement_operands (Insn i) = operands_of i
+statement_operands (Slot word) = wide_text word ∷ []
+
 abbrev pub statement_text : Statement → List ℕ
-statement_text (Insn i) = line_text i
-statement_text (Slot word) = codes ".slot " ++ wide_text word
+statement_text x = line_with (statement_mnemonic x) (statement_operands x)
 
 -- the bytes that a statement stands for
 abbrev pub statement_bytes : Statement → List ℕ

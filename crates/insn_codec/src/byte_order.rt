@@ -1,5 +1,5 @@
 ghost use Rattle.std.specs.Prelude.{◌≡◌, Some};
-ghost use Rattle.insn_codec.specs.Lines.{order_text};
+ghost use Rattle.insn_codec.specs.Mnemonics.{order_text};
 
 use std::fmt;
 

@@ -1,8 +1,7 @@
-//! Instructions into words and words into instructions, and the laws of both.
-ghost use Rattle.std.specs.Prelude.{ℕ, ◌%◌, ◌≡◌, ◌≢◌, ◌↔◌, List, drop, None, Some, IfSome, IsTrue};
+//! Instructions into words and words into instructions.
+ghost use Rattle.std.specs.Prelude.{◌%◌, ◌≡◌, ◌≢◌, ◌↔◌, drop, None, Some, IfSome, IsTrue};
 ghost use Rattle.std.specs.Int.{w32, from_le_bytes};
-ghost use Rattle.insn_codec.specs.Rows.{RowsStand};
-ghost use Rattle.insn_codec.specs.Spelled.{SpelledIsSpelling, spelled};
+ghost use Rattle.insn_codec.specs.Spelled.{spelled};
 ghost use Rattle.insn_codec.specs.Spelling.{Begins, IsInsn, more_bytes, on_hand, second_bytes, spelling};
 ghost use Rattle.insn_codec.specs.declared.insn.Insn.{Insn};
 
@@ -46,9 +45,9 @@ fn high_part(second: Option<u64>) -> u32
 fn spells(insn: &Insn, first: u64, second: Option<u64>) -> bool
     ensures { IsTrue result ↔ Begins (spelling insn.now) (on_hand first second) }
 {
-    let (own_first, own_second) = encode(insn);
-    own_first == first
-        && match (own_second, second) {
+    let (its_first, its_second) = encode(insn);
+    its_first == first
+        && match (its_second, second) {
             (None, _) => true,
             (Some(expected), Some(word)) => expected == word,
             (Some(_), None) => false,
@@ -82,11 +81,6 @@ fn second_word(insn: &Insn) -> Option<u64>
     }
 }
 
-/// No bytes begin with the spellings of two instructions, so each has one, and none begins another's.
-pub fn one_reading()
-    ensures { (i j : Insn) (text : List ℕ) → IsInsn i → IsInsn j → Begins (spelling i) text → Begins (spelling j) text → i ≡ j }
-{}
-
 /// The instruction again, out of its own words.
 pub fn round_trip(insn: &Insn) -> Option<Insn>
     ensures { result ≡ Some insn.now }
@@ -95,13 +89,3 @@ pub fn round_trip(insn: &Insn) -> Option<Insn>
     let (first, second) = encode(insn);
     decode(first, second)
 }
-
-/// Reading by the fields finds what the spellings say, at any bytes.
-pub fn spelled_is_spelling()
-    ensures { SpelledIsSpelling }
-{}
-
-/// Rows of the instruction table, and slots that spell nothing, byte by byte.
-pub fn rows_stand()
-    ensures { RowsStand }
-{}

@@ -1,5 +1,5 @@
 ghost use Rattle.std.specs.Prelude.{◌≡◌, Some};
-ghost use Rattle.insn_codec.specs.Lines.{extension_text};
+ghost use Rattle.insn_codec.specs.Mnemonics.{extension_text};
 
 use crate::width::Width;
 use std::fmt;

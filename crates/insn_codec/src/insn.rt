@@ -1,10 +1,12 @@
 ghost use Rattle.std.specs.Prelude.{◌≡◌, ◌*◌, length, Some};
-ghost use Rattle.insn_codec.specs.Lines.{line_text};
+ghost use Rattle.insn_codec.specs.Lines.{line_text, mnemonic_of};
 
+use crate::address_text::AddressText;
 use crate::alu_op::AluOp;
 use crate::byte_order::ByteOrder;
 use crate::comparison::Comparison;
 use crate::extension::Extension;
+use crate::mnemonic::Mnemonic;
 use crate::number_text::NumberText;
 use crate::offset_text::OffsetText;
 use crate::operand::Operand;
@@ -230,6 +232,33 @@ impl Insn {
         }
     }
 
+    /// The word that the instruction's line begins with.
+    fn mnemonic(self) -> Mnemonic
+        ensures { result ≡ mnemonic_of self }
+    {
+        match self {
+            Insn::Alu { op, width, .. } => Mnemonic::Alu(op, width),
+            Insn::Neg { width, .. } => Mnemonic::Neg(width),
+            Insn::SignExtend { extension, .. } => Mnemonic::SignExtend(extension),
+            Insn::ByteSwap { order, width, .. } => Mnemonic::ByteSwap(order, width),
+            Insn::Jump { .. } => Mnemonic::Ja,
+            Insn::JumpLong { .. } => Mnemonic::JaLong,
+            Insn::Branch {
+                comparison,
+                width,
+                ..
+            } => Mnemonic::Branch(comparison, width),
+            Insn::Call { .. } => Mnemonic::Call,
+            Insn::CallLocal { .. } => Mnemonic::CallLocal,
+            Insn::Exit => Mnemonic::Exit,
+            Insn::Load { size, .. } => Mnemonic::Load(size),
+            Insn::LoadSigned { size, .. } => Mnemonic::LoadSigned(size),
+            Insn::StoreImm { size, .. } => Mnemonic::StoreImm(size),
+            Insn::Store { size, .. } => Mnemonic::Store(size),
+            Insn::LoadWide { .. } => Mnemonic::LoadWide,
+        }
+    }
+
     /// Its numbers are in the ranges of their types, as laws on instructions ask.
     pub fn in_range(self)
         ensures { IsInsn self }
@@ -241,87 +270,77 @@ impl fmt::Display for Insn {
     ghost output = { λ i. Some (line_text i) };
 
     fn fmt<W: fmt::Write>(&self, f: &mut fmt::Formatter<W>) -> fmt::Result {
+        let mnemonic = self.mnemonic();
         match *self {
-            Insn::Alu {
-                op,
-                width,
-                dst,
-                operand,
-            } => write!(f, "{op}{width} {dst}, {operand}"),
-            Insn::Neg { width, dst } => write!(f, "neg{width} {dst}"),
-            Insn::SignExtend {
-                extension,
-                dst,
-                src,
-            } => write!(f, "movsx{extension} {dst}, {src}"),
-            Insn::ByteSwap { order, width, dst } => write!(f, "{order}{width} {dst}"),
+            Insn::Alu { dst, operand, .. } => write!(f, "{mnemonic} {dst}, {operand}"),
+            Insn::Neg { dst, .. } | Insn::ByteSwap { dst, .. } => write!(f, "{mnemonic} {dst}"),
+            Insn::SignExtend { dst, src, .. } => write!(f, "{mnemonic} {dst}, {src}"),
             Insn::Jump { offset } => {
                 let offset = OffsetText(offset as i32);
-                write!(f, "ja {offset}")
+                write!(f, "{mnemonic} {offset}")
             }
             Insn::JumpLong { offset } => {
                 let offset = OffsetText(offset);
-                write!(f, "ja32 {offset}")
-            }
-            Insn::Branch {
-                comparison,
-                width,
-                dst,
-                operand,
-                offset,
-            } => {
-                let offset = OffsetText(offset as i32);
-                write!(f, "{comparison}{width} {dst}, {operand}, {offset}")
-            }
-            Insn::Call { helper } => {
-                let helper = NumberText(helper);
-                write!(f, "call {helper}")
+                write!(f, "{mnemonic} {offset}")
             }
             Insn::CallLocal { offset } => {
                 let offset = OffsetText(offset);
-                write!(f, "call_local {offset}")
+                write!(f, "{mnemonic} {offset}")
             }
-            Insn::Exit => write!(f, "exit"),
+            Insn::Branch {
+                dst,
+                operand,
+                offset,
+                ..
+            } => {
+                let offset = OffsetText(offset as i32);
+                write!(f, "{mnemonic} {dst}, {operand}, {offset}")
+            }
+            Insn::Call { helper } => {
+                let helper = NumberText(helper);
+                write!(f, "{mnemonic} {helper}")
+            }
+            Insn::Exit => write!(f, "{mnemonic}"),
             Insn::Load {
-                size,
                 dst,
                 src,
                 offset,
+                ..
             } => {
-                let offset = OffsetText(offset as i32);
-                write!(f, "ldx{size} {dst}, [{src}{offset}]")
+                let address = AddressText::of(src, offset);
+                write!(f, "{mnemonic} {dst}, [{address}]")
             }
             Insn::LoadSigned {
-                size,
                 dst,
                 src,
                 offset,
+                ..
             } => {
-                let offset = OffsetText(offset as i32);
-                write!(f, "ldxs{size} {dst}, [{src}{offset}]")
+                let address = AddressText::of(src, offset);
+                write!(f, "{mnemonic} {dst}, [{address}]")
             }
             Insn::StoreImm {
-                size,
                 dst,
                 offset,
                 imm,
+                ..
             } => {
-                let offset = OffsetText(offset as i32);
+                let address = AddressText::of(dst, offset);
                 let imm = NumberText(imm);
-                write!(f, "st{size} [{dst}{offset}], {imm}")
+                write!(f, "{mnemonic} [{address}], {imm}")
             }
             Insn::Store {
-                size,
                 dst,
                 offset,
                 src,
+                ..
             } => {
-                let offset = OffsetText(offset as i32);
-                write!(f, "stx{size} [{dst}{offset}], {src}")
+                let address = AddressText::of(dst, offset);
+                write!(f, "{mnemonic} [{address}], {src}")
             }
             Insn::LoadWide { dst, value } => {
                 let value = WideText(value);
-                write!(f, "lddw {dst}, {value}")
+                write!(f, "{mnemonic} {dst}, {value}")
             }
         }
     }

@@ -1,5 +1,5 @@
 ghost use Rattle.std.specs.Prelude.{◌≡◌, Some};
-ghost use Rattle.insn_codec.specs.Lines.{signed_size_text};
+ghost use Rattle.insn_codec.specs.Mnemonics.{signed_size_text};
 
 use std::fmt;
 

@@ -1,5 +1,5 @@
 ghost use Rattle.std.specs.Prelude.{◌≡◌, Some};
-ghost use Rattle.insn_codec.specs.Lines.{size_text};
+ghost use Rattle.insn_codec.specs.Mnemonics.{size_text};
 
 use std::fmt;
 

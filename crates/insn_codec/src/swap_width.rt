@@ -1,5 +1,5 @@
 ghost use Rattle.std.specs.Prelude.{◌≡◌, Some};
-ghost use Rattle.insn_codec.specs.Lines.{swap_text};
+ghost use Rattle.insn_codec.specs.Mnemonics.{swap_text};
 
 use std::fmt;
 

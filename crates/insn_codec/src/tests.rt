@@ -1,6 +1,7 @@
 use crate::{
     AluOp, ByteOrder, Comparison, Extension, Insn, Operand, Register, SignedSize, Size, SwapWidth,
-    Width, decode, encode, one_reading, round_trip, rows_stand, spelled_is_spelling,
+    Width, decode, encode, one_reading, round_trip, rows_stand, slots_are_filled,
+    spelled_is_spelling,
 };
 use Register::{R0, R1, R2, R3, R9, R10};
 use std::process::Abort;
@@ -319,5 +320,6 @@ fn nothing_is_spelled(rt: HostRuntime) {
 fn laws_can_be_called(_rt: HostRuntime) {
     one_reading();
     spelled_is_spelling();
+    slots_are_filled();
     rows_stand();
 }

@@ -3,11 +3,10 @@
 
 mod format;
 mod image;
-mod laws;
+pub mod laws;
 mod load_error;
 #[cfg(test)]
 mod tests;
 
 pub use image::Image;
-pub use laws::{read_is_the_format, rows_stand};
 pub use load_error::LoadError;

@@ -1,7 +1,11 @@
 pub mod Assembled
+pub mod Debugged
+pub mod Decimals
 pub mod Kept
 pub mod Limit
-pub mod Listings
 pub mod Number
+pub mod Performed
+pub mod Programs
+pub mod Readings
 pub mod Shape
-pub mod Written
+pub mod Streams

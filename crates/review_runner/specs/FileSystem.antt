@@ -10,11 +10,27 @@ pub record FileSystem : Type 0 where
   pub holds : List ℕ → Option (List ℕ)
   pub takes : List ℕ → Bool
 
+-- ---- reads
+
+-- what a read answers: a file's bytes, or why there are none
+abbrev pub Reading : Type 0
+Reading = Result (List ℕ) FileError
+
+abbrev pub reading_of : Result (Vec ℕ Global) FileError → Reading
+reading_of (Ok bytes) = Ok bytes.items
+reading_of (Err e) = Err e
+
 -- the bytes that a name's file holds; it fails exactly where there are none
-abbrev pub ReadsFile : Option (List ℕ) → Result (Vec ℕ Global) FileError → Type 0
-ReadsFile held (Ok bytes) = held ≡ Some bytes.items
+abbrev pub ReadsFile : Option (List ℕ) → Reading → Type 0
+ReadsFile held (Ok bytes) = held ≡ Some bytes
 ReadsFile held (Err Failed) = held ≡ None
 ReadsFile held (Err Memory) = Unit {0}
+
+-- a read of this name may answer so: where the files are known, by what they hold
+abbrev pub IsReading : Option FileSystem → List ℕ → Reading → Type 0
+IsReading known name reading = (f : FileSystem) → known ≡ Some f → ReadsFile (f.holds name) reading
+
+-- ---- writes
 
 -- all names hold what they did, but for one that holds these bytes
 abbrev pub with_file : FileSystem → List ℕ → List ℕ → List ℕ → Option (List ℕ)
@@ -30,3 +46,16 @@ abbrev pub AnswersWrite : FileSystem → FileSystem → List ℕ → List ℕ �
 AnswersWrite old new name bytes (Ok u) = WritesFile old new name bytes true
 AnswersWrite old new name bytes (Err Failed) = WritesFile old new name bytes false
 AnswersWrite old new name bytes (Err Memory) = new ≡ old
+
+-- a write of these bytes may answer so: files that are known stay known, and change by the answer
+abbrev pub IsWriting : Option FileSystem → List ℕ → List ℕ → Option FileSystem → Result (Unit {0}) FileError → Type 0
+IsWriting known name bytes after result = (f : FileSystem) → known ≡ Some f → (g : FileSystem) × (after ≡ Some g) × AnswersWrite f g name bytes result
+
+-- each file holds what it did, and the same names are taken
+pub record IsSame (old new : FileSystem) : Type 0 where
+  pub holds : (name : List ℕ) → new.holds name ≡ old.holds name
+  pub takes : new.takes ≡ old.takes
+
+-- files that are known stay known, and as they are
+abbrev pub KeepsFiles : Option FileSystem → Option FileSystem → Type 0
+KeepsFiles known after = (f : FileSystem) → known ≡ Some f → (g : FileSystem) × (after ≡ Some g) × IsSame f g

@@ -1,9 +1,12 @@
 pub mod Running
+pub mod Refusals
 pub mod Output
 pub mod FileSystem
 pub mod Commands
 pub mod Number
 pub mod Order
 pub mod Rows
+pub mod Opening
 pub mod Debugging
 pub mod Performing
+pub mod Program

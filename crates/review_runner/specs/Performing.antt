@@ -1,5 +1,5 @@
--- What an order does to the files, and what it leaves to be written.
-use Rattle.std.specs.Prelude.{◌≡◌, ℕ, true, false, List, [], Result, Ok, Err, Option, Some, None, Vec}
+-- What an order other than a session does to the files, and what comes of it.
+use Rattle.std.specs.Prelude.{◌≡◌, ℕ, Bool, true, false, List, [], Result, Ok, Err, Option, Vec}
 use Rattle.std.specs.Str.{IsUtf8}
 use Rattle.std.specs.declared.alloc.Global.{Global}
 use Rattle.assembler.specs.Assembles.{Assembles}
@@ -10,58 +10,112 @@ use Rattle.insn_codec.specs.Statements.{Listing}
 use Rattle.loader.specs.Contents.{Contents}
 use Rattle.loader.specs.Format.{file_of, image_from}
 use Rattle.loader.specs.declared.load_error.LoadError.{LoadError}
-use Rattle.review_runner.specs.Debugging.{opened}
-use Rattle.review_runner.specs.FileSystem.{FileSystem, WritesFile}
+use Rattle.review_runner.specs.FileSystem.{FileSystem, Reading, IsReading, IsWriting, KeepsFiles}
+use Rattle.review_runner.specs.Opening.{OpensFile, opened}
 use Rattle.review_runner.specs.Order.{Task, assemble, debug, list, run_image}
-use Rattle.review_runner.specs.Output.{Output, refused, run_image_output, succeeded}
+use Rattle.review_runner.specs.Output.{Outcome, Output, output_by, run_image_outcome, succeeded}
+use Rattle.review_runner.specs.Refusals.{file_refusal, load_refusal}
+use Rattle.review_runner.specs.declared.file_error.FileError.{FileError}
+use Rattle.review_runner.specs.declared.file_error.FileError.TheVariants.{Failed}
 use Rattle.review_runner.specs.declared.refusal.Refusal.{Refusal}
-use Rattle.review_runner.specs.declared.refusal.Refusal.TheVariants.{File, Image, Memory, Program, Text}
+use Rattle.review_runner.specs.declared.refusal.Refusal.TheVariants.{File, Memory, Program, Text}
+
+-- ---- single orders
+
+-- `run-image`, whatever its file holds
+pub record RunsImage (old : Option FileSystem) (image : List ℕ) (n : ℕ) (new : Option FileSystem) (outcome : Outcome) : Type 0 where
+  pub reading : Reading
+  pub is_reading : IsReading old image reading
+  pub stays : new ≡ old
+  pub outcome_is : outcome ≡ run_image_outcome reading n
+
+-- the listing of an image's code, or why there is no image
+pub data Listed : Result Contents Refusal → Outcome → Type 0 where
+  unlisted : {r : Refusal} → Listed (Err r) (Err r)
+  listed : {image : Contents} {text : List ℕ} → Listing image.code text → Listed (Ok image) (Ok (succeeded text))
+
+-- `list`, whatever its file holds
+pub record ListsImage (old : Option FileSystem) (image : List ℕ) (new : Option FileSystem) (outcome : Outcome) : Type 0 where
+  pub reading : Reading
+  pub is_reading : IsReading old image reading
+  pub stays : new ≡ old
+  pub is_listed : Listed (opened reading) outcome
 
 abbrev pub file_from : Result Contents LoadError → Result (List ℕ) Refusal
 file_from (Ok image) = Ok (file_of image)
-file_from (Err e) = Err (Image e)
+file_from (Err e) = Err (load_refusal e)
 
--- the file of the image of a program, without constants, by what the file of its text holds
-pub data Assembled : Option (List ℕ) → Result (List ℕ) Refusal → Type 0 where
-  no_file : Assembled None (Err File)
-  no_text : {held : List ℕ} → (IsUtf8 held → ⊥) → Assembled (Some held) (Err Text)
-  no_program : {text : List ℕ} {e : AsmError} → IsUtf8 text → Assembles (lines_of text) (Err e) → Assembled (Some text) (Err (Program e))
-  program : {text code : List ℕ} → IsUtf8 text → Source text code → Assembled (Some text) (file_from (image_from code []))
+-- the file of the image of a program, without constants, by what a read of its text's file answered
+pub data Assembled : Reading → Result (List ℕ) Refusal → Type 0 where
+  no_file : {e : FileError} → Assembled (Err e) (Err (file_refusal e))
+  no_text : {held : List ℕ} → (IsUtf8 held → ⊥) → Assembled (Ok held) (Err Text)
+  no_program : {text : List ℕ} {e : AsmError} → IsUtf8 text → Assembles (lines_of text) (Err e) → Assembled (Ok text) (Err (Program e))
+  program : {text code : List ℕ} → IsUtf8 text → Source text code → Assembled (Ok text) (file_from (image_from code []))
 
 -- this file is written: a refusal before it leaves the files
-pub data Writes (old : FileSystem) (name : List ℕ) : Result (List ℕ) Refusal → FileSystem → Output → Type 0 where
-  nothing : {r : Refusal} → Writes old name (Err r) old (refused r)
-  written : {bytes : List ℕ} {new : FileSystem} → WritesFile old new name bytes true → Writes old name (Ok bytes) new (succeeded [])
-  failed : {bytes : List ℕ} {new : FileSystem} → WritesFile old new name bytes false → Writes old name (Ok bytes) new (refused File)
+pub data WritesImage (old : Option FileSystem) (name : List ℕ) : Result (List ℕ) Refusal → Option FileSystem → Outcome → Type 0 where
+  nothing : {r : Refusal} → WritesImage old name (Err r) old (Err r)
+  written : {bytes : List ℕ} {new : Option FileSystem} → IsWriting old name bytes new (Ok tt) → WritesImage old name (Ok bytes) new (Ok (succeeded []))
+  failed : {bytes : List ℕ} {new : Option FileSystem} → IsWriting old name bytes new (Err Failed) → WritesImage old name (Ok bytes) new (Err File)
 
-pub record AssemblesTo (old : FileSystem) (text image : List ℕ) (new : FileSystem) (output : Output) : Type 0 where
+-- `asm`, whatever its files hold
+pub record AssemblesTo (old : Option FileSystem) (text image : List ℕ) (new : Option FileSystem) (outcome : Outcome) : Type 0 where
+  pub reading : Reading
+  pub is_reading : IsReading old text reading
   pub file : Result (List ℕ) Refusal
-  pub assembled : Assembled (old.holds text) file
-  pub writes : Writes old image file new output
+  pub assembled : Assembled reading file
+  pub writes : WritesImage old image file new outcome
 
--- the listing of an image's code, or why there is no image
-pub data Listed : Result Contents Refusal → Output → Type 0 where
-  unlisted : {r : Refusal} → Listed (Err r) (refused r)
-  listed : {image : Contents} {text : List ℕ} → Listing image.code text → Listed (Ok image) (succeeded text)
+-- ---- all orders
 
--- what a task does where the files are known: a session does not go this way
-abbrev pub Performs : FileSystem → Task → FileSystem → Output → Type 0
-Performs old (run_image image n) new output = (new ≡ old) × (output ≡ run_image_output (old.holds image) n)
-Performs old (assemble text image) new output = AssemblesTo old text image new output
-Performs old (list image) new output = (new ≡ old) × Listed (opened (old.holds image)) output
-Performs old (debug image) new output = ⊥
+-- what a task does: a session does not go this way
+abbrev pub Performs : Option FileSystem → Task → Option FileSystem → Outcome → Type 0
+Performs old (run_image image n) new outcome = RunsImage old image n new outcome
+Performs old (assemble text image) new outcome = AssemblesTo old text image new outcome
+Performs old (list image) new outcome = ListsImage old image new outcome
+Performs old (debug image) new outcome = ⊥
 
--- each file holds what it did, and the same names are taken
-pub record IsSame (old new : FileSystem) : Type 0 where
-  pub holds : (name : List ℕ) → new.holds name ≡ old.holds name
-  pub takes : new.takes ≡ old.takes
+-- the image's file, by what a read of the text's file answered, or want of memory where there is a text
+abbrev pub AssemblesBy : Reading → Result (Vec ℕ Global) Refusal → Type 0
+AssemblesBy reading (Ok file) = Assembled reading (Ok file.items)
+AssemblesBy reading (Err Memory) = (reading ≡ Err Failed → ⊥) × ((held : List ℕ) → reading ≡ Ok held → IsUtf8 held)
+AssemblesBy reading (Err r) = Assembled reading (Err r)
 
--- the answer is the one that is due, or that there is no memory
-abbrev pub AssemblesBy : Option (List ℕ) → Result (Vec ℕ Global) Refusal → Type 0
-AssemblesBy held (Ok file) = Assembled held (Ok file.items)
-AssemblesBy held (Err Memory) = Unit {0}
-AssemblesBy held (Err r) = Assembled held (Err r)
+-- the file of the image of the text in the file of this name
+pub record AssemblesFile (known : Option FileSystem) (name : List ℕ) (result : Result (Vec ℕ Global) Refusal) : Type 0 where
+  pub reading : Reading
+  pub is_reading : IsReading known name reading
+  pub assembles : AssemblesBy reading result
 
+-- memory ran out: known files stay, and no refusal stood before anything grew
+abbrev pub LacksMemory : Option FileSystem → Task → Option FileSystem → Type 0
+LacksMemory old (run_image image n) new = (new ≡ old) × OpensFile old image (Err Memory)
+LacksMemory old (assemble text image) new = KeepsFiles old new × AssemblesFile old text (Err Memory)
+LacksMemory old (list image) new = (new ≡ old) × OpensFile old image (Err Memory)
+LacksMemory old (debug image) new = ⊥
+
+-- what comes of a task, with memory or without
+pub data PerformsBy (old : Option FileSystem) (task : Task) (new : Option FileSystem) : Outcome → Type 0 where
+  performs : {outcome : Outcome} → Performs old task new outcome → PerformsBy old task new outcome
+  lacks_memory : LacksMemory old task new → PerformsBy old task new (Err Memory)
+
+-- what is to be written once a task is done
+pub record IsDone (old : Option FileSystem) (task : Task) (new : Option FileSystem) (output : Output) : Type 0 where
+  pub outcome : Outcome
+  pub performs : Performs old task new outcome
+  pub has_memory : outcome ≡ Err Memory → ⊥
+  pub output_is : output ≡ output_by outcome
+
+-- the task writes no file
+abbrev pub only_reads : Task → Bool
+only_reads (run_image image n) = true
+only_reads (assemble text image) = false
+only_reads (list image) = true
+only_reads (debug image) = true
+
+-- ---- parts
+
+-- the file of an image without constants, or that there is no memory
 abbrev pub FileBy : List ℕ → Result (Vec ℕ Global) Refusal → Type 0
 FileBy code (Ok file) = file_from (image_from code []) ≡ Ok file.items
 FileBy code (Err Memory) = Unit {0}

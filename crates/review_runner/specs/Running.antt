@@ -1,5 +1,5 @@
 -- What running an image answers.
-use Rattle.std.specs.Prelude.{◌≡◌, ℕ, List, ◌++◌, Result, Ok, Err, Vec}
+use Rattle.std.specs.Prelude.{◌≡◌, ℕ, List, ◌++◌, Result, Ok, Err, IsOk, Vec}
 use Rattle.std.specs.declared.alloc.Global.{Global}
 use Rattle.loader.specs.Contents.{Contents}
 use Rattle.loader.specs.Format.{image_in}
@@ -31,7 +31,7 @@ run_of (Err e) n = Err e
 unfoldable pub run_of_file : List ℕ → ℕ → Result Shown LoadError
 run_of_file file n = run_of (image_in file) n
 
--- the answer is the one that is due, or that there is no memory
+-- the answer is the one that is due, or that there is no memory where the file holds an image
 abbrev pub Runs : Result Shown LoadError → Result (Vec ℕ Global × Status) LoadError → Type 0
 Runs due (Ok r) = due ≡ Ok (record { text = r.0.items; status = r.1 })
 Runs due (Err L1) = due ≡ Err L1
@@ -39,4 +39,4 @@ Runs due (Err L2) = due ≡ Err L2
 Runs due (Err L3) = due ≡ Err L3
 Runs due (Err L4) = due ≡ Err L4
 Runs due (Err L5) = due ≡ Err L5
-Runs due (Err Memory) = Unit {0}
+Runs due (Err Memory) = IsOk due

@@ -1,5 +1,8 @@
 //! Why a file was not read or written.
+ghost use Rattle.std.specs.Prelude.{◌≡◌};
+ghost use Rattle.review_runner.specs.declared.file_error.FileError.TheVariants.{Memory};
 
+use std::alloc::AllocError;
 use thiserror::Error;
 
 /// Why a file was not read or written.
@@ -11,4 +14,12 @@ pub enum FileError {
     /// Memory ran out.
     #[error("out of memory")]
     Memory,
+}
+
+impl From<AllocError> for FileError {
+    ghost from_gives = { λ _ e. e ≡ Memory };
+
+    fn from(_error: AllocError) -> FileError {
+        FileError::Memory
+    }
 }

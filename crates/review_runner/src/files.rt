@@ -1,6 +1,6 @@
 //! The files that an order names.
-ghost use Rattle.std.specs.Prelude.{◌≡◌, Option, Some};
-ghost use Rattle.review_runner.specs.FileSystem.{FileSystem, AnswersWrite, ReadsFile};
+ghost use Rattle.std.specs.Prelude.{◌≡◌, Option};
+ghost use Rattle.review_runner.specs.FileSystem.{FileSystem, IsReading, IsWriting, reading_of};
 
 use crate::file_error::FileError;
 use std::alloc::Global;
@@ -12,10 +12,10 @@ pub trait Files {
 
     /// The bytes of the file of this name.
     fn read(&mut self, alloc: Global, name: &str) -> Result<Vec<u8>, FileError>
-        ensures read { (f : FileSystem) → known self.old ≡ Some f → ReadsFile (f.holds name.now) result }
+        ensures read { IsReading (known self.old) name.now (reading_of result) }
         ensures known { known self.new ≡ known self.old };
 
     /// Puts the bytes into the file of this name, in place of what it held.
     fn write(&mut self, name: &str, bytes: &[u8]) -> Result<(), FileError>
-        ensures { (f : FileSystem) → known self.old ≡ Some f → (g : FileSystem) × (known self.new ≡ Some g) × AnswersWrite f g name.now bytes.now result };
+        ensures { IsWriting (known self.old) name.now bytes.now (known self.new) result };
 }

@@ -1,16 +1,21 @@
-//! What the program does: orders read from the words of a command line, and done with files that
-//! the caller gives. `reader::order` reads the words, `perform` does the order.
+//! What the program does: orders read from the words of a command line, and done with files and
+//! streams that the caller gives. `exit_code` is the program whole; `reader::order` reads the words,
+//! `perform` does an order and `debug` a session.
 #![tactic(auto)]
 
+mod answer;
 mod assembling;
 #[cfg(test)]
 mod assembling_tests;
 mod command_line;
 mod debugging;
 mod done;
+#[cfg(test)]
+mod doubles;
 mod file_error;
 mod files;
 mod listing;
+mod opening;
 mod order;
 mod order_error;
 #[cfg(test)]
@@ -18,13 +23,18 @@ mod order_tests;
 mod performing;
 #[cfg(test)]
 mod performing_tests;
+mod program;
+#[cfg(test)]
+mod program_tests;
 pub mod reader;
 mod refusal;
+mod refusal_line;
 pub mod rows;
 mod running;
 #[cfg(test)]
 mod running_tests;
 mod values;
+mod writing;
 
 pub use debugging::debug;
 pub use done::Done;
@@ -33,5 +43,6 @@ pub use files::Files;
 pub use order::Order;
 pub use order_error::OrderError;
 pub use performing::perform;
+pub use program::exit_code;
 pub use refusal::Refusal;
 pub use running::{RunImageError, run_image};

@@ -1,32 +1,51 @@
 //! Orders, done with files that the caller gives.
-ghost use Rattle.std.specs.Prelude.{◌≡◌, false, Some, IfOk, OnErr};
-ghost use Rattle.review_runner.specs.FileSystem.{FileSystem};
-ghost use Rattle.review_runner.specs.Order.{is_session, order_view};
-ghost use Rattle.review_runner.specs.Output.{output_of, run_image_output, run_output, run_status};
-ghost use Rattle.review_runner.specs.Performing.{IsSame, Performs};
-ghost use Rattle.review_runner.specs.Running.{run_of_file};
+ghost use Rattle.std.specs.Prelude.{◌≡◌, false, true, IfOk, OnErr};
+ghost use Rattle.review_runner.specs.FileSystem.{KeepsFiles};
+ghost use Rattle.review_runner.specs.Opening.{IsAnswer};
+ghost use Rattle.review_runner.specs.Order.{is_session, order_view, run_image};
+ghost use Rattle.review_runner.specs.Output.{outcome_of, output_by, output_of, report_of, run_image_outcome, run_status};
+ghost use Rattle.review_runner.specs.Performing.{IsDone, only_reads, PerformsBy};
 
+use crate::answer::Answer;
 use crate::assembling::assemble_file;
 use crate::done::Done;
-use crate::file_error::FileError;
 use crate::files::Files;
 use crate::listing::list_file;
 use crate::order::Order;
 use crate::refusal::Refusal;
 use crate::running::run_image;
 use bpf_machine::Status;
-use loader::LoadError;
 use std::alloc::{AllocError, Global};
 
 /// Does the order and answers what is to be written and the program's status. A refusal is an
 /// answer too; the one error is want of memory, which leaves the files. A session is for `debug`.
 pub fn perform<F: Files>(alloc: Global, order: &Order, files: &mut F) -> Result<Done, AllocError>
     requires { is_session (order_view order.now) ≡ false }
-    ensures done { (f : FileSystem) → F.known files.old ≡ Some f → IfOk result (λ d. (g : FileSystem) × (F.known files.new ≡ Some g) × Performs f (order_view order.now) g (output_of d)) }
-    ensures memory { (f : FileSystem) → F.known files.old ≡ Some f → OnErr result ((g : FileSystem) × (F.known files.new ≡ Some g) × IsSame f g) }
+    ensures done { IfOk result (λ d. IsDone (F.known files.old) (order_view order.now) (F.known files.new) (output_of d)) }
+    ensures memory { OnErr result (KeepsFiles (F.known files.old) (F.known files.new)) }
+    ensures stays { only_reads (order_view order.now) ≡ true → F.known files.new ≡ F.known files.old }
+{
+    match outcome(alloc, order, files) {
+        Ok(answer) => Ok(Done {
+            status: answer.status,
+            out: answer.out,
+            err: Vec::new(alloc),
+        }),
+        Err(refusal) => refusal.answer(alloc),
+    }
+}
+
+/// Does the order. What is refused before anything grows is answered as itself.
+pub(crate) fn outcome<F: Files>(
+    alloc: Global,
+    order: &Order,
+    files: &mut F,
+) -> Result<Answer, Refusal>
+    requires { is_session (order_view order.now) ≡ false }
+    ensures { PerformsBy (F.known files.old) (order_view order.now) (F.known files.new) (outcome_of result) }
 {
     match order {
-        Order::RunImage { image, steps } => perform_run(alloc, image.as_str(), *steps, files),
+        Order::RunImage { image, steps } => run_file(alloc, image.as_str(), *steps, files),
         Order::Assemble { text, image } => {
             assemble_file(alloc, text.as_str(), image.as_str(), files)
         }
@@ -35,36 +54,29 @@ pub fn perform<F: Files>(alloc: Global, order: &Order, files: &mut F) -> Result<
     }
 }
 
-/// Runs the image in this file.
-fn perform_run<F: Files>(
+/// Runs the image in the file of this name.
+fn run_file<F: Files>(
     alloc: Global,
     image: &str,
     steps: u64,
     files: &mut F,
-) -> Result<Done, AllocError>
-    ensures done { (f : FileSystem) → F.known files.old ≡ Some f → IfOk result (λ d. output_of d ≡ run_image_output (f.holds image.now) steps) }
+) -> Result<Answer, Refusal>
+    ensures runs { PerformsBy (F.known files.old) (run_image image.now steps) (F.known files.new) (outcome_of result) }
     ensures known { F.known files.new ≡ F.known files.old }
 {
-    match files.read(alloc, image) {
-        Ok(file) => run_file(alloc, &file, steps),
-        Err(FileError::Failed) => Refusal::File.done(alloc),
-        Err(FileError::Memory) => Err(AllocError),
-    }
+    let file = files.read(alloc, image)?;
+    run_held(alloc, &file, steps)
 }
 
 /// Runs the image that the file holds, if it holds one.
-fn run_file(alloc: Global, file: &[u8], steps: u64) -> Result<Done, AllocError>
-    ensures { IfOk result (λ d. output_of d ≡ run_output (run_of_file file.now steps)) }
+fn run_held(alloc: Global, file: &[u8], steps: u64) -> Result<Answer, Refusal>
+    ensures { IsAnswer (run_image_outcome (Ok file.now) steps) (outcome_of result) }
 {
-    match run_image(alloc, file, steps) {
-        Ok((out, status)) => Ok(Done {
-            status: run_status(status),
-            out,
-            err: Vec::new(alloc),
-        }),
-        Err(LoadError::Memory) => Err(AllocError),
-        Err(error) => Refusal::Image(error).done(alloc),
-    }
+    let (out, status) = run_image(alloc, file, steps)?;
+    Ok(Answer {
+        status: run_status(status),
+        out,
+    })
 }
 
 /// The program's status after a run.

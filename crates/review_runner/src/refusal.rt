@@ -1,16 +1,19 @@
 //! Why the program does not do what it is asked.
-ghost use Rattle.std.specs.Prelude.{◌≡◌, Some, IfOk};
-ghost use Rattle.review_runner.specs.Output.{image_refusal, order_refusal, output_of, program_refusal, refusal_status, refusal_text, refused, text_refusal};
+ghost use Rattle.std.specs.Prelude.{◌≡◌, IfOk};
+ghost use Rattle.review_runner.specs.Output.{output_of, refused};
+ghost use Rattle.review_runner.specs.Refusals.{file_refusal, load_refusal, order_refusal, program_refusal, refusal_status, session_refusal};
 ghost use Rattle.review_runner.specs.declared.refusal.Refusal.TheVariants as refusal;
 
 use crate::done::Done;
+use crate::file_error::FileError;
 use crate::order_error::OrderError;
+use crate::refusal_line::refusal_line;
 use assembler::AsmError;
+use debugger::SessionError;
 use loader::LoadError;
 use std::alloc::{AllocError, Global};
-use std::fmt;
 
-/// Why the program does not do what it is asked. It is shown as its number or its word.
+/// Why the program does not do what it is asked.
 #[derive(Clone, Copy, Debug, PartialEq, Eq)]
 pub enum Refusal {
     /// The words of the command line are not taken.
@@ -46,11 +49,11 @@ impl Refusal {
     pub fn done(self, alloc: Global) -> Result<Done, AllocError>
         ensures { IfOk result (λ d. output_of d ≡ refused self) }
     {
-        let line = format!(in alloc; "celbpf: {self}\n")?;
+        let line = refusal_line(alloc, self);
         Ok(Done {
             status: self.status(),
             out: Vec::new(alloc),
-            err: line.into_bytes(),
+            err: Vec::from_slice(alloc, line.as_slice())?,
         })
     }
 }
@@ -70,14 +73,11 @@ impl Refusal {
     }
 }
 
-impl From<OrderError> for Refusal {
-    ghost from_gives = { λ e r. r ≡ order_refusal e };
+impl From<AllocError> for Refusal {
+    ghost from_gives = { λ _ r. r ≡ refusal.Memory };
 
-    fn from(error: OrderError) -> Refusal {
-        match error {
-            OrderError::U1 => Refusal::Words,
-            OrderError::Memory => Refusal::Memory,
-        }
+    fn from(_error: AllocError) -> Refusal {
+        Refusal::Memory
     }
 }
 
@@ -92,61 +92,47 @@ impl From<AsmError> for Refusal {
     }
 }
 
-impl From<AllocError> for Refusal {
-    ghost from_gives = { λ _ r. r ≡ refusal.Memory };
+impl From<FileError> for Refusal {
+    ghost from_gives = { λ e r. r ≡ file_refusal e };
 
-    fn from(_error: AllocError) -> Refusal {
-        Refusal::Memory
-    }
-}
-
-impl fmt::Display for Refusal {
-    ghost output = { λ r. Some (refusal_text r) };
-
-    fn fmt<W: fmt::Write>(&self, f: &mut fmt::Formatter<W>) -> fmt::Result {
-        match *self {
-            Refusal::Words => f.write_str("U1"),
-            Refusal::Image(error) => f.write_str(image_refusal(error)),
-            Refusal::File => f.write_str("file"),
-            Refusal::Text => f.write_str("text"),
-            Refusal::Program(error) => write!(f, "{}", TextRefusal(error)),
-            Refusal::Input => f.write_str("S1"),
-            Refusal::Output => f.write_str("S2"),
-            Refusal::Memory => f.write_str("memory"),
+    fn from(error: FileError) -> Refusal {
+        match error {
+            FileError::Failed => Refusal::File,
+            FileError::Memory => Refusal::Memory,
         }
     }
 }
 
-/// Why a text is refused, shown as its number and its line.
-#[derive(Drop)]
-struct TextRefusal(AsmError);
+impl From<LoadError> for Refusal {
+    ghost from_gives = { λ e r. r ≡ load_refusal e };
 
-impl fmt::Display for TextRefusal {
-    ghost output = { λ t. Some (text_refusal t.0) };
-
-    fn fmt<W: fmt::Write>(&self, f: &mut fmt::Formatter<W>) -> fmt::Result {
-        match self.0 {
-            AsmError::A1(line) => write!(f, "A1 line {line}"),
-            AsmError::A2(line) => write!(f, "A2 line {line}"),
-            AsmError::A3(line) => write!(f, "A3 line {line}"),
-            AsmError::A4(line) => write!(f, "A4 line {line}"),
-            AsmError::A5(line) => write!(f, "A5 line {line}"),
-            AsmError::A6(line) => write!(f, "A6 line {line}"),
-            AsmError::Memory => f.write_str("memory"),
+    fn from(error: LoadError) -> Refusal {
+        match error {
+            LoadError::Memory => Refusal::Memory,
+            _ => Refusal::Image(error),
         }
     }
 }
 
-/// The number of a refused image.
-fn image_refusal(error: LoadError) -> &'static str
-    ensures { result.now ≡ image_refusal error }
-{
-    match error {
-        LoadError::L1 => "L1",
-        LoadError::L2 => "L2",
-        LoadError::L3 => "L3",
-        LoadError::L4 => "L4",
-        LoadError::L5 => "L5",
-        LoadError::Memory => "memory",
+impl From<OrderError> for Refusal {
+    ghost from_gives = { λ e r. r ≡ order_refusal e };
+
+    fn from(error: OrderError) -> Refusal {
+        match error {
+            OrderError::U1 => Refusal::Words,
+            OrderError::Memory => Refusal::Memory,
+        }
+    }
+}
+
+impl From<SessionError> for Refusal {
+    ghost from_gives = { λ e r. r ≡ session_refusal e };
+
+    fn from(error: SessionError) -> Refusal {
+        match error {
+            SessionError::S1 => Refusal::Input,
+            SessionError::S2 => Refusal::Output,
+            SessionError::Memory => Refusal::Memory,
+        }
     }
 }

@@ -1,7 +1,19 @@
 //! Images run by their bytes.
 
 use crate::run_image;
+use bpf_machine::Status;
+use loader::LoadError;
+use std::alloc::{AllocError, Global};
 use std::test::Fail;
+
+/// The file of an image with this code and no constants.
+fn file(alloc: Global, code: &[u8]) -> Result<Vec<u8>, AllocError> {
+    let mut file = Vec::from_slice(alloc, b"CELBPF01")?;
+    file.push((code.len() / 8 % 256) as u8)?;
+    file.extend_from_slice(&[0; 7])?;
+    file.extend_from_slice(code)?;
+    Ok(file)
+}
 
 /// Code without constants, and the last line that its run prints.
 const RUNS: [(&[u8], &[u8]); 10] = [
@@ -46,15 +58,42 @@ const RUNS: [(&[u8], &[u8]); 10] = [
     ),
 ];
 
+/// Whether the run of this code prints this line last.
+fn ends_with(alloc: Global, code: &[u8], line: &[u8]) -> Result<bool, LoadError> {
+    let (text, _) = run_image(alloc, &file(alloc, code)?, 99)?;
+    Ok(text.ends_with(line))
+}
+
 #[test]
 fn runs_to_the_last_line(rt: HostRuntime) -> Result<(), Fail> {
     for (row, (code, line)) in RUNS.into_iter().enumerate() {
-        let mut file = Vec::from_slice(rt.alloc(), b"CELBPF01")?;
-        file.push((code.len() / 8 % 256) as u8)?;
-        file.extend_from_slice(&[0; 7])?;
-        file.extend_from_slice(code)?;
-        let (text, _) = run_image(rt.alloc(), &file, 99)?;
-        assert!(rt; text.ends_with(line), "row {row}");
+        assert!(rt; ends_with(rt.alloc(), code, line)?, "row {row}");
     }
+    Ok(())
+}
+
+/// `r0 = 5`, `r0 += 2` and `exit`.
+const SEVEN: &[u8] = b"\xb7\0\0\0\x05\0\0\0\x07\0\0\0\x02\0\0\0\x95\0\0\0\0\0\0\0";
+
+/// What is printed of it.
+const PRINTED: &[u8] = b"r0 0x0000000000000007
+r1 0x0000000000000000
+r2 0x0000000000000000
+r3 0x0000000000000000
+r4 0x0000000000000000
+r5 0x0000000000000000
+r6 0x0000000000000000
+r7 0x0000000000000000
+r8 0x0000000000000000
+r9 0x0000000000000000
+r10 0x0000000100000200
+step 3 pc 2 exited 0x0000000000000007
+";
+
+#[test]
+fn prints_registers(rt: HostRuntime) -> Result<(), Fail> {
+    let (text, status) = run_image(rt.alloc(), &file(rt.alloc(), SEVEN)?, 10_000_000)?;
+    assert!(rt; text.as_slice() == PRINTED);
+    assert!(rt; status == Status::Exited(7));
     Ok(())
 }

@@ -1,11 +1,13 @@
 //! What can be read of a machine.
-ghost use Rattle.std.specs.Prelude.{◌≡◌, ◌<◌, slice_index};
+ghost use Rattle.std.specs.Prelude.{◌≡◌};
+ghost use Rattle.bpf_machine.specs.Operands.{register_in};
 
 use super::Machine;
 use crate::frame::Frame;
 use crate::status::Status;
 use crate::table::Table;
 use guest_memory::Regions;
+use insn_codec::Register;
 use loader::Image;
 
 impl<M: Regions> Machine<M> {
@@ -29,12 +31,11 @@ impl<M: Regions> Machine<M> {
         self.pc
     }
 
-    /// The word of the register with this number.
-    pub fn register(&self, number: usize) -> u64
-        requires { number < 11 }
-        ensures { result ≡ slice_index self.now.registers number }
+    /// The word of a register.
+    pub fn register(&self, register: Register) -> u64
+        ensures { result ≡ register_in self.now register }
     {
-        self.registers[number]
+        self.registers[register.number() as usize]
     }
 
     /// The frames of the callers, the newest last.

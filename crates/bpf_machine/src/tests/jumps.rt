@@ -1,30 +1,26 @@
-use super::{EXIT, machine, wide};
+use super::{EXIT, answer, answers, machine, run_answer, run_machine, wide};
 use crate::Status;
 use guest_memory::Fault;
+use insn_codec::Register;
 use std::alloc::Global;
 use std::test::Fail;
 
-/// `r1 = dst`, `r2 = operand`, the jump over the next slot, `r0 = 1`, `exit`.
-fn over(dst: u64, operand: u64, jump: u64) -> [u64; 7] {
+/// The status after `r1 = dst`, `r2 = operand`, the jump over the next slot, `r0 = 1` and `exit`.
+fn status_over(alloc: Global, dst: u64, operand: u64, jump: u64) -> Result<Status, Fail> {
     let [dst_low, dst_high] = wide(1, dst);
     let [operand_low, operand_high] = wide(2, operand);
-    [
+    let one = 0xb700_0000_0100_0000;
+    let slots = [
         dst_low,
         dst_high,
         operand_low,
         operand_high,
         jump,
-        0xb700_0000_0100_0000,
+        one,
         EXIT,
-    ]
-}
-
-/// Whether the jump, taken or not by these words, leads to the exit.
-fn is_taken(alloc: Global, dst: u64, operand: u64, jump: [u8; 8]) -> Result<bool, Fail> {
-    let slots = over(dst, operand, u64::from_be_bytes(jump));
-    let mut machine = machine(alloc, &slots, &[])?.ok_or("no image")?;
-    let (_, status) = machine.run(9)?;
-    Ok(status == Status::Exited(0))
+    ];
+    let (_, status) = answer(alloc, &slots, &[])?;
+    Ok(status)
 }
 
 /// The opcodes of each comparison (an immediate and a register of 64 bits, the same of 32), and
@@ -50,102 +46,181 @@ const COMPARED: [(u64, u64); 3] = [
     (2, 0x7_0000_0002),
 ];
 
+/// Whether the jump, taken or not by these words, leads to the exit.
+fn is_taken(alloc: Global, dst: u64, operand: u64, jump: [u8; 8]) -> Result<bool, Fail> {
+    let status = status_over(alloc, dst, operand, u64::from_be_bytes(jump))?;
+    Ok(status == Status::Exited(0))
+}
+
+/// Which of a comparison's four jumps are taken with these words, compared with 1.
+fn taken(alloc: Global, opcodes: [u8; 4], whole: u64, half: u64) -> Result<[bool; 4], Fail> {
+    let [imm_64, reg_64, imm_32, reg_32] = opcodes;
+    Ok([
+        is_taken(alloc, whole, 0, [imm_64, 0x01, 1, 0, 1, 0, 0, 0])?,
+        is_taken(alloc, whole, 1, [reg_64, 0x21, 1, 0, 0, 0, 0, 0])?,
+        is_taken(alloc, half, 0, [imm_32, 0x01, 1, 0, 1, 0, 0, 0])?,
+        is_taken(alloc, half, 0x9_0000_0001, [reg_32, 0x21, 1, 0, 0, 0, 0, 0])?,
+    ])
+}
+
+/// Whether a comparison's jumps are taken exactly where it holds.
+fn branches_where(alloc: Global, opcodes: [u8; 4], holds: [bool; 3]) -> Result<bool, Fail> {
+    for ((whole, half), holds) in COMPARED.into_iter().zip(holds) {
+        if taken(alloc, opcodes, whole, half)? != [holds, holds, holds, holds] {
+            return Ok(false);
+        }
+    }
+    Ok(true)
+}
+
 #[test]
 fn branches(rt: HostRuntime) -> Result<(), Fail> {
-    let alloc = rt.alloc();
-    for ([imm_64, reg_64, imm_32, reg_32], holds) in BRANCHES {
-        for ((whole, half), holds) in COMPARED.into_iter().zip(holds) {
-            let taken = [
-                is_taken(alloc, whole, 0, [imm_64, 0x01, 1, 0, 1, 0, 0, 0])?,
-                is_taken(alloc, whole, 1, [reg_64, 0x21, 1, 0, 0, 0, 0, 0])?,
-                is_taken(alloc, half, 0, [imm_32, 0x01, 1, 0, 1, 0, 0, 0])?,
-                is_taken(alloc, half, 0x9_0000_0001, [reg_32, 0x21, 1, 0, 0, 0, 0, 0])?,
-            ];
-            assert_eq!(rt; taken, [holds, holds, holds, holds], "{imm_64} {whole}");
-        }
+    for (row, (opcodes, holds)) in BRANCHES.into_iter().enumerate() {
+        assert!(rt; branches_where(rt.alloc(), opcodes, holds)?, "row {row}");
     }
     Ok(())
 }
 
 /// An immediate of a comparison is extended by its sign: 64-bit `==` and `>` with -2.
+const NEGATIVE: [(u64, [u8; 8], bool); 5] = [
+    (
+        0xffff_ffff_ffff_fffe,
+        [0x15, 1, 1, 0, 0xfe, 0xff, 0xff, 0xff],
+        true,
+    ),
+    (
+        0x0000_0000_ffff_fffe,
+        [0x15, 1, 1, 0, 0xfe, 0xff, 0xff, 0xff],
+        false,
+    ),
+    (
+        0x0000_0001_ffff_fffe,
+        [0x16, 1, 1, 0, 0xfe, 0xff, 0xff, 0xff],
+        true,
+    ),
+    (
+        0x0000_0001_0000_0000,
+        [0x25, 1, 1, 0, 0xfe, 0xff, 0xff, 0xff],
+        false,
+    ),
+    (
+        0x0000_0001_0000_0000,
+        [0x65, 1, 1, 0, 0xfe, 0xff, 0xff, 0xff],
+        true,
+    ),
+];
+
 #[test]
 fn branches_on_a_negative_immediate(rt: HostRuntime) -> Result<(), Fail> {
-    let table = [
-        (0xffff_ffff_ffff_fffe, 0x1501_0100_feff_ffff, 0),
-        (0x0000_0000_ffff_fffe, 0x1501_0100_feff_ffff, 1),
-        (0x0000_0001_ffff_fffe, 0x1601_0100_feff_ffff, 0),
-        (0x0000_0001_0000_0000, 0x2501_0100_feff_ffff, 1),
-        (0x0000_0001_0000_0000, 0x6501_0100_feff_ffff, 0),
-    ];
-    for (row, (dst, jump, r0)) in table.into_iter().enumerate() {
-        let mut machine = machine(rt.alloc(), &over(dst, 0, jump), &[])?.ok_or("no image")?;
-        let (_, status) = machine.run(9)?;
-        assert_eq!(rt; status, Status::Exited(r0), "row {row}");
+    for (row, (dst, jump, taken)) in NEGATIVE.into_iter().enumerate() {
+        let is_taken = is_taken(rt.alloc(), dst, 0, jump)?;
+        assert!(rt; is_taken == taken, "row {row}");
     }
     Ok(())
 }
 
-/// Slots, the limit of steps, and then the steps made, `pc`, status and how many records are open.
+/// Slots, the steps made and the status, and then `pc` and how many records are open.
+const JUMPS: [(&[u64], (u64, Status), (i64, usize)); 9] = [
+    (
+        &[0x0500_0100_0000_0000, 0xb700_0000_0500_0000, EXIT],
+        (2, Status::Exited(0)),
+        (2, 0),
+    ),
+    (
+        &[0x0600_0000_0100_0000, 0xb700_0000_0500_0000, EXIT],
+        (2, Status::Exited(0)),
+        (2, 0),
+    ),
+    (&[0x0500_ffff_0000_0000], (9, Status::Running), (0, 0)),
+    (
+        &[0x0500_0500_0000_0000],
+        (2, Status::Fault(Fault::F1)),
+        (6, 0),
+    ),
+    (
+        &[0x0500_fdff_0000_0000],
+        (2, Status::Fault(Fault::F1)),
+        (-2, 0),
+    ),
+    (
+        &[0x0600_0000_ffff_ff7f],
+        (2, Status::Fault(Fault::F1)),
+        (0x8000_0000, 0),
+    ),
+    (
+        &[0x8500_0000_0100_0000, EXIT],
+        (1, Status::Fault(Fault::F5)),
+        (0, 0),
+    ),
+    (
+        &[0x8510_0000_ffff_ffff],
+        (8, Status::Fault(Fault::F7)),
+        (0, 7),
+    ),
+    (
+        &[0x8510_0000_0000_0080],
+        (2, Status::Fault(Fault::F1)),
+        (-0x7fff_ffff, 1),
+    ),
+];
+
+/// Whether `pc` and how many records are open are these after a run of at most nine steps.
+fn leads_to(alloc: Global, slots: &[u64], place: (i64, usize)) -> Result<bool, Fail> {
+    let machine = run_machine(machine(alloc, slots, &[])?, 9)?;
+    Ok((machine.pc(), machine.records().len()) == place)
+}
+
 #[test]
 fn jumps_and_calls(rt: HostRuntime) -> Result<(), Fail> {
-    let over_one = [0x0500_0100_0000_0000, 0xb700_0000_0500_0000, EXIT];
-    let long = [0x0600_0000_0100_0000, 0xb700_0000_0500_0000, EXIT];
-    let itself = [0x0500_ffff_0000_0000];
-    let beyond = [0x0500_0500_0000_0000];
-    let before = [0x0500_fdff_0000_0000];
-    let far = [0x0600_0000_ffff_ff7f];
-    let helper = [0x8500_0000_0100_0000, EXIT];
-    let recursion = [0x8510_0000_ffff_ffff];
-    let call_far = [0x8510_0000_0000_0080];
-    let table = [
-        (over_one.as_slice(), 9, (2, 2, Status::Exited(0), 0)),
-        (long.as_slice(), 9, (2, 2, Status::Exited(0), 0)),
-        (itself.as_slice(), 9, (9, 0, Status::Running, 0)),
-        (beyond.as_slice(), 9, (2, 6, Status::Fault(Fault::F1), 0)),
-        (before.as_slice(), 9, (2, -2, Status::Fault(Fault::F1), 0)),
-        (
-            far.as_slice(),
-            9,
-            (2, 0x8000_0000, Status::Fault(Fault::F1), 0),
-        ),
-        (helper.as_slice(), 9, (1, 0, Status::Fault(Fault::F5), 0)),
-        (recursion.as_slice(), 9, (8, 0, Status::Fault(Fault::F7), 7)),
-        (
-            call_far.as_slice(),
-            9,
-            (2, -0x7fff_ffff, Status::Fault(Fault::F1), 1),
-        ),
-    ];
-    for (row, (slots, limit, (steps, pc, status, records))) in table.into_iter().enumerate() {
-        let mut machine = machine(rt.alloc(), slots, &[])?.ok_or("no image")?;
-        assert_eq!(rt; machine.run(limit)?, (steps, status), "row {row}");
-        assert_eq!(rt; machine.pc(), pc, "row {row}");
-        assert_eq!(rt; machine.records().len(), records, "row {row}");
+    for (row, jump) in JUMPS.iter().enumerate() {
+        assert!(rt; answers(rt.alloc(), jump.0, jump.1)?, "row {row}");
+    }
+    Ok(())
+}
+
+#[test]
+fn jumps_and_calls_lead_to_slots(rt: HostRuntime) -> Result<(), Fail> {
+    for (row, jump) in JUMPS.iter().enumerate() {
+        assert!(rt; leads_to(rt.alloc(), jump.0, jump.2)?, "row {row}");
     }
     Ok(())
 }
 
 /// The callee has a frame 512 bytes higher and its own R6; both come back at its exit.
+const CALL: [u64; 7] = [
+    0xb706_0000_0700_0000, // r6 = 7
+    0x8510_0000_0100_0000, // call the slot after the next one
+    EXIT,
+    0xb706_0000_0900_0000, // r6 = 9
+    0x7b6a_f8ff_0000_0000, // the word at r10 - 8 becomes r6
+    0x79a0_f8ff_0000_0000, // r0 = the word at r10 - 8
+    EXIT,
+];
+
+/// `pc`, R6, R10 and how many records are open after so many steps.
+fn frame_after(alloc: Global, steps: u64) -> Result<(i64, u64, u64, usize), Fail> {
+    let machine = run_machine(machine(alloc, &CALL, &[])?, steps)?;
+    let r6 = machine.register(Register::R6);
+    let r10 = machine.register(Register::R10);
+    Ok((machine.pc(), r6, r10, machine.records().len()))
+}
+
 #[test]
 fn a_call_keeps_the_callers_registers(rt: HostRuntime) -> Result<(), Fail> {
-    let slots = [
-        0xb706_0000_0700_0000, // r6 = 7
-        0x8510_0000_0100_0000, // call the slot after the next one
-        EXIT,
-        0xb706_0000_0900_0000, // r6 = 9
-        0x7b6a_f8ff_0000_0000, // the word at r10 - 8 becomes r6
-        0x79a0_f8ff_0000_0000, // r0 = the word at r10 - 8
-        EXIT,
+    let table = [
+        (2, (3, 7, 0x1_0000_0400, 1)),
+        (4, (5, 9, 0x1_0000_0400, 1)),
+        (9, (2, 7, 0x1_0000_0200, 0)),
     ];
-    let mut machine = machine(rt.alloc(), &slots, &[])?.ok_or("no image")?;
-    assert_eq!(rt; machine.run(2)?, (2, Status::Running));
-    assert_eq!(rt; machine.pc(), 3);
-    assert_eq!(rt; machine.register(10), 0x1_0000_0400);
-    assert_eq!(rt; machine.records().len(), 1);
-    assert_eq!(rt; machine.run(9)?, (5, Status::Exited(9)));
-    assert_eq!(rt; machine.pc(), 2);
-    assert_eq!(rt; machine.register(6), 7);
-    assert_eq!(rt; machine.register(10), 0x1_0000_0200);
-    assert!(rt; machine.records().is_empty());
+    for (steps, frame) in table {
+        assert!(rt; frame_after(rt.alloc(), steps)? == frame, "after {steps}");
+    }
+    Ok(())
+}
+
+#[test]
+fn a_run_goes_on(rt: HostRuntime) -> Result<(), Fail> {
+    let machine = run_machine(machine(rt.alloc(), &CALL, &[])?, 2)?;
+    assert!(rt; run_answer(machine, 9)? == (5, Status::Exited(9)));
     Ok(())
 }

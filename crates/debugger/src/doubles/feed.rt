@@ -1,5 +1,5 @@
 //! A source in memory.
-ghost use Rattle.std.specs.Prelude.{◌≡◌, ◌<◌, ◌≤◌, ◌+◌, Some, drop, take, length, vec_len, IfOk, OnErr, OnOk};
+ghost use Rattle.std.specs.Prelude.{◌≡◌, ◌<◌, ◌≤◌, Some, take, length};
 ghost use Rattle.debugger.specs.Streams.{one_more};
 
 use crate::failed::Failed;
@@ -8,28 +8,22 @@ use crate::source::Source;
 /// Gives bytes in small pieces, and fails at one of its reads.
 #[derive(Drop)]
 pub struct Feed {
-    bytes: Vec<u8>,
-    at: usize,
+    left: &'static [u8],
     piece: usize,
     reads: u64,
     fails_at: u64,
     failed: u64,
-    ghost within: { at ≤ vec_len bytes },
     ghost some: { 0 < piece },
 }
 
 impl Feed {
     /// Gives at most `piece` bytes a read. The reads are counted from 1, and the one with the
     /// number `fails_at` fails.
-    pub fn new(bytes: Vec<u8>, piece: usize, fails_at: u64) -> Feed
+    pub fn new(bytes: &'static [u8], piece: usize, fails_at: u64) -> Feed
         requires { 0 < piece }
-        ensures bytes { result.bytes.items ≡ bytes.items }
-        ensures at { result.at ≡ 0 }
-        ensures failed { result.failed ≡ 0 }
     {
         Feed {
-            bytes,
-            at: 0,
+            left: bytes,
             piece,
             reads: 0,
             fails_at,
@@ -39,7 +33,7 @@ impl Feed {
 }
 
 impl Source for Feed {
-    ghost left = { λ f. Some (drop f.at f.bytes.items) };
+    ghost left = { λ f. Some f.left.now };
 
     ghost failed = { λ f. f.failed };
 
@@ -49,8 +43,8 @@ impl Source for Feed {
             self.failed = self.failed.wrapping_add(1);
             return Err(Failed);
         }
-        let n = put_front(buf, &self.bytes[self.at..], self.piece);
-        self.at += n;
+        let n = put_front(buf, self.left, self.piece);
+        self.left = &self.left[n..];
         Ok(n)
     }
 

@@ -11,7 +11,7 @@ pub returns-in-Err-clause-only : goal.returns-in-Err-clause-only
 returns-in-Err-clause-only c = only_first c.args.text.now c.in-Err.error c.in-Err.ensures
 
 pub returns-clause-answers : goal.returns-clause-answers
-returns-clause-answers c = answered c.args.text.now c.in-Ok.scanned _ c.emit.result c.as_slice.ensures.value c.in-Ok.ensures c.emit.ensures
+returns-clause-answers c = answered c.args.text.now c.in-Ok.scanned _ c.emit.result c.as_slice.ensures.value c.in-Ok.ensures c.emit.ensures.emits c.emit.ensures.some
 
 pub returns-clause-only : goal.returns-clause-only
-returns-clause-only c = only_answer c.args.text.now c.in-Ok.scanned _ c.emit.result c.as_slice.ensures.value c.in-Ok.ensures c.emit.ensures
+returns-clause-only c = only_answer c.args.text.now c.in-Ok.scanned _ c.emit.result c.as_slice.ensures.value c.in-Ok.ensures c.emit.ensures.emits

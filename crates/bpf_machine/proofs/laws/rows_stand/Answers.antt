@@ -12,7 +12,8 @@ use Rattle.guest_memory.specs.Memory.{start_memory}
 use Rattle.bpf_machine.specs.Step.{next_state}
 use Rattle.bpf_word.specs.Arithmetic.{alu32_of, alu64_of, operated}
 use Rattle.bpf_machine.specs.Trace.{state_after, stop_place}
-use Rattle.bpf_machine.specs.Text.{hex_digits, move_line}
+use Rattle.insn_codec.specs.Lines.{hex_digits}
+use Rattle.bpf_machine.specs.Text.{move_line}
 use Rattle.bpf_machine.proofs.laws.rows_stand.Goals as goal
 
 pub returns : goal.returns

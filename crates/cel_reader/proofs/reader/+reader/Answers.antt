@@ -1,14 +1,14 @@
 use Rattle.std.proofs.Common.{◌-◌, arith}
 use Rattle.std.proofs.lemmas.Result.{err_from_is_err_and}
 use Rattle.cel_tokens.specs.declared.mark.Mark.TheVariants.{CloseParen, CloseBracket}
-use Rattle.cel_reader.specs.Tree.{view}
+use Rattle.cel_reader.specs.Tree.{view, entry_view}
 use Rattle.cel_reader.specs.Look.{words}
 use Rattle.cel_reader.specs.Grammar.{Expression, Infix, Unary, Member, Primary, below}
 use Rattle.cel_reader.specs.Reading.{Refused, Misfit, Reads, Row, Selection, Enclosed, Listed, Mapped}
 use Rattle.cel_reader.specs.Reading.Reads.{expression_fails, expression_plain, expression_deep, then_fails, no_colon, else_fails, conditional, infix_fails, infix_goes, tail_stops, tail_fails, tail_goes, unary_member, unary_fails, unary_goes, member_fails, member_goes, suffix_stops, dot_fails, dot_goes, index_fails, index_goes, no_selector, selection, method_fails, method_call, no_primary, bracket, list_fails, list_literal, map_fails, map_literal, constant, identifier, function_fails, function_call, enclosed_deep, enclosed_fails, enclosed_open, enclosed_closed, list_deep, list_empty, list_comma, list_items, item_fails, item_goes, items_end, items_misfit, items_go_on, map_deep, map_empty, map_comma, map_entries, key_fails, key_alone, value_fails, entry_goes, entries_end, entries_misfit, entries_go_on}
 use Rattle.cel_reader.specs.declared.level.Level.TheVariants.{Or}
 use Rattle.cel_reader.specs.declared.closing.Closing.TheVariants.{Call, List as ListLiteral}
-use Rattle.cel_reader.proofs.Steps.{has_room, pushed, viewed, pass, hand}
+use Rattle.cel_reader.proofs.Steps.{has_room, pushed, pass, hand}
 use Rattle.cel_reader.proofs.Prefixed.{prefixed_refused, prefixed_read}
 use Rattle.cel_reader.proofs.reader.+reader.Goals as goal
 
@@ -46,13 +46,13 @@ pub entries-returns-in_err-value-clause-reads : goal.entries-returns-in_err-valu
 entries-returns-in_err-value-clause-reads t c = let p = err_from_is_err_and c.from_residual-in_err-value.result c.from_residual-in_err-value.ensures.1 in rw (p.1, p.2) (pass _ (Reads (Row Expression) (c.args.room - 1) (words c.args.text.now c.in-Some-after-2.value_tokens.now)) (Reads Mapped c.args.room (words c.args.text.now c.args.tokens.now)) (λ k y. c.loop-entries.invariant.goes (Refused k) (value_fails c.in_ok-key.ensures.reads c.in-Some-after-2.ensures.at y)) c.in_err-value.ensures.reads)
 
 pub entries-returns-in-Some-end_at-clause-reads : goal.entries-returns-in-Some-end_at-clause-reads
-entries-returns-in-Some-end_at-clause-reads t c = rw (pushed viewed _ _ _ c.in_ok-push.ensures.items) (c.loop-entries.invariant.goes _ (entry_goes c.in_ok-key.ensures.reads c.in-Some-after-2.ensures.at c.in_ok-value.ensures.reads (entries_end c.in-Some-end_at.ensures.at)))
+entries-returns-in-Some-end_at-clause-reads t c = rw (pushed entry_view _ _ _ c.in_ok-push.ensures.items) (c.loop-entries.invariant.goes _ (entry_goes c.in_ok-key.ensures.reads c.in-Some-after-2.ensures.at c.in_ok-value.ensures.reads (entries_end c.in-Some-end_at.ensures.at)))
 
 pub entries-returns-in_default-after-3-clause-reads : goal.entries-returns-in_default-after-3-clause-reads
 entries-returns-in_default-after-3-clause-reads t c = rw c.misfit-in_default-after-3.ensures (c.loop-entries.invariant.goes (Refused Misfit) (entry_goes c.in_ok-key.ensures.reads c.in-Some-after-2.ensures.at c.in_ok-value.ensures.reads (entries_misfit c.in_default-end_at.ensures.at c.in_default-after-3.ensures.at)))
 
 pub entries-loop-entries-preserved : goal.entries-loop-entries-preserved
-entries-loop-entries-preserved t c = rw (pushed viewed _ _ _ c.in_ok-push.ensures.items) (record { goes = λ o x. c.loop-entries.invariant.goes o (entry_goes c.in_ok-key.ensures.reads c.in-Some-after-2.ensures.at c.in_ok-value.ensures.reads (entries_go_on c.in_default-end_at.ensures.at c.in-Some-after-3.ensures.at x)); within = omega (arith, c.in_ok-key.ensures.shorter, c.in-Some-after-2.ensures.shorter, c.in_ok-value.ensures.shorter, c.in-Some-after-3.ensures.shorter, c.loop-entries.invariant.within) })
+entries-loop-entries-preserved t c = rw (pushed entry_view _ _ _ c.in_ok-push.ensures.items) (record { goes = λ o x. c.loop-entries.invariant.goes o (entry_goes c.in_ok-key.ensures.reads c.in-Some-after-2.ensures.at c.in_ok-value.ensures.reads (entries_go_on c.in_default-end_at.ensures.at c.in-Some-after-3.ensures.at x)); within = omega (arith, c.in_ok-key.ensures.shorter, c.in-Some-after-2.ensures.shorter, c.in_ok-value.ensures.shorter, c.in-Some-after-3.ensures.shorter, c.loop-entries.invariant.within) })
 
 pub expression-returns-in_err-condition-clause-reads : goal.expression-returns-in_err-condition-clause-reads
 expression-returns-in_err-condition-clause-reads t c = let p = err_from_is_err_and c.from_residual.result c.from_residual.ensures.1 in rw (p.1, p.2) (pass _ (Reads (Row (Infix Or)) c.args.room (words c.args.text.now c.args.tokens.now)) (Reads (Row Expression) c.args.room (words c.args.text.now c.args.tokens.now)) (λ k y. expression_fails y) c.in_err-condition.ensures.reads)

@@ -1,5 +1,5 @@
 use Rattle.std.proofs.Common.{◌+◌, ◌*◌, ◌<◌, ◌≤◌, ◌-◌, length, map}
-use Rattle.cel_reader.specs.Tree.{view}
+use Rattle.cel_reader.specs.Tree.{view, entry_view}
 use Rattle.cel_reader.specs.Grammar.{Infix, Member}
 use Rattle.cel_reader.specs.Look.{words}
 use Rattle.cel_reader.specs.Reading.{Reads, Outcome, Row, Tail, Suffix, Listed, Item, Mapped, Entry}
@@ -65,7 +65,7 @@ decreases-items-loop-items l = length l.rest
 
 abbrev pub invariant-entries-loop-entries : goal.invariant-entries-loop-entries
 invariant-entries-loop-entries l = record {
-  goes : (o : Outcome) → Reads (Entry (map (λ e. (view e.0, view e.1)) l.entries.items)) (l.room - 1) (words l.text l.rest) o → Reads Mapped l.room (words l.text l.tokens) o;
+  goes : (o : Outcome) → Reads (Entry (map entry_view l.entries.items)) (l.room - 1) (words l.text l.rest) o → Reads Mapped l.room (words l.text l.tokens) o;
   within : length l.rest ≤ length l.tokens;
 }
 

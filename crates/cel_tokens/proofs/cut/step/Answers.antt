@@ -1,7 +1,8 @@
 use Rattle.std.proofs.Common.{ap, arith, length, map, length-drop}
+use Rattle.std.proofs.lemmas.Result.{err_from_is_err_and}
 use Rattle.cel_tokens.specs.Token.{seen}
 use Rattle.cel_tokens.specs.Lexis.Cuts.{over, nothing}
-use Rattle.cel_tokens.proofs.Cutting.{there, ends_text, space_step, token_goes, too_many_words, text_refused, int_refused}
+use Rattle.cel_tokens.proofs.Cutting.{there, taken_behind, taken_for, ends_text, space_step, token_goes, too_many_words, text_refused, int_refused}
 use Rattle.cel_tokens.proofs.cut.step.Goals as goal
 
 pub front_of-requires-clause-text : goal.front_of-requires-clause-text
@@ -27,6 +28,7 @@ returns-in-Space c =
       omega (arith, w),
       omega (arith, w, l, d),
       λ r e. space_step c.args.bytes.now c.args.signed c.args.at c.in-Space.len (map (seen c.args.bytes.now) c.args.out.now.items) r (there c.args.bytes.now c.tail-rest.result.now c.args.signed c.args.at _ c.tail-rest.ensures s) e,
+      λ t. taken_behind c.args.bytes.now c.args.signed c.args.at c.in-Space.len (there c.args.bytes.now c.tail-rest.result.now c.args.signed c.args.at _ c.tail-rest.ensures s) t,
     )
 
 pub returns-in-WrongText : goal.returns-in-WrongText
@@ -44,6 +46,12 @@ returns-then-len-ge-MOST_TOKENS c =
     let s = rw c.in-Word.is at c.in_ok-front_of.ensures.shown in
     too_many_words c.args.bytes.now c.tail-rest.result.now c.args.signed c.args.at c.in-Word.len _ c.args.out.now.items c.tail-rest.ensures s (omega (arith, c.if-len-ge-MOST_TOKENS.true, c.len-in-Word.ensures, c.args.out.now.ok.0))
 
+pub returns-in_err-next-in-Word : goal.returns-in_err-next-in-Word
+returns-in_err-next-in-Word c =
+    let s = rw c.in-Word.is at c.in_ok-front_of.ensures.shown in
+    let p = err_from_is_err_and c.from_residual-in_err-next-in-Word.result c.from_residual-in_err-next-in-Word.ensures.1 in
+    rw (p.1, p.2) (taken_for c.args.bytes.now c.tail-rest.result.now c.args.signed c.args.at c.in-Word.len _ c.tail-rest.ensures s)
+
 pub returns-in_ok-next-in-Word : goal.returns-in_ok-next-in-Word
 returns-in_ok-next-in-Word c =
     let s = rw c.in-Word.is at c.in_ok-front_of.ensures.shown in
@@ -54,4 +62,5 @@ returns-in_ok-next-in-Word c =
       omega (arith, w, e.next),
       omega (arith, w, l, d, e.next),
       λ r k. token_goes c.args.bytes.now c.tail-rest.result.now c.args.signed c.in_ok-next-in-Word.sign c.args.at c.in-Word.len c.in_ok-next-in-Word.next c.in-Word.kind c.args.out.now.items c.add.new.out.items r c.tail-rest.ensures s (omega (arith, c.if-len-ge-MOST_TOKENS.false, c.len-in-Word.ensures, c.args.out.now.ok.0)) e.next e.sign e.added k,
+      λ t. taken_for c.args.bytes.now c.tail-rest.result.now c.args.signed c.args.at c.in-Word.len _ c.tail-rest.ensures s,
     )

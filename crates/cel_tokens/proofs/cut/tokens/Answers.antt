@@ -1,4 +1,4 @@
-use Rattle.std.proofs.Common.{List, ℕ, length, subst, ap, arith}
+use Rattle.std.proofs.Common.{List, ℕ, length, subst, refl, ap, arith}
 use Rattle.cel_tokens.specs.Lexis.{Answers}
 use Rattle.cel_tokens.specs.Lexis.Lexes.{too_long}
 use Rattle.cel_tokens.proofs.Cutting.{whole}
@@ -7,10 +7,12 @@ use Rattle.cel_tokens.proofs.cut.tokens.Goals as goal
 pub returns-then-bytes-gt-MOST_BYTES : goal.returns-then-bytes-gt-MOST_BYTES
 returns-then-bytes-gt-MOST_BYTES c =
     let l = ap length c.as_bytes-bytes.ensures.value in
-    record { answers = too_long (omega (arith, l, c.if-bytes-gt-MOST_BYTES.true)) }
+    record { answers = too_long (omega (arith, l, c.if-bytes-gt-MOST_BYTES.true)); long = λ h. refl }
 
 pub returns : goal.returns
 returns c =
+    let l = ap length c.as_bytes-bytes.ensures.value in
     record {
       answers = subst (λ (xs : List ℕ). Answers xs c.cut.result) c.as_bytes-bytes.ensures.value (whole c.as_bytes-bytes.result.now c.cut.result c.if-bytes-gt-MOST_BYTES.false c.cut.ensures);
+      long = λ h. absurd (omega (arith, l, h, c.if-bytes-gt-MOST_BYTES.false));
     }

@@ -2,8 +2,11 @@ use Rattle.std.proofs.Common.{◌≡◌, ◌+◌, ◌++◌, get_or, length, drop
 use Rattle.std.specs.Str.{IsUtf8}
 use Rattle.cel_tokens.specs.Pieces.{said_by}
 use Rattle.cel_tokens.specs.Texts.{piece}
-use Rattle.cel_tokens.proofs.Contents.{content_over, content_closes, content_refused, piece_step, utf8_step, said_utf8}
+use Rattle.cel_tokens.proofs.Contents.{content_over, content_closes, content_refused, piece_step, utf8_step, said_utf8, quote_ascii}
 use Rattle.std.proofs.lemmas.List.{get_or-drop}
+use Rattle.std.proofs.lemmas.List.Sums.{prefix_len-le-length}
+use Rattle.text_kernels.specs.Scans.{is_plain}
+use Rattle.cel_tokens.proofs.PlainStretches.{stretch_step, stretch_utf8}
 use Rattle.cel_tokens.proofs.literal.content.Goals as goal
 
 pub text_of-requires : goal.text_of-requires
@@ -13,7 +16,23 @@ text_of-requires c =
     let g = get_or-drop c.loop-n.n c.args.bytes.now 0 0 in
     let e : c.loop-n.n + 0 ≡ c.loop-n.n = omega arith in
     let z = ap (λ y. get_or c.args.bytes.now y 0) e in
-    said_utf8 c.loop-n.said.items (drop c.loop-n.n c.args.bytes.now) c.loop-n.invariant.utf8 (omega (arith, d, t)) (omega (arith, g, z, c.if-bytes-n.true, c.requires.ascii))
+    said_utf8 c.loop-n.said.items (drop c.loop-n.n c.args.bytes.now) c.loop-n.invariant.utf8 (omega (arith, d, t)) (omega (arith, g, z, c.if-bytes-n.true, quote_ascii c.args.quote c.requires.quoted))
+
+pub loop-n-preserved-then-plain-gt0 : goal.loop-n-preserved-then-plain-gt0
+loop-n-preserved-then-plain-gt0 c =
+    let n = c.loop-n.n in
+    let k = c.skip_plain-plain.result in
+    let t = c.tail-rest.ensures in
+    let a = c.in_ok-extend_from_slice.ensures.items in
+    let d = length-drop n c.args.bytes.now in
+    let l = ap length t in
+    let w = prefix_len-le-length is_plain c.tail-rest.result.now in
+    record {
+      in_range = omega (arith, w, d, l, c.skip_plain-plain.ensures, c.loop-n-test.true);
+      so_far =
+          stretch_step c.args.raw c.args.quote n k c.loop-n.said.items c.extend_from_slice.new.self.items c.tail-rest.result.now c.args.bytes.now c.requires.quoted t c.skip_plain-plain.ensures a ∙ c.loop-n.invariant.so_far;
+      utf8 = stretch_utf8 n k c.loop-n.said.items c.extend_from_slice.new.self.items c.tail-rest.result.now c.args.bytes.now t a c.loop-n.invariant.utf8;
+    }
 
 pub returns-then-bytes-n-clause-value : goal.returns-then-bytes-n-clause-value
 returns-then-bytes-n-clause-value c =
@@ -22,13 +41,13 @@ returns-then-bytes-n-clause-value c =
 
 pub returns-in_default-clause-value : goal.returns-in_default-clause-value
 returns-in_default-clause-value c =
-    let t = c.tail.ensures in
+    let t = c.tail-rest.ensures in
     let v = c.in_default.ensures.value in
     sym (content_refused c.args.raw c.args.quote c.loop-n.n c.loop-n.said.items c.args.bytes.now c.loop-n-test.true c.if-bytes-n.false (ap (piece c.args.raw) (sym t) ∙ sym v)) ∙ c.loop-n.invariant.so_far
 
 pub loop-n-preserved : goal.loop-n-preserved
 loop-n-preserved c =
-    let t = c.tail.ensures in
+    let t = c.tail-rest.ensures in
     let e = c.in-Some.ensures in
     let w = e.within in
     let len = c.piece_len-n.ensures in
@@ -40,9 +59,9 @@ loop-n-preserved c =
     record {
       in_range = omega (arith, w, len, d, l);
       so_far =
-          piece_step c.args.raw c.args.quote c.loop-n.n c.piece_len-n.result c.loop-n.said.items c.add.new.said.items c.tail.result.now c.args.bytes.now (said_by p) c.loop-n-test.true c.if-bytes-n.false t e.value w len added ∙ c.loop-n.invariant.so_far;
+          piece_step c.args.raw c.args.quote c.loop-n.n c.piece_len-n.result c.loop-n.said.items c.add.new.said.items c.tail-rest.result.now c.args.bytes.now (said_by p) c.loop-n-test.true c.if-bytes-n.false t e.value w len added ∙ c.loop-n.invariant.so_far;
       utf8 =
-          utf8_step c.loop-n.n c.piece_len-n.result c.loop-n.said.items c.add.new.said.items c.tail.result.now c.args.bytes.now (said_by p) t len added u;
+          utf8_step c.loop-n.n c.piece_len-n.result c.loop-n.said.items c.add.new.said.items c.tail-rest.result.now c.args.bytes.now (said_by p) t len added u;
     }
 
 pub returns-clause-value : goal.returns-clause-value

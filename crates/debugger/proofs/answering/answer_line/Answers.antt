@@ -1,4 +1,4 @@
-use Rattle.std.proofs.Common.{◌∙◌, ap, sym, false, Bool}
+use Rattle.std.proofs.Common.{◌∙◌, ap, refl, sym, false, Bool}
 use Rattle.debugger.specs.Answers.{world_at}
 use Rattle.debugger.proofs.Asked.{answers_granted, answers_refused}
 use Rattle.debugger.proofs.answering.answer_line.Goals as goal
@@ -7,4 +7,4 @@ pub returns-in-Ok-clause-answers : goal.returns-in-Ok-clause-answers
 returns-in-Ok-clause-answers g c = answers_granted _ _ _ _ _ _ c.of-command.ensures (c.in-Ok.ensures.next ∙ ap (λ (ended : Bool). world_at c.obey.new.breakpoints (g.H.History.place c.obey.new.h) ended) (sym c.is_quit.ensures)) c.in-Ok.ensures.text
 
 pub returns-in-Err-clause-answers : goal.returns-in-Err-clause-answers
-returns-in-Err-clause-answers g c = answers_refused _ _ _ _ _ _ c.of-command.ensures c.in-Err.ensures.refused (λ i. world_at (sym c.in-Err.ensures.err_breakpoints i) (sym c.in-Err.ensures.err_place i) false) (sym c.of.ensures)
+returns-in-Err-clause-answers g c = answers_refused _ _ _ _ _ _ c.of-command.ensures c.in-Err.ensures.refused (λ i. world_at (sym c.in-Err.ensures.err_breakpoints i) (sym c.in-Err.ensures.err_place i) false) refl

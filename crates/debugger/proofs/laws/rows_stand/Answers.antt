@@ -2,7 +2,7 @@ use Rattle.std.proofs.Common.{refl}
 use Rattle.std.specs.Fmt.{digits}
 use Rattle.insn_codec.specs.Spelled.{spelled}
 use Rattle.insn_codec.specs.Candidate.{candidate_at, arithmetic_at, jump_at, branch_at, memory_at, wide_at}
-use Rattle.insn_codec.specs.Lines.{decimal, hex_digits as slot_digits}
+use Rattle.insn_codec.specs.Lines.{decimal, hex_digits}
 use Rattle.insn_codec.specs.Statements.{statement_of}
 use Rattle.bpf_machine.specs.WordArithmetic.{alu64_of, operated}
 use Rattle.bpf_machine.specs.State.{null_values, start_state}
@@ -11,16 +11,16 @@ use Rattle.bpf_machine.specs.Arithmetic.{alu_row}
 use Rattle.bpf_machine.specs.Jumps.{exit_row, jump_row}
 use Rattle.bpf_machine.specs.Step.{next_state}
 use Rattle.bpf_machine.specs.Trace.{state_after}
-use Rattle.bpf_machine.specs.Text.{hex_digits, move_line, register_line, register_lines, registers_text}
+use Rattle.bpf_machine.specs.Text.{move_line, register_line, register_lines, registers_text}
 use Rattle.history.specs.Search.{first_stop, is_at, is_stop, last_stop}
 use Rattle.debugger.specs.Commands.{number_of, form_of, numbered_form_of, move_form_of, command_of}
 use Rattle.debugger.specs.Listing.{listing_line, listing_lines, outside_line}
 use Rattle.debugger.specs.Answers.{break_text, clear_text, answer_of, may_be_refused, answer_to}
-use Rattle.debugger.specs.Session.{cut, hear}
+use Rattle.debugger.specs.Session.{cut, hear, readable}
 use Rattle.debugger.proofs.laws.rows_stand.Goals as goal
 
 pub returns : goal.returns
-unfolding decimal digits spelled candidate_at arithmetic_at jump_at branch_at memory_at wide_at slot_digits statement_of alu64_of operated null_values start_state insn_at alu_row exit_row jump_row next_state state_after hex_digits move_line register_line register_lines registers_text first_stop is_at is_stop last_stop number_of form_of numbered_form_of move_form_of command_of listing_line listing_lines outside_line break_text clear_text answer_of may_be_refused answer_to cut hear
+unfolding decimal digits spelled candidate_at arithmetic_at jump_at branch_at memory_at wide_at statement_of alu64_of operated null_values start_state insn_at alu_row exit_row jump_row next_state state_after hex_digits move_line register_line register_lines registers_text first_stop is_at is_stop last_stop number_of form_of numbered_form_of move_form_of command_of listing_line listing_lines outside_line break_text clear_text answer_of may_be_refused answer_to cut hear readable
 returns c = record {
   moves = refl;
   stops = refl;

@@ -1,54 +1,54 @@
 use Rattle.std.proofs.Common.{rules, arith, ◌≡◌, ◌∙◌, ℕ, take, ap, refl}
-use Rattle.debugger.proofs.Cut.{take-end}
+use Rattle.debugger.proofs.Cut.{readable-is, take-end}
 use Rattle.debugger.proofs.Going.{going_start, going_byte, going_line, told_quit, told_some, told_part, told_part-last, told_end, told_last, end_read, heard_at, part_at, no_items}
 use Rattle.debugger.proofs.sessions.hear_lines.Goals as goal
 
 pub loop-i-init : goal.loop-i-init
 loop-i-init g c = record {
-  going = λ input before e f. going_start _ _ _ _ _ _ _ _ e f c.new-line.ensures c.requires.no_breakpoint c.requires.place;
+  going = λ input before e f. going_start _ _ _ _ _ _ _ _ e f c.requires.no_byte c.requires.no_breakpoint c.requires.place;
   origin = refl;
   read = refl;
   wrote = refl;
 }
 
 pub returns-in-Err-clause-told : goal.returns-in-Err-clause-told
-returns-in-Err-clause-told g c = λ input before e f. told_some _ _ _ _ _ _ _ _ _ _ (c.loop-i.invariant.going input before e f) c.in-Err.ensures.kept
+returns-in-Err-clause-told g c = λ input before e f. told_some _ _ _ _ _ _ _ _ _ _ 9223372036854775808 (c.loop-i.invariant.going input before e f) c.in-Err.ensures.kept (readable-is input) (omega arith)
 
 pub returns-then-is_empty-clause-told : goal.returns-then-is_empty-clause-told
 returns-then-is_empty-clause-told g c = λ input before e f.
     let go = c.loop-i.invariant.going input before e f in
     let last = end_read input c.loop-i.i _ _ go.left_is (rw c.in-Ok-None.field-0-is at c.in-Ok-None.ensures.bytes) in
-    told_end _ _ _ _ _ _ _ _ _ 9223372036854775808 go (take-end input c.loop-i.i 9223372036854775808 last.0 (omega arith)) (no_items _ (search rules))
+    told_end _ _ _ _ _ _ _ _ _ _ go last.1 (readable-is input ∙ take-end input c.loop-i.i 9223372036854775808 last.0 (omega arith)) (no_items _ (search rules))
 
 pub returns-in-Ok-clause-told : goal.returns-in-Ok-clause-told
 returns-in-Ok-clause-told g c = λ input before e f.
     let go = c.loop-i.invariant.going input before e f in
     let last = end_read input c.loop-i.i _ _ go.left_is (rw c.in-Ok-None.field-0-is at c.in-Ok-None.ensures.bytes) in
-    told_last _ _ _ _ _ _ _ _ _ _ 9223372036854775808 _ go (take-end input c.loop-i.i 9223372036854775808 last.0 (omega arith)) (search rules) (heard_at _ _ _ _ _ _ _ _ c.loop-i.invariant.origin c.as_slice.ensures.value c.in-Ok.ensures.heard)
+    told_last _ _ _ _ _ _ _ _ _ _ _ _ go last.1 (readable-is input ∙ take-end input c.loop-i.i 9223372036854775808 last.0 (omega arith)) (search rules) (heard_at _ _ _ _ _ _ _ _ c.loop-i.invariant.origin c.as_slice.ensures c.in-Ok.ensures.heard)
 
 pub returns-in-Err-hear_line-clause-told : goal.returns-in-Err-hear_line-clause-told
 returns-in-Err-hear_line-clause-told g c = λ input before e f.
     let go = c.loop-i.invariant.going input before e f in
     let last = end_read input c.loop-i.i _ _ go.left_is (rw c.in-Ok-None.field-0-is at c.in-Ok-None.ensures.bytes) in
-    told_part-last _ _ _ _ _ _ _ _ _ _ _ go last.1 (search rules) (part_at _ _ _ _ _ _ _ c.loop-i.invariant.origin c.as_slice.ensures.value c.in-Err-hear_line.ensures.part)
+    told_part-last _ _ _ _ _ _ _ _ _ _ _ go last.1 (search rules) (part_at _ _ _ _ _ _ _ c.loop-i.invariant.origin c.as_slice.ensures c.in-Err-hear_line.ensures.part) (readable-is input ∙ take-end input c.loop-i.i 9223372036854775808 last.0 (omega arith))
 
 pub returns-then-ended-clause-told : goal.returns-then-ended-clause-told
 returns-then-ended-clause-told g c = λ input before e f.
     let go = c.loop-i.invariant.going input before e f in
     let read = rw c.in-Ok-Some.field-0-is at c.in-Ok-Some.ensures.bytes in
-    told_quit _ _ _ _ _ _ _ _ _ _ _ _ _ _ 9223372036854775808 _ go read c.if-b-eq10.true (heard_at _ _ _ _ _ _ _ _ c.loop-i.invariant.origin c.as_slice-then-b-eq10.ensures.value c.in-Ok-hear_line.ensures.heard) (search rules) (omega arith)
+    told_quit _ _ _ _ _ _ _ _ _ _ _ _ _ _ 9223372036854775808 _ go read c.if-b-eq10.true (heard_at _ _ _ _ _ _ _ _ c.loop-i.invariant.origin c.as_slice-then-b-eq10.ensures c.in-Ok-hear_line.ensures.heard) (search rules) (readable-is input) (omega arith)
 
 pub returns-in-Err-hear_line-2-clause-told : goal.returns-in-Err-hear_line-2-clause-told
 returns-in-Err-hear_line-2-clause-told g c = λ input before e f.
     let go = c.loop-i.invariant.going input before e f in
     let read = rw c.in-Ok-Some.field-0-is at c.in-Ok-Some.ensures.bytes in
-    told_part _ _ _ _ _ _ _ _ _ _ _ _ go read c.if-b-eq10.true (part_at _ _ _ _ _ _ _ c.loop-i.invariant.origin c.as_slice-then-b-eq10.ensures.value c.in-Err-hear_line-2.ensures.part)
+    told_part _ _ _ _ _ _ _ _ _ _ _ _ 9223372036854775808 go read c.if-b-eq10.true (part_at _ _ _ _ _ _ _ c.loop-i.invariant.origin c.as_slice-then-b-eq10.ensures c.in-Err-hear_line-2.ensures.part) (readable-is input) (omega arith)
 
 pub loop-i-preserved-then-b-eq10 : goal.loop-i-preserved-then-b-eq10
 loop-i-preserved-then-b-eq10 g c = record {
   going = λ input before e f.
       let read = rw c.in-Ok-Some.field-0-is at c.in-Ok-Some.ensures.bytes in
-      going_line _ _ _ _ _ _ _ _ _ _ _ _ _ _ _ _ (c.loop-i.invariant.going input before e f) read c.if-b-eq10.true (heard_at _ _ _ _ _ _ _ _ c.loop-i.invariant.origin c.as_slice-then-b-eq10.ensures.value c.in-Ok-hear_line.ensures.heard) (search rules) c.clear.ensures;
+      going_line _ _ _ _ _ _ _ _ _ _ _ _ _ _ _ _ (c.loop-i.invariant.going input before e f) read c.if-b-eq10.true (heard_at _ _ _ _ _ _ _ _ c.loop-i.invariant.origin c.as_slice-then-b-eq10.ensures c.in-Ok-hear_line.ensures.heard) (search rules) c.clear.ensures;
   origin = c.hear_line-then-b-eq10.ensures.origin ∙ c.loop-i.invariant.origin;
   read = c.in-Ok-Some.ensures.ok ∙ c.loop-i.invariant.read;
   wrote = c.in-Ok-hear_line.ensures.ok ∙ c.loop-i.invariant.wrote;
@@ -58,7 +58,7 @@ pub loop-i-preserved : goal.loop-i-preserved
 loop-i-preserved g c = record {
   going = λ input before e f.
       let read = rw c.in-Ok-Some.field-0-is at c.in-Ok-Some.ensures.bytes in
-      going_byte _ _ _ _ _ _ _ _ _ _ _ _ (c.loop-i.invariant.going input before e f) read c.if-b-eq10.false c.keep_byte.ensures;
+      going_byte _ _ _ _ _ _ _ _ _ _ _ _ (c.loop-i.invariant.going input before e f) read c.if-b-eq10.false c.push.ensures;
   origin = c.loop-i.invariant.origin;
   read = c.in-Ok-Some.ensures.ok ∙ c.loop-i.invariant.read;
   wrote = c.loop-i.invariant.wrote;
@@ -68,15 +68,16 @@ pub returns-then-is_empty-2-clause-told : goal.returns-then-is_empty-2-clause-to
 returns-then-is_empty-2-clause-told g c = λ input before e f.
     let go = c.loop-i.invariant.going input before e f in
     let all : 9223372036854775808 ≡ c.loop-i.i = omega arith in
-    told_end _ _ _ _ _ _ _ _ _ 9223372036854775808 go (ap (λ (n : ℕ). take n input) all) (no_items _ (search rules))
+    told_end _ _ _ _ _ _ _ _ _ _ go go.left_is (readable-is input ∙ ap (λ (n : ℕ). take n input) all) (no_items _ (search rules))
 
 pub returns-in-Ok-hear_line-2-clause-told : goal.returns-in-Ok-hear_line-2-clause-told
 returns-in-Ok-hear_line-2-clause-told g c = λ input before e f.
     let go = c.loop-i.invariant.going input before e f in
     let all : 9223372036854775808 ≡ c.loop-i.i = omega arith in
-    told_last _ _ _ _ _ _ _ _ _ _ 9223372036854775808 _ go (ap (λ (n : ℕ). take n input) all) (search rules) (heard_at _ _ _ _ _ _ _ _ c.loop-i.invariant.origin c.as_slice-2.ensures.value c.in-Ok-hear_line-2.ensures.heard)
+    told_last _ _ _ _ _ _ _ _ _ _ _ _ go go.left_is (readable-is input ∙ ap (λ (n : ℕ). take n input) all) (search rules) (heard_at _ _ _ _ _ _ _ _ c.loop-i.invariant.origin c.as_slice-2.ensures c.in-Ok-hear_line-2.ensures.heard)
 
 pub returns-in-Err-hear_line-3-clause-told : goal.returns-in-Err-hear_line-3-clause-told
 returns-in-Err-hear_line-3-clause-told g c = λ input before e f.
     let go = c.loop-i.invariant.going input before e f in
-    told_part-last _ _ _ _ _ _ _ _ _ _ _ go go.left_is (search rules) (part_at _ _ _ _ _ _ _ c.loop-i.invariant.origin c.as_slice-2.ensures.value c.in-Err-hear_line-3.ensures.part)
+    let all : 9223372036854775808 ≡ c.loop-i.i = omega arith in
+    told_part-last _ _ _ _ _ _ _ _ _ _ _ go go.left_is (search rules) (part_at _ _ _ _ _ _ _ c.loop-i.invariant.origin c.as_slice-2.ensures c.in-Err-hear_line-3.ensures.part) (readable-is input ∙ ap (λ (n : ℕ). take n input) all)

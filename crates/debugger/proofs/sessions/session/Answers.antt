@@ -1,8 +1,9 @@
 use Rattle.std.proofs.Common.{subst}
 use Rattle.bpf_machine.specs.State.{State}
-use Rattle.debugger.specs.Told.{ByResult}
+use Rattle.debugger.specs.Streams.{stream}
+use Rattle.debugger.specs.Told.{IsSession}
 use Rattle.debugger.proofs.sessions.session.Goals as goal
 
-pub returns-clause-told : goal.returns-clause-told
-returns-clause-told g c = λ input before e f.
-    subst (λ (s : State). ByResult s input before (g.R.Source.left c.session_from.new.r) (g.W.Sink.taken c.session_from.new.w) c.session_from.result) c.in_ok-machine.ensures (c.session_from.ensures.told input before e f)
+pub returns : goal.returns
+returns g c =
+    subst (λ (s : State). IsSession s (stream (g.R.Source.left c.args.r.now) (g.R.Source.failed c.args.r.now)) (stream (g.R.Source.left c.session_from.new.r) (g.R.Source.failed c.session_from.new.r)) (stream (g.W.Sink.taken c.args.w.now) (g.W.Sink.failed c.args.w.now)) (stream (g.W.Sink.taken c.session_from.new.w) (g.W.Sink.failed c.session_from.new.w)) c.session_from.result) c.in_ok-machine.ensures c.session_from.ensures

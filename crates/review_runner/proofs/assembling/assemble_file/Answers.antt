@@ -1,13 +1,15 @@
-use Rattle.std.proofs.Common.{◌∙◌}
-use Rattle.review_runner.proofs.Written.{left, was_assembled, was_refused}
+use Rattle.std.proofs.Common.{ap, ◌∙◌}
+use Rattle.review_runner.specs.Output.{succeeded}
+use Rattle.review_runner.proofs.Assembled.{no_image, not_written, was_written}
 use Rattle.review_runner.proofs.assembling.assemble_file.Goals as goal
 
-pub returns-in-Ok-clause-done : goal.returns-in-Ok-clause-done
-returns-in-Ok-clause-done g c f known =
-    was_assembled f _ _ _ _ _ _ (c.in-Ok.ensures.assembled f known) c.deref.ensures.value (c.write_image.ensures.done f (c.in-Ok.ensures.known ∙ known))
+pub returns-in_err-file : goal.returns-in_err-file
+returns-in_err-file g c = no_image _ _ _ _ _ _ c.from_residual.ensures.1 c.in_err-file.ensures.assembled c.in_err-file.ensures.known
 
-pub returns-in-Err : goal.returns-in-Err
-returns-in-Err g c = record {
-  done = λ f known. was_refused _ _ _ _ _ _ (c.in-Err.ensures.known ∙ known) (c.in-Err.ensures.assembled f known) c.answer.ensures.done c.answer.ensures.memory;
-  memory = λ f known. left _ _ _ (c.in-Err.ensures.known ∙ known);
-}
+pub returns-in_err-write : goal.returns-in_err-write
+returns-in_err-write g c =
+    not_written _ _ _ _ _ _ _ _ _ c.from_residual-in_err-write.ensures.1 c.in_ok-file.ensures.assembled c.in_ok-file.ensures.known c.deref.ensures.value c.in_err-write.ensures
+
+pub returns : goal.returns
+returns g c =
+    was_written _ _ _ _ _ _ _ _ c.in_ok-file.ensures.assembled c.in_ok-file.ensures.known c.deref.ensures.value c.in_ok-write.ensures (c.succeeded.ensures ∙ ap succeeded c.new.ensures.items)

@@ -5,9 +5,8 @@ use Rattle.review_runner.proofs.assembling.image_of.Goals as goal
 pub returns-in_default : goal.returns-in_default
 returns-in_default c = no_text c.in_default.ensures.cases.0
 
-pub returns-in-Ok-assemble : goal.returns-in-Ok-assemble
-returns-in-Ok-assemble c =
-    of_code _ _ _ _ c.in-Ok.ensures.cases.0 c.in-Ok.ensures.cases.1 c.in-Ok-assemble.ensures.answers c.file_of.ensures
+pub returns-in_err-code : goal.returns-in_err-code
+returns-in_err-code c = of_refusal _ _ _ _ c.in-Ok.ensures.cases.0 c.in-Ok.ensures.cases.1 c.in_err-code.ensures.answers c.from_residual.ensures.1
 
-pub returns-in-Err : goal.returns-in-Err
-returns-in-Err c = of_refusal _ _ _ _ c.in-Ok.ensures.cases.0 c.in-Ok.ensures.cases.1 c.in-Err.ensures.answers c.from.ensures
+pub returns : goal.returns
+returns c = of_code _ _ _ _ c.in-Ok.ensures.cases.0 c.in-Ok.ensures.cases.1 c.in_ok-code.ensures.answers c.file_of.ensures

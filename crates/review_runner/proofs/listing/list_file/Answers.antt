@@ -1,8 +1,12 @@
-use Rattle.review_runner.proofs.Listings.{was_refused}
+use Rattle.review_runner.proofs.Readings.{list_handed_on, list_lacks_memory, was_listed}
 use Rattle.review_runner.proofs.listing.list_file.Goals as goal
 
-pub returns-in-Err : goal.returns-in-Err
-returns-in-Err g c = record {
-  done = λ f known. was_refused _ _ _ (c.in-Err.ensures.opens f known) c.answer.ensures.done c.answer.ensures.memory;
-  known = c.in-Err.ensures.known;
-}
+pub returns-in_err-opened-clause-lists : goal.returns-in_err-opened-clause-lists
+returns-in_err-opened-clause-lists g c = list_handed_on _ _ _ _ _ c.from_residual.ensures.1 c.in_err-opened.ensures.opens c.in_err-opened.ensures.known
+
+pub returns-in_err-list_image-clause-lists : goal.returns-in_err-list_image-clause-lists
+returns-in_err-list_image-clause-lists g c =
+    list_lacks_memory _ _ _ _ _ c.from_residual-in_err-list_image.ensures.1 c.in_ok-opened.ensures.opens c.in_ok-opened.ensures.known
+
+pub returns-clause-lists : goal.returns-clause-lists
+returns-clause-lists g c = was_listed _ _ _ _ _ c.in_ok-opened.ensures.opens c.in_ok-opened.ensures.known c.in_ok-list_image.ensures

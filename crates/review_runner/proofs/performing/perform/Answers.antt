@@ -1,14 +1,9 @@
-use Rattle.std.proofs.Common.{◌∙◌}
-use Rattle.review_runner.proofs.Written.{was_left_by}
+use Rattle.review_runner.proofs.Performed.{is_refused, kept_on_err, stays}
 use Rattle.review_runner.proofs.performing.perform.Goals as goal
 
-pub returns-in-RunImage-clause-done : goal.returns-in-RunImage-clause-done
-returns-in-RunImage-clause-done g c f known =
-    rw (c.in-RunImage.is, ← c.as_str.ensures.value) (was_left_by f _ _ _ (c.perform_run.ensures.known ∙ known) (c.perform_run.ensures.done f known))
-
-pub returns-in-Assemble-clause-done : goal.returns-in-Assemble-clause-done
-returns-in-Assemble-clause-done g c f known = rw (c.in-Assemble.is, ← c.as_str-in-Assemble.ensures.value, ← c.as_str-in-Assemble-2.ensures.value) (c.assemble_file.ensures.done f known)
-
-pub returns-in-List-clause-done : goal.returns-in-List-clause-done
-returns-in-List-clause-done g c f known =
-    rw (c.in-List.is, ← c.as_str-in-List.ensures.value) (was_left_by f _ _ _ (c.list_file.ensures.known ∙ known) (c.list_file.ensures.done f known))
+pub returns-in-Err : goal.returns-in-Err
+returns-in-Err g c = record {
+  done = is_refused _ _ _ _ _ c.in-Err.ensures c.answer.ensures.memory c.answer.ensures.done;
+  memory = kept_on_err _ _ _ _ _ c.in-Err.ensures;
+  stays = stays _ _ _ _ c.in-Err.ensures;
+}

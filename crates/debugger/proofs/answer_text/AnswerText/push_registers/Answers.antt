@@ -1,4 +1,5 @@
-use Rattle.std.proofs.Common.{length, arith, ap}
+use Rattle.std.proofs.Common.{ℕ, ◌∙◌, length, arith, ap}
+use Rattle.std.specs.Prelude.{slice_index}
 use Rattle.debugger.proofs.Texts.{registers_none, registers_more, registers_all}
 use Rattle.debugger.proofs.answer_text.AnswerText.push_registers.Goals as goal
 
@@ -13,7 +14,7 @@ push_register-requires-clause-room g c = omega (arith, c.loop-number.invariant.l
 
 pub loop-number-preserved : goal.loop-number-preserved
 loop-number-preserved g c = record {
-  text = registers_more _ _ _ _ _ c.register.ensures c.loop-number.invariant.text c.push_register.ensures.text;
+  text = registers_more _ _ _ _ _ (c.register.ensures ∙ ap (λ (n : ℕ). slice_index (g.E.Emulator.state c.args.machine.now).registers n) c.register_numbered.ensures) c.loop-number.invariant.text c.push_register.ensures.text;
   length = omega (arith, c.loop-number.invariant.length, c.push_register.ensures.length);
 }
 

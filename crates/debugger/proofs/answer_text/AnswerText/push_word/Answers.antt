@@ -1,6 +1,6 @@
 use Rattle.std.proofs.Common.{[], ◌∷◌, length, arith, ap, ◌∙◌}
 use Rattle.std.proofs.lemmas.List.{length-append}
-use Rattle.bpf_machine.specs.Text.{hex_digits}
+use Rattle.insn_codec.specs.Lines.{hex_digits}
 use Rattle.debugger.proofs.Texts.{hex_length}
 use Rattle.debugger.proofs.answer_text.AnswerText.push_word.Goals as goal
 

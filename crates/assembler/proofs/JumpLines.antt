@@ -1,0 +1,123 @@
+-- Lines of jumps, by an offset or to a name.
+use Rattle.std.proofs.Common.{◌≡◌, ◌⊎◌, ℕ, ℤ, pos, negsuc, List, [], ◌∷◌, Some, None, true, refl, sym, ◌∙◌, ap, subst, arith, inl, inr, FitsSigned}
+use Rattle.std.specs.Prelude.{Ok, Err}
+use Rattle.std.specs.Int.{w16, w32}
+use Rattle.std.proofs.lemmas.Bool.{both_ways, lt-ltb, ltb-true}
+use Rattle.insn_codec.specs.Lines.{offset_text, operands_text}
+use Rattle.insn_codec.specs.Statements.{IsStatement}
+use Rattle.insn_codec.specs.declared.insn.Insn.TheVariants as insn
+use Rattle.insn_codec.specs.declared.mnemonic.Mnemonic.{Mnemonic}
+use Rattle.insn_codec.specs.declared.mnemonic.Mnemonic.TheVariants as mnemonic
+use Rattle.insn_codec.specs.declared.statement.Statement.{Statement}
+use Rattle.insn_codec.specs.declared.statement.Statement.TheVariants as statement_kind
+use Rattle.assembler.proofs.Cases.{either}
+use Rattle.assembler.specs.Forms.{ReadsOperands, item_mnemonic, item_operands}
+use Rattle.assembler.specs.Items.{HasLine, InRange, Item, statement, label, jump}
+use Rattle.assembler.specs.Jumps.{JumpInRange, fits_16, jump_by, jump_mnemonic, jump_operands, reaches, with_offset}
+use Rattle.assembler.specs.declared.lines.jump.Jump.{Jump}
+use Rattle.assembler.specs.declared.lines.jump.Jump.TheVariants.{Near, Long, CallLocal, Branch}
+use Rattle.assembler.specs.declared.lines.line_error.LineError.TheVariants.{OutOfRange}
+
+-- offsets of 16 bits
+
+pub fits_of : (z : ℤ) → fits_16 z ≡ true → FitsSigned w16 z
+fits_of (pos n) e = let h = ltb-true n 32768 e in omega arith
+fits_of (negsuc n) e = let h = ltb-true n 32768 e in omega arith
+
+pub of_fits : (z : ℤ) → FitsSigned w16 z → fits_16 z ≡ true
+of_fits (pos n) h = lt-ltb n 32768 (omega (arith, h))
+of_fits (negsuc n) h = lt-ltb n 32768 (omega (arith, h))
+
+wider : (z : ℤ) → FitsSigned w16 z → FitsSigned w32 z
+wider (pos n) h = omega (arith, h)
+wider (negsuc n) h = omega (arith, h)
+
+-- a jump that reaches is in range, and one in range reaches
+
+pub in_range_by : (j : Jump) (z : ℤ) → JumpInRange j → FitsSigned w32 z → reaches j z ≡ true → IsStatement (jump_by j z)
+in_range_by Near z h f e = fits_of z e
+in_range_by Long z h f e = f
+in_range_by CallLocal z h f e = f
+in_range_by (Branch comparison width dst operand) z h f e = (h, fits_of z e)
+
+pub reaches_of : (j : Jump) (z : ℤ) → IsStatement (jump_by j z) → reaches j z ≡ true
+reaches_of Near z h = of_fits z h
+reaches_of Long z h = refl
+reaches_of CallLocal z h = refl
+reaches_of (Branch comparison width dst operand) z h = of_fits z h.1
+
+pub offset_fits : (j : Jump) (z : ℤ) → IsStatement (jump_by j z) → FitsSigned w32 z
+offset_fits Near z h = wider z h
+offset_fits Long z h = h
+offset_fits CallLocal z h = h
+offset_fits (Branch comparison width dst operand) z h = wider z h.1
+
+-- the line of a jump by an offset
+
+pub has_line : (j : Jump) (z : ℤ) → HasLine (statement (jump_by j z))
+has_line Near z = tt
+has_line Long z = tt
+has_line CallLocal z = tt
+has_line (Branch comparison width dst operand) z = tt
+
+pub mnemonic_is : (j : Jump) (z : ℤ) → item_mnemonic (statement (jump_by j z)) ≡ Some (jump_mnemonic j)
+mnemonic_is Near z = refl
+mnemonic_is Long z = refl
+mnemonic_is CallLocal z = refl
+mnemonic_is (Branch comparison width dst operand) z = refl
+
+pub operands_are : (j : Jump) (z : ℤ) → operands_text (jump_operands j (offset_text z)) ≡ item_operands (statement (jump_by j z))
+operands_are Near z = refl
+operands_are Long z = refl
+operands_are CallLocal z = refl
+operands_are (Branch comparison width dst operand) z = refl
+
+pub operands_at : (j : Jump) (z : ℤ) (goal : List ℕ) → goal ≡ offset_text z → operands_text (jump_operands j goal) ≡ item_operands (statement (jump_by j z))
+operands_at j z goal e = ap (λ g. operands_text (jump_operands j g)) e ∙ operands_are j z
+
+-- its offset is out of range
+pub jump_out : (j : Jump) (z : ℤ) (goal : List ℕ) → goal ≡ offset_text z → (IsStatement (jump_by j z) → ⊥) → ReadsOperands (jump_mnemonic j) (operands_text (jump_operands j goal)) (Err OutOfRange)
+jump_out j z goal e out = (statement (jump_by j z), has_line j z, mnemonic_is j z, operands_at j z goal e, out)
+
+-- what it is with an offset that it has room for
+pub jump_said : (j : Jump) (z n : ℤ) (goal : List ℕ) (x : Statement) → goal ≡ offset_text z → z ≡ n → FitsSigned w32 n → JumpInRange j → Some x ≡ with_offset j n → (item_mnemonic (statement x) ≡ Some (jump_mnemonic j)) × (operands_text (jump_operands j goal) ≡ item_operands (statement x)) × HasLine (statement x) × InRange (statement x)
+jump_said j z n goal x e same fits h is = either (reaches j n)
+    (λ near. let here : Some x ≡ Some (jump_by j n) = rw near at is in
+    let at : jump_by j n ≡ x = cc in
+    subst (λ y. (item_mnemonic (statement y) ≡ Some (jump_mnemonic j)) × (operands_text (jump_operands j goal) ≡ item_operands (statement y)) × HasLine (statement y) × InRange (statement y)) at
+    (mnemonic_is j n, operands_at j n goal (e ∙ ap offset_text same), has_line j n, in_range_by j n h fits near))
+    (λ far. let none : Some x ≡ None = rw far at is in absurd cc)
+
+pub jump_refused : (j : Jump) (z n : ℤ) (goal : List ℕ) → goal ≡ offset_text z → z ≡ n → None ≡ with_offset j n → ReadsOperands (jump_mnemonic j) (operands_text (jump_operands j goal)) (Err OutOfRange)
+jump_refused j z n goal e same is = either (reaches j n)
+    (λ near. let some : None ≡ Some (jump_by j n) = rw near at is in absurd cc)
+    (λ far. jump_out j z goal e (λ r. both_ways (reaches j n) far (subst (λ y. reaches j y ≡ true) same (reaches_of j z r))))
+
+-- the items of a jump's mnemonic
+
+abbrev pub IsOfJump : Mnemonic → Type 0
+IsOfJump mnemonic.Ja = Unit {0}
+IsOfJump mnemonic.JaLong = Unit {0}
+IsOfJump mnemonic.CallLocal = Unit {0}
+IsOfJump (mnemonic.Branch comparison width) = Unit {0}
+IsOfJump _ = ⊥
+
+-- a jump by an offset, or to a name
+abbrev pub JumpsBy : Jump → Item → Type 0
+JumpsBy j i = ((z : ℤ) × (i ≡ statement (jump_by j z))) ⊎ ((name : List ℕ) × (i ≡ jump j name))
+
+same : (m n : Mnemonic) → Some m ≡ Some n → m ≡ n
+same m n e = cc
+
+other : {P : Type 0} (m n : Mnemonic) → (IsOfJump m → ⊥) → IsOfJump n → Some m ≡ Some n → P
+other m n never is e = absurd (never (subst (λ x. IsOfJump x) (sym (same m n e)) is))
+
+pub of_jump : (m : Mnemonic) (i : Item) → IsOfJump m → item_mnemonic i ≡ Some m → (j : Jump) × (jump_mnemonic j ≡ m) × JumpsBy j i
+of_jump m (jump j name) is e = (j, same (jump_mnemonic j) m e, inr (name, refl))
+of_jump m (label name) is e = absurd cc
+of_jump m (statement (statement_kind.Insn (insn.Jump z))) is e = (Near, same mnemonic.Ja m e, inl (z, refl))
+of_jump m (statement (statement_kind.Insn (insn.JumpLong z))) is e = (Long, same mnemonic.JaLong m e, inl (z, refl))
+of_jump m (statement (statement_kind.Insn (insn.CallLocal z))) is e = (CallLocal, same mnemonic.CallLocal m e, inl (z, refl))
+of_jump m (statement (statement_kind.Insn (insn.Branch comparison width dst operand z))) is e = (Branch comparison width dst operand, same (mnemonic.Branch comparison width) m e, inl (z, refl))
+of_jump m (statement (statement_kind.Insn insn.Exit)) is e = absurd cc
+of_jump m (statement _) is e = other _ m (λ never. never) is e

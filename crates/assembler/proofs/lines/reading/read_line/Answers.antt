@@ -1,0 +1,26 @@
+use Rattle.std.proofs.Common.{◌∷◌, ◌++◌, Some, lit<, sym, ◌∙◌, ap}
+use Rattle.std.proofs.lemmas.Slice.Eq.{bytes_eq-Decides}
+use Rattle.std.proofs.lemmas.Str.Pattern.{split_parts}
+use Rattle.assembler.proofs.Lacking.{lacks_from}
+use Rattle.assembler.proofs.LineReads.{reads_line}
+use Rattle.assembler.proofs.Whole.{code_only, exit_only}
+use Rattle.assembler.proofs.lines.reading.read_line.Goals as goal
+
+pub returns-then-eq : goal.returns-then-eq
+returns-then-eq c =
+    let same = (bytes_eq-Decides c.args.line.now _).0 (sym c.eq.ensures ∙ c.if-eq.true) in
+    record { reads = ((same, tt, tt), λ i h e. exit_only i h (sym same ∙ e)) }
+
+pub returns-in_default-mnemonic_of : goal.returns-in_default-mnemonic_of
+returns-in_default-mnemonic_of c =
+    let p = split_parts 32 c.args.line.now (Some (c.in-Some-split_once.word, c.in-Some-split_once.operands)) c.in-Some-split_once.ensures.cases (lit< tt) in
+    record {
+      reads = λ i h e.
+          let k = code_only c.in-Some-split_once.word.now c.in-Some-split_once.operands.now i (lacks_from 32 c.in-Some-split_once.word.now p.1) h (sym p.0 ∙ e) in
+          c.in_default-mnemonic_of.ensures k.0 k.2;
+    }
+
+pub returns : goal.returns
+returns c =
+    let p = split_parts 32 c.args.line.now (Some (c.in-Some-split_once.word, c.in-Some-split_once.operands)) c.in-Some-split_once.ensures.cases (lit< tt) in
+    record { reads = reads_line c.in-Some-mnemonic_of.mnemonic c.in-Some-split_once.operands.now c.args.line.now c.read_operands.result (p.0 ∙ ap (λ w. w ++ 32 ∷ c.in-Some-split_once.operands.now) c.in-Some-mnemonic_of.ensures) c.read_operands.ensures }

@@ -1,0 +1,6 @@
+use Rattle.std.proofs.Common.{arith}
+use Rattle.assembler.proofs.Emitting.{emit_step, room_step}
+use Rattle.assembler.proofs.passes.emit.emit.Goals as goal
+
+pub loop-line-preserved : goal.loop-line-preserved
+loop-line-preserved c = (omega (arith, c.loop-line.invariant.0), room_step c.loop-line.slot c.slots-slot.result c.loop-line.line-index c.args.lines.now _ c.loop-line-test.true c.slots-slot.ensures c.loop-line.invariant.1, emit_step _ c.loop-line.number c.loop-line.slot c.slots-slot.result c.loop-line.line-index c.args.lines.now _ c.loop-line.out.items c.push_statement.new.out.items c.in-Ok.statement c.resolve.result _ c.loop-line-test.true c.resolve.ensures c.in-Ok.is c.slots-slot.ensures c.in_ok-push_statement.ensures c.loop-line.invariant.2)

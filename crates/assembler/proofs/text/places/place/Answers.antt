@@ -1,0 +1,20 @@
+use Rattle.std.proofs.Common.{◌∷◌, ◌++◌, [], Some, None, lit<, sym, ◌∙◌, ap}
+use Rattle.std.proofs.lemmas.Str.Pattern.{strip_prefix_char, strip_suffix_char}
+use Rattle.insn_codec.specs.Lines.{address_text}
+use Rattle.assembler.proofs.Ends.{tails}
+use Rattle.assembler.proofs.SignCuts.{in_brackets}
+use Rattle.assembler.proofs.text.places.place.Goals as goal
+
+pub returns-in_err-after : goal.returns-in_err-after
+returns-in_err-after c = rw c.from_residual.ensures (λ r z e. strip_prefix_char 91 c.args.text.now None c.in_err-after.ensures.cases (lit< tt) (address_text r z ++ 93 ∷ []) e)
+
+pub returns-in_err-inside : goal.returns-in_err-inside
+returns-in_err-inside c = rw c.from_residual-in_err-inside.ensures (λ r z e.
+    let p = strip_prefix_char 91 c.args.text.now (Some c.in_ok-after.after) c.in_ok-after.ensures.cases (lit< tt) in
+    strip_suffix_char 93 c.in_ok-after.after.now None c.in_err-inside.ensures.cases (lit< tt) (address_text r z) (tails 91 91 _ _ (sym p ∙ e)))
+
+pub returns : goal.returns
+returns c =
+    let p = strip_prefix_char 91 c.args.text.now (Some c.in_ok-after.after) c.in_ok-after.ensures.cases (lit< tt) in
+    let q = strip_suffix_char 93 c.in_ok-after.after.now (Some c.in_ok-inside.inside) c.in_ok-inside.ensures.cases (lit< tt) in
+    in_brackets c.args.text.now c.in_ok-inside.inside.now c.address.result (p ∙ ap (λ t. 91 ∷ t) q) c.address.ensures

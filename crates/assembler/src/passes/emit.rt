@@ -1,0 +1,81 @@
+//! The second pass: the bytes of what the lines say.
+
+ghost use Rattle.std.specs.Prelude.{◌≡◌, ◌≢◌, ◌≤◌, [], ◌++◌, ℕ, List, IfSome, OnErr, OnOk, map};
+ghost use Rattle.std.specs.BTreeMap.{get_by_text};
+ghost use Rattle.assembler.specs.Answers.{Emits};
+ghost use Rattle.assembler.specs.Items.{item_of, slots_of};
+ghost use Rattle.assembler.specs.SecondPass.{bytes_of, emitted, resolved};
+
+use crate::asm_error::AsmError;
+use crate::lines::line::Line;
+use crate::passes::labels::{Labels, slot_of};
+use crate::passes::offset::jump_to;
+use crate::passes::scan::slots;
+use insn_codec::{Statement, encode};
+use std::alloc::{AllocError, Global};
+
+/// What the line of this number, which begins at this slot, stands for.
+///
+/// # Errors
+///
+/// A3 where a label has no slot, A5 where it is too far away.
+fn resolve(
+    line: &Line<'_>,
+    number: usize,
+    slot: u32,
+    labels: &Labels,
+) -> Result<Option<Statement>, AsmError>
+    requires slot { slot ≤ 65536 }
+    requires labels { (q : List ℕ) → IfSome (get_by_text labels.now q) (λ t. t ≤ 65536) }
+    ensures { result ≡ resolved (λ q. get_by_text labels.now q) number slot (item_of line.now) }
+{
+    match *line {
+        Line::Statement(statement) => Ok(Some(statement)),
+        Line::Label(_) => Ok(None),
+        Line::Jump(jump, name) => jump_to(jump, slot, number, slot_of(labels, name)),
+    }
+}
+
+/// Appends the bytes that the statement stands for.
+fn push_statement(out: &mut Vec<u8>, statement: Option<Statement>) -> Result<(), AllocError>
+    ensures { OnOk result (out.new.items ≡ out.old.items ++ bytes_of statement) }
+{
+    match statement {
+        None => Ok(()),
+        Some(Statement::Slot(word)) => out.extend_from_slice(&word.to_be_bytes()),
+        Some(Statement::Insn(insn)) => {
+            let (first, second) = encode(&insn);
+            out.extend_from_slice(&first.to_le_bytes())?;
+            match second {
+                None => Ok(()),
+                Some(second) => out.extend_from_slice(&second.to_le_bytes()),
+            }
+        }
+    }
+}
+
+/// The bytes of the lines.
+///
+/// # Errors
+///
+/// Of the first line that has one: A3 where its label has no slot, A5 where it is too far away.
+pub(crate) fn emit(alloc: Global, lines: &[Line<'_>], labels: &Labels) -> Result<Vec<u8>, AsmError>
+    requires room { slots_of (map item_of lines.now) ≤ 65536 }
+    requires labels { (q : List ℕ) → IfSome (get_by_text labels.now q) (λ t. t ≤ 65536) }
+    ensures emits { Emits (emitted (λ q. get_by_text labels.now q) 1 0 (map item_of lines.now)) result }
+    ensures some { OnErr result (lines.now ≢ []) }
+{
+    let mut out = Vec::new(alloc);
+    let mut number = 1;
+    let mut slot = 0;
+    for line in lines {
+        let statement = match resolve(line, number, slot, labels) {
+            Ok(statement) => statement,
+            Err(error) => return Err(error),
+        };
+        push_statement(&mut out, statement)?;
+        number += 1;
+        slot += slots(line);
+    }
+    Ok(out)
+}

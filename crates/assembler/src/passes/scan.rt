@@ -1,0 +1,81 @@
+//! The first pass: what the lines say, and the labels' slots.
+
+ghost use Rattle.std.specs.Prelude.{◌≡◌};
+ghost use Rattle.assembler.specs.Answers.{FirstPass, ReadsAt};
+ghost use Rattle.assembler.specs.Cutting.{lines_of};
+ghost use Rattle.assembler.specs.Items.{item_of, item_slots};
+
+use crate::asm_error::AsmError;
+use crate::lines::line::Line;
+use crate::lines::line_error::LineError;
+use crate::lines::reading::read_line;
+use crate::passes::cutting::next_line;
+use crate::passes::labels::{Labels, add_label};
+use std::alloc::Global;
+use std::collections::BTreeMap;
+
+/// How many slots of code there can be.
+const MAX_SLOTS: u32 = 65_536;
+
+/// What the first pass finds in a text.
+#[derive(Drop)]
+pub(crate) struct Scanned<'a> {
+    /// What the lines say.
+    pub(crate) lines: Vec<Line<'a>>,
+    /// The labels' slots.
+    pub(crate) labels: Labels,
+}
+
+/// What the line of this number says.
+fn read_at(line: &str, number: usize) -> Result<Line<'_>, AsmError>
+    ensures { ReadsAt line.now number result }
+{
+    match read_line(line) {
+        Ok(found) => Ok(found),
+        Err(LineError::NoForm) => Err(AsmError::A1(number)),
+        Err(LineError::OutOfRange) => Err(AsmError::A2(number)),
+    }
+}
+
+/// How many slots the line stands for.
+pub(crate) fn slots(line: &Line<'_>) -> u32
+    ensures { result ≡ item_slots (item_of line.now) }
+{
+    match *line {
+        Line::Statement(statement) => statement.slots() as u32,
+        Line::Label(_) => 0,
+        Line::Jump(_, _) => 1,
+    }
+}
+
+/// What the lines of the text say, and the labels' slots.
+///
+/// # Errors
+///
+/// Of the first line that has one, its first of: A1 no form, A2 a number out of range, A4 a label
+/// named a second time, A6 more than 65,536 slots.
+pub(crate) fn scan(alloc: Global, text: &str) -> Result<Scanned<'_>, AsmError>
+    ensures { FirstPass (lines_of text.now) result }
+{
+    let mut lines = Vec::new(alloc);
+    let mut labels = BTreeMap::new(alloc);
+    let mut slot = 0;
+    let mut rest = text;
+    'lines: while let Some((front, more)) = next_line(rest) {
+        let number = lines.len() + 1;
+        let line = match read_at(front, number) {
+            Ok(line) => line,
+            Err(error) => return Err(error),
+        };
+        if let Err(error) = add_label(alloc, &mut labels, &line, slot, number) {
+            return Err(error);
+        }
+        slot += slots(&line);
+        if slot > MAX_SLOTS {
+            return Err(AsmError::A6(number));
+        }
+        lines.push(line)?;
+        rest = more;
+    }
+    Ok(Scanned { lines, labels })
+}

@@ -1,0 +1,31 @@
+//! Operands.
+ghost use Rattle.std.specs.Prelude.{◌≡◌, MatchOption};
+ghost use Rattle.insn_codec.specs.Lines.{operand_text};
+ghost use Rattle.insn_codec.specs.declared.operand.Operand.{Operand};
+ghost use Rattle.assembler.specs.Parts.{ValueIs};
+
+use crate::text::numerals::{Numeral, immediate};
+use crate::text::registers::register;
+use insn_codec::Register;
+
+/// What an instruction takes besides its destination.
+#[derive(Clone, Copy, Debug, PartialEq, Eq)]
+pub(crate) enum Value {
+    /// The number that a register holds.
+    Register(Register),
+    /// A number of the instruction's own.
+    Number(Numeral),
+}
+
+/// The operand of this text: a register's name, or a number.
+pub(crate) fn operand(text: &str) -> Option<Value>
+    ensures { MatchOption result ((o : Operand) → text.now ≡ operand_text o → ⊥) (λ v. (o : Operand) × ValueIs v o × (text.now ≡ operand_text o)) }
+{
+    if let Some(register) = register(text) {
+        return Some(Value::Register(register));
+    }
+    if let Some(number) = immediate(text) {
+        return Some(Value::Number(number));
+    }
+    None
+}

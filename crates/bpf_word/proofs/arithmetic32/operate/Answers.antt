@@ -1,7 +1,0 @@
-use Rattle.bpf_word.specs.Arithmetic.{operated}
-use Rattle.bpf_word.proofs.Casts.{difference_is}
-use Rattle.bpf_word.proofs.arithmetic32.operate.Goals as goal
-
-pub returns-in-Sub : goal.returns-in-Sub
-unfolding operated
-returns-in-Sub c = rw c.in-Sub.is (difference_is 32 c.args.dst c.args.operand c.ranges.operand.fits)

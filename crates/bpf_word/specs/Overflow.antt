@@ -1,0 +1,25 @@
+-- When the sum of two words is the sum of the signed numbers that they are: two signed comparisons tell.
+use Rattle.std.specs.Prelude.{◌≡◌, ℕ, ◌+◌, ◌-◌, ◌%◌, ◌^◌, ◌<◌, ℤ, pos, negsuc, ◌+ℤ◌, ◌≤ℤ◌, true, false}
+use Rattle.bpf_word.specs.Comparisons.{holds_of}
+use Rattle.bpf_word.specs.Signs.{signed_of}
+use Rattle.bpf_word.specs.declared.comparison.Comparison.TheVariants.{Sge, Slt}
+
+-- a signed number of 64 bits
+abbrev pub IsSigned : ℤ → Type 0
+IsSigned number = (negsuc (2 ^ 63 - 1) ≤ℤ number) × (number ≤ℤ pos (2 ^ 63 - 1))
+
+-- the sum of two words, which wraps
+abbrev pub wrapped_sum : ℕ → ℕ → ℕ
+wrapped_sum a b = (a + b) % 2 ^ 64
+
+-- the sum of the signed numbers that they are
+abbrev pub exact_sum : ℕ → ℕ → ℤ
+exact_sum a b = signed_of 64 a +ℤ signed_of 64 b
+
+pub record SumsOverflow : Type 0 where
+  -- where b is not negative: the sum is exact if it is not below a, and else no signed number of 64 bits is
+  pub rises : (a b : ℕ) → a < 2 ^ 64 → b < 2 ^ 64 → holds_of Slt b 0 ≡ false → holds_of Slt (wrapped_sum a b) a ≡ false → signed_of 64 (wrapped_sum a b) ≡ exact_sum a b
+  pub rises_over : (a b : ℕ) → a < 2 ^ 64 → b < 2 ^ 64 → holds_of Slt b 0 ≡ false → holds_of Slt (wrapped_sum a b) a ≡ true → ¬ IsSigned (exact_sum a b)
+  -- where b is negative: the sum is exact if it is below a, and else no signed number of 64 bits is
+  pub falls : (a b : ℕ) → a < 2 ^ 64 → b < 2 ^ 64 → holds_of Slt b 0 ≡ true → holds_of Sge (wrapped_sum a b) a ≡ false → signed_of 64 (wrapped_sum a b) ≡ exact_sum a b
+  pub falls_over : (a b : ℕ) → a < 2 ^ 64 → b < 2 ^ 64 → holds_of Slt b 0 ≡ true → holds_of Sge (wrapped_sum a b) a ≡ true → ¬ IsSigned (exact_sum a b)

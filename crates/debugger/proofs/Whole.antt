@@ -1,0 +1,117 @@
+-- Answers are whole lines.
+use Rattle.std.proofs.Common.{◌≡◌, ℕ, zero, suc, ◌+◌, ℤ, pos, negsuc, List, [], ◌∷◌, ◌++◌, decimal, refl, sym, ap, ◌∙◌, append_assoc, codes}
+use Rattle.std.specs.Fmt.{signed_decimal}
+use Rattle.std.specs.Prelude.{nat_lt, slice_index}
+use Rattle.insn_codec.specs.Statements.{statement_slots, statement_text}
+use Rattle.bpf_machine.specs.Decoding.{slot_count}
+use Rattle.bpf_machine.specs.State.{State}
+use Rattle.bpf_machine.specs.Text.{move_line, register_line, register_lines, registers_text, status_text, word_text}
+use Rattle.bpf_machine.specs.Trace.{state_after}
+use Rattle.bpf_machine.specs.declared.status.Status.{Status}
+use Rattle.history.specs.Search.{first_stop, last_stop}
+use Rattle.debugger.specs.Answers.{Answer, World, answer_of, answer_to, break_text, can_go_back, can_go_on, can_go_to, clear_text, is_refused, is_slot, moves_to, out_of_range, says, sets_breakpoints}
+use Rattle.debugger.specs.Breakpoints.{with_breakpoint, without_breakpoint}
+use Rattle.debugger.specs.Commands.{command_of}
+use Rattle.debugger.specs.Listing.{is_inside, listing_at, listing_line, listing_lines, outside_line, statement_at}
+use Rattle.debugger.specs.Rows.{AnswersInLines}
+use Rattle.debugger.specs.Session.{cut}
+use Rattle.debugger.specs.declared.command.Command.{Command}
+use Rattle.debugger.specs.declared.command.Command.TheVariants.{SetBreakpoint, ClearBreakpoint, Forward, Back, Go, Continue, ReverseContinue, Registers, Listing, Quit, Unknown}
+use Rattle.debugger.proofs.Cut.{Whole, whole-append, whole-feed}
+use Rattle.debugger.proofs.Quit.{either}
+
+-- a text that a line feed ends
+record Fed (text : List ℕ) : Type 0 where
+  line : List ℕ
+  is_fed : text ≡ line ++ 10 ∷ []
+
+feed : Fed (10 ∷ [])
+feed = record { line = []; is_fed = refl }
+
+behind : (front text : List ℕ) → Fed text → Fed (front ++ text)
+behind front text f = record { line = front ++ f.line; is_fed = ap (λ (t : List ℕ). front ++ t) f.is_fed ∙ sym (append_assoc front f.line (10 ∷ [])) }
+
+fed_whole : (text : List ℕ) → Fed text → Whole text
+fed_whole text f = ap (λ (t : List ℕ). (cut t).1) f.is_fed ∙ whole-feed f.line
+
+none_whole : Whole []
+unfolding cut
+none_whole = refl
+
+range_whole : Whole (codes "? range\n")
+unfolding cut
+range_whole = refl
+
+what_whole : Whole (codes "? what\n")
+unfolding cut
+what_whole = refl
+
+memory_whole : Whole (codes "? memory\n")
+unfolding cut
+memory_whole = refl
+
+break_whole : (slot : ℕ) → Whole (break_text slot)
+unfolding break_text
+break_whole slot = fed_whole (codes "break " ++ (decimal slot ++ 10 ∷ [])) (behind (codes "break ") _ (behind (decimal slot) _ feed))
+
+clear_whole : (slot : ℕ) → Whole (clear_text slot)
+unfolding clear_text
+clear_whole slot = fed_whole (codes "clear " ++ (decimal slot ++ 10 ∷ [])) (behind (codes "clear ") _ (behind (decimal slot) _ feed))
+
+move_whole : (k : ℕ) (pc : ℤ) (status : Status) → Whole (move_line k pc status)
+unfolding move_line
+move_whole k pc status = fed_whole (codes "step " ++ (decimal k ++ (codes " pc " ++ (signed_decimal pc ++ (codes " " ++ (status_text status ++ 10 ∷ [])))))) (behind (codes "step ") _ (behind (decimal k) _ (behind (codes " pc ") _ (behind (signed_decimal pc) _ (behind (codes " ") _ (behind (status_text status) _ feed))))))
+
+register_whole : (number w : ℕ) → Whole (register_line number w)
+unfolding register_line
+register_whole number w = fed_whole (codes "r" ++ (decimal number ++ (codes " " ++ (word_text w ++ 10 ∷ [])))) (behind (codes "r") _ (behind (decimal number) _ (behind (codes " ") _ (behind (word_text w) _ feed))))
+
+lines_whole : (n : ℕ) (s : State) → Whole (register_lines n s)
+unfolding register_lines
+lines_whole zero s = none_whole
+lines_whole (suc n) s = whole-append (register_lines n s) (register_line n (slice_index s.registers n)) (lines_whole n s) (register_whole n (slice_index s.registers n))
+
+registers_whole : (s : State) → Whole (registers_text s)
+unfolding registers_text
+registers_whole s = lines_whole 11 s
+
+line_whole : (code : List ℕ) (slot : ℕ) → Whole (listing_line code slot)
+unfolding listing_line
+line_whole code slot = fed_whole (decimal slot ++ (codes " " ++ (statement_text (statement_at code slot) ++ 10 ∷ []))) (behind (decimal slot) _ (behind (codes " ") _ (behind (statement_text (statement_at code slot)) _ feed)))
+
+listing_whole : (count : ℕ) (code : List ℕ) (slot : ℕ) → Whole (listing_lines count code slot)
+unfolding listing_lines
+listing_whole zero code slot = none_whole
+listing_whole (suc count) code slot = either Whole (nat_lt slot (slot_count code)) (listing_line code slot ++ listing_lines count code (slot + statement_slots (statement_at code slot))) [] (whole-append (listing_line code slot) _ (line_whole code slot) (listing_whole count code (slot + statement_slots (statement_at code slot)))) none_whole
+
+outside_whole : (pc : ℤ) → Whole (outside_line pc)
+unfolding outside_line
+outside_whole pc = fed_whole (signed_decimal pc ++ codes " outside\n") (behind (signed_decimal pc) _ (record { line = codes " outside"; is_fed = refl }))
+
+at_whole : (code : List ℕ) (pc : ℤ) → Whole (listing_at code pc)
+at_whole code (pos slot) = either Whole (is_inside code (pos slot)) (listing_lines 8 code slot) (outside_line (pos slot)) (listing_whole 8 code slot) (outside_whole (pos slot))
+at_whole code (negsuc n) = outside_whole (negsuc n)
+
+abbrev Lined : Answer → Type 0
+Lined a = Whole a.text
+
+moves_whole : (s : State) (w : World) (k : ℕ) → Lined (moves_to s w k)
+moves_whole s w k = move_whole k (state_after k s).pc (state_after k s).status
+
+answer_of-whole : (s : State) (w : World) (c : Command) → Lined (answer_of s w c)
+unfolding answer_of
+answer_of-whole s w (SetBreakpoint n) = either Lined (is_slot n) (sets_breakpoints w (with_breakpoint n w.breakpoints) (break_text n)) (out_of_range w) (break_whole n) range_whole
+answer_of-whole s w (ClearBreakpoint n) = either Lined (is_slot n) (sets_breakpoints w (without_breakpoint n w.breakpoints) (clear_text n)) (out_of_range w) (clear_whole n) range_whole
+answer_of-whole s w (Forward n) = either Lined (can_go_on w.place n) _ (out_of_range w) (moves_whole s w _) range_whole
+answer_of-whole s w (Back n) = either Lined (can_go_back w.place n) _ (out_of_range w) (moves_whole s w _) range_whole
+answer_of-whole s w (Go k) = either Lined (can_go_to k) (moves_to s w k) (out_of_range w) (moves_whole s w k) range_whole
+answer_of-whole s w (Continue n) = either Lined (can_go_on w.place n) _ (out_of_range w) (moves_whole s w (first_stop w.breakpoints s w.place n)) range_whole
+answer_of-whole s w ReverseContinue = moves_whole s w (last_stop w.breakpoints s w.place)
+answer_of-whole s w Registers = registers_whole (state_after w.place s)
+answer_of-whole s w Listing = at_whole (state_after w.place s).image.code (state_after w.place s).pc
+answer_of-whole s w Quit = none_whole
+answer_of-whole s w Unknown = what_whole
+
+pub answers_in_lines : AnswersInLines
+unfolding answer_to
+answers_in_lines s w l = either Lined (is_refused s w l) (says w (codes "? memory\n")) (answer_of s w (command_of l.0)) memory_whole (answer_of-whole s w (command_of l.0))

@@ -1,0 +1,259 @@
+-- The lines of commands, and how they are read.
+use Rattle.std.proofs.Common.{◌≡◌, ◌≢◌, ℕ, zero, suc, ◌+◌, ◌-◌, ◌*◌, ◌/◌, ◌%◌, ◌^◌, ◌<◌, ◌≤◌, Bool, true, false, ◌&&◌, List, [], ◌∷◌, ◌++◌, length, length-append, length-drop, take, drop, Option, Some, None, decimal, nat_eq, nat_le, nat_lt, codes, refl, sym, ap, ◌∙◌, inl, inr, subst, arith, append_assoc, append-nil, add-one, lit<}
+use Rattle.std.specs.Prelude.{◌⊎◌, slice_index, if◌then◌else◌}
+use Rattle.std.specs.Str.{bytes_eq}
+use Rattle.std.proofs.Math.Nat.{pow-le-pow_right, pow-suc}
+use Rattle.std.proofs.lemmas.Bool.Decides.{nat_tests}
+use Rattle.std.proofs.lemmas.Fmt.{decimal_digit, decimal_step_wide, decimal_by_steps_wide}
+use Rattle.std.proofs.lemmas.List.{take-append-drop}
+use Rattle.std.proofs.lemmas.Slice.Eq.{bytes_eq-Decides}
+use Rattle.debugger.specs.Commands.{begins_with, command_of, form_of, is_digit, leads_with_zero, move_form_of, number_of, numbered, numbered_form_of, read_digits}
+use Rattle.debugger.specs.CommandLines.{Asks, CommandsHaveLines, HasLine, command_line}
+use Rattle.debugger.specs.declared.command.Command.{Command}
+use Rattle.debugger.specs.declared.command.Command.TheVariants.{SetBreakpoint, ClearBreakpoint, Forward, Back, Go, Continue, ReverseContinue, Registers, Listing, Quit, Unknown}
+
+-- a number and one more digit
+decimal-more : (m c : ℕ) → 0 < m → m * 10 + (c - 48) < 10 ^ 64 → is_digit c ≡ true → decimal (m * 10 + (c - 48)) ≡ decimal m ++ c ∷ []
+decimal-more m c some small digit =
+    let low : 48 ≤ c = grind (arith, nat_tests) in
+    let high : c ≤ 57 = grind (arith, nat_tests) in
+    let front : (m * 10 + (c - 48)) / 10 ≡ m = omega (arith, low, high) in
+    let last : 48 + (m * 10 + (c - 48)) % 10 ≡ c = omega (arith, low, high) in
+    decimal_step_wide (m * 10 + (c - 48)) (omega (arith, some)) small ∙ (λ i. decimal (front i) ++ last i ∷ [])
+
+below_more : (k m c : ℕ) → m < 10 ^ k → is_digit c ≡ true → m * 10 + (c - 48) < 10 ^ (k + 1)
+below_more k m c small digit =
+    let high : c ≤ 57 = grind (arith, nat_tests) in
+    let next : 10 ^ (k + 1) ≡ 10 ^ k * 10 = ap (λ (j : ℕ). 10 ^ j) (add-one k) ∙ pow-suc 10 k in
+    omega (arith, next, high)
+
+below_all : (k n : ℕ) → k ≤ 64 → n < 10 ^ k → n < 10 ^ 64
+below_all k n low small = let more : 10 ^ k ≤ 10 ^ 64 = pow-le-pow_right {n = 10} (lit< tt) low in omega (arith, more)
+
+-- what digits behind those of m write
+Writes : List ℕ → ℕ → Type 0
+Writes ds n = (ds ≡ decimal n) × (n < 10 ^ 64)
+
+written_by : (c : ℕ) (ds : List ℕ) (k m n : ℕ) (digit : Bool) → is_digit c ≡ digit → 0 < m → m < 10 ^ k → k + length (c ∷ ds) ≤ 64 → ((more : 0 < m * 10 + (c - 48)) → m * 10 + (c - 48) < 10 ^ (k + 1) → read_digits (m * 10 + (c - 48)) ds ≡ Some n → Writes (decimal (m * 10 + (c - 48)) ++ ds) n) → (if digit then read_digits (m * 10 + (c - 48)) ds else None) ≡ Some n → Writes (decimal m ++ c ∷ ds) n
+unfolding Writes
+written_by c ds k m n true is some small long rest read =
+    let more = below_more k m c small is in
+    let one = decimal-more m c some (below_all (k + 1) (m * 10 + (c - 48)) (omega (arith, long)) more) is in
+    let all = rest (omega (arith, some)) more read in
+    (sym (append_assoc (decimal m) (c ∷ []) ds) ∙ ap (λ (front : List ℕ). front ++ ds) (sym one) ∙ all.0, all.1)
+written_by c ds k m n false is some small long rest read = cc
+
+digits_written : (ds : List ℕ) (k m n : ℕ) → 0 < m → m < 10 ^ k → k + length ds ≤ 64 → read_digits m ds ≡ Some n → Writes (decimal m ++ ds) n
+unfolding Writes
+digits_written [] k m n some small long read =
+    let same : m ≡ n = cc in
+    (append-nil (decimal m) ∙ ap decimal same, subst (λ (j : ℕ). j < 10 ^ 64) same (below_all k m (omega (arith, long)) small))
+digits_written (c ∷ ds) k m n some small long read = written_by c ds k m n (is_digit c) refl some small long (λ more below rest. digits_written ds (k + 1) (m * 10 + (c - 48)) n more below (omega (arith, long)) rest) read
+
+-- the first digit
+first_written : (c : ℕ) (ds : List ℕ) (n : ℕ) (digit zero_first : Bool) → is_digit c ≡ digit → nat_eq c 48 ≡ zero_first → nat_lt 1 (length (c ∷ ds)) && zero_first ≡ false → length (c ∷ ds) ≤ 64 → (if digit then read_digits (0 * 10 + (c - 48)) ds else None) ≡ Some n → Writes (c ∷ ds) n
+unfolding Writes
+first_written c ds n false zero_first is first alone short read = cc
+first_written c [] n true zero_first is first alone short read =
+    let low : 48 ≤ c = grind (arith, nat_tests) in
+    let high : c ≤ 57 = grind (arith, nat_tests) in
+    let value : 0 * 10 + (c - 48) ≡ n = cc in
+    let same : 48 + n ≡ c = omega (arith, value, low) in
+    let small : n < 10 = omega (arith, value, high) in
+    (ap (λ (d : ℕ). d ∷ []) (sym same) ∙ sym (decimal_digit n small), omega (arith, small))
+first_written c (d ∷ ds) n true true is first alone short read = let more : nat_lt 1 (length (c ∷ d ∷ ds)) ≡ true = grind (arith, nat_tests) in cc (more, alone)
+first_written c (d ∷ ds) n true false is first alone short read =
+    let low : 48 ≤ c = grind (arith, nat_tests) in
+    let high : c ≤ 57 = grind (arith, nat_tests) in
+    let other : 48 < c = grind (arith, nat_tests) in
+    let value : 0 * 10 + (c - 48) ≡ c - 48 = omega arith in
+    let same : 48 + (c - 48) ≡ c = omega (arith, low) in
+    let all = digits_written (d ∷ ds) 1 (c - 48) n (omega (arith, other)) (omega (arith, high)) (omega (arith, short)) (ap (λ (m : ℕ). read_digits m (d ∷ ds)) (sym value) ∙ read) in
+    (ap (λ (front : List ℕ). front ++ d ∷ ds) (ap (λ (e : ℕ). e ∷ []) (sym same) ∙ sym (decimal_digit (c - 48) (omega (arith, high)))) ∙ all.0, all.1)
+
+number_by : (c : ℕ) (ds : List ℕ) (n : ℕ) (empty leads : Bool) → leads_with_zero (c ∷ ds) ≡ leads → length (c ∷ ds) ≤ 64 → (if empty then None else (if leads then None else read_digits 0 (c ∷ ds))) ≡ Some n → Writes (c ∷ ds) n
+number_by c ds n true leads is short read = cc
+number_by c ds n false true is short read = cc
+number_by c ds n false false is short read = first_written c ds n (is_digit c) (nat_eq c 48) refl refl is short read
+
+-- what is read as a number is its decimals
+number_written : (ds : List ℕ) (n : ℕ) → length ds ≤ 64 → number_of ds ≡ Some n → Writes ds n
+unfolding number_of
+number_written [] n short read = cc
+number_written (c ∷ ds) n short read = number_by c ds n (nat_eq (length (c ∷ ds)) 0) (leads_with_zero (c ∷ ds)) refl short read
+
+-- decimals: they are read as their number, and no zero stands before others
+record Reads (n : ℕ) (ds : List ℕ) : Type 0 where
+  some : 0 < length ds
+  value : read_digits 0 ds ≡ Some n
+  first : 0 < n → nat_eq (slice_index ds 0) 48 ≡ false
+  alone : n ≡ 0 → length ds ≡ 1
+
+read_digit : (m d : ℕ) → d < 10 → read_digits m ((48 + d) ∷ []) ≡ Some (m * 10 + d)
+read_digit m d small =
+    let digit : is_digit (48 + d) ≡ true = grind (arith, nat_tests) in
+    let value : 48 + d - 48 ≡ d = omega arith in
+    rw digit (ap (λ (e : ℕ). Some (m * 10 + e)) value)
+
+read_by : (digit : Bool) (m k c : ℕ) (ds rest : List ℕ) → ((j : ℕ) → read_digits j ds ≡ Some k → read_digits j (ds ++ rest) ≡ read_digits k rest) → (if digit then read_digits (m * 10 + (c - 48)) ds else None) ≡ Some k → (if digit then read_digits (m * 10 + (c - 48)) (ds ++ rest) else None) ≡ read_digits k rest
+read_by true m k c ds rest go read = go (m * 10 + (c - 48)) read
+read_by false m k c ds rest go read = cc
+
+read_on : (ds rest : List ℕ) (m k : ℕ) → read_digits m ds ≡ Some k → read_digits m (ds ++ rest) ≡ read_digits k rest
+read_on [] rest m k read = let same : m ≡ k = cc in ap (λ (j : ℕ). read_digits j rest) same
+read_on (c ∷ ds) rest m k read = read_by (is_digit c) m k c ds rest (λ j. read_on ds rest j k) read
+
+reads_one : (n : ℕ) → n < 10 → Reads n ((48 + n) ∷ [])
+reads_one n small = record {
+  some = omega arith;
+  value = read_digit 0 n small ∙ (let same : 0 * 10 + n ≡ n = omega arith in ap Some same);
+  first = λ more. grind (arith, nat_tests);
+  alone = λ none. refl;
+}
+
+first-append : (ds rest : List ℕ) → 0 < length ds → slice_index (ds ++ rest) 0 ≡ slice_index ds 0
+first-append [] rest some = absurd (omega (arith, some))
+first-append (d ∷ ds) rest some = refl
+
+reads_more : (n : ℕ) (ds : List ℕ) → 10 ≤ n → Reads (n / 10) ds → Reads n (ds ++ (48 + n % 10) ∷ [])
+reads_more n ds large r =
+    let same : n / 10 * 10 + n % 10 ≡ n = omega arith in
+    record {
+      some = omega (arith, length-append ds ((48 + n % 10) ∷ []));
+      value = read_on ds ((48 + n % 10) ∷ []) 0 (n / 10) r.value ∙ read_digit (n / 10) (n % 10) (omega arith) ∙ ap Some same;
+      first = λ more. ap (λ (d : ℕ). nat_eq d 48) (first-append ds ((48 + n % 10) ∷ []) r.some) ∙ r.first (omega (arith, large));
+      alone = λ none. absurd (omega (arith, none, large));
+    }
+
+decimals_read : (n : ℕ) → n < 10 ^ 64 → Reads n (decimal n)
+decimals_read = decimal_by_steps_wide Reads reads_one reads_more
+
+and_false : (b : Bool) → b && false ≡ false
+and_false true = refl
+and_false false = refl
+
+first_or_alone : (n : ℕ) (ds : List ℕ) → Reads n ds → leads_with_zero ds ≡ false
+first_or_alone zero ds r = let one = r.alone refl in rw one refl
+first_or_alone (suc n) ds r = let other = r.first (omega arith) in rw other (and_false (nat_lt 1 (length ds)))
+
+-- decimals are read as their number
+number_read : (n : ℕ) → n < 10 ^ 64 → number_of (decimal n) ≡ Some n
+unfolding number_of
+number_read n small =
+    let r = decimals_read n small in
+    let some : nat_eq (length (decimal n)) 0 ≡ false = let more = r.some in grind (arith, nat_tests) in
+    let lead = first_or_alone n (decimal n) r in
+    rw (some, lead) r.value
+
+-- the text of a word that begins a line
+begins : (word line : List ℕ) → begins_with word line ≡ true → line ≡ word ++ drop (length word) line
+begins word line same_word = sym (take-append-drop (length word) line) ∙ ap (λ (front : List ℕ). front ++ drop (length word) line) (sym ((bytes_eq-Decides word (take (length word) line)).0 same_word))
+
+is_unknown : (c : Command) → (c ≡ Unknown) ⊎ (c ≢ Unknown)
+is_unknown (SetBreakpoint n) = inr (λ e. cc)
+is_unknown (ClearBreakpoint n) = inr (λ e. cc)
+is_unknown (Forward n) = inr (λ e. cc)
+is_unknown (Back n) = inr (λ e. cc)
+is_unknown (Go k) = inr (λ e. cc)
+is_unknown (Continue n) = inr (λ e. cc)
+is_unknown ReverseContinue = inr (λ e. cc)
+is_unknown Registers = inr (λ e. cc)
+is_unknown Listing = inr (λ e. cc)
+is_unknown Quit = inr (λ e. cc)
+is_unknown Unknown = inl refl
+
+-- a line asks for this command, or for none
+Found : List ℕ → Command → Type 0
+Found line c = (c ≡ Unknown) ⊎ (HasLine c × (line ≡ command_line c))
+
+by_test : (line : List ℕ) (b : Bool) (x y : Command) → (b ≡ true → Found line x) → Found line y → Found line (if b then x else y)
+by_test line true x y first second = first refl
+by_test line false x y first second = second
+
+found_number : (line word : List ℕ) (command : ℕ → Command) → length line ≤ 64 → ((n : ℕ) → n < 10 ^ 64 → line ≡ word ++ decimal n → HasLine (command n) × (line ≡ command_line (command n))) → (o : Option ℕ) → number_of (drop (length word) line) ≡ o → begins_with word line ≡ true → Found line (numbered command o)
+unfolding Found Writes
+found_number line word command short form None read same_word = inl refl
+found_number line word command short form (Some n) read same_word =
+    let w = number_written (drop (length word) line) n (omega (arith, short, length-drop (length word) line)) read in
+    inr (form n w.1 (begins word line same_word ∙ ap (λ (ds : List ℕ). word ++ ds) w.0))
+
+found_word : (line word : List ℕ) (c : Command) → HasLine c → word ≡ command_line c → bytes_eq line word ≡ true → Found line c
+unfolding Found
+found_word line word c has is same_word = inr (has, (bytes_eq-Decides line word).0 same_word ∙ is)
+
+none_found : (line : List ℕ) → Found line Unknown
+unfolding Found
+none_found line = inl refl
+
+move_found : (line : List ℕ) → length line ≤ 64 → Found line (move_form_of line)
+unfolding move_form_of
+move_found line short =
+    by_test line _ _ _ (found_number line (codes "s ") Forward short (λ n small is. (small, is)) _ refl)
+    (by_test line _ _ _ (found_number line (codes "rs ") Back short (λ n small is. (small, is)) _ refl)
+    (by_test line _ _ _ (found_number line (codes "g ") Go short (λ n small is. (small, is)) _ refl)
+    (by_test line _ _ _ (found_number line (codes "c ") Continue short (λ n small is. (small, is)) _ refl)
+    (none_found line))))
+
+numbered_found : (line : List ℕ) → length line ≤ 64 → Found line (numbered_form_of line)
+unfolding numbered_form_of
+numbered_found line short =
+    by_test line _ _ _ (found_number line (codes "b ") SetBreakpoint short (λ n small is. (small, is)) _ refl)
+    (by_test line _ _ _ (found_number line (codes "d ") ClearBreakpoint short (λ n small is. (small, is)) _ refl)
+    (move_found line short))
+
+form_found : (line : List ℕ) → length line ≤ 64 → Found line (form_of line)
+unfolding form_of
+form_found line short =
+    by_test line _ _ _ (found_word line (codes "q") Quit tt refl)
+    (by_test line _ _ _ (found_word line (codes "r") Registers tt refl)
+    (by_test line _ _ _ (found_word line (codes "rc") ReverseContinue tt refl)
+    (by_test line _ _ _ (found_word line (codes "l") Listing tt refl)
+    (numbered_found line short))))
+
+short_by : (line : List ℕ) (b : Bool) → nat_le (length line) 64 ≡ b → (if b then form_of line else Unknown) ≢ Unknown → Asks line (if b then form_of line else Unknown)
+unfolding Found
+short_by line true is known =
+    let short : length line ≤ 64 = grind (arith, nat_tests) in
+    elim (form_found line short) [ inl none ↦ absurd (known none) | inr found ↦ record { has_line = found.0; is_line = found.1; short = short } ]
+short_by line false is known = absurd (known refl)
+
+-- what a line is read as, it asks for
+asks_for : (line : List ℕ) → command_of line ≢ Unknown → Asks line (command_of line)
+unfolding command_of
+asks_for line known = short_by line (nat_le (length line) 64) refl known
+
+-- the line of a command is read as it
+reads_form : (c : Command) → HasLine c → form_of (command_line c) ≡ c
+unfolding form_of numbered_form_of move_form_of
+reads_form (SetBreakpoint n) small = ap (numbered SetBreakpoint) (number_read n small)
+reads_form (ClearBreakpoint n) small = ap (numbered ClearBreakpoint) (number_read n small)
+reads_form (Forward n) small = ap (numbered Forward) (number_read n small)
+reads_form (Back n) small = ap (numbered Back) (number_read n small)
+reads_form (Go k) small = ap (numbered Go) (number_read k small)
+reads_form (Continue n) small = ap (numbered Continue) (number_read n small)
+reads_form ReverseContinue has = refl
+reads_form Registers has = refl
+reads_form Listing has = refl
+reads_form Quit has = refl
+reads_form Unknown has = absurd has
+
+reads_asked : (line : List ℕ) (c : Command) → Asks line c → command_of line ≡ c
+unfolding command_of
+reads_asked line c a =
+    let test : nat_le (length line) 64 ≡ true = let short = a.short in grind (arith, nat_tests) in
+    rw test (ap form_of a.is_line ∙ reads_form c a.has_line)
+
+known_of : (line : List ℕ) (c : Command) → Asks line c → c ≢ Unknown
+known_of line c a is = subst HasLine is a.has_line
+
+pub commands_have_lines : CommandsHaveLines
+commands_have_lines = record {
+  known = λ line c known. (
+    λ read. subst (Asks line) read (asks_for line (λ none. known (sym read ∙ none))),
+    reads_asked line c,
+  );
+  unknown = λ line. (
+    λ none c a. known_of line c a (sym (reads_asked line c a) ∙ none),
+    λ none. elim (is_unknown (command_of line)) [ inl unknown ↦ unknown | inr known ↦ absurd (none (command_of line) (asks_for line known)) ],
+  );
+}

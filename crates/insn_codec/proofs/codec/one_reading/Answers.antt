@@ -1,5 +1,0 @@
-use Rattle.insn_codec.proofs.Spelled.{one_reading_of}
-use Rattle.insn_codec.proofs.codec.one_reading.Goals as goal
-
-pub returns : goal.returns
-returns c = one_reading_of

@@ -1,5 +1,0 @@
-use Rattle.insn_codec.proofs.Spelled.{spelled_is}
-use Rattle.insn_codec.proofs.codec.spelled_is_spelling.Goals as goal
-
-pub returns : goal.returns
-returns c = spelled_is

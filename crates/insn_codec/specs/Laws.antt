@@ -1,0 +1,35 @@
+-- Laws of instructions and statements.
+use Rattle.std.specs.Prelude.{◌≡◌, ◌≢◌, ℕ, ◌*◌, ◌%◌, ◌<◌, ◌≤◌, List, [], ◌++◌, length, All}
+use Rattle.insn_codec.specs.Spelling.{Begins, IsInsn, slot_count, spelling}
+use Rattle.insn_codec.specs.Statements.{IsStatement, after_statement, statement_bytes, statement_of, statement_slots, statement_text}
+use Rattle.insn_codec.specs.declared.insn.Insn.{Insn as Instruction}
+use Rattle.insn_codec.specs.declared.statement.Statement.{Statement}
+use Rattle.insn_codec.specs.declared.statement.Statement.TheVariants.{Insn}
+
+-- no bytes begin with the spellings of two instructions
+abbrev pub OneSpelling : Type 0
+OneSpelling = (i j : Instruction) (text : List ℕ) → IsInsn i → IsInsn j → Begins (spelling i) text → Begins (spelling j) text → i ≡ j
+
+-- so many bytes are so many slots of eight, at least one
+pub record FillsSlots (bytes : List ℕ) (slots : ℕ) : Type 0 where
+  pub length_is : length bytes ≡ 8 * slots
+  pub some : 1 ≤ slots
+
+-- a spelling, and what a statement stands for, fills its slots
+pub record SlotsAreFilled : Type 0 where
+  pub by_insn : (i : Instruction) → FillsSlots (spelling i) (slot_count i)
+  pub by_statement : (x : Statement) → FillsSlots (statement_bytes x) (statement_slots x)
+
+-- the statement at the front of code stands there with its bytes, and where the code begins with an instruction's spelling it is that instruction
+pub record StandsFirst (code : List ℕ) : Type 0 where
+  pub in_range : IsStatement (statement_of code)
+  pub bytes : code ≡ statement_bytes (statement_of code) ++ after_statement code
+  pub chosen : (i : Instruction) → IsInsn i → Begins (spelling i) code → statement_of code ≡ Insn i
+
+-- so it is with all code of whole slots, if there is a first one
+abbrev pub StatementIsSpelled : Type 0
+StatementIsSpelled = (code : List ℕ) → All (λ b. b < 256) code → length code % 8 ≡ 0 → code ≢ [] → StandsFirst code
+
+-- a statement's line is one line: none of its bytes is a line feed
+abbrev pub NoLineFeed : Type 0
+NoLineFeed = (x : Statement) → IsStatement x → All (λ b. b ≢ 10) (statement_text x)

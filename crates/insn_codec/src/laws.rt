@@ -1,0 +1,36 @@
+//! Laws of instructions and statements, each the clause of a function that does nothing.
+ghost use Rattle.insn_codec.specs.Laws.{NoLineFeed, OneSpelling, SlotsAreFilled, StatementIsSpelled};
+ghost use Rattle.insn_codec.specs.Rows.{RowsStand};
+ghost use Rattle.insn_codec.specs.Spelled.{SpelledIsSpelling};
+
+/// No bytes begin with the spellings of two instructions, so each has one, and none begins another's.
+pub fn one_reading()
+    ensures { OneSpelling }
+{}
+
+/// Reading by the fields finds what the spellings say, at any bytes.
+pub fn spelled_is_spelling()
+    ensures { SpelledIsSpelling }
+{}
+
+/// Rows of the instruction table, and slots that spell nothing, byte by byte.
+pub fn rows_stand()
+    ensures { RowsStand }
+{}
+
+/// The bytes of an instruction, and of a statement, are eight for each of its slots, of which it
+/// has at least one.
+pub fn slots_are_filled()
+    ensures { SlotsAreFilled }
+{}
+
+/// Code of whole slots begins with the bytes of its first statement: of the instruction that
+/// its slots spell, or of its first slot.
+pub fn statement_is_spelled()
+    ensures { StatementIsSpelled }
+{}
+
+/// No byte of a statement's line is a line feed.
+pub fn no_line_feed()
+    ensures { NoLineFeed }
+{}

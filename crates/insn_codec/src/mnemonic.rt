@@ -1,0 +1,74 @@
+ghost use Rattle.std.specs.Prelude.{Some};
+ghost use Rattle.insn_codec.specs.Mnemonics.{mnemonic_text};
+
+use crate::alu_op::AluOp;
+use crate::byte_order::ByteOrder;
+use crate::comparison::Comparison;
+use crate::extension::Extension;
+use crate::signed_size::SignedSize;
+use crate::size::Size;
+use crate::swap_width::SwapWidth;
+use crate::width::Width;
+use std::fmt;
+
+/// The word that a line begins with: what it does, and at which width (RFC 9669, sections 4 and 5).
+#[derive(Clone, Copy, Debug, PartialEq, Eq)]
+pub enum Mnemonic {
+    /// Arithmetic, as `add64`.
+    Alu(AluOp, Width),
+    /// The negative of a register, as `neg64`.
+    Neg(Width),
+    /// A move that extends a signed number, as `movsx8to32`.
+    SignExtend(Extension),
+    /// The bytes of a register in another order, as `be16`.
+    ByteSwap(ByteOrder, SwapWidth),
+    /// A jump with an offset of 16 bits, `ja`.
+    Ja,
+    /// A jump with an offset of 32 bits, `ja32`.
+    JaLong,
+    /// A jump where the comparison holds, as `jeq32`.
+    Branch(Comparison, Width),
+    /// A call of a helper by its number, `call`.
+    Call,
+    /// A call of the program's own function, `call_local`.
+    CallLocal,
+    /// The end of the program or of its function, `exit`.
+    Exit,
+    /// A load of an unsigned number, as `ldxb`.
+    Load(Size),
+    /// A load of a signed number, as `ldxsb`.
+    LoadSigned(SignedSize),
+    /// A store of a number, as `stb`.
+    StoreImm(Size),
+    /// A store of a register, as `stxb`.
+    Store(Size),
+    /// A load of 64 bits that the program holds, `lddw`.
+    LoadWide,
+    /// A slot by its bytes, `.slot`.
+    Slot,
+}
+
+impl fmt::Display for Mnemonic {
+    ghost output = { λ x. Some (mnemonic_text x) };
+
+    fn fmt<W: fmt::Write>(&self, f: &mut fmt::Formatter<W>) -> fmt::Result {
+        match *self {
+            Mnemonic::Alu(op, width) => write!(f, "{op}{width}"),
+            Mnemonic::Neg(width) => write!(f, "neg{width}"),
+            Mnemonic::SignExtend(extension) => write!(f, "movsx{extension}"),
+            Mnemonic::ByteSwap(order, width) => write!(f, "{order}{width}"),
+            Mnemonic::Ja => write!(f, "ja"),
+            Mnemonic::JaLong => write!(f, "ja32"),
+            Mnemonic::Branch(comparison, width) => write!(f, "{comparison}{width}"),
+            Mnemonic::Call => write!(f, "call"),
+            Mnemonic::CallLocal => write!(f, "call_local"),
+            Mnemonic::Exit => write!(f, "exit"),
+            Mnemonic::Load(size) => write!(f, "ldx{size}"),
+            Mnemonic::LoadSigned(size) => write!(f, "ldxs{size}"),
+            Mnemonic::StoreImm(size) => write!(f, "st{size}"),
+            Mnemonic::Store(size) => write!(f, "stx{size}"),
+            Mnemonic::LoadWide => write!(f, "lddw"),
+            Mnemonic::Slot => write!(f, ".slot"),
+        }
+    }
+}

@@ -1,0 +1,13 @@
+use Rattle.std.proofs.Common.{◌≡◌, ◌-◌, ◌≤◌, take, length}
+use Rattle.debugger.specs.Streams.{AddsBytes}
+use Rattle.review_runner.proofs.writing.write_all.Given as goal
+
+abbrev pub invariant-loop-at : goal.invariant-loop-at
+invariant-loop-at g l = record {
+  within : l.at ≤ length l.bytes;
+  written : AddsBytes (g.W.Sink.taken l.fn.w) (g.W.Sink.taken l.w) (take l.at l.bytes);
+  same : g.W.Sink.failed l.w ≡ g.W.Sink.failed l.fn.w;
+}
+
+abbrev pub decreases-loop-at : goal.decreases-loop-at
+decreases-loop-at g l = length l.bytes - l.at

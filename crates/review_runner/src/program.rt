@@ -1,0 +1,122 @@
+//! The program: from its words to its exit code.
+ghost use Rattle.std.specs.Prelude.{◌≡◌, false, Err, IfOk, map, string_bytes};
+ghost use Rattle.std.specs.Process.{exit_status};
+ghost use Rattle.review_runner.specs.Order.{is_session, order_view, Ordered};
+ghost use Rattle.review_runner.specs.Program.{given_of, system, AnswersOrder, Does, DoesTask, Ends, Says};
+ghost use Rattle.debugger.specs.Streams.{stream};
+
+use crate::debugging::debug;
+use crate::files::Files;
+use crate::order::Order;
+use crate::order_error::OrderError;
+use crate::performing::outcome;
+use crate::reader::order;
+use crate::refusal::Refusal;
+use crate::refusal_line::refusal_line;
+use crate::writing::write_all;
+use debugger::{Failed, Sink, Source};
+use std::alloc::{AllocError, Global};
+use std::process::ExitCode;
+
+/// Does what the words ask for, the program's own name first, and answers the code that the program
+/// ends with. A refusal is one line of standard error; if that cannot be written, the code is the
+/// same. `words` is `U1` where the system's words are no texts, and `Memory` where there is no
+/// memory for them.
+pub fn exit_code<F: Files, R: Source, W: Sink, E: Sink>(
+    alloc: Global,
+    words: Result<Vec<String>, OrderError>,
+    files: &mut F,
+    input: &mut R,
+    output: &mut W,
+    errors: &mut E,
+) -> ExitCode
+    ensures { Ends (given_of words) (system (F.known files.old) (stream (R.left input.old) (R.failed input.old)) (stream (W.taken output.old) (W.failed output.old))) (system (F.known files.new) (stream (R.left input.new) (R.failed input.new)) (stream (W.taken output.new) (W.failed output.new))) (stream (E.taken errors.old) (E.failed errors.old)) (stream (E.taken errors.new) (E.failed errors.new)) (exit_status result) }
+{
+    match ending(alloc, words, files, input, output) {
+        Ok(status) => ExitCode::from(status),
+        Err(refusal) => {
+            say(alloc, refusal, errors);
+            ExitCode::from(refusal.status())
+        }
+    }
+}
+
+/// Writes the refusal's line. There is nowhere to tell of a write that fails.
+fn say<E: Sink>(alloc: Global, refusal: Refusal, errors: &mut E)
+    ensures { Says (stream (E.taken errors.old) (E.failed errors.old)) (stream (E.taken errors.new) (E.failed errors.new)) (Err refusal) }
+{
+    let line = refusal_line(alloc, refusal);
+    let _ = write_all(errors, line.as_slice());
+}
+
+/// Does what the words ask for, and answers the status.
+fn ending<F: Files, R: Source, W: Sink>(
+    alloc: Global,
+    words: Result<Vec<String>, OrderError>,
+    files: &mut F,
+    input: &mut R,
+    output: &mut W,
+) -> Result<u8, Refusal>
+    ensures { Does (given_of words) (system (F.known files.old) (stream (R.left input.old) (R.failed input.old)) (stream (W.taken output.old) (W.failed output.old))) (system (F.known files.new) (stream (R.left input.new) (R.failed input.new)) (stream (W.taken output.new) (W.failed output.new))) result }
+{
+    let words = words?;
+    let asked = asked_order(alloc, &words)?;
+    done(alloc, &asked, files, input, output)
+}
+
+/// Does the order, and answers the status.
+fn done<F: Files, R: Source, W: Sink>(
+    alloc: Global,
+    order: &Order,
+    files: &mut F,
+    input: &mut R,
+    output: &mut W,
+) -> Result<u8, Refusal>
+    ensures { DoesTask (system (F.known files.old) (stream (R.left input.old) (R.failed input.old)) (stream (W.taken output.old) (W.failed output.old))) (system (F.known files.new) (stream (R.left input.new) (R.failed input.new)) (stream (W.taken output.new) (W.failed output.new))) (order_view order.now) result }
+{
+    match order {
+        Order::RunImage { .. } | Order::Assemble { .. } | Order::List { .. } => {
+            answer(alloc, order, files, output)
+        }
+        Order::Debug { image } => {
+            debug(alloc, image.as_str(), files, input, output)?;
+            Ok(0)
+        }
+    }
+}
+
+/// Does an order other than a session, writes what it leaves, and answers the status.
+fn answer<F: Files, W: Sink>(
+    alloc: Global,
+    order: &Order,
+    files: &mut F,
+    output: &mut W,
+) -> Result<u8, Refusal>
+    requires { is_session (order_view order.now) ≡ false }
+    ensures { AnswersOrder (F.known files.old) (F.known files.new) (order_view order.now) (stream (W.taken output.old) (W.failed output.old)) (stream (W.taken output.new) (W.failed output.new)) result }
+{
+    let answer = outcome(alloc, order, files)?;
+    match write_all(output, answer.out.as_slice()) {
+        Ok(()) => Ok(answer.status),
+        Err(Failed) => Err(Refusal::File),
+    }
+}
+
+/// The order that the words give.
+fn asked_order(alloc: Global, words: &[String]) -> Result<Order, OrderError>
+    ensures { Ordered (map string_bytes words.now) result }
+{
+    let texts = texts_of(alloc, words)?;
+    order(alloc, texts.as_slice())
+}
+
+/// The texts of the words.
+fn texts_of<'a>(alloc: Global, words: &'a [String]) -> Result<Vec<&'a str>, AllocError>
+    ensures { IfOk result (λ texts. map (λ s. s.now) texts.items ≡ map string_bytes words.entry.now) }
+{
+    let mut texts = Vec::new(alloc);
+    for word in words {
+        texts.push(word.as_str())?;
+    }
+    Ok(texts)
+}
