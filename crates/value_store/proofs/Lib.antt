@@ -1,0 +1,11 @@
+pub mod Equal
+pub mod Measures
+pub mod Orders
+pub mod Pairs
+pub mod Parts
+pub mod Places
+pub mod Documents
+pub mod Starting
+pub mod Tables
+pub mod Texts
+pub mod Trees

@@ -1,0 +1,7 @@
+use Rattle.std.proofs.Common.{◌≡◌}
+use Rattle.serde_json.specs.View.{members_view}
+use Rattle.value_store.specs.Plain.{nth_member}
+use Rattle.value_store.proofs.members.member_at.Given as goal
+
+abbrev pub invariant-loop-key : goal.invariant-loop-key
+invariant-loop-key l = nth_member l.place (members_view l.members.entries) ≡ nth_member l.left (members_view l.key-iterator)

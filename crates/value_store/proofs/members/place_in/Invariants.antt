@@ -1,0 +1,12 @@
+use Rattle.std.proofs.Common.{◌≡◌, ◌+◌, length}
+use Rattle.std.specs.Prelude.{option_map}
+use Rattle.serde_json.specs.View.{members_view}
+use Rattle.value_store.specs.Lookup.{place_of_key}
+use Rattle.value_store.specs.Plain.{plain_entries}
+use Rattle.value_store.proofs.members.place_in.Given as goal
+
+abbrev pub invariant-loop-own : goal.invariant-loop-own
+invariant-loop-own l = record {
+  counted : l.place + length l.own-iterator ≡ length l.members.entries;
+  left_over : place_of_key l.key (plain_entries (members_view l.members.entries)) ≡ option_map (λ i. l.place + i) (place_of_key l.key (plain_entries (members_view l.own-iterator)));
+}

@@ -1,0 +1,18 @@
+use Rattle.std.proofs.Common.{sym, ap, ◌∙◌}
+use Rattle.serde_json.specs.View.{view}
+use Rattle.value_store.proofs.Trees.{join_lists}
+use Rattle.value_store.proofs.tree.Tree.join.Goals as goal
+
+pub invariant_of-result-in-Array-2 : goal.invariant_of-result-in-Array-2
+invariant_of-result-in-Array-2 c =
+    let first = ap view (sym c.in-Array.is) ∙ c.in_ok-text.ensures.cases in
+    let second = ap view (sym c.in-Array-2.is) ∙ c.in_ok-more-in-Array.ensures.cases in
+    let gives = join_lists _ _ _ _ _ _ _ first second c.in_ok-append-in-Array-2.ensures.items c.args.self.now.whole c.args.other.now.whole c.args.self.now.deep c.args.other.now.deep in
+    record { whole = gives.whole; deep = c.max-depth.ensures ∙ gives.deep }
+
+pub returns-in_ok-append-in-Array-2-clause-value : goal.returns-in_ok-append-in-Array-2-clause-value
+returns-in_ok-append-in-Array-2-clause-value c =
+    let first = ap view (sym c.in-Array.is) ∙ c.in_ok-text.ensures.cases in
+    let second = ap view (sym c.in-Array-2.is) ∙ c.in_ok-more-in-Array.ensures.cases in
+    let gives = join_lists _ _ _ _ _ _ _ first second c.in_ok-append-in-Array-2.ensures.items c.args.self.now.whole c.args.other.now.whole c.args.self.now.deep c.args.other.now.deep in
+    gives.value

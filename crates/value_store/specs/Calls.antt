@@ -1,0 +1,95 @@
+-- What the calls of a store answer, from what stands at their references: nothing where a reference
+-- is none, or what stands there is of another kind.
+use Rattle.std.specs.Prelude.{◌≡◌, ℕ, Bool, List, [], ◌++◌, Option, Some, None, Result, Ok, Err, slice_get, option_map, option_and_then}
+use Rattle.value_store.specs.Value.{Value, null, boolean, int, text, list, map, Entries, ValueOrError, error, value, list_of, keys_of, values_of, items_push, items_join}
+use Rattle.std.specs.declared.alloc.AllocError.{AllocError}
+use Rattle.value_store.specs.Equality.{equal}
+use Rattle.value_store.specs.Order.{less}
+use Rattle.value_store.specs.Lookup.{text_part, place_of_key, member, inserted}
+use Rattle.value_store.specs.Placing.{place, placed}
+
+-- a value is placed, and the answer is its reference; or the host had no memory, and nothing is changed
+abbrev pub Places : List ValueOrError → Value → Result ℕ AllocError → List ValueOrError → Type 0
+Places old v (Ok h) new = (h ≡ place old v) × (new ≡ placed old v)
+Places old v (Err e) new = new ≡ old
+
+abbrev pub value_part : ValueOrError → Option Value
+value_part error = None
+value_part (value v) = Some v
+
+abbrev pub entries_part : Value → Option Entries
+entries_part (map es) = Some es
+entries_part null = None
+entries_part (boolean b) = None
+entries_part (int n) = None
+entries_part (text s) = None
+entries_part (list is) = None
+
+-- the value, and the text, at a reference
+abbrev pub value_at : Option ValueOrError → Option Value
+value_at o = option_and_then value_part o
+
+abbrev pub text_at : Option ValueOrError → Option (List ℕ)
+text_at o = option_and_then text_part (value_at o)
+
+abbrev pub entries_at : Option ValueOrError → Option Entries
+entries_at o = option_and_then entries_part (value_at o)
+
+abbrev pub on_values : {A : Type 0} → (Value → Value → Option A) → Option Value → Option Value → Option A
+on_values f (Some a) (Some b) = f a b
+on_values f None b = None
+on_values f (Some a) None = None
+
+-- whether two values are equal, whether one is below another, and whether one is among another's
+abbrev pub equal_at : Option ValueOrError → Option ValueOrError → Option Bool
+equal_at a b = on_values (λ v w. Some (equal v w)) (value_at a) (value_at b)
+
+abbrev pub less_at : Option ValueOrError → Option ValueOrError → Option Bool
+less_at a b = on_values less (value_at a) (value_at b)
+
+abbrev pub member_at : Option ValueOrError → Option ValueOrError → Option Bool
+member_at x c = on_values member (value_at x) (value_at c)
+
+-- whether a map has a key, and at which place
+abbrev pub find_at : Option ValueOrError → List ℕ → Option (Option ℕ)
+find_at m key = option_map (place_of_key key) (entries_at m)
+
+abbrev pub parts_of : Value → List Value
+parts_of (list is) = list_of is
+parts_of (map es) = values_of es
+parts_of null = []
+parts_of (boolean b) = []
+parts_of (int n) = []
+parts_of (text s) = []
+
+-- the i-th item of a list, or value of a map
+abbrev pub part_at : Option ValueOrError → ℕ → Option Value
+part_at h i = option_and_then (λ v. slice_get (parts_of v) i) (value_at h)
+
+-- the i-th key of a map
+abbrev pub key_at : Option ValueOrError → ℕ → Option Value
+key_at h i = option_map text (option_and_then (λ es. slice_get (keys_of es) i) (entries_at h))
+
+abbrev pub join_of : Value → Value → Option Value
+join_of (text s) (text t) = Some (text (s ++ t))
+join_of (list is) (list js) = Some (list (items_join is js))
+join_of _ _ = None
+
+-- two texts or two lists, one behind the other
+abbrev pub joined : Option ValueOrError → Option ValueOrError → Option Value
+joined a b = on_values join_of (value_at a) (value_at b)
+
+abbrev pub push_of : Value → Value → Option Value
+push_of (list is) x = Some (list (items_push is x))
+push_of _ x = None
+
+-- a list with one more item
+abbrev pub pushed : Option ValueOrError → Option ValueOrError → Option Value
+pushed l x = on_values push_of (value_at l) (value_at x)
+
+abbrev pub put_of : Entries → List ℕ → Value → Option Value
+put_of es key x = option_map map (inserted key x es)
+
+-- a map with one more entry, whose key it did not have
+abbrev pub put_in : Option ValueOrError → Option ValueOrError → Option ValueOrError → Option Value
+put_in m k x = option_and_then (λ es. option_and_then (λ key. option_and_then (put_of es key) (value_at x)) (text_at k)) (entries_at m)

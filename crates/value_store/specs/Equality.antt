@@ -1,0 +1,33 @@
+-- Deep equality (cel-spec, Equality): values of different kinds are unequal.
+use Rattle.std.specs.Prelude.{Bool, true, false, ◌&&◌, ℤ, pos, negsuc, nat_eq, bytes_eq}
+use Rattle.value_store.specs.Value.{Value, null, boolean, int, text, list, map, Items, no_items, item, Entries, no_entries, entry}
+
+abbrev pub truth_equal : Bool → Bool → Bool
+truth_equal true b = b
+truth_equal false true = false
+truth_equal false false = true
+
+abbrev pub int_equal : ℤ → ℤ → Bool
+int_equal (pos a) (pos b) = nat_eq a b
+int_equal (negsuc a) (negsuc b) = nat_eq a b
+int_equal _ _ = false
+
+abbrev mutual
+  pub equal : Value → Value → Bool
+  equal null null = true
+  equal (boolean a) (boolean b) = truth_equal a b
+  equal (int a) (int b) = int_equal a b
+  equal (text a) (text b) = bytes_eq a b
+  equal (list xs) (list ys) = items_equal xs ys
+  equal (map xs) (map ys) = entries_equal xs ys
+  equal _ _ = false
+
+  pub items_equal : Items → Items → Bool
+  items_equal no_items no_items = true
+  items_equal (item a xs) (item b ys) = equal a b && items_equal xs ys
+  items_equal _ _ = false
+
+  pub entries_equal : Entries → Entries → Bool
+  entries_equal no_entries no_entries = true
+  entries_equal (entry k a xs) (entry l b ys) = bytes_eq k l && (equal a b && entries_equal xs ys)
+  entries_equal _ _ = false

@@ -1,0 +1,37 @@
+-- The JSON text of a value (RFC 8259): compact, the keys in byte order, with the escapes of
+-- `serde_json`.
+use Rattle.std.specs.Prelude.{ℕ, List, [], ◌++◌, Bool, true, false, if◌then◌else◌, codes}
+use Rattle.std.specs.Fmt.{signed_decimal}
+use Rattle.json.specs.Print.{quoted}
+use Rattle.value_store.specs.Value.{Value, null, boolean, int, text, list, map, Items, no_items, item, Entries, no_entries, entry, ValueOrError, error, value}
+
+abbrev pub truth_text : Bool → List ℕ
+truth_text true = codes "true"
+truth_text false = codes "false"
+
+-- a comma, where something stands before
+abbrev pub comma_after : Bool → List ℕ
+comma_after later = if later then codes "," else []
+
+abbrev mutual
+  pub json_text : Value → List ℕ
+  json_text null = codes "null"
+  json_text (boolean b) = truth_text b
+  json_text (int n) = signed_decimal n
+  json_text (text s) = quoted s
+  json_text (list is) = codes "[" ++ items_text false is
+  json_text (map es) = codes "{" ++ entries_text false es
+
+  -- the items and the closing bracket
+  pub items_text : Bool → Items → List ℕ
+  items_text later no_items = codes "]"
+  items_text later (item v is) = comma_after later ++ (json_text v ++ items_text true is)
+
+  pub entries_text : Bool → Entries → List ℕ
+  entries_text later no_entries = codes "}"
+  entries_text later (entry k v es) = comma_after later ++ (quoted k ++ (codes ":" ++ (json_text v ++ entries_text true es)))
+
+-- what stands at a reference, as text
+abbrev pub shown_text : ValueOrError → List ℕ
+shown_text error = codes "error"
+shown_text (value v) = json_text v

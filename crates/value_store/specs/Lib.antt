@@ -1,0 +1,15 @@
+pub mod Value
+pub mod Codes
+pub mod Size
+pub mod Equality
+pub mod Order
+pub mod Lookup
+pub mod Placing
+pub mod Calls
+pub mod Seen
+pub mod Json
+pub mod Roots
+pub mod Plain
+pub mod Nodes
+pub mod Laws
+pub mod Rows

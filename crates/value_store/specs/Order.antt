@@ -1,0 +1,34 @@
+-- The order of two ints, of two texts by code points, and of two bools, false below true (cel-spec, Ordering).
+use Rattle.std.specs.Prelude.{ℕ, ℤ, int_lt, Bool, not, ◌&&◌, List, Option, Some, None}
+use Rattle.std.specs.Ordering.{nat_cmp, is_lt}
+use Rattle.std.specs.Cmp.Lexicographic.{slice_cmp}
+use Rattle.value_store.specs.Value.{Value, null, boolean, int, text, list, map}
+
+-- a value as an order sees it
+pub data Ordered : Type 0 where
+  Truth : Bool → Ordered
+  Number : ℤ → Ordered
+  Text : List ℕ → Ordered
+  Unordered : Ordered
+
+abbrev pub ordered : Value → Ordered
+ordered (boolean b) = Truth b
+ordered (int n) = Number n
+ordered (text s) = Text s
+ordered null = Unordered
+ordered (list is) = Unordered
+ordered (map es) = Unordered
+
+-- in UTF-8 the order of bytes is the order of code points
+abbrev pub text_less : List ℕ → List ℕ → Bool
+text_less a b = is_lt (slice_cmp nat_cmp a b)
+
+-- whether a is below b; nothing where the two have no order
+abbrev pub parts_less : Ordered → Ordered → Option Bool
+parts_less (Truth a) (Truth b) = Some (not a && b)
+parts_less (Number a) (Number b) = Some (int_lt a b)
+parts_less (Text a) (Text b) = Some (text_less a b)
+parts_less _ _ = None
+
+abbrev pub less : Value → Value → Option Bool
+less a b = parts_less (ordered a) (ordered b)

@@ -1,0 +1,106 @@
+-- The values of a review's five roots: object, oldObject, params, namespaceObject and request.
+use Rattle.std.specs.Prelude.{◌≡◌, ℕ, suc, ◌+◌, ◌||◌, Bool, true, false, List, [], ◌∷◌, ◌++◌, map, Option, Some, None, Result, Ok, Err, IsOk, if◌then◌else◌, nat_le, ◌^◌, option_map, option_and_then}
+use Rattle.serde_json.specs.Data as json
+use Rattle.serde_json.specs.Find.{as_i64}
+use Rattle.value_store.specs.Value as kind
+use Rattle.value_store.specs.Value.{Value, ValueOrError, value}
+use Rattle.value_store.specs.Size.{size_of}
+use Rattle.value_store.specs.Placing.{Contents, first_values, charge_limit}
+use Rattle.value_store.specs.declared.table_error.TableError.{TableError}
+use Rattle.value_store.specs.declared.table_error.TableError.TheVariants.{V1, V2, V3, Memory}
+
+-- the value of a JSON document, whose objects have their keys in byte order and each once; none
+-- where a number is no integer of 64 bits signed
+abbrev mutual
+  pub value_of : json.Data → Option Value
+  value_of json.null = Some kind.null
+  value_of (json.boolean b) = Some (kind.boolean b)
+  value_of (json.number n) = option_map kind.int (as_i64 n)
+  value_of (json.string s) = Some (kind.text s)
+  value_of (json.array ds) = option_map kind.list (items_value ds)
+  value_of (json.object ms) = option_map kind.map (members_value ms)
+
+  pub items_value : json.Items → Option kind.Items
+  items_value json.no_items = Some kind.no_items
+  items_value (json.item d ds) = option_and_then (λ v. option_map (kind.item v) (items_value ds)) (value_of d)
+
+  pub members_value : json.Members → Option kind.Entries
+  members_value json.no_members = Some kind.no_entries
+  members_value (json.member k d ms) = option_and_then (λ v. option_map (kind.entry k v) (members_value ms)) (value_of d)
+
+-- a root is an object or null
+abbrev pub is_root : json.Data → Bool
+is_root json.null = true
+is_root (json.boolean b) = false
+is_root (json.number n) = false
+is_root (json.string s) = false
+is_root (json.array ds) = false
+is_root (json.object ms) = true
+
+abbrev pub root_value : ℕ → Option Value → Result Value TableError
+root_value place (Some v) = Ok v
+root_value place None = Err (V2 place)
+
+-- the value of the root at a reference, or its refusal
+abbrev pub root_of : ℕ → json.Data → Result Value TableError
+root_of place d = if is_root d then root_value place (value_of d) else Err (V1 place)
+
+abbrev pub before : Value → Result (List Value) TableError → Result (List Value) TableError
+before v (Ok vs) = Ok (v ∷ vs)
+before v (Err e) = Err e
+
+abbrev pub root_then : Result Value TableError → Result (List Value) TableError → Result (List Value) TableError
+root_then (Ok v) rest = before v rest
+root_then (Err e) rest = Err e
+
+-- the values of the roots from a reference on, or the refusal of the first that has one
+abbrev pub roots_of : ℕ → List json.Data → Result (List Value) TableError
+roots_of place [] = Ok []
+roots_of place (d ∷ ds) = root_then (root_of place d) (roots_of (suc place) ds)
+
+abbrev pub sizes : List Value → ℕ
+sizes [] = 0
+sizes (v ∷ vs) = size_of v + sizes vs
+
+abbrev pub within_limit : List Value → Result Contents TableError
+within_limit vs = if nat_le (sizes vs) charge_limit then Ok (record { values = first_values ++ map value vs; charge = sizes vs }) else Err V3
+
+abbrev pub contents_of : Result (List Value) TableError → Result Contents TableError
+contents_of (Ok vs) = within_limit vs
+contents_of (Err e) = Err e
+
+-- the contents at the start, charged with the sizes of the roots, or the first refusal
+abbrev pub start_contents : List json.Data → Result Contents TableError
+start_contents roots = contents_of (roots_of 4 roots)
+
+-- a number that is no integer from -2^63 to 2^63 - 1; `-0` is a float to `serde_json`
+abbrev pub is_other : json.Num → Bool
+is_other (json.unsigned n) = nat_le (2 ^ 63) n
+is_other (json.negative z) = false
+is_other (json.float x) = true
+
+abbrev mutual
+  pub has_other : json.Data → Bool
+  has_other json.null = false
+  has_other (json.boolean b) = false
+  has_other (json.number n) = is_other n
+  has_other (json.string s) = false
+  has_other (json.array ds) = items_have_other ds
+  has_other (json.object ms) = members_have_other ms
+
+  pub items_have_other : json.Items → Bool
+  items_have_other json.no_items = false
+  items_have_other (json.item d ds) = has_other d || items_have_other ds
+
+  pub members_have_other : json.Members → Bool
+  members_have_other json.no_members = false
+  members_have_other (json.member k d ms) = has_other d || members_have_other ms
+
+-- the answer of a call that makes a store of five roots: the store, or the refusal that is due, or
+-- that the host had no memory for a store that was due
+abbrev pub Starts : {S : Type 0} → (S → Contents) → Result Contents TableError → Result S TableError → Type 0
+Starts contents due (Ok store) = due ≡ Ok (contents store)
+Starts contents due (Err (V1 place)) = due ≡ Err (V1 place)
+Starts contents due (Err (V2 place)) = due ≡ Err (V2 place)
+Starts contents due (Err V3) = due ≡ Err V3
+Starts contents due (Err Memory) = IsOk due

@@ -1,0 +1,139 @@
+-- Values worked by hand.
+use Rattle.std.specs.Prelude.{◌≡◌, ℕ, ◌++◌, pos, negsuc, List, [], ◌∷◌, true, false, Some, None, Ok, Err, Float, codes, map}
+use Rattle.serde_json.specs.Data as json
+use Rattle.value_store.specs.Value as kind
+use Rattle.value_store.specs.Value.{Value, null, boolean, int, text, list, Items, no_items, item, Entries, no_entries, entry, ValueOrError, error, value}
+use Rattle.value_store.specs.Size.{size_of, depth_of}
+use Rattle.value_store.specs.Equality.{equal}
+use Rattle.value_store.specs.Order.{less}
+use Rattle.value_store.specs.Lookup.{find, place_of_key, member, inserted}
+use Rattle.value_store.specs.Placing.{first_values, place, placed}
+use Rattle.value_store.specs.Json.{json_text, shown_text}
+use Rattle.value_store.specs.Roots.{root_of, start_contents}
+use Rattle.value_store.specs.declared.table_error.TableError.TheVariants.{V1, V2}
+
+-- {"spec":{"replicas":5}}
+abbrev pub replicas : Value
+replicas = kind.map (entry (codes "spec") (kind.map (entry (codes "replicas") (int (pos 5)) no_entries)) no_entries)
+
+-- {"uid":"u1"}
+abbrev pub uid : Value
+uid = kind.map (entry (codes "uid") (text (codes "u1")) no_entries)
+
+-- é, U+FFFF, U+10000 and U+1F600 in UTF-8
+abbrev pub e_acute : List ℕ
+e_acute = 195 ∷ 169 ∷ []
+
+abbrev pub last_of_plane : List ℕ
+last_of_plane = 239 ∷ 191 ∷ 191 ∷ []
+
+abbrev pub linear_b : List ℕ
+linear_b = 240 ∷ 144 ∷ 128 ∷ 128 ∷ []
+
+abbrev pub grinning : List ℕ
+grinning = 240 ∷ 159 ∷ 152 ∷ 128 ∷ []
+
+abbrev pub a_and_b : Entries
+a_and_b = entry (codes "a") (int (pos 1)) (entry (codes "b") null no_entries)
+
+-- [[],[1]]
+abbrev pub nested : Value
+nested = list (item (list no_items) (item (list (item (int (pos 1)) no_items)) no_items))
+
+abbrev pub least : Value
+least = int (negsuc 9223372036854775807)
+
+abbrev pub greatest : Value
+greatest = int (pos 9223372036854775807)
+
+-- what stands behind the first four values
+abbrev pub behind : List ValueOrError → List ValueOrError
+behind vs = first_values ++ vs
+
+-- {"a":d}
+abbrev pub with_a : json.Data → json.Data
+with_a d = json.object (json.member (codes "a") d json.no_members)
+
+-- a review's object, and the rest of its request
+abbrev pub replicas_document : json.Data
+replicas_document = json.object (json.member (codes "spec") (json.object (json.member (codes "replicas") (json.number (json.unsigned 5)) json.no_members)) json.no_members)
+
+abbrev pub uid_document : json.Data
+uid_document = json.object (json.member (codes "uid") (json.string (codes "u1")) json.no_members)
+
+abbrev pub nulls : List json.Data
+nulls = json.null ∷ json.null ∷ json.null ∷ []
+
+pub record RowsStand : Type 0 where
+  pub size_null : size_of null ≡ 1
+  pub size_least : size_of least ≡ 1
+  pub size_text : size_of (text e_acute) ≡ 3
+  pub size_map : size_of replicas ≡ 17
+  pub size_uid : size_of uid ≡ 8
+  pub size_nested : size_of nested ≡ 4
+  pub depth_int : depth_of (int (pos 5)) ≡ 0
+  pub depth_empty : depth_of (list no_items) ≡ 1
+  pub depth_map : depth_of replicas ≡ 2
+  pub depth_nested : depth_of nested ≡ 2
+  pub equal_maps : equal replicas replicas ≡ true
+  pub equal_kinds : equal (boolean true) (int (pos 1)) ≡ false
+  pub equal_lists : equal (list (item null no_items)) (list no_items) ≡ false
+  pub equal_nested : equal nested nested ≡ true
+  pub equal_signs : equal (int (negsuc 0)) (int (pos 0)) ≡ false
+  pub less_ints : less least greatest ≡ Some true
+  pub less_negative : less (int (negsuc 0)) (int (pos 0)) ≡ Some true
+  pub less_truths : less (boolean false) (boolean true) ≡ Some true
+  pub less_equal_truths : less (boolean true) (boolean true) ≡ Some false
+  -- by code points, where the longer text is the less, and where UTF-16 has them the other way
+  pub less_longer : less (text (codes "ab")) (text (codes "b")) ≡ Some true
+  pub less_texts : less (text last_of_plane) (text linear_b) ≡ Some true
+  pub less_prefix : less (text (codes "a")) (text (codes "ab")) ≡ Some true
+  pub less_same : less (text e_acute) (text e_acute) ≡ Some false
+  pub less_nulls : less null null ≡ None
+  pub less_kinds : less (int (pos 1)) (text (codes "1")) ≡ None
+  pub find_there : find (codes "b") a_and_b ≡ Some null
+  pub find_missing : find (codes "c") a_and_b ≡ None
+  pub find_place : place_of_key (codes "b") a_and_b ≡ Some 1
+  pub member_list : member null (list (item (int (pos 1)) (item null no_items))) ≡ Some true
+  pub member_deep : member (list no_items) nested ≡ Some true
+  pub member_map : member (text (codes "a")) (kind.map a_and_b) ≡ Some true
+  pub member_value : member null (kind.map a_and_b) ≡ None
+  pub member_text : member (text (codes "a")) (text (codes "a")) ≡ None
+  pub inserted_before : inserted (codes "a") (int (pos 1)) (entry (codes "b") null no_entries) ≡ Some a_and_b
+  pub inserted_behind : inserted (codes "b") null (entry (codes "a") (int (pos 1)) no_entries) ≡ Some a_and_b
+  pub inserted_upper_case : inserted (codes "Z") null (entry (codes "a") null no_entries) ≡ Some (entry (codes "Z") null (entry (codes "a") null no_entries))
+  pub inserted_twice : inserted (codes "b") null a_and_b ≡ None
+  pub placed_null : (place first_values null ≡ 1) × (placed first_values null ≡ first_values)
+  pub placed_false : (place first_values (boolean false) ≡ 2) × (placed first_values (boolean false) ≡ first_values)
+  pub placed_true : (place first_values (boolean true) ≡ 3) × (placed first_values (boolean true) ≡ first_values)
+  pub placed_text : (place first_values (text (codes "a")) ≡ 4) × (placed first_values (text (codes "a")) ≡ behind (value (text (codes "a")) ∷ []))
+  pub placed_again : place (behind (value (text (codes "a")) ∷ [])) (text (codes "a")) ≡ 5
+  pub json_map : json_text replicas ≡ codes "{\"spec\":{\"replicas\":5}}"
+  pub json_null : json_text null ≡ codes "null"
+  pub json_uid : json_text uid ≡ codes "{\"uid\":\"u1\"}"
+  pub json_nested : json_text nested ≡ codes "[[],[1]]"
+  pub json_two : json_text (kind.map a_and_b) ≡ codes "{\"a\":1,\"b\":null}"
+  pub json_truths : json_text (list (item (boolean true) (item (boolean false) no_items))) ≡ codes "[true,false]"
+  pub json_ends : json_text (list (item least (item greatest no_items))) ≡ codes "[-9223372036854775808,9223372036854775807]"
+  pub json_accent : json_text (text e_acute) ≡ 34 ∷ 195 ∷ 169 ∷ 34 ∷ []
+  pub json_face : json_text (text grinning) ≡ 34 ∷ 240 ∷ 159 ∷ 152 ∷ 128 ∷ 34 ∷ []
+  pub json_quote : json_text (text (34 ∷ [])) ≡ codes "\"\\\"\""
+  pub json_backslash : json_text (text (92 ∷ [])) ≡ codes "\"\\\\\""
+  pub json_line_feed : json_text (text (10 ∷ [])) ≡ codes "\"\\n\""
+  pub json_control : json_text (text (1 ∷ [])) ≡ codes "\"\\u0001\""
+  pub json_key : json_text (kind.map (entry (34 ∷ []) null no_entries)) ≡ codes "{\"\\\"\":null}"
+  pub shown_error : shown_text error ≡ codes "error"
+  pub root_null : root_of 4 json.null ≡ Ok null
+  pub root_object : root_of 4 replicas_document ≡ Ok replicas
+  pub root_number : root_of 7 (json.number (json.unsigned 1)) ≡ Err (V1 7)
+  pub root_list : root_of 5 (json.array json.no_items) ≡ Err (V1 5)
+  -- 1.5 and -0 are floats
+  pub root_float : (x : Float) → root_of 4 (with_a (json.number (json.float x))) ≡ Err (V2 4)
+  pub root_large : root_of 8 (with_a (json.number (json.unsigned 9223372036854775808))) ≡ Err (V2 8)
+  pub root_greatest : root_of 8 (with_a (json.number (json.unsigned 9223372036854775807))) ≡ Ok (kind.map (entry (codes "a") greatest no_entries))
+  pub root_deep : root_of 6 (with_a (json.array (json.item (json.number (json.unsigned 9223372036854775808)) json.no_items))) ≡ Err (V2 6)
+  pub start_nulls : start_contents (json.null ∷ json.null ∷ nulls) ≡ Ok (record { values = behind (map value (null ∷ null ∷ null ∷ null ∷ null ∷ [])); charge = 5 })
+  pub start_review : start_contents (replicas_document ∷ nulls ++ uid_document ∷ []) ≡ Ok (record { values = behind (map value (replicas ∷ null ∷ null ∷ null ∷ uid ∷ [])); charge = 28 })
+  -- the first root with a refusal counts, whichever it is
+  pub start_first : (x : Float) → start_contents (json.null ∷ with_a (json.number (json.float x)) ∷ json.boolean true ∷ json.null ∷ json.null ∷ []) ≡ Err (V2 5)
+  pub start_second : (x : Float) → start_contents (json.null ∷ json.boolean true ∷ with_a (json.number (json.float x)) ∷ json.null ∷ json.null ∷ []) ≡ Err (V1 5)

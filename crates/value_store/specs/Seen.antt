@@ -1,0 +1,43 @@
+-- What is seen of a value at first: its kind, what a simple one is, and how many parts another has.
+use Rattle.std.specs.Prelude.{ℕ, ℤ, Bool, List, length}
+use Rattle.value_store.specs.Value.{null, boolean, int, text, list, map, ValueOrError, error, value, list_of, keys_of}
+use Rattle.value_store.specs.declared.shape.Shape.{Shape}
+use Rattle.value_store.specs.declared.shape.Shape.TheVariants as shape
+
+pub data Seen : Type 0 where
+  sees_error : Seen
+  sees_null : Seen
+  sees_bool : Bool → Seen
+  sees_int : ℤ → Seen
+  sees_text : List ℕ → Seen
+  sees_list : ℕ → Seen
+  sees_map : ℕ → Seen
+
+abbrev pub seen : ValueOrError → Seen
+seen error = sees_error
+seen (value null) = sees_null
+seen (value (boolean b)) = sees_bool b
+seen (value (int n)) = sees_int n
+seen (value (text s)) = sees_text s
+seen (value (list is)) = sees_list (length (list_of is))
+seen (value (map es)) = sees_map (length (keys_of es))
+
+-- the same of the code's shape, which lends a text
+abbrev pub shown : Shape → Seen
+shown shape.Error = sees_error
+shown shape.Null = sees_null
+shown (shape.Bool b) = sees_bool b
+shown (shape.Int n) = sees_int n
+shown (shape.Text s) = sees_text s.now
+shown (shape.List n) = sees_list n
+shown (shape.Map n) = sees_map n
+
+-- the bytes of a text, or the parts of a list or map
+abbrev pub seen_size : Seen → ℕ
+seen_size sees_error = 0
+seen_size sees_null = 0
+seen_size (sees_bool b) = 0
+seen_size (sees_int n) = 0
+seen_size (sees_text s) = length s
+seen_size (sees_list n) = n
+seen_size (sees_map n) = n

@@ -1,0 +1,20 @@
+//! The laws of values, each proved as the contract of an empty function.
+
+ghost use Rattle.value_store.specs.Laws.{AbsentKeyFits, EqualDecides, FindIsPlace, OtherNumbersRefused, StartIsStore};
+ghost use Rattle.value_store.specs.Rows.{RowsStand};
+
+/// Values worked by hand.
+pub fn rows_stand()
+    ensures { RowsStand }
+{}
+
+/// Two values are equal in depth exactly if they are the same value; the value that a map has at a
+/// key stands at the key's place; a key without a place can be put; a document has a value exactly if
+/// its numbers are integers of 64 bits; and the roots of a review make a store.
+pub fn values_are_as_said()
+    ensures equal { EqualDecides }
+    ensures find { FindIsPlace }
+    ensures absent { AbsentKeyFits }
+    ensures numbers { OtherNumbersRefused }
+    ensures start { StartIsStore }
+{}

@@ -1,0 +1,76 @@
+//! What the plain table keeps for a reference.
+
+ghost use Rattle.std.specs.Prelude.{◌≡◌, ◌<◌, ◌^◌, option_map, string_bytes, IfSome, IfOk};
+ghost use Rattle.value_store.specs.Size.{result_depth};
+ghost use Rattle.value_store.specs.Calls.{value_part};
+ghost use Rattle.value_store.specs.Json.{shown_text};
+ghost use Rattle.value_store.specs.Seen.{seen, shown, seen_size};
+
+use crate::shape::Shape;
+use crate::tree::Tree;
+use std::alloc::{AllocError, Global};
+
+/// The error, or a value.
+#[derive(Drop)]
+pub(crate) enum Node {
+    Error,
+    Value(Tree),
+}
+
+impl Node {
+    ghost use Rattle.value_store.specs.Nodes.{stored, tree_value};
+
+    pub(crate) fn depth(&self) -> u64
+        ensures { result ≡ result_depth (stored self.now) }
+    {
+        match self {
+            Node::Error => 0,
+            Node::Value(tree) => tree.depth,
+        }
+    }
+
+    /// The value, if it is one.
+    pub(crate) fn tree(&self) -> Option<&Tree>
+        ensures value { option_map (λ t. tree_value t.now) result ≡ value_part (stored self.now) }
+        ensures depth { IfSome result (λ t. t.now.depth ≡ result_depth (stored self.now)) }
+    {
+        match self {
+            Node::Error => None,
+            Node::Value(tree) => Some(tree),
+        }
+    }
+
+    /// What stands here as text: `error`, or the value as JSON.
+    pub(crate) fn json(&self, alloc: Global) -> Result<String, AllocError>
+        ensures { IfOk result (λ s. string_bytes s ≡ shown_text (stored self.now)) }
+    {
+        match self {
+            Node::Error => String::from_str(alloc, "error"),
+            Node::Value(tree) => tree.json(alloc),
+        }
+    }
+
+    pub(crate) fn shape(&self) -> Shape<'_>
+        ensures shape { shown result ≡ seen (stored self.now) }
+        ensures short { seen_size (shown result) < 2 ^ 63 }
+    {
+        match self {
+            Node::Error => Shape::Error,
+            Node::Value(tree) => tree.shape(),
+        }
+    }
+}
+
+// By hand, since a derived one says nothing of the trees.
+impl Clone for Node {
+    ghost use Rattle.value_store.specs.Nodes.{stored};
+
+    ghost is_clone = { λ node copy. stored copy ≡ stored node };
+
+    fn clone(&self) -> Result<Node, AllocError> {
+        match self {
+            Node::Error => Ok(Node::Error),
+            Node::Value(tree) => Ok(Node::Value(tree.copy()?)),
+        }
+    }
+}

@@ -1,0 +1,262 @@
+//! A store that keeps each value whole.
+
+ghost use Rattle.std.specs.Prelude.{◌≡◌, ◌≤◌, ◌<◌, ◌+◌, List, map, true, length, ◌++◌, [], ◌∷◌, OnOk, OnErr, Some, Option, slice_get, IsSome, IfSome, IfOk, option_map};
+ghost use Rattle.value_store.specs.Placing.{first_values, charge_limit};
+ghost use Rattle.value_store.specs.Calls.{Places, value_at, text_at, entries_at, part_at, key_at, joined, pushed, put_in};
+ghost use Rattle.serde_json.specs.View.{view};
+ghost use Rattle.value_store.specs.Roots.{start_contents, Starts};
+ghost use Rattle.value_store.specs.declared.node.Node.TheVariants as node;
+ghost use Rattle.value_store.specs.Nodes.{stored, stored_values, tree_value};
+ghost use Rattle.value_store.specs.Plain.{deepest, has_first_values};
+
+use crate::equality::same;
+use crate::membership::among;
+use crate::node::Node;
+use crate::order::below;
+use crate::roots::{start_charge, start_nodes};
+use crate::shape::Shape;
+use crate::store::ValueStore;
+use crate::table_error::TableError;
+use crate::tree::Tree;
+use serde_json::Value;
+use std::alloc::{AllocError, Global};
+
+/// The plain store: whole trees in a list. A copy, an item that is placed and a list with one more
+/// item are each a tree of their own.
+#[derive(Drop)]
+pub struct PlainTable {
+    nodes: Vec<Node>,
+    charge: u64,
+    // The error, null, false and true stand first.
+    ghost first: { has_first_values (stored_values nodes.items) ≡ true },
+    // A call makes a value at most 1 deeper than those that it has.
+    ghost shallow: { deepest (stored_values nodes.items) ≤ charge_limit + length (stored_values nodes.items) },
+    ghost charged: { charge ≤ charge_limit },
+}
+
+impl PlainTable {
+    /// The table of the five roots of a review, in the order object, oldObject, params,
+    /// namespaceObject and request, at the references 4 to 8, charged with their sizes. It goes as
+    /// deep as the documents.
+    ///
+    /// The first root that is refused counts: `V1` where it is neither an object nor null, `V2` where
+    /// it holds a number that is no integer of 64 bits signed (`-0` is none). Then `V3` where the
+    /// charge is above 16,777,216. All this is tested before any memory is taken.
+    pub fn of_roots(alloc: Global, roots: &[Value; 5]) -> Result<PlainTable, TableError>
+        ensures { Starts (λ t. record { values = ⟦<PlainTable as ValueStore>⟧.values t; charge = ⟦<PlainTable as ValueStore>⟧.charge t }) (start_contents (map view roots.now)) result }
+    {
+        let charge = start_charge(roots)?;
+        let nodes = start_nodes(alloc, roots)?;
+        Ok(PlainTable { nodes, charge })
+    }
+
+    // The value at a reference, if one stands there.
+    fn tree(&self, h: u64) -> Option<&Tree>
+        ensures value { option_map (λ t. tree_value t.now) result ≡ value_at (slice_get (stored_values self.now.nodes.items) h) }
+        ensures shallow { IfSome result (λ t. t.now.depth ≤ charge_limit + length (stored_values self.now.nodes.items)) }
+    {
+        match self.nodes.get(h as usize) {
+            Some(node) => node.tree(),
+            None => None,
+        }
+    }
+
+    fn value(&self, h: u64) -> &Tree
+        requires { IsSome (value_at (slice_get (stored_values self.now.nodes.items) h)) }
+        ensures value { Some (tree_value result.now) ≡ value_at (slice_get (stored_values self.now.nodes.items) h) }
+        ensures shallow { result.now.depth ≤ charge_limit + length (stored_values self.now.nodes.items) }
+    {
+        self.tree(h).unwrap()
+    }
+
+    // Null, false and true have their places, any other value comes behind the last.
+    fn place(&mut self, tree: Tree) -> Result<u64, AllocError>
+        requires { tree.depth ≤ charge_limit + length (stored_values self.old.nodes.items) + 1 }
+        ensures placed { Places (stored_values self.old.nodes.items) (tree_value tree) result (stored_values self.new.nodes.items) }
+        ensures charge { self.new.charge ≡ self.old.charge }
+    {
+        match &tree.document {
+            Value::Null => Ok(1),
+            Value::Bool(false) => Ok(2),
+            Value::Bool(true) => Ok(3),
+            _ => self.append(tree),
+        }
+    }
+
+    fn append(&mut self, tree: Tree) -> Result<u64, AllocError>
+        requires { tree.depth ≤ charge_limit + length (stored_values self.old.nodes.items) + 1 }
+        ensures place { IfOk result (λ h. h ≡ length (stored_values self.old.nodes.items)) }
+        ensures ok { OnOk result (stored_values self.new.nodes.items ≡ stored_values self.old.nodes.items ++ stored (node.Value tree) ∷ []) }
+        ensures err { OnErr result (stored_values self.new.nodes.items ≡ stored_values self.old.nodes.items) }
+        ensures charge { self.new.charge ≡ self.old.charge }
+    {
+        let place = self.nodes.len() as u64;
+        self.nodes.push(Node::Value(tree))?;
+        Ok(place)
+    }
+}
+
+// What the placing calls place, as trees of their own. Each is at most 1 deeper than what is there.
+impl PlainTable {
+    fn part(&self, h: u64, i: u64) -> Result<Tree, AllocError>
+        requires { IsSome (part_at (slice_get (stored_values self.now.nodes.items) h) i) }
+        ensures value { IfOk result (λ t. part_at (slice_get (stored_values self.now.nodes.items) h) i ≡ Some (tree_value t)) }
+        ensures shallow { IfOk result (λ t. t.depth ≤ charge_limit + length (stored_values self.now.nodes.items) + 1) }
+    {
+        let part = self.value(h).part(i).unwrap();
+        let tree = Tree::of_document(part)?;
+        Ok(tree)
+    }
+
+    fn key(&self, h: u64, i: u64) -> Result<Tree, AllocError>
+        requires { IsSome (key_at (slice_get (stored_values self.now.nodes.items) h) i) }
+        ensures value { IfOk result (λ t. key_at (slice_get (stored_values self.now.nodes.items) h) i ≡ Some (tree_value t)) }
+        ensures shallow { IfOk result (λ t. t.depth ≤ charge_limit + length (stored_values self.now.nodes.items) + 1) }
+    {
+        let key = self.value(h).key(i).unwrap();
+        Tree::of_text(*self.nodes.allocator(), key)
+    }
+
+    fn joined(&self, a: u64, b: u64) -> Result<Tree, AllocError>
+        requires { IsSome (joined (slice_get (stored_values self.now.nodes.items) a) (slice_get (stored_values self.now.nodes.items) b)) }
+        ensures value { IfOk result (λ t. joined (slice_get (stored_values self.now.nodes.items) a) (slice_get (stored_values self.now.nodes.items) b) ≡ Some (tree_value t)) }
+        ensures shallow { IfOk result (λ t. t.depth ≤ charge_limit + length (stored_values self.now.nodes.items) + 1) }
+    {
+        self.value(a).join(self.value(b))
+    }
+
+    fn pushed(&self, l: u64, x: u64) -> Result<Tree, AllocError>
+        requires { IsSome (pushed (slice_get (stored_values self.now.nodes.items) l) (slice_get (stored_values self.now.nodes.items) x)) }
+        ensures value { IfOk result (λ t. pushed (slice_get (stored_values self.now.nodes.items) l) (slice_get (stored_values self.now.nodes.items) x) ≡ Some (tree_value t)) }
+        ensures shallow { IfOk result (λ t. t.depth ≤ charge_limit + length (stored_values self.now.nodes.items) + 1) }
+    {
+        self.value(l).push(self.value(x))
+    }
+
+    fn with_entry(&self, m: u64, k: u64, x: u64) -> Result<Tree, AllocError>
+        requires { IsSome (put_in (slice_get (stored_values self.now.nodes.items) m) (slice_get (stored_values self.now.nodes.items) k) (slice_get (stored_values self.now.nodes.items) x)) }
+        ensures value { IfOk result (λ t. put_in (slice_get (stored_values self.now.nodes.items) m) (slice_get (stored_values self.now.nodes.items) k) (slice_get (stored_values self.now.nodes.items) x) ≡ Some (tree_value t)) }
+        ensures shallow { IfOk result (λ t. t.depth ≤ charge_limit + length (stored_values self.now.nodes.items) + 1) }
+    {
+        let key = self.value(k).text().unwrap();
+        self.value(m)
+            .put(*self.nodes.allocator(), key, self.value(x))
+    }
+}
+
+fn copies(nodes: &Vec<Node>) -> Result<Vec<Node>, AllocError>
+    ensures { IfOk result (λ copies. stored_values copies.items ≡ stored_values nodes.now.items) }
+{
+    let copies = nodes.clone()?;
+    Ok(copies)
+}
+
+impl ValueStore for PlainTable {
+    ghost use Rattle.value_store.specs.Nodes.{stored_values};
+
+    ghost values = { λ t. stored_values t.nodes.items };
+
+    ghost charge = { λ t. t.charge };
+
+    fn len(&self) -> u64 {
+        self.nodes.len() as u64
+    }
+
+    fn charge(&self) -> u64 {
+        self.charge
+    }
+
+    fn spend(&mut self, n: u64) {
+        self.charge += n;
+    }
+
+    fn at(&self, h: u64) -> Option<Shape<'_>> {
+        match self.nodes.get(h as usize) {
+            Some(node) => Some(node.shape()),
+            None => None,
+        }
+    }
+
+    fn text(&self, h: u64) -> Option<&str> {
+        match self.tree(h) {
+            Some(tree) => tree.text(),
+            None => None,
+        }
+    }
+
+    fn depth(&self, h: u64) -> u64 {
+        self.nodes[h as usize].depth()
+    }
+
+    fn equal(&mut self, a: u64, b: u64) -> bool {
+        same(&self.value(a).document, &self.value(b).document)
+    }
+
+    fn less(&self, a: u64, b: u64) -> bool {
+        below(&self.value(a).document, &self.value(b).document).unwrap()
+    }
+
+    fn member(&mut self, x: u64, c: u64) -> bool {
+        among(&self.value(x).document, &self.value(c).document).unwrap()
+    }
+
+    fn find(&self, m: u64, key: &[u8]) -> Option<u64> {
+        self.value(m).place_of(key)
+    }
+
+    fn json(&self, h: u64) -> Result<String, AllocError> {
+        self.nodes[h as usize].json(*self.nodes.allocator())
+    }
+
+    fn place_int(&mut self, n: i64) -> Result<u64, AllocError> {
+        self.place(Tree::of_int(n))
+    }
+
+    fn place_text(&mut self, s: &str) -> Result<u64, AllocError> {
+        let tree = Tree::of_text(*self.nodes.allocator(), s)?;
+        self.place(tree)
+    }
+
+    fn alias(&mut self, h: u64, i: u64) -> Result<u64, AllocError> {
+        let tree = self.part(h, i)?;
+        self.place(tree)
+    }
+
+    fn alias_key(&mut self, h: u64, i: u64) -> Result<u64, AllocError> {
+        let tree = self.key(h, i)?;
+        self.place(tree)
+    }
+
+    fn join(&mut self, a: u64, b: u64) -> Result<u64, AllocError> {
+        let tree = self.joined(a, b)?;
+        self.place(tree)
+    }
+
+    fn new_list(&mut self) -> Result<u64, AllocError> {
+        let tree = Tree::new_list(*self.nodes.allocator());
+        self.place(tree)
+    }
+
+    fn new_map(&mut self) -> Result<u64, AllocError> {
+        let tree = Tree::new_map(*self.nodes.allocator());
+        self.place(tree)
+    }
+
+    fn push(&mut self, l: u64, x: u64) -> Result<u64, AllocError> {
+        let tree = self.pushed(l, x)?;
+        self.place(tree)
+    }
+
+    fn put(&mut self, m: u64, k: u64, x: u64) -> Result<u64, AllocError> {
+        let tree = self.with_entry(m, k, x)?;
+        self.place(tree)
+    }
+
+    fn copy(&self) -> Result<Self, AllocError> {
+        let nodes = copies(&self.nodes)?;
+        Ok(PlainTable {
+            nodes,
+            charge: self.charge,
+        })
+    }
+}

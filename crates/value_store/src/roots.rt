@@ -1,0 +1,82 @@
+//! The roots of a review as values.
+
+ghost use Rattle.std.specs.Prelude.{◌≡◌, map, ◌++◌, IsOk, IfOk};
+ghost use Rattle.serde_json.specs.View.{view};
+ghost use Rattle.value_store.specs.Value.{value};
+ghost use Rattle.value_store.specs.Placing.{first_values, charge_limit};
+ghost use Rattle.value_store.specs.Roots.{root_of, start_contents, is_root as may_be_root};
+ghost use Rattle.value_store.specs.Plain.{plain_value, size_in, charge_in};
+ghost use Rattle.value_store.specs.Nodes.{stored_values};
+
+use crate::measure::measure_document;
+use crate::node::Node;
+use crate::table_error::TableError;
+use crate::tree::Tree;
+use serde_json::Value;
+use std::alloc::{AllocError, Global};
+
+const CHARGE_LIMIT: u64 = 16_777_216;
+
+/// What a table of these roots is charged at first, or why there is none. Takes no memory.
+pub(crate) fn start_charge(roots: &[Value; 5]) -> Result<u64, TableError>
+    ensures { result ≡ charge_in (start_contents (map view roots.now)) }
+{
+    let mut charge = 0u64;
+    let mut place = 4u64;
+    for root in roots {
+        let size = root_size(place, root)?;
+        charge = charge.saturating_add(size);
+        place += 1;
+    }
+    if charge > CHARGE_LIMIT {
+        return Err(TableError::V3);
+    }
+    Ok(charge)
+}
+
+// The size of the root at a reference.
+fn root_size(place: u64, root: &Value) -> Result<u64, TableError>
+    ensures { result ≡ size_in (root_of place (view root.now)) }
+{
+    if !is_root(root) {
+        return Err(TableError::V1(place));
+    }
+    match measure_document(root) {
+        Some(measure) => Ok(measure.size),
+        None => Err(TableError::V2(place)),
+    }
+}
+
+fn is_root(document: &Value) -> bool
+    ensures { result ≡ may_be_root (view document.now) }
+{
+    match document {
+        Value::Null => true,
+        Value::Object(_members) => true,
+        _ => false,
+    }
+}
+
+/// The nodes of a table of these roots.
+pub(crate) fn start_nodes(alloc: Global, roots: &[Value; 5]) -> Result<Vec<Node>, AllocError>
+    requires { IsOk (start_contents (map view roots.now)) }
+    ensures { IfOk result (λ nodes. stored_values nodes.items ≡ first_values ++ map (λ root. value (plain_value (view root))) roots.now) }
+{
+    let mut nodes = first_nodes(alloc)?;
+    for root in roots {
+        nodes.push(Node::Value(Tree::of_document(root)?))?;
+    }
+    Ok(nodes)
+}
+
+// The error, null, false and true.
+fn first_nodes(alloc: Global) -> Result<Vec<Node>, AllocError>
+    ensures { IfOk result (λ nodes. stored_values nodes.items ≡ first_values) }
+{
+    let mut nodes = Vec::with_capacity(alloc, 9)?;
+    nodes.push(Node::Error)?;
+    nodes.push(Node::Value(Tree::of_document(&Value::Null)?))?;
+    nodes.push(Node::Value(Tree::of_document(&Value::Bool(false))?))?;
+    nodes.push(Node::Value(Tree::of_document(&Value::Bool(true))?))?;
+    Ok(nodes)
+}

@@ -1,0 +1,142 @@
+//! What the machine asks of its values.
+
+ghost use Rattle.std.specs.Prelude.{◌≡◌, ◌≤◌, ◌<◌, ◌+◌, ◌^◌, ℕ, List, ◌++◌, length, Option, Some, slice_get, option_map, string_bytes, IsSome, IfSome, IfOk};
+ghost use Rattle.value_store.specs.Value.{ValueOrError, int, text, list, map, no_items, no_entries};
+ghost use Rattle.value_store.specs.Size.{result_depth};
+ghost use Rattle.value_store.specs.Placing.{first_values, charge_limit};
+ghost use Rattle.value_store.specs.Json.{shown_text};
+ghost use Rattle.value_store.specs.Calls.{Places, text_at, equal_at, less_at, member_at, find_at, part_at, key_at, joined, pushed, put_in};
+ghost use Rattle.value_store.specs.Seen.{seen, shown, seen_size};
+
+use crate::shape::Shape;
+use std::alloc::AllocError;
+
+/// Values in a list, each named by its place in it, a reference. The first four are the error,
+/// null, false and true. A value never changes, and none is taken away. A call that places a value
+/// answers the reference that null, false or true has, and puts any other value behind the last.
+/// Where such a call answers an error, the host has no memory for the value, and nothing is changed.
+pub trait ValueStore: Drop {
+    /// What stands at each reference.
+    ghost values: { Self → List ValueOrError };
+
+    /// What was charged: at the start the sizes of the roots, and then what was spent.
+    ghost charge: { Self → ℕ };
+
+    /// How many references there are.
+    fn len(&self) -> u64
+        ensures count { result ≡ length (values self.now) }
+        ensures first { (more : List ValueOrError) × (values self.now ≡ first_values ++ more) };
+
+    /// What was charged so far.
+    fn charge(&self) -> u64
+        ensures value { result ≡ charge self.now }
+        ensures limit { result ≤ charge_limit };
+
+    /// Charges `n` more.
+    fn spend(&mut self, n: u64)
+        requires { charge self.old + n ≤ charge_limit }
+        ensures charge { charge self.new ≡ charge self.old + n }
+        ensures values { values self.new ≡ values self.old };
+
+    /// What stands at a reference, if it is one. A text has fewer than 2^63 bytes, a list fewer items
+    /// and a map fewer entries.
+    fn at(&self, h: u64) -> Option<Shape<'_>>
+        ensures shape { option_map shown result ≡ option_map seen (slice_get (values self.now) h) }
+        ensures short { IfSome result (λ s. seen_size (shown s) < 2 ^ 63) };
+
+    /// The text at a reference, if there is one.
+    fn text(&self, h: u64) -> Option<&str>
+        ensures { option_map (λ t. t.now) result ≡ text_at (slice_get (values self.now) h) };
+
+    /// How deep what stands at a reference is: 1 more than its deepest part, 1 for an empty list or
+    /// map, and 0 for anything else.
+    fn depth(&self, h: u64) -> u64
+        requires { h < length (values self.now) }
+        ensures { Some result ≡ option_map result_depth (slice_get (values self.now) h) };
+
+    /// Whether two values are equal in depth.
+    fn equal(&mut self, a: u64, b: u64) -> bool
+        requires { IsSome (equal_at (slice_get (values self.old) a) (slice_get (values self.old) b)) }
+        ensures answer { Some result ≡ equal_at (slice_get (values self.old) a) (slice_get (values self.old) b) }
+        ensures values { values self.new ≡ values self.old }
+        ensures charge { charge self.new ≡ charge self.old };
+
+    /// Whether the first of two ints, texts or bools is below the second: texts by code points, false
+    /// below true.
+    fn less(&self, a: u64, b: u64) -> bool
+        requires { IsSome (less_at (slice_get (values self.now) a) (slice_get (values self.now) b)) }
+        ensures { Some result ≡ less_at (slice_get (values self.now) a) (slice_get (values self.now) b) };
+
+    /// Whether an item of the list `c` equals the value `x`, or the map `c` has the text `x` as a key.
+    fn member(&mut self, x: u64, c: u64) -> bool
+        requires { IsSome (member_at (slice_get (values self.old) x) (slice_get (values self.old) c)) }
+        ensures answer { Some result ≡ member_at (slice_get (values self.old) x) (slice_get (values self.old) c) }
+        ensures values { values self.new ≡ values self.old }
+        ensures charge { charge self.new ≡ charge self.old };
+
+    /// The place of a key in the map `m`, if the map has it. Bytes that are no text are no map's key.
+    fn find(&self, m: u64, key: &[u8]) -> Option<u64>
+        requires { IsSome (find_at (slice_get (values self.now) m) key.now) }
+        ensures { Some result ≡ find_at (slice_get (values self.now) m) key.now };
+
+    /// What stands at a reference as JSON (RFC 8259), compact and with the keys in byte order; `error`
+    /// for the error.
+    fn json(&self, h: u64) -> Result<String, AllocError>
+        requires { h < length (values self.now) }
+        ensures { IfOk result (λ s. Some (string_bytes s) ≡ option_map shown_text (slice_get (values self.now) h)) };
+
+    /// Places an int.
+    fn place_int(&mut self, n: i64) -> Result<u64, AllocError>
+        ensures placed { Places (values self.old) (int n) result (values self.new) }
+        ensures charge { charge self.new ≡ charge self.old };
+
+    /// Places a text.
+    fn place_text(&mut self, s: &str) -> Result<u64, AllocError>
+        ensures placed { Places (values self.old) (text s.now) result (values self.new) }
+        ensures charge { charge self.new ≡ charge self.old };
+
+    /// Places the i-th item of a list, or the value of a map's i-th entry.
+    fn alias(&mut self, h: u64, i: u64) -> Result<u64, AllocError>
+        requires { IsSome (part_at (slice_get (values self.old) h) i) }
+        ensures placed { IfSome (part_at (slice_get (values self.old) h) i) (λ v. Places (values self.old) v result (values self.new)) }
+        ensures charge { charge self.new ≡ charge self.old };
+
+    /// Places the key of a map's i-th entry, a text.
+    fn alias_key(&mut self, h: u64, i: u64) -> Result<u64, AllocError>
+        requires { IsSome (key_at (slice_get (values self.old) h) i) }
+        ensures placed { IfSome (key_at (slice_get (values self.old) h) i) (λ v. Places (values self.old) v result (values self.new)) }
+        ensures charge { charge self.new ≡ charge self.old };
+
+    /// Places the text, or the list, that is `a` followed by `b`.
+    fn join(&mut self, a: u64, b: u64) -> Result<u64, AllocError>
+        requires { IsSome (joined (slice_get (values self.old) a) (slice_get (values self.old) b)) }
+        ensures placed { IfSome (joined (slice_get (values self.old) a) (slice_get (values self.old) b)) (λ v. Places (values self.old) v result (values self.new)) }
+        ensures charge { charge self.new ≡ charge self.old };
+
+    /// Places an empty list.
+    fn new_list(&mut self) -> Result<u64, AllocError>
+        ensures placed { Places (values self.old) (list no_items) result (values self.new) }
+        ensures charge { charge self.new ≡ charge self.old };
+
+    /// Places an empty map.
+    fn new_map(&mut self) -> Result<u64, AllocError>
+        ensures placed { Places (values self.old) (map no_entries) result (values self.new) }
+        ensures charge { charge self.new ≡ charge self.old };
+
+    /// Places the list `l` with the value `x` behind its last item.
+    fn push(&mut self, l: u64, x: u64) -> Result<u64, AllocError>
+        requires { IsSome (pushed (slice_get (values self.old) l) (slice_get (values self.old) x)) }
+        ensures placed { IfSome (pushed (slice_get (values self.old) l) (slice_get (values self.old) x)) (λ v. Places (values self.old) v result (values self.new)) }
+        ensures charge { charge self.new ≡ charge self.old };
+
+    /// Places the map `m` with the text `k`, which is not yet one of its keys, at the value `x`.
+    fn put(&mut self, m: u64, k: u64, x: u64) -> Result<u64, AllocError>
+        requires { IsSome (put_in (slice_get (values self.old) m) (slice_get (values self.old) k) (slice_get (values self.old) x)) }
+        ensures placed { IfSome (put_in (slice_get (values self.old) m) (slice_get (values self.old) k) (slice_get (values self.old) x)) (λ v. Places (values self.old) v result (values self.new)) }
+        ensures charge { charge self.new ≡ charge self.old };
+
+    /// An equal store of its own. The error says that the host has no memory for it.
+    fn copy(&self) -> Result<Self, AllocError>
+        ensures values { IfOk result (λ copy. values copy ≡ values self.now) }
+        ensures charge { IfOk result (λ copy. charge copy ≡ charge self.now) };
+}
