@@ -1,0 +1,58 @@
+-- A text stands in another exactly where the search finds it.
+use Rattle.std.proofs.Common.{◌≡◌, ℕ, zero, suc, List, [], ◌∷◌, length, take, Option, Some, None, Bool, true, false, ◌||◌, refl, sym, ap, ◌⊎◌, inl, inr, ⊎_elim, arith, length-take}
+use Rattle.std.proofs.lemmas.Bool.{cases_Bool}
+use Rattle.std.specs.List.{starts_with}
+use Rattle.std.specs.Prelude.{is_some, nat_eq}
+use lib.Pointwise.{bytes_decides}
+use Rattle.memchr.specs.Find.{OccursAt, FindsNeedle}
+use Rattle.memchr.proofs.lemmas.MatchLemmas.{OccursAt-part, OccursAt-from_part}
+use Rattle.helper_table.specs.Comparisons.{contains}
+
+starts_at : (hay needle : List ℕ) → starts_with nat_eq hay needle ≡ true → OccursAt hay needle 0
+starts_at hay needle e =
+    let part : take (length needle) hay ≡ needle = sym ((bytes_decides needle (take (length needle) hay)).0 e) in
+    OccursAt-from_part hay needle 0 (omega (arith, ap length part, length-take (length needle) hay)) part
+
+starts_if : (hay needle : List ℕ) → OccursAt hay needle 0 → starts_with nat_eq hay needle ≡ true
+starts_if hay needle at = (bytes_decides needle (take (length needle) hay)).1 (sym (OccursAt-part hay needle 0 at))
+
+record Stands (hay needle : List ℕ) : Type 0 where
+  place : ℕ
+  at : OccursAt hay needle place
+
+later : (b : ℕ) (bs needle : List ℕ) (k : ℕ) → OccursAt bs needle k → OccursAt (b ∷ bs) needle (suc k)
+later b bs needle k at = OccursAt-from_part (b ∷ bs) needle (suc k) (let h = at.fits in omega arith) (OccursAt-part bs needle k at)
+
+earlier : (b : ℕ) (bs needle : List ℕ) (k : ℕ) → OccursAt (b ∷ bs) needle (suc k) → OccursAt bs needle k
+earlier b bs needle k at = OccursAt-from_part bs needle k (let h = at.fits in omega arith) (OccursAt-part (b ∷ bs) needle (suc k) at)
+
+either : (p q : Bool) → (p || q) ≡ true → (p ≡ true) ⊎ (q ≡ true)
+either true q e = inl refl
+either false q e = inr e
+
+stands : (hay needle : List ℕ) → contains hay needle ≡ true → Stands hay needle
+stands [] needle e = record { place = 0; at = starts_at [] needle e }
+stands (b ∷ bs) needle e =
+    ⊎_elim (λ first. record { place = 0; at = starts_at (b ∷ bs) needle first })
+    (λ rest. let found = stands bs needle rest in record { place = suc found.place; at = later b bs needle found.place found.at })
+    (either (starts_with nat_eq (b ∷ bs) needle) (contains bs needle) e)
+
+or_right : (p q : Bool) → q ≡ true → (p || q) ≡ true
+or_right true q e = refl
+or_right false q e = e
+
+or_left : (p q : Bool) → p ≡ true → (p || q) ≡ true
+or_left true q e = refl
+or_left false q e = absurd (cc)
+
+contains_if : (hay needle : List ℕ) (k : ℕ) → OccursAt hay needle k → contains hay needle ≡ true
+contains_if [] needle zero at = starts_if [] needle at
+contains_if [] needle (suc k) at = let h = at.fits in absurd (omega arith)
+contains_if (b ∷ bs) needle zero at = or_left _ _ (starts_if (b ∷ bs) needle at)
+contains_if (b ∷ bs) needle (suc k) at = or_right _ _ (contains_if bs needle k (earlier b bs needle k at))
+
+pub finds_part : (hay needle : List ℕ) (r : Option ℕ) → FindsNeedle hay needle 0 r → is_some r ≡ contains hay needle
+finds_part hay needle (Some k) h = sym (contains_if hay needle k h.1)
+finds_part hay needle None h =
+    ⊎_elim (λ yes_is. let found = stands hay needle yes_is in let fits = found.at.fits in absurd (h found.place (omega arith) (omega arith) found.at))
+    (λ no_is. sym no_is) (cases_Bool (contains hay needle))

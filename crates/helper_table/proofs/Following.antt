@@ -1,0 +1,33 @@
+-- What a call leaves follows what was there.
+use Rattle.std.proofs.Common.{◌≡◌, ◌+◌, ℕ, Bool, true, false, List, ◌++◌, refl, subst, arith}
+use Rattle.std.proofs.lemmas.Bool.{leb-true}
+use Rattle.std.specs.Prelude.{if◌then◌else◌, nat_le}
+use Rattle.guest_memory.specs.declared.fault.Fault.TheVariants.{F8}
+use Rattle.value_store.specs.Placing.{Contents, first_values, charge_limit, placed}
+use Rattle.value_store.specs.Value.{ValueOrError}
+use Rattle.helper_table.proofs.Placing.{Begins, begins, placed_extends, same}
+use Rattle.helper_table.specs.Laws.{Extends, Follows}
+use Rattle.helper_table.specs.Outcome.{Outcome, Plain, Named, Refused, Leaves, Halts, answer_among, charged}
+
+-- a call that leaves something stayed within the limit
+record IsWithin (test : Bool) (contents new : Contents) : Type 0 where
+  within : test ≡ true
+  is : contents ≡ new
+
+within : (test : Bool) (w word : ℕ) (contents new : Contents) → (if test then Leaves w contents else Halts F8) ≡ Leaves word new → IsWithin test contents new
+within true w word contents new e = record { within = refl; is = cc }
+within false w word contents new e = absurd (cc)
+
+follows : (old new : Contents) (us : List ValueOrError) (added : ℕ) → Extends old.values us → ((rest : List ValueOrError) → old.values ≡ first_values ++ rest → Begins us) → IsWithin (nat_le (old.charge + (1 + added)) charge_limit) (record { values = us; charge = old.charge + (1 + added) }) new → Follows old new
+follows old new us added values store limit =
+    let P : Contents → Type 0 = λ c. Follows old c in
+    subst P limit.is (record {
+      values = values;
+      paid = omega arith;
+      store = λ is. let first = store is.more is.values_are in record { more = first.rest; values_are = first.is; charged = leb-true _ _ limit.within };
+    })
+
+pub outcome_follows : (o : Outcome) (old new : Contents) (word : ℕ) → charged (answer_among old.values o) old.charge ≡ Leaves word new → Follows old new
+outcome_follows (Plain w added) old new word e = follows old new old.values added (same old.values) (λ rest is. record { rest = rest; is = is }) (within _ _ _ _ _ e)
+outcome_follows (Named v added) old new word e = follows old new (placed old.values v) added (placed_extends old.values v) (λ rest is. begins old.values rest is v) (within _ _ _ _ _ e)
+outcome_follows (Refused f) old new word e = absurd (cc)

@@ -1,0 +1,12 @@
+-- The number of a helper as a place in the list of helpers.
+use Rattle.std.proofs.Common.{◌≡◌, ◌-◌, ◌≤◌, ℕ, zero, suc, Some, ap, ◌∙◌, sym, arith}
+use Rattle.std.proofs.lemmas.Option.{slice_get-get_or}
+use Rattle.std.specs.Prelude.{slice_index_or}
+use Rattle.helper_table.specs.Numbers.{helpers, numbered}
+use Rattle.helper_table.specs.declared.helper.Helper.{Helper}
+
+pub numbered_at : (n : ℕ) (other : Helper) → 1 ≤ n → n ≤ 23 → Some (slice_index_or helpers (n - 1) other) ≡ numbered n
+numbered_at zero other low high = absurd (omega arith)
+numbered_at (suc m) other low high =
+    let same : suc m - 1 ≡ m = omega arith in
+    ap (λ k. Some (slice_index_or helpers k other)) same ∙ sym (slice_get-get_or helpers m other (omega arith))

@@ -1,0 +1,119 @@
+-- Which two operands the tests of the store are for.
+use Rattle.std.proofs.Common.{◌≡◌, Option, Some, None, Bool, true, false, ◌&&◌, refl, ap, ◌∙◌}
+use Rattle.std.specs.Prelude.{option_map, is_some}
+use Rattle.value_store.specs.Calls.{equal_at, less_at, member_at, pushed, push_of}
+use Rattle.value_store.specs.Lookup.{member}
+use Rattle.value_store.specs.Order.{less}
+use Rattle.value_store.specs.Seen.{Seen, seen, sees_error}
+use Rattle.value_store.specs.Value.{Value, null, boolean, int, text, list, map, ValueOrError, error, value}
+use Rattle.helper_table.specs.Kinds.{is_value, is_list, have_order, may_be_in}
+
+pub nothing : (o : Option Bool) → false ≡ is_some o → None ≡ o
+nothing None e = refl
+nothing (Some b) e = absurd (cc)
+
+-- what holds of what is seen holds of what stands there
+pair : {A : Type 0} (test : Seen → Seen → Bool) (at : Option ValueOrError → Option ValueOrError → Option A) → ((x y : ValueOrError) → test (seen x) (seen y) ≡ is_some (at (Some x) (Some y))) → (a b : Option ValueOrError) (s t : Seen) → option_map seen a ≡ Some s → option_map seen b ≡ Some t → test s t ≡ is_some (at a b)
+pair test at same None b s t e f = absurd (cc)
+pair test at same (Some x) None s t e f = absurd (cc)
+pair test at same (Some x) (Some y) s t e f =
+    let p : s ≡ seen x = cc in
+    let q : t ≡ seen y = cc in
+    (λ i. test (p i) (q i)) ∙ same x y
+
+a_value : (v : Value) → is_value (seen (value v)) ≡ true
+a_value null = refl
+a_value (boolean b) = refl
+a_value (int z) = refl
+a_value (text s) = refl
+a_value (list is) = refl
+a_value (map es) = refl
+
+equal_same : (x y : ValueOrError) → (is_value (seen x) && is_value (seen y)) ≡ is_some (equal_at (Some x) (Some y))
+equal_same error y = refl
+equal_same (value v) error = ap (λ b. b && false) (a_value v)
+equal_same (value v) (value w) = (λ i. a_value v i && a_value w i)
+
+pub equal_pair : (a b : Option ValueOrError) (s t : Seen) → option_map seen a ≡ Some s → option_map seen b ≡ Some t → (is_value s && is_value t) ≡ is_some (equal_at a b)
+equal_pair = pair (λ s t. is_value s && is_value t) equal_at equal_same
+
+unordered_error : (v : Value) → have_order (seen (value v)) sees_error ≡ false
+unordered_error null = refl
+unordered_error (boolean b) = refl
+unordered_error (int z) = refl
+unordered_error (text s) = refl
+unordered_error (list is) = refl
+unordered_error (map es) = refl
+
+order_same : (v w : Value) → have_order (seen (value v)) (seen (value w)) ≡ is_some (less v w)
+order_same (boolean a) (boolean b) = refl
+order_same (int y) (int z) = refl
+order_same (text s) (text t) = refl
+order_same _ _ = refl
+
+less_same : (x y : ValueOrError) → have_order (seen x) (seen y) ≡ is_some (less_at (Some x) (Some y))
+less_same error y = refl
+less_same (value v) error = unordered_error v
+less_same (value v) (value w) = order_same v w
+
+pub less_pair : (a b : Option ValueOrError) (s t : Seen) → option_map seen a ≡ Some s → option_map seen b ≡ Some t → have_order s t ≡ is_some (less_at a b)
+less_pair = pair have_order less_at less_same
+
+in_same : (v w : Value) → may_be_in (seen (value v)) (seen (value w)) ≡ is_some (member v w)
+in_same null (list is) = refl
+in_same (boolean b) (list is) = refl
+in_same (int z) (list is) = refl
+in_same (text s) (list is) = refl
+in_same (list ms) (list is) = refl
+in_same (map ms) (list is) = refl
+in_same (text s) (map es) = refl
+in_same _ _ = refl
+
+not_in_error : (v : Value) → may_be_in (seen (value v)) sees_error ≡ false
+not_in_error null = refl
+not_in_error (boolean b) = refl
+not_in_error (int z) = refl
+not_in_error (text s) = refl
+not_in_error (list is) = refl
+not_in_error (map es) = refl
+
+no_error_in : (w : Value) → may_be_in sees_error (seen (value w)) ≡ false
+no_error_in null = refl
+no_error_in (boolean b) = refl
+no_error_in (int z) = refl
+no_error_in (text s) = refl
+no_error_in (list is) = refl
+no_error_in (map es) = refl
+
+member_same : (x y : ValueOrError) → may_be_in (seen x) (seen y) ≡ is_some (member_at (Some x) (Some y))
+member_same error error = refl
+member_same error (value w) = no_error_in w
+member_same (value v) error = not_in_error v
+member_same (value v) (value w) = in_same v w
+
+pub member_pair : (a b : Option ValueOrError) (s t : Seen) → option_map seen a ≡ Some s → option_map seen b ≡ Some t → may_be_in s t ≡ is_some (member_at a b)
+member_pair = pair may_be_in member_at member_same
+
+push_error : (v : Value) → (is_list (seen (value v)) && false) ≡ false
+push_error null = refl
+push_error (boolean b) = refl
+push_error (int z) = refl
+push_error (text s) = refl
+push_error (list is) = refl
+push_error (map es) = refl
+
+push_same : (v w : Value) → (is_list (seen (value v)) && is_value (seen (value w))) ≡ is_some (push_of v w)
+push_same null w = refl
+push_same (boolean b) w = refl
+push_same (int z) w = refl
+push_same (text s) w = refl
+push_same (list is) w = a_value w
+push_same (map es) w = refl
+
+pushed_same : (x y : ValueOrError) → (is_list (seen x) && is_value (seen y)) ≡ is_some (pushed (Some x) (Some y))
+pushed_same error y = refl
+pushed_same (value v) error = push_error v
+pushed_same (value v) (value w) = push_same v w
+
+pub push_pair : (a b : Option ValueOrError) (s t : Seen) → option_map seen a ≡ Some s → option_map seen b ≡ Some t → (is_list s && is_value t) ≡ is_some (pushed a b)
+push_pair = pair (λ s t. is_list s && is_value t) pushed pushed_same

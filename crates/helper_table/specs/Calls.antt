@@ -1,0 +1,89 @@
+-- A call: its helper's row on its operands, after the tests of its number and its arguments.
+use Rattle.std.specs.Prelude.{ℕ, ℤ, List, Option, Some, None, slice_get, slice_index}
+use Rattle.guest_memory.specs.Access.{constants_of}
+use Rattle.guest_memory.specs.Memory.{start_memory}
+use Rattle.guest_memory.specs.declared.fault.Fault.TheVariants.{F3, F5, F6}
+use Rattle.value_store.specs.Placing.{Contents}
+use Rattle.value_store.specs.Value.{ValueOrError}
+use Rattle.helper_table.specs.Building.{join_row, list_new_row, map_new_row, push_row, put_row}
+use Rattle.helper_table.specs.Comparisons.{equal_row, less_row, member_row, starts_row, ends_row, contains_row}
+use Rattle.helper_table.specs.Conversions.{kind_row, int_of_row, int_new_row, text_const_row, text_of_int_row, not_row}
+use Rattle.helper_table.specs.Lookups.{field_row, has_row, index_row, size_row, item_row, count_row}
+use Rattle.helper_table.specs.Numbers.{of_number}
+use Rattle.helper_table.specs.Outcome.{Outcome, Refused, HelperAnswer, answer_among, CallEnd, charged}
+use Rattle.helper_table.specs.declared.helper.Helper.{Helper}
+use Rattle.helper_table.specs.declared.helper.Helper.TheVariants as helper
+
+-- the arguments are the words of the registers R1 to R5
+abbrev pub r1 : List ℕ → ℕ
+r1 args = slice_index args 0
+
+abbrev pub r2 : List ℕ → ℕ
+r2 args = slice_index args 1
+
+abbrev pub r3 : List ℕ → ℕ
+r3 args = slice_index args 2
+
+abbrev pub on_operand : Option ValueOrError → (ValueOrError → Outcome) → Outcome
+on_operand (Some x) row = row x
+on_operand None row = Refused F6
+
+-- a reference is a place in the list of values
+abbrev pub on_value : List ValueOrError → ℕ → (ValueOrError → Outcome) → Outcome
+on_value vs h row = on_operand (slice_get vs h) row
+
+abbrev pub on_values : List ValueOrError → ℕ → ℕ → (ValueOrError → ValueOrError → Outcome) → Outcome
+on_values vs a b row = on_value vs a (λ x. on_value vs b (row x))
+
+-- the bytes of a range of constants, if none lies outside
+abbrev pub bytes_at : List ℕ → ℕ → ℕ → Option (List ℕ)
+bytes_at constants address n = constants_of (start_memory constants) address n
+
+abbrev pub on_lent : Option (List ℕ) → (List ℕ → Outcome) → Outcome
+on_lent (Some bytes) row = row bytes
+on_lent None row = Refused F3
+
+abbrev pub on_range : List ℕ → ℕ → ℕ → (List ℕ → Outcome) → Outcome
+on_range constants address n row = on_lent (bytes_at constants address n) row
+
+-- each helper with its operands: references are tested before ranges
+unfoldable pub row_of : Helper → List ℕ → List ValueOrError → List ℕ → Outcome
+row_of helper.Kind args vs constants = on_value vs (r1 args) kind_row
+row_of helper.IntOf args vs constants = on_value vs (r1 args) int_of_row
+row_of helper.IntNew args vs constants = int_new_row (r1 args)
+row_of helper.TextConst args vs constants = on_range constants (r1 args) (r2 args) text_const_row
+row_of helper.Field args vs constants = on_value vs (r1 args) (λ m. on_range constants (r2 args) (r3 args) (field_row m))
+row_of helper.Has args vs constants = on_value vs (r1 args) (λ m. on_range constants (r2 args) (r3 args) (has_row m))
+row_of helper.Index args vs constants = on_values vs (r1 args) (r2 args) index_row
+row_of helper.Size args vs constants = on_value vs (r1 args) size_row
+row_of helper.Equal args vs constants = on_values vs (r1 args) (r2 args) equal_row
+row_of helper.Less args vs constants = on_values vs (r1 args) (r2 args) less_row
+row_of helper.Join args vs constants = on_values vs (r1 args) (r2 args) join_row
+row_of helper.Starts args vs constants = on_values vs (r1 args) (r2 args) starts_row
+row_of helper.Ends args vs constants = on_values vs (r1 args) (r2 args) ends_row
+row_of helper.Contains args vs constants = on_values vs (r1 args) (r2 args) contains_row
+row_of helper.Member args vs constants = on_values vs (r1 args) (r2 args) member_row
+row_of helper.ListNew args vs constants = list_new_row
+row_of helper.Push args vs constants = on_values vs (r1 args) (r2 args) push_row
+row_of helper.MapNew args vs constants = map_new_row
+row_of helper.Put args vs constants = on_value vs (r1 args) (λ m. on_values vs (r2 args) (r3 args) (put_row m))
+row_of helper.Item args vs constants = on_value vs (r1 args) (λ x. item_row x (r2 args))
+row_of helper.Count args vs constants = on_value vs (r1 args) count_row
+row_of helper.TextOfInt args vs constants = on_value vs (r1 args) text_of_int_row
+row_of helper.Not args vs constants = on_value vs (r1 args) not_row
+
+abbrev pub row_numbered : Option Helper → List ℕ → List ValueOrError → List ℕ → Outcome
+row_numbered (Some h) args vs constants = row_of h args vs constants
+row_numbered None args vs constants = Refused F5
+
+-- what helper `id` says of these arguments
+abbrev pub outcome_of : ℤ → List ℕ → List ValueOrError → List ℕ → Outcome
+outcome_of id args vs constants = row_numbered (of_number id) args vs constants
+
+-- what it answers among these values
+abbrev pub helper_row : ℤ → List ℕ → List ValueOrError → List ℕ → HelperAnswer
+helper_row id args vs constants = answer_among vs (outcome_of id args vs constants)
+
+-- what its call leaves
+abbrev pub call_end : ℤ → List ℕ → Contents → List ℕ → CallEnd
+call_end id args old constants = charged (helper_row id args old.values constants) old.charge

@@ -1,0 +1,43 @@
+-- The rows that compare two values, and answer a truth.
+use Rattle.std.specs.Prelude.{ℕ, Bool, ◌||◌, List, [], ◌∷◌, Option, Some, None, nat_eq}
+use Rattle.std.specs.List.{starts_with, ends_with}
+use Rattle.value_store.specs.Calls.{equal_at, less_at, member_at}
+use Rattle.value_store.specs.Seen.{seen}
+use Rattle.value_store.specs.Value.{ValueOrError}
+use Rattle.helper_table.specs.Operands.{text_part}
+use Rattle.helper_table.specs.Outcome.{Outcome, truth}
+
+-- deep equality of two values
+unfoldable pub equal_row : ValueOrError → ValueOrError → Outcome
+equal_row a b = truth (equal_at (Some a) (Some b))
+
+-- the order of two ints, of two texts by code points, and of two truths, false below true
+unfoldable pub less_row : ValueOrError → ValueOrError → Outcome
+less_row a b = truth (less_at (Some a) (Some b))
+
+-- whether a value equals an item of a list, or a text is a key of a map
+unfoldable pub member_row : ValueOrError → ValueOrError → Outcome
+member_row x c = truth (member_at (Some x) (Some c))
+
+-- what a test says of two texts
+abbrev pub on_texts : (List ℕ → List ℕ → Bool) → Option (List ℕ) → Option (List ℕ) → Option Bool
+on_texts test (Some s) (Some t) = Some (test s t)
+on_texts test (Some s) None = None
+on_texts test None t = None
+
+abbrev pub text_row : (List ℕ → List ℕ → Bool) → ValueOrError → ValueOrError → Outcome
+text_row test a b = truth (on_texts test (text_part (seen a)) (text_part (seen b)))
+
+unfoldable pub starts_row : ValueOrError → ValueOrError → Outcome
+starts_row = text_row (starts_with nat_eq)
+
+unfoldable pub ends_row : ValueOrError → ValueOrError → Outcome
+ends_row = text_row (ends_with nat_eq)
+
+-- the part stands at some place of the text
+abbrev pub contains : List ℕ → List ℕ → Bool
+contains [] part = starts_with nat_eq [] part
+contains (b ∷ bs) part = starts_with nat_eq (b ∷ bs) part || contains bs part
+
+unfoldable pub contains_row : ValueOrError → ValueOrError → Outcome
+contains_row = text_row contains

@@ -1,0 +1,18 @@
+-- What a call answers and leaves, and when it may be refused memory.
+use Rattle.std.specs.Prelude.{◌≡◌, ◌&&◌, Bool, Result, Ok, Err}
+use Rattle.std.specs.declared.alloc.AllocError.{AllocError}
+use Rattle.value_store.specs.Placing.{Contents}
+use Rattle.helper_table.specs.Outcome.{Outcome, CallEnd, Leaves, Halts, is_named, is_left, answer_among, charged}
+use Rattle.helper_table.specs.declared.helper_end.HelperEnd.{HelperEnd}
+use Rattle.helper_table.specs.declared.helper_end.HelperEnd.TheVariants.{Word, Stop}
+
+-- a call may be refused memory where its row places a value and it is not stopped
+abbrev pub takes_memory : Outcome → Contents → Bool
+takes_memory o old = is_named o && is_left (charged (answer_among old.values o) old.charge)
+
+-- the answer to a call is the one that is due, and the store after it too; or the host had no memory, and
+-- nothing is changed
+abbrev pub Ends : CallEnd → Result HelperEnd AllocError → Contents → Contents → Type 0
+Ends due (Ok (Word word)) old new = due ≡ Leaves word new
+Ends due (Ok (Stop f)) old new = (due ≡ Halts f) × (new ≡ old)
+Ends due (Err e) old new = new ≡ old

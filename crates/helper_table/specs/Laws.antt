@@ -1,0 +1,67 @@
+-- What every call keeps.
+use Rattle.std.specs.Prelude.{◌≡◌, ◌+◌, ◌≤◌, ℕ, ℤ, Bool, true, false, List, length, Some, slice_get}
+use Rattle.value_store.specs.Placing.{Contents, IsStore, place, placed}
+use Rattle.value_store.specs.Value.{Value, boolean, ValueOrError, error, value}
+use Rattle.helper_table.specs.Calls.{outcome_of, row_of, call_end, helper_row}
+use Rattle.helper_table.specs.Outcome.{Named, Gives, Leaves, is_named}
+use Rattle.helper_table.specs.declared.helper.Helper.{Helper}
+use Rattle.helper_table.specs.declared.helper.Helper.TheVariants as helper
+
+-- a reference names what stands at it
+abbrev pub Names : List ValueOrError → ℕ → ValueOrError → Type 0
+Names vs h x = slice_get vs h ≡ Some x
+
+-- the error and the truths have one reference each
+abbrev pub IsCanonicalAt : ValueOrError → ℕ → Type 0
+IsCanonicalAt error h = h ≡ 0
+IsCanonicalAt (value (boolean false)) h = h ≡ 2
+IsCanonicalAt (value (boolean true)) h = h ≡ 3
+IsCanonicalAt _ h = Unit {0}
+
+abbrev pub AreCanonical : List ValueOrError → Type 0
+AreCanonical vs = (h : ℕ) (x : ValueOrError) → Names vs h x → IsCanonicalAt x h
+
+-- values after others: old references name what they named, and at most one is new
+pub record Extends (old new : List ValueOrError) : Type 0 where
+  pub kept : (h : ℕ) (x : ValueOrError) → Names old h x → Names new h x
+  pub most_one : length new ≤ length old + 1
+  pub canonical : AreCanonical old → AreCanonical new
+
+-- a value that is placed among the values of a store has a reference that names it
+abbrev pub PlacedIsNamed : Type 0
+PlacedIsNamed = (old : Contents) (v : Value) → IsStore old → Names (placed old.values v) (place old.values v) (value v)
+
+abbrev pub PlacedExtends : Type 0
+PlacedExtends = (vs : List ValueOrError) (v : Value) → Extends vs (placed vs v)
+
+-- a row that names a value answers its reference
+abbrev pub RowPlaces : Type 0
+RowPlaces = (id : ℤ) (args : List ℕ) (vs : List ValueOrError) (constants : List ℕ) (v : Value) (added : ℕ) → outcome_of id args vs constants ≡ Named v added → helper_row id args vs constants ≡ Gives (place vs v) (placed vs v) (1 + added)
+
+-- what a call leaves is a store again, with the old values and at least 1 more charged
+pub record Follows (old new : Contents) : Type 0 where
+  pub values : Extends old.values new.values
+  pub paid : old.charge + 1 ≤ new.charge
+  pub store : IsStore old → IsStore new
+
+abbrev pub CallsFollow : Type 0
+CallsFollow = (id : ℤ) (args : List ℕ) (old new : Contents) (constants : List ℕ) (word : ℕ) → call_end id args old constants ≡ Leaves word new → Follows old new
+
+-- the helpers that may place a value
+abbrev pub may_place : Helper → Bool
+may_place helper.IntNew = true
+may_place helper.TextConst = true
+may_place helper.Field = true
+may_place helper.Index = true
+may_place helper.Size = true
+may_place helper.Join = true
+may_place helper.ListNew = true
+may_place helper.Push = true
+may_place helper.MapNew = true
+may_place helper.Put = true
+may_place helper.Item = true
+may_place helper.TextOfInt = true
+may_place _ = false
+
+abbrev pub OthersPlaceNothing : Type 0
+OthersPlaceNothing = (h : Helper) (args : List ℕ) (vs : List ValueOrError) (constants : List ℕ) → may_place h ≡ false → is_named (row_of h args vs constants) ≡ false

@@ -1,0 +1,13 @@
+pub mod Numbers
+pub mod Operands
+pub mod Outcome
+pub mod Conversions
+pub mod Lookups
+pub mod Comparisons
+pub mod Building
+pub mod Calls
+pub mod Rows
+pub mod Ends
+pub mod Kinds
+pub mod Plans
+pub mod Laws

@@ -1,0 +1,62 @@
+-- The rows that look something up in a map, a list or a text.
+use Rattle.std.specs.Prelude.{ℕ, pos, List, Option, Some, None, option_map, option_and_then}
+use Rattle.text_kernels.specs.Scans.{code_points_of}
+use Rattle.value_store.specs.Calls.{entries_at, part_at, key_at}
+use Rattle.value_store.specs.Lookup.{find, has_key}
+use Rattle.value_store.specs.Seen.{Seen, sees_text, sees_list, sees_map, seen}
+use Rattle.value_store.specs.Value.{Value, int, ValueOrError}
+use Rattle.helper_table.specs.Operands.{count_part, place_part, text_part}
+use Rattle.helper_table.specs.Outcome.{Outcome, Plain, found, truth}
+
+-- a map's value at a key
+abbrev pub value_under : Option ValueOrError → List ℕ → Option Value
+value_under m key = option_and_then (find key) (entries_at m)
+
+unfoldable pub field_row : ValueOrError → List ℕ → Outcome
+field_row m key = found (value_under (Some m) key)
+
+-- whether a map has a key
+abbrev pub has_under : Option ValueOrError → List ℕ → Outcome
+has_under m key = truth (option_map (has_key key) (entries_at m))
+
+unfoldable pub has_row : ValueOrError → List ℕ → Outcome
+has_row m key = has_under (Some m) key
+
+-- a list's item at an int, a map's value at a text
+abbrev pub part_by : Seen → Seen → Option ValueOrError → Option Value
+part_by (sees_list n) k x = option_and_then (part_at x) (place_part k)
+part_by (sees_map n) k x = option_and_then (value_under x) (text_part k)
+part_by _ k x = None
+
+unfoldable pub index_row : ValueOrError → ValueOrError → Outcome
+index_row x k = found (part_by (seen x) (seen k) (Some x))
+
+-- code points, items or entries
+abbrev pub size_part : Seen → Option ℕ
+size_part (sees_text s) = Some (code_points_of s)
+size_part (sees_list n) = Some n
+size_part (sees_map n) = Some n
+size_part _ = None
+
+abbrev pub size_found : Option ℕ → Outcome
+size_found n = found (option_map (λ size. int (pos size)) n)
+
+unfoldable pub size_row : ValueOrError → Outcome
+size_row x = size_found (size_part (seen x))
+
+-- a list's i-th item, a map's i-th key in byte order, counted from 0
+abbrev pub item_or_key : Seen → ℕ → Option ValueOrError → Option Value
+item_or_key (sees_list n) i x = part_at x i
+item_or_key (sees_map n) i x = key_at x i
+item_or_key _ i x = None
+
+unfoldable pub item_row : ValueOrError → ℕ → Outcome
+item_row x i = found (item_or_key (seen x) i (Some x))
+
+-- items or entries; elsewhere a word that is no count
+abbrev pub count_word : Option ℕ → ℕ
+count_word (Some n) = n
+count_word None = 0xffff_ffff_ffff_ffff
+
+unfoldable pub count_row : ValueOrError → Outcome
+count_row x = Plain (count_word (count_part (seen x))) 0

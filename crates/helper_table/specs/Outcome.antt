@@ -1,0 +1,60 @@
+-- What the rows say, and what a call makes of it.
+use Rattle.std.specs.Prelude.{ℕ, ◌+◌, Bool, true, false, List, Option, Some, None, nat_le, if◌then◌else◌}
+use Rattle.guest_memory.specs.declared.fault.Fault as fault
+use Rattle.guest_memory.specs.declared.fault.Fault.TheVariants.{F8}
+use Rattle.value_store.specs.Placing.{Contents, charge_limit, place, placed}
+use Rattle.value_store.specs.Value.{Value, ValueOrError}
+
+-- what a row says of its operands: a word, or a value whose reference is the word, with what is added to
+-- the charge of 1 that each call has; or the fault that stops the call
+pub data Outcome : Type 0 where
+  Plain : (word added : ℕ) → Outcome
+  Named : Value → (added : ℕ) → Outcome
+  Refused : fault.Fault → Outcome
+
+-- a truth is named by the reference of false or of true, where there is none by that of the error
+abbrev pub truth_word : Option Bool → ℕ
+truth_word (Some false) = 2
+truth_word (Some true) = 3
+truth_word None = 0
+
+abbrev pub truth : Option Bool → Outcome
+truth b = Plain (truth_word b) 0
+
+-- a value, where there is none the error
+abbrev pub named : Option Value → ℕ → Outcome
+named (Some v) added = Named v added
+named None added = Plain 0 added
+
+abbrev pub found : Option Value → Outcome
+found v = named v 0
+
+-- what a call answers: a word with the values after it and its cost, or the fault that stops it
+pub data HelperAnswer : Type 0 where
+  Gives : (word : ℕ) (values : List ValueOrError) (cost : ℕ) → HelperAnswer
+  Stops : fault.Fault → HelperAnswer
+
+abbrev pub answer_among : List ValueOrError → Outcome → HelperAnswer
+answer_among vs (Plain word added) = Gives word vs (1 + added)
+answer_among vs (Named v added) = Gives (place vs v) (placed vs v) (1 + added)
+answer_among vs (Refused f) = Stops f
+
+-- what stands after a call
+pub data CallEnd : Type 0 where
+  Leaves : (word : ℕ) → Contents → CallEnd
+  Halts : fault.Fault → CallEnd
+
+-- the cost is charged, within the limit
+abbrev pub charged : HelperAnswer → ℕ → CallEnd
+charged (Gives word vs cost) charge = if nat_le (charge + cost) charge_limit then Leaves word (record { values = vs; charge = charge + cost }) else Halts F8
+charged (Stops f) charge = Halts f
+
+-- the row asks for a value that is placed
+abbrev pub is_named : Outcome → Bool
+is_named (Named v added) = true
+is_named (Plain word added) = false
+is_named (Refused f) = false
+
+abbrev pub is_left : CallEnd → Bool
+is_left (Leaves word contents) = true
+is_left (Halts f) = false

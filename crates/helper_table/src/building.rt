@@ -1,0 +1,218 @@
+//! The helpers that make texts, lists and maps.
+ghost use Rattle.std.specs.Prelude.{◌≡◌, ◌&&◌, ◌+◌, ◌<◌, ◌≤◌, ◌^◌, List, Some, is_some, max, nat_le, option_map, slice_get, length};
+ghost use Rattle.helper_table.specs.Building.{sequence, grown, entered, depth_at, depth_limit, join_row, list_new_row, map_new_row, push_row, put_row};
+ghost use Rattle.helper_table.specs.Calls.{on_value, on_values};
+ghost use Rattle.helper_table.specs.Kinds.{can_join, is_list, is_value, is_absent, is_new_key};
+ghost use Rattle.helper_table.specs.Operands.{text_part};
+ghost use Rattle.helper_table.specs.Plans.{means, CanFollow, outcome_by, CanDo};
+ghost use Rattle.value_store.specs.Calls.{entries_at, joined, pushed};
+ghost use Rattle.value_store.specs.Seen.{seen, shown, seen_size};
+ghost use Rattle.value_store.specs.Value.{ValueOrError};
+
+use crate::action::Action;
+use crate::lookups::has_key;
+use crate::operands::{is_value, operand};
+use crate::plan::Plan;
+use guest_memory::Fault;
+use value_store::{Shape, ValueStore};
+
+/// The greatest depth of a list or a map that is made.
+const DEPTH_LIMIT: u64 = 255;
+
+/// Two texts or two lists.
+fn can_join(x: Shape<'_>, y: Shape<'_>) -> bool
+    ensures { result ≡ can_join (shown x.entry) (shown y.entry) }
+{
+    match x {
+        Shape::Text(_) => match y {
+            Shape::Text(_) => true,
+            _ => false,
+        },
+        Shape::List(_) => match y {
+            Shape::List(_) => true,
+            _ => false,
+        },
+        _ => false,
+    }
+}
+
+/// Bytes, items or entries.
+fn size(shape: Shape<'_>) -> u64
+    ensures { result ≡ seen_size (shown shape.entry) }
+{
+    match shape {
+        Shape::Text(text) => text.len() as u64,
+        Shape::List(count) => count,
+        Shape::Map(count) => count,
+        _ => 0,
+    }
+}
+
+#[tactic(auto, using(crate::proofs::Joins::joins, crate::proofs::Joins::joins_not, crate::proofs::Joins::joined_there))]
+fn join_plan(a: u64, b: u64, x: Shape<'_>, y: Shape<'_>) -> Plan<'static>
+    requires x { seen_size (shown x) < 2 ^ 63 }
+    requires y { seen_size (shown y) < 2 ^ 63 }
+    ensures means { (vs : List ValueOrError) → option_map seen (slice_get vs a) ≡ Some (shown x.entry) → option_map seen (slice_get vs b) ≡ Some (shown y.entry) → outcome_by vs result.action result.added ≡ sequence (joined (slice_get vs a) (slice_get vs b)) }
+    ensures can { (vs : List ValueOrError) → option_map seen (slice_get vs a) ≡ Some (shown x.entry) → option_map seen (slice_get vs b) ≡ Some (shown y.entry) → CanDo vs result.action }
+{
+    if can_join(x, y) {
+        Plan {
+            action: Action::Join(a, b),
+            added: size(x) + size(y),
+        }
+    } else {
+        Plan {
+            action: Action::Word(0),
+            added: 0,
+        }
+    }
+}
+
+/// Helper 11: two texts or two lists, one behind the other.
+pub(crate) fn join<V: ValueStore>(table: &V, a: u64, b: u64) -> Result<Plan<'static>, Fault>
+    ensures means { means (V.values table.now) result ≡ on_values (V.values table.now) a b join_row }
+    ensures can { CanFollow (V.values table.now) result }
+{
+    let x = operand(table, a)?;
+    let y = operand(table, b)?;
+    Ok(join_plan(a, b, x, y))
+}
+
+/// Helper 16: an empty list.
+#[tactic(auto, unfolding(crate::specs::Building::list_new_row))]
+pub(crate) fn list_new() -> Result<Plan<'static>, Fault>
+    ensures means { (vs : List ValueOrError) → means vs result ≡ list_new_row }
+    ensures can { (vs : List ValueOrError) → CanFollow vs result }
+{
+    Ok(Plan {
+        action: Action::List,
+        added: 0,
+    })
+}
+
+/// Helper 18: an empty map.
+#[tactic(auto, unfolding(crate::specs::Building::map_new_row))]
+pub(crate) fn map_new() -> Result<Plan<'static>, Fault>
+    ensures means { (vs : List ValueOrError) → means vs result ≡ map_new_row }
+    ensures can { (vs : List ValueOrError) → CanFollow vs result }
+{
+    Ok(Plan {
+        action: Action::Map,
+        added: 0,
+    })
+}
+
+/// Whether a list or a map with a value more is within the depth.
+#[tactic(auto, using(crate::proofs::Depths::depth_there, crate::proofs::Depths::within_depth))]
+fn is_within_depth<V: ValueStore>(table: &V, c: u64, x: u64) -> bool
+    requires c { c < length (V.values table.now) }
+    requires x { x < length (V.values table.now) }
+    ensures { result ≡ nat_le (max (depth_at (slice_get (V.values table.now) c)) (1 + depth_at (slice_get (V.values table.now) x))) depth_limit }
+{
+    let (container, part) = (table.depth(c), table.depth(x));
+    container <= DEPTH_LIMIT && part < DEPTH_LIMIT
+}
+
+/// A list and a value.
+fn can_push(list: Shape<'_>, item: Shape<'_>) -> bool
+    ensures { result ≡ is_list (shown list.entry) && is_value (shown item.entry) }
+{
+    match list {
+        Shape::List(_) => is_value(item),
+        _ => false,
+    }
+}
+
+#[tactic(auto, using(crate::proofs::Depths::pushes, crate::proofs::Depths::pushes_not, crate::proofs::Depths::push_too_deep))]
+fn push_plan(l: u64, x: u64, can_push: bool, is_within: bool) -> Result<Plan<'static>, Fault>
+    ensures means { (vs : List ValueOrError) → can_push ≡ is_some (pushed (slice_get vs l) (slice_get vs x)) → is_within ≡ nat_le (max (depth_at (slice_get vs l)) (1 + depth_at (slice_get vs x))) depth_limit → means vs result ≡ grown (pushed (slice_get vs l) (slice_get vs x)) }
+    ensures can { (vs : List ValueOrError) → can_push ≡ is_some (pushed (slice_get vs l) (slice_get vs x)) → CanFollow vs result }
+{
+    if !can_push {
+        return Ok(Plan {
+            action: Action::Word(0),
+            added: 1,
+        });
+    }
+    if !is_within {
+        return Err(Fault::F8);
+    }
+    Ok(Plan {
+        action: Action::Push(l, x),
+        added: 1,
+    })
+}
+
+/// Helper 17: a list with a value behind its items.
+pub(crate) fn push<V: ValueStore>(table: &V, l: u64, x: u64) -> Result<Plan<'static>, Fault>
+    ensures means { means (V.values table.now) result ≡ on_values (V.values table.now) l x push_row }
+    ensures can { CanFollow (V.values table.now) result }
+{
+    let list = operand(table, l)?;
+    let item = operand(table, x)?;
+    push_plan(l, x, can_push(list, item), is_within_depth(table, l, x))
+}
+
+/// A text that is not yet a key of a map.
+fn is_new_key<V: ValueStore>(table: &V, m: u64, key: Shape<'_>) -> bool
+    ensures { result ≡ is_new_key (entries_at (slice_get (V.values table.now) m)) (text_part (shown key.entry)) }
+{
+    match key {
+        Shape::Text(text) => is_absent(has_key(table, m, text.as_bytes())),
+        _ => false,
+    }
+}
+
+/// The test was made, and it failed.
+fn is_absent(test: Option<bool>) -> bool
+    ensures { result ≡ is_absent test }
+{
+    match test {
+        Some(holds) => !holds,
+        None => false,
+    }
+}
+
+/// A text that is not yet a key of a map, and a value.
+fn can_put<V: ValueStore>(table: &V, m: u64, key: Shape<'_>, value: Shape<'_>) -> bool
+    ensures { result ≡ is_new_key (entries_at (slice_get (V.values table.now) m)) (text_part (shown key.entry)) && is_value (shown value.entry) }
+{
+    is_new_key(table, m, key) && is_value(value)
+}
+
+#[tactic(auto, using(crate::proofs::Entering::puts, crate::proofs::Entering::puts_not, crate::proofs::Entering::put_too_deep, crate::proofs::Entering::put_there))]
+fn put_plan(m: u64, k: u64, x: u64, can_put: bool, is_within: bool) -> Result<Plan<'static>, Fault>
+    ensures means { (vs : List ValueOrError) → can_put ≡ is_some (entered (slice_get vs m) (slice_get vs k) (slice_get vs x)) → is_within ≡ nat_le (max (depth_at (slice_get vs m)) (1 + depth_at (slice_get vs x))) depth_limit → means vs result ≡ grown (entered (slice_get vs m) (slice_get vs k) (slice_get vs x)) }
+    ensures can { (vs : List ValueOrError) → can_put ≡ is_some (entered (slice_get vs m) (slice_get vs k) (slice_get vs x)) → CanFollow vs result }
+{
+    if !can_put {
+        return Ok(Plan {
+            action: Action::Word(0),
+            added: 1,
+        });
+    }
+    if !is_within {
+        return Err(Fault::F8);
+    }
+    Ok(Plan {
+        action: Action::Put(m, k, x),
+        added: 1,
+    })
+}
+
+/// Helper 19: a map with a text at a value, where the text is not yet one of its keys.
+pub(crate) fn put<V: ValueStore>(table: &V, m: u64, k: u64, x: u64) -> Result<Plan<'static>, Fault>
+    ensures means { means (V.values table.now) result ≡ on_value (V.values table.now) m (λ map. on_values (V.values table.now) k x (put_row map)) }
+    ensures can { CanFollow (V.values table.now) result }
+{
+    let _map = operand(table, m)?;
+    let key = operand(table, k)?;
+    let value = operand(table, x)?;
+    put_plan(
+        m,
+        k,
+        x,
+        can_put(table, m, key, value),
+        is_within_depth(table, m, x),
+    )
+}

@@ -1,0 +1,126 @@
+//! A call of a helper: its plan, and what is done for it.
+ghost use Rattle.std.specs.Prelude.{◌≡◌, ℕ, false, IsOk};
+ghost use Rattle.helper_table.specs.Calls.{row_of, outcome_of, call_end};
+ghost use Rattle.helper_table.specs.Outcome.{answer_among, charged};
+ghost use Rattle.helper_table.specs.Plans.{means, CanFollow, outcome_by, CanDo, Does};
+ghost use Rattle.helper_table.specs.Ends.{Ends, takes_memory};
+ghost use Rattle.value_store.specs.Placing.{Contents};
+
+use crate::action::Action;
+use crate::building::{join, list_new, map_new, push, put};
+use crate::comparisons::{contains, ends, equal, less, member, starts};
+use crate::conversions::{int_new, int_of, kind, not, text_const, text_of_int};
+use crate::helper::Helper;
+use crate::helper_end::HelperEnd;
+use crate::lookups::{count, field, has, index, item, size};
+use crate::plan::Plan;
+use guest_memory::{Fault, Regions};
+use itoa::Buffer;
+use std::alloc::AllocError;
+use value_store::ValueStore;
+
+/// The most that a store is charged.
+const CHARGE_LIMIT: u64 = 16_777_216;
+
+/// What the row of a helper says of these arguments.
+#[tactic(auto, unfolding(crate::specs::Calls::row_of))]
+fn plan_of<'a, V: ValueStore, M: Regions>(
+    helper: Helper,
+    args: [u64; 5],
+    table: &mut V,
+    memory: &'a M,
+) -> Result<Plan<'a>, Fault>
+    ensures means { means (V.values table.old) result ≡ row_of helper args (V.values table.old) (M.bytes memory.now).constants }
+    ensures can { CanFollow (V.values table.old) result }
+    ensures values { V.values table.new ≡ V.values table.old }
+    ensures charge { V.charge table.new ≡ V.charge table.old }
+{
+    let [a, b, c, _, _] = args;
+    match helper {
+        Helper::Kind => kind(table, a),
+        Helper::IntOf => int_of(table, a),
+        Helper::IntNew => int_new(a),
+        Helper::TextConst => text_const(memory, a, b),
+        Helper::Field => field(table, memory, a, b, c),
+        Helper::Has => has(table, memory, a, b, c),
+        Helper::Index => index(table, a, b),
+        Helper::Size => size(table, a),
+        Helper::Equal => equal(table, a, b),
+        Helper::Less => less(table, a, b),
+        Helper::Join => join(table, a, b),
+        Helper::Starts => starts(table, a, b),
+        Helper::Ends => ends(table, a, b),
+        Helper::Contains => contains(table, a, b),
+        Helper::Member => member(table, a, b),
+        Helper::ListNew => list_new(),
+        Helper::Push => push(table, a, b),
+        Helper::MapNew => map_new(),
+        Helper::Put => put(table, a, b, c),
+        Helper::Item => item(table, a, b),
+        Helper::Count => count(table, a),
+        Helper::TextOfInt => text_of_int(table, a),
+        Helper::Not => not(table, a),
+    }
+}
+
+/// The word of an action. The error says that the host has no memory for the value that is placed.
+#[tactic(auto, using(crate::proofs::Performing::does_named))]
+fn word_of<V: ValueStore>(table: &mut V, action: Action<'_>) -> Result<u64, AllocError>
+    requires { CanDo (V.values table.old) action }
+    ensures done { (added : ℕ) → Does (outcome_by (V.values table.old) action.entry added) result (V.values table.old) (V.values table.new) }
+    ensures charge { V.charge table.new ≡ V.charge table.old }
+{
+    match action {
+        Action::Word(word) => Ok(word),
+        Action::Int(n) => table.place_int(n),
+        Action::Text(text) => table.place_text(text),
+        Action::Decimal(n) => table.place_text(Buffer::new().format(n)),
+        Action::Part(h, i) => table.alias(h, i),
+        Action::Key(h, i) => table.alias_key(h, i),
+        Action::Join(a, b) => table.join(a, b),
+        Action::List => table.new_list(),
+        Action::Map => table.new_map(),
+        Action::Push(l, x) => table.push(l, x),
+        Action::Put(m, k, x) => table.put(m, k, x),
+    }
+}
+
+/// Charges for a plan and follows it.
+fn perform<V: ValueStore>(table: &mut V, plan: Plan<'_>) -> Result<HelperEnd, AllocError>
+    requires { CanDo (V.values table.old) plan.action }
+    ensures ends { let old : Contents = record { values = V.values table.old; charge = V.charge table.old } in Ends (charged (answer_among old.values (outcome_by old.values plan.entry.action plan.entry.added)) old.charge) result old (record { values = V.values table.new; charge = V.charge table.new }) }
+    ensures memory { takes_memory (outcome_by (V.values table.old) plan.entry.action plan.entry.added) (record { values = V.values table.old; charge = V.charge table.old }) ≡ false → IsOk result }
+{
+    if plan.added >= CHARGE_LIMIT - table.charge() {
+        return Ok(HelperEnd::Stop(Fault::F8));
+    }
+    let word = word_of(table, plan.action)?;
+    table.spend(1 + plan.added);
+    Ok(HelperEnd::Word(word))
+}
+
+/// Calls helper `id` on the words of the registers R1 to R5: its row of the helper table, among the
+/// values of the store and the constants of the memory. It ends with a word, and the store has the
+/// value that the row places and was charged for the call; or it stops by the fault that the row names,
+/// and the store is as before: `F5` for an unknown number, `F6` for a reference that is none, `F3` for a
+/// range that lies outside the constants, `F8` for a charge or a depth above its limit, in this order.
+///
+/// The error says that the host has no memory for the value that is to be placed, and then the store is
+/// as before too. A call that stops, or that places nothing, asks for none.
+pub fn call<V: ValueStore, M: Regions>(
+    id: i32,
+    args: [u64; 5],
+    table: &mut V,
+    memory: &M,
+) -> Result<HelperEnd, AllocError>
+    ensures ends { let old : Contents = record { values = V.values table.old; charge = V.charge table.old } in Ends (call_end id args old (M.bytes memory.now).constants) result old (record { values = V.values table.new; charge = V.charge table.new }) }
+    ensures memory { takes_memory (outcome_of id args (V.values table.old) (M.bytes memory.now).constants) (record { values = V.values table.old; charge = V.charge table.old }) ≡ false → IsOk result }
+{
+    let Some(helper) = Helper::of_number(id) else {
+        return Ok(HelperEnd::Stop(Fault::F5));
+    };
+    match plan_of(helper, args, table, memory) {
+        Ok(plan) => perform(table, plan),
+        Err(fault) => Ok(HelperEnd::Stop(fault)),
+    }
+}

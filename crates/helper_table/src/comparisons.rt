@@ -1,0 +1,224 @@
+//! The helpers that compare two values, and answer a truth.
+ghost use Rattle.std.specs.Prelude.{◌≡◌, ◌&&◌, slice_get, is_some, nat_eq};
+ghost use Rattle.std.specs.List.{starts_with, ends_with};
+ghost use Rattle.helper_table.specs.Calls.{on_values};
+ghost use Rattle.helper_table.specs.Comparisons.{on_texts, contains, equal_row, less_row, member_row, starts_row, ends_row, contains_row};
+ghost use Rattle.helper_table.specs.Kinds.{is_value, have_order, may_be_in};
+ghost use Rattle.helper_table.specs.Operands.{text_part};
+ghost use Rattle.helper_table.specs.Plans.{means, CanFollow};
+ghost use Rattle.value_store.specs.Calls.{equal_at, less_at, member_at};
+ghost use Rattle.value_store.specs.Seen.{shown};
+
+use crate::action::Action;
+use crate::operands::{is_value, operand, truth_word};
+use crate::plan::Plan;
+use guest_memory::Fault;
+use memchr::memmem;
+use value_store::{Shape, ValueStore};
+
+fn are_values(x: Shape<'_>, y: Shape<'_>) -> bool
+    ensures { result ≡ is_value (shown x.entry) && is_value (shown y.entry) }
+{
+    is_value(x) && is_value(y)
+}
+
+/// Deep equality, if both are values.
+#[tactic(auto, using(crate::proofs::Pairs::nothing))]
+fn equality<V: ValueStore>(table: &mut V, a: u64, b: u64, both: bool) -> Option<bool>
+    requires { both ≡ is_some (equal_at (slice_get (V.values table.old) a) (slice_get (V.values table.old) b)) }
+    ensures answer { result ≡ equal_at (slice_get (V.values table.old) a) (slice_get (V.values table.old) b) }
+    ensures values { V.values table.new ≡ V.values table.old }
+    ensures charge { V.charge table.new ≡ V.charge table.old }
+{
+    if both { Some(table.equal(a, b)) } else { None }
+}
+
+/// Helper 9: whether two values are equal.
+#[tactic(auto, using(crate::proofs::Pairs::equal_pair))]
+pub(crate) fn equal<V: ValueStore>(table: &mut V, a: u64, b: u64) -> Result<Plan<'static>, Fault>
+    ensures means { means (V.values table.old) result ≡ on_values (V.values table.old) a b equal_row }
+    ensures can { CanFollow (V.values table.old) result }
+    ensures values { V.values table.new ≡ V.values table.old }
+    ensures charge { V.charge table.new ≡ V.charge table.old }
+{
+    let x = operand(table, a)?;
+    let y = operand(table, b)?;
+    let both = are_values(x, y);
+    let truth = equality(table, a, b, both);
+    Ok(Plan {
+        action: Action::Word(truth_word(truth)),
+        added: 0,
+    })
+}
+
+/// Two ints, two texts or two truths.
+fn have_order(x: Shape<'_>, y: Shape<'_>) -> bool
+    ensures { result ≡ have_order (shown x.entry) (shown y.entry) }
+{
+    match x {
+        Shape::Bool(_) => match y {
+            Shape::Bool(_) => true,
+            _ => false,
+        },
+        Shape::Int(_) => match y {
+            Shape::Int(_) => true,
+            _ => false,
+        },
+        Shape::Text(_) => match y {
+            Shape::Text(_) => true,
+            _ => false,
+        },
+        _ => false,
+    }
+}
+
+/// The order of two operands, if they have one.
+#[tactic(auto, using(crate::proofs::Pairs::nothing))]
+fn order<V: ValueStore>(table: &V, a: u64, b: u64, ordered: bool) -> Option<bool>
+    requires { ordered ≡ is_some (less_at (slice_get (V.values table.now) a) (slice_get (V.values table.now) b)) }
+    ensures { result ≡ less_at (slice_get (V.values table.now) a) (slice_get (V.values table.now) b) }
+{
+    if ordered {
+        Some(table.less(a, b))
+    } else {
+        None
+    }
+}
+
+/// Helper 10: whether the first of two values is below the second.
+#[tactic(auto, using(crate::proofs::Pairs::less_pair))]
+pub(crate) fn less<V: ValueStore>(table: &V, a: u64, b: u64) -> Result<Plan<'static>, Fault>
+    ensures means { means (V.values table.now) result ≡ on_values (V.values table.now) a b less_row }
+    ensures can { CanFollow (V.values table.now) result }
+{
+    let x = operand(table, a)?;
+    let y = operand(table, b)?;
+    let truth = order(table, a, b, have_order(x, y));
+    Ok(Plan {
+        action: Action::Word(truth_word(truth)),
+        added: 0,
+    })
+}
+
+/// A value for a list, a text for a map.
+fn may_be_in(x: Shape<'_>, c: Shape<'_>) -> bool
+    ensures { result ≡ may_be_in (shown x.entry) (shown c.entry) }
+{
+    match c {
+        Shape::List(_) => is_value(x),
+        Shape::Map(_) => match x {
+            Shape::Text(_) => true,
+            _ => false,
+        },
+        _ => false,
+    }
+}
+
+/// Membership, if the second operand may have the first.
+#[tactic(auto, using(crate::proofs::Pairs::nothing))]
+fn membership<V: ValueStore>(table: &mut V, x: u64, c: u64, may_be: bool) -> Option<bool>
+    requires { may_be ≡ is_some (member_at (slice_get (V.values table.old) x) (slice_get (V.values table.old) c)) }
+    ensures answer { result ≡ member_at (slice_get (V.values table.old) x) (slice_get (V.values table.old) c) }
+    ensures values { V.values table.new ≡ V.values table.old }
+    ensures charge { V.charge table.new ≡ V.charge table.old }
+{
+    if may_be {
+        Some(table.member(x, c))
+    } else {
+        None
+    }
+}
+
+/// Helper 15: whether a value is an item of a list, or a text a key of a map.
+#[tactic(auto, using(crate::proofs::Pairs::member_pair))]
+pub(crate) fn member<V: ValueStore>(table: &mut V, x: u64, c: u64) -> Result<Plan<'static>, Fault>
+    ensures means { means (V.values table.old) result ≡ on_values (V.values table.old) x c member_row }
+    ensures can { CanFollow (V.values table.old) result }
+    ensures values { V.values table.new ≡ V.values table.old }
+    ensures charge { V.charge table.new ≡ V.charge table.old }
+{
+    let item = operand(table, x)?;
+    let container = operand(table, c)?;
+    let may_be = may_be_in(item, container);
+    let truth = membership(table, x, c, may_be);
+    Ok(Plan {
+        action: Action::Word(truth_word(truth)),
+        added: 0,
+    })
+}
+
+fn begins_with(text: Shape<'_>, part: Shape<'_>) -> Option<bool>
+    ensures { result ≡ on_texts (starts_with nat_eq) (text_part (shown text.entry)) (text_part (shown part.entry)) }
+{
+    match text {
+        Shape::Text(s) => match part {
+            Shape::Text(t) => Some(s.as_bytes().starts_with(t.as_bytes())),
+            _ => None,
+        },
+        _ => None,
+    }
+}
+
+/// Helper 12: whether a text begins with another.
+pub(crate) fn starts<V: ValueStore>(table: &V, a: u64, b: u64) -> Result<Plan<'static>, Fault>
+    ensures means { means (V.values table.now) result ≡ on_values (V.values table.now) a b starts_row }
+    ensures can { CanFollow (V.values table.now) result }
+{
+    let text = operand(table, a)?;
+    let part = operand(table, b)?;
+    Ok(Plan {
+        action: Action::Word(truth_word(begins_with(text, part))),
+        added: 0,
+    })
+}
+
+fn finishes_with(text: Shape<'_>, part: Shape<'_>) -> Option<bool>
+    ensures { result ≡ on_texts (ends_with nat_eq) (text_part (shown text.entry)) (text_part (shown part.entry)) }
+{
+    match text {
+        Shape::Text(s) => match part {
+            Shape::Text(t) => Some(s.as_bytes().ends_with(t.as_bytes())),
+            _ => None,
+        },
+        _ => None,
+    }
+}
+
+/// Helper 13: whether a text ends with another.
+pub(crate) fn ends<V: ValueStore>(table: &V, a: u64, b: u64) -> Result<Plan<'static>, Fault>
+    ensures means { means (V.values table.now) result ≡ on_values (V.values table.now) a b ends_row }
+    ensures can { CanFollow (V.values table.now) result }
+{
+    let text = operand(table, a)?;
+    let part = operand(table, b)?;
+    Ok(Plan {
+        action: Action::Word(truth_word(finishes_with(text, part))),
+        added: 0,
+    })
+}
+
+#[tactic(auto, using(crate::proofs::Finding::finds_part))]
+fn has_part(text: Shape<'_>, part: Shape<'_>) -> Option<bool>
+    ensures { result ≡ on_texts contains (text_part (shown text.entry)) (text_part (shown part.entry)) }
+{
+    match text {
+        Shape::Text(s) => match part {
+            Shape::Text(t) => Some(memmem::find(s.as_bytes(), t.as_bytes()).is_some()),
+            _ => None,
+        },
+        _ => None,
+    }
+}
+
+/// Helper 14: whether a text stands in another.
+pub(crate) fn contains<V: ValueStore>(table: &V, a: u64, b: u64) -> Result<Plan<'static>, Fault>
+    ensures means { means (V.values table.now) result ≡ on_values (V.values table.now) a b contains_row }
+    ensures can { CanFollow (V.values table.now) result }
+{
+    let text = operand(table, a)?;
+    let part = operand(table, b)?;
+    Ok(Plan {
+        action: Action::Word(truth_word(has_part(text, part))),
+        added: 0,
+    })
+}

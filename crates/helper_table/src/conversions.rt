@@ -1,0 +1,150 @@
+//! The helpers that ask for the kind of a value, or turn words, texts and truths into others.
+ghost use Rattle.std.specs.Prelude.{◌≡◌, not, option_map, List};
+ghost use Rattle.helper_table.specs.Calls.{on_value, on_range};
+ghost use Rattle.helper_table.specs.Conversions.{kind_number, int_word, decimal_of, kind_row, int_of_row, int_new_row, text_const_row, text_of_int_row, not_row};
+ghost use Rattle.helper_table.specs.Operands.{int_part, truth_part};
+ghost use Rattle.helper_table.specs.Plans.{means, CanFollow, outcome_by, CanDo};
+ghost use Rattle.value_store.specs.Seen.{shown};
+ghost use Rattle.value_store.specs.Value.{ValueOrError};
+
+use crate::action::Action;
+use crate::operands::{operand, range, truth_word};
+use crate::plan::Plan;
+use guest_memory::{Fault, Regions};
+use itoa::Buffer;
+use value_store::{Shape, ValueStore};
+
+fn kind_number(shape: Shape<'_>) -> u64
+    ensures { result ≡ kind_number (shown shape.entry) }
+{
+    match shape {
+        Shape::Error => 0,
+        Shape::Null => 1,
+        Shape::Bool(_) => 2,
+        Shape::Int(_) => 3,
+        Shape::Text(_) => 4,
+        Shape::List(_) => 5,
+        Shape::Map(_) => 6,
+    }
+}
+
+/// Helper 1: the kind of a value, as a number.
+#[tactic(auto, using(crate::proofs::Seeing::by_seen, crate::proofs::Seeing::by_fault), unfolding(crate::specs::Conversions::kind_row))]
+pub(crate) fn kind<V: ValueStore>(table: &V, h: u64) -> Result<Plan<'static>, Fault>
+    ensures means { means (V.values table.now) result ≡ on_value (V.values table.now) h kind_row }
+    ensures can { CanFollow (V.values table.now) result }
+{
+    let shape = operand(table, h)?;
+    Ok(Plan {
+        action: Action::Word(kind_number(shape)),
+        added: 0,
+    })
+}
+
+fn int_word(shape: Shape<'_>) -> u64
+    ensures { result ≡ int_word (int_part (shown shape.entry)) }
+{
+    match shape {
+        Shape::Int(n) => n.cast_unsigned(),
+        _ => 0,
+    }
+}
+
+/// Helper 2: an int as a word.
+#[tactic(auto, using(crate::proofs::Seeing::by_seen, crate::proofs::Seeing::by_fault), unfolding(crate::specs::Conversions::int_of_row))]
+pub(crate) fn int_of<V: ValueStore>(table: &V, h: u64) -> Result<Plan<'static>, Fault>
+    ensures means { means (V.values table.now) result ≡ on_value (V.values table.now) h int_of_row }
+    ensures can { CanFollow (V.values table.now) result }
+{
+    let shape = operand(table, h)?;
+    Ok(Plan {
+        action: Action::Word(int_word(shape)),
+        added: 0,
+    })
+}
+
+/// Helper 3: the int that a word is, read as signed.
+#[tactic(auto, unfolding(crate::specs::Conversions::int_new_row))]
+pub(crate) fn int_new(word: u64) -> Result<Plan<'static>, Fault>
+    ensures means { (vs : List ValueOrError) → means vs result ≡ int_new_row word }
+    ensures can { (vs : List ValueOrError) → CanFollow vs result }
+{
+    Ok(Plan {
+        action: Action::Int(word.cast_signed()),
+        added: 0,
+    })
+}
+
+fn text_plan(bytes: &[u8]) -> Plan<'_>
+    ensures means { (vs : List ValueOrError) → outcome_by vs result.action result.added ≡ text_const_row bytes.now }
+    ensures can { (vs : List ValueOrError) → CanDo vs result.action }
+{
+    match std::str::from_utf8(bytes) {
+        Ok(text) => Plan {
+            action: Action::Text(text),
+            added: text.len() as u64,
+        },
+        Err(_) => Plan {
+            action: Action::Word(0),
+            added: 0,
+        },
+    }
+}
+
+/// Helper 4: the text in a range of constants.
+#[tactic(auto, using(crate::proofs::Lending::by_lent, crate::proofs::Lending::by_no_range))]
+pub(crate) fn text_const<M: Regions>(memory: &M, addr: u64, len: u64) -> Result<Plan<'_>, Fault>
+    ensures means { (vs : List ValueOrError) → means vs result ≡ on_range (M.bytes memory.now).constants addr len text_const_row }
+    ensures can { (vs : List ValueOrError) → CanFollow vs result }
+{
+    let bytes = range(memory, addr, len)?;
+    Ok(text_plan(bytes))
+}
+
+fn decimal_plan(shape: Shape<'_>) -> Plan<'static>
+    ensures means { (vs : List ValueOrError) → outcome_by vs result.action result.added ≡ decimal_of (int_part (shown shape.entry)) }
+    ensures can { (vs : List ValueOrError) → CanDo vs result.action }
+{
+    match shape {
+        Shape::Int(n) => Plan {
+            action: Action::Decimal(n),
+            added: Buffer::new().format(n).len() as u64,
+        },
+        _ => Plan {
+            action: Action::Word(0),
+            added: 0,
+        },
+    }
+}
+
+/// Helper 22: the decimal text of an int.
+#[tactic(auto, using(crate::proofs::Seeing::by_seen, crate::proofs::Seeing::by_fault), unfolding(crate::specs::Conversions::text_of_int_row))]
+pub(crate) fn text_of_int<V: ValueStore>(table: &V, h: u64) -> Result<Plan<'static>, Fault>
+    ensures means { means (V.values table.now) result ≡ on_value (V.values table.now) h text_of_int_row }
+    ensures can { CanFollow (V.values table.now) result }
+{
+    let shape = operand(table, h)?;
+    Ok(decimal_plan(shape))
+}
+
+fn other_truth(shape: Shape<'_>) -> Option<bool>
+    ensures { result ≡ option_map not (truth_part (shown shape.entry)) }
+{
+    match shape {
+        Shape::Bool(truth) => Some(!truth),
+        _ => None,
+    }
+}
+
+/// Helper 23: the other truth.
+#[tactic(auto, using(crate::proofs::Seeing::by_seen, crate::proofs::Seeing::by_fault), unfolding(crate::specs::Conversions::not_row))]
+pub(crate) fn not<V: ValueStore>(table: &V, h: u64) -> Result<Plan<'static>, Fault>
+    ensures means { means (V.values table.now) result ≡ on_value (V.values table.now) h not_row }
+    ensures can { CanFollow (V.values table.now) result }
+{
+    let shape = operand(table, h)?;
+    Ok(Plan {
+        action: Action::Word(truth_word(other_truth(shape))),
+        added: 0,
+    })
+}

@@ -1,0 +1,26 @@
+//! Laws of the helper rows, each the clause of a function that does nothing.
+ghost use Rattle.helper_table.specs.Laws.{PlacedIsNamed, PlacedExtends, RowPlaces, CallsFollow, OthersPlaceNothing};
+ghost use Rattle.helper_table.specs.Rows.{RowsStand};
+
+/// Calls worked by hand.
+pub fn rows_stand()
+    ensures { RowsStand }
+{}
+
+/// A value that is placed has a reference that names it, and references name afterwards what they named
+/// before.
+pub fn placed_is_named()
+    ensures named { PlacedIsNamed }
+    ensures extends { PlacedExtends }
+    ensures row { RowPlaces }
+{}
+
+/// A call that answers a word places at most one value, charges at least 1, and leaves a store.
+pub fn calls_follow()
+    ensures { CallsFollow }
+{}
+
+/// Helpers that answer a plain word or a truth place nothing.
+pub fn others_place_nothing()
+    ensures { OthersPlaceNothing }
+{}

@@ -1,0 +1,20 @@
+//! The helpers that a BPF program calls: the rows of the helper table, over any store of values and
+//! any memory.
+#![tactic(auto)]
+
+mod action;
+mod building;
+mod calling;
+mod comparisons;
+mod conversions;
+mod helper;
+mod helper_end;
+pub mod laws;
+mod lookups;
+mod operands;
+mod plan;
+#[cfg(test)]
+mod tests;
+
+pub use calling::call;
+pub use helper_end::HelperEnd;

@@ -1,0 +1,266 @@
+//! The helpers that look something up in a map, a list or a text.
+ghost use Rattle.std.specs.Prelude.{◌≡◌, ◌<◌, ◌^◌, ℕ, Some, IfSome, List, is_some, option_and_then, option_map, slice_get};
+ghost use Rattle.helper_table.specs.Calls.{on_value, on_values, on_range};
+ghost use Rattle.helper_table.specs.Lookups.{value_under, part_by, size_part, size_found, item_or_key, count_word, field_row, has_row, index_row, size_row, item_row, count_row};
+ghost use Rattle.helper_table.specs.Operands.{count_part, place_part};
+ghost use Rattle.helper_table.specs.Outcome.{found};
+ghost use Rattle.helper_table.specs.Plans.{means, CanFollow, outcome_by, CanDo};
+ghost use Rattle.value_store.specs.Calls.{entries_at, part_at, key_at};
+ghost use Rattle.value_store.specs.Lookup.{has_key, place_of_key};
+ghost use Rattle.value_store.specs.Seen.{seen, shown, seen_size, sees_list, sees_map};
+ghost use Rattle.value_store.specs.Value.{ValueOrError};
+
+use crate::action::Action;
+use crate::operands::{is_map, operand, place_part, range, truth_word};
+use crate::plan::Plan;
+use guest_memory::{Fault, Regions};
+use text_kernels::code_points;
+use value_store::{Shape, ValueStore};
+
+/// The place of a map's entry at a key.
+#[tactic(auto, using(crate::proofs::Maps::finds, crate::proofs::Maps::found_place, crate::proofs::Maps::no_entries_no_place))]
+fn place_under<V: ValueStore>(table: &V, m: u64, key: &[u8]) -> Option<u64>
+    ensures { result ≡ option_and_then (place_of_key key.now) (entries_at (slice_get (V.values table.now) m)) }
+{
+    if is_map(table, m) {
+        table.find(m, key)
+    } else {
+        None
+    }
+}
+
+/// A map's value at a key, to be placed; the word of the error where there is none.
+fn part_under<V: ValueStore>(table: &V, m: u64, key: &[u8]) -> Plan<'static>
+    ensures means { outcome_by (V.values table.now) result.action result.added ≡ found (value_under (slice_get (V.values table.now) m) key.now) }
+    ensures can { CanDo (V.values table.now) result.action }
+{
+    match place_under(table, m, key) {
+        Some(place) => Plan {
+            action: Action::Part(m, place),
+            added: 0,
+        },
+        None => Plan {
+            action: Action::Word(0),
+            added: 0,
+        },
+    }
+}
+
+/// Helper 5: a map's value at a key in the constants.
+pub(crate) fn field<V: ValueStore, M: Regions>(
+    table: &V,
+    memory: &M,
+    m: u64,
+    addr: u64,
+    len: u64,
+) -> Result<Plan<'static>, Fault>
+    ensures means { means (V.values table.now) result ≡ on_value (V.values table.now) m (λ x. on_range (M.bytes memory.now).constants addr len (field_row x)) }
+    ensures can { CanFollow (V.values table.now) result }
+{
+    let _map = operand(table, m)?;
+    let key = range(memory, addr, len)?;
+    Ok(part_under(table, m, key))
+}
+
+/// Whether a map has a key.
+#[tactic(auto, using(crate::proofs::Maps::has_place, crate::proofs::Maps::has_no_entries, crate::proofs::Maps::finds, crate::proofs::Maps::found_place))]
+pub(crate) fn has_key<V: ValueStore>(table: &V, m: u64, key: &[u8]) -> Option<bool>
+    ensures { result ≡ option_map (has_key key.now) (entries_at (slice_get (V.values table.now) m)) }
+{
+    if is_map(table, m) {
+        Some(table.find(m, key).is_some())
+    } else {
+        None
+    }
+}
+
+/// Helper 6: whether a map has a key in the constants.
+pub(crate) fn has<V: ValueStore, M: Regions>(
+    table: &V,
+    memory: &M,
+    m: u64,
+    addr: u64,
+    len: u64,
+) -> Result<Plan<'static>, Fault>
+    ensures means { means (V.values table.now) result ≡ on_value (V.values table.now) m (λ x. on_range (M.bytes memory.now).constants addr len (has_row x)) }
+    ensures can { CanFollow (V.values table.now) result }
+{
+    let _shape = operand(table, m)?;
+    let key = range(memory, addr, len)?;
+    Ok(Plan {
+        action: Action::Word(truth_word(has_key(table, m, key))),
+        added: 0,
+    })
+}
+
+/// A list's item at a place, to be placed.
+#[tactic(auto, using(crate::proofs::Lists::item_there, crate::proofs::Lists::no_item))]
+fn item_plan(l: u64, count: u64, place: Option<u64>) -> Plan<'static>
+    ensures means { (vs : List ValueOrError) → option_map seen (slice_get vs l) ≡ Some (sees_list count) → outcome_by vs result.action result.added ≡ found (option_and_then (part_at (slice_get vs l)) place) }
+    ensures can { (vs : List ValueOrError) → option_map seen (slice_get vs l) ≡ Some (sees_list count) → CanDo vs result.action }
+{
+    match place {
+        Some(i) => {
+            if i < count {
+                Plan {
+                    action: Action::Part(l, i),
+                    added: 0,
+                }
+            } else {
+                Plan {
+                    action: Action::Word(0),
+                    added: 0,
+                }
+            }
+        }
+        None => Plan {
+            action: Action::Word(0),
+            added: 0,
+        },
+    }
+}
+
+/// A map's key at a place, to be placed.
+#[tactic(auto, using(crate::proofs::Lists::key_there, crate::proofs::Lists::no_key))]
+fn key_plan(m: u64, count: u64, i: u64) -> Plan<'static>
+    ensures means { (vs : List ValueOrError) → option_map seen (slice_get vs m) ≡ Some (sees_map count) → outcome_by vs result.action result.added ≡ found (key_at (slice_get vs m) i) }
+    ensures can { (vs : List ValueOrError) → option_map seen (slice_get vs m) ≡ Some (sees_map count) → CanDo vs result.action }
+{
+    if i < count {
+        Plan {
+            action: Action::Key(m, i),
+            added: 0,
+        }
+    } else {
+        Plan {
+            action: Action::Word(0),
+            added: 0,
+        }
+    }
+}
+
+/// A list's item at an int, or a map's value at a text, to be placed.
+fn part_plan<V: ValueStore>(
+    table: &V,
+    x: u64,
+    container: Shape<'_>,
+    place: Shape<'_>,
+) -> Plan<'static>
+    requires { option_map seen (slice_get (V.values table.now) x) ≡ Some (shown container) }
+    ensures means { outcome_by (V.values table.now) result.action result.added ≡ found (part_by (shown container.entry) (shown place.entry) (slice_get (V.values table.now) x)) }
+    ensures can { CanDo (V.values table.now) result.action }
+{
+    match container {
+        Shape::List(count) => item_plan(x, count, place_part(place)),
+        Shape::Map(_) => match place {
+            Shape::Text(key) => part_under(table, x, key.as_bytes()),
+            _ => Plan {
+                action: Action::Word(0),
+                added: 0,
+            },
+        },
+        _ => Plan {
+            action: Action::Word(0),
+            added: 0,
+        },
+    }
+}
+
+/// Helper 7: a list's item at an int, or a map's value at a text.
+pub(crate) fn index<V: ValueStore>(table: &V, x: u64, k: u64) -> Result<Plan<'static>, Fault>
+    ensures means { means (V.values table.now) result ≡ on_values (V.values table.now) x k index_row }
+    ensures can { CanFollow (V.values table.now) result }
+{
+    let container = operand(table, x)?;
+    let place = operand(table, k)?;
+    Ok(part_plan(table, x, container, place))
+}
+
+/// Code points, items or entries.
+#[tactic(auto, using(crate::proofs::Lists::few_code_points))]
+fn size_part(shape: Shape<'_>) -> Option<u64>
+    requires { seen_size (shown shape) < 2 ^ 63 }
+    ensures size { result ≡ size_part (shown shape.entry) }
+    ensures short { IfSome result (λ n. n < 2 ^ 63) }
+{
+    match shape {
+        Shape::Text(text) => Some(code_points(text.as_bytes()) as u64),
+        Shape::List(count) => Some(count),
+        Shape::Map(count) => Some(count),
+        _ => None,
+    }
+}
+
+fn size_plan(size: Option<u64>) -> Plan<'static>
+    requires { IfSome size (λ n. n < 2 ^ 63) }
+    ensures means { (vs : List ValueOrError) → outcome_by vs result.action result.added ≡ size_found size }
+    ensures can { (vs : List ValueOrError) → CanDo vs result.action }
+{
+    match size {
+        Some(size) => Plan {
+            action: Action::Int(size as i64),
+            added: 0,
+        },
+        None => Plan {
+            action: Action::Word(0),
+            added: 0,
+        },
+    }
+}
+
+/// Helper 8: the number of code points, items or entries, as an int.
+#[tactic(auto, using(crate::proofs::Seeing::by_seen, crate::proofs::Seeing::by_fault), unfolding(crate::specs::Lookups::size_row))]
+pub(crate) fn size<V: ValueStore>(table: &V, h: u64) -> Result<Plan<'static>, Fault>
+    ensures means { means (V.values table.now) result ≡ on_value (V.values table.now) h size_row }
+    ensures can { CanFollow (V.values table.now) result }
+{
+    let shape = operand(table, h)?;
+    Ok(size_plan(size_part(shape)))
+}
+
+/// A list's item, or a map's key, at a place, to be placed.
+fn item_or_key_plan(h: u64, shape: Shape<'_>, i: u64) -> Plan<'static>
+    ensures means { (vs : List ValueOrError) → option_map seen (slice_get vs h) ≡ Some (shown shape.entry) → outcome_by vs result.action result.added ≡ found (item_or_key (shown shape.entry) i (slice_get vs h)) }
+    ensures can { (vs : List ValueOrError) → option_map seen (slice_get vs h) ≡ Some (shown shape.entry) → CanDo vs result.action }
+{
+    match shape {
+        Shape::List(count) => item_plan(h, count, Some(i)),
+        Shape::Map(count) => key_plan(h, count, i),
+        _ => Plan {
+            action: Action::Word(0),
+            added: 0,
+        },
+    }
+}
+
+/// Helper 20: a list's item, or a map's key, at a place.
+pub(crate) fn item<V: ValueStore>(table: &V, h: u64, i: u64) -> Result<Plan<'static>, Fault>
+    ensures means { means (V.values table.now) result ≡ on_value (V.values table.now) h (λ x. item_row x i) }
+    ensures can { CanFollow (V.values table.now) result }
+{
+    let shape = operand(table, h)?;
+    Ok(item_or_key_plan(h, shape, i))
+}
+
+fn count_word(shape: Shape<'_>) -> u64
+    ensures { result ≡ count_word (count_part (shown shape.entry)) }
+{
+    match shape {
+        Shape::List(count) => count,
+        Shape::Map(count) => count,
+        _ => u64::MAX,
+    }
+}
+
+/// Helper 21: the number of items or entries, as a word.
+#[tactic(auto, using(crate::proofs::Seeing::by_seen, crate::proofs::Seeing::by_fault), unfolding(crate::specs::Lookups::count_row))]
+pub(crate) fn count<V: ValueStore>(table: &V, h: u64) -> Result<Plan<'static>, Fault>
+    ensures means { means (V.values table.now) result ≡ on_value (V.values table.now) h count_row }
+    ensures can { CanFollow (V.values table.now) result }
+{
+    let shape = operand(table, h)?;
+    Ok(Plan {
+        action: Action::Word(count_word(shape)),
+        added: 0,
+    })
+}

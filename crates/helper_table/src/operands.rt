@@ -1,0 +1,95 @@
+//! The operands of a call: what stands at a reference, and the bytes of a range of constants.
+ghost use Rattle.std.specs.Prelude.{◌≡◌, ◌<◌, ◌^◌, IfOk, OnOk, MatchResult, is_some, slice_get, length};
+ghost use Rattle.guest_memory.specs.declared.fault.Fault.TheVariants.{F3};
+ghost use Rattle.helper_table.specs.Calls.{bytes_at};
+ghost use Rattle.helper_table.specs.Kinds.{has_entries, is_value};
+ghost use Rattle.helper_table.specs.Operands.{place_of, place_part};
+ghost use Rattle.helper_table.specs.Outcome.{truth_word};
+ghost use Rattle.helper_table.specs.Plans.{Sees};
+ghost use Rattle.value_store.specs.Calls.{entries_at};
+ghost use Rattle.value_store.specs.Seen.{shown, seen_size};
+
+use guest_memory::{Fault, Regions};
+use value_store::{Shape, ValueStore};
+
+/// What stands at a reference. The error is `F6` where nothing does.
+#[tactic(auto, using(crate::proofs::Seeing::inside))]
+pub(crate) fn operand<V: ValueStore>(table: &V, h: u64) -> Result<Shape<'_>, Fault>
+    ensures sees { Sees result (slice_get (V.values table.now) h) }
+    ensures short { IfOk result (λ shape. seen_size (shown shape) < 2 ^ 63) }
+    ensures inside { OnOk result (h < length (V.values table.now)) }
+{
+    match table.at(h) {
+        Some(shape) => Ok(shape),
+        None => Err(Fault::F6),
+    }
+}
+
+/// The bytes of a range of constants. The error is `F3` where one of them lies outside.
+#[tactic(auto, unfolding(guest_memory::specs::Access::constants_of, guest_memory::specs::Memory::start_memory))]
+pub(crate) fn range<M: Regions>(memory: &M, addr: u64, len: u64) -> Result<&[u8], Fault>
+    ensures { let lent = bytes_at (M.bytes memory.now).constants addr len in MatchResult result (λ bytes. lent ≡ Some bytes.now) (λ f. (f ≡ F3) × (lent ≡ None)) }
+{
+    match memory.constants(addr, len) {
+        Some(bytes) => Ok(bytes),
+        None => Err(Fault::F3),
+    }
+}
+
+/// The reference of a truth, where there is none that of the error.
+pub(crate) fn truth_word(truth: Option<bool>) -> u64
+    ensures { result ≡ truth_word truth }
+{
+    match truth {
+        Some(false) => 2,
+        Some(true) => 3,
+        None => 0,
+    }
+}
+
+/// Whether a map stands at a reference.
+#[tactic(auto, using(crate::proofs::Maps::sees_entries, crate::proofs::Maps::sees_no_entries))]
+pub(crate) fn is_map<V: ValueStore>(table: &V, h: u64) -> bool
+    ensures { result ≡ is_some (entries_at (slice_get (V.values table.now) h)) }
+{
+    match table.at(h) {
+        Some(shape) => has_entries(shape),
+        None => false,
+    }
+}
+
+pub(crate) fn has_entries(shape: Shape<'_>) -> bool
+    ensures { result ≡ has_entries (shown shape.entry) }
+{
+    match shape {
+        Shape::Map(_) => true,
+        _ => false,
+    }
+}
+
+/// The place that an int is, if it is one.
+pub(crate) fn place_part(shape: Shape<'_>) -> Option<u64>
+    ensures { result ≡ place_part (shown shape.entry) }
+{
+    match shape {
+        Shape::Int(i) => place_of(i),
+        _ => None,
+    }
+}
+
+/// A place in a list; none stands before the first.
+pub(crate) fn place_of(i: i64) -> Option<u64>
+    ensures { result ≡ place_of i }
+{
+    if i >= 0 { Some(i as u64) } else { None }
+}
+
+/// A value, and not the error.
+pub(crate) fn is_value(shape: Shape<'_>) -> bool
+    ensures { result ≡ is_value (shown shape.entry) }
+{
+    match shape {
+        Shape::Error => false,
+        _ => true,
+    }
+}
