@@ -1,0 +1,50 @@
+-- What a number of arguments says of their trees, and what the tests of the first ones say of all.
+use Rattle.std.proofs.Common.{◌≡◌, ◌<◌, true, List, [], ◌∷◌, length, get_or, map, Option, Some, None, Result, Ok, refl, sym, ap, arith}
+use Rattle.cel_reader.specs.declared.expr.Expr.{Expr}
+use Rattle.cel_reader.specs.Tree.{view, trees}
+use Rattle.cel_macros.specs.declared.macros.Macro.{Macro}
+use Rattle.cel_macros.specs.declared.macro_error.MacroError.{MacroError}
+use Rattle.cel_macros.specs.Macros.{name_of}
+use Rattle.cel_macros.specs.MacroFault.{MacroFault, ArgumentCount, before, name_fault, three_fault, has_fault, fold_fault, refusal}
+
+-- ---- how many arguments
+
+pub has_of_none : (items : List Expr) → length items < 1 → has_fault true (trees (map view items)) ≡ Some ArgumentCount
+has_of_none [] h = refl
+has_of_none (a ∷ items) h = absurd (omega arith)
+
+pub has_of_more : (items : List Expr) → 1 < length items → has_fault true (trees (map view items)) ≡ Some ArgumentCount
+has_of_more [] h = absurd (omega arith)
+has_of_more (a ∷ []) h = absurd (omega arith)
+has_of_more (a ∷ b ∷ items) h = refl
+
+pub fold_of_few : (m : Macro) (items : List Expr) → length items < 2 → fold_fault (Some m) (trees (map view items)) ≡ Some ArgumentCount
+fold_of_few m [] h = refl
+fold_of_few m (a ∷ []) h = refl
+fold_of_few m (a ∷ b ∷ items) h = absurd (omega arith)
+
+pub fold_of_many : (m : Macro) (items : List Expr) → 3 < length items → fold_fault (Some m) (trees (map view items)) ≡ Some ArgumentCount
+fold_of_many m [] h = absurd (omega arith)
+fold_of_many m (a ∷ []) h = absurd (omega arith)
+fold_of_many m (a ∷ b ∷ []) h = absurd (omega arith)
+fold_of_many m (a ∷ b ∷ d ∷ []) h = absurd (omega arith)
+fold_of_many m (a ∷ b ∷ d ∷ e ∷ items) h = refl
+
+pub fold_of_two : (m : Macro) (items : List Expr) (x : Expr) → 1 < length items → length items < 3 → x ≡ get_or items 0 x → fold_fault (Some m) (trees (map view items)) ≡ name_fault (name_of (view x))
+fold_of_two m [] x h g e = absurd (omega arith)
+fold_of_two m (a ∷ []) x h g e = absurd (omega arith)
+fold_of_two m (a ∷ b ∷ []) x h g e = ap (λ y. name_fault (name_of (view y))) (sym e)
+fold_of_two m (a ∷ b ∷ d ∷ items) x h g e = absurd (omega arith)
+
+pub fold_of_three : (m : Macro) (items : List Expr) (x : Expr) → 2 < length items → length items < 4 → x ≡ get_or items 0 x → fold_fault (Some m) (trees (map view items)) ≡ three_fault m (name_of (view x))
+fold_of_three m [] x h g e = absurd (omega arith)
+fold_of_three m (a ∷ []) x h g e = absurd (omega arith)
+fold_of_three m (a ∷ b ∷ []) x h g e = absurd (omega arith)
+fold_of_three m (a ∷ b ∷ d ∷ []) x h g e = ap (λ y. three_fault m (name_of (view y))) (sym e)
+fold_of_three m (a ∷ b ∷ d ∷ f ∷ items) x h g e = absurd (omega arith)
+
+-- ---- tests one after another
+
+pub then_tested : (a b : Option MacroFault) (u : Unit {0}) (r : Result (Unit {0}) MacroError) → Ok u ≡ refusal a → r ≡ refusal b → r ≡ refusal (before a b)
+then_tested None b u r h e = e
+then_tested (Some y) b u r h e = absurd (cc)

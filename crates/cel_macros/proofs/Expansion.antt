@@ -1,0 +1,171 @@
+-- Expansion keeps the tree and its meaning.
+use Rattle.std.proofs.Common.{◌≡◌, ℕ, Bool, true, false, cond, List, [], ◌∷◌, Option, Some, None, IfSome, find, bytes_eq, refl, sym, ap, ◌∙◌, true≢false}
+use lib.Pointwise.{bytes_decides}
+use Rattle.cel_reader.specs.Tree as tree
+use Rattle.cel_reader.specs.Tree.{Tree, Trees, Entries, no_trees, more_trees, no_entries, more_entries}
+use Rattle.value_store.specs.Value.{Value, ValueOrError}
+use Rattle.cel_macros.specs.Environment.{Environment, bind}
+use Rattle.cel_macros.specs.Logic.{truth, ternary_of}
+use Rattle.cel_macros.specs.Selection.{field_of, has_of, index_of}
+use Rattle.cel_macros.specs.Literals.{list_literal, map_literal}
+use Rattle.cel_macros.specs.Functions.{function_named, function_of, method_of, test_named, text_test_of}
+use Rattle.cel_macros.specs.declared.macros.Macro.{Macro}
+use Rattle.cel_macros.specs.declared.macros.Macro.TheVariants.{Map}
+use Rattle.cel_macros.specs.Macros.{macro_name, macros, macro_named, has_name, variables_name, is_map, is_has, is_variables, name_of, field_name, range_of, over_range, map_over_range}
+use Rattle.cel_macros.specs.Meaning.{unary_of, binary_of, selected, called, meaning, operand_meaning, meanings, entry_meanings}
+use Rattle.cel_macros.specs.CoreTree.{CoreTree, plain_tree, plain_trees, plain_entries, selection, call_or_has, method_or_fold, method_or_fold_map, expanded, expanded_operand, expanded_trees, expanded_entries}
+use Rattle.cel_macros.specs.FoldMeaning.{folded, folded_map, fold_meaning, fold_meanings, fold_entries}
+use Rattle.cel_macros.proofs.Folds.{folds_mean, fold_maps_mean}
+
+-- ---- names
+
+weaker : {A : Type 0} (o : Option A) (P Q : A → Type 0) → ((a : A) → P a → Q a) → IfSome o P → IfSome o Q
+weaker None P Q h p = tt
+weaker (Some a) P Q h p = h a p
+
+found_first : {A : Type 0} (test : A → Bool) (x : A) (rest : Option A) (b : Bool) → test x ≡ b → IfSome rest (λ a. test a ≡ true) → IfSome (cond b (Some x) rest) (λ a. test a ≡ true)
+found_first test x rest true e h = e
+found_first test x rest false e h = h
+
+found : {A : Type 0} (test : A → Bool) (xs : List A) → IfSome (find test xs) (λ a. test a ≡ true)
+found test [] = tt
+found test (x ∷ xs) = found_first test x (find test xs) (test x) refl (found test xs)
+
+macro_back : (n : List ℕ) → IfSome (macro_named n) (λ m. macro_name m ≡ n)
+unfolding macro_named
+macro_back n = weaker (macro_named n) _ _ (λ m e. (bytes_decides (macro_name m) n).0 e) (found (λ m. bytes_eq (macro_name m) n) macros)
+
+name_back : (x : Tree) → IfSome (name_of x) (λ n. tree.name n ≡ x)
+name_back (tree.name n) = refl
+name_back _ = tt
+
+pub variables_back : (a : Tree) → is_variables a ≡ true → tree.name variables_name ≡ a
+unfolding is_variables
+variables_back (tree.name n) e = ap tree.name ((bytes_decides variables_name n).0 e)
+variables_back _ e = absurd (true≢false (sym e))
+
+has_back : (n : List ℕ) → is_has n ≡ true → has_name ≡ n
+unfolding is_has
+has_back n e = (bytes_decides has_name n).0 e
+
+map_back : (n : List ℕ) → is_map n ≡ true → macro_name Map ≡ n
+unfolding is_map
+map_back n e = (bytes_decides (macro_name Map) n).0 e
+
+-- ---- the plain tree of each form
+
+selection_plain : (b : Bool) (a : Tree) (f : List ℕ) → is_variables a ≡ b → plain_tree (expanded a) ≡ a → plain_tree (selection b f (expanded a)) ≡ tree.select a f
+unfolding plain_tree
+selection_plain true a f e h = ap (λ t. tree.select t f) (variables_back a e)
+selection_plain false a f e h = ap (λ t. tree.select t f) h
+
+call_plain : (b : Bool) (k : Option (List ℕ)) (n : List ℕ) (inner c : CoreTree) (a : Tree) → is_has n ≡ b → IfSome k (λ f. tree.select (plain_tree inner) f ≡ a) → plain_tree c ≡ a → plain_tree (call_or_has b k n inner c) ≡ tree.call n (more_trees a no_trees)
+unfolding plain_tree
+call_plain true (Some f) n inner c a e h p = λ i. tree.call (has_back n e i) (more_trees (h i) no_trees)
+call_plain true None n inner c a e h p = ap (λ t. tree.call n (more_trees t no_trees)) p
+call_plain false k n inner c a e h p = ap (λ t. tree.call n (more_trees t no_trees)) p
+
+fold_plain : (m : Option Macro) (k : Option (List ℕ)) (n : List ℕ) (ca cx cp : CoreTree) (a x p : Tree) → IfSome m (λ m. macro_name m ≡ n) → IfSome k (λ i. tree.name i ≡ x) → plain_tree ca ≡ a → plain_tree cx ≡ x → plain_tree cp ≡ p → plain_tree (method_or_fold m k n ca cx cp) ≡ tree.method a n (more_trees x (more_trees p no_trees))
+unfolding plain_tree
+fold_plain (Some m) (Some i) n ca cx cp a x p em ek ha hx hp = λ j. tree.method (ha j) (em j) (more_trees (ek j) (more_trees (hp j) no_trees))
+fold_plain (Some m) None n ca cx cp a x p em ek ha hx hp = λ j. tree.method (ha j) n (more_trees (hx j) (more_trees (hp j) no_trees))
+fold_plain None k n ca cx cp a x p em ek ha hx hp = λ j. tree.method (ha j) n (more_trees (hx j) (more_trees (hp j) no_trees))
+
+fold_map_plain : (b : Bool) (k : Option (List ℕ)) (n : List ℕ) (ca cx cp ct : CoreTree) (a x p t : Tree) → is_map n ≡ b → IfSome k (λ i. tree.name i ≡ x) → plain_tree ca ≡ a → plain_tree cx ≡ x → plain_tree cp ≡ p → plain_tree ct ≡ t → plain_tree (method_or_fold_map b k n ca cx cp ct) ≡ tree.method a n (more_trees x (more_trees p (more_trees t no_trees)))
+unfolding plain_tree
+fold_map_plain true (Some i) n ca cx cp ct a x p t e ek ha hx hp ht = λ j. tree.method (ha j) (map_back n e j) (more_trees (ek j) (more_trees (hp j) (more_trees (ht j) no_trees)))
+fold_map_plain true None n ca cx cp ct a x p t e ek ha hx hp ht = λ j. tree.method (ha j) n (more_trees (hx j) (more_trees (hp j) (more_trees (ht j) no_trees)))
+fold_map_plain false k n ca cx cp ct a x p t e ek ha hx hp ht = λ j. tree.method (ha j) n (more_trees (hx j) (more_trees (hp j) (more_trees (ht j) no_trees)))
+
+mutual
+  unfolding expanded plain_tree
+
+  pub expansion_plain : (e : Tree) → plain_tree (expanded e) ≡ e
+  expansion_plain (tree.literal l) = refl
+  expansion_plain (tree.name n) = refl
+  expansion_plain (tree.select a f) = selection_plain (is_variables a) a f refl (expansion_plain a)
+  expansion_plain (tree.index a k) = λ j. tree.index (expansion_plain a j) (expansion_plain k j)
+  expansion_plain (tree.unary op a) = ap (tree.unary op) (expansion_plain a)
+  expansion_plain (tree.binary op a b) = λ j. tree.binary op (expansion_plain a j) (expansion_plain b j)
+  expansion_plain (tree.ternary c a b) = λ j. tree.ternary (expansion_plain c j) (expansion_plain a j) (expansion_plain b j)
+  expansion_plain (tree.list items) = ap tree.list (trees_plain items)
+  expansion_plain (tree.map es) = ap tree.map (entries_plain es)
+  expansion_plain (tree.call n no_trees) = refl
+  expansion_plain (tree.call n (more_trees a no_trees)) = call_plain (is_has n) (field_name a) n (expanded_operand a) (expanded a) a refl (operand_plain a) (expansion_plain a)
+  expansion_plain (tree.call n (more_trees a (more_trees b more))) = λ j. tree.call n (more_trees (expansion_plain a j) (more_trees (expansion_plain b j) (trees_plain more j)))
+  expansion_plain (tree.method a n no_trees) = ap (λ t. tree.method t n no_trees) (expansion_plain a)
+  expansion_plain (tree.method a n (more_trees b no_trees)) = λ j. tree.method (expansion_plain a j) n (more_trees (expansion_plain b j) no_trees)
+  expansion_plain (tree.method a n (more_trees x (more_trees p no_trees))) = fold_plain (macro_named n) (name_of x) n (expanded a) (expanded x) (expanded p) a x p (macro_back n) (name_back x) (expansion_plain a) (expansion_plain x) (expansion_plain p)
+  expansion_plain (tree.method a n (more_trees x (more_trees p (more_trees t no_trees)))) = fold_map_plain (is_map n) (name_of x) n (expanded a) (expanded x) (expanded p) (expanded t) a x p t refl (name_back x) (expansion_plain a) (expansion_plain x) (expansion_plain p) (expansion_plain t)
+  expansion_plain (tree.method a n (more_trees x (more_trees p (more_trees t (more_trees u more))))) = λ j. tree.method (expansion_plain a j) n (more_trees (expansion_plain x j) (more_trees (expansion_plain p j) (more_trees (expansion_plain t j) (more_trees (expansion_plain u j) (trees_plain more j)))))
+
+  operand_plain : (a : Tree) → IfSome (field_name a) (λ f. tree.select (plain_tree (expanded_operand a)) f ≡ a)
+  operand_plain (tree.select a f) = ap (λ t. tree.select t f) (expansion_plain a)
+  operand_plain _ = tt
+
+  trees_plain : (ts : Trees) → plain_trees (expanded_trees ts) ≡ ts
+  trees_plain no_trees = refl
+  trees_plain (more_trees a more) = λ j. more_trees (expansion_plain a j) (trees_plain more j)
+
+  entries_plain : (es : Entries) → plain_entries (expanded_entries es) ≡ es
+  entries_plain no_entries = refl
+  entries_plain (more_entries k v more) = λ j. more_entries (expansion_plain k j) (expansion_plain v j) (entries_plain more j)
+
+-- ---- the meaning of each form
+
+selection_means : (b : Bool) (f : List ℕ) (c : CoreTree) (x : ValueOrError) (env : Environment) → fold_meaning c env ≡ x → fold_meaning (selection b f c) env ≡ selected b f x env
+unfolding fold_meaning
+selection_means true f c x env h = refl
+selection_means false f c x env h = ap (λ r. field_of r f) h
+
+call_means : (b : Bool) (k : Option (List ℕ)) (n : List ℕ) (inner c : CoreTree) (x y : ValueOrError) (env : Environment) → IfSome k (λ f. fold_meaning inner env ≡ x) → fold_meaning c env ≡ y → fold_meaning (call_or_has b k n inner c) env ≡ called b k (function_named n) x y
+unfolding fold_meaning
+call_means true (Some f) n inner c x y env hx hy = ap (λ r. has_of r f) hx
+call_means true None n inner c x y env hx hy = ap (function_of (function_named n)) hy
+call_means false k n inner c x y env hx hy = ap (function_of (function_named n)) hy
+
+fold_means : (m : Option Macro) (k : Option (List ℕ)) (n : List ℕ) (ca cx cp : CoreTree) (env : Environment) (x : ValueOrError) (f : List ℕ → Value → ValueOrError) → fold_meaning ca env ≡ x → ((i : List ℕ) (v : Value) → fold_meaning cp (bind i v env) ≡ f i v) → fold_meaning (method_or_fold m k n ca cx cp) env ≡ over_range m k f (range_of x)
+unfolding fold_meaning
+fold_means (Some m) (Some i) n ca cx cp env x f ha hp = (λ j. folded m (λ v. hp i v j) (range_of (ha j))) ∙ folds_mean m i f (range_of x)
+fold_means (Some m) None n ca cx cp env x f ha hp = refl
+fold_means None k n ca cx cp env x f ha hp = refl
+
+fold_map_means : (b : Bool) (k : Option (List ℕ)) (n : List ℕ) (ca cx cp ct : CoreTree) (env : Environment) (x : ValueOrError) (p f : List ℕ → Value → ValueOrError) → fold_meaning ca env ≡ x → ((i : List ℕ) (v : Value) → fold_meaning cp (bind i v env) ≡ p i v) → ((i : List ℕ) (v : Value) → fold_meaning ct (bind i v env) ≡ f i v) → fold_meaning (method_or_fold_map b k n ca cx cp ct) env ≡ map_over_range b k p f (range_of x)
+unfolding fold_meaning
+fold_map_means true (Some i) n ca cx cp ct env x p f ha hp ht = (λ j. folded_map (λ v. truth (hp i v j)) (λ v. ht i v j) (range_of (ha j))) ∙ fold_maps_mean i p f (range_of x)
+fold_map_means true None n ca cx cp ct env x p f ha hp ht = refl
+fold_map_means false k n ca cx cp ct env x p f ha hp ht = refl
+
+mutual
+  unfolding expanded fold_meaning meaning
+
+  pub expansion_means : (e : Tree) (env : Environment) → fold_meaning (expanded e) env ≡ meaning e env
+  expansion_means (tree.literal l) env = refl
+  expansion_means (tree.name n) env = refl
+  expansion_means (tree.select a f) env = selection_means (is_variables a) f (expanded a) (meaning a env) env (expansion_means a env)
+  expansion_means (tree.index a k) env = λ j. index_of (expansion_means a env j) (expansion_means k env j)
+  expansion_means (tree.unary op a) env = ap (unary_of op) (expansion_means a env)
+  expansion_means (tree.binary op a b) env = λ j. binary_of op (expansion_means a env j) (expansion_means b env j)
+  expansion_means (tree.ternary c a b) env = λ j. ternary_of (expansion_means c env j) (expansion_means a env j) (expansion_means b env j)
+  expansion_means (tree.list items) env = ap list_literal (trees_mean items env)
+  expansion_means (tree.map es) env = ap map_literal (entries_mean es env)
+  expansion_means (tree.call n no_trees) env = refl
+  expansion_means (tree.call n (more_trees a no_trees)) env = call_means (is_has n) (field_name a) n (expanded_operand a) (expanded a) (operand_meaning a env) (meaning a env) env (operand_means a env) (expansion_means a env)
+  expansion_means (tree.call n (more_trees a (more_trees b more))) env = refl
+  expansion_means (tree.method a n no_trees) env = ap (method_of (function_named n)) (expansion_means a env)
+  expansion_means (tree.method a n (more_trees b no_trees)) env = λ j. text_test_of (test_named n) (expansion_means a env j) (expansion_means b env j)
+  expansion_means (tree.method a n (more_trees x (more_trees p no_trees))) env = fold_means (macro_named n) (name_of x) n (expanded a) (expanded x) (expanded p) env (meaning a env) (λ i v. meaning p (bind i v env)) (expansion_means a env) (λ i v. expansion_means p (bind i v env))
+  expansion_means (tree.method a n (more_trees x (more_trees p (more_trees t no_trees)))) env = fold_map_means (is_map n) (name_of x) n (expanded a) (expanded x) (expanded p) (expanded t) env (meaning a env) (λ i v. meaning p (bind i v env)) (λ i v. meaning t (bind i v env)) (expansion_means a env) (λ i v. expansion_means p (bind i v env)) (λ i v. expansion_means t (bind i v env))
+  expansion_means (tree.method a n (more_trees x (more_trees p (more_trees t (more_trees u more))))) env = refl
+
+  operand_means : (a : Tree) (env : Environment) → IfSome (field_name a) (λ f. fold_meaning (expanded_operand a) env ≡ operand_meaning a env)
+  operand_means (tree.select a f) env = expansion_means a env
+  operand_means _ env = tt
+
+  trees_mean : (ts : Trees) (env : Environment) → fold_meanings (expanded_trees ts) env ≡ meanings ts env
+  trees_mean no_trees env = refl
+  trees_mean (more_trees a more) env = λ j. expansion_means a env j ∷ trees_mean more env j
+
+  entries_mean : (es : Entries) (env : Environment) → fold_entries (expanded_entries es) env ≡ entry_meanings es env
+  entries_mean no_entries env = refl
+  entries_mean (more_entries k v more) env = λ j. (expansion_means k env j, expansion_means v env j) ∷ entries_mean more env j

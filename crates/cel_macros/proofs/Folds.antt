@@ -1,0 +1,24 @@
+-- Each macro's fold gives what the macro means.
+use Rattle.std.proofs.Common.{◌≡◌, List, Option, Some, None, refl}
+use Rattle.value_store.specs.Value.{Value, ValueOrError}
+use Rattle.cel_macros.specs.declared.macros.Macro.{Macro}
+use Rattle.cel_macros.specs.declared.macros.Macro.TheVariants.{All, Exists, ExistsOne, Filter, Map}
+use Rattle.cel_macros.specs.Macros.{over_range, map_over_range}
+use Rattle.cel_macros.specs.FoldMeaning.{folded, folded_map}
+use Rattle.cel_macros.proofs.Conjunctions.{folds_all}
+use Rattle.cel_macros.proofs.Disjunctions.{folds_exists}
+use Rattle.cel_macros.proofs.Kept.{folds_exists_one, folds_filter, folds_map, folds_map_where}
+use Rattle.std.specs.Prelude.{ℕ, true}
+use Rattle.cel_macros.specs.Logic.{truth}
+
+pub folds_mean : (m : Macro) (n : List ℕ) (f : List ℕ → Value → ValueOrError) (r : Option (List Value)) → folded m (f n) r ≡ over_range (Some m) (Some n) f r
+folds_mean m n f None = refl
+folds_mean All n f (Some items) = folds_all (f n) items
+folds_mean Exists n f (Some items) = folds_exists (f n) items
+folds_mean ExistsOne n f (Some items) = folds_exists_one (f n) items
+folds_mean Filter n f (Some items) = folds_filter (f n) items
+folds_mean Map n f (Some items) = folds_map (f n) items
+
+pub fold_maps_mean : (n : List ℕ) (p f : List ℕ → Value → ValueOrError) (r : Option (List Value)) → folded_map (λ x. truth (p n x)) (f n) r ≡ map_over_range true (Some n) p f r
+fold_maps_mean n p f None = refl
+fold_maps_mean n p f (Some items) = folds_map_where (λ x. truth (p n x)) (f n) items

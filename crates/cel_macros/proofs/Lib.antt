@@ -1,0 +1,9 @@
+pub mod Conjunctions
+pub mod Disjunctions
+pub mod Kept
+pub mod Folds
+pub mod Expansion
+pub mod Settled
+pub mod Arguments
+pub mod Views
+pub mod PartsExpanded

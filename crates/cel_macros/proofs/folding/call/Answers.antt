@@ -1,0 +1,14 @@
+use Rattle.std.proofs.Common.{◌≡◌, arith, sym, ◌∙◌, map}
+use Rattle.std.proofs.lemmas.Result.{IfOk-weaker}
+use Rattle.std.specs.declared.alloc.AllocError.{AllocError}
+use Rattle.cel_macros.specs.declared.core_tree.Core.{Core}
+use Rattle.cel_macros.specs.Macros.{is_has}
+use Rattle.cel_macros.specs.CoreTree.{call}
+use Rattle.cel_macros.specs.CoreView.{core_view, cores}
+use Rattle.cel_macros.specs.Expanding.{call_of}
+use Rattle.cel_macros.proofs.PartsExpanded.{call_of_many}
+use Rattle.cel_macros.proofs.folding.call.Goals as goal
+
+pub returns-then-len-ne1 : goal.returns-then-len-ne1
+returns-then-len-ne1 c =
+    IfOk-weaker {X = Core} {Y = AllocError} c.call-then-len-ne1.result (λ d. core_view d ≡ call c.args.name.now (cores (map core_view c.args.arguments.items))) (λ d. core_view d ≡ call_of c.args.name.now (cores (map core_view c.args.arguments.items))) (λ d h. h ∙ sym (call_of_many (is_has c.args.name.now) c.args.name.now c.args.arguments.items (λ e. omega (arith, e)))) c.call-then-len-ne1.ensures

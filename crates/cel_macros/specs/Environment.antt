@@ -1,0 +1,59 @@
+-- What the names of an expression stand for (cel-spec, Name Resolution).
+use Rattle.std.specs.Prelude.{ℕ, Bool, List, [], ◌∷◌, Option, Some, None, if◌then◌else◌, bytes_eq, codes}
+use Rattle.cel_reader.specs.Words.{is_one_of}
+use Rattle.value_store.specs.Value.{Value, ValueOrError, error, value}
+
+-- what the first binding of a name gives
+abbrev pub lookup : {A : Type 0} → List ℕ → List (List ℕ × A) → Option A
+lookup n [] = None
+lookup n (b ∷ more) = if bytes_eq b.0 n then Some b.1 else lookup n more
+
+abbrev pub value_or_error : Option Value → ValueOrError
+value_or_error (Some v) = value v
+value_or_error None = error
+
+-- the documents that an admission request gives
+pub record Roots : Type 0 where
+  pub object : Value
+  pub old_object : Value
+  pub params : Value
+  pub namespace_object : Value
+  pub request : Value
+
+-- the names that stand for them (ValidatingAdmissionPolicy v1)
+abbrev pub root_names : List (List ℕ)
+root_names = codes "object" ∷ codes "oldObject" ∷ codes "params" ∷ codes "namespaceObject" ∷ codes "request" ∷ []
+
+unfoldable pub is_root : List ℕ → Bool
+is_root n = is_one_of root_names n
+
+abbrev pub root_bindings : Roots → List (List ℕ × Value)
+root_bindings r =
+    (codes "object", r.object) ∷ (codes "oldObject", r.old_object) ∷ (codes "params", r.params) ∷
+    (codes "namespaceObject", r.namespace_object) ∷ (codes "request", r.request) ∷ []
+
+-- the roots; the iteration names that are in force, the innermost first; and the variables, each a value or the error
+pub record Environment : Type 0 where
+  pub roots : Roots
+  pub items : List (List ℕ × Value)
+  pub variables : List (List ℕ × ValueOrError)
+
+-- an iteration name hides a root, and an inner one hides an outer one
+abbrev pub item_or_root : Option Value → Option Value → ValueOrError
+item_or_root (Some v) root = value v
+item_or_root None root = value_or_error root
+
+unfoldable pub name_value : List ℕ → Environment → ValueOrError
+name_value n env = item_or_root (lookup n env.items) (lookup n (root_bindings env.roots))
+
+abbrev pub result_or_error : Option ValueOrError → ValueOrError
+result_or_error (Some x) = x
+result_or_error None = error
+
+-- what `variables.n` stands for
+unfoldable pub variable_value : List ℕ → List (List ℕ × ValueOrError) → ValueOrError
+variable_value n variables = result_or_error (lookup n variables)
+
+-- the environment inside a macro, where its iteration name stands for an item
+abbrev pub bind : List ℕ → Value → Environment → Environment
+bind n v env = record env { items = (n, v) ∷ env.items }

@@ -1,0 +1,77 @@
+-- Functions and methods (cel-spec, List of Standard Definitions).
+use Rattle.std.specs.Prelude.{ℕ, pos, Bool, ◌||◌, List, [], ◌∷◌, length, Option, Some, None, find, nat_eq, bytes_eq, codes}
+use Rattle.std.specs.List.{starts_with, ends_with}
+use Rattle.std.specs.Fmt.{signed_decimal}
+use Rattle.text_kernels.specs.Scans.{code_points_of}
+use Rattle.value_store.specs.Value.{ValueOrError, error, value, boolean, int, text, list, map, keys_of, list_of}
+use Rattle.cel_macros.specs.Literals.{text_part}
+
+-- functions of one operand
+pub data Function : Type 0 where
+  Size : Function
+  String : Function
+  Dyn : Function
+
+abbrev pub function_name : Function → List ℕ
+function_name Size = codes "size"
+function_name String = codes "string"
+function_name Dyn = codes "dyn"
+
+unfoldable pub function_named : List ℕ → Option Function
+function_named n = find (λ f. bytes_eq (function_name f) n) (Size ∷ String ∷ Dyn ∷ [])
+
+-- code points, items or entries
+abbrev pub size_of : ValueOrError → ValueOrError
+size_of (value (text s)) = value (int (pos (code_points_of s)))
+size_of (value (list is)) = value (int (pos (length (list_of is))))
+size_of (value (map es)) = value (int (pos (length (keys_of es))))
+size_of _ = error
+
+abbrev pub string_of : ValueOrError → ValueOrError
+string_of (value (int z)) = value (text (signed_decimal z))
+string_of (value (text s)) = value (text s)
+string_of _ = error
+
+abbrev pub function_of : Option Function → ValueOrError → ValueOrError
+function_of (Some Size) x = size_of x
+function_of (Some String) x = string_of x
+function_of (Some Dyn) x = x
+function_of None x = error
+
+-- of the functions of one operand only `size` is a method too
+abbrev pub method_of : Option Function → ValueOrError → ValueOrError
+method_of (Some Size) x = size_of x
+method_of (Some String) x = error
+method_of (Some Dyn) x = error
+method_of None x = error
+
+-- tests of two texts, written as methods
+pub data TextTest : Type 0 where
+  StartsWith : TextTest
+  EndsWith : TextTest
+  Contains : TextTest
+
+abbrev pub test_name : TextTest → List ℕ
+test_name StartsWith = codes "startsWith"
+test_name EndsWith = codes "endsWith"
+test_name Contains = codes "contains"
+
+unfoldable pub test_named : List ℕ → Option TextTest
+test_named n = find (λ t. bytes_eq (test_name t) n) (StartsWith ∷ EndsWith ∷ Contains ∷ [])
+
+-- the part stands at some place of the text
+abbrev pub contains : List ℕ → List ℕ → Bool
+contains [] part = starts_with nat_eq [] part
+contains (b ∷ bs) part = starts_with nat_eq (b ∷ bs) part || contains bs part
+
+abbrev pub holds_of : TextTest → List ℕ → List ℕ → Bool
+holds_of StartsWith a b = starts_with nat_eq a b
+holds_of EndsWith a b = ends_with nat_eq a b
+holds_of Contains a b = contains a b
+
+abbrev pub test_texts : Option TextTest → Option (List ℕ) → Option (List ℕ) → ValueOrError
+test_texts (Some t) (Some a) (Some b) = value (boolean (holds_of t a b))
+test_texts _ _ _ = error
+
+abbrev pub text_test_of : Option TextTest → ValueOrError → ValueOrError → ValueOrError
+text_test_of t x y = test_texts t (text_part x) (text_part y)

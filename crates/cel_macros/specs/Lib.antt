@@ -1,0 +1,17 @@
+pub mod Environment
+pub mod Logic
+pub mod Arithmetic
+pub mod Comparison
+pub mod Selection
+pub mod Literals
+pub mod Functions
+pub mod Macros
+pub mod Meaning
+pub mod CoreTree
+pub mod CoreView
+pub mod Expanding
+pub mod FoldMeaning
+pub mod MacroFault
+pub mod Written
+pub mod Rows
+pub mod Laws

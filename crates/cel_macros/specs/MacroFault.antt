@@ -1,0 +1,84 @@
+-- The first macro that is not well formed, a node before its parts, parts from left to right.
+use Rattle.std.specs.Prelude.{ℕ, Bool, true, false, ◌||◌, List, Option, Some, None, Result, Ok, Err, if◌then◌else◌, bytes_eq}
+use Rattle.cel_reader.specs.Tree as tree
+use Rattle.cel_reader.specs.Tree.{Tree, Trees, Entries, no_trees, more_trees, no_entries, more_entries}
+use Rattle.cel_macros.specs.declared.macro_error.MacroError.{MacroError}
+use Rattle.cel_macros.specs.declared.macro_error.MacroError.TheVariants.{M1, M2, M3}
+use Rattle.cel_macros.specs.Environment.{is_root}
+use Rattle.cel_macros.specs.declared.macros.Macro.{Macro}
+use Rattle.cel_macros.specs.declared.macros.Macro.TheVariants.{All, Exists, ExistsOne, Filter, Map}
+use Rattle.cel_macros.specs.Macros.{macro_named, is_has, variables_name, name_of, field_name}
+
+pub data MacroFault : Type 0 where
+  ArgumentCount : MacroFault
+  IterationName : MacroFault
+  NoSelection : MacroFault
+
+abbrev pub before : Option MacroFault → Option MacroFault → Option MacroFault
+before (Some y) later = Some y
+before None later = later
+
+-- an iteration name is no root's name and not `variables`
+abbrev pub is_taken : List ℕ → Bool
+is_taken n = is_root n || bytes_eq variables_name n
+
+abbrev pub name_fault : Option (List ℕ) → Option MacroFault
+name_fault (Some n) = if is_taken n then Some IterationName else None
+name_fault None = Some IterationName
+
+abbrev pub selection_fault : Option (List ℕ) → Option MacroFault
+selection_fault (Some f) = None
+selection_fault None = Some NoSelection
+
+abbrev pub has_fault : Bool → Trees → Option MacroFault
+has_fault false arguments = None
+has_fault true (more_trees a no_trees) = selection_fault (field_name a)
+has_fault true _ = Some ArgumentCount
+
+-- a third argument is of `map` alone
+abbrev pub three_fault : Macro → Option (List ℕ) → Option MacroFault
+three_fault Map n = name_fault n
+three_fault All n = Some ArgumentCount
+three_fault Exists n = Some ArgumentCount
+three_fault ExistsOne n = Some ArgumentCount
+three_fault Filter n = Some ArgumentCount
+
+-- two arguments, or three
+abbrev pub fold_fault : Option Macro → Trees → Option MacroFault
+fold_fault None arguments = None
+fold_fault (Some m) (more_trees x (more_trees p no_trees)) = name_fault (name_of x)
+fold_fault (Some m) (more_trees x (more_trees p (more_trees t no_trees))) = three_fault m (name_of x)
+fold_fault (Some m) _ = Some ArgumentCount
+
+unfoldable mutual
+  pub macro_fault : Tree → Option MacroFault
+  macro_fault (tree.literal l) = None
+  macro_fault (tree.name n) = None
+  macro_fault (tree.select a f) = macro_fault a
+  macro_fault (tree.index a k) = before (macro_fault a) (macro_fault k)
+  macro_fault (tree.unary op a) = macro_fault a
+  macro_fault (tree.binary op a b) = before (macro_fault a) (macro_fault b)
+  macro_fault (tree.ternary c a b) = before (macro_fault c) (before (macro_fault a) (macro_fault b))
+  macro_fault (tree.list items) = trees_fault items
+  macro_fault (tree.map es) = entries_fault es
+  macro_fault (tree.call n arguments) = before (has_fault (is_has n) arguments) (trees_fault arguments)
+  macro_fault (tree.method a n arguments) = before (fold_fault (macro_named n) arguments) (before (macro_fault a) (trees_fault arguments))
+
+  pub trees_fault : Trees → Option MacroFault
+  trees_fault no_trees = None
+  trees_fault (more_trees a more) = before (macro_fault a) (trees_fault more)
+
+  pub entries_fault : Entries → Option MacroFault
+  entries_fault no_entries = None
+  entries_fault (more_entries k v more) = before (macro_fault k) (before (macro_fault v) (entries_fault more))
+
+-- the number that each is refused by
+abbrev pub fault_error : MacroFault → MacroError
+fault_error ArgumentCount = M1
+fault_error IterationName = M2
+fault_error NoSelection = M3
+
+-- the answer to a test for faults
+abbrev pub refusal : Option MacroFault → Result (Unit {0}) MacroError
+refusal None = Ok tt
+refusal (Some fault) = Err (fault_error fault)

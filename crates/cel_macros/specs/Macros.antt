@@ -1,0 +1,114 @@
+-- Macros over the items of a list or the keys of a map (cel-spec, Macros).
+use Rattle.std.specs.Prelude.{ℕ, Bool, true, false, List, [], ◌∷◌, Option, Some, None, if◌then◌else◌, nat_eq, bytes_eq, codes, filter, count_by, find}
+use Rattle.std.specs.Prelude.{map as each}
+use Rattle.std.specs.List.{list_any, list_all}
+use Rattle.cel_reader.specs.Tree as tree
+use Rattle.cel_reader.specs.Tree.{Tree}
+use Rattle.value_store.specs.Value.{Value, ValueOrError, error, value, boolean, text, list, map, list_of, keys_of}
+use Rattle.cel_macros.specs.declared.macros.Macro.{Macro}
+use Rattle.cel_macros.specs.declared.macros.Macro.TheVariants.{All, Exists, ExistsOne, Filter, Map}
+use Rattle.cel_macros.specs.Logic.{Truth, Yes, No, Other, truth}
+use Rattle.cel_macros.specs.Literals.{list_literal, list_or_error}
+
+-- how a macro is written
+abbrev pub macro_name : Macro → List ℕ
+macro_name All = codes "all"
+macro_name Exists = codes "exists"
+macro_name ExistsOne = codes "exists_one"
+macro_name Filter = codes "filter"
+macro_name Map = codes "map"
+
+abbrev pub macros : List Macro
+macros = All ∷ Exists ∷ ExistsOne ∷ Filter ∷ Map ∷ []
+
+unfoldable pub macro_named : List ℕ → Option Macro
+macro_named n = find (λ m. bytes_eq (macro_name m) n) macros
+
+abbrev pub has_name : List ℕ
+has_name = codes "has"
+
+abbrev pub variables_name : List ℕ
+variables_name = codes "variables"
+
+-- `map` with two parts
+unfoldable pub is_map : List ℕ → Bool
+is_map n = bytes_eq (macro_name Map) n
+
+unfoldable pub is_has : List ℕ → Bool
+is_has n = bytes_eq has_name n
+
+abbrev pub name_of : Tree → Option (List ℕ)
+name_of (tree.name n) = Some n
+name_of _ = None
+
+abbrev pub field_name : Tree → Option (List ℕ)
+field_name (tree.select a f) = Some f
+field_name _ = None
+
+unfoldable pub is_variables : Tree → Bool
+is_variables (tree.name n) = bytes_eq variables_name n
+is_variables _ = false
+
+-- the items of a list, the keys of a map in byte order
+abbrev pub range_of : ValueOrError → Option (List Value)
+range_of (value (list is)) = Some (list_of is)
+range_of (value (map es)) = Some (each text (keys_of es))
+range_of _ = None
+
+abbrev pub is_yes : Truth → Bool
+is_yes Yes = true
+is_yes No = false
+is_yes Other = false
+
+abbrev pub is_no : Truth → Bool
+is_no Yes = false
+is_no No = true
+is_no Other = false
+
+abbrev pub is_other : Truth → Bool
+is_other Yes = false
+is_other No = false
+is_other Other = true
+
+-- one false decides, else all are to be true
+abbrev pub all_of : List Truth → ValueOrError
+all_of ts = if list_any is_no ts then value (boolean false) else (if list_all is_yes ts then value (boolean true) else error)
+
+-- one true decides, else all are to be false
+abbrev pub exists_of : List Truth → ValueOrError
+exists_of ts = if list_any is_yes ts then value (boolean true) else (if list_all is_no ts then value (boolean false) else error)
+
+-- nothing is absorbed
+abbrev pub exists_one_of : List Truth → ValueOrError
+exists_one_of ts = if list_any is_other ts then error else value (boolean (nat_eq (count_by is_yes ts) 1))
+
+-- the items for which the predicate is true; an error where it is neither true nor false for one
+abbrev pub where_true : (Value → Truth) → (List Value → ValueOrError) → List Value → ValueOrError
+where_true p result items = if list_any (λ x. is_other (p x)) items then error else result (filter (λ x. is_yes (p x)) items)
+
+abbrev pub filter_of : (Value → Truth) → List Value → ValueOrError
+filter_of p items = where_true p (λ kept. list_or_error (Some kept)) items
+
+abbrev pub map_of : (Value → ValueOrError) → List Value → ValueOrError
+map_of f items = list_literal (each f items)
+
+abbrev pub map_where_of : (Value → Truth) → (Value → ValueOrError) → List Value → ValueOrError
+map_where_of p f items = where_true p (map_of f) items
+
+-- a macro whose part gives this for each item
+abbrev pub macro_of : Macro → (Value → ValueOrError) → List Value → ValueOrError
+macro_of All f items = all_of (each (λ x. truth (f x)) items)
+macro_of Exists f items = exists_of (each (λ x. truth (f x)) items)
+macro_of ExistsOne f items = exists_one_of (each (λ x. truth (f x)) items)
+macro_of Filter f items = filter_of (λ x. truth (f x)) items
+macro_of Map f items = map_of f items
+
+-- a macro over a range with what stands for its name, its part at a name and an item
+abbrev pub over_range : Option Macro → Option (List ℕ) → (List ℕ → Value → ValueOrError) → Option (List Value) → ValueOrError
+over_range (Some m) (Some n) f (Some items) = macro_of m (f n) items
+over_range _ _ f _ = error
+
+-- `map` with a predicate and a transform
+abbrev pub map_over_range : Bool → Option (List ℕ) → (List ℕ → Value → ValueOrError) → (List ℕ → Value → ValueOrError) → Option (List Value) → ValueOrError
+map_over_range true (Some n) p f (Some items) = map_where_of (λ x. truth (p n x)) (f n) items
+map_over_range _ _ p f _ = error

@@ -1,0 +1,47 @@
+-- Macros that are refused, worked by hand.
+use Rattle.std.specs.Prelude.{◌≡◌, [], ◌∷◌, Some, None}
+use Rattle.cel_reader.specs.Tree.{Tree, binary}
+use Rattle.cel_reader.specs.declared.operator.BinaryOperator.TheVariants.{Add}
+use Rattle.cel_macros.specs.MacroFault.{ArgumentCount, IterationName, NoSelection, macro_fault}
+use Rattle.cel_reader.specs.Written.{num, yes, name, dot, call, method, list_literal}
+
+abbrev pub one : Tree
+one = list_literal (num 1 ∷ [])
+
+pub record MacroFaultRows : Type 0 where
+  -- [1].all(x)
+  pub one_argument : macro_fault (method one "all" (name "x" ∷ [])) ≡ Some ArgumentCount
+  -- has()
+  pub no_argument : macro_fault (call "has" []) ≡ Some ArgumentCount
+  -- [1].all(x, true, true)
+  pub three_arguments : macro_fault (method one "all" (name "x" ∷ yes ∷ yes ∷ [])) ≡ Some ArgumentCount
+  -- [1].map(x, true, 1)
+  pub three_of_map : macro_fault (method one "map" (name "x" ∷ yes ∷ num 1 ∷ [])) ≡ None
+  -- [1].all(1, true)
+  pub no_name : macro_fault (method one "all" (num 1 ∷ yes ∷ [])) ≡ Some IterationName
+  -- [1].all(object, true)
+  pub name_of_root : macro_fault (method one "all" (name "object" ∷ yes ∷ [])) ≡ Some IterationName
+  -- [1].all(variables, true)
+  pub name_variables : macro_fault (method one "all" (name "variables" ∷ yes ∷ [])) ≡ Some IterationName
+  -- has(object)
+  pub no_field : macro_fault (call "has" (name "object" ∷ [])) ≡ Some NoSelection
+  -- has(has())
+  pub node_before_part : macro_fault (call "has" (call "has" [] ∷ [])) ≡ Some NoSelection
+  -- [1].all(1, has())
+  pub node_before_argument : macro_fault (method one "all" (num 1 ∷ call "has" [] ∷ [])) ≡ Some IterationName
+  -- has() + has(object)
+  pub left_before_right : macro_fault (binary Add (call "has" []) (call "has" (name "object" ∷ []))) ≡ Some ArgumentCount
+  -- has(object.x)
+  pub has_field : macro_fault (call "has" (dot (name "object") "x" ∷ [])) ≡ None
+  -- [1].filter(params, true)
+  pub name_of_params : macro_fault (method one "filter" (name "params" ∷ yes ∷ [])) ≡ Some IterationName
+  -- [1].exists_one(x.y, true)
+  pub selection_is_no_name : macro_fault (method one "exists_one" (dot (name "x") "y" ∷ yes ∷ [])) ≡ Some IterationName
+  -- [1].map(x, true, 1, 2)
+  pub four_arguments : macro_fault (method one "map" (name "x" ∷ yes ∷ num 1 ∷ num 2 ∷ [])) ≡ Some ArgumentCount
+  -- has(object.x, 1)
+  pub has_of_two : macro_fault (call "has" (dot (name "object") "x" ∷ num 1 ∷ [])) ≡ Some ArgumentCount
+  -- all(1)
+  pub all_is_no_function : macro_fault (call "all" (num 1 ∷ [])) ≡ None
+  -- object.has(1)
+  pub has_is_no_method : macro_fault (method (name "object") "has" (num 1 ∷ [])) ≡ None

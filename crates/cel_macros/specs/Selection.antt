@@ -1,0 +1,57 @@
+-- Fields, keys and indices (cel-spec, Field Selection, the macro `has`).
+use Rattle.std.specs.Prelude.{ℕ, ℤ, pos, negsuc, List, Option, Some, None, slice_get}
+use Rattle.value_store.specs.Value.{Value, ValueOrError, error, value, boolean, int, text, list, map, Items, Entries, list_of}
+use Rattle.value_store.specs.Lookup.{find, has_key}
+use Rattle.cel_macros.specs.Environment.{value_or_error}
+
+abbrev pub entries_part : ValueOrError → Option Entries
+entries_part (value (map es)) = Some es
+entries_part _ = None
+
+abbrev pub field_among : List ℕ → Option Entries → ValueOrError
+field_among f (Some es) = value_or_error (find f es)
+field_among f None = error
+
+abbrev pub field_of : ValueOrError → List ℕ → ValueOrError
+field_of x f = field_among f (entries_part x)
+
+abbrev pub has_among : List ℕ → Option Entries → ValueOrError
+has_among f (Some es) = value (boolean (has_key f es))
+has_among f None = error
+
+abbrev pub has_of : ValueOrError → List ℕ → ValueOrError
+has_of x f = has_among f (entries_part x)
+
+-- a result as an index sees what it is taken of
+pub data Container : Type 0 where
+  Listed : Items → Container
+  Keyed : Entries → Container
+  NoContainer : Container
+
+abbrev pub container : ValueOrError → Container
+container (value (list is)) = Listed is
+container (value (map es)) = Keyed es
+container _ = NoContainer
+
+-- a result as an index
+pub data Index : Type 0 where
+  Place : ℤ → Index
+  Key : List ℕ → Index
+  NoIndex : Index
+
+abbrev pub index : ValueOrError → Index
+index (value (int z)) = Place z
+index (value (text s)) = Key s
+index _ = NoIndex
+
+abbrev pub item_at : List Value → ℤ → ValueOrError
+item_at vs (pos i) = value_or_error (slice_get vs i)
+item_at vs (negsuc i) = error
+
+abbrev pub part_at : Container → Index → ValueOrError
+part_at (Listed is) (Place i) = item_at (list_of is) i
+part_at (Keyed es) (Key k) = value_or_error (find k es)
+part_at _ _ = error
+
+abbrev pub index_of : ValueOrError → ValueOrError → ValueOrError
+index_of x k = part_at (container x) (index k)

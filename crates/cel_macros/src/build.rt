@@ -1,0 +1,168 @@
+//! Expanded expressions from their parts.
+
+ghost use Rattle.std.specs.Prelude.{◌≡◌, IfOk, string_bytes};
+ghost use Rattle.std.specs.Prelude as list;
+ghost use Rattle.cel_reader.specs.Tree.{literal_view};
+ghost use Rattle.cel_macros.specs.CoreTree as node;
+ghost use Rattle.cel_macros.specs.CoreView.{core_view, cores, core_entries};
+ghost use Rattle.cel_macros.specs.Expanding.{core_pair};
+
+use crate::core_tree::Core;
+use crate::macros::Macro;
+use cel_reader::{BinaryOperator, Literal, UnaryOperator};
+use std::alloc::{AllocError, Global};
+
+/// A literal.
+pub(crate) fn literal(alloc: Global, literal: &Literal) -> Result<Core, AllocError>
+    ensures { IfOk result (λ c. core_view c ≡ node.literal (literal_view literal.now)) }
+{
+    match literal {
+        Literal::Int(n) => Ok(Core::Literal(Literal::Int(*n))),
+        Literal::Text(text) => {
+            let copy = String::from_str(alloc, text.as_str())?;
+            Ok(Core::Literal(Literal::Text(copy)))
+        }
+        Literal::Bool(b) => Ok(Core::Literal(Literal::Bool(*b))),
+        Literal::Null => Ok(Core::Literal(Literal::Null)),
+    }
+}
+
+/// A name.
+pub(crate) fn name(alloc: Global, name: &str) -> Result<Core, AllocError>
+    ensures { IfOk result (λ c. core_view c ≡ node.name name.now) }
+{
+    Ok(Core::Name(String::from_str(alloc, name)?))
+}
+
+/// A variable.
+pub(crate) fn variable(alloc: Global, name: &str) -> Result<Core, AllocError>
+    ensures { IfOk result (λ c. core_view c ≡ node.variable name.now) }
+{
+    Ok(Core::Variable(String::from_str(alloc, name)?))
+}
+
+/// A field of an expression.
+pub(crate) fn select(alloc: Global, of: Core, field: &str) -> Result<Core, AllocError>
+    ensures { IfOk result (λ c. core_view c ≡ node.select (core_view of) field.now) }
+{
+    let field = String::from_str(alloc, field)?;
+    Ok(Core::Select(Box::new(alloc, of)?, field))
+}
+
+/// Whether an expression has a field.
+pub(crate) fn has(alloc: Global, of: Core, field: String) -> Result<Core, AllocError>
+    ensures { IfOk result (λ c. core_view c ≡ node.has (core_view of) (string_bytes field)) }
+{
+    Ok(Core::Has(Box::new(alloc, of)?, field))
+}
+
+/// An item or entry of an expression.
+pub(crate) fn index(alloc: Global, of: Core, at: Core) -> Result<Core, AllocError>
+    ensures { IfOk result (λ c. core_view c ≡ node.index (core_view of) (core_view at)) }
+{
+    Ok(Core::Index(Box::new(alloc, of)?, Box::new(alloc, at)?))
+}
+
+/// A call of a function.
+pub(crate) fn call(alloc: Global, name: &str, arguments: Vec<Core>) -> Result<Core, AllocError>
+    ensures { IfOk result (λ c. core_view c ≡ node.call name.now (cores (list.map core_view arguments.items))) }
+{
+    Ok(Core::Call(String::from_str(alloc, name)?, arguments))
+}
+
+/// A list literal.
+pub(crate) fn list(items: Vec<Core>) -> Core
+    ensures { core_view result ≡ node.list (cores (list.map core_view items.items)) }
+{
+    Core::List(items)
+}
+
+/// A map literal.
+pub(crate) fn map(pairs: Vec<(Core, Core)>) -> Core
+    ensures { core_view result ≡ node.map (core_entries (list.map core_pair pairs.items)) }
+{
+    Core::Map(pairs)
+}
+
+/// A call of a method.
+pub(crate) fn method(
+    alloc: Global,
+    of: Core,
+    name: &str,
+    arguments: Vec<Core>,
+) -> Result<Core, AllocError>
+    ensures { IfOk result (λ c. core_view c ≡ node.method (core_view of) name.now (cores (list.map core_view arguments.items))) }
+{
+    let name = String::from_str(alloc, name)?;
+    Ok(Core::Method(Box::new(alloc, of)?, name, arguments))
+}
+
+/// An operator before an operand.
+pub(crate) fn unary(
+    alloc: Global,
+    operator: UnaryOperator,
+    operand: Core,
+) -> Result<Core, AllocError>
+    ensures { IfOk result (λ c. core_view c ≡ node.unary operator (core_view operand)) }
+{
+    Ok(Core::Unary(operator, Box::new(alloc, operand)?))
+}
+
+/// An operator between operands.
+pub(crate) fn binary(
+    alloc: Global,
+    operator: BinaryOperator,
+    left: Core,
+    right: Core,
+) -> Result<Core, AllocError>
+    ensures { IfOk result (λ c. core_view c ≡ node.binary operator (core_view left) (core_view right)) }
+{
+    Ok(Core::Binary(operator, Box::new(alloc, left)?, Box::new(alloc, right)?))
+}
+
+/// A conditional.
+pub(crate) fn ternary(
+    alloc: Global,
+    condition: Core,
+    yes: Core,
+    no: Core,
+) -> Result<Core, AllocError>
+    ensures { IfOk result (λ c. core_view c ≡ node.ternary (core_view condition) (core_view yes) (core_view no)) }
+{
+    Ok(Core::Ternary(
+        Box::new(alloc, condition)?,
+        Box::new(alloc, yes)?,
+        Box::new(alloc, no)?,
+    ))
+}
+
+/// A macro over a range.
+pub(crate) fn fold(
+    alloc: Global,
+    found: Macro,
+    name: String,
+    range: Core,
+    part: Core,
+) -> Result<Core, AllocError>
+    ensures { IfOk result (λ c. core_view c ≡ node.fold found (string_bytes name) (core_view range) (core_view part)) }
+{
+    Ok(Core::Fold(found, name, Box::new(alloc, range)?, Box::new(alloc, part)?))
+}
+
+/// `map` with a predicate over a range.
+pub(crate) fn fold_map(
+    alloc: Global,
+    name: String,
+    range: Core,
+    predicate: Core,
+    transform: Core,
+) -> Result<Core, AllocError>
+    ensures { IfOk result (λ c. core_view c ≡ node.fold_map (string_bytes name) (core_view range) (core_view predicate) (core_view transform)) }
+{
+    Ok(Core::FoldMap(
+        name,
+        Box::new(alloc, range)?,
+        Box::new(alloc, predicate)?,
+        Box::new(alloc, transform)?,
+    ))
+}

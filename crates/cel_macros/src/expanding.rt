@@ -1,0 +1,122 @@
+//! Expansion of macros.
+
+ghost use Rattle.std.specs.Prelude.{◌≡◌, IfOk, IfSome, MatchResult};
+ghost use Rattle.std.specs.Prelude as list;
+ghost use Rattle.cel_reader.specs.Tree.{view};
+ghost use Rattle.cel_macros.specs.declared.macro_error.MacroError.TheVariants.{Memory};
+ghost use Rattle.cel_macros.specs.CoreTree.{expanded, plain_tree};
+ghost use Rattle.cel_macros.specs.CoreView.{core_view};
+ghost use Rattle.cel_macros.specs.Environment.{Environment};
+ghost use Rattle.cel_macros.specs.Expanding.{core_pair, expanded_pair};
+ghost use Rattle.cel_macros.specs.FoldMeaning.{fold_meaning};
+ghost use Rattle.cel_macros.specs.MacroFault.{macro_fault, fault_error};
+ghost use Rattle.cel_macros.specs.Meaning.{meaning};
+
+use crate::core_tree::Core;
+use crate::faults::test;
+use crate::macro_error::MacroError;
+use crate::names::is_variables;
+use crate::{build, folding};
+use cel_reader::Expr;
+use std::alloc::{AllocError, Global};
+
+/// The expressions with their macros expanded.
+#[cycle(expansion)]
+fn expansions(alloc: Global, items: &[Expr]) -> Result<Vec<Core>, AllocError>
+    ensures { IfOk result (λ v. list.map core_view v.items ≡ list.map (λ e. expanded (view e)) items.now) }
+{
+    let mut out = Vec::new(alloc);
+    for item in items {
+        let core = expansion(alloc, item)?;
+        out.push(core)?;
+    }
+    Ok(out)
+}
+
+/// The keys and values with their macros expanded.
+#[cycle(expansion)]
+fn entry_expansions(alloc: Global, pairs: &[(Expr, Expr)]) -> Result<Vec<(Core, Core)>, AllocError>
+    ensures { IfOk result (λ v. list.map core_pair v.items ≡ list.map expanded_pair pairs.now) }
+{
+    let mut out = Vec::new(alloc);
+    for (key, value) in pairs {
+        let core_key = expansion(alloc, key)?;
+        let core_value = expansion(alloc, value)?;
+        out.push((core_key, core_value))?;
+    }
+    Ok(out)
+}
+
+/// The expression with its macros expanded.
+#[cycle(expansion)]
+#[tactic(auto, unfolding(crate::specs::CoreTree::expanded))]
+fn expansion(alloc: Global, e: &Expr) -> Result<Core, AllocError>
+    ensures { IfOk result (λ c. core_view c ≡ expanded (view e.now)) }
+{
+    match e {
+        Expr::Literal(literal) => build::literal(alloc, literal),
+        Expr::Name(name) => build::name(alloc, name.as_str()),
+        Expr::Select(of, field) => {
+            if is_variables(of) {
+                return build::variable(alloc, field.as_str());
+            }
+            let inner = expansion(alloc, of)?;
+            build::select(alloc, inner, field.as_str())
+        }
+        Expr::Index(of, at) => {
+            let first = expansion(alloc, of)?;
+            let second = expansion(alloc, at)?;
+            build::index(alloc, first, second)
+        }
+        Expr::Call(name, arguments) => {
+            let parts = expansions(alloc, arguments.as_slice())?;
+            folding::call(alloc, name.as_str(), parts)
+        }
+        Expr::Method(of, name, arguments) => {
+            let inner = expansion(alloc, of)?;
+            let parts = expansions(alloc, arguments.as_slice())?;
+            folding::method(alloc, inner, name.as_str(), parts)
+        }
+        Expr::Unary(operator, operand) => {
+            let inner = expansion(alloc, operand)?;
+            build::unary(alloc, *operator, inner)
+        }
+        Expr::Binary(operator, left, right) => {
+            let first = expansion(alloc, left)?;
+            let second = expansion(alloc, right)?;
+            build::binary(alloc, *operator, first, second)
+        }
+        Expr::Ternary(condition, yes, no) => {
+            let test = expansion(alloc, condition)?;
+            let first = expansion(alloc, yes)?;
+            let second = expansion(alloc, no)?;
+            build::ternary(alloc, test, first, second)
+        }
+        Expr::List(items) => {
+            let parts = expansions(alloc, items.as_slice())?;
+            Ok(build::list(parts))
+        }
+        Expr::Map(pairs) => {
+            let parts = entry_expansions(alloc, pairs.as_slice())?;
+            Ok(build::map(parts))
+        }
+    }
+}
+
+/// The expression with its macros expanded. Else the error says what is wrong with the first macro
+/// that is not well formed, a node before its parts, parts from left to right: M1 for another number
+/// of arguments, M2 for what may not be an iteration name, M3 for `has` of what is no selection.
+///
+/// The host's stack holds one frame for each level of the tree. The limit of open brackets does not
+/// bound these levels, since operators nest without brackets; the number of tokens of a text, 4,096,
+/// does. (cel-spec, Macros)
+pub fn expand(alloc: Global, e: Expr) -> Result<Core, MacroError>
+    ensures refused { IfSome (macro_fault (view e)) (λ fault. result ≡ list.Err (fault_error fault)) }
+    ensures only { macro_fault (view e) ≡ list.None → MatchResult result (λ c. core_view c ≡ expanded (view e)) (λ f. f ≡ Memory) }
+    ensures expanded { IfOk result (λ c. core_view c ≡ expanded (view e)) }
+    ensures plain { IfOk result (λ c. plain_tree (core_view c) ≡ view e) }
+    ensures meaning { IfOk result (λ c. (env : Environment) → fold_meaning (core_view c) env ≡ meaning (view e) env) }
+{
+    test(&e)?;
+    Ok(expansion(alloc, &e)?)
+}

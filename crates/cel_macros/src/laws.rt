@@ -1,0 +1,19 @@
+//! The laws of the meaning, each the contract of an empty function.
+
+ghost use Rattle.cel_macros.specs.Rows.{RowsStand};
+ghost use Rattle.cel_macros.specs.Laws.{Expands, SettledStays};
+
+/// Expressions that were worked by hand from cel-spec have the meanings that it gives them.
+pub fn rows_stand()
+    ensures { RowsStand }
+{}
+
+/// An expanded tree is the plain one again, and its folds give the plain one's meaning.
+pub fn expands()
+    ensures { Expands }
+{}
+
+/// A fold's answer that is settled stays, so that a loop may end there.
+pub fn settled_stays()
+    ensures { SettledStays }
+{}

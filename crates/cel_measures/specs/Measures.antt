@@ -1,0 +1,100 @@
+-- Measures of an expression, on its tree with macros expanded: its nodes, the stack words that its code needs, and the
+-- depth of a variable that it defines.
+use Rattle.std.specs.Prelude.{ℕ, ◌+◌, max, List, Option, Some, None}
+use Rattle.cel_macros.specs.Environment.{lookup}
+use Rattle.cel_macros.specs.CoreTree.{CoreTree, CoreTrees, CoreEntries, no_cores, more_cores, no_core_entries, more_core_entries, literal, name, variable, select, has, index, call, method, unary, binary, ternary, list, map, fold, fold_map}
+
+-- one for each node; the name that a macro declares and the selection inside `has` are none
+unfoldable mutual
+  pub nodes : CoreTree → ℕ
+  nodes (literal l) = 1
+  nodes (name n) = 1
+  nodes (variable v) = 1
+  nodes (select a f) = 1 + nodes a
+  nodes (has a f) = 1 + nodes a
+  nodes (index a k) = 1 + nodes a + nodes k
+  nodes (call n arguments) = 1 + nodes_of arguments
+  nodes (method a n arguments) = 1 + nodes a + nodes_of arguments
+  nodes (unary op a) = 1 + nodes a
+  nodes (binary op a b) = 1 + nodes a + nodes b
+  nodes (ternary c a b) = 1 + nodes c + nodes a + nodes b
+  nodes (list items) = 1 + nodes_of items
+  nodes (map es) = 1 + entries_nodes es
+  nodes (fold m n r p) = 1 + nodes r + nodes p
+  nodes (fold_map n r p t) = 1 + nodes r + nodes p + nodes t
+
+  pub nodes_of : CoreTrees → ℕ
+  nodes_of no_cores = 0
+  nodes_of (more_cores a more) = nodes a + nodes_of more
+
+  pub entries_nodes : CoreEntries → ℕ
+  entries_nodes no_core_entries = 0
+  entries_nodes (more_core_entries k v more) = nodes k + nodes v + entries_nodes more
+
+-- an operand stands in a word while the operands behind it are evaluated
+unfoldable mutual
+  pub need : CoreTree → ℕ
+  need (literal l) = 1
+  need (name n) = 1
+  need (variable v) = 1
+  need (select a f) = need a
+  need (has a f) = need a
+  need (index a k) = max (need a) (1 + need k)
+  need (call n no_cores) = 1
+  need (call n (more_cores a more)) = max (need a) (needs_behind more)
+  need (method a n arguments) = max (need a) (needs_behind arguments)
+  need (unary op a) = need a
+  need (binary op a b) = max (need a) (1 + need b)
+  need (ternary c a b) = max (need c) (max (need a) (need b))
+  need (list items) = 1 + needs items
+  need (map es) = max 1 (entries_need es)
+  need (fold m n r p) = max (need r) (5 + need p)
+  need (fold_map n r p t) = max (need r) (5 + max (need p) (need t))
+
+  pub needs : CoreTrees → ℕ
+  needs no_cores = 0
+  needs (more_cores a more) = max (need a) (needs more)
+
+  -- of operands behind a first one
+  pub needs_behind : CoreTrees → ℕ
+  needs_behind no_cores = 0
+  needs_behind (more_cores a more) = max (1 + need a) (needs_behind more)
+
+  pub entries_need : CoreEntries → ℕ
+  entries_need no_core_entries = 0
+  entries_need (more_core_entries k v more) = max (max (1 + need k) (2 + need v)) (entries_need more)
+
+abbrev pub depth_or_none : Option ℕ → ℕ
+depth_or_none (Some d) = d
+depth_or_none None = 0
+
+-- the greatest depth of the variables that an expression names, 0 where it names none
+unfoldable mutual
+  pub deepest : CoreTree → List (List ℕ × ℕ) → ℕ
+  deepest (literal l) s = 0
+  deepest (name n) s = 0
+  deepest (variable v) s = depth_or_none (lookup v s)
+  deepest (select a f) s = deepest a s
+  deepest (has a f) s = deepest a s
+  deepest (index a k) s = max (deepest a s) (deepest k s)
+  deepest (call n arguments) s = deepest_of arguments s
+  deepest (method a n arguments) s = max (deepest a s) (deepest_of arguments s)
+  deepest (unary op a) s = deepest a s
+  deepest (binary op a b) s = max (deepest a s) (deepest b s)
+  deepest (ternary c a b) s = max (deepest c s) (max (deepest a s) (deepest b s))
+  deepest (list items) s = deepest_of items s
+  deepest (map es) s = entries_deepest es s
+  deepest (fold m n r p) s = max (deepest r s) (deepest p s)
+  deepest (fold_map n r p t) s = max (deepest r s) (max (deepest p s) (deepest t s))
+
+  pub deepest_of : CoreTrees → List (List ℕ × ℕ) → ℕ
+  deepest_of no_cores s = 0
+  deepest_of (more_cores a more) s = max (deepest a s) (deepest_of more s)
+
+  pub entries_deepest : CoreEntries → List (List ℕ × ℕ) → ℕ
+  entries_deepest no_core_entries s = 0
+  entries_deepest (more_core_entries k v more) s = max (max (deepest k s) (deepest v s)) (entries_deepest more s)
+
+-- the depth of a variable with this expression, where the variables that it may name have these depths
+abbrev pub depth : CoreTree → List (List ℕ × ℕ) → ℕ
+depth e s = 1 + deepest e s

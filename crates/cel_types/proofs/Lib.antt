@@ -1,0 +1,3 @@
+pub mod TypedRows
+pub mod Sound
+pub mod CoreTypes

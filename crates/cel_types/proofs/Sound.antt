@@ -1,0 +1,56 @@
+-- What an accepted expression means has its type, or is the error.
+use Rattle.std.proofs.Common.{Bool, true, false, List, [], ◌∷◌}
+use Rattle.std.specs.List.{list_all}
+use Rattle.cel_reader.specs.Tree as tree
+use Rattle.cel_reader.specs.Tree.{Tree, no_trees, more_trees}
+use Rattle.value_store.specs.Value.{ValueOrError, error}
+use Rattle.cel_types.specs.declared.cel_type.CelType.TheVariants as type
+use Rattle.cel_macros.specs.Environment.{Environment, bind, name_value}
+use Rattle.cel_macros.specs.Selection.{field_of}
+use Rattle.cel_macros.specs.Literals.{values_in, entries_in, list_literal, map_literal}
+use Rattle.cel_macros.specs.Functions.{function_named, test_named}
+use Rattle.cel_macros.specs.Macros.{macro_named, is_map, is_has, is_variables, variables_name, name_of, field_name, range_of}
+use Rattle.cel_macros.specs.Meaning.{selected, meaning, meanings, entry_meanings, operand_meaning}
+use Rattle.cel_types.specs.Types.{Typing, typed, refused, NoOverload, MisplacedVariables, UnknownName, allowed, row}
+use Rattle.cel_types.specs.Scope.{Scope, is_known, name_type, within}
+use Rattle.cel_types.specs.Typing.{selected_type, typing, typings, entry_typings, key_typings, operand_typing}
+use Rattle.cel_types.specs.TypeTable.{field_row, is_text_key}
+use Rattle.cel_types.specs.Soundness.{Fits, FitsScope, IsSound}
+use Rattle.cel_types.proofs.TypedRows.{row_fits, with_fits, with_types_fit, dyn_fits, list_fits, map_fits, literal_fits, unary_fits, binary_fits, ternary_fits, index_fits, method_fits, text_test_fits, call_fits, fold_fits, fold_map_fits}
+use Rattle.std.specs.Prelude.{ℕ, bytes_eq, cond}
+
+known_fits : (b : Bool) (x : ValueOrError) → Fits (cond b (typed type.Dyn) (refused UnknownName)) x
+known_fits true x = dyn_fits x
+known_fits false x = tt
+
+name_fits : (n : List ℕ) (s : Scope) (x : ValueOrError) → Fits (name_type n s) x
+unfolding name_type
+name_fits n s x = by_name (bytes_eq variables_name n)
+  where
+    by_name : (b : Bool) → Fits (cond b (refused MisplacedVariables) (cond (is_known n s) (typed type.Dyn) (refused UnknownName))) x
+    by_name true = tt
+    by_name false = known_fits (is_known n s) x
+
+select_fits : (b : Bool) (f : List ℕ) (a : Typing) (s : Scope) (x : ValueOrError) (env : Environment) → FitsScope s env → Fits (selected_type b f a s) (selected b f x env)
+select_fits true f a s x env h = h f
+select_fits false f a s x env h = with_fits a field_row (field_of x f) (λ t. row_fits (allowed (type.Map ∷ []) t) type.Dyn (field_of x f) (dyn_fits (field_of x f)))
+
+pub is_sound : IsSound
+unfolding typing meaning
+is_sound (tree.literal l) s env h = literal_fits l
+is_sound (tree.name n) s env h = name_fits n s (name_value n env)
+is_sound (tree.select a f) s env h = select_fits (is_variables a) f (typing a s) s (meaning a env) env h
+is_sound (tree.index a k) s env h = index_fits (typing a s) (typing k s) (meaning (tree.index a k) env)
+is_sound (tree.unary op a) s env h = unary_fits op (typing a s) (meaning a env)
+is_sound (tree.binary op a b) s env h = binary_fits op (typing a s) (typing b s) (meaning a env) (meaning b env) (is_sound a s env h) (is_sound b s env h)
+is_sound (tree.ternary c a b) s env h = ternary_fits (typing c s) (typing a s) (typing b s) (meaning c env) (meaning a env) (meaning b env) (is_sound a s env h) (is_sound b s env h)
+is_sound (tree.list items) s env h = with_types_fit (typings items s) (typed type.List) (list_literal (meanings items env)) (list_fits (values_in (meanings items env)))
+is_sound (tree.map es) s env h = with_types_fit (entry_typings es s) (row (list_all is_text_key (key_typings es s)) type.Map) (map_literal (entry_meanings es env)) (row_fits (list_all is_text_key (key_typings es s)) type.Map (map_literal (entry_meanings es env)) (map_fits (entries_in (entry_meanings es env))))
+is_sound (tree.call n no_trees) s env h = tt
+is_sound (tree.call n (more_trees a no_trees)) s env h = call_fits (is_has n) (field_name a) (function_named n) (operand_typing a s) (typing a s) (operand_meaning a env) (meaning a env)
+is_sound (tree.call n (more_trees a (more_trees b more))) s env h = with_types_fit (typing a s ∷ typing b s ∷ typings more s) (refused NoOverload) error tt
+is_sound (tree.method a n no_trees) s env h = method_fits (function_named n) (typing a s) (meaning a env)
+is_sound (tree.method a n (more_trees b no_trees)) s env h = text_test_fits (test_named n) (typing a s) (typing b s) (meaning a env) (meaning b env)
+is_sound (tree.method a n (more_trees x (more_trees p no_trees))) s env h = fold_fits (macro_named n) (name_of x) (typing a s) (λ i. typing p (within i s)) (typing a s ∷ typing x s ∷ typing p s ∷ []) (λ i v. meaning p (bind i v env)) (range_of (meaning a env))
+is_sound (tree.method a n (more_trees x (more_trees p (more_trees t no_trees)))) s env h = fold_map_fits (is_map n) (name_of x) (typing a s) (λ i. typing p (within i s)) (λ i. typing t (within i s)) (typing a s ∷ typing x s ∷ typing p s ∷ typing t s ∷ []) (λ i v. meaning p (bind i v env)) (λ i v. meaning t (bind i v env)) (range_of (meaning a env))
+is_sound (tree.method a n (more_trees x (more_trees p (more_trees t (more_trees u more))))) s env h = with_types_fit (typing a s ∷ typing x s ∷ typing p s ∷ typing t s ∷ typing u s ∷ typings more s) (refused NoOverload) error tt

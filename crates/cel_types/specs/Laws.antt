@@ -1,0 +1,11 @@
+-- What is proved of types beside their soundness.
+use Rattle.std.specs.Prelude.{◌≡◌}
+use Rattle.cel_reader.specs.Tree.{Tree}
+use Rattle.cel_macros.specs.CoreTree.{expanded}
+use Rattle.cel_types.specs.Scope.{Scope}
+use Rattle.cel_types.specs.Typing.{typing}
+use Rattle.cel_types.specs.CoreTyping.{core_typing}
+
+-- an expanded expression has the plain one's type, and its faults
+abbrev pub TypesStay : Type 0
+TypesStay = (e : Tree) (s : Scope) → core_typing (expanded e) s ≡ typing e s

@@ -1,0 +1,29 @@
+-- The names that an expression may use.
+use Rattle.std.specs.Prelude.{ℕ, Bool, ◌||◌, List, ◌∷◌, Option, Some, None, if◌then◌else◌, bytes_eq}
+use Rattle.std.specs.List.{list_any}
+use Rattle.cel_macros.specs.Environment.{lookup, is_root}
+use Rattle.cel_macros.specs.Macros.{variables_name}
+use Rattle.cel_types.specs.declared.cel_type.CelType.{CelType}
+use Rattle.cel_types.specs.declared.cel_type.CelType.TheVariants as type
+use Rattle.cel_types.specs.Types.{Typing, typed, refused, UnknownName, MisplacedVariables}
+
+-- the iteration names, and the variables that may be used with their types
+pub record Scope : Type 0 where
+  pub items : List (List ℕ)
+  pub variables : List (List ℕ × CelType)
+
+abbrev pub is_known : List ℕ → Scope → Bool
+is_known n s = is_root n || list_any (bytes_eq n) s.items
+
+unfoldable pub name_type : List ℕ → Scope → Typing
+name_type n s = if bytes_eq variables_name n then refused MisplacedVariables else (if is_known n s then typed type.Dyn else refused UnknownName)
+
+abbrev pub type_or_fault : Option CelType → Typing
+type_or_fault (Some t) = typed t
+type_or_fault None = refused MisplacedVariables
+
+unfoldable pub variable_type : List ℕ → List (List ℕ × CelType) → Typing
+variable_type n variables = type_or_fault (lookup n variables)
+
+abbrev pub within : List ℕ → Scope → Scope
+within n s = record s { items = n ∷ s.items }

@@ -1,0 +1,35 @@
+-- What an accepted expression means has its type, or is the error.
+use Rattle.std.specs.Prelude.{◌≡◌, ℕ, List, Bool, true, ◌||◌, ⊤}
+use Rattle.cel_reader.specs.Tree.{Tree}
+use Rattle.value_store.specs.Value.{Value, null, boolean, int, text, list, map, ValueOrError, error, value}
+use Rattle.cel_types.specs.declared.cel_type.CelType.{CelType}
+use Rattle.cel_types.specs.declared.cel_type.CelType.TheVariants as type
+use Rattle.cel_macros.specs.Environment.{Environment, variable_value}
+use Rattle.cel_macros.specs.Meaning.{meaning}
+use Rattle.cel_types.specs.Types.{Typing, typed, refused, same_type}
+use Rattle.cel_types.specs.Scope.{Scope, variable_type}
+use Rattle.cel_types.specs.Typing.{typing}
+
+abbrev pub type_of : Value → CelType
+type_of null = type.Null
+type_of (boolean b) = type.Bool
+type_of (int z) = type.Int
+type_of (text s) = type.String
+type_of (list is) = type.List
+type_of (map es) = type.Map
+
+-- every value fits Dyn
+abbrev pub fits_type : CelType → Value → Bool
+fits_type t v = same_type t type.Dyn || same_type t (type_of v)
+
+abbrev pub Fits : Typing → ValueOrError → Type 0
+Fits (typed t) error = ⊤
+Fits (typed t) (value v) = fits_type t v ≡ true
+Fits (refused y) x = ⊤
+
+-- each variable that may be used has its type or is the error
+abbrev pub FitsScope : Scope → Environment → Type 0
+FitsScope s env = (v : List ℕ) → Fits (variable_type v s.variables) (variable_value v env.variables)
+
+abbrev pub IsSound : Type 0
+IsSound = (e : Tree) (s : Scope) (env : Environment) → FitsScope s env → Fits (typing e s) (meaning e env)

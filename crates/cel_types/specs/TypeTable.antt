@@ -1,0 +1,123 @@
+-- The rows of the table of types. A row also holds where an operand has type Dyn.
+use Rattle.std.specs.Prelude.{Bool, true, false, ◌&&◌, [], ◌∷◌, Option, Some, None, if◌then◌else◌}
+use Rattle.cel_reader.specs.Tree as tree
+use Rattle.cel_reader.specs.declared.operator.BinaryOperator.{BinaryOperator}
+use Rattle.cel_reader.specs.declared.operator.BinaryOperator.TheVariants as binary
+use Rattle.cel_reader.specs.declared.operator.UnaryOperator.{UnaryOperator}
+use Rattle.cel_reader.specs.declared.operator.UnaryOperator.TheVariants as unary
+use Rattle.cel_macros.specs.Functions.{Function, Size, String, Dyn, TextTest}
+use Rattle.cel_macros.specs.declared.macros.Macro.{Macro}
+use Rattle.cel_macros.specs.declared.macros.Macro.TheVariants.{All, Exists, ExistsOne, Filter, Map}
+use Rattle.cel_types.specs.declared.cel_type.CelType.{CelType}
+use Rattle.cel_types.specs.declared.cel_type.CelType.TheVariants as type
+use Rattle.cel_types.specs.Types.{Typing, typed, refused, NoOverload, same_type, allowed, agree, known_of, both_allowed, row}
+
+abbrev pub literal_type : tree.Literal → CelType
+literal_type (tree.int z) = type.Int
+literal_type (tree.text s) = type.String
+literal_type (tree.truth b) = type.Bool
+literal_type tree.null = type.Null
+
+abbrev pub field_row : CelType → Typing
+field_row t = row (allowed (type.Map ∷ []) t) type.Dyn
+
+abbrev pub has_row : CelType → Typing
+has_row t = row (allowed (type.Map ∷ []) t) type.Bool
+
+abbrev pub index_row : CelType → CelType → Typing
+index_row type.List k = row (allowed (type.Int ∷ []) k) type.Dyn
+index_row type.Map k = row (allowed (type.String ∷ []) k) type.Dyn
+index_row type.Dyn k = row (allowed (type.Int ∷ type.String ∷ []) k) type.Dyn
+index_row _ k = refused NoOverload
+
+abbrev pub unary_row : UnaryOperator → CelType → Typing
+unary_row unary.Not t = row (allowed (type.Bool ∷ []) t) type.Bool
+unary_row unary.Negate t = row (allowed (type.Int ∷ []) t) type.Int
+
+abbrev pub logic_row : CelType → CelType → Typing
+logic_row a b = row (both_allowed (type.Bool ∷ []) a b) type.Bool
+
+abbrev pub order_row : CelType → CelType → Typing
+order_row a b = row (both_allowed (type.Int ∷ type.String ∷ type.Bool ∷ []) a b && agree a b) type.Bool
+
+abbrev pub equality_row : CelType → CelType → Typing
+equality_row a b = row (agree a b) type.Bool
+
+abbrev pub member_row : CelType → CelType → Typing
+member_row x type.List = typed type.Bool
+member_row x type.Dyn = typed type.Bool
+member_row x type.Map = row (allowed (type.String ∷ []) x) type.Bool
+member_row x _ = refused NoOverload
+
+abbrev pub sum_row : CelType → CelType → Typing
+sum_row a b = row (both_allowed (type.Int ∷ type.String ∷ type.List ∷ []) a b && agree a b) (known_of a b)
+
+abbrev pub arithmetic_row : CelType → CelType → Typing
+arithmetic_row a b = row (both_allowed (type.Int ∷ []) a b) type.Int
+
+abbrev pub binary_row : BinaryOperator → CelType → CelType → Typing
+binary_row binary.Or a b = logic_row a b
+binary_row binary.And a b = logic_row a b
+binary_row binary.Less a b = order_row a b
+binary_row binary.LessEqual a b = order_row a b
+binary_row binary.GreaterEqual a b = order_row a b
+binary_row binary.Greater a b = order_row a b
+binary_row binary.Equal a b = equality_row a b
+binary_row binary.NotEqual a b = equality_row a b
+binary_row binary.In a b = member_row a b
+binary_row binary.Add a b = sum_row a b
+binary_row binary.Subtract a b = arithmetic_row a b
+binary_row binary.Multiply a b = arithmetic_row a b
+binary_row binary.Divide a b = arithmetic_row a b
+binary_row binary.Remainder a b = arithmetic_row a b
+
+-- branches of one type have that type, and else Dyn where one is Dyn
+abbrev pub ternary_row : CelType → CelType → CelType → Typing
+ternary_row c a b = row (allowed (type.Bool ∷ []) c && agree a b) (if same_type a b then a else type.Dyn)
+
+abbrev pub size_row : CelType → Typing
+size_row t = row (allowed (type.String ∷ type.List ∷ type.Map ∷ []) t) type.Int
+
+abbrev pub function_row : Option Function → CelType → Typing
+function_row (Some Size) t = size_row t
+function_row (Some String) t = row (allowed (type.Int ∷ type.String ∷ []) t) type.String
+function_row (Some Dyn) t = typed type.Dyn
+function_row None t = refused NoOverload
+
+abbrev pub method_row : Option Function → CelType → Typing
+method_row (Some Size) t = size_row t
+method_row (Some String) t = refused NoOverload
+method_row (Some Dyn) t = refused NoOverload
+method_row None t = refused NoOverload
+
+abbrev pub test_row : Option TextTest → CelType → CelType → Typing
+test_row (Some f) a b = row (both_allowed (type.String ∷ []) a b) type.Bool
+test_row None a b = refused NoOverload
+
+-- what a macro asks of its part, and what it gives
+abbrev pub part_allowed : Macro → CelType → Bool
+part_allowed All t = allowed (type.Bool ∷ []) t
+part_allowed Exists t = allowed (type.Bool ∷ []) t
+part_allowed ExistsOne t = allowed (type.Bool ∷ []) t
+part_allowed Filter t = allowed (type.Bool ∷ []) t
+part_allowed Map t = true
+
+abbrev pub macro_type : Macro → CelType
+macro_type All = type.Bool
+macro_type Exists = type.Bool
+macro_type ExistsOne = type.Bool
+macro_type Filter = type.List
+macro_type Map = type.List
+
+abbrev pub is_range : CelType → Bool
+is_range t = allowed (type.List ∷ type.Map ∷ []) t
+
+abbrev pub macro_row : Macro → CelType → CelType → Typing
+macro_row m r p = row (is_range r && part_allowed m p) (macro_type m)
+
+abbrev pub map_row : CelType → CelType → CelType → Typing
+map_row r p t = row (is_range r && allowed (type.Bool ∷ []) p) type.List
+
+abbrev pub is_text_key : Typing → Bool
+is_text_key (typed t) = allowed (type.String ∷ []) t
+is_text_key (refused y) = false

@@ -1,0 +1,53 @@
+-- What the type of an expression can be, and what can be wrong with it.
+use Rattle.std.specs.Prelude.{Bool, true, false, ◌&&◌, ◌||◌, List, [], ◌∷◌, if◌then◌else◌}
+use Rattle.std.specs.List.{list_any}
+use Rattle.cel_types.specs.declared.cel_type.CelType.{CelType}
+use Rattle.cel_types.specs.declared.cel_type.CelType.TheVariants as type
+
+pub data TypeFault : Type 0 where
+  UnknownName : TypeFault
+  NoOverload : TypeFault
+  MisplacedVariables : TypeFault
+
+pub data Typing : Type 0 where
+  typed : CelType → Typing
+  refused : TypeFault → Typing
+
+abbrev pub same_type : CelType → CelType → Bool
+same_type type.Bool type.Bool = true
+same_type type.Int type.Int = true
+same_type type.String type.String = true
+same_type type.Null type.Null = true
+same_type type.List type.List = true
+same_type type.Map type.Map = true
+same_type type.Dyn type.Dyn = true
+same_type _ _ = false
+
+-- one of these types, or Dyn
+abbrev pub allowed : List CelType → CelType → Bool
+allowed ts t = same_type t type.Dyn || list_any (same_type t) ts
+
+-- the same type, or Dyn on a side
+abbrev pub agree : CelType → CelType → Bool
+agree a b = same_type a b || (same_type a type.Dyn || same_type b type.Dyn)
+
+-- where one of two types is Dyn, the other one
+abbrev pub known_of : CelType → CelType → CelType
+known_of a b = if same_type a type.Dyn then b else a
+
+-- a row of the table of types
+abbrev pub row : Bool → CelType → Typing
+row holds t = if holds then typed t else refused NoOverload
+
+-- a part's fault comes first
+abbrev pub with_type : Typing → (CelType → Typing) → Typing
+with_type (typed t) then_type = then_type t
+with_type (refused y) then_type = refused y
+
+abbrev pub both_allowed : List CelType → CelType → CelType → Bool
+both_allowed ts a b = allowed ts a && allowed ts b
+
+-- the first fault of some parts, and then what stands where there is none
+abbrev pub with_types : List Typing → Typing → Typing
+with_types [] last = last
+with_types (x ∷ xs) last = with_type x (λ t. with_types xs last)

@@ -1,0 +1,21 @@
+//! The laws of types, each the contract of an empty function.
+
+ghost use Rattle.cel_types.specs.Rows.{TypingRows};
+ghost use Rattle.cel_types.specs.Laws.{TypesStay};
+ghost use Rattle.cel_types.specs.Soundness.{IsSound};
+
+/// Expressions that were worked by hand have the types of the type table.
+pub fn rows_stand()
+    ensures { TypingRows }
+{}
+
+/// What an accepted expression means in an environment that fits its scope has its type, or is the
+/// error.
+pub fn is_sound()
+    ensures { IsSound }
+{}
+
+/// An expression with its macros expanded has the type, or the fault, of the plain one.
+pub fn types_stay()
+    ensures { TypesStay }
+{}
