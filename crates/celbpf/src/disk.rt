@@ -1,10 +1,10 @@
 //! The files of the system.
-ghost use Rattle.std.specs.Prelude.{◌≡◌};
+ghost use Rattle.std.specs.Prelude.{◌≡◌, Err, IfErr, IfOk, Ok};
 ghost use Rattle.std.specs.IoError.{error_kind};
 
 use review_runner::{FileError, Files};
 use std::alloc::Global;
-use std::io::{Error, ErrorKind};
+use std::io::{self, Error, ErrorKind};
 use std::{fs, rt};
 
 /// The files of the system, of which nothing is known before they are read.
@@ -25,17 +25,23 @@ impl<'a, R: rt::Files + AllocGlobal> Files for Disk<'a, R> {
     ghost known = { λ _. None };
 
     fn read(&mut self, _alloc: Global, name: &str) -> Result<Vec<u8>, FileError> {
-        match fs::read(self.rt, name) {
-            Ok(bytes) => Ok(bytes),
-            Err(error) => Err(file_error(error)),
-        }
+        answered(fs::read(self.rt, name))
     }
 
     fn write(&mut self, name: &str, bytes: &[u8]) -> Result<(), FileError> {
-        match fs::write(self.rt, name, bytes) {
-            Ok(()) => Ok(()),
-            Err(error) => Err(file_error(error)),
-        }
+        answered(fs::write(self.rt, name, bytes))
+    }
+}
+
+/// What the system answers, with its error as a file's.
+fn answered<T: Drop>(answer: io::Result<T>) -> Result<T, FileError>
+    ensures ok { IfOk answer (λ t. result ≡ Ok t) }
+    ensures memory { IfErr answer (λ e. error_kind e ≡ ErrorKind.OutOfMemory → result ≡ Err FileError.Memory) }
+    ensures failed { IfErr answer (λ e. (error_kind e ≡ ErrorKind.OutOfMemory → ⊥) → result ≡ Err FileError.Failed) }
+{
+    match answer {
+        Ok(given) => Ok(given),
+        Err(error) => Err(file_error(error)),
     }
 }
 

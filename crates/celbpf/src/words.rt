@@ -1,5 +1,5 @@
 //! The words of the command line.
-ghost use Rattle.std.specs.Prelude.{◌≡◌, IfOk};
+ghost use Rattle.std.specs.Prelude.{◌≡◌, Err, IfErr, IfOk};
 ghost use Rattle.std.specs.IoError.{error_kind};
 ghost use Rattle.std.specs.Iterator.{IsFinite};
 ghost use Rattle.std.specs.Iterator.Runs.{WholeRun};
@@ -7,7 +7,7 @@ ghost use Rattle.std.specs.Iterator.Runs.{WholeRun};
 use review_runner::OrderError;
 use std::alloc::Global;
 use std::env;
-use std::io::{Error, ErrorKind};
+use std::io::{self, Error, ErrorKind};
 use std::rt::Env;
 
 /// The words, the program's name first.
@@ -16,8 +16,23 @@ use std::rt::Env;
 ///
 /// `U1` where one of them is no text, and `Memory` where there is no memory for them.
 pub fn words<R: AllocGlobal + Env>(rt: &R) -> Result<Vec<String>, OrderError> {
-    match env::args(rt) {
-        Ok(words) => all(rt.alloc(), words),
+    given(rt.alloc(), env::args(rt))
+}
+
+/// The words that the system gives, or why it gives none.
+fn given<I: Iterator<Item = String> + Drop>(
+    alloc: Global,
+    words: io::Result<I>,
+) -> Result<Vec<String>, OrderError>
+    requires can { IfOk words (λ i. I.can_next i) }
+    requires finite { IfOk words (λ i. IsFinite (I.remaining i)) }
+    ensures all { IfOk words (λ i. IfOk result (λ v. WholeRun I.next_gives i (λ p. v.items ≡ p.items))) }
+    ensures memory { IfErr words (λ e. error_kind e ≡ ErrorKind.OutOfMemory → result ≡ Err OrderError.Memory) }
+    ensures other { IfErr words (λ e. (error_kind e ≡ ErrorKind.OutOfMemory → ⊥) → result ≡ Err OrderError.U1) }
+    ensures given { IfOk words (λ i. IfErr result (λ e. e ≡ OrderError.Memory)) }
+{
+    match words {
+        Ok(words) => all(alloc, words),
         Err(error) => Err(order_error(error)),
     }
 }
@@ -29,7 +44,8 @@ fn all<I: Iterator<Item = String> + Drop>(
 ) -> Result<Vec<String>, OrderError>
     requires can { I.can_next words }
     requires finite { IsFinite (I.remaining words) }
-    ensures { IfOk result (λ v. WholeRun I.next_gives words (λ p. v.items ≡ p.items)) }
+    ensures all { IfOk result (λ v. WholeRun I.next_gives words (λ p. v.items ≡ p.items)) }
+    ensures memory { IfErr result (λ e. e ≡ OrderError.Memory) }
 {
     Ok(words.collect(alloc)?)
 }
