@@ -1,22 +1,27 @@
 -- Texts that are assembled to the file of an image.
 use Rattle.std.proofs.Common.{◌≡◌, ◌∙◌, ℕ, List, [], Result, Ok, Err, Option, Vec, refl, sym, subst, ap}
-use Rattle.std.specs.Prelude.{IsErrAnd}
+use Rattle.std.specs.Prelude.{Bool, true, false, if◌then◌else◌, IsErrAnd, IsOk, ◌∷◌}
 use Rattle.std.specs.Str.{IsUtf8}
 use Rattle.std.specs.declared.alloc.Global.{Global}
-use Rattle.assembler.specs.Answers.{Answers}
+use Rattle.assembler.specs.Answers.{Answers, FirstLineSays}
 use Rattle.assembler.specs.Assembles.{Assembles}
 use Rattle.assembler.specs.Cutting.{lines_of}
-use Rattle.assembler.specs.Source.{Source}
+use Rattle.assembler.specs.Items.{Item}
+use Rattle.assembler.specs.Source.{EachSays, Source, StandFor, none}
 use Rattle.assembler.specs.declared.asm_error.AsmError.{AsmError}
 use Rattle.assembler.specs.declared.asm_error.AsmError.TheVariants.{A1, A2, A3, A4, A5, A6}
 use Rattle.assembler.specs.declared.asm_error.AsmError.TheVariants as asm_error
+use Rattle.loader.specs.Contents.{Contents}
 use Rattle.loader.specs.Format.{image_from}
+use Rattle.loader.specs.declared.load_error.LoadError.{LoadError}
+use Rattle.loader.specs.declared.load_error.LoadError.TheVariants.{L1, L2, L3, L4, L5}
+use Rattle.loader.specs.declared.load_error.LoadError.TheVariants as load_error
 use Rattle.review_runner.specs.FileSystem.{FileSystem, IsReading, IsWriting, KeepsFiles, Reading}
 use Rattle.review_runner.specs.Order.{assemble}
 use Rattle.review_runner.specs.Output.{Report, outcome_of, succeeded}
 use Rattle.review_runner.specs.Performing.{Assembled, AssemblesBy, AssemblesFile, FileBy, PerformsBy, WritesImage}
 use Rattle.review_runner.specs.Performing.{failed, file_from, lacks_memory, no_file, no_program, no_text, nothing, performs, program, written}
-use Rattle.review_runner.specs.Refusals.{file_refusal, program_refusal}
+use Rattle.review_runner.specs.Refusals.{file_refusal, load_refusal, program_refusal}
 use Rattle.review_runner.specs.declared.answer.Answer.{Answer}
 use Rattle.review_runner.specs.declared.file_error.FileError.{FileError}
 use Rattle.review_runner.specs.declared.file_error.FileError.TheVariants.{Failed}
@@ -26,12 +31,55 @@ use Rattle.review_runner.specs.declared.refusal.Refusal.TheVariants.{File, Image
 
 -- ---- the image's file
 
--- there is a text, and then memory ran out
-text_alone : (held : List ℕ) → IsUtf8 held → AssemblesBy (Ok held) (Err Memory)
-text_alone held utf8 = ((λ e. cc), λ h is. subst IsUtf8 (ok_is is) utf8)
+-- the first line of a text says something, and then memory ran out
+text_alone : (held : List ℕ) → IsUtf8 held → FirstLineSays (lines_of held) → AssemblesBy (Ok held) (Err Memory)
+text_alone held utf8 says = ((λ e. cc), λ h is. subst (λ (t : List ℕ). IsUtf8 t × FirstLineSays (lines_of t)) (ok_is is) (utf8, says))
   where
     ok_is : {a b : List ℕ} → (let r : Reading = Ok a in r ≡ Ok b) → a ≡ b
     ok_is e = cc
+
+judged : (a b c : Bool) (image : Contents)
+    → (let r : Result Contents LoadError = if a then Err L5 else (if b then Err L3 else (if c then Err L4 else Ok image)) in r ≡ Err load_error.Memory) → ⊥
+judged true b c image is = cc
+judged false true c image is = cc
+judged false false true image is = cc
+judged false false false image is = cc
+
+-- making an image asks for no memory
+asks_none : (code : List ℕ) → image_from code [] ≡ Err load_error.Memory → ⊥
+unfolding image_from
+asks_none code is = judged _ _ false (record { code = code; constants = [] }) is
+
+by_cause : (code : List ℕ) (e : LoadError) → image_from code [] ≡ Err e → FileBy code (Err (load_refusal e))
+by_cause code L1 is = ap file_from is
+by_cause code L2 is = ap file_from is
+by_cause code L3 is = ap file_from is
+by_cause code L4 is = ap file_from is
+by_cause code L5 is = ap file_from is
+by_cause code load_error.Memory is = absurd (asks_none code is)
+
+-- code that is no image's
+pub of_no_image : (code constants : List ℕ) (e : LoadError) (r : Result (Vec ℕ Global) Refusal) → constants ≡ [] → (let i : Result Contents LoadError = Err e in i ≡ image_from code constants)
+    → IsErrAnd r (λ q. q ≡ load_refusal e) → FileBy code r
+of_no_image code constants e (Ok file) empty is due = absurd due
+of_no_image code constants e (Err r) empty is due =
+    subst (λ (q : Refusal). FileBy code (Err q)) (sym due) (by_cause code e (sym (subst (λ (c : List ℕ). (let i : Result Contents LoadError = Err e in i ≡ image_from code c)) empty is)))
+
+no_code : IsOk (file_from (image_from [] [])) → ⊥
+unfolding image_from
+no_code some = cc
+
+-- code that an image can have has a source whose first line says something
+first_of : (labels : List ℕ → Option ℕ) (lines : List (List ℕ)) (items : List Item) (code : List ℕ) → EachSays lines items → StandFor labels 0 items code
+    → IsOk (file_from (image_from code [])) → FirstLineSays lines
+first_of labels [] [] code each none some = absurd (no_code some)
+first_of labels [] (i ∷ is) code each stand some = absurd each
+first_of labels (line ∷ lines) [] code each stand some = absurd each
+first_of labels (line ∷ lines) (i ∷ is) code each stand some = (i, each.0)
+
+of_source : (held text code : List ℕ) → text ≡ held → Source text code → IsOk (file_from (image_from code [])) → FirstLineSays (lines_of held)
+of_source held text code same source some =
+    subst (λ (t : List ℕ). FirstLineSays (lines_of t)) same (first_of source.labels _ source.items code source.lines source.code some)
 
 at_text : (held text code : List ℕ) (due : Result (List ℕ) Refusal) → text ≡ held → IsUtf8 held → Source text code
     → file_from (image_from code []) ≡ due → Assembled (Ok held) due
@@ -42,7 +90,7 @@ at_text held text code due same utf8 source is =
 pub of_code : (held text code : List ℕ) (r : Result (Vec ℕ Global) Refusal) → text ≡ held → IsUtf8 held → Source text code
     → FileBy code r → AssemblesBy (Ok held) r
 of_code held text code (Ok file) same utf8 source is = at_text held text code _ same utf8 source is
-of_code held text code (Err Memory) same utf8 source is = text_alone held utf8
+of_code held text code (Err Memory) same utf8 source is = text_alone held utf8 (of_source held text code same source is)
 of_code held text code (Err Words) same utf8 source is = at_text held text code _ same utf8 source is
 of_code held text code (Err (Image e)) same utf8 source is = at_text held text code _ same utf8 source is
 of_code held text code (Err File) same utf8 source is = at_text held text code _ same utf8 source is
@@ -63,7 +111,7 @@ of_cause held text (A3 n) same utf8 answer = refused_text held text _ same utf8 
 of_cause held text (A4 n) same utf8 answer = refused_text held text _ same utf8 answer
 of_cause held text (A5 n) same utf8 answer = refused_text held text _ same utf8 answer
 of_cause held text (A6 n) same utf8 answer = refused_text held text _ same utf8 answer
-of_cause held text asm_error.Memory same utf8 answer = text_alone held utf8
+of_cause held text asm_error.Memory same utf8 answer = text_alone held utf8 (subst (λ (t : List ℕ). FirstLineSays (lines_of t)) same answer)
 
 -- the refusal of a text
 pub of_refusal : (held text : List ℕ) (e : AsmError) (r : Result (Vec ℕ Global) Refusal) → text ≡ held → IsUtf8 held → Answers text (Err e)
@@ -115,7 +163,7 @@ has_text : (reading : Reading) (due : Result (List ℕ) Refusal) (file : List �
 has_text reading due file no_file is = cc
 has_text reading due file (no_text bad) is = cc
 has_text reading due file (no_program utf8 answer) is = cc
-has_text reading due file (program utf8 source) is = text_alone _ utf8
+has_text reading due file (program utf8 source) is = text_alone _ utf8 (of_source _ _ _ refl source (subst IsOk (sym is) refl))
 
 was_kept : (old new : Option FileSystem) (name bytes : List ℕ) → IsWriting old name bytes new (Err file_error.Memory) → KeepsFiles old new
 was_kept old new name bytes write f known =

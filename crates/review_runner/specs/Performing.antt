@@ -1,7 +1,8 @@
 -- What an order other than a session does to the files, and what comes of it.
-use Rattle.std.specs.Prelude.{◌≡◌, ℕ, Bool, true, false, List, [], Result, Ok, Err, Option, Vec}
+use Rattle.std.specs.Prelude.{◌≡◌, ℕ, Bool, true, false, List, [], Result, Ok, Err, IsOk, Option, Vec}
 use Rattle.std.specs.Str.{IsUtf8}
 use Rattle.std.specs.declared.alloc.Global.{Global}
+use Rattle.assembler.specs.Answers.{FirstLineSays}
 use Rattle.assembler.specs.Assembles.{Assembles}
 use Rattle.assembler.specs.Cutting.{lines_of}
 use Rattle.assembler.specs.Source.{Source}
@@ -75,10 +76,10 @@ Performs old (assemble text image) new outcome = AssemblesTo old text image new 
 Performs old (list image) new outcome = ListsImage old image new outcome
 Performs old (debug image) new outcome = ⊥
 
--- the image's file, by what a read of the text's file answered, or want of memory where there is a text
+-- the image's file, by what a read of the text's file answered, or want of memory where the first line of a text says something
 abbrev pub AssemblesBy : Reading → Result (Vec ℕ Global) Refusal → Type 0
 AssemblesBy reading (Ok file) = Assembled reading (Ok file.items)
-AssemblesBy reading (Err Memory) = (reading ≡ Err Failed → ⊥) × ((held : List ℕ) → reading ≡ Ok held → IsUtf8 held)
+AssemblesBy reading (Err Memory) = (reading ≡ Err Failed → ⊥) × ((held : List ℕ) → reading ≡ Ok held → IsUtf8 held × FirstLineSays (lines_of held))
 AssemblesBy reading (Err r) = Assembled reading (Err r)
 
 -- the file of the image of the text in the file of this name
@@ -115,8 +116,8 @@ only_reads (debug image) = true
 
 -- ---- parts
 
--- the file of an image without constants, or that there is no memory
+-- the file of an image without constants, or that there is no memory for it
 abbrev pub FileBy : List ℕ → Result (Vec ℕ Global) Refusal → Type 0
 FileBy code (Ok file) = file_from (image_from code []) ≡ Ok file.items
-FileBy code (Err Memory) = Unit {0}
+FileBy code (Err Memory) = IsOk (file_from (image_from code []))
 FileBy code (Err r) = file_from (image_from code []) ≡ Err r
