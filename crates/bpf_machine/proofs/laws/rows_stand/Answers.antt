@@ -6,6 +6,7 @@ use Rattle.helper_table.specs.Calls.{row_of}
 use Rattle.helper_table.specs.Conversions.{kind_row, int_new_row, int_of_row, text_const_row}
 use Rattle.helper_table.specs.Lookups.{size_row}
 use Rattle.helper_table.specs.Numbers.{of_number}
+use Rattle.bpf_machine.proofs.Nulls.{nulls_table}
 use Rattle.insn_codec.specs.Spelled.{spelled}
 use Rattle.insn_codec.specs.Candidate.{candidate_at, arithmetic_at, branch_at, jump_at, memory_at, wide_at}
 use Rattle.bpf_machine.specs.State.{null_values, start_state}
@@ -45,5 +46,6 @@ returns c = record {
   places_by_memory = refl;
   answers_without = refl;
   nulls = refl;
+  nulls_are_table = nulls_table;
   reads_regions_alone = refl;
 }
