@@ -139,11 +139,19 @@ fn finds_the_last(rt: HostRuntime) -> Result<(), Fail> {
 /// many machines are kept then: no more than were looked at, and none behind a stopped one.
 const KEPT: [(&[u64], u64, u64); 4] = [(&[1], 1, 1), (&[2], 6, 6), (&[3], 7, 7), (&[0], 2, 7)];
 
+/// The place that a search on from place 0 finds, and how many machines are kept then.
+fn found_and_kept<E: Emulator>(
+    history: &mut Past<E>,
+    stops: &[u64],
+) -> Result<(u64, u64), AllocError> {
+    let (found, _) = first_from(history, 0, u64::MAX, stops)?;
+    Ok((found, history.kept()))
+}
+
 /// The first search that finds or keeps something else.
 fn wrong_search<E: Emulator>(history: &mut Past<E>) -> Result<Option<usize>, AllocError> {
     for (row, (stops, found, kept)) in KEPT.into_iter().enumerate() {
-        let (place, _) = first_from(history, 0, u64::MAX, stops)?;
-        if (place, history.kept()) != (found, kept) {
+        if found_and_kept(history, stops)? != (found, kept) {
             return Ok(Some(row));
         }
     }
