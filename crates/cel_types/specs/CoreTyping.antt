@@ -11,7 +11,7 @@ use Rattle.cel_types.specs.TypeTable.{literal_type, field_row, has_row, index_ro
 unfoldable mutual
   pub core_typing : CoreTree → Scope → Typing
   core_typing (literal l) s = typed (literal_type l)
-  core_typing (name n) s = name_type n s
+  core_typing (name n) s = name_type n s.items
   core_typing (variable v) s = variable_type v s.variables
   core_typing (select a f) s = with_type (core_typing a s) field_row
   core_typing (has a f) s = with_type (core_typing a s) has_row

@@ -36,7 +36,7 @@ fold_map_type false n r p t parts = with_types parts (refused NoOverload)
 unfoldable mutual
   pub typing : Tree → Scope → Typing
   typing (tree.literal l) s = typed (literal_type l)
-  typing (tree.name n) s = name_type n s
+  typing (tree.name n) s = name_type n s.items
   typing (tree.select a f) s = selected_type (is_variables a) f (typing a s) s
   typing (tree.index a k) s = with_type (typing a s) (λ x. with_type (typing k s) (λ y. index_row x y))
   typing (tree.unary op a) s = with_type (typing a s) (unary_row op)

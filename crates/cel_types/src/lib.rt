@@ -2,7 +2,16 @@
 #![tactic(auto)]
 
 mod cel_type;
+mod iterations;
 mod laws;
+mod names;
+mod rows;
+mod scope;
+mod type_error;
+mod variable;
 
 pub use cel_type::CelType;
 pub use laws::{is_sound, rows_stand, types_stay};
+pub use scope::Scope;
+pub use type_error::TypeError;
+pub use variable::Variable;
