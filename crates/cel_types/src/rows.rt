@@ -307,9 +307,16 @@ pub(crate) fn fold_map(
     row(is_fold(Macro::Filter, range, predicate), CelType::List)
 }
 
-/// Whether a key of this type is a text.
-pub(crate) fn is_key(t: CelType) -> bool
-    ensures { result ≡ types.allowed (kind.String ∷ []) t }
+/// Whether keys are texts, of which one more has this type.
+pub(crate) fn keep_texts(texts: bool, key: CelType) -> bool
+    ensures { result ≡ (texts && types.allowed (kind.String ∷ []) key) }
 {
-    allows(&[CelType::String], t)
+    texts && allows(&[CelType::String], key)
+}
+
+/// The type of a map literal, whose keys are texts or not.
+pub(crate) fn map_literal(texts: bool) -> Result<CelType, TypeError>
+    ensures { typing_of result ≡ table.map_literal_row texts }
+{
+    row(texts, CelType::Map)
 }
