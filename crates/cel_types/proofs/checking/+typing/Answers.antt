@@ -7,7 +7,7 @@ use Rattle.cel_types.specs.TypeTable.{is_text_key, map_literal_row}
 use Rattle.cel_types.specs.Types.{refused, fault_of, with_type, with_types}
 use Rattle.cel_types.specs.CoreTyping.{core_typing, core_entry_typings, core_key_typings, call_typing, method_typing}
 use Rattle.cel_types.proofs.Arguments.{call_typed, method_typed}
-use Rattle.cel_types.proofs.CoreViews.{view_call, view_method, view_map}
+use Rattle.cel_macros.specs.CoreViewLaws.{view_call, view_method, view_map}
 use Rattle.cel_types.proofs.checking.+typing.Goals as goal
 
 pub core_type-returns-in-Call : goal.core_type-returns-in-Call
