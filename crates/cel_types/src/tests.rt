@@ -12,14 +12,23 @@ use std::test::Fail;
 type Answer = Result<CelType, TypeError>;
 
 const BOOL: Answer = Ok(CelType::Bool);
+
 const INT: Answer = Ok(CelType::Int);
+
 const STRING: Answer = Ok(CelType::String);
+
 const NULL: Answer = Ok(CelType::Null);
+
 const LIST: Answer = Ok(CelType::List);
+
 const MAP: Answer = Ok(CelType::Map);
+
 const DYN: Answer = Ok(CelType::Dyn);
+
 const Y1: Answer = Err(TypeError::Y1);
+
 const Y2: Answer = Err(TypeError::Y2);
+
 const Y3: Answer = Err(TypeError::Y3);
 
 /// Literals and names.
@@ -304,4 +313,12 @@ fn types_functions(rt: HostRuntime) -> Result<(), Fail> {
 #[test]
 fn types_macros(rt: HostRuntime) -> Result<(), Fail> {
     assert_answers(&rt, rt.alloc(), &MACROS)
+}
+
+#[test]
+fn types_many_negations(rt: HostRuntime) -> Result<(), Fail> {
+    let signs = "!".repeat(rt.alloc(), 1999)?;
+    let text = format!(in rt.alloc(); "{signs}true")?;
+    assert_eq!(rt; answer(rt.alloc(), text.as_str())?, BOOL);
+    Ok(())
 }
