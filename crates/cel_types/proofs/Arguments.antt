@@ -1,12 +1,16 @@
 -- The type of a call and of a method, by their arguments.
-use Rattle.std.proofs.Common.{◌≡◌, ℕ, ◌<◌, List, [], ◌∷◌, length, map, refl, arith}
+use Rattle.std.proofs.Common.{◌≡◌, ℕ, ◌<◌, List, [], ◌∷◌, length, map, refl, sym, ap, ◌∙◌, arith}
+use Rattle.std.specs.List.{list_all}
 use Rattle.cel_macros.specs.declared.core_tree.Core.{Core}
 use Rattle.cel_macros.specs.CoreTree.{CoreTree, CoreTrees, no_cores, more_cores, call, method}
-use Rattle.cel_macros.specs.CoreView.{core_view, cores}
+use Rattle.cel_macros.specs.CoreTree as node
+use Rattle.cel_macros.specs.CoreView.{core_view, cores, core_entries}
+use Rattle.cel_macros.specs.Expanding.{core_pair}
 use Rattle.cel_types.specs.declared.cel_type.CelType.{CelType}
-use Rattle.cel_types.specs.Types.{refused, NoOverload, with_type, with_types}
+use Rattle.cel_types.specs.Types.{TypeFault, Typing, typed, refused, NoOverload, with_type, with_types}
+use Rattle.cel_types.specs.TypeTable.{is_text_key, map_literal_row}
 use Rattle.cel_types.specs.Scope.{Scope}
-use Rattle.cel_types.specs.CoreTyping.{core_typing, core_typings, call_typing, method_typing}
+use Rattle.cel_types.specs.CoreTyping.{core_typing, core_typings, core_entry_typings, core_key_typings, call_typing, method_typing}
 
 pub call_typed : (n : List ℕ) (arguments : CoreTrees) (s : Scope) → core_typing (call n arguments) s ≡ call_typing n arguments s
 unfolding core_typing
@@ -34,3 +38,21 @@ pub method_of_many : (n : List ℕ) (t : CelType) (items : List Core) (s : Scope
 method_of_many n t [] s h = absurd (omega arith)
 method_of_many n t (a ∷ []) s h = absurd (omega arith)
 method_of_many n t (a ∷ b ∷ items) s h = refl
+
+-- ---- the code's answers for a call, a method and a map literal are those of their tree
+
+pub call_seen : (core : CoreTree) (n m : List ℕ) (items more : List Core) (s : Scope) (r : Typing) → core ≡ call n (cores (map core_view items)) → m ≡ n → more ≡ items → r ≡ call_typing m (cores (map core_view more)) s → r ≡ core_typing core s
+call_seen core n m items more s r e en ei h = h ∙ (λ j. call_typing (en j) (cores (map core_view (ei j))) s) ∙ sym (call_typed n (cores (map core_view items)) s) ∙ ap (λ c. core_typing c s) (sym e)
+
+pub method_refused : (core a : CoreTree) (n : List ℕ) (parts : CoreTrees) (s : Scope) (y : TypeFault) → core ≡ method a n parts → refused y ≡ core_typing a s → refused y ≡ core_typing core s
+method_refused core a n parts s y e h = ap (λ r. with_type r (λ t. method_typing n t parts s)) h ∙ sym (method_typed a n parts s) ∙ ap (λ c. core_typing c s) (sym e)
+
+pub method_seen : (core a : CoreTree) (n m : List ℕ) (items more : List Core) (s : Scope) (t : CelType) (r : Typing) → core ≡ method a n (cores (map core_view items)) → m ≡ n → more ≡ items → typed t ≡ core_typing a s → r ≡ method_typing m t (cores (map core_view more)) s → r ≡ core_typing core s
+method_seen core a n m items more s t r e en ei found h = h ∙ (λ j. method_typing (en j) t (cores (map core_view (ei j))) s) ∙ ap (λ x. with_type x (λ u. method_typing n u (cores (map core_view items)) s)) found ∙ sym (method_typed a n (cores (map core_view items)) s) ∙ ap (λ c. core_typing c s) (sym e)
+
+abbrev entries_typing : List (Core × Core) → Scope → Typing
+entries_typing pairs s = with_types (core_entry_typings (core_entries (map core_pair pairs)) s) (map_literal_row (list_all is_text_key (core_key_typings (core_entries (map core_pair pairs)) s)))
+
+pub map_seen : (core : CoreTree) (pairs more : List (Core × Core)) (s : Scope) (r : Typing) → core ≡ node.map (core_entries (map core_pair pairs)) → more ≡ pairs → r ≡ entries_typing more s → r ≡ core_typing core s
+unfolding core_typing
+map_seen core pairs more s r e ep h = h ∙ ap (λ es. entries_typing es s) ep ∙ ap (λ c. core_typing c s) (sym e)
