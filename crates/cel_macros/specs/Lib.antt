@@ -10,6 +10,7 @@ pub mod Meaning
 pub mod CoreTree
 pub mod CoreView
 pub mod Expanding
+pub mod CoreViewLaws
 pub mod FoldMeaning
 pub mod MacroFault
 pub mod Written

@@ -31,7 +31,8 @@ unfoldable mutual
   entries_nodes no_core_entries = 0
   entries_nodes (more_core_entries k v more) = nodes k + nodes v + entries_nodes more
 
--- an operand stands in a word while the operands behind it are evaluated
+-- an operand stands in a word while the operands behind it are evaluated; a list and an entry of a map stand in one while
+-- their parts are, a key in one more while its value is, and a macro's state in five while its other parts are
 unfoldable mutual
   pub need : CoreTree → ℕ
   need (literal l) = 1
@@ -40,8 +41,7 @@ unfoldable mutual
   need (select a f) = need a
   need (has a f) = need a
   need (index a k) = max (need a) (1 + need k)
-  need (call n no_cores) = 1
-  need (call n (more_cores a more)) = max (need a) (needs_behind more)
+  need (call n arguments) = call_need arguments
   need (method a n arguments) = max (need a) (needs_behind arguments)
   need (unary op a) = need a
   need (binary op a b) = max (need a) (1 + need b)
@@ -50,6 +50,12 @@ unfoldable mutual
   need (map es) = max 1 (entries_need es)
   need (fold m n r p) = max (need r) (5 + need p)
   need (fold_map n r p t) = max (need r) (5 + max (need p) (need t))
+
+  -- each function has one operand; others would be kept like the items of a list
+  pub call_need : CoreTrees → ℕ
+  call_need no_cores = 1
+  call_need (more_cores a no_cores) = need a
+  call_need (more_cores a (more_cores b more)) = 1 + max (need a) (max (need b) (needs more))
 
   pub needs : CoreTrees → ℕ
   needs no_cores = 0

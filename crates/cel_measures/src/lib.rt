@@ -2,5 +2,14 @@
 #![tactic(auto)]
 
 mod laws;
+mod node_count;
+mod saturating;
+mod stack_need;
+#[cfg(test)]
+mod tests;
+mod variable_depth;
 
 pub use laws::rows_stand;
+pub use node_count::nodes;
+pub use stack_need::need;
+pub use variable_depth::depth;

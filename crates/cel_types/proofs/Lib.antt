@@ -1,3 +1,5 @@
 pub mod TypedRows
 pub mod Sound
 pub mod CoreTypes
+pub mod Arguments
+pub mod Outside

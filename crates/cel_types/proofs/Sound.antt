@@ -23,13 +23,13 @@ known_fits : (b : Bool) (x : ValueOrError) → Fits (cond b (typed type.Dyn) (re
 known_fits true x = dyn_fits x
 known_fits false x = tt
 
-name_fits : (n : List ℕ) (s : Scope) (x : ValueOrError) → Fits (name_type n s) x
+name_fits : (n : List ℕ) (items : List (List ℕ)) (x : ValueOrError) → Fits (name_type n items) x
 unfolding name_type
-name_fits n s x = by_name (bytes_eq variables_name n)
+name_fits n items x = by_name (bytes_eq variables_name n)
   where
-    by_name : (b : Bool) → Fits (cond b (refused MisplacedVariables) (cond (is_known n s) (typed type.Dyn) (refused UnknownName))) x
+    by_name : (b : Bool) → Fits (cond b (refused MisplacedVariables) (cond (is_known n items) (typed type.Dyn) (refused UnknownName))) x
     by_name true = tt
-    by_name false = known_fits (is_known n s) x
+    by_name false = known_fits (is_known n items) x
 
 select_fits : (b : Bool) (f : List ℕ) (a : Typing) (s : Scope) (x : ValueOrError) (env : Environment) → FitsScope s env → Fits (selected_type b f a s) (selected b f x env)
 select_fits true f a s x env h = h f
@@ -38,7 +38,7 @@ select_fits false f a s x env h = with_fits a field_row (field_of x f) (λ t. ro
 pub is_sound : IsSound
 unfolding typing meaning
 is_sound (tree.literal l) s env h = literal_fits l
-is_sound (tree.name n) s env h = name_fits n s (name_value n env)
+is_sound (tree.name n) s env h = name_fits n s.items (name_value n env)
 is_sound (tree.select a f) s env h = select_fits (is_variables a) f (typing a s) s (meaning a env) env h
 is_sound (tree.index a k) s env h = index_fits (typing a s) (typing k s) (meaning (tree.index a k) env)
 is_sound (tree.unary op a) s env h = unary_fits op (typing a s) (meaning a env)

@@ -3,6 +3,8 @@ pub mod Scope
 pub mod TypeTable
 pub mod Typing
 pub mod CoreTyping
+pub mod Declarations
+pub mod Iterations
 pub mod Soundness
 pub mod Laws
 pub mod Rows

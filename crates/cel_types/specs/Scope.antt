@@ -12,11 +12,11 @@ pub record Scope : Type 0 where
   pub items : List (List ℕ)
   pub variables : List (List ℕ × CelType)
 
-abbrev pub is_known : List ℕ → Scope → Bool
-is_known n s = is_root n || list_any (bytes_eq n) s.items
+abbrev pub is_known : List ℕ → List (List ℕ) → Bool
+is_known n items = is_root n || list_any (bytes_eq n) items
 
-unfoldable pub name_type : List ℕ → Scope → Typing
-name_type n s = if bytes_eq variables_name n then refused MisplacedVariables else (if is_known n s then typed type.Dyn else refused UnknownName)
+unfoldable pub name_type : List ℕ → List (List ℕ) → Typing
+name_type n items = if bytes_eq variables_name n then refused MisplacedVariables else (if is_known n items then typed type.Dyn else refused UnknownName)
 
 abbrev pub type_or_fault : Option CelType → Typing
 type_or_fault (Some t) = typed t

@@ -121,3 +121,7 @@ map_row r p t = row (is_range r && allowed (type.Bool ∷ []) p) type.List
 abbrev pub is_text_key : Typing → Bool
 is_text_key (typed t) = allowed (type.String ∷ []) t
 is_text_key (refused y) = false
+
+-- a map literal, by whether all its keys may be texts
+abbrev pub map_literal_row : Bool → Typing
+map_literal_row texts = row texts type.Map

@@ -1,8 +1,10 @@
 -- What the type of an expression can be, and what can be wrong with it.
-use Rattle.std.specs.Prelude.{Bool, true, false, ◌&&◌, ◌||◌, List, [], ◌∷◌, if◌then◌else◌}
+use Rattle.std.specs.Prelude.{Bool, true, false, ◌&&◌, ◌||◌, List, [], ◌∷◌, Result, Ok, Err, if◌then◌else◌}
 use Rattle.std.specs.List.{list_any}
 use Rattle.cel_types.specs.declared.cel_type.CelType.{CelType}
 use Rattle.cel_types.specs.declared.cel_type.CelType.TheVariants as type
+use Rattle.cel_types.specs.declared.type_error.TypeError.{TypeError}
+use Rattle.cel_types.specs.declared.type_error.TypeError.TheVariants.{Y1, Y2, Y3}
 
 pub data TypeFault : Type 0 where
   UnknownName : TypeFault
@@ -51,3 +53,13 @@ both_allowed ts a b = allowed ts a && allowed ts b
 abbrev pub with_types : List Typing → Typing → Typing
 with_types [] last = last
 with_types (x ∷ xs) last = with_type x (λ t. with_types xs last)
+
+-- an answer of the code as a type or a fault
+abbrev pub fault_of : TypeError → TypeFault
+fault_of Y1 = UnknownName
+fault_of Y2 = NoOverload
+fault_of Y3 = MisplacedVariables
+
+abbrev pub typing_of : Result CelType TypeError → Typing
+typing_of (Ok t) = typed t
+typing_of (Err y) = refused (fault_of y)

@@ -8,9 +8,9 @@ use Rattle.cel_macros.specs.declared.macros.Macro.{Macro}
 use Rattle.cel_macros.specs.Macros.{macro_named, is_map, is_has, is_variables, name_of, field_name}
 use Rattle.cel_types.specs.declared.cel_type.CelType.{CelType}
 use Rattle.cel_types.specs.declared.cel_type.CelType.TheVariants as type
-use Rattle.cel_types.specs.Types.{TypeFault, Typing, typed, refused, NoOverload, row, with_type, with_types}
+use Rattle.cel_types.specs.Types.{TypeFault, Typing, typed, refused, NoOverload, with_type, with_types}
 use Rattle.cel_types.specs.Scope.{Scope, name_type, variable_type, within}
-use Rattle.cel_types.specs.TypeTable.{literal_type, field_row, has_row, index_row, unary_row, binary_row, ternary_row, function_row, method_row, test_row, macro_row, map_row, is_text_key}
+use Rattle.cel_types.specs.TypeTable.{literal_type, field_row, has_row, index_row, unary_row, binary_row, ternary_row, function_row, method_row, test_row, macro_row, map_row, is_text_key, map_literal_row}
 
 abbrev pub selected_type : Bool → List ℕ → Typing → Scope → Typing
 selected_type true f a s = variable_type f s.variables
@@ -36,14 +36,14 @@ fold_map_type false n r p t parts = with_types parts (refused NoOverload)
 unfoldable mutual
   pub typing : Tree → Scope → Typing
   typing (tree.literal l) s = typed (literal_type l)
-  typing (tree.name n) s = name_type n s
+  typing (tree.name n) s = name_type n s.items
   typing (tree.select a f) s = selected_type (is_variables a) f (typing a s) s
   typing (tree.index a k) s = with_type (typing a s) (λ x. with_type (typing k s) (λ y. index_row x y))
   typing (tree.unary op a) s = with_type (typing a s) (unary_row op)
   typing (tree.binary op a b) s = with_type (typing a s) (λ x. with_type (typing b s) (λ y. binary_row op x y))
   typing (tree.ternary c a b) s = with_type (typing c s) (λ x. with_type (typing a s) (λ y. with_type (typing b s) (λ z. ternary_row x y z)))
   typing (tree.list items) s = with_types (typings items s) (typed type.List)
-  typing (tree.map es) s = with_types (entry_typings es s) (row (list_all is_text_key (key_typings es s)) type.Map)
+  typing (tree.map es) s = with_types (entry_typings es s) (map_literal_row (list_all is_text_key (key_typings es s)))
   typing (tree.call n (more_trees a no_trees)) s = call_type (is_has n) (field_name a) (function_named n) (operand_typing a s) (typing a s)
   typing (tree.call n arguments) s = with_types (typings arguments s) (refused NoOverload)
   typing (tree.method a n no_trees) s = with_type (typing a s) (method_row (function_named n))

@@ -2,7 +2,20 @@
 #![tactic(auto)]
 
 mod cel_type;
+mod checking;
+mod iterations;
 mod laws;
+mod names;
+mod rows;
+mod scope;
+#[cfg(test)]
+mod tests;
+mod type_error;
+mod variable;
 
 pub use cel_type::CelType;
+pub use checking::check;
 pub use laws::{is_sound, rows_stand, types_stay};
+pub use scope::Scope;
+pub use type_error::TypeError;
+pub use variable::Variable;

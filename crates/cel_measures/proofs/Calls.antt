@@ -1,0 +1,16 @@
+-- The need of a call, by the number of its arguments.
+use Rattle.std.proofs.Common.{◌≡◌, ◌+◌, ◌<◌, List, [], ◌∷◌, length, map, refl, arith}
+use Rattle.cel_macros.specs.declared.core_tree.Core.{Core}
+use Rattle.cel_macros.specs.CoreView.{core_view, cores}
+use Rattle.cel_measures.specs.Measures.{call_need, needs}
+
+pub need_of_none : (items : List Core) → length items < 1 → call_need (cores (map core_view items)) ≡ 1
+unfolding call_need
+need_of_none [] h = refl
+need_of_none (a ∷ items) h = absurd (omega arith)
+
+pub need_of_many : (items : List Core) → 1 < length items → call_need (cores (map core_view items)) ≡ 1 + needs (cores (map core_view items))
+unfolding call_need
+need_of_many [] h = absurd (omega arith)
+need_of_many (a ∷ []) h = absurd (omega arith)
+need_of_many (a ∷ b ∷ items) h = refl

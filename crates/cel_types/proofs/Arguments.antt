@@ -1,0 +1,58 @@
+-- The type of a call and of a method, by their arguments.
+use Rattle.std.proofs.Common.{◌≡◌, ℕ, ◌<◌, List, [], ◌∷◌, length, map, refl, sym, ap, ◌∙◌, arith}
+use Rattle.std.specs.List.{list_all}
+use Rattle.cel_macros.specs.declared.core_tree.Core.{Core}
+use Rattle.cel_macros.specs.CoreTree.{CoreTree, CoreTrees, no_cores, more_cores, call, method}
+use Rattle.cel_macros.specs.CoreTree as node
+use Rattle.cel_macros.specs.CoreView.{core_view, cores, core_entries}
+use Rattle.cel_macros.specs.Expanding.{core_pair}
+use Rattle.cel_types.specs.declared.cel_type.CelType.{CelType}
+use Rattle.cel_types.specs.Types.{TypeFault, Typing, typed, refused, NoOverload, with_type, with_types}
+use Rattle.cel_types.specs.TypeTable.{is_text_key, map_literal_row}
+use Rattle.cel_types.specs.Scope.{Scope}
+use Rattle.cel_types.specs.CoreTyping.{core_typing, core_typings, core_entry_typings, core_key_typings, call_typing, method_typing}
+
+pub call_typed : (n : List ℕ) (arguments : CoreTrees) (s : Scope) → core_typing (call n arguments) s ≡ call_typing n arguments s
+unfolding core_typing
+call_typed n no_cores s = refl
+call_typed n (more_cores a no_cores) s = refl
+call_typed n (more_cores a (more_cores b more)) s = refl
+
+pub call_of_none : (n : List ℕ) (items : List Core) (s : Scope) → length items < 1 → call_typing n (cores (map core_view items)) s ≡ refused NoOverload
+unfolding core_typings
+call_of_none n [] s h = refl
+call_of_none n (a ∷ items) s h = absurd (omega arith)
+
+pub call_of_many : (n : List ℕ) (items : List Core) (s : Scope) → 1 < length items → call_typing n (cores (map core_view items)) s ≡ with_types (core_typings (cores (map core_view items)) s) (refused NoOverload)
+call_of_many n [] s h = absurd (omega arith)
+call_of_many n (a ∷ []) s h = absurd (omega arith)
+call_of_many n (a ∷ b ∷ items) s h = refl
+
+pub method_typed : (a : CoreTree) (n : List ℕ) (arguments : CoreTrees) (s : Scope) → core_typing (method a n arguments) s ≡ with_type (core_typing a s) (λ t. method_typing n t arguments s)
+unfolding core_typing
+method_typed a n no_cores s = refl
+method_typed a n (more_cores b no_cores) s = refl
+method_typed a n (more_cores b (more_cores d more)) s = refl
+
+pub method_of_many : (n : List ℕ) (t : CelType) (items : List Core) (s : Scope) → 1 < length items → method_typing n t (cores (map core_view items)) s ≡ with_types (core_typings (cores (map core_view items)) s) (refused NoOverload)
+method_of_many n t [] s h = absurd (omega arith)
+method_of_many n t (a ∷ []) s h = absurd (omega arith)
+method_of_many n t (a ∷ b ∷ items) s h = refl
+
+-- ---- the code's answers for a call, a method and a map literal are those of their tree
+
+pub call_seen : (core : CoreTree) (n m : List ℕ) (items more : List Core) (s : Scope) (r : Typing) → core ≡ call n (cores (map core_view items)) → m ≡ n → more ≡ items → r ≡ call_typing m (cores (map core_view more)) s → r ≡ core_typing core s
+call_seen core n m items more s r e en ei h = h ∙ (λ j. call_typing (en j) (cores (map core_view (ei j))) s) ∙ sym (call_typed n (cores (map core_view items)) s) ∙ ap (λ c. core_typing c s) (sym e)
+
+pub method_refused : (core a : CoreTree) (n : List ℕ) (parts : CoreTrees) (s : Scope) (y : TypeFault) → core ≡ method a n parts → refused y ≡ core_typing a s → refused y ≡ core_typing core s
+method_refused core a n parts s y e h = ap (λ r. with_type r (λ t. method_typing n t parts s)) h ∙ sym (method_typed a n parts s) ∙ ap (λ c. core_typing c s) (sym e)
+
+pub method_seen : (core a : CoreTree) (n m : List ℕ) (items more : List Core) (s : Scope) (t : CelType) (r : Typing) → core ≡ method a n (cores (map core_view items)) → m ≡ n → more ≡ items → typed t ≡ core_typing a s → r ≡ method_typing m t (cores (map core_view more)) s → r ≡ core_typing core s
+method_seen core a n m items more s t r e en ei found h = h ∙ (λ j. method_typing (en j) t (cores (map core_view (ei j))) s) ∙ ap (λ x. with_type x (λ u. method_typing n u (cores (map core_view items)) s)) found ∙ sym (method_typed a n (cores (map core_view items)) s) ∙ ap (λ c. core_typing c s) (sym e)
+
+abbrev entries_typing : List (Core × Core) → Scope → Typing
+entries_typing pairs s = with_types (core_entry_typings (core_entries (map core_pair pairs)) s) (map_literal_row (list_all is_text_key (core_key_typings (core_entries (map core_pair pairs)) s)))
+
+pub map_seen : (core : CoreTree) (pairs more : List (Core × Core)) (s : Scope) (r : Typing) → core ≡ node.map (core_entries (map core_pair pairs)) → more ≡ pairs → r ≡ entries_typing more s → r ≡ core_typing core s
+unfolding core_typing
+map_seen core pairs more s r e ep h = h ∙ ap (λ es. entries_typing es s) ep ∙ ap (λ c. core_typing c s) (sym e)
