@@ -11,3 +11,7 @@ pub mod Marked
 pub mod IntsFit
 pub mod Taking
 pub mod SaidPieces
+pub mod NamedEscapes
+pub mod LongestGap
+pub mod NegatedInts
+pub mod PrefixPositions

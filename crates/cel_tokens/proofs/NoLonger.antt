@@ -32,7 +32,7 @@ letter_is_no_blank b h = grind (arith, nat_tests)
 letter_is_name_byte : (b : ℕ) → is_letter b ≡ true → is_name_byte b ≡ true
 letter_is_name_byte b h = rw h refl
 
-begins_here : (b : ℕ) (bs : List ℕ) → is_blank b ≡ false → (b == 47) ≡ false → between false (b ∷ bs) ≡ 0
+pub begins_here : (b : ℕ) (bs : List ℕ) → is_blank b ≡ false → (b == 47) ≡ false → between false (b ∷ bs) ≡ 0
 begins_here b bs k s = between_off false b bs (rw (k, no_comment b bs s) refl)
 
 name_front : (signed : Bool) (b : ℕ) (bs : List ℕ) → is_letter b ≡ true → opening (b ∷ bs) ≡ None → front signed (b ∷ bs) ≡ front.word (run is_name_byte (b ∷ bs)) (name (take (run is_name_byte (b ∷ bs)) (b ∷ bs)))
@@ -45,10 +45,10 @@ no_longer_name signed [] rest a o = absurd a
 no_longer_name signed (b ∷ bs) rest a o =
     (run is_name_byte (b ∷ (bs ++ rest)), _, name_front signed b (bs ++ rest) a.0 o, run_prefix is_name_byte (b ∷ bs) rest (letter_is_name_byte b a.0, a.1))
 
-digit_is_no_slash : (b : ℕ) → is_digit_of 10 b ≡ true → (b == 47) ≡ false
+pub digit_is_no_slash : (b : ℕ) → is_digit_of 10 b ≡ true → (b == 47) ≡ false
 digit_is_no_slash b h = grind (arith, nat_tests)
 
-digit_is_no_blank : (b : ℕ) → is_digit_of 10 b ≡ true → is_blank b ≡ false
+pub digit_is_no_blank : (b : ℕ) → is_digit_of 10 b ≡ true → is_blank b ≡ false
 digit_is_no_blank b h = grind (arith, nat_tests)
 
 digit_is_no_letter : (b : ℕ) → is_digit_of 10 b ≡ true → is_letter b ≡ false
@@ -63,7 +63,7 @@ digit_is_no_prefix b h = grind (arith, nat_tests)
 digit_is_no_x : (b : ℕ) → is_digit_of 10 b ≡ true → (b == 120) ≡ false
 digit_is_no_x b h = grind (arith, nat_tests)
 
-no_text : (b : ℕ) (bs : List ℕ) → is_quote b ≡ false → is_raw_prefix b ≡ false → opening (b ∷ bs) ≡ None
+pub no_text : (b : ℕ) (bs : List ℕ) → is_quote b ≡ false → is_raw_prefix b ≡ false → opening (b ∷ bs) ≡ None
 no_text b [] q r = rw q refl
 no_text b (c ∷ bs) q r = rw (q, r) refl
 
@@ -84,7 +84,7 @@ either_way : (h : Bool) (m n : ℕ × ℕ) → 1 ≤ m.0 → 1 ≤ n.0 → 1 ≤
 either_way true m n a b = a
 either_way false m n a b = b
 
-int_len : (b : ℕ) (bs rest : List ℕ) → is_digit_of 10 b ≡ true → AllPass (is_digit_of 10) bs → length (b ∷ bs) ≤ (int_at ((b ∷ bs) ++ rest)).0
+pub int_len : (b : ℕ) (bs rest : List ℕ) → is_digit_of 10 b ≡ true → AllPass (is_digit_of 10) bs → length (b ∷ bs) ≤ (int_at ((b ∷ bs) ++ rest)).0
 int_len b [] rest d a =
     either_way (hex_begins (b ∷ rest)) ((spelled 16 (drop 2 (b ∷ rest))).0 + 2, (spelled 16 (drop 2 (b ∷ rest))).1) (spelled 10 (b ∷ rest)) (omega arith) (run_prefix (is_digit_of 10) (b ∷ []) rest (d, tt))
 int_len b (c ∷ bs) rest d a =
@@ -99,7 +99,7 @@ no_longer_int signed [] rest a = absurd a
 no_longer_int signed (b ∷ bs) rest a =
     found (int_at (b ∷ (bs ++ rest))).0 (length (b ∷ bs)) (int_of false (int_at (b ∷ (bs ++ rest))).1) (front signed (b ∷ (bs ++ rest))) (int_front_is signed b (bs ++ rest) a.0) (int_len b bs rest a.0 a.1)
 
-hex_len : (d : ℕ) (ds rest : List ℕ) → AllPass (is_digit_of 16) (d ∷ ds) → length (48 ∷ 120 ∷ d ∷ ds) ≤ (int_at (48 ∷ 120 ∷ d ∷ (ds ++ rest))).0
+pub hex_len : (d : ℕ) (ds rest : List ℕ) → AllPass (is_digit_of 16) (d ∷ ds) → length (48 ∷ 120 ∷ d ∷ ds) ≤ (int_at (48 ∷ 120 ∷ d ∷ (ds ++ rest))).0
 hex_len d ds rest a =
     let r = run_prefix (is_digit_of 16) (d ∷ ds) rest a in
     rw (a.0) (omega (arith, r))

@@ -39,7 +39,7 @@ run_within p (x ∷ xs) =
     let q : suc (length xs) ≡ length xs + 1 = omega arith in
     rw q (within_step (p x) (run p xs) (length xs) (run_within p xs))
 
-between_on : (c : Bool) (b : ℕ) (bs : List ℕ) → is_between c b (b ∷ bs) ≡ true → between c (b ∷ bs) ≡ between (stays_in_comment c b) bs + 1
+pub between_on : (c : Bool) (b : ℕ) (bs : List ℕ) → is_between c b (b ∷ bs) ≡ true → between c (b ∷ bs) ≡ between (stays_in_comment c b) bs + 1
 unfolding between
 between_on c b bs e = rw e refl
 

@@ -11,3 +11,6 @@ pub mod Lexis
 pub mod Steps
 pub mod Laws
 pub mod Longest
+pub mod Escapes
+pub mod Gaps
+pub mod SignedInts

@@ -3,6 +3,9 @@
 ghost use Rattle.cel_tokens.specs.Laws.{HasOneEnd, EndsInItsTokens, HasOneReading, HasIntsThatFit};
 ghost use Rattle.cel_tokens.specs.TextLiterals.{SaysItsPieces};
 ghost use Rattle.cel_tokens.specs.Longest.{NoLongerName, NoLongerInt, NoLongerHex};
+ghost use Rattle.cel_tokens.specs.Escapes.{NamesItsCodePoint};
+ghost use Rattle.cel_tokens.specs.Gaps.{IsLongestGap};
+ghost use Rattle.cel_tokens.specs.SignedInts.{HasPrefixPosition, HasPlainMinus, HasNegatedInt, HasWideInt};
 
 /// A text ends in one way, its tokens or one refusal; it ends in tokens exactly where it has these
 /// tokens and both are within the limits; and it has one list of tokens.
@@ -27,4 +30,27 @@ pub fn longest()
 /// A text literal says what its pieces say, joined, up to its closing quote.
 pub fn pieces_of_a_text()
     ensures { SaysItsPieces }
+{}
+
+/// An escape is one of the forms of the table, and its value the code point that it names.
+/// (cel-spec, ESCAPE)
+pub fn escapes()
+    ensures { NamesItsCodePoint }
+{}
+
+/// What is skipped between tokens is the longest stretch of spaces, tabs, line feeds, form feeds,
+/// carriage returns and comments, each from two slashes to before its line's end. (cel-spec,
+/// WHITESPACE and COMMENT)
+pub fn gaps()
+    ensures { IsLongestGap }
+{}
+
+/// A minus and the int behind it, with blanks and comments between them if any, are one token, the
+/// number negated, unless the minus stands behind an identifier other than `in`, a literal or a
+/// closing bracket; and 64 bits have to hold that number.
+pub fn signed_ints()
+    ensures prefix { HasPrefixPosition }
+    ensures plain { HasPlainMinus }
+    ensures negated { HasNegatedInt }
+    ensures wide { HasWideInt }
 {}

@@ -1,5 +1,6 @@
 //! Listings that were made by hand.
 use crate::{DisError, line_at, listing, one_listing, rows_stand};
+use std::alloc::Global;
 use std::test::Fail;
 
 /// A slot of each row of the instruction table, with the line of its instruction.
@@ -142,13 +143,39 @@ const LISTINGS: [(&[u8], &str); 6] = [
     ),
 ];
 
+/// Whether this line, of so many slots, stands at a slot of the code.
+fn has_line(
+    alloc: Global,
+    code: &[u8],
+    slot: u64,
+    line: &str,
+    slots: u64,
+) -> Result<bool, DisError> {
+    if slot >= code.len() as u64 / 8 {
+        return Ok(false);
+    }
+    let (text, count) = line_at(alloc, code, slot)?;
+    Ok(text.as_str() == line && count == slots)
+}
+
+/// Whether a slot's code has this line alone.
+fn lists(alloc: Global, slot: &[u8], line: &str) -> Result<bool, DisError> {
+    let text = listing(alloc, slot)?;
+    Ok(text.as_str().strip_suffix('\n') == Some(line) && has_line(alloc, slot, 0, line, 1)?)
+}
+
 #[test]
-fn each_slot_has_its_line(rt: HostRuntime) -> Result<(), Fail> {
-    for (slot, line) in INSTRUCTIONS.iter().chain(SLOTS.iter()) {
-        let text = listing(rt.alloc(), slot)?;
-        assert_eq!(rt; text.as_str().strip_suffix('\n'), Some(*line));
-        let (first, slots) = line_at(rt.alloc(), slot, 0)?;
-        assert_eq!(rt; (first.as_str(), slots), (*line, 1));
+fn each_instruction_has_its_line(rt: HostRuntime) -> Result<(), Fail> {
+    for (slot, line) in &INSTRUCTIONS {
+        assert!(rt; lists(rt.alloc(), slot, line)?, "lists {slot:?}");
+    }
+    Ok(())
+}
+
+#[test]
+fn each_other_slot_has_its_line(rt: HostRuntime) -> Result<(), Fail> {
+    for (slot, line) in &SLOTS {
+        assert!(rt; lists(rt.alloc(), slot, line)?, "lists {slot:?}");
     }
     Ok(())
 }
@@ -172,9 +199,7 @@ fn a_line_begins_at_each_slot(rt: HostRuntime) -> Result<(), Fail> {
         (3, "exit", 1),
     ];
     for (slot, line, slots) in rows {
-        assert!(rt; slot < code.len() as u64 / 8);
-        let answer = line_at(rt.alloc(), code, slot)?;
-        assert_eq!(rt; (answer.0.as_str(), answer.1), (line, slots), "at {slot}");
+        assert!(rt; has_line(rt.alloc(), code, slot, line, slots)?, "at {slot}");
     }
     Ok(())
 }
@@ -190,16 +215,10 @@ fn refuses_lengths(rt: HostRuntime) -> Result<(), Fail> {
     ];
     for (length, error) in rows {
         let code = vec![in rt.alloc(); 0; length]?;
-        assert_eq!(rt;
-            listing(rt.alloc(), &code).err(),
-            Some(error),
-            "at {length}"
-        );
-        assert_eq!(rt;
-            line_at(rt.alloc(), &code, 0).err(),
-            Some(error),
-            "at {length}"
-        );
+        let listed = listing(rt.alloc(), &code).err();
+        assert!(rt; listed == Some(error), "lists {length}");
+        let read = line_at(rt.alloc(), &code, 0).err();
+        assert!(rt; read == Some(error), "reads {length}");
     }
     Ok(())
 }

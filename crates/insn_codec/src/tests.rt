@@ -6,15 +6,18 @@ use crate::{
 use Register::{R0, R1, R2, R3, R9, R10};
 use std::process::Abort;
 
+/// Whether these slots spell the instruction, and it is as many slots long.
+fn spell(first: u64, second: Option<u64>, insn: Insn, slots: u64) -> bool {
+    decode(first, second) == Some(insn) && round_trip(&insn) == Some(insn) && insn.slots() == slots
+}
+
 /// The slot spells the instruction alone and before any other slot, and the instruction that slot.
 fn check<R: Abort>(rt: &R, bytes: [u8; 8], insn: Insn) {
     let word = u64::from_le_bytes(bytes);
     for second in [None, Some(0), Some(u64::MAX)] {
-        assert_eq!(rt; decode(word, second), Some(insn), "reads {bytes:?}");
+        assert!(rt; spell(word, second, insn, 1), "reads {bytes:?}");
     }
-    assert_eq!(rt; encode(&insn), (word, None), "writes {bytes:?}");
-    assert_eq!(rt; round_trip(&insn), Some(insn), "reads again {bytes:?}");
-    assert_eq!(rt; insn.slots(), 1, "counts {bytes:?}");
+    assert!(rt; encode(&insn) == (word, None), "writes {bytes:?}");
 }
 
 /// The opcodes of an operation: of 32 bits with an immediate and with a register, and of 64 bits.
@@ -261,16 +264,25 @@ fn wide_loads(rt: HostRuntime) {
     for (value, first_bytes, second_bytes, dst) in rows {
         let insn = Insn::LoadWide { dst, value };
         let first = u64::from_le_bytes(first_bytes);
-        let second = u64::from_le_bytes(second_bytes);
-        assert_eq!(rt; decode(first, Some(second)), Some(insn), "reads {value}");
-        assert_eq!(rt; decode(first, None), None, "reads half of {value}");
-        assert_eq!(rt; encode(&insn), (first, Some(second)), "writes {value}");
-        assert_eq!(rt; round_trip(&insn), Some(insn), "reads again {value}");
-        assert_eq!(rt; insn.slots(), 2, "counts {value}");
+        let second = Some(u64::from_le_bytes(second_bytes));
+        assert!(rt; spell(first, second, insn, 2), "reads {value}");
+        assert!(rt; encode(&insn) == (first, second), "writes {value}");
     }
-    // The second slot's opcode, registers and offset are 0.
-    for second in [0x01, 0x0100, 0x1000, 0x0001_0000, 0x8000_0000] {
-        assert_eq!(rt; decode(0x18, Some(second)), None, "second slot {second}");
+}
+
+/// A second slot has no opcode, registers or offset, and it has to be there.
+#[test]
+fn halves_of_wide_loads(rt: HostRuntime) {
+    let rows = [
+        None,
+        Some(0x01),
+        Some(0x0100),
+        Some(0x1000),
+        Some(0x0001_0000),
+        Some(0x8000_0000),
+    ];
+    for second in rows {
+        assert!(rt; decode(0x18, second) == None, "second slot {second:?}");
     }
 }
 

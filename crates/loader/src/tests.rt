@@ -1,6 +1,7 @@
 //! Files and parts that were made by hand.
 
 use crate::{Image, LoadError};
+use std::alloc::{AllocError, Global};
 use std::test::Fail;
 
 /// A program of three slots, `r0 = 5`, `r0 += 2` and `exit`, without constants.
@@ -38,25 +39,42 @@ fn refuses_files(rt: HostRuntime) {
     }
 }
 
+/// Whether the image has these parts and this file.
+fn has_parts(
+    image: &Image,
+    code: &[u8],
+    constants: &[u8],
+    file: &[u8],
+) -> Result<bool, AllocError> {
+    let written = image.write()?;
+    Ok(image.code() == code && image.constants() == constants && written.as_slice() == file)
+}
+
+/// The image of these parts, or a copy of it.
+fn made(alloc: Global, code: &[u8], constants: &[u8], copied: bool) -> Result<Image, LoadError> {
+    let code = Vec::from_slice(alloc, code)?;
+    let constants = Vec::from_slice(alloc, constants)?;
+    let image = Image::new(code, constants)?;
+    if copied { Ok(image.copy()?) } else { Ok(image) }
+}
+
 #[test]
 fn reads_and_writes_a_program(rt: HostRuntime) -> Result<(), Fail> {
     let image = Image::read(rt.alloc(), PROGRAM)?;
-    assert_eq!(rt; image.code(), &PROGRAM[16..]);
-    assert_eq!(rt; image.constants(), b"".as_slice());
-    assert_eq!(rt; image.write()?.as_slice(), PROGRAM);
+    assert!(rt; has_parts(&image, &PROGRAM[16..], b"", PROGRAM)?);
     Ok(())
 }
 
 #[test]
 fn makes_images_of_parts(rt: HostRuntime) -> Result<(), Fail> {
-    let code = Vec::from_slice(rt.alloc(), &PROGRAM[32..])?;
-    let constants = Vec::from_slice(rt.alloc(), b"abc")?;
-    let image = Image::new(code, constants)?;
-    let copy = image.copy()?;
-    let file = b"CELBPF01\x01\0\0\0\x03\0\0\0\x95\0\0\0\0\0\0\0abc";
-    assert_eq!(rt; image.write()?.as_slice(), file.as_slice());
-    assert_eq!(rt; copy.write()?.as_slice(), file.as_slice());
-    assert_eq!(rt; copy.constants(), b"abc".as_slice());
+    let (exit, file) = (
+        &PROGRAM[32..],
+        b"CELBPF01\x01\0\0\0\x03\0\0\0\x95\0\0\0\0\0\0\0abc",
+    );
+    for copied in [false, true] {
+        let image = made(rt.alloc(), exit, b"abc", copied)?;
+        assert!(rt; has_parts(&image, exit, b"abc", file)?, "copied {copied}");
+    }
     Ok(())
 }
 

@@ -1,0 +1,276 @@
+-- What is computed of an escape is what its bytes name.
+use Rattle.std.proofs.Common.{◌≡◌, ℕ, suc, ◌+◌, ◌*◌, ◌≤◌, List, [], ◌∷◌, ◌++◌, length, take, drop, refl, sym, ◌∙◌, ap, subst, arith, Bool, true, false, Option, Some, None}
+use Rattle.std.specs.Prelude.{◌⊎◌, ◌==◌, ◌&&◌, ◌||◌, if◌then◌else◌, nat_lt, option_map, option_and_then}
+use Rattle.std.specs.Char.{digit_value}
+use mathlib.Core.Logic.{inl, inr}
+use Rattle.std.proofs.lemmas.Bool.Decides.{nat_tests}
+use Rattle.std.proofs.lemmas.List.{length-take, length-take-le, take-append-drop}
+use Rattle.std.proofs.Math.Seq.{take-append_seam}
+use Rattle.cel_tokens.specs.Bytes.{is_digit_of, run}
+use Rattle.cel_tokens.specs.Ints.{number, number_from}
+use Rattle.cel_tokens.specs.Texts.{escape, simple, numeric, code_point, is_code_point}
+use Rattle.cel_tokens.specs.Longest.{AllPass}
+use Rattle.cel_tokens.specs.Escapes.{AreDigits, Names}
+use Rattle.cel_tokens.specs.Escapes.Names.{bell, backspace, form_feed, line_feed, carriage_return, tab, vertical_tab, backslash, question_mark, double_quote, single_quote, back_quote, two_hex, four_hex, eight_hex, octal}
+use Rattle.cel_tokens.proofs.Runs.{run_on, run_within}
+
+equal_here : (b k : ℕ) → (b == k) ≡ true → b ≡ k
+equal_here b k e = grind (arith, nat_tests)
+
+-- ---- digits
+
+run_nil : (p : ℕ → Bool) → run p [] ≡ 0
+unfolding run
+run_nil p = refl
+
+run_passes : (p : ℕ → Bool) (xs : List ℕ) → AllPass p xs → run p xs ≡ length xs
+run_passes p [] a = run_nil p
+run_passes p (x ∷ xs) a =
+    let i = run_passes p xs a.1 in
+    let r = run_on p x xs a.0 in
+    omega (arith, i, r)
+
+passes_head : (b : Bool) (m k : ℕ) → (if b then m + 1 else 0) ≡ suc k → b ≡ true
+passes_head true m k e = refl
+passes_head false m k e = absurd (omega (arith, e))
+
+passes_rest : (b : Bool) (m k : ℕ) → (if b then m + 1 else 0) ≡ suc k → m ≡ k
+passes_rest true m k e = omega (arith, e)
+passes_rest false m k e = absurd (omega (arith, e))
+
+pub all_pass : (p : ℕ → Bool) (xs : List ℕ) → run p xs ≡ length xs → AllPass p xs
+unfolding run
+all_pass p [] e = tt
+all_pass p (x ∷ xs) e = (passes_head (p x) (run p xs) (length xs) e, all_pass p xs (passes_rest (p x) (run p xs) (length xs) e))
+
+-- ---- what a number of digits gives
+
+-- the digits at the front, and the escape of this length that they give
+abbrev Given : ℕ → ℕ → ℕ → List ℕ → ℕ × ℕ → Type 0
+Given base count len bytes x =
+    (count ≤ length bytes) × AreDigits base count (take count bytes) × (is_code_point (number base (take count bytes)) ≡ true) × (x ≡ (number base (take count bytes), len))
+
+given_code : (base count len : ℕ) (bytes : List ℕ) (x : ℕ × ℕ) → (count ≤ length bytes) → AreDigits base count (take count bytes) → (n : ℕ) → n ≡ number base (take count bytes) → (t : Bool) → is_code_point n ≡ t → option_map (λ m. (m, len)) (if t then Some n else None) ≡ Some x → Given base count len bytes x
+given_code base count len bytes x l d n q true t e =
+    let s : (n, len) ≡ x = cc in
+    (l, d, subst (λ m. is_code_point m ≡ true) q t, sym s ∙ ap (λ m. (m, len)) q)
+given_code base count len bytes x l d n q false t e = absurd cc
+
+given_run : (base count len : ℕ) (bytes : List ℕ) (x : ℕ × ℕ) (r : ℕ) → run (is_digit_of base) (take count bytes) ≡ r → (t : Bool) → (r == count) ≡ t → option_map (λ m. (m, len)) (option_and_then code_point (if t then Some (number base (take count bytes)) else None)) ≡ Some x → Given base count len bytes x
+given_run base count len bytes x r e true t f =
+    let k = equal_here r count t in
+    let w = run_within (is_digit_of base) (take count bytes) in
+    let n = length-take count bytes in
+    let l : length (take count bytes) ≡ count = omega (arith, w, n, e, k) in
+    given_code base count len bytes x (omega (arith, n, l)) (l, all_pass (is_digit_of base) (take count bytes) (omega (arith, e, k, l))) (number base (take count bytes)) refl (is_code_point (number base (take count bytes))) refl f
+given_run base count len bytes x r e false t f = absurd cc
+
+given : (base count len : ℕ) (bytes : List ℕ) (x : ℕ × ℕ) → numeric base count len bytes ≡ Some x → Given base count len bytes x
+given base count len bytes x e = given_run base count len bytes x (run (is_digit_of base) (take count bytes)) refl (run (is_digit_of base) (take count bytes) == count) refl e
+
+gives : (base count len : ℕ) (ds rest : List ℕ) → AreDigits base count ds → is_code_point (number base ds) ≡ true → numeric base count len (ds ++ rest) ≡ Some (number base ds, len)
+gives base count len ds rest d c =
+    let l = d.0 in
+    let f : take count (ds ++ rest) ≡ ds = ap (λ n. take n (ds ++ rest)) (sym l) ∙ take-append_seam ds rest in
+    let r = run_passes (is_digit_of base) ds d.1 in
+    let t : (run (is_digit_of base) ds == count) ≡ true = grind (arith, nat_tests, r, l) in
+    rw (f, t, c) refl
+
+-- ---- what stands behind a backslash is named
+
+abbrev Named : List ℕ → ℕ × ℕ → Type 0
+Named bytes x = (x.1 ≤ length bytes) × Names (take x.1 bytes) x.0
+
+abbrev NamedIf : List ℕ → Option (ℕ × ℕ) → Type 0
+NamedIf bytes o = (x : ℕ × ℕ) → o ≡ Some x → Named bytes x
+
+-- one letter
+one : (k code : ℕ) (bs : List ℕ) → Names (k ∷ []) code → NamedIf (k ∷ bs) (Some (code, 1))
+one k code bs n x e =
+    let s : (code, 1) ≡ x = cc in
+    subst (Named (k ∷ bs)) s (omega arith, n)
+
+-- one letter, else what comes behind it in the table
+letter_by : (b k code : ℕ) (bs : List ℕ) (o : Option (ℕ × ℕ)) → Names (k ∷ []) code → NamedIf (b ∷ bs) o → (t : Bool) → (b == k) ≡ t → NamedIf (b ∷ bs) (if t then Some (code, 1) else o)
+letter_by b k code bs o n i true t = subst (λ c. NamedIf (c ∷ bs) (Some (code, 1))) (sym (equal_here b k t)) (one k code bs n)
+letter_by b k code bs o n i false t = i
+
+letter : (b k code : ℕ) (bs : List ℕ) (o : Option (ℕ × ℕ)) → Names (k ∷ []) code → NamedIf (b ∷ bs) o → NamedIf (b ∷ bs) (if b == k then Some (code, 1) else o)
+letter b k code bs o n i = letter_by b k code bs o n i (b == k) refl
+
+-- a mark that stands for itself, else what comes behind it
+itself_by : (b k : ℕ) (bs : List ℕ) (more : Bool) (o : Option (ℕ × ℕ)) → Names (k ∷ []) k → NamedIf (b ∷ bs) (if more then Some (b, 1) else o) → (t : Bool) → (b == k) ≡ t → NamedIf (b ∷ bs) (if t || more then Some (b, 1) else o)
+itself_by b k bs more o n i true t = subst (λ c. NamedIf (c ∷ bs) (Some (c, 1))) (sym (equal_here b k t)) (one k k bs n)
+itself_by b k bs more o n i false t = i
+
+itself : (b k : ℕ) (bs : List ℕ) (more : Bool) (o : Option (ℕ × ℕ)) → Names (k ∷ []) k → NamedIf (b ∷ bs) (if more then Some (b, 1) else o) → NamedIf (b ∷ bs) (if (b == k) || more then Some (b, 1) else o)
+itself b k bs more o n i = itself_by b k bs more o n i (b == k) refl
+
+last_by : (b k : ℕ) (bs : List ℕ) → Names (k ∷ []) k → (t : Bool) → (b == k) ≡ t → NamedIf (b ∷ bs) (if t then Some (b, 1) else None)
+last_by b k bs n true t = subst (λ c. NamedIf (c ∷ bs) (Some (c, 1))) (sym (equal_here b k t)) (one k k bs n)
+last_by b k bs n false t = λ x e. absurd cc
+
+simple_named : (b : ℕ) (bs : List ℕ) → NamedIf (b ∷ bs) (simple b)
+simple_named b bs =
+    letter b 97 7 bs _ bell
+    (letter b 98 8 bs _ backspace
+    (letter b 102 12 bs _ form_feed
+    (letter b 110 10 bs _ line_feed
+    (letter b 114 13 bs _ carriage_return
+    (letter b 116 9 bs _ tab
+    (letter b 118 11 bs _ vertical_tab
+    (itself b 92 bs _ None backslash (itself b 63 bs _ None question_mark (itself b 34 bs _ None double_quote (itself b 39 bs _ None single_quote (last_by b 96 bs back_quote (b == 96) refl)))))))))))
+
+two_named : (b : ℕ) (bs : List ℕ) → (b ≡ 120) ⊎ (b ≡ 88) → NamedIf (b ∷ bs) (numeric 16 2 3 bs)
+two_named b bs h x e =
+    let g = given 16 2 3 bs x e in
+    subst (Named (b ∷ bs)) (sym g.3) (omega (arith, g.0), two_hex b (take 2 bs) h g.1)
+
+four_named : (b : ℕ) (bs : List ℕ) → b ≡ 117 → NamedIf (b ∷ bs) (numeric 16 4 5 bs)
+four_named b bs h x e =
+    let g = given 16 4 5 bs x e in
+    subst (λ c. Named (c ∷ bs) x) (sym h) (subst (Named (117 ∷ bs)) (sym g.3) (omega (arith, g.0), four_hex (take 4 bs) g.1 g.2))
+
+eight_named : (b : ℕ) (bs : List ℕ) → b ≡ 85 → NamedIf (b ∷ bs) (numeric 16 8 9 bs)
+eight_named b bs h x e =
+    let g = given 16 8 9 bs x e in
+    subst (λ c. Named (c ∷ bs) x) (sym h) (subst (Named (85 ∷ bs)) (sym g.3) (omega (arith, g.0), eight_hex (take 8 bs) g.1 g.2))
+
+-- three octal digits of which the first is at most 3 are at most 377
+low_digit : (b : ℕ) → (nat_lt 47 b && nat_lt b 52) ≡ true → digit_value b ≤ 3
+low_digit b h = grind (arith, nat_tests)
+
+octal_digit : (b : ℕ) → is_digit_of 8 b ≡ true → digit_value b ≤ 7
+octal_digit b h = grind (arith, nat_tests)
+
+three_digits : (a b c : ℕ) → number 8 (a ∷ b ∷ c ∷ []) ≡ ((0 + digit_value a) * 8 + digit_value b) * 8 + digit_value c
+unfolding number_from
+three_digits a b c = refl
+
+at_most_377 : (b : ℕ) (bs : List ℕ) → (nat_lt 47 b && nat_lt b 52) ≡ true → AreDigits 8 3 (take 3 (b ∷ bs)) → number 8 (take 3 (b ∷ bs)) ≤ 255
+at_most_377 b [] h d = let l = d.0 in absurd (omega (arith, l))
+at_most_377 b (c ∷ []) h d = let l = d.0 in absurd (omega (arith, l))
+at_most_377 b (c ∷ e ∷ bs) h d =
+    let n = three_digits b c e in
+    let x = low_digit b h in
+    let y = octal_digit c d.1.1.0 in
+    let z = octal_digit e d.1.1.1.0 in
+    omega (arith, n, x, y, z)
+
+octal_named : (b : ℕ) (bs : List ℕ) → (nat_lt 47 b && nat_lt b 52) ≡ true → NamedIf (b ∷ bs) (numeric 8 3 3 (b ∷ bs))
+octal_named b bs h x e =
+    let g = given 8 3 3 (b ∷ bs) x e in
+    subst (Named (b ∷ bs)) (sym g.3) (g.0, octal (take 3 (b ∷ bs)) g.1 (at_most_377 b bs h g.1))
+
+-- what stands behind a test, whichever way it goes
+choose : (bytes : List ℕ) (t : Bool) (o p : Option (ℕ × ℕ)) → (t ≡ true → NamedIf bytes o) → NamedIf bytes p → NamedIf bytes (if t then o else p)
+choose bytes true o p f g = f refl
+choose bytes false o p f g = g
+
+x_by : (b : ℕ) (t : Bool) → (b == 120) ≡ t → (t || (b == 88)) ≡ true → (b ≡ 120) ⊎ (b ≡ 88)
+x_by b true t h = inl (equal_here b 120 t)
+x_by b false t h = inr (equal_here b 88 h)
+
+x_here : (b : ℕ) → ((b == 120) || (b == 88)) ≡ true → (b ≡ 120) ⊎ (b ≡ 88)
+x_here b h = x_by b (b == 120) refl h
+
+escape_named : (bytes : List ℕ) → NamedIf bytes (escape bytes)
+unfolding escape
+escape_named [] = λ x e. absurd cc
+escape_named (b ∷ bs) =
+    choose (b ∷ bs) ((b == 120) || (b == 88)) _ _ (λ t. two_named b bs (x_here b t))
+    (choose (b ∷ bs) (b == 117) _ _ (λ t. four_named b bs (equal_here b 117 t))
+    (choose (b ∷ bs) (b == 85) _ _ (λ t. eight_named b bs (equal_here b 85 t))
+    (choose (b ∷ bs) (nat_lt 47 b && nat_lt b 52) _ _ (octal_named b bs) (simple_named b bs))))
+
+-- ---- what is named is computed
+
+abbrev Computed : List ℕ → ℕ → Type 0
+Computed written code = (rest : List ℕ) → escape (written ++ rest) ≡ Some (code, length written)
+
+hex_digit : (b : ℕ) → is_digit_of 16 b ≡ true → digit_value b ≤ 15
+hex_digit b h = grind (arith, nat_tests)
+
+two_digits : (a b : ℕ) → number 16 (a ∷ b ∷ []) ≡ (0 + digit_value a) * 16 + digit_value b
+unfolding number_from
+two_digits a b = refl
+
+small_code : (n : ℕ) → n ≤ 255 → is_code_point n ≡ true
+small_code n h = grind (arith, nat_tests)
+
+two_code : (ds : List ℕ) → AreDigits 16 2 ds → is_code_point (number 16 ds) ≡ true
+two_code [] d = let l = d.0 in absurd (omega (arith, l))
+two_code (a ∷ []) d = let l = d.0 in absurd (omega (arith, l))
+two_code (a ∷ b ∷ []) d =
+    let n = two_digits a b in
+    let x = hex_digit a d.1.0 in
+    let y = hex_digit b d.1.1.0 in
+    small_code (number 16 (a ∷ b ∷ [])) (omega (arith, n, x, y))
+two_code (a ∷ b ∷ c ∷ ds) d = let l = d.0 in absurd (omega (arith, l))
+
+abbrev with_length : ℕ → ℕ → Option (ℕ × ℕ)
+with_length code n = Some (code, n)
+
+same_length : (code n m : ℕ) → n ≡ m → with_length code n ≡ with_length code m
+same_length code n m e = ap (with_length code) e
+
+two_computed : (x : ℕ) (ds : List ℕ) → (x ≡ 120) ⊎ (x ≡ 88) → AreDigits 16 2 ds → Computed (x ∷ ds) (number 16 ds)
+unfolding escape
+two_computed x ds (inl h) d rest =
+    let l = d.0 in
+    rw h (gives 16 2 3 ds rest d (two_code ds d) ∙ same_length (number 16 ds) 3 (length (x ∷ ds)) (omega (arith, l)))
+two_computed x ds (inr h) d rest =
+    let l = d.0 in
+    rw h (gives 16 2 3 ds rest d (two_code ds d) ∙ same_length (number 16 ds) 3 (length (x ∷ ds)) (omega (arith, l)))
+
+first_of : (a : ℕ) → digit_value a ≤ 3 → is_digit_of 8 a ≡ true → (48 ≤ a) × (a ≤ 51)
+first_of a v d = (grind (arith, nat_tests), grind (arith, nat_tests))
+
+first_octal : (a b c : ℕ) → (digit_value a * 8 + digit_value b) * 8 + digit_value c ≤ 255 → is_digit_of 8 a ≡ true → (48 ≤ a) × (a ≤ 51)
+first_octal a b c h d = let v : digit_value a ≤ 3 = omega (arith, h) in first_of a v d
+
+octal_here : (b : ℕ) (bs : List ℕ) → (48 ≤ b) × (b ≤ 51) → escape (b ∷ bs) ≡ numeric 8 3 3 (b ∷ bs)
+unfolding escape
+octal_here b bs h =
+    let x : (b == 120) ≡ false = grind (arith, nat_tests, h.0, h.1) in
+    let y : (b == 88) ≡ false = grind (arith, nat_tests, h.0, h.1) in
+    let u : (b == 117) ≡ false = grind (arith, nat_tests, h.0, h.1) in
+    let v : (b == 85) ≡ false = grind (arith, nat_tests, h.0, h.1) in
+    let l : nat_lt 47 b ≡ true = grind (arith, nat_tests, h.0, h.1) in
+    let r : nat_lt b 52 ≡ true = grind (arith, nat_tests, h.0, h.1) in
+    rw (x, y, u, v, l, r) refl
+
+octal_computed : (ds : List ℕ) → AreDigits 8 3 ds → number 8 ds ≤ 255 → Computed ds (number 8 ds)
+octal_computed [] d h rest = let l = d.0 in absurd (omega (arith, l))
+octal_computed (a ∷ []) d h rest = let l = d.0 in absurd (omega (arith, l))
+octal_computed (a ∷ b ∷ []) d h rest = let l = d.0 in absurd (omega (arith, l))
+octal_computed (a ∷ b ∷ c ∷ []) d h rest =
+    let n = three_digits a b c in
+    octal_here a (b ∷ c ∷ rest) (first_octal a b c (omega (arith, n, h)) d.1.0) ∙ gives 8 3 3 (a ∷ b ∷ c ∷ []) rest d (small_code (number 8 (a ∷ b ∷ c ∷ [])) h)
+octal_computed (a ∷ b ∷ c ∷ e ∷ ds) d h rest = let l = d.0 in absurd (omega (arith, l))
+
+computed : {written : List ℕ} {code : ℕ} → Names written code → Computed written code
+unfolding escape
+computed bell rest = refl
+computed backspace rest = refl
+computed form_feed rest = refl
+computed line_feed rest = refl
+computed carriage_return rest = refl
+computed tab rest = refl
+computed vertical_tab rest = refl
+computed backslash rest = refl
+computed question_mark rest = refl
+computed double_quote rest = refl
+computed single_quote rest = refl
+computed back_quote rest = refl
+computed (two_hex x ds h d) rest = two_computed x ds h d rest
+computed (four_hex ds d c) rest = let l = d.0 in gives 16 4 5 ds rest d c ∙ same_length (number 16 ds) 5 (length (117 ∷ ds)) (omega (arith, l))
+computed (eight_hex ds d c) rest = let l = d.0 in gives 16 8 9 ds rest d c ∙ same_length (number 16 ds) 9 (length (85 ∷ ds)) (omega (arith, l))
+computed (octal ds d h) rest = octal_computed ds d h rest
+
+back : (bytes : List ℕ) (code len : ℕ) → (len ≤ length bytes) × Names (take len bytes) code → escape bytes ≡ Some (code, len)
+back bytes code len h =
+    ap escape (sym (take-append-drop len bytes)) ∙ (computed h.1 (drop len bytes) ∙ same_length code (length (take len bytes)) len (length-take-le len bytes h.0))
+
+pub names_its_code_point : (bytes : List ℕ) (code len : ℕ) → (escape bytes ≡ Some (code, len) → (len ≤ length bytes) × Names (take len bytes) code) × ((len ≤ length bytes) × Names (take len bytes) code → escape bytes ≡ Some (code, len))
+names_its_code_point bytes code len = (escape_named bytes (code, len), back bytes code len)

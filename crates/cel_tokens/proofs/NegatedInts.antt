@@ -1,0 +1,263 @@
+-- A minus and the int behind it are one token, where the minus may be a sign.
+use Rattle.std.proofs.Common.{◌≡◌, ℕ, suc, zero, ◌+◌, ◌^◌, ◌<◌, ◌≤◌, List, [], ◌∷◌, ◌++◌, length, take, drop, refl, sym, ◌∙◌, ap, subst, arith, Bool, true, false}
+use Rattle.std.specs.Prelude.{◌⊎◌, ◌==◌, ◌&&◌, if◌then◌else◌, ℤ, pos, neg_ℤ}
+use mathlib.Core.Logic.{inl, inr}
+use Rattle.std.proofs.lemmas.Bool.Decides.{nat_tests}
+use Rattle.std.proofs.lemmas.Bool.{cases_lt}
+use Rattle.std.proofs.lemmas.List.{length-take-le, length-drop, take-append-drop}
+use Rattle.cel_tokens.specs.declared.mark.Mark.TheVariants.{Minus}
+use Rattle.cel_tokens.specs.Token.{Word, int, mark}
+use Rattle.cel_tokens.specs.Bytes.{is_digit_of, run, between}
+use Rattle.cel_tokens.specs.Marks.{mark_at}
+use Rattle.cel_tokens.specs.Ints.{number, int_at, int_of, digit_begins, hex_begins, spelled, fits64}
+use Rattle.cel_tokens.specs.Front as front
+use Rattle.cel_tokens.specs.Front.{front, front_int, int_front, sign_may_follow}
+use Rattle.cel_tokens.specs.Longest.{AllPass, IsDecimal}
+use Rattle.cel_tokens.specs.SignedInts.{Spells, IsInt, FollowsSign}
+use Rattle.cel_tokens.specs.SignedInts.Spells.{decimal, hex}
+use Rattle.cel_tokens.proofs.Runs.{run_on, run_within}
+use Rattle.cel_tokens.proofs.NoLonger.{begins_here, digit_is_no_slash, digit_is_no_blank, no_text, int_len, hex_len}
+use Rattle.cel_tokens.proofs.LongestGap.{goes_on, is_longest_gap}
+
+-- ---- the int at the front is the longest
+
+passes_by : (p : ℕ → Bool) (x : ℕ) (xs : List ℕ) → AllPass p (take (run p xs) xs) → (t : Bool) → p x ≡ t → AllPass p (take (if t then run p xs + 1 else 0) (x ∷ xs))
+passes_by p x xs a true t =
+    let q : run p xs + 1 ≡ suc (run p xs) = omega arith in
+    rw q (t, a)
+passes_by p x xs a false t = tt
+
+-- as many bytes as pass, pass
+front_passes : (p : ℕ → Bool) (xs : List ℕ) → AllPass p (take (run p xs) xs)
+unfolding run
+front_passes p [] = tt
+front_passes p (x ∷ xs) = passes_by p x xs (front_passes p xs) (p x) refl
+
+taken : (p : ℕ → Bool) (x : ℕ) (xs : List ℕ) → p x ≡ true → take (run p (x ∷ xs)) (x ∷ xs) ≡ x ∷ take (run p xs) xs
+taken p x xs h =
+    let q : run p xs + 1 ≡ suc (run p xs) = omega arith in
+    ap (λ n. take n (x ∷ xs)) (run_on p x xs h ∙ q)
+
+decimal_here : (b : ℕ) (bs : List ℕ) → is_digit_of 10 b ≡ true → Spells (take (run (is_digit_of 10) (b ∷ bs)) (b ∷ bs)) (number 10 (take (run (is_digit_of 10) (b ∷ bs)) (b ∷ bs)))
+decimal_here b bs d =
+    let e = taken (is_digit_of 10) b bs d in
+    decimal _ (subst IsDecimal (sym e) (d, front_passes (is_digit_of 10) bs))
+
+hex_here : (d : ℕ) (ds : List ℕ) → is_digit_of 16 d ≡ true → Spells (take (run (is_digit_of 16) (d ∷ ds) + 2) (48 ∷ 120 ∷ d ∷ ds)) (number 16 (take (run (is_digit_of 16) (d ∷ ds)) (d ∷ ds)))
+hex_here d ds h =
+    let q : run (is_digit_of 16) (d ∷ ds) + 2 ≡ suc (suc (run (is_digit_of 16) (d ∷ ds))) = omega arith in
+    let e = taken (is_digit_of 16) d ds h in
+    rw (q, e) (hex d (take (run (is_digit_of 16) ds) ds) (h, front_passes (is_digit_of 16) ds))
+
+equal_here : (b k : ℕ) → (b == k) ≡ true → b ≡ k
+equal_here b k e = grind (arith, nat_tests)
+
+both : (x y : Bool) → (x && y) ≡ true → (x ≡ true) × (y ≡ true)
+both true y h = (refl, h)
+both false y h = absurd cc
+
+-- what begins with 0x and a hex digit
+hex_spells : (bytes : List ℕ) → hex_begins bytes ≡ true → Spells (take ((spelled 16 (drop 2 bytes)).0 + 2) bytes) (spelled 16 (drop 2 bytes)).1
+hex_spells [] h = absurd cc
+hex_spells (a ∷ []) h = absurd cc
+hex_spells (a ∷ b ∷ []) h = absurd cc
+hex_spells (a ∷ b ∷ c ∷ bs) h =
+    let p = both (a == 48) ((b == 120) && is_digit_of 16 c) h in
+    let q = both (b == 120) (is_digit_of 16 c) p.1 in
+    let x = equal_here a 48 p.0 in
+    let y = equal_here b 120 q.0 in
+    rw (x, y) (hex_here c bs q.1)
+
+decimal_spells : (bytes : List ℕ) → digit_begins bytes ≡ true → Spells (take (spelled 10 bytes).0 bytes) (spelled 10 bytes).1
+decimal_spells [] d = absurd cc
+decimal_spells (b ∷ bs) d = decimal_here b bs d
+
+spells_by : (bytes : List ℕ) → digit_begins bytes ≡ true → (t : Bool) → hex_begins bytes ≡ t → Spells (take (if t then ((spelled 16 (drop 2 bytes)).0 + 2, (spelled 16 (drop 2 bytes)).1) else spelled 10 bytes).0 bytes) (if t then ((spelled 16 (drop 2 bytes)).0 + 2, (spelled 16 (drop 2 bytes)).1) else spelled 10 bytes).1
+spells_by bytes d true t = hex_spells bytes t
+spells_by bytes d false t = decimal_spells bytes d
+
+hex_within : (bytes : List ℕ) → hex_begins bytes ≡ true → run (is_digit_of 16) (drop 2 bytes) + 2 ≤ length bytes
+hex_within [] h = absurd cc
+hex_within (a ∷ []) h = absurd cc
+hex_within (a ∷ b ∷ []) h = absurd cc
+hex_within (a ∷ b ∷ c ∷ bs) h = let r = run_within (is_digit_of 16) (c ∷ bs) in omega (arith, r)
+
+within_by : (bytes : List ℕ) (t : Bool) → hex_begins bytes ≡ t → (if t then ((spelled 16 (drop 2 bytes)).0 + 2, (spelled 16 (drop 2 bytes)).1) else spelled 10 bytes).0 ≤ length bytes
+within_by bytes true t = hex_within bytes t
+within_by bytes false t = run_within (is_digit_of 10) bytes
+
+no_longer : {first : List ℕ} {value : ℕ} → Spells first value → (rest : List ℕ) → length first ≤ (int_at (first ++ rest)).0
+no_longer (decimal [] a) rest = absurd a
+no_longer (decimal (b ∷ bs) a) rest = int_len b bs rest a.0 a.1
+no_longer (hex d ds a) rest = hex_len d ds rest a
+
+none_longer : (bytes : List ℕ) (m other : ℕ) → m ≤ length bytes → Spells (take m bytes) other → m ≤ (int_at bytes).0
+none_longer bytes m other h s =
+    let n = subst (λ (xs : List ℕ). length (take m bytes) ≤ (int_at xs).0) (take-append-drop m bytes) (no_longer s (drop m bytes)) in
+    let l = length-take-le m bytes h in
+    omega (arith, n, l)
+
+int_is : (bytes : List ℕ) → digit_begins bytes ≡ true → IsInt bytes (int_at bytes).0 (int_at bytes).1
+int_is bytes d = (within_by bytes (hex_begins bytes) refl, spells_by bytes d (hex_begins bytes) refl, none_longer bytes)
+
+-- ---- there is one
+
+from_decimal : {xs : List ℕ} {n : ℕ} → Spells xs n → IsDecimal xs → number 10 xs ≡ n
+from_decimal (decimal ds b) a = refl
+from_decimal (hex d ds b) a = let w : false ≡ true = a.1.0 in absurd cc
+
+from_hex : {xs : List ℕ} {n : ℕ} → Spells xs n → (d : ℕ) (ds : List ℕ) → xs ≡ 48 ∷ 120 ∷ d ∷ ds → number 16 (d ∷ ds) ≡ n
+from_hex (decimal xs b) d ds e = let w : false ≡ true = (subst IsDecimal e b).1.0 in absurd cc
+from_hex (hex c cs b) d ds e = ap (λ (xs : List ℕ). number 16 (drop 2 xs)) (sym e)
+
+same_value : {xs : List ℕ} {m n : ℕ} → Spells xs m → Spells xs n → m ≡ n
+same_value (decimal ds a) s = from_decimal s a
+same_value (hex d ds a) s = from_hex s d ds refl
+
+one_int : (bytes : List ℕ) (m n v w : ℕ) → IsInt bytes m v → IsInt bytes n w → (m ≡ n) × (v ≡ w)
+one_int bytes m n v w i j =
+    let a = i.2 n w j.0 j.1 in
+    let b = j.2 m v i.0 i.1 in
+    let e : m ≡ n = omega (arith, a, b) in
+    (e, same_value (subst (λ k. Spells (take k bytes) v) e i.1) j.1)
+
+first_digit : {first : List ℕ} {value : ℕ} → Spells first value → (rest : List ℕ) → digit_begins (first ++ rest) ≡ true
+first_digit (decimal [] a) rest = absurd a
+first_digit (decimal (b ∷ bs) a) rest = a.0
+first_digit (hex d ds a) rest = refl
+
+int_digit : (bytes : List ℕ) (n v : ℕ) → IsInt bytes n v → digit_begins bytes ≡ true
+int_digit bytes n v i = subst (λ (xs : List ℕ). digit_begins xs ≡ true) (take-append-drop n bytes) (first_digit i.1 (drop n bytes))
+
+-- ---- where the digits are
+
+stops_at_digit : (bytes : List ℕ) → digit_begins bytes ≡ true → between false bytes ≡ 0
+stops_at_digit [] d = absurd cc
+stops_at_digit (b ∷ bs) d = begins_here b bs (digit_is_no_blank b d) (digit_is_no_slash b d)
+
+gap_is : (bytes : List ℕ) (gap n v : ℕ) → FollowsSign bytes gap n v → between false bytes ≡ gap
+gap_is bytes gap n v f =
+    let g = goes_on f.1 in
+    let z = stops_at_digit (drop gap bytes) (int_digit (drop gap bytes) n v f.2) in
+    let l = length-drop gap bytes in
+    let h = f.0 in
+    omega (arith, g, z, l, h)
+
+-- ---- what a minus begins
+
+minus_mark : (bytes : List ℕ) → front.front_mark (mark_at (45 ∷ bytes)) ≡ front.word 1 (mark Minus)
+minus_mark [] = refl
+minus_mark (c ∷ cs) = refl
+
+behind_minus : (bytes : List ℕ) → drop (between false bytes + 1) (45 ∷ bytes) ≡ drop (between false bytes) bytes
+behind_minus bytes =
+    let q : between false bytes + 1 ≡ suc (between false bytes) = omega arith in
+    ap (λ n. drop n (45 ∷ bytes)) q
+
+abbrev signed_front : ℕ → List ℕ → front.Front
+signed_front gap rest = int_front (gap + 1) (int_at rest).0 (int_of true (int_at rest).1)
+
+front_minus : (signed : Bool) (bytes : List ℕ) → front signed (45 ∷ bytes) ≡ (if signed && digit_begins (drop (between false bytes) bytes) then signed_front (between false bytes) (drop (between false bytes) bytes) else front.word 1 (mark Minus))
+unfolding front
+front_minus signed bytes =
+    rw (begins_here 45 bytes refl refl, no_text 45 bytes refl refl, behind_minus bytes, minus_mark bytes) refl
+
+pub plain_minus : (bytes : List ℕ) → front false (45 ∷ bytes) ≡ front.word 1 (mark Minus)
+plain_minus bytes = front_minus false bytes
+
+signed_at : (bytes rest : List ℕ) (gap : ℕ) → between false bytes ≡ gap → drop gap bytes ≡ rest → digit_begins rest ≡ true → front true (45 ∷ bytes) ≡ signed_front gap rest
+signed_at bytes rest gap g r d = front_minus true bytes ∙ (rw (g, r, d) refl)
+
+sign_front : (bytes : List ℕ) (gap n v : ℕ) → FollowsSign bytes gap n v → front true (45 ∷ bytes) ≡ int_front (gap + 1) n (int_of true v)
+sign_front bytes gap n v f =
+    let rest = drop gap bytes in
+    let d = int_digit rest n v f.2 in
+    let o = one_int rest (int_at rest).0 n (int_at rest).1 v (int_is rest d) f.2 in
+    signed_at bytes rest gap (gap_is bytes gap n v f) refl d ∙ (λ i. int_front (gap + 1) (o.0 i) (int_of true (o.1 i)))
+
+-- ---- 64 bits
+
+fits : (v : ℕ) → v ≤ 2 ^ 63 → fits64 (neg_ℤ (pos v)) ≡ true
+fits zero h = refl
+fits (suc k) h = grind (arith, nat_tests)
+
+is_wide : (v : ℕ) → 2 ^ 63 < v → fits64 (neg_ℤ (pos v)) ≡ false
+is_wide zero h = absurd (omega arith)
+is_wide (suc k) h = grind (arith, nat_tests)
+
+negated : (bytes : List ℕ) (gap n v : ℕ) → FollowsSign bytes gap n v → v ≤ 2 ^ 63 → front true (45 ∷ bytes) ≡ front.word (gap + 1 + n) (int (neg_ℤ (pos v)))
+negated bytes gap n v f h = sign_front bytes gap n v f ∙ (rw (fits v h) refl)
+
+too_wide : (bytes : List ℕ) (gap n v : ℕ) → FollowsSign bytes gap n v → 2 ^ 63 < v → front true (45 ∷ bytes) ≡ front.wide_int (gap + 1)
+too_wide bytes gap n v f h = sign_front bytes gap n v f ∙ (rw (is_wide v h) refl)
+
+-- ---- what the front is, by cases
+
+-- what a minus begins: an int with its sign, one too wide, or a mark
+abbrev Begun : List ℕ → front.Front → Type 0
+Begun bytes x =
+    ((gap n v : ℕ) × FollowsSign bytes gap n v × (v ≤ 2 ^ 63) × (x ≡ front.word (gap + 1 + n) (int (neg_ℤ (pos v))))) ⊎ (((gap n v : ℕ) × FollowsSign bytes gap n v × (2 ^ 63 < v) × (x ≡ front.wide_int (gap + 1))) ⊎ (x ≡ front.word 1 (mark Minus)))
+
+begun_int : (bytes : List ℕ) (gap n v : ℕ) → FollowsSign bytes gap n v → Begun bytes (front true (45 ∷ bytes))
+begun_int bytes gap n v f =
+    elim (cases_lt (2 ^ 63) v) [ inl h ↦ inr (inl (gap, n, v, f, h, too_wide bytes gap n v f h)) | inr h ↦ inl (gap, n, v, f, h, negated bytes gap n v f h) ]
+
+begun_by : (bytes : List ℕ) (t : Bool) → digit_begins (drop (between false bytes) bytes) ≡ t → Begun bytes (front true (45 ∷ bytes))
+begun_by bytes true t =
+    let g = is_longest_gap bytes in
+    begun_int bytes (between false bytes) _ _ (g.0, g.1, int_is (drop (between false bytes) bytes) t)
+begun_by bytes false t = inr (inr (front_minus true bytes ∙ (rw t refl)))
+
+begun : (bytes : List ℕ) → Begun bytes (front true (45 ∷ bytes))
+begun bytes = begun_by bytes (digit_begins (drop (between false bytes) bytes)) refl
+
+abbrev Negated : List ℕ → ℕ → ℤ → Type 0
+Negated bytes len z = (gap n value : ℕ) × FollowsSign bytes gap n value × (len ≡ 1 + gap + n) × (z ≡ neg_ℤ (pos value)) × (value ≤ 2 ^ 63)
+
+abbrev Wide : List ℕ → ℕ → Type 0
+Wide bytes before = (gap n value : ℕ) × FollowsSign bytes gap n value × (before ≡ 1 + gap) × (2 ^ 63 < value)
+
+word_len : (m n : ℕ) (v w : Word) → front.word m v ≡ front.word n w → m ≡ n
+word_len m n v w e = cc
+
+word_int : (m n : ℕ) (y z : ℤ) → front.word m (int y) ≡ front.word n (int z) → y ≡ z
+word_int m n y z e = cc
+
+wide_before : (m n : ℕ) → front.wide_int m ≡ front.wide_int n → m ≡ n
+wide_before m n e = cc
+
+mark_is_no_int : {P : Type 0} (n : ℕ) (z : ℤ) → front.word 1 (mark Minus) ≡ front.word n (int z) → P
+mark_is_no_int n z e = absurd cc
+
+word_is_not_wide : {P : Type 0} (n m : ℕ) (w : Word) → front.word n w ≡ front.wide_int m → P
+word_is_not_wide n m w e = absurd cc
+
+is_negated : (bytes : List ℕ) (x : front.Front) (len : ℕ) (z : ℤ) → Begun bytes x → x ≡ front.word len (int z) → Negated bytes len z
+is_negated bytes x len z (inl (gap, n, v, f, h, e)) q =
+    let w = word_len (gap + 1 + n) len (int (neg_ℤ (pos v))) (int z) (sym e ∙ q) in
+    (gap, n, v, f, omega (arith, w), sym (word_int (gap + 1 + n) len (neg_ℤ (pos v)) z (sym e ∙ q)), h)
+is_negated bytes x len z (inr (inl (gap, n, v, f, h, e))) q = word_is_not_wide len (gap + 1) (int z) (sym q ∙ e)
+is_negated bytes x len z (inr (inr e)) q = mark_is_no_int len z (sym e ∙ q)
+
+is_too_wide : (bytes : List ℕ) (x : front.Front) (before : ℕ) → Begun bytes x → x ≡ front.wide_int before → Wide bytes before
+is_too_wide bytes x before (inl (gap, n, v, f, h, e)) q = word_is_not_wide (gap + 1 + n) before (int (neg_ℤ (pos v))) (sym e ∙ q)
+is_too_wide bytes x before (inr (inl (gap, n, v, f, h, e))) q =
+    let w = wide_before (gap + 1) before (sym e ∙ q) in
+    (gap, n, v, f, omega (arith, w), h)
+is_too_wide bytes x before (inr (inr e)) q = word_is_not_wide 1 before (mark Minus) (sym e ∙ q)
+
+negated_back : (bytes : List ℕ) (len : ℕ) (z : ℤ) → Negated bytes len z → front true (45 ∷ bytes) ≡ front.word len (int z)
+negated_back bytes len z (gap, n, v, f, l, e, h) =
+    let q : gap + 1 + n ≡ len = omega (arith, l) in
+    negated bytes gap n v f h ∙ (λ i. front.word (q i) (int (sym e i)))
+
+wide_back : (bytes : List ℕ) (before : ℕ) → Wide bytes before → front true (45 ∷ bytes) ≡ front.wide_int before
+wide_back bytes before (gap, n, v, f, l, h) =
+    let q : gap + 1 ≡ before = omega (arith, l) in
+    too_wide bytes gap n v f h ∙ ap front.wide_int q
+
+pub negated_int : (bytes : List ℕ) (len : ℕ) (z : ℤ) → (front true (45 ∷ bytes) ≡ front.word len (int z) → Negated bytes len z) × (Negated bytes len z → front true (45 ∷ bytes) ≡ front.word len (int z))
+negated_int bytes len z = (is_negated bytes (front true (45 ∷ bytes)) len z (begun bytes), negated_back bytes len z)
+
+pub wide_int : (bytes : List ℕ) (before : ℕ) → (front true (45 ∷ bytes) ≡ front.wide_int before → Wide bytes before) × (Wide bytes before → front true (45 ∷ bytes) ≡ front.wide_int before)
+wide_int bytes before = (is_too_wide bytes (front true (45 ∷ bytes)) before (begun bytes), wide_back bytes before)
