@@ -6,6 +6,7 @@ use Rattle.std.specs.Prelude.{if◌then◌else◌}
 use Rattle.std.specs.Str.{bytes_eq}
 use Rattle.insn_codec.specs.Lines.{decimal, offset_text, operand_text, register_text, signed_decimal}
 use Rattle.insn_codec.specs.declared.alu_op.AluOp.TheVariants as alu
+use Rattle.insn_codec.specs.declared.atomic_op.AtomicOp.TheVariants as atomic
 use Rattle.insn_codec.specs.declared.byte_order.ByteOrder.TheVariants as order
 use Rattle.insn_codec.specs.declared.comparison.Comparison.TheVariants as comparison
 use Rattle.insn_codec.specs.declared.extension.Extension.TheVariants as extension
@@ -24,7 +25,7 @@ use Rattle.insn_codec.proofs.Decimals.{decimal_digits, decimal_injective}
 use Rattle.assembler.proofs.Ends.{heads, tails}
 use Rattle.assembler.proofs.Forms.{no_immediate}
 use Rattle.insn_codec.specs.declared.mnemonic.Mnemonic.{Mnemonic}
-use Rattle.insn_codec.specs.declared.mnemonic.Mnemonic.TheVariants.{Alu, Neg, SignExtend, ByteSwap, Ja, JaLong, Branch, Call, CallLocal, Exit, Load, LoadSigned, StoreImm, Store, LoadWide, Slot}
+use Rattle.insn_codec.specs.declared.mnemonic.Mnemonic.TheVariants.{Alu, Neg, SignExtend, ByteSwap, Ja, JaLong, Branch, Call, CallLocal, Exit, Load, LoadSigned, StoreImm, Store, Atomic, LoadWide, Slot}
 
 no_minus : (n : ℕ) (cs : List ℕ) → decimal n ≡ 45 ∷ cs → ⊥
 no_minus n cs e = let d = decimal_digits n in let t : AllDigits 10 (45 ∷ cs) = rw e at d in omega (arith, t.0)
@@ -60,7 +61,7 @@ pub register_injective : (x y : Register) → register_text x ≡ register_text 
 register_injective = by_search register_text registers register_found
 
 abbrev mnemonics : List Mnemonic
-mnemonics = Alu alu.Add width.W32 ∷ Alu alu.Add width.W64 ∷ Alu alu.Sub width.W32 ∷ Alu alu.Sub width.W64 ∷ Alu alu.Mul width.W32 ∷ Alu alu.Mul width.W64 ∷ Alu alu.Div width.W32 ∷ Alu alu.Div width.W64 ∷ Alu alu.Sdiv width.W32 ∷ Alu alu.Sdiv width.W64 ∷ Alu alu.Or width.W32 ∷ Alu alu.Or width.W64 ∷ Alu alu.And width.W32 ∷ Alu alu.And width.W64 ∷ Alu alu.Lsh width.W32 ∷ Alu alu.Lsh width.W64 ∷ Alu alu.Rsh width.W32 ∷ Alu alu.Rsh width.W64 ∷ Alu alu.Mod width.W32 ∷ Alu alu.Mod width.W64 ∷ Alu alu.Smod width.W32 ∷ Alu alu.Smod width.W64 ∷ Alu alu.Xor width.W32 ∷ Alu alu.Xor width.W64 ∷ Alu alu.Mov width.W32 ∷ Alu alu.Mov width.W64 ∷ Alu alu.Arsh width.W32 ∷ Alu alu.Arsh width.W64 ∷ Neg width.W32 ∷ Neg width.W64 ∷ SignExtend extension.From8To32 ∷ SignExtend extension.From16To32 ∷ SignExtend extension.From8To64 ∷ SignExtend extension.From16To64 ∷ SignExtend extension.From32To64 ∷ ByteSwap order.Little swap.Bits16 ∷ ByteSwap order.Little swap.Bits32 ∷ ByteSwap order.Little swap.Bits64 ∷ ByteSwap order.Big swap.Bits16 ∷ ByteSwap order.Big swap.Bits32 ∷ ByteSwap order.Big swap.Bits64 ∷ ByteSwap order.Swap swap.Bits16 ∷ ByteSwap order.Swap swap.Bits32 ∷ ByteSwap order.Swap swap.Bits64 ∷ Ja ∷ JaLong ∷ Branch comparison.Eq width.W32 ∷ Branch comparison.Eq width.W64 ∷ Branch comparison.Gt width.W32 ∷ Branch comparison.Gt width.W64 ∷ Branch comparison.Ge width.W32 ∷ Branch comparison.Ge width.W64 ∷ Branch comparison.Set width.W32 ∷ Branch comparison.Set width.W64 ∷ Branch comparison.Ne width.W32 ∷ Branch comparison.Ne width.W64 ∷ Branch comparison.Sgt width.W32 ∷ Branch comparison.Sgt width.W64 ∷ Branch comparison.Sge width.W32 ∷ Branch comparison.Sge width.W64 ∷ Branch comparison.Lt width.W32 ∷ Branch comparison.Lt width.W64 ∷ Branch comparison.Le width.W32 ∷ Branch comparison.Le width.W64 ∷ Branch comparison.Slt width.W32 ∷ Branch comparison.Slt width.W64 ∷ Branch comparison.Sle width.W32 ∷ Branch comparison.Sle width.W64 ∷ Call ∷ CallLocal ∷ Exit ∷ Load size.B ∷ Load size.H ∷ Load size.W ∷ Load size.Dw ∷ LoadSigned signed.B ∷ LoadSigned signed.H ∷ LoadSigned signed.W ∷ StoreImm size.B ∷ StoreImm size.H ∷ StoreImm size.W ∷ StoreImm size.Dw ∷ Store size.B ∷ Store size.H ∷ Store size.W ∷ Store size.Dw ∷ LoadWide ∷ Slot ∷ []
+mnemonics = Alu alu.Add width.W32 ∷ Alu alu.Add width.W64 ∷ Alu alu.Sub width.W32 ∷ Alu alu.Sub width.W64 ∷ Alu alu.Mul width.W32 ∷ Alu alu.Mul width.W64 ∷ Alu alu.Div width.W32 ∷ Alu alu.Div width.W64 ∷ Alu alu.Sdiv width.W32 ∷ Alu alu.Sdiv width.W64 ∷ Alu alu.Or width.W32 ∷ Alu alu.Or width.W64 ∷ Alu alu.And width.W32 ∷ Alu alu.And width.W64 ∷ Alu alu.Lsh width.W32 ∷ Alu alu.Lsh width.W64 ∷ Alu alu.Rsh width.W32 ∷ Alu alu.Rsh width.W64 ∷ Alu alu.Mod width.W32 ∷ Alu alu.Mod width.W64 ∷ Alu alu.Smod width.W32 ∷ Alu alu.Smod width.W64 ∷ Alu alu.Xor width.W32 ∷ Alu alu.Xor width.W64 ∷ Alu alu.Mov width.W32 ∷ Alu alu.Mov width.W64 ∷ Alu alu.Arsh width.W32 ∷ Alu alu.Arsh width.W64 ∷ Neg width.W32 ∷ Neg width.W64 ∷ SignExtend extension.From8To32 ∷ SignExtend extension.From16To32 ∷ SignExtend extension.From8To64 ∷ SignExtend extension.From16To64 ∷ SignExtend extension.From32To64 ∷ ByteSwap order.Little swap.Bits16 ∷ ByteSwap order.Little swap.Bits32 ∷ ByteSwap order.Little swap.Bits64 ∷ ByteSwap order.Big swap.Bits16 ∷ ByteSwap order.Big swap.Bits32 ∷ ByteSwap order.Big swap.Bits64 ∷ ByteSwap order.Swap swap.Bits16 ∷ ByteSwap order.Swap swap.Bits32 ∷ ByteSwap order.Swap swap.Bits64 ∷ Ja ∷ JaLong ∷ Branch comparison.Eq width.W32 ∷ Branch comparison.Eq width.W64 ∷ Branch comparison.Gt width.W32 ∷ Branch comparison.Gt width.W64 ∷ Branch comparison.Ge width.W32 ∷ Branch comparison.Ge width.W64 ∷ Branch comparison.Set width.W32 ∷ Branch comparison.Set width.W64 ∷ Branch comparison.Ne width.W32 ∷ Branch comparison.Ne width.W64 ∷ Branch comparison.Sgt width.W32 ∷ Branch comparison.Sgt width.W64 ∷ Branch comparison.Sge width.W32 ∷ Branch comparison.Sge width.W64 ∷ Branch comparison.Lt width.W32 ∷ Branch comparison.Lt width.W64 ∷ Branch comparison.Le width.W32 ∷ Branch comparison.Le width.W64 ∷ Branch comparison.Slt width.W32 ∷ Branch comparison.Slt width.W64 ∷ Branch comparison.Sle width.W32 ∷ Branch comparison.Sle width.W64 ∷ Call ∷ CallLocal ∷ Exit ∷ Load size.B ∷ Load size.H ∷ Load size.W ∷ Load size.Dw ∷ LoadSigned signed.B ∷ LoadSigned signed.H ∷ LoadSigned signed.W ∷ StoreImm size.B ∷ StoreImm size.H ∷ StoreImm size.W ∷ StoreImm size.Dw ∷ Store size.B ∷ Store size.H ∷ Store size.W ∷ Store size.Dw ∷ LoadWide ∷ Slot ∷ Atomic atomic.Add width.W32 ∷ Atomic atomic.Add width.W64 ∷ Atomic atomic.Or width.W32 ∷ Atomic atomic.Or width.W64 ∷ Atomic atomic.And width.W32 ∷ Atomic atomic.And width.W64 ∷ Atomic atomic.Xor width.W32 ∷ Atomic atomic.Xor width.W64 ∷ Atomic atomic.FetchAdd width.W32 ∷ Atomic atomic.FetchAdd width.W64 ∷ Atomic atomic.FetchOr width.W32 ∷ Atomic atomic.FetchOr width.W64 ∷ Atomic atomic.FetchAnd width.W32 ∷ Atomic atomic.FetchAnd width.W64 ∷ Atomic atomic.FetchXor width.W32 ∷ Atomic atomic.FetchXor width.W64 ∷ Atomic atomic.Exchange width.W32 ∷ Atomic atomic.Exchange width.W64 ∷ Atomic atomic.CompareExchange width.W32 ∷ Atomic atomic.CompareExchange width.W64 ∷ []
 
 mnemonic_found : (x : Mnemonic) → find mnemonic_text mnemonics (mnemonic_text x) ≡ Some x
 mnemonic_found (Alu alu.Add width.W32) = refl
@@ -151,6 +152,26 @@ mnemonic_found (Store size.W) = refl
 mnemonic_found (Store size.Dw) = refl
 mnemonic_found LoadWide = refl
 mnemonic_found Slot = refl
+mnemonic_found (Atomic atomic.Add width.W32) = refl
+mnemonic_found (Atomic atomic.Add width.W64) = refl
+mnemonic_found (Atomic atomic.Or width.W32) = refl
+mnemonic_found (Atomic atomic.Or width.W64) = refl
+mnemonic_found (Atomic atomic.And width.W32) = refl
+mnemonic_found (Atomic atomic.And width.W64) = refl
+mnemonic_found (Atomic atomic.Xor width.W32) = refl
+mnemonic_found (Atomic atomic.Xor width.W64) = refl
+mnemonic_found (Atomic atomic.FetchAdd width.W32) = refl
+mnemonic_found (Atomic atomic.FetchAdd width.W64) = refl
+mnemonic_found (Atomic atomic.FetchOr width.W32) = refl
+mnemonic_found (Atomic atomic.FetchOr width.W64) = refl
+mnemonic_found (Atomic atomic.FetchAnd width.W32) = refl
+mnemonic_found (Atomic atomic.FetchAnd width.W64) = refl
+mnemonic_found (Atomic atomic.FetchXor width.W32) = refl
+mnemonic_found (Atomic atomic.FetchXor width.W64) = refl
+mnemonic_found (Atomic atomic.Exchange width.W32) = refl
+mnemonic_found (Atomic atomic.Exchange width.W64) = refl
+mnemonic_found (Atomic atomic.CompareExchange width.W32) = refl
+mnemonic_found (Atomic atomic.CompareExchange width.W64) = refl
 
 pub mnemonic_injective : (x y : Mnemonic) → mnemonic_text x ≡ mnemonic_text y → x ≡ y
 mnemonic_injective = by_search mnemonic_text mnemonics mnemonic_found

@@ -1,6 +1,7 @@
 -- The items of each mnemonic.
 use Rattle.std.proofs.Common.{◌≡◌, ◌⊎◌, ℕ, ℤ, List, Some, inl, inr, refl}
 use Rattle.insn_codec.specs.declared.alu_op.AluOp.{AluOp}
+use Rattle.insn_codec.specs.declared.atomic_op.AtomicOp.{AtomicOp}
 use Rattle.insn_codec.specs.declared.byte_order.ByteOrder.{ByteOrder}
 use Rattle.insn_codec.specs.declared.comparison.Comparison.{Comparison}
 use Rattle.insn_codec.specs.declared.extension.Extension.{Extension}
@@ -88,6 +89,14 @@ of_store size (jump jump_kind.Long name) e = absurd cc
 of_store size (jump jump_kind.CallLocal name) e = absurd cc
 of_store size (jump (jump_kind.Branch comparison w d o) name) e = absurd cc
 of_store size _ e = absurd cc
+
+pub of_atomic : (op : AtomicOp) (width : Width) (i : Item) → item_mnemonic i ≡ Some (mnemonic.Atomic op width) → (dst : Register) × (offset : ℤ) × (src : Register) × (i ≡ statement (statement_kind.Insn (insn.Atomic op width dst offset src)))
+of_atomic op width (statement (statement_kind.Insn (insn.Atomic op' width' dst offset src))) e = (dst, offset, src, cc)
+of_atomic op width (jump jump_kind.Near name) e = absurd cc
+of_atomic op width (jump jump_kind.Long name) e = absurd cc
+of_atomic op width (jump jump_kind.CallLocal name) e = absurd cc
+of_atomic op width (jump (jump_kind.Branch comparison w d o) name) e = absurd cc
+of_atomic op width _ e = absurd cc
 
 pub of_load_wide : (i : Item) → item_mnemonic i ≡ Some mnemonic.LoadWide → (dst : Register) × (value : ℕ) × (i ≡ statement (statement_kind.Insn (insn.LoadWide dst value)))
 of_load_wide (statement (statement_kind.Insn (insn.LoadWide dst value))) e = (dst, value, cc)

@@ -17,7 +17,7 @@ use Rattle.insn_codec.specs.declared.mnemonic.Mnemonic.{Mnemonic}
 use Rattle.insn_codec.specs.declared.mnemonic.Mnemonic.TheVariants as mnemonic
 use Rattle.assembler.proofs.Digits.{wide_injective}
 use Rattle.assembler.proofs.Injective.{name_no_offset, offset_injective, operand_injective, register_injective, signed_injective}
-use Rattle.assembler.proofs.ItemKinds.{of_alu, of_byte_swap, of_call, of_load, of_load_signed, of_load_wide, of_neg, of_sign_extend, of_slot, of_store, of_store_imm}
+use Rattle.assembler.proofs.ItemKinds.{of_alu, of_atomic, of_byte_swap, of_call, of_load, of_load_signed, of_load_wide, of_neg, of_sign_extend, of_slot, of_store, of_store_imm}
 use Rattle.std.proofs.lemmas.List.{append_cancel_right}
 use Rattle.assembler.proofs.Ends.{tails}
 use Rattle.assembler.proofs.JumpLines.{IsOfJump, JumpsBy, of_jump, operands_are}
@@ -164,6 +164,12 @@ same_code (mnemonic.Store size) i j a b h k e =
     let t = place_listed p.0 q.0 p.1 q.1 (register_text p.2) (register_text q.2) (between i j _ _ p.3 q.3 e) in
     let s = register_injective p.2 q.2 t.2 in
     p.3 ∙ (λ x. statement (statement_kind.Insn (insn.Store size (t.0 x) (t.1 x) (s x)))) ∙ sym q.3
+same_code (mnemonic.Atomic op width) i j a b h k e =
+    let p = of_atomic op width i a in
+    let q = of_atomic op width j b in
+    let t = place_listed p.0 q.0 p.1 q.1 (register_text p.2) (register_text q.2) (between i j _ _ p.3 q.3 e) in
+    let s = register_injective p.2 q.2 t.2 in
+    p.3 ∙ (λ x. statement (statement_kind.Insn (insn.Atomic op width (t.0 x) (t.1 x) (s x)))) ∙ sym q.3
 same_code mnemonic.LoadWide i j a b h k e =
     let p = of_load_wide i a in
     let q = of_load_wide j b in

@@ -37,6 +37,7 @@ kind_of (statement (statement_kind.Insn (insn.Load size dst src offset))) = inl 
 kind_of (statement (statement_kind.Insn (insn.LoadSigned size dst src offset))) = inl (mnemonic.LoadSigned size, refl)
 kind_of (statement (statement_kind.Insn (insn.StoreImm size dst offset imm))) = inl (mnemonic.StoreImm size, refl)
 kind_of (statement (statement_kind.Insn (insn.Store size dst offset src))) = inl (mnemonic.Store size, refl)
+kind_of (statement (statement_kind.Insn (insn.Atomic op width dst offset src))) = inl (mnemonic.Atomic op width, refl)
 kind_of (statement (statement_kind.Insn (insn.LoadWide dst value))) = inl (mnemonic.LoadWide, refl)
 kind_of (statement (statement_kind.Slot word)) = inl (mnemonic.Slot, refl)
 kind_of (label name) = inr (inr (name, refl))
@@ -73,6 +74,7 @@ operands_lack_colon (statement (statement_kind.Insn (insn.Load size dst src offs
 operands_lack_colon (statement (statement_kind.Insn (insn.LoadSigned size dst src offset))) h = lacks_listed (register_text dst) (place_text src offset) (plain_lacks 58 refl (register_text dst) (register_plain dst)) (place_lacks_colon src offset)
 operands_lack_colon (statement (statement_kind.Insn (insn.StoreImm size dst offset imm))) h = lacks_listed (place_text dst offset) (signed_decimal imm) (place_lacks_colon dst offset) (plain_lacks 58 refl (signed_decimal imm) (signed_decimal_plain imm))
 operands_lack_colon (statement (statement_kind.Insn (insn.Store size dst offset src))) h = lacks_listed (place_text dst offset) (register_text src) (place_lacks_colon dst offset) (plain_lacks 58 refl (register_text src) (register_plain src))
+operands_lack_colon (statement (statement_kind.Insn (insn.Atomic op width dst offset src))) h = lacks_listed (place_text dst offset) (register_text src) (place_lacks_colon dst offset) (plain_lacks 58 refl (register_text src) (register_plain src))
 operands_lack_colon (statement (statement_kind.Insn (insn.LoadWide dst value))) h = lacks_listed (register_text dst) (wide_text value) (plain_lacks 58 refl (register_text dst) (register_plain dst)) (plain_lacks 58 refl (wide_text value) (wide_plain value))
 operands_lack_colon (statement (statement_kind.Slot word)) h = plain_lacks 58 refl (wide_text word) (wide_plain word)
 operands_lack_colon (label name) h = tt
@@ -114,5 +116,15 @@ exit_only i h e = elim (kind_of i) [
   | inr k ↦ elim k [
     | inl p ↦ p
     | inr n ↦ absurd (lacks_gone 58 (codes "exit") n.0 [] (lacks_by 58 (codes "exit") refl) (e ∙ ap item_text n.1))
+  ]
+]
+
+-- a line without a space that is neither the exit's nor a label's says nothing
+pub nothing_only : (line : List ℕ) → Lacks 32 line → (line ≡ codes "exit" → ⊥) → ((name : List ℕ) → line ≡ name ++ 58 ∷ [] → ⊥) → (i : Item) → HasLine i → line ≡ item_text i → ⊥
+nothing_only line space other colon i h e = elim (kind_of i) [
+  | inl k ↦ lacks_gone 32 line (mnemonic_text k.0) (item_operands i) space (e ∙ line_halves i k.0 k.1)
+  | inr k ↦ elim k [
+    | inl p ↦ other (e ∙ ap item_text p)
+    | inr n ↦ colon n.0 (e ∙ ap item_text n.1)
   ]
 ]

@@ -1,6 +1,6 @@
 -- Mnemonics by what they are made of.
 use Rattle.insn_codec.specs.declared.mnemonic.Mnemonic.{Mnemonic}
-use Rattle.insn_codec.specs.declared.mnemonic.Mnemonic.TheVariants.{Alu, Neg, SignExtend, ByteSwap, Ja, JaLong, Branch, Call, CallLocal, Exit, Load, LoadSigned, StoreImm, Store, LoadWide, Slot}
+use Rattle.insn_codec.specs.declared.mnemonic.Mnemonic.TheVariants.{Alu, Neg, SignExtend, ByteSwap, Ja, JaLong, Branch, Call, CallLocal, Exit, Load, LoadSigned, StoreImm, Store, Atomic, LoadWide, Slot}
 
 -- one fixed word
 abbrev pub IsFixed : Mnemonic → Type 0
@@ -20,6 +20,11 @@ IsTransfer (LoadSigned size) = Unit {0}
 IsTransfer (StoreImm size) = Unit {0}
 IsTransfer (Store size) = Unit {0}
 IsTransfer _ = ⊥
+
+-- an atomic operation, with its width
+abbrev pub IsAtomic : Mnemonic → Type 0
+IsAtomic (Atomic op width) = Unit {0}
+IsAtomic _ = ⊥
 
 -- an extension or an order of bytes, with its bits
 abbrev pub IsConversion : Mnemonic → Type 0

@@ -1,5 +1,6 @@
 //! What the tables of the tests are compared with.
 
+mod atomics;
 mod instructions;
 mod programs;
 mod refusals;

@@ -4,7 +4,7 @@ use std::alloc::Global;
 use std::test::Fail;
 
 /// A slot of each row of the instruction table, with the line of its instruction.
-const INSTRUCTIONS: [([u8; 8], &str); 68] = [
+const INSTRUCTIONS: [([u8; 8], &str); 71] = [
     ([0x04, 0x03, 0, 0, 0, 0, 0, 0], "add32 r3, 0"),
     ([0x0c, 0x21, 0, 0, 0, 0, 0, 0], "add32 r1, r2"),
     ([0x07, 0x03, 0, 0, 0xfe, 0xff, 0xff, 0xff], "add64 r3, -2"),
@@ -97,6 +97,18 @@ const INSTRUCTIONS: [([u8; 8], &str); 68] = [
     ([0x6b, 0x21, 0xf8, 0x07, 0, 0, 0, 0], "stxh [r1+2040], r2"),
     ([0x63, 0x21, 0xf8, 0x07, 0, 0, 0, 0], "stxw [r1+2040], r2"),
     ([0x7b, 0x21, 0xf8, 0x07, 0, 0, 0, 0], "stxdw [r1+2040], r2"),
+    (
+        [0xdb, 0x1a, 0xf8, 0xff, 0x01, 0, 0, 0],
+        "atomic_fetch_add64 [r10-8], r1",
+    ),
+    (
+        [0xc3, 0x1a, 0xf8, 0xff, 0xf1, 0, 0, 0],
+        "atomic_cmpxchg32 [r10-8], r1",
+    ),
+    (
+        [0xdb, 0xa1, 0, 0, 0xe1, 0, 0, 0],
+        "atomic_xchg64 [r1+0], r10",
+    ),
 ];
 
 /// Slots that spell nothing.
@@ -116,7 +128,10 @@ const SLOTS: [([u8; 8], &str); 9] = [
     ),
     ([0xb7, 0x0b, 0, 0, 0, 0, 0, 0], ".slot 0xb70b000000000000"),
     ([0x95, 0, 0, 0, 0, 0, 0, 0x01], ".slot 0x9500000000000001"),
-    ([0xdb, 0x21, 0, 0, 0, 0, 0, 0], ".slot 0xdb21000000000000"),
+    (
+        [0xdb, 0x1a, 0xf8, 0xff, 0xf0, 0, 0, 0],
+        ".slot 0xdb1af8fff0000000",
+    ),
     ([0x18, 0, 0, 0, 0, 0, 0, 0], ".slot 0x1800000000000000"),
     ([0x18, 0x10, 0, 0, 0, 0, 0, 0], ".slot 0x1810000000000000"),
 ];

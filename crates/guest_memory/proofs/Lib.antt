@@ -9,3 +9,4 @@ pub mod Overlays
 pub mod Writing
 pub mod Lending
 pub mod RegionWords
+pub mod PagedBytes

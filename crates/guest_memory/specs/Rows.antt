@@ -1,7 +1,7 @@
 -- Loads and stores worked by hand.
 use Rattle.std.specs.Prelude.{◌≡◌, ℕ, [], ◌∷◌, Result, Ok, Err, IsOk}
 use Rattle.guest_memory.specs.Memory.{Memory, start_memory}
-use Rattle.guest_memory.specs.Access.{read_of, write_of}
+use Rattle.guest_memory.specs.Access.{read_of, stores_of, write_of}
 use Rattle.guest_memory.specs.declared.fault.Fault as fault
 use Rattle.guest_memory.specs.declared.fault.Fault.TheVariants.{F3, F4}
 use Rattle.guest_memory.specs.declared.size.Size.{Size}
@@ -24,6 +24,9 @@ pub record RowsStand : Type 0 where
   pub last_of_verdict : IsOk (write_of empty 0x3_0000_07f8 Dw 1)
   pub past_the_verdict : write_of empty 0x3_0000_07f9 Dw 1 ≡ Err F3
   pub into_constants : write_of (start_memory (7 ∷ [])) 0x4_0000_0000 B 1 ≡ Err F4
+  pub may_store_last_of_verdict : stores_of empty 0x3_0000_07f8 Dw ≡ Ok tt
+  pub may_not_store_past_the_verdict : stores_of empty 0x3_0000_07f9 Dw ≡ Err F3
+  pub may_not_store_into_constants : stores_of (start_memory (7 ∷ [])) 0x4_0000_0000 B ≡ Err F4
   pub of_constants : read_of (start_memory (7 ∷ [])) 0x4_0000_0000 B ≡ Ok 7
   pub into_no_constants : write_of empty 0x4_0000_0000 B 1 ≡ Err F3
   pub does_not_wrap : read_of empty 0xffff_ffff_ffff_ffff Dw ≡ Err F3

@@ -1,13 +1,15 @@
-//! Memory in one vector a region.
+//! Memory in pages, which copies share.
 ghost use Rattle.std.specs.Prelude.{◌≡◌, replicate, IfOk};
 ghost use Rattle.guest_memory.specs.Access.{place_of};
 
 use crate::fault::Fault;
+use crate::region::Region;
 use crate::regions::Regions;
 use crate::size::Size;
-use crate::words::{put, word};
+use crate::words::word_at;
 use crate::write_error::WriteError;
 use std::alloc::{AllocError, Global};
+use std::rc::Rc;
 
 /// The first address of the stack.
 const STACK: u64 = 0x1_0000_0000;
@@ -21,22 +23,23 @@ const VERDICT: u64 = 0x3_0000_0000;
 /// The first address of the constants.
 const CONSTANTS: u64 = 0x4_0000_0000;
 
-/// How many bytes the stack has.
-const STACK_LENGTH: usize = 4096;
+/// How many pages the stack has.
+const STACK_PAGES: usize = 16;
 
-/// How many bytes the scratch has.
-const SCRATCH_LENGTH: usize = 4096;
+/// How many pages the scratch has.
+const SCRATCH_PAGES: usize = 16;
 
-/// How many bytes the verdict has.
-const VERDICT_LENGTH: usize = 2048;
+/// How many pages the verdict has.
+const VERDICT_PAGES: usize = 8;
 
-/// Memory that holds each byte of the four regions.
+/// Memory that shares its pages and its constants with its copies. A store copies a page of 256 bytes
+/// that others share.
 #[derive(Drop)]
 pub struct Guest {
-    stack: Vec<u8>,
-    scratch: Vec<u8>,
-    verdict: Vec<u8>,
-    constants: Vec<u8>,
+    stack: Region,
+    scratch: Region,
+    verdict: Region,
+    constants: Rc<Vec<u8>>,
 }
 
 /// Where `n` bytes from `addr` on begin in a region of `len` bytes from `base` on, if all of them
@@ -55,71 +58,99 @@ fn place(base: u64, len: usize, addr: u64, n: u64) -> Option<usize>
     }
 }
 
-/// That many zeros. The error says that there is no memory for them.
-fn zeros(alloc: Global, n: usize) -> Result<Vec<u8>, AllocError>
-    ensures { IfOk result (λ bytes. bytes.items ≡ replicate n 0) }
+/// The constants, to be shared. The error says that there is no memory for them.
+fn shared(alloc: Global, constants: &[u8]) -> Result<Rc<Vec<u8>>, AllocError>
+    ensures { IfOk result (λ block. block.value.items ≡ constants.now) }
 {
-    vec![in alloc; 0; n]
+    let block = Vec::from_slice(alloc, constants)?;
+    let Ok(block) = Rc::new(alloc, block) else {
+        return Err(AllocError);
+    };
+    Ok(block)
 }
 
 impl Regions for Guest {
-    ghost bytes = { λ g. record { stack = g.stack.items; scratch = g.scratch.items; verdict = g.verdict.items; constants = g.constants.items } };
+    ghost bytes = { λ g. record { stack = g.stack; scratch = g.scratch; verdict = g.verdict; constants = g.constants.value.items } };
 
     fn of_constants(alloc: Global, constants: &[u8]) -> Result<Self, AllocError> {
         Ok(Guest {
-            stack: zeros(alloc, STACK_LENGTH)?,
-            scratch: zeros(alloc, SCRATCH_LENGTH)?,
-            verdict: zeros(alloc, VERDICT_LENGTH)?,
-            constants: Vec::from_slice(alloc, constants)?,
+            stack: Region::zeroed(alloc, STACK_PAGES)?,
+            scratch: Region::zeroed(alloc, SCRATCH_PAGES)?,
+            verdict: Region::zeroed(alloc, VERDICT_PAGES)?,
+            constants: shared(alloc, constants)?,
         })
     }
 
     fn copy(&self) -> Result<Self, AllocError> {
         Ok(Guest {
-            stack: self.stack.clone()?,
-            scratch: self.scratch.clone()?,
-            verdict: self.verdict.clone()?,
+            stack: self.stack.copy()?,
+            scratch: self.scratch.copy()?,
+            verdict: self.verdict.copy()?,
             constants: self.constants.clone()?,
         })
     }
 
     #[tactic(auto, unfolding(crate::specs::Access::read_of))]
     fn read(&self, addr: u64, size: Size) -> Result<u64, Fault> {
-        let n = size.bytes();
-        if let Some(at) = place(STACK, self.stack.len(), addr, n as u64) {
-            return Ok(word(&self.stack[at..at + n]));
+        let n = size.bytes() as u64;
+        if let Some(at) = place(STACK, self.stack.len(), addr, n) {
+            return Ok(self.stack.word_at(at, size));
         }
-        if let Some(at) = place(SCRATCH, self.scratch.len(), addr, n as u64) {
-            return Ok(word(&self.scratch[at..at + n]));
+        if let Some(at) = place(SCRATCH, self.scratch.len(), addr, n) {
+            return Ok(self.scratch.word_at(at, size));
         }
-        if let Some(at) = place(VERDICT, self.verdict.len(), addr, n as u64) {
-            return Ok(word(&self.verdict[at..at + n]));
+        if let Some(at) = place(VERDICT, self.verdict.len(), addr, n) {
+            return Ok(self.verdict.word_at(at, size));
         }
-        if let Some(at) = place(CONSTANTS, self.constants.len(), addr, n as u64) {
-            return Ok(word(&self.constants[at..at + n]));
+        if let Some(at) = place(CONSTANTS, self.constants.len(), addr, n) {
+            return Ok(word_at(&self.constants, at, size));
         }
         Err(Fault::F3)
     }
 
     #[tactic(auto, unfolding(crate::specs::Access::write_of))]
     fn write(&mut self, addr: u64, size: Size, word: u64) -> Result<(), WriteError> {
-        let n = size.bytes();
-        if let Some(at) = place(STACK, self.stack.len(), addr, n as u64) {
-            put(&mut self.stack, at, n, word);
+        let n = size.bytes() as u64;
+        if let Some(at) = place(STACK, self.stack.len(), addr, n) {
+            let Ok(()) = self.stack.put_word(at, size, word) else {
+                return Err(WriteError::Memory);
+            };
             return Ok(());
         }
-        if let Some(at) = place(SCRATCH, self.scratch.len(), addr, n as u64) {
-            put(&mut self.scratch, at, n, word);
+        if let Some(at) = place(SCRATCH, self.scratch.len(), addr, n) {
+            let Ok(()) = self.scratch.put_word(at, size, word) else {
+                return Err(WriteError::Memory);
+            };
             return Ok(());
         }
-        if let Some(at) = place(VERDICT, self.verdict.len(), addr, n as u64) {
-            put(&mut self.verdict, at, n, word);
+        if let Some(at) = place(VERDICT, self.verdict.len(), addr, n) {
+            let Ok(()) = self.verdict.put_word(at, size, word) else {
+                return Err(WriteError::Memory);
+            };
             return Ok(());
         }
-        if let Some(_at) = place(CONSTANTS, self.constants.len(), addr, n as u64) {
+        if let Some(_at) = place(CONSTANTS, self.constants.len(), addr, n) {
             return Err(WriteError::Fault(Fault::F4));
         }
         Err(WriteError::Fault(Fault::F3))
+    }
+
+    #[tactic(auto, unfolding(crate::specs::Access::stores_of, crate::specs::Access::write_of))]
+    fn stores(&self, addr: u64, size: Size) -> Result<(), Fault> {
+        let n = size.bytes() as u64;
+        if let Some(_at) = place(STACK, self.stack.len(), addr, n) {
+            return Ok(());
+        }
+        if let Some(_at) = place(SCRATCH, self.scratch.len(), addr, n) {
+            return Ok(());
+        }
+        if let Some(_at) = place(VERDICT, self.verdict.len(), addr, n) {
+            return Ok(());
+        }
+        if let Some(_at) = place(CONSTANTS, self.constants.len(), addr, n) {
+            return Err(Fault::F4);
+        }
+        Err(Fault::F3)
     }
 
     #[tactic(auto, unfolding(crate::specs::Access::constants_of))]

@@ -1,5 +1,5 @@
 //! Laws of the memory, each the clause of a function that does nothing.
-ghost use Rattle.guest_memory.specs.Laws.{ReadIsBytes, WriteIsBytes, StartIsZero, LentIsBytes};
+ghost use Rattle.guest_memory.specs.Laws.{ReadIsBytes, WriteIsBytes, StoresAreWrites, StartIsZero, LentIsBytes};
 ghost use Rattle.guest_memory.specs.Rows.{RowsStand};
 ghost use Rattle.guest_memory.specs.RegionWords.{WordsArePut, WordsAreAccessed};
 
@@ -13,6 +13,11 @@ pub fn read_is_bytes()
 /// that can be written has them all.
 pub fn write_is_bytes()
     ensures { WriteIsBytes }
+{}
+
+/// What is said of a store without its word is what the store of each word answers.
+pub fn stores_are_writes()
+    ensures { StoresAreWrites }
 {}
 
 /// At the start each byte that can be written is zero, and the constants stand in their place.

@@ -5,6 +5,9 @@
 mod fault;
 mod guest;
 pub mod laws;
+mod page;
+mod pages;
+mod region;
 mod regions;
 mod size;
 #[cfg(test)]

@@ -1,7 +1,7 @@
 //! What the machine asks of its memory.
 ghost use Rattle.std.specs.Prelude.{◌≡◌, option_copied, IfOk};
 ghost use Rattle.guest_memory.specs.Memory.{Memory, start_memory};
-ghost use Rattle.guest_memory.specs.Access.{read_of, write_of, constants_of, Writes};
+ghost use Rattle.guest_memory.specs.Access.{read_of, write_of, stores_of, constants_of, Writes};
 
 use crate::fault::Fault;
 use crate::size::Size;
@@ -34,6 +34,11 @@ pub trait Regions: Drop {
     /// constants, and then nothing is changed.
     fn write(&mut self, addr: u64, size: Size, word: u64) -> Result<(), WriteError>
         ensures { Writes (write_of (bytes self.old) addr size word) result (bytes self.old) (bytes self.new) };
+
+    /// Whether a store would be made: its fault is the one that `write` would answer, whatever the
+    /// word. Nothing is written, and no memory is asked for.
+    fn stores(&self, addr: u64, size: Size) -> Result<(), Fault>
+        ensures { result ≡ stores_of (bytes self.now) addr size };
 
     /// The `len` bytes from `addr` on, if all of them stand in the constants.
     fn constants(&self, addr: u64, len: u64) -> Option<&[u8]>

@@ -1,5 +1,5 @@
 //! How many bytes an access has.
-ghost use Rattle.std.specs.Prelude.{◌≡◌, ◌≤◌};
+ghost use Rattle.std.specs.Prelude.{◌≡◌, ◌<◌, ◌≤◌};
 ghost use Rattle.guest_memory.specs.Access.{size_bytes};
 
 /// The size of a load or a store (RFC 9669, section 5).
@@ -19,6 +19,7 @@ impl Size {
     /// The number of bytes.
     pub(crate) fn bytes(self) -> usize
         ensures value { result ≡ size_bytes self }
+        ensures some { 0 < result }
         ensures most { result ≤ 8 }
     {
         match self {

@@ -1,7 +1,7 @@
 //! Loads and stores worked by hand.
 use crate::laws::{
-    lent_is_bytes, read_is_bytes, rows_stand, start_is_zero, words_are_accessed, words_are_put,
-    write_is_bytes,
+    lent_is_bytes, read_is_bytes, rows_stand, start_is_zero, stores_are_writes, words_are_accessed,
+    words_are_put, write_is_bytes,
 };
 use crate::{Fault, Guest, Regions, Size, WriteError};
 use std::alloc::Global;
@@ -141,6 +141,23 @@ fn around(alloc: Global, size: Size) -> Result<[Option<u64>; 2], Fail> {
     ])
 }
 
+/// Whether this is said of a store before it is made.
+fn may_store_as(guest: &Guest, addr: u64, size: Size, answer: Result<(), WriteError>) -> bool {
+    match guest.stores(addr, size) {
+        Ok(()) => answer == Ok(()),
+        Err(fault) => answer == Err(WriteError::Fault(fault)),
+    }
+}
+
+#[test]
+fn says_what_a_store_would_answer(rt: HostRuntime) -> Result<(), Fail> {
+    let guest = start(rt.alloc(), CONSTANTS)?;
+    for (row, (addr, size, answer)) in STORES.into_iter().enumerate() {
+        assert!(rt; may_store_as(&guest, addr, size, answer), "row {row}");
+    }
+    Ok(())
+}
+
 #[test]
 fn stores_low_bytes(rt: HostRuntime) -> Result<(), Fail> {
     for (row, (size, left, word)) in WORDS.into_iter().enumerate() {
@@ -155,6 +172,99 @@ fn stores_nothing_around(rt: HostRuntime) -> Result<(), Fail> {
     for (row, (size, _, _)) in WORDS.into_iter().enumerate() {
         let bytes = around(rt.alloc(), size)?;
         assert!(rt; bytes == [Some(0), Some(0)], "row {row}");
+    }
+    Ok(())
+}
+
+/// Where 0x8877_6655_4433_2211 is stored near the border of two pages, the border, and the eight bytes
+/// before and behind it.
+const BORDERS: [(u64, Size, u64, u64, u64); 6] = [
+    (
+        0x1_0000_00f8,
+        Size::Dw,
+        0x1_0000_0100,
+        0x8877_6655_4433_2211,
+        0,
+    ),
+    (
+        0x1_0000_00fd,
+        Size::Dw,
+        0x1_0000_0100,
+        0x3322_1100_0000_0000,
+        0x88_7766_5544,
+    ),
+    (
+        0x1_0000_0fff,
+        Size::B,
+        0x1_0000_0ff8,
+        0,
+        0x1100_0000_0000_0000,
+    ),
+    (
+        0x2_0000_01ff,
+        Size::H,
+        0x2_0000_0200,
+        0x1100_0000_0000_0000,
+        0x22,
+    ),
+    (
+        0x3_0000_02fe,
+        Size::W,
+        0x3_0000_0300,
+        0x2211_0000_0000_0000,
+        0x4433,
+    ),
+    (
+        0x3_0000_0700,
+        Size::Dw,
+        0x3_0000_0700,
+        0,
+        0x8877_6655_4433_2211,
+    ),
+];
+
+/// The eight bytes before and behind a border, where a word is stored, and that word.
+fn beside(alloc: Global, addr: u64, size: Size, border: u64) -> Result<[Option<u64>; 3], Fail> {
+    let guest = stored(start(alloc, b"")?, addr, size, 0x8877_6655_4433_2211)?;
+    Ok([
+        word(&guest, border.saturating_sub(8), Size::Dw),
+        word(&guest, border, Size::Dw),
+        word(&guest, addr, size),
+    ])
+}
+
+/// The low bytes of 0x8877_6655_4433_2211.
+fn low_bytes(size: Size) -> u64 {
+    match size {
+        Size::B => 0x11,
+        Size::H => 0x2211,
+        Size::W => 0x4433_2211,
+        Size::Dw => 0x8877_6655_4433_2211,
+    }
+}
+
+#[test]
+fn stores_over_borders(rt: HostRuntime) -> Result<(), Fail> {
+    for (row, (addr, size, border, before, behind)) in BORDERS.into_iter().enumerate() {
+        let bytes = beside(rt.alloc(), addr, size, border)?;
+        let expected = [Some(before), Some(behind), Some(low_bytes(size))];
+        assert!(rt; bytes == expected, "row {row}");
+    }
+    Ok(())
+}
+
+/// What a memory and its copy load, each of which has stored at one address after the copy was made.
+fn apart(alloc: Global, addr: u64) -> Result<[Option<u64>; 2], Fail> {
+    let guest = stored(start(alloc, b"")?, addr, Size::Dw, 1)?;
+    let copy = stored(guest.copy()?, addr, Size::Dw, 2)?;
+    let guest = stored(guest, addr, Size::H, 3)?;
+    Ok([word(&guest, addr, Size::Dw), word(&copy, addr, Size::Dw)])
+}
+
+#[test]
+fn copies_see_no_later_store(rt: HostRuntime) -> Result<(), Fail> {
+    for addr in [0x1_0000_0000, 0x1_0000_00ff, 0x2_0000_0ff8, 0x3_0000_01f9] {
+        assert!(rt; apart(rt.alloc(), addr)? == [Some(3), Some(2)], "at {addr}");
     }
     Ok(())
 }
@@ -239,6 +349,7 @@ fn names_faults(rt: HostRuntime) -> Result<(), Fail> {
 fn laws_can_be_called(_rt: HostRuntime) {
     read_is_bytes();
     write_is_bytes();
+    stores_are_writes();
     start_is_zero();
     lent_is_bytes();
     words_are_put();

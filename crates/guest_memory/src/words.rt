@@ -1,27 +1,31 @@
 //! Words and their bytes, the lowest first.
-ghost use Rattle.std.specs.Prelude.{◌≡◌, ◌+◌, ◌<◌, ◌≤◌, ◌^◌, length};
-ghost use Rattle.guest_memory.specs.Word.{word_of, low_bytes, overlay};
+ghost use Rattle.std.specs.Prelude.{◌≡◌, ◌+◌, ◌≤◌, length};
+ghost use Rattle.guest_memory.specs.Access.{size_bytes};
+ghost use Rattle.guest_memory.specs.Word.{part, word_of};
 
-/// The word that at most eight bytes make.
-pub fn word(bytes: &[u8]) -> u64
-    requires { length bytes.now ≤ 8 }
-    ensures value { result ≡ word_of bytes.now }
-    ensures bound { result < 256 ^ length bytes.now }
+use crate::size::Size;
+
+/// The number whose bytes stand from `at` on.
+#[inline(always)]
+pub fn word_at(bytes: &[u8], at: usize, size: Size) -> u64
+    requires { at + size_bytes size ≤ length bytes.now }
+    ensures { result ≡ word_of (part bytes.now at (size_bytes size)) }
 {
-    match bytes {
-        [] => 0,
-        [first, rest @ ..] => u64::from(*first) + 256 * word(rest),
+    match size {
+        Size::B => u64::from(bytes[at]),
+        Size::H => u64::from(u16::from_le_bytes(bytes_at(bytes, at))),
+        Size::W => u64::from(u32::from_le_bytes(bytes_at(bytes, at))),
+        Size::Dw => u64::from_le_bytes(bytes_at(bytes, at)),
     }
 }
 
-/// Puts the low `n` bytes of a word in the place of those from `at` on.
-pub fn put(bytes: &mut [u8], at: usize, n: usize, word: u64)
-    requires { at + n ≤ length bytes.old }
-    ensures { bytes.new ≡ overlay bytes.old at (low_bytes n word) }
+/// The `N` bytes from `at` on.
+#[inline(always)]
+fn bytes_at<const N: usize>(bytes: &[u8], at: usize) -> [u8; N]
+    requires { at + N ≤ length bytes.now }
+    ensures { result ≡ part bytes.now at N }
 {
-    let mut left = word;
-    for k in 0..n {
-        bytes[at + k] = (left % 256) as u8;
-        left /= 256;
-    }
+    let mut copy = [0; N];
+    copy.copy_from_slice(&bytes[at..at + N]);
+    copy
 }

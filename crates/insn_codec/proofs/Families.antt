@@ -1,10 +1,12 @@
 use Rattle.std.proofs.Common.{◌≡◌, ◌<◌, lit<, Some, refl, false, FitsSigned}
 use Rattle.std.specs.Prelude.{◌==◌, ◌&&◌, not}
 use Rattle.std.specs.Int.{w16, w32}
-use Rattle.insn_codec.specs.Codes.{alu_class, jump_class, register_number, register_of}
-use Rattle.insn_codec.specs.Families.{alu_code, alu_of, alu_offset, comparison_code, comparison_of, extension_bits, holds, order_opcode, signed_size_code, size_code, swap_bits}
+use Rattle.insn_codec.specs.Codes.{alu_class, atomic_opcode, jump_class, register_number, register_of}
+use Rattle.insn_codec.specs.Families.{alu_code, alu_of, alu_offset, atomic_code, atomic_of, comparison_code, comparison_of, extension_bits, holds, order_opcode, signed_size_code, size_code, swap_bits}
 use Rattle.insn_codec.specs.declared.alu_op.AluOp.{AluOp}
 use Rattle.insn_codec.specs.declared.alu_op.AluOp.TheVariants.{Add, Sub, Mul, Div, Sdiv, Or, And, Lsh, Rsh, Mod, Smod, Xor, Mov, Arsh}
+use Rattle.insn_codec.specs.declared.atomic_op.AtomicOp.{AtomicOp}
+use Rattle.insn_codec.specs.declared.atomic_op.AtomicOp.TheVariants as atomic
 use Rattle.insn_codec.specs.declared.byte_order.ByteOrder.{ByteOrder}
 use Rattle.insn_codec.specs.declared.byte_order.ByteOrder.TheVariants.{Little, Big, Swap}
 use Rattle.insn_codec.specs.declared.comparison.Comparison.{Comparison}
@@ -52,6 +54,18 @@ alu_again Smod = refl
 alu_again Xor = refl
 alu_again Mov = refl
 alu_again Arsh = refl
+
+pub atomic_again : (op : AtomicOp) → atomic_of (atomic_code op) ≡ Some op
+atomic_again atomic.Add = refl
+atomic_again atomic.Or = refl
+atomic_again atomic.And = refl
+atomic_again atomic.Xor = refl
+atomic_again atomic.FetchAdd = refl
+atomic_again atomic.FetchOr = refl
+atomic_again atomic.FetchAnd = refl
+atomic_again atomic.FetchXor = refl
+atomic_again atomic.Exchange = refl
+atomic_again atomic.CompareExchange = refl
 
 pub comparison_again : (x : Comparison) → comparison_of (comparison_code x) ≡ Some x
 comparison_again Eq = refl
@@ -182,6 +196,22 @@ extension_fits From16To32 = record { sfits = lit< tt }
 extension_fits From8To64 = record { sfits = lit< tt }
 extension_fits From16To64 = record { sfits = lit< tt }
 extension_fits From32To64 = record { sfits = lit< tt }
+
+pub atomic_fits : (op : AtomicOp) → FitsSigned w32 (atomic_code op)
+atomic_fits atomic.Add = record { sfits = lit< tt }
+atomic_fits atomic.Or = record { sfits = lit< tt }
+atomic_fits atomic.And = record { sfits = lit< tt }
+atomic_fits atomic.Xor = record { sfits = lit< tt }
+atomic_fits atomic.FetchAdd = record { sfits = lit< tt }
+atomic_fits atomic.FetchOr = record { sfits = lit< tt }
+atomic_fits atomic.FetchAnd = record { sfits = lit< tt }
+atomic_fits atomic.FetchXor = record { sfits = lit< tt }
+atomic_fits atomic.Exchange = record { sfits = lit< tt }
+atomic_fits atomic.CompareExchange = record { sfits = lit< tt }
+
+pub atomic_opcode_below : (width : Width) → atomic_opcode width < 256
+atomic_opcode_below W32 = lit< tt
+atomic_opcode_below W64 = lit< tt
 
 pub order_below : (x : ByteOrder) → order_opcode x < 256
 order_below Little = lit< tt

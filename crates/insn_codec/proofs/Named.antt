@@ -3,7 +3,7 @@ use Rattle.std.specs.Prelude.{false, ◌==◌}
 use Rattle.std.specs.Int.{w32, cast_signed, cast_unsigned}
 use Rattle.std.proofs.lemmas.Bool.{ne_eqb}
 use Rattle.std.proofs.lemmas.Int.{of_z-to_z}
-use Rattle.insn_codec.specs.Candidate.{arithmetic_at, branch_at, candidate_at, jump_at, memory_at, wide_at}
+use Rattle.insn_codec.specs.Candidate.{arithmetic_at, atomic_at, branch_at, candidate_at, jump_at, memory_at, wide_at}
 use Rattle.insn_codec.specs.Codes.{alu_class, jump_class, operand_at, operand_flag, operand_imm, operand_src, register_number}
 use Rattle.insn_codec.specs.Families.{alu_code, alu_offset, comparison_code}
 use Rattle.insn_codec.specs.Spelling.{first_slot}
@@ -12,7 +12,7 @@ use Rattle.insn_codec.specs.declared.byte_order.ByteOrder.TheVariants.{Little, B
 use Rattle.insn_codec.specs.declared.comparison.Comparison.{Comparison}
 use Rattle.insn_codec.specs.declared.extension.Extension.TheVariants.{From8To32, From16To32, From8To64, From16To64, From32To64}
 use Rattle.insn_codec.specs.declared.insn.Insn.{Insn}
-use Rattle.insn_codec.specs.declared.insn.Insn.TheVariants.{Alu, Neg, SignExtend, ByteSwap, Jump, JumpLong, Branch, Call, CallLocal, Exit, Load, LoadSigned, StoreImm, Store, LoadWide}
+use Rattle.insn_codec.specs.declared.insn.Insn.TheVariants.{Alu, Neg, SignExtend, ByteSwap, Jump, JumpLong, Branch, Call, CallLocal, Exit, Load, LoadSigned, StoreImm, Store, Atomic, LoadWide}
 use Rattle.insn_codec.specs.declared.operand.Operand.{Operand}
 use Rattle.insn_codec.specs.declared.operand.Operand.TheVariants.{Imm, Reg}
 use Rattle.insn_codec.specs.declared.register.Register.{Register}
@@ -22,7 +22,7 @@ use Rattle.insn_codec.specs.declared.slot.Slot.{Slot}
 use Rattle.insn_codec.specs.declared.swap_width.SwapWidth.TheVariants as swap
 use Rattle.insn_codec.specs.declared.width.Width.{Width}
 use Rattle.insn_codec.specs.declared.width.Width.TheVariants.{W32, W64}
-use Rattle.insn_codec.proofs.Families.{alu_again, alu_class_below, alu_plain, comparison_again, comparison_plain, jump_class_below, register_again}
+use Rattle.insn_codec.proofs.Families.{alu_again, alu_class_below, alu_plain, atomic_again, comparison_again, comparison_plain, jump_class_below, register_again}
 
 -- the three parts of an opcode are read back
 
@@ -79,7 +79,7 @@ wide value h = rw (of_z-to_z w32 (value % 2 ^ 32) (omega arith)) (omega arith)
 
 -- the fields of an instruction's first slot, with the high half of a wide one, name that instruction
 pub candidate_at-first_slot : (i : Insn) (high : ℕ) → HighOf i high → candidate_at (first_slot i) high ≡ Some i
-unfolding candidate_at arithmetic_at jump_at memory_at wide_at
+unfolding candidate_at arithmetic_at jump_at memory_at atomic_at wide_at
 candidate_at-first_slot (Alu op width dst operand) high h =
     let s : Slot = first_slot (Alu op width dst operand) in
     let below : alu_class width < 8 = alu_class_below width in
@@ -126,4 +126,6 @@ candidate_at-first_slot (Store size.W dst offset src) high h = rw (register_agai
 candidate_at-first_slot (Store size.H dst offset src) high h = rw (register_again dst, register_again src) refl
 candidate_at-first_slot (Store size.B dst offset src) high h = rw (register_again dst, register_again src) refl
 candidate_at-first_slot (Store size.Dw dst offset src) high h = rw (register_again dst, register_again src) refl
+candidate_at-first_slot (Atomic op W32 dst offset src) high h = rw (register_again dst, register_again src, atomic_again op) refl
+candidate_at-first_slot (Atomic op W64 dst offset src) high h = rw (register_again dst, register_again src, atomic_again op) refl
 candidate_at-first_slot (LoadWide dst value) high h = rw (register_again dst, h.0, wide value h.1) refl

@@ -10,7 +10,7 @@ use Rattle.insn_codec.specs.Lines.{address_text, line_with, offset_text, operand
 use Rattle.insn_codec.specs.Mnemonics.{mnemonic_text}
 use Rattle.insn_codec.specs.Statements.{statement_mnemonic, statement_operands, statement_text}
 use Rattle.insn_codec.specs.declared.insn.Insn.{Insn}
-use Rattle.insn_codec.specs.declared.insn.Insn.TheVariants.{Alu, Neg, SignExtend, ByteSwap, Jump, JumpLong, Branch, Call, CallLocal, Exit, Load, LoadSigned, StoreImm, Store, LoadWide}
+use Rattle.insn_codec.specs.declared.insn.Insn.TheVariants.{Alu, Neg, SignExtend, ByteSwap, Jump, JumpLong, Branch, Call, CallLocal, Exit, Load, LoadSigned, StoreImm, Store, Atomic, LoadWide}
 use Rattle.insn_codec.specs.declared.mnemonic.Mnemonic.{Mnemonic}
 use Rattle.insn_codec.specs.declared.register.Register.{Register}
 use Rattle.insn_codec.specs.declared.statement.Statement.{Statement}
@@ -72,6 +72,7 @@ operands_quiet (Load size dst src z) = (register dst, (place src z, tt))
 operands_quiet (LoadSigned size dst src z) = (register dst, (place src z, tt))
 operands_quiet (StoreImm size dst z imm) = (place dst z, (plain _ (signed_decimal_plain imm), tt))
 operands_quiet (Store size dst z src) = (place dst z, (register src, tt))
+operands_quiet (Atomic op width dst z src) = (place dst z, (register src, tt))
 operands_quiet (LoadWide dst value) = (register dst, (plain _ (wide_plain value), tt))
 
 all_quiet : (x : Statement) → AllQuiet (statement_operands x)

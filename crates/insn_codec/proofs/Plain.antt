@@ -8,9 +8,11 @@ use Rattle.std.proofs.lemmas.Bool.Decides.{nat_tests}
 use Rattle.std.proofs.lemmas.List.Folds.{list_all-append}
 use Rattle.std.proofs.lemmas.Str.Parse.{digit_from_value}
 use Rattle.insn_codec.specs.Lines.{decimal, hex_digit, hex_digits, offset_text, operand_text, register_text, signed_decimal, wide_text}
-use Rattle.insn_codec.specs.Mnemonics.{alu_text, comparison_text, extension_text, mnemonic_text, order_text, signed_size_text, size_text, swap_text, width_text}
+use Rattle.insn_codec.specs.Mnemonics.{alu_text, atomic_text, comparison_text, extension_text, mnemonic_text, order_text, signed_size_text, size_text, swap_text, width_text}
 use Rattle.insn_codec.specs.declared.alu_op.AluOp.{AluOp}
 use Rattle.insn_codec.specs.declared.alu_op.AluOp.TheVariants as alu
+use Rattle.insn_codec.specs.declared.atomic_op.AtomicOp.{AtomicOp}
+use Rattle.insn_codec.specs.declared.atomic_op.AtomicOp.TheVariants as atomic
 use Rattle.insn_codec.specs.declared.byte_order.ByteOrder.{ByteOrder}
 use Rattle.insn_codec.specs.declared.byte_order.ByteOrder.TheVariants as order
 use Rattle.insn_codec.specs.declared.comparison.Comparison.{Comparison}
@@ -30,7 +32,7 @@ use Rattle.insn_codec.specs.declared.width.Width.TheVariants as width
 use Rattle.insn_codec.specs.declared.operand.Operand.{Operand}
 use Rattle.insn_codec.specs.declared.operand.Operand.TheVariants.{Imm, Reg}
 use Rattle.insn_codec.specs.declared.mnemonic.Mnemonic.{Mnemonic}
-use Rattle.insn_codec.specs.declared.mnemonic.Mnemonic.TheVariants.{Alu, Neg, SignExtend, ByteSwap, Ja, JaLong, Branch, Call, CallLocal, Exit, Load, LoadSigned, StoreImm, Store, LoadWide, Slot}
+use Rattle.insn_codec.specs.declared.mnemonic.Mnemonic.TheVariants.{Alu, Neg, SignExtend, ByteSwap, Ja, JaLong, Branch, Call, CallLocal, Exit, Load, LoadSigned, StoreImm, Store, Atomic, LoadWide, Slot}
 use Rattle.insn_codec.proofs.Decimals.{decimal_digits}
 
 -- none of the bytes that stand between parts: line feed, space, comma, colon and square brackets
@@ -117,6 +119,18 @@ signed_plain signed.B = refl
 signed_plain signed.H = refl
 signed_plain signed.W = refl
 
+atomic_plain : (x : AtomicOp) → all_plain (atomic_text x) ≡ true
+atomic_plain atomic.Add = refl
+atomic_plain atomic.Or = refl
+atomic_plain atomic.And = refl
+atomic_plain atomic.Xor = refl
+atomic_plain atomic.FetchAdd = refl
+atomic_plain atomic.FetchOr = refl
+atomic_plain atomic.FetchAnd = refl
+atomic_plain atomic.FetchXor = refl
+atomic_plain atomic.Exchange = refl
+atomic_plain atomic.CompareExchange = refl
+
 pub mnemonic_plain : (m : Mnemonic) → all_plain (mnemonic_text m) ≡ true
 mnemonic_plain (Alu op width) = plain_append (alu_text op) (width_text width) (alu_plain op) (width_plain width)
 mnemonic_plain (Neg width) = plain_append (codes "neg") (width_text width) refl (width_plain width)
@@ -132,6 +146,7 @@ mnemonic_plain (Load size) = plain_append (codes "ldx") (size_text size) refl (s
 mnemonic_plain (LoadSigned size) = plain_append (codes "ldxs") (signed_size_text size) refl (signed_plain size)
 mnemonic_plain (StoreImm size) = plain_append (codes "st") (size_text size) refl (size_plain size)
 mnemonic_plain (Store size) = plain_append (codes "stx") (size_text size) refl (size_plain size)
+mnemonic_plain (Atomic op width) = plain_append (codes "atomic_") (atomic_text op ++ width_text width) refl (plain_append (atomic_text op) (width_text width) (atomic_plain op) (width_plain width))
 mnemonic_plain LoadWide = refl
 mnemonic_plain Slot = refl
 

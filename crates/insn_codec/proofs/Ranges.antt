@@ -1,20 +1,21 @@
 use Rattle.std.proofs.Common.{ℕ, ◌+◌, ◌*◌, ◌/◌, ◌%◌, ◌^◌, ◌<◌, ◌≤◌, lit<, lit≤, Option, Some, None, ℤ, pos, arith, FitsSigned}
 use Rattle.std.specs.Prelude.{IfSome, option_map, Bool, true, false, if◌then◌else◌, ◌==◌}
 use Rattle.std.specs.Int.{w16, w32, cast_unsigned}
-use Rattle.insn_codec.specs.Candidate.{◌>>=◌, arithmetic_at, branch_at, candidate_at, extends_at, jump_at, memory_at, wide_at}
-use Rattle.insn_codec.specs.Codes.{operand_at, operand_flag, operand_imm, operand_src, register_of}
-use Rattle.insn_codec.specs.Families.{alu_of, comparison_of, extension_of, extension_width, order_of, signed_size_of, size_of_code, swap_of}
+use Rattle.insn_codec.specs.Candidate.{◌>>=◌, arithmetic_at, atomic_at, branch_at, candidate_at, extends_at, jump_at, memory_at, wide_at}
+use Rattle.insn_codec.specs.Codes.{atomic_width, operand_at, operand_flag, operand_imm, operand_src, register_of}
+use Rattle.insn_codec.specs.Families.{alu_of, atomic_of, comparison_of, extension_of, extension_width, order_of, signed_size_of, size_of_code, swap_of}
 use Rattle.insn_codec.specs.Slots.{IsSlot}
 use Rattle.insn_codec.specs.Spelling.{IsInsn, IsOperand, first_slot}
 use Rattle.insn_codec.specs.declared.insn.Insn.{Insn}
-use Rattle.insn_codec.specs.declared.insn.Insn.TheVariants.{Alu, Neg, SignExtend, ByteSwap, Jump, JumpLong, Branch, Call, CallLocal, Exit, Load, LoadSigned, StoreImm, Store, LoadWide}
+use Rattle.insn_codec.specs.declared.insn.Insn.TheVariants.{Alu, Neg, SignExtend, ByteSwap, Jump, JumpLong, Branch, Call, CallLocal, Exit, Load, LoadSigned, StoreImm, Store, Atomic, LoadWide}
 use Rattle.insn_codec.specs.declared.operand.Operand.{Operand}
 use Rattle.insn_codec.specs.declared.operand.Operand.TheVariants.{Imm, Reg}
+use Rattle.insn_codec.specs.declared.register.Register.{Register}
 use Rattle.insn_codec.specs.declared.slot.Slot.{Slot}
 use Rattle.insn_codec.specs.declared.width.Width.{Width}
 use Rattle.insn_codec.specs.declared.width.Width.TheVariants.{W32, W64}
 use Rattle.insn_codec.proofs.Bytes.{signed_32, signed_fits}
-use Rattle.insn_codec.proofs.Families.{alu_below, alu_class_below, alu_offset_fits, comparison_below, extension_fits, jump_class_below, order_below, register_below, signed_size_below, size_below, swap_fits}
+use Rattle.insn_codec.proofs.Families.{alu_below, alu_class_below, alu_offset_fits, atomic_fits, atomic_opcode_below, comparison_below, extension_fits, jump_class_below, order_below, register_below, signed_size_below, size_below, swap_fits}
 
 -- the fields of an instruction's first slot are in range
 
@@ -51,6 +52,7 @@ first_slot_fits (Load size dst src offset) h = record { opcode = omega (arith, s
 first_slot_fits (LoadSigned size dst src offset) h = record { opcode = omega (arith, signed_size_below size); dst = register_below dst; src = register_below src; offset = h; imm = zero_32 }
 first_slot_fits (StoreImm size dst offset imm) h = record { opcode = omega (arith, size_below size); dst = register_below dst; src = lit< tt; offset = h.0; imm = h.1 }
 first_slot_fits (Store size dst offset src) h = record { opcode = omega (arith, size_below size); dst = register_below dst; src = register_below src; offset = h; imm = zero_32 }
+first_slot_fits (Atomic op width dst offset src) h = record { opcode = atomic_opcode_below width; dst = register_below dst; src = register_below src; offset = h; imm = atomic_fits op }
 first_slot_fits (LoadWide dst value) h = record { opcode = lit< tt; dst = register_below dst; src = lit< tt; offset = zero_16; imm = signed_fits _ (omega arith) }
 
 -- what the fields name is in range where they are
@@ -99,13 +101,17 @@ jump_in_range s width g h =
     (either IsInsn (s.opcode == 0x85) _ _ (call_in_range (s.src == 0) s.imm h)
     (either IsInsn (s.opcode == 0x95) _ _ tt (branch_in_range s width g h))))
 
+atomic_in_range : (s : Slot) (dst src : Register) → FitsSigned w16 s.offset → IfSome (atomic_at s dst src) IsInsn
+unfolding atomic_at
+atomic_in_range s dst src g = bound IsInsn (atomic_width s.opcode) _ (λ width. bound IsInsn (atomic_of s.imm) _ (λ op. g))
+
 memory_in_range : (s : Slot) → FitsSigned w16 s.offset → FitsSigned w32 s.imm → IfSome (memory_at s) IsInsn
 unfolding memory_at
 memory_in_range s g h = bound IsInsn (register_of s.dst) _ (λ dst. bound IsInsn (register_of s.src) _ (λ src.
     either IsInsn (s.opcode % 8 == 1) _ _
     (either IsInsn (s.opcode / 32 == 3) _ _ (mapped IsInsn (size_of_code (s.opcode / 8 % 4)) _ (λ size. g)) (mapped IsInsn (signed_size_of (s.opcode / 8 % 4)) _ (λ size. g)))
     (either IsInsn (s.opcode % 8 == 2) _ _ (mapped IsInsn (size_of_code (s.opcode / 8 % 4)) _ (λ size. (g, h)))
-    (either IsInsn (s.opcode % 8 == 3) _ _ (mapped IsInsn (size_of_code (s.opcode / 8 % 4)) _ (λ size. g)) tt))))
+    (either IsInsn (s.opcode % 8 == 3) _ _ (either IsInsn (s.opcode / 32 == 6) _ _ (atomic_in_range s dst src g) (mapped IsInsn (size_of_code (s.opcode / 8 % 4)) _ (λ size. g))) tt))))
 
 below_64 : (low high : ℕ) → low < 2 ^ 32 → high < 2 ^ 32 → low + 2 ^ 32 * high < 2 ^ 64
 below_64 low high g h = omega arith

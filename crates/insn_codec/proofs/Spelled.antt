@@ -9,7 +9,7 @@ use Rattle.insn_codec.specs.Slots.{second_imm, slot_bytes, slot_of, IsSlot}
 use Rattle.insn_codec.specs.Spelled.{SpelledIsSpelling, spelled}
 use Rattle.insn_codec.specs.Spelling.{Begins, IsInsn, first_slot, more_bytes, on_hand, second_bytes, spelling}
 use Rattle.insn_codec.specs.declared.insn.Insn.{Insn}
-use Rattle.insn_codec.specs.declared.insn.Insn.TheVariants.{Alu, Neg, SignExtend, ByteSwap, Jump, JumpLong, Branch, Call, CallLocal, Exit, Load, LoadSigned, StoreImm, Store, LoadWide}
+use Rattle.insn_codec.specs.declared.insn.Insn.TheVariants.{Alu, Neg, SignExtend, ByteSwap, Jump, JumpLong, Branch, Call, CallLocal, Exit, Load, LoadSigned, StoreImm, Store, Atomic, LoadWide}
 use Rattle.insn_codec.specs.declared.register.Register.{Register}
 use Rattle.insn_codec.specs.declared.slot.Slot.{Slot}
 use Rattle.insn_codec.proofs.Bytes.{imm_fits, offset_fits, second_imm-slot_bytes, second_imm_below, slot_of-slot_bytes}
@@ -75,6 +75,7 @@ high_of (Load size dst src offset) rest f = tt
 high_of (LoadSigned size dst src offset) rest f = tt
 high_of (StoreImm size dst offset imm) rest f = tt
 high_of (Store size dst offset src) rest f = tt
+high_of (Atomic op width dst offset src) rest f = tt
 
 candidate_of_spelling : (i : Insn) (text : List ℕ) → IsInsn i → Begins (spelling i) text → candidate_at (slot_of text) (second_imm text) ≡ Some i
 candidate_of_spelling i text f b =
@@ -121,6 +122,7 @@ kept_alone first second (Some (Load size dst src offset)) n = refl
 kept_alone first second (Some (LoadSigned size dst src offset)) n = refl
 kept_alone first second (Some (StoreImm size dst offset imm)) n = refl
 kept_alone first second (Some (Store size dst offset src)) n = refl
+kept_alone first second (Some (Atomic op width dst offset src)) n = refl
 kept_alone first second (Some (LoadWide dst value)) n =
     let i : Insn = LoadWide dst value in
     kept_not (on_hand first second) i (λ b. n (wide_opcode first second dst value b)) ∙ sym (kept_not (on_hand first None) i (λ b. n (wide_opcode first None dst value b)))

@@ -3,7 +3,7 @@ use Rattle.std.specs.Prelude.{ℕ, zero, suc, ◌+◌, ◌/◌, ◌%◌, ℤ, po
 use Rattle.std.specs.Int.Digits.{digits_of}
 use Rattle.insn_codec.specs.Mnemonics.{mnemonic_text}
 use Rattle.insn_codec.specs.declared.insn.Insn.{Insn}
-use Rattle.insn_codec.specs.declared.insn.Insn.TheVariants.{Alu, Neg, SignExtend, ByteSwap, Jump, JumpLong, Branch, Call, CallLocal, Exit, Load, LoadSigned, StoreImm, Store, LoadWide}
+use Rattle.insn_codec.specs.declared.insn.Insn.TheVariants.{Alu, Neg, SignExtend, ByteSwap, Jump, JumpLong, Branch, Call, CallLocal, Exit, Load, LoadSigned, StoreImm, Store, Atomic, LoadWide}
 use Rattle.insn_codec.specs.declared.operand.Operand.{Operand}
 use Rattle.insn_codec.specs.declared.operand.Operand.TheVariants.{Imm, Reg}
 use Rattle.insn_codec.specs.declared.register.Register.{Register}
@@ -91,6 +91,7 @@ mnemonic_of (Load size dst src offset) = mnemonic.Load size
 mnemonic_of (LoadSigned size dst src offset) = mnemonic.LoadSigned size
 mnemonic_of (StoreImm size dst offset imm) = mnemonic.StoreImm size
 mnemonic_of (Store size dst offset src) = mnemonic.Store size
+mnemonic_of (Atomic op width dst offset src) = mnemonic.Atomic op width
 mnemonic_of (LoadWide dst value) = mnemonic.LoadWide
 
 -- and its operands
@@ -109,6 +110,7 @@ operands_of (Load size dst src offset) = register_text dst ∷ place_text src of
 operands_of (LoadSigned size dst src offset) = register_text dst ∷ place_text src offset ∷ []
 operands_of (StoreImm size dst offset imm) = place_text dst offset ∷ signed_decimal imm ∷ []
 operands_of (Store size dst offset src) = place_text dst offset ∷ register_text src ∷ []
+operands_of (Atomic op width dst offset src) = place_text dst offset ∷ register_text src ∷ []
 operands_of (LoadWide dst value) = register_text dst ∷ wide_text value ∷ []
 
 -- the line of an instruction

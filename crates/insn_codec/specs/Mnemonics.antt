@@ -2,6 +2,8 @@
 use Rattle.std.specs.Prelude.{ℕ, List, ◌++◌, codes}
 use Rattle.insn_codec.specs.declared.alu_op.AluOp.{AluOp}
 use Rattle.insn_codec.specs.declared.alu_op.AluOp.TheVariants.{Add, Sub, Mul, Div, Sdiv, Or, And, Lsh, Rsh, Mod, Smod, Xor, Mov, Arsh}
+use Rattle.insn_codec.specs.declared.atomic_op.AtomicOp.{AtomicOp}
+use Rattle.insn_codec.specs.declared.atomic_op.AtomicOp.TheVariants as atomic
 use Rattle.insn_codec.specs.declared.byte_order.ByteOrder.{ByteOrder}
 use Rattle.insn_codec.specs.declared.byte_order.ByteOrder.TheVariants.{Little, Big, Swap}
 use Rattle.insn_codec.specs.declared.comparison.Comparison.{Comparison}
@@ -38,6 +40,18 @@ alu_text Smod = codes "smod"
 alu_text Xor = codes "xor"
 alu_text Mov = codes "mov"
 alu_text Arsh = codes "arsh"
+
+abbrev pub atomic_text : AtomicOp → List ℕ
+atomic_text atomic.Add = codes "add"
+atomic_text atomic.Or = codes "or"
+atomic_text atomic.And = codes "and"
+atomic_text atomic.Xor = codes "xor"
+atomic_text atomic.FetchAdd = codes "fetch_add"
+atomic_text atomic.FetchOr = codes "fetch_or"
+atomic_text atomic.FetchAnd = codes "fetch_and"
+atomic_text atomic.FetchXor = codes "fetch_xor"
+atomic_text atomic.Exchange = codes "xchg"
+atomic_text atomic.CompareExchange = codes "cmpxchg"
 
 abbrev pub comparison_text : Comparison → List ℕ
 comparison_text Eq = codes "jeq"
@@ -95,5 +109,6 @@ mnemonic_text (mnemonic.Load size) = codes "ldx" ++ size_text size
 mnemonic_text (mnemonic.LoadSigned size) = codes "ldxs" ++ signed_size_text size
 mnemonic_text (mnemonic.StoreImm size) = codes "st" ++ size_text size
 mnemonic_text (mnemonic.Store size) = codes "stx" ++ size_text size
+mnemonic_text (mnemonic.Atomic op width) = codes "atomic_" ++ (atomic_text op ++ width_text width)
 mnemonic_text mnemonic.LoadWide = codes "lddw"
 mnemonic_text mnemonic.Slot = codes ".slot"

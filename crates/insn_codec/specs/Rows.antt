@@ -1,10 +1,11 @@
 use Rattle.std.specs.Prelude.{◌≡◌, [], ◌∷◌, pos, negsuc, Some, None}
 use Rattle.insn_codec.specs.Spelled.{spelled}
 use Rattle.insn_codec.specs.declared.alu_op.AluOp.TheVariants.{Add, Sdiv, Mov}
+use Rattle.insn_codec.specs.declared.atomic_op.AtomicOp.TheVariants as atomic
 use Rattle.insn_codec.specs.declared.byte_order.ByteOrder.TheVariants.{Big}
 use Rattle.insn_codec.specs.declared.comparison.Comparison.TheVariants.{Slt}
 use Rattle.insn_codec.specs.declared.extension.Extension.TheVariants.{From8To32}
-use Rattle.insn_codec.specs.declared.insn.Insn.TheVariants.{Alu, Neg, SignExtend, ByteSwap, Jump, JumpLong, Branch, Call, CallLocal, Exit, Load, LoadSigned, StoreImm, Store, LoadWide}
+use Rattle.insn_codec.specs.declared.insn.Insn.TheVariants.{Alu, Neg, SignExtend, ByteSwap, Jump, JumpLong, Branch, Call, CallLocal, Exit, Load, LoadSigned, StoreImm, Store, Atomic, LoadWide}
 use Rattle.insn_codec.specs.declared.operand.Operand.TheVariants.{Imm, Reg}
 use Rattle.insn_codec.specs.declared.register.Register.TheVariants.{R0, R1, R2, R3, R10}
 use Rattle.insn_codec.specs.declared.signed_size.SignedSize.TheVariants as signed
@@ -33,6 +34,9 @@ pub record RowsStand : Type 0 where
   pub load_signed : spelled (0x81 ∷ 0x21 ∷ 0x04 ∷ 0x00 ∷ 0x00 ∷ 0x00 ∷ 0x00 ∷ 0x00 ∷ []) ≡ Some (LoadSigned signed.W R1 R2 (pos 4))
   pub store_immediate : spelled (0x72 ∷ 0x0a ∷ 0xff ∷ 0xff ∷ 0x07 ∷ 0x00 ∷ 0x00 ∷ 0x00 ∷ []) ≡ Some (StoreImm size.B R10 (negsuc 0) (pos 7))
   pub store : spelled (0x6b ∷ 0x21 ∷ 0x02 ∷ 0x00 ∷ 0x00 ∷ 0x00 ∷ 0x00 ∷ 0x00 ∷ []) ≡ Some (Store size.H R1 (pos 2) R2)
+  pub atomic_add : spelled (0xdb ∷ 0x21 ∷ 0x00 ∷ 0x00 ∷ 0x00 ∷ 0x00 ∷ 0x00 ∷ 0x00 ∷ []) ≡ Some (Atomic atomic.Add W64 R1 (pos 0) R2)
+  pub atomic_fetch_add : spelled (0xdb ∷ 0x1a ∷ 0xf8 ∷ 0xff ∷ 0x01 ∷ 0x00 ∷ 0x00 ∷ 0x00 ∷ []) ≡ Some (Atomic atomic.FetchAdd W64 R10 (negsuc 7) R1)
+  pub atomic_compare_exchange : spelled (0xc3 ∷ 0x1a ∷ 0xf8 ∷ 0xff ∷ 0xf1 ∷ 0x00 ∷ 0x00 ∷ 0x00 ∷ []) ≡ Some (Atomic atomic.CompareExchange W32 R10 (negsuc 7) R1)
   pub wide_load : spelled (0x18 ∷ 0x01 ∷ 0x00 ∷ 0x00 ∷ 0x88 ∷ 0x77 ∷ 0x66 ∷ 0x55 ∷ 0x00 ∷ 0x00 ∷ 0x00 ∷ 0x00 ∷ 0x44 ∷ 0x33 ∷ 0x22 ∷ 0x91 ∷ []) ≡ Some (LoadWide R1 0x9122334455667788)
   pub wide_load_cut : spelled (0x18 ∷ 0x01 ∷ 0x00 ∷ 0x00 ∷ 0x88 ∷ 0x77 ∷ 0x66 ∷ 0x55 ∷ []) ≡ None
   pub wide_load_with_register : spelled (0x18 ∷ 0x01 ∷ 0x00 ∷ 0x00 ∷ 0x88 ∷ 0x77 ∷ 0x66 ∷ 0x55 ∷ 0x00 ∷ 0x01 ∷ 0x00 ∷ 0x00 ∷ 0x44 ∷ 0x33 ∷ 0x22 ∷ 0x91 ∷ []) ≡ None
@@ -43,5 +47,6 @@ pub record RowsStand : Type 0 where
   pub byte_order_of_24_bits : spelled (0xd4 ∷ 0x01 ∷ 0x00 ∷ 0x00 ∷ 0x18 ∷ 0x00 ∷ 0x00 ∷ 0x00 ∷ []) ≡ None
   pub call_with_source_two : spelled (0x85 ∷ 0x20 ∷ 0x00 ∷ 0x00 ∷ 0x05 ∷ 0x00 ∷ 0x00 ∷ 0x00 ∷ []) ≡ None
   pub sign_extending_load_of_8_bytes : spelled (0x99 ∷ 0x21 ∷ 0x00 ∷ 0x00 ∷ 0x00 ∷ 0x00 ∷ 0x00 ∷ 0x00 ∷ []) ≡ None
-  pub atomic_operation : spelled (0xdb ∷ 0x21 ∷ 0x00 ∷ 0x00 ∷ 0x00 ∷ 0x00 ∷ 0x00 ∷ 0x00 ∷ []) ≡ None
+  pub no_such_atomic_operation : spelled (0xdb ∷ 0x1a ∷ 0xf8 ∷ 0xff ∷ 0xf0 ∷ 0x00 ∷ 0x00 ∷ 0x00 ∷ []) ≡ None
+  pub atomic_operation_on_2_bytes : spelled (0xcb ∷ 0x21 ∷ 0x00 ∷ 0x00 ∷ 0x00 ∷ 0x00 ∷ 0x00 ∷ 0x00 ∷ []) ≡ None
   pub packet_access : spelled (0x20 ∷ 0x00 ∷ 0x00 ∷ 0x00 ∷ 0x00 ∷ 0x00 ∷ 0x00 ∷ 0x00 ∷ []) ≡ None

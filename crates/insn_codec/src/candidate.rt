@@ -1,8 +1,9 @@
 //! Which instruction a slot's named fields say, before the others are looked at.
 ghost use Rattle.std.specs.Prelude.{◌≡◌};
-ghost use Rattle.insn_codec.specs.Candidate.{arithmetic_at, branch_at, candidate_at, jump_at, memory_at, wide_at};
+ghost use Rattle.insn_codec.specs.Candidate.{arithmetic_at, atomic_at, branch_at, candidate_at, jump_at, memory_at, wide_at};
 
 use crate::alu_op::AluOp;
+use crate::atomic_op::AtomicOp;
 use crate::byte_order::ByteOrder;
 use crate::comparison::Comparison;
 use crate::extension::Extension;
@@ -140,6 +141,7 @@ fn memory(slot: Slot) -> Option<Insn>
             offset,
             imm: slot.imm,
         }),
+        3 if slot.opcode / 32 == 6 => atomic(slot, dst, src),
         3 => Some(Insn::Store {
             size: Size::of(code)?,
             dst,
@@ -148,4 +150,19 @@ fn memory(slot: Slot) -> Option<Insn>
         }),
         _ => None,
     }
+}
+
+#[tactic(auto, unfolding(crate::specs::Candidate::atomic_at))]
+fn atomic(slot: Slot, dst: Register, src: Register) -> Option<Insn>
+    ensures { result ≡ atomic_at slot dst src }
+{
+    let width = Width::of_atomic(slot.opcode)?;
+    let op = AtomicOp::of(slot.imm)?;
+    Some(Insn::Atomic {
+        op,
+        width,
+        dst,
+        offset: slot.offset,
+        src,
+    })
 }

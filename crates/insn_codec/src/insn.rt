@@ -3,6 +3,7 @@ ghost use Rattle.insn_codec.specs.Lines.{line_text, mnemonic_of};
 
 use crate::address_text::AddressText;
 use crate::alu_op::AluOp;
+use crate::atomic_op::AtomicOp;
 use crate::byte_order::ByteOrder;
 use crate::comparison::Comparison;
 use crate::extension::Extension;
@@ -100,6 +101,14 @@ pub enum Insn {
         offset: i16,
         src: Register,
     },
+    /// A word at dst + offset that is read and written in one step, with a register (section 5.3).
+    Atomic {
+        op: AtomicOp,
+        width: Width,
+        dst: Register,
+        offset: i16,
+        src: Register,
+    },
     /// A constant of 64 bits, in two slots (section 5.4).
     LoadWide {
         dst: Register,
@@ -162,6 +171,7 @@ impl Insn {
             Insn::LoadSigned { size, .. } => 0x81 + 8 * size.code(),
             Insn::StoreImm { size, .. } => 0x62 + 8 * size.code(),
             Insn::Store { size, .. } => 0x63 + 8 * size.code(),
+            Insn::Atomic { width, .. } => width.atomic_opcode(),
             Insn::LoadWide { .. } => 0x18,
         }
     }
@@ -180,6 +190,7 @@ impl Insn {
             | Insn::LoadSigned { dst, .. }
             | Insn::StoreImm { dst, .. }
             | Insn::Store { dst, .. }
+            | Insn::Atomic { dst, .. }
             | Insn::LoadWide { dst, .. } => dst.number(),
             _ => 0,
         }
@@ -194,7 +205,8 @@ impl Insn {
             Insn::SignExtend { src, .. }
             | Insn::Load { src, .. }
             | Insn::LoadSigned { src, .. }
-            | Insn::Store { src, .. } => src.number(),
+            | Insn::Store { src, .. }
+            | Insn::Atomic { src, .. } => src.number(),
             Insn::CallLocal { .. } => 1,
             _ => 0,
         }
@@ -212,7 +224,8 @@ impl Insn {
             | Insn::Load { offset, .. }
             | Insn::LoadSigned { offset, .. }
             | Insn::StoreImm { offset, .. }
-            | Insn::Store { offset, .. } => offset,
+            | Insn::Store { offset, .. }
+            | Insn::Atomic { offset, .. } => offset,
             _ => 0,
         }
     }
@@ -227,6 +240,7 @@ impl Insn {
             Insn::JumpLong { offset } | Insn::CallLocal { offset } => offset,
             Insn::Call { helper } => helper,
             Insn::StoreImm { imm, .. } => imm,
+            Insn::Atomic { op, .. } => op.code(),
             Insn::LoadWide { value, .. } => ((value % 0x1_0000_0000) as u32).cast_signed(),
             _ => 0,
         }
@@ -255,6 +269,7 @@ impl Insn {
             Insn::LoadSigned { size, .. } => Mnemonic::LoadSigned(size),
             Insn::StoreImm { size, .. } => Mnemonic::StoreImm(size),
             Insn::Store { size, .. } => Mnemonic::Store(size),
+            Insn::Atomic { op, width, .. } => Mnemonic::Atomic(op, width),
             Insn::LoadWide { .. } => Mnemonic::LoadWide,
         }
     }
@@ -330,6 +345,15 @@ impl fmt::Display for Insn {
                 write!(f, "{mnemonic} [{address}], {imm}")
             }
             Insn::Store {
+                dst,
+                offset,
+                src,
+                ..
+            } => {
+                let address = AddressText::of(dst, offset);
+                write!(f, "{mnemonic} [{address}], {src}")
+            }
+            Insn::Atomic {
                 dst,
                 offset,
                 src,

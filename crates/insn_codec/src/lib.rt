@@ -3,6 +3,7 @@
 
 mod address_text;
 mod alu_op;
+mod atomic_op;
 mod byte_order;
 mod candidate;
 mod codec;
@@ -28,6 +29,7 @@ mod wide_text;
 mod width;
 
 pub use alu_op::AluOp;
+pub use atomic_op::AtomicOp;
 pub use byte_order::ByteOrder;
 pub use codec::{decode, encode, round_trip};
 pub use comparison::Comparison;

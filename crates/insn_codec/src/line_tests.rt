@@ -1,12 +1,12 @@
 //! Lines that were written by hand.
 use crate::{
-    AluOp, Comparison, Insn, Operand, Register, SignedSize, Size, Statement, Width, no_line_feed,
-    statement_is_spelled,
+    AluOp, AtomicOp, Comparison, Insn, Operand, Register, SignedSize, Size, Statement, Width,
+    no_line_feed, statement_is_spelled,
 };
 use std::test::Fail;
 
 /// Statements, how many slots each has, and its line.
-const LINES: [(Statement, u64, &str); 8] = [
+const LINES: [(Statement, u64, &str); 10] = [
     (
         Statement::Insn(Insn::Alu {
             op: AluOp::Mov,
@@ -48,6 +48,28 @@ const LINES: [(Statement, u64, &str); 8] = [
         }),
         1,
         "stdw [r5+32767], 0",
+    ),
+    (
+        Statement::Insn(Insn::Atomic {
+            op: AtomicOp::FetchAdd,
+            width: Width::W64,
+            dst: Register::R10,
+            offset: -8,
+            src: Register::R1,
+        }),
+        1,
+        "atomic_fetch_add64 [r10-8], r1",
+    ),
+    (
+        Statement::Insn(Insn::Atomic {
+            op: AtomicOp::CompareExchange,
+            width: Width::W32,
+            dst: Register::R2,
+            offset: 0,
+            src: Register::R3,
+        }),
+        1,
+        "atomic_cmpxchg32 [r2+0], r3",
     ),
     (
         Statement::Insn(Insn::LoadWide {

@@ -2,6 +2,7 @@ ghost use Rattle.std.specs.Prelude.{Some};
 ghost use Rattle.insn_codec.specs.Mnemonics.{mnemonic_text};
 
 use crate::alu_op::AluOp;
+use crate::atomic_op::AtomicOp;
 use crate::byte_order::ByteOrder;
 use crate::comparison::Comparison;
 use crate::extension::Extension;
@@ -42,6 +43,8 @@ pub enum Mnemonic {
     StoreImm(Size),
     /// A store of a register, as `stxb`.
     Store(Size),
+    /// An atomic operation on memory, as `atomic_fetch_add64`.
+    Atomic(AtomicOp, Width),
     /// A load of 64 bits that the program holds, `lddw`.
     LoadWide,
     /// A slot by its bytes, `.slot`.
@@ -67,6 +70,7 @@ impl fmt::Display for Mnemonic {
             Mnemonic::LoadSigned(size) => write!(f, "ldxs{size}"),
             Mnemonic::StoreImm(size) => write!(f, "st{size}"),
             Mnemonic::Store(size) => write!(f, "stx{size}"),
+            Mnemonic::Atomic(op, width) => write!(f, "atomic_{op}{width}"),
             Mnemonic::LoadWide => write!(f, "lddw"),
             Mnemonic::Slot => write!(f, ".slot"),
         }

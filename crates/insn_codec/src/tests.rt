@@ -1,6 +1,6 @@
 use crate::{
-    AluOp, ByteOrder, Comparison, Extension, Insn, Operand, Register, SignedSize, Size, SwapWidth,
-    Width, decode, encode, one_reading, round_trip, rows_stand, slots_are_filled,
+    AluOp, AtomicOp, ByteOrder, Comparison, Extension, Insn, Operand, Register, SignedSize, Size,
+    SwapWidth, Width, decode, encode, one_reading, round_trip, rows_stand, slots_are_filled,
     spelled_is_spelling,
 };
 use Register::{R0, R1, R2, R3, R9, R10};
@@ -244,6 +244,38 @@ fn loads_and_stores(rt: HostRuntime) {
     }
 }
 
+/// The codes of atomic operations, in the imm field.
+#[test]
+fn atomic_instructions(rt: HostRuntime) {
+    let rows = [
+        (0x00, AtomicOp::Add),
+        (0x40, AtomicOp::Or),
+        (0x50, AtomicOp::And),
+        (0xa0, AtomicOp::Xor),
+        (0x01, AtomicOp::FetchAdd),
+        (0x41, AtomicOp::FetchOr),
+        (0x51, AtomicOp::FetchAnd),
+        (0xa1, AtomicOp::FetchXor),
+        (0xe1, AtomicOp::Exchange),
+        (0xf1, AtomicOp::CompareExchange),
+    ];
+    for (code, op) in rows {
+        for (opcode, width) in [(0xc3, Width::W32), (0xdb, Width::W64)] {
+            check(
+                &rt,
+                [opcode, 0x1a, 0xf8, 0xff, code, 0, 0, 0],
+                Insn::Atomic {
+                    op,
+                    width,
+                    dst: R10,
+                    offset: -8,
+                    src: R1,
+                },
+            );
+        }
+    }
+}
+
 #[test]
 fn wide_loads(rt: HostRuntime) {
     let rows = [
@@ -315,7 +347,10 @@ fn nothing_is_spelled(rt: HostRuntime) {
         [0x99, 0x21, 0, 0, 0, 0, 0, 0],
         [0x61, 0x21, 0, 0, 1, 0, 0, 0],
         [0x72, 0x21, 0, 0, 1, 0, 0, 0],
-        [0xdb, 0x21, 0, 0, 0, 0, 0, 0],
+        [0xdb, 0x1a, 0xf8, 0xff, 0xf0, 0, 0, 0],
+        [0xdb, 0x21, 0, 0, 0, 1, 0, 0],
+        [0xcb, 0x21, 0, 0, 0, 0, 0, 0],
+        [0xd3, 0x21, 0, 0, 0, 0, 0, 0],
         [0x20, 0, 0, 0, 0, 0, 0, 0],
         [0x00, 0, 0, 0, 0, 0, 0, 0],
         [0x18, 0x10, 0, 0, 0, 0, 0, 0],

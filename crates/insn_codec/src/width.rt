@@ -13,7 +13,7 @@ pub enum Width {
 }
 
 impl Width {
-    ghost use Rattle.insn_codec.specs.Codes.{alu_class, jump_class};
+    ghost use Rattle.insn_codec.specs.Codes.{alu_class, atomic_opcode, atomic_width, jump_class};
 
     /// The class of arithmetic at this width, the opcode's low three bits (RFC 9669, section 3).
     pub(crate) fn alu_class(self) -> u8
@@ -32,6 +32,27 @@ impl Width {
         match self {
             Width::W32 => 6,
             Width::W64 => 5,
+        }
+    }
+
+    /// The width that the opcode of an atomic instruction says, if it is one (RFC 9669, section 5.3).
+    pub(crate) fn of_atomic(opcode: u8) -> Option<Width>
+        ensures { result ≡ atomic_width opcode }
+    {
+        match opcode {
+            0xc3 => Some(Width::W32),
+            0xdb => Some(Width::W64),
+            _ => None,
+        }
+    }
+
+    /// The opcode of atomic instructions at this width (RFC 9669, section 5.3).
+    pub(crate) fn atomic_opcode(self) -> u8
+        ensures { result ≡ atomic_opcode self }
+    {
+        match self {
+            Width::W32 => 0xc3,
+            Width::W64 => 0xdb,
         }
     }
 }

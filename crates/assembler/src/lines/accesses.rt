@@ -7,7 +7,7 @@ use crate::lines::line_error::LineError;
 use crate::text::ranges::{long, short};
 use crate::text::shapes::{place_number, place_register, register_place, register_word};
 use crate::text::words::wide;
-use insn_codec::{Insn, SignedSize, Size, Statement};
+use insn_codec::{AtomicOp, Insn, SignedSize, Size, Statement, Width};
 
 /// A load.
 pub(crate) fn load(size: Size, text: &str) -> Result<Line<'_>, LineError>
@@ -78,6 +78,25 @@ pub(crate) fn store(size: Size, text: &str) -> Result<Line<'_>, LineError>
     };
     Ok(Line::Statement(Statement::Insn(Insn::Store {
         size,
+        dst,
+        offset,
+        src,
+    })))
+}
+
+/// An atomic operation on memory.
+pub(crate) fn atomic(op: AtomicOp, width: Width, text: &str) -> Result<Line<'_>, LineError>
+    ensures { ReadsOperands (mnemonic.Atomic op width) text.now result }
+{
+    let Some((dst, distance, src)) = place_register(text) else {
+        return Err(LineError::NoForm);
+    };
+    let Some(offset) = short(distance) else {
+        return Err(LineError::OutOfRange);
+    };
+    Ok(Line::Statement(Statement::Insn(Insn::Atomic {
+        op,
+        width,
         dst,
         offset,
         src,

@@ -1,19 +1,20 @@
 //! Mnemonics by their texts.
 ghost use Rattle.std.specs.Prelude.{◌≡◌, ◌++◌, ℕ, List, codes, MatchOption};
-ghost use Rattle.insn_codec.specs.Mnemonics.{alu_text, comparison_text, extension_text, mnemonic_text, signed_size_text, size_text, swap_text, width_text};
+ghost use Rattle.insn_codec.specs.Mnemonics.{alu_text, atomic_text, comparison_text, extension_text, mnemonic_text, signed_size_text, size_text, swap_text, width_text};
 ghost use Rattle.insn_codec.specs.declared.alu_op.AluOp.{AluOp};
+ghost use Rattle.insn_codec.specs.declared.atomic_op.AtomicOp.{AtomicOp};
 ghost use Rattle.insn_codec.specs.declared.comparison.Comparison.{Comparison};
 ghost use Rattle.insn_codec.specs.declared.extension.Extension.{Extension};
 ghost use Rattle.insn_codec.specs.declared.signed_size.SignedSize.{SignedSize};
 ghost use Rattle.insn_codec.specs.declared.size.Size.{Size};
 ghost use Rattle.insn_codec.specs.declared.swap_width.SwapWidth.{SwapWidth};
 ghost use Rattle.insn_codec.specs.declared.width.Width.{Width};
-ghost use Rattle.assembler.specs.Mnemonics.{IsConversion, IsFixed, IsOfWidth, IsTransfer};
+ghost use Rattle.assembler.specs.Mnemonics.{IsAtomic, IsConversion, IsFixed, IsOfWidth, IsTransfer};
 ghost use Rattle.insn_codec.specs.declared.mnemonic.Mnemonic.{Mnemonic};
 
 use crate::text::affixes::{after, before};
 use insn_codec::{
-    AluOp, ByteOrder, Comparison, Extension, Mnemonic, SignedSize, Size, SwapWidth, Width,
+    AluOp, AtomicOp, ByteOrder, Comparison, Extension, Mnemonic, SignedSize, Size, SwapWidth, Width,
 };
 
 /// The mnemonic of this text.
@@ -27,6 +28,9 @@ pub(crate) fn mnemonic_of(word: &str) -> Option<Mnemonic>
         return Some(found);
     }
     if let Some(found) = conversion(word) {
+        return Some(found);
+    }
+    if let Some(found) = atomic(word) {
         return Some(found);
     }
     of_width(word)
@@ -77,6 +81,31 @@ fn conversion(word: &str) -> Option<Mnemonic>
     }
     let width = swapped(word, "swap")?;
     Some(Mnemonic::ByteSwap(ByteOrder::Swap, width))
+}
+
+fn atomic(word: &str) -> Option<Mnemonic>
+    ensures { MatchOption result ((m : Mnemonic) → IsAtomic m → word.now ≡ mnemonic_text m → ⊥) (λ m. word.now ≡ mnemonic_text m) }
+{
+    let Some(text) = after(word, "atomic_") else {
+        return None;
+    };
+    let Some((op, width)) = atomic_of_width(text) else {
+        return None;
+    };
+    Some(Mnemonic::Atomic(op, width))
+}
+
+/// An atomic operation, and its width.
+fn atomic_of_width(text: &str) -> Option<(AtomicOp, Width)>
+    ensures { MatchOption result ((op : AtomicOp) (width : Width) → text.now ≡ atomic_text op ++ width_text width → ⊥) (λ x. text.now ≡ atomic_text x.0 ++ width_text x.1) }
+{
+    let Some((name, width)) = split_width(text) else {
+        return None;
+    };
+    let Some(op) = atomic_op(name) else {
+        return None;
+    };
+    Some((op, width))
 }
 
 fn of_width(word: &str) -> Option<Mnemonic>
@@ -154,6 +183,24 @@ fn alu_op(name: &str) -> Option<AluOp>
         "xor" => Some(AluOp::Xor),
         "mov" => Some(AluOp::Mov),
         "arsh" => Some(AluOp::Arsh),
+        _ => None,
+    }
+}
+
+fn atomic_op(name: &str) -> Option<AtomicOp>
+    ensures { MatchOption result ((op : AtomicOp) → name.now ≡ atomic_text op → ⊥) (λ op. name.now ≡ atomic_text op) }
+{
+    match name {
+        "add" => Some(AtomicOp::Add),
+        "or" => Some(AtomicOp::Or),
+        "and" => Some(AtomicOp::And),
+        "xor" => Some(AtomicOp::Xor),
+        "fetch_add" => Some(AtomicOp::FetchAdd),
+        "fetch_or" => Some(AtomicOp::FetchOr),
+        "fetch_and" => Some(AtomicOp::FetchAnd),
+        "fetch_xor" => Some(AtomicOp::FetchXor),
+        "xchg" => Some(AtomicOp::Exchange),
+        "cmpxchg" => Some(AtomicOp::CompareExchange),
         _ => None,
     }
 }

@@ -3,7 +3,7 @@ ghost use Rattle.std.specs.Prelude.{◌++◌, ◌∷◌, []};
 ghost use Rattle.assembler.specs.Forms.{ReadsOperands};
 ghost use Rattle.assembler.specs.LineAnswers.{ReadsAs};
 
-use crate::lines::accesses::{load, load_signed, load_wide, slot, store, store_imm};
+use crate::lines::accesses::{atomic, load, load_signed, load_wide, slot, store, store_imm};
 use crate::lines::arithmetic::{alu, byte_swap, neg, sign_extend};
 use crate::lines::jump::Jump;
 use crate::lines::jumps::{branch, call, jump};
@@ -62,6 +62,7 @@ fn read_operands(mnemonic: Mnemonic, text: &str) -> Result<Line<'_>, LineError>
         Mnemonic::LoadSigned(size) => load_signed(size, text),
         Mnemonic::StoreImm(size) => store_imm(size, text),
         Mnemonic::Store(size) => store(size, text),
+        Mnemonic::Atomic(op, width) => atomic(op, width, text),
         Mnemonic::LoadWide => load_wide(text),
         Mnemonic::Slot => slot(text),
     }

@@ -3,7 +3,7 @@ use super::{around, refusal_of};
 use std::test::Fail;
 
 /// Lines of no form.
-const FORMLESS: [&str; 56] = [
+const FORMLESS: [&str; 62] = [
     ":",
     "9a:",
     "a b:",
@@ -58,12 +58,18 @@ const FORMLESS: [&str; 56] = [
     "lddw r0, 5",
     "lddw r0, 0x0000000G00000000",
     "lddw r0, 0x0000000A00000000",
+    "atomic_add16 [r1+0], r2",
+    "atomic_sub64 [r1+0], r2",
+    "atomic_fetch_xchg64 [r1+0], r2",
+    "atomic_add64 [r1], r2",
+    "atomic_add64 [r1+0], 5",
+    "atomic_add64 r1, [r2+0]",
     ".slot 0x12",
     ".slot 0x00000000000000001",
 ];
 
 /// Lines with a number out of its range.
-const OUT_OF_RANGE: [&str; 15] = [
+const OUT_OF_RANGE: [&str; 16] = [
     "mov64 r0, 2147483648",
     "mov64 r0, -2147483649",
     "mov64 r0, 100000000000000000000000000000000000000000000000000000000000000000000",
@@ -79,6 +85,7 @@ const OUT_OF_RANGE: [&str; 15] = [
     "stb [r1+32768], 0",
     "stb [r1+1], 2147483648",
     "stxb [r1+32768], r2",
+    "atomic_add64 [r1-32769], r2",
 ];
 
 /// Texts with the number and the line of the first reason.

@@ -1,15 +1,23 @@
-use Rattle.std.proofs.Common.{◌∷◌, ◌++◌, Some, lit<, sym, ◌∙◌, ap}
+use Rattle.std.proofs.Common.{◌∷◌, ◌++◌, Some, None, lit<, sym, ◌∙◌, ap}
 use Rattle.std.proofs.lemmas.Slice.Eq.{bytes_eq-Decides}
-use Rattle.std.proofs.lemmas.Str.Pattern.{split_parts}
+use Rattle.std.proofs.lemmas.Str.Pattern.{split_parts, strip_suffix_char}
+use Rattle.std.specs.Prelude.{codes}
+use Rattle.assembler.proofs.Ends.{differ}
 use Rattle.assembler.proofs.Lacking.{lacks_from}
 use Rattle.assembler.proofs.LineReads.{reads_line}
-use Rattle.assembler.proofs.Whole.{code_only, exit_only}
+use Rattle.assembler.proofs.Whole.{code_only, exit_only, nothing_only}
 use Rattle.assembler.proofs.lines.reading.read_line.Goals as goal
 
 pub returns-then-eq : goal.returns-then-eq
 returns-then-eq c =
     let same = (bytes_eq-Decides c.args.line.now _).0 (sym c.eq.ensures ∙ c.if-eq.true) in
     record { reads = ((same, tt, tt), λ i h e. exit_only i h (sym same ∙ e)) }
+
+pub returns-in_default-split_once : goal.returns-in_default-split_once
+returns-in_default-split_once c =
+    let space = lacks_from 32 c.args.line.now (split_parts 32 c.args.line.now None c.in_default-split_once.ensures.cases (lit< tt)) in
+    let other = differ c.args.line.now (codes "exit") c.eq.result c.eq.ensures c.if-eq.false in
+    record { reads = nothing_only c.args.line.now space other (strip_suffix_char 58 c.args.line.now None c.in_default.ensures.cases (lit< tt)) }
 
 pub returns-in_default-mnemonic_of : goal.returns-in_default-mnemonic_of
 returns-in_default-mnemonic_of c =

@@ -1,0 +1,56 @@
+//! Lines of atomic instructions and their slots, worked out by hand from the table of operations.
+use super::{line_of, slots_of, word_of};
+use std::test::Fail;
+
+/// A line of each operation at each width, with its slot's bytes in the order of storage.
+const ROWS: [(&str, u64); 20] = [
+    ("atomic_add32 [r1+4], r2", 0xc321_0400_0000_0000),
+    ("atomic_add64 [r10-8], r1", 0xdb1a_f8ff_0000_0000),
+    ("atomic_or32 [r1+4], r2", 0xc321_0400_4000_0000),
+    ("atomic_or64 [r10-8], r1", 0xdb1a_f8ff_4000_0000),
+    ("atomic_and32 [r1+4], r2", 0xc321_0400_5000_0000),
+    ("atomic_and64 [r10-8], r1", 0xdb1a_f8ff_5000_0000),
+    ("atomic_xor32 [r1+4], r2", 0xc321_0400_a000_0000),
+    ("atomic_xor64 [r10-8], r1", 0xdb1a_f8ff_a000_0000),
+    ("atomic_fetch_add32 [r1+4], r2", 0xc321_0400_0100_0000),
+    ("atomic_fetch_add64 [r10-8], r1", 0xdb1a_f8ff_0100_0000),
+    ("atomic_fetch_or32 [r1+4], r2", 0xc321_0400_4100_0000),
+    ("atomic_fetch_or64 [r10-8], r1", 0xdb1a_f8ff_4100_0000),
+    ("atomic_fetch_and32 [r1+4], r2", 0xc321_0400_5100_0000),
+    ("atomic_fetch_and64 [r10-8], r1", 0xdb1a_f8ff_5100_0000),
+    ("atomic_fetch_xor32 [r1+4], r2", 0xc321_0400_a100_0000),
+    ("atomic_fetch_xor64 [r10-8], r1", 0xdb1a_f8ff_a100_0000),
+    ("atomic_xchg32 [r1+4], r2", 0xc321_0400_e100_0000),
+    ("atomic_xchg64 [r10-8], r1", 0xdb1a_f8ff_e100_0000),
+    ("atomic_cmpxchg32 [r1+4], r2", 0xc321_0400_f100_0000),
+    ("atomic_cmpxchg64 [r10-8], r1", 0xdb1a_f8ff_f100_0000),
+];
+
+#[test]
+fn each_line_has_its_slot(rt: HostRuntime) {
+    for (line, slot) in ROWS.iter() {
+        assert_eq!(rt; word_of(rt.alloc(), line), Some(*slot), "{line}");
+    }
+}
+
+#[test]
+fn each_slot_has_its_line(rt: HostRuntime) -> Result<(), Fail> {
+    for (line, slot) in ROWS.iter() {
+        assert_eq!(rt; line_of(rt.alloc(), *slot)?.as_str(), *line);
+    }
+    Ok(())
+}
+
+/// Slots that listings of before have as slots, whether they spell an instruction by now or not.
+#[test]
+fn slots_keep_their_bytes(rt: HostRuntime) -> Result<(), Fail> {
+    let text = ".slot 0xdb21000000000000\n.slot 0xdb1af8ff01000000\n.slot 0xdb1af8fff0000000\n";
+    let slots = slots_of(rt.alloc(), text)?;
+    let expected = [
+        0xdb21_0000_0000_0000,
+        0xdb1a_f8ff_0100_0000,
+        0xdb1a_f8ff_f000_0000,
+    ];
+    assert_eq!(rt; slots.as_slice(), &expected);
+    Ok(())
+}
