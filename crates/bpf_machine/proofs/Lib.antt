@@ -2,4 +2,5 @@ pub mod Decoded
 pub mod Nulls
 pub mod Registers
 pub mod Spellings
+pub mod Starts
 pub mod States

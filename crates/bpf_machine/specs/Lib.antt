@@ -9,6 +9,7 @@ pub mod Access
 pub mod Step
 pub mod Trace
 pub mod States
+pub mod Starts
 pub mod Laws
 pub mod Text
 pub mod Inside

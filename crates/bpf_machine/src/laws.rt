@@ -1,6 +1,7 @@
 //! Laws of the machine, each the clause of a function that does nothing.
 ghost use Rattle.bpf_machine.specs.Decoding.{DecodesSpelling};
 ghost use Rattle.bpf_machine.specs.Rows.{RowsStand};
+ghost use Rattle.bpf_machine.specs.Starts.{StartsAreTables};
 ghost use Rattle.bpf_machine.specs.States.{StatesAreKept, StepsAreRows};
 ghost use Rattle.bpf_machine.specs.Trace.{StopsOnce};
 
@@ -44,3 +45,8 @@ pub fn states_are_kept()
     tables_are_kept();
     start_is_zero();
 }
+
+/// Five roots that are not refused start with a table.
+pub fn starts_are_tables()
+    ensures { StartsAreTables }
+{}

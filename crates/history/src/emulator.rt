@@ -30,7 +30,7 @@ pub trait Emulator: Drop {
         ensures err { OnErr result (state self.new ≡ state self.old) };
 
     /// `n` steps, of which those after a stopped state change nothing. Where a growth is refused,
-    /// the machine stands where it was.
+    /// the machine stands in the last state that it reached, whose step takes memory.
     fn run(&mut self, n: u64) -> Result<(), AllocError>
         ensures ok { OnOk result (state self.new ≡ state_after n (state self.old)) }
         ensures err { OnErr result (IsReached (state self.old) n (state self.new)) };
