@@ -1,13 +1,13 @@
 -- What stands after a plan was followed.
 use Rattle.std.proofs.Common.{◌≡◌, ◌+◌, ◌<◌, ◌≤◌, ℕ, List, Option, Some, None, Bool, true, false, ◌&&◌, refl, sym, ap, ◌∙◌, arith}
-use Rattle.std.proofs.lemmas.Bool.{le-leb, leb-true}
+use Rattle.std.proofs.lemmas.Bool.{and_from, le-leb, leb-true}
 use Rattle.std.specs.Prelude.{Result, Ok, Err, IfSome, is_some, nat_le, if◌then◌else◌}
 use Rattle.std.specs.declared.alloc.AllocError.{AllocError}
 use Rattle.guest_memory.specs.declared.fault.Fault.TheVariants.{F8}
 use Rattle.value_store.specs.Calls.{Places}
 use Rattle.value_store.specs.Placing.{charge_limit}
 use Rattle.value_store.specs.Value.{Value, ValueOrError}
-use Rattle.helper_table.specs.Outcome.{Outcome, Plain, Named, Refused, named, is_named, is_left, answer_among, charged, CallEnd, Leaves, Halts}
+use Rattle.helper_table.specs.Outcome.{Outcome, Plain, Named, Refused, named, needs_room, is_left, answer_among, charged, CallEnd, Leaves, Halts}
 use Rattle.helper_table.specs.Plans.{outcome_by, Does}
 use Rattle.helper_table.specs.declared.action.Action.{Action}
 use Rattle.helper_table.specs.declared.action.Action.TheVariants as action
@@ -76,10 +76,10 @@ module _ (old new : List ValueOrError) (charge added : ℕ) where
   -- no memory
   pub kept : (o : Outcome) (e : AllocError) → Adds o added → Does o (Err e) old new → new ≡ old
   kept (Plain w a) e same does = absurd does
-  kept (Named v a) e same does = does
+  kept (Named v a) e same does = does.1
   kept (Refused f) e same does = absurd same
 
-  pub takes : (o : Outcome) (e : AllocError) → Adds o added → Does o (Err e) old new → charge + (1 + added) ≤ charge_limit → (is_named o && is_left (charged (answer_among old o) charge)) ≡ true
+  pub takes : (o : Outcome) (e : AllocError) → Adds o added → Does o (Err e) old new → charge + (1 + added) ≤ charge_limit → (needs_room o && is_left (charged (answer_among old o) charge)) ≡ true
   takes (Plain w a) e same does within = absurd does
-  takes (Named v a) e same does within = ap is_left (leaves _ _ (fits a same within))
+  takes (Named v a) e same does within = and_from _ _ does.0 (ap is_left (leaves _ _ (fits a same within)))
   takes (Refused f) e same does within = absurd same

@@ -1,9 +1,9 @@
 -- What placing a value leaves.
 use Rattle.std.proofs.Common.{◌≡◌, ℕ, zero, suc, true, false, List, [], ◌∷◌, ◌++◌, length, refl, ap, subst, ◌⊎◌, inl, inr, ⊎_elim, arith, length-append}
 use Rattle.std.specs.Prelude.{slice_get}
-use Rattle.value_store.specs.Placing.{first_values, place, placed}
+use Rattle.value_store.specs.Placing.{first_values, place, placed, IsCanonicalAt}
 use Rattle.value_store.specs.Value.{Value, null, boolean, int, text, list, map, ValueOrError, value}
-use Rattle.helper_table.specs.Laws.{Names, IsCanonicalAt, Extends, PlacedIsNamed, PlacedExtends}
+use Rattle.helper_table.specs.Laws.{Names, Extends, PlacedIsNamed, PlacedExtends}
 
 seam : (vs : List ValueOrError) (x : ValueOrError) → Names (vs ++ x ∷ []) (length vs) x
 seam [] x = refl

@@ -2,13 +2,13 @@
 use Rattle.std.specs.Prelude.{◌≡◌, ◌&&◌, Bool, Result, Ok, Err}
 use Rattle.std.specs.declared.alloc.AllocError.{AllocError}
 use Rattle.value_store.specs.Placing.{Contents}
-use Rattle.helper_table.specs.Outcome.{Outcome, CallEnd, Leaves, Halts, is_named, is_left, answer_among, charged}
+use Rattle.helper_table.specs.Outcome.{Outcome, CallEnd, Leaves, Halts, needs_room, is_left, answer_among, charged}
 use Rattle.helper_table.specs.declared.helper_end.HelperEnd.{HelperEnd}
 use Rattle.helper_table.specs.declared.helper_end.HelperEnd.TheVariants.{Word, Stop}
 
--- a call may be refused memory where its row places a value and it is not stopped
+-- a call may be refused memory where its row puts a value behind the last and it is not stopped
 abbrev pub takes_memory : Outcome → Contents → Bool
-takes_memory o old = is_named o && is_left (charged (answer_among old.values o) old.charge)
+takes_memory o old = needs_room o && is_left (charged (answer_among old.values o) old.charge)
 
 -- the answer to a call is the one that is due, and the store after it too; or the host had no memory, and
 -- nothing is changed

@@ -1,7 +1,7 @@
 -- What every call keeps.
 use Rattle.std.specs.Prelude.{◌≡◌, ◌+◌, ◌≤◌, ℕ, ℤ, Bool, true, false, List, length, Some, slice_get}
-use Rattle.value_store.specs.Placing.{Contents, IsStore, place, placed}
-use Rattle.value_store.specs.Value.{Value, boolean, ValueOrError, error, value}
+use Rattle.value_store.specs.Placing.{Contents, IsStore, AreCanonical, place, placed}
+use Rattle.value_store.specs.Value.{Value, ValueOrError, value}
 use Rattle.helper_table.specs.Calls.{outcome_of, row_of, call_end, helper_row}
 use Rattle.helper_table.specs.Outcome.{Named, Gives, Leaves, is_named}
 use Rattle.helper_table.specs.declared.helper.Helper.{Helper}
@@ -10,16 +10,6 @@ use Rattle.helper_table.specs.declared.helper.Helper.TheVariants as helper
 -- a reference names what stands at it
 abbrev pub Names : List ValueOrError → ℕ → ValueOrError → Type 0
 Names vs h x = slice_get vs h ≡ Some x
-
--- the error and the truths have one reference each
-abbrev pub IsCanonicalAt : ValueOrError → ℕ → Type 0
-IsCanonicalAt error h = h ≡ 0
-IsCanonicalAt (value (boolean false)) h = h ≡ 2
-IsCanonicalAt (value (boolean true)) h = h ≡ 3
-IsCanonicalAt _ h = Unit {0}
-
-abbrev pub AreCanonical : List ValueOrError → Type 0
-AreCanonical vs = (h : ℕ) (x : ValueOrError) → Names vs h x → IsCanonicalAt x h
 
 -- values after others: old references name what they named, and at most one is new
 pub record Extends (old new : List ValueOrError) : Type 0 where

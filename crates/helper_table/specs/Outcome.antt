@@ -2,7 +2,7 @@
 use Rattle.std.specs.Prelude.{ℕ, ◌+◌, Bool, true, false, List, Option, Some, None, nat_le, if◌then◌else◌}
 use Rattle.guest_memory.specs.declared.fault.Fault as fault
 use Rattle.guest_memory.specs.declared.fault.Fault.TheVariants.{F8}
-use Rattle.value_store.specs.Placing.{Contents, charge_limit, place, placed}
+use Rattle.value_store.specs.Placing.{Contents, charge_limit, is_appended, place, placed}
 use Rattle.value_store.specs.Value.{Value, ValueOrError}
 
 -- what a row says of its operands: a word, or a value whose reference is the word, with what is added to
@@ -54,6 +54,12 @@ abbrev pub is_named : Outcome → Bool
 is_named (Named v added) = true
 is_named (Plain word added) = false
 is_named (Refused f) = false
+
+-- the row asks for a value that comes behind the last, and so for room; null, false and true stand already
+abbrev pub needs_room : Outcome → Bool
+needs_room (Named v added) = is_appended v
+needs_room (Plain word added) = false
+needs_room (Refused f) = false
 
 abbrev pub is_left : CallEnd → Bool
 is_left (Leaves word contents) = true

@@ -105,8 +105,9 @@ fn perform<V: ValueStore>(table: &mut V, plan: Plan<'_>) -> Result<HelperEnd, Al
 /// and the store is as before: `F5` for an unknown number, `F6` for a reference that is none, `F3` for a
 /// range that lies outside the constants, `F8` for a charge or a depth above its limit, in this order.
 ///
-/// The error says that the host has no memory for the value that is to be placed, and then the store is
-/// as before too. A call that stops, or that places nothing, asks for none.
+/// The error says that the host has no memory for a value that is to come behind the last, and then the
+/// store is as before too. A call that stops, or that answers a plain word or the reference of null, false
+/// or true, asks for none.
 pub fn call<V: ValueStore, M: Regions>(
     id: i32,
     args: [u64; 5],

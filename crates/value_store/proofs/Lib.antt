@@ -1,4 +1,7 @@
+pub mod Ascending
 pub mod Equal
+pub mod Keys
+pub mod Ordered
 pub mod Measures
 pub mod Orders
 pub mod Pairs

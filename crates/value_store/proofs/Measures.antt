@@ -1,6 +1,6 @@
 -- Sizes and depths of lists and maps, from those of their parts, over plain variables.
-use Rattle.std.proofs.Common.{◌≡◌, ◌<◌, ◌≤◌, ℕ, ◌+◌, ◌-◌, ◌^◌, List, length, Some, None, Bool, true, false, refl, ap, ◌∙◌, arith}
-use Rattle.std.specs.Prelude.{IsSome, max, min, if◌then◌else◌, ◌||◌}
+use Rattle.std.proofs.Common.{◌≡◌, ◌<◌, ◌≤◌, ℕ, ◌+◌, ◌-◌, ◌^◌, List, length, Option, Some, None, Bool, true, false, refl, sym, ap, subst, ◌∙◌, arith}
+use Rattle.std.specs.Prelude.{IsSome, OnSome, max, min, if◌then◌else◌, ◌||◌}
 use Rattle.serde_json.specs.Data as json
 use Rattle.value_store.specs.Size.{size_of, depth_of, items_size, items_depth, entries_size, entries_depth}
 use Rattle.value_store.specs.Roots.{has_other, items_have_other, members_have_other}
@@ -148,3 +148,7 @@ uncapped M p d e f = omega arith
 
 pub measured_depth : (d : json.Data) (p : Measure) → Some p ≡ measure_of d → depth_of (plain_value d) < 2 ^ 64 → p.depth ≡ depth_of (plain_value d)
 measured_depth d p e f = uncapped (2 ^ 64 - 1) p.depth (depth_of (plain_value d)) (ap (λ (m : Measure). m.depth) (part d p e).1) (omega arith)
+
+-- where there is no measure, nothing is claimed
+pub of_none : (P : Type 0) (o : Option Measure) → o ≡ None → OnSome o P
+of_none P o e = subst (λ p. OnSome p P) (sym e) tt

@@ -1,17 +1,18 @@
 -- What the calls of a store answer, from what stands at their references: nothing where a reference
 -- is none, or what stands there is of another kind.
-use Rattle.std.specs.Prelude.{◌≡◌, ℕ, Bool, List, [], ◌++◌, Option, Some, None, Result, Ok, Err, slice_get, option_map, option_and_then}
+use Rattle.std.specs.Prelude.{◌≡◌, ℕ, Bool, true, List, [], ◌++◌, Option, Some, None, Result, Ok, Err, slice_get, option_map, option_and_then}
 use Rattle.value_store.specs.Value.{Value, null, boolean, int, text, list, map, Entries, ValueOrError, error, value, list_of, keys_of, values_of, items_push, items_join}
 use Rattle.std.specs.declared.alloc.AllocError.{AllocError}
 use Rattle.value_store.specs.Equality.{equal}
 use Rattle.value_store.specs.Order.{less}
 use Rattle.value_store.specs.Lookup.{text_part, place_of_key, member, inserted}
-use Rattle.value_store.specs.Placing.{place, placed}
+use Rattle.value_store.specs.Placing.{is_appended, place, placed}
 
--- a value is placed, and the answer is its reference; or the host had no memory, and nothing is changed
+-- a value is placed, and the answer is its reference; or the host had no memory for one that comes behind
+-- the last, and nothing is changed
 abbrev pub Places : List ValueOrError → Value → Result ℕ AllocError → List ValueOrError → Type 0
 Places old v (Ok h) new = (h ≡ place old v) × (new ≡ placed old v)
-Places old v (Err e) new = new ≡ old
+Places old v (Err e) new = (is_appended v ≡ true) × (new ≡ old)
 
 abbrev pub value_part : ValueOrError → Option Value
 value_part error = None

@@ -1,10 +1,13 @@
 -- What is proved of values.
-use Rattle.std.specs.Prelude.{Decides, ◌≡◌, not, is_some, ℕ, List, option_and_then, slice_get, None, IsSome, Ok}
+use Rattle.std.specs.Prelude.{Decides, ◌≡◌, not, is_some, ℕ, List, Option, option_and_then, slice_get, None, IsSome, IfSome, Ok}
+use Rattle.std.specs.List.{AllByRecursion}
 use Rattle.serde_json.specs.Data as json
-use Rattle.value_store.specs.Value.{Value, Entries, values_of}
+use Rattle.value_store.specs.Value.{Value, Entries, ValueOrError, keys_of, values_of}
 use Rattle.value_store.specs.Equality.{equal}
-use Rattle.value_store.specs.Lookup.{find, place_of_key, inserted}
-use Rattle.value_store.specs.Placing.{Contents, IsStore}
+use Rattle.value_store.specs.Lookup.{find, has_key, place_of_key, inserted}
+use Rattle.value_store.specs.Keys.{Ascend, IsOrdered, IsResultOrdered, AreOrdered, IsDocumentOrdered}
+use Rattle.value_store.specs.Calls.{part_at, key_at, joined, pushed, put_in}
+use Rattle.value_store.specs.Placing.{Contents, IsStore, AreCanonical, placed}
 use Rattle.value_store.specs.Roots.{value_of, has_other, start_contents}
 
 -- deep equality is equality
@@ -26,3 +29,31 @@ AbsentKeyFits = (key : List ℕ) (x : Value) (es : Entries) → place_of_key key
 -- at the start the error, null, false and true stand first, and the charge is within its limit
 abbrev pub StartIsStore : Type 0
 StartIsStore = (roots : List json.Data) (contents : Contents) → start_contents roots ≡ Ok contents → IsStore contents
+
+-- at the start the error stands at 0 alone, false at 2 and true at 3
+abbrev pub StartIsCanonical : Type 0
+StartIsCanonical = (roots : List json.Data) (contents : Contents) → start_contents roots ≡ Ok contents → AreCanonical contents.values
+
+-- a key is put in its place in byte order, and none twice
+abbrev pub InsertedInOrder : Type 0
+InsertedInOrder = (key : List ℕ) (x : Value) (es : Entries) → Ascend (keys_of es) → IfSome (inserted key x es) (λ more. Ascend (keys_of more))
+
+abbrev pub InsertedOnce : Type 0
+InsertedOnce = (key : List ℕ) (x : Value) (es : Entries) → Ascend (keys_of es) → is_some (inserted key x es) ≡ not (has_key key es)
+
+-- what stands at a reference, if it is one, is ordered
+abbrev pub IsOrderedAt : Option ValueOrError → Type 0
+IsOrderedAt o = IfSome o IsResultOrdered
+
+-- what the calls of a store make of ordered values is ordered, and so are the values that it has then
+pub record KeepsOrder : Type 0 where
+  pub part : (h : Option ValueOrError) (i : ℕ) → IsOrderedAt h → IfSome (part_at h i) IsOrdered
+  pub key : (h : Option ValueOrError) (i : ℕ) → IfSome (key_at h i) IsOrdered
+  pub join : (a b : Option ValueOrError) → IsOrderedAt a → IsOrderedAt b → IfSome (joined a b) IsOrdered
+  pub push : (l x : Option ValueOrError) → IsOrderedAt l → IsOrderedAt x → IfSome (pushed l x) IsOrdered
+  pub put : (m k x : Option ValueOrError) → IsOrderedAt m → IsOrderedAt x → IfSome (put_in m k x) IsOrdered
+  pub place : (vs : List ValueOrError) (v : Value) → AreOrdered vs → IsOrdered v → AreOrdered (placed vs v)
+
+-- the values of ordered documents are ordered
+abbrev pub StartIsOrdered : Type 0
+StartIsOrdered = (roots : List json.Data) (contents : Contents) → AllByRecursion IsDocumentOrdered roots → start_contents roots ≡ Ok contents → AreOrdered contents.values

@@ -4,6 +4,8 @@ pub mod Size
 pub mod Equality
 pub mod Order
 pub mod Lookup
+pub mod Keys
+pub mod Propositions
 pub mod Placing
 pub mod Calls
 pub mod Seen

@@ -1,5 +1,5 @@
 -- The values of a store, in a list: a reference is a place in it.
-use Rattle.std.specs.Prelude.{◌≡◌, ◌≤◌, ℕ, true, false, List, [], ◌∷◌, ◌++◌, length}
+use Rattle.std.specs.Prelude.{◌≡◌, ◌≤◌, ℕ, Bool, true, false, List, [], ◌∷◌, ◌++◌, length, Some, slice_get, ⊤}
 use Rattle.value_store.specs.Value.{Value, null, boolean, int, text, list, map, ValueOrError, error, value}
 
 -- the most that a store is charged
@@ -21,6 +21,15 @@ place vs (text s) = length vs
 place vs (list is) = length vs
 place vs (map es) = length vs
 
+-- any value but null, false and true comes behind the last, and so needs room
+abbrev pub is_appended : Value → Bool
+is_appended null = false
+is_appended (boolean b) = false
+is_appended (int n) = true
+is_appended (text s) = true
+is_appended (list is) = true
+is_appended (map es) = true
+
 -- the values after it
 abbrev pub placed : List ValueOrError → Value → List ValueOrError
 placed vs null = vs
@@ -29,6 +38,16 @@ placed vs (int n) = vs ++ value (int n) ∷ []
 placed vs (text s) = vs ++ value (text s) ∷ []
 placed vs (list is) = vs ++ value (list is) ∷ []
 placed vs (map es) = vs ++ value (map es) ∷ []
+
+-- the error, false and true stand at their own places alone
+abbrev pub IsCanonicalAt : ValueOrError → ℕ → Type 0
+IsCanonicalAt error h = h ≡ 0
+IsCanonicalAt (value (boolean false)) h = h ≡ 2
+IsCanonicalAt (value (boolean true)) h = h ≡ 3
+IsCanonicalAt _ h = ⊤
+
+abbrev pub AreCanonical : List ValueOrError → Type 0
+AreCanonical vs = (h : ℕ) (x : ValueOrError) → slice_get vs h ≡ Some x → IsCanonicalAt x h
 
 -- the values of a store and what it was charged
 pub record Contents : Type 0 where

@@ -62,6 +62,16 @@ abbrev pub has_first_values : List ValueOrError → Bool
 has_first_values (error ∷ value kind.null ∷ value (kind.boolean false) ∷ value (kind.boolean true) ∷ more) = true
 has_first_values _ = false
 
+-- the reference of null, false and true
+abbrev pub own_place : Value → Option ℕ
+own_place kind.null = Some 1
+own_place (kind.boolean false) = Some 2
+own_place (kind.boolean true) = Some 3
+own_place (kind.int n) = None
+own_place (kind.text s) = None
+own_place (kind.list is) = None
+own_place (kind.map es) = None
+
 -- the size of a root, at most the greatest number of 64 bits, or its refusal
 abbrev pub size_in : Result Value TableError → Result ℕ TableError
 size_in (Ok v) = Ok (saturated (size_of v))

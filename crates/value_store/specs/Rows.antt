@@ -7,7 +7,8 @@ use Rattle.value_store.specs.Size.{size_of, depth_of}
 use Rattle.value_store.specs.Equality.{equal}
 use Rattle.value_store.specs.Order.{less}
 use Rattle.value_store.specs.Lookup.{find, place_of_key, member, inserted}
-use Rattle.value_store.specs.Placing.{first_values, place, placed}
+use Rattle.value_store.specs.Keys.{IsOrdered, IsDocumentOrdered}
+use Rattle.value_store.specs.Placing.{first_values, is_appended, place, placed}
 use Rattle.value_store.specs.Json.{json_text, shown_text}
 use Rattle.value_store.specs.Roots.{root_of, start_contents}
 use Rattle.value_store.specs.declared.table_error.TableError.TheVariants.{V1, V2}
@@ -53,6 +54,13 @@ behind vs = first_values ++ vs
 -- {"a":d}
 abbrev pub with_a : json.Data → json.Data
 with_a d = json.object (json.member (codes "a") d json.no_members)
+
+-- {"b":null,"a":1}, and {"a":null} twice over, as no map stands
+abbrev pub b_before_a : Value
+b_before_a = kind.map (entry (codes "b") null (entry (codes "a") (int (pos 1)) no_entries))
+
+abbrev pub a_twice : Value
+a_twice = kind.map (entry (codes "a") null (entry (codes "a") null no_entries))
 
 -- a review's object, and the rest of its request
 abbrev pub replicas_document : json.Data
@@ -103,6 +111,17 @@ pub record RowsStand : Type 0 where
   pub inserted_behind : inserted (codes "b") null (entry (codes "a") (int (pos 1)) no_entries) ≡ Some a_and_b
   pub inserted_upper_case : inserted (codes "Z") null (entry (codes "a") null no_entries) ≡ Some (entry (codes "Z") null (entry (codes "a") null no_entries))
   pub inserted_twice : inserted (codes "b") null a_and_b ≡ None
+  pub ordered_two : IsOrdered (kind.map a_and_b)
+  -- Z stands before a, U+FFFF before U+10000, a before ab
+  pub ordered_letters : IsOrdered (kind.map (entry (codes "Z") null (entry (codes "a") null (entry (codes "ab") null no_entries))))
+  pub ordered_planes : IsOrdered (kind.map (entry last_of_plane null (entry linear_b null no_entries)))
+  pub unordered_two : IsOrdered b_before_a → ⊥
+  pub unordered_twice : IsOrdered a_twice → ⊥
+  pub unordered_inside : IsOrdered (list (item null (item (kind.map (entry (codes "a") b_before_a no_entries)) no_items))) → ⊥
+  pub unordered_far : IsOrdered (kind.map (entry (codes "b") null (entry (codes "c") null (entry (codes "a") null no_entries)))) → ⊥
+  pub ordered_document : IsDocumentOrdered replicas_document
+  pub unordered_document : IsDocumentOrdered (json.object (json.member (codes "b") json.null (json.member (codes "a") json.null json.no_members))) → ⊥
+  pub appended : (is_appended null ≡ false) × (is_appended (boolean true) ≡ false) × (is_appended (boolean false) ≡ false) × (is_appended (int (pos 0)) ≡ true) × (is_appended (list no_items) ≡ true)
   pub placed_null : (place first_values null ≡ 1) × (placed first_values null ≡ first_values)
   pub placed_false : (place first_values (boolean false) ≡ 2) × (placed first_values (boolean false) ≡ first_values)
   pub placed_true : (place first_values (boolean true) ≡ 3) × (placed first_values (boolean true) ≡ first_values)

@@ -1,7 +1,7 @@
 -- The values of CEL (cel-spec, Values). An int fits 64 bits signed, a text is its bytes in UTF-8.
 use Rattle.std.specs.Prelude.{ℕ, ℤ, Bool, List, [], ◌∷◌}
 
--- the entries of a map stand in byte order of their keys, no key twice
+-- the entries of a map stand in byte order of their keys, no key twice (`IsOrdered`)
 mutual
   pub data Value : Type 0 where
     null : Value

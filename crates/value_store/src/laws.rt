@@ -1,6 +1,9 @@
 //! The laws of values, each proved as the contract of an empty function.
 
-ghost use Rattle.value_store.specs.Laws.{AbsentKeyFits, EqualDecides, FindIsPlace, OtherNumbersRefused, StartIsStore};
+ghost use Rattle.value_store.specs.Laws.{
+    AbsentKeyFits, EqualDecides, FindIsPlace, InsertedInOrder, InsertedOnce, KeepsOrder, OtherNumbersRefused,
+    StartIsCanonical, StartIsOrdered, StartIsStore,
+};
 ghost use Rattle.value_store.specs.Rows.{RowsStand};
 
 /// Values worked by hand.
@@ -10,11 +13,22 @@ pub fn rows_stand()
 
 /// Two values are equal in depth exactly if they are the same value; the value that a map has at a
 /// key stands at the key's place; a key without a place can be put; a document has a value exactly if
-/// its numbers are integers of 64 bits; and the roots of a review make a store.
+/// its numbers are integers of 64 bits; and the roots of a review make a store, in which the error stands
+/// at 0 alone, false at 2 and true at 3.
 pub fn values_are_as_said()
     ensures equal { EqualDecides }
     ensures find { FindIsPlace }
     ensures absent { AbsentKeyFits }
     ensures numbers { OtherNumbersRefused }
     ensures start { StartIsStore }
+    ensures canonical { StartIsCanonical }
+{}
+
+/// The keys of maps stand in byte order, each once, in the values of documents that have them so and in
+/// all that the calls of a store make of such values.
+pub fn keys_stay_in_order()
+    ensures inserted { InsertedInOrder }
+    ensures once { InsertedOnce }
+    ensures calls { KeepsOrder }
+    ensures start { StartIsOrdered }
 {}

@@ -1,8 +1,9 @@
 //! How large and how deep the value of a document is.
 
-ghost use Rattle.std.specs.Prelude.{◌≡◌, ◌+◌, max, length};
+ghost use Rattle.std.specs.Prelude.{◌≡◌, ◌+◌, max, length, OnSome};
 ghost use Rattle.serde_json.specs.Data.{array, object};
 ghost use Rattle.serde_json.specs.View.{view, items_view, members_view};
+ghost use Rattle.value_store.specs.Keys.{IsDocumentOrdered};
 ghost use Rattle.value_store.specs.Plain.{measure_of, saturated};
 
 use serde_json::{Map, Value};
@@ -44,11 +45,12 @@ impl Measure {
 }
 
 /// The measure of a document's value, if each of its numbers is an integer of 64 bits signed. It
-/// goes as deep as the document.
+/// goes as deep as the document. As `serde_json` keeps objects, their keys stand in order.
 #[cycle(measure_document)]
 #[tactic(auto, unfolding(crate::specs::Plain::measure_of))]
 pub(crate) fn measure_document(value: &Value) -> Option<Measure>
-    ensures { result ≡ measure_of (view value.now) }
+    ensures measure { result ≡ measure_of (view value.now) }
+    ensures ordered { OnSome result (IsDocumentOrdered (view value.now)) }
 {
     match value {
         Value::Null => Some(Measure::of_size(1)),
@@ -65,7 +67,8 @@ pub(crate) fn measure_document(value: &Value) -> Option<Measure>
 
 #[cycle(measure_document)]
 fn measure_items(items: &Vec<Value>) -> Option<Measure>
-    ensures { result ≡ measure_of (array (items_view items.now.items)) }
+    ensures measure { result ≡ measure_of (array (items_view items.now.items)) }
+    ensures ordered { OnSome result (IsDocumentOrdered (array (items_view items.now.items))) }
 {
     let mut all = Measure { size: 1, depth: 1 };
     for item in items {
@@ -77,7 +80,8 @@ fn measure_items(items: &Vec<Value>) -> Option<Measure>
 
 #[cycle(measure_document)]
 fn measure_members(members: &Map<String, Value>) -> Option<Measure>
-    ensures { result ≡ measure_of (object (members_view members.now.entries)) }
+    ensures measure { result ≡ measure_of (object (members_view members.now.entries)) }
+    ensures ordered { OnSome result (IsDocumentOrdered (object (members_view members.now.entries))) }
 {
     let mut all = Measure { size: 1, depth: 1 };
     for (key, member) in members.iter() {

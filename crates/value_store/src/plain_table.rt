@@ -1,13 +1,14 @@
 //! A store that keeps each value whole.
 
-ghost use Rattle.std.specs.Prelude.{◌≡◌, ◌≤◌, ◌<◌, ◌+◌, List, map, true, length, ◌++◌, [], ◌∷◌, OnOk, OnErr, Some, Option, slice_get, IsSome, IfSome, IfOk, option_map};
-ghost use Rattle.value_store.specs.Placing.{first_values, charge_limit};
+ghost use Rattle.std.specs.Prelude.{◌≡◌, ◌≤◌, ◌<◌, ◌+◌, List, map, true, false, length, ◌++◌, [], ◌∷◌, OnOk, OnErr, Some, Option, slice_get, IsSome, IfSome, IfOk, option_map};
+ghost use Rattle.value_store.specs.Placing.{first_values, charge_limit, is_appended};
 ghost use Rattle.value_store.specs.Calls.{Places, value_at, text_at, entries_at, part_at, key_at, joined, pushed, put_in};
 ghost use Rattle.serde_json.specs.View.{view};
-ghost use Rattle.value_store.specs.Roots.{start_contents, Starts};
+ghost use Rattle.value_store.specs.Roots.{has_other, start_contents, Starts};
+ghost use Rattle.value_store.specs.Size.{depth_of};
 ghost use Rattle.value_store.specs.declared.node.Node.TheVariants as node;
 ghost use Rattle.value_store.specs.Nodes.{stored, stored_values, tree_value};
-ghost use Rattle.value_store.specs.Plain.{deepest, has_first_values};
+ghost use Rattle.value_store.specs.Plain.{deepest, has_first_values, own_place, plain_value};
 
 use crate::equality::same;
 use crate::membership::among;
@@ -69,25 +70,11 @@ impl PlainTable {
         self.tree(h).unwrap()
     }
 
-    // Null, false and true have their places, any other value comes behind the last.
+    // Puts a value that is neither null nor a bool behind the last.
     fn place(&mut self, tree: Tree) -> Result<u64, AllocError>
-        requires { tree.depth ≤ charge_limit + length (stored_values self.old.nodes.items) + 1 }
+        requires kind { is_appended (tree_value tree) ≡ true }
+        requires shallow { tree.depth ≤ charge_limit + length (stored_values self.old.nodes.items) + 1 }
         ensures placed { Places (stored_values self.old.nodes.items) (tree_value tree) result (stored_values self.new.nodes.items) }
-        ensures charge { self.new.charge ≡ self.old.charge }
-    {
-        match &tree.document {
-            Value::Null => Ok(1),
-            Value::Bool(false) => Ok(2),
-            Value::Bool(true) => Ok(3),
-            _ => self.append(tree),
-        }
-    }
-
-    fn append(&mut self, tree: Tree) -> Result<u64, AllocError>
-        requires { tree.depth ≤ charge_limit + length (stored_values self.old.nodes.items) + 1 }
-        ensures place { IfOk result (λ h. h ≡ length (stored_values self.old.nodes.items)) }
-        ensures ok { OnOk result (stored_values self.new.nodes.items ≡ stored_values self.old.nodes.items ++ stored (node.Value tree) ∷ []) }
-        ensures err { OnErr result (stored_values self.new.nodes.items ≡ stored_values self.old.nodes.items) }
         ensures charge { self.new.charge ≡ self.old.charge }
     {
         let place = self.nodes.len() as u64;
@@ -96,16 +83,27 @@ impl PlainTable {
     }
 }
 
-// What the placing calls place, as trees of their own. Each is at most 1 deeper than what is there.
+// The reference of null, false or true, which take no place of their own.
+fn first_place(document: &Value) -> Option<u64>
+    ensures { result ≡ own_place (plain_value (view document.now)) }
+{
+    match document {
+        Value::Null => Some(1),
+        Value::Bool(false) => Some(2),
+        Value::Bool(true) => Some(3),
+        _ => None,
+    }
+}
+
+// What the placing calls place. Each is at most 1 deeper than what is there.
 impl PlainTable {
-    fn part(&self, h: u64, i: u64) -> Result<Tree, AllocError>
+    fn part(&self, h: u64, i: u64) -> &Value
         requires { IsSome (part_at (slice_get (stored_values self.now.nodes.items) h) i) }
-        ensures value { IfOk result (λ t. part_at (slice_get (stored_values self.now.nodes.items) h) i ≡ Some (tree_value t)) }
-        ensures shallow { IfOk result (λ t. t.depth ≤ charge_limit + length (stored_values self.now.nodes.items) + 1) }
+        ensures value { part_at (slice_get (stored_values self.now.nodes.items) h) i ≡ Some (plain_value (view result.now)) }
+        ensures whole { has_other (view result.now) ≡ false }
+        ensures shallow { depth_of (plain_value (view result.now)) ≤ charge_limit + length (stored_values self.now.nodes.items) }
     {
-        let part = self.value(h).part(i).unwrap();
-        let tree = Tree::of_document(part)?;
-        Ok(tree)
+        self.value(h).part(i).unwrap()
     }
 
     fn key(&self, h: u64, i: u64) -> Result<Tree, AllocError>
@@ -218,8 +216,14 @@ impl ValueStore for PlainTable {
     }
 
     fn alias(&mut self, h: u64, i: u64) -> Result<u64, AllocError> {
-        let tree = self.part(h, i)?;
-        self.place(tree)
+        let part = self.part(h, i);
+        match first_place(part) {
+            Some(place) => Ok(place),
+            None => {
+                let tree = Tree::of_document(part)?;
+                self.place(tree)
+            }
+        }
     }
 
     fn alias_key(&mut self, h: u64, i: u64) -> Result<u64, AllocError> {

@@ -5,6 +5,7 @@ ghost use Rattle.value_store.specs.Value.{ValueOrError, int, text, list, map, no
 ghost use Rattle.value_store.specs.Size.{result_depth};
 ghost use Rattle.value_store.specs.Placing.{first_values, charge_limit};
 ghost use Rattle.value_store.specs.Json.{shown_text};
+ghost use Rattle.value_store.specs.Keys.{AreOrdered};
 ghost use Rattle.value_store.specs.Calls.{Places, text_at, equal_at, less_at, member_at, find_at, part_at, key_at, joined, pushed, put_in};
 ghost use Rattle.value_store.specs.Seen.{seen, shown, seen_size};
 
@@ -14,7 +15,8 @@ use std::alloc::AllocError;
 /// Values in a list, each named by its place in it, a reference. The first four are the error,
 /// null, false and true. A value never changes, and none is taken away. A call that places a value
 /// answers the reference that null, false or true has, and puts any other value behind the last.
-/// Where such a call answers an error, the host has no memory for the value, and nothing is changed.
+/// Where such a call answers an error, the host has no memory for a value that comes behind the last, and
+/// nothing is changed.
 pub trait ValueStore: Drop {
     /// What stands at each reference.
     ghost values: { Self → List ValueOrError };
@@ -22,10 +24,12 @@ pub trait ValueStore: Drop {
     /// What was charged: at the start the sizes of the roots, and then what was spent.
     ghost charge: { Self → ℕ };
 
-    /// How many references there are.
+    /// How many references there are. The error, null, false and true stand at the first four, and the
+    /// keys of every map in the store in byte order, each once.
     fn len(&self) -> u64
         ensures count { result ≡ length (values self.now) }
-        ensures first { (more : List ValueOrError) × (values self.now ≡ first_values ++ more) };
+        ensures first { (more : List ValueOrError) × (values self.now ≡ first_values ++ more) }
+        ensures ordered { AreOrdered (values self.now) };
 
     /// What was charged so far.
     fn charge(&self) -> u64

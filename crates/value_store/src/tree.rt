@@ -9,8 +9,10 @@ ghost use Rattle.value_store.specs.Roots.{has_other};
 ghost use Rattle.value_store.specs.Plain.{plain_value, part_of};
 ghost use Rattle.value_store.specs.Lookup.{place_of_key, text_part};
 ghost use Rattle.value_store.specs.Json.{json_text};
+ghost use Rattle.value_store.specs.Keys.{IsOrdered};
 ghost use Rattle.value_store.specs.Seen.{seen, shown, seen_size};
 ghost use Rattle.value_store.specs.Value.{keys_of};
+ghost use Rattle.value_store.specs.Propositions.{ordered_prop};
 
 use crate::measure::measure_document;
 use crate::members::{item_count, key_at, member_count, part_at, place_in};
@@ -27,6 +29,8 @@ pub(crate) struct Tree {
     // Each number is an integer of 64 bits signed.
     pub ghost whole: { has_other (view document) ≡ false },
     pub ghost deep: { depth ≡ depth_of (plain_value (view document)) },
+    // The keys of its maps stand in byte order, each once.
+    pub ghost ordered: { IsOrdered (plain_value (view document)) } by { ordered_prop (plain_value (view document)) },
 }
 
 impl Tree {

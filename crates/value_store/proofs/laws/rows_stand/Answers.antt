@@ -1,10 +1,11 @@
 use Rattle.std.specs.Prelude.{refl}
 use Rattle.std.specs.Fmt.{digits}
+use Rattle.std.specs.List.Sorted.{IsStrictlySortedBy}
 use Rattle.json.specs.Print.{escape_byte}
 use Rattle.value_store.proofs.laws.rows_stand.Goals as goal
 
 pub returns : goal.returns
-unfolding escape_byte digits
+unfolding escape_byte digits IsStrictlySortedBy
 returns c = record {
   size_null = refl;
   size_least = refl;
@@ -43,6 +44,16 @@ returns c = record {
   inserted_behind = refl;
   inserted_upper_case = refl;
   inserted_twice = refl;
+  ordered_two = (((refl, tt), (tt, tt)), (tt, (tt, tt)));
+  ordered_letters = (((refl, (refl, tt)), ((refl, tt), (tt, tt))), (tt, (tt, (tt, tt))));
+  ordered_planes = (((refl, tt), (tt, tt)), (tt, (tt, tt)));
+  unordered_two = λ h. let no = h.0.0.0 in cc;
+  unordered_twice = λ h. let no = h.0.0.0 in cc;
+  unordered_inside = λ h. let no = h.1.0.1.0.0.0.0 in cc;
+  unordered_far = λ h. let no = h.0.0.1.0 in cc;
+  ordered_document = (((tt, tt)), ((((tt, tt)), (tt, tt)), tt));
+  unordered_document = λ h. let no = h.0.0.0 in cc;
+  appended = (refl, refl, refl, refl, refl);
   placed_null = (refl, refl);
   placed_false = (refl, refl);
   placed_true = (refl, refl);

@@ -1,6 +1,7 @@
 use Rattle.value_store.proofs.Equal.{equal_decides}
 use Rattle.value_store.proofs.Places.{find_place, absent_fits}
 use Rattle.value_store.proofs.Documents.{exact}
+use Rattle.value_store.proofs.Ordered.{start_is_canonical}
 use Rattle.value_store.proofs.Starting.{start_is_store}
 use Rattle.value_store.proofs.laws.values_are_as_said.Goals as goal
 
@@ -18,3 +19,6 @@ returns-clause-absent c = absent_fits
 
 pub returns-clause-start : goal.returns-clause-start
 returns-clause-start c = start_is_store
+
+pub returns-clause-canonical : goal.returns-clause-canonical
+returns-clause-canonical c = start_is_canonical

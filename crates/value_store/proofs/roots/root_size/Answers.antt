@@ -7,9 +7,9 @@ use Rattle.value_store.proofs.roots.root_size.Goals as goal
 pub returns-in-Some : goal.returns-in-Some
 returns-in-Some c =
     let root : is_root (view c.args.root.now) ≡ true = search rules in
-    size_some c.args.place (view c.args.root.now) c.in-Some.measure root c.in-Some.ensures
+    size_some c.args.place (view c.args.root.now) c.in-Some.measure root c.in-Some.ensures.measure
 
 pub returns-in-None : goal.returns-in-None
 returns-in-None c =
     let root : is_root (view c.args.root.now) ≡ true = search rules in
-    size_none c.args.place (view c.args.root.now) root c.in-None.ensures
+    size_none c.args.place (view c.args.root.now) root c.in-None.ensures.measure
