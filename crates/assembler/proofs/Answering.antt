@@ -15,7 +15,7 @@ use Rattle.assembler.specs.FirstPass.Scans.{ended, next}
 use Rattle.assembler.specs.Items.{Item, item_of, slots_of}
 use Rattle.assembler.specs.Labels.{label_slot}
 use Rattle.assembler.specs.Reading.{OneReading}
-use Rattle.assembler.specs.SecondPass.{emitted}
+use Rattle.assembler.specs.SecondPass.{code_bytes}
 use Rattle.assembler.specs.declared.asm_error.AsmError.{AsmError}
 use Rattle.assembler.specs.declared.asm_error.AsmError.TheVariants.{A1, A2, A3, A4, A5, A6, Memory}
 use Rattle.assembler.specs.declared.lines.line.Line.{Line}
@@ -30,8 +30,8 @@ pub labels_fit : (lines : List (List ℕ)) (s : Scanned) → FirstPass lines (Ok
 labels_fit lines s h q = no_place_past (λ q. get_by_text s.labels q) (map item_of s.lines.items) q (get_by_text s.labels q) h.2 h.1 refl
 
 -- the second pass over the labels that were found is that over their places
-emits_same : (lines : List (List ℕ)) (s : Scanned) (slice : List Line) → slice ≡ s.lines.items → FirstPass lines (Ok s) → emitted (label_slot (map item_of s.lines.items)) 1 0 (map item_of s.lines.items) ≡ emitted (λ q. get_by_text s.labels q) 1 0 (map item_of slice)
-emits_same lines s slice e h = sym (emitted_same (λ q. get_by_text s.labels q) (label_slot (map item_of s.lines.items)) 1 0 (map item_of s.lines.items) h.2) ∙ ap (λ z. emitted (λ q. get_by_text s.labels q) 1 0 (map item_of z)) (sym e)
+emits_same : (lines : List (List ℕ)) (s : Scanned) (slice : List Line) → slice ≡ s.lines.items → FirstPass lines (Ok s) → code_bytes (label_slot (map item_of s.lines.items)) 1 0 (map item_of s.lines.items) ≡ code_bytes (λ q. get_by_text s.labels q) 1 0 (map item_of slice)
+emits_same lines s slice e h = sym (emitted_same (λ q. get_by_text s.labels q) (label_slot (map item_of s.lines.items)) 1 0 (map item_of s.lines.items) h.2) ∙ ap (λ z. code_bytes (λ q. get_by_text s.labels q) 1 0 (map item_of z)) (sym e)
 
 abbrev scanned : List Item → Result (List Item) AsmError
 scanned items = Ok items
@@ -40,11 +40,11 @@ same_items : (a b : List Item) → scanned a ≡ scanned b → a ≡ b
 same_items a b e = cc
 
 -- whatever the passes answer, where the first ends with these items
-only_resolved : (lines : List (List ℕ)) (items : List Item) (r s : Result (List ℕ) AsmError) → ((t : Result (List Item) AsmError) → Scans [] lines t → t ≡ Ok items) → emitted (label_slot items) 1 0 items ≡ r → Assembles lines s → s ≡ r
+only_resolved : (lines : List (List ℕ)) (items : List Item) (r s : Result (List ℕ) AsmError) → ((t : Result (List Item) AsmError) → Scans [] lines t → t ≡ Ok items) → code_bytes (label_slot items) 1 0 items ≡ r → Assembles lines s → s ≡ r
 only_resolved lines items r s only e (refused {error = error} scans) = let k = only (Err error) scans in absurd cc
 only_resolved lines items r s only e (resolved others scans f) =
     let same : others ≡ items = same_items others items (only (Ok others) scans) in
-    sym f ∙ ap (λ is. emitted (label_slot is) 1 0 is) same ∙ e
+    sym f ∙ ap (λ is. code_bytes (label_slot is) 1 0 is) same ∙ e
 
 only_refused : (lines : List (List ℕ)) (e : AsmError) (s : Result (List ℕ) AsmError) → ((t : Result (List Item) AsmError) → Scans [] lines t → t ≡ Err e) → Assembles lines s → s ≡ Err e
 only_refused lines e s only (refused {error = error} scans) = let k = only (Err error) scans in let same : error ≡ e = cc in ap (λ x. Err x) same
@@ -59,7 +59,7 @@ first_says : (before : List Item) (lines : List (List ℕ)) (items : List Item) 
 first_says before lines items ended some = absurd (some refl)
 first_says before lines items (next i reads free room rest) some = (i, reads)
 
-pub answered : (text : List ℕ) (s : Scanned) (slice : List Line) (r : Result (Vec ℕ Global) AsmError) → slice ≡ s.lines.items → FirstPass (lines_of text) (Ok s) → Emits (emitted (λ q. get_by_text s.labels q) 1 0 (map item_of slice)) r → OnErr r (slice ≢ []) → Answers text r
+pub answered : (text : List ℕ) (s : Scanned) (slice : List Line) (r : Result (Vec ℕ Global) AsmError) → slice ≡ s.lines.items → FirstPass (lines_of text) (Ok s) → Emits (code_bytes (λ q. get_by_text s.labels q) 1 0 (map item_of slice)) r → OnErr r (slice ≢ []) → Answers text r
 answered text s slice (Ok code) e h m some = scanned_source text code.items (map item_of s.lines.items) h.0.0 (emits_same (lines_of text) s slice e h ∙ m)
 answered text s slice (Err Memory) e h m some = first_says [] (lines_of text) (map item_of s.lines.items) h.0.0 (λ none. some (e ∙ no_lines s.lines.items none))
 answered text s slice (Err (A1 n)) e h m some = resolved (map item_of s.lines.items) h.0.0 (emits_same (lines_of text) s slice e h ∙ m)
@@ -69,7 +69,7 @@ answered text s slice (Err (A4 n)) e h m some = resolved (map item_of s.lines.it
 answered text s slice (Err (A5 n)) e h m some = resolved (map item_of s.lines.items) h.0.0 (emits_same (lines_of text) s slice e h ∙ m)
 answered text s slice (Err (A6 n)) e h m some = resolved (map item_of s.lines.items) h.0.0 (emits_same (lines_of text) s slice e h ∙ m)
 
-pub only_answer : (text : List ℕ) (s : Scanned) (slice : List Line) (r : Result (Vec ℕ Global) AsmError) → slice ≡ s.lines.items → FirstPass (lines_of text) (Ok s) → Emits (emitted (λ q. get_by_text s.labels q) 1 0 (map item_of slice)) r → (t : Result (List ℕ) AsmError) → Assembles (lines_of text) t → IsAnswer t r
+pub only_answer : (text : List ℕ) (s : Scanned) (slice : List Line) (r : Result (Vec ℕ Global) AsmError) → slice ≡ s.lines.items → FirstPass (lines_of text) (Ok s) → Emits (code_bytes (λ q. get_by_text s.labels q) 1 0 (map item_of slice)) r → (t : Result (List ℕ) AsmError) → Assembles (lines_of text) t → IsAnswer t r
 only_answer text s slice (Ok code) e h m t a = only_resolved (lines_of text) (map item_of s.lines.items) (Ok code.items) t h.0.1 (emits_same (lines_of text) s slice e h ∙ m) a
 only_answer text s slice (Err Memory) e h m t a = tt
 only_answer text s slice (Err (A1 n)) e h m t a = only_resolved (lines_of text) (map item_of s.lines.items) (Err (A1 n)) t h.0.1 (emits_same (lines_of text) s slice e h ∙ m) a

@@ -1,5 +1,5 @@
 -- The second pass refuses the first line whose label no line names, or is too far.
-use Rattle.std.proofs.Common.{◌≡◌, ◌⊎◌, ℕ, suc, ◌+◌, ℤ, pos, ◌-ℤ◌, List, [], ◌∷◌, ◌++◌, Option, Some, None, Result, Ok, Err, refl, sym, ◌∙◌, ap, subst, arith, true, false, inl, inr, length, length-append, append_assoc, append-nil, zero-add, FitsSigned}
+use Rattle.std.proofs.Common.{◌≡◌, ◌⊎◌, ℕ, suc, ◌+◌, ℤ, List, [], ◌∷◌, ◌++◌, Option, Some, None, Result, Ok, Err, refl, sym, ◌∙◌, ap, subst, arith, true, false, inl, inr, length, length-append, append_assoc, append-nil, zero-add, FitsSigned}
 use Rattle.std.specs.Int.{w16}
 use Rattle.std.proofs.lemmas.Bool.{both_ways}
 use Rattle.insn_codec.specs.declared.statement.Statement.{Statement}
@@ -12,12 +12,12 @@ use Rattle.assembler.specs.Assembles.{Assembles}
 use Rattle.assembler.specs.Assembles.Assembles.{refused as scan_refused, resolved as scanned}
 use Rattle.assembler.specs.FirstPass.{Scans}
 use Rattle.assembler.specs.Items.{Item, statement, label, jump, item_slots, slots_of}
-use Rattle.assembler.specs.Jumps.{jump_by, reaches}
+use Rattle.assembler.specs.Jumps.{reaches}
 use Rattle.assembler.specs.Labels.{label_slot}
 use Rattle.assembler.specs.Refusals.{FirstRefused, IsRefused, IsShort, NoneRefused, Refused}
 use Rattle.assembler.specs.Refusals.IsRefused.{unnamed, too_far}
 use Rattle.assembler.specs.Refusals.Refused.{by_first_pass, by_label}
-use Rattle.assembler.specs.SecondPass.{after, and_then, bytes_of, emitted, jump_at, offset_to, resolved}
+use Rattle.assembler.specs.SecondPass.{after, and_then, bytes_of, code_bytes, jump_at, offset_to, line_statement}
 use Rattle.assembler.specs.Source.{GivesSlots}
 use Rattle.assembler.specs.declared.asm_error.AsmError.{AsmError}
 use Rattle.assembler.specs.declared.asm_error.AsmError.TheVariants.{A3, A5}
@@ -55,7 +55,7 @@ jump_cause all front j name (Some target) e at h = either (reaches j (offset_to 
     (λ near. let k = rw near at h in absurd cc)
     (λ far. let k = rw far at h in far_at all front j name target e at far cc)
 
-cause_of : (all front : List Item) (i : Item) (e : AsmError) → resolved (label_slot all) (suc (length front)) (slots_of front) i ≡ Err e → IsRefused all front i e
+cause_of : (all front : List Item) (i : Item) (e : AsmError) → line_statement (label_slot all) (suc (length front)) (slots_of front) i ≡ Err e → IsRefused all front i e
 cause_of all front (statement x) e h = absurd cc
 cause_of all front (label name) e h = absurd cc
 cause_of all front (jump j name) e h = jump_cause all front j name (label_slot all name) e refl h
@@ -66,7 +66,7 @@ no_place : (all : List Item) (name : List ℕ) (target : Option ℕ) → label_s
 no_place all name None at none = refl
 no_place all name (Some target) at none = let f = found all 0 name target at in absurd (none f.0 f.1)
 
-refused_for : (all front : List Item) (i : Item) (e : AsmError) → GivesSlots (label_slot all) all → IsRefused all front i e → resolved (label_slot all) (suc (length front)) (slots_of front) i ≡ Err e
+refused_for : (all front : List Item) (i : Item) (e : AsmError) → GivesSlots (label_slot all) all → IsRefused all front i e → line_statement (label_slot all) (suc (length front)) (slots_of front) i ≡ Err e
 refused_for all front i e gives (unnamed {j = j} {name = name} none) = ap (λ t. jump_at (suc (length front)) (slots_of front) j t) (no_place all name (label_slot all name) refl none)
 refused_for all front i e gives (too_far {j = j} {name = name} t) =
     let at : label_slot all name ≡ Some (slots_of t.front) = gives.gives name t.front t.named in
@@ -99,12 +99,12 @@ none_yet all (x ∷ front) i rest e at r = cc
 
 -- the pass over the lines behind these ones
 abbrev emitted_after : List Item → List Item → List Item → Result (List ℕ) AsmError
-emitted_after all before items = emitted (label_slot all) (suc (length before)) (slots_of before) items
+emitted_after all before items = code_bytes (label_slot all) (suc (length before)) (slots_of before) items
 
-next_line : (all before : List Item) (i : Item) (is : List Item) → emitted_after all (before ++ (i ∷ [])) is ≡ emitted (label_slot all) (suc (suc (length before))) (slots_of before + item_slots i) is
+next_line : (all before : List Item) (i : Item) (is : List Item) → emitted_after all (before ++ (i ∷ [])) is ≡ code_bytes (label_slot all) (suc (suc (length before))) (slots_of before + item_slots i) is
 next_line all before i is =
     let number : suc (length (before ++ (i ∷ []))) ≡ suc (suc (length before)) = omega (arith, length-append before (i ∷ [])) in
-    (λ n. emitted (label_slot all) (number n) (slots_snoc before i n) is)
+    (λ n. code_bytes (label_slot all) (number n) (slots_snoc before i n) is)
 
 after_refused : (bytes : List ℕ) (r : Result (List ℕ) AsmError) (e : AsmError) → after bytes r ≡ Err e → r ≡ Err e
 after_refused bytes (Ok more) e h = absurd cc
@@ -112,9 +112,9 @@ after_refused bytes (Err x) e h = h
 
 -- the pass ends at the first line with a cause
 
-first_by : (all before : List Item) (i : Item) (is : List Item) (e : AsmError) (r : Result (Option Statement) AsmError) → GivesSlots (label_slot all) all → all ≡ before ++ i ∷ is → NoneRefused all before → resolved (label_slot all) (suc (length before)) (slots_of before) i ≡ r
+first_by : (all before : List Item) (i : Item) (is : List Item) (e : AsmError) (r : Result (Option Statement) AsmError) → GivesSlots (label_slot all) all → all ≡ before ++ i ∷ is → NoneRefused all before → line_statement (label_slot all) (suc (length before)) (slots_of before) i ≡ r
     → (NoneRefused all (before ++ (i ∷ [])) → emitted_after all (before ++ (i ∷ [])) is ≡ Err e → FirstRefused all e)
-    → and_then r (emitted (label_slot all) (suc (suc (length before))) (slots_of before + item_slots i) is) ≡ Err e → FirstRefused all e
+    → and_then r (code_bytes (label_slot all) (suc (suc (length before))) (slots_of before + item_slots i) is) ≡ Err e → FirstRefused all e
 first_by all before i is e (Err x) gives at none is_r later h =
     let same : x ≡ e = cc in
     record { before = before; here = i; later = is; stands = at; refused = cause_of all before i e (is_r ∙ ap Err same); first = none }
@@ -124,30 +124,30 @@ first_by all before i is e (Ok x) gives at none is_r later h =
 first_of : (all before items : List Item) (e : AsmError) → GivesSlots (label_slot all) all → all ≡ before ++ items → NoneRefused all before → emitted_after all before items ≡ Err e → FirstRefused all e
 first_of all before [] e gives at none h = absurd cc
 first_of all before (i ∷ is) e gives at none h =
-    first_by all before i is e (resolved (label_slot all) (suc (length before)) (slots_of before) i) gives at none refl
+    first_by all before i is e (line_statement (label_slot all) (suc (length before)) (slots_of before) i) gives at none refl
     (λ more k. first_of all (before ++ (i ∷ [])) is e gives (at ∙ sym (append_assoc before (i ∷ []) is)) more k) h
 
-passed_by : (all before : List Item) (i : Item) (items : List Item) (e : AsmError) (r : Result (Option Statement) AsmError) → ((d : AsmError) → IsRefused all before i d → ⊥) → resolved (label_slot all) (suc (length before)) (slots_of before) i ≡ r → emitted (label_slot all) (suc (suc (length before))) (slots_of before + item_slots i) items ≡ Err e → and_then r (emitted (label_slot all) (suc (suc (length before))) (slots_of before + item_slots i) items) ≡ Err e
+passed_by : (all before : List Item) (i : Item) (items : List Item) (e : AsmError) (r : Result (Option Statement) AsmError) → ((d : AsmError) → IsRefused all before i d → ⊥) → line_statement (label_slot all) (suc (length before)) (slots_of before) i ≡ r → code_bytes (label_slot all) (suc (suc (length before))) (slots_of before + item_slots i) items ≡ Err e → and_then r (code_bytes (label_slot all) (suc (suc (length before))) (slots_of before + item_slots i) items) ≡ Err e
 passed_by all before i items e (Ok x) none is_r h = ap (λ r. after (bytes_of x) r) h
 passed_by all before i items e (Err x) none is_r h = absurd (none x (cause_of all before i x is_r))
 
 ends_at : (all : List Item) (e : AsmError) (before mid : List Item) (here : Item) (later : List Item) → GivesSlots (label_slot all) all → IsRefused all (before ++ mid) here e → NoneRefused all (before ++ mid) → emitted_after all before (mid ++ here ∷ later) ≡ Err e
 ends_at all e before [] here later gives refused none =
-    ap (λ r. and_then r (emitted (label_slot all) (suc (suc (length before))) (slots_of before + item_slots here) later))
+    ap (λ r. and_then r (code_bytes (label_slot all) (suc (suc (length before))) (slots_of before + item_slots here) later))
     (refused_for all before here e gives (subst (λ f. IsRefused all f here e) (append-nil before) refused))
 ends_at all e before (m ∷ ms) here later gives refused none =
     let at : (before ++ (m ∷ [])) ++ ms ≡ before ++ m ∷ ms = append_assoc before (m ∷ []) ms in
     let rest = ends_at all e (before ++ (m ∷ [])) ms here later gives (subst (λ f. IsRefused all f here e) (sym at) refused) (subst (λ f. NoneRefused all f) (sym at) none) in
-    passed_by all before m (ms ++ here ∷ later) e (resolved (label_slot all) (suc (length before)) (slots_of before) m) (λ d. none before m ms d refl) refl (sym (next_line all before m (ms ++ here ∷ later)) ∙ rest)
+    passed_by all before m (ms ++ here ∷ later) e (line_statement (label_slot all) (suc (length before)) (slots_of before) m) (λ d. none before m ms d refl) refl (sym (next_line all before m (ms ++ here ∷ later)) ∙ rest)
 
 pub caused : (lines : List (List ℕ)) (e : AsmError) → Assembles lines (Err e) → Refused lines e
 caused lines e (scan_refused scans) = by_first_pass scans
 caused lines e (scanned items scans h) = by_label items scans (first_of items [] items e (gives_slots items (once_scanned lines items scans)) refl (none_yet items) h)
 
-label_refused : (lines : List (List ℕ)) (items : List Item) (e : AsmError) → Scans [] lines (Ok items) → FirstRefused items e → emitted (label_slot items) 1 0 items ≡ Err e
+label_refused : (lines : List (List ℕ)) (items : List Item) (e : AsmError) → Scans [] lines (Ok items) → FirstRefused items e → code_bytes (label_slot items) 1 0 items ≡ Err e
 label_refused lines items e scans f =
     let gives = gives_slots items (once_scanned lines items scans) in
-    subst (λ is. emitted (label_slot items) 1 0 is ≡ Err e) (sym f.stands) (ends_at items e [] f.before f.here f.later gives f.refused f.first)
+    subst (λ is. code_bytes (label_slot items) 1 0 is ≡ Err e) (sym f.stands) (ends_at items e [] f.before f.here f.later gives f.refused f.first)
 
 pub of_cause : (lines : List (List ℕ)) (e : AsmError) → Refused lines e → Assembles lines (Err e)
 of_cause lines e (by_first_pass scans) = scan_refused scans

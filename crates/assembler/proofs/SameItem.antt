@@ -1,17 +1,15 @@
 -- A mnemonic and operands are those of one item.
-use Rattle.std.proofs.Common.{◌≡◌, ◌⊎◌, ℕ, suc, ℤ, pos, negsuc, List, [], ◌∷◌, ◌++◌, Some, inl, inr, refl, sym, ◌∙◌, ap, subst}
+use Rattle.std.proofs.Common.{◌≡◌, ℕ, suc, ℤ, pos, negsuc, List, [], ◌∷◌, ◌++◌, Some, inl, inr, refl, sym, ◌∙◌, ap, subst}
 use Rattle.assembler.specs.declared.lines.jump.Jump.{Jump}
 use Rattle.assembler.specs.declared.lines.jump.Jump.TheVariants.{Near, Long, CallLocal, Branch}
 use Rattle.assembler.specs.Jumps.{jump_by, jump_mnemonic, jump_operands}
 use Rattle.insn_codec.specs.Lines.{operands_text, address_text, decimal, offset_text, operand_text, place_text, register_text, signed_decimal, wide_text}
-use Rattle.insn_codec.specs.declared.comparison.Comparison.{Comparison}
 use Rattle.insn_codec.specs.declared.insn.Insn.TheVariants as insn
 use Rattle.insn_codec.specs.declared.operand.Operand.{Operand}
 use Rattle.insn_codec.specs.declared.register.Register.{Register}
 use Rattle.insn_codec.specs.declared.statement.Statement.TheVariants as statement_kind
-use Rattle.insn_codec.specs.declared.width.Width.{Width}
 use Rattle.assembler.specs.Items.{HasLine, Item, statement, jump}
-use Rattle.assembler.specs.Forms.{Lacks, item_mnemonic, item_operands, listed}
+use Rattle.assembler.specs.Forms.{Lacks, item_mnemonic, item_operands, operand_list}
 use Rattle.assembler.specs.declared.lines.jump.Jump.TheVariants as jump_kind
 use Rattle.insn_codec.specs.declared.mnemonic.Mnemonic.{Mnemonic}
 use Rattle.insn_codec.specs.declared.mnemonic.Mnemonic.TheVariants as mnemonic
@@ -28,12 +26,12 @@ use Rattle.assembler.proofs.NameBytes.{lacks_decimal, lacks_operand, lacks_place
 between : (i j v w : Item) → i ≡ v → j ≡ w → item_operands i ≡ item_operands j → item_operands v ≡ item_operands w
 between i j v w p q e = sym (ap item_operands p) ∙ e ∙ ap item_operands q
 
-listed_same : (xs ys vs ws : List ℕ) → Lacks 44 xs → Lacks 44 vs → listed xs ys ≡ listed vs ws → (xs ≡ vs) × (ys ≡ ws)
+listed_same : (xs ys vs ws : List ℕ) → Lacks 44 xs → Lacks 44 vs → operand_list xs ys ≡ operand_list vs ws → (xs ≡ vs) × (ys ≡ ws)
 listed_same xs ys vs ws h k e =
     let t = split_same 44 xs (32 ∷ ys) vs (32 ∷ ws) h k e in
     (t.0, tails 32 32 ys ws t.1)
 
-register_listed : (r s : Register) (ys ws : List ℕ) → listed (register_text r) ys ≡ listed (register_text s) ws → (r ≡ s) × (ys ≡ ws)
+register_listed : (r s : Register) (ys ws : List ℕ) → operand_list (register_text r) ys ≡ operand_list (register_text s) ws → (r ≡ s) × (ys ≡ ws)
 register_listed r s ys ws e =
     let t = listed_same (register_text r) ys (register_text s) ws (lacks_register 44 refl r) (lacks_register 44 refl s) e in
     (register_injective r s t.0, t.1)
@@ -55,15 +53,15 @@ address_same r s (negsuc n) (negsuc m) e =
 place_same : (r s : Register) (y z : ℤ) → place_text r y ≡ place_text s z → (r ≡ s) × (y ≡ z)
 place_same r s y z e = address_same r s y z (append_cancel_right (address_text r y) (address_text s z) (93 ∷ []) (tails 91 91 (address_text r y ++ 93 ∷ []) (address_text s z ++ 93 ∷ []) e))
 
-place_listed : (r s : Register) (y z : ℤ) (ys ws : List ℕ) → listed (place_text r y) ys ≡ listed (place_text s z) ws → (r ≡ s) × (y ≡ z) × (ys ≡ ws)
+place_listed : (r s : Register) (y z : ℤ) (ys ws : List ℕ) → operand_list (place_text r y) ys ≡ operand_list (place_text s z) ws → (r ≡ s) × (y ≡ z) × (ys ≡ ws)
 place_listed r s y z ys ws e =
     let t = listed_same (place_text r y) ys (place_text s z) ws (lacks_place 44 refl refl refl r y) (lacks_place 44 refl refl refl s z) e in
     let u = place_same r s y z t.0 in
     (u.0, u.1, t.1)
 
-compared_same : (r s : Register) (o p : Operand) (xs ys : List ℕ) → listed (register_text r) (listed (operand_text o) xs) ≡ listed (register_text s) (listed (operand_text p) ys) → (r ≡ s) × (o ≡ p) × (xs ≡ ys)
+compared_same : (r s : Register) (o p : Operand) (xs ys : List ℕ) → operand_list (register_text r) (operand_list (operand_text o) xs) ≡ operand_list (register_text s) (operand_list (operand_text p) ys) → (r ≡ s) × (o ≡ p) × (xs ≡ ys)
 compared_same r s o p xs ys e =
-    let t = register_listed r s (listed (operand_text o) xs) (listed (operand_text p) ys) e in
+    let t = register_listed r s (operand_list (operand_text o) xs) (operand_list (operand_text p) ys) e in
     let u = listed_same (operand_text o) xs (operand_text p) ys (lacks_operand 44 refl o) (lacks_operand 44 refl p) t.1 in
     (t.0, operand_injective o p u.0, u.1)
 

@@ -9,7 +9,7 @@ use Rattle.assembler.specs.FirstPass.{Scans}
 use Rattle.assembler.specs.FirstPass.Scans.{ended, next}
 use Rattle.assembler.specs.Items.{Item, slots_of}
 use Rattle.assembler.specs.Labels.{label_slot}
-use Rattle.assembler.specs.SecondPass.{emitted}
+use Rattle.assembler.specs.SecondPass.{code_bytes}
 use Rattle.assembler.specs.Source.{EachSays, Source}
 
 -- lines that say something each, with no label twice and few slots, are scanned
@@ -51,7 +51,7 @@ slots_fit items room q slot e = let bound = label_slot_bound items q slot e in o
 pub once_scanned : (lines : List (List ℕ)) (items : List Item) → Scans [] lines (Ok items) → Once [] items
 once_scanned lines items scans = let added = added_by [] items lines scans in subst (λ is. Once [] is) (sym added.1) added.3
 
-pub scanned_source : (text bytes : List ℕ) (items : List Item) → Scans [] (lines_of text) (Ok items) → emitted (label_slot items) 1 0 items ≡ Ok bytes → Source text bytes
+pub scanned_source : (text bytes : List ℕ) (items : List Item) → Scans [] (lines_of text) (Ok items) → code_bytes (label_slot items) 1 0 items ≡ Ok bytes → Source text bytes
 scanned_source text bytes items scans e =
     let added = added_by [] items (lines_of text) scans in
     let told : EachSays (lines_of text) items = subst (λ is. EachSays (lines_of text) is) (sym added.1) added.2 in

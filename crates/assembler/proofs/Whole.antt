@@ -6,7 +6,7 @@ use Rattle.insn_codec.specs.declared.insn.Insn.TheVariants as insn
 use Rattle.insn_codec.specs.declared.register.Register.{Register}
 use Rattle.insn_codec.specs.declared.statement.Statement.TheVariants as statement_kind
 use Rattle.assembler.specs.Items.{HasLine, IsName, Item, item_text, statement, label, jump}
-use Rattle.assembler.specs.Forms.{Lacks, item_mnemonic, item_operands, listed}
+use Rattle.assembler.specs.Forms.{Lacks, item_mnemonic, item_operands, operand_list}
 use Rattle.insn_codec.specs.Mnemonics.{mnemonic_text}
 use Rattle.assembler.specs.declared.lines.jump.Jump.TheVariants as jump_kind
 use Rattle.insn_codec.specs.declared.mnemonic.Mnemonic.{Mnemonic}
@@ -52,7 +52,7 @@ name_lacks c f name h = plain_lacks c f name (name_plain name h)
 mnemonic_lacks : (c : ℕ) → is_plain c ≡ false → (m : Mnemonic) → Lacks c (mnemonic_text m)
 mnemonic_lacks c f m = plain_lacks c f (mnemonic_text m) (mnemonic_plain m)
 
-lacks_listed : (xs ys : List ℕ) → Lacks 58 xs → Lacks 58 ys → Lacks 58 (listed xs ys)
+lacks_listed : (xs ys : List ℕ) → Lacks 58 xs → Lacks 58 ys → Lacks 58 (operand_list xs ys)
 lacks_listed xs ys h k = lacks_append 58 xs (44 ∷ 32 ∷ ys) h (apart 44 58 refl, (apart 32 58 refl, k))
 
 place_lacks_colon : (r : Register) (z : ℤ) → Lacks 58 (place_text r z)
@@ -66,7 +66,7 @@ operands_lack_colon (statement (statement_kind.Insn (insn.SignExtend extension d
 operands_lack_colon (statement (statement_kind.Insn (insn.ByteSwap order width dst))) h = plain_lacks 58 refl (register_text dst) (register_plain dst)
 operands_lack_colon (statement (statement_kind.Insn (insn.Jump offset))) h = plain_lacks 58 refl (offset_text offset) (offset_plain offset)
 operands_lack_colon (statement (statement_kind.Insn (insn.JumpLong offset))) h = plain_lacks 58 refl (offset_text offset) (offset_plain offset)
-operands_lack_colon (statement (statement_kind.Insn (insn.Branch comparison width dst operand offset))) h = lacks_listed (register_text dst) (listed (operand_text operand) (offset_text offset)) (plain_lacks 58 refl (register_text dst) (register_plain dst)) (lacks_listed (operand_text operand) (offset_text offset) (lacks_operand 58 refl operand) (plain_lacks 58 refl (offset_text offset) (offset_plain offset)))
+operands_lack_colon (statement (statement_kind.Insn (insn.Branch comparison width dst operand offset))) h = lacks_listed (register_text dst) (operand_list (operand_text operand) (offset_text offset)) (plain_lacks 58 refl (register_text dst) (register_plain dst)) (lacks_listed (operand_text operand) (offset_text offset) (lacks_operand 58 refl operand) (plain_lacks 58 refl (offset_text offset) (offset_plain offset)))
 operands_lack_colon (statement (statement_kind.Insn (insn.Call helper))) h = plain_lacks 58 refl (signed_decimal helper) (signed_decimal_plain helper)
 operands_lack_colon (statement (statement_kind.Insn (insn.CallLocal offset))) h = plain_lacks 58 refl (offset_text offset) (offset_plain offset)
 operands_lack_colon (statement (statement_kind.Insn insn.Exit)) h = tt
@@ -81,7 +81,7 @@ operands_lack_colon (label name) h = tt
 operands_lack_colon (jump jump_kind.Near name) h = name_lacks 58 refl name h
 operands_lack_colon (jump jump_kind.Long name) h = name_lacks 58 refl name h
 operands_lack_colon (jump jump_kind.CallLocal name) h = name_lacks 58 refl name h
-operands_lack_colon (jump (jump_kind.Branch comparison width dst operand) name) h = lacks_listed (register_text dst) (listed (operand_text operand) name) (plain_lacks 58 refl (register_text dst) (register_plain dst)) (lacks_listed (operand_text operand) name (lacks_operand 58 refl operand) (name_lacks 58 refl name h))
+operands_lack_colon (jump (jump_kind.Branch comparison width dst operand) name) h = lacks_listed (register_text dst) (operand_list (operand_text operand) name) (plain_lacks 58 refl (register_text dst) (register_plain dst)) (lacks_listed (operand_text operand) name (lacks_operand 58 refl operand) (name_lacks 58 refl name h))
 
 code_lacks_colon : (i : Item) (m : Mnemonic) → HasLine i → item_mnemonic i ≡ Some m → Lacks 58 (item_text i)
 code_lacks_colon i m h e = subst (λ t. Lacks 58 t) (sym (line_halves i m e)) (lacks_append 58 (mnemonic_text m) (32 ∷ item_operands i) (mnemonic_lacks 58 refl m) (apart 32 58 refl, operands_lack_colon i h))

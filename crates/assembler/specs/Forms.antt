@@ -15,8 +15,8 @@ Lacks c [] = Unit {0}
 Lacks c (x ∷ xs) = (x ≡ c → ⊥) × Lacks c xs
 
 -- two operands, with a comma and a space between them
-abbrev pub listed : List ℕ → List ℕ → List ℕ
-listed x y = operands_text (x ∷ y ∷ [])
+abbrev pub operand_list : List ℕ → List ℕ → List ℕ
+operand_list x y = operands_text (x ∷ y ∷ [])
 
 abbrev pub before_operands : List (List ℕ) → Mnemonic → Option Mnemonic
 before_operands [] m = None

@@ -22,10 +22,10 @@ jump_at number slot j None = Err (A3 number)
 jump_at number slot j (Some target) = in_reach number (with_offset j (offset_to slot target))
 
 -- what the line of this number, which begins at this slot, stands for
-abbrev pub resolved : (List ℕ → Option ℕ) → ℕ → ℕ → Item → Result (Option Statement) AsmError
-resolved labels number slot (statement x) = Ok (Some x)
-resolved labels number slot (label name) = Ok None
-resolved labels number slot (jump j name) = jump_at number slot j (labels name)
+abbrev pub line_statement : (List ℕ → Option ℕ) → ℕ → ℕ → Item → Result (Option Statement) AsmError
+line_statement labels number slot (statement x) = Ok (Some x)
+line_statement labels number slot (label name) = Ok None
+line_statement labels number slot (jump j name) = jump_at number slot j (labels name)
 
 abbrev pub bytes_of : Option Statement → List ℕ
 bytes_of None = []
@@ -41,6 +41,6 @@ and_then (Ok x) rest = after (bytes_of x) rest
 and_then (Err error) rest = Err error
 
 -- the bytes of the lines from this one on, or the first line whose label is unknown or too far
-abbrev pub emitted : (List ℕ → Option ℕ) → ℕ → ℕ → List Item → Result (List ℕ) AsmError
-emitted labels number slot [] = Ok []
-emitted labels number slot (i ∷ is) = and_then (resolved labels number slot i) (emitted labels (suc number) (slot + item_slots i) is)
+abbrev pub code_bytes : (List ℕ → Option ℕ) → ℕ → ℕ → List Item → Result (List ℕ) AsmError
+code_bytes labels number slot [] = Ok []
+code_bytes labels number slot (i ∷ is) = and_then (line_statement labels number slot i) (code_bytes labels (suc number) (slot + item_slots i) is)

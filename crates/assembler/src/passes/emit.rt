@@ -4,7 +4,7 @@ ghost use Rattle.std.specs.Prelude.{◌≡◌, ◌≢◌, ◌≤◌, [], ◌++�
 ghost use Rattle.std.specs.BTreeMap.{get_by_text};
 ghost use Rattle.assembler.specs.Answers.{Emits};
 ghost use Rattle.assembler.specs.Items.{item_of, slots_of};
-ghost use Rattle.assembler.specs.SecondPass.{bytes_of, emitted, resolved};
+ghost use Rattle.assembler.specs.SecondPass.{bytes_of, code_bytes, line_statement};
 
 use crate::asm_error::AsmError;
 use crate::lines::line::Line;
@@ -27,7 +27,7 @@ fn resolve(
 ) -> Result<Option<Statement>, AsmError>
     requires slot { slot ≤ 65536 }
     requires labels { (q : List ℕ) → IfSome (get_by_text labels.now q) (λ t. t ≤ 65536) }
-    ensures { result ≡ resolved (λ q. get_by_text labels.now q) number slot (item_of line.now) }
+    ensures { result ≡ line_statement (λ q. get_by_text labels.now q) number slot (item_of line.now) }
 {
     match *line {
         Line::Statement(statement) => Ok(Some(statement)),
@@ -62,7 +62,7 @@ fn push_statement(out: &mut Vec<u8>, statement: Option<Statement>) -> Result<(),
 pub(crate) fn emit(alloc: Global, lines: &[Line<'_>], labels: &Labels) -> Result<Vec<u8>, AsmError>
     requires room { slots_of (map item_of lines.now) ≤ 65536 }
     requires labels { (q : List ℕ) → IfSome (get_by_text labels.now q) (λ t. t ≤ 65536) }
-    ensures emits { Emits (emitted (λ q. get_by_text labels.now q) 1 0 (map item_of lines.now)) result }
+    ensures emits { Emits (code_bytes (λ q. get_by_text labels.now q) 1 0 (map item_of lines.now)) result }
     ensures some { OnErr result (lines.now ≢ []) }
 {
     let mut out = Vec::new(alloc);

@@ -2,12 +2,12 @@
 ghost use Rattle.std.specs.Prelude.{◌≡◌, ◌<◌, ℕ, ℤ, List, ◌∷◌, ◌++◌, IfSome, IsNone, MatchOption};
 ghost use Rattle.insn_codec.specs.Lines.{address_text, offset_text, register_text};
 ghost use Rattle.insn_codec.specs.declared.register.Register.{Register};
-ghost use Rattle.assembler.specs.Forms.{Lacks, listed};
+ghost use Rattle.assembler.specs.Forms.{Lacks, operand_list};
 
 /// What stands before the first comma and, where a space follows it, after that space.
 pub(crate) fn cut(text: &str) -> Option<(&str, &str)>
-    ensures cuts { IfSome result (λ x. text.now ≡ listed x.0.now x.1.now) }
-    ensures only { (xs ys : List ℕ) → Lacks 44 xs → text.now ≡ listed xs ys → MatchOption result ⊥ (λ x. (x.0.now ≡ xs) × (x.1.now ≡ ys)) }
+    ensures cuts { IfSome result (λ x. text.now ≡ operand_list x.0.now x.1.now) }
+    ensures only { (xs ys : List ℕ) → Lacks 44 xs → text.now ≡ operand_list xs ys → MatchOption result ⊥ (λ x. (x.0.now ≡ xs) × (x.1.now ≡ ys)) }
 {
     let (first, rest) = text.split_once(',')?;
     let second = rest.strip_prefix(' ')?;

@@ -1,8 +1,8 @@
 use Rattle.std.proofs.Common.{◌≡◌, ◌+◌, ◌≤◌, map, drop}
 use Rattle.std.specs.BTreeMap.{get_by_text}
 use Rattle.assembler.specs.Items.{item_of, slots_of}
-use Rattle.assembler.specs.SecondPass.{after, emitted}
+use Rattle.assembler.specs.SecondPass.{after, code_bytes}
 use Rattle.assembler.proofs.passes.emit.emit.Given as goal
 
 abbrev pub invariant-loop-line : goal.invariant-loop-line
-invariant-loop-line l = (l.number ≡ l.line-index + 1) × (l.slot + slots_of (map item_of (drop l.line-index l.lines)) ≤ 65536) × (after l.out.items (emitted (λ q. get_by_text l.labels q) l.number l.slot (map item_of (drop l.line-index l.lines))) ≡ emitted (λ q. get_by_text l.labels q) 1 0 (map item_of l.lines))
+invariant-loop-line l = (l.number ≡ l.line-index + 1) × (l.slot + slots_of (map item_of (drop l.line-index l.lines)) ≤ 65536) × (after l.out.items (code_bytes (λ q. get_by_text l.labels q) l.number l.slot (map item_of (drop l.line-index l.lines))) ≡ code_bytes (λ q. get_by_text l.labels q) 1 0 (map item_of l.lines))
