@@ -51,6 +51,6 @@ fn slots_keep_their_bytes(rt: HostRuntime) -> Result<(), Fail> {
         0xdb1a_f8ff_0100_0000,
         0xdb1a_f8ff_f000_0000,
     ];
-    assert_eq!(rt; slots.as_slice(), &expected);
+    assert_eq!(rt; slots.as_slice(), expected.as_slice());
     Ok(())
 }
