@@ -6,9 +6,7 @@ mod history;
 pub mod laws;
 mod past;
 #[cfg(test)]
-mod past_tests;
-#[cfg(test)]
-mod search_tests;
+mod tests;
 
 pub use emulator::Emulator;
 pub use history::History;

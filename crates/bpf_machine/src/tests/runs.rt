@@ -1,6 +1,5 @@
 use super::{EXIT, answers, machine, run_answer, run_machine};
 use crate::Status;
-use crate::laws::{decodes_spelling, rows_stand, states_are_kept, steps_are_rows, stops_once};
 use guest_memory::Fault;
 use insn_codec::Register;
 use std::alloc::Global;
@@ -123,13 +122,4 @@ fn the_frame_pointer_stops_at_once(rt: HostRuntime) -> Result<(), Fail> {
         assert!(rt; answers(rt.alloc(), &[slot, 0, EXIT], end)?, "row {row}");
     }
     Ok(())
-}
-
-#[test]
-fn laws_can_be_called(_rt: HostRuntime) {
-    decodes_spelling();
-    rows_stand();
-    states_are_kept();
-    steps_are_rows();
-    stops_once();
 }

@@ -1,11 +1,10 @@
 //! Searches of a run both ways. The places are counted by hand from the code.
-ghost use Rattle.std.specs.Prelude.{◌≡◌, ◌<◌, IfOk};
+ghost use Rattle.std.specs.Prelude.{◌<◌};
 
+use super::begun;
+use crate::emulator::Emulator;
 use crate::history::History;
 use crate::past::Past;
-use bpf_machine::{Machine, Table};
-use guest_memory::Guest;
-use loader::Image;
 use std::alloc::{AllocError, Global};
 use std::test::Fail;
 
@@ -78,80 +77,90 @@ const LAST: [(&[u8], u64, &[u64], u64); 23] = [
     (BEFORE, 3, &[WRAPPED], 0),
 ];
 
-fn begun(alloc: Global, code: &[u8], now: u64) -> Result<Past<Machine<Guest>>, Fail>
-    ensures { IfOk result (λ history. history.place ≡ now) }
-{
-    let code = Vec::from_slice(alloc, code)?;
-    let image = Image::new(code, Vec::new(alloc))?;
-    let machine = Machine::<Guest>::start(alloc, image, Table::nulls())?;
-    let mut history = Past::<Machine<Guest>>::begin(alloc, machine)?;
-    history.go(now)?;
-    Ok(history)
-}
+/// The place that a search finds, and the one that is shown then.
+type Found = (u64, u64);
 
-/// The place that is found, also where the first search is refused.
-fn found_first<H: History>(history: &mut H, to: u64, stops: &[u64]) -> Result<u64, AllocError>
-    requires { H.place history.old < to }
-{
-    match history.first(to, stops) {
-        Ok(found) => Ok(found),
-        Err(_) => history.first(to, stops),
-    }
-}
-
-/// The place that a search on from this one finds, and the one that is shown then.
-fn first_from(alloc: Global, code: &[u8], now: u64, to: u64, stops: &[u64]) -> Result<Found, Fail>
+/// What a search on from this place finds, also where the first search is refused.
+fn first_from<H: History>(
+    history: &mut H,
+    now: u64,
+    to: u64,
+    stops: &[u64],
+) -> Result<Found, AllocError>
     requires { now < to }
 {
-    let mut history = begun(alloc, code, now)?;
-    let found = found_first(&mut history, to, stops)?;
+    history.go(now)?;
+    let found = match history.first(to, stops) {
+        Ok(found) => found,
+        Err(_) => history.first(to, stops)?,
+    };
     Ok((found, history.now()))
 }
 
-type Found = (u64, u64);
+fn first_in(alloc: Global, code: &[u8], now: u64, to: u64, stops: &[u64]) -> Result<Found, Fail>
+    requires { now < to }
+{
+    let mut history = begun(alloc, code)?;
+    Ok(first_from(&mut history, now, to, stops)?)
+}
 
 #[test]
 fn finds_the_first(rt: HostRuntime) -> Result<(), Fail> {
     for (code, now, to, stops, found) in FIRST {
         assert!(rt; now < to);
-        let first = first_from(rt.alloc(), code, now, to, stops)?;
+        let first = first_in(rt.alloc(), code, now, to, stops)?;
         assert!(rt; first == (found, now), "from {now} to {to}");
     }
     Ok(())
 }
 
-/// The place that a search back from this one finds, and the one that is shown then.
-fn last_from(alloc: Global, code: &[u8], now: u64, stops: &[u64]) -> Result<Found, Fail> {
-    let mut history = begun(alloc, code, now)?;
+/// What a search back from this place finds.
+fn last_from<H: History>(history: &mut H, now: u64, stops: &[u64]) -> Result<Found, AllocError> {
+    history.go(now)?;
     let found = history.last(stops)?;
     Ok((found, history.now()))
+}
+
+fn last_in(alloc: Global, code: &[u8], now: u64, stops: &[u64]) -> Result<Found, Fail> {
+    let mut history = begun(alloc, code)?;
+    Ok(last_from(&mut history, now, stops)?)
 }
 
 #[test]
 fn finds_the_last(rt: HostRuntime) -> Result<(), Fail> {
     for (code, now, stops, found) in LAST {
-        let last = last_from(rt.alloc(), code, now, stops)?;
+        let last = last_in(rt.alloc(), code, now, stops)?;
         assert!(rt; last == (found, now), "before {now}");
     }
     Ok(())
 }
 
+/// Slots that are searched one after the other from place 0 of the loop, the place found, and how
+/// many machines are kept then: no more than were looked at, and none behind a stopped one.
+const KEPT: [(&[u64], u64, u64); 4] = [(&[1], 1, 1), (&[2], 6, 6), (&[3], 7, 7), (&[0], 2, 7)];
+
 /// The place that a search on from place 0 finds, and how many machines are kept then.
-fn found_and_kept(history: &mut Past<Machine<Guest>>, stops: &[u64]) -> Result<Found, Fail>
-    requires { history.old.place ≡ 0 }
-    ensures { history.new.place ≡ 0 }
-{
-    let found = history.first(u64::MAX, stops)?;
+fn found_and_kept<E: Emulator>(
+    history: &mut Past<E>,
+    stops: &[u64],
+) -> Result<(u64, u64), AllocError> {
+    let (found, _) = first_from(history, 0, u64::MAX, stops)?;
     Ok((found, history.kept()))
 }
 
-/// A search keeps no more machines than it looks at, and none behind a stopped one.
+/// The first search that finds or keeps something else.
+fn wrong_search<E: Emulator>(history: &mut Past<E>) -> Result<Option<usize>, AllocError> {
+    for (row, (stops, found, kept)) in KEPT.into_iter().enumerate() {
+        if found_and_kept(history, stops)? != (found, kept) {
+            return Ok(Some(row));
+        }
+    }
+    Ok(None)
+}
+
 #[test]
 fn keeps_what_it_looks_at(rt: HostRuntime) -> Result<(), Fail> {
-    let mut history = begun(rt.alloc(), LOOP, 0)?;
-    assert!(rt; found_and_kept(&mut history, &[1])? == (1, 1));
-    assert!(rt; found_and_kept(&mut history, &[2])? == (6, 6));
-    assert!(rt; found_and_kept(&mut history, &[3])? == (7, 7));
-    assert!(rt; found_and_kept(&mut history, &[0])? == (2, 7));
+    let mut history = begun(rt.alloc(), LOOP)?;
+    assert_eq!(rt; wrong_search(&mut history)?, None);
     Ok(())
 }
