@@ -1,5 +1,5 @@
 //! Lines of atomic instructions and their slots, worked out by hand from the table of operations.
-use super::{line_of, slots_of, word_of};
+use super::{line_of, word_of};
 use std::test::Fail;
 
 /// A line of each operation at each width, with its slot's bytes in the order of storage.
@@ -38,19 +38,5 @@ fn each_slot_has_its_line(rt: HostRuntime) -> Result<(), Fail> {
     for (line, slot) in ROWS.iter() {
         assert_eq!(rt; line_of(rt.alloc(), *slot)?.as_str(), *line);
     }
-    Ok(())
-}
-
-/// Slots that listings of before have as slots, whether they spell an instruction by now or not.
-#[test]
-fn slots_keep_their_bytes(rt: HostRuntime) -> Result<(), Fail> {
-    let text = ".slot 0xdb21000000000000\n.slot 0xdb1af8ff01000000\n.slot 0xdb1af8fff0000000\n";
-    let slots = slots_of(rt.alloc(), text)?;
-    let expected = [
-        0xdb21_0000_0000_0000,
-        0xdb1a_f8ff_0100_0000,
-        0xdb1a_f8ff_f000_0000,
-    ];
-    assert_eq!(rt; slots.as_slice(), &expected);
     Ok(())
 }

@@ -4,7 +4,7 @@ use crate::{listing_is_source, one_answer, refused_by_cause, source_is_assembled
 use std::test::Fail;
 
 /// Programs with the bytes of their slots, each in the order of storage.
-const PROGRAMS: [(&str, &[u64]); 18] = [
+const PROGRAMS: [(&str, &[u64]); 19] = [
     ("", &[]),
     ("end:", &[]),
     (
@@ -53,6 +53,11 @@ const PROGRAMS: [(&str, &[u64]); 18] = [
     ("call_local R0\nR0:", &[0x8510_0000_0000_0000]),
     ("_9z:\nja _9z\nb_1:", &[0x0500_ffff_0000_0000]),
     (".slot 0xffffffffffffffff", &[0xffff_ffff_ffff_ffff]),
+    // Slots of older listings keep their bytes, whether they spell an instruction by now or not.
+    (
+        ".slot 0xdb1af8ff01000000\n.slot 0xdb1af8fff0000000\n",
+        &[0xdb1a_f8ff_0100_0000, 0xdb1a_f8ff_f000_0000],
+    ),
     (
         "lddw r3, 0x0123456789abcdef",
         &[0x1803_0000_efcd_ab89, 0x0000_0000_6745_2301],
