@@ -1,14 +1,19 @@
 //! Runs of a machine that can be shown at each of their places, and searched both ways.
 #![tactic(auto)]
 
+mod checkpoint;
+mod checkpoints;
 mod emulator;
 mod history;
 pub mod laws;
 mod past;
 #[cfg(test)]
 mod past_tests;
+mod replay;
+mod search;
 #[cfg(test)]
 mod search_tests;
+mod stop;
 
 pub use emulator::Emulator;
 pub use history::History;

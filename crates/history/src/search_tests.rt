@@ -1,12 +1,8 @@
 //! Searches of a run both ways. The places are counted by hand from the code.
-ghost use Rattle.std.specs.Prelude.{◌≡◌, ◌<◌, IfOk};
+ghost use Rattle.std.specs.Prelude.{◌<◌};
 
 use crate::history::History;
-use crate::past::Past;
-use bpf_machine::{Machine, Table};
-use guest_memory::Guest;
-use loader::Image;
-use std::alloc::{AllocError, Global};
+use crate::past_tests::begun;
 use std::test::Fail;
 
 /// `r0 = 5` and `exit`: slots 0, 1 and, stopped, 1.
@@ -78,80 +74,43 @@ const LAST: [(&[u8], u64, &[u64], u64); 23] = [
     (BEFORE, 3, &[WRAPPED], 0),
 ];
 
-fn begun(alloc: Global, code: &[u8], now: u64) -> Result<Past<Machine<Guest>>, Fail>
-    ensures { IfOk result (λ history. history.place ≡ now) }
-{
-    let code = Vec::from_slice(alloc, code)?;
-    let image = Image::new(code, Vec::new(alloc))?;
-    let machine = Machine::<Guest>::start(alloc, image, Table::nulls())?;
-    let mut history = Past::<Machine<Guest>>::begin(alloc, machine)?;
-    history.go(now)?;
-    Ok(history)
-}
-
-/// The place that is found, also where the first search is refused.
-fn found_first<H: History>(history: &mut H, to: u64, stops: &[u64]) -> Result<u64, AllocError>
-    requires { H.place history.old < to }
-{
-    match history.first(to, stops) {
-        Ok(found) => Ok(found),
-        Err(_) => history.first(to, stops),
-    }
-}
-
-/// The place that a search on from this one finds, and the one that is shown then.
-fn first_from(alloc: Global, code: &[u8], now: u64, to: u64, stops: &[u64]) -> Result<Found, Fail>
+/// The place that a search on from this one finds, if that is still the one shown.
+fn first_from<H: History>(history: &mut H, now: u64, to: u64, stops: &[u64]) -> Result<u64, Fail>
     requires { now < to }
 {
-    let mut history = begun(alloc, code, now)?;
-    let found = found_first(&mut history, to, stops)?;
-    Ok((found, history.now()))
+    history.go(now)?;
+    let found = history.first(to, stops)?;
+    Ok(if history.now() == now { found } else { 0 })
 }
-
-type Found = (u64, u64);
 
 #[test]
 fn finds_the_first(rt: HostRuntime) -> Result<(), Fail> {
     for (code, now, to, stops, found) in FIRST {
         assert!(rt; now < to);
-        let first = first_from(rt.alloc(), code, now, to, stops)?;
-        assert!(rt; first == (found, now), "from {now} to {to}");
+        let mut history = begun(rt.alloc(), code)?;
+        assert!(rt;
+            first_from(&mut history, now, to, stops)? == found,
+            "from {now} to {to}"
+        );
     }
     Ok(())
 }
 
-/// The place that a search back from this one finds, and the one that is shown then.
-fn last_from(alloc: Global, code: &[u8], now: u64, stops: &[u64]) -> Result<Found, Fail> {
-    let mut history = begun(alloc, code, now)?;
+/// The place that a search back from this one finds, if that is still the one shown.
+fn last_from<H: History>(history: &mut H, now: u64, stops: &[u64]) -> Result<u64, Fail> {
+    history.go(now)?;
     let found = history.last(stops)?;
-    Ok((found, history.now()))
+    Ok(if history.now() == now { found } else { now })
 }
 
 #[test]
 fn finds_the_last(rt: HostRuntime) -> Result<(), Fail> {
     for (code, now, stops, found) in LAST {
-        let last = last_from(rt.alloc(), code, now, stops)?;
-        assert!(rt; last == (found, now), "before {now}");
+        let mut history = begun(rt.alloc(), code)?;
+        assert!(rt;
+            last_from(&mut history, now, stops)? == found,
+            "before {now}"
+        );
     }
-    Ok(())
-}
-
-/// The place that a search on from place 0 finds, and how many machines are kept then.
-fn found_and_kept(history: &mut Past<Machine<Guest>>, stops: &[u64]) -> Result<Found, Fail>
-    requires { history.old.place ≡ 0 }
-    ensures { history.new.place ≡ 0 }
-{
-    let found = history.first(u64::MAX, stops)?;
-    Ok((found, history.kept()))
-}
-
-/// A search keeps no more machines than it looks at, and none behind a stopped one.
-#[test]
-fn keeps_what_it_looks_at(rt: HostRuntime) -> Result<(), Fail> {
-    let mut history = begun(rt.alloc(), LOOP, 0)?;
-    assert!(rt; found_and_kept(&mut history, &[1])? == (1, 1));
-    assert!(rt; found_and_kept(&mut history, &[2])? == (6, 6));
-    assert!(rt; found_and_kept(&mut history, &[3])? == (7, 7));
-    assert!(rt; found_and_kept(&mut history, &[0])? == (2, 7));
     Ok(())
 }
