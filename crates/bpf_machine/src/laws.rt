@@ -6,6 +6,7 @@ ghost use Rattle.bpf_machine.specs.Trace.{StopsOnce};
 
 use bpf_word::laws::{results_are_words, upper_half_is_zero};
 use guest_memory::laws::{read_is_bytes, start_is_zero, write_is_bytes};
+use helper_table::laws::tables_are_kept;
 use insn_codec::spelled_is_spelling;
 
 /// A run of at most n steps stops at one place, which `stop_place` computes.
@@ -30,8 +31,8 @@ pub fn steps_are_rows()
     ensures { StepsAreRows }
 {}
 
-/// Every state of a run from a start has eleven registers with a word each, at most seven records,
-/// and memory of its sizes.
+/// Every state of a run from a start on a table has eleven registers with a word each, at most seven
+/// records, memory of its sizes, and the values of a table.
 pub fn states_are_kept()
     ensures { StatesAreKept }
 {
@@ -40,5 +41,6 @@ pub fn states_are_kept()
     upper_half_is_zero();
     read_is_bytes();
     write_is_bytes();
+    tables_are_kept();
     start_is_zero();
 }

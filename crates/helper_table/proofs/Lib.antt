@@ -8,7 +8,9 @@ pub mod Lists
 pub mod Pairs
 pub mod Finding
 pub mod Joins
+pub mod Bounded
 pub mod Depths
 pub mod Entering
 pub mod Performing
 pub mod Numbers
+pub mod Tables

@@ -11,3 +11,4 @@ pub mod Ends
 pub mod Kinds
 pub mod Plans
 pub mod Laws
+pub mod Tables

@@ -1,6 +1,7 @@
 //! Laws of the helper rows, each the clause of a function that does nothing.
 ghost use Rattle.helper_table.specs.Laws.{PlacedIsNamed, PlacedExtends, RowPlaces, CallsFollow, OthersPlaceNothing};
 ghost use Rattle.helper_table.specs.Rows.{RowsStand};
+ghost use Rattle.helper_table.specs.Tables.{TablesAreKept};
 
 /// Calls worked by hand.
 pub fn rows_stand()
@@ -23,4 +24,9 @@ pub fn calls_follow()
 /// Helpers that answer a plain word or a truth place nothing.
 pub fn others_place_nothing()
     ensures { OthersPlaceNothing }
+{}
+
+/// Among the values of a table a call that is not stopped answers a word, and leaves a table.
+pub fn tables_are_kept()
+    ensures { TablesAreKept }
 {}

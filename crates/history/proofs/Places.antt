@@ -1,5 +1,5 @@
 -- Places at which a machine is kept.
-use Rattle.std.proofs.Common.{◌≡◌, ℕ, zero, suc, ◌+◌, ◌-◌, ◌<◌, ◌≤◌, Bool, true, false, not, List, [], ◌∷◌, length, refl, sym, ap, ◌∙◌, arith, subst, map, Some, None, get_or, inl, inr, ◌⊎◌}
+use Rattle.std.proofs.Common.{◌≡◌, ℕ, zero, suc, ◌+◌, ◌-◌, ◌<◌, ◌≤◌, Bool, true, false, not, List, [], ◌∷◌, length, refl, sym, ap, ◌∙◌, arith, subst, map, Option, Some, None, option_map, get_or, inl, inr, ◌⊎◌}
 use Rattle.std.proofs.lemmas.Bool.{cases_lt}
 use Rattle.std.proofs.lemmas.List.{get_or-map, get_or_default, length-map}
 use Rattle.std.proofs.lemmas.Option.{get_or_from_slice_get, slice_get_within}
@@ -214,3 +214,10 @@ pub none_past : {C : Type 0} (cs : List C) (i : ℕ) → slice_get cs i ≡ None
 none_past [] i none low = omega (arith, low)
 none_past (c ∷ cs) zero none low = let read : Some c ≡ None = none in cc
 none_past (c ∷ cs) (suc i) none low = none_past cs i none (omega (arith, low))
+
+-- what a read answers, as the value behind it
+pub read_is : {B C : Type 0} (now : B → C) (r : Option B) (cs : List C) (i : ℕ) (b : B) → option_map now r ≡ slice_get cs i → r ≡ Some b → slice_get cs i ≡ Some (now b)
+read_is now r cs i b read is = sym read ∙ ap (option_map now) is
+
+pub read_none : {B C : Type 0} (now : B → C) (r : Option B) (cs : List C) (i : ℕ) → option_map now r ≡ slice_get cs i → r ≡ None → slice_get cs i ≡ None
+read_none now r cs i read is = sym read ∙ ap (option_map now) is

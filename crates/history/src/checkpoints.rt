@@ -23,9 +23,13 @@ pub(crate) struct Checkpoints<E: Emulator> {
 
 impl<E: Emulator> Model for Checkpoints<E> {
     ghost use Rattle.std.specs.Prelude.{◌≡◌, All, map};
+    ghost use Rattle.std.specs.Coded.{codes};
+    ghost use Rattle.value_store.specs.Codes.{coded_stored};
     ghost use Rattle.history.specs.Trail.{IsCheckpoint, Kept};
 
     ghost Value = { Kept };
+
+    ghost coded = { Prim.hlevel (codes, coded_stored) };
 
     ghost view = { λ c. record { origin = E.state c.start.machine; places = map (λ p. p.place) c.ring.items } };
 

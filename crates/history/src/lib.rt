@@ -7,13 +7,11 @@ mod emulator;
 mod history;
 pub mod laws;
 mod past;
-#[cfg(test)]
-mod past_tests;
 mod replay;
 mod search;
-#[cfg(test)]
-mod search_tests;
 mod stop;
+#[cfg(test)]
+mod tests;
 
 pub use emulator::Emulator;
 pub use history::History;

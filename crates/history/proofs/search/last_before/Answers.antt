@@ -1,4 +1,4 @@
-use Rattle.std.proofs.Common.{◌<◌, ◌∙◌, inl, inr, arith, sym}
+use Rattle.std.proofs.Common.{◌≡◌, ◌-◌, ◌<◌, ◌∙◌, inl, inr, arith, sym}
 use Rattle.history.proofs.Searches.{found_first, found_in_stretch, last_low, none_in_stretch}
 use Rattle.history.proofs.search.last_before.Goals as goal
 use Rattle.history.proofs.search.last_before.Goals.{then-last-gt0-via-then-last-gt0, then-last-gt0-via-else-last-gt0+then-stands_at}
@@ -6,7 +6,7 @@ use Rattle.history.proofs.search.last_before.Goals.{then-last-gt0-via-then-last-
 pub overflow_add-result : goal.overflow_add-result
 overflow_add-result g c =
     let before : c.nearest-from.result.now.place < c.loop-end.end = omega (arith, c.nearest-from.ensures.nearest.at_most, c.loop-end-test.true) in
-    let low = last_low _ _ _ _ (omega (arith, before)) c.in_ok-last.ensures in
+    let low : c.in_ok-last.last < c.loop-end.end - c.nearest-from.result.now.place = last_low c.args.stops.now (g.E.Emulator.state c.nearest-from.result.now.machine) (c.loop-end.end - c.nearest-from.result.now.place) c.in_ok-last.last (omega (arith, before)) c.in_ok-last.ensures in
     omega (arith, before, low, c.loop-end.auto.end-fits)
 
 pub returns-then-last-gt0-clause-found : goal.returns-then-last-gt0-clause-found

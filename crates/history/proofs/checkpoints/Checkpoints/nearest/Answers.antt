@@ -1,7 +1,7 @@
-use Rattle.std.proofs.Common.{rules, arith, sym, ap, ◌∙◌}
-use Rattle.std.specs.Option.{option_copied}
+use Rattle.std.proofs.Common.{rules, ◌≡◌, Some, arith, sym, ap}
+use Rattle.std.specs.List.{slice_get}
 use Rattle.history.specs.Trail.{IsCheckpoint}
-use Rattle.history.proofs.Places.{all_at, all_places, contains_at, nearest_is, none_first, none_more_at, none_past, one_of, start_is}
+use Rattle.history.proofs.Places.{all_at, all_places, contains_at, nearest_is, none_first, none_more_at, none_past, one_of, read_is, read_none, start_is}
 use Rattle.history.proofs.checkpoints.Checkpoints.nearest.Goals as goal
 use Rattle.history.proofs.checkpoints.Checkpoints.nearest.Goals.{in-Some, in_default}
 
@@ -18,7 +18,7 @@ loop-i-preserved g c =
     let whole = ap (λ k. k.places) c.self.view_is in
     elim c.match-get.branch [
       | in-Some w ↦
-          let is = sym c.get.ensures ∙ ap option_copied w.in-Some.is in
+          let is : slice_get c.self.inside.ring.items c.loop-i.i ≡ Some w.in-Some.checkpoint.now = read_is (λ b. b.now) c.get.result c.self.inside.ring.items c.loop-i.i w.in-Some.checkpoint c.get.ensures w.in-Some.is in
           rw w.nearest-is
           (record {
             here =
@@ -29,7 +29,7 @@ loop-i-preserved g c =
             greatest = none_more_at (λ p. p.place) c.self.inside.ring.items c.args.self.now.places c.loop-i.i c.args.k c.loop-i.nearest.now.place w.in-Some.checkpoint.now w.nearer-nearest.result.now whole is c.loop-i.invariant.greatest w.nearer-nearest.ensures.greatest.0 w.nearer-nearest.ensures.greatest.1;
           })
       | in_default w ↦
-          absurd (none_past c.self.inside.ring.items c.loop-i.i (sym c.get.ensures ∙ ap option_copied w.in_default.is) (omega (arith, c.loop-i-test.true, c.len-i-end.ensures.len)))
+          absurd (none_past c.self.inside.ring.items c.loop-i.i (read_none (λ b. b.now) c.get.result c.self.inside.ring.items c.loop-i.i c.get.ensures w.in_default.is) (omega (arith, c.loop-i-test.true, c.len-i-end.ensures.len)))
     ]
 
 pub returns-clause-nearest : goal.returns-clause-nearest

@@ -1,8 +1,10 @@
 //! Searches of a run both ways. The places are counted by hand from the code.
 ghost use Rattle.std.specs.Prelude.{◌<◌};
 
+use super::{Plain, begun};
 use crate::history::History;
-use crate::past_tests::begun;
+use crate::past::Past;
+use std::alloc::{AllocError, Global};
 use std::test::Fail;
 
 /// `r0 = 5` and `exit`: slots 0, 1 and, stopped, 1.
@@ -74,43 +76,60 @@ const LAST: [(&[u8], u64, &[u64], u64); 23] = [
     (BEFORE, 3, &[WRAPPED], 0),
 ];
 
-/// The place that a search on from this one finds, if that is still the one shown.
-fn first_from<H: History>(history: &mut H, now: u64, to: u64, stops: &[u64]) -> Result<u64, Fail>
+/// The place that a search finds, and the one that is shown then.
+type Found = (u64, u64);
+
+/// What a search on from this place finds, also where the first search is refused.
+fn first_from(
+    history: &mut Past<Plain>,
+    now: u64,
+    to: u64,
+    stops: &[u64],
+) -> Result<Found, AllocError>
     requires { now < to }
 {
     history.go(now)?;
-    let found = history.first(to, stops)?;
-    Ok(if history.now() == now { found } else { 0 })
+    let found = match history.first(to, stops) {
+        Ok(found) => found,
+        Err(_) => history.first(to, stops)?,
+    };
+    Ok((found, history.now()))
+}
+
+fn first_in(alloc: Global, code: &[u8], now: u64, to: u64, stops: &[u64]) -> Result<Found, Fail>
+    requires { now < to }
+{
+    let mut history = begun(alloc, code)?;
+    Ok(first_from(&mut history, now, to, stops)?)
 }
 
 #[test]
 fn finds_the_first(rt: HostRuntime) -> Result<(), Fail> {
     for (code, now, to, stops, found) in FIRST {
         assert!(rt; now < to);
-        let mut history = begun(rt.alloc(), code)?;
-        assert!(rt;
-            first_from(&mut history, now, to, stops)? == found,
-            "from {now} to {to}"
-        );
+        let first = first_in(rt.alloc(), code, now, to, stops)?;
+        assert!(rt; first == (found, now), "from {now} to {to}");
     }
     Ok(())
 }
 
-/// The place that a search back from this one finds, if that is still the one shown.
-fn last_from<H: History>(history: &mut H, now: u64, stops: &[u64]) -> Result<u64, Fail> {
+/// What a search back from this place finds.
+fn last_from(history: &mut Past<Plain>, now: u64, stops: &[u64]) -> Result<Found, AllocError> {
     history.go(now)?;
     let found = history.last(stops)?;
-    Ok(if history.now() == now { found } else { now })
+    Ok((found, history.now()))
+}
+
+fn last_in(alloc: Global, code: &[u8], now: u64, stops: &[u64]) -> Result<Found, Fail> {
+    let mut history = begun(alloc, code)?;
+    Ok(last_from(&mut history, now, stops)?)
 }
 
 #[test]
 fn finds_the_last(rt: HostRuntime) -> Result<(), Fail> {
     for (code, now, stops, found) in LAST {
-        let mut history = begun(rt.alloc(), code)?;
-        assert!(rt;
-            last_from(&mut history, now, stops)? == found,
-            "before {now}"
-        );
+        let last = last_in(rt.alloc(), code, now, stops)?;
+        assert!(rt; last == (found, now), "before {now}");
     }
     Ok(())
 }
