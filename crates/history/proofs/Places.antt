@@ -1,118 +1,223 @@
--- Runs that are kept place by place.
-use Rattle.std.proofs.Common.{◌≡◌, ℕ, zero, suc, ◌+◌, ◌-◌, ◌<◌, ◌≤◌, Bool, true, false, not, List, [], ◌∷◌, ◌++◌, length, map, min, refl, sym, ap, ◌∙◌, arith, subst, add-one, get_or, inl, inr}
+-- Places at which a machine is kept.
+use Rattle.std.proofs.Common.{◌≡◌, ℕ, zero, suc, ◌+◌, ◌-◌, ◌<◌, ◌≤◌, Bool, true, false, not, List, [], ◌∷◌, length, refl, sym, ap, ◌∙◌, arith, subst, map, Option, Some, None, option_map, get_or, inl, inr, ◌⊎◌}
 use Rattle.std.proofs.lemmas.Bool.{cases_lt}
-use Rattle.std.proofs.lemmas.List.{get_or-map, length-map, map-append, length_push}
-use Rattle.std.proofs.Math.ListN.{get_or-append}
-use Rattle.std.proofs.Math.Seq.{get_or-append_seam}
+use Rattle.std.proofs.lemmas.List.{get_or-map, get_or_default, length-map}
+use Rattle.std.proofs.lemmas.Option.{get_or_from_slice_get, slice_get_within}
+use Rattle.std.specs.List.{All, Contains, slice_get}
 use Rattle.bpf_machine.specs.State.{State}
 use Rattle.bpf_machine.specs.Step.{is_running, next_state}
 use Rattle.bpf_machine.specs.Trace.{state_after}
-use Rattle.bpf_machine.specs.Laws.{state_after-zero, state_after-more, stays_stopped}
-use Rattle.history.specs.Trail.{states_to, IsKept, IsRun, Reaches}
+use Rattle.bpf_machine.specs.Laws.{state_after-add, state_after-more, state_after-zero, stays_stopped}
+use Rattle.history.specs.Trail.{IsNearest, IsReplay, Reaches, Trail}
 
-length-states_to : (n : ℕ) (s : State) → length (states_to n s) ≡ n
-unfolding states_to
-length-states_to zero s = refl
-length-states_to (suc n) s = length_push (states_to n s) (state_after (suc n) s) ∙ ap (λ (k : ℕ). k + 1) (length-states_to n s) ∙ add-one n
+-- of the first n of these places, none at or before k is greater than p
+abbrev pub NoneNearer : List ℕ → ℕ → ℕ → ℕ → Type 0
+NoneNearer places n k p = (i : ℕ) → i < n → get_or places i 0 ≤ k → get_or places i 0 ≤ p
 
-states_to-more : (n : ℕ) (s : State) → states_to (n + 1) s ≡ states_to n s ++ state_after (n + 1) s ∷ []
-unfolding states_to
-states_to-more n s = rw add-one
+pub none_first : (ps : List ℕ) (k p : ℕ) → NoneNearer ps 0 k p
+none_first ps k p i low = absurd (omega (arith, low))
 
-states_to-last : (n i : ℕ) (s d t : State) → i ≡ n → get_or (states_to n s ++ t ∷ []) i d ≡ t
-states_to-last n i s d t e =
-    ap (λ (k : ℕ). get_or (states_to n s ++ t ∷ []) k d) (e ∙ sym (length-states_to n s)) ∙ get_or-append_seam (states_to n s) t [] d
-
--- the i-th of them stands at place i + 1
-states_to-at : (n i : ℕ) (s d : State) → i < n → get_or (states_to n s) i d ≡ state_after (i + 1) s
-unfolding states_to
-states_to-at zero i s d below = absurd (omega (arith, below))
-states_to-at (suc n) i s d below =
+-- one place more
+none_more : (ps : List ℕ) (n k p q r : ℕ) → NoneNearer ps n k p → get_or ps n 0 ≡ q → p ≤ r → (q ≤ k → q ≤ r) → NoneNearer ps (n + 1) k r
+none_more ps n k p q r none is more next i low here =
     elim (cases_lt i n) [
-      | inl before ↦ get_or-append (states_to n s) (state_after (suc n) s ∷ []) d i (subst (λ (k : ℕ). i < k) (sym (length-states_to n s)) before) ∙ states_to-at n i s d before
+      | inl before ↦ omega (arith, none i before here, more)
       | inr not_before ↦
-          let same : i ≡ n = omega (arith, below, not_before) in
-          let more : suc n ≡ i + 1 = omega (arith, same) in
-          states_to-last n i s d (state_after (suc n) s) same ∙ ap (λ (k : ℕ). state_after k s) more
+          let last : i ≡ n = omega (arith, low, not_before) in
+          let same : get_or ps i 0 ≡ q = ap (λ (j : ℕ). get_or ps j 0) last ∙ is in
+          omega (arith, same, next (omega (arith, same, here)))
     ]
 
--- the first state is at place 0
-pub kept_first : (s : State) (m : ℕ) → m ≡ 0 → s ≡ state_after m s
-kept_first s m none = sym (state_after-zero s) ∙ ap (λ (k : ℕ). state_after k s) (sym none)
+contains_tail : (ps : List ℕ) (x q : ℕ) → Contains ps q → Contains (x ∷ ps) q
+contains_tail ps x q c = (suc c.0, omega (arith, c.1), c.2)
 
-pub kept_later : {E : Type 0} (f : E → State) (xs : List E) (s : State) (m : ℕ) (x : E) → IsRun s (map f xs) → 0 < m → m ≤ length xs → x ≡ get_or xs (m - 1) x → f x ≡ state_after m s
-kept_later f xs s m x run some within is =
-    let low : m - 1 < length xs = omega (arith, some, within) in
-    let low-map : m - 1 < length (map f xs) = omega (arith, low, length-map xs f) in
-    let place : m - 1 + 1 ≡ m = omega (arith, some) in
-    ap f is
-    ∙ sym (get_or-map f xs (m - 1) x s low)
-    ∙ ap (λ (l : List State). get_or l (m - 1) s) run
-    ∙ states_to-at (length (map f xs)) (m - 1) s s low-map
-    ∙ ap (λ (k : ℕ). state_after k s) place
+contains_head : (ps : List ℕ) (x : ℕ) → Contains (x ∷ ps) x
+contains_head ps x = (0, omega arith, refl)
 
-run_push : (s t : State) (xs : List State) → IsRun s xs → t ≡ state_after (length xs + 1) s → IsRun s (xs ++ t ∷ [])
-run_push s t xs run is =
-    ap (λ (l : List State). l ++ t ∷ []) run
-    ∙ ap (λ (u : State). states_to (length xs) s ++ u ∷ []) is
-    ∙ sym (states_to-more (length xs) s)
-    ∙ ap (λ (n : ℕ). states_to n s) (sym (length_push xs t))
+contains_split : (ps : List ℕ) (x q k : ℕ) → k < length (x ∷ ps) → get_or (x ∷ ps) k q ≡ q → (x ≡ q) ⊎ Contains ps q
+contains_split ps x q zero low is = inl is
+contains_split ps x q (suc k) low is = inr (k, omega (arith, low), is)
 
--- the successor of the last state goes on with the run
-pub run_more : {E : Type 0} (f : E → State) (xs ls ys : List E) (s : State) (x last : E) (k : ℕ) → IsRun s (map f xs) → ls ≡ xs → length xs < k → f last ≡ state_after (min k (length ls)) s → f x ≡ next_state (f last) → ys ≡ xs ++ x ∷ [] → IsRun s (map f ys)
-run_more f xs ls ys s x last k run same below is_last is_next is =
-    let long : length ls ≡ length xs = ap length same in
-    let least : min k (length ls) ≡ length (map f xs) = omega (arith, below, long, length-map xs f) in
-    let next : f x ≡ state_after (length (map f xs) + 1) s =
-    is_next
-    ∙ ap next_state (is_last ∙ ap (λ (n : ℕ). state_after n s) least)
-    ∙ sym (state_after-more (length (map f xs)) s) in
-    let whole : map f ys ≡ map f xs ++ f x ∷ [] = ap (map f) is ∙ map-append f xs (x ∷ []) in
-    subst (IsRun s) (sym whole) (run_push s (f x) (map f xs) run next)
+contains_cases : (ps : List ℕ) (x q : ℕ) → Contains (x ∷ ps) q → (x ≡ q) ⊎ Contains ps q
+contains_cases ps x q c = contains_split ps x q c.0 c.1 c.2
 
--- a state that is reached stands where the list ends, or is kept
-shown_at : (s : State) (n k : ℕ) → Reaches s n k → state_after (min k n) s ≡ state_after k s
-shown_at s n k reaches =
-    elim (cases_lt n k) [
-      | inl below ↦
-          let least : min k n ≡ n = omega (arith, below) in
-          ap (λ (j : ℕ). state_after j s) least ∙ stays_stopped s (state_after n s) n k refl (reaches below) (omega (arith, below))
-      | inr kept ↦ let least : min k n ≡ k = omega (arith, kept) in ap (λ (j : ℕ). state_after j s) least
+-- the place of a machine that is kept is one of the places
+contains_place : {C : Type 0} (place : C → ℕ) (cs : List C) (i : ℕ) (c : C) → slice_get cs i ≡ Some c → Contains (map place cs) (place c)
+contains_place place cs i c is =
+    let low : i < length cs = slice_get_within cs i c is in
+    (i, omega (arith, low, length-map cs place), get_or-map place cs i c (place c) low ∙ ap place (get_or_from_slice_get cs i c c is))
+
+place_at : {C : Type 0} (place : C → ℕ) (cs : List C) (i : ℕ) (c : C) → slice_get cs i ≡ Some c → get_or (map place cs) i 0 ≡ place c
+place_at place cs i c is =
+    let low : i < length cs = slice_get_within cs i c is in
+    get_or-map place cs i c 0 low ∙ ap place (get_or_from_slice_get cs i c c is)
+
+-- all places looked at, and the start
+pub nearest_is : (ps : List ℕ) (n k p : ℕ) → Contains (0 ∷ ps) p → p ≤ k → NoneNearer ps n k p → length ps ≤ n → IsNearest (0 ∷ ps) k p
+nearest_is ps n k p among low none whole = record {
+  among = among;
+  at_most = low;
+  greatest = λ q c here.
+      elim (contains_cases ps 0 q c) [
+        | inl start ↦ omega (arith, start)
+        | inr other ↦
+            let same : get_or ps other.0 0 ≡ q = get_or_default ps other.0 0 q other.1 ∙ other.2 in
+            let low : get_or ps other.0 0 ≤ p = none other.0 (omega (arith, other.1, whole)) (omega (arith, same, here)) in
+            omega (arith, same, low)
+      ];
+}
+
+-- one more place at hand
+pub nearest_with : (ps : List ℕ) (k p t r : ℕ) → IsNearest (0 ∷ ps) k p → (r ≡ p) ⊎ (r ≡ t) → r ≤ k → p ≤ r → (t ≤ k → t ≤ r) → IsNearest (0 ∷ t ∷ ps) k r
+nearest_with ps k p t r nearest one low more next = record {
+  among =
+      elim one [
+        | inl same ↦
+            elim (contains_cases ps 0 p nearest.among) [
+              | inl start ↦ subst (λ (q : ℕ). Contains (0 ∷ t ∷ ps) q) (start ∙ sym same) (contains_head (t ∷ ps) 0)
+              | inr other ↦ subst (λ (q : ℕ). Contains (0 ∷ t ∷ ps) q) (sym same) (contains_tail (t ∷ ps) 0 p (contains_tail ps t p other))
+            ]
+        | inr same ↦ subst (λ (q : ℕ). Contains (0 ∷ t ∷ ps) q) (sym same) (contains_tail (t ∷ ps) 0 t (contains_head ps t))
+      ];
+  at_most = low;
+  greatest = λ q c here.
+      elim (contains_cases (t ∷ ps) 0 q c) [
+        | inl start ↦ omega (arith, start)
+        | inr other ↦
+            elim (contains_cases ps t q other) [
+              | inl same ↦ let behind : t ≤ r = next (omega (arith, same, here)) in omega (arith, same, behind)
+              | inr kept ↦ let behind : q ≤ p = nearest.greatest q (contains_tail ps 0 q kept) here in omega (arith, behind, more)
+            ]
+      ];
+}
+
+-- there is a nearest place
+nearest_step : (ps : List ℕ) (k t p : ℕ) → IsNearest (0 ∷ ps) k p → (r : ℕ) × IsNearest (0 ∷ t ∷ ps) k r
+nearest_step ps k t p nearest =
+    elim (cases_lt k t) [
+      | inl behind ↦ (p, nearest_with ps k p t p nearest (inl refl) nearest.at_most (omega arith) (λ low. absurd (omega (arith, low, behind))))
+      | inr not_behind ↦
+          elim (cases_lt p t) [
+            | inl later ↦ (t, nearest_with ps k p t t nearest (inr refl) (omega (arith, not_behind)) (omega (arith, later)) (λ low. omega arith))
+            | inr not_later ↦ (p, nearest_with ps k p t p nearest (inl refl) nearest.at_most (omega arith) (λ low. omega (arith, not_later)))
+          ]
     ]
 
-pub shown_of : (s t : State) (j n k : ℕ) → t ≡ state_after (min k j) s → j ≡ n → Reaches s n k → t ≡ state_after k s
-shown_of s t j n k is same reaches = is ∙ ap (λ (i : ℕ). state_after (min k i) s) same ∙ shown_at s n k reaches
+nearest_some : (ps : List ℕ) (k : ℕ) → (p : ℕ) × IsNearest (0 ∷ ps) k p
+nearest_some [] k =
+    (0, nearest_is [] 0 k 0 (contains_head [] 0) (omega arith) (none_first [] k 0) (omega arith))
+nearest_some (t ∷ ps) k =
+    let rest = nearest_some ps k in
+    nearest_step ps k t rest.0 rest.1
 
--- more states reach what fewer do
-pub reaches_more : (s : State) (n m k : ℕ) → n ≤ m → Reaches s n k → Reaches s m k
+-- later places reach what earlier ones do
+reaches_more : (s : State) (n m k : ℕ) → n ≤ m → Reaches s n k → Reaches s m k
 reaches_more s n m k more reaches below =
     let stopped : is_running (state_after n s).status ≡ false = reaches (omega (arith, more, below)) in
     ap (λ (t : State). is_running t.status) (sym (stays_stopped s (state_after n s) n m refl stopped more)) ∙ stopped
 
--- the last state is stopped
-pub reaches_stopped : (s t : State) (n k : ℕ) → n < k → t ≡ state_after (min k n) s → is_running t.status ≡ false → Reaches s n k
-reaches_stopped s t n k below is stopped _ =
-    let least : n ≡ min k n = omega (arith, below) in
-    ap (λ (j : ℕ). is_running (state_after j s).status) least ∙ ap (λ (u : State). is_running u.status) (sym is) ∙ stopped
+-- a machine that stands at k as it does at n is the one at k
+pub stands : (s t : State) (n k : ℕ) → t ≡ state_after n s → (n ≤ k) × (n < k → is_running t.status ≡ false) → t ≡ state_after k s
+stands s t n k here reached =
+    elim (cases_lt n k) [
+      | inl before ↦ stays_stopped s t n k here (reached.1 before) reached.0
+      | inr not_before ↦
+          let same : n ≡ k = omega (arith, not_before, reached.0) in
+          here ∙ ap (λ (i : ℕ). state_after i s) same
+    ]
 
-begins_none : (s : State) → IsRun s []
-unfolding states_to
-begins_none s = refl
+pub reaches_is : (s t : State) (n k : ℕ) → t ≡ state_after n s → (n < k → is_running t.status ≡ false) → Reaches s n k
+reaches_is s t n k here stops before = ap (λ (u : State). is_running u.status) (sym here) ∙ stops before
 
--- no state after the first
-pub begins : {E : Type 0} (f : E → State) (xs : List E) (s : State) (n : ℕ) → xs ≡ [] → IsKept s (map f xs) n 0
-begins f xs s n none =
-    let empty : map f xs ≡ [] = ap (map f) none in
+is_reached : (s t : State) (n k : ℕ) → t ≡ state_after n s → Reaches s n k → n < k → is_running t.status ≡ false
+is_reached s t n k here reaches before = ap (λ (u : State). is_running u.status) here ∙ reaches before
+
+-- no step is made to stay
+pub replay_none : (h : Trail) (k : ℕ) → h.place ≤ k → Reaches h.origin h.place k → IsReplay h k 0
+replay_none h k low reaches =
+    let some = nearest_some (h.place ∷ h.checkpoints) k in
+    let behind : h.place ≤ some.0 = some.1.greatest h.place (contains_tail (h.place ∷ h.checkpoints) 0 h.place (contains_head h.checkpoints h.place)) low in
     record {
-      run = subst (IsRun s) (sym empty) (begins_none s);
-      reaches = λ below. absurd (omega (arith, below));
+      from = some.0;
+      nearest = some.1;
+      at_most = omega (arith, some.1.at_most);
+      reaches = reaches_more h.origin h.place (some.0 + 0) k (omega (arith, behind)) reaches;
     }
 
--- where place k was reached before, the last state is stopped
-pub runs_no_more : (s t : State) (n m j k : ℕ) (stops : Bool) → Reaches s n k → m ≡ n → j ≡ m → m < k → t ≡ state_after (min k j) s → stops ≡ not (is_running t.status) → stops ≡ false → ⊥
-runs_no_more s t n m j k stops reaches same long below is said runs =
-    let least : min k j ≡ n = omega (arith, same, long, below) in
-    let stopped : is_running (state_after n s).status ≡ false = reaches (omega (arith, same, below)) in
-    let here : is_running t.status ≡ false = ap (λ (u : State). is_running u.status) (is ∙ ap (λ (i : ℕ). state_after i s) least) ∙ stopped in
-    let yes : stops ≡ true = said ∙ ap not here in
-    cc
+-- a replay from the nearest of the shown place and the one of the checkpoints
+pub replay_from : (h : Trail) (k p r n at : ℕ) → IsNearest (0 ∷ h.checkpoints) k p → (r ≡ p) ⊎ (r ≡ h.place) → r ≤ k → p ≤ r → (h.place ≤ k → h.place ≤ r) → r ≤ at → at ≤ k → Reaches h.origin at k → n ≡ at - r → IsReplay h k n
+replay_from h k p r n at nearest one low more next on within reaches is =
+    let whole : at ≡ r + n = omega (arith, on, is) in
+    record {
+      from = r;
+      nearest = nearest_with h.checkpoints k p h.place r nearest one low more next;
+      at_most = omega (arith, whole, within);
+      reaches = subst (λ (i : ℕ). Reaches h.origin i k) whole reaches;
+    }
+
+-- one step on from the place before k
+pub next_place : (s t u : State) (k : ℕ) → t ≡ state_after (k - 1) s → 1 ≤ k → u ≡ next_state t → u ≡ state_after k s
+next_place s t u k here some step =
+    let next : k - 1 + 1 ≡ k = omega (arith, some) in
+    step ∙ ap next_state here ∙ sym (state_after-more (k - 1) s) ∙ ap (λ (i : ℕ). state_after i s) next
+
+pub not_running : (b c : Bool) → b ≡ not c → b ≡ true → c ≡ false
+not_running b true is said = let stops : b ≡ false = is in cc
+not_running b false is said = refl
+
+pub before_next : (s u : State) (k : ℕ) → u ≡ state_after k s → u ≡ state_after (k + 1 - 1) s
+before_next s u k here =
+    let same : k ≡ k + 1 - 1 = omega arith in
+    here ∙ ap (λ (i : ℕ). state_after i s) same
+
+-- the first state is at place 0
+pub start_is : (s t : State) (n : ℕ) → n ≡ 0 → t ≡ s → t ≡ state_after n s
+start_is s t n none is = is ∙ sym (state_after-zero s) ∙ ap (λ (k : ℕ). state_after k s) (sym none)
+
+-- n steps on from place k
+pub places_on : (s t u : State) (k n m : ℕ) → t ≡ state_after k s → u ≡ state_after n t → m ≡ k + n → u ≡ state_after m s
+places_on s t u k n m here run is =
+    let whole : n + k ≡ m = omega (arith, is) in
+    run ∙ ap (state_after n) here ∙ sym (state_after-add n k s) ∙ ap (λ (i : ℕ). state_after i s) whole
+
+-- the machine that a replay ended with is the one at place k
+pub shown_again : (s u t : State) (n k : ℕ) → u ≡ s → t ≡ state_after n s → n ≤ k → Reaches s n k → t ≡ state_after k u
+shown_again s u t n k origin here within reaches =
+    stands s t n k here (within, is_reached s t n k here reaches) ∙ ap (state_after k) (sym origin)
+
+-- the item that is read is one of those that are kept
+pub contains_at : {C : Type 0} (place : C → ℕ) (cs : List C) (ps : List ℕ) (i : ℕ) (a b c : C) → map place cs ≡ ps → slice_get cs i ≡ Some b → (c ≡ a) ⊎ (c ≡ b) → Contains (0 ∷ ps) (place a) → Contains (0 ∷ ps) (place c)
+contains_at place cs ps i a b c whole is one among =
+    elim one [
+      | inl same ↦ subst (λ (n : ℕ). Contains (0 ∷ ps) n) (ap place (sym same)) among
+      | inr same ↦
+          let kept : Contains ps (place b) = subst (λ (qs : List ℕ). Contains qs (place b)) whole (contains_place place cs i b is) in
+          subst (λ (n : ℕ). Contains (0 ∷ ps) n) (ap place (sym same)) (contains_tail ps 0 (place b) kept)
+    ]
+
+pub none_more_at : {C : Type 0} (place : C → ℕ) (cs : List C) (ps : List ℕ) (i k p : ℕ) (b c : C) → map place cs ≡ ps → slice_get cs i ≡ Some b → NoneNearer ps i k p → p ≤ place c → (place b ≤ k → place b ≤ place c) → NoneNearer ps (i + 1) k (place c)
+none_more_at place cs ps i k p b c whole is none more next =
+    none_more ps i k p (place b) (place c) none (ap (λ (qs : List ℕ). get_or qs i 0) (sym whole) ∙ place_at place cs i b is) more next
+
+pub all_places : {C : Type 0} (place : C → ℕ) (cs : List C) (ps : List ℕ) (n : ℕ) → map place cs ≡ ps → length cs ≤ n → length ps ≤ n
+all_places place cs ps n whole long = omega (arith, long, length-map cs place, ap length whole)
+
+-- an item that is read is one of them
+pub all_at : {C : Type 0} (P : C → Type 0) (cs : List C) (i : ℕ) (c : C) → All P cs → slice_get cs i ≡ Some c → P c
+all_at P cs i c all is = subst P (get_or_from_slice_get cs i c c is) (all i c (slice_get_within cs i c is))
+
+pub one_of : {C : Type 0} (P : C → Type 0) (a b c : C) → (c ≡ a) ⊎ (c ≡ b) → P a → P b → P c
+one_of P a b c one first second =
+    elim one [ inl same ↦ subst P (sym same) first | inr same ↦ subst P (sym same) second ]
+
+pub none_past : {C : Type 0} (cs : List C) (i : ℕ) → slice_get cs i ≡ None → i < length cs → ⊥
+none_past [] i none low = omega (arith, low)
+none_past (c ∷ cs) zero none low = let read : Some c ≡ None = none in cc
+none_past (c ∷ cs) (suc i) none low = none_past cs i none (omega (arith, low))
+
+-- what a read answers, as the value behind it
+pub read_is : {B C : Type 0} (now : B → C) (r : Option B) (cs : List C) (i : ℕ) (b : B) → option_map now r ≡ slice_get cs i → r ≡ Some b → slice_get cs i ≡ Some (now b)
+read_is now r cs i b read is = sym read ∙ ap (option_map now) is
+
+pub read_none : {B C : Type 0} (now : B → C) (r : Option B) (cs : List C) (i : ℕ) → option_map now r ≡ slice_get cs i → r ≡ None → slice_get cs i ≡ None
+read_none now r cs i read is = sym read ∙ ap (option_map now) is

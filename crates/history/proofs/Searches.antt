@@ -1,10 +1,10 @@
 -- Searches of a run for a place to stop.
-use Rattle.std.proofs.Common.{◌≡◌, ◌≢◌, ℕ, zero, suc, ◌+◌, ◌-◌, ◌<◌, ◌≤◌, Bool, true, false, List, min, refl, sym, ap, ◌∙◌, arith, subst, inl, inr, ◌⊎◌, if◌then◌else◌}
+use Rattle.std.proofs.Common.{◌≡◌, ◌≢◌, ℕ, zero, suc, add-one, ◌+◌, ◌-◌, ◌<◌, ◌≤◌, Bool, true, false, List, refl, sym, ap, ◌∙◌, arith, subst, inl, inr, ◌⊎◌, if◌then◌else◌}
 use Rattle.std.proofs.lemmas.Bool.{cases_lt}
 use Rattle.bpf_machine.specs.State.{State}
 use Rattle.bpf_machine.specs.Step.{is_running}
 use Rattle.bpf_machine.specs.Trace.{state_after}
-use Rattle.bpf_machine.specs.Laws.{stays_stopped}
+use Rattle.bpf_machine.specs.Laws.{goes_on, stays_stopped}
 use Rattle.history.specs.Search.{first_stop, is_at, is_stop, last_stop, FirstIsLeast, IsFirst, IsLast, LastIsGreatest}
 use Rattle.history.specs.Trail.{Reaches}
 
@@ -137,11 +137,6 @@ pub last_only : LastIsGreatest
 last_only stops s k j =
     ((λ last. lasts_agree stops s k j (last_stop stops s k) last (last_stop-is stops s k)), (λ e. subst (λ (i : ℕ). IsLast stops s k i) (sym e) (last_stop-is stops s k)))
 
--- what reaches a place reaches those before it
-pub reaches_less : (s : State) (n m j k : ℕ) → Reaches s n k → m ≡ n → j ≤ k → Reaches s m j
-reaches_less s n m j k reaches same less below =
-    ap (λ (i : ℕ). is_running (state_after i s).status) same ∙ reaches (omega (arith, same, less, below))
-
 -- no place after k and before j at which the run is to stop
 abbrev pub NoneBefore : List ℕ → State → ℕ → ℕ → Type 0
 NoneBefore stops s k j = (i : ℕ) → k < i → i < j → is_stop stops (state_after i s) ≡ false
@@ -186,37 +181,6 @@ found_none stops s k to j none some ends =
 abbrev pub NoneFrom : List ℕ → State → ℕ → ℕ → Type 0
 NoneFrom stops s j k = (i : ℕ) → j ≤ i → i < k → is_at stops (state_after i s).pc ≡ false
 
--- behind the last state that is kept, each is that one
-pub none_behind : (stops : List ℕ) (s t : State) (n last j k : ℕ) (here : Bool) → last ≡ k - 1 → Reaches s n k → j ≡ min last n → t ≡ state_after (min last n) s → here ≡ is_at stops t.pc → here ≡ false → NoneFrom stops s j k
-none_behind stops s t n last j k here end reaches least is said goes_on i behind before =
-    let state : t ≡ state_after j s = is ∙ ap (λ (p : ℕ). state_after p s) (sym least) in
-    elim (cases_lt n last) [
-      | inl stopped ↦
-          let at_end : j ≡ n = omega (arith, least, stopped) in
-          let stands : is_running t.status ≡ false = ap (λ (u : State). is_running u.status) (state ∙ ap (λ (p : ℕ). state_after p s) at_end) ∙ reaches (omega (arith, end, stopped, before)) in
-          let equal : t ≡ state_after i s = stays_stopped s t j i state stands behind in
-          ap (λ (u : State). is_at stops u.pc) (sym equal) ∙ sym said ∙ goes_on
-      | inr kept ↦
-          let same : i ≡ j = omega (arith, end, least, kept, behind, before) in
-          ap (λ (p : ℕ). is_at stops (state_after p s).pc) same ∙ ap (λ (u : State). is_at stops u.pc) (sym state) ∙ sym said ∙ goes_on
-    ]
-
--- a breakpoint at j, and at none behind
-pub found_last : (stops : List ℕ) (s t : State) (j l k : ℕ) (here : Bool) → NoneFrom stops s l k → l ≡ j + 1 → (j < k) ⊎ (j ≡ 0) → t ≡ state_after j s → here ≡ is_at stops t.pc → here ≡ true → j ≡ last_stop stops s k
-found_last stops s t j l k here none next low is said stops_here =
-    (last_only stops s k j).0
-    (record {
-      before = low;
-      none_after = λ i after before. none i (omega (arith, next, after)) before;
-      stops_there = λ _. ap (λ (u : State). is_at stops u.pc) (sym is) ∙ sym said ∙ stops_here;
-    })
-
--- a breakpoint at the place before k, which is also place 0 where there is none
-pub found_end : (stops : List ℕ) (s t : State) (j k : ℕ) (here : Bool) → j ≡ k - 1 → t ≡ state_after j s → here ≡ is_at stops t.pc → here ≡ true → j ≡ last_stop stops s k
-found_end stops s t j k here end is said stops_here =
-    let low : (j < k) ⊎ (j ≡ 0) = elim (cases_lt j k) [ inl low ↦ inl low | inr none ↦ inr (omega (arith, end, none)) ] in
-    found_last stops s t j (j + 1) k here (λ i behind before. absurd (omega (arith, end, behind, before))) refl low is said stops_here
-
 -- no breakpoint from place 0 on
 pub found_first : (stops : List ℕ) (s : State) (j k : ℕ) → NoneFrom stops s j k → j ≡ 0 → 0 ≡ last_stop stops s k
 found_first stops s j k none start =
@@ -226,3 +190,123 @@ found_first stops s j k none start =
       none_after = λ i after before. none i (omega (arith, start)) before;
       stops_there = λ some. absurd (some refl);
     })
+
+is_stop-stopped : (stops : List ℕ) (t : State) → is_running t.status ≡ false → is_stop stops t ≡ true
+unfolding is_stop
+is_stop-stopped stops t stopped = rw stopped
+
+-- behind a stopped state, and at the last place, the next one is the answer
+pub found_next : (stops : List ℕ) (s : State) (k to : ℕ) → k < to → Reaches s k (to - 1) → k + 1 ≡ first_stop stops s k (to - k)
+found_next stops s k to some reaches =
+    elim (cases_lt (k + 1) to) [
+      | inl before ↦
+          let stopped : is_running (state_after k s).status ≡ false = reaches (omega (arith, before)) in
+          let same : state_after k s ≡ state_after (k + 1) s = stays_stopped s (state_after k s) k (k + 1) refl stopped (omega arith) in
+          let here : is_stop stops (state_after (k + 1) s) ≡ true = ap (is_stop stops) (sym same) ∙ is_stop-stopped stops (state_after k s) stopped in
+          found_here stops s (state_after (k + 1) s) k to (k + 1) (is_stop stops (state_after (k + 1) s)) (none_first stops s k (k + 1) refl) (omega arith) before refl refl here
+      | inr not_before ↦
+          let last : to ≡ k + 1 = omega (arith, not_before, some) in
+          sym last ∙ found_none stops s k to (k + 1) (none_first stops s k (k + 1) refl) some (omega (arith, last))
+    ]
+
+-- before place 1 there is place 0 alone, which is the answer either way
+last_alone : (k : ℕ) (here : Bool) → 0 ≡ k → 0 ≡ (if here then 0 else k)
+last_alone k true is = refl
+last_alone k false is = is
+
+pub last_none : (stops : List ℕ) (s : State) → 0 ≡ last_stop stops s 1
+unfolding last_stop
+last_none stops s = last_alone 0 (is_at stops (state_after 0 s).pc) refl
+
+pub last_here_is : (stops : List ℕ) (s t : State) (k : ℕ) (here : Bool) → t ≡ state_after k s → here ≡ is_at stops t.pc → here ≡ true → k ≡ last_stop stops s (k + 1)
+unfolding last_stop
+last_here_is stops s t k here is said stops_here =
+    let yes : is_at stops (state_after k s).pc ≡ true = ap (λ (u : State). is_at stops u.pc) (sym is) ∙ sym said ∙ stops_here in
+    rw add-one (rw yes refl)
+
+pub last_stays : (stops : List ℕ) (s t : State) (k j : ℕ) (here : Bool) → t ≡ state_after k s → here ≡ is_at stops t.pc → here ≡ false → j ≡ last_stop stops s k → j ≡ last_stop stops s (k + 1)
+unfolding last_stop
+last_stays stops s t k j here is said goes_on before =
+    let no : is_at stops (state_after k s).pc ≡ false = ap (λ (u : State). is_at stops u.pc) (sym is) ∙ sym said ∙ goes_on in
+    rw add-one (rw no before)
+
+-- the run stands before place k, with a breakpoint there
+pub last_stands : (stops : List ℕ) (s t : State) (k n : ℕ) (here : Bool) → t ≡ state_after (k - 1) s → is_running t.status ≡ false → k ≤ n → 0 < n → here ≡ is_at stops t.pc → here ≡ true → n - 1 ≡ last_stop stops s n
+last_stands stops s t k n here is stopped later some said stops_here =
+    let same : t ≡ state_after (n - 1) s = stays_stopped s t (k - 1) (n - 1) is stopped (omega (arith, later)) in
+    (last_only stops s n (n - 1)).0
+    (record {
+      before = inl (omega (arith, some));
+      none_after = λ i after before. absurd (omega (arith, after, before));
+      stops_there = λ _. ap (λ (u : State). is_at stops u.pc) (sym same) ∙ sym said ∙ stops_here;
+    })
+
+-- the run stands before place k, with no breakpoint there
+pub last_stands_not : (stops : List ℕ) (s t : State) (k n j : ℕ) (here : Bool) → t ≡ state_after (k - 1) s → is_running t.status ≡ false → k ≤ n → here ≡ is_at stops t.pc → here ≡ false → j ≡ last_stop stops s k → j ≡ last_stop stops s n
+last_stands_not stops s t k n j here is stopped later said goes_on last =
+    let earlier : IsLast stops s k j = (last_only stops s k j).1 last in
+    (last_only stops s n j).0
+    (record {
+      before = elim earlier.before [ inl low ↦ inl (omega (arith, low, later)) | inr none ↦ inr none ];
+      none_after = λ i after before.
+          elim (cases_lt i k) [
+            | inl low ↦ earlier.none_after i after low
+            | inr not_low ↦
+                let same : t ≡ state_after i s = stays_stopped s t (k - 1) i is stopped (omega (arith, not_low)) in
+                ap (λ (u : State). is_at stops u.pc) (sym same) ∙ sym said ∙ goes_on
+          ];
+      stops_there = earlier.stops_there;
+    })
+
+pub last_low : (stops : List ℕ) (s : State) (n j : ℕ) → 0 < n → j ≡ last_stop stops s n → j < n
+last_low stops s n j some last =
+    let is : IsLast stops s n j = (last_only stops s n j).1 last in
+    elim is.before [ inl low ↦ low | inr none ↦ omega (arith, none, some) ]
+
+-- none after the answer of the stretch from p to end, nor behind end
+none_after_last : (stops : List ℕ) (s t : State) (p end k j i : ℕ) → t ≡ state_after p s → NoneFrom stops s end k → IsLast stops t (end - p) j → p + j < i → i < k → is_at stops (state_after i s).pc ≡ false
+none_after_last stops s t p end k j i is none last after before =
+    elim (cases_lt i end) [
+      | inl low ↦
+          let same : state_after (i - p) t ≡ state_after i s = goes_on s t p i is (omega (arith, after)) in
+          ap (λ (u : State). is_at stops u.pc) (sym same) ∙ last.none_after (i - p) (omega (arith, after)) (omega (arith, low, after))
+      | inr not_low ↦ none i (omega (arith, not_low)) before
+    ]
+
+at_begin : (stops : List ℕ) (s t : State) (p j : ℕ) → t ≡ state_after p s → (0 < j) ⊎ (is_at stops t.pc ≡ true) → (j ≢ 0 → is_at stops (state_after j t).pc ≡ true) → is_at stops (state_after (p + j) s).pc ≡ true
+at_begin stops s t p j is found stops_there =
+    let whole : p + j - p ≡ j = omega arith in
+    let same : state_after j t ≡ state_after (p + j) s = ap (λ (i : ℕ). state_after i t) (sym whole) ∙ goes_on s t p (p + j) is (omega arith) in
+    elim (cases_lt 0 j) [
+      | inl some ↦ ap (λ (u : State). is_at stops u.pc) (sym same) ∙ stops_there (λ none. absurd (omega (arith, none, some)))
+      | inr not_some ↦
+          elim found [
+            | inl some ↦ absurd (omega (arith, not_some, some))
+            | inr begin ↦
+                let none : p ≡ p + j = omega (arith, not_some) in
+                ap (λ (i : ℕ). is_at stops (state_after i s).pc) (sym none) ∙ ap (λ (u : State). is_at stops u.pc) (sym is) ∙ begin
+          ]
+    ]
+
+-- the answer of a stretch with a breakpoint in it, with none behind the stretch
+pub found_in_stretch : (stops : List ℕ) (s t : State) (p end k j : ℕ) → t ≡ state_after p s → p < end → end ≤ k → NoneFrom stops s end k → j ≡ last_stop stops t (end - p) → (0 < j) ⊎ (is_at stops t.pc ≡ true) → p + j ≡ last_stop stops s k
+found_in_stretch stops s t p end k j is some within none answer found =
+    let last : IsLast stops t (end - p) j = (last_only stops t (end - p) j).1 answer in
+    let low : j < end - p = last_low stops t (end - p) j (omega (arith, some)) answer in
+    (last_only stops s k (p + j)).0
+    (record {
+      before = inl (omega (arith, low, within));
+      none_after = λ i after before. none_after_last stops s t p end k j i is none last after before;
+      stops_there = λ _. at_begin stops s t p j is found last.stops_there;
+    })
+
+-- a stretch with no breakpoint
+pub none_in_stretch : (stops : List ℕ) (s t : State) (p end k j : ℕ) (here : Bool) → t ≡ state_after p s → NoneFrom stops s end k → j ≡ last_stop stops t (end - p) → j ≡ 0 → here ≡ is_at stops t.pc → here ≡ false → NoneFrom stops s p k
+none_in_stretch stops s t p end k j here is none answer start said goes_on i behind before =
+    let last : IsLast stops t (end - p) j = (last_only stops t (end - p) j).1 answer in
+    elim (cases_lt p i) [
+      | inl after ↦ none_after_last stops s t p end k j i is none last (omega (arith, start, after)) before
+      | inr not_after ↦
+          let same : i ≡ p = omega (arith, behind, not_after) in
+          ap (λ (m : ℕ). is_at stops (state_after m s).pc) same ∙ ap (λ (u : State). is_at stops u.pc) (sym is) ∙ sym said ∙ goes_on
+    ]

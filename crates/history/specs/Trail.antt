@@ -1,34 +1,43 @@
--- A run whose states are kept place by place.
-use Rattle.std.specs.Prelude.{◌≡◌, ℕ, zero, suc, ◌<◌, true, false, List, [], ◌∷◌, ◌++◌, length}
+-- A run that is shown at one of its places, with machines kept at some of them.
+use Rattle.std.specs.Prelude.{◌≡◌, ℕ, ◌+◌, ◌<◌, ◌≤◌, false, List, ◌∷◌, Contains}
 use Rattle.bpf_machine.specs.State.{State}
 use Rattle.bpf_machine.specs.Step.{is_running}
 use Rattle.bpf_machine.specs.Trace.{state_after}
+use Rattle.history.specs.declared.checkpoint.Checkpoint.{Checkpoint}
 
--- the state at place 0, the place that is shown, and the furthest that is kept
+-- the state at place 0, and the places of the checkpoints
+pub record Kept : Type 0 where
+  pub origin : State
+  pub places : List ℕ
+
+-- the same with the place that is shown, and the steps that were made to show it
 pub record Trail : Type 0 where
   pub origin : State
   pub place : ℕ
-  pub kept : ℕ
+  pub checkpoints : List ℕ
+  pub replayed : ℕ
 
--- the states at the places 1 to n
-unfoldable pub states_to : ℕ → State → List State
-states_to zero s = []
-states_to (suc n) s = states_to n s ++ state_after (suc n) s ∷ []
+-- a checkpoint's machine is in the state of the run at its place
+abbrev pub IsCheckpoint : {E : Type 0} → (E → State) → State → Checkpoint E → Type 0
+IsCheckpoint state s c = state c.machine ≡ state_after c.place s
 
--- these are the states after s, place by place
-abbrev pub IsRun : State → List State → Type 0
-IsRun s later = later ≡ states_to (length later) s
-
--- of the states up to place n, one stands at place k, or the last one is stopped
+-- the run stands at place k in the state of place n, or has not passed it
 abbrev pub Reaches : State → ℕ → ℕ → Type 0
 Reaches s n k = n < k → is_running (state_after n s).status ≡ false
 
--- the state at place n is the last that could be kept on the way to place k: it runs, and its successor was refused memory
-pub record EndsBefore (s : State) (n k : ℕ) : Type 0 where
-  pub before : n < k
-  pub runs : is_running (state_after n s).status ≡ true
+-- of these places, p is the greatest at or before k
+pub record IsNearest (places : List ℕ) (k p : ℕ) : Type 0 where
+  pub among : Contains places p
+  pub at_most : p ≤ k
+  pub greatest : (q : ℕ) → Contains places q → q ≤ k → q ≤ p
 
--- what a list history keeps true of its parts
-pub record IsKept (s : State) (later : List State) (kept place : ℕ) : Type 0 where
-  pub run : IsRun s later
-  pub reaches : Reaches s kept place
+-- the places at which a machine is at hand: the start, the one that is shown, the checkpoints
+abbrev pub places_of : Trail → List ℕ
+places_of h = 0 ∷ h.place ∷ h.checkpoints
+
+-- n steps lead from the nearest place at hand to place k, or to a stopped state before it
+pub record IsReplay (h : Trail) (k n : ℕ) : Type 0 where
+  pub from : ℕ
+  pub nearest : IsNearest (places_of h) k from
+  pub at_most : from + n ≤ k
+  pub reaches : Reaches h.origin (from + n) k

@@ -1,10 +1,15 @@
 //! Runs of a machine that can be shown at each of their places, and searched both ways.
 #![tactic(auto)]
 
+mod checkpoint;
+mod checkpoints;
 mod emulator;
 mod history;
 pub mod laws;
 mod past;
+mod replay;
+mod search;
+mod stop;
 #[cfg(test)]
 mod tests;
 

@@ -1,49 +1,49 @@
-//! A history that keeps each machine of its run.
-ghost use Rattle.std.specs.Prelude.{◌≡◌, ◌-◌, ◌<◌, ◌≤◌, false, length, map, max, min, not, vec_len, IfOk, IsOk, OnErr, OnOk};
-ghost use Rattle.bpf_machine.specs.Step.{is_running, next_state};
+//! A history that keeps checkpoints of its run and replays what lies between them.
+ghost use Rattle.std.specs.Prelude.{◌≡◌, ◌-◌, ◌<◌, ◌≤◌, [], ◌∷◌, IfOk, IsOk, OnErr, OnOk};
 ghost use Rattle.bpf_machine.specs.Trace.{state_after};
-ghost use Rattle.history.specs.Search.{first_stop, is_at, is_stop, last_stop};
-ghost use Rattle.history.specs.Trail.{EndsBefore, IsRun, Reaches};
+ghost use Rattle.history.specs.Search.{first_stop, last_stop};
+ghost use Rattle.history.specs.Trail.{IsCheckpoint, IsNearest, IsReplay, Reaches, places_of};
 
+use crate::checkpoint::{Checkpoint, nearer};
+use crate::checkpoints::Checkpoints;
 use crate::emulator::Emulator;
 use crate::history::History;
-use bpf_machine::Status;
+use crate::replay::replay;
+use crate::search::{first_after, last_before};
 use std::alloc::{AllocError, Global};
 use std::marker::Model;
 
-/// A run of which each machine is kept, place by place, up to the furthest place that was asked
-/// for or searched, but none behind a stopped one.
+/// A run of which the machine that is shown is kept, and checkpoints from which the others are
+/// replayed.
 #[derive(Drop)]
 pub struct Past<E: Emulator> {
-    /// The machine at place 0.
-    first: E,
-    /// Those at the places from 1 on.
-    later: Vec<E>,
-    /// The place that is shown.
-    place: u64,
+    checkpoints: Checkpoints<E>,
+    /// The machine that is shown.
+    shown: Checkpoint<E>,
+    /// The steps of the last move.
+    replayed: u64,
 }
 
 impl<E: Emulator> Model for Past<E> {
-    ghost use Rattle.std.specs.Prelude.{map, vec_len};
     ghost use Rattle.std.specs.Coded.{codes};
     ghost use Rattle.value_store.specs.Codes.{coded_stored};
-    ghost use Rattle.history.specs.Trail.{IsKept, Trail};
+    ghost use Rattle.history.specs.Trail.{IsCheckpoint, Trail};
 
     ghost Value = { Trail };
 
     ghost coded = { Prim.hlevel (codes, coded_stored) };
 
-    ghost view = { λ h. record { origin = E.state h.first; place = h.place; kept = vec_len h.later } };
+    ghost view = { λ h. record { origin = h.checkpoints.origin; place = h.shown.place; checkpoints = h.checkpoints.places; replayed = h.replayed } };
 
-    ghost invariant = { λ h. IsKept (E.state h.first) (map E.state h.later.items) (vec_len h.later) h.place };
+    ghost invariant = { λ h. IsCheckpoint E.state h.checkpoints.origin h.shown };
 }
 
 impl<E: Emulator> Past<E> {
-    /// The furthest place whose machine is kept.
-    pub(crate) fn kept(&self) -> u64
-        ensures { result ≡ self.now.kept }
+    /// The steps that the last move made to show its place. Those after a stop are not made.
+    pub fn replayed(&self) -> u64
+        ensures { result ≡ self.now.replayed }
     {
-        self.later.len() as u64
+        self.replayed
     }
 }
 
@@ -57,38 +57,48 @@ impl<E: Emulator> History for Past<E> {
     fn begin(alloc: Global, machine: E) -> Result<Self, AllocError>
         ensures origin { IfOk result (λ h. h.origin ≡ E.state machine) }
         ensures place { IfOk result (λ h. h.place ≡ 0) }
-        ensures kept { IfOk result (λ h. h.kept ≡ 0) }
-        ensures no_memory { IsOk result }
+        ensures checkpoints { IfOk result (λ h. h.checkpoints ≡ []) }
+        ensures replayed { IfOk result (λ h. h.replayed ≡ 0) }
     {
+        let start = machine.copy()?;
+        let checkpoints = Checkpoints::new(alloc, start)?;
         Ok(Past {
-            first: machine,
-            later: Vec::new(alloc),
-            place: 0,
+            checkpoints,
+            shown: Checkpoint { place: 0, machine },
+            replayed: 0,
         })
     }
 
     fn now(&self) -> u64 {
-        self.place
+        self.shown.place
     }
 
     fn machine(&self) -> &E {
-        kept_at(&self.first, &self.later, self.place)
+        &self.shown.machine
     }
 
     fn go(&mut self, k: u64) -> Result<(), AllocError>
         ensures ok { OnOk result (self.new.place ≡ k) }
         ensures err { OnErr result (self.new.place ≡ self.old.place) }
         ensures origin { self.new.origin ≡ self.old.origin }
-        ensures grows { self.old.kept ≤ self.new.kept }
-        ensures no_further { self.new.kept ≤ max self.old.kept k }
-        // No memory is taken on the way to a place that is kept, nor behind a stopped state.
-        ensures no_memory { Reaches self.old.origin self.old.kept k → IsOk result }
-        ensures kept { Reaches self.old.origin self.old.kept k → self.new.kept ≡ self.old.kept }
-        // What was kept on the way stays kept where a growth is refused.
-        ensures refused { OnErr result (EndsBefore self.new.origin self.new.kept k) }
+        ensures replayed { OnOk result (IsReplay self.old k self.new.replayed) }
+        ensures unmoved { OnErr result (self.new.replayed ≡ self.old.replayed) }
+        // No memory is taken to stay, nor to go on behind a stopped state.
+        ensures no_memory { self.old.place ≤ k → Reaches self.old.origin self.old.place k → IsOk result }
     {
-        keep(&self.first, &mut self.later, k)?;
-        self.place = k;
+        if self.shown.reaches(k) {
+            self.shown.place = k;
+            self.replayed = 0;
+            return Ok(());
+        }
+        let from = nearer(self.checkpoints.nearest(k), &self.shown, k).copy()?;
+        let begin = from.place;
+        let reached = replay(&mut self.checkpoints, from, k)?;
+        self.replayed = reached.place - begin;
+        self.shown = Checkpoint {
+            place: k,
+            machine: reached.machine,
+        };
         Ok(())
     }
 
@@ -97,147 +107,18 @@ impl<E: Emulator> History for Past<E> {
         ensures found { IfOk result (λ j. j ≡ first_stop stops.now self.old.origin self.old.place (to - self.old.place)) }
         ensures place { self.new.place ≡ self.old.place }
         ensures origin { self.new.origin ≡ self.old.origin }
-        ensures grows { self.old.kept ≤ self.new.kept }
-        // Nothing is kept behind the place that is found.
-        ensures no_further { IfOk result (λ j. self.new.kept ≤ max self.old.kept j) }
-        // No memory is taken where the places up to `to` are kept, nor behind a stopped state.
-        ensures no_memory { Reaches self.old.origin self.old.kept to → IsOk result }
-        ensures kept { Reaches self.old.origin self.old.kept to → self.new.kept ≡ self.old.kept }
-        ensures refused { OnErr result (EndsBefore self.new.origin self.new.kept to) }
+        ensures replayed { self.new.replayed ≡ self.old.replayed }
+        // No memory is taken to look one place on, nor behind a stopped state.
+        ensures no_memory { Reaches self.old.origin self.old.place (to - 1) → IsOk result }
     {
-        first_after(&self.first, &mut self.later, self.place, to, stops)
+        first_after(&mut self.checkpoints, &self.shown, to, stops)
     }
 
     fn last(&mut self, stops: &[u64]) -> Result<u64, AllocError>
         ensures found { IfOk result (λ j. j ≡ last_stop stops.now self.old.origin self.old.place) }
-        ensures place { self.new.place ≡ self.old.place }
-        ensures origin { self.new.origin ≡ self.old.origin }
-        ensures no_memory { IsOk result }
-        ensures kept { self.new.kept ≡ self.old.kept }
+        ensures same { self.new ≡ self.old }
+        ensures no_memory { self.old.place ≡ 0 → IsOk result }
     {
-        Ok(last_before(&self.first, &self.later, self.place, stops))
-    }
-}
-
-/// The machine at this place, or the last one where none is kept there.
-fn kept_at<'a, E: Emulator>(first: &'a E, later: &'a [E], place: u64) -> &'a E
-    requires { IsRun (E.state first.now) (map E.state later.now) }
-    ensures { E.state result.now ≡ state_after (min place (length later.now)) (E.state first.now) }
-{
-    let place = place.min(later.len() as u64) as usize;
-    if place == 0 {
-        return first;
-    }
-    &later[place - 1]
-}
-
-/// Keeps the machines up to place `k`, or up to the first that is stopped.
-fn keep<E: Emulator>(first: &E, later: &mut Vec<E>, k: u64) -> Result<(), AllocError>
-    requires { IsRun (E.state first.now) (map E.state later.old.items) }
-    ensures run { IsRun (E.state first.now) (map E.state later.new.items) }
-    ensures grows { vec_len later.old ≤ vec_len later.new }
-    ensures no_further { vec_len later.new ≤ max (vec_len later.old) k }
-    ensures reaches { OnOk result (Reaches (E.state first.now) (vec_len later.new) k) }
-    ensures no_memory { Reaches (E.state first.now) (vec_len later.old) k → IsOk result }
-    ensures kept { Reaches (E.state first.now) (vec_len later.old) k → vec_len later.new ≡ vec_len later.old }
-    ensures refused { OnErr result (EndsBefore (E.state first.now) (vec_len later.new) k) }
-{
-    while (later.len() as u64) < k {
-        let last = kept_at(first, later, k);
-        if is_stopped(last) {
-            return Ok(());
-        }
-        let next = successor(last)?;
-        later.push(next)?;
-    }
-    Ok(())
-}
-
-fn is_stopped<E: Emulator>(machine: &E) -> bool
-    ensures { result ≡ not (is_running (E.state machine.now).status) }
-{
-    !matches!(machine.status(), Status::Running)
-}
-
-/// The machine after one more step.
-fn successor<E: Emulator>(machine: &E) -> Result<E, AllocError>
-    ensures { IfOk result (λ next. E.state next ≡ next_state (E.state machine.now)) }
-{
-    let mut next = machine.copy()?;
-    next.step()?;
-    Ok(next)
-}
-
-/// The least place after `place` and up to `to` at which the run is to stop, else `to`. Keeps the
-/// machines that it looks at.
-fn first_after<E: Emulator>(
-    first: &E,
-    later: &mut Vec<E>,
-    place: u64,
-    to: u64,
-    stops: &[u64],
-) -> Result<u64, AllocError>
-    requires run { IsRun (E.state first.now) (map E.state later.old.items) }
-    requires place { place < to }
-    ensures run { IsRun (E.state first.now) (map E.state later.new.items) }
-    ensures grows { vec_len later.old ≤ vec_len later.new }
-    ensures no_further { IfOk result (λ j. vec_len later.new ≤ max (vec_len later.old) j) }
-    ensures found { IfOk result (λ j. j ≡ first_stop stops.now (E.state first.now) place (to - place)) }
-    ensures no_memory { Reaches (E.state first.now) (vec_len later.old) to → IsOk result }
-    ensures kept { Reaches (E.state first.now) (vec_len later.old) to → vec_len later.new ≡ vec_len later.old }
-    ensures refused { OnErr result (EndsBefore (E.state first.now) (vec_len later.new) to) }
-{
-    for j in place + 1..to {
-        keep(first, later, j)?;
-        if is_stop(kept_at(first, later, j), stops) {
-            return Ok(j);
-        }
-    }
-    Ok(to)
-}
-
-/// The greatest place before `place` whose `pc` is one of the slots in `stops`, else 0. All places
-/// behind the last machine that is kept have the `pc` of that one.
-fn last_before<E: Emulator>(first: &E, later: &[E], place: u64, stops: &[u64]) -> u64
-    requires run { IsRun (E.state first.now) (map E.state later.now) }
-    requires reaches { Reaches (E.state first.now) (length later.now) place }
-    ensures { result ≡ last_stop stops.now (E.state first.now) place }
-{
-    // Before place 0 there is none, and 0 is the answer either way.
-    let last = place.saturating_sub(1);
-    if stands_at(kept_at(first, later, last), stops) {
-        return last;
-    }
-    for j in (0..last.min(later.len() as u64)).rev() {
-        if stands_at(kept_at(first, later, j), stops) {
-            return j;
-        }
-    }
-    0
-}
-
-/// Whether the run is to stop at this machine.
-#[tactic(auto, unfolding(crate::specs::Search::is_stop))]
-fn is_stop<E: Emulator>(machine: &E, stops: &[u64]) -> bool
-    ensures { result ≡ is_stop stops.now (E.state machine.now) }
-{
-    is_stopped(machine) || stands_at(machine, stops)
-}
-
-/// Whether the `pc` of this machine is one of these slots.
-fn stands_at<E: Emulator>(machine: &E, stops: &[u64]) -> bool
-    ensures { result ≡ is_at stops.now (E.state machine.now).pc }
-{
-    is_at(machine.pc(), stops)
-}
-
-/// Whether `pc` is one of these slots.
-#[tactic(auto, unfolding(crate::specs::Search::is_at))]
-fn is_at(pc: i64, stops: &[u64]) -> bool
-    ensures { result ≡ is_at stops.now pc }
-{
-    match u64::try_from(pc) {
-        Ok(slot) => stops.contains(&slot),
-        Err(_) => false,
+        last_before(&self.checkpoints, self.shown.place, stops)
     }
 }

@@ -1,8 +1,7 @@
 //! Searches of a run both ways. The places are counted by hand from the code.
 ghost use Rattle.std.specs.Prelude.{◌<◌};
 
-use super::begun;
-use crate::emulator::Emulator;
+use super::{Plain, begun};
 use crate::history::History;
 use crate::past::Past;
 use std::alloc::{AllocError, Global};
@@ -81,8 +80,8 @@ const LAST: [(&[u8], u64, &[u64], u64); 23] = [
 type Found = (u64, u64);
 
 /// What a search on from this place finds, also where the first search is refused.
-fn first_from<H: History>(
-    history: &mut H,
+fn first_from(
+    history: &mut Past<Plain>,
     now: u64,
     to: u64,
     stops: &[u64],
@@ -115,7 +114,7 @@ fn finds_the_first(rt: HostRuntime) -> Result<(), Fail> {
 }
 
 /// What a search back from this place finds.
-fn last_from<H: History>(history: &mut H, now: u64, stops: &[u64]) -> Result<Found, AllocError> {
+fn last_from(history: &mut Past<Plain>, now: u64, stops: &[u64]) -> Result<Found, AllocError> {
     history.go(now)?;
     let found = history.last(stops)?;
     Ok((found, history.now()))
@@ -132,35 +131,5 @@ fn finds_the_last(rt: HostRuntime) -> Result<(), Fail> {
         let last = last_in(rt.alloc(), code, now, stops)?;
         assert!(rt; last == (found, now), "before {now}");
     }
-    Ok(())
-}
-
-/// Slots that are searched one after the other from place 0 of the loop, the place found, and how
-/// many machines are kept then: no more than were looked at, and none behind a stopped one.
-const KEPT: [(&[u64], u64, u64); 4] = [(&[1], 1, 1), (&[2], 6, 6), (&[3], 7, 7), (&[0], 2, 7)];
-
-/// The place that a search on from place 0 finds, and how many machines are kept then.
-fn found_and_kept<E: Emulator>(
-    history: &mut Past<E>,
-    stops: &[u64],
-) -> Result<(u64, u64), AllocError> {
-    let (found, _) = first_from(history, 0, u64::MAX, stops)?;
-    Ok((found, history.kept()))
-}
-
-/// The first search that finds or keeps something else.
-fn wrong_search<E: Emulator>(history: &mut Past<E>) -> Result<Option<usize>, AllocError> {
-    for (row, (stops, found, kept)) in KEPT.into_iter().enumerate() {
-        if found_and_kept(history, stops)? != (found, kept) {
-            return Ok(Some(row));
-        }
-    }
-    Ok(None)
-}
-
-#[test]
-fn keeps_what_it_looks_at(rt: HostRuntime) -> Result<(), Fail> {
-    let mut history = begun(rt.alloc(), LOOP)?;
-    assert_eq!(rt; wrong_search(&mut history)?, None);
     Ok(())
 }

@@ -1,5 +1,6 @@
-use Rattle.history.proofs.Places.{begins}
+use Rattle.std.proofs.Common.{◌∙◌, sym}
+use Rattle.bpf_machine.specs.Laws.{state_after-zero}
 use Rattle.history.proofs.past.PastHistory.begin.Goals as goal
 
 pub invariant_of-result : goal.invariant_of-result
-invariant_of-result g c = begins _ _ _ _ c.new.ensures.items
+invariant_of-result g c = sym c.in_ok-start.ensures ∙ sym c.in_ok-checkpoints.ensures.origin ∙ sym (state_after-zero _)

@@ -1,0 +1,13 @@
+use Rattle.std.proofs.Common.{◌∷◌, ◌≤◌}
+use Rattle.std.specs.List.{Contains}
+use Rattle.history.specs.Trail.{IsCheckpoint}
+use Rattle.history.proofs.Places.{NoneNearer}
+use Rattle.history.proofs.checkpoints.Checkpoints.nearest.Given as goal
+
+abbrev pub invariant-loop-i : goal.invariant-loop-i
+invariant-loop-i g l = record {
+  here : IsCheckpoint g.E.Emulator.state l.self.origin l.nearest;
+  among : Contains (0 ∷ l.self.places) l.nearest.place;
+  at_most : l.nearest.place ≤ l.k;
+  greatest : NoneNearer l.self.places l.i l.k l.nearest.place;
+}

@@ -1,0 +1,28 @@
+use Rattle.std.proofs.Common.{◌≡◌, ◌-◌, ◌<◌, ◌∙◌, inl, inr, arith, sym}
+use Rattle.history.proofs.Searches.{found_first, found_in_stretch, last_low, none_in_stretch}
+use Rattle.history.proofs.search.last_before.Goals as goal
+use Rattle.history.proofs.search.last_before.Goals.{then-last-gt0-via-then-last-gt0, then-last-gt0-via-else-last-gt0+then-stands_at}
+
+pub overflow_add-result : goal.overflow_add-result
+overflow_add-result g c =
+    let before : c.nearest-from.result.now.place < c.loop-end.end = omega (arith, c.nearest-from.ensures.nearest.at_most, c.loop-end-test.true) in
+    let low : c.in_ok-last.last < c.loop-end.end - c.nearest-from.result.now.place = last_low c.args.stops.now (g.E.Emulator.state c.nearest-from.result.now.machine) (c.loop-end.end - c.nearest-from.result.now.place) c.in_ok-last.last (omega (arith, before)) c.in_ok-last.ensures in
+    omega (arith, before, low, c.loop-end.auto.end-fits)
+
+pub returns-then-last-gt0-clause-found : goal.returns-then-last-gt0-clause-found
+returns-then-last-gt0-clause-found g c =
+    let before : c.nearest-from.result.now.place < c.loop-end.end = omega (arith, c.nearest-from.ensures.nearest.at_most, c.loop-end-test.true) in
+    found_in_stretch _ _ _ _ _ _ _ c.nearest-from.ensures.here before c.loop-end.invariant.order c.loop-end.invariant.none c.in_ok-last.ensures
+    (elim c.then-last-gt0.branch [
+      | then-last-gt0-via-then-last-gt0 w ↦ inl w.if-last-gt0.true
+      | then-last-gt0-via-else-last-gt0+then-stands_at w ↦ inr (sym w.stands_at.ensures ∙ w.if-stands_at.true)
+    ])
+
+pub loop-end-preserved : goal.loop-end-preserved
+loop-end-preserved g c = record {
+  order = omega (arith, c.nearest-from.ensures.nearest.at_most, c.loop-end.invariant.order);
+  none = none_in_stretch _ _ _ _ _ _ _ _ c.nearest-from.ensures.here c.loop-end.invariant.none c.in_ok-last.ensures (omega (arith, c.if-last-gt0.false)) c.stands_at.ensures c.if-stands_at.false;
+}
+
+pub returns-clause-found : goal.returns-clause-found
+returns-clause-found g c = found_first _ _ _ _ c.loop-end.invariant.none (omega (arith, c.loop-end-test.false))

@@ -1,0 +1,64 @@
+//! A machine and its place in a run.
+ghost use Rattle.std.specs.Prelude.{◌≡◌, ◌≤◌, ◌<◌, ◌+◌, ◌^◌, ◌⊎◌, ◌↔◌, false, IfOk, IsTrue, OnOk};
+ghost use Rattle.bpf_machine.specs.Step.{is_running};
+ghost use Rattle.bpf_machine.specs.Trace.{state_after};
+
+use crate::emulator::Emulator;
+use crate::stop::is_stopped;
+use std::alloc::AllocError;
+
+/// The machine at a place of its run.
+#[derive(Drop)]
+pub(crate) struct Checkpoint<E> {
+    /// The steps from the begin of the run.
+    pub(crate) place: u64,
+    pub(crate) machine: E,
+}
+
+impl<E: Emulator> Checkpoint<E> {
+    /// An equal machine at the same place.
+    pub(crate) fn copy(&self) -> Result<Checkpoint<E>, AllocError>
+        ensures { IfOk result (λ c. (c.place ≡ self.now.place) × (E.state c.machine ≡ E.state self.now.machine)) }
+    {
+        let machine = self.machine.copy()?;
+        Ok(Checkpoint {
+            place: self.place,
+            machine,
+        })
+    }
+
+    /// `n` steps on, of which those after a stopped state change nothing.
+    pub(crate) fn run(&mut self, n: u64) -> Result<(), AllocError>
+        requires { self.old.place + n < 2 ^ 64 }
+        ensures { OnOk result ((self.new.place ≡ self.old.place + n) × (E.state self.new.machine ≡ state_after n (E.state self.old.machine))) }
+    {
+        self.machine.run(n)?;
+        self.place += n;
+        Ok(())
+    }
+
+    /// Whether it stands at place `k` as it does here, as at its own place or behind a stop.
+    pub(crate) fn reaches(&self, k: u64) -> bool
+        ensures { IsTrue result ↔ ((self.now.place ≤ k) × (self.now.place < k → is_running (E.state self.now.machine).status ≡ false)) }
+    {
+        self.place == k || self.place < k && is_stopped(&self.machine)
+    }
+}
+
+/// The later of two machines that is not behind place `k`. The first is not.
+pub(crate) fn nearer<'a, E>(
+    first: &'a Checkpoint<E>,
+    second: &'a Checkpoint<E>,
+    k: u64,
+) -> &'a Checkpoint<E>
+    requires { first.now.place ≤ k }
+    ensures one { (result.now ≡ first.now) ⊎ (result.now ≡ second.now) }
+    ensures at_most { result.now.place ≤ k }
+    ensures greatest { (first.now.place ≤ result.now.place) × (second.now.place ≤ k → second.now.place ≤ result.now.place) }
+{
+    if first.place < second.place && second.place <= k {
+        second
+    } else {
+        first
+    }
+}
