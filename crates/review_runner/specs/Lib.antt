@@ -5,6 +5,7 @@ pub mod FileSystem
 pub mod Commands
 pub mod Number
 pub mod Order
+pub mod Reviews
 pub mod Rows
 pub mod Opening
 pub mod Debugging
