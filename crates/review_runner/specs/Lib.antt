@@ -6,6 +6,7 @@ pub mod Commands
 pub mod Number
 pub mod Order
 pub mod Reviews
+pub mod RootRows
 pub mod Rows
 pub mod Opening
 pub mod Debugging
