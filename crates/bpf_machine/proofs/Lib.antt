@@ -1,3 +1,4 @@
 pub mod Decoded
+pub mod Registers
 pub mod Spellings
 pub mod States

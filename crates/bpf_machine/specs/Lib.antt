@@ -4,6 +4,7 @@ pub mod Operands
 pub mod Words
 pub mod Arithmetic
 pub mod Jumps
+pub mod HelperCalls
 pub mod Access
 pub mod Step
 pub mod Trace

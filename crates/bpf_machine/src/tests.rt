@@ -1,17 +1,22 @@
 //! Programs whose ends were computed by hand. A slot is written as its eight bytes in storage order.
-use crate::{Machine, Status, Table};
+use crate::{Machine, Status};
 use guest_memory::Guest;
 use loader::Image;
 use std::alloc::Global;
 use std::test::Fail;
+use value_store::{PlainTable, TableError};
 
 mod accesses;
 mod arithmetic;
 mod copies;
+mod helper_calls;
 mod jumps;
 mod runs;
 
 const EXIT: u64 = 0x9500_0000_0000_0000;
+
+/// The machine over the plain store and plain memory.
+type Plain = Machine<PlainTable, Guest>;
 
 /// The two slots of the wide load of a word into the register with this number.
 fn wide(register: u8, word: u64) -> [u64; 2] {
@@ -33,21 +38,36 @@ fn code(alloc: Global, slots: &[u64]) -> Result<Vec<u8>, Fail> {
     Ok(code)
 }
 
+/// The table of five null roots.
+fn nulls(alloc: Global) -> Result<PlainTable, TableError> {
+    PlainTable::of_roots(
+        alloc,
+        &[
+            Default::default(),
+            Default::default(),
+            Default::default(),
+            Default::default(),
+            Default::default(),
+        ],
+    )
+}
+
 /// The machine at the start of this code with these constants.
-fn machine(alloc: Global, slots: &[u64], constants: &[u8]) -> Result<Machine<Guest>, Fail> {
+fn machine(alloc: Global, slots: &[u64], constants: &[u8]) -> Result<Plain, Fail> {
     let code = code(alloc, slots)?;
     let constants = Vec::from_slice(alloc, constants)?;
     let image = Image::new(code, constants)?;
-    Ok(Machine::start(alloc, image, Table::nulls())?)
+    let values = nulls(alloc)?;
+    Ok(Machine::start(alloc, image, values)?)
 }
 
 /// What a run of at most so many steps answers.
-fn run_answer(mut machine: Machine<Guest>, limit: u64) -> Result<(u64, Status), Fail> {
+fn run_answer(mut machine: Plain, limit: u64) -> Result<(u64, Status), Fail> {
     Ok(machine.run(limit)?)
 }
 
 /// The machine after a run of at most so many steps.
-fn run_machine(mut machine: Machine<Guest>, limit: u64) -> Result<Machine<Guest>, Fail> {
+fn run_machine(mut machine: Plain, limit: u64) -> Result<Plain, Fail> {
     machine.run(limit)?;
     Ok(machine)
 }

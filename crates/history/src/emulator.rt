@@ -5,14 +5,21 @@ ghost use Rattle.bpf_machine.specs.State.{State};
 ghost use Rattle.bpf_machine.specs.Step.{next_state};
 ghost use Rattle.bpf_machine.specs.Trace.{state_after, IsReached};
 
-use bpf_machine::{Machine, Status};
+use bpf_machine::{Frame, Machine, Status};
 use guest_memory::Regions;
 use insn_codec::Register;
 use loader::Image;
 use std::alloc::AllocError;
+use value_store::ValueStore;
 
 /// A machine whose run can be kept: what a history and a session need of it.
 pub trait Emulator: Drop {
+    /// What keeps the values that its program can name.
+    type Values: ValueStore;
+
+    /// What keeps its memory.
+    type Memory: Regions;
+
     /// The state that it stands in.
     ghost state: { Self → State };
 
@@ -45,9 +52,24 @@ pub trait Emulator: Drop {
     /// The word of a register.
     fn register(&self, register: Register) -> u64
         ensures { result ≡ register_in (state self.now) register };
+
+    /// The frames of the callers, the newest last.
+    fn records(&self) -> &[Frame]
+        ensures { result.now ≡ (state self.now).records };
+
+    fn memory(&self) -> &Self::Memory
+        ensures { Self.Memory.bytes result.now ≡ (state self.now).memory };
+
+    /// The values that the program can name, and their charge.
+    fn values(&self) -> &Self::Values
+        ensures { record { values = Self.Values.values result.now; charge = Self.Values.charge result.now } ≡ (state self.now).values };
 }
 
-impl<M: Regions> Emulator for Machine<M> {
+impl<V: ValueStore, M: Regions> Emulator for Machine<V, M> {
+    type Values = V;
+
+    type Memory = M;
+
     ghost state = { λ m. m };
 
     fn step(&mut self) -> Result<Status, AllocError> {
@@ -59,7 +81,7 @@ impl<M: Regions> Emulator for Machine<M> {
         Ok(())
     }
 
-    fn copy(&self) -> Result<Machine<M>, AllocError> {
+    fn copy(&self) -> Result<Machine<V, M>, AllocError> {
         self.copy()
     }
 
@@ -77,5 +99,17 @@ impl<M: Regions> Emulator for Machine<M> {
 
     fn register(&self, register: Register) -> u64 {
         self.register(register)
+    }
+
+    fn records(&self) -> &[Frame] {
+        self.records()
+    }
+
+    fn memory(&self) -> &M {
+        self.memory()
+    }
+
+    fn values(&self) -> &V {
+        self.values()
     }
 }

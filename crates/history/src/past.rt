@@ -25,9 +25,13 @@ pub struct Past<E: Emulator> {
 
 impl<E: Emulator> Model for Past<E> {
     ghost use Rattle.std.specs.Prelude.{map, vec_len};
+    ghost use Rattle.std.specs.Coded.{codes};
+    ghost use Rattle.value_store.specs.Codes.{coded_stored};
     ghost use Rattle.history.specs.Trail.{IsKept, Trail};
 
     ghost Value = { Trail };
+
+    ghost coded = { Prim.hlevel (codes, coded_stored) };
 
     ghost view = { λ h. record { origin = E.state h.first; place = h.place; kept = vec_len h.later } };
 

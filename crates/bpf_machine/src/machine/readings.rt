@@ -5,12 +5,12 @@ ghost use Rattle.bpf_machine.specs.Operands.{register_in};
 use super::Machine;
 use crate::frame::Frame;
 use crate::status::Status;
-use crate::table::Table;
 use guest_memory::Regions;
 use insn_codec::Register;
 use loader::Image;
+use value_store::ValueStore;
 
-impl<M: Regions> Machine<M> {
+impl<V: ValueStore, M: Regions> Machine<V, M> {
     /// The image that it runs.
     pub fn image(&self) -> &Image
         ensures { result.now ≡ self.now.image }
@@ -52,9 +52,9 @@ impl<M: Regions> Machine<M> {
     }
 
     /// The values that the program can name, and their charge.
-    pub fn values(&self) -> &Table
-        ensures { result.now ≡ self.now.values }
+    pub fn values(&self) -> &V
+        ensures { record { values = V.values result.now; charge = V.charge result.now } ≡ self.now.values }
     {
-        &self.table
+        &self.values
     }
 }

@@ -1,6 +1,6 @@
-use super::{EXIT, machine, run_machine};
-use crate::{Machine, Status};
-use guest_memory::{Guest, Regions, Size};
+use super::{EXIT, Plain, machine, run_machine};
+use crate::Status;
+use guest_memory::{Regions, Size};
 use std::alloc::Global;
 use std::test::Fail;
 
@@ -8,33 +8,33 @@ use std::test::Fail;
 const STORES_SEVEN: [u64; 3] = [0xbfa1_0000_0000_0000, 0x7201_0000_0700_0000, EXIT];
 
 /// The machine after another step.
-fn stepped(mut machine: Machine<Guest>) -> Result<Machine<Guest>, Fail> {
+fn stepped(mut machine: Plain) -> Result<Plain, Fail> {
     machine.step()?;
     Ok(machine)
 }
 
 /// What another step answers.
-fn step_answer(mut machine: Machine<Guest>) -> Result<Status, Fail> {
+fn step_answer(mut machine: Plain) -> Result<Status, Fail> {
     Ok(machine.step()?)
 }
 
 /// A copy of the machine.
-fn copied(machine: &Machine<Guest>) -> Result<Machine<Guest>, Fail> {
+fn copied(machine: &Plain) -> Result<Plain, Fail> {
     Ok(machine.copy()?)
 }
 
 /// The machine that stores seven, after its first step.
-fn first(alloc: Global) -> Result<Machine<Guest>, Fail> {
+fn first(alloc: Global) -> Result<Plain, Fail> {
     stepped(machine(alloc, &STORES_SEVEN, &[1, 2])?)
 }
 
 /// The byte that it stores.
-fn byte(machine: &Machine<Guest>) -> Option<u64> {
+fn byte(machine: &Plain) -> Option<u64> {
     machine.memory().read(0x1_0000_0200, Size::B).ok()
 }
 
 /// `pc`, the byte that is stored, both constants and how many bytes of code a machine has.
-fn parts(machine: &Machine<Guest>) -> (i64, Option<u64>, Option<u64>, usize) {
+fn parts(machine: &Plain) -> (i64, Option<u64>, Option<u64>, usize) {
     let constants = machine.memory().read(0x4_0000_0000, Size::H).ok();
     let length = machine.image().code().len();
     (machine.pc(), byte(machine), constants, length)
