@@ -3,6 +3,7 @@ mod Texts
 mod Asked
 mod Cut
 mod Quit
+mod Addresses
 mod Words
 mod Going
 mod Whole
@@ -10,3 +11,5 @@ mod Marks
 mod Slots
 mod Lines
 mod Order
+mod Shown
+mod Sizes

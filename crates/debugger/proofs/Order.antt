@@ -8,7 +8,7 @@ use Rattle.debugger.specs.Commands.{command_of}
 use Rattle.debugger.specs.Rows.{StaysInOrder}
 use Rattle.debugger.specs.Session.{Talk, first_talk, hear, with_answer}
 use Rattle.debugger.specs.declared.command.Command.{Command}
-use Rattle.debugger.specs.declared.command.Command.TheVariants.{SetBreakpoint, ClearBreakpoint, Forward, Back, Go, Continue, ReverseContinue, Registers, Listing, Quit, Unknown}
+use Rattle.debugger.specs.declared.command.Command.TheVariants.{SetBreakpoint, ClearBreakpoint, Forward, Back, Go, Continue, ReverseContinue, Registers, ValueAt, MemoryAt, Frames, Listing, Quit, Unknown}
 use Rattle.debugger.proofs.Quit.{either}
 use Rattle.debugger.proofs.Slots.{sets_and_clears}
 
@@ -25,6 +25,9 @@ answer_ordered s w (Go k) kept = either (λ (a : Answer). Ordered a.next) (can_g
 answer_ordered s w (Continue n) kept = either (λ (a : Answer). Ordered a.next) (can_go_on w.place n) (moves_to s w (first_stop w.breakpoints s w.place n)) (out_of_range w) kept kept
 answer_ordered s w ReverseContinue kept = kept
 answer_ordered s w Registers kept = kept
+answer_ordered s w (ValueAt h) kept = kept
+answer_ordered s w (MemoryAt address n) kept = kept
+answer_ordered s w Frames kept = kept
 answer_ordered s w Listing kept = kept
 answer_ordered s w Quit kept = kept
 answer_ordered s w Unknown kept = kept

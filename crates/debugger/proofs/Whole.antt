@@ -1,5 +1,5 @@
 -- Answers are whole lines.
-use Rattle.std.proofs.Common.{◌≡◌, ℕ, zero, suc, ◌+◌, ℤ, pos, negsuc, List, [], ◌∷◌, ◌++◌, decimal, refl, sym, ap, ◌∙◌, append_assoc, codes}
+use Rattle.std.proofs.Common.{◌≡◌, ℕ, zero, suc, ◌+◌, ℤ, pos, negsuc, List, [], ◌∷◌, ◌++◌, decimal, length, take, drop, Option, Some, None, refl, sym, ap, subst, ◌∙◌, append_assoc, codes}
 use Rattle.std.specs.Fmt.{signed_decimal}
 use Rattle.std.specs.Prelude.{nat_lt, slice_index}
 use Rattle.insn_codec.specs.Statements.{statement_slots, statement_text}
@@ -12,11 +12,15 @@ use Rattle.history.specs.Search.{first_stop, last_stop}
 use Rattle.debugger.specs.Answers.{Answer, World, answer_of, answer_to, break_text, can_go_back, can_go_on, can_go_to, clear_text, is_refused, is_slot, moves_to, out_of_range, says, sets_breakpoints}
 use Rattle.debugger.specs.Breakpoints.{with_breakpoint, without_breakpoint}
 use Rattle.debugger.specs.Commands.{command_of}
+use Rattle.bpf_machine.specs.declared.frame.Frame.{Frame}
+use Rattle.value_store.specs.Json.{shown_text}
+use Rattle.value_store.specs.Value.{ValueOrError}
+use Rattle.debugger.specs.Inspection.{digits_of_bytes, frame_line, frame_lines, frames_text, memory_line, memory_lines, memory_text, saved_text, shown_bytes, value_at, value_line, value_text}
 use Rattle.debugger.specs.Listing.{is_inside, listing_at, listing_line, listing_lines, outside_line, statement_at}
 use Rattle.debugger.specs.Rows.{AnswersInLines}
 use Rattle.debugger.specs.Session.{cut}
 use Rattle.debugger.specs.declared.command.Command.{Command}
-use Rattle.debugger.specs.declared.command.Command.TheVariants.{SetBreakpoint, ClearBreakpoint, Forward, Back, Go, Continue, ReverseContinue, Registers, Listing, Quit, Unknown}
+use Rattle.debugger.specs.declared.command.Command.TheVariants.{SetBreakpoint, ClearBreakpoint, Forward, Back, Go, Continue, ReverseContinue, Registers, ValueAt, MemoryAt, Frames, Listing, Quit, Unknown}
 use Rattle.debugger.proofs.Cut.{Whole, whole-append, whole-feed}
 use Rattle.debugger.proofs.Quit.{either}
 
@@ -92,6 +96,45 @@ at_whole : (code : List ℕ) (pc : ℤ) → Whole (listing_at code pc)
 at_whole code (pos slot) = either Whole (is_inside code (pos slot)) (listing_lines 8 code slot) (outside_line (pos slot)) (listing_whole 8 code slot) (outside_whole (pos slot))
 at_whole code (negsuc n) = outside_whole (negsuc n)
 
+value_whole : (h : ℕ) (text : List ℕ) → Whole (value_line h text)
+unfolding value_line
+value_whole h text = fed_whole (codes "value " ++ (decimal h ++ (codes " " ++ (text ++ 10 ∷ [])))) (behind (codes "value ") _ (behind (decimal h) _ (behind (codes " ") _ (behind text _ feed))))
+
+stored_whole : (h : ℕ) (v : Option ValueOrError) → Whole (value_text h v)
+stored_whole h (Some v) = value_whole h (shown_text v)
+stored_whole h None = range_whole
+
+memory_line-whole : (address : ℕ) (bytes : List ℕ) → Whole (memory_line address bytes)
+unfolding memory_line
+memory_line-whole address bytes = fed_whole (word_text address ++ (digits_of_bytes bytes ++ 10 ∷ [])) (behind (word_text address) _ (behind (digits_of_bytes bytes) _ feed))
+
+memory_lines-whole : (count address : ℕ) (bytes : List ℕ) → Whole (memory_lines count address bytes)
+unfolding memory_lines
+memory_lines-whole zero address bytes = none_whole
+memory_lines-whole (suc count) address [] = none_whole
+memory_lines-whole (suc count) address (b ∷ bs) = whole-append (memory_line address (take 16 (b ∷ bs))) _ (memory_line-whole address (take 16 (b ∷ bs))) (memory_lines-whole count (address + 16) (drop 16 (b ∷ bs)))
+
+bytes_whole : (address : ℕ) (bytes : Option (List ℕ)) → Whole (memory_text address bytes)
+bytes_whole address (Some bytes) = memory_lines-whole 16 address bytes
+bytes_whole address None = range_whole
+
+frame_whole : (f : Frame) → Whole (frame_line f)
+unfolding frame_line
+frame_whole f = fed_whole (codes "return " ++ (signed_decimal f.return_pc ++ (saved_text f ++ 10 ∷ []))) (behind (codes "return ") _ (behind (signed_decimal f.return_pc) _ (behind (saved_text f) _ feed)))
+
+frame_lines-whole : (records : List Frame) → Whole (frame_lines records)
+unfolding frame_lines
+frame_lines-whole [] = none_whole
+frame_lines-whole (f ∷ newer) = whole-append (frame_lines newer) (frame_line f) (frame_lines-whole newer) (frame_whole f)
+
+depth_whole : (n : ℕ) → Whole (codes "depth " ++ (decimal n ++ 10 ∷ []))
+depth_whole n = fed_whole (codes "depth " ++ (decimal n ++ 10 ∷ [])) (behind (codes "depth ") _ (behind (decimal n) _ feed))
+
+frames_whole : (records : List Frame) → Whole (frames_text records)
+unfolding frames_text
+frames_whole records = subst Whole (append_assoc (codes "depth ") (decimal (length records) ++ 10 ∷ []) (frame_lines records) ∙ ap (λ (t : List ℕ). codes "depth " ++ t) (append_assoc (decimal (length records)) (10 ∷ []) (frame_lines records)))
+    (whole-append (codes "depth " ++ (decimal (length records) ++ 10 ∷ [])) (frame_lines records) (depth_whole (length records)) (frame_lines-whole records))
+
 abbrev Lined : Answer → Type 0
 Lined a = Whole a.text
 
@@ -108,6 +151,9 @@ answer_of-whole s w (Go k) = either Lined (can_go_to k) (moves_to s w k) (out_of
 answer_of-whole s w (Continue n) = either Lined (can_go_on w.place n) _ (out_of_range w) (moves_whole s w (first_stop w.breakpoints s w.place n)) range_whole
 answer_of-whole s w ReverseContinue = moves_whole s w (last_stop w.breakpoints s w.place)
 answer_of-whole s w Registers = registers_whole (state_after w.place s)
+answer_of-whole s w (ValueAt h) = stored_whole h (value_at (state_after w.place s) h)
+answer_of-whole s w (MemoryAt address n) = bytes_whole address (shown_bytes (state_after w.place s).memory address n)
+answer_of-whole s w Frames = frames_whole (state_after w.place s).records
 answer_of-whole s w Listing = at_whole (state_after w.place s).image.code (state_after w.place s).pc
 answer_of-whole s w Quit = none_whole
 answer_of-whole s w Unknown = what_whole

@@ -7,10 +7,12 @@ use Rattle.std.proofs.lemmas.Bool.Decides.{nat_tests}
 use Rattle.std.proofs.lemmas.Fmt.{decimal_digit, decimal_step_wide, decimal_by_steps_wide}
 use Rattle.std.proofs.lemmas.List.{take-append-drop}
 use Rattle.std.proofs.lemmas.Slice.Eq.{bytes_eq-Decides}
-use Rattle.debugger.specs.Commands.{begins_with, command_of, form_of, is_digit, leads_with_zero, move_form_of, number_of, numbered, numbered_form_of, read_digits}
-use Rattle.debugger.specs.CommandLines.{Asks, CommandsHaveLines, HasLine, command_line}
+use Rattle.insn_codec.specs.Lines.{hex_digits}
+use Rattle.debugger.specs.Commands.{begins_with, command_of, form_of, hex_value, is_digit, is_hex_digit, leads_with_zero, move_form_of, number_of, numbered, numbered_form_of, read_address, read_digits, shown_form_of}
+use Rattle.debugger.proofs.Addresses.{address_ended, address_read, below_digit, digit_is, hex_digits-more}
+use Rattle.debugger.specs.CommandLines.{Asks, CommandsHaveLines, IsLine, IsNumbered}
 use Rattle.debugger.specs.declared.command.Command.{Command}
-use Rattle.debugger.specs.declared.command.Command.TheVariants.{SetBreakpoint, ClearBreakpoint, Forward, Back, Go, Continue, ReverseContinue, Registers, Listing, Quit, Unknown}
+use Rattle.debugger.specs.declared.command.Command.TheVariants.{SetBreakpoint, ClearBreakpoint, Forward, Back, Go, Continue, ReverseContinue, Registers, ValueAt, MemoryAt, Frames, Listing, Quit, Unknown}
 
 -- a number and one more digit
 decimal-more : (m c : ℕ) → 0 < m → m * 10 + (c - 48) < 10 ^ 64 → is_digit c ≡ true → decimal (m * 10 + (c - 48)) ≡ decimal m ++ c ∷ []
@@ -145,6 +147,14 @@ number_read n small =
     let lead = first_or_alone n (decimal n) r in
     rw (some, lead) r.value
 
+and_left : (a b : Bool) → a && b ≡ true → a ≡ true
+and_left true b both = refl
+and_left false b both = both
+
+and_right : (a b : Bool) → a && b ≡ true → b ≡ true
+and_right true b both = both
+and_right false b both = cc
+
 -- the text of a word that begins a line
 begins : (word line : List ℕ) → begins_with word line ≡ true → line ≡ word ++ drop (length word) line
 begins word line same_word = sym (take-append-drop (length word) line) ∙ ap (λ (front : List ℕ). front ++ drop (length word) line) (sym ((bytes_eq-Decides word (take (length word) line)).0 same_word))
@@ -158,63 +168,116 @@ is_unknown (Go k) = inr (λ e. cc)
 is_unknown (Continue n) = inr (λ e. cc)
 is_unknown ReverseContinue = inr (λ e. cc)
 is_unknown Registers = inr (λ e. cc)
+is_unknown (ValueAt h) = inr (λ e. cc)
+is_unknown (MemoryAt address n) = inr (λ e. cc)
+is_unknown Frames = inr (λ e. cc)
 is_unknown Listing = inr (λ e. cc)
 is_unknown Quit = inr (λ e. cc)
 is_unknown Unknown = inl refl
 
 -- a line asks for this command, or for none
 Found : List ℕ → Command → Type 0
-Found line c = (c ≡ Unknown) ⊎ (HasLine c × (line ≡ command_line c))
+Found line c = (c ≡ Unknown) ⊎ IsLine c line
 
 by_test : (line : List ℕ) (b : Bool) (x y : Command) → (b ≡ true → Found line x) → Found line y → Found line (if b then x else y)
 by_test line true x y first second = first refl
 by_test line false x y first second = second
 
-found_number : (line word : List ℕ) (command : ℕ → Command) → length line ≤ 64 → ((n : ℕ) → n < 10 ^ 64 → line ≡ word ++ decimal n → HasLine (command n) × (line ≡ command_line (command n))) → (o : Option ℕ) → number_of (drop (length word) line) ≡ o → begins_with word line ≡ true → Found line (numbered command o)
+found_number : (line word : List ℕ) (command : ℕ → Command) → length line ≤ 64 → ((n : ℕ) → IsNumbered word n line → IsLine (command n) line) → (o : Option ℕ) → number_of (drop (length word) line) ≡ o → begins_with word line ≡ true → Found line (numbered command o)
 unfolding Found Writes
 found_number line word command short form None read same_word = inl refl
 found_number line word command short form (Some n) read same_word =
     let w = number_written (drop (length word) line) n (omega (arith, short, length-drop (length word) line)) read in
-    inr (form n w.1 (begins word line same_word ∙ ap (λ (ds : List ℕ). word ++ ds) w.0))
+    inr (form n (record { fits = w.1; is = begins word line same_word ∙ ap (λ (ds : List ℕ). word ++ ds) w.0 }))
 
-found_word : (line word : List ℕ) (c : Command) → HasLine c → word ≡ command_line c → bytes_eq line word ≡ true → Found line c
+found_word : (line word : List ℕ) (c : Command) → (line ≡ word → IsLine c line) → bytes_eq line word ≡ true → Found line c
 unfolding Found
-found_word line word c has is same_word = inr (has, (bytes_eq-Decides line word).0 same_word ∙ is)
+found_word line word c form same_word = inr (form ((bytes_eq-Decides line word).0 same_word))
 
 none_found : (line : List ℕ) → Found line Unknown
 unfolding Found
 none_found line = inl refl
 
+-- the line that began with these digits of an address
+Begun : List ℕ → ℕ → ℕ → List ℕ → Type 0
+Begun line d a rest = line ≡ codes "m 0x" ++ (hex_digits d a ++ rest)
+
+-- a number behind an address
+found_count : (line : List ℕ) (d a c : ℕ) (cs : List ℕ) → length line ≤ 64 → d ≤ 16 → a < 16 ^ d → Begun line d a (c ∷ cs) → nat_eq c 32 && nat_lt 0 d ≡ true → (o : Option ℕ) → number_of cs ≡ o → Found line (numbered (MemoryAt a) o)
+unfolding Found Begun Writes
+found_count line d a c cs short few fits begun ends None read = inl refl
+found_count line d a c cs short few fits begun ends (Some n) read =
+    let space : c ≡ 32 = grind (arith, nat_tests) in
+    let some : 0 < d = grind (arith, nat_tests) in
+    let long : length line ≡ length (codes "m 0x") + (length (hex_digits d a) + length (c ∷ cs)) =
+    ap length begun ∙ length-append (codes "m 0x") (hex_digits d a ++ c ∷ cs) ∙ ap (λ (n : ℕ). length (codes "m 0x") + n) (length-append (hex_digits d a) (c ∷ cs)) in
+    let w = number_written cs n (omega (arith, short, long)) read in
+    let behind : c ∷ cs ≡ codes " " ++ decimal n = λ i. space i ∷ w.0 i in
+    inr (record {
+      digits = d;
+      some = some;
+      most = few;
+      fits = fits;
+      number_fits = w.1;
+      is = begun ∙ ap (λ (rest : List ℕ). codes "m 0x" ++ (hex_digits d a ++ rest)) behind;
+    })
+
+found_address : (line : List ℕ) (d a : ℕ) (rest : List ℕ) → length line ≤ 64 → d ≤ 16 → a < 16 ^ d → Begun line d a rest → Found line (read_address d a rest)
+unfolding Begun
+found_address line d a [] short few fits begun = none_found line
+found_address line d a (c ∷ cs) short few fits begun =
+    by_test line _ _ _ (λ ends. found_count line d a c cs short few fits begun ends _ refl)
+    (by_test line _ _ _ (λ goes.
+    let digit : is_hex_digit c ≡ true = and_left (is_hex_digit c) (nat_lt d 16) goes in
+    let more : d < 16 = let test = and_right (is_hex_digit c) (nat_lt d 16) goes in grind (arith, nat_tests) in
+    let i = digit_is c digit in
+    let small : a * 16 + hex_value c < 16 ^ suc d = subst (λ (k : ℕ). a * 16 + hex_value c < 16 ^ k) (add-one d) (below_digit d a (hex_value c) fits i.below) in
+    found_address line (suc d) (a * 16 + hex_value c) cs short (omega (arith, more)) small
+    (begun ∙ ap (λ (t : List ℕ). codes "m 0x" ++ t) (sym (append_assoc (hex_digits d a) (c ∷ []) cs) ∙ ap (λ (t : List ℕ). t ++ cs) (sym (hex_digits-more d a c (hex_value c) i)))))
+    (none_found line))
+
+address_begun : (line : List ℕ) → begins_with (codes "m 0x") line ≡ true → Begun line 0 0 (drop 4 line)
+unfolding Begun hex_digits
+address_begun line same = begins (codes "m 0x") line same
+
+shown_found : (line : List ℕ) → length line ≤ 64 → Found line (shown_form_of line)
+unfolding shown_form_of
+shown_found line short =
+    by_test line _ _ _ (found_number line (codes "v ") ValueAt short (λ n is. is) _ refl)
+    (by_test line _ _ _ (λ same. found_address line 0 0 (drop 4 line) short (omega arith) (omega arith) (address_begun line same))
+    (none_found line))
+
 move_found : (line : List ℕ) → length line ≤ 64 → Found line (move_form_of line)
 unfolding move_form_of
 move_found line short =
-    by_test line _ _ _ (found_number line (codes "s ") Forward short (λ n small is. (small, is)) _ refl)
-    (by_test line _ _ _ (found_number line (codes "rs ") Back short (λ n small is. (small, is)) _ refl)
-    (by_test line _ _ _ (found_number line (codes "g ") Go short (λ n small is. (small, is)) _ refl)
-    (by_test line _ _ _ (found_number line (codes "c ") Continue short (λ n small is. (small, is)) _ refl)
-    (none_found line))))
+    by_test line _ _ _ (found_number line (codes "s ") Forward short (λ n is. is) _ refl)
+    (by_test line _ _ _ (found_number line (codes "rs ") Back short (λ n is. is) _ refl)
+    (by_test line _ _ _ (found_number line (codes "g ") Go short (λ n is. is) _ refl)
+    (by_test line _ _ _ (found_number line (codes "c ") Continue short (λ n is. is) _ refl)
+    (shown_found line short))))
 
 numbered_found : (line : List ℕ) → length line ≤ 64 → Found line (numbered_form_of line)
 unfolding numbered_form_of
 numbered_found line short =
-    by_test line _ _ _ (found_number line (codes "b ") SetBreakpoint short (λ n small is. (small, is)) _ refl)
-    (by_test line _ _ _ (found_number line (codes "d ") ClearBreakpoint short (λ n small is. (small, is)) _ refl)
+    by_test line _ _ _ (found_number line (codes "b ") SetBreakpoint short (λ n is. is) _ refl)
+    (by_test line _ _ _ (found_number line (codes "d ") ClearBreakpoint short (λ n is. is) _ refl)
     (move_found line short))
 
 form_found : (line : List ℕ) → length line ≤ 64 → Found line (form_of line)
 unfolding form_of
 form_found line short =
-    by_test line _ _ _ (found_word line (codes "q") Quit tt refl)
-    (by_test line _ _ _ (found_word line (codes "r") Registers tt refl)
-    (by_test line _ _ _ (found_word line (codes "rc") ReverseContinue tt refl)
-    (by_test line _ _ _ (found_word line (codes "l") Listing tt refl)
-    (numbered_found line short))))
+    by_test line _ _ _ (found_word line (codes "q") Quit (λ is. is))
+    (by_test line _ _ _ (found_word line (codes "r") Registers (λ is. is))
+    (by_test line _ _ _ (found_word line (codes "rc") ReverseContinue (λ is. is))
+    (by_test line _ _ _ (found_word line (codes "l") Listing (λ is. is))
+    (by_test line _ _ _ (found_word line (codes "f") Frames (λ is. is))
+    (numbered_found line short)))))
 
 short_by : (line : List ℕ) (b : Bool) → nat_le (length line) 64 ≡ b → (if b then form_of line else Unknown) ≢ Unknown → Asks line (if b then form_of line else Unknown)
 unfolding Found
 short_by line true is known =
     let short : length line ≤ 64 = grind (arith, nat_tests) in
-    elim (form_found line short) [ inl none ↦ absurd (known none) | inr found ↦ record { has_line = found.0; is_line = found.1; short = short } ]
+    elim (form_found line short) [ inl none ↦ absurd (known none) | inr found ↦ record { is_line = found; short = short } ]
 short_by line false is known = absurd (known refl)
 
 -- what a line is read as, it asks for
@@ -222,29 +285,36 @@ asks_for : (line : List ℕ) → command_of line ≢ Unknown → Asks line (comm
 unfolding command_of
 asks_for line known = short_by line (nat_le (length line) 64) refl known
 
--- the line of a command is read as it
-reads_form : (c : Command) → HasLine c → form_of (command_line c) ≡ c
-unfolding form_of numbered_form_of move_form_of
-reads_form (SetBreakpoint n) small = ap (numbered SetBreakpoint) (number_read n small)
-reads_form (ClearBreakpoint n) small = ap (numbered ClearBreakpoint) (number_read n small)
-reads_form (Forward n) small = ap (numbered Forward) (number_read n small)
-reads_form (Back n) small = ap (numbered Back) (number_read n small)
-reads_form (Go k) small = ap (numbered Go) (number_read k small)
-reads_form (Continue n) small = ap (numbered Continue) (number_read n small)
-reads_form ReverseContinue has = refl
-reads_form Registers has = refl
-reads_form Listing has = refl
-reads_form Quit has = refl
-reads_form Unknown has = absurd has
+-- each line of a command is read as it
+reads_form : (c : Command) (line : List ℕ) → IsLine c line → form_of line ≡ c
+unfolding form_of numbered_form_of move_form_of shown_form_of
+reads_form (SetBreakpoint n) line l = ap form_of l.is ∙ ap (numbered SetBreakpoint) (number_read n l.fits)
+reads_form (ClearBreakpoint n) line l = ap form_of l.is ∙ ap (numbered ClearBreakpoint) (number_read n l.fits)
+reads_form (Forward n) line l = ap form_of l.is ∙ ap (numbered Forward) (number_read n l.fits)
+reads_form (Back n) line l = ap form_of l.is ∙ ap (numbered Back) (number_read n l.fits)
+reads_form (Go k) line l = ap form_of l.is ∙ ap (numbered Go) (number_read k l.fits)
+reads_form (Continue n) line l = ap form_of l.is ∙ ap (numbered Continue) (number_read n l.fits)
+reads_form ReverseContinue line l = ap form_of l
+reads_form Registers line l = ap form_of l
+reads_form (ValueAt h) line l = ap form_of l.is ∙ ap (numbered ValueAt) (number_read h l.fits)
+reads_form (MemoryAt address n) line l =
+    ap form_of l.is
+    ∙ address_read l.digits address (codes " " ++ decimal n) l.most l.fits
+    ∙ address_ended l.digits address (decimal n) l.some
+    ∙ ap (numbered (MemoryAt address)) (number_read n l.number_fits)
+reads_form Frames line l = ap form_of l
+reads_form Listing line l = ap form_of l
+reads_form Quit line l = ap form_of l
+reads_form Unknown line l = absurd l
 
 reads_asked : (line : List ℕ) (c : Command) → Asks line c → command_of line ≡ c
 unfolding command_of
 reads_asked line c a =
     let test : nat_le (length line) 64 ≡ true = let short = a.short in grind (arith, nat_tests) in
-    rw test (ap form_of a.is_line ∙ reads_form c a.has_line)
+    rw test (reads_form c line a.is_line)
 
 known_of : (line : List ℕ) (c : Command) → Asks line c → c ≢ Unknown
-known_of line c a is = subst HasLine is a.has_line
+known_of line c a is = subst (λ (d : Command). IsLine d line) is a.is_line
 
 pub commands_have_lines : CommandsHaveLines
 commands_have_lines = record {

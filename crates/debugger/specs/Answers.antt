@@ -1,14 +1,15 @@
 -- What a command answers.
-use Rattle.std.specs.Prelude.{ℕ, ◌+◌, ◌-◌, Bool, true, false, not, ◌&&◌, List, [], ◌∷◌, ◌++◌, codes, decimal, nat_le, if◌then◌else◌}
+use Rattle.std.specs.Prelude.{ℕ, ◌+◌, ◌-◌, Bool, true, false, not, ◌&&◌, List, [], ◌∷◌, ◌++◌, codes, decimal, nat_le, is_some, if◌then◌else◌}
 use Rattle.bpf_machine.specs.State.{State}
 use Rattle.bpf_machine.specs.Trace.{state_after}
 use Rattle.bpf_machine.specs.Text.{move_text, registers_text}
 use Rattle.history.specs.Search.{first_stop, last_stop}
 use Rattle.debugger.specs.Breakpoints.{has_breakpoint, with_breakpoint, without_breakpoint}
 use Rattle.debugger.specs.Commands.{command_of}
+use Rattle.debugger.specs.Inspection.{frames_text, memory_text, shown_bytes, value_at, value_text}
 use Rattle.debugger.specs.Listing.{is_inside, listing_text}
 use Rattle.debugger.specs.declared.command.Command.{Command}
-use Rattle.debugger.specs.declared.command.Command.TheVariants.{SetBreakpoint, ClearBreakpoint, Forward, Back, Go, Continue, ReverseContinue, Registers, Listing, Quit, Unknown}
+use Rattle.debugger.specs.declared.command.Command.TheVariants.{SetBreakpoint, ClearBreakpoint, Forward, Back, Go, Continue, ReverseContinue, Registers, ValueAt, MemoryAt, Frames, Listing, Quit, Unknown}
 
 -- what a session knows between two lines: the step that is shown, the slots with a breakpoint, and whether it has ended
 pub record World : Type 0 where
@@ -69,11 +70,14 @@ answer_of s w (Go k) = if can_go_to k then moves_to s w k else out_of_range w
 answer_of s w (Continue n) = if can_go_on w.place n then moves_to s w (first_stop w.breakpoints s w.place n) else out_of_range w
 answer_of s w ReverseContinue = moves_to s w (last_stop w.breakpoints s w.place)
 answer_of s w Registers = says w (registers_text (state_after w.place s))
+answer_of s w (ValueAt h) = says w (value_text h (value_at (state_after w.place s) h))
+answer_of s w (MemoryAt address n) = says w (memory_text address (shown_bytes (state_after w.place s).memory address n))
+answer_of s w Frames = says w (frames_text (state_after w.place s).records)
 answer_of s w Listing = says w (listing_text (state_after w.place s))
 answer_of s w Quit = record { next = record w { ended = true }; text = [] }
 answer_of s w Unknown = says w (codes "? what\n")
 
--- whether a command may need memory that is refused: a breakpoint that is new, a move that is in range, and a listing of code
+-- whether a command may need memory that is refused: a breakpoint that is new, a move that is in range, a value, and a listing of code
 unfoldable pub may_be_refused : State → World → Command → Bool
 may_be_refused s w (SetBreakpoint n) = is_slot n && not (has_breakpoint n w.breakpoints)
 may_be_refused s w (ClearBreakpoint n) = false
@@ -83,6 +87,9 @@ may_be_refused s w (Go k) = can_go_to k
 may_be_refused s w (Continue n) = can_go_on w.place n
 may_be_refused s w ReverseContinue = true
 may_be_refused s w Registers = false
+may_be_refused s w (ValueAt h) = is_some (value_at (state_after w.place s) h)
+may_be_refused s w (MemoryAt address n) = false
+may_be_refused s w Frames = false
 may_be_refused s w Listing = is_inside (state_after w.place s).image.code (state_after w.place s).pc
 may_be_refused s w Quit = false
 may_be_refused s w Unknown = false

@@ -1,41 +1,44 @@
--- The line of each command.
-use Rattle.std.specs.Prelude.{◌≡◌, ◌≢◌, ◌↔◌, ℕ, ◌^◌, ◌<◌, ◌≤◌, List, [], ◌++◌, codes, decimal, length}
+-- The lines of each command.
+use Rattle.std.specs.Prelude.{◌≡◌, ◌≢◌, ◌↔◌, ℕ, ◌^◌, ◌<◌, ◌≤◌, List, ◌++◌, codes, decimal, length}
+use Rattle.insn_codec.specs.Lines.{hex_digits}
 use Rattle.debugger.specs.Commands.{command_of}
 use Rattle.debugger.specs.declared.command.Command.{Command}
-use Rattle.debugger.specs.declared.command.Command.TheVariants.{SetBreakpoint, ClearBreakpoint, Forward, Back, Go, Continue, ReverseContinue, Registers, Listing, Quit, Unknown}
+use Rattle.debugger.specs.declared.command.Command.TheVariants.{SetBreakpoint, ClearBreakpoint, Forward, Back, Go, Continue, ReverseContinue, Registers, ValueAt, MemoryAt, Frames, Listing, Quit, Unknown}
 
--- its word, and its number in decimals
-abbrev pub command_line : Command → List ℕ
-command_line (SetBreakpoint n) = codes "b " ++ decimal n
-command_line (ClearBreakpoint n) = codes "d " ++ decimal n
-command_line (Forward n) = codes "s " ++ decimal n
-command_line (Back n) = codes "rs " ++ decimal n
-command_line (Go k) = codes "g " ++ decimal k
-command_line (Continue n) = codes "c " ++ decimal n
-command_line ReverseContinue = codes "rc"
-command_line Registers = codes "r"
-command_line Listing = codes "l"
-command_line Quit = codes "q"
-command_line Unknown = []
+-- a word and a number in decimals; a number has at most 64 digits: with more it would be longer than a line may be
+pub record IsNumbered (word : List ℕ) (n : ℕ) (line : List ℕ) : Type 0 where
+  pub fits : n < 10 ^ 64
+  pub is : line ≡ word ++ decimal n
 
--- a number has at most 64 digits: with more it would be longer than a line may be
-abbrev pub HasLine : Command → Type 0
-HasLine (SetBreakpoint n) = n < 10 ^ 64
-HasLine (ClearBreakpoint n) = n < 10 ^ 64
-HasLine (Forward n) = n < 10 ^ 64
-HasLine (Back n) = n < 10 ^ 64
-HasLine (Go k) = k < 10 ^ 64
-HasLine (Continue n) = n < 10 ^ 64
-HasLine ReverseContinue = Unit {0}
-HasLine Registers = Unit {0}
-HasLine Listing = Unit {0}
-HasLine Quit = Unit {0}
-HasLine Unknown = ⊥
+-- `m`, an address in 1 to 16 hex digits, and a number in decimals
+pub record IsMemoryLine (address n : ℕ) (line : List ℕ) : Type 0 where
+  pub digits : ℕ
+  pub some : 0 < digits
+  pub most : digits ≤ 16
+  pub fits : address < 16 ^ digits
+  pub number_fits : n < 10 ^ 64
+  pub is : line ≡ codes "m 0x" ++ (hex_digits digits address ++ (codes " " ++ decimal n))
+
+-- a line is one of a command's: its word, and its numbers
+abbrev pub IsLine : Command → List ℕ → Type 0
+IsLine (SetBreakpoint n) line = IsNumbered (codes "b ") n line
+IsLine (ClearBreakpoint n) line = IsNumbered (codes "d ") n line
+IsLine (Forward n) line = IsNumbered (codes "s ") n line
+IsLine (Back n) line = IsNumbered (codes "rs ") n line
+IsLine (Go k) line = IsNumbered (codes "g ") k line
+IsLine (Continue n) line = IsNumbered (codes "c ") n line
+IsLine ReverseContinue line = line ≡ codes "rc"
+IsLine Registers line = line ≡ codes "r"
+IsLine (ValueAt h) line = IsNumbered (codes "v ") h line
+IsLine (MemoryAt address n) line = IsMemoryLine address n line
+IsLine Frames line = line ≡ codes "f"
+IsLine Listing line = line ≡ codes "l"
+IsLine Quit line = line ≡ codes "q"
+IsLine Unknown line = ⊥
 
 -- a line asks for the command whose line it is, where it has at most 64 bytes
 pub record Asks (line : List ℕ) (c : Command) : Type 0 where
-  pub has_line : HasLine c
-  pub is_line : line ≡ command_line c
+  pub is_line : IsLine c line
   pub short : length line ≤ 64
 
 -- `command_of` is the command that a line asks for, and `Unknown` where it asks for none

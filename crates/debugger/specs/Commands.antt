@@ -1,8 +1,9 @@
 -- What a line asks for.
-use Rattle.std.specs.Prelude.{ℕ, ◌+◌, ◌-◌, ◌*◌, Bool, true, false, ◌&&◌, List, [], ◌∷◌, length, take, drop, min, Option, Some, None, codes, nat_eq, nat_le, nat_lt, slice_index, if◌then◌else◌}
+use Rattle.std.specs.Prelude.{ℕ, suc, ◌+◌, ◌-◌, ◌*◌, ◌^◌, ◌<◌, Bool, true, false, ◌&&◌, ◌||◌, List, [], ◌∷◌, length, take, drop, min, Option, Some, None, codes, nat_eq, nat_le, nat_lt, slice_index, if◌then◌else◌}
 use Rattle.std.specs.Str.{bytes_eq}
+use Rattle.bpf_machine.specs.State.{State}
 use Rattle.debugger.specs.declared.command.Command.{Command}
-use Rattle.debugger.specs.declared.command.Command.TheVariants.{SetBreakpoint, ClearBreakpoint, Forward, Back, Go, Continue, ReverseContinue, Registers, Listing, Quit, Unknown}
+use Rattle.debugger.specs.declared.command.Command.TheVariants.{SetBreakpoint, ClearBreakpoint, Forward, Back, Go, Continue, ReverseContinue, Registers, ValueAt, MemoryAt, Frames, Listing, Quit, Unknown}
 
 abbrev pub is_digit : ℕ → Bool
 is_digit c = nat_le 48 c && nat_le c 57
@@ -30,6 +31,29 @@ abbrev pub numbered : (ℕ → Command) → Option ℕ → Command
 numbered command None = Unknown
 numbered command (Some n) = command n
 
+abbrev pub is_hex_digit : ℕ → Bool
+is_hex_digit c = is_digit c || (nat_le 97 c && nat_le c 102)
+
+-- the number of a hex digit
+abbrev pub hex_value : ℕ → ℕ
+hex_value c = if is_digit c then c - 48 else c - 87
+
+-- an address of which so many hex digits stand before these bytes, and this is their number: more of
+-- them, 16 at most in all, a space, and how many bytes are asked for
+abbrev pub read_address : ℕ → ℕ → List ℕ → Command
+read_address digits address [] = Unknown
+read_address digits address (c ∷ cs) =
+    if nat_eq c 32 && nat_lt 0 digits then numbered (MemoryAt address) (number_of cs)
+    else (if is_hex_digit c && nat_lt digits 16 then read_address (suc digits) (address * 16 + hex_value c) cs
+    else Unknown)
+
+-- what is shown of a state, by its number or its address
+unfoldable pub shown_form_of : List ℕ → Command
+shown_form_of line =
+    if begins_with (codes "v ") line then numbered ValueAt (number_of (drop 2 line))
+    else (if begins_with (codes "m 0x") line then read_address 0 0 (drop 4 line)
+    else Unknown)
+
 -- a move: its word, a space and a number
 unfoldable pub move_form_of : List ℕ → Command
 move_form_of line =
@@ -37,7 +61,7 @@ move_form_of line =
     else (if begins_with (codes "rs ") line then numbered Back (number_of (drop 3 line))
     else (if begins_with (codes "g ") line then numbered Go (number_of (drop 2 line))
     else (if begins_with (codes "c ") line then numbered Continue (number_of (drop 2 line))
-    else Unknown)))
+    else shown_form_of line)))
 
 -- a word, a space and a number
 unfoldable pub numbered_form_of : List ℕ → Command
@@ -53,7 +77,8 @@ form_of line =
     else (if bytes_eq line (codes "r") then Registers
     else (if bytes_eq line (codes "rc") then ReverseContinue
     else (if bytes_eq line (codes "l") then Listing
-    else numbered_form_of line)))
+    else (if bytes_eq line (codes "f") then Frames
+    else numbered_form_of line))))
 
 -- a line's command: a line of more than 64 bytes has no form
 unfoldable pub command_of : List ℕ → Command
@@ -63,9 +88,9 @@ abbrev pub is_quit : Command → Bool
 is_quit Quit = true
 is_quit other = false
 
--- a number that is out of every range stands for those above it
+-- the greatest number of 64 bits, which is out of every range, stands for those above it
 abbrev pub capped : ℕ → ℕ
-capped n = min n 1000000001
+capped n = min n 18446744073709551615
 
 abbrev pub capped_number : Option ℕ → Option ℕ
 capped_number None = None
@@ -80,6 +105,14 @@ capped_command (Go k) = Go (capped k)
 capped_command (Continue n) = Continue (capped n)
 capped_command ReverseContinue = ReverseContinue
 capped_command Registers = Registers
+capped_command (ValueAt h) = ValueAt (capped h)
+capped_command (MemoryAt address n) = MemoryAt address (capped n)
+capped_command Frames = Frames
 capped_command Listing = Listing
 capped_command Quit = Quit
 capped_command Unknown = Unknown
+
+-- each reference of a state that a command asks a value of has 64 bits
+abbrev pub Fits : State → Command → Type 0
+Fits s (ValueAt h) = length s.values.values < 2 ^ 64
+Fits s _ = Unit {0}

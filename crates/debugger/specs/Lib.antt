@@ -4,6 +4,7 @@ pub mod Commands
 pub mod CommandLines
 pub mod Breakpoints
 pub mod Listing
+pub mod Inspection
 pub mod Answers
 pub mod Session
 pub mod Replies

@@ -7,7 +7,7 @@ use Rattle.debugger.specs.Breakpoints.{in_order}
 use Rattle.debugger.specs.Commands.{command_of}
 use Rattle.debugger.specs.Session.{Talk, talk_of, cut, granted, says_memory, session_text}
 use Rattle.debugger.specs.Told.{Heard}
-use Rattle.debugger.specs.declared.command.Command.TheVariants.{Forward, Unknown}
+use Rattle.debugger.specs.declared.command.Command.TheVariants.{Forward, MemoryAt, Unknown}
 
 -- r0 = 5; exit
 abbrev pub five : State
@@ -20,6 +20,10 @@ open_ended = start_of (0xb7 ∷ 0 ∷ 0 ∷ 0 ∷ 5 ∷ 0 ∷ 0 ∷ 0 ∷ [])
 -- a jump into the second slot of a wide load, the wide load, and exit
 abbrev pub inside_wide : State
 inside_wide = start_of (0x05 ∷ 0 ∷ 0x01 ∷ 0 ∷ 0 ∷ 0 ∷ 0 ∷ 0 ∷ 0x18 ∷ 0 ∷ 0 ∷ 0 ∷ 5 ∷ 0 ∷ 0 ∷ 0 ∷ 0 ∷ 0 ∷ 0 ∷ 0 ∷ 0 ∷ 0 ∷ 0 ∷ 0 ∷ 0x95 ∷ 0 ∷ 0 ∷ 0 ∷ 0 ∷ 0 ∷ 0 ∷ 0 ∷ [])
+
+-- a call of itself
+abbrev pub calls_itself : State
+calls_itself = start_of (0x85 ∷ 0x10 ∷ 0 ∷ 0 ∷ 0xff ∷ 0xff ∷ 0xff ∷ 0xff ∷ [])
 
 -- exit
 abbrev exit_slot : List ℕ
@@ -45,6 +49,12 @@ pub record RowsStand : Type 0 where
   pub lists_inside : session_text inside_wide (codes "l\ns 2\nl\n") ≡ codes "0 ja +1\n1 lddw r0, 0x0000000000000005\n3 exit\nstep 2 pc 2 fault F2\n2 .slot 0x0000000000000000\n3 exit\n"
   pub lists_eight : session_text nine_exits (codes "l\n") ≡ codes "0 exit\n1 exit\n2 exit\n3 exit\n4 exit\n5 exit\n6 exit\n7 exit\n"
   pub lists_outside : session_text open_ended (codes "s 2\nl\n") ≡ codes "step 2 pc 1 fault F1\n1 outside\n"
+  pub shows_values : session_text five (codes "s 5\nv 3\nv 0\nv 4\nv 9\nm 0x300000000 2\n") ≡ codes "step 5 pc 1 exited 0x0000000000000005\nvalue 3 true\nvalue 0 error\nvalue 4 null\n? range\n0x0000000300000000 00 00\n"
+  pub shows_memory : session_text five (codes "m 0x1000001f8 17\nm 0x3000007ff 1\nm 0x3000007ff 2\nm 0x2ffffffff 1\nm 0x400000000 1\n") ≡ codes "0x00000001000001f8 00 00 00 00 00 00 00 00 00 00 00 00 00 00 00 00\n0x0000000100000208 00\n0x00000003000007ff 00\n? range\n? range\n? range\n"
+  pub counts_bytes : session_text five (codes "m 0x300000000 0\nm 0x300000000 257\nm 0xffffffffffffffff 1\nm 0x 1\nm 0x3A 1\nm 0x00000000300000000 1\nm 0x300000000 01\nm 0x300000000\nm 300000000 1\n") ≡ codes "? range\n? range\n? range\n? what\n? what\n? what\n? what\n? what\n? what\n"
+  pub shows_frames : session_text calls_itself (codes "f\ns 8\nf\n") ≡ codes "depth 0\nstep 8 pc 0 fault F7\ndepth 7\nreturn 1 r6 0x0000000000000000 r7 0x0000000000000000 r8 0x0000000000000000 r9 0x0000000000000000\nreturn 1 r6 0x0000000000000000 r7 0x0000000000000000 r8 0x0000000000000000 r9 0x0000000000000000\nreturn 1 r6 0x0000000000000000 r7 0x0000000000000000 r8 0x0000000000000000 r9 0x0000000000000000\nreturn 1 r6 0x0000000000000000 r7 0x0000000000000000 r8 0x0000000000000000 r9 0x0000000000000000\nreturn 1 r6 0x0000000000000000 r7 0x0000000000000000 r8 0x0000000000000000 r9 0x0000000000000000\nreturn 1 r6 0x0000000000000000 r7 0x0000000000000000 r8 0x0000000000000000 r9 0x0000000000000000\nreturn 1 r6 0x0000000000000000 r7 0x0000000000000000 r8 0x0000000000000000 r9 0x0000000000000000\n"
+  pub reads_addresses : command_of (codes "m 0x00000003000000ff 5") ≡ MemoryAt 0x3000000ff 5
+  pub refuses_values : (talk_of five ((codes "v 3", true) ∷ (codes "v 9", true) ∷ (codes "v 18446744073709551616", true) ∷ (codes "m 0x300000000 1", true) ∷ (codes "f", true) ∷ [])).text ≡ codes "? memory\n? range\n? range\n0x0000000300000000 00\ndepth 0\n"
   pub reads_64_bytes : command_of (codes "s " ++ replicate 62 49) ≡ Forward 11111111111111111111111111111111111111111111111111111111111111
   pub reads_no_65 : command_of (codes "s " ++ replicate 63 49) ≡ Unknown
   pub refuses_moves : (talk_of five ((codes "s 1", true) ∷ (codes "s 1", false) ∷ [])).text ≡ codes "? memory\nstep 1 pc 1 running\n"

@@ -15,11 +15,13 @@ use smallvec::SmallVec;
 use std::alloc::Global;
 use std::marker::Model;
 
-/// The text of an answer other than a listing, in room of its own for 256 bytes, the most being
-/// the 243 of the registers.
+mod inspection;
+
+/// The text of an answer that takes no memory, in room of its own for 1,072 bytes, the most being
+/// the 16 lines of 67 bytes each that show 256 bytes of memory.
 #[derive(Drop)]
 pub struct AnswerText {
-    bytes: SmallVec<u8, 256>,
+    bytes: SmallVec<u8, 1072>,
 }
 
 impl Model for AnswerText {
@@ -30,7 +32,7 @@ impl Model for AnswerText {
 
     ghost view = { λ t. t.bytes.items };
 
-    ghost invariant = { λ t. t.bytes.capacity ≡ 256 };
+    ghost invariant = { λ t. t.bytes.capacity ≡ 1072 };
 }
 
 impl AnswerText {
@@ -51,7 +53,7 @@ impl AnswerText {
 
     /// Appends these bytes.
     pub fn push_bytes(&mut self, bytes: &[u8])
-        requires { length self.old + length bytes.now ≤ 256 }
+        requires { length self.old + length bytes.now ≤ 1072 }
         ensures { self.new ≡ self.old ++ bytes.now }
     {
         match self.bytes.extend_from_slice(bytes) {
@@ -61,7 +63,7 @@ impl AnswerText {
     }
 
     fn push_byte(&mut self, byte: u8)
-        requires { length self.old < 256 }
+        requires { length self.old < 1072 }
         ensures { self.new ≡ self.old ++ byte ∷ [] }
     {
         self.bytes.push_reserved(byte);
@@ -69,7 +71,7 @@ impl AnswerText {
 
     /// Appends a number's decimal digits.
     fn push_decimal(&mut self, n: u64)
-        requires { length self.old + length (decimal n) ≤ 256 }
+        requires { length self.old + length (decimal n) ≤ 1072 }
         ensures { self.new ≡ self.old ++ decimal n }
     {
         if n < 10 {
@@ -82,7 +84,7 @@ impl AnswerText {
 
     /// Appends the lowest `count` hex digits of a word.
     fn push_hex(&mut self, count: u32, word: u64)
-        requires { length self.old + count ≤ 256 }
+        requires { length self.old + count ≤ 1072 }
         ensures { self.new ≡ self.old ++ hex_digits count word }
     {
         if count == 0 {
@@ -94,7 +96,7 @@ impl AnswerText {
 
     /// Appends a number.
     fn push_number(&mut self, n: u64)
-        requires { length self.old ≤ 236 }
+        requires { length self.old ≤ 1052 }
         ensures text { self.new ≡ self.old ++ decimal n }
         ensures length { length self.new ≤ length self.old + 20 }
     {
@@ -104,7 +106,7 @@ impl AnswerText {
     /// Appends a number of at most two digits.
     fn push_small(&mut self, n: u64)
         requires small { n < 100 }
-        requires room { length self.old ≤ 254 }
+        requires room { length self.old ≤ 1070 }
         ensures text { self.new ≡ self.old ++ decimal n }
         ensures length { length self.new ≤ length self.old + 2 }
     {
@@ -113,7 +115,7 @@ impl AnswerText {
 
     /// Appends a number with `-` where it is negative.
     fn push_signed(&mut self, n: i64)
-        requires { length self.old ≤ 235 }
+        requires { length self.old ≤ 1051 }
         ensures text { self.new ≡ self.old ++ signed_decimal n }
         ensures length { length self.new ≤ length self.old + 21 }
     {
@@ -127,7 +129,7 @@ impl AnswerText {
 
     /// Appends a word as `0x` and 16 hex digits.
     fn push_word(&mut self, word: u64)
-        requires { length self.old ≤ 238 }
+        requires { length self.old ≤ 1054 }
         ensures text { self.new ≡ self.old ++ word_text word }
         ensures length { length self.new ≡ length self.old + 18 }
     {
@@ -137,7 +139,7 @@ impl AnswerText {
 
     /// Appends whether a machine goes on.
     fn push_status(&mut self, status: Status)
-        requires { length self.old ≤ 231 }
+        requires { length self.old ≤ 1047 }
         ensures text { self.new ≡ self.old ++ status_text status }
         ensures length { length self.new ≤ length self.old + 25 }
     {

@@ -1,9 +1,11 @@
 //! The answers to lines.
 ghost use Rattle.std.specs.Prelude.{◌≡◌, false, true, not, ◌&&◌, codes, if◌then◌else◌, IfOk, OnErr, OnOk};
 ghost use Rattle.bpf_machine.specs.Text.{registers_text};
+ghost use Rattle.bpf_machine.specs.Trace.{state_after};
 ghost use Rattle.debugger.specs.Answers.{answer_of, break_text, clear_text, is_slot, may_be_refused, world_at};
 ghost use Rattle.debugger.specs.Breakpoints.{has_breakpoint, with_breakpoint, without_breakpoint};
-ghost use Rattle.debugger.specs.Commands.{is_quit};
+ghost use Rattle.debugger.specs.Commands.{Fits, is_quit};
+ghost use Rattle.debugger.specs.Inspection.{StaysSized};
 ghost use Rattle.debugger.specs.Replies.{reply_text};
 ghost use Rattle.debugger.specs.Streams.{one_more};
 ghost use Rattle.debugger.specs.Told.{Answers, HeardLine, HeardPart};
@@ -12,6 +14,7 @@ use crate::answer_text::AnswerText;
 use crate::breakpoints::Breakpoints;
 use crate::command::Command;
 use crate::failed::Failed;
+use crate::inspecting::{show_frames, show_memory, show_value};
 use crate::listing::list;
 use crate::moves::{back, continue_back, continue_on, forward, go_to};
 use crate::reply::{Answer, Reply};
@@ -28,6 +31,7 @@ pub fn hear_line<H: History, W: Sink>(
     w: &mut W,
     line: &[u8],
 ) -> Result<bool, Failed>
+    requires { StaysSized (H.origin h.old) }
     ensures heard { IfOk result (λ ended. HeardLine (H.origin h.old) (world_at breakpoints.old (H.place h.old) false) line.now (world_at breakpoints.new (H.place h.new) ended) (W.taken w.old) (W.taken w.new)) }
     ensures part { OnErr result (HeardPart (H.origin h.old) (world_at breakpoints.old (H.place h.old) false) line.now (W.taken w.old) (W.taken w.new)) }
     ensures origin { H.origin h.new ≡ H.origin h.old }
@@ -46,6 +50,7 @@ fn answer_line<H: History>(
     breakpoints: &mut Breakpoints,
     line: &[u8],
 ) -> Answer
+    requires { StaysSized (H.origin h.old) }
     ensures answers { Answers (H.origin h.old) (world_at breakpoints.old (H.place h.old) false) line.now (world_at breakpoints.new (H.place h.new) result.ended) (reply_text result.reply) }
     ensures origin { H.origin h.new ≡ H.origin h.old }
 {
@@ -76,12 +81,14 @@ fn obey<H: History>(
     breakpoints: &mut Breakpoints,
     command: Command,
 ) -> Result<Reply, AllocError>
+    requires { StaysSized (H.origin h.old) }
     ensures next { OnOk result ((answer_of (H.origin h.old) (world_at breakpoints.old (H.place h.old) false) command).next ≡ world_at breakpoints.new (H.place h.new) (is_quit command)) }
     ensures text { IfOk result (λ reply. (answer_of (H.origin h.old) (world_at breakpoints.old (H.place h.old) false) command).text ≡ reply_text reply) }
     ensures refused { OnErr result (may_be_refused (H.origin h.old) (world_at breakpoints.old (H.place h.old) false) command ≡ true) }
     ensures err_place { OnErr result (H.place h.new ≡ H.place h.old) }
     ensures err_breakpoints { OnErr result (breakpoints.new ≡ breakpoints.old) }
     ensures origin { H.origin h.new ≡ H.origin h.old }
+    ensures fits { Fits (state_after (H.place h.old) (H.origin h.old)) command }
 {
     match command {
         Command::SetBreakpoint(slot) => set_breakpoint(alloc, breakpoints, slot),
@@ -92,6 +99,9 @@ fn obey<H: History>(
         Command::Continue(n) => continue_on(alloc, h, breakpoints.as_slice(), n),
         Command::ReverseContinue => continue_back(alloc, h, breakpoints.as_slice()),
         Command::Registers => Ok(registers(alloc, h.machine())),
+        Command::ValueAt(at) => show_value(alloc, h.machine(), at),
+        Command::MemoryAt(address, n) => Ok(show_memory(alloc, h.machine(), address, n)),
+        Command::Frames => Ok(show_frames(alloc, h.machine())),
         Command::Listing => list(alloc, h.machine()),
         Command::Quit => Ok(Reply::Fixed(b"")),
         Command::Unknown => Ok(Reply::Fixed(b"? what\n")),

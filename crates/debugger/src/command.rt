@@ -1,10 +1,10 @@
 //! What a line asks for.
-ghost use Rattle.std.specs.Prelude.{◌≡◌, ◌≤◌, ◌-◌, ◌+◌, ◌*◌, ℕ, true, drop, min, option_map};
+ghost use Rattle.std.specs.Prelude.{◌≡◌, ◌≤◌, ◌<◌, ◌^◌, ◌-◌, ◌+◌, ◌*◌, ℕ, true, drop, min, option_map};
 ghost use Rattle.std.specs.Str.{bytes_eq};
-ghost use Rattle.debugger.specs.Commands.{begins_with, capped, capped_command, capped_number, command_of, form_of, is_digit, leads_with_zero, move_form_of, number_of, numbered_form_of, read_digits};
+ghost use Rattle.debugger.specs.Commands.{begins_with, capped, capped_command, capped_number, command_of, form_of, hex_value, is_digit, is_hex_digit, leads_with_zero, move_form_of, number_of, numbered_form_of, read_address, read_digits, shown_form_of};
 
-/// What a line asks for. A number above 1,000,000,000 is in no range: 1,000,000,001 stands for
-/// each.
+/// What a line asks for. The greatest number of 64 bits is in no range: it stands for each number
+/// that is greater.
 #[derive(Clone, Copy, Debug, PartialEq, Eq)]
 pub enum Command {
     /// `b N`: a breakpoint at this slot.
@@ -23,6 +23,12 @@ pub enum Command {
     ReverseContinue,
     /// `r`: the registers.
     Registers,
+    /// `v H`: what stands at this reference.
+    ValueAt(u64),
+    /// `m A L`: from this address on, so many bytes of memory.
+    MemoryAt(u64, u64),
+    /// `f`: the records of the calls that have not returned.
+    Frames,
     /// `l`: the code from `pc` on.
     Listing,
     /// `q`: the end of the session.
@@ -61,6 +67,9 @@ fn form(line: &[u8]) -> Command
     }
     if is_bytes(line, b"l") {
         return Command::Listing;
+    }
+    if is_bytes(line, b"f") {
+        return Command::Frames;
     }
     numbered_form(line)
 }
@@ -114,7 +123,67 @@ fn move_form(line: &[u8]) -> Command
             None => Command::Unknown,
         };
     }
+    shown_form(line)
+}
+
+/// What is shown of a state, by its number or its address.
+#[tactic(auto, unfolding(crate::specs::Commands::shown_form_of))]
+fn shown_form(line: &[u8]) -> Command
+    ensures { result ≡ capped_command (shown_form_of line.now) }
+{
+    if begins_with(line, b"v ") {
+        return match number(after(line, 2)) {
+            Some(h) => Command::ValueAt(h),
+            None => Command::Unknown,
+        };
+    }
+    if begins_with(line, b"m 0x") {
+        return address(0, 0, after(line, 4));
+    }
     Command::Unknown
+}
+
+/// The bytes that are asked for, of whose address so many hex digits, with this number, stand before
+/// the line's last part.
+fn address(digits: u32, so_far: u64, line: &[u8]) -> Command
+    requires digits { digits ≤ 16 }
+    requires fits { so_far < 16 ^ digits }
+    ensures { result ≡ capped_command (read_address digits so_far line.now) }
+{
+    match line {
+        [] => Command::Unknown,
+        [first, rest @ ..] => {
+            if *first == b' ' && digits > 0 {
+                return match number(rest) {
+                    Some(n) => Command::MemoryAt(so_far, n),
+                    None => Command::Unknown,
+                };
+            }
+            if is_hex_digit(*first) && digits < 16 {
+                return address(digits + 1, so_far * 16 + hex_value(*first), rest);
+            }
+            Command::Unknown
+        }
+    }
+}
+
+fn is_hex_digit(c: u8) -> bool
+    ensures { result ≡ is_hex_digit c }
+{
+    is_digit(c) || (97 <= c && c <= 102)
+}
+
+/// The number of a hex digit.
+fn hex_value(c: u8) -> u64
+    requires { is_hex_digit c ≡ true }
+    ensures value { result ≡ hex_value c }
+    ensures digit { result < 16 }
+{
+    if is_digit(c) {
+        u64::from(c - 48)
+    } else {
+        u64::from(c - 87)
+    }
 }
 
 fn is_bytes(line: &[u8], bytes: &[u8]) -> bool
@@ -184,8 +253,5 @@ fn with_digit(n: u64, c: u8) -> u64
     requires { is_digit c ≡ true }
     ensures { (m : ℕ) → n ≡ capped m → result ≡ capped (m * 10 + (c - 48)) }
 {
-    if n > 1_000_000_000 {
-        return 1_000_000_001;
-    }
-    (n * 10 + u64::from(c - 48)).min(1_000_000_001)
+    n.saturating_mul(10).saturating_add(u64::from(c - 48))
 }

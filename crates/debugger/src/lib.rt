@@ -9,6 +9,7 @@ mod counting;
 #[cfg(test)]
 mod doubles;
 mod failed;
+mod inspecting;
 pub mod laws;
 mod line_start;
 mod listing;

@@ -7,10 +7,11 @@ use crate::sessions::session;
 use crate::sink::Sink;
 use crate::source::Source;
 use crate::transfer::next_byte;
-use bpf_machine::Table;
 use loader::Image;
+use serde_json::Value;
 use std::alloc::Global;
 use std::test::Fail;
+use value_table::Table;
 
 /// `r0 = 5` and `exit`.
 const CODE: &[u8] = b"\xb7\0\0\0\x05\0\0\0\x95\0\0\0\0\0\0\0";
@@ -26,8 +27,11 @@ const INSIDE_WIDE: &[u8] =
 const NINE_EXITS: &[u8] =
     b"\x95\0\0\0\0\0\0\0\x95\0\0\0\0\0\0\0\x95\0\0\0\0\0\0\0\x95\0\0\0\0\0\0\0\x95\0\0\0\0\0\0\0\x95\0\0\0\0\0\0\0\x95\0\0\0\0\0\0\0\x95\0\0\0\0\0\0\0\x95\0\0\0\0\0\0\0";
 
-/// Programs with inputs that break and list, and what is written.
-const COMMANDS: [(&[u8], &[u8], &[u8]); 10] = [
+/// A call of itself.
+const CALLS_ITSELF: &[u8] = b"\x85\x10\0\0\xff\xff\xff\xff";
+
+/// Programs with inputs that break, list and show, and what is written.
+const COMMANDS: [(&[u8], &[u8], &[u8]); 14] = [
     (
         CODE,
         b"b 1\nd 1\nc 10\nr\n",
@@ -75,16 +79,48 @@ const COMMANDS: [(&[u8], &[u8], &[u8]); 10] = [
     ),
     (
         CODE,
+        b"s 5\nv 3\nv 0\nv 4\nv 9\nm 0x300000000 2\n",
+        b"step 5 pc 1 exited 0x0000000000000005\nvalue 3 true\nvalue 0 error\nvalue 4 null\n? range\n0x0000000300000000 00 00\n",
+    ),
+    (
+        CALLS_ITSELF,
+        b"s 8\nf\n",
+        b"step 8 pc 0 fault F7\ndepth 7\nreturn 1 r6 0x0000000000000000 r7 0x0000000000000000 r8 0x0000000000000000 r9 0x0000000000000000\nreturn 1 r6 0x0000000000000000 r7 0x0000000000000000 r8 0x0000000000000000 r9 0x0000000000000000\nreturn 1 r6 0x0000000000000000 r7 0x0000000000000000 r8 0x0000000000000000 r9 0x0000000000000000\nreturn 1 r6 0x0000000000000000 r7 0x0000000000000000 r8 0x0000000000000000 r9 0x0000000000000000\nreturn 1 r6 0x0000000000000000 r7 0x0000000000000000 r8 0x0000000000000000 r9 0x0000000000000000\nreturn 1 r6 0x0000000000000000 r7 0x0000000000000000 r8 0x0000000000000000 r9 0x0000000000000000\nreturn 1 r6 0x0000000000000000 r7 0x0000000000000000 r8 0x0000000000000000 r9 0x0000000000000000\n",
+    ),
+    (
+        STORES,
+        b"s 9\nm 0x1fffffff0 17\nm 0x200000000 17\nm 0x200000ff8 8\nm 0x200000ff8 9\n",
+        b"step 9 pc 6 exited 0x0000000000000005\n? range\n0x0000000200000000 05 00 00 00 00 00 00 00 00 00 00 00 00 00 00 00\n0x0000000200000010 00\n0x0000000200000ff8 00 00 00 00 00 00 00 00\n? range\n",
+    ),
+    (
+        CODE,
+        b"v 01\nv 18446744073709551616\nm 0x300000000 257\nm 0x3000007ff 0\nm 0x400000000 1\nm 0xffffffffffffffff 2\nm 0X3 1\nm 0x00000000300000000 1\nf 1\n",
+        b"? what\n? range\n? range\n? range\n? range\n? range\n? what\n? what\n? what\n",
+    ),
+    (
+        CODE,
         b"b 9\nb 8\nb 7\nb 6\nb 5\nb 4\nb 3\nb 2\nb 1\nd 5\nc 5\nrc\n",
         b"break 9\nbreak 8\nbreak 7\nbreak 6\nbreak 5\nbreak 4\nbreak 3\nbreak 2\nbreak 1\nclear 5\nstep 1 pc 1 running\nstep 0 pc 0 running\n",
     ),
 ];
 
-/// How a session with this code ends.
+/// The table of five null roots.
+fn nulls(alloc: Global) -> Result<Table, Fail> {
+    let roots = [
+        Value::Null,
+        Value::Null,
+        Value::Null,
+        Value::Null,
+        Value::Null,
+    ];
+    Ok(Table::of_roots(alloc, &roots)?)
+}
+
+/// How a session with this code and five null roots ends.
 fn ended(alloc: Global, code: &[u8], feed: &mut Feed, tape: &mut Tape) -> Result<Ended, Fail> {
     let code = Vec::from_slice(alloc, code)?;
     let image = Image::new(code, Vec::new(alloc))?;
-    Ok(session(alloc, image, Table::nulls(), feed, tape))
+    Ok(session(alloc, image, nulls(alloc)?, feed, tape))
 }
 
 type Ended = Result<(), SessionError>;
@@ -173,7 +209,15 @@ fn goes_back_over_a_store(rt: HostRuntime) -> Result<(), Fail> {
 
 /// Inputs, and what is written where no memory is refused, and where the memory for one of their
 /// lines is.
-const REFUSED: [(&[u8], [&[u8]; 3]); 3] = [
+const REFUSED: [(&[u8], [&[u8]; 3]); 4] = [
+    (
+        b"v 3\nm 0x300000000 1\nv 0\nf\n",
+        [
+            b"value 3 true\n0x0000000300000000 00\nvalue 0 error\ndepth 0\n",
+            b"? memory\n0x0000000300000000 00\nvalue 0 error\ndepth 0\n",
+            b"value 3 true\n0x0000000300000000 00\n? memory\ndepth 0\n",
+        ],
+    ),
     (
         b"s 1\ns 1\nx\n",
         [

@@ -1,6 +1,7 @@
 //! Sessions.
 ghost use Rattle.std.specs.Prelude.{◌≡◌, ℕ, List, [], Some, Err};
 ghost use Rattle.bpf_machine.specs.State.{start_state};
+ghost use Rattle.debugger.specs.Inspection.{StaysSized};
 ghost use Rattle.debugger.specs.Streams.{stream};
 ghost use Rattle.debugger.specs.Told.{ByResult, FailsByResult, IsSession};
 
@@ -11,16 +12,18 @@ use crate::session_error::SessionError;
 use crate::sink::Sink;
 use crate::source::Source;
 use crate::transfer::next_byte;
-use bpf_machine::{Machine, Table};
+use bpf_machine::Machine;
 use guest_memory::Guest;
 use history::{History, Past};
 use loader::Image;
 use std::alloc::Global;
+use value_store::ValueStore;
+use value_table::Table;
 
 /// A session with the run of an image on a table: reads lines, and writes the answer to each before
 /// the next is read, until `q` or the input's end. It begins at step 0 without breakpoints. Of an
 /// input only the first 2^63 bytes are read. Memory is taken to begin, and then only for a new
-/// breakpoint, for a move and for a listing: where it is refused, the line answers `? memory` and
+/// breakpoint, for a move, for a value and for a listing: where it is refused, the line answers `? memory` and
 /// nothing has changed.
 ///
 /// # Errors
@@ -34,10 +37,10 @@ pub fn session<R: Source, W: Sink>(
     r: &mut R,
     w: &mut W,
 ) -> Result<(), SessionError>
-    ensures { IsSession (start_state image table) (stream (R.left r.old) (R.failed r.old)) (stream (R.left r.new) (R.failed r.new)) (stream (W.taken w.old) (W.failed w.old)) (stream (W.taken w.new) (W.failed w.new)) result }
+    ensures { IsSession (start_state image (record { values = ⟦<Table as ValueStore>⟧.values table; charge = ⟦<Table as ValueStore>⟧.charge table })) (stream (R.left r.old) (R.failed r.old)) (stream (R.left r.new) (R.failed r.new)) (stream (W.taken w.old) (W.failed w.old)) (stream (W.taken w.new) (W.failed w.new)) result }
 {
-    let machine = Machine::<Guest>::start(alloc, image, table)?;
-    session_from::<Past<Machine<Guest>>, R, W>(alloc, machine, r, w)
+    let machine = Machine::<Table, Guest>::start(alloc, image, table)?;
+    session_from::<Past<Machine<Table, Guest>>, R, W>(alloc, machine, r, w)
 }
 
 /// A session with the run of a machine, shown by a history of the caller's kind.
@@ -47,6 +50,7 @@ fn session_from<H: History, R: Source, W: Sink>(
     r: &mut R,
     w: &mut W,
 ) -> Result<(), SessionError>
+    requires { StaysSized (H.Machine.state machine) }
     ensures { IsSession (H.Machine.state machine) (stream (R.left r.old) (R.failed r.old)) (stream (R.left r.new) (R.failed r.new)) (stream (W.taken w.old) (W.failed w.old)) (stream (W.taken w.new) (W.failed w.new)) result }
 {
     let mut h = H::begin(alloc, machine)?;
@@ -60,7 +64,8 @@ fn session_over<H: History, R: Source, W: Sink>(
     r: &mut R,
     w: &mut W,
 ) -> Result<(), SessionError>
-    requires { H.place h.old ≡ 0 }
+    requires place { H.place h.old ≡ 0 }
+    requires states { StaysSized (H.origin h.old) }
     ensures session { IsSession (H.origin h.old) (stream (R.left r.old) (R.failed r.old)) (stream (R.left r.new) (R.failed r.new)) (stream (W.taken w.old) (W.failed w.old)) (stream (W.taken w.new) (W.failed w.new)) result }
     ensures no_memory { result ≡ Err SessionError.Memory → ⊥ }
 {
@@ -79,6 +84,7 @@ fn hear_lines<H: History, R: Source, W: Sink>(
     w: &mut W,
 ) -> Result<(), SessionError>
     requires place { H.place h.old ≡ 0 }
+    requires states { StaysSized (H.origin h.old) }
     requires no_breakpoint { breakpoints.old ≡ [] }
     requires no_byte { line.old ≡ [] }
     ensures told { (input before : List ℕ) → R.left r.old ≡ Some input → W.taken w.old ≡ Some before → ByResult (H.origin h.old) input before (R.left r.new) (W.taken w.new) result }

@@ -6,12 +6,13 @@ use crate::answer_text::AnswerText;
 use bpf_machine::Machine;
 use guest_memory::Regions;
 use std::alloc::{AllocError, Global};
+use value_store::ValueStore;
 
 /// What a session answers to `r` and to a move to this step, where the machine stands there: the
 /// lines of r0 to r10, and that of the move.
-pub fn registers_and_move<M: Regions>(
+pub fn registers_and_move<V: ValueStore, M: Regions>(
     alloc: Global,
-    machine: &Machine<M>,
+    machine: &Machine<V, M>,
     step: u64,
 ) -> Result<Vec<u8>, AllocError>
     ensures { IfOk result (λ text. text.items ≡ registers_text machine.now ++ move_text step machine.now) }

@@ -6,6 +6,7 @@ use crate::failed::Failed;
 use crate::sink::Sink;
 use crate::source::Source;
 use crate::transfer::{next_byte, write_all};
+use std::alloc::Global;
 use std::io::{Error, ErrorKind, Read, Write};
 use std::test::Fail;
 
@@ -29,59 +30,71 @@ impl Write for Broken {
     }
 }
 
-#[test]
-fn counts_failed_reads(rt: HostRuntime) {
+/// How many of so many reads fail.
+fn failed_reads<T: Read + Drop>(inner: T, calls: u64) -> u64 {
+    let mut counted = Counting::new(inner);
     let mut buf = [0u8; 2];
-    let mut text = Counting::new(b"abc".as_slice());
-    assert_eq!(rt; Source::read(&mut text, &mut buf), Ok(2));
-    assert_eq!(rt; buf, *b"ab");
-    assert_eq!(rt; Source::read(&mut text, &mut buf), Ok(1));
-    assert_eq!(rt; Source::read(&mut text, &mut buf), Ok(0));
-    assert_eq!(rt; Source::failures(&text), 0);
-    let mut broken = Counting::new(Broken);
-    for failures in 1..4u64 {
-        assert_eq!(rt; Source::read(&mut broken, &mut buf), Err(Failed));
-        assert_eq!(rt; Source::failures(&broken), failures);
+    for _ in 0..calls {
+        let _ = Source::read(&mut counted, &mut buf);
     }
+    Source::failures(&counted)
 }
 
 #[test]
+fn counts_failed_reads(rt: HostRuntime) {
+    assert_eq!(rt; failed_reads(b"abc".as_slice(), 3), 0);
+    assert_eq!(rt; failed_reads(Broken, 3), 3);
+}
+
+/// How many of so many writes of these bytes fail.
+fn failed_writes<T: Write + Drop>(inner: T, bytes: &[u8], calls: u64) -> u64 {
+    let mut counted = Counting::new(inner);
+    for _ in 0..calls {
+        let _ = Sink::write(&mut counted, bytes);
+    }
+    Sink::failures(&counted)
+}
+
+/// A write into three bytes of room takes none once they are full.
+#[test]
 fn counts_failed_writes(rt: HostRuntime) {
-    let mut room = [0u8; 3];
-    let mut full = Counting::new(room.as_mut_slice());
-    assert_eq!(rt; Sink::write(&mut full, b"abcd"), Ok(3));
-    assert_eq!(rt; Sink::write(&mut full, b""), Ok(0));
-    assert_eq!(rt; Sink::failures(&full), 0);
-    assert_eq!(rt; Sink::write(&mut full, b"d"), Ok(0));
-    assert_eq!(rt; Sink::failures(&full), 1);
-    let mut broken = Counting::new(Broken);
-    assert_eq!(rt; Sink::write(&mut broken, b"d"), Err(Failed));
-    assert_eq!(rt; Sink::failures(&broken), 1);
+    for (calls, failures) in [(2, 0), (3, 1), (4, 2)] {
+        let mut room = [0u8; 3];
+        assert_eq!(rt; failed_writes(room.as_mut_slice(), b"ab", calls), failures);
+    }
+    assert_eq!(rt; failed_writes(Broken, b"", 2), 2);
+}
+
+/// What is read after so many bytes of `ab`, where the second read fails.
+fn byte_after(reads: u64) -> Result<Option<u8>, Failed> {
+    let mut feed = Feed::new(b"ab", 7, 2);
+    for _ in 0..reads {
+        let _ = next_byte(&mut feed);
+    }
+    next_byte(&mut feed)
 }
 
 #[test]
 fn reads_byte_by_byte(rt: HostRuntime) {
-    let mut feed = Feed::new(b"ab", 7, 2);
-    assert_eq!(rt; next_byte(&mut feed), Ok(Some(b'a')));
-    assert_eq!(rt; next_byte(&mut feed), Err(Failed));
-    assert_eq!(rt; Source::failures(&feed), 1);
-    assert_eq!(rt; next_byte(&mut feed), Ok(Some(b'b')));
-    assert_eq!(rt; next_byte(&mut feed), Ok(None));
-    assert_eq!(rt; Source::failures(&feed), 1);
+    assert_eq!(rt; byte_after(0), Ok(Some(b'a')));
+    assert_eq!(rt; byte_after(1), Err(Failed));
+    assert_eq!(rt; byte_after(2), Ok(Some(b'b')));
+    assert_eq!(rt; byte_after(3), Ok(None));
+}
+
+/// Whether so much of `abcde` is written two bytes at a time, where the write with one of these
+/// numbers fails, or takes no byte.
+fn writes(alloc: Global, fails_at: u64, stalls_at: u64, said: &[u8]) -> Result<bool, Fail> {
+    let mut tape = Tape::new(Vec::with_capacity(alloc, 5)?, 2, fails_at, stalls_at);
+    let _ = write_all(&mut tape, b"abcde");
+    Ok(tape.bytes() == said)
 }
 
 #[test]
 fn writes_in_pieces(rt: HostRuntime) -> Result<(), Fail> {
-    let mut whole = Tape::new(Vec::with_capacity(rt.alloc(), 5)?, 2, 0, 0);
-    assert_eq!(rt; write_all(&mut whole, b"abcde"), Ok(()));
-    assert_eq!(rt; whole.bytes(), b"abcde".as_slice());
-    let mut broken = Tape::new(Vec::with_capacity(rt.alloc(), 5)?, 2, 2, 0);
-    assert_eq!(rt; write_all(&mut broken, b"abcde"), Err(Failed));
-    assert_eq!(rt; broken.bytes(), b"ab".as_slice());
-    assert_eq!(rt; Sink::failures(&broken), 1);
-    let mut stalled = Tape::new(Vec::with_capacity(rt.alloc(), 5)?, 2, 0, 3);
-    assert_eq!(rt; write_all(&mut stalled, b"abcde"), Err(Failed));
-    assert_eq!(rt; stalled.bytes(), b"abcd".as_slice());
-    assert_eq!(rt; Sink::failures(&stalled), 1);
+    let rows: [(u64, u64, &[u8]); 3] = [(0, 0, b"abcde"), (2, 0, b"ab"), (0, 3, b"abcd")];
+    for (fails_at, stalls_at, said) in rows {
+        assert!(rt; writes(rt.alloc(), fails_at, stalls_at, said)?);
+    }
     Ok(())
 }

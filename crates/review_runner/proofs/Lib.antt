@@ -9,3 +9,4 @@ pub mod Programs
 pub mod Readings
 pub mod Shape
 pub mod Streams
+mod Reviewed

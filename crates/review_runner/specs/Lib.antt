@@ -5,6 +5,8 @@ pub mod FileSystem
 pub mod Commands
 pub mod Number
 pub mod Order
+pub mod Reviews
+pub mod RootRows
 pub mod Rows
 pub mod Opening
 pub mod Debugging

@@ -9,6 +9,7 @@ mod assembling;
 mod assembling_tests;
 mod command_line;
 mod debugging;
+mod document;
 mod done;
 #[cfg(test)]
 mod doubles;
@@ -29,7 +30,10 @@ mod program_tests;
 pub mod reader;
 mod refusal;
 mod refusal_line;
+mod review;
+mod root_values;
 pub mod rows;
+mod run_error;
 mod running;
 #[cfg(test)]
 mod running_tests;
@@ -45,4 +49,6 @@ pub use order_error::OrderError;
 pub use performing::perform;
 pub use program::exit_code;
 pub use refusal::Refusal;
+pub use root_values::roots;
+pub use run_error::RunError;
 pub use running::{RunImageError, run_image};

@@ -1,4 +1,6 @@
-//! Command lines written out, with the orders that the definitions give for them.
+//! Command lines and documents written out, with the orders and the values that the definitions give
+//! for them.
+ghost use Rattle.review_runner.specs.RootRows.{RootRowsStand};
 ghost use Rattle.review_runner.specs.Rows.{asm_words, debug_words, list_words, without_steps, with_steps, IsRefused, IsTakenAs};
 ghost use Rattle.review_runner.specs.Order.{assemble, debug, list, run_image};
 ghost use Rattle.std.specs.Prelude.{codes};
@@ -25,4 +27,9 @@ pub fn asm_row_stands()
 /// `celbpf list a.img` lists `a.img`.
 pub fn list_row_stands()
     ensures { IsTakenAs list_words (list (codes "a.img")) }
+{}
+
+/// Documents of reviews, with the values of their roots or their refusals.
+pub fn root_rows_stand()
+    ensures { RootRowsStand }
 {}

@@ -1,8 +1,13 @@
-use Rattle.std.proofs.Common.{subst}
+use Rattle.std.proofs.Common.{subst, sym}
 use Rattle.bpf_machine.specs.State.{State}
 use Rattle.debugger.specs.Streams.{stream}
 use Rattle.debugger.specs.Told.{IsSession}
+use Rattle.debugger.specs.Inspection.{StaysSized}
+use Rattle.debugger.proofs.Sizes.{stays_sized}
 use Rattle.debugger.proofs.sessions.session.Goals as goal
+
+pub session_from-requires : goal.session_from-requires
+session_from-requires g c = subst StaysSized (sym c.in_ok-machine.ensures) (stays_sized _ _)
 
 pub returns : goal.returns
 returns g c =

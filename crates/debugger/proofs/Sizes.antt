@@ -1,0 +1,155 @@
+-- The sizes that every state of a run has.
+use Rattle.std.proofs.Common.{◌≡◌, ℕ, zero, suc, ◌+◌, ◌-◌, ◌/◌, ◌<◌, ◌≤◌, Bool, true, false, List, [], ◌∷◌, ◌++◌, length, take, drop, Option, Some, None, Result, Ok, Err, ℤ, refl, ap, subst, ◌∙◌, arith, length-append, length-drop}
+use Rattle.std.specs.Prelude.{nat_lt, if◌then◌else◌}
+use Rattle.std.proofs.lemmas.Bool.Decides.{nat_tests}
+use Rattle.std.proofs.lemmas.List.{length-replicate, length-take, length-take-le}
+use Rattle.guest_memory.specs.Access.{size_bytes, write_at, write_of}
+use Rattle.guest_memory.specs.Memory.{Memory, Region, Stack, Scratch, Verdict, Constants, bytes_in, start_memory, with_bytes}
+use Rattle.guest_memory.specs.Word.{low_bytes, overlay}
+use Rattle.guest_memory.specs.declared.fault.Fault as fault
+use Rattle.guest_memory.specs.declared.size.Size as memory
+use Rattle.helper_table.specs.Outcome.{CallEnd, Halts, Leaves}
+use Rattle.insn_codec.specs.declared.insn.Insn.{Insn}
+use Rattle.insn_codec.specs.declared.insn.Insn.TheVariants.{Alu, Neg, SignExtend, ByteSwap, Jump, JumpLong, Branch, Call, CallLocal, Exit, Load, LoadSigned, StoreImm, Store, LoadWide}
+use Rattle.insn_codec.specs.declared.register.Register.{Register}
+use Rattle.insn_codec.specs.declared.signed_size.SignedSize.{SignedSize}
+use Rattle.loader.specs.Contents.{Contents}
+use Rattle.value_store.specs.Placing as store
+use Rattle.bpf_machine.specs.Access.{load_row, load_signed_row, load_wide_row, loaded, loaded_signed, store_row, stored}
+use Rattle.bpf_machine.specs.Arithmetic.{alu_row, byte_swap_row, neg_row, sign_extend_row}
+use Rattle.bpf_machine.specs.Decoding.{fetched}
+use Rattle.bpf_machine.specs.HelperCalls.{answered, call_row}
+use Rattle.bpf_machine.specs.Jumps.{branch_row, call_local_row, called, caller, exit_row, jump_row, newest, returned}
+use Rattle.bpf_machine.specs.Operands.{jumped, stopped_by}
+use Rattle.bpf_machine.specs.State.{State, start_state}
+use Rattle.bpf_machine.specs.Step.{by_status, executed, next_state, stepped}
+use Rattle.bpf_machine.specs.Trace.{state_after}
+use Rattle.bpf_machine.specs.declared.frame.Frame.{Frame}
+use Rattle.bpf_machine.specs.declared.status.Status.{Status}
+use Rattle.bpf_machine.specs.declared.status.Status.TheVariants.{Running, Exited, Fault}
+use Rattle.debugger.specs.Inspection.{HasRegions, IsSized, StaysSized}
+use Rattle.debugger.proofs.Shown.{Says, region_says}
+
+either : (b : Bool) (s t : State) → IsSized s → IsSized t → IsSized (if b then s else t)
+either true s t first second = first
+either false s t first second = second
+
+-- ---- memory
+
+length-low_bytes : (n word : ℕ) → length (low_bytes n word) ≡ n
+length-low_bytes zero word = refl
+length-low_bytes (suc n) word = ap suc (length-low_bytes n (word / 256))
+
+length-overlay : (old bytes : List ℕ) (at : ℕ) → at + length bytes ≤ length old → length (overlay old at bytes) ≡ length old
+length-overlay old bytes at within =
+    let front = length-take-le at old (omega (arith, within)) in
+    let behind = length-drop (at + length bytes) old in
+    length-append (take at old) (bytes ++ drop (at + length bytes) old)
+    ∙ (let rest = length-append bytes (drop (at + length bytes) old) in omega (arith, front, behind, rest, within))
+
+written : (r : Region) (m : Memory) (bytes : List ℕ) → length bytes ≡ length (bytes_in r m) → HasRegions m → HasRegions (with_bytes r bytes m)
+written Stack m bytes same has = record { stack = same ∙ has.stack; scratch = has.scratch; verdict = has.verdict }
+written Scratch m bytes same has = record { stack = has.stack; scratch = same ∙ has.scratch; verdict = has.verdict }
+written Verdict m bytes same has = record { stack = has.stack; scratch = has.scratch; verdict = same ∙ has.verdict }
+written Constants m bytes same has = record { stack = has.stack; scratch = has.scratch; verdict = has.verdict }
+
+ok_is : (a b : Memory) → (let r : Result Memory fault.Fault = Ok a in r ≡ Ok b) → a ≡ b
+ok_is a b e = cc
+
+within_region : (r : Region) (m : Memory) (address n at word : ℕ) → Says m address n (Some (r, at)) → length (overlay (bytes_in r m) at (low_bytes n word)) ≡ length (bytes_in r m)
+unfolding Says
+within_region r m address n at word says =
+    let low = says.0.low in
+    let high = says.0.high in
+    let is = says.1 in
+    let long = length-low_bytes n word in
+    length-overlay (bytes_in r m) (low_bytes n word) at (omega (arith, low, high, is, long))
+
+write_by : (m after : Memory) (address n word : ℕ) (o : Option (Region × ℕ)) → HasRegions m → Says m address n o → write_at m (low_bytes n word) o ≡ Ok after → HasRegions after
+write_by m after address n word (Some (Stack, at)) has says e = subst HasRegions (ok_is _ after e) (written Stack m _ (within_region Stack m address n at word says) has)
+write_by m after address n word (Some (Scratch, at)) has says e = subst HasRegions (ok_is _ after e) (written Scratch m _ (within_region Scratch m address n at word says) has)
+write_by m after address n word (Some (Verdict, at)) has says e = subst HasRegions (ok_is _ after e) (written Verdict m _ (within_region Verdict m address n at word says) has)
+write_by m after address n word (Some (Constants, at)) has says e = cc
+write_by m after address n word None has says e = cc
+
+write_sized : (m after : Memory) (address word : ℕ) (size : memory.Size) → HasRegions m → write_of m address size word ≡ Ok after → HasRegions after
+unfolding write_of
+write_sized m after address word size has e = write_by m after address (size_bytes size) word _ has (region_says m address (size_bytes size)) e
+
+-- ---- rows
+
+module _ (s : State) (is : IsSized s) where
+  loaded_sized : (dst : Register) (r : Result ℕ fault.Fault) → IsSized (loaded dst r s)
+  loaded_sized dst (Ok w) = is
+  loaded_sized dst (Err f) = is
+
+  signed_sized : (size : SignedSize) (dst : Register) (r : Result ℕ fault.Fault) → IsSized (loaded_signed size dst r s)
+  signed_sized size dst (Ok w) = is
+  signed_sized size dst (Err f) = is
+
+  stored_sized : (r : Result Memory fault.Fault) → ((m : Memory) → r ≡ Ok m → HasRegions m) → IsSized (stored r s)
+  stored_sized (Ok m) kept = record { regions = kept m refl; few = is.few }
+  stored_sized (Err f) kept = is
+
+  answered_sized : (e : CallEnd) → IsSized (answered e s)
+  answered_sized (Halts f) = is
+  answered_sized (Leaves word values) = is
+
+  called_sized : (offset : ℤ) (b : Bool) → nat_lt (length s.records) 7 ≡ b → IsSized (if b then jumped offset (called s) else stopped_by fault.TheVariants.F7 s)
+  called_sized offset true room =
+      let few : length s.records < 7 = grind (arith, nat_tests) in
+      record { regions = is.regions; few = omega (arith, few, length-append s.records (caller s ∷ [])) }
+  called_sized offset false room = is
+
+  returned_sized : (o : Option Frame) → IsSized (returned o s)
+  returned_sized None = is
+  returned_sized (Some f) = let most = is.few in record { regions = is.regions; few = omega (arith, most, length-take (length s.records - 1) s.records) }
+
+  executed_sized : (i : Insn) → IsSized (executed i s)
+  unfolding alu_row neg_row sign_extend_row byte_swap_row jump_row branch_row call_row call_local_row exit_row load_row load_signed_row store_row load_wide_row
+  executed_sized (Alu op width dst operand) = either _ _ _ is is
+  executed_sized (Neg width dst) = either _ _ _ is is
+  executed_sized (SignExtend extension dst src) = either _ _ _ is is
+  executed_sized (ByteSwap order width dst) = either _ _ _ is is
+  executed_sized (Jump offset) = is
+  executed_sized (JumpLong offset) = is
+  executed_sized (Branch comparison width dst operand offset) = either _ _ _ is is
+  executed_sized (Call helper) = answered_sized _
+  executed_sized (CallLocal offset) = called_sized offset _ refl
+  executed_sized Exit = returned_sized (newest s.records)
+  executed_sized (Load size dst src offset) = either _ _ _ is (loaded_sized dst _)
+  executed_sized (LoadSigned size dst src offset) = either _ _ _ is (signed_sized size dst _)
+  executed_sized (StoreImm size dst offset imm) = stored_sized _ (λ m e. write_sized s.memory m _ _ _ is.regions e)
+  executed_sized (Store size dst offset src) = stored_sized _ (λ m e. write_sized s.memory m _ _ _ is.regions e)
+  executed_sized (LoadWide dst value) = either _ _ _ is is
+
+  stepped_sized : (o : Option (Option Insn)) → IsSized (stepped o s)
+  stepped_sized None = is
+  stepped_sized (Some None) = is
+  stepped_sized (Some (Some i)) = executed_sized i
+
+  status_sized : (status : Status) → IsSized (by_status status s)
+  status_sized Running = stepped_sized (fetched s.image.code s.pc)
+  status_sized (Exited w) = is
+  status_sized (Fault f) = is
+
+  next_sized : IsSized (next_state s)
+  unfolding next_state
+  next_sized = status_sized s.status
+
+-- ---- runs
+
+start_sized : (image : Contents) (values : store.Contents) → IsSized (start_state image values)
+unfolding start_state start_memory
+start_sized image values = record {
+  regions = record { stack = length-replicate {A = ℕ} 4096 0; scratch = length-replicate {A = ℕ} 4096 0; verdict = length-replicate {A = ℕ} 2048 0 };
+  few = omega arith;
+}
+
+run_sized : (s : State) → IsSized s → StaysSized s
+unfolding state_after
+run_sized s is zero = is
+run_sized s is (suc k) = next_sized (state_after k s) (run_sized s is k)
+
+pub stays_sized : (image : Contents) (values : store.Contents) → StaysSized (start_state image values)
+stays_sized image values = run_sized (start_state image values) (start_sized image values)

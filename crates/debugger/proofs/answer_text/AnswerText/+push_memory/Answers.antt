@@ -1,0 +1,12 @@
+use Rattle.std.proofs.Common.{arith, refl, rules}
+use Rattle.debugger.proofs.Shown.{lines_first, lines_none, lines_one, some_bytes}
+use Rattle.debugger.proofs.answer_text.AnswerText.+push_memory.Goals as goal
+
+pub returns-then-is_empty : goal.returns-then-is_empty
+returns-then-is_empty t c = λ count enough. lines_none count _ _ _ (search rules)
+
+pub returns-then-bytes-le16 : goal.returns-then-bytes-le16
+returns-then-bytes-le16 t c = λ count enough. lines_one count _ _ _ _ (some_bytes _ (search rules)) c.if-bytes-le16.true enough c.push_memory_line.ensures.text
+
+pub returns : goal.returns
+returns t c = λ count enough. lines_first count _ _ _ _ _ _ _ _ (omega (arith, c.if-bytes-le16.false)) enough (omega (arith, c.ranges.address.fits)) refl c.split_at.ensures.front c.split_at.ensures.back c.push_memory_line-2.ensures.text c.push_memory.ensures

@@ -1,0 +1,5 @@
+use Rattle.std.proofs.Common.{length}
+use Rattle.debugger.proofs.answer_text.AnswerText.+push_memory.Given as goal
+
+abbrev pub decreases-push_memory : goal.decreases-push_memory
+decreases-push_memory l = length l.bytes.now

@@ -1,0 +1,5 @@
+use Rattle.std.proofs.Common.{length}
+use Rattle.debugger.proofs.command.+address.Given as goal
+
+abbrev pub decreases-address : goal.decreases-address
+decreases-address l = length l.line.now

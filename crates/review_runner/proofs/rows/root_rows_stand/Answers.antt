@@ -1,0 +1,24 @@
+use Rattle.std.proofs.Common.{refl}
+use Rattle.std.specs.Char.{encode_utf8}
+use Rattle.std.specs.Str.{chars, is_utf8}
+use Rattle.serde_json.proofs.OnLiterals.{serde_json_on_literals}
+use Rattle.review_runner.specs.Reviews.{contents_given, document_of, parts_of}
+use Rattle.review_runner.proofs.rows.root_rows_stand.Goals as goal
+
+pub returns : goal.returns
+unfolding serde_json_on_literals chars encode_utf8 is_utf8 contents_given document_of parts_of
+returns c = record {
+  a_review = refl;
+  no_documents = refl;
+  others = refl;
+  fraction = refl;
+  number_as_params = refl;
+  text_as_namespace = refl;
+  no_json = refl;
+  no_uid = refl;
+  no_request = refl;
+  other_kind = refl;
+  form_first = refl;
+  params_first = refl;
+  object_first = refl;
+}

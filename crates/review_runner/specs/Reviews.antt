@@ -1,0 +1,131 @@
+-- A review (AdmissionReview, admission.k8s.io/v1), the roots that its documents give, and why they are refused.
+use Rattle.std.specs.Prelude.{◌≡◌, ℕ, ◌&&◌, ◌||◌, Bool, true, false, List, [], ◌∷◌, Option, Some, None, option_map, option_and_then, unwrap_or, Result, Ok, Err, codes, nat_eq, if◌then◌else◌}
+use Rattle.std.specs.Str.{bytes_eq, is_utf8}
+use Rattle.serde_json.specs.Data as json
+use Rattle.serde_json.specs.Find.{get, get_member}
+use Rattle.serde_json.specs.Read.{read}
+use Rattle.serde_json.specs.View.{view}
+use Rattle.value_store.specs.Placing.{Contents}
+use Rattle.value_store.specs.Roots.{start_contents}
+use Rattle.value_store.specs.declared.table_error.TableError.{TableError}
+use Rattle.value_store.specs.declared.table_error.TableError.TheVariants.{V1, V2, V3}
+use Rattle.value_store.specs.declared.table_error.TableError.TheVariants as table_error
+use Rattle.review_runner.specs.declared.review.Review.{Review}
+use Rattle.review_runner.specs.declared.run_error.RunError.{RunError}
+use Rattle.review_runner.specs.declared.run_error.RunError.TheVariants.{N2, N3, Memory}
+
+-- ---- documents
+
+-- what a document says as `serde_json` reads it (RFC 8259), and nothing where it is no JSON text
+unfoldable pub document_of : List ℕ → Option json.Data
+document_of bytes = if is_utf8 bytes then read bytes else None
+
+-- a document that is not given is null
+abbrev pub document_given : Option (List ℕ) → Option json.Data
+document_given (Some bytes) = document_of bytes
+document_given None = Some json.null
+
+-- ---- reviews
+
+abbrev pub is_text : Option json.Data → Bool
+is_text (Some (json.string s)) = true
+is_text _ = false
+
+abbrev pub is_the_text : Option json.Data → List ℕ → Bool
+is_the_text (Some (json.string s)) text = bytes_eq s text
+is_the_text _ text = false
+
+abbrev pub is_review : json.Data → Bool
+is_review d = is_the_text (get (codes "apiVersion") d) (codes "admission.k8s.io/v1") && is_the_text (get (codes "kind") d) (codes "AdmissionReview")
+
+-- the members of a request, an object whose `uid` is a text
+abbrev pub members_in : json.Data → Option json.Members
+members_in (json.object ms) = if is_text (get_member (codes "uid") ms) then Some ms else None
+members_in _ = None
+
+-- the members of a review's request; other keys of both are free
+abbrev pub request_of : json.Data → Option json.Members
+request_of d = if is_review d then option_and_then members_in (get (codes "request") d) else None
+
+-- the members without that of a key, which an object has once
+abbrev pub without : List ℕ → json.Members → json.Members
+without key json.no_members = json.no_members
+without key (json.member k d ms) = if bytes_eq key k then ms else json.member k d (without key ms)
+
+abbrev pub member_or_null : List ℕ → json.Members → json.Data
+member_or_null key ms = unwrap_or (get_member key ms) json.null
+
+-- the roots that come from a review
+pub record Parts : Type 0 where
+  pub object : json.Data
+  pub old_object : json.Data
+  pub request : json.Data
+
+abbrev pub parts_view : Review → Parts
+parts_view r = record { object = view r.object; old_object = view r.old_object; request = view r.request }
+
+-- the request's `object` and `oldObject`, null where absent, and the request without those two keys
+unfoldable pub parts_of : json.Members → Parts
+parts_of ms = record {
+  object = member_or_null (codes "object") ms;
+  old_object = member_or_null (codes "oldObject") ms;
+  request = json.object (without (codes "oldObject") (without (codes "object") ms));
+}
+
+abbrev pub null_parts : Parts
+null_parts = record { object = json.null; old_object = json.null; request = json.null }
+
+abbrev pub parts_in : json.Data → Option Parts
+parts_in d = option_map parts_of (request_of d)
+
+-- null roots where no review is given, and none where it is not a review's document
+abbrev pub parts_given : Option (List ℕ) → Option Parts
+parts_given (Some bytes) = option_and_then parts_in (document_of bytes)
+parts_given None = Some null_parts
+
+-- ---- roots
+
+-- in the order of their references, from 4 on
+abbrev pub roots_from : Parts → json.Data → json.Data → List json.Data
+roots_from parts namespace params = parts.object ∷ parts.old_object ∷ params ∷ namespace ∷ parts.request ∷ []
+
+-- params and namespaceObject, at 6 and 7, are not the review's
+abbrev pub refusal_at : ℕ → RunError
+refusal_at place = if nat_eq place 6 || nat_eq place 7 then N3 else N2
+
+abbrev pub root_refusal : TableError → RunError
+root_refusal (V1 place) = refusal_at place
+root_refusal (V2 place) = refusal_at place
+root_refusal V3 = N2
+root_refusal table_error.Memory = Memory
+
+abbrev pub accepted : Result Contents TableError → Result Contents RunError
+accepted (Ok contents) = Ok contents
+accepted (Err e) = Err (root_refusal e)
+
+-- the values at the start, or the first refusal: of the review's form, of the namespace, of the params, of the roots
+abbrev pub contents_from : Option Parts → Option json.Data → Option json.Data → Result Contents RunError
+contents_from (Some parts) (Some namespace) (Some params) = accepted (start_contents (roots_from parts namespace params))
+contents_from (Some parts) (Some namespace) None = Err N3
+contents_from (Some parts) None params = Err N3
+contents_from None namespace params = Err N2
+
+-- the same of the documents of a review, a namespace and the params
+unfoldable pub contents_given : Option (List ℕ) → Option (List ℕ) → Option (List ℕ) → Result Contents RunError
+contents_given review namespace params = contents_from (parts_given review) (document_given namespace) (document_given params)
+
+-- ---- answers
+
+-- what is due was read, or this refusal is; memory may run out first
+abbrev pub Reads : {A B : Type 0} → RunError → (B → A) → Option A → Result B RunError → Type 0
+Reads refusal see due (Ok b) = due ≡ Some (see b)
+Reads refusal see due (Err N2) = (due ≡ None) × (refusal ≡ N2)
+Reads refusal see due (Err N3) = (due ≡ None) × (refusal ≡ N3)
+Reads refusal see due (Err Memory) = Unit {0}
+
+-- the answer is the one that is due; memory may run out first
+abbrev pub Gives : {A B : Type 0} → (B → A) → Result A RunError → Result B RunError → Type 0
+Gives see due (Ok b) = due ≡ Ok (see b)
+Gives see due (Err N2) = due ≡ Err N2
+Gives see due (Err N3) = due ≡ Err N3
+Gives see due (Err Memory) = Unit {0}

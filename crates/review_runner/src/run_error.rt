@@ -1,0 +1,55 @@
+//! Why the documents of a review were refused.
+ghost use Rattle.std.specs.Prelude.{◌≡◌};
+ghost use Rattle.review_runner.specs.Reviews.{refusal_at, root_refusal};
+ghost use Rattle.review_runner.specs.declared.run_error.RunError.TheVariants as run_error;
+
+use std::alloc::AllocError;
+use thiserror::Error;
+use value_store::TableError;
+
+/// Why the documents of a review were refused.
+#[derive(Clone, Copy, Debug, PartialEq, Eq, Error)]
+pub enum RunError {
+    /// The review: it is no JSON text or has not a review's form, or the root object, oldObject or
+    /// request is refused, or the roots together are too large.
+    #[error("the review is refused")]
+    N2,
+    /// The namespace or the params: one is no JSON text, or is refused as a root.
+    #[error("the namespace or the params are refused")]
+    N3,
+    /// Memory ran out.
+    #[error("out of memory")]
+    Memory,
+}
+
+impl From<AllocError> for RunError {
+    ghost from_gives = { λ _ e. e ≡ run_error.Memory };
+
+    fn from(_error: AllocError) -> RunError {
+        RunError::Memory
+    }
+}
+
+impl From<TableError> for RunError {
+    ghost from_gives = { λ e r. r ≡ root_refusal e };
+
+    fn from(error: TableError) -> RunError {
+        match error {
+            TableError::V1(place) => refusal_at(place),
+            TableError::V2(place) => refusal_at(place),
+            TableError::V3 => RunError::N2,
+            TableError::Memory => RunError::Memory,
+        }
+    }
+}
+
+/// The refusal of the root at a reference.
+fn refusal_at(place: u64) -> RunError
+    ensures { result ≡ refusal_at place }
+{
+    if place == 6 || place == 7 {
+        RunError::N3
+    } else {
+        RunError::N2
+    }
+}
