@@ -1,5 +1,5 @@
 -- Keys in byte order, in maps that are looked into, lengthened and placed.
-use Rattle.std.proofs.Common.{◌≡◌, ℕ, zero, suc, List, [], ◌∷◌, ◌++◌, Option, Some, None, map, Ordering, Less, Equal, Greater, nat_cmp, Bool, true, false, bytes_eq, refl, sym, ap, ◌∙◌, subst}
+use Rattle.std.proofs.Common.{◌≡◌, ℕ, zero, suc, List, [], ◌∷◌, ◌++◌, Option, Some, None, Ordering, Less, Equal, Greater, nat_cmp, Bool, true, false, bytes_eq, refl, sym, ap, ◌∙◌, subst}
 use Rattle.std.proofs.lemmas.Cmp.{nat_list_cmp_total}
 use Rattle.std.proofs.lemmas.Map.Text.{is_eq-slice_cmp}
 use Rattle.std.proofs.lemmas.Slice.Eq.{bytes_eq-Decides}
@@ -12,7 +12,7 @@ use Rattle.value_store.specs.Value as kind
 use Rattle.value_store.specs.Value.{Value, Items, no_items, item, Entries, no_entries, entry, ValueOrError, error, value, keys_of, values_of, list_of, items_push, items_join}
 use Rattle.value_store.specs.Lookup.{find, has_key, inserted, inserted_by}
 use Rattle.value_store.specs.Keys.{Ascend, IsOrdered, AreItemsOrdered, AreEntriesOrdered, IsResultOrdered, AreOrdered}
-use Rattle.value_store.specs.Calls.{value_at, text_at, entries_at, entries_part, part_at, key_at, join_of, joined, push_of, pushed, put_of, put_in}
+use Rattle.value_store.specs.Calls.{value_at, text_at, entries_at, entries_part, part_at, join_of, joined, push_of, pushed, put_of, put_in}
 use Rattle.value_store.specs.Placing.{placed}
 use Rattle.value_store.specs.Laws.{IsOrderedAt, InsertedInOrder, InsertedOnce, KeepsOrder}
 

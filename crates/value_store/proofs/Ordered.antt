@@ -10,16 +10,16 @@ use Rattle.serde_json.proofs.Views.{view-Object}
 use Rattle.value_store.specs.Value as kind
 use Rattle.value_store.specs.Value.{Value, Entries, ValueOrError, error, value, keys_of}
 use Rattle.value_store.specs.Size.{depth_of}
-use Rattle.value_store.specs.Keys.{Ascend, IsOrdered, AreItemsOrdered, AreEntriesOrdered, IsResultOrdered, AreOrdered, member_keys, IsDocumentOrdered, AreElementsOrdered, AreMembersOrdered}
+use Rattle.value_store.specs.Keys.{Ascend, IsOrdered, AreItemsOrdered, AreEntriesOrdered, AreOrdered, member_keys, IsDocumentOrdered, AreElementsOrdered, AreMembersOrdered}
 use Rattle.value_store.specs.Placing.{Contents, first_values, charge_limit, IsCanonicalAt, AreCanonical}
-use Rattle.value_store.specs.Roots.{has_other, members_value, root_value, root_of, root_then, roots_of, sizes, contents_of, start_contents}
+use Rattle.value_store.specs.Roots.{has_other, members_value, root_value, root_of, root_then, roots_of, sizes, contents_of}
 use Rattle.value_store.specs.Plain.{plain_value, plain_items, plain_entries}
-use Rattle.value_store.specs.Nodes.{stored, stored_values}
+use Rattle.value_store.specs.Nodes.{stored_values}
 use Rattle.value_store.specs.declared.node.Node.{Node}
 use Rattle.value_store.specs.declared.node.Node.TheVariants as node
 use Rattle.value_store.specs.declared.table_error.TableError.{TableError}
 use Rattle.value_store.specs.declared.table_error.TableError.TheVariants.{V3}
-use Rattle.value_store.proofs.Starting.{Started, started}
+use Rattle.value_store.proofs.Starting.{started}
 use Rattle.value_store.specs.Laws.{StartIsOrdered, StartIsCanonical}
 
 keys_same : (ms : json.Members) → keys_of (plain_entries ms) ≡ member_keys ms

@@ -1,8 +1,16 @@
 //! The laws of values, each proved as the contract of an empty function.
 
 ghost use Rattle.value_store.specs.Laws.{
-    AbsentKeyFits, EqualDecides, FindIsPlace, InsertedInOrder, InsertedOnce, KeepsOrder, OtherNumbersRefused,
-    StartIsCanonical, StartIsOrdered, StartIsStore,
+  AbsentKeyFits,
+  EqualDecides,
+  FindIsPlace,
+  InsertedInOrder,
+  InsertedOnce,
+  KeepsOrder,
+  OtherNumbersRefused,
+  StartIsCanonical,
+  StartIsOrdered,
+  StartIsStore,
 };
 ghost use Rattle.value_store.specs.Rows.{RowsStand};
 

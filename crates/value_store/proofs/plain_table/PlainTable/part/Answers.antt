@@ -1,12 +1,10 @@
-use Rattle.std.proofs.Common.{Some, IsSome, option_map, slice_get, ap, sym, ◌∙◌, subst, arith}
+use Rattle.std.proofs.Common.{IsSome, option_map, slice_get, ap, sym, ◌∙◌, subst, arith}
 use Rattle.serde_json.specs.View.{view}
 use Rattle.serde_json.specs.declared.value.Value as document
 use Rattle.std.proofs.Common.{Bor}
-use Rattle.value_store.specs.Size.{depth_of}
 use Rattle.value_store.specs.Calls.{parts_of}
 use Rattle.value_store.specs.Nodes.{tree_value}
 use Rattle.value_store.proofs.Parts.{part_there, part_within, part_is, at_value}
-use Rattle.value_store.proofs.Tables.{length-stored}
 use Rattle.value_store.proofs.plain_table.PlainTable.part.Goals as goal
 
 pub unwrap-requires : goal.unwrap-requires
