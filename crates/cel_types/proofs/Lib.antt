@@ -2,4 +2,3 @@ pub mod TypedRows
 pub mod Sound
 pub mod CoreTypes
 pub mod Arguments
-pub mod Outside

@@ -10,7 +10,7 @@ ghost use Rattle.cel_macros.specs.Environment.{Environment};
 ghost use Rattle.cel_macros.specs.Expanding.{core_pair};
 ghost use Rattle.cel_macros.specs.Meaning.{meaning};
 ghost use Rattle.cel_types.specs.CoreTyping.{core_typing, core_typings, core_entry_typings, core_key_typings, call_typing, method_typing};
-ghost use Rattle.cel_types.specs.Declarations.{scope_of};
+ghost use Rattle.cel_types.specs.Declarations.{declaration, scope_of};
 ghost use Rattle.cel_types.specs.Iterations.{scope_within};
 ghost use Rattle.cel_types.specs.Soundness.{Fits, FitsScope};
 ghost use Rattle.cel_types.specs.TypeTable.{is_text_key, map_literal_row};
@@ -169,6 +169,13 @@ fn core_type(core: &Core, names: &Iterations, variables: &[Variable]) -> Result<
     }
 }
 
+/// The type of the expression outside of every macro.
+fn outer_type(core: &Core, variables: &[Variable]) -> Result<CelType, TypeError>
+    ensures { typing_of result ≡ core_typing (core_view core.now) (scope_of (list.map declaration variables.now)) }
+{
+    core_type(core, &Iterations::Outside, variables)
+}
+
 /// The type of the expression, as the table of types has it. Else the error says what is wrong with
 /// the first part without a row, parts from left to right before their node: Y1 for an unknown name,
 /// Y2 for operands that nothing takes, Y3 for `variables` before no variable of the scope. It takes
@@ -182,5 +189,5 @@ pub fn check(core: &Core, scope: &Scope) -> Result<CelType, TypeError>
     ensures plain { (e : Tree) → core_view core.now ≡ expanded e → typing_of result ≡ typing e (scope_of scope.now) }
     ensures sound { (e : Tree) (env : Environment) → core_view core.now ≡ expanded e → FitsScope (scope_of scope.now) env → Fits (typing_of result) (meaning e env) }
 {
-    core_type(core, &Iterations::Outside, scope.variables())
+    outer_type(core, scope.variables())
 }

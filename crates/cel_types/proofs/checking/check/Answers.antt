@@ -2,19 +2,15 @@ use Rattle.std.proofs.Common.{◌≡◌, ap, ◌∙◌, sym, subst}
 use Rattle.cel_macros.specs.CoreView.{core_view}
 use Rattle.cel_macros.specs.Meaning.{meaning}
 use Rattle.cel_types.specs.CoreTyping.{core_typing}
-use Rattle.cel_types.specs.Declarations.{scope_of, types_of}
+use Rattle.cel_types.specs.Declarations.{scope_of}
 use Rattle.cel_types.specs.Soundness.{Fits}
 use Rattle.cel_types.specs.Types.{Typing, typing_of}
 use Rattle.cel_types.proofs.CoreTypes.{expansion_typed}
-use Rattle.cel_types.proofs.Outside.{none_outside}
 use Rattle.cel_types.proofs.Sound.{is_sound}
 use Rattle.cel_types.proofs.checking.check.Goals as goal
 
-typed_core : (c : goal.After-core_type) → typing_of c.core_type.result ≡ core_typing (core_view c.args.core.now) (scope_of c.args.scope.now)
-typed_core c = c.core_type.ensures ∙ (λ j. core_typing (core_view c.args.core.now) (record { items = none_outside j; variables = types_of (c.variables.ensures j) }))
-
-pub returns-clause-core : goal.returns-clause-core
-returns-clause-core c = typed_core c
+typed_core : (c : goal.After-outer_type) → typing_of c.outer_type.result ≡ core_typing (core_view c.args.core.now) (scope_of c.args.scope.now)
+typed_core c = c.outer_type.ensures ∙ ap (λ ds. core_typing (core_view c.args.core.now) (scope_of ds)) c.variables.ensures
 
 pub returns-clause-plain : goal.returns-clause-plain
 returns-clause-plain c = λ e h. typed_core c ∙ ap (λ t. core_typing t (scope_of c.args.scope.now)) h ∙ expansion_typed e (scope_of c.args.scope.now)
