@@ -6,6 +6,7 @@ pub mod Arithmetic
 pub mod Jumps
 pub mod HelperCalls
 pub mod Access
+pub mod Atomics
 pub mod Step
 pub mod Trace
 pub mod States

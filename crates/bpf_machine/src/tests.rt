@@ -8,6 +8,7 @@ use value_store::{PlainTable, TableError};
 
 mod accesses;
 mod arithmetic;
+mod atomics;
 mod copies;
 mod helper_calls;
 mod jumps;
