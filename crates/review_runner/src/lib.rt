@@ -10,12 +10,15 @@ mod assembling_tests;
 mod command_line;
 mod debugging;
 mod document;
+mod document_names;
 mod done;
 #[cfg(test)]
 mod doubles;
 mod file_error;
 mod files;
+mod held_files;
 mod listing;
+mod null_table;
 mod opening;
 mod order;
 mod order_error;
@@ -41,6 +44,7 @@ mod values;
 mod writing;
 
 pub use debugging::debug;
+pub use document_names::DocumentNames;
 pub use done::Done;
 pub use file_error::FileError;
 pub use files::Files;
