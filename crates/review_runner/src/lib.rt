@@ -34,6 +34,8 @@ pub mod reader;
 mod refusal;
 mod refusal_line;
 mod review;
+#[cfg(test)]
+mod root_tests;
 mod root_values;
 pub mod rows;
 mod run_error;
