@@ -27,7 +27,7 @@ use Rattle.review_runner.specs.declared.file_error.FileError.{FileError}
 use Rattle.review_runner.specs.declared.file_error.FileError.TheVariants.{Failed}
 use Rattle.review_runner.specs.declared.file_error.FileError.TheVariants as file_error
 use Rattle.review_runner.specs.declared.refusal.Refusal.{Refusal}
-use Rattle.review_runner.specs.declared.refusal.Refusal.TheVariants.{File, Image, Input, Memory, Output, Program, Text, Words}
+use Rattle.review_runner.specs.declared.refusal.Refusal.TheVariants.{Documents, File, Image, Input, Memory, Output, Program, Text, Words}
 
 -- ---- the image's file
 
@@ -96,6 +96,7 @@ of_code held text code (Err (Image e)) same utf8 source is = at_text held text c
 of_code held text code (Err File) same utf8 source is = at_text held text code _ same utf8 source is
 of_code held text code (Err Text) same utf8 source is = at_text held text code _ same utf8 source is
 of_code held text code (Err (Program e)) same utf8 source is = at_text held text code _ same utf8 source is
+of_code held text code (Err (Documents e)) same utf8 source is = at_text held text code _ same utf8 source is
 of_code held text code (Err Input) same utf8 source is = at_text held text code _ same utf8 source is
 of_code held text code (Err Output) same utf8 source is = at_text held text code _ same utf8 source is
 
@@ -149,6 +150,7 @@ of_not_assembled old new text image (Image e) a stays = not_assembled old new te
 of_not_assembled old new text image File a stays = not_assembled old new text image _ a.reading a.is_reading a.assembles stays
 of_not_assembled old new text image Text a stays = not_assembled old new text image _ a.reading a.is_reading a.assembles stays
 of_not_assembled old new text image (Program e) a stays = not_assembled old new text image _ a.reading a.is_reading a.assembles stays
+of_not_assembled old new text image (Documents e) a stays = not_assembled old new text image _ a.reading a.is_reading a.assembles stays
 of_not_assembled old new text image Input a stays = not_assembled old new text image _ a.reading a.is_reading a.assembles stays
 of_not_assembled old new text image Output a stays = not_assembled old new text image _ a.reading a.is_reading a.assembles stays
 

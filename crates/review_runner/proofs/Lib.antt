@@ -1,5 +1,5 @@
 pub mod Assembled
-pub mod Debugged
+pub mod HeldFiles
 pub mod Decimals
 pub mod Kept
 pub mod Limit

@@ -18,13 +18,13 @@ read_alone : (old new : Option FileSystem) (task : Task) (outcome : Outcome) →
 read_alone old new (run_image image n) outcome p is = p.stays
 read_alone old new (assemble text image) outcome p is = cc
 read_alone old new (list image) outcome p is = p.stays
-read_alone old new (debug image) outcome p is = absurd p
+read_alone old new (debug image documents) outcome p is = absurd p
 
 lacked_alone : (old new : Option FileSystem) (task : Task) → LacksMemory old task new → only_reads task ≡ true → new ≡ old
 lacked_alone old new (run_image image n) l is = l.0
 lacked_alone old new (assemble text image) l is = cc
 lacked_alone old new (list image) l is = l.0
-lacked_alone old new (debug image) l is = absurd l
+lacked_alone old new (debug image documents) l is = absurd l
 
 -- an order that only reads leaves the files
 pub stays : (old new : Option FileSystem) (task : Task) (outcome : Outcome) → PerformsBy old task new outcome → only_reads task ≡ true → new ≡ old
@@ -45,13 +45,13 @@ kept_by_task : (old new : Option FileSystem) (task : Task) (outcome : Outcome) �
 kept_by_task old new (run_image image n) outcome p is = same_files old new p.stays
 kept_by_task old new (assemble text image) outcome p is = kept_by_image old new image p.file outcome p.writes is
 kept_by_task old new (list image) outcome p is = same_files old new p.stays
-kept_by_task old new (debug image) outcome p is = absurd p
+kept_by_task old new (debug image documents) outcome p is = absurd p
 
 kept_by_lack : (old new : Option FileSystem) (task : Task) → LacksMemory old task new → KeepsFiles old new
 kept_by_lack old new (run_image image n) l = same_files old new l.0
 kept_by_lack old new (assemble text image) l = l.0
 kept_by_lack old new (list image) l = same_files old new l.0
-kept_by_lack old new (debug image) l = absurd l
+kept_by_lack old new (debug image documents) l = absurd l
 
 -- an order that is refused keeps the files
 pub kept : (old new : Option FileSystem) (task : Task) (r : Refusal) → PerformsBy old task new (Err r) → KeepsFiles old new

@@ -7,7 +7,7 @@ use Rattle.debugger.specs.Streams.{Stream}
 use Rattle.debugger.specs.declared.failed.Failed.{Failed}
 use Rattle.review_runner.specs.Debugging.{DebugsByResult}
 use Rattle.review_runner.specs.FileSystem.{FileSystem}
-use Rattle.review_runner.specs.Order.{Ordered, Task, debug, order_view}
+use Rattle.review_runner.specs.Order.{DocumentFiles, Ordered, Task, debug, order_view}
 use Rattle.review_runner.specs.Output.{Report}
 use Rattle.review_runner.specs.Performing.{PerformsBy}
 use Rattle.review_runner.specs.Program.{AnswersOrder, AsksNothing, Does, DoesTask, Ending, Says, System, Writes, WritesPart}
@@ -50,18 +50,18 @@ answered_in_part old new t output after report given is p part =
 -- ---- sessions
 
 -- a session that broke off, or did not begin
-pub not_debugged : (old new : System) (o : Order) (image given : List ℕ) (r : Refusal) (result : Ending) → IsErrAnd result (λ q. q ≡ r) → order_view o ≡ debug image
-    → given ≡ image → DebugsByResult old.files given old.input new.input old.output new.output (Err r) → new.files ≡ old.files → DoesTask old new (order_view o) result
-not_debugged old new o image given r (Ok status) is asked same d stays = absurd is
-not_debugged old new o image given r (Err q) is asked same d stays =
-    let d : DebugsByResult old.files image old.input new.input old.output new.output (Err r) = subst (λ (b : List ℕ). DebugsByResult old.files b old.input new.input old.output new.output (Err r)) same d in
-    subst (λ (t : Task). DoesTask old new t (Err q)) (sym asked) (subst (λ (s : Refusal). DoesTask old new (debug image) (Err s)) (sym is) (session (Err r) d stays))
+pub not_debugged : (old new : System) (o : Order) (image given : List ℕ) (documents : DocumentFiles) (r : Refusal) (result : Ending) → IsErrAnd result (λ q. q ≡ r) → order_view o ≡ debug image documents
+    → given ≡ image → DebugsByResult old.files given documents old.input new.input old.output new.output (Err r) → new.files ≡ old.files → DoesTask old new (order_view o) result
+not_debugged old new o image given documents r (Ok status) is asked same d stays = absurd is
+not_debugged old new o image given documents r (Err q) is asked same d stays =
+    let d : DebugsByResult old.files image documents old.input new.input old.output new.output (Err r) = subst (λ (b : List ℕ). DebugsByResult old.files b documents old.input new.input old.output new.output (Err r)) same d in
+    subst (λ (t : Task). DoesTask old new t (Err q)) (sym asked) (subst (λ (s : Refusal). DoesTask old new (debug image documents) (Err s)) (sym is) (session (Err r) d stays))
 
 -- a session that ended
-pub debugged : (old new : System) (o : Order) (image given : List ℕ) → order_view o ≡ debug image
-    → given ≡ image → DebugsByResult old.files given old.input new.input old.output new.output (Ok tt) → new.files ≡ old.files → DoesTask old new (order_view o) (Ok 0)
-debugged old new o image given asked same d stays =
-    let d : DebugsByResult old.files image old.input new.input old.output new.output (Ok tt) = subst (λ (b : List ℕ). DebugsByResult old.files b old.input new.input old.output new.output (Ok tt)) same d in
+pub debugged : (old new : System) (o : Order) (image given : List ℕ) (documents : DocumentFiles) → order_view o ≡ debug image documents
+    → given ≡ image → DebugsByResult old.files given documents old.input new.input old.output new.output (Ok tt) → new.files ≡ old.files → DoesTask old new (order_view o) (Ok 0)
+debugged old new o image given documents asked same d stays =
+    let d : DebugsByResult old.files image documents old.input new.input old.output new.output (Ok tt) = subst (λ (b : List ℕ). DebugsByResult old.files b documents old.input new.input old.output new.output (Ok tt)) same d in
     subst (λ (t : Task). DoesTask old new t (Ok 0)) (sym asked) (session (Ok tt) d stays)
 
 -- ---- words

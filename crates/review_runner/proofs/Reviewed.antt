@@ -1,5 +1,5 @@
 -- The members of documents, and what is left of them.
-use Rattle.std.proofs.Common.{◌≡◌, ℕ, Bool, true, false, List, [], ◌∷◌, Option, Some, None, option_map, String, Global, string_bytes, bytes_eq, cond, is_eq, Ordering, Less, Equal, Greater, nat_cmp, true≢false, refl, sym, ap, ◌∙◌}
+use Rattle.std.proofs.Common.{◌≡◌, ℕ, Bool, true, false, List, [], ◌∷◌, Option, Some, None, String, Global, string_bytes, bytes_eq, cond, is_eq, Ordering, Less, Equal, Greater, nat_cmp, true≢false, refl, sym, ap, ◌∙◌}
 use Rattle.std.specs.Prelude.{codes, if◌then◌else◌, unwrap_or}
 use Rattle.std.specs.Cmp.Lexicographic.{slice_cmp}
 use Rattle.std.specs.Map.{remove_entry}
@@ -14,7 +14,7 @@ use Rattle.serde_json.specs.Find.{get_member}
 use Rattle.serde_json.specs.Read.{read}
 use Rattle.serde_json.specs.View.{view, members_view}
 use Rattle.serde_json.specs.declared.value.Value.{Value}
-use Rattle.review_runner.specs.Reviews.{Parts, document_of, member_or_null, parts_of, without}
+use Rattle.review_runner.specs.Reviews.{document_of, member_or_null, parts_of, without}
 
 -- ---- documents
 
@@ -70,6 +70,6 @@ pub parts_taken : (ms after : json.Members) (now before request : json.Data) →
 unfolding parts_of
 parts_taken ms after now before request first rest second last =
     let other : before ≡ member_or_null (codes "oldObject") ms =
-        second ∙ ap (member_or_null (codes "oldObject")) rest ∙ ap (λ (o : Option json.Data). unwrap_or o json.null) (member_kept (codes "object") (codes "oldObject") ms refl) in
+    second ∙ ap (member_or_null (codes "oldObject")) rest ∙ ap (λ (o : Option json.Data). unwrap_or o json.null) (member_kept (codes "object") (codes "oldObject") ms refl) in
     let left : request ≡ json.object (without (codes "oldObject") (without (codes "object") ms)) = last ∙ ap (λ (more : json.Members). json.object (without (codes "oldObject") more)) rest in
     λ i. record { object = first i; old_object = other i; request = left i }

@@ -23,6 +23,16 @@ steps_rule = record (new_rule (codes "steps")) {
   parser = Some (parser.Unsigned 0 1000000000);
 }
 
+-- the file names of a review, of its namespace and of its parameters, each of which may be left out
+unfoldable pub review_rule : Rule
+review_rule = record (new_rule (codes "review")) { long = Some (codes "review") }
+
+unfoldable pub namespace_rule : Rule
+namespace_rule = record (new_rule (codes "namespace")) { long = Some (codes "namespace") }
+
+unfoldable pub params_rule : Rule
+params_rule = record (new_rule (codes "params")) { long = Some (codes "params") }
+
 -- ---- commands
 
 -- run-image IMAGE [--steps N]
@@ -37,9 +47,9 @@ asm_app = with_rule (with_rule (new_app (codes "asm")) text_rule) image_rule
 unfoldable pub list_app : App
 list_app = with_rule (new_app (codes "list")) image_rule
 
--- debug IMAGE
+-- debug IMAGE [--review F] [--namespace F] [--params F]
 unfoldable pub debug_app : App
-debug_app = with_rule (new_app (codes "debug")) image_rule
+debug_app = with_rule (with_rule (with_rule (with_rule (new_app (codes "debug")) image_rule) review_rule) namespace_rule) params_rule
 
 -- celbpf alone does nothing: it wants a command
 unfoldable pub bare_app : App

@@ -1,14 +1,28 @@
 -- The order that a command line gives.
-use Rattle.std.specs.Prelude.{◌≡◌, ◌≤◌, ℕ, Bool, true, false, List, [], Option, Some, None, unwrap_or, Result, Ok, Err}
+use Rattle.std.specs.Prelude.{◌≡◌, ◌≤◌, ℕ, Bool, true, false, List, [], Option, Some, None, option_map, unwrap_or, Result, Ok, Err}
 use Rattle.std.specs.Prelude.{codes, string_bytes, if◌then◌else◌}
 use Rattle.std.specs.Str.{bytes_eq}
 use Rattle.clap.specs.Words.{Row, Text, first_of, one_of}
 use Rattle.review_runner.specs.Number.{number_of}
 use Rattle.review_runner.specs.Commands.{faults, entered}
+use Rattle.review_runner.specs.declared.document_names.DocumentNames.{DocumentNames}
 use Rattle.review_runner.specs.declared.order.Order.{Order}
 use Rattle.review_runner.specs.declared.order.Order.TheVariants as code
 use Rattle.review_runner.specs.declared.order_error.OrderError.{OrderError}
 use Rattle.review_runner.specs.declared.order_error.OrderError.TheVariants.{U1, Memory}
+
+-- the file names of the documents of a review, which may be left out
+pub record DocumentFiles : Type 0 where
+  pub review : Option Text
+  pub namespace : Option Text
+  pub params : Option Text
+
+abbrev pub files_view : DocumentNames → DocumentFiles
+files_view names = record {
+  review = option_map string_bytes names.review;
+  namespace = option_map string_bytes names.namespace;
+  params = option_map string_bytes names.params;
+}
 
 -- what is asked for, as plain data: a constructor for each command
 pub data Task : Type 0 where
@@ -18,14 +32,14 @@ pub data Task : Type 0 where
   assemble : Text → Text → Task
   -- the image's file name
   list : Text → Task
-  -- the image's file name
-  debug : Text → Task
+  -- the image's file name, and those of the documents
+  debug : Text → DocumentFiles → Task
 
 abbrev pub order_view : Order → Task
 order_view (code.RunImage image steps) = run_image (string_bytes image) steps
 order_view (code.Assemble text image) = assemble (string_bytes text) (string_bytes image)
 order_view (code.List image) = list (string_bytes image)
-order_view (code.Debug image) = debug (string_bytes image)
+order_view (code.Debug image names) = debug (string_bytes image) (files_view names)
 
 -- ---- from the values of a command's arguments to its task
 
@@ -41,7 +55,11 @@ unfoldable pub list_in : List Row → Task
 list_in rows = list (unwrap_or (first_of (codes "IMAGE") rows) [])
 
 unfoldable pub debug_in : List Row → Task
-debug_in rows = debug (unwrap_or (first_of (codes "IMAGE") rows) [])
+debug_in rows = debug (unwrap_or (first_of (codes "IMAGE") rows) []) (record {
+  review = first_of (codes "review") rows;
+  namespace = first_of (codes "namespace") rows;
+  params = first_of (codes "params") rows;
+})
 
 -- by the command's name; the last command is the one that is left
 abbrev pub task_named : Text → List Row → Task
@@ -77,7 +95,7 @@ abbrev pub is_session : Task → Bool
 is_session (run_image image steps) = false
 is_session (assemble text image) = false
 is_session (list image) = false
-is_session (debug image) = true
+is_session (debug image documents) = true
 
 -- ---- limits
 

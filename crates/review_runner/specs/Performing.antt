@@ -74,7 +74,7 @@ abbrev pub Performs : Option FileSystem → Task → Option FileSystem → Outco
 Performs old (run_image image n) new outcome = RunsImage old image n new outcome
 Performs old (assemble text image) new outcome = AssemblesTo old text image new outcome
 Performs old (list image) new outcome = ListsImage old image new outcome
-Performs old (debug image) new outcome = ⊥
+Performs old (debug image documents) new outcome = ⊥
 
 -- the image's file, by what a read of the text's file answered, or want of memory where the first line of a text says something
 abbrev pub AssemblesBy : Reading → Result (Vec ℕ Global) Refusal → Type 0
@@ -93,7 +93,7 @@ abbrev pub LacksMemory : Option FileSystem → Task → Option FileSystem → Ty
 LacksMemory old (run_image image n) new = (new ≡ old) × OpensFile old image (Err Memory)
 LacksMemory old (assemble text image) new = KeepsFiles old new × AssemblesFile old text (Err Memory)
 LacksMemory old (list image) new = (new ≡ old) × OpensFile old image (Err Memory)
-LacksMemory old (debug image) new = ⊥
+LacksMemory old (debug image documents) new = ⊥
 
 -- what comes of a task, with memory or without
 pub data PerformsBy (old : Option FileSystem) (task : Task) (new : Option FileSystem) : Outcome → Type 0 where
@@ -112,7 +112,7 @@ abbrev pub only_reads : Task → Bool
 only_reads (run_image image n) = true
 only_reads (assemble text image) = false
 only_reads (list image) = true
-only_reads (debug image) = true
+only_reads (debug image documents) = true
 
 -- ---- parts
 

@@ -6,7 +6,7 @@ use Rattle.debugger.specs.Streams.{AddsBytes, Stream, one_more}
 use Rattle.review_runner.specs.Commands.{entered, faults}
 use Rattle.review_runner.specs.Debugging.{DebugsByResult}
 use Rattle.review_runner.specs.FileSystem.{FileSystem}
-use Rattle.review_runner.specs.Order.{Task, debug, order_in}
+use Rattle.review_runner.specs.Order.{DocumentFiles, Task, debug, order_in}
 use Rattle.review_runner.specs.Output.{Outcome, Report}
 use Rattle.review_runner.specs.Performing.{PerformsBy}
 use Rattle.review_runner.specs.Refusals.{order_refusal, refusal_line, refusal_status}
@@ -88,9 +88,9 @@ pub data DoesTask (old new : System) : Task → Ending → Type 0 where
   order : {task : Task} {ending : Ending} → AnswersOrder old.files new.files task old.output new.output ending
       → new.input ≡ old.input → DoesTask old new task ending
   -- a session, which writes its answers as it goes on
-  session : {image : List ℕ} (result : Result (Unit {0}) Refusal)
-      → DebugsByResult old.files image old.input new.input old.output new.output result
-      → new.files ≡ old.files → DoesTask old new (debug image) (ending_of result)
+  session : {image : List ℕ} {documents : DocumentFiles} (result : Result (Unit {0}) Refusal)
+      → DebugsByResult old.files image documents old.input new.input old.output new.output result
+      → new.files ≡ old.files → DoesTask old new (debug image documents) (ending_of result)
 
 -- what becomes of the words
 pub data Does (given : Given) (old new : System) : Ending → Type 0 where

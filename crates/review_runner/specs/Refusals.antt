@@ -15,8 +15,11 @@ use Rattle.review_runner.specs.declared.file_error.FileError.TheVariants as file
 use Rattle.review_runner.specs.declared.order_error.OrderError.{OrderError}
 use Rattle.review_runner.specs.declared.order_error.OrderError.TheVariants.{U1}
 use Rattle.review_runner.specs.declared.order_error.OrderError.TheVariants as order_error
+use Rattle.review_runner.specs.declared.run_error.RunError.{RunError}
+use Rattle.review_runner.specs.declared.run_error.RunError.TheVariants.{N2, N3}
+use Rattle.review_runner.specs.declared.run_error.RunError.TheVariants as run_error
 use Rattle.review_runner.specs.declared.refusal.Refusal.{Refusal}
-use Rattle.review_runner.specs.declared.refusal.Refusal.TheVariants.{Words, Image, File, Text, Program, Input, Output, Memory}
+use Rattle.review_runner.specs.declared.refusal.Refusal.TheVariants.{Words, Image, File, Text, Program, Documents, Input, Output, Memory}
 
 -- ---- causes
 
@@ -49,6 +52,12 @@ program_refusal (A5 line) = Program (A5 line)
 program_refusal (A6 line) = Program (A6 line)
 program_refusal asm_error.Memory = Memory
 
+-- why documents give no roots
+abbrev pub run_refusal : RunError → Refusal
+run_refusal N2 = Documents N2
+run_refusal N3 = Documents N3
+run_refusal run_error.Memory = Memory
+
 -- why a session broke off
 abbrev pub session_refusal : SessionError → Refusal
 session_refusal S1 = Input
@@ -76,12 +85,19 @@ text_refusal (A5 line) = codes "A5 line " ++ decimal line
 text_refusal (A6 line) = codes "A6 line " ++ decimal line
 text_refusal asm_error.Memory = codes "memory"
 
+-- the number of refused documents
+abbrev pub documents_refusal : RunError → List ℕ
+documents_refusal N2 = codes "N2"
+documents_refusal N3 = codes "N3"
+documents_refusal run_error.Memory = codes "memory"
+
 abbrev pub refusal_text : Refusal → List ℕ
 refusal_text Words = codes "U1"
 refusal_text (Image e) = image_refusal e
 refusal_text File = codes "file"
 refusal_text Text = codes "text"
 refusal_text (Program e) = text_refusal e
+refusal_text (Documents e) = documents_refusal e
 refusal_text Input = codes "S1"
 refusal_text Output = codes "S2"
 refusal_text Memory = codes "memory"

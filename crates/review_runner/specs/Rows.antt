@@ -1,8 +1,8 @@
 -- Command lines written out.
-use Rattle.std.specs.Prelude.{◌≡◌, List, [], ◌∷◌, ◌++◌, Some, codes}
+use Rattle.std.specs.Prelude.{◌≡◌, List, [], ◌∷◌, ◌++◌, Some, None, codes}
 use Rattle.clap.specs.Words.{Text}
 use Rattle.review_runner.specs.Commands.{faults, entered}
-use Rattle.review_runner.specs.Order.{Task, order_in}
+use Rattle.review_runner.specs.Order.{DocumentFiles, Task, order_in}
 
 -- the words are taken, and ask for this
 abbrev pub IsTakenAs : List Text → Task → Type 0
@@ -19,6 +19,16 @@ without_steps = codes "celbpf" ∷ codes "run-image" ∷ codes "a.img" ∷ []
 -- celbpf debug a.img
 abbrev pub debug_words : List Text
 debug_words = codes "celbpf" ∷ codes "debug" ∷ codes "a.img" ∷ []
+
+-- celbpf debug a.img --review r.json --namespace n.json --params p.json
+abbrev pub debug_all_words : List Text
+debug_all_words = debug_words ++ codes "--review" ∷ codes "r.json" ∷ codes "--namespace" ∷ codes "n.json" ∷ codes "--params" ∷ codes "p.json" ∷ []
+
+abbrev pub no_documents : DocumentFiles
+no_documents = record { review = None; namespace = None; params = None }
+
+abbrev pub all_documents : DocumentFiles
+all_documents = record { review = Some (codes "r.json"); namespace = Some (codes "n.json"); params = Some (codes "p.json") }
 
 -- celbpf asm a.txt a.img
 abbrev pub asm_words : List Text

@@ -2,7 +2,7 @@
 ghost use Rattle.std.specs.Prelude.{◌≡◌, map, IfOk, false, true};
 ghost use Rattle.clap.specs.Words.{app_of, has_subcommand, rule_of, subcommand_rows_of, FailsBy};
 ghost use Rattle.clap.specs.declared.builder.command.Command.TheViews.{out-Command as fields_of};
-ghost use Rattle.review_runner.specs.Commands.{asm_app, celbpf_app, debug_app, image_rule, list_app, run_image_app, running_app, steps_rule, text_rule};
+ghost use Rattle.review_runner.specs.Commands.{asm_app, celbpf_app, debug_app, image_rule, list_app, namespace_rule, params_rule, review_rule, run_image_app, running_app, steps_rule, text_rule};
 ghost use Rattle.review_runner.specs.Commands.{faults, entered};
 
 use clap::{Arg, ArgMatches, Command, Error, value_parser};
@@ -38,6 +38,33 @@ fn steps_argument<'a>(alloc: Global) -> Arg<'a>
         .default_value("10000000")
 }
 
+// --review F, the file of a review
+#[tactic(auto, unfolding(crate::specs::Commands::review_rule))]
+fn review_argument<'a>(alloc: Global) -> Arg<'a>
+    ensures rule { rule_of result ≡ review_rule }
+    ensures local { result.global ≡ false }
+{
+    Arg::new(alloc, "review").long("review")
+}
+
+// --namespace F, the file of its namespace
+#[tactic(auto, unfolding(crate::specs::Commands::namespace_rule))]
+fn namespace_argument<'a>(alloc: Global) -> Arg<'a>
+    ensures rule { rule_of result ≡ namespace_rule }
+    ensures local { result.global ≡ false }
+{
+    Arg::new(alloc, "namespace").long("namespace")
+}
+
+// --params F, the file of the parameters
+#[tactic(auto, unfolding(crate::specs::Commands::params_rule))]
+fn params_argument<'a>(alloc: Global) -> Arg<'a>
+    ensures rule { rule_of result ≡ params_rule }
+    ensures local { result.global ≡ false }
+{
+    Arg::new(alloc, "params").long("params")
+}
+
 #[tactic(auto, unfolding(crate::specs::Commands::run_image_app))]
 fn run_image_command<'a>(alloc: Global) -> Result<Command<'a>, AllocError>
     ensures shape { IfOk result (λ c. app_of c ≡ run_image_app) }
@@ -69,7 +96,10 @@ fn debug_command<'a>(alloc: Global) -> Result<Command<'a>, AllocError>
     ensures shape { IfOk result (λ c. app_of c ≡ debug_app) }
     ensures local { IfOk result (λ c. (fields_of c).has_globals ≡ false) }
 {
-    Command::new(alloc, "debug").arg(image_argument(alloc))
+    let command = Command::new(alloc, "debug").arg(image_argument(alloc))?;
+    let command = command.arg(review_argument(alloc))?;
+    let command = command.arg(namespace_argument(alloc))?;
+    command.arg(params_argument(alloc))
 }
 
 // the program, with the commands that run an image

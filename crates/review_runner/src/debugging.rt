@@ -1,32 +1,56 @@
 //! Sessions with the image in a file.
-ghost use Rattle.std.specs.Prelude.{◌≡◌};
-ghost use Rattle.review_runner.specs.Debugging.{DebugsByResult};
+ghost use Rattle.std.specs.Prelude.{◌≡◌, Ok};
+ghost use Rattle.bpf_machine.specs.State.{start_state};
+ghost use Rattle.review_runner.specs.Debugging.{held_view, DebugsByResult, Starts};
+ghost use Rattle.review_runner.specs.Order.{files_view};
 ghost use Rattle.debugger.specs.Streams.{stream};
 
+use crate::document_names::DocumentNames;
 use crate::files::Files;
-use crate::opening::open;
+use crate::held_files::{HeldFiles, read_files};
 use crate::refusal::Refusal;
-use bpf_machine::Table;
+use crate::root_values::roots;
 use debugger::{Sink, Source, session};
+use loader::Image;
 use std::alloc::Global;
+use value_store::ValueStore;
+use value_table::Table;
 
-/// A session with the image in the file of this name, on five null roots: reads command lines from
-/// `r` and writes the answers to `w`. The file and its image are tested before anything is read.
+/// A session with the image in the file of this name, on the roots of the documents in files: reads
+/// command lines from `r` and writes the answers to `w`. The files are read, in the order of the
+/// words, before any of them is tested, and the image and then the documents before anything is read
+/// from `r`.
 ///
 /// # Errors
 ///
-/// `File` and `Image` where there is no image to debug, `Input` and `Output` where the session
-/// broke off, and `Memory` before its first line.
+/// `File`, `Image` and `Documents` where there is nothing to debug, `Input` and `Output` where the
+/// session broke off, and `Memory` before its first line.
 pub fn debug<F: Files, R: Source, W: Sink>(
     alloc: Global,
     image: &str,
+    documents: &DocumentNames,
     files: &mut F,
     r: &mut R,
     w: &mut W,
 ) -> Result<(), Refusal>
-    ensures debugs { DebugsByResult (F.known files.old) image.now (stream (R.left r.old) (R.failed r.old)) (stream (R.left r.new) (R.failed r.new)) (stream (W.taken w.old) (W.failed w.old)) (stream (W.taken w.new) (W.failed w.new)) result }
+    ensures debugs { DebugsByResult (F.known files.old) image.now (files_view documents.now) (stream (R.left r.old) (R.failed r.old)) (stream (R.left r.new) (R.failed r.new)) (stream (W.taken w.old) (W.failed w.old)) (stream (W.taken w.new) (W.failed w.new)) result }
     ensures known { F.known files.new ≡ F.known files.old }
 {
-    let image = open(alloc, image, files)?;
-    Ok(session(alloc, image, Table::nulls(), r, w)?)
+    let held = read_files(alloc, image, documents, files)?;
+    let (image, table) = start(alloc, &held)?;
+    Ok(session(alloc, image, table, r, w)?)
+}
+
+/// The image in its file, and the roots of the documents in theirs.
+fn start(alloc: Global, held: &HeldFiles) -> Result<(Image, Table), Refusal>
+    ensures { Starts (λ p. start_state p.0 (record { values = ⟦<Table as ValueStore>⟧.values p.1; charge = ⟦<Table as ValueStore>⟧.charge p.1 })) (Ok (held_view held.now)) result }
+{
+    let image = Image::read(alloc, &held.image)?;
+    let table = roots(
+        alloc,
+        held.review.as_deref(),
+        held.namespace.as_deref(),
+        held.params.as_deref(),
+    )?;
+    Ok((image, table))
 }

@@ -10,12 +10,15 @@ mod assembling_tests;
 mod command_line;
 mod debugging;
 mod document;
+mod document_names;
 mod done;
 #[cfg(test)]
 mod doubles;
 mod file_error;
 mod files;
+mod held_files;
 mod listing;
+mod null_table;
 mod opening;
 mod order;
 mod order_error;
@@ -31,6 +34,8 @@ pub mod reader;
 mod refusal;
 mod refusal_line;
 mod review;
+#[cfg(test)]
+mod root_tests;
 mod root_values;
 pub mod rows;
 mod run_error;
@@ -41,6 +46,7 @@ mod values;
 mod writing;
 
 pub use debugging::debug;
+pub use document_names::DocumentNames;
 pub use done::Done;
 pub use file_error::FileError;
 pub use files::Files;

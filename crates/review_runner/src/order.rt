@@ -1,5 +1,7 @@
 // One order to the program: a command with its arguments.
 
+use crate::document_names::DocumentNames;
+
 /// What the program is asked to do, one variant a command.
 #[derive(Debug, Drop)]
 pub enum Order {
@@ -23,9 +25,12 @@ pub enum Order {
         /// The image's file name as it was given, which may be empty.
         image: String,
     },
-    /// `debug IMAGE`: a session with a program image, on standard input and output.
+    /// `debug IMAGE [--review F] [--namespace F] [--params F]`: a session with a program image, on
+    /// standard input and output.
     Debug {
         /// The image's file name as it was given, which may be empty.
         image: String,
+        /// The files of the documents whose roots the program runs on.
+        documents: DocumentNames,
     },
 }

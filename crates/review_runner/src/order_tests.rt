@@ -49,7 +49,7 @@ fn is_refused(order: &Result<Order, OrderError>) -> bool {
 }
 
 /// Words that are none of the program's.
-const REFUSED: [&str; 20] = [
+const REFUSED: [&str; 23] = [
     "celbpf",
     "celbpf fly a.img",
     "celbpf run-image",
@@ -63,6 +63,9 @@ const REFUSED: [&str; 20] = [
     "celbpf run-image a.img --fast",
     "celbpf debug",
     "celbpf debug a.img --steps 1",
+    "celbpf debug a.img --review",
+    "celbpf debug a.img --review r --review s",
+    "celbpf debug a.img r",
     "celbpf asm a.txt",
     "celbpf asm a.txt a.img --steps 1",
     "celbpf list",
@@ -96,17 +99,39 @@ fn is_listing(order: &Result<Order, OrderError>) -> bool {
     }
 }
 
-fn is_session(order: &Result<Order, OrderError>) -> bool {
+/// Whether this is a session on the roots of a review and of params in these files.
+fn is_session(order: &Result<Order, OrderError>, review: &str, params: &str) -> bool {
     match order {
-        Ok(Order::Debug { image }) => image.as_str() == "a.img",
+        Ok(Order::Debug { image, documents }) => {
+            image.as_str() == "a.img"
+                && is_name(&documents.review, review)
+                && documents.namespace.is_none()
+                && is_name(&documents.params, params)
+        }
         _ => false,
     }
 }
 
+/// Whether this is the name of a file; the empty one stands for none.
+fn is_name(given: &Option<String>, name: &str) -> bool {
+    match given {
+        Some(given) => given.as_str() == name,
+        None => name.is_empty(),
+    }
+}
+
 #[test]
-fn texts_listings_and_sessions(rt: HostRuntime) -> Result<(), Fail> {
+fn sessions_on_documents(rt: HostRuntime) -> Result<(), Fail> {
+    let alone = order(rt.alloc(), "celbpf debug a.img");
+    assert!(rt; is_session(&alone, "", ""));
+    let on_both = order(rt.alloc(), "celbpf debug --params p a.img --review=r");
+    assert!(rt; is_session(&on_both, "r", "p"));
+    Ok(())
+}
+
+#[test]
+fn texts_and_listings(rt: HostRuntime) -> Result<(), Fail> {
     assert!(rt; is_assembly(&order(rt.alloc(), "celbpf asm a.txt a.img")));
     assert!(rt; is_listing(&order(rt.alloc(), "celbpf list a.img")));
-    assert!(rt; is_session(&order(rt.alloc(), "celbpf debug a.img")));
     Ok(())
 }

@@ -1,7 +1,7 @@
 //! Orders on an image, and sessions with it.
 
 use crate::doubles::OneFile;
-use crate::{Done, Order, OrderError, Refusal, debug, perform};
+use crate::{DocumentNames, Done, Order, OrderError, Refusal, debug, perform};
 use debugger::Counting;
 use std::alloc::{AllocError, Global};
 use std::test::Fail;
@@ -94,6 +94,13 @@ fn refuses_files(rt: HostRuntime) -> Result<(), Fail> {
 /// What a session writes.
 const SAID: &[u8] = b"step 1 pc 1 running\nstep 0 pc 0 running\n? what\n";
 
+/// The names of no documents.
+const NO_DOCUMENTS: DocumentNames = DocumentNames {
+    review: None,
+    namespace: None,
+    params: None,
+};
+
 /// Whether a session with the image of this name, whose output has this room, ends so and writes
 /// a beginning of what it says.
 fn debugs(alloc: Global, name: &str, room: usize, end: Result<(), Refusal>) -> bool {
@@ -102,6 +109,7 @@ fn debugs(alloc: Global, name: &str, room: usize, end: Result<(), Refusal>) -> b
     let ended = debug(
         alloc,
         name,
+        &NO_DOCUMENTS,
         &mut OneFile { bytes: TWO },
         &mut Counting::new(b"s 1\nrs 1\nx\nq\ns 1\n".as_slice()),
         &mut Counting::new(&mut *front),

@@ -78,8 +78,8 @@ fn done<F: Files, R: Source, W: Sink>(
         Order::RunImage { .. } | Order::Assemble { .. } | Order::List { .. } => {
             answer(alloc, order, files, output)
         }
-        Order::Debug { image } => {
-            debug(alloc, image.as_str(), files, input, output)?;
+        Order::Debug { image, documents } => {
+            debug(alloc, image.as_str(), documents, files, input, output)?;
             Ok(0)
         }
     }

@@ -66,13 +66,34 @@ fn is_said(said: &Said, status: u8, out: &[u8], err: &[u8]) -> bool {
 }
 
 /// The words, the room on standard output, the status and both outputs.
-const ROWS: [(&str, usize, u8, &[u8], &[u8]); 7] = [
+const ROWS: [(&str, usize, u8, &[u8], &[u8]); 10] = [
     ("celbpf list a.img", 31, 0, b"mov64 r0, 5\nexit\n", b""),
     ("celbpf list a.img", 3, 3, b"mov", b"celbpf: file\n"),
     ("celbpf list b.img", 31, 3, b"", b"celbpf: file\n"),
     ("celbpf asm a.txt a.img", 31, 0, b"", b""),
     ("celbpf debug a.img", 31, 0, b"step 1 pc 1 running\n", b""),
     ("celbpf debug a.img", 4, 3, b"step", b"celbpf: S2\n"),
+    (
+        "celbpf debug a.img --review a.txt",
+        31,
+        3,
+        b"",
+        b"celbpf: N2\n",
+    ),
+    (
+        "celbpf debug a.img --params a.txt",
+        31,
+        3,
+        b"",
+        b"celbpf: N3\n",
+    ),
+    (
+        "celbpf debug a.txt --namespace b.json",
+        31,
+        3,
+        b"",
+        b"celbpf: file\n",
+    ),
     ("celbpf", 31, 2, b"", b"celbpf: U1\n"),
 ];
 

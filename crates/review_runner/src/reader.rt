@@ -5,9 +5,10 @@ ghost use Rattle.review_runner.specs.Order.{assemble_in, debug_in, list_in, orde
 ghost use Rattle.review_runner.specs.Order.{Gives, IsWithinLimits, Ordered};
 
 use crate::command_line::parse;
+use crate::document_names::DocumentNames;
 use crate::order::Order;
 use crate::order_error::OrderError;
-use crate::values::{number_in, text_or_empty};
+use crate::values::{name_in, number_in, text_or_empty};
 use clap::ArgMatches;
 use clap::error::ErrorKind;
 use std::alloc::Global;
@@ -46,7 +47,12 @@ fn debug_order(alloc: Global, matches: &ArgMatches) -> Result<Order, OrderError>
     ensures { Gives (debug_in (rows_of (found_of matches.now))) result }
 {
     let image = String::from_str(alloc, text_or_empty(matches, "IMAGE"))?;
-    Ok(Order::Debug { image })
+    let documents = DocumentNames {
+        review: name_in(alloc, matches, "review")?,
+        namespace: name_in(alloc, matches, "namespace")?,
+        params: name_in(alloc, matches, "params")?,
+    };
+    Ok(Order::Debug { image, documents })
 }
 
 // the order of the command `name`: the last command answers to every name that is left

@@ -1,13 +1,14 @@
 //! Why the program does not do what it is asked.
 ghost use Rattle.std.specs.Prelude.{◌≡◌, IfOk};
 ghost use Rattle.review_runner.specs.Output.{output_of, refused};
-ghost use Rattle.review_runner.specs.Refusals.{file_refusal, load_refusal, order_refusal, program_refusal, refusal_status, session_refusal};
+ghost use Rattle.review_runner.specs.Refusals.{file_refusal, load_refusal, order_refusal, program_refusal, refusal_status, run_refusal, session_refusal};
 ghost use Rattle.review_runner.specs.declared.refusal.Refusal.TheVariants as refusal;
 
 use crate::done::Done;
 use crate::file_error::FileError;
 use crate::order_error::OrderError;
 use crate::refusal_line::refusal_line;
+use crate::run_error::RunError;
 use assembler::AsmError;
 use debugger::SessionError;
 use loader::LoadError;
@@ -26,6 +27,8 @@ pub enum Refusal {
     Text,
     /// A program's text is refused.
     Program(AsmError),
+    /// The documents of a review are refused.
+    Documents(RunError),
     /// The input of a session could not be read.
     Input,
     /// The output of a session could not be written.
@@ -121,6 +124,17 @@ impl From<OrderError> for Refusal {
         match error {
             OrderError::U1 => Refusal::Words,
             OrderError::Memory => Refusal::Memory,
+        }
+    }
+}
+
+impl From<RunError> for Refusal {
+    ghost from_gives = { λ e r. r ≡ run_refusal e };
+
+    fn from(error: RunError) -> Refusal {
+        match error {
+            RunError::Memory => Refusal::Memory,
+            _ => Refusal::Documents(error),
         }
     }
 }

@@ -1,8 +1,9 @@
 //! The line of standard error that tells of a refusal.
 ghost use Rattle.std.specs.Prelude.{◌≡◌, ◌≤◌, ◌<◌, ◌+◌, ◌∷◌, ◌++◌, [], length, decimal, codes};
-ghost use Rattle.review_runner.specs.Refusals.{image_refusal, refusal_line, refusal_text, text_refusal};
+ghost use Rattle.review_runner.specs.Refusals.{documents_refusal, image_refusal, refusal_line, refusal_text, text_refusal};
 
 use crate::refusal::Refusal;
+use crate::run_error::RunError;
 use assembler::AsmError;
 use loader::LoadError;
 use smallvec::SmallVec;
@@ -66,6 +67,7 @@ impl RefusalLine {
             Refusal::File => self.push_text("file"),
             Refusal::Text => self.push_text("text"),
             Refusal::Program(error) => self.push_program(error),
+            Refusal::Documents(error) => self.push_text(documents_refusal(error)),
             Refusal::Input => self.push_text("S1"),
             Refusal::Output => self.push_text("S2"),
             Refusal::Memory => self.push_text("memory"),
@@ -145,5 +147,17 @@ fn image_refusal(error: LoadError) -> &'static str
         LoadError::L4 => "L4",
         LoadError::L5 => "L5",
         LoadError::Memory => "memory",
+    }
+}
+
+/// The number of refused documents.
+fn documents_refusal(error: RunError) -> &'static str
+    ensures text { result.now ≡ documents_refusal error }
+    ensures length { length result.now ≤ 6 }
+{
+    match error {
+        RunError::N2 => "N2",
+        RunError::N3 => "N3",
+        RunError::Memory => "memory",
     }
 }

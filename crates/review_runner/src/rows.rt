@@ -1,7 +1,7 @@
 //! Command lines and documents written out, with the orders and the values that the definitions give
 //! for them.
 ghost use Rattle.review_runner.specs.RootRows.{RootRowsStand};
-ghost use Rattle.review_runner.specs.Rows.{asm_words, debug_words, list_words, without_steps, with_steps, IsRefused, IsTakenAs};
+ghost use Rattle.review_runner.specs.Rows.{all_documents, asm_words, debug_all_words, debug_words, list_words, no_documents, without_steps, with_steps, IsRefused, IsTakenAs};
 ghost use Rattle.review_runner.specs.Order.{assemble, debug, list, run_image};
 ghost use Rattle.std.specs.Prelude.{codes};
 
@@ -14,9 +14,11 @@ pub fn run_image_rows_stand()
     ensures past_most { IsRefused (with_steps (codes "1000000001")) }
 {}
 
-/// `celbpf debug a.img` debugs `a.img`.
-pub fn debug_row_stands()
-    ensures { IsTakenAs debug_words (debug (codes "a.img")) }
+/// `celbpf debug a.img` debugs `a.img` on null roots, and with `--review`, `--namespace` and `--params`
+/// on those of documents.
+pub fn debug_rows_stand()
+    ensures alone { IsTakenAs debug_words (debug (codes "a.img") no_documents) }
+    ensures all { IsTakenAs debug_all_words (debug (codes "a.img") all_documents) }
 {}
 
 /// `celbpf asm a.txt a.img` assembles `a.txt` to `a.img`.

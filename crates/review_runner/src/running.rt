@@ -1,11 +1,13 @@
 //! Images run from their bytes to printed registers.
 ghost use Rattle.review_runner.specs.Running.{run_of_file, Runs};
 
-use bpf_machine::{Machine, Status, Table};
+use crate::null_table::null_table;
+use bpf_machine::{Machine, Status};
 use debugger::registers_and_move;
 use guest_memory::Guest;
 use loader::{Image, LoadError};
 use std::alloc::Global;
+use value_table::Table;
 
 /// Why an image was not run: its file's refusal, or want of memory.
 pub type RunImageError = LoadError;
@@ -21,7 +23,7 @@ pub fn run_image(alloc: Global, file: &[u8], n: u64) -> Result<(Vec<u8>, Status)
     ensures { Runs (run_of_file file.now n) result }
 {
     let image = Image::read(alloc, file)?;
-    let mut machine = Machine::<Guest>::start(alloc, image, Table::nulls())?;
+    let mut machine = Machine::<Table, Guest>::start(alloc, image, null_table(alloc)?)?;
     let (steps, status) = machine.run(n)?;
     let text = registers_and_move(alloc, &machine, steps)?;
     Ok((text, status))

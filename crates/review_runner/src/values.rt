@@ -1,9 +1,10 @@
 // Single values of a command's matches, each read totally.
-ghost use Rattle.std.specs.Prelude.{◌≡◌, option_map, unwrap_or, []};
+ghost use Rattle.std.specs.Prelude.{◌≡◌, option_map, string_bytes, unwrap_or, [], IfOk};
 ghost use Rattle.clap.specs.Words.{first_of, found_of, one_of, rows_of};
 ghost use Rattle.review_runner.specs.Number.{number_of};
 
 use clap::ArgMatches;
+use std::alloc::{AllocError, Global};
 
 // the text of the argument `id`, where it has one
 pub fn text_in<'a>(matches: &ArgMatches<'a>, id: &str) -> Option<&'a str>
@@ -17,6 +18,16 @@ pub fn text_or_empty<'a>(matches: &ArgMatches<'a>, id: &str) -> &'a str
     ensures { result.now ≡ unwrap_or (first_of id.now (rows_of (found_of matches.now))) [] }
 {
     text_in(matches, id).unwrap_or("")
+}
+
+// the text of the argument `id` as a name of its own, where it has one
+pub fn name_in(alloc: Global, matches: &ArgMatches, id: &str) -> Result<Option<String>, AllocError>
+    ensures { IfOk result (λ name. option_map string_bytes name ≡ first_of id.now (rows_of (found_of matches.now))) }
+{
+    match text_in(matches, id) {
+        Some(name) => Ok(Some(String::from_str(alloc, name)?)),
+        None => Ok(None),
+    }
 }
 
 // the number of the argument `id`, where it has one

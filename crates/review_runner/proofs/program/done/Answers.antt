@@ -6,11 +6,11 @@ use Rattle.review_runner.proofs.program.done.Goals as goal
 
 pub returns-in_err-debug-in-Debug : goal.returns-in_err-debug-in-Debug
 returns-in_err-debug-in-Debug g c =
-    not_debugged _ _ _ _ _ _ _ c.from_residual.ensures.1 (ap order_view c.in-Debug.is) c.as_str.ensures.value c.in_err-debug-in-Debug.ensures.debugs c.in_err-debug-in-Debug.ensures.known
+    not_debugged _ _ _ _ _ _ _ _ c.from_residual.ensures.1 (ap order_view c.in-Debug.is) c.as_str.ensures.value c.in_err-debug-in-Debug.ensures.debugs c.in_err-debug-in-Debug.ensures.known
 
 pub returns-in_ok-debug-in-Debug : goal.returns-in_ok-debug-in-Debug
 returns-in_ok-debug-in-Debug g c =
-    debugged _ _ _ _ _ (ap order_view c.in-Debug.is) c.as_str.ensures.value c.in_ok-debug-in-Debug.ensures.debugs c.in_ok-debug-in-Debug.ensures.known
+    debugged _ _ _ _ _ _ (ap order_view c.in-Debug.is) c.as_str.ensures.value c.in_ok-debug-in-Debug.ensures.debugs c.in_ok-debug-in-Debug.ensures.known
 
 pub returns-in-RunImage : goal.returns-in-RunImage
 returns-in-RunImage g c = order c.answer.ensures refl

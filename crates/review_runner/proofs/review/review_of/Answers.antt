@@ -1,6 +1,5 @@
 use Rattle.std.proofs.Common.{ap}
 use Rattle.serde_json.specs.Data as json
-use Rattle.serde_json.specs.View.{members_view}
 use Rattle.serde_json.proofs.Views.{view-Object}
 use Rattle.std.proofs.Common.{◌∙◌}
 use Rattle.review_runner.proofs.Reviewed.{parts_taken}
