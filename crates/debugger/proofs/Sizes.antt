@@ -10,17 +10,20 @@ use Rattle.guest_memory.specs.declared.fault.Fault as fault
 use Rattle.guest_memory.specs.declared.size.Size as memory
 use Rattle.helper_table.specs.Outcome.{CallEnd, Halts, Leaves}
 use Rattle.insn_codec.specs.declared.insn.Insn.{Insn}
-use Rattle.insn_codec.specs.declared.insn.Insn.TheVariants.{Alu, Neg, SignExtend, ByteSwap, Jump, JumpLong, Branch, Call, CallLocal, Exit, Load, LoadSigned, StoreImm, Store, LoadWide}
+use Rattle.insn_codec.specs.declared.insn.Insn.TheVariants.{Alu, Neg, SignExtend, ByteSwap, Jump, JumpLong, Branch, Call, CallLocal, Exit, Load, LoadSigned, StoreImm, Store, Atomic, LoadWide}
+use Rattle.insn_codec.specs.declared.atomic_op.AtomicOp.{AtomicOp}
 use Rattle.insn_codec.specs.declared.register.Register.{Register}
 use Rattle.insn_codec.specs.declared.signed_size.SignedSize.{SignedSize}
+use Rattle.insn_codec.specs.declared.width.Width.{Width}
 use Rattle.loader.specs.Contents.{Contents}
 use Rattle.value_store.specs.Placing as store
 use Rattle.bpf_machine.specs.Access.{load_row, load_signed_row, load_wide_row, loaded, loaded_signed, store_row, stored}
 use Rattle.bpf_machine.specs.Arithmetic.{alu_row, byte_swap_row, neg_row, sign_extend_row}
+use Rattle.bpf_machine.specs.Atomics.{atomic_row, exchanged, taken_and_stored, taken_by, where_stores}
 use Rattle.bpf_machine.specs.Decoding.{fetched}
 use Rattle.bpf_machine.specs.HelperCalls.{answered, call_row}
 use Rattle.bpf_machine.specs.Jumps.{branch_row, call_local_row, called, caller, exit_row, jump_row, newest, returned}
-use Rattle.bpf_machine.specs.Operands.{jumped, stopped_by}
+use Rattle.bpf_machine.specs.Operands.{jumped, next_slot, stopped_by}
 use Rattle.bpf_machine.specs.State.{State, start_state}
 use Rattle.bpf_machine.specs.Step.{by_status, executed, next_state, stepped}
 use Rattle.bpf_machine.specs.Trace.{state_after}
@@ -105,8 +108,28 @@ module _ (s : State) (is : IsSized s) where
   returned_sized None = is
   returned_sized (Some f) = let most = is.few in record { regions = is.regions; few = omega (arith, most, length-take (length s.records - 1) s.records) }
 
+  with_taken : (o : Option Register) (old : ℕ) (m : Memory) → HasRegions m → IsSized (next_slot (taken_by o old (record s { memory = m })))
+  with_taken None old m has = record { regions = has; few = is.few }
+  with_taken (Some r) old m has = record { regions = has; few = is.few }
+
+  taken_sized : (o : Option Register) (old : ℕ) (r : Result Memory fault.Fault) → ((m : Memory) → r ≡ Ok m → HasRegions m) → IsSized (taken_and_stored o old r s)
+  taken_sized o old (Ok m) kept = with_taken o old m (kept m refl)
+  taken_sized o old (Err f) kept = is
+
+  untaken_sized : (o : Option Register) (old : ℕ) → IsSized (next_slot (taken_by o old s))
+  untaken_sized None old = is
+  untaken_sized (Some r) old = is
+
+  exchanged_sized : (op : AtomicOp) (width : Width) (src : Register) (place : ℕ) (r : Result ℕ fault.Fault) → IsSized (exchanged op width src place r s)
+  exchanged_sized op width src place (Ok old) = either _ _ _ (taken_sized _ _ _ (λ m e. write_sized s.memory m _ _ _ is.regions e)) (untaken_sized _ _)
+  exchanged_sized op width src place (Err f) = is
+
+  where_sized : (r : Result (Unit {0}) fault.Fault) (after : State) → IsSized after → IsSized (where_stores r after s)
+  where_sized (Ok done) after kept = kept
+  where_sized (Err f) after kept = is
+
   executed_sized : (i : Insn) → IsSized (executed i s)
-  unfolding alu_row neg_row sign_extend_row byte_swap_row jump_row branch_row call_row call_local_row exit_row load_row load_signed_row store_row load_wide_row
+  unfolding alu_row neg_row sign_extend_row byte_swap_row jump_row branch_row call_row call_local_row exit_row load_row load_signed_row store_row atomic_row load_wide_row
   executed_sized (Alu op width dst operand) = either _ _ _ is is
   executed_sized (Neg width dst) = either _ _ _ is is
   executed_sized (SignExtend extension dst src) = either _ _ _ is is
@@ -121,6 +144,7 @@ module _ (s : State) (is : IsSized s) where
   executed_sized (LoadSigned size dst src offset) = either _ _ _ is (signed_sized size dst _)
   executed_sized (StoreImm size dst offset imm) = stored_sized _ (λ m e. write_sized s.memory m _ _ _ is.regions e)
   executed_sized (Store size dst offset src) = stored_sized _ (λ m e. write_sized s.memory m _ _ _ is.regions e)
+  executed_sized (Atomic op width dst offset src) = either _ _ _ is (where_sized _ _ (exchanged_sized op width src _ _))
   executed_sized (LoadWide dst value) = either _ _ _ is is
 
   stepped_sized : (o : Option (Option Insn)) → IsSized (stepped o s)
