@@ -1,11 +1,11 @@
 -- Parts of bounded values, and values that are made of them.
-use Rattle.std.proofs.Common.{◌≡◌, ◌+◌, ◌≤◌, ℕ, zero, suc, Bool, true, false, List, ◌∷◌, ◌++◌, length, Option, Some, None, refl, ap, ◌∙◌, subst, arith}
+use Rattle.std.proofs.Common.{◌≡◌, ◌+◌, ◌≤◌, ℕ, zero, suc, Bool, true, false, List, length, Option, Some, None, refl, subst, arith}
 use Rattle.std.specs.Prelude.{slice_get, option_map, option_and_then, bytes_eq, if◌then◌else◌}
 use Rattle.std.specs.Cmp.Lexicographic.{slice_cmp}
 use Rattle.std.specs.Ordering.{nat_cmp}
 use Rattle.std.specs.declared.cmp.Ordering.{Ordering}
 use Rattle.std.specs.declared.cmp.Ordering.TheVariants.{Less, Equal, Greater}
-use Rattle.value_store.specs.Calls.{entries_at, join_of, joined, key_at, part_at, push_of, pushed, put_in, put_of, text_at, value_at}
+use Rattle.value_store.specs.Calls.{join_of, joined, key_at, part_at, push_of, pushed, put_in, put_of, text_at, value_at}
 use Rattle.value_store.specs.Lookup.{find, inserted, inserted_by}
 use Rattle.value_store.specs.Value.{Value, null, boolean, int, text, list, map, Items, no_items, item, Entries, no_entries, entry, ValueOrError, error, value, list_of, keys_of, values_of, items_push, items_join}
 use Rattle.helper_table.specs.Lookups.{value_under}

@@ -1,34 +1,30 @@
 -- Calls answer words, and leave tables.
-use Rattle.std.proofs.Common.{◌≡◌, ◌+◌, ◌<◌, ◌≤◌, ◌^◌, ℕ, zero, suc, Bool, true, false, not, List, [], ◌∷◌, ◌++◌, length, Option, Some, None, refl, subst, lit<, lit≤, arith, rules}
-use Rattle.std.proofs.lemmas.Bool.{leb-true}
+use Rattle.std.proofs.Common.{◌≡◌, ◌+◌, ◌<◌, ◌≤◌, ◌^◌, ℕ, zero, suc, Bool, true, false, not, List, [], ◌∷◌, ◌++◌, length, Option, Some, None, refl, subst, lit<, arith, rules}
 use Rattle.std.proofs.lemmas.Int.{ints}
 use Rattle.std.proofs.lemmas.List.Elements.{All-append, All-cons, All-head, All-nil, All-tail}
 use Rattle.std.specs.Int.{w64, cast_signed, cast_unsigned}
-use Rattle.std.specs.Fmt.{signed_decimal}
 use Rattle.std.specs.List.{starts_with, ends_with}
 use Rattle.std.specs.Str.{is_utf8}
 use Rattle.std.specs.Prelude.{All, FitsSigned, ℤ, pos, negsuc, slice_get, slice_index, nat_eq, nat_le, option_map, option_and_then, if◌then◌else◌}
-use Rattle.guest_memory.specs.declared.fault.Fault as fault
 use Rattle.guest_memory.specs.declared.fault.Fault.TheVariants.{F8}
-use Rattle.text_kernels.specs.Scans.{code_points_of}
 use Rattle.value_store.specs.Calls.{entries_at, equal_at, joined, less_at, member_at, part_at, pushed, put_in, text_at}
 use Rattle.value_store.specs.Lookup.{has_key}
-use Rattle.value_store.specs.Placing.{Contents, IsStore, charge_limit, place, placed}
+use Rattle.value_store.specs.Placing.{Contents, charge_limit, place, placed}
 use Rattle.value_store.specs.Seen.{Seen, sees_error, sees_null, sees_bool, sees_int, sees_text, sees_list, sees_map, seen}
 use Rattle.value_store.specs.Size.{depth_of}
-use Rattle.value_store.specs.Value.{Value, null, boolean, int, text, list, map, Items, ValueOrError, error, value, list_of, keys_of}
+use Rattle.value_store.specs.Value.{Value, null, boolean, int, text, list, map, Items, ValueOrError, error, value, list_of}
 use Rattle.helper_table.proofs.Bounded.{joined_items, key_text_bounded, looser, looser_items, looser_result, part_bounded, pushed_bounded, put_in_bounded, under_bounded}
 use Rattle.helper_table.proofs.Following.{outcome_follows}
 use Rattle.helper_table.proofs.Lists.{few_code_points}
 use Rattle.helper_table.specs.Building.{depth_limit, entered, grown, is_key, join_row, list_new_row, map_new_row, push_row, put_row, sequence}
 use Rattle.helper_table.specs.Calls.{bytes_at, on_lent, on_operand, on_range, on_value, on_values, r1, r2, r3, row_numbered, row_of}
 use Rattle.helper_table.specs.Comparisons.{contains, contains_row, ends_row, equal_row, less_row, member_row, on_texts, starts_row, text_row}
-use Rattle.helper_table.specs.Conversions.{decimal_of, int_new_row, int_of_row, int_word, kind_number, kind_row, not_row, text_const_row, text_of_int_row}
+use Rattle.helper_table.specs.Conversions.{decimal_of, int_new_row, int_of_row, kind_number, kind_row, not_row, text_const_row, text_of_int_row}
 use Rattle.helper_table.specs.Laws.{Follows}
-use Rattle.helper_table.specs.Lookups.{count_row, count_word, field_row, has_row, index_row, item_or_key, item_row, part_by, size_found, size_part, size_row, value_under}
+use Rattle.helper_table.specs.Lookups.{count_row, field_row, has_row, index_row, item_or_key, item_row, part_by, size_row, value_under}
 use Rattle.helper_table.specs.Numbers.{of_number}
-use Rattle.helper_table.specs.Operands.{count_part, int_part, place_part, text_part, truth_part}
-use Rattle.helper_table.specs.Outcome.{CallEnd, Outcome, Plain, Named, Refused, Leaves, Halts, answer_among, charged, found, truth}
+use Rattle.helper_table.specs.Operands.{int_part, place_part, text_part, truth_part}
+use Rattle.helper_table.specs.Outcome.{Outcome, Plain, Named, Refused, Leaves, Halts, answer_among, charged, found, truth}
 use Rattle.helper_table.specs.Tables.{AreItemsBounded, IsBounded, IsResultBounded, IsTable, TablesAreKept}
 use Rattle.helper_table.specs.declared.helper.Helper.{Helper}
 use Rattle.helper_table.specs.declared.helper.Helper.TheVariants as helper
@@ -311,12 +307,14 @@ module _ (old new : Contents) (word : ℕ) (table : IsTable old) where
   keeps : (us : List ValueOrError) (w added : ℕ) → w < 2 ^ 64 → All (IsResultBounded (old.charge + (1 + added))) us → Follows old new
       → Left (nat_le (old.charge + (1 + added)) charge_limit) w word (record { values = us; charge = old.charge + (1 + added) }) new → (word < 2 ^ 64) × IsTable new
   keeps us w added small all follows is =
-      let P : Contents → Type 0 = λ c. All (IsResultBounded c.charge) c.values in
-      (subst (λ (n : ℕ). n < 2 ^ 64) is.word_is small, record {
-        store = follows.store table.store;
-        few = omega (arith, follows.values.most_one, follows.paid, table.few);
-        bounded = subst P is.is all;
-      })
+      let P : Contents → Type 0 = λ c. All (IsResultBounded c.charge) c.values in (
+        subst (λ (n : ℕ). n < 2 ^ 64) is.word_is small,
+        record {
+          store = follows.store table.store;
+          few = omega (arith, follows.values.most_one, follows.paid, table.few);
+          bounded = subst P is.is all;
+        },
+      )
 
   outcome_keeps : (o : Outcome) → IsFit old.charge o → charged (answer_among old.values o) old.charge ≡ Leaves word new → (word < 2 ^ 64) × IsTable new
   outcome_keeps (Plain w added) fit e =
