@@ -42,11 +42,10 @@ pub(crate) fn variable(alloc: Global, name: &str) -> Result<Core, AllocError>
 }
 
 /// A field of an expression.
-pub(crate) fn select(alloc: Global, of: Core, field: &str) -> Result<Core, AllocError>
-    ensures { IfOk result (λ c. core_view c ≡ node.select (core_view of) field.now) }
+pub(crate) fn select(alloc: Global, of: Box<Core>, field: &str) -> Result<Core, AllocError>
+    ensures { IfOk result (λ c. core_view c ≡ node.select (core_view of.value) field.now) }
 {
-    let field = String::from_str(alloc, field)?;
-    Ok(Core::Select(Box::new(alloc, of)?, field))
+    Ok(Core::Select(of, String::from_str(alloc, field)?))
 }
 
 /// Whether an expression has a field.
@@ -57,10 +56,10 @@ pub(crate) fn has(alloc: Global, of: Core, field: String) -> Result<Core, AllocE
 }
 
 /// An item or entry of an expression.
-pub(crate) fn index(alloc: Global, of: Core, at: Core) -> Result<Core, AllocError>
-    ensures { IfOk result (λ c. core_view c ≡ node.index (core_view of) (core_view at)) }
+pub(crate) fn index(of: Box<Core>, at: Box<Core>) -> Core
+    ensures { core_view result ≡ node.index (core_view of.value) (core_view at.value) }
 {
-    Ok(Core::Index(Box::new(alloc, of)?, Box::new(alloc, at)?))
+    Core::Index(of, at)
 }
 
 /// A call of a function.
@@ -87,53 +86,34 @@ pub(crate) fn map(pairs: Vec<(Core, Core)>) -> Core
 /// A call of a method.
 pub(crate) fn method(
     alloc: Global,
-    of: Core,
+    of: Box<Core>,
     name: &str,
     arguments: Vec<Core>,
 ) -> Result<Core, AllocError>
-    ensures { IfOk result (λ c. core_view c ≡ node.method (core_view of) name.now (cores (list.map core_view arguments.items))) }
+    ensures { IfOk result (λ c. core_view c ≡ node.method (core_view of.value) name.now (cores (list.map core_view arguments.items))) }
 {
-    let name = String::from_str(alloc, name)?;
-    Ok(Core::Method(Box::new(alloc, of)?, name, arguments))
+    Ok(Core::Method(of, String::from_str(alloc, name)?, arguments))
 }
 
 /// An operator before an operand.
-pub(crate) fn unary(
-    alloc: Global,
-    operator: UnaryOperator,
-    operand: Core,
-) -> Result<Core, AllocError>
-    ensures { IfOk result (λ c. core_view c ≡ node.unary operator (core_view operand)) }
+pub(crate) fn unary(operator: UnaryOperator, operand: Box<Core>) -> Core
+    ensures { core_view result ≡ node.unary operator (core_view operand.value) }
 {
-    Ok(Core::Unary(operator, Box::new(alloc, operand)?))
+    Core::Unary(operator, operand)
 }
 
 /// An operator between operands.
-pub(crate) fn binary(
-    alloc: Global,
-    operator: BinaryOperator,
-    left: Core,
-    right: Core,
-) -> Result<Core, AllocError>
-    ensures { IfOk result (λ c. core_view c ≡ node.binary operator (core_view left) (core_view right)) }
+pub(crate) fn binary(operator: BinaryOperator, left: Box<Core>, right: Box<Core>) -> Core
+    ensures { core_view result ≡ node.binary operator (core_view left.value) (core_view right.value) }
 {
-    Ok(Core::Binary(operator, Box::new(alloc, left)?, Box::new(alloc, right)?))
+    Core::Binary(operator, left, right)
 }
 
 /// A conditional.
-pub(crate) fn ternary(
-    alloc: Global,
-    condition: Core,
-    yes: Core,
-    no: Core,
-) -> Result<Core, AllocError>
-    ensures { IfOk result (λ c. core_view c ≡ node.ternary (core_view condition) (core_view yes) (core_view no)) }
+pub(crate) fn ternary(condition: Box<Core>, yes: Box<Core>, no: Box<Core>) -> Core
+    ensures { core_view result ≡ node.ternary (core_view condition.value) (core_view yes.value) (core_view no.value) }
 {
-    Ok(Core::Ternary(
-        Box::new(alloc, condition)?,
-        Box::new(alloc, yes)?,
-        Box::new(alloc, no)?,
-    ))
+    Core::Ternary(condition, yes, no)
 }
 
 /// A macro over a range.
@@ -141,27 +121,27 @@ pub(crate) fn fold(
     alloc: Global,
     found: Macro,
     name: String,
-    range: Core,
+    range: Box<Core>,
     part: Core,
 ) -> Result<Core, AllocError>
-    ensures { IfOk result (λ c. core_view c ≡ node.fold found (string_bytes name) (core_view range) (core_view part)) }
+    ensures { IfOk result (λ c. core_view c ≡ node.fold found (string_bytes name) (core_view range.value) (core_view part)) }
 {
-    Ok(Core::Fold(found, name, Box::new(alloc, range)?, Box::new(alloc, part)?))
+    Ok(Core::Fold(found, name, range, Box::new(alloc, part)?))
 }
 
 /// `map` with a predicate over a range.
 pub(crate) fn fold_map(
     alloc: Global,
     name: String,
-    range: Core,
+    range: Box<Core>,
     predicate: Core,
     transform: Core,
 ) -> Result<Core, AllocError>
-    ensures { IfOk result (λ c. core_view c ≡ node.fold_map (string_bytes name) (core_view range) (core_view predicate) (core_view transform)) }
+    ensures { IfOk result (λ c. core_view c ≡ node.fold_map (string_bytes name) (core_view range.value) (core_view predicate) (core_view transform)) }
 {
     Ok(Core::FoldMap(
         name,
-        Box::new(alloc, range)?,
+        range,
         Box::new(alloc, predicate)?,
         Box::new(alloc, transform)?,
     ))

@@ -47,7 +47,17 @@ fn entry_expansions(alloc: Global, pairs: &[(Expr, Expr)]) -> Result<Vec<(Core, 
     Ok(out)
 }
 
-/// The expression with its macros expanded.
+/// The expression with its macros expanded, in a box.
+#[cycle(expansion)]
+fn boxed_expansion(alloc: Global, e: &Expr) -> Result<Box<Core>, AllocError>
+    ensures { IfOk result (λ b. core_view b.value ≡ expanded (view e.now)) }
+{
+    let core = expansion(alloc, e)?;
+    Ok(Box::new(alloc, core)?)
+}
+
+/// The expression with its macros expanded. Its parts are boxed where they are made, so that the
+/// frames on the host's stack stay small.
 #[cycle(expansion)]
 #[tactic(auto, unfolding(crate::specs::CoreTree::expanded))]
 fn expansion(alloc: Global, e: &Expr) -> Result<Core, AllocError>
@@ -60,37 +70,37 @@ fn expansion(alloc: Global, e: &Expr) -> Result<Core, AllocError>
             if is_variables(of) {
                 return build::variable(alloc, field.as_str());
             }
-            let inner = expansion(alloc, of)?;
+            let inner = boxed_expansion(alloc, of)?;
             build::select(alloc, inner, field.as_str())
         }
         Expr::Index(of, at) => {
-            let first = expansion(alloc, of)?;
-            let second = expansion(alloc, at)?;
-            build::index(alloc, first, second)
+            let first = boxed_expansion(alloc, of)?;
+            let second = boxed_expansion(alloc, at)?;
+            Ok(build::index(first, second))
         }
         Expr::Call(name, arguments) => {
             let parts = expansions(alloc, arguments.as_slice())?;
             folding::call(alloc, name.as_str(), parts)
         }
         Expr::Method(of, name, arguments) => {
-            let inner = expansion(alloc, of)?;
+            let inner = boxed_expansion(alloc, of)?;
             let parts = expansions(alloc, arguments.as_slice())?;
             folding::method(alloc, inner, name.as_str(), parts)
         }
         Expr::Unary(operator, operand) => {
-            let inner = expansion(alloc, operand)?;
-            build::unary(alloc, *operator, inner)
+            let inner = boxed_expansion(alloc, operand)?;
+            Ok(build::unary(*operator, inner))
         }
         Expr::Binary(operator, left, right) => {
-            let first = expansion(alloc, left)?;
-            let second = expansion(alloc, right)?;
-            build::binary(alloc, *operator, first, second)
+            let first = boxed_expansion(alloc, left)?;
+            let second = boxed_expansion(alloc, right)?;
+            Ok(build::binary(*operator, first, second))
         }
         Expr::Ternary(condition, yes, no) => {
-            let test = expansion(alloc, condition)?;
-            let first = expansion(alloc, yes)?;
-            let second = expansion(alloc, no)?;
-            build::ternary(alloc, test, first, second)
+            let test = boxed_expansion(alloc, condition)?;
+            let first = boxed_expansion(alloc, yes)?;
+            let second = boxed_expansion(alloc, no)?;
+            Ok(build::ternary(test, first, second))
         }
         Expr::List(items) => {
             let parts = expansions(alloc, items.as_slice())?;

@@ -96,9 +96,9 @@ fn pair_parts(mut arguments: Vec<Core>) -> (String, Core)
 }
 
 /// The macro of two arguments, or the method.
-fn pair(alloc: Global, of: Core, name: &str, arguments: Vec<Core>) -> Result<Core, AllocError>
+fn pair(alloc: Global, of: Box<Core>, name: &str, arguments: Vec<Core>) -> Result<Core, AllocError>
     requires { IsPair (list.map core_view arguments.items) }
-    ensures { IfOk result (λ c. core_view c ≡ method_of (core_view of) name.now (cores (list.map core_view arguments.items))) }
+    ensures { IfOk result (λ c. core_view c ≡ method_of (core_view of.value) name.now (cores (list.map core_view arguments.items))) }
 {
     match macro_named(name) {
         None => build::method(alloc, of, name, arguments),
@@ -110,9 +110,9 @@ fn pair(alloc: Global, of: Core, name: &str, arguments: Vec<Core>) -> Result<Cor
 }
 
 /// The macro `map` of three arguments.
-fn fold_map(alloc: Global, of: Core, mut arguments: Vec<Core>) -> Result<Core, AllocError>
+fn fold_map(alloc: Global, of: Box<Core>, mut arguments: Vec<Core>) -> Result<Core, AllocError>
     requires { IsTriple (list.map core_view arguments.items) }
-    ensures { IfOk result (λ c. IsFoldMap (core_view c) (core_view of) (list.map core_view arguments.items)) }
+    ensures { IfOk result (λ c. IsFoldMap (core_view c) (core_view of.value) (list.map core_view arguments.items)) }
 {
     match arguments.pop() {
         Some(transform) => {
@@ -124,9 +124,14 @@ fn fold_map(alloc: Global, of: Core, mut arguments: Vec<Core>) -> Result<Core, A
 }
 
 /// The macro `map` of three arguments, or the method.
-fn triple(alloc: Global, of: Core, name: &str, arguments: Vec<Core>) -> Result<Core, AllocError>
+fn triple(
+    alloc: Global,
+    of: Box<Core>,
+    name: &str,
+    arguments: Vec<Core>,
+) -> Result<Core, AllocError>
     requires { IsTriple (list.map core_view arguments.items) }
-    ensures { IfOk result (λ c. core_view c ≡ method_of (core_view of) name.now (cores (list.map core_view arguments.items))) }
+    ensures { IfOk result (λ c. core_view c ≡ method_of (core_view of.value) name.now (cores (list.map core_view arguments.items))) }
 {
     if is_map(name) {
         return fold_map(alloc, of, arguments);
@@ -137,11 +142,11 @@ fn triple(alloc: Global, of: Core, name: &str, arguments: Vec<Core>) -> Result<C
 /// The call of a method with these arguments, or a macro over a range.
 pub(crate) fn method(
     alloc: Global,
-    of: Core,
+    of: Box<Core>,
     name: &str,
     arguments: Vec<Core>,
 ) -> Result<Core, AllocError>
-    ensures { IfOk result (λ c. core_view c ≡ method_of (core_view of) name.now (cores (list.map core_view arguments.items))) }
+    ensures { IfOk result (λ c. core_view c ≡ method_of (core_view of.value) name.now (cores (list.map core_view arguments.items))) }
 {
     match shape(arguments.as_slice()) {
         Shape::Pair => pair(alloc, of, name, arguments),

@@ -26,9 +26,9 @@ expansion-returns-in_ok-parts-in-Method t c =
     let items = c.in-Method.arguments.items in
     let of = c.in_ok-inner-in-Method.ensures ∙ ap (λ x. expanded (view x)) c.deref-in-Method.ensures in
     let parts = ap cores (c.in_ok-parts-in-Method.ensures ∙ ap (map (λ e. expanded (view e))) c.as_slice-in-Method.ensures.value) ∙ each_expanded items in
-    let step : method_of (core_view c.in_ok-inner-in-Method.inner) c.as_str-in-Method.result.now (cores (map core_view c.in_ok-parts-in-Method.parts.items)) ≡ method_of (expanded (view c.in-Method.of.value)) n (node.expanded_trees (trees (map view items))) = λ j. method_of (of j) (c.as_str-in-Method.ensures.value j) (parts j) in
+    let step : method_of (core_view c.in_ok-inner-in-Method.inner.value) c.as_str-in-Method.result.now (cores (map core_view c.in_ok-parts-in-Method.parts.items)) ≡ method_of (expanded (view c.in-Method.of.value)) n (node.expanded_trees (trees (map view items))) = λ j. method_of (of j) (c.as_str-in-Method.ensures.value j) (parts j) in
     let whole = step ∙ sym (method_expanded (view c.in-Method.of.value) n (trees (map view items))) ∙ ap expanded (sym (ap view c.in-Method.is ∙ view_method c.in-Method.of c.in-Method.name c.in-Method.arguments)) in
-    IfOk-weaker {X = Core} {Y = AllocError} c.method.result (λ d. core_view d ≡ method_of (core_view c.in_ok-inner-in-Method.inner) c.as_str-in-Method.result.now (cores (map core_view c.in_ok-parts-in-Method.parts.items))) (λ d. core_view d ≡ expanded (view c.args.e.now)) (λ d h. h ∙ whole) c.method.ensures
+    IfOk-weaker {X = Core} {Y = AllocError} c.method.result (λ d. core_view d ≡ method_of (core_view c.in_ok-inner-in-Method.inner.value) c.as_str-in-Method.result.now (cores (map core_view c.in_ok-parts-in-Method.parts.items))) (λ d. core_view d ≡ expanded (view c.args.e.now)) (λ d h. h ∙ whole) c.method.ensures
 
 pub expansion-returns-in_ok-parts-in-List : goal.expansion-returns-in_ok-parts-in-List
 unfolding expanded
