@@ -1,12 +1,12 @@
 -- Digits that are read are those of their number.
-use Rattle.std.proofs.Common.{◌≡◌, ◌≢◌, ◌+◌, ◌*◌, ◌/◌, ◌%◌, ◌<◌, ℕ, zero, suc, List, [], ◌∷◌, ◌++◌, Bool, false, true, get_or, map, refl, sym, ap, ◌∙◌, arith, append_assoc}
+use Rattle.std.proofs.Common.{◌≡◌, ◌≢◌, ◌+◌, ◌*◌, ◌/◌, ◌%◌, ◌<◌, ℕ, List, [], ◌∷◌, ◌++◌, true, get_or, map, refl, sym, ap, ◌∙◌, arith, append_assoc}
 use mathlib.Core.List.{append-nil}
 use Rattle.std.proofs.lemmas.Int.Digits.{digits_of_step, all_below_base_digits_of, all_below_base_from_digits, digits_value_is, first_digits_of, number_after_ge, number_push}
 use Rattle.std.proofs.lemmas.Bool.{and_parts, false≢true}
 use Rattle.std.proofs.lemmas.Bool.Decides.{nat_tests}
 use Rattle.std.proofs.lemmas.Str.{digit_value_digit}
 use Rattle.std.proofs.lemmas.Str.Parse.{IsNumeralModel, digit_from_value, numerals_by_value, tells_all_ascii_digits}
-use Rattle.std.specs.Prelude.{nat_eq, not, ◌&&◌}
+use Rattle.std.specs.Prelude.{nat_eq, not}
 use Rattle.std.specs.Char.{digit_value}
 use Rattle.std.specs.Int.Digits.{AllBelowBase, digits_of, number_from_digits}
 use Rattle.std.specs.Str.{all_ascii_digits}

@@ -1,5 +1,5 @@
 -- The second pass, line by line.
-use Rattle.std.proofs.Common.{◌≡◌, ℕ, zero, suc, ◌+◌, ◌<◌, ◌≤◌, List, [], ◌∷◌, ◌++◌, Option, Result, Ok, Err, refl, sym, ◌∙◌, ap, arith, length, map, drop, get_or, append_assoc}
+use Rattle.std.proofs.Common.{◌≡◌, ℕ, suc, ◌+◌, ◌<◌, ◌≤◌, List, ◌++◌, Option, Result, Ok, Err, refl, sym, ◌∙◌, ap, arith, length, map, drop, get_or, append_assoc}
 use Rattle.std.proofs.lemmas.List.{drop_more}
 use Rattle.assembler.specs.Items.{item_of, item_slots, slots_of}
 use Rattle.assembler.specs.SecondPass.{after, and_then, bytes_of, emitted, resolved}

@@ -1,9 +1,8 @@
 -- The items of each mnemonic.
-use Rattle.std.proofs.Common.{◌≡◌, ◌⊎◌, ℕ, ℤ, List, Some, inl, inr, refl}
+use Rattle.std.proofs.Common.{◌≡◌, ℕ, ℤ, Some, refl}
 use Rattle.insn_codec.specs.declared.alu_op.AluOp.{AluOp}
 use Rattle.insn_codec.specs.declared.atomic_op.AtomicOp.{AtomicOp}
 use Rattle.insn_codec.specs.declared.byte_order.ByteOrder.{ByteOrder}
-use Rattle.insn_codec.specs.declared.comparison.Comparison.{Comparison}
 use Rattle.insn_codec.specs.declared.extension.Extension.{Extension}
 use Rattle.insn_codec.specs.declared.insn.Insn.TheVariants as insn
 use Rattle.insn_codec.specs.declared.operand.Operand.{Operand}

@@ -1,6 +1,6 @@
 -- Lines of jumps, by an offset or to a name.
-use Rattle.std.proofs.Common.{◌≡◌, ◌⊎◌, ℕ, ℤ, pos, negsuc, List, [], ◌∷◌, Some, None, true, refl, sym, ◌∙◌, ap, subst, arith, inl, inr, FitsSigned}
-use Rattle.std.specs.Prelude.{Ok, Err}
+use Rattle.std.proofs.Common.{◌≡◌, ◌⊎◌, ℕ, ℤ, pos, negsuc, List, Some, None, true, refl, sym, ◌∙◌, ap, subst, arith, inl, inr, FitsSigned}
+use Rattle.std.specs.Prelude.{Err}
 use Rattle.std.specs.Int.{w16, w32}
 use Rattle.std.proofs.lemmas.Bool.{both_ways, lt-ltb, ltb-true}
 use Rattle.insn_codec.specs.Lines.{offset_text, operands_text}

@@ -1,8 +1,7 @@
 -- Conditional jumps with a number out of range.
-use Rattle.std.proofs.Common.{◌≡◌, ℤ, ℕ, List, refl, ap, ◌∙◌, FitsSigned}
+use Rattle.std.proofs.Common.{◌≡◌, ℕ, List, refl, ap, ◌∙◌}
 use Rattle.std.specs.Prelude.{Err}
-use Rattle.std.specs.Int.{w16}
-use Rattle.insn_codec.specs.Lines.{offset_text, operand_text, register_text}
+use Rattle.insn_codec.specs.Lines.{operand_text, register_text}
 use Rattle.insn_codec.specs.Spelling.{IsOperand}
 use Rattle.insn_codec.specs.declared.comparison.Comparison.{Comparison}
 use Rattle.insn_codec.specs.declared.insn.Insn.TheVariants as insn

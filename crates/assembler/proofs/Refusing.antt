@@ -1,5 +1,5 @@
 -- The second pass refuses the first line whose label no line names, or is too far.
-use Rattle.std.proofs.Common.{◌≡◌, ◌⊎◌, ℕ, suc, ◌+◌, ℤ, pos, ◌-ℤ◌, List, [], ◌∷◌, ◌++◌, Option, Some, None, Result, Ok, Err, refl, sym, ◌∙◌, ap, subst, arith, true, false, inl, inr, length, length-append, append_assoc, append-nil, zero-add, FitsSigned}
+use Rattle.std.proofs.Common.{◌≡◌, ◌⊎◌, ℕ, suc, ◌+◌, ℤ, List, [], ◌∷◌, ◌++◌, Option, Some, None, Result, Ok, Err, refl, sym, ◌∙◌, ap, subst, arith, true, false, inl, inr, length, length-append, append_assoc, append-nil, zero-add, FitsSigned}
 use Rattle.std.specs.Int.{w16}
 use Rattle.std.proofs.lemmas.Bool.{both_ways}
 use Rattle.insn_codec.specs.declared.statement.Statement.{Statement}
@@ -12,7 +12,7 @@ use Rattle.assembler.specs.Assembles.{Assembles}
 use Rattle.assembler.specs.Assembles.Assembles.{refused as scan_refused, resolved as scanned}
 use Rattle.assembler.specs.FirstPass.{Scans}
 use Rattle.assembler.specs.Items.{Item, statement, label, jump, item_slots, slots_of}
-use Rattle.assembler.specs.Jumps.{jump_by, reaches}
+use Rattle.assembler.specs.Jumps.{reaches}
 use Rattle.assembler.specs.Labels.{label_slot}
 use Rattle.assembler.specs.Refusals.{FirstRefused, IsRefused, IsShort, NoneRefused, Refused}
 use Rattle.assembler.specs.Refusals.IsRefused.{unnamed, too_far}

@@ -1,11 +1,9 @@
 -- What lines stand for, by the second pass and by the definition of a source.
-use Rattle.std.proofs.Common.{◌≡◌, ℕ, suc, ◌+◌, ◌≤◌, ℤ, pos, negsuc, List, [], ◌∷◌, ◌++◌, Option, Some, None, Result, Ok, Err, refl, sym, ◌∙◌, ap, subst, arith, true, FitsSigned, rules}
-use Rattle.std.specs.Int.{w16, w32}
-use Rattle.std.proofs.lemmas.Bool.{lt-ltb, ltb-true}
+use Rattle.std.proofs.Common.{◌≡◌, ℕ, suc, ◌+◌, ◌≤◌, List, [], ◌∷◌, ◌++◌, Option, Some, None, Result, Ok, Err, refl, sym, ◌∙◌, ap, subst, arith, FitsSigned, rules}
+use Rattle.std.specs.Int.{w32}
 use Rattle.std.proofs.lemmas.Int.{ints}
-use Rattle.insn_codec.specs.Statements.{IsStatement}
 use Rattle.insn_codec.specs.declared.statement.Statement.{Statement}
-use Rattle.assembler.specs.Jumps.{JumpInRange, fits_16, jump_by, reaches}
+use Rattle.assembler.specs.Jumps.{JumpInRange, jump_by, reaches}
 use Rattle.assembler.proofs.Cases.{either}
 use Rattle.assembler.proofs.JumpLines.{in_range_by, reaches_of}
 use Rattle.assembler.specs.Items.{InRange, Item, statement, label, jump, item_slots, slots_of}
@@ -15,7 +13,6 @@ use Rattle.assembler.specs.Source.StandFor.{none, line}
 use Rattle.assembler.specs.Source.StandsFor.{stated, named, jumped}
 use Rattle.assembler.specs.declared.asm_error.AsmError.{AsmError}
 use Rattle.assembler.specs.declared.lines.jump.Jump.{Jump}
-use Rattle.assembler.specs.declared.lines.jump.Jump.TheVariants.{Near, Long, CallLocal, Branch}
 
 -- offsets inside 65,536 slots have room in 32 bits
 offset_fits_32 : (slot target : ℕ) → slot ≤ 65536 → target ≤ 65536 → FitsSigned w32 (offset_to slot target)

@@ -1,15 +1,13 @@
 -- A mnemonic and operands are those of one item.
-use Rattle.std.proofs.Common.{◌≡◌, ◌⊎◌, ℕ, suc, ℤ, pos, negsuc, List, [], ◌∷◌, ◌++◌, Some, inl, inr, refl, sym, ◌∙◌, ap, subst}
+use Rattle.std.proofs.Common.{◌≡◌, ℕ, suc, ℤ, pos, negsuc, List, [], ◌∷◌, ◌++◌, Some, inl, inr, refl, sym, ◌∙◌, ap, subst}
 use Rattle.assembler.specs.declared.lines.jump.Jump.{Jump}
 use Rattle.assembler.specs.declared.lines.jump.Jump.TheVariants.{Near, Long, CallLocal, Branch}
 use Rattle.assembler.specs.Jumps.{jump_by, jump_mnemonic, jump_operands}
 use Rattle.insn_codec.specs.Lines.{operands_text, address_text, decimal, offset_text, operand_text, place_text, register_text, signed_decimal, wide_text}
-use Rattle.insn_codec.specs.declared.comparison.Comparison.{Comparison}
 use Rattle.insn_codec.specs.declared.insn.Insn.TheVariants as insn
 use Rattle.insn_codec.specs.declared.operand.Operand.{Operand}
 use Rattle.insn_codec.specs.declared.register.Register.{Register}
 use Rattle.insn_codec.specs.declared.statement.Statement.TheVariants as statement_kind
-use Rattle.insn_codec.specs.declared.width.Width.{Width}
 use Rattle.assembler.specs.Items.{HasLine, Item, statement, jump}
 use Rattle.assembler.specs.Forms.{Lacks, item_mnemonic, item_operands, listed}
 use Rattle.assembler.specs.declared.lines.jump.Jump.TheVariants as jump_kind

@@ -1,5 +1,5 @@
 -- Why a text is refused.
-use Rattle.std.specs.Prelude.{◌≡◌, ℕ, suc, pos, ◌-ℤ◌, FitsSigned, List, [], ◌∷◌, ◌++◌, Result, Ok, Err, length}
+use Rattle.std.specs.Prelude.{◌≡◌, ℕ, suc, pos, ◌-ℤ◌, FitsSigned, List, [], ◌∷◌, ◌++◌, Ok, Err, length}
 use Rattle.std.specs.Int.{w16}
 use Rattle.assembler.specs.FirstPass.{Scans}
 use Rattle.assembler.specs.Items.{Item, jump, slots_of}
