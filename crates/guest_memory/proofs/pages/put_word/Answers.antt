@@ -1,4 +1,4 @@
-use Rattle.std.proofs.Common.{rules, ◌/◌, ◌%◌, ◌<◌, length, arith}
+use Rattle.std.proofs.Common.{rules, ◌/◌, ◌%◌, arith}
 use Rattle.guest_memory.specs.Access.{size_bytes}
 use Rattle.guest_memory.proofs.Bytes.{length_low}
 use Rattle.guest_memory.proofs.PagedBytes.{length-joined, joined_one, joined_kept}

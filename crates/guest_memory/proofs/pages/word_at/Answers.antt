@@ -1,4 +1,4 @@
-use Rattle.std.proofs.Common.{◌≡◌, ◌+◌, ◌-◌, ◌/◌, ◌%◌, length, arith, add-one, ap, sym, ◌∙◌}
+use Rattle.std.proofs.Common.{◌-◌, ◌/◌, ◌%◌, arith, add-one, ap, sym, ◌∙◌}
 use Rattle.guest_memory.specs.Word.{part, word_of}
 use Rattle.guest_memory.specs.Access.{size_bytes}
 use Rattle.guest_memory.proofs.PagedBytes.{length-joined, part_one, part_pages}
