@@ -20,7 +20,7 @@ pub struct Past<E: Emulator> {
     checkpoints: Checkpoints<E>,
     /// The machine that is shown.
     shown: Checkpoint<E>,
-    /// The steps of the last move.
+    /// The steps of the last `go`.
     replayed: u64,
 }
 
@@ -39,7 +39,8 @@ impl<E: Emulator> Model for Past<E> {
 }
 
 impl<E: Emulator> Past<E> {
-    /// The steps that the last move made to show its place. Those after a stop are not made.
+    /// The steps of the last `go`: from the nearest machine at hand to the place that it showed, or
+    /// to the end of the stretch in which the run stops before it.
     pub fn replayed(&self) -> u64
         ensures { result ≡ self.now.replayed }
     {

@@ -1,4 +1,4 @@
-use Rattle.std.proofs.Common.{◌≡◌, ◌-◌, ◌<◌, ◌∙◌, inl, inr, arith, sym}
+use Rattle.std.proofs.Common.{◌-◌, ◌<◌, ◌∙◌, inl, inr, arith, sym}
 use Rattle.history.proofs.Searches.{found_first, found_in_stretch, last_low, none_in_stretch}
 use Rattle.history.proofs.search.last_before.Goals as goal
 use Rattle.history.proofs.search.last_before.Goals.{then-last-gt0-via-then-last-gt0, then-last-gt0-via-else-last-gt0+then-stands_at}
