@@ -33,3 +33,4 @@ pub use sessions::session;
 pub use sink::Sink;
 pub use source::Source;
 pub use state_text::registers_and_move;
+pub use transfer::write_all;

@@ -19,8 +19,8 @@ pub(crate) fn next_byte<R: Source>(r: &mut R) -> Result<Option<u8>, Failed>
     if n == 0 { Ok(None) } else { Ok(Some(buf[0])) }
 }
 
-/// Writes all the bytes, or those before the failure.
-pub(crate) fn write_all<W: Sink>(w: &mut W, bytes: &[u8]) -> Result<(), Failed>
+/// Writes all the bytes, or those before a write that fails or takes no byte.
+pub fn write_all<W: Sink>(w: &mut W, bytes: &[u8]) -> Result<(), Failed>
     ensures whole { OnOk result (AddsBytes (W.taken w.old) (W.taken w.new) bytes.now) }
     ensures ok { OnOk result (W.failed w.new ≡ W.failed w.old) }
     ensures part { OnErr result ((n : ℕ) × (n < length bytes.now) × AddsBytes (W.taken w.old) (W.taken w.new) (take n bytes.now)) }

@@ -8,5 +8,4 @@ pub mod Performed
 pub mod Programs
 pub mod Readings
 pub mod Shape
-pub mod Streams
 mod Reviewed

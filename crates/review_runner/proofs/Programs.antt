@@ -1,9 +1,9 @@
 -- How the program ends.
-use Rattle.std.proofs.Common.{◌≡◌, ℕ, List, map, Option, Result, Ok, Err, String, string_bytes, refl, sym, subst, inl, inr}
+use Rattle.std.proofs.Common.{◌≡◌, ℕ, ◌<◌, List, length, take, map, Option, Result, Ok, Err, String, string_bytes, refl, sym, subst, inl, inr}
 use Rattle.std.specs.Prelude.{IsErrAnd, OnErr, OnOk}
 use Rattle.std.specs.declared.alloc.Global.{Global}
 use Rattle.clap.specs.Words.{Text}
-use Rattle.debugger.specs.Streams.{Stream}
+use Rattle.debugger.specs.Streams.{AddsBytes, Stream, one_more}
 use Rattle.debugger.specs.declared.failed.Failed.{Failed}
 use Rattle.review_runner.specs.Debugging.{DebugsByResult}
 use Rattle.review_runner.specs.FileSystem.{FileSystem}
@@ -20,12 +20,20 @@ use Rattle.review_runner.specs.declared.order_error.OrderError.TheVariants as or
 use Rattle.review_runner.specs.declared.refusal.Refusal.{Refusal}
 use Rattle.review_runner.specs.declared.refusal.Refusal.TheVariants.{File}
 
+-- ---- outputs
+
+pub wrote_all : (old new : Stream) (bytes : List ℕ) → AddsBytes old.bytes new.bytes bytes → new.failed ≡ old.failed → Writes old new bytes
+wrote_all old new bytes adds failed = record { adds = adds; failed = failed }
+
+pub wrote_part : (old new : Stream) (bytes : List ℕ) → (many : ℕ) × (many < length bytes) × AddsBytes old.bytes new.bytes (take many bytes) → new.failed ≡ one_more old.failed → WritesPart old new bytes
+wrote_part old new bytes part failed = record { many = part.0; is_cut = part.1; adds = part.2; failed = failed }
+
 -- ---- standard error
 
-pub says : (old new : Stream) (ending : Ending) (result : Result (Unit {0}) Failed) → OnOk result (Writes old new (ending_line ending))
-    → OnErr result (WritesPart old new (ending_line ending)) → Says old new ending
-says old new ending (Ok u) all part = inl all
-says old new ending (Err e) all part = inr part
+pub says : (old new : Stream) (bytes : List ℕ) (ending : Ending) (result : Result (Unit {0}) Failed) → bytes ≡ ending_line ending → OnOk result (AddsBytes old.bytes new.bytes bytes)
+    → OnOk result (new.failed ≡ old.failed) → OnErr result ((many : ℕ) × (many < length bytes) × AddsBytes old.bytes new.bytes (take many bytes)) → OnErr result (new.failed ≡ one_more old.failed) → Says old new ending
+says old new bytes ending (Ok u) line adds failed part fails = inl (subst (λ (b : List ℕ). Writes old new b) line (wrote_all old new bytes adds failed))
+says old new bytes ending (Err e) line adds failed part fails = inr (subst (λ (b : List ℕ). WritesPart old new b) line (wrote_part old new bytes part fails))
 
 -- ---- orders
 

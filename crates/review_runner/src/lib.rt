@@ -43,7 +43,6 @@ mod running;
 #[cfg(test)]
 mod running_tests;
 mod values;
-mod writing;
 
 pub use debugging::debug;
 pub use document_names::DocumentNames;

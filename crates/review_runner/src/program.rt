@@ -13,8 +13,7 @@ use crate::performing::outcome;
 use crate::reader::order;
 use crate::refusal::Refusal;
 use crate::refusal_line::refusal_line;
-use crate::writing::write_all;
-use debugger::{Failed, Sink, Source};
+use debugger::{Failed, Sink, Source, write_all};
 use std::alloc::{AllocError, Global};
 use std::process::ExitCode;
 
