@@ -317,7 +317,7 @@ fn types_macros(rt: HostRuntime) -> Result<(), Fail> {
 
 #[test]
 fn types_many_negations(rt: HostRuntime) -> Result<(), Fail> {
-    let signs = "!".repeat(rt.alloc(), 1999)?;
+    let signs = "!".repeat(rt.alloc(), 4095)?;
     let text = format!(in rt.alloc(); "{signs}true")?;
     assert_eq!(rt; answer(rt.alloc(), text.as_str())?, BOOL);
     Ok(())
