@@ -30,8 +30,17 @@ const NINE_EXITS: &[u8] =
 /// A call of itself.
 const CALLS_ITSELF: &[u8] = b"\x85\x10\0\0\xff\xff\xff\xff";
 
+/// Counts in memory: `ldxdw r1, [r10-8]`, `add64 r1, 1`, `stxdw [r10-8], r1` and `ja -4`.
+const COUNTS: &[u8] =
+    b"\x79\xa1\xf8\xff\0\0\0\0\x07\x01\0\0\x01\0\0\0\x7b\x1a\xf8\xff\0\0\0\0\x05\0\xfc\xff\0\0\0\0";
+
 /// Programs with inputs that break, list and show, and what is written.
-const COMMANDS: [(&[u8], &[u8], &[u8]); 14] = [
+const COMMANDS: [(&[u8], &[u8], &[u8]); 15] = [
+    (
+        COUNTS,
+        b"s 1000000\nm 0x1000001f8 8\nrs 999997\nm 0x1000001f8 8\ng 1000000\n",
+        b"step 1000000 pc 0 running\n0x00000001000001f8 90 d0 03 00 00 00 00 00\nstep 3 pc 3 running\n0x00000001000001f8 01 00 00 00 00 00 00 00\nstep 1000000 pc 0 running\n",
+    ),
     (
         CODE,
         b"b 1\nd 1\nc 10\nr\n",
