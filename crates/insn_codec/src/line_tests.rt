@@ -3,6 +3,7 @@ use crate::{
     AluOp, AtomicOp, Comparison, Insn, Operand, Register, SignedSize, Size, Statement, Width,
     no_line_feed, statement_is_spelled,
 };
+use std::alloc::{AllocError, Global};
 use std::test::Fail;
 
 /// Statements, how many slots each has, and its line.
@@ -82,6 +83,82 @@ const LINES: [(Statement, u64, &str); 10] = [
     (Statement::Slot(0), 1, ".slot 0x0000000000000000"),
     (Statement::Slot(u64::MAX), 1, ".slot 0xffffffffffffffff"),
 ];
+
+/// Each atomic operation in both widths, at `[r1+0]` and with R2, and its line.
+const ATOMIC_LINES: [(AtomicOp, &str, &str); 10] = [
+    (
+        AtomicOp::Add,
+        "atomic_add32 [r1+0], r2",
+        "atomic_add64 [r1+0], r2",
+    ),
+    (
+        AtomicOp::Or,
+        "atomic_or32 [r1+0], r2",
+        "atomic_or64 [r1+0], r2",
+    ),
+    (
+        AtomicOp::And,
+        "atomic_and32 [r1+0], r2",
+        "atomic_and64 [r1+0], r2",
+    ),
+    (
+        AtomicOp::Xor,
+        "atomic_xor32 [r1+0], r2",
+        "atomic_xor64 [r1+0], r2",
+    ),
+    (
+        AtomicOp::FetchAdd,
+        "atomic_fetch_add32 [r1+0], r2",
+        "atomic_fetch_add64 [r1+0], r2",
+    ),
+    (
+        AtomicOp::FetchOr,
+        "atomic_fetch_or32 [r1+0], r2",
+        "atomic_fetch_or64 [r1+0], r2",
+    ),
+    (
+        AtomicOp::FetchAnd,
+        "atomic_fetch_and32 [r1+0], r2",
+        "atomic_fetch_and64 [r1+0], r2",
+    ),
+    (
+        AtomicOp::FetchXor,
+        "atomic_fetch_xor32 [r1+0], r2",
+        "atomic_fetch_xor64 [r1+0], r2",
+    ),
+    (
+        AtomicOp::Exchange,
+        "atomic_xchg32 [r1+0], r2",
+        "atomic_xchg64 [r1+0], r2",
+    ),
+    (
+        AtomicOp::CompareExchange,
+        "atomic_cmpxchg32 [r1+0], r2",
+        "atomic_cmpxchg64 [r1+0], r2",
+    ),
+];
+
+/// Whether the atomic instruction at `[r1+0]` with R2 has this line.
+fn has_line(alloc: Global, op: AtomicOp, width: Width, line: &str) -> Result<bool, AllocError> {
+    let insn = Insn::Atomic {
+        op,
+        width,
+        dst: Register::R1,
+        offset: 0,
+        src: Register::R2,
+    };
+    let text = Statement::Insn(insn).to_string(alloc)?;
+    Ok(text.as_str() == line)
+}
+
+#[test]
+fn each_atomic_operation_has_its_lines(rt: HostRuntime) -> Result<(), Fail> {
+    for (op, half, whole) in ATOMIC_LINES {
+        assert!(rt; has_line(rt.alloc(), op, Width::W32, half)?);
+        assert!(rt; has_line(rt.alloc(), op, Width::W64, whole)?);
+    }
+    Ok(())
+}
 
 #[test]
 fn each_statement_has_its_line(rt: HostRuntime) -> Result<(), Fail> {

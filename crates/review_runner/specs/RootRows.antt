@@ -29,6 +29,8 @@ pub record RootRowsStand : Type 0 where
   pub no_documents : contents_given None None None ≡ holding (kind.null ∷ kind.null ∷ kind.null ∷ kind.null ∷ kind.null ∷ []) 5
   pub others : given (codes "{\"oldObject\":{},\"uid\":\"u1\"}") (Some (codes "{\"a\":null}")) (Some (codes "{}")) ≡ holding (kind.null ∷ kind.map kind.no_entries ∷ kind.map kind.no_entries ∷ kind.map (kind.entry (codes "a") kind.null kind.no_entries) ∷ with_uid ∷ []) 15
   pub fraction : given (codes "{\"uid\":\"u1\",\"object\":{\"spec\":{\"replicas\":1.5}}}") None None ≡ Err N2
+  pub number_as_old_object : given (codes "{\"uid\":\"u1\",\"oldObject\":1}") None None ≡ Err N2
+  pub fraction_in_request : given (codes "{\"uid\":\"u1\",\"x\":1.5}") None None ≡ Err N2
   pub number_as_params : given (codes "{\"uid\":\"u1\"}") None (Some (codes "1")) ≡ Err N3
   pub text_as_namespace : given (codes "{\"uid\":\"u1\"}") (Some (codes "\"a\"")) None ≡ Err N3
   pub no_json : given (codes "{\"uid\":\"u1\"}") (Some (codes "{")) None ≡ Err N3
