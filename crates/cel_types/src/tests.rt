@@ -32,7 +32,7 @@ const Y2: Answer = Err(TypeError::Y2);
 const Y3: Answer = Err(TypeError::Y3);
 
 /// Literals and names.
-const NAMES: [(&str, Answer); 24] = [
+const NAMES: [(&str, Answer); 31] = [
     ("null", NULL),
     ("true", BOOL),
     ("1", INT),
@@ -57,10 +57,17 @@ const NAMES: [(&str, Answer); 24] = [
     ("variables.x", Y3),
     ("variables['v']", Y3),
     ("has(variables.v)", Y3),
+    ("false", BOOL),
+    ("[x, variables]", Y1),
+    ("[variables, x]", Y3),
+    ("{x: variables}", Y1),
+    ("{variables: x}", Y3),
+    ("{'a': variables, x: 1}", Y3),
+    ("{1: 2, 'a': x}", Y1),
 ];
 
 /// Selections and indices.
-const SELECTIONS: [(&str, Answer); 20] = [
+const SELECTIONS: [(&str, Answer); 25] = [
     ("{}.f", DYN),
     ("object.f", DYN),
     ("[].f", Y2),
@@ -81,10 +88,15 @@ const SELECTIONS: [(&str, Answer); 20] = [
     ("'a'[0]", Y2),
     ("x[1 + 'a']", Y1),
     ("object[x]", Y1),
+    ("has([1].f)", Y2),
+    ("1[0]", Y2),
+    ("[][null]", Y2),
+    ("x[variables]", Y1),
+    ("variables[x]", Y3),
 ];
 
 /// Operators on ints, and sums.
-const ARITHMETIC: [(&str, Answer); 31] = [
+const ARITHMETIC: [(&str, Answer); 49] = [
     ("-(1)", INT),
     ("-object", INT),
     ("-'a'", Y2),
@@ -116,10 +128,28 @@ const ARITHMETIC: [(&str, Answer); 31] = [
     ("null % 2", Y2),
     ("x + (1 + 'a')", Y1),
     ("(1 + 'a') + x", Y2),
+    ("-true", Y2),
+    ("null - 1", Y2),
+    ("1 - null", Y2),
+    ("1 * 2", INT),
+    ("object * 1", INT),
+    ("object * params", INT),
+    ("'a' * 'a'", Y2),
+    ("[] * 2", Y2),
+    ("1 / 2", INT),
+    ("2 / object", INT),
+    ("object / params", INT),
+    ("'a' / 'a'", Y2),
+    ("2 / []", Y2),
+    ("1 % 2", INT),
+    ("object % 2", INT),
+    ("2 % object", INT),
+    ("'a' % 'a'", Y2),
+    ("2 % {}", Y2),
 ];
 
 /// Equality, order and membership.
-const RELATIONS: [(&str, Answer); 37] = [
+const RELATIONS: [(&str, Answer); 56] = [
     ("1 == 2", BOOL),
     ("'a' != 'b'", BOOL),
     ("true == false", BOOL),
@@ -157,10 +187,29 @@ const RELATIONS: [(&str, Answer); 37] = [
     ("variables == x", Y3),
     ("x in variables", Y1),
     ("1 in [x]", Y1),
+    ("'a' < 'b'", BOOL),
+    ("object < 1", BOOL),
+    ("'a' < object", BOOL),
+    ("object < true", BOOL),
+    ("1 <= 2", BOOL),
+    ("true <= false", BOOL),
+    ("1 > 2", BOOL),
+    ("'a' > 'b'", BOOL),
+    ("1 >= 2", BOOL),
+    ("'a' >= 'b'", BOOL),
+    ("true >= false", BOOL),
+    ("1 in object", BOOL),
+    ("object in params", BOOL),
+    ("'a' in [1]", BOOL),
+    ("true in [1]", BOOL),
+    ("null in []", BOOL),
+    ("[] in [1]", BOOL),
+    ("{} in [1]", BOOL),
+    ("1 in {}", Y2),
 ];
 
 /// Logic and conditionals.
-const LOGIC: [(&str, Answer); 27] = [
+const LOGIC: [(&str, Answer); 30] = [
     ("!true", BOOL),
     ("!object", BOOL),
     ("!1", Y2),
@@ -188,10 +237,13 @@ const LOGIC: [(&str, Answer); 27] = [
     ("x ? variables : 1 + 'a'", Y1),
     ("true ? variables : x", Y3),
     ("true ? 1 : 1 + 'a'", Y2),
+    ("true && 1", Y2),
+    ("1 || true", Y2),
+    ("object ? 1 : 'a'", Y2),
 ];
 
 /// Functions and methods.
-const FUNCTIONS: [(&str, Answer); 36] = [
+const FUNCTIONS: [(&str, Answer); 48] = [
     ("size('a')", INT),
     ("size([])", INT),
     ("size({})", INT),
@@ -228,10 +280,22 @@ const FUNCTIONS: [(&str, Answer); 36] = [
     ("'a'.startsWith('b', x)", Y1),
     ("x.f(variables)", Y1),
     ("object.has(variables)", Y3),
+    ("'a'.endsWith('b')", BOOL),
+    ("'a'.endsWith(object)", BOOL),
+    ("object.contains('b')", BOOL),
+    ("'a'.contains(1)", Y2),
+    ("'a'.dyn()", Y2),
+    ("object.dyn()", Y2),
+    ("object.string()", Y2),
+    ("startsWith('a')", Y2),
+    ("'a'.f('b')", Y2),
+    ("f(x, variables)", Y1),
+    ("f(variables, x)", Y3),
+    ("object.f(x, variables)", Y1),
 ];
 
 /// Macros over a range.
-const MACROS: [(&str, Answer); 28] = [
+const MACROS: [(&str, Answer); 38] = [
     ("[1].all(x, true)", BOOL),
     ("{}.all(x, x)", BOOL),
     ("object.all(x, x)", BOOL),
@@ -260,6 +324,16 @@ const MACROS: [(&str, Answer); 28] = [
     ("y.all(x, 1 + 'a')", Y1),
     ("[1].map(x, [2].all(y, x == y))", LIST),
     ("[1].map(x, [2].all(y, true), y)", Y1),
+    ("[1].all(x, x && x == 1)", BOOL),
+    ("'a'.all(x, true)", Y2),
+    ("object.exists(x, x)", BOOL),
+    ("[1].exists(x, 1)", Y2),
+    ("[1].exists_one(x, x == 1)", BOOL),
+    ("{}.exists_one(x, x)", BOOL),
+    ("1.exists_one(x, true)", Y2),
+    ("x.map(i, variables, 1)", Y1),
+    ("[1].map(i, x, variables)", Y1),
+    ("[1].map(i, variables, x)", Y3),
 ];
 
 /// The answer to the text's expression, where `variables.v` is an int and `variables.s` a text.
