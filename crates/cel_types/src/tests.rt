@@ -8,6 +8,8 @@ use std::alloc::Global;
 use std::process::Abort;
 use std::test::Fail;
 
+mod grids;
+
 /// What is answered to an expression.
 type Answer = Result<CelType, TypeError>;
 
@@ -67,7 +69,7 @@ const NAMES: [(&str, Answer); 31] = [
 ];
 
 /// Selections and indices.
-const SELECTIONS: [(&str, Answer); 25] = [
+const SELECTIONS: [(&str, Answer); 22] = [
     ("{}.f", DYN),
     ("object.f", DYN),
     ("[].f", Y2),
@@ -88,15 +90,12 @@ const SELECTIONS: [(&str, Answer); 25] = [
     ("'a'[0]", Y2),
     ("x[1 + 'a']", Y1),
     ("object[x]", Y1),
-    ("has([1].f)", Y2),
-    ("1[0]", Y2),
-    ("[][null]", Y2),
     ("x[variables]", Y1),
     ("variables[x]", Y3),
 ];
 
 /// Operators on ints, and sums.
-const ARITHMETIC: [(&str, Answer); 49] = [
+const ARITHMETIC: [(&str, Answer); 31] = [
     ("-(1)", INT),
     ("-object", INT),
     ("-'a'", Y2),
@@ -128,28 +127,10 @@ const ARITHMETIC: [(&str, Answer); 49] = [
     ("null % 2", Y2),
     ("x + (1 + 'a')", Y1),
     ("(1 + 'a') + x", Y2),
-    ("-true", Y2),
-    ("null - 1", Y2),
-    ("1 - null", Y2),
-    ("1 * 2", INT),
-    ("object * 1", INT),
-    ("object * params", INT),
-    ("'a' * 'a'", Y2),
-    ("[] * 2", Y2),
-    ("1 / 2", INT),
-    ("2 / object", INT),
-    ("object / params", INT),
-    ("'a' / 'a'", Y2),
-    ("2 / []", Y2),
-    ("1 % 2", INT),
-    ("object % 2", INT),
-    ("2 % object", INT),
-    ("'a' % 'a'", Y2),
-    ("2 % {}", Y2),
 ];
 
 /// Equality, order and membership.
-const RELATIONS: [(&str, Answer); 56] = [
+const RELATIONS: [(&str, Answer); 37] = [
     ("1 == 2", BOOL),
     ("'a' != 'b'", BOOL),
     ("true == false", BOOL),
@@ -187,29 +168,10 @@ const RELATIONS: [(&str, Answer); 56] = [
     ("variables == x", Y3),
     ("x in variables", Y1),
     ("1 in [x]", Y1),
-    ("'a' < 'b'", BOOL),
-    ("object < 1", BOOL),
-    ("'a' < object", BOOL),
-    ("object < true", BOOL),
-    ("1 <= 2", BOOL),
-    ("true <= false", BOOL),
-    ("1 > 2", BOOL),
-    ("'a' > 'b'", BOOL),
-    ("1 >= 2", BOOL),
-    ("'a' >= 'b'", BOOL),
-    ("true >= false", BOOL),
-    ("1 in object", BOOL),
-    ("object in params", BOOL),
-    ("'a' in [1]", BOOL),
-    ("true in [1]", BOOL),
-    ("null in []", BOOL),
-    ("[] in [1]", BOOL),
-    ("{} in [1]", BOOL),
-    ("1 in {}", Y2),
 ];
 
 /// Logic and conditionals.
-const LOGIC: [(&str, Answer); 30] = [
+const LOGIC: [(&str, Answer); 27] = [
     ("!true", BOOL),
     ("!object", BOOL),
     ("!1", Y2),
@@ -237,13 +199,10 @@ const LOGIC: [(&str, Answer); 30] = [
     ("x ? variables : 1 + 'a'", Y1),
     ("true ? variables : x", Y3),
     ("true ? 1 : 1 + 'a'", Y2),
-    ("true && 1", Y2),
-    ("1 || true", Y2),
-    ("object ? 1 : 'a'", Y2),
 ];
 
 /// Functions and methods.
-const FUNCTIONS: [(&str, Answer); 48] = [
+const FUNCTIONS: [(&str, Answer); 40] = [
     ("size('a')", INT),
     ("size([])", INT),
     ("size({})", INT),
@@ -280,14 +239,6 @@ const FUNCTIONS: [(&str, Answer); 48] = [
     ("'a'.startsWith('b', x)", Y1),
     ("x.f(variables)", Y1),
     ("object.has(variables)", Y3),
-    ("'a'.endsWith('b')", BOOL),
-    ("'a'.endsWith(object)", BOOL),
-    ("object.contains('b')", BOOL),
-    ("'a'.contains(1)", Y2),
-    ("'a'.dyn()", Y2),
-    ("object.dyn()", Y2),
-    ("object.string()", Y2),
-    ("startsWith('a')", Y2),
     ("'a'.f('b')", Y2),
     ("f(x, variables)", Y1),
     ("f(variables, x)", Y3),
@@ -295,7 +246,7 @@ const FUNCTIONS: [(&str, Answer); 48] = [
 ];
 
 /// Macros over a range.
-const MACROS: [(&str, Answer); 38] = [
+const MACROS: [(&str, Answer); 35] = [
     ("[1].all(x, true)", BOOL),
     ("{}.all(x, x)", BOOL),
     ("object.all(x, x)", BOOL),
@@ -325,12 +276,9 @@ const MACROS: [(&str, Answer); 38] = [
     ("[1].map(x, [2].all(y, x == y))", LIST),
     ("[1].map(x, [2].all(y, true), y)", Y1),
     ("[1].all(x, x && x == 1)", BOOL),
-    ("'a'.all(x, true)", Y2),
     ("object.exists(x, x)", BOOL),
-    ("[1].exists(x, 1)", Y2),
     ("[1].exists_one(x, x == 1)", BOOL),
     ("{}.exists_one(x, x)", BOOL),
-    ("1.exists_one(x, true)", Y2),
     ("x.map(i, variables, 1)", Y1),
     ("[1].map(i, x, variables)", Y1),
     ("[1].map(i, variables, x)", Y3),
