@@ -5,10 +5,11 @@ use cel_macros::{Core, expand};
 use cel_reader::read;
 use cel_types::{CelType, Scope};
 use std::alloc::Global;
+use std::process::Abort;
 use std::test::Fail;
 
 /// Texts, their nodes and their needs.
-const MEASURED: [(&str, u64, u64); 29] = [
+const MEASURED: [(&str, u64, u64); 38] = [
     ("1", 1, 1),
     ("variables.v", 1, 1),
     ("((object))", 1, 1),
@@ -38,10 +39,27 @@ const MEASURED: [(&str, u64, u64); 29] = [
     ("[1].map(x, true, x + 1)", 7, 7),
     ("[1].map(x, x) == [1]", 7, 6),
     ("[1] == [1].map(x, x)", 7, 7),
+    ("(1 + (1 + 1)).f", 6, 3),
+    ("has((1 + (1 + 1)).f)", 6, 3),
+    ("(1 + (1 + 1))[0]", 7, 3),
+    ("(1 + (1 + 1)).contains('c')", 7, 3),
+    ("true ? 1 + (1 + 1) : 1", 8, 3),
+    ("{1 + (1 + 1): 1}", 7, 4),
+    ("{'a': 1, 'b': 1 + 1}", 7, 4),
+    (
+        "(1 + (1 + (1 + (1 + (1 + (1 + (1 + 1))))))).all(x, true)",
+        17,
+        8,
+    ),
+    (
+        "(1 + (1 + (1 + (1 + (1 + (1 + (1 + 1))))))).map(x, true, x)",
+        18,
+        8,
+    ),
 ];
 
 /// Texts, and the depth of a variable with this expression, where `v` has depth 1 and `w` has 3.
-const DEPTHS: [(&str, u64); 12] = [
+const DEPTHS: [(&str, u64); 25] = [
     ("1", 1),
     ("object.v", 1),
     ("variables.v", 2),
@@ -54,6 +72,19 @@ const DEPTHS: [(&str, u64); 12] = [
     ("[1, variables.v, variables.w]", 4),
     ("{'a': variables.w, variables.v: 1}", 4),
     ("[1].map(x, variables.v == x, variables.w)", 4),
+    ("has(variables.w.f)", 4),
+    ("!variables.w", 4),
+    ("object[variables.w]", 4),
+    ("variables.w['a']", 4),
+    ("variables.w.size()", 4),
+    ("true ? variables.w : variables.v", 4),
+    ("true ? variables.v : variables.w", 4),
+    ("{variables.w: variables.v}", 4),
+    ("{'a': 1, 'b': variables.w}", 4),
+    ("variables.w.all(x, variables.v)", 4),
+    ("[1].all(x, variables.w)", 4),
+    ("variables.w.map(x, true, 1)", 4),
+    ("[1].map(x, variables.w, 1)", 4),
 ];
 
 /// The text's expression.
@@ -77,20 +108,30 @@ fn depth_of(alloc: Global, text: &str) -> Result<u64, Fail> {
     Ok(depth(&core, &scope))
 }
 
-#[test]
-fn counts_nodes_and_words(rt: HostRuntime) -> Result<(), Fail> {
-    for (text, nodes, need) in MEASURED {
-        assert_eq!(rt; measures(rt.alloc(), text)?, (nodes, need), "row {text}");
+/// Asserts these nodes and needs.
+fn assert_measures(rt: &impl Abort, alloc: Global, rows: &[(&str, u64, u64)]) -> Result<(), Fail> {
+    for (text, nodes, need) in rows {
+        assert_eq!(rt; measures(alloc, text)?, (*nodes, *need), "row {text}");
+    }
+    Ok(())
+}
+
+/// Asserts these depths.
+fn assert_depths(rt: &impl Abort, alloc: Global, rows: &[(&str, u64)]) -> Result<(), Fail> {
+    for (text, depth) in rows {
+        assert_eq!(rt; depth_of(alloc, text)?, *depth, "row {text}");
     }
     Ok(())
 }
 
 #[test]
+fn counts_nodes_and_words(rt: HostRuntime) -> Result<(), Fail> {
+    assert_measures(&rt, rt.alloc(), &MEASURED)
+}
+
+#[test]
 fn measures_depths(rt: HostRuntime) -> Result<(), Fail> {
-    for (text, depth) in DEPTHS {
-        assert_eq!(rt; depth_of(rt.alloc(), text)?, depth, "row {text}");
-    }
-    Ok(())
+    assert_depths(&rt, rt.alloc(), &DEPTHS)
 }
 
 #[test]

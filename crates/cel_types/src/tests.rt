@@ -8,6 +8,8 @@ use std::alloc::Global;
 use std::process::Abort;
 use std::test::Fail;
 
+mod grids;
+
 /// What is answered to an expression.
 type Answer = Result<CelType, TypeError>;
 
@@ -32,7 +34,7 @@ const Y2: Answer = Err(TypeError::Y2);
 const Y3: Answer = Err(TypeError::Y3);
 
 /// Literals and names.
-const NAMES: [(&str, Answer); 24] = [
+const NAMES: [(&str, Answer); 31] = [
     ("null", NULL),
     ("true", BOOL),
     ("1", INT),
@@ -57,10 +59,17 @@ const NAMES: [(&str, Answer); 24] = [
     ("variables.x", Y3),
     ("variables['v']", Y3),
     ("has(variables.v)", Y3),
+    ("false", BOOL),
+    ("[x, variables]", Y1),
+    ("[variables, x]", Y3),
+    ("{x: variables}", Y1),
+    ("{variables: x}", Y3),
+    ("{'a': variables, x: 1}", Y3),
+    ("{1: 2, 'a': x}", Y1),
 ];
 
 /// Selections and indices.
-const SELECTIONS: [(&str, Answer); 20] = [
+const SELECTIONS: [(&str, Answer); 22] = [
     ("{}.f", DYN),
     ("object.f", DYN),
     ("[].f", Y2),
@@ -81,6 +90,8 @@ const SELECTIONS: [(&str, Answer); 20] = [
     ("'a'[0]", Y2),
     ("x[1 + 'a']", Y1),
     ("object[x]", Y1),
+    ("x[variables]", Y1),
+    ("variables[x]", Y3),
 ];
 
 /// Operators on ints, and sums.
@@ -191,7 +202,7 @@ const LOGIC: [(&str, Answer); 27] = [
 ];
 
 /// Functions and methods.
-const FUNCTIONS: [(&str, Answer); 36] = [
+const FUNCTIONS: [(&str, Answer); 40] = [
     ("size('a')", INT),
     ("size([])", INT),
     ("size({})", INT),
@@ -228,10 +239,14 @@ const FUNCTIONS: [(&str, Answer); 36] = [
     ("'a'.startsWith('b', x)", Y1),
     ("x.f(variables)", Y1),
     ("object.has(variables)", Y3),
+    ("'a'.f('b')", Y2),
+    ("f(x, variables)", Y1),
+    ("f(variables, x)", Y3),
+    ("object.f(x, variables)", Y1),
 ];
 
 /// Macros over a range.
-const MACROS: [(&str, Answer); 28] = [
+const MACROS: [(&str, Answer); 35] = [
     ("[1].all(x, true)", BOOL),
     ("{}.all(x, x)", BOOL),
     ("object.all(x, x)", BOOL),
@@ -260,6 +275,13 @@ const MACROS: [(&str, Answer); 28] = [
     ("y.all(x, 1 + 'a')", Y1),
     ("[1].map(x, [2].all(y, x == y))", LIST),
     ("[1].map(x, [2].all(y, true), y)", Y1),
+    ("[1].all(x, x && x == 1)", BOOL),
+    ("object.exists(x, x)", BOOL),
+    ("[1].exists_one(x, x == 1)", BOOL),
+    ("{}.exists_one(x, x)", BOOL),
+    ("x.map(i, variables, 1)", Y1),
+    ("[1].map(i, x, variables)", Y1),
+    ("[1].map(i, variables, x)", Y3),
 ];
 
 /// The answer to the text's expression, where `variables.v` is an int and `variables.s` a text.

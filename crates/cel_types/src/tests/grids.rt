@@ -1,0 +1,310 @@
+//! Operands of every type in every place that the table of types has, worked by hand.
+
+use super::{Answer, BOOL, DYN, INT, LIST, MAP, NULL, STRING, Y2, answer};
+use std::alloc::Global;
+use std::process::Abort;
+use std::test::Fail;
+
+/// One operand of each type: Bool, Int, String, Null, List, Map, Dyn.
+const OPERANDS: [&str; 7] = ["true", "1", "'a'", "null", "[]", "{}", "object"];
+
+/// What is answered where the operand is of each type, in the order above.
+type Line = [Answer; 7];
+
+/// A line for each type of the first operand, with a column for each type of the second one.
+type Grid = [Line; 7];
+
+/// What stands before two operands, between them and behind them.
+type Form = (&'static str, &'static str, &'static str);
+
+/// Sums.
+const JOINED: Grid = [
+    [Y2, Y2, Y2, Y2, Y2, Y2, Y2],
+    [Y2, INT, Y2, Y2, Y2, Y2, INT],
+    [Y2, Y2, STRING, Y2, Y2, Y2, STRING],
+    [Y2, Y2, Y2, Y2, Y2, Y2, Y2],
+    [Y2, Y2, Y2, Y2, LIST, Y2, LIST],
+    [Y2, Y2, Y2, Y2, Y2, Y2, Y2],
+    [Y2, INT, STRING, Y2, LIST, Y2, DYN],
+];
+
+/// Differences, products, quotients and their rests.
+const COMPUTED: Grid = [
+    [Y2, Y2, Y2, Y2, Y2, Y2, Y2],
+    [Y2, INT, Y2, Y2, Y2, Y2, INT],
+    [Y2, Y2, Y2, Y2, Y2, Y2, Y2],
+    [Y2, Y2, Y2, Y2, Y2, Y2, Y2],
+    [Y2, Y2, Y2, Y2, Y2, Y2, Y2],
+    [Y2, Y2, Y2, Y2, Y2, Y2, Y2],
+    [Y2, INT, Y2, Y2, Y2, Y2, INT],
+];
+
+/// Equality.
+const EQUAL: Grid = [
+    [BOOL, Y2, Y2, Y2, Y2, Y2, BOOL],
+    [Y2, BOOL, Y2, Y2, Y2, Y2, BOOL],
+    [Y2, Y2, BOOL, Y2, Y2, Y2, BOOL],
+    [Y2, Y2, Y2, BOOL, Y2, Y2, BOOL],
+    [Y2, Y2, Y2, Y2, BOOL, Y2, BOOL],
+    [Y2, Y2, Y2, Y2, Y2, BOOL, BOOL],
+    [BOOL, BOOL, BOOL, BOOL, BOOL, BOOL, BOOL],
+];
+
+/// Order.
+const ORDERED: Grid = [
+    [BOOL, Y2, Y2, Y2, Y2, Y2, BOOL],
+    [Y2, BOOL, Y2, Y2, Y2, Y2, BOOL],
+    [Y2, Y2, BOOL, Y2, Y2, Y2, BOOL],
+    [Y2, Y2, Y2, Y2, Y2, Y2, Y2],
+    [Y2, Y2, Y2, Y2, Y2, Y2, Y2],
+    [Y2, Y2, Y2, Y2, Y2, Y2, Y2],
+    [BOOL, BOOL, BOOL, Y2, Y2, Y2, BOOL],
+];
+
+/// Membership.
+const MEMBERS: Grid = [
+    [Y2, Y2, Y2, Y2, BOOL, Y2, BOOL],
+    [Y2, Y2, Y2, Y2, BOOL, Y2, BOOL],
+    [Y2, Y2, Y2, Y2, BOOL, BOOL, BOOL],
+    [Y2, Y2, Y2, Y2, BOOL, Y2, BOOL],
+    [Y2, Y2, Y2, Y2, BOOL, Y2, BOOL],
+    [Y2, Y2, Y2, Y2, BOOL, Y2, BOOL],
+    [Y2, Y2, Y2, Y2, BOOL, BOOL, BOOL],
+];
+
+/// Logic.
+const JUDGED: Grid = [
+    [BOOL, Y2, Y2, Y2, Y2, Y2, BOOL],
+    [Y2, Y2, Y2, Y2, Y2, Y2, Y2],
+    [Y2, Y2, Y2, Y2, Y2, Y2, Y2],
+    [Y2, Y2, Y2, Y2, Y2, Y2, Y2],
+    [Y2, Y2, Y2, Y2, Y2, Y2, Y2],
+    [Y2, Y2, Y2, Y2, Y2, Y2, Y2],
+    [BOOL, Y2, Y2, Y2, Y2, Y2, BOOL],
+];
+
+/// Indices.
+const INDEXED: Grid = [
+    [Y2, Y2, Y2, Y2, Y2, Y2, Y2],
+    [Y2, Y2, Y2, Y2, Y2, Y2, Y2],
+    [Y2, Y2, Y2, Y2, Y2, Y2, Y2],
+    [Y2, Y2, Y2, Y2, Y2, Y2, Y2],
+    [Y2, DYN, Y2, Y2, Y2, Y2, DYN],
+    [Y2, Y2, DYN, Y2, Y2, Y2, DYN],
+    [Y2, DYN, DYN, Y2, Y2, Y2, DYN],
+];
+
+/// The branches of a conditional.
+const BRANCHES: Grid = [
+    [BOOL, Y2, Y2, Y2, Y2, Y2, DYN],
+    [Y2, INT, Y2, Y2, Y2, Y2, DYN],
+    [Y2, Y2, STRING, Y2, Y2, Y2, DYN],
+    [Y2, Y2, Y2, NULL, Y2, Y2, DYN],
+    [Y2, Y2, Y2, Y2, LIST, Y2, DYN],
+    [Y2, Y2, Y2, Y2, Y2, MAP, DYN],
+    [DYN, DYN, DYN, DYN, DYN, DYN, DYN],
+];
+
+/// Tests of texts.
+const TESTED: Grid = [
+    [Y2, Y2, Y2, Y2, Y2, Y2, Y2],
+    [Y2, Y2, Y2, Y2, Y2, Y2, Y2],
+    [Y2, Y2, BOOL, Y2, Y2, Y2, BOOL],
+    [Y2, Y2, Y2, Y2, Y2, Y2, Y2],
+    [Y2, Y2, Y2, Y2, Y2, Y2, Y2],
+    [Y2, Y2, Y2, Y2, Y2, Y2, Y2],
+    [Y2, Y2, BOOL, Y2, Y2, Y2, BOOL],
+];
+
+/// A range and a predicate of a macro that answers a truth.
+const QUANTIFIED: Grid = [
+    [Y2, Y2, Y2, Y2, Y2, Y2, Y2],
+    [Y2, Y2, Y2, Y2, Y2, Y2, Y2],
+    [Y2, Y2, Y2, Y2, Y2, Y2, Y2],
+    [Y2, Y2, Y2, Y2, Y2, Y2, Y2],
+    [BOOL, Y2, Y2, Y2, Y2, Y2, BOOL],
+    [BOOL, Y2, Y2, Y2, Y2, Y2, BOOL],
+    [BOOL, Y2, Y2, Y2, Y2, Y2, BOOL],
+];
+
+/// A range and a predicate of a macro that answers a list.
+const SELECTED: Grid = [
+    [Y2, Y2, Y2, Y2, Y2, Y2, Y2],
+    [Y2, Y2, Y2, Y2, Y2, Y2, Y2],
+    [Y2, Y2, Y2, Y2, Y2, Y2, Y2],
+    [Y2, Y2, Y2, Y2, Y2, Y2, Y2],
+    [LIST, Y2, Y2, Y2, Y2, Y2, LIST],
+    [LIST, Y2, Y2, Y2, Y2, Y2, LIST],
+    [LIST, Y2, Y2, Y2, Y2, Y2, LIST],
+];
+
+/// A range and a transform.
+const MAPPED: Grid = [
+    [Y2, Y2, Y2, Y2, Y2, Y2, Y2],
+    [Y2, Y2, Y2, Y2, Y2, Y2, Y2],
+    [Y2, Y2, Y2, Y2, Y2, Y2, Y2],
+    [Y2, Y2, Y2, Y2, Y2, Y2, Y2],
+    [LIST, LIST, LIST, LIST, LIST, LIST, LIST],
+    [LIST, LIST, LIST, LIST, LIST, LIST, LIST],
+    [LIST, LIST, LIST, LIST, LIST, LIST, LIST],
+];
+
+/// A key and its value.
+const PAIRED: Grid = [
+    [Y2, Y2, Y2, Y2, Y2, Y2, Y2],
+    [Y2, Y2, Y2, Y2, Y2, Y2, Y2],
+    [MAP, MAP, MAP, MAP, MAP, MAP, MAP],
+    [Y2, Y2, Y2, Y2, Y2, Y2, Y2],
+    [Y2, Y2, Y2, Y2, Y2, Y2, Y2],
+    [Y2, Y2, Y2, Y2, Y2, Y2, Y2],
+    [MAP, MAP, MAP, MAP, MAP, MAP, MAP],
+];
+
+/// The forms of one operand.
+const SINGLES: [(&str, &str, Line); 13] = [
+    ("!", "", [BOOL, Y2, Y2, Y2, Y2, Y2, BOOL]),
+    ("-(", ")", [Y2, INT, Y2, Y2, Y2, Y2, INT]),
+    ("", ".f", [Y2, Y2, Y2, Y2, Y2, DYN, DYN]),
+    ("has(", ".f)", [Y2, Y2, Y2, Y2, Y2, BOOL, BOOL]),
+    ("size(", ")", [Y2, Y2, INT, Y2, INT, INT, INT]),
+    ("", ".size()", [Y2, Y2, INT, Y2, INT, INT, INT]),
+    ("string(", ")", [Y2, STRING, STRING, Y2, Y2, Y2, STRING]),
+    ("dyn(", ")", [DYN, DYN, DYN, DYN, DYN, DYN, DYN]),
+    ("", " ? 1 : 2", [INT, Y2, Y2, Y2, Y2, Y2, INT]),
+    ("", ".string()", [Y2, Y2, Y2, Y2, Y2, Y2, Y2]),
+    ("", ".dyn()", [Y2, Y2, Y2, Y2, Y2, Y2, Y2]),
+    ("contains(", ")", [Y2, Y2, Y2, Y2, Y2, Y2, Y2]),
+    ("f(", ")", [Y2, Y2, Y2, Y2, Y2, Y2, Y2]),
+];
+
+/// Asserts what the form answers behind this operand.
+fn assert_line(
+    rt: &impl Abort,
+    alloc: Global,
+    form: Form,
+    first: &str,
+    line: Line,
+) -> Result<(), Fail> {
+    let (front, middle, back) = form;
+    for (second, wanted) in OPERANDS.into_iter().zip(line) {
+        let text = format!(in alloc; "{front}{first}{middle}{second}{back}")?;
+        assert_eq!(rt; answer(alloc, text.as_str())?, wanted, "row {text}");
+    }
+    Ok(())
+}
+
+/// Asserts what the form answers to all pairs of operands.
+fn assert_grid(rt: &impl Abort, alloc: Global, form: Form, grid: Grid) -> Result<(), Fail> {
+    for (first, line) in OPERANDS.into_iter().zip(grid) {
+        assert_line(rt, alloc, form, first, line)?;
+    }
+    Ok(())
+}
+
+/// Asserts what each of these forms answers to all pairs of operands.
+fn assert_grids(rt: &impl Abort, alloc: Global, forms: &[Form], grid: Grid) -> Result<(), Fail> {
+    for form in forms {
+        assert_grid(rt, alloc, *form, grid)?;
+    }
+    Ok(())
+}
+
+#[test]
+fn types_of_single_operands(rt: HostRuntime) -> Result<(), Fail> {
+    for (front, back, line) in SINGLES {
+        assert_line(&rt, rt.alloc(), (front, "", back), "", line)?;
+    }
+    Ok(())
+}
+
+#[test]
+fn types_of_arithmetic(rt: HostRuntime) -> Result<(), Fail> {
+    let computing = [
+        ("", " - ", ""),
+        ("", " * ", ""),
+        ("", " / ", ""),
+        ("", " % ", ""),
+    ];
+    assert_grid(&rt, rt.alloc(), ("", " + ", ""), JOINED)?;
+    assert_grids(&rt, rt.alloc(), &computing, COMPUTED)
+}
+
+#[test]
+fn types_of_equality(rt: HostRuntime) -> Result<(), Fail> {
+    assert_grids(
+        &rt,
+        rt.alloc(),
+        &[("", " == ", ""), ("", " != ", "")],
+        EQUAL,
+    )
+}
+
+#[test]
+fn types_of_order(rt: HostRuntime) -> Result<(), Fail> {
+    let orders = [
+        ("", " < ", ""),
+        ("", " <= ", ""),
+        ("", " > ", ""),
+        ("", " >= ", ""),
+    ];
+    assert_grids(&rt, rt.alloc(), &orders, ORDERED)
+}
+
+#[test]
+fn types_of_parts(rt: HostRuntime) -> Result<(), Fail> {
+    assert_grid(&rt, rt.alloc(), ("", " in ", ""), MEMBERS)?;
+    assert_grid(&rt, rt.alloc(), ("", "[", "]"), INDEXED)?;
+    assert_grid(&rt, rt.alloc(), ("{", ": ", "}"), PAIRED)
+}
+
+#[test]
+fn types_of_truths(rt: HostRuntime) -> Result<(), Fail> {
+    assert_grids(
+        &rt,
+        rt.alloc(),
+        &[("", " && ", ""), ("", " || ", "")],
+        JUDGED,
+    )?;
+    assert_grids(
+        &rt,
+        rt.alloc(),
+        &[("true ? ", " : ", ""), ("object ? ", " : ", "")],
+        BRANCHES,
+    )
+}
+
+#[test]
+fn types_of_text_tests(rt: HostRuntime) -> Result<(), Fail> {
+    let tests = [
+        ("", ".startsWith(", ")"),
+        ("", ".endsWith(", ")"),
+        ("", ".contains(", ")"),
+    ];
+    assert_grids(&rt, rt.alloc(), &tests, TESTED)
+}
+
+#[test]
+fn types_of_quantifiers(rt: HostRuntime) -> Result<(), Fail> {
+    let tests = [
+        ("", ".all(x, ", ")"),
+        ("", ".exists(x, ", ")"),
+        ("", ".exists_one(x, ", ")"),
+    ];
+    assert_grids(&rt, rt.alloc(), &tests, QUANTIFIED)
+}
+
+#[test]
+fn types_of_mapping(rt: HostRuntime) -> Result<(), Fail> {
+    assert_grids(
+        &rt,
+        rt.alloc(),
+        &[("", ".filter(x, ", ")"), ("", ".map(x, ", ", 1)")],
+        SELECTED,
+    )?;
+    assert_grids(
+        &rt,
+        rt.alloc(),
+        &[("", ".map(x, ", ")"), ("", ".map(x, true, ", ")")],
+        MAPPED,
+    )
+}
