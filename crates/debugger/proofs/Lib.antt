@@ -12,4 +12,5 @@ mod Slots
 mod Lines
 mod Order
 mod Shown
+mod MemoryLines
 mod Sizes

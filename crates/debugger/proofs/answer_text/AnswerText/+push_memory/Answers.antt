@@ -1,5 +1,5 @@
 use Rattle.std.proofs.Common.{arith, refl, rules}
-use Rattle.debugger.proofs.Shown.{lines_first, lines_none, lines_one, some_bytes}
+use Rattle.debugger.proofs.MemoryLines.{lines_first, lines_none, lines_one, some_bytes}
 use Rattle.debugger.proofs.answer_text.AnswerText.+push_memory.Goals as goal
 
 pub returns-then-is_empty : goal.returns-then-is_empty

@@ -1,0 +1,77 @@
+-- The lines that bytes of memory are shown in.
+use Rattle.std.proofs.Common.{◌≡◌, ℕ, zero, suc, ◌+◌, ◌-◌, ◌*◌, ◌/◌, ◌%◌, ◌^◌, ◌<◌, ◌≤◌, List, [], ◌∷◌, ◌++◌, length, take, drop, refl, sym, ap, ◌∙◌, append_assoc, append-nil, arith, inl, inr, length-drop}
+use Rattle.std.specs.Prelude.{codes}
+use Rattle.std.proofs.Math.Nat.{pow-suc}
+use Rattle.std.proofs.lemmas.Bool.{cases_lt}
+use Rattle.std.proofs.lemmas.List.{take_all}
+use Rattle.insn_codec.specs.Lines.{hex_digit, hex_digits}
+use Rattle.debugger.specs.Inspection.{digits_of_bytes, memory_line, memory_lines}
+
+wrapped_digits : (k x : ℕ) → hex_digits k (x + 16 ^ k) ≡ hex_digits k x
+unfolding hex_digits
+wrapped_digits zero x = refl
+wrapped_digits (suc k) x =
+    let power : 16 ^ suc k ≡ 16 ^ k * 16 = pow-suc 16 k in
+    let front : (x + 16 ^ suc k) / 16 ≡ x / 16 + 16 ^ k = omega (arith, power) in
+    let last : (x + 16 ^ suc k) % 16 ≡ x % 16 = omega (arith, power) in
+    let digits : hex_digits k ((x + 16 ^ suc k) / 16) ≡ hex_digits k (x / 16) = ap (hex_digits k) front ∙ wrapped_digits k (x / 16) in
+    λ i. digits i ++ hex_digit (last i) ∷ []
+
+wrapped_line : (a b : ℕ) (bytes : List ℕ) → a ≡ b + 2 ^ 64 → memory_line a bytes ≡ memory_line b bytes
+unfolding memory_line
+wrapped_line a b bytes is =
+    let word : 16 ^ 16 ≡ 2 ^ 64 = refl in
+    let sum : a ≡ b + 16 ^ 16 = omega (arith, is, word) in
+    ap (λ (t : List ℕ). (codes "0x" ++ t) ++ (digits_of_bytes bytes ++ 10 ∷ [])) (ap (hex_digits 16) sum ∙ wrapped_digits 16 b)
+
+-- an address is shown in 64 bits
+wrapped_lines : (count a b : ℕ) (bytes : List ℕ) → a ≡ b + 2 ^ 64 → memory_lines count a bytes ≡ memory_lines count b bytes
+unfolding memory_lines
+wrapped_lines zero a b bytes is = refl
+wrapped_lines (suc count) a b [] is = refl
+wrapped_lines (suc count) a b (c ∷ cs) is =
+    let next : a + 16 ≡ b + 16 + 2 ^ 64 = omega (arith, is) in
+    let first = wrapped_line a b (take 16 (c ∷ cs)) is in
+    let rest = wrapped_lines count (a + 16) (b + 16) (drop 16 (c ∷ cs)) next in
+    λ i. first i ++ rest i
+
+next_lines : (count a b : ℕ) (bytes : List ℕ) → b ≡ (a + 16) % 2 ^ 64 → a < 2 ^ 64 → memory_lines count (a + 16) bytes ≡ memory_lines count b bytes
+next_lines count a b bytes is fits =
+    elim (cases_lt (2 ^ 64 - 1) (a + 16)) [
+      | inl large ↦ wrapped_lines count (a + 16) b bytes (omega (arith, is, fits, large))
+      | inr small ↦ let same : a + 16 ≡ b = omega (arith, is, small) in ap (λ (k : ℕ). memory_lines count k bytes) same
+    ]
+
+pub lines_none : (count a : ℕ) (old bytes : List ℕ) → length bytes ≡ 0 → old ≡ old ++ memory_lines count a bytes
+unfolding memory_lines
+lines_none zero a old bytes none = sym (append-nil old)
+lines_none (suc count) a old [] none = sym (append-nil old)
+lines_none (suc count) a old (b ∷ bs) none = absurd (omega (arith, none))
+
+pub some_bytes : (bytes : List ℕ) → (length bytes ≡ 0 → ⊥) → 0 < length bytes
+some_bytes bytes some = omega (arith, some)
+
+-- one line
+pub lines_one : (count a : ℕ) (old new bytes : List ℕ) → 0 < length bytes → length bytes ≤ 16 → length bytes ≤ 16 * count → new ≡ old ++ memory_line a bytes → new ≡ old ++ memory_lines count a bytes
+unfolding memory_lines
+lines_one zero a old new bytes some few enough is = absurd (omega (arith, some, enough))
+lines_one (suc count) a old new [] some few enough is = absurd (omega (arith, some))
+lines_one (suc count) a old new (b ∷ bs) some few enough is =
+    let whole : take 16 (b ∷ bs) ≡ b ∷ bs = take_all 16 (b ∷ bs) few in
+    let none : length (drop 16 (b ∷ bs)) ≡ 0 = omega (arith, length-drop 16 (b ∷ bs), few) in
+    is ∙ ap (λ (t : List ℕ). old ++ t) (lines_none count (a + 16) (memory_line a (b ∷ bs)) (drop 16 (b ∷ bs)) none ∙ ap (λ (t : List ℕ). memory_line a t ++ memory_lines count (a + 16) (drop 16 (b ∷ bs))) (sym whole))
+
+-- a line, and those after it
+pub lines_first : (count a next : ℕ) (old mid new bytes front rest : List ℕ) → 16 < length bytes → length bytes ≤ 16 * count → a < 2 ^ 64 → next ≡ (a + 16) % 2 ^ 64
+    → front ≡ take 16 bytes → rest ≡ drop 16 bytes → mid ≡ old ++ memory_line a front
+    → ((k : ℕ) → length rest ≤ 16 * k → new ≡ mid ++ memory_lines k next rest) → new ≡ old ++ memory_lines count a bytes
+unfolding memory_lines
+lines_first zero a next old mid new bytes front rest many enough fits wraps first left one more = absurd (omega (arith, many, enough))
+lines_first (suc count) a next old mid new [] front rest many enough fits wraps first left one more = absurd (omega (arith, many))
+lines_first (suc count) a next old mid new (b ∷ bs) front rest many enough fits wraps first left one more =
+    let few : length rest ≤ 16 * count = omega (arith, ap length left, length-drop 16 (b ∷ bs), enough) in
+    more count few
+    ∙ ap (λ (t : List ℕ). t ++ memory_lines count next rest) one
+    ∙ append_assoc old (memory_line a front) (memory_lines count next rest)
+    ∙ ap (λ (t : List ℕ). old ++ (memory_line a front ++ t)) (sym (next_lines count a next rest wraps fits))
+    ∙ (λ i. old ++ (memory_line a (first i) ++ memory_lines count (a + 16) (left i)))
