@@ -14,3 +14,4 @@ mod Order
 mod Shown
 mod MemoryLines
 mod Sizes
+mod VerdictWords

@@ -9,7 +9,7 @@ use Rattle.debugger.specs.Breakpoints.{with_breakpoint, without_breakpoint}
 use Rattle.debugger.specs.Commands.{command_of, is_quit}
 use Rattle.debugger.specs.Session.{has_quit}
 use Rattle.debugger.specs.declared.command.Command.{Command}
-use Rattle.debugger.specs.declared.command.Command.TheVariants.{SetBreakpoint, ClearBreakpoint, Forward, Back, Go, Continue, ReverseContinue, Registers, ValueAt, MemoryAt, Frames, Listing, Quit, Unknown}
+use Rattle.debugger.specs.declared.command.Command.TheVariants.{SetBreakpoint, ClearBreakpoint, Forward, Back, Go, Continue, ReverseContinue, Registers, ValueAt, MemoryAt, Frames, Listing, Verdict, Quit, Unknown}
 
 -- what holds on both sides of a test
 pub either : {A : Type 0} (P : A → Type 0) (b : Bool) (x y : A) → P x → P y → P (if b then x else y)
@@ -34,6 +34,7 @@ answer_of-ended s w (ValueAt h) on = on
 answer_of-ended s w (MemoryAt address n) on = on
 answer_of-ended s w Frames on = on
 answer_of-ended s w Listing on = on
+answer_of-ended s w Verdict on = on
 answer_of-ended s w Quit on = refl
 answer_of-ended s w Unknown on = on
 
@@ -52,6 +53,7 @@ quit_granted s w (ValueAt h) may = refl
 quit_granted s w (MemoryAt address n) may = refl
 quit_granted s w Frames may = refl
 quit_granted s w Listing may = refl
+quit_granted s w Verdict may = refl
 quit_granted s w Quit may = cc
 quit_granted s w Unknown may = refl
 

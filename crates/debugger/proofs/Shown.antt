@@ -48,7 +48,7 @@ place_none : (base len address n : ℕ) → base + len < address + n → place_o
 place_none base len address n high = rw (behind base len address n high) refl
 
 -- n bytes that stand in a region stand in no other
-region_here : (r : Region) (m : Memory) (address n : ℕ) → HasRegions m → 0 < n → StandsIn r m address n → region_of m address n ≡ Some (r, address - base_of r)
+pub region_here : (r : Region) (m : Memory) (address n : ℕ) → HasRegions m → 0 < n → StandsIn r m address n → region_of m address n ≡ Some (r, address - base_of r)
 region_here Stack m address n is some s = rw (place_here (base_of Stack) (length m.stack) address n s.low s.high) refl
 region_here Scratch m address n is some s =
     let low = s.low in

@@ -1,7 +1,9 @@
 -- Answers are whole lines.
 use Rattle.std.proofs.Common.{◌≡◌, ℕ, zero, suc, ◌+◌, ℤ, pos, negsuc, List, [], ◌∷◌, ◌++◌, decimal, length, take, drop, Option, Some, None, refl, sym, ap, subst, ◌∙◌, append_assoc, codes}
 use Rattle.std.specs.Fmt.{signed_decimal}
-use Rattle.std.specs.Prelude.{nat_lt, slice_index}
+use Rattle.std.specs.Prelude.{◌*◌, nat_eq, nat_lt, slice_index}
+use Rattle.guest_memory.specs.Memory.{Memory}
+use Rattle.loader.specs.Contents.{version_number}
 use Rattle.insn_codec.specs.Statements.{statement_slots, statement_text}
 use Rattle.bpf_machine.specs.Decoding.{slot_count}
 use Rattle.bpf_machine.specs.State.{State}
@@ -18,9 +20,10 @@ use Rattle.value_store.specs.Value.{ValueOrError}
 use Rattle.debugger.specs.Inspection.{digits_of_bytes, frame_line, frame_lines, frames_text, memory_line, memory_lines, memory_text, saved_text, shown_bytes, value_at, value_line, value_text}
 use Rattle.debugger.specs.Listing.{is_inside, listing_at, listing_line, listing_lines, outside_line, statement_at}
 use Rattle.debugger.specs.Rows.{AnswersInLines}
+use Rattle.debugger.specs.Verdict.{message_lines, verdict_line, verdict_lines, verdict_word, word_line, word_lines}
 use Rattle.debugger.specs.Session.{cut}
 use Rattle.debugger.specs.declared.command.Command.{Command}
-use Rattle.debugger.specs.declared.command.Command.TheVariants.{SetBreakpoint, ClearBreakpoint, Forward, Back, Go, Continue, ReverseContinue, Registers, ValueAt, MemoryAt, Frames, Listing, Quit, Unknown}
+use Rattle.debugger.specs.declared.command.Command.TheVariants.{SetBreakpoint, ClearBreakpoint, Forward, Back, Go, Continue, ReverseContinue, Registers, ValueAt, MemoryAt, Frames, Listing, Verdict, Quit, Unknown}
 use Rattle.debugger.proofs.Cut.{Whole, whole-append, whole-feed}
 use Rattle.debugger.proofs.Quit.{either}
 
@@ -135,6 +138,27 @@ unfolding frames_text
 frames_whole records = subst Whole (append_assoc (codes "depth ") (decimal (length records) ++ 10 ∷ []) (frame_lines records) ∙ ap (λ (t : List ℕ). codes "depth " ++ t) (append_assoc (decimal (length records)) (10 ∷ []) (frame_lines records)))
     (whole-append (codes "depth " ++ (decimal (length records) ++ 10 ∷ [])) (frame_lines records) (depth_whole (length records)) (frame_lines-whole records))
 
+word_whole : (name : List ℕ) (i word : ℕ) → Whole (word_line name i word)
+unfolding word_line
+word_whole name i word =
+    either Whole (nat_eq word 0) [] (name ++ (codes " " ++ (decimal i ++ (codes " " ++ (decimal word ++ 10 ∷ []))))) none_whole
+    (fed_whole (name ++ (codes " " ++ (decimal i ++ (codes " " ++ (decimal word ++ 10 ∷ []))))) (behind name _ (behind (codes " ") _ (behind (decimal i) _ (behind (codes " ") _ (behind (decimal word) _ feed))))))
+
+words_whole : (name : List ℕ) (m : Memory) (from count : ℕ) → Whole (word_lines name m from count)
+unfolding word_lines
+words_whole name m from zero = none_whole
+words_whole name m from (suc i) = whole-append (word_lines name m from i) (word_line name i (verdict_word m (from + 8 * i))) (words_whole name m from i) (word_whole name i (verdict_word m (from + 8 * i)))
+
+outcome_whole : (m : Memory) → Whole (verdict_line m)
+unfolding verdict_line
+outcome_whole m = fed_whole (codes "verdict " ++ (decimal (verdict_word m 0) ++ (codes " " ++ (decimal (verdict_word m 8) ++ 10 ∷ [])))) (behind (codes "verdict ") _ (behind (decimal (verdict_word m 0)) _ (behind (codes " ") _ (behind (decimal (verdict_word m 8)) _ feed))))
+
+verdict_whole : (version : ℕ) (m : Memory) → Whole (verdict_lines version m)
+unfolding verdict_lines
+verdict_whole version m =
+    whole-append (verdict_line m) _ (outcome_whole m) (whole-append (word_lines (codes "validation") m 16 64) (message_lines version m) (words_whole (codes "validation") m 16 64)
+    (either Whole (nat_eq version 2) (word_lines (codes "message") m 528 64) [] (words_whole (codes "message") m 528 64) none_whole))
+
 abbrev Lined : Answer → Type 0
 Lined a = Whole a.text
 
@@ -155,6 +179,7 @@ answer_of-whole s w (ValueAt h) = stored_whole h (value_at (state_after w.place 
 answer_of-whole s w (MemoryAt address n) = bytes_whole address (shown_bytes (state_after w.place s).memory address n)
 answer_of-whole s w Frames = frames_whole (state_after w.place s).records
 answer_of-whole s w Listing = at_whole (state_after w.place s).image.code (state_after w.place s).pc
+answer_of-whole s w Verdict = verdict_whole (version_number (state_after w.place s).image.version) (state_after w.place s).memory
 answer_of-whole s w Quit = none_whole
 answer_of-whole s w Unknown = what_whole
 

@@ -12,7 +12,7 @@ use Rattle.debugger.specs.Commands.{begins_with, command_of, form_of, hex_value,
 use Rattle.debugger.proofs.Addresses.{address_ended, address_read, below_digit, digit_is, hex_digits-more}
 use Rattle.debugger.specs.CommandLines.{Asks, CommandsHaveLines, IsLine, IsNumbered}
 use Rattle.debugger.specs.declared.command.Command.{Command}
-use Rattle.debugger.specs.declared.command.Command.TheVariants.{SetBreakpoint, ClearBreakpoint, Forward, Back, Go, Continue, ReverseContinue, Registers, ValueAt, MemoryAt, Frames, Listing, Quit, Unknown}
+use Rattle.debugger.specs.declared.command.Command.TheVariants.{SetBreakpoint, ClearBreakpoint, Forward, Back, Go, Continue, ReverseContinue, Registers, ValueAt, MemoryAt, Frames, Listing, Verdict, Quit, Unknown}
 
 -- a number and one more digit
 decimal-more : (m c : ℕ) → 0 < m → m * 10 + (c - 48) < 10 ^ 64 → is_digit c ≡ true → decimal (m * 10 + (c - 48)) ≡ decimal m ++ c ∷ []
@@ -172,6 +172,7 @@ is_unknown (ValueAt h) = inr (λ e. cc)
 is_unknown (MemoryAt address n) = inr (λ e. cc)
 is_unknown Frames = inr (λ e. cc)
 is_unknown Listing = inr (λ e. cc)
+is_unknown Verdict = inr (λ e. cc)
 is_unknown Quit = inr (λ e. cc)
 is_unknown Unknown = inl refl
 
@@ -271,7 +272,8 @@ form_found line short =
     (by_test line _ _ _ (found_word line (codes "rc") ReverseContinue (λ is. is))
     (by_test line _ _ _ (found_word line (codes "l") Listing (λ is. is))
     (by_test line _ _ _ (found_word line (codes "f") Frames (λ is. is))
-    (numbered_found line short)))))
+    (by_test line _ _ _ (found_word line (codes "w") Verdict (λ is. is))
+    (numbered_found line short))))))
 
 short_by : (line : List ℕ) (b : Bool) → nat_le (length line) 64 ≡ b → (if b then form_of line else Unknown) ≢ Unknown → Asks line (if b then form_of line else Unknown)
 unfolding Found
@@ -304,6 +306,7 @@ reads_form (MemoryAt address n) line l =
     ∙ ap (numbered (MemoryAt address)) (number_read n l.number_fits)
 reads_form Frames line l = ap form_of l
 reads_form Listing line l = ap form_of l
+reads_form Verdict line l = ap form_of l
 reads_form Quit line l = ap form_of l
 reads_form Unknown line l = absurd l
 

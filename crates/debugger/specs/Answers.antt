@@ -8,8 +8,9 @@ use Rattle.debugger.specs.Breakpoints.{has_breakpoint, with_breakpoint, without_
 use Rattle.debugger.specs.Commands.{command_of}
 use Rattle.debugger.specs.Inspection.{frames_text, memory_text, shown_bytes, value_at, value_text}
 use Rattle.debugger.specs.Listing.{is_inside, listing_text}
+use Rattle.debugger.specs.Verdict.{verdict_text}
 use Rattle.debugger.specs.declared.command.Command.{Command}
-use Rattle.debugger.specs.declared.command.Command.TheVariants.{SetBreakpoint, ClearBreakpoint, Forward, Back, Go, Continue, ReverseContinue, Registers, ValueAt, MemoryAt, Frames, Listing, Quit, Unknown}
+use Rattle.debugger.specs.declared.command.Command.TheVariants.{SetBreakpoint, ClearBreakpoint, Forward, Back, Go, Continue, ReverseContinue, Registers, ValueAt, MemoryAt, Frames, Listing, Verdict, Quit, Unknown}
 
 -- what a session knows between two lines: the step that is shown, the slots with a breakpoint, and whether it has ended
 pub record World : Type 0 where
@@ -74,10 +75,11 @@ answer_of s w (ValueAt h) = says w (value_text h (value_at (state_after w.place 
 answer_of s w (MemoryAt address n) = says w (memory_text address (shown_bytes (state_after w.place s).memory address n))
 answer_of s w Frames = says w (frames_text (state_after w.place s).records)
 answer_of s w Listing = says w (listing_text (state_after w.place s))
+answer_of s w Verdict = says w (verdict_text (state_after w.place s))
 answer_of s w Quit = record { next = record w { ended = true }; text = [] }
 answer_of s w Unknown = says w (codes "? what\n")
 
--- whether a command may need memory that is refused: a breakpoint that is new, a move that is in range, a value, and a listing of code
+-- whether a command may need memory that is refused: a breakpoint that is new, a move that is in range, a value, a listing of code, and a verdict
 unfoldable pub may_be_refused : State → World → Command → Bool
 may_be_refused s w (SetBreakpoint n) = is_slot n && not (has_breakpoint n w.breakpoints)
 may_be_refused s w (ClearBreakpoint n) = false
@@ -91,6 +93,7 @@ may_be_refused s w (ValueAt h) = is_some (value_at (state_after w.place s) h)
 may_be_refused s w (MemoryAt address n) = false
 may_be_refused s w Frames = false
 may_be_refused s w Listing = is_inside (state_after w.place s).image.code (state_after w.place s).pc
+may_be_refused s w Verdict = true
 may_be_refused s w Quit = false
 may_be_refused s w Unknown = false
 

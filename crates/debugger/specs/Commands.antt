@@ -3,7 +3,7 @@ use Rattle.std.specs.Prelude.{ℕ, suc, ◌+◌, ◌-◌, ◌*◌, ◌^◌, ◌<
 use Rattle.std.specs.Str.{bytes_eq}
 use Rattle.bpf_machine.specs.State.{State}
 use Rattle.debugger.specs.declared.command.Command.{Command}
-use Rattle.debugger.specs.declared.command.Command.TheVariants.{SetBreakpoint, ClearBreakpoint, Forward, Back, Go, Continue, ReverseContinue, Registers, ValueAt, MemoryAt, Frames, Listing, Quit, Unknown}
+use Rattle.debugger.specs.declared.command.Command.TheVariants.{SetBreakpoint, ClearBreakpoint, Forward, Back, Go, Continue, ReverseContinue, Registers, ValueAt, MemoryAt, Frames, Listing, Verdict, Quit, Unknown}
 
 abbrev pub is_digit : ℕ → Bool
 is_digit c = nat_le 48 c && nat_le c 57
@@ -78,7 +78,8 @@ form_of line =
     else (if bytes_eq line (codes "rc") then ReverseContinue
     else (if bytes_eq line (codes "l") then Listing
     else (if bytes_eq line (codes "f") then Frames
-    else numbered_form_of line))))
+    else (if bytes_eq line (codes "w") then Verdict
+    else numbered_form_of line)))))
 
 -- a line's command: a line of more than 64 bytes has no form
 unfoldable pub command_of : List ℕ → Command
@@ -109,6 +110,7 @@ capped_command (ValueAt h) = ValueAt (capped h)
 capped_command (MemoryAt address n) = MemoryAt address (capped n)
 capped_command Frames = Frames
 capped_command Listing = Listing
+capped_command Verdict = Verdict
 capped_command Quit = Quit
 capped_command Unknown = Unknown
 

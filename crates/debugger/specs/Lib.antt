@@ -5,6 +5,7 @@ pub mod CommandLines
 pub mod Breakpoints
 pub mod Listing
 pub mod Inspection
+pub mod Verdict
 pub mod Answers
 pub mod Session
 pub mod Replies

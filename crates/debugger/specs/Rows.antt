@@ -1,7 +1,9 @@
 -- Sessions written out by hand.
 use Rattle.std.specs.Prelude.{◌≡◌, ℕ, true, false, List, [], ◌∷◌, ◌++◌, codes, map, replicate}
-use Rattle.bpf_machine.specs.State.{State}
+use Rattle.bpf_machine.specs.State.{State, null_values, start_state}
 use Rattle.bpf_machine.specs.Rows.{start_of}
+use Rattle.loader.specs.declared.version.Version.{Version}
+use Rattle.loader.specs.declared.version.Version.TheVariants.{First, Second}
 use Rattle.debugger.specs.Answers.{Line, World, answer_to}
 use Rattle.debugger.specs.Breakpoints.{in_order}
 use Rattle.debugger.specs.Commands.{command_of}
@@ -33,6 +35,10 @@ exit_slot = 0x95 ∷ 0 ∷ 0 ∷ 0 ∷ 0 ∷ 0 ∷ 0 ∷ 0 ∷ []
 abbrev pub nine_exits : State
 nine_exits = start_of (exit_slot ++ (exit_slot ++ (exit_slot ++ (exit_slot ++ (exit_slot ++ (exit_slot ++ (exit_slot ++ (exit_slot ++ exit_slot))))))))
 
+-- r1 = 0x300000000; the words at 0, 8 and 16 become 3, 1 and 1, the byte at 17 becomes 1, the words at 520, 528, 1032 and 1040 become 2, 9, -1 and 7; exit
+abbrev pub leaves_words : Version → State
+leaves_words version = start_state (record { version = version; code = 0x18 ∷ 1 ∷ 0 ∷ 0 ∷ 0 ∷ 0 ∷ 0 ∷ 0 ∷ 0 ∷ 0 ∷ 0 ∷ 0 ∷ 3 ∷ 0 ∷ 0 ∷ 0 ∷ 0x7a ∷ 1 ∷ 0 ∷ 0 ∷ 3 ∷ 0 ∷ 0 ∷ 0 ∷ 0x7a ∷ 1 ∷ 8 ∷ 0 ∷ 1 ∷ 0 ∷ 0 ∷ 0 ∷ 0x7a ∷ 1 ∷ 0x10 ∷ 0 ∷ 1 ∷ 0 ∷ 0 ∷ 0 ∷ 0x72 ∷ 1 ∷ 0x11 ∷ 0 ∷ 1 ∷ 0 ∷ 0 ∷ 0 ∷ 0x7a ∷ 1 ∷ 8 ∷ 2 ∷ 2 ∷ 0 ∷ 0 ∷ 0 ∷ 0x7a ∷ 1 ∷ 0x10 ∷ 2 ∷ 9 ∷ 0 ∷ 0 ∷ 0 ∷ 0x7a ∷ 1 ∷ 8 ∷ 4 ∷ 0xff ∷ 0xff ∷ 0xff ∷ 0xff ∷ 0x7a ∷ 1 ∷ 0x10 ∷ 4 ∷ 7 ∷ 0 ∷ 0 ∷ 0 ∷ 0x95 ∷ 0 ∷ 0 ∷ 0 ∷ 0 ∷ 0 ∷ 0 ∷ 0 ∷ []; constants = [] }) null_values
+
 pub record RowsStand : Type 0 where
   pub moves : session_text five (codes "s 1\nrs 1\nrs 1\ns 0\ns 01\ns 1000001\nx\nq\n") ≡ codes "step 1 pc 1 running\nstep 0 pc 0 running\n? range\n? range\n? what\n? range\n? what\n"
   pub stops : session_text five (codes "s 2\ns 3\nrs 4") ≡ codes "step 2 pc 1 exited 0x0000000000000005\nstep 5 pc 1 exited 0x0000000000000005\nstep 1 pc 1 running\n"
@@ -53,6 +59,10 @@ pub record RowsStand : Type 0 where
   pub shows_memory : session_text five (codes "m 0x1000001f8 17\nm 0x3000007ff 1\nm 0x3000007ff 2\nm 0x2ffffffff 1\nm 0x400000000 1\n") ≡ codes "0x00000001000001f8 00 00 00 00 00 00 00 00 00 00 00 00 00 00 00 00\n0x0000000100000208 00\n0x00000003000007ff 00\n? range\n? range\n? range\n"
   pub counts_bytes : session_text five (codes "m 0x300000000 0\nm 0x300000000 257\nm 0xffffffffffffffff 1\nm 0x 1\nm 0x3A 1\nm 0x00000000300000000 1\nm 0x300000000 01\nm 0x300000000\nm 300000000 1\n") ≡ codes "? range\n? range\n? range\n? what\n? what\n? what\n? what\n? what\n? what\n"
   pub shows_frames : session_text calls_itself (codes "f\ns 8\nf\n") ≡ codes "depth 0\nstep 8 pc 0 fault F7\ndepth 7\nreturn 1 r6 0x0000000000000000 r7 0x0000000000000000 r8 0x0000000000000000 r9 0x0000000000000000\nreturn 1 r6 0x0000000000000000 r7 0x0000000000000000 r8 0x0000000000000000 r9 0x0000000000000000\nreturn 1 r6 0x0000000000000000 r7 0x0000000000000000 r8 0x0000000000000000 r9 0x0000000000000000\nreturn 1 r6 0x0000000000000000 r7 0x0000000000000000 r8 0x0000000000000000 r9 0x0000000000000000\nreturn 1 r6 0x0000000000000000 r7 0x0000000000000000 r8 0x0000000000000000 r9 0x0000000000000000\nreturn 1 r6 0x0000000000000000 r7 0x0000000000000000 r8 0x0000000000000000 r9 0x0000000000000000\nreturn 1 r6 0x0000000000000000 r7 0x0000000000000000 r8 0x0000000000000000 r9 0x0000000000000000\n"
+  pub shows_verdict : session_text five (codes "w\nw 1\nW\n") ≡ codes "verdict 0 0\n? what\n? what\n"
+  pub shows_words : session_text (leaves_words First) (codes "c 100\nw\ng 3\nw\n") ≡ codes "step 10 pc 10 exited 0x0000000000000000\nverdict 3 1\nvalidation 0 257\nvalidation 63 2\nstep 3 pc 4 running\nverdict 3 1\n"
+  pub shows_messages : session_text (leaves_words Second) (codes "c 100\nw\n") ≡ codes "step 10 pc 10 exited 0x0000000000000000\nverdict 3 1\nvalidation 0 257\nvalidation 63 2\nmessage 0 9\nmessage 63 18446744073709551615\n"
+  pub refuses_verdicts : (talk_of five ((codes "w", true) ∷ (codes "w", false) ∷ [])).text ≡ codes "? memory\nverdict 0 0\n"
   pub reads_addresses : command_of (codes "m 0x00000003000000ff 5") ≡ MemoryAt 0x3000000ff 5
   pub refuses_values : (talk_of five ((codes "v 3", true) ∷ (codes "v 9", true) ∷ (codes "v 18446744073709551616", true) ∷ (codes "m 0x300000000 1", true) ∷ (codes "f", true) ∷ [])).text ≡ codes "? memory\n? range\n? range\n0x0000000300000000 00\ndepth 0\n"
   pub reads_64_bytes : command_of (codes "s " ++ replicate 62 49) ≡ Forward 11111111111111111111111111111111111111111111111111111111111111

@@ -20,6 +20,7 @@ use crate::moves::{back, continue_back, continue_on, forward, go_to};
 use crate::reply::{Answer, Reply};
 use crate::sink::Sink;
 use crate::transfer::write_all;
+use crate::verdict::show_verdict;
 use history::{Emulator, History};
 use std::alloc::{AllocError, Global};
 
@@ -103,6 +104,7 @@ fn obey<H: History>(
         Command::MemoryAt(address, n) => Ok(show_memory(alloc, h.machine(), address, n)),
         Command::Frames => Ok(show_frames(alloc, h.machine())),
         Command::Listing => list(alloc, h.machine()),
+        Command::Verdict => show_verdict(alloc, h.machine()),
         Command::Quit => Ok(Reply::Fixed(b"")),
         Command::Unknown => Ok(Reply::Fixed(b"? what\n")),
     }

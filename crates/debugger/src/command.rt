@@ -31,6 +31,8 @@ pub enum Command {
     Frames,
     /// `l`: the code from `pc` on.
     Listing,
+    /// `w`: the words of the verdict.
+    Verdict,
     /// `q`: the end of the session.
     Quit,
     /// A line that has no form.
@@ -70,6 +72,9 @@ fn form(line: &[u8]) -> Command
     }
     if is_bytes(line, b"f") {
         return Command::Frames;
+    }
+    if is_bytes(line, b"w") {
+        return Command::Verdict;
     }
     numbered_form(line)
 }

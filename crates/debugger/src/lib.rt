@@ -25,6 +25,9 @@ mod state_text;
 #[cfg(test)]
 mod stream_tests;
 mod transfer;
+mod verdict;
+#[cfg(test)]
+mod verdict_tests;
 
 pub use counting::Counting;
 pub use failed::Failed;

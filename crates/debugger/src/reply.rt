@@ -11,7 +11,7 @@ pub enum Reply {
     Fixed(&'static [u8]),
     /// A text that takes no memory.
     Text(AnswerText),
-    /// Lines of code, or the line of a value.
+    /// Lines of code or of a verdict, or the line of a value.
     Lines(String),
 }
 

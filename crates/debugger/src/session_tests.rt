@@ -114,7 +114,7 @@ const COMMANDS: [(&[u8], &[u8], &[u8]); 15] = [
 ];
 
 /// The table of five null roots.
-fn nulls(alloc: Global) -> Result<Table, Fail> {
+pub fn nulls(alloc: Global) -> Result<Table, Fail> {
     let roots = [
         Value::Null,
         Value::Null,
@@ -218,7 +218,15 @@ fn goes_back_over_a_store(rt: HostRuntime) -> Result<(), Fail> {
 
 /// Inputs, and what is written where no memory is refused, and where the memory for one of their
 /// lines is.
-const REFUSED: [(&[u8], [&[u8]; 3]); 4] = [
+const REFUSED: [(&[u8], [&[u8]; 3]); 5] = [
+    (
+        b"w\nw\nx\n",
+        [
+            b"verdict 0 0\nverdict 0 0\n? what\n",
+            b"? memory\nverdict 0 0\n? what\n",
+            b"verdict 0 0\n? memory\n? what\n",
+        ],
+    ),
     (
         b"v 3\nm 0x300000000 1\nv 0\nf\n",
         [

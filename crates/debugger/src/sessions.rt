@@ -23,8 +23,8 @@ use value_table::Table;
 /// A session with the run of an image on a table: reads lines, and writes the answer to each before
 /// the next is read, until `q` or the input's end. It begins at step 0 without breakpoints. Of an
 /// input only the first 2^63 bytes are read. Memory is taken to begin, and then only for a new
-/// breakpoint, for a move, for a value and for a listing: where it is refused, the line answers `? memory` and
-/// nothing has changed.
+/// breakpoint, for a move, for a value, for a listing and for a verdict: where it is refused, the line
+/// answers `? memory` and nothing has changed.
 ///
 /// # Errors
 ///

@@ -1,11 +1,13 @@
 -- What the tests for the faults say in numbers.
-use Rattle.std.proofs.Common.{◌≡◌, ◌≤◌, ◌==◌, ℕ, ◌+◌, ◌*◌, Bool, true, false, not, List, length, take, refl, ap, ◌∙◌, arith, if◌then◌else◌, Result, Ok, Err}
+use Rattle.std.proofs.Common.{◌≡◌, ◌≤◌, ◌==◌, ℕ, ◌+◌, ◌*◌, Bool, true, false, not, ◌||◌, List, length, take, refl, ap, ◌∙◌, arith, if◌then◌else◌, Result, Ok, Err}
 use Rattle.std.proofs.lemmas.Bool.{ltb-false, le-ltb}
 use Rattle.std.proofs.lemmas.Bool.Decides.{nat_tests}
 use Rattle.std.proofs.lemmas.Slice.Eq.{bytes_eq-Decides}
 use Rattle.std.specs.Str.{bytes_eq}
 use Rattle.loader.specs.Contents.{Contents}
-use Rattle.loader.specs.Format.{magic, slots_in, constants_in, is_bad_count, is_too_short, has_other_magic, has_bad_slots, has_long_constants, has_other_length, contents_in, image_in}
+use Rattle.loader.specs.declared.version.Version.{Version}
+use Rattle.loader.specs.declared.version.Version.TheVariants.{First, Second}
+use Rattle.loader.specs.Format.{magic, version_in, slots_in, constants_in, is_bad_count, is_too_short, has_other_magic, has_bad_slots, has_long_constants, has_other_length, contents_in, image_in}
 use Rattle.loader.specs.declared.load_error.LoadError.{LoadError}
 
 -- the file has no fault
@@ -18,7 +20,7 @@ pub record HasNoFault (file : List ℕ) : Type 0 where
 
 -- the same in numbers
 pub record HasShape (file : List ℕ) : Type 0 where
-  pub magic_is : take 8 file ≡ magic
+  pub magic_is : take 8 file ≡ magic (version_in file)
   pub some_slots : 1 ≤ slots_in file
   pub most_slots : slots_in file ≤ 65536
   pub most_constants : constants_in file ≤ 1048576
@@ -26,6 +28,15 @@ pub record HasShape (file : List ℕ) : Type 0 where
 
 same_bytes : (xs ys : List ℕ) → not (bytes_eq xs ys) ≡ false → xs ≡ ys
 same_bytes xs ys h = (bytes_eq-Decides xs ys).0 (grind arith)
+
+-- a list that is the magic of a version is that of the version that it is first compared with, or of the other
+version_of : (xs : List ℕ) (first : Bool) → bytes_eq xs (magic First) ≡ first → not (first || bytes_eq xs (magic Second)) ≡ false → xs ≡ magic (if first then First else Second)
+version_of xs true e h = same_bytes xs (magic First) (ap not e)
+version_of xs false e h = same_bytes xs (magic Second) h
+
+known_magic : (xs : List ℕ) (first : Bool) → xs ≡ magic (if first then First else Second) → not (first || bytes_eq xs (magic Second)) ≡ false
+known_magic xs true e = refl
+known_magic xs false e = ap not ((bytes_eq-Decides xs (magic Second)).1 e)
 
 pub same_number : (a b : ℕ) → not (a == b) ≡ false → a ≡ b
 same_number a b h = grind (arith, nat_tests)
@@ -41,7 +52,7 @@ good_count n some most = grind (arith, nat_tests)
 
 pub shape_of : (file : List ℕ) → HasNoFault file → HasShape file
 shape_of file f = record {
-  magic_is = same_bytes (take 8 file) magic f.magic;
+  magic_is = version_of (take 8 file) _ refl f.magic;
   some_slots = some_slots (slots_in file) f.slots;
   most_slots = most_slots (slots_in file) f.slots;
   most_constants = ltb-false 1048576 (constants_in file) f.constants;
@@ -51,7 +62,7 @@ shape_of file f = record {
 pub no_fault : (file : List ℕ) → HasShape file → HasNoFault file
 no_fault file s = record {
   short = le-ltb (length file) 16 (omega arith);
-  magic = ap not ((bytes_eq-Decides (take 8 file) magic).1 s.magic_is);
+  magic = known_magic (take 8 file) _ s.magic_is;
   slots = good_count (slots_in file) s.some_slots s.most_slots;
   constants = le-ltb 1048576 (constants_in file) s.most_constants;
   whole = let e = s.length_is in grind (arith, nat_tests);

@@ -9,7 +9,7 @@ use Rattle.loader.proofs.Faults.{passed, passes, same_number, some_slots, most_s
 same_test : (a b : ℕ) → a ≡ b → not (a == b) ≡ false
 same_test a b e = grind (arith, nat_tests)
 
-pub made : (c : Contents) → IsImage c → image_from c.code c.constants ≡ Ok c
+pub made : (c : Contents) → IsImage c → image_from c.version c.code c.constants ≡ Ok c
 unfolding image_from
 made c i =
     let some = i.some_slots in
@@ -18,7 +18,7 @@ made c i =
     ∙ (passed _ _ _ (good_count (length c.code / 8) (omega arith) (omega arith))
     ∙ passed _ _ _ (le-ltb 1048576 (length c.constants) i.most_constants))
 
-pub keeps : (c : Contents) → image_from c.code c.constants ≡ Ok c → IsImage c
+pub keeps : (c : Contents) → image_from c.version c.code c.constants ≡ Ok c → IsImage c
 unfolding image_from
 keeps c h =
     let part = passes _ _ _ _ h in

@@ -1,12 +1,15 @@
 -- What is read and written again is the same.
-use Rattle.std.proofs.Common.{◌≡◌, ◌≤◌, ℕ, zero, suc, ◌+◌, ◌*◌, ◌/◌, List, [], ◌∷◌, ◌++◌, length, take, drop, refl, sym, ap, ◌∙◌, arith, length-append, length-drop, Ok}
+use Rattle.std.proofs.Common.{◌≡◌, ◌≤◌, ℕ, zero, suc, ◌+◌, ◌*◌, ◌/◌, List, [], ◌∷◌, ◌++◌, length, take, drop, refl, sym, ap, ◌∙◌, arith, length-append, length-drop, Ok, if◌then◌else◌}
 use Rattle.std.proofs.lemmas.List.{take-append-drop, drop-drop, take_all, length-take-le}
 use Rattle.std.proofs.Math.Seq.{take-append_seam, drop-append_seam, take-length}
 use Rattle.std.proofs.Math.Nat.{mul-div_cancel_left}
+use Rattle.std.specs.Str.{bytes_eq}
 use Rattle.byteorder.specs.Endian.{little_number, little_bytes}
 use Rattle.byteorder.specs.Numbers.{little_number-reads_back}
 use Rattle.loader.specs.Contents.{Contents, IsImage, AreBytes}
-use Rattle.loader.specs.Format.{magic, slots_in, constants_in, contents_in, file_of, image_in}
+use Rattle.loader.specs.declared.version.Version.{Version}
+use Rattle.loader.specs.declared.version.Version.TheVariants.{First, Second}
+use Rattle.loader.specs.Format.{magic, version_in, slots_in, constants_in, contents_in, file_of, image_in}
 use Rattle.loader.proofs.Numbers.{number_back}
 use Rattle.loader.proofs.Faults.{HasNoFault, HasShape, shape_of, no_fault, holds}
 
@@ -52,10 +55,10 @@ joined : (file head from_8 slots from_12 constants from_16 code rest last : List
 joined file head from_8 slots from_12 constants from_16 code rest last a b c d e = cc
 
 -- a file is its head, its code and its constants
-whole : (file : List ℕ) → AreBytes file → HasShape file → file ≡ magic ++ (little_bytes 4 (slots_in file) ++ (little_bytes 4 (constants_in file) ++ (take (8 * slots_in file) (drop 16 file) ++ take (constants_in file) (drop (16 + 8 * slots_in file) file))))
+whole : (file : List ℕ) → AreBytes file → HasShape file → file ≡ magic (version_in file) ++ (little_bytes 4 (slots_in file) ++ (little_bytes 4 (constants_in file) ++ (take (8 * slots_in file) (drop 16 file) ++ take (constants_in file) (drop (16 + 8 * slots_in file) file))))
 whole file bytes s =
     let e = s.length_is in
-    joined file magic (drop 8 file) (little_bytes 4 (slots_in file)) (drop 12 file) (little_bytes 4 (constants_in file)) (drop 16 file) (take (8 * slots_in file) (drop 16 file)) (drop (16 + 8 * slots_in file) file) (take (constants_in file) (drop (16 + 8 * slots_in file) file)) (sym (take-append-drop 8 file) ∙ ap (λ (xs : List ℕ). xs ++ drop 8 file) s.magic_is) (slots_first file (omega arith) bytes) (constants_next file (omega arith) bytes) (cut 16 (8 * slots_in file) file) (sym (take_all (constants_in file) (drop (16 + 8 * slots_in file) file) (omega (arith, length-drop (16 + 8 * slots_in file) file))))
+    joined file (magic (version_in file)) (drop 8 file) (little_bytes 4 (slots_in file)) (drop 12 file) (little_bytes 4 (constants_in file)) (drop 16 file) (take (8 * slots_in file) (drop 16 file)) (drop (16 + 8 * slots_in file) file) (take (constants_in file) (drop (16 + 8 * slots_in file) file)) (sym (take-append-drop 8 file) ∙ ap (λ (xs : List ℕ). xs ++ drop 8 file) s.magic_is) (slots_first file (omega arith) bytes) (constants_next file (omega arith) bytes) (cut 16 (8 * slots_in file) file) (sym (take_all (constants_in file) (drop (16 + 8 * slots_in file) file) (omega (arith, length-drop (16 + 8 * slots_in file) file))))
 
 -- the file of the contents is written with the numbers that were read
 pub file_whole : (file : List ℕ) → AreBytes file → HasNoFault file → file ≡ file_of (contents_in file)
@@ -85,7 +88,13 @@ pub record HasFields (c : Contents) : Type 0 where
   pub constants : constants_in (file_of c) ≡ length c.constants
   pub parts : drop 16 (file_of c) ≡ c.code ++ c.constants
   pub length_is : length (file_of c) ≡ 16 + (length c.code + length c.constants)
-  pub magic_is : take 8 (file_of c) ≡ magic
+  pub magic_is : take 8 (file_of c) ≡ magic c.version
+  pub version : version_in (file_of c) ≡ c.version
+
+own_version : (v : Version) → (if bytes_eq (magic v) (magic First) then First else Second) ≡ v
+unfolding magic
+own_version First = refl
+own_version Second = refl
 
 fields_of : (c : Contents) → IsImage c → HasFields c
 unfolding magic file_of slots_in constants_in
@@ -98,6 +107,7 @@ fields_of c i =
       parts = refl;
       length_is = omega (arith, length-append c.code c.constants);
       magic_is = refl;
+      version = own_version c.version;
     }
 
 shape_written : (c : Contents) → IsImage c → HasShape (file_of c)
@@ -111,7 +121,7 @@ shape_written c i =
     let most = i.most_slots in
     let limit = i.most_constants in
     record {
-      magic_is = f.magic_is;
+      magic_is = f.magic_is ∙ ap magic (sym f.version);
       some_slots = omega arith;
       most_slots = omega arith;
       most_constants = omega arith;
@@ -122,6 +132,7 @@ contents_written : (c : Contents) → IsImage c → contents_in (file_of c) ≡ 
 contents_written c i =
     let f = fields_of c i in
     let slots = f.slots in
+    let version = f.version in
     let whole_slots = i.whole_slots in
     let bytes : 8 * slots_in (file_of c) ≡ length c.code = omega arith in
     let code : take (8 * slots_in (file_of c)) (drop 16 (file_of c)) ≡ c.code =
@@ -133,7 +144,7 @@ contents_written c i =
     let constants : take (constants_in (file_of c)) (drop (16 + 8 * slots_in (file_of c)) (file_of c)) ≡ c.constants =
     ap (λ (n : ℕ). take n (drop (16 + 8 * slots_in (file_of c)) (file_of c))) f.constants
     ∙ (ap (take (length c.constants)) rest ∙ take-length c.constants) in
-    λ j. record { code = code j; constants = constants j }
+    λ j. record { version = version j; code = code j; constants = constants j }
 
 pub reads_back : (c : Contents) → IsImage c → image_in (file_of c) ≡ Ok c
 reads_back c i = holds (file_of c) (no_fault (file_of c) (shape_written c i)) ∙ ap Ok (contents_written c i)

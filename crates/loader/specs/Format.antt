@@ -1,22 +1,31 @@
--- The file of an image. It has the eight bytes CELBPF01, the number of slots of the code, the
--- number of bytes of the constants, the code at 8 bytes a slot, and the constants, with nothing
--- after them. Each number has four bytes, the lowest first.
-use Rattle.std.specs.Prelude.{ℕ, ◌+◌, ◌*◌, ◌/◌, ◌%◌, Bool, not, ◌||◌, nat_eq, nat_lt, if◌then◌else◌, List, ◌++◌, length, take, drop, Result, Ok, Err, codes}
+-- The file of an image. It has the eight bytes CELBPF01 or, where the image has version 2, CELBPF02,
+-- the number of slots of the code, the number of bytes of the constants, the code at 8 bytes a slot,
+-- and the constants, with nothing after them. Each number has four bytes, the lowest first.
+use Rattle.std.specs.Prelude.{ℕ, ◌+◌, ◌*◌, ◌/◌, ◌%◌, Bool, not, ◌||◌, nat_eq, nat_lt, if◌then◌else◌, List, [], ◌∷◌, ◌++◌, length, take, drop, Result, Ok, Err, codes}
 use Rattle.std.specs.Str.{bytes_eq}
 use Rattle.byteorder.specs.Endian.{little_number, little_bytes}
-use Rattle.loader.specs.Contents.{Contents}
+use Rattle.loader.specs.Contents.{Contents, version_number}
 use Rattle.loader.specs.declared.load_error.LoadError.{LoadError}
 use Rattle.loader.specs.declared.load_error.LoadError.TheVariants.{L1, L2, L3, L4, L5}
+use Rattle.loader.specs.declared.version.Version.{Version}
+use Rattle.loader.specs.declared.version.Version.TheVariants.{First, Second}
 
--- what each file begins with
-unfoldable pub magic : List ℕ
-magic = codes "CELBPF01"
+-- what each file of a version begins with: this text and the version's digit
+unfoldable pub magic : Version → List ℕ
+magic version = codes "CELBPF0" ++ ((48 + version_number version) ∷ [])
 
 -- the file of an image
 unfoldable pub file_of : Contents → List ℕ
 file_of c =
-    magic
+    magic c.version
     ++ (little_bytes 4 (length c.code / 8) ++ (little_bytes 4 (length c.constants) ++ (c.code ++ c.constants)))
+
+abbrev pub has_magic : Version → List ℕ → Bool
+has_magic version file = bytes_eq (take 8 file) (magic version)
+
+-- the version of a file that begins as the files of one do
+abbrev pub version_in : List ℕ → Version
+version_in file = if has_magic First file then First else Second
 
 -- the number of slots that a file states
 unfoldable pub slots_in : List ℕ → ℕ
@@ -40,7 +49,7 @@ abbrev pub is_too_short : List ℕ → Bool
 is_too_short file = nat_lt (length file) 16
 
 abbrev pub has_other_magic : List ℕ → Bool
-has_other_magic file = not (bytes_eq (take 8 file) magic)
+has_other_magic file = not (has_magic First file || has_magic Second file)
 
 abbrev pub has_bad_slots : List ℕ → Bool
 has_bad_slots file = is_bad_count (slots_in file)
@@ -51,9 +60,10 @@ has_long_constants file = is_too_long (constants_in file)
 abbrev pub has_other_length : List ℕ → Bool
 has_other_length file = not (nat_eq (length file) (16 + 8 * slots_in file + constants_in file))
 
--- the code and the constants where a file that has none of these causes holds them
+-- the version, the code and the constants where a file that has none of these causes holds them
 abbrev pub contents_in : List ℕ → Contents
 contents_in file = record {
+  version = version_in file;
   code = take (8 * slots_in file) (drop 16 file);
   constants = take (constants_in file) (drop (16 + 8 * slots_in file) file);
 }
@@ -72,10 +82,10 @@ image_in file =
 abbrev pub has_part_of_slot : List ℕ → Bool
 has_part_of_slot code = not (nat_eq (length code % 8) 0)
 
--- the image of some code and constants, or the first cause for which they are none
-unfoldable pub image_from : List ℕ → List ℕ → Result Contents LoadError
-image_from code constants =
+-- the image of a version with some code and constants, or the first cause for which they are none
+unfoldable pub image_from : Version → List ℕ → List ℕ → Result Contents LoadError
+image_from version code constants =
     if has_part_of_slot code then Err L5
     else (if is_bad_count (length code / 8) then Err L3
     else (if is_too_long (length constants) then Err L4
-    else Ok (record { code = code; constants = constants })))
+    else Ok (record { version = version; code = code; constants = constants })))

@@ -4,10 +4,8 @@ ghost use Rattle.std.specs.Prelude.{◌≡◌, ◌≤◌, length, false};
 ghost use Rattle.byteorder.specs.Endian.{little_bytes};
 ghost use Rattle.loader.specs.Format as format;
 
+use crate::version::Version;
 use byteorder::{ByteOrder, LittleEndian};
-
-/// The bytes that each image's file begins with.
-pub const MAGIC: &[u8; 8] = b"CELBPF01";
 
 /// The length in bytes of what stands before the code.
 pub const HEAD: usize = 16;
@@ -57,13 +55,32 @@ pub fn is_too_short(file: &[u8]) -> bool
     file.len() < HEAD
 }
 
-/// Whether the file begins with other bytes than each image's file.
-#[tactic(auto, unfolding(crate::specs::Format::magic))]
+/// Whether the file begins as those of this version do.
+fn has_magic(file: &[u8], version: Version) -> bool
+    requires { 16 ≤ length file.now }
+    ensures { result ≡ format.has_magic version file.now }
+{
+    &file[..8] == version.magic().as_slice()
+}
+
+/// Whether the file begins with other bytes than the files of both versions.
 pub fn has_other_magic(file: &[u8]) -> bool
     requires { 16 ≤ length file.now }
     ensures { result ≡ format.has_other_magic file.now }
 {
-    &file[..8] != MAGIC.as_slice()
+    !(has_magic(file, Version::First) || has_magic(file, Version::Second))
+}
+
+/// The version of a file that begins as those of one do.
+pub fn version_in(file: &[u8]) -> Version
+    requires { 16 ≤ length file.now }
+    ensures { result ≡ format.version_in file.now }
+{
+    if has_magic(file, Version::First) {
+        Version::First
+    } else {
+        Version::Second
+    }
 }
 
 /// Whether the file states a number of slots that no image has.

@@ -1,24 +1,27 @@
 //! Images.
 
 ghost use Rattle.std.specs.Prelude.{◌≡◌, ◌≤◌, length, false, IfOk, IsOk, Err};
-ghost use Rattle.loader.specs.Contents.{IsImage};
+ghost use Rattle.loader.specs.Contents.{IsImage, version_number};
 ghost use Rattle.loader.specs.Format as format;
 ghost use Rattle.loader.specs.Format.{image_in, image_from, contents_in, file_of};
 ghost use Rattle.loader.specs.Answers.{Loads};
 ghost use Rattle.loader.specs.declared.load_error.LoadError.TheVariants.{Memory};
+ghost use Rattle.loader.specs.declared.version.Version.TheVariants.{First, Second};
 
 use crate::format::{
-    HEAD, MAGIC, constants_in, has_bad_slots, has_long_constants, has_other_length,
-    has_other_magic, is_bad_count, is_too_long, is_too_short, number_bytes, slots_in,
+    HEAD, constants_in, has_bad_slots, has_long_constants, has_other_length, has_other_magic,
+    is_bad_count, is_too_long, is_too_short, number_bytes, slots_in, version_in,
 };
 use crate::load_error::LoadError;
+use crate::version::Version;
 use std::alloc::{AllocError, Global};
 use std::marker::Model;
 
 /// What the machine runs: 1 to 65,536 slots of code, 8 bytes each, and at most 1,048,576 bytes of
-/// constants. The bytes of the code are not judged.
+/// constants. The bytes of the code are not judged. Images of version 2 run as those of version 1.
 #[derive(Debug, Drop)]
 pub struct Image {
+    version: Version,
     code: Vec<u8>,
     constants: Vec<u8>,
 }
@@ -28,9 +31,9 @@ impl Model for Image {
 
     ghost Value = { Contents };
 
-    ghost view = { λ i. record { code = i.code.items; constants = i.constants.items } };
+    ghost view = { λ i. record { version = i.version; code = i.code.items; constants = i.constants.items } };
 
-    ghost invariant = { λ i. IsImage (record { code = i.code.items; constants = i.constants.items }) };
+    ghost invariant = { λ i. IsImage (record { version = i.version; code = i.code.items; constants = i.constants.items }) };
 }
 
 impl Image {
@@ -61,7 +64,7 @@ impl Image {
         Ok(Image::parts(alloc, file)?)
     }
 
-    /// The code and the constants of a file that has no fault.
+    /// The version, the code and the constants of a file that has no fault.
     fn parts(alloc: Global, file: &[u8]) -> Result<Image, AllocError>
         requires head { 16 ≤ length file.now }
         requires slots { format.has_bad_slots file.now ≡ false }
@@ -72,17 +75,31 @@ impl Image {
         let middle = HEAD + 8 * slots_in(file) as usize;
         let end = middle + constants_in(file) as usize;
         Ok(Image {
+            version: version_in(file),
             code: Vec::from_slice(alloc, &file[HEAD..middle])?,
             constants: Vec::from_slice(alloc, &file[middle..end])?,
         })
     }
 
-    /// The image of this code, 8 bytes a slot, and these constants. It takes no memory, and what
-    /// it refuses it drops: `L5` for code that ends within a slot, else `L3` for no slots or too
-    /// many, else `L4` for constants that are too long.
-    #[tactic(auto, unfolding(crate::specs::Format::image_from))]
+    /// The image of version 1 of this code, 8 bytes a slot, and these constants. It takes no
+    /// memory, and what it refuses it drops: `L5` for code that ends within a slot, else `L3` for
+    /// no slots or too many, else `L4` for constants that are too long.
     pub fn new(code: Vec<u8>, constants: Vec<u8>) -> Result<Image, LoadError>
-        ensures { result ≡ image_from code.items constants.items }
+        ensures { result ≡ image_from First code.items constants.items }
+    {
+        Image::of_version(Version::First, code, constants)
+    }
+
+    /// The image of version 2 of this code and these constants, with the refusals of [`Image::new`].
+    pub fn new_2(code: Vec<u8>, constants: Vec<u8>) -> Result<Image, LoadError>
+        ensures { result ≡ image_from Second code.items constants.items }
+    {
+        Image::of_version(Version::Second, code, constants)
+    }
+
+    #[tactic(auto, unfolding(crate::specs::Format::image_from))]
+    fn of_version(version: Version, code: Vec<u8>, constants: Vec<u8>) -> Result<Image, LoadError>
+        ensures { result ≡ image_from version code.items constants.items }
     {
         if code.len() % 8 != 0 {
             return Err(LoadError::L5);
@@ -93,22 +110,33 @@ impl Image {
         if is_too_long(constants.len() as u64) {
             return Err(LoadError::L4);
         }
-        Ok(Image { code, constants })
+        Ok(Image {
+            version,
+            code,
+            constants,
+        })
     }
 
     /// The bytes of the image's file. The error says that there is no memory for them.
-    #[tactic(auto, unfolding(crate::specs::Format::file_of, crate::specs::Format::magic))]
+    #[tactic(auto, unfolding(crate::specs::Format::file_of))]
     pub fn write(&self) -> Result<Vec<u8>, AllocError>
         ensures { IfOk result (λ file. file.items ≡ file_of self.now) }
     {
         let length = HEAD + self.code.len() + self.constants.len();
         let mut file = Vec::with_capacity(*self.code.allocator(), length)?;
-        file.extend_from_slice(MAGIC)?;
+        file.extend_from_slice(self.version.magic())?;
         file.extend_from_slice(&number_bytes((self.code.len() / 8) as u32))?;
         file.extend_from_slice(&number_bytes(self.constants.len() as u32))?;
         file.extend_from_slice(self.code.as_slice())?;
         file.extend_from_slice(self.constants.as_slice())?;
         Ok(file)
+    }
+
+    /// 1 or 2.
+    pub fn version(&self) -> u8
+        ensures { result ≡ version_number self.now.version }
+    {
+        self.version.number()
     }
 
     /// The code, 8 bytes a slot.
@@ -133,6 +161,7 @@ impl Image {
     {
         let alloc = *self.code.allocator();
         Ok(Image {
+            version: self.version,
             code: Vec::from_slice(alloc, self.code.as_slice())?,
             constants: Vec::from_slice(alloc, self.constants.as_slice())?,
         })

@@ -7,6 +7,7 @@ pub mod laws;
 mod load_error;
 #[cfg(test)]
 mod tests;
+mod version;
 
 pub use image::Image;
 pub use load_error::LoadError;

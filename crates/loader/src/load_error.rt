@@ -12,8 +12,8 @@ pub enum LoadError {
     /// The file has fewer than 16 bytes, the length of its head.
     #[error("the file is shorter than the 16 bytes of its head")]
     L1,
-    /// The file does not begin with the eight bytes `CELBPF01`.
-    #[error("the file does not begin with CELBPF01")]
+    /// The file begins with neither of the eight bytes `CELBPF01` and `CELBPF02`.
+    #[error("the file begins with neither CELBPF01 nor CELBPF02")]
     L2,
     /// There are no slots of code, or more than 65,536.
     #[error("the code has no slots, or more than 65536")]

@@ -14,6 +14,7 @@ use Rattle.assembler.specs.declared.asm_error.AsmError.TheVariants as asm_error
 use Rattle.loader.specs.Contents.{Contents}
 use Rattle.loader.specs.Format.{image_from}
 use Rattle.loader.specs.declared.load_error.LoadError.{LoadError}
+use Rattle.loader.specs.declared.version.Version.TheVariants.{First}
 use Rattle.loader.specs.declared.load_error.LoadError.TheVariants.{L1, L2, L3, L4, L5}
 use Rattle.loader.specs.declared.load_error.LoadError.TheVariants as load_error
 use Rattle.review_runner.specs.FileSystem.{FileSystem, IsReading, IsWriting, KeepsFiles, Reading}
@@ -46,11 +47,11 @@ judged false false true image is = cc
 judged false false false image is = cc
 
 -- making an image asks for no memory
-asks_none : (code : List ℕ) → image_from code [] ≡ Err load_error.Memory → ⊥
+asks_none : (code : List ℕ) → image_from First code [] ≡ Err load_error.Memory → ⊥
 unfolding image_from
-asks_none code is = judged _ _ false (record { code = code; constants = [] }) is
+asks_none code is = judged _ _ false (record { version = First; code = code; constants = [] }) is
 
-by_cause : (code : List ℕ) (e : LoadError) → image_from code [] ≡ Err e → FileBy code (Err (load_refusal e))
+by_cause : (code : List ℕ) (e : LoadError) → image_from First code [] ≡ Err e → FileBy code (Err (load_refusal e))
 by_cause code L1 is = ap file_from is
 by_cause code L2 is = ap file_from is
 by_cause code L3 is = ap file_from is
@@ -59,30 +60,30 @@ by_cause code L5 is = ap file_from is
 by_cause code load_error.Memory is = absurd (asks_none code is)
 
 -- code that is no image's
-pub of_no_image : (code constants : List ℕ) (e : LoadError) (r : Result (Vec ℕ Global) Refusal) → constants ≡ [] → (let i : Result Contents LoadError = Err e in i ≡ image_from code constants)
+pub of_no_image : (code constants : List ℕ) (e : LoadError) (r : Result (Vec ℕ Global) Refusal) → constants ≡ [] → (let i : Result Contents LoadError = Err e in i ≡ image_from First code constants)
     → IsErrAnd r (λ q. q ≡ load_refusal e) → FileBy code r
 of_no_image code constants e (Ok file) empty is due = absurd due
 of_no_image code constants e (Err r) empty is due =
-    subst (λ (q : Refusal). FileBy code (Err q)) (sym due) (by_cause code e (sym (subst (λ (c : List ℕ). (let i : Result Contents LoadError = Err e in i ≡ image_from code c)) empty is)))
+    subst (λ (q : Refusal). FileBy code (Err q)) (sym due) (by_cause code e (sym (subst (λ (c : List ℕ). (let i : Result Contents LoadError = Err e in i ≡ image_from First code c)) empty is)))
 
-no_code : IsOk (file_from (image_from [] [])) → ⊥
+no_code : IsOk (file_from (image_from First [] [])) → ⊥
 unfolding image_from
 no_code some = cc
 
 -- code that an image can have has a source whose first line says something
 first_of : (labels : List ℕ → Option ℕ) (lines : List (List ℕ)) (items : List Item) (code : List ℕ) → EachSays lines items → StandFor labels 0 items code
-    → IsOk (file_from (image_from code [])) → FirstLineSays lines
+    → IsOk (file_from (image_from First code [])) → FirstLineSays lines
 first_of labels [] [] code each none some = absurd (no_code some)
 first_of labels [] (i ∷ is) code each stand some = absurd each
 first_of labels (line ∷ lines) [] code each stand some = absurd each
 first_of labels (line ∷ lines) (i ∷ is) code each stand some = (i, each.0)
 
-of_source : (held text code : List ℕ) → text ≡ held → Source text code → IsOk (file_from (image_from code [])) → FirstLineSays (lines_of held)
+of_source : (held text code : List ℕ) → text ≡ held → Source text code → IsOk (file_from (image_from First code [])) → FirstLineSays (lines_of held)
 of_source held text code same source some =
     subst (λ (t : List ℕ). FirstLineSays (lines_of t)) same (first_of source.labels _ source.items code source.lines source.code some)
 
 at_text : (held text code : List ℕ) (due : Result (List ℕ) Refusal) → text ≡ held → IsUtf8 held → Source text code
-    → file_from (image_from code []) ≡ due → Assembled (Ok held) due
+    → file_from (image_from First code []) ≡ due → Assembled (Ok held) due
 at_text held text code due same utf8 source is =
     subst (Assembled (Ok held)) is (program utf8 (subst (λ (t : List ℕ). Source t code) same source))
 

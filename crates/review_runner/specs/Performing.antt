@@ -11,6 +11,7 @@ use Rattle.insn_codec.specs.Statements.{Listing}
 use Rattle.loader.specs.Contents.{Contents}
 use Rattle.loader.specs.Format.{file_of, image_from}
 use Rattle.loader.specs.declared.load_error.LoadError.{LoadError}
+use Rattle.loader.specs.declared.version.Version.TheVariants.{First}
 use Rattle.review_runner.specs.FileSystem.{FileSystem, Reading, IsReading, IsWriting, KeepsFiles}
 use Rattle.review_runner.specs.Opening.{OpensFile, opened}
 use Rattle.review_runner.specs.Order.{Task, assemble, debug, list, run_image}
@@ -46,12 +47,12 @@ abbrev pub file_from : Result Contents LoadError → Result (List ℕ) Refusal
 file_from (Ok image) = Ok (file_of image)
 file_from (Err e) = Err (load_refusal e)
 
--- the file of the image of a program, without constants, by what a read of its text's file answered
+-- the file of the image of a program, of version 1 and without constants, by what a read of its text's file answered
 pub data Assembled : Reading → Result (List ℕ) Refusal → Type 0 where
   no_file : {e : FileError} → Assembled (Err e) (Err (file_refusal e))
   no_text : {held : List ℕ} → (IsUtf8 held → ⊥) → Assembled (Ok held) (Err Text)
   no_program : {text : List ℕ} {e : AsmError} → IsUtf8 text → Assembles (lines_of text) (Err e) → Assembled (Ok text) (Err (Program e))
-  program : {text code : List ℕ} → IsUtf8 text → Source text code → Assembled (Ok text) (file_from (image_from code []))
+  program : {text code : List ℕ} → IsUtf8 text → Source text code → Assembled (Ok text) (file_from (image_from First code []))
 
 -- this file is written: a refusal before it leaves the files
 pub data WritesImage (old : Option FileSystem) (name : List ℕ) : Result (List ℕ) Refusal → Option FileSystem → Outcome → Type 0 where
@@ -118,6 +119,6 @@ only_reads (debug image documents) = true
 
 -- the file of an image without constants, or that there is no memory for it
 abbrev pub FileBy : List ℕ → Result (Vec ℕ Global) Refusal → Type 0
-FileBy code (Ok file) = file_from (image_from code []) ≡ Ok file.items
-FileBy code (Err Memory) = IsOk (file_from (image_from code []))
-FileBy code (Err r) = file_from (image_from code []) ≡ Err r
+FileBy code (Ok file) = file_from (image_from First code []) ≡ Ok file.items
+FileBy code (Err Memory) = IsOk (file_from (image_from First code []))
+FileBy code (Err r) = file_from (image_from First code []) ≡ Err r

@@ -13,6 +13,9 @@ const THREE: &[u8] =
 /// `r0 = 5`, `exit`.
 const TWO: &[u8] = b"CELBPF01\x02\0\0\0\0\0\0\0\xb7\0\0\0\x05\0\0\0\x95\0\0\0\0\0\0\0";
 
+/// The same as an image of version 2.
+const SECOND: &[u8] = b"CELBPF02\x02\0\0\0\0\0\0\0\xb7\0\0\0\x05\0\0\0\x95\0\0\0\0\0\0\0";
+
 /// `r0 = 5`.
 const ONE: &[u8] = b"CELBPF01\x01\0\0\0\0\0\0\0\xb7\0\0\0\x05\0\0\0";
 
@@ -35,7 +38,7 @@ fn ends_with(done: &Done, end: &[u8], status: u8) -> bool {
 }
 
 /// The image, the limit of steps, the end of standard output and the status.
-const RUNS: [(&[u8], u64, &[u8], u8); 5] = [
+const RUNS: [(&[u8], u64, &[u8], u8); 6] = [
     (
         THREE,
         10_000_000,
@@ -45,6 +48,12 @@ const RUNS: [(&[u8], u64, &[u8], u8); 5] = [
     (THREE, 0, b"\nstep 0 pc 0 running\n", 4),
     (
         TWO,
+        10_000_000,
+        b"\nstep 2 pc 1 exited 0x0000000000000005\n",
+        0,
+    ),
+    (
+        SECOND,
         10_000_000,
         b"\nstep 2 pc 1 exited 0x0000000000000005\n",
         0,
@@ -75,7 +84,7 @@ const REFUSED: [(&[u8], &str, &[u8]); 7] = [
         b"celbpf: L5\n",
     ),
     (b"", "a.img", b"celbpf: L1\n"),
-    (b"CELBPF02\x01\0\0\0\0\0\0\0", "a.img", b"celbpf: L2\n"),
+    (b"CELBPF03\x01\0\0\0\0\0\0\0", "a.img", b"celbpf: L2\n"),
     (b"CELBPF01\0\0\0\0\0\0\0\0", "a.img", b"celbpf: L3\n"),
     (b"CELBPF01\x01\0\0\0\x01\0\x10\0", "a.img", b"celbpf: L4\n"),
     (TWO, "b.img", b"celbpf: file\n"),
