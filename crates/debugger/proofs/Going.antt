@@ -1,15 +1,17 @@
 -- How a session goes on.
-use Rattle.std.proofs.Common.{◌≡◌, ℕ, ◌+◌, ◌-◌, ◌<◌, ◌≤◌, Bool, true, false, List, [], ◌∷◌, ◌++◌, length, length-drop, take, drop, map, fold, Option, Some, None, refl, sym, ap, ◌∙◌, inl, inr, subst, arith, append_assoc, append-nil}
+use Rattle.std.proofs.Common.{◌≡◌, ℕ, ◌+◌, ◌-◌, ◌<◌, ◌≤◌, Bool, true, false, List, [], ◌∷◌, ◌++◌, length, length-drop, take, drop, map, fold, Option, Some, None, refl, sym, ap, ◌∙◌, inl, inr, subst, arith, append_assoc, append-nil, Result, Ok, Err, IfErr, OnErr, OnOk}
 use Rattle.std.specs.Prelude.{◌⊎◌}
 use Rattle.std.proofs.lemmas.Bool.{cases_lt}
 use Rattle.std.proofs.lemmas.List.{map-append, take-append-drop}
 use Rattle.std.proofs.lemmas.List.Sums.{fold_push, fold-append}
 use Rattle.bpf_machine.specs.State.{State}
-use Rattle.debugger.specs.Streams.{AddsBytes, KeepsBytes}
+use Rattle.debugger.specs.Streams.{AddsBytes, KeepsBytes, one_more}
 use Rattle.debugger.specs.Byte.{GivesByte}
 use Rattle.debugger.specs.Answers.{World, Line, world_at}
 use Rattle.debugger.specs.Session.{Talk, first_talk, hear, talk_of, with_answer, granted, cut, has_quit, input_lines, readable}
-use Rattle.debugger.specs.Told.{lines_of, Heard, ReadsAll, Answers, HeardLine, HeardPart, Going, ToldAll, ToldSome, ToldPart}
+use Rattle.debugger.specs.Told.{lines_of, Heard, ReadsAll, Answers, HeardLine, HeardPart, Going, ToldAll, ToldSome, ToldPart, ByResult, FailsByResult}
+use Rattle.debugger.specs.declared.session_error.SessionError.{SessionError}
+use Rattle.debugger.specs.declared.session_error.SessionError.TheVariants.{S2, Memory}
 use Rattle.debugger.proofs.Asked.{answers_whole}
 use Rattle.debugger.proofs.Cut.{Pieces, cut-none, cut-feed, cut-plain, input_lines-append, input_lines-ended, input_lines-open, take-split, take-push, one_within, drop-one, readable-within, readable-end}
 use Rattle.debugger.proofs.Quit.{answer_to-ended, quit-push}
@@ -266,6 +268,23 @@ heard_at s r w next line same written new a b h = subst (λ (x : State). HeardLi
 pub part_at : (s r : State) (w : World) (line same : List ℕ) (written new : Option (List ℕ)) → r ≡ s → same ≡ line → HeardPart r w same written new → HeardPart s w line written new
 part_at s r w line same written new a b h = subst (λ (x : State). HeardPart x w line written new) a (subst (λ (l : List ℕ). HeardPart r w l written new) b h)
 
-pub no_items : (xs : List ℕ) → length xs ≡ 0 → xs ≡ []
-no_items [] none = refl
-no_items (x ∷ xs) none = absurd (omega (arith, none))
+-- where all is read, and the line behind the last line feed, if it has a byte, is answered
+pub told_rest : (s r : State) (input before : List ℕ) (i : ℕ) (left after written new : Option (List ℕ)) (line same slots : List ℕ) (k : ℕ) (result : Result (Unit {0}) SessionError) → Going s input before i left written line slots k → after ≡ Some (drop i input) → readable input ≡ take i input → r ≡ s → same ≡ line → (same ≡ [] → (result ≡ Ok tt) × (new ≡ written)) → (0 < length same → OnOk result ((next : World) × HeardLine r (world_at slots k false) same next written new)) → OnErr result ((0 < length same) × HeardPart r (world_at slots k false) same written new) → IfErr result (λ e. e ≡ S2) → ByResult s input before after new result
+told_rest s r input before i left after written new line [] slots k (Ok u) g gone all run is none heard part cause =
+    subst (λ (w : Option (List ℕ)). ToldAll s input before after w) (sym (none refl).1) (told_end s input before i left after written line slots k g gone all (sym is))
+told_rest s r input before i left after written new line (x ∷ xs) slots k (Ok u) g gone all run is none heard part cause =
+    let some : 0 < length (x ∷ xs) = omega arith in
+    let said = heard some in
+    told_last s input before i left after written new line slots k said.0 g gone all (subst (λ (l : List ℕ). 0 < length l) is some) (heard_at s r (world_at slots k false) said.0 line (x ∷ xs) written new run is said.1)
+told_rest s r input before i left after written new line same slots k (Err e) g gone all run is none heard part cause =
+    subst (λ (y : SessionError). ByResult s input before after new (Err y)) (sym cause) (told_part-last s input before i left after written new line slots k g gone (subst (λ (l : List ℕ). 0 < length l) is part.0) (part_at s r (world_at slots k false) line same written new run is part.1) all)
+
+-- the failures of the reads, and of the writes at that line
+pub fails_rest : (reads reads_after writes writes_before writes_after : ℕ) (result : Result (Unit {0}) SessionError) → reads_after ≡ reads → writes_before ≡ writes → OnOk result (writes_after ≡ writes_before) → OnErr result (writes_after ≡ one_more writes_before) → IfErr result (λ e. e ≡ S2) → FailsByResult reads reads_after writes writes_after result
+fails_rest reads reads_after writes writes_before writes_after (Ok u) read wrote ok err cause = (read, ok ∙ wrote)
+fails_rest reads reads_after writes writes_before writes_after (Err e) read wrote ok err cause =
+    subst (λ (y : SessionError). FailsByResult reads reads_after writes writes_after (Err y)) (sym cause) (read, err ∙ ap one_more wrote)
+
+pub memory_rest : (result : Result (Unit {0}) SessionError) → IfErr result (λ e. e ≡ S2) → result ≡ Err Memory → ⊥
+memory_rest (Ok u) cause is = cc
+memory_rest (Err e) cause is = cc

@@ -1,9 +1,10 @@
 //! Sessions.
-ghost use Rattle.std.specs.Prelude.{◌≡◌, ℕ, List, [], Some, Err};
+ghost use Rattle.std.specs.Prelude.{◌≡◌, ◌<◌, ℕ, List, [], length, false, Some, Err, Ok, IfErr, OnErr, OnOk};
 ghost use Rattle.bpf_machine.specs.State.{start_state};
+ghost use Rattle.debugger.specs.Answers.{world_at, World};
 ghost use Rattle.debugger.specs.Inspection.{StaysSized};
-ghost use Rattle.debugger.specs.Streams.{stream};
-ghost use Rattle.debugger.specs.Told.{ByResult, FailsByResult, IsSession};
+ghost use Rattle.debugger.specs.Streams.{one_more, stream};
+ghost use Rattle.debugger.specs.Told.{ByResult, FailsByResult, HeardLine, HeardPart, IsSession};
 
 use crate::answering::hear_line;
 use crate::breakpoints::Breakpoints;
@@ -94,15 +95,7 @@ fn hear_lines<H: History, R: Source, W: Sink>(
     for i in 0..9_223_372_036_854_775_808u64 {
         match next_byte(r) {
             Err(_) => return Err(SessionError::S1),
-            Ok(None) => {
-                if line.is_empty() {
-                    return Ok(());
-                }
-                match hear_line(alloc, h, breakpoints, w, line.as_slice()) {
-                    Ok(_) => return Ok(()),
-                    Err(_) => return Err(SessionError::S2),
-                }
-            }
+            Ok(None) => return hear_last(alloc, h, breakpoints, w, line.as_slice()),
             Ok(Some(b)) => {
                 if b == 10 {
                     match hear_line(alloc, h, breakpoints, w, line.as_slice()) {
@@ -120,10 +113,29 @@ fn hear_lines<H: History, R: Source, W: Sink>(
             }
         }
     }
+    hear_last(alloc, h, breakpoints, w, line.as_slice())
+}
+
+/// Answers the line behind the last line feed, if it has a byte.
+fn hear_last<H: History, W: Sink>(
+    alloc: Global,
+    h: &mut H,
+    breakpoints: &mut Breakpoints,
+    w: &mut W,
+    line: &[u8],
+) -> Result<(), SessionError>
+    requires { StaysSized (H.origin h.old) }
+    ensures none { line.now ≡ [] → (result ≡ Ok tt) × (W.taken w.new ≡ W.taken w.old) }
+    ensures heard { 0 < length line.now → OnOk result ((next : World) × HeardLine (H.origin h.old) (world_at breakpoints.old (H.place h.old) false) line.now next (W.taken w.old) (W.taken w.new)) }
+    ensures part { OnErr result ((0 < length line.now) × HeardPart (H.origin h.old) (world_at breakpoints.old (H.place h.old) false) line.now (W.taken w.old) (W.taken w.new)) }
+    ensures cause { IfErr result (λ e. e ≡ SessionError.S2) }
+    ensures ok { OnOk result (W.failed w.new ≡ W.failed w.old) }
+    ensures err { OnErr result (W.failed w.new ≡ one_more (W.failed w.old)) }
+{
     if line.is_empty() {
         return Ok(());
     }
-    match hear_line(alloc, h, breakpoints, w, line.as_slice()) {
+    match hear_line(alloc, h, breakpoints, w, line) {
         Ok(_) => Ok(()),
         Err(_) => Err(SessionError::S2),
     }

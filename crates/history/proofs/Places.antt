@@ -1,14 +1,16 @@
 -- Places at which a machine is kept.
-use Rattle.std.proofs.Common.{◌≡◌, ℕ, zero, suc, ◌+◌, ◌-◌, ◌<◌, ◌≤◌, Bool, true, false, not, List, [], ◌∷◌, length, refl, sym, ap, ◌∙◌, arith, subst, map, Option, Some, None, option_map, get_or, inl, inr, ◌⊎◌}
+use Rattle.std.proofs.Common.{◌≡◌, ◌≢◌, ◌%◌, ◌++◌, append-nil, drop, ℕ, zero, suc, ◌+◌, ◌-◌, ◌<◌, ◌≤◌, Bool, true, false, not, List, [], ◌∷◌, length, refl, sym, ap, ◌∙◌, arith, subst, map, Option, Some, None, option_map, get_or, inl, inr, ◌⊎◌}
 use Rattle.std.proofs.lemmas.Bool.{cases_lt}
-use Rattle.std.proofs.lemmas.List.{get_or-map, get_or_default, length-map}
+use Rattle.std.proofs.lemmas.List.{drop-append-le, drop-drop, drop-map, get_or-map, get_or_default, length-append, length-drop, length-map, map-append, append_assoc}
+use Rattle.std.proofs.lemmas.List.Elements.{All-append, All-cons, All-nil}
+use Rattle.circular_buffer.specs.Buffer.{keep_last}
 use Rattle.std.proofs.lemmas.Option.{get_or_from_slice_get, slice_get_within}
 use Rattle.std.specs.List.{All, Contains, slice_get}
 use Rattle.bpf_machine.specs.State.{State}
 use Rattle.bpf_machine.specs.Step.{is_running, next_state}
 use Rattle.bpf_machine.specs.Trace.{state_after}
 use Rattle.bpf_machine.specs.Laws.{state_after-add, state_after-more, state_after-zero, stays_stopped}
-use Rattle.history.specs.Trail.{IsNearest, IsReplay, Reaches, Trail}
+use Rattle.history.specs.Trail.{IsDue, IsNearest, IsReplay, Keeps, Reaches, Trail, with_place}
 
 -- of the first n of these places, none at or before k is greater than p
 abbrev pub NoneNearer : List ℕ → ℕ → ℕ → ℕ → Type 0
@@ -221,3 +223,42 @@ read_is now r cs i b read is = sym read ∙ ap (option_map now) is
 
 pub read_none : {B C : Type 0} (now : B → C) (r : Option B) (cs : List C) (i : ℕ) → option_map now r ≡ slice_get cs i → r ≡ None → slice_get cs i ≡ None
 read_none now r cs i read is = sym read ∙ ap (option_map now) is
+
+-- the places of the machines that are kept with one more
+pub places_kept : {C : Type 0} (place : C → ℕ) (cs : List C) (c : C) (ps : List ℕ) (room : ℕ) → map place cs ≡ ps → room ≡ 64 → map place (keep_last room (cs ++ c ∷ [])) ≡ with_place ps (place c)
+places_kept place cs c ps room is full =
+    let more : map place (cs ++ c ∷ []) ≡ ps ++ place c ∷ [] = map-append place cs (c ∷ []) ∙ ap (λ (xs : List ℕ). xs ++ place c ∷ []) is in
+    ap (λ (n : ℕ). map place (keep_last n (cs ++ c ∷ []))) full
+    ∙ sym (drop-map place (length (cs ++ c ∷ []) - 64) (cs ++ c ∷ []))
+    ∙ ap (λ (n : ℕ). drop (n - 64) (map place (cs ++ c ∷ []))) (sym (length-map (cs ++ c ∷ []) place))
+    ∙ ap (λ (xs : List ℕ). keep_last 64 xs) more
+
+-- a checkpoint is due where the nearest one stands elsewhere
+pub is_due : (ps : List ℕ) (k p : ℕ) → k % 1024 ≡ 0 → IsNearest (0 ∷ ps) k p → p ≢ k → IsDue ps k
+is_due ps k p round nearest other = (round, λ c. other (omega (arith, nearest.at_most, nearest.greatest k c (omega arith))))
+
+pub not_due : (ps : List ℕ) (k p : ℕ) → IsNearest (0 ∷ ps) k p → p ≡ k → IsDue ps k → ⊥
+not_due ps k p nearest same due = due.1 (subst (λ (q : ℕ). Contains (0 ∷ ps) q) same nearest.among)
+
+-- nothing was added, and nothing is gone
+pub keeps_all : (ps qs : List ℕ) → qs ≡ ps → Keeps ps qs
+keeps_all ps qs same = record { added = []; rounds = All-nil (λ (k : ℕ). k % 1024 ≡ 0); gone = 0; rest = same ∙ sym (append-nil ps); room = omega arith }
+
+pub keeps_one : (ps qs : List ℕ) (k : ℕ) → k % 1024 ≡ 0 → qs ≡ with_place ps k → Keeps ps qs
+keeps_one ps qs k round is = record { added = k ∷ []; rounds = All-cons (λ (i : ℕ). i % 1024 ≡ 0) k [] round (All-nil (λ (i : ℕ). i % 1024 ≡ 0)); gone = length (ps ++ k ∷ []) - 64; rest = is; room = omega arith }
+
+-- one after another
+pub keeps_on : (ps qs rs : List ℕ) → Keeps ps qs → Keeps qs rs → Keeps ps rs
+keeps_on ps qs rs a b =
+    let within : a.gone ≤ length (ps ++ a.added) = omega (arith, a.room) in
+    let all : qs ++ b.added ≡ drop a.gone (ps ++ (a.added ++ b.added)) =
+    ap (λ (xs : List ℕ). xs ++ b.added) a.rest ∙ sym (drop-append-le a.gone (ps ++ a.added) b.added within) ∙ ap (λ (xs : List ℕ). drop a.gone xs) (append_assoc ps a.added b.added) in
+    let long : length (qs ++ b.added) ≡ length (ps ++ (a.added ++ b.added)) - a.gone = ap (λ (xs : List ℕ). length xs) all ∙ length-drop a.gone (ps ++ (a.added ++ b.added)) in
+    let longer : length (ps ++ a.added) ≤ length (ps ++ (a.added ++ b.added)) = omega (arith, length-append ps a.added, length-append ps (a.added ++ b.added), length-append a.added b.added) in
+    record {
+      added = a.added ++ b.added;
+      rounds = All-append (λ (k : ℕ). k % 1024 ≡ 0) a.added b.added a.rounds b.rounds;
+      gone = a.gone + b.gone;
+      rest = b.rest ∙ ap (λ (xs : List ℕ). drop b.gone xs) all ∙ drop-drop b.gone a.gone (ps ++ (a.added ++ b.added));
+      room = omega (arith, a.room, b.room, long, longer);
+    }

@@ -1,6 +1,6 @@
 //! The machines that are kept of a run.
-ghost use Rattle.std.specs.Prelude.{◌≡◌, ◌∷◌, [], IfOk};
-ghost use Rattle.history.specs.Trail.{IsCheckpoint, IsNearest};
+ghost use Rattle.std.specs.Prelude.{◌≡◌, ◌∷◌, [], IfOk, IsOk, OnErr, OnOk};
+ghost use Rattle.history.specs.Trail.{IsCheckpoint, IsDue, IsNearest, Keeps, with_place};
 
 use crate::checkpoint::{Checkpoint, nearer};
 use crate::emulator::Emulator;
@@ -33,7 +33,7 @@ impl<E: Emulator> Model for Checkpoints<E> {
 
     ghost view = { λ c. record { origin = E.state c.start.machine; places = map (λ p. p.place) c.ring.items } };
 
-    ghost invariant = { λ c. (c.start.place ≡ 0) × All (IsCheckpoint E.state (E.state c.start.machine)) c.ring.items };
+    ghost invariant = { λ c. (c.start.place ≡ 0) × (c.ring.capacity ≡ 64) × All (IsCheckpoint E.state (E.state c.start.machine)) c.ring.items };
 }
 
 impl<E: Emulator> Checkpoints<E> {
@@ -61,18 +61,23 @@ impl<E: Emulator> Checkpoints<E> {
         nearest
     }
 
-    /// Keeps a copy of this machine, if its place is one for checkpoints, no machine is kept there,
-    /// and memory is not refused.
-    pub(crate) fn keep(&mut self, machine: &Checkpoint<E>)
+    /// Keeps a copy of this machine, if its place is one for checkpoints and no machine is kept
+    /// there. A refused growth leaves what was kept.
+    #[tactic(auto, using(crate::proofs::Places::keeps_all))]
+    pub(crate) fn keep(&mut self, machine: &Checkpoint<E>) -> Result<(), AllocError>
         requires { IsCheckpoint E.state self.old.origin machine.now }
-        ensures { self.new.origin ≡ self.old.origin }
+        ensures origin { self.new.origin ≡ self.old.origin }
+        ensures due { IsDue self.old.places machine.now.place → OnOk result (self.new.places ≡ with_place self.old.places machine.now.place) }
+        ensures not_due { (IsDue self.old.places machine.now.place → ⊥) → IsOk result × (self.new ≡ self.old) }
+        ensures err { OnErr result (self.new ≡ self.old) }
+        ensures keeps { Keeps self.old.places self.new.places }
     {
         let place = machine.place;
         if place % STRETCH != 0 || self.nearest(place).place == place {
-            return;
+            return Ok(());
         }
-        if let Ok(checkpoint) = machine.copy() {
-            let _oldest = self.ring.push_back(checkpoint);
-        }
+        let checkpoint = machine.copy()?;
+        let _oldest = self.ring.push_back(checkpoint);
+        Ok(())
     }
 }

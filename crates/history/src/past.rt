@@ -2,7 +2,7 @@
 ghost use Rattle.std.specs.Prelude.{◌≡◌, ◌-◌, ◌<◌, ◌≤◌, [], ◌∷◌, IfOk, IsOk, OnErr, OnOk};
 ghost use Rattle.bpf_machine.specs.Trace.{state_after};
 ghost use Rattle.history.specs.Search.{first_stop, last_stop};
-ghost use Rattle.history.specs.Trail.{IsCheckpoint, IsNearest, IsReplay, Reaches, places_of};
+ghost use Rattle.history.specs.Trail.{IsCheckpoint, IsNearest, IsReplay, Keeps, Reaches, places_of};
 
 use crate::checkpoint::{Checkpoint, nearer};
 use crate::checkpoints::Checkpoints;
@@ -78,12 +78,14 @@ impl<E: Emulator> History for Past<E> {
         &self.shown.machine
     }
 
+    #[tactic(auto, using(crate::proofs::Places::keeps_all))]
     fn go(&mut self, k: u64) -> Result<(), AllocError>
         ensures ok { OnOk result (self.new.place ≡ k) }
         ensures err { OnErr result (self.new.place ≡ self.old.place) }
         ensures origin { self.new.origin ≡ self.old.origin }
         ensures replayed { OnOk result (IsReplay self.old k self.new.replayed) }
         ensures unmoved { OnErr result (self.new.replayed ≡ self.old.replayed) }
+        ensures keeps { Keeps self.old.checkpoints self.new.checkpoints }
         // No memory is taken to stay, nor to go on behind a stopped state.
         ensures no_memory { self.old.place ≤ k → Reaches self.old.origin self.old.place k → IsOk result }
     {
@@ -109,6 +111,7 @@ impl<E: Emulator> History for Past<E> {
         ensures place { self.new.place ≡ self.old.place }
         ensures origin { self.new.origin ≡ self.old.origin }
         ensures replayed { self.new.replayed ≡ self.old.replayed }
+        ensures keeps { Keeps self.old.checkpoints self.new.checkpoints }
         // No memory is taken to look one place on, nor behind a stopped state.
         ensures no_memory { Reaches self.old.origin self.old.place (to - 1) → IsOk result }
     {

@@ -1,7 +1,7 @@
 //! Searches of a run both ways.
 ghost use Rattle.std.specs.Prelude.{◌≡◌, ◌-◌, ◌<◌, IfOk, IsOk};
 ghost use Rattle.history.specs.Search.{first_stop, last_stop};
-ghost use Rattle.history.specs.Trail.{IsCheckpoint, Reaches};
+ghost use Rattle.history.specs.Trail.{IsCheckpoint, Keeps, Reaches};
 
 use crate::checkpoint::Checkpoint;
 use crate::checkpoints::Checkpoints;
@@ -11,6 +11,7 @@ use std::alloc::AllocError;
 
 /// The least place after the one shown and up to `to` at which the run is to stop, else `to`.
 /// Keeps checkpoints on the way.
+#[tactic(auto, using(crate::proofs::Places::keeps_all))]
 pub(crate) fn first_after<E: Emulator>(
     checkpoints: &mut Checkpoints<E>,
     shown: &Checkpoint<E>,
@@ -20,6 +21,7 @@ pub(crate) fn first_after<E: Emulator>(
     requires here { IsCheckpoint E.state checkpoints.old.origin shown.now }
     requires order { shown.now.place < to }
     ensures origin { checkpoints.new.origin ≡ checkpoints.old.origin }
+    ensures keeps { Keeps checkpoints.old.places checkpoints.new.places }
     ensures found { IfOk result (λ j. j ≡ first_stop stops.now checkpoints.old.origin shown.now.place (to - shown.now.place)) }
     ensures no_memory { Reaches checkpoints.old.origin shown.now.place (to - 1) → IsOk result }
 {
@@ -33,7 +35,8 @@ pub(crate) fn first_after<E: Emulator>(
         if is_stop(&at.machine, stops) {
             return Ok(place);
         }
-        checkpoints.keep(&at);
+        // A checkpoint that memory refuses is left out.
+        let _left_out = checkpoints.keep(&at);
     }
     Ok(to)
 }

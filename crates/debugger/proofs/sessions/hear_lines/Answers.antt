@@ -1,6 +1,6 @@
 use Rattle.std.proofs.Common.{rules, arith, ◌≡◌, ◌∙◌, ℕ, take, ap, refl}
 use Rattle.debugger.proofs.Cut.{readable-is, take-end}
-use Rattle.debugger.proofs.Going.{going_start, going_byte, going_line, told_quit, told_some, told_part, told_part-last, told_end, told_last, end_read, heard_at, part_at, no_items}
+use Rattle.debugger.proofs.Going.{going_start, going_byte, going_line, told_quit, told_some, told_part, told_rest, fails_rest, memory_rest, end_read, heard_at, part_at}
 use Rattle.debugger.proofs.sessions.hear_lines.Goals as goal
 
 pub loop-i-init : goal.loop-i-init
@@ -14,44 +14,26 @@ loop-i-init g c = record {
 pub returns-in-Err-clause-told : goal.returns-in-Err-clause-told
 returns-in-Err-clause-told g c = λ input before e f. told_some _ _ _ _ _ _ _ _ _ _ 9223372036854775808 (c.loop-i.invariant.going input before e f) c.in-Err.ensures.kept (readable-is input) (omega arith)
 
-pub returns-then-is_empty-clause-told : goal.returns-then-is_empty-clause-told
-returns-then-is_empty-clause-told g c = λ input before e f.
-    let go = c.loop-i.invariant.going input before e f in
-    let last = end_read input c.loop-i.i _ _ go.left_is (rw c.in-Ok-None.field-0-is at c.in-Ok-None.ensures.bytes) in
-    told_end _ _ _ _ _ _ _ _ _ _ go last.1 (readable-is input ∙ take-end input c.loop-i.i 9223372036854775808 last.0 (omega arith)) (no_items _ (search rules))
-
-pub returns-in-Ok-clause-told : goal.returns-in-Ok-clause-told
-returns-in-Ok-clause-told g c = λ input before e f.
-    let go = c.loop-i.invariant.going input before e f in
-    let last = end_read input c.loop-i.i _ _ go.left_is (rw c.in-Ok-None.field-0-is at c.in-Ok-None.ensures.bytes) in
-    told_last _ _ _ _ _ _ _ _ _ _ _ _ go last.1 (readable-is input ∙ take-end input c.loop-i.i 9223372036854775808 last.0 (omega arith)) (search rules) (heard_at _ _ _ _ _ _ _ _ c.loop-i.invariant.origin c.as_slice.ensures c.in-Ok.ensures.heard)
-
-pub returns-in-Err-hear_line-clause-told : goal.returns-in-Err-hear_line-clause-told
-returns-in-Err-hear_line-clause-told g c = λ input before e f.
-    let go = c.loop-i.invariant.going input before e f in
-    let last = end_read input c.loop-i.i _ _ go.left_is (rw c.in-Ok-None.field-0-is at c.in-Ok-None.ensures.bytes) in
-    told_part-last _ _ _ _ _ _ _ _ _ _ _ go last.1 (search rules) (part_at _ _ _ _ _ _ _ c.loop-i.invariant.origin c.as_slice.ensures c.in-Err-hear_line.ensures.part) (readable-is input ∙ take-end input c.loop-i.i 9223372036854775808 last.0 (omega arith))
-
 pub returns-then-ended-clause-told : goal.returns-then-ended-clause-told
 returns-then-ended-clause-told g c = λ input before e f.
     let go = c.loop-i.invariant.going input before e f in
     let read = rw c.in-Ok-Some.field-0-is at c.in-Ok-Some.ensures.bytes in
-    told_quit _ _ _ _ _ _ _ _ _ _ _ _ _ _ 9223372036854775808 _ go read c.if-b-eq10.true (heard_at _ _ _ _ _ _ _ _ c.loop-i.invariant.origin c.as_slice-then-b-eq10.ensures c.in-Ok-hear_line.ensures.heard) (search rules) (readable-is input) (omega arith)
+    told_quit _ _ _ _ _ _ _ _ _ _ _ _ _ _ 9223372036854775808 _ go read c.if-b-eq10.true (heard_at _ _ _ _ _ _ _ _ c.loop-i.invariant.origin c.as_slice-then-b-eq10.ensures c.in-Ok.ensures.heard) (search rules) (readable-is input) (omega arith)
 
-pub returns-in-Err-hear_line-2-clause-told : goal.returns-in-Err-hear_line-2-clause-told
-returns-in-Err-hear_line-2-clause-told g c = λ input before e f.
+pub returns-in-Err-hear_line-clause-told : goal.returns-in-Err-hear_line-clause-told
+returns-in-Err-hear_line-clause-told g c = λ input before e f.
     let go = c.loop-i.invariant.going input before e f in
     let read = rw c.in-Ok-Some.field-0-is at c.in-Ok-Some.ensures.bytes in
-    told_part _ _ _ _ _ _ _ _ _ _ _ _ 9223372036854775808 go read c.if-b-eq10.true (part_at _ _ _ _ _ _ _ c.loop-i.invariant.origin c.as_slice-then-b-eq10.ensures c.in-Err-hear_line-2.ensures.part) (readable-is input) (omega arith)
+    told_part _ _ _ _ _ _ _ _ _ _ _ _ 9223372036854775808 go read c.if-b-eq10.true (part_at _ _ _ _ _ _ _ c.loop-i.invariant.origin c.as_slice-then-b-eq10.ensures c.in-Err-hear_line.ensures.part) (readable-is input) (omega arith)
 
 pub loop-i-preserved-then-b-eq10 : goal.loop-i-preserved-then-b-eq10
 loop-i-preserved-then-b-eq10 g c = record {
   going = λ input before e f.
       let read = rw c.in-Ok-Some.field-0-is at c.in-Ok-Some.ensures.bytes in
-      going_line _ _ _ _ _ _ _ _ _ _ _ _ _ _ _ _ (c.loop-i.invariant.going input before e f) read c.if-b-eq10.true (heard_at _ _ _ _ _ _ _ _ c.loop-i.invariant.origin c.as_slice-then-b-eq10.ensures c.in-Ok-hear_line.ensures.heard) (search rules) c.clear.ensures;
-  origin = c.hear_line-then-b-eq10.ensures.origin ∙ c.loop-i.invariant.origin;
+      going_line _ _ _ _ _ _ _ _ _ _ _ _ _ _ _ _ (c.loop-i.invariant.going input before e f) read c.if-b-eq10.true (heard_at _ _ _ _ _ _ _ _ c.loop-i.invariant.origin c.as_slice-then-b-eq10.ensures c.in-Ok.ensures.heard) (search rules) c.clear.ensures;
+  origin = c.hear_line.ensures.origin ∙ c.loop-i.invariant.origin;
   read = c.in-Ok-Some.ensures.ok ∙ c.loop-i.invariant.read;
-  wrote = c.in-Ok-hear_line.ensures.ok ∙ c.loop-i.invariant.wrote;
+  wrote = c.in-Ok.ensures.ok ∙ c.loop-i.invariant.wrote;
 }
 
 pub loop-i-preserved : goal.loop-i-preserved
@@ -64,20 +46,26 @@ loop-i-preserved g c = record {
   wrote = c.loop-i.invariant.wrote;
 }
 
-pub returns-then-is_empty-2-clause-told : goal.returns-then-is_empty-2-clause-told
-returns-then-is_empty-2-clause-told g c = λ input before e f.
+pub returns-in-Ok-None-clause-told : goal.returns-in-Ok-None-clause-told
+returns-in-Ok-None-clause-told g c = λ input before e f.
     let go = c.loop-i.invariant.going input before e f in
-    let all : 9223372036854775808 ≡ c.loop-i.i = omega arith in
-    told_end _ _ _ _ _ _ _ _ _ _ go go.left_is (readable-is input ∙ ap (λ (n : ℕ). take n input) all) (no_items _ (search rules))
+    let last = end_read input c.loop-i.i _ _ go.left_is (rw c.in-Ok-None.field-0-is at c.in-Ok-None.ensures.bytes) in
+    told_rest _ _ _ _ _ _ _ _ _ _ _ _ _ _ go last.1 (readable-is input ∙ take-end input c.loop-i.i 9223372036854775808 last.0 (omega arith)) c.loop-i.invariant.origin c.as_slice.ensures c.hear_last.ensures.none c.hear_last.ensures.heard c.hear_last.ensures.part c.hear_last.ensures.cause
 
-pub returns-in-Ok-hear_line-2-clause-told : goal.returns-in-Ok-hear_line-2-clause-told
-returns-in-Ok-hear_line-2-clause-told g c = λ input before e f.
-    let go = c.loop-i.invariant.going input before e f in
-    let all : 9223372036854775808 ≡ c.loop-i.i = omega arith in
-    told_last _ _ _ _ _ _ _ _ _ _ _ _ go go.left_is (readable-is input ∙ ap (λ (n : ℕ). take n input) all) (search rules) (heard_at _ _ _ _ _ _ _ _ c.loop-i.invariant.origin c.as_slice-2.ensures c.in-Ok-hear_line-2.ensures.heard)
+pub returns-in-Ok-None-clause-fails : goal.returns-in-Ok-None-clause-fails
+returns-in-Ok-None-clause-fails g c = fails_rest _ _ _ _ _ _ (c.in-Ok-None.ensures.ok ∙ c.loop-i.invariant.read) c.loop-i.invariant.wrote c.hear_last.ensures.ok c.hear_last.ensures.err c.hear_last.ensures.cause
 
-pub returns-in-Err-hear_line-3-clause-told : goal.returns-in-Err-hear_line-3-clause-told
-returns-in-Err-hear_line-3-clause-told g c = λ input before e f.
+pub returns-in-Ok-None-clause-no_memory : goal.returns-in-Ok-None-clause-no_memory
+returns-in-Ok-None-clause-no_memory g c = memory_rest _ c.hear_last.ensures.cause
+
+pub returns-clause-told : goal.returns-clause-told
+returns-clause-told g c = λ input before e f.
     let go = c.loop-i.invariant.going input before e f in
     let all : 9223372036854775808 ≡ c.loop-i.i = omega arith in
-    told_part-last _ _ _ _ _ _ _ _ _ _ _ go go.left_is (search rules) (part_at _ _ _ _ _ _ _ c.loop-i.invariant.origin c.as_slice-2.ensures c.in-Err-hear_line-3.ensures.part) (readable-is input ∙ ap (λ (n : ℕ). take n input) all)
+    told_rest _ _ _ _ _ _ _ _ _ _ _ _ _ _ go go.left_is (readable-is input ∙ ap (λ (n : ℕ). take n input) all) c.loop-i.invariant.origin c.as_slice-2.ensures c.hear_last-2.ensures.none c.hear_last-2.ensures.heard c.hear_last-2.ensures.part c.hear_last-2.ensures.cause
+
+pub returns-clause-fails : goal.returns-clause-fails
+returns-clause-fails g c = fails_rest _ _ _ _ _ _ c.loop-i.invariant.read c.loop-i.invariant.wrote c.hear_last-2.ensures.ok c.hear_last-2.ensures.err c.hear_last-2.ensures.cause
+
+pub returns-clause-no_memory : goal.returns-clause-no_memory
+returns-clause-no_memory g c = memory_rest _ c.hear_last-2.ensures.cause

@@ -1,6 +1,6 @@
 use Rattle.std.proofs.Common.{◌<◌, ◌∙◌, arith, sym, ap}
 use Rattle.bpf_machine.specs.Trace.{state_after}
-use Rattle.history.proofs.Places.{places_on, reaches_is}
+use Rattle.history.proofs.Places.{keeps_on, places_on, reaches_is}
 use Rattle.history.proofs.Searches.{found_here, found_next, found_none, none_further}
 use Rattle.history.proofs.search.first_after.Goals as goal
 
@@ -15,14 +15,15 @@ returns-then-is_stop-clause-found g c =
     let here = places_on _ _ _ _ _ _ c.loop-place.invariant.here c.in_ok-run.ensures.1 (sym c.loop-place.invariant.place) in
     found_here _ _ _ _ _ _ _ c.loop-place.invariant.none after c.loop-place-test.true here c.is_stop.ensures c.if-is_stop.true
 
-pub keep-requires : goal.keep-requires
-keep-requires g c = places_on _ _ _ _ _ _ c.loop-place.invariant.here c.in_ok-run.ensures.1 c.in_ok-run.ensures.0 ∙ ap (state_after _) (sym c.loop-place.invariant.origin)
+pub keep-left_out-requires : goal.keep-left_out-requires
+keep-left_out-requires g c = places_on _ _ _ _ _ _ c.loop-place.invariant.here c.in_ok-run.ensures.1 c.in_ok-run.ensures.0 ∙ ap (state_after _) (sym c.loop-place.invariant.origin)
 
 pub loop-place-preserved : goal.loop-place-preserved
 loop-place-preserved g c =
     let here = places_on _ _ _ _ _ _ c.loop-place.invariant.here c.in_ok-run.ensures.1 (sym c.loop-place.invariant.place) in
     record {
-      origin = c.keep.ensures ∙ c.loop-place.invariant.origin;
+      origin = c.keep-left_out.ensures.origin ∙ c.loop-place.invariant.origin;
+      keeps = keeps_on _ _ _ c.loop-place.invariant.keeps c.keep-left_out.ensures.keeps;
       here = places_on _ _ _ _ _ _ c.loop-place.invariant.here c.in_ok-run.ensures.1 c.in_ok-run.ensures.0;
       place = omega (arith, c.in_ok-run.ensures.0, c.loop-place.invariant.place);
       none = none_further _ _ _ _ _ _ c.loop-place.invariant.none here c.is_stop.ensures c.if-is_stop.false;

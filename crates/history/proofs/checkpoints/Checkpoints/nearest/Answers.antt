@@ -23,7 +23,7 @@ loop-i-preserved g c =
           (record {
             here =
                 one_of (IsCheckpoint g.E.Emulator.state c.args.self.now.origin) _ _ _ w.nearer-nearest.ensures.one c.loop-i.invariant.here
-                (rw (← c.self.view_is) (all_at (IsCheckpoint g.E.Emulator.state (g.E.Emulator.state c.self.inside.start.machine)) c.self.inside.ring.items c.loop-i.i w.in-Some.checkpoint.now c.self.invariant.1 is));
+                (rw (← c.self.view_is) (all_at (IsCheckpoint g.E.Emulator.state (g.E.Emulator.state c.self.inside.start.machine)) c.self.inside.ring.items c.loop-i.i w.in-Some.checkpoint.now c.self.invariant.2 is));
             among = contains_at (λ p. p.place) c.self.inside.ring.items c.args.self.now.places c.loop-i.i c.loop-i.nearest.now w.in-Some.checkpoint.now w.nearer-nearest.result.now whole is w.nearer-nearest.ensures.one c.loop-i.invariant.among;
             at_most = w.nearer-nearest.ensures.at_most;
             greatest = none_more_at (λ p. p.place) c.self.inside.ring.items c.args.self.now.places c.loop-i.i c.args.k c.loop-i.nearest.now.place w.in-Some.checkpoint.now w.nearer-nearest.result.now whole is c.loop-i.invariant.greatest w.nearer-nearest.ensures.greatest.0 w.nearer-nearest.ensures.greatest.1;
