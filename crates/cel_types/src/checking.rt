@@ -1,6 +1,6 @@
 //! The checking of types.
 
-ghost use Rattle.std.specs.Prelude.{◌≡◌};
+ghost use Rattle.std.specs.Prelude.{◌≡◌, IfErr, IfOk};
 ghost use Rattle.std.specs.Prelude as list;
 ghost use Rattle.std.specs.List.{list_all};
 ghost use Rattle.cel_reader.specs.Tree.{Tree};
@@ -14,8 +14,8 @@ ghost use Rattle.cel_types.specs.Declarations.{declaration, scope_of};
 ghost use Rattle.cel_types.specs.Iterations.{scope_within};
 ghost use Rattle.cel_types.specs.Soundness.{Fits, FitsScope};
 ghost use Rattle.cel_types.specs.TypeTable.{is_text_key, map_literal_row};
-ghost use Rattle.cel_types.specs.Types.{typing_of, with_types};
-ghost use Rattle.cel_types.specs.Typing.{typing};
+ghost use Rattle.cel_types.specs.Types.{fault_of, typing_of, with_types};
+ghost use Rattle.cel_types.specs.Typing.{typing, HasFault, HasType};
 
 use crate::cel_type::CelType;
 use crate::iterations::Iterations;
@@ -187,6 +187,8 @@ fn outer_type(core: &Core, variables: &[Variable]) -> Result<CelType, TypeError>
 pub fn check(core: &Core, scope: &Scope) -> Result<CelType, TypeError>
     ensures core { typing_of result ≡ core_typing (core_view core.now) (scope_of scope.now) }
     ensures plain { (e : Tree) → core_view core.now ≡ expanded e → typing_of result ≡ typing e (scope_of scope.now) }
+    ensures has_type { (e : Tree) → core_view core.now ≡ expanded e → IfOk result (HasType (scope_of scope.now) e) }
+    ensures has_fault { (e : Tree) → core_view core.now ≡ expanded e → IfErr result (λ y. HasFault (scope_of scope.now) e (fault_of y)) }
     ensures sound { (e : Tree) (env : Environment) → core_view core.now ≡ expanded e → FitsScope (scope_of scope.now) env → Fits (typing_of result) (meaning e env) }
 {
     outer_type(core, scope.variables())

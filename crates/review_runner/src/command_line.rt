@@ -1,4 +1,4 @@
-// The commands of the program as `clap` is told them, and the parse of the words.
+//! The commands of the program as `clap` is told them, and the parse of the words.
 ghost use Rattle.std.specs.Prelude.{◌≡◌, map, IfOk, false, true};
 ghost use Rattle.clap.specs.Words.{app_of, has_subcommand, rule_of, subcommand_rows_of, FailsBy};
 ghost use Rattle.clap.specs.declared.builder.command.Command.TheViews.{out-Command as fields_of};

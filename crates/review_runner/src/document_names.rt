@@ -1,4 +1,4 @@
-// The files of a review's documents.
+//! The files of a review's documents.
 
 /// The file names of the documents of a review as they were given, each of which may be left out.
 #[derive(Debug, Drop)]

@@ -1,4 +1,4 @@
-// One order to the program: a command with its arguments.
+//! One order to the program: a command with its arguments.
 
 use crate::document_names::DocumentNames;
 

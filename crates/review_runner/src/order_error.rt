@@ -1,4 +1,4 @@
-// Why no order was read.
+//! Why no order was read.
 ghost use Rattle.std.specs.Prelude.{◌≡◌};
 ghost use Rattle.review_runner.specs.declared.order_error.OrderError.TheVariants.{Memory};
 

@@ -1,8 +1,8 @@
 //! What a review's document gives.
-ghost use Rattle.std.specs.Prelude.{◌≡◌, codes, option_map};
+ghost use Rattle.std.specs.Prelude.{◌≡◌, codes, option_map, Err};
 ghost use Rattle.serde_json.specs.Find.{get, get_member};
 ghost use Rattle.serde_json.specs.View.{members_view, view};
-ghost use Rattle.review_runner.specs.declared.run_error.RunError.TheVariants.{N2};
+ghost use Rattle.review_runner.specs.declared.run_error.RunError.TheVariants.{N2, Memory};
 ghost use Rattle.review_runner.specs.Reviews.{is_review, is_text, is_the_text, member_or_null, members_in, null_parts, parts_given, parts_in, parts_of, parts_view, request_of, without, Reads};
 
 use crate::document::document;
@@ -45,9 +45,10 @@ fn no_review() -> Review
     }
 }
 
-/// The roots of a review's document.
+/// The roots of a review's document. It takes no memory.
 fn review_in(value: Value) -> Result<Review, RunError>
-    ensures { Reads N2 parts_view (parts_in (view value)) result }
+    ensures reads { Reads N2 parts_view (parts_in (view value)) result }
+    ensures no_memory { result ≡ Err Memory → ⊥ }
 {
     match request_of(value) {
         Some(members) => Ok(review_of(members)),

@@ -1,4 +1,4 @@
-// Single values of a command's matches, each read totally.
+//! Single values of a command's matches, each read totally.
 ghost use Rattle.std.specs.Prelude.{◌≡◌, option_map, string_bytes, unwrap_or, [], IfOk};
 ghost use Rattle.clap.specs.Words.{first_of, found_of, one_of, rows_of};
 ghost use Rattle.review_runner.specs.Number.{number_of};
