@@ -1,0 +1,7 @@
+mod Each
+mod Filled
+mod Joined
+mod Layouts
+mod Lists
+mod Read
+mod Told

@@ -1,0 +1,9 @@
+use Rattle.std.proofs.Common.{drop, map}
+use Rattle.policy_glue.specs.Denials.{denial_view}
+use Rattle.policy_glue.specs.Layout.{words_view}
+use Rattle.policy_glue.specs.Policy.{rule_view}
+use Rattle.policy_glue.proofs.Told.{DenialsGo}
+use Rattle.policy_glue.proofs.denials.denials.Given as goal
+
+abbrev pub invariant-loop-i : goal.invariant-loop-i
+invariant-loop-i l = DenialsGo l.failure_policy (map rule_view l.validations) (map rule_view (drop l.i l.validations)) (words_view l.verdict) l.i (map denial_view l.denials.items)

@@ -1,0 +1,7 @@
+use Rattle.std.proofs.Common.{map, option_map}
+use Rattle.policy_glue.specs.Layout.{message_at, most_validations}
+use Rattle.policy_glue.proofs.Filled.{IsFilled}
+use Rattle.policy_glue.proofs.verdict.messages.Given as goal
+
+abbrev pub invariant-loop-i : goal.invariant-loop-i
+invariant-loop-i g l = IsFilled (message_at (g.M.Regions.bytes l.memory) (g.V.ValueStore.values l.values) l.count) most_validations l.i (map (option_map (λ t. t.now)) l.messages)

@@ -1,0 +1,42 @@
+-- The denials as the words of a verdict tell them.
+use Rattle.std.specs.Prelude.{ℕ, ◌+◌, ◌&&◌, ◌||◌, Bool, true, false, List, [], ◌∷◌, ◌++◌, map, nat_eq, slice_get, slice_index, Option, Some, None, option_map, if◌then◌else◌}
+use Rattle.policy_glue.specs.Policy.{Rule, rule_view}
+use Rattle.policy_glue.specs.Layout.{Words, words_view}
+use Rattle.policy_glue.specs.Response.{Denial}
+use Rattle.policy_glue.specs.declared.parts.Parts.{Parts}
+use Rattle.policy_glue.specs.declared.verdict.Verdict.{Verdict}
+use Rattle.policy_glue.specs.declared.denial.Denial.{Denial as CodeDenial}
+use Rattle.policy_glue.specs.declared.failure_policy.FailurePolicy.{FailurePolicy}
+use Rattle.policy_glue.specs.declared.failure_policy.FailurePolicy.TheVariants.{Fail, Ignore}
+
+abbrev pub denial_view : CodeDenial → Denial
+denial_view d = record { rule = rule_view d.validation.now; message = option_map (λ t. t.now) d.message }
+
+abbrev pub is_fail : FailurePolicy → Bool
+is_fail Fail = true
+is_fail Ignore = false
+
+-- whether the word for what a validation came to says that it denies
+abbrev pub denies_word : FailurePolicy → ℕ → Bool
+denies_word f word = nat_eq word 1 || (nat_eq word 2 && is_fail f)
+
+abbrev pub denial_told : FailurePolicy → Rule → ℕ → Option (List ℕ) → Option Denial
+denial_told f r word message = if denies_word f word then Some (record { rule = r; message = message }) else None
+
+abbrev pub lent : Option (Option (List ℕ)) → Option (List ℕ)
+lent (Some message) = message
+lent None = None
+
+abbrev pub told_in : Option Denial → List Denial
+told_in (Some d) = d ∷ []
+told_in None = []
+
+-- those of the validations from place i on
+abbrev pub denials_told : FailurePolicy → List Rule → Words → ℕ → List Denial
+denials_told f [] words i = []
+denials_told f (r ∷ rs) words i =
+    told_in (denial_told f r (slice_index words.results i) (lent (slice_get words.messages i))) ++ denials_told f rs words (i + 1)
+
+-- those of all validations
+abbrev pub denials_in : Parts → Verdict → List Denial
+denials_in p v = denials_told p.failure_policy (map rule_view p.validations.items) (words_view v) 0

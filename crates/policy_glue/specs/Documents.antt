@@ -1,0 +1,67 @@
+-- JSON documents as `serde_json` reads them, part by part.
+use Rattle.std.specs.Prelude.{ℕ, ◌&&◌, Bool, true, false, List, [], ◌∷◌, Option, Some, None, if◌then◌else◌}
+use Rattle.std.specs.List.{list_any}
+use Rattle.std.specs.Str.{bytes_eq, is_utf8}
+use Rattle.serde_json.specs.Data as json
+use Rattle.serde_json.specs.Read.{read}
+
+-- what a document says (RFC 8259), and nothing where it is no JSON text
+unfoldable pub document_of : List ℕ → Option json.Data
+document_of bytes = if is_utf8 bytes then read bytes else None
+
+-- each key is one of those known
+abbrev pub keys_within : List (List ℕ) → json.Members → Bool
+keys_within known json.no_members = true
+keys_within known (json.member k d ms) = list_any (λ w. bytes_eq k w) known && keys_within known ms
+
+-- an object without a key that is not known
+abbrev pub has_only : List (List ℕ) → json.Data → Bool
+has_only known (json.object ms) = keys_within known ms
+has_only known _ = false
+
+abbrev pub is_object_or_absent : Option json.Data → Bool
+is_object_or_absent None = true
+is_object_or_absent (Some (json.object ms)) = true
+is_object_or_absent (Some _) = false
+
+abbrev pub is_the_text : Option json.Data → List ℕ → Bool
+is_the_text (Some (json.string s)) text = bytes_eq s text
+is_the_text _ text = false
+
+-- a text that has to be there
+abbrev pub text_of : Option json.Data → Option (List ℕ)
+text_of (Some (json.string s)) = Some s
+text_of _ = None
+
+-- a text that may be absent
+abbrev pub optional_text_of : Option json.Data → Option (Option (List ℕ))
+optional_text_of None = Some None
+optional_text_of (Some (json.string s)) = Some (Some s)
+optional_text_of (Some _) = None
+
+-- a text that is empty where it is absent
+abbrev pub text_or_empty_of : Option json.Data → Option (List ℕ)
+text_or_empty_of None = Some []
+text_or_empty_of (Some (json.string s)) = Some s
+text_or_empty_of (Some _) = None
+
+abbrev pub cons_if : {A : Type 0} → Option A → Option (List A) → Option (List A)
+cons_if (Some a) (Some rest) = Some (a ∷ rest)
+cons_if (Some a) None = None
+cons_if None rest = None
+
+-- what each item says, if every item says something
+abbrev pub each : {A : Type 0} → (json.Data → Option A) → json.Items → Option (List A)
+each f json.no_items = Some []
+each f (json.item d ds) = cons_if (f d) (each f ds)
+
+-- what each item of a list says, which has to be there
+abbrev pub list_in : {A : Type 0} → (json.Data → Option A) → Option json.Data → Option (List A)
+list_in f (Some (json.array ds)) = each f ds
+list_in f _ = None
+
+-- what each item of a list says, which may be absent
+abbrev pub optional_list_in : {A : Type 0} → (json.Data → Option A) → Option json.Data → Option (List A)
+optional_list_in f None = Some []
+optional_list_in f (Some (json.array ds)) = each f ds
+optional_list_in f (Some _) = None

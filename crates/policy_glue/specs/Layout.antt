@@ -1,0 +1,107 @@
+-- How a program leaves its verdict: words of its verdict region (layout 2). Word i begins 8 * i bytes after the
+-- region's first address.
+use Rattle.std.specs.Prelude.{◌≡◌, ℕ, ◌+◌, ◌*◌, ◌<◌, ◌≤◌, List, map, nat_eq, nat_lt, count_by, slice_get, slice_index, Option, Some, None, option_map, Result, Ok, Err, if◌then◌else◌}
+use Rattle.guest_memory.specs.Memory.{Memory, Verdict as VerdictRegion, base_of}
+use Rattle.guest_memory.specs.Access.{read_of}
+use Rattle.guest_memory.specs.RegionWords.{word_in}
+use Rattle.guest_memory.specs.declared.fault.Fault as fault
+use Rattle.guest_memory.specs.declared.size.Size.TheVariants.{Dw}
+use Rattle.value_store.specs.Value.{ValueOrError}
+use Rattle.value_store.specs.Calls.{text_at}
+use Rattle.policy_glue.specs.Verdict.{Verdict, Finding, Truth, Holds, Fails, Errs, Outcome, Skipped, Rejected, Denied, Admitted, is_denial}
+use Rattle.policy_glue.specs.declared.failure_policy.FailurePolicy.{FailurePolicy}
+use Rattle.policy_glue.specs.declared.verdict.Verdict.{Verdict as CodeVerdict}
+
+-- the outcome is word 0 and the number of denials word 1; from these words on stand what each validation came
+-- to, and where the text of each message is
+abbrev pub first_result : ℕ
+first_result = 2
+
+abbrev pub first_message : ℕ
+first_message = 66
+
+-- the words of a region that a verdict may use
+abbrev pub most_validations : ℕ
+most_validations = 64
+
+abbrev pub outcome_word : Outcome → ℕ
+outcome_word Skipped = 1
+outcome_word Rejected = 2
+outcome_word Denied = 3
+outcome_word Admitted = 4
+
+abbrev pub truth_word : Truth → ℕ
+truth_word Holds = 0
+truth_word Fails = 1
+truth_word Errs = 2
+
+abbrev pub finding_word : Option Finding → ℕ
+finding_word (Some x) = truth_word x.truth
+finding_word None = 0
+
+abbrev pub message_in : Option Finding → Option (List ℕ)
+message_in (Some x) = x.message
+message_in None = None
+
+-- a word for a text is the reference of one that is equal, and for no text it is 0
+abbrev pub IsMessageWord : List ValueOrError → ℕ → Option (List ℕ) → Type 0
+IsMessageWord values word (Some t) = (0 < word) × (text_at (slice_get values word) ≡ Some t)
+IsMessageWord values word None = word ≡ 0
+
+-- the words of a verdict under a failure policy, in the bytes of a region; every other word is 0
+pub record IsLayout (f : FailurePolicy) (verdict : Verdict) (values : List ValueOrError) (region : List ℕ) : Type 0 where
+  pub outcome : word_in region 0 ≡ outcome_word verdict.outcome
+  pub denials : word_in region 1 ≡ count_by (is_denial f) verdict.findings
+  pub results : (i : ℕ) → i < most_validations → word_in region (first_result + i) ≡ finding_word (slice_get verdict.findings i)
+  pub messages : (i : ℕ) → i < most_validations → IsMessageWord values (word_in region (first_message + i)) (message_in (slice_get verdict.findings i))
+  pub others : (i : ℕ) → first_message + most_validations ≤ i → i < 256 → word_in region i ≡ 0
+
+-- ---- reading it
+
+-- a verdict as it stands in words, with the texts that are lent
+pub record Words : Type 0 where
+  pub outcome : ℕ
+  pub denials : ℕ
+  pub results : List ℕ
+  pub messages : List (Option (List ℕ))
+
+abbrev pub ok_or_zero : Result ℕ fault.Fault → ℕ
+ok_or_zero (Ok word) = word
+ok_or_zero (Err f) = 0
+
+abbrev pub words_view : CodeVerdict → Words
+words_view v = record {
+  outcome = v.outcome;
+  denials = v.denials;
+  results = v.results;
+  messages = map (option_map (λ t. t.now)) v.messages;
+}
+
+-- word i of the verdict region, 0 where there is none
+unfoldable pub verdict_word : Memory → ℕ → ℕ
+verdict_word m i = ok_or_zero (read_of m (base_of VerdictRegion + 8 * i) Dw)
+
+-- the text that a word names, and none for 0
+abbrev pub text_named : List ValueOrError → ℕ → Option (List ℕ)
+text_named values word = if nat_eq word 0 then None else text_at (slice_get values word)
+
+-- what stands for a validation of a policy with `count` of them
+abbrev pub result_at : Memory → ℕ → ℕ → ℕ
+result_at m count i = if nat_lt i count then verdict_word m (first_result + i) else 0
+
+abbrev pub message_at : Memory → List ValueOrError → ℕ → ℕ → Option (List ℕ)
+message_at m values count i = if nat_lt i count then text_named values (verdict_word m (first_message + i)) else None
+
+-- the words and texts are those of the verdict region and the values
+pub record AreRead (m : Memory) (values : List ValueOrError) (count : ℕ) (words : Words) : Type 0 where
+  pub outcome : words.outcome ≡ verdict_word m 0
+  pub denials : words.denials ≡ verdict_word m 1
+  pub results : (i : ℕ) → i < most_validations → slice_index words.results i ≡ result_at m count i
+  pub messages : (i : ℕ) → i < most_validations → slice_get words.messages i ≡ Some (message_at m values count i)
+
+-- the words and texts tell a verdict
+pub record Tell (f : FailurePolicy) (verdict : Verdict) (words : Words) : Type 0 where
+  pub outcome : words.outcome ≡ outcome_word verdict.outcome
+  pub denials : words.denials ≡ count_by (is_denial f) verdict.findings
+  pub results : (i : ℕ) → i < most_validations → slice_index words.results i ≡ finding_word (slice_get verdict.findings i)
+  pub messages : (i : ℕ) → i < most_validations → slice_get words.messages i ≡ Some (message_in (slice_get verdict.findings i))

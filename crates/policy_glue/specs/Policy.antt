@@ -1,0 +1,59 @@
+-- A policy (ValidatingAdmissionPolicy, admissionregistration.k8s.io/v1) as its document says it. Texts are
+-- their bytes in UTF-8.
+use Rattle.std.specs.Prelude.{ℕ, List, map, Option, option_map, string_bytes, codes}
+use Rattle.policy_glue.specs.declared.failure_policy.FailurePolicy.{FailurePolicy}
+use Rattle.policy_glue.specs.declared.reason.Reason.{Reason}
+use Rattle.policy_glue.specs.declared.reason.Reason.TheVariants.{Unauthorized, Forbidden, Invalid, RequestEntityTooLarge}
+use Rattle.policy_glue.specs.declared.named_expression.NamedExpression.{NamedExpression}
+use Rattle.policy_glue.specs.declared.validation.Validation.{Validation}
+use Rattle.policy_glue.specs.declared.parts.Parts.{Parts}
+
+-- a match condition or a variable
+pub record Named : Type 0 where
+  pub name : List ℕ
+  pub expression : List ℕ
+
+-- a validation; its message is empty where none is set
+pub record Rule : Type 0 where
+  pub expression : List ℕ
+  pub message : List ℕ
+  pub reason : Reason
+  pub message_expression : Option (List ℕ)
+
+pub record Rules : Type 0 where
+  pub failure_policy : FailurePolicy
+  pub conditions : List Named
+  pub variables : List Named
+  pub validations : List Rule
+
+abbrev pub named_view : NamedExpression → Named
+named_view n = record { name = string_bytes n.name; expression = string_bytes n.expression }
+
+abbrev pub rule_view : Validation → Rule
+rule_view v = record {
+  expression = string_bytes v.expression;
+  message = string_bytes v.message;
+  reason = v.reason;
+  message_expression = option_map string_bytes v.message_expression;
+}
+
+abbrev pub rules_view : Parts → Rules
+rules_view p = record {
+  failure_policy = p.failure_policy;
+  conditions = map named_view p.conditions.items;
+  variables = map named_view p.variables.items;
+  validations = map rule_view p.validations.items;
+}
+
+-- the name of a reason (Kubernetes, Validation.reason) and its HTTP status
+abbrev pub reason_name : Reason → List ℕ
+reason_name Unauthorized = codes "Unauthorized"
+reason_name Forbidden = codes "Forbidden"
+reason_name Invalid = codes "Invalid"
+reason_name RequestEntityTooLarge = codes "RequestEntityTooLarge"
+
+abbrev pub reason_code : Reason → ℕ
+reason_code Unauthorized = 401
+reason_code Forbidden = 403
+reason_code Invalid = 422
+reason_code RequestEntityTooLarge = 413

@@ -1,0 +1,111 @@
+-- The response to a verdict (AdmissionReview, admission.k8s.io/v1), compact JSON with keys in byte order.
+use Rattle.std.specs.Prelude.{ℕ, ◌&&◌, Bool, true, false, not, List, [], ◌∷◌, ◌++◌, map, nat_eq, Option, Some, None, codes, if◌then◌else◌}
+use Rattle.std.specs.List.{list_all}
+use Rattle.serde_json.specs.Data as json
+use Rattle.serde_json.specs.Written.{compact_text}
+use Rattle.policy_glue.specs.Policy.{Rule, Rules, reason_name, reason_code}
+use Rattle.policy_glue.specs.Reading.{has_line_break}
+use Rattle.policy_glue.specs.Verdict.{Finding, Verdict, Outcome, Skipped, Rejected, Denied, Admitted, is_denial}
+use Rattle.policy_glue.specs.declared.failure_policy.FailurePolicy.{FailurePolicy}
+use Rattle.policy_glue.specs.declared.reason.Reason.{Reason}
+use Rattle.policy_glue.specs.declared.reason.Reason.TheVariants.{Invalid}
+
+-- ---- what a denial says
+
+-- a validation that denies, with the text of its message expression, if it gave one
+pub record Denial : Type 0 where
+  pub rule : Rule
+  pub message : Option (List ℕ)
+
+-- the validations that deny, in their order, each beside what it came to
+abbrev pub denials_of : FailurePolicy → List Rule → List Finding → List Denial
+denials_of f [] xs = []
+denials_of f (r ∷ rs) [] = []
+denials_of f (r ∷ rs) (x ∷ xs) =
+    if is_denial f x then record { rule = r; message = x.message } ∷ denials_of f rs xs else denials_of f rs xs
+
+-- the message that is set, and else that the expression failed
+abbrev pub set_message : List ℕ → List ℕ → List ℕ
+set_message [] expression = codes "failed expression: " ++ expression
+set_message (b ∷ message) expression = b ∷ message
+
+abbrev pub plain_message : Rule → List ℕ
+plain_message r = set_message r.message r.expression
+
+-- a text serves as a message if it is not spaces alone, nor empty, and has no line break
+abbrev pub is_space : ℕ → Bool
+is_space b = nat_eq b 32
+
+abbrev pub serves : List ℕ → Bool
+serves text = not (list_all is_space text) && not (has_line_break text)
+
+abbrev pub message_or : Option (List ℕ) → List ℕ → List ℕ
+message_or (Some text) plain = if serves text then text else plain
+message_or None plain = plain
+
+abbrev pub denial_text : Denial → List ℕ
+denial_text d = message_or d.message (plain_message d.rule)
+
+-- texts with `; ` between them
+abbrev pub joined : List (List ℕ) → List ℕ
+joined [] = []
+joined (t ∷ []) = t
+joined (t ∷ u ∷ ts) = t ++ (codes "; " ++ joined (u ∷ ts))
+
+-- the reason of the first denial
+abbrev pub first_reason : List Denial → Reason
+first_reason [] = Invalid
+first_reason (d ∷ ds) = d.rule.reason
+
+-- ---- the response
+
+abbrev pub status_tree : List ℕ → Reason → json.Data
+status_tree message reason = json.object
+    (json.member (codes "code") (json.number (json.unsigned (reason_code reason)))
+    (json.member (codes "message") (json.string message)
+    (json.member (codes "reason") (json.string (reason_name reason)) json.no_members)))
+
+abbrev pub allowed_tree : List ℕ → json.Data
+allowed_tree uid = json.object
+    (json.member (codes "allowed") (json.boolean true)
+    (json.member (codes "uid") (json.string uid) json.no_members))
+
+abbrev pub denied_tree : List ℕ → List ℕ → Reason → json.Data
+denied_tree uid message reason = json.object
+    (json.member (codes "allowed") (json.boolean false)
+    (json.member (codes "status") (status_tree message reason)
+    (json.member (codes "uid") (json.string uid) json.no_members)))
+
+unfoldable pub review_tree : json.Data → json.Data
+review_tree response = json.object
+    (json.member (codes "apiVersion") (json.string (codes "admission.k8s.io/v1"))
+    (json.member (codes "kind") (json.string (codes "AdmissionReview"))
+    (json.member (codes "response") response json.no_members)))
+
+-- the conditions of the policy came to an error
+abbrev pub rejected_tree : List ℕ → json.Data
+rejected_tree uid = denied_tree uid (codes "match conditions not decided") Invalid
+
+abbrev pub denials_tree : List Denial → List ℕ → json.Data
+denials_tree ds uid = denied_tree uid (joined (map denial_text ds)) (first_reason ds)
+
+abbrev pub tree_of : Outcome → List Denial → List ℕ → json.Data
+tree_of Skipped ds uid = allowed_tree uid
+tree_of Rejected ds uid = rejected_tree uid
+tree_of Denied ds uid = denials_tree ds uid
+tree_of Admitted ds uid = allowed_tree uid
+
+-- the text of the response to a verdict of the policy on the request with this uid
+unfoldable pub response_of : Rules → Verdict → List ℕ → List ℕ
+response_of p verdict uid =
+    compact_text (review_tree (tree_of verdict.outcome (denials_of p.failure_policy p.validations verdict.findings) uid))
+
+abbrev pub separator_of : Bool → List ℕ
+separator_of later = if later then codes "; " else []
+
+-- the tree that the word of an outcome names
+abbrev pub tree_told : ℕ → List Denial → List ℕ → json.Data
+tree_told outcome ds uid =
+    if nat_eq outcome 2 then rejected_tree uid
+    else (if nat_eq outcome 3 then denials_tree ds uid
+    else allowed_tree uid)

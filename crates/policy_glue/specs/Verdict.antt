@@ -1,0 +1,103 @@
+-- What a policy decides of a request, from what its expressions come to (Kubernetes,
+-- ValidatingAdmissionPolicy: match conditions, failure policy, validations).
+use Rattle.std.specs.Prelude.{ℕ, Bool, true, false, List, [], map, Option, Some, None, if◌then◌else◌}
+use Rattle.std.specs.List.{list_any, list_all}
+use Rattle.value_store.specs.Value.{ValueOrError, error, value, null, boolean, int, text, list, map as map_value}
+use Rattle.value_store.specs.Calls.{text_at}
+use Rattle.policy_glue.specs.declared.failure_policy.FailurePolicy.{FailurePolicy}
+use Rattle.policy_glue.specs.declared.failure_policy.FailurePolicy.TheVariants.{Fail, Ignore}
+
+-- ---- what is decided
+
+pub data Outcome : Type 0 where
+  Skipped : Outcome
+  Rejected : Outcome
+  Denied : Outcome
+  Admitted : Outcome
+
+-- what a condition or a validation comes to
+pub data Truth : Type 0 where
+  Holds : Truth
+  Fails : Truth
+  Errs : Truth
+
+-- what a validation came to, and for a denial the text of its message expression, if it gave one
+pub record Finding : Type 0 where
+  pub truth : Truth
+  pub message : Option (List ℕ)
+
+-- the outcome, and what each validation came to, nothing where the policy did not run
+pub record Verdict : Type 0 where
+  pub outcome : Outcome
+  pub findings : List Finding
+
+-- ---- how it is decided
+
+-- an error, and a value that is no bool, are errors
+abbrev pub truth_of : ValueOrError → Truth
+truth_of (value (boolean true)) = Holds
+truth_of (value (boolean false)) = Fails
+truth_of (value (int n)) = Errs
+truth_of (value (text s)) = Errs
+truth_of (value (list is)) = Errs
+truth_of (value (map_value es)) = Errs
+truth_of (value null) = Errs
+truth_of error = Errs
+
+abbrev pub is_failed : Truth → Bool
+is_failed Holds = false
+is_failed Fails = true
+is_failed Errs = false
+
+abbrev pub is_held : Truth → Bool
+is_held Holds = true
+is_held Fails = false
+is_held Errs = false
+
+-- where no condition fails and one is an error
+abbrev pub undecided : FailurePolicy → Outcome
+undecided Fail = Rejected
+undecided Ignore = Skipped
+
+-- what the conditions decide, and nothing where all of them hold, so that the policy runs
+abbrev pub decided_before : FailurePolicy → List Truth → Option Outcome
+decided_before f conditions =
+    if list_any is_failed conditions then Some Skipped
+    else (if list_all is_held conditions then None else Some (undecided f))
+
+-- whether a validation denies
+abbrev pub denies : FailurePolicy → Truth → Bool
+denies f Holds = false
+denies f Fails = true
+denies Fail Errs = true
+denies Ignore Errs = false
+
+-- the text of a message expression, where it gave one
+abbrev pub text_given : Option ValueOrError → Option (List ℕ)
+text_given (Some x) = text_at (Some x)
+text_given None = None
+
+-- a validation's expression came to the first, and its message expression, if it has one, to the second
+abbrev pub finding_of : FailurePolicy → ValueOrError × Option ValueOrError → Finding
+finding_of f x = record {
+  truth = truth_of x.0;
+  message = if denies f (truth_of x.0) then text_given x.1 else None;
+}
+
+abbrev pub is_denial : FailurePolicy → Finding → Bool
+is_denial f x = denies f x.truth
+
+abbrev pub judged_by : FailurePolicy → List Finding → Verdict
+judged_by f findings = record {
+  outcome = if list_any (is_denial f) findings then Denied else Admitted;
+  findings = findings;
+}
+
+abbrev pub decided : Option Outcome → Verdict → Verdict
+decided (Some outcome) running = record { outcome = outcome; findings = [] }
+decided None running = running
+
+-- the verdict under a failure policy, from what the conditions and the validations come to
+unfoldable pub verdict_of : FailurePolicy → List ValueOrError → List (ValueOrError × Option ValueOrError) → Verdict
+verdict_of f conditions validations =
+    decided (decided_before f (map truth_of conditions)) (judged_by f (map (finding_of f) validations))

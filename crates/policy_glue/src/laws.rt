@@ -1,0 +1,17 @@
+//! Policies, verdicts and responses worked by hand, each the clause of a function that does nothing.
+ghost use Rattle.policy_glue.specs.Rows.{PolicyRowsStand, VerdictRowsStand, ResponseRowsStand};
+
+/// Documents of policies, with what they say or why they are refused.
+pub fn policy_rows_stand()
+    ensures { PolicyRowsStand }
+{}
+
+/// Verdicts, from what conditions, validations and message expressions come to.
+pub fn verdict_rows_stand()
+    ensures { VerdictRowsStand }
+{}
+
+/// Texts of responses.
+pub fn response_rows_stand()
+    ensures { ResponseRowsStand }
+{}

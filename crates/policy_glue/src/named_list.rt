@@ -1,0 +1,107 @@
+//! Match conditions and variables in a document.
+
+ghost use Rattle.std.specs.Prelude.{◌≡◌, map, option_map, string_bytes};
+ghost use Rattle.std.specs.List.{list_any};
+ghost use Rattle.std.specs.Str.{bytes_eq};
+ghost use Rattle.serde_json.specs.View.{view, items_view};
+ghost use Rattle.policy_glue.specs.Documents.{each, has_only, optional_list_in};
+ghost use Rattle.policy_glue.specs.Policy.{named_view};
+ghost use Rattle.policy_glue.specs.Reading.{are_distinct, named_in, named_keys, named_list_in, named_parts, Forms};
+
+use crate::documents::{has_only_keys, text};
+use crate::name_rule::NameRule;
+use crate::named_expression::NamedExpression;
+use crate::policy_error::PolicyError;
+use serde_json::Value;
+use std::alloc::Global;
+
+/// The conditions or variables that may stand there, of which no two have one name.
+pub fn named_list(
+    alloc: Global,
+    value: Option<&Value>,
+    rule: NameRule,
+) -> Result<Vec<NamedExpression>, PolicyError>
+    ensures { Forms (λ v. map named_view v.items) (named_list_in rule (option_map (λ v. view v.now) value.entry)) result }
+{
+    let list = optional_list(alloc, value, rule)?;
+    if !are_distinct(list.as_slice()) {
+        return Err(PolicyError::K3);
+    }
+    Ok(list)
+}
+
+fn optional_list(
+    alloc: Global,
+    value: Option<&Value>,
+    rule: NameRule,
+) -> Result<Vec<NamedExpression>, PolicyError>
+    ensures { Forms (λ v. map named_view v.items) (optional_list_in (named_in rule) (option_map (λ v. view v.now) value.entry)) result }
+{
+    match value {
+        None => Ok(Vec::new(alloc)),
+        Some(Value::Array(items)) => list_of(alloc, items, rule),
+        Some(_) => Err(PolicyError::K3),
+    }
+}
+
+fn list_of(
+    alloc: Global,
+    items: &Vec<Value>,
+    rule: NameRule,
+) -> Result<Vec<NamedExpression>, PolicyError>
+    ensures { Forms (λ v. map named_view v.items) (each (named_in rule) (items_view items.now.items)) result }
+{
+    let mut list = Vec::new(alloc);
+    for item in items {
+        list.push(named(alloc, item, rule)?)?;
+    }
+    Ok(list)
+}
+
+fn named(alloc: Global, value: &Value, rule: NameRule) -> Result<NamedExpression, PolicyError>
+    ensures { Forms named_view (named_in rule (view value.now)) result }
+{
+    if !has_named_keys(value) {
+        return Err(PolicyError::K3);
+    }
+    let named = named_parts(alloc, value)?;
+    if !rule.allows(named.name.as_str()) {
+        return Err(PolicyError::K3);
+    }
+    Ok(named)
+}
+
+#[tactic(auto, unfolding(crate::specs::Reading::named_keys))]
+fn has_named_keys(value: &Value) -> bool
+    ensures { result ≡ has_only named_keys (view value.now) }
+{
+    has_only_keys(value, ["name", "expression"].as_slice())
+}
+
+#[tactic(auto, unfolding(crate::specs::Reading::named_parts))]
+fn named_parts(alloc: Global, value: &Value) -> Result<NamedExpression, PolicyError>
+    ensures { Forms named_view (named_parts (view value.now)) result }
+{
+    let name = text(alloc, value.get("name"))?;
+    let expression = text(alloc, value.get("expression"))?;
+    Ok(NamedExpression { name, expression })
+}
+
+/// Whether no two have one name.
+fn are_distinct(list: &[NamedExpression]) -> bool
+    ensures { result ≡ are_distinct (map named_view list.now) }
+{
+    for (i, named) in list.iter().enumerate() {
+        if has_name(&list[i + 1..], named.name.as_str()) {
+            return false;
+        }
+    }
+    true
+}
+
+/// Whether one has this name.
+fn has_name(list: &[NamedExpression], name: &str) -> bool
+    ensures { result ≡ list_any (λ n. bytes_eq name.now (string_bytes n.name)) list.now }
+{
+    list.iter().any(|named| name == named.name.as_str())
+}

@@ -1,0 +1,122 @@
+//! The form of a policy's document.
+
+ghost use Rattle.std.specs.Prelude.{◌≡◌, option_map};
+ghost use Rattle.serde_json.specs.View.{view};
+ghost use Rattle.policy_glue.specs.Documents.{has_only, is_object_or_absent};
+ghost use Rattle.policy_glue.specs.Policy.{rules_view};
+ghost use Rattle.policy_glue.specs.Reading.{failure_in, has_head, has_spec_form, has_top_form, rules_in, spec_in, spec_keys, spec_parts, spec_value_in, top_keys, Forms};
+
+use crate::documents::{has_only_keys, is_object_or_absent, is_the_text};
+use crate::failure_policy::FailurePolicy;
+use crate::name_rule::NameRule;
+use crate::named_list::named_list;
+use crate::parts::Parts;
+use crate::policy_error::PolicyError;
+use crate::validations::validations;
+use serde_json::Value;
+use std::alloc::Global;
+
+/// Whether the document says that it is a policy.
+#[tactic(auto, unfolding(crate::specs::Reading::has_head))]
+pub fn has_head(value: &Value) -> bool
+    ensures { result ≡ has_head (view value.now) }
+{
+    is_the_text(value.get("apiVersion"), "admissionregistration.k8s.io/v1")
+        && is_the_text(value.get("kind"), "ValidatingAdmissionPolicy")
+}
+
+/// The parts of a policy's document.
+pub fn parts(alloc: Global, value: &Value) -> Result<Parts, PolicyError>
+    ensures { Forms rules_view (rules_in (view value.now)) result }
+{
+    if !has_top_form(value) {
+        return Err(PolicyError::K3);
+    }
+    spec(alloc, value.get("spec"))
+}
+
+#[tactic(auto, unfolding(crate::specs::Reading::has_top_form))]
+fn has_top_form(value: &Value) -> bool
+    ensures { result ≡ has_top_form (view value.now) }
+{
+    has_top_keys(value) && is_object_or_absent(value.get("metadata"))
+}
+
+#[tactic(auto, unfolding(crate::specs::Reading::top_keys))]
+fn has_top_keys(value: &Value) -> bool
+    ensures { result ≡ has_only top_keys (view value.now) }
+{
+    has_only_keys(value, ["apiVersion", "kind", "metadata", "spec"].as_slice())
+}
+
+fn spec(alloc: Global, value: Option<&Value>) -> Result<Parts, PolicyError>
+    ensures { Forms rules_view (spec_in (option_map (λ v. view v.now) value.entry)) result }
+{
+    match value {
+        Some(value) => spec_value(alloc, value),
+        None => Err(PolicyError::K3),
+    }
+}
+
+fn spec_value(alloc: Global, value: &Value) -> Result<Parts, PolicyError>
+    ensures { Forms rules_view (spec_value_in (view value.now)) result }
+{
+    if !has_spec_form(value) {
+        return Err(PolicyError::K3);
+    }
+    spec_parts(alloc, value)
+}
+
+#[tactic(auto, unfolding(crate::specs::Reading::has_spec_form))]
+fn has_spec_form(value: &Value) -> bool
+    ensures { result ≡ has_spec_form (view value.now) }
+{
+    has_spec_keys(value)
+        && is_object_or_absent(value.get("matchConstraints"))
+        && is_object_or_absent(value.get("paramKind"))
+}
+
+#[tactic(auto, unfolding(crate::specs::Reading::spec_keys))]
+fn has_spec_keys(value: &Value) -> bool
+    ensures { result ≡ has_only spec_keys (view value.now) }
+{
+    let known = [
+        "failurePolicy",
+        "matchConditions",
+        "matchConstraints",
+        "paramKind",
+        "validations",
+        "variables",
+    ];
+    has_only_keys(value, known.as_slice())
+}
+
+#[tactic(auto, unfolding(crate::specs::Reading::spec_parts))]
+fn spec_parts(alloc: Global, value: &Value) -> Result<Parts, PolicyError>
+    ensures { Forms rules_view (spec_parts (view value.now)) result }
+{
+    let failure_policy = failure_policy(value.get("failurePolicy"))?;
+    let conditions = named_list(alloc, value.get("matchConditions"), NameRule::NotEmpty)?;
+    let variables = named_list(alloc, value.get("variables"), NameRule::Identifier)?;
+    let validations = validations(alloc, value.get("validations"))?;
+    Ok(Parts {
+        failure_policy,
+        conditions,
+        variables,
+        validations,
+    })
+}
+
+fn failure_policy(value: Option<&Value>) -> Result<FailurePolicy, PolicyError>
+    ensures { Forms (λ f. f) (failure_in (option_map (λ v. view v.now) value.entry)) result }
+{
+    match value {
+        None => Ok(FailurePolicy::Fail),
+        Some(Value::String(name)) => match name.as_str() {
+            "Fail" => Ok(FailurePolicy::Fail),
+            "Ignore" => Ok(FailurePolicy::Ignore),
+            _ => Err(PolicyError::K3),
+        },
+        Some(_) => Err(PolicyError::K3),
+    }
+}

@@ -1,0 +1,86 @@
+//! Validations in a document.
+
+ghost use Rattle.std.specs.Prelude.{◌≡◌, map, option_map};
+ghost use Rattle.serde_json.specs.View.{view, items_view};
+ghost use Rattle.policy_glue.specs.Documents.{each, has_only, list_in};
+ghost use Rattle.policy_glue.specs.Policy.{rule_view};
+ghost use Rattle.policy_glue.specs.Reading.{reason_in, rule_in, rule_keys, rule_parts, Forms};
+
+use crate::documents::{has_only_keys, optional_text, text, text_or_empty};
+use crate::policy_error::PolicyError;
+use crate::reason::Reason;
+use crate::validation::Validation;
+use serde_json::Value;
+use std::alloc::Global;
+
+/// The validations that have to stand there.
+pub fn validations(alloc: Global, value: Option<&Value>) -> Result<Vec<Validation>, PolicyError>
+    ensures { Forms (λ v. map rule_view v.items) (list_in rule_in (option_map (λ v. view v.now) value.entry)) result }
+{
+    match value {
+        Some(Value::Array(items)) => validations_of(alloc, items),
+        _ => Err(PolicyError::K3),
+    }
+}
+
+fn validations_of(alloc: Global, items: &Vec<Value>) -> Result<Vec<Validation>, PolicyError>
+    ensures { Forms (λ v. map rule_view v.items) (each rule_in (items_view items.now.items)) result }
+{
+    let mut list = Vec::new(alloc);
+    for item in items {
+        list.push(validation(alloc, item)?)?;
+    }
+    Ok(list)
+}
+
+fn validation(alloc: Global, value: &Value) -> Result<Validation, PolicyError>
+    ensures { Forms rule_view (rule_in (view value.now)) result }
+{
+    if !has_rule_keys(value) {
+        return Err(PolicyError::K3);
+    }
+    validation_parts(alloc, value)
+}
+
+#[tactic(auto, unfolding(crate::specs::Reading::rule_keys))]
+fn has_rule_keys(value: &Value) -> bool
+    ensures { result ≡ has_only rule_keys (view value.now) }
+{
+    has_only_keys(
+        value,
+        ["expression", "message", "messageExpression", "reason"].as_slice(),
+    )
+}
+
+#[tactic(auto, unfolding(crate::specs::Reading::rule_parts))]
+fn validation_parts(alloc: Global, value: &Value) -> Result<Validation, PolicyError>
+    ensures { Forms rule_view (rule_parts (view value.now)) result }
+{
+    let expression = text(alloc, value.get("expression"))?;
+    let message = text_or_empty(alloc, value.get("message"))?;
+    let reason = reason(value.get("reason"))?;
+    let message_expression = optional_text(alloc, value.get("messageExpression"))?;
+    Ok(Validation {
+        expression,
+        message,
+        reason,
+        message_expression,
+    })
+}
+
+#[tactic(auto, unfolding(crate::specs::Reading::reason_in))]
+fn reason(value: Option<&Value>) -> Result<Reason, PolicyError>
+    ensures { Forms (λ r. r) (reason_in (option_map (λ v. view v.now) value.entry)) result }
+{
+    match value {
+        None => Ok(Reason::Invalid),
+        Some(Value::String(name)) => match name.as_str() {
+            "Unauthorized" => Ok(Reason::Unauthorized),
+            "Forbidden" => Ok(Reason::Forbidden),
+            "Invalid" => Ok(Reason::Invalid),
+            "RequestEntityTooLarge" => Ok(Reason::RequestEntityTooLarge),
+            _ => Err(PolicyError::K3),
+        },
+        Some(_) => Err(PolicyError::K3),
+    }
+}

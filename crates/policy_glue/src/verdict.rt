@@ -1,0 +1,150 @@
+//! Verdicts.
+
+ghost use Rattle.std.specs.Prelude.{◌≡◌, ◌<◌, ◌≤◌, ◌*◌, ◌+◌, ℕ, length, map, option_map, slice_get, slice_index, Some};
+ghost use Rattle.guest_memory.specs.Memory.{IsMemory};
+ghost use Rattle.policy_glue.specs.Verdict as decided;
+ghost use Rattle.policy_glue.specs.Denials.{lent};
+ghost use Rattle.policy_glue.specs.Layout.{most_validations, message_at, result_at, text_named, verdict_word, words_view, AreRead, IsLayout, Tell};
+
+use crate::policy::Policy;
+use guest_memory::{Regions, Size};
+use value_store::ValueStore;
+
+/// The most validations of a policy.
+const MOST_VALIDATIONS: usize = 64;
+
+/// The first address of the region in which a program leaves its verdict.
+const VERDICT: u64 = 0x3_0000_0000;
+
+/// The word from which on there is one for what each validation came to.
+const FIRST_RESULT: u64 = 2;
+
+/// The word from which on there is one for the text of each message.
+const FIRST_MESSAGE: u64 = 66;
+
+/// What a program decided, in the words of its verdict.
+#[derive(Debug, Drop)]
+pub struct Verdict<'v> {
+    /// 1 where the policy was skipped, 2 rejected, 3 denied, 4 admitted.
+    pub outcome: u64,
+    /// How many validations deny.
+    pub denials: u64,
+    /// For each validation 0 where it is true, 1 false, 2 an error.
+    pub results: [u64; 64],
+    /// For each denial the text of its message expression, if it gave one.
+    pub messages: [Option<&'v str>; 64],
+}
+
+/// Word i of the verdict, 0 where the memory has none.
+#[tactic(auto, unfolding(crate::specs::Layout::verdict_word))]
+fn word<M: Regions>(memory: &M, i: u64) -> u64
+    requires { i < 256 }
+    ensures { result ≡ verdict_word (M.bytes memory.now) i }
+{
+    match memory.read(VERDICT + 8 * i, Size::Dw) {
+        Ok(word) => word,
+        Err(_) => 0,
+    }
+}
+
+/// What validation i came to, 0 where there are not so many.
+fn result_at<M: Regions>(memory: &M, count: usize, i: usize) -> u64
+    requires { i < most_validations }
+    ensures { result ≡ result_at (M.bytes memory.now) count i }
+{
+    if i < count {
+        word(memory, FIRST_RESULT + i as u64)
+    } else {
+        0
+    }
+}
+
+/// What each of the first `count` validations came to, and 0 behind them.
+fn results<M: Regions>(memory: &M, count: usize) -> [u64; 64]
+    ensures { (i : ℕ) → i < most_validations → slice_index result i ≡ result_at (M.bytes memory.now) count i }
+{
+    let mut results = [0; MOST_VALIDATIONS];
+    for i in 0..MOST_VALIDATIONS {
+        results[i] = result_at(memory, count, i);
+    }
+    results
+}
+
+/// The text that a word names, and none for 0.
+fn text_named<V: ValueStore>(values: &V, word: u64) -> Option<&str>
+    ensures { option_map (λ t. t.now) result ≡ text_named (V.values values.now) word }
+{
+    if word == 0 { None } else { values.text(word) }
+}
+
+/// The text of the message of validation i, and none where there are not so many.
+fn message_at<'v, M: Regions, V: ValueStore>(
+    memory: &M,
+    values: &'v V,
+    count: usize,
+    i: usize,
+) -> Option<&'v str>
+    requires { i < most_validations }
+    ensures { option_map (λ t. t.now) result ≡ message_at (M.bytes memory.now) (V.values values.now) count i }
+{
+    if i < count {
+        text_named(values, word(memory, FIRST_MESSAGE + i as u64))
+    } else {
+        None
+    }
+}
+
+/// The texts of the messages of the first `count` validations, and none behind them.
+fn messages<'v, M: Regions, V: ValueStore>(
+    memory: &M,
+    values: &'v V,
+    count: usize,
+) -> [Option<&'v str>; 64]
+    ensures { (i : ℕ) → i < most_validations → slice_get (map (option_map (λ t. t.now)) result) i ≡ Some (message_at (M.bytes memory.now) (V.values values.now) count i) }
+{
+    let mut messages = [None; MOST_VALIDATIONS];
+    for i in 0..MOST_VALIDATIONS {
+        messages[i] = message_at(memory, values, count, i);
+    }
+    messages
+}
+
+/// The words and texts of a verdict on `count` validations.
+fn read<'v, M: Regions, V: ValueStore>(memory: &M, values: &'v V, count: usize) -> Verdict<'v>
+    ensures { AreRead (M.bytes memory.now) (V.values values.now) count (words_view result) }
+{
+    Verdict {
+        outcome: word(memory, 0),
+        denials: word(memory, 1),
+        results: results(memory, count),
+        messages: messages(memory, values, count),
+    }
+}
+
+impl<'v> Verdict<'v> {
+    /// The verdict that a program has left for a policy, in the words of its verdict region; the texts of
+    /// its messages are lent from the values. It takes no memory.
+    pub fn of<M: Regions, V: ValueStore>(memory: &M, values: &'v V, policy: &Policy) -> Verdict<'v>
+        ensures read { AreRead (M.bytes memory.now) (V.values values.now) (length policy.now.validations) (words_view result) }
+        ensures told { (v : decided.Verdict) → IsMemory (M.bytes memory.now) → length v.findings ≤ length policy.now.validations
+            → IsLayout policy.now.failure_policy v (V.values values.now) (M.bytes memory.now).verdict → Tell policy.now.failure_policy v (words_view result) }
+    {
+        read(memory, values, policy.parts.validations.len())
+    }
+
+    /// The word for what validation i came to.
+    pub(crate) fn result_at(&self, i: usize) -> u64
+        requires { i < most_validations }
+        ensures { result ≡ slice_index (words_view self.now).results i }
+    {
+        self.results[i]
+    }
+
+    /// The text of the message of validation i.
+    pub(crate) fn message_at(&self, i: usize) -> Option<&'v str>
+        requires { i < most_validations }
+        ensures { option_map (λ t. t.now) result ≡ lent (slice_get (words_view self.now).messages i) }
+    {
+        self.messages[i]
+    }
+}
