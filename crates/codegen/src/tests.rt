@@ -1,12 +1,17 @@
 //! Code put together by hand.
 
+ghost use Rattle.std.specs.Prelude.{◌≡◌};
+ghost use Rattle.insn_codec.specs.Spelling.{slot_count};
+
 use crate::{CodeError, Emitter};
 use insn_codec::{AluOp, Insn, Operand, Register, Width};
 use std::alloc::Global;
 use std::test::Fail;
 
 /// `mov64 r0, n`.
-fn move_to_r0(n: i32) -> Insn {
+fn move_to_r0(n: i32) -> Insn
+    ensures { slot_count result ≡ 1 }
+{
     Insn::Alu {
         op: AluOp::Mov,
         width: Width::W64,
@@ -29,10 +34,10 @@ fn slots_are_counted(rt: HostRuntime) -> Result<(), Fail> {
         dst: Register::R1,
         value: 0x1122_3344_5566_7788,
     };
-    assert_eq!(rt; emitter.put(&move_to_r0(5))?, 0);
+    assert_eq!(rt; emitter.put(&Insn::Jump { offset: 0 })?, 0);
+    emitter.patch(0, &move_to_r0(5));
     assert_eq!(rt; emitter.put(&wide)?, 1);
-    assert_eq!(rt; emitter.put(&Insn::Jump { offset: 0 })?, 3);
-    emitter.patch(3, &move_to_r0(7));
+    assert_eq!(rt; emitter.put(&move_to_r0(7))?, 3);
     let (code, constants) = emitter.finish()?;
     let expected: [u8; 40] = [
         0xb7, 0, 0, 0, 5, 0, 0, 0, 0x18, 1, 0, 0, 0x88, 0x77, 0x66, 0x55, 0, 0, 0, 0, 0x44, 0x33,
