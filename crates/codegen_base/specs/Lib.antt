@@ -1,0 +1,9 @@
+pub mod Body
+pub mod Words
+pub mod Calls
+pub mod Engine
+pub mod Pieces
+pub mod Contexts
+pub mod Loops
+pub mod Variables
+pub mod Programs
