@@ -1,0 +1,16 @@
+pub mod Runs
+pub mod Effects
+pub mod Accesses
+pub mod Calls
+pub mod Pieces
+pub mod Spelled
+pub mod Exits
+pub mod Pending
+pub mod Steps
+pub mod Listings
+pub mod Values
+pub mod Frames
+pub mod Answers
+pub mod Helpers
+pub mod Variables
+pub mod Programs

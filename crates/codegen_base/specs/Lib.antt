@@ -7,3 +7,4 @@ pub mod Contexts
 pub mod Loops
 pub mod Variables
 pub mod Programs
+pub mod Helpers

@@ -1,0 +1,32 @@
+//! Laws of code, each the clause of a function that does nothing.
+ghost use Rattle.codegen_base.specs.Helpers.{HelpersAnswer};
+ghost use Rattle.codegen_base.specs.Pieces.{SpelledStands};
+ghost use Rattle.codegen_base.specs.Programs.{ProgramExits};
+ghost use Rattle.codegen_base.specs.Variables.{VariableGives};
+
+use bpf_machine::laws::decodes_spelling;
+
+/// Where the bytes that spell a piece stand in the code, the machine finds the piece's instructions.
+pub fn spelled_stands()
+    ensures { SpelledStands }
+{
+    decodes_spelling();
+}
+
+/// What each helper answers, of what its operands name.
+pub fn helpers_answer()
+    ensures { HelpersAnswer }
+{}
+
+/// The use of a variable gives its value, and the potentials pay for its first use.
+pub fn variable_gives()
+    ensures { VariableGives }
+{}
+
+/// A program whose code begins with a piece for a value and an exit leaves a reference of it, or has
+/// stopped for its charge or a depth, after its steps and those of its variables.
+pub fn program_exits()
+    ensures { ProgramExits }
+{
+    decodes_spelling();
+}
