@@ -14,3 +14,4 @@ pub mod Answers
 pub mod Helpers
 pub mod Variables
 pub mod Programs
+pub mod Loops

@@ -8,3 +8,5 @@ pub mod Loops
 pub mod Variables
 pub mod Programs
 pub mod Helpers
+pub mod Instructions
+pub mod Code

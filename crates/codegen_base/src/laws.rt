@@ -1,5 +1,6 @@
 //! Laws of code, each the clause of a function that does nothing.
 ghost use Rattle.codegen_base.specs.Helpers.{HelpersAnswer};
+ghost use Rattle.codegen_base.specs.Loops.{FoldGives};
 ghost use Rattle.codegen_base.specs.Pieces.{SpelledStands};
 ghost use Rattle.codegen_base.specs.Programs.{ProgramExits};
 ghost use Rattle.codegen_base.specs.Variables.{VariableGives};
@@ -16,6 +17,12 @@ pub fn spelled_stands()
 /// What each helper answers, of what its operands name.
 pub fn helpers_answer()
     ensures { HelpersAnswer }
+{}
+
+/// Code for a range, for a first answer and for a turn makes a loop over the range's items, which gives
+/// the fold; it leaves early where no further item changes the answer.
+pub fn fold_gives()
+    ensures { FoldGives }
 {}
 
 /// The use of a variable gives its value, and the potentials pay for its first use.
