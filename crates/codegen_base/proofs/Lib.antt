@@ -15,3 +15,5 @@ pub mod Helpers
 pub mod Variables
 pub mod Programs
 pub mod Loops
+pub mod Operators
+pub mod Logic

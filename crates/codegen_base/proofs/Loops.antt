@@ -164,7 +164,7 @@ module _ (s : Setting) (c : Context) (depth k : ℕ) (range : ValueOrError) (n :
 
 -- ---- all turns
 
-module _ (s : Setting) (p k depth : ℕ) (turn : List Insn) (c : Context) (range : ValueOrError) (items : List Value) (f : ValueOrError → Value → ValueOrError) (is_last : ValueOrError → Bool) (steps charge : Value → ℕ) (low : k < 56) (small : length items < 2 ^ 32) (is_range : range_of range ≡ Some items) (end : ℕ) (tg : TurnGives s (p + 6) end turn c depth k f is_last steps charge) (end_is : end ≡ p + 6 + size turn + 6) (has : Stands s.image.code p (loop_code k turn)) where
+module _ (s : Setting) (p k depth : ℕ) (turn : List Insn) (c : Context) (range : ValueOrError) (items : List Value) (f : ValueOrError → Value → ValueOrError) (is_last is_fine : ValueOrError → Bool) (steps charge : Value → ℕ) (low : k < 56) (small : length items < 2 ^ 32) (is_range : range_of range ≡ Some items) (end : ℕ) (tg : TurnGives s (p + 6) end turn c depth k items f is_last is_fine steps charge) (end_is : end ≡ p + 6 + size turn + 6) (has : Stands s.image.code p (loop_code k turn)) where
   abbrev head : List Insn
   head = loop_head k (size turn + 8)
 
@@ -198,11 +198,11 @@ module _ (s : Setting) (p k depth : ℕ) (turn : List Insn) (c : Context) (range
       (from_place s (tail_place + (5 + 1)) (sym end_is)
       (done s end _ (Result b0 [] acc) (shows_after (omega arith) (omega arith) kept (shows_registers c depth k b _ refl acc turns.fits turns.so_far) turns.fits)))))))
 
-  pub turns_run : (vs : List Value) (i : ℕ) (acc : ValueOrError) (b0 b : Body) → Keeps (variable_count c) depth k b0 b → Turns c depth k range (length items) i acc b → is_last acc ≡ false → ((j : ℕ) (v : Value) → slice_get vs j ≡ Some v → slice_get items (i + j) ≡ Some v) → i + length vs ≡ length items → Comes s (loop_steps steps vs) (loop_charge charge vs) p b end (Result b0 vs acc)
-  turns_run [] i acc b0 b kept turns not_last left all =
+  pub turns_run : (vs : List Value) (i : ℕ) (acc : ValueOrError) (b0 b : Body) → Keeps (variable_count c) depth k b0 b → Turns c depth k range (length items) i acc b → is_last acc ≡ false → is_fine acc ≡ true → ((j : ℕ) (v : Value) → slice_get vs j ≡ Some v → slice_get items (i + j) ≡ Some v) → i + length vs ≡ length items → Comes s (loop_steps steps vs) (loop_charge charge vs) p b end (Result b0 vs acc)
+  turns_run [] i acc b0 b kept turns not_last fine left all =
       let e : i ≡ length items = omega arith in
       loop_ends acc b0 b kept (subst (λ (j : ℕ). Turns c depth k range (length items) j acc b) e turns)
-  turns_run (v ∷ vs) i acc b0 b kept turns not_last left all =
+  turns_run (v ∷ vs) i acc b0 b kept turns not_last fine left all =
       let frame = turns.fits.frame in
       let Q = Result b0 (v ∷ vs) acc in
       let more = loop_steps steps vs in
@@ -232,13 +232,13 @@ module _ (s : Setting) (p k depth : ℕ) (turn : List Insn) (c : Context) (range
       let kept2 = keeps_then (omega arith) kept (keeps_then (omega arith) (keeps_registers c depth k b asks.registers refl (variable_count c)) (keeps_then (omega arith) (keeps_answered depth k a.word (asks.values.charge + 1) a.list asks a.extends (variable_count c)) stored2.keeps)) in
       either (is_last (f acc v))
       (λ last. looser s (steps v + (5 + more)) (charge v + (0 + more_charge)) (omega arith) (omega arith)
-      (into s Q (λ b4 g4. subst (λ (x : ValueOrError). Shows c depth k x b0 b4) (sym (fold_last f is_last (f acc v) vs tg.last last)) (shows_after (omega arith) (omega arith) kept2 g4 stored2.fits)) (tg.leaves b2 acc v (stands_front s.image.code _ turn _ has_turn) at2 not_last last)))
-      (λ goes_on. and_then s (5 + more) (0 + more_charge) end Q (tg.goes_on b2 acc v (stands_front s.image.code _ turn _ has_turn) at2 not_last goes_on) (λ b4 g4.
+      (into s Q (λ b4 g4. subst (λ (x : ValueOrError). Shows c depth k x b0 b4) (sym (fold_last f is_last (f acc v) vs tg.last last)) (shows_after (omega arith) (omega arith) kept2 g4 stored2.fits)) (tg.leaves b2 acc i v item fine (stands_front s.image.code _ turn _ has_turn) at2 not_last last)))
+      (λ goes_on. and_then s (5 + more) (0 + more_charge) end Q (tg.goes_on b2 acc i v item fine (stands_front s.image.code _ turn _ has_turn) at2 not_last goes_on) (λ b4 g4.
       let word4 : (j : ℕ) → j < k + 4 → word_at depth j b4 ≡ word_at depth j b = λ j below. g4.keeps.words depth j (omega arith) (inr (refl, omega arith)) ∙ word2 j below in
       let ranged4 : Names b4.values.values (word_at depth k b4) range = subst (λ (q : ℕ). Names b4.values.values q range) (sym (word4 k (omega arith))) (g4.keeps.values _ range (a.extends.kept _ range turns.names_range)) in
       let fits4 = fits_below c depth k (k + 5) b2 b4 (omega arith) (omega arith) stored2.fits g4.keeps g4.fits in
       and_then s more more_charge end Q (turn_ends s c depth k range (length items) low small tail_place p (size turn + 10) i (f acc v) b4 has_tail (omega arith) (omega arith) fits4 g4.shows ranged4 (word4 (k + 1) (omega arith) ∙ turns.count) (word4 (k + 2) (omega arith) ∙ turns.next)) (λ b5 g5.
-      turns_run vs (i + 1) (f acc v) b0 b5 (keeps_then (omega arith) (keeps_then (omega arith) kept2 g4.keeps) g5.1) g5.0 goes_on (λ j u h. let e : i + 1 + j ≡ i + suc j = omega arith in ap (slice_get items) e ∙ left (suc j) u h) (omega arith))))))))))))
+      turns_run vs (i + 1) (f acc v) b0 b5 (keeps_then (omega arith) (keeps_then (omega arith) kept2 g4.keeps) g5.1) g5.0 goes_on (tg.fine acc i v item fine) (λ j u h. let e : i + 1 + j ≡ i + suc j = omega arith in ap (slice_get items) e ∙ left (suc j) u h) (omega arith))))))))))))
 
 -- ---- the range and what comes before the first turn
 
@@ -314,7 +314,7 @@ module _ (s : Setting) (c : Context) (depth k o off : ℕ) (low : k < 56) (has :
       (done s (o + (6 + off)) _ _ (shows_after (omega arith) (omega arith) (counted_keeps 0xffff_ffff_ffff_ffff) (shows_registers c depth k (counted 0xffff_ffff_ffff_ffff) _ refl error fits2 (names_error _ fits2.values.table.store)) fits2)))))))))
 
 pub fold_gives : FoldGives
-fold_gives s p k depth n1 x1 n2 x2 range first turn c r acc f is_last steps charge low not_last gives_range gives_first tg = record {
+fold_gives s p k depth n1 x1 n2 x2 range first turn c r acc f is_last is_fine steps charge low not_last fine gives_range gives_first tg = record {
   runs = λ b has fits.
       let code = s.image.code in
       let loop = loop_code k turn in
@@ -330,10 +330,10 @@ fold_gives s p k depth n1 x1 n2 x2 range first turn c r acc f is_last steps char
       let total = fold_size k range first turn in
       let inner = loop_size k turn in
       let body_at : q + 9 + size first + 1 + 6 ≡ q + 9 + size first + 7 = omega arith in
-      let tg1 : TurnGives s (q + 9 + size first + 1 + 6) end turn c depth k f is_last steps charge = subst (λ (i : ℕ). TurnGives s i end turn c depth k f is_last steps charge) (sym body_at) tg in
       and_then s (9 + (n2 + (1 + fold_steps steps (range_of r)))) (1 + (x2 + fold_charge charge (range_of r))) end Q (gives_range.runs b (stands_front code p range _ has) fits) (λ b1 g1.
       by_range (range_of r)
       (λ items is.
+      let tg1 : TurnGives s (q + 9 + size first + 1 + 6) end turn c depth k items f is_last is_fine steps charge = subst (λ (i : ℕ). TurnGives s i end turn c depth k items f is_last is_fine steps charge) (sym body_at) (tg items is) in
       subst (λ (o : Option (List Value)). Comes s (9 + (n2 + (1 + fold_steps steps o))) (1 + (x2 + fold_charge charge o)) q b1 end (Shows c depth k (fold_of f acc o) b)) (sym is)
       (and_then s (n2 + (1 + loop_steps steps items)) (x2 + loop_charge charge items) end (Shows c depth k (fold_left f acc items) b) (range_runs s c depth k q (size first + size loop + 4) low (stands_front code q tail _ h0) b1 g1.fits r g1.shows items is) (λ b2 ranged.
       let small = few_items c depth k (word_at depth k b2) r items b2 ranged.fits ranged.names_range is in
@@ -352,7 +352,7 @@ fold_gives s p k depth n1 x1 n2 x2 range first turn c r acc f is_last steps char
       } in
       looser s {n = suc (loop_steps steps items)} {x = loop_charge charge items} (1 + loop_steps steps items) (loop_charge charge items) (omega arith) (omega arith)
       (step.store s (q + 9 + size first) (q + 9 + size first + 1) b3 depth (k + 3) R0 (stands_first code (q + 9 + size first) put loop h2) fits3.frame (omega arith) refl
-      (turns_run s (q + 9 + size first + 1) k depth turn c r items f is_last steps charge low small is end tg1 (omega arith) h3 items 0 acc b b4 kept4 turns not_last (λ j v h. let e : 0 + j ≡ j = omega arith in ap (slice_get items) e ∙ h) (omega arith)))))))
+      (turns_run s (q + 9 + size first + 1) k depth turn c r items f is_last is_fine steps charge low small is end tg1 (omega arith) h3 items 0 acc b b4 kept4 turns not_last fine (λ j v h. let e : 0 + j ≡ j = omega arith in ap (slice_get items) e ∙ h) (omega arith)))))))
       (λ none.
       subst (λ (o : Option (List Value)). Comes s (9 + (n2 + (1 + fold_steps steps o))) (1 + (x2 + fold_charge charge o)) q b1 end (Shows c depth k (fold_of f acc o) b)) (sym none)
       (looser s (9 + (n2 + (1 + 0))) (1 + (x2 + 0)) (omega arith) (omega arith)

@@ -10,3 +10,5 @@ pub mod Programs
 pub mod Helpers
 pub mod Instructions
 pub mod Code
+pub mod Gives
+pub mod Operators

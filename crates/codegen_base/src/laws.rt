@@ -1,6 +1,8 @@
 //! Laws of code, each the clause of a function that does nothing.
+ghost use Rattle.codegen_base.specs.Gives.Logic.{LogicGives};
 ghost use Rattle.codegen_base.specs.Helpers.{HelpersAnswer};
 ghost use Rattle.codegen_base.specs.Loops.{FoldGives};
+ghost use Rattle.codegen_base.specs.Operators.{OneGives, TwoGives, ConvertsThen, CombinesThen, CallsGive};
 ghost use Rattle.codegen_base.specs.Pieces.{SpelledStands};
 ghost use Rattle.codegen_base.specs.Programs.{ProgramExits};
 ghost use Rattle.codegen_base.specs.Variables.{VariableGives};
@@ -17,6 +19,22 @@ pub fn spelled_stands()
 /// What each helper answers, of what its operands name.
 pub fn helpers_answer()
     ensures { HelpersAnswer }
+{}
+
+/// Code for one or two operands with a piece behind it gives what the piece makes of them, one piece
+/// goes on with what another gives, and the call of a helper is such a piece.
+pub fn operands_give()
+    ensures one { OneGives }
+    ensures two { TwoGives }
+    ensures converts { ConvertsThen }
+    ensures combines { CombinesThen }
+    ensures calls { CallsGive }
+{}
+
+/// Code for their operands makes code for `&&`, `||`, `!` and the conditional; `&&` and `||` leave early
+/// where the left side decides, and of the conditional only the chosen side runs.
+pub fn logic_gives()
+    ensures { LogicGives }
 {}
 
 /// Code for a range, for a first answer and for a turn makes a loop over the range's items, which gives
