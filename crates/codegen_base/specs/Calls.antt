@@ -44,6 +44,11 @@ Answers helper b w list cost = helper_row helper (arguments_in b) b.values.value
 abbrev pub Refuses : ℤ → Body → Type 0
 Refuses helper b = helper_row helper (arguments_in b) b.values.values b.memory.constants ≡ Stops F8
 
+-- the helper answers a plain word at a cost, and places nothing
+pub record Tells (helper : ℤ) (b : Body) (w cost : ℕ) : Type 0 where
+  pub answers : Answers helper b w b.values.values cost
+  pub table : b.values.charge + cost ≤ charge_limit → IsTable (record { values = b.values.values; charge = b.values.charge + cost })
+
 -- the helper answers a reference of the value or of the error, at a cost; old references name what they named
 pub record Places (helper : ℤ) (b : Body) (x : ValueOrError) (cost : ℕ) : Type 0 where
   pub word : ℕ

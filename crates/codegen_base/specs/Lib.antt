@@ -7,3 +7,8 @@ pub mod Contexts
 pub mod Loops
 pub mod Variables
 pub mod Programs
+pub mod Helpers
+pub mod Instructions
+pub mod Code
+pub mod Gives
+pub mod Operators

@@ -1,5 +1,5 @@
 -- Loops over the items of a range, which leave early where no further item changes the answer.
-use Rattle.std.specs.Prelude.{◌≡◌, ℕ, ◌+◌, ◌<◌, Bool, true, false, pos, negsuc, List, [], ◌∷◌, ◌++◌, Option, Some, None}
+use Rattle.std.specs.Prelude.{◌≡◌, ℕ, ◌+◌, ◌<◌, Bool, true, false, pos, negsuc, List, [], ◌∷◌, ◌++◌, Option, Some, None, slice_get}
 use Rattle.std.specs.Prelude.{fold as fold_left}
 use Rattle.helper_table.specs.Laws.{Names}
 use Rattle.insn_codec.specs.declared.alu_op.AluOp.TheVariants.{Add, Mov}
@@ -56,11 +56,12 @@ pub record AtTurn (c : Context) (depth k : ℕ) (acc : ValueOrError) (v : Value)
   pub so_far : Names b.values.values (word_at depth (k + 3) b) acc
   pub item : Names b.values.values (word_at depth (k + 4) b) (value v)
 
--- the piece at slot p makes the next answer, and leaves for slot `end` where that is the last
-pub record TurnGives (s : Setting) (p end : ℕ) (turn : List Insn) (c : Context) (depth k : ℕ) (f : ValueOrError → Value → ValueOrError) (is_last : ValueOrError → Bool) (steps charge : Value → ℕ) : Type 0 where
-  pub goes_on : (b : Body) (acc : ValueOrError) (v : Value) → Stands s.image.code p turn → AtTurn c depth k acc v b → is_last acc ≡ false → is_last (f acc v) ≡ false → Comes s (steps v) (charge v) p b (p + size turn) (Shows c depth (k + 5) (f acc v) b)
-  pub leaves : (b : Body) (acc : ValueOrError) (v : Value) → Stands s.image.code p turn → AtTurn c depth k acc v b → is_last acc ≡ false → is_last (f acc v) ≡ true → Comes s (steps v) (charge v) p b end (Shows c depth (k + 5) (f acc v) b)
+-- for each item the piece at slot p makes the next answer, and leaves for slot `end` where that is the last; what `is_fine` asks of answers holds from one to the next
+pub record TurnGives (s : Setting) (p end : ℕ) (turn : List Insn) (c : Context) (depth k : ℕ) (items : List Value) (f : ValueOrError → Value → ValueOrError) (is_last is_fine : ValueOrError → Bool) (steps charge : Value → ℕ) : Type 0 where
+  pub goes_on : (b : Body) (acc : ValueOrError) (i : ℕ) (v : Value) → slice_get items i ≡ Some v → is_fine acc ≡ true → Stands s.image.code p turn → AtTurn c depth k acc v b → is_last acc ≡ false → is_last (f acc v) ≡ false → Comes s (steps v) (charge v) p b (p + size turn) (Shows c depth (k + 5) (f acc v) b)
+  pub leaves : (b : Body) (acc : ValueOrError) (i : ℕ) (v : Value) → slice_get items i ≡ Some v → is_fine acc ≡ true → Stands s.image.code p turn → AtTurn c depth k acc v b → is_last acc ≡ false → is_last (f acc v) ≡ true → Comes s (steps v) (charge v) p b end (Shows c depth (k + 5) (f acc v) b)
   pub last : (acc : ValueOrError) (v : Value) → is_last acc ≡ true → f acc v ≡ acc
+  pub fine : (acc : ValueOrError) (i : ℕ) (v : Value) → slice_get items i ≡ Some v → is_fine acc ≡ true → is_fine (f acc v) ≡ true
 
 -- what a loop takes over its items, when each turn takes this
 abbrev pub loop_steps : (Value → ℕ) → List Value → ℕ
@@ -104,9 +105,9 @@ fold_charge charge None = 0
 
 -- pieces for a range, for the first answer and for a turn make a fold, with 10 steps and 1 of charge of its own
 abbrev pub FoldGives : Type 0
-FoldGives = (s : Setting) (p k depth n1 x1 n2 x2 : ℕ) (range first turn : List Insn) (c : Context) (r acc : ValueOrError) (f : ValueOrError → Value → ValueOrError) (is_last : ValueOrError → Bool) (steps charge : Value → ℕ)
-    → k < 56 → is_last acc ≡ false
+FoldGives = (s : Setting) (p k depth n1 x1 n2 x2 : ℕ) (range first turn : List Insn) (c : Context) (r acc : ValueOrError) (f : ValueOrError → Value → ValueOrError) (is_last is_fine : ValueOrError → Bool) (steps charge : Value → ℕ)
+    → k < 56 → is_last acc ≡ false → is_fine acc ≡ true
     → Gives s p range c depth k r n1 x1
     → Gives s (p + size range + 9) first c depth (k + 3) acc n2 x2
-    → TurnGives s (p + size range + 9 + size first + 7) (p + size (fold_code k range first turn)) turn c depth k f is_last steps charge
+    → ((items : List Value) → range_of r ≡ Some items → TurnGives s (p + size range + 9 + size first + 7) (p + size (fold_code k range first turn)) turn c depth k items f is_last is_fine steps charge)
     → Gives s p (fold_code k range first turn) c depth k (fold_of f acc (range_of r)) (n1 + (9 + (n2 + (1 + fold_steps steps (range_of r))))) (x1 + (1 + (x2 + fold_charge charge (range_of r))))
