@@ -1,0 +1,372 @@
+-- The code of logical operators and of the conditional gives their meaning.
+use Rattle.std.proofs.Common.{◌≡◌, ℕ, suc, ◌+◌, ◌<◌, ◌≤◌, List, [], ◌∷◌, ◌++◌, Bool, true, false, not, refl, sym, ap, ◌∙◌, subst, arith}
+use Rattle.std.specs.Prelude.{ℤ, pos}
+use Rattle.std.specs.Int.{w64, cast_unsigned}
+use Rattle.std.proofs.lemmas.Int.{ints}
+use Rattle.helper_table.specs.Laws.{Names}
+use Rattle.insn_codec.specs.declared.alu_op.AluOp.TheVariants.{Mov}
+use Rattle.insn_codec.specs.declared.comparison.Comparison.TheVariants.{Eq, Ne}
+use Rattle.insn_codec.specs.declared.insn.Insn.{Insn}
+use Rattle.insn_codec.specs.declared.operand.Operand.TheVariants.{Imm}
+use Rattle.insn_codec.specs.declared.register.Register.TheVariants.{R0}
+use Rattle.insn_codec.specs.declared.width.Width.TheVariants.{W64}
+use Rattle.value_store.specs.Value.{ValueOrError, error, value, null, boolean, int, text, list, map}
+use Rattle.cel_macros.specs.FoldMeaning.{is_error}
+use Rattle.cel_macros.specs.Logic.{Truth, Yes, No, Other, and_of, chosen, conjunction, disjunction, not_of, of_truth, or_of, ternary_of, truth}
+use Rattle.bpf_machine.specs.Words.{compares}
+use Rattle.codegen_base.specs.Body.{Body}
+use Rattle.codegen_base.specs.Code.Logic.{absorbing_code, absorbing_tail, no_ref, ternary_code, yes_ref}
+use Rattle.codegen_base.specs.Contexts.{Context, Fits, Gives, Shows}
+use Rattle.codegen_base.specs.Engine.{Setting, Comes}
+use Rattle.codegen_base.specs.Gives.Logic.{AbsorbingGives, LogicGives, TernaryGives}
+use Rattle.codegen_base.specs.Instructions as insn
+use Rattle.codegen_base.specs.Pieces.{Stands, size}
+use Rattle.codegen_base.specs.Words.{word_at}
+use Rattle.codegen_base.proofs.Effects.{mov_is}
+use Rattle.codegen_base.proofs.Frames.{keeps_then, shows_registers}
+use Rattle.codegen_base.proofs.Helpers.{helpers}
+use Rattle.codegen_base.proofs.Listings.{begins, load, mov, no, yes}
+use Rattle.codegen_base.proofs.Loops.{either}
+use Rattle.codegen_base.proofs.Operators.{calls_give, keeps_left}
+use Rattle.codegen_base.proofs.Pieces.{size-append, size-cons, stands_back, stands_first, stands_front, stands_rest}
+use Rattle.codegen_base.proofs.Runs.{and_then, done, into, looser, to_place}
+use Rattle.codegen_base.proofs.Steps as step
+use Rattle.codegen_base.proofs.Values.{Told, names_error, told}
+
+-- ---- operators for which one truth decides
+
+-- a side of such an operator: the truth that decides, the other one, or neither
+pub data Side : Type 0 where
+  Decides : Side
+  Leaves : Side
+  Neither : Side
+
+abbrev pub is_decides : Side → Bool
+is_decides Decides = true
+is_decides Leaves = false
+is_decides Neither = false
+
+abbrev pub is_leaves : Side → Bool
+is_leaves Decides = false
+is_leaves Leaves = true
+is_leaves Neither = false
+
+-- what tests of a reference say of a side
+pub record Tested (decides other : ℤ) (side : Side) (r : ℕ) : Type 0 where
+  pub decided : compares W64 Eq r (cast_unsigned w64 decides) ≡ is_decides side
+  pub leaves : compares W64 Eq r (cast_unsigned w64 other) ≡ is_leaves side
+  pub not_leaves : compares W64 Ne r (cast_unsigned w64 other) ≡ not (is_leaves side)
+
+-- an operator with its sides
+pub record Absorbing (decides other : ℤ) (f : ValueOrError → ValueOrError → ValueOrError) : Type 0 where
+  pub side : ValueOrError → Side
+  pub tested : (x : ValueOrError) (r : ℕ) → Told (truth x) (is_error x) r → Tested decides other (side x) r
+  pub left_decides : (x y : ValueOrError) → side x ≡ Decides → f x y ≡ x
+  pub right_decides : (x y : ValueOrError) → side y ≡ Decides → f x y ≡ y
+  pub both_leave : (x y : ValueOrError) → side x ≡ Leaves → side y ≡ Leaves → f x y ≡ y
+  pub left_neither : (x y : ValueOrError) → side x ≡ Neither → is_decides (side y) ≡ false → f x y ≡ error
+  pub right_neither : (x y : ValueOrError) → is_decides (side x) ≡ false → side y ≡ Neither → f x y ≡ error
+
+pub told_in : (c : Context) (depth base r : ℕ) (x : ValueOrError) (b : Body) → Fits c depth base b → Names b.values.values r x → Told (truth x) (is_error x) r
+told_in c depth base r x b fits named = told b.values r x fits.values.table.store fits.values.canonical named
+
+module _ (decides other : ℤ) (f : ValueOrError → ValueOrError → ValueOrError) (op : Absorbing decides other f) (s : Setting) (c : Context) (depth base k o : ℕ) (has : Stands s.image.code o (absorbing_tail decides other k)) (below : k < 64) (b : Body) (fits : Fits c depth base b) (x y : ValueOrError) (left : Tested decides other (op.side x) (word_at depth k b)) (right : Tested decides other (op.side y) (b.registers R0)) (named : Names b.values.values (b.registers R0) y) where
+  -- R0 keeps the right side
+  decided_runs : op.side y ≡ Decides → Comes s 5 0 o b (o + 5) (Shows c depth base (f x y) b)
+  decided_runs is =
+      looser s 5 0 (omega arith) (omega arith) (begins has
+      (load has 0 k refl fits.frame below refl
+      (yes has 1 3 refl (right.decided ∙ ap is_decides is)
+      (done s (o + 5) _ _ (shows_registers c depth base b _ refl (f x y) fits (subst (Names b.values.values (b.registers R0)) (sym (op.right_decides x y is)) named))))))
+
+  both_runs : op.side x ≡ Leaves → op.side y ≡ Leaves → Comes s 5 0 o b (o + 5) (Shows c depth base (f x y) b)
+  both_runs is_left is_right =
+      looser s 5 0 (omega arith) (omega arith) (begins has
+      (load has 0 k refl fits.frame below refl
+      (no has 1 refl (right.decided ∙ ap is_decides is_right)
+      (no has 2 refl (left.not_leaves ∙ ap (λ (side : Side). not (is_leaves side)) is_left)
+      (yes has 3 1 refl (right.leaves ∙ ap is_leaves is_right)
+      (done s (o + 5) _ _ (shows_registers c depth base b _ refl (f x y) fits (subst (Names b.values.values (b.registers R0)) (sym (op.both_leave x y is_left is_right)) named))))))))
+
+  -- R0 gets the error's reference
+  left_runs : op.side x ≡ Neither → is_decides (op.side y) ≡ false → Comes s 5 0 o b (o + 5) (Shows c depth base (f x y) b)
+  left_runs is_left is_right =
+      looser s 5 0 (omega arith) (omega arith) (begins has
+      (load has 0 k refl fits.frame below refl
+      (no has 1 refl (right.decided ∙ is_right)
+      (yes has 2 1 refl (left.not_leaves ∙ ap (λ (side : Side). not (is_leaves side)) is_left)
+      (mov has 4 refl refl
+      (done s (o + 5) _ _ (shows_registers c depth base b _ refl (f x y) fits (subst (Names b.values.values 0) (sym (op.left_neither x y is_left is_right)) (names_error b.values fits.values.table.store)))))))))
+
+  right_runs : op.side x ≡ Leaves → op.side y ≡ Neither → Comes s 5 0 o b (o + 5) (Shows c depth base (f x y) b)
+  right_runs is_left is_right =
+      looser s 5 0 (omega arith) (omega arith) (begins has
+      (load has 0 k refl fits.frame below refl
+      (no has 1 refl (right.decided ∙ ap is_decides is_right)
+      (no has 2 refl (left.not_leaves ∙ ap (λ (side : Side). not (is_leaves side)) is_left)
+      (no has 3 refl (right.leaves ∙ ap is_leaves is_right)
+      (mov has 4 refl refl
+      (done s (o + 5) _ _ (shows_registers c depth base b _ refl (f x y) fits (subst (Names b.values.values 0) (sym (op.right_neither x y (ap is_decides is_left) is_right)) (names_error b.values fits.values.table.store))))))))))
+
+  tail_by : (t u : Side) → op.side x ≡ t → op.side y ≡ u → is_decides t ≡ false → Comes s 5 0 o b (o + 5) (Shows c depth base (f x y) b)
+  tail_by Decides u is_left is_right early = absurd (cc)
+  tail_by Leaves Decides is_left is_right early = decided_runs is_right
+  tail_by Leaves Leaves is_left is_right early = both_runs is_left is_right
+  tail_by Leaves Neither is_left is_right early = right_runs is_left is_right
+  tail_by Neither Decides is_left is_right early = decided_runs is_right
+  tail_by Neither Leaves is_left is_right early = left_runs is_left (ap is_decides is_right)
+  tail_by Neither Neither is_left is_right early = left_runs is_left (ap is_decides is_right)
+
+  -- the tail of an operator whose left side does not decide
+  pub absorbing_runs : is_decides (op.side x) ≡ false → Comes s 5 0 o b (o + 5) (Shows c depth base (f x y) b)
+  absorbing_runs early = tail_by (op.side x) (op.side y) refl refl early
+
+decides_is : (side : Side) → is_decides side ≡ true → side ≡ Decides
+decides_is Decides e = refl
+decides_is Leaves e = absurd (cc)
+decides_is Neither e = absurd (cc)
+
+absorbing_gives : (decides other : ℤ) (f : ValueOrError → ValueOrError → ValueOrError) → Absorbing decides other f → AbsorbingGives decides other f
+absorbing_gives decides other f op s p k left right c depth x y n1 x1 n2 x2 low gives_left gives_right = record {
+  runs = λ b has fits.
+      let code = s.image.code in
+      let leave = insn.skip_if Eq R0 decides (size right + 6) in
+      let put = insn.store k R0 in
+      let tail = absorbing_tail decides other k in
+      let q = p + size left in
+      let h0 = stands_back code p left (leave ∷ put ∷ (right ++ tail)) has in
+      let h1 = stands_rest code q leave (put ∷ (right ++ tail)) h0 in
+      let h2 : Stands code (q + 1) (put ∷ right) = stands_front code (q + 1) (put ∷ right) tail h1 in
+      let place2 : q + 1 + size (put ∷ right) ≡ q + 1 + 1 + size right = omega (arith, size-cons put right) in
+      let h3 : Stands code (q + 1 + 1 + size right) tail = subst (λ (i : ℕ). Stands code i tail) place2 (stands_back code (q + 1) (put ∷ right) tail h1) in
+      let two : q + 2 ≡ q + 1 + 1 = omega arith in
+      let right1 = subst (λ (i : ℕ). Gives s i right c depth (k + 1) y n2 x2) two gives_right in
+      let end = q + 1 + 1 + size right + 5 in
+      let Q = Shows c depth k (f x y) b in
+      let place : end ≡ p + size (absorbing_code decides other left right k) = omega (arith, size-append left (leave ∷ put ∷ (right ++ tail)), size-cons leave (put ∷ (right ++ tail)), size-cons put (right ++ tail), size-append right tail) in
+      to_place s _ place
+      (and_then s (2 + (n2 + 5)) x2 end Q (gives_left.runs b (stands_front code p left _ has) fits) (λ b1 g1.
+      let seen1 = op.tested x (b1.registers R0) (told_in c depth k (b1.registers R0) x b1 g1.fits g1.shows) in
+      either (is_decides (op.side x))
+      (λ is. looser s (2 + (n2 + 5)) x2 (omega arith) (omega arith) (step.branch_yes s q end b1 Eq W64 R0 (Imm decides) (pos (size right + 6)) (stands_first code q leave _ h0) (seen1.decided ∙ is) (omega (arith, ints))
+      (done s end b1 Q (subst (λ (z : ValueOrError). Shows c depth k z b b1) (sym (op.left_decides x y (decides_is (op.side x) is))) g1))))
+      (λ is_not. looser s {n = suc (1 + n2 + 5)} {x = x2 + 0} (2 + (n2 + 5)) x2 (omega arith) (omega arith) (step.branch_no s q (q + 1) b1 Eq W64 R0 (Imm decides) (pos (size right + 6)) (stands_first code q leave _ h0) (seen1.decided ∙ is_not) refl
+      (and_then s 5 0 end Q (keeps_left s k right c depth x y n2 x2 low (q + 1) b1 h2 g1.fits g1.shows right1) (λ b2 g2.
+      into s Q (λ b3 g3. record { shows = g3.shows; fits = g3.fits; keeps = keeps_then (omega arith) (keeps_then (omega arith) g1.keeps g2.shown.keeps) g3.keeps })
+      (absorbing_runs decides other f op s c depth k k (q + 1 + 1 + size right) h3 (omega arith) b2 g2.shown.fits x y (op.tested x (word_at depth k b2) (told_in c depth k (word_at depth k b2) x b2 g2.shown.fits g2.left)) (op.tested y (b2.registers R0) (told_in c depth k (b2.registers R0) y b2 g2.shown.fits g2.shown.shows)) g2.shown.shows is_not)))))));
+}
+
+-- ---- `&&` and `||`
+
+abbrev and_side : Truth → Side
+and_side Yes = Leaves
+and_side No = Decides
+and_side Other = Neither
+
+abbrev or_side : Truth → Side
+or_side Yes = Decides
+or_side No = Leaves
+or_side Other = Neither
+
+and_tested : (t : Truth) (fails : Bool) (r : ℕ) → Told t fails r → Tested no_ref yes_ref (and_side t) r
+and_tested Yes fails r h = record { decided = h.no; leaves = h.yes; not_leaves = h.not_yes }
+and_tested No fails r h = record { decided = h.no; leaves = h.yes; not_leaves = h.not_yes }
+and_tested Other fails r h = record { decided = h.no; leaves = h.yes; not_leaves = h.not_yes }
+
+or_tested : (t : Truth) (fails : Bool) (r : ℕ) → Told t fails r → Tested yes_ref no_ref (or_side t) r
+or_tested Yes fails r h = record { decided = h.yes; leaves = h.no; not_leaves = h.not_no }
+or_tested No fails r h = record { decided = h.yes; leaves = h.no; not_leaves = h.not_no }
+or_tested Other fails r h = record { decided = h.yes; leaves = h.no; not_leaves = h.not_no }
+
+-- a value with this truth is the truth
+truth_is : (x : ValueOrError) (t : Truth) → truth x ≡ t → (t ≡ Other → ⊥) → of_truth t ≡ x
+truth_is error t e known = absurd (known (sym e))
+truth_is (value null) t e known = absurd (known (sym e))
+truth_is (value (boolean true)) t e known = ap of_truth (sym e)
+truth_is (value (boolean false)) t e known = ap of_truth (sym e)
+truth_is (value (int z)) t e known = absurd (known (sym e))
+truth_is (value (text u)) t e known = absurd (known (sym e))
+truth_is (value (list is)) t e known = absurd (known (sym e))
+truth_is (value (map es)) t e known = absurd (known (sym e))
+
+-- the truth that decides, the other one, and neither, of each operator
+and_decided : (t : Truth) → and_side t ≡ Decides → t ≡ No
+and_decided Yes e = absurd (cc)
+and_decided No e = refl
+and_decided Other e = absurd (cc)
+
+and_left : (t : Truth) → and_side t ≡ Leaves → t ≡ Yes
+and_left Yes e = refl
+and_left No e = absurd (cc)
+and_left Other e = absurd (cc)
+
+and_neither : (t : Truth) → and_side t ≡ Neither → t ≡ Other
+and_neither Yes e = absurd (cc)
+and_neither No e = absurd (cc)
+and_neither Other e = refl
+
+or_decided : (t : Truth) → or_side t ≡ Decides → t ≡ Yes
+or_decided Yes e = refl
+or_decided No e = absurd (cc)
+or_decided Other e = absurd (cc)
+
+or_left : (t : Truth) → or_side t ≡ Leaves → t ≡ No
+or_left Yes e = absurd (cc)
+or_left No e = refl
+or_left Other e = absurd (cc)
+
+or_neither : (t : Truth) → or_side t ≡ Neither → t ≡ Other
+or_neither Yes e = absurd (cc)
+or_neither No e = absurd (cc)
+or_neither Other e = refl
+
+and_no : (t : Truth) → conjunction t No ≡ No
+and_no Yes = refl
+and_no No = refl
+and_no Other = refl
+
+or_yes : (t : Truth) → disjunction t Yes ≡ Yes
+or_yes Yes = refl
+or_yes No = refl
+or_yes Other = refl
+
+and_other_left : (t : Truth) → is_decides (and_side t) ≡ false → conjunction Other t ≡ Other
+and_other_left Yes e = refl
+and_other_left No e = absurd (cc)
+and_other_left Other e = refl
+
+and_other_right : (t : Truth) → is_decides (and_side t) ≡ false → conjunction t Other ≡ Other
+and_other_right Yes e = refl
+and_other_right No e = absurd (cc)
+and_other_right Other e = refl
+
+or_other_left : (t : Truth) → is_decides (or_side t) ≡ false → disjunction Other t ≡ Other
+or_other_left Yes e = absurd (cc)
+or_other_left No e = refl
+or_other_left Other e = refl
+
+or_other_right : (t : Truth) → is_decides (or_side t) ≡ false → disjunction t Other ≡ Other
+or_other_right Yes e = absurd (cc)
+or_other_right No e = refl
+or_other_right Other e = refl
+
+no_left : (t : Truth) → conjunction No t ≡ No
+no_left Yes = refl
+no_left No = refl
+no_left Other = refl
+
+yes_left : (t : Truth) → disjunction Yes t ≡ Yes
+yes_left Yes = refl
+yes_left No = refl
+yes_left Other = refl
+
+pub and_absorbs : Absorbing no_ref yes_ref and_of
+and_absorbs = record {
+  side = λ x. and_side (truth x);
+  tested = λ x r h. and_tested (truth x) (is_error x) r h;
+  left_decides = λ x y e. let t = and_decided (truth x) e in ap (λ (u : Truth). of_truth (conjunction u (truth y))) t ∙ ap of_truth (no_left (truth y)) ∙ truth_is x No t (λ h. absurd (cc));
+  right_decides = λ x y e. let t = and_decided (truth y) e in ap (λ (u : Truth). of_truth (conjunction (truth x) u)) t ∙ ap of_truth (and_no (truth x)) ∙ truth_is y No t (λ h. absurd (cc));
+  both_leave = λ x y e f. let t = and_left (truth x) e in let u = and_left (truth y) f in ap (λ (w : Truth). of_truth (conjunction w (truth y))) t ∙ ap (λ (w : Truth). of_truth (conjunction Yes w)) u ∙ truth_is y Yes u (λ h. absurd (cc));
+  left_neither = λ x y e f. ap (λ (w : Truth). of_truth (conjunction w (truth y))) (and_neither (truth x) e) ∙ ap of_truth (and_other_left (truth y) f);
+  right_neither = λ x y e f. ap (λ (w : Truth). of_truth (conjunction (truth x) w)) (and_neither (truth y) f) ∙ ap of_truth (and_other_right (truth x) e);
+}
+
+pub or_absorbs : Absorbing yes_ref no_ref or_of
+or_absorbs = record {
+  side = λ x. or_side (truth x);
+  tested = λ x r h. or_tested (truth x) (is_error x) r h;
+  left_decides = λ x y e. let t = or_decided (truth x) e in ap (λ (u : Truth). of_truth (disjunction u (truth y))) t ∙ ap of_truth (yes_left (truth y)) ∙ truth_is x Yes t (λ h. absurd (cc));
+  right_decides = λ x y e. let t = or_decided (truth y) e in ap (λ (u : Truth). of_truth (disjunction (truth x) u)) t ∙ ap of_truth (or_yes (truth x)) ∙ truth_is y Yes t (λ h. absurd (cc));
+  both_leave = λ x y e f. let t = or_left (truth x) e in let u = or_left (truth y) f in ap (λ (w : Truth). of_truth (disjunction w (truth y))) t ∙ ap (λ (w : Truth). of_truth (disjunction No w)) u ∙ truth_is y No u (λ h. absurd (cc));
+  left_neither = λ x y e f. ap (λ (w : Truth). of_truth (disjunction w (truth y))) (or_neither (truth x) e) ∙ ap of_truth (or_other_left (truth y) f);
+  right_neither = λ x y e f. ap (λ (w : Truth). of_truth (disjunction (truth x) w)) (or_neither (truth y) f) ∙ ap of_truth (or_other_right (truth x) e);
+}
+
+-- ---- the conditional
+
+module _ (s : Setting) (p base : ℕ) (condition one other : List Insn) (c : Context) (depth : ℕ) (t x y : ValueOrError) (n1 x1 n2 x2 n3 x3 : ℕ) (low : base ≤ 64) (has : Stands s.image.code p (ternary_code condition one other)) where
+  abbrev q : ℕ
+  q = p + size condition
+
+  abbrev last : List Insn
+  last = insn.skip 1 ∷ insn.put R0 (pos 0) ∷ []
+
+  abbrev over : Insn
+  over = insn.skip (size other + 2)
+
+  abbrev to_other : Insn
+  to_other = insn.skip_if Eq R0 no_ref (size one + 2)
+
+  abbrev to_error : Insn
+  to_error = insn.skip_if Ne R0 yes_ref (size one + size other + 2)
+
+  abbrev sides : List Insn
+  sides = one ++ over ∷ (other ++ last)
+
+  abbrev end : ℕ
+  end = q + 2 + size one + 1 + size other + 2
+
+  has0 : Stands s.image.code q (to_other ∷ to_error ∷ sides)
+  has0 = stands_back s.image.code p condition (to_other ∷ to_error ∷ sides) has
+
+  has1 : Stands s.image.code (q + 1) (to_error ∷ sides)
+  has1 = stands_rest s.image.code q to_other (to_error ∷ sides) has0
+
+  has2 : Stands s.image.code (q + 2) sides
+  has2 = let place : q + 1 + 1 ≡ q + 2 = omega arith in subst (λ (i : ℕ). Stands s.image.code i sides) place (stands_rest s.image.code (q + 1) to_error sides has1)
+
+  has3 : Stands s.image.code (q + 2 + size one) (over ∷ (other ++ last))
+  has3 = stands_back s.image.code (q + 2) one (over ∷ (other ++ last)) has2
+
+  has4 : Stands s.image.code (q + 2 + size one + 1) (other ++ last)
+  has4 = stands_rest s.image.code (q + 2 + size one) over (other ++ last) has3
+
+  has5 : Stands s.image.code (q + 2 + size one + 1 + size other) last
+  has5 = stands_back s.image.code (q + 2 + size one + 1) other last has4
+
+  end_is : end ≡ p + size (ternary_code condition one other)
+  end_is = omega (arith, size-append condition (to_other ∷ to_error ∷ sides), size-cons to_other (to_error ∷ sides), size-cons to_error sides, size-append one (over ∷ (other ++ last)), size-cons over (other ++ last), size-append other last)
+
+  -- what is chosen, where the condition has this truth
+  chosen_runs : (u : Truth) → truth t ≡ u → (u ≡ Yes → Gives s (q + 2) one c depth base x n2 x2) → (u ≡ No → Gives s (q + 2 + size one + 1) other c depth base y n3 x3) → (b : Body) → Fits c depth base b → Told u (is_error t) (b.registers R0) → Comes s (2 + (chosen u n2 n3 0 + 1)) (chosen u x2 x3 0) q b end (Shows c depth base (chosen u x y error) b)
+  chosen_runs Yes is gives_one gives_other b fits told =
+      looser s {n = suc (suc (n2 + 1))} {x = x2 + 0} (2 + (n2 + 1)) x2 (omega arith) (omega arith)
+      (step.branch_no s q (q + 1) b Eq W64 R0 (Imm no_ref) (pos (size one + 2)) (stands_first s.image.code q to_other _ has0) told.no refl
+      (step.branch_no s (q + 1) (q + 2) b Ne W64 R0 (Imm yes_ref) (pos (size one + size other + 2)) (stands_first s.image.code (q + 1) to_error _ has1) told.not_yes (omega arith)
+      (and_then s 1 0 end (Shows c depth base x b) ((gives_one refl).runs b (stands_front s.image.code (q + 2) one _ has2) fits) (λ b1 g1.
+      step.jump s (q + 2 + size one) end b1 (pos (size other + 2)) (stands_first s.image.code (q + 2 + size one) over _ has3) (omega (arith, ints))
+      (done s end b1 (Shows c depth base x b) g1)))))
+  chosen_runs No is gives_one gives_other b fits told =
+      looser s {n = suc (n3 + 1)} {x = x3 + 0} (2 + (n3 + 1)) x3 (omega arith) (omega arith)
+      (step.branch_yes s q (q + 2 + size one + 1) b Eq W64 R0 (Imm no_ref) (pos (size one + 2)) (stands_first s.image.code q to_other _ has0) told.no (omega (arith, ints))
+      (and_then s 1 0 end (Shows c depth base y b) ((gives_other refl).runs b (stands_front s.image.code (q + 2 + size one + 1) other _ has4) fits) (λ b1 g1.
+      step.jump s (q + 2 + size one + 1 + size other) end b1 (pos 1) (stands_first s.image.code (q + 2 + size one + 1 + size other) (insn.skip 1) _ has5) (omega (arith, ints))
+      (done s end b1 (Shows c depth base y b) g1))))
+  chosen_runs Other is gives_one gives_other b fits told =
+      let at_error = q + 2 + size one + 1 + size other + 1 in
+      looser s {n = 3} {x = 0} (2 + (0 + 1)) 0 (omega arith) (omega arith)
+      (step.branch_no s q (q + 1) b Eq W64 R0 (Imm no_ref) (pos (size one + 2)) (stands_first s.image.code q to_other _ has0) told.no refl
+      (step.branch_yes s (q + 1) at_error b Ne W64 R0 (Imm yes_ref) (pos (size one + size other + 2)) (stands_first s.image.code (q + 1) to_error _ has1) told.not_yes (omega (arith, ints))
+      (step.alu s at_error end b Mov W64 R0 (Imm (pos 0)) 0 (stands_first s.image.code at_error (insn.put R0 (pos 0)) [] (stands_rest s.image.code (q + 2 + size one + 1 + size other) (insn.skip 1) (insn.put R0 (pos 0) ∷ []) has5)) refl (mov_is (b.registers R0) 0) (omega arith)
+      (done s end _ (Shows c depth base error b) (shows_registers c depth base b _ refl error fits (names_error b.values fits.values.table.store))))))
+
+  ternary_runs : Gives s p condition c depth base t n1 x1 → (truth t ≡ Yes → Gives s (q + 2) one c depth base x n2 x2) → (truth t ≡ No → Gives s (q + 2 + size one + 1) other c depth base y n3 x3) → (b : Body) → Fits c depth base b → Comes s (n1 + (2 + (chosen (truth t) n2 n3 0 + 1))) (x1 + chosen (truth t) x2 x3 0) p b (p + size (ternary_code condition one other)) (Shows c depth base (ternary_of t x y) b)
+  ternary_runs gives_condition gives_one gives_other b fits =
+      let Q = Shows c depth base (ternary_of t x y) b in
+      to_place s _ end_is
+      (and_then s (2 + (chosen (truth t) n2 n3 0 + 1)) (chosen (truth t) x2 x3 0) end Q (gives_condition.runs b (stands_front s.image.code p condition _ has) fits) (λ b1 g1.
+      into s Q (λ b2 g2. record { shows = g2.shows; fits = g2.fits; keeps = keeps_then (omega arith) g1.keeps g2.keeps })
+      (chosen_runs (truth t) refl gives_one gives_other b1 g1.fits (told_in c depth base (b1.registers R0) t b1 g1.fits g1.shows))))
+
+ternary_gives : TernaryGives
+ternary_gives s p base condition one other c depth t x y n1 x1 n2 x2 n3 x3 low gives_condition gives_one gives_other = record {
+  runs = λ b has fits. ternary_runs s p base condition one other c depth t x y n1 x1 n2 x2 n3 x3 low has gives_condition gives_one gives_other b fits;
+}
+
+pub logic_gives : LogicGives
+logic_gives = record {
+  and = absorbing_gives no_ref yes_ref and_of and_absorbs;
+  or = absorbing_gives yes_ref no_ref or_of or_absorbs;
+  not = λ s p c depth base x low. calls_give.one s p (pos 23) not_of c depth base x low helpers.not;
+  ternary = ternary_gives;
+}

@@ -1,0 +1,83 @@
+-- A program from its start to its exit.
+use Rattle.std.proofs.Common.{◌≡◌, ℕ, suc, ◌+◌, ◌*◌, ◌<◌, ◌≤◌, List, [], ◌∷◌, ◌++◌, replicate, Bool, true, false, refl, sym, subst, arith, inl}
+use Rattle.std.specs.Prelude.{All, nat_eq, pos, Some, if◌then◌else◌}
+use Rattle.std.proofs.lemmas.List.Elements.{All-take, All-drop, All-head, All-replicate, All-tail}
+use Rattle.guest_memory.specs.Memory.{start_memory}
+use Rattle.guest_memory.specs.RegionWords.{word_in}
+use Rattle.guest_memory.specs.Word.{word_of, part}
+use Rattle.guest_memory.proofs.Start.{start_laws}
+use Rattle.insn_codec.specs.declared.insn.Insn.TheVariants.{Exit}
+use Rattle.insn_codec.specs.declared.register.Register.TheVariants.{R0}
+use Rattle.loader.specs.Contents as loader
+use Rattle.value_store.specs.Placing.{Contents}
+use Rattle.value_store.specs.Value.{ValueOrError}
+use Rattle.helper_table.specs.Laws.{Names}
+use Rattle.cel_macros.specs.Environment.{Roots}
+use Rattle.bpf_machine.specs.Decoding.{DecodesSpelling, fetched}
+use Rattle.bpf_machine.specs.State.{State, start_state}
+use Rattle.bpf_machine.specs.Trace.{state_after}
+use Rattle.codegen_base.specs.Body.{Body, at}
+use Rattle.codegen_base.specs.Engine.{Setting, Halts, Over, Left}
+use Rattle.codegen_base.specs.Pieces.{Stands, size}
+use Rattle.codegen_base.specs.Programs.{ProgramExits, start_body, total}
+use Rattle.codegen_base.specs.Contexts.{Fits, HasValues}
+use Rattle.codegen_base.specs.Variables.{pending, routine_context, with_variables}
+use Rattle.codegen_base.proofs.Exits.{comes_to_exit}
+use Rattle.codegen_base.proofs.Pieces.{stands_back, stands_first, stands_front}
+use Rattle.codegen_base.proofs.Runs.{into}
+use Rattle.codegen_base.proofs.Spelled.{spelled_stands}
+
+halts_into : (s : Setting) (x : ℕ) (b0 : Body) (P Q : Body → Type 0) {t : State} → ((b : Body) → P b → Q b) → Halts s x b0 P t → Halts s x b0 Q t
+halts_into s x b0 P Q f (Over e o) = Over e o
+halts_into s x b0 P Q f (Left p b e l q) = Left p b e l (f b q)
+
+zeros_word : (bytes : List ℕ) → All (λ b. b ≡ 0) bytes → word_of bytes ≡ 0
+zeros_word [] zeros = refl
+zeros_word (b ∷ bs) zeros =
+    let first = All-head (λ b. b ≡ 0) b bs zeros in
+    let rest = zeros_word bs (All-tail (λ b. b ≡ 0) b bs zeros) in
+    omega arith
+
+word_in-zeros : (n i : ℕ) → word_in (replicate n 0) i ≡ 0
+unfolding word_in
+word_in-zeros n i = zeros_word (part (replicate n 0) (8 * i) 8) (All-take (λ b. b ≡ 0) 8 _ (All-drop (λ b. b ≡ 0) (8 * i) _ (All-replicate (λ b. b ≡ 0) n 0 refl)))
+
+at_most : (b : Bool) (cost : ℕ) → (if b then cost else 0) ≤ cost
+at_most true cost = omega arith
+at_most false cost = omega arith
+
+pending-most : (i : ℕ) (costs m : List ℕ) → pending i costs m ≤ total costs
+unfolding pending
+pending-most i [] m = omega arith
+pending-most i (cost ∷ costs) m =
+    let rest = pending-most (suc i) costs m in
+    let first = at_most (nat_eq (word_in m i) 0) cost in
+    omega arith
+
+start_is : (image : loader.Contents) (values : Contents) → start_state image values ≡ at image 0 (start_body image values)
+unfolding start_state
+start_is image values = refl
+
+-- a program starts with a body that fits, and with every memo empty
+pub start_fits : (image : loader.Contents) (values : Contents) (roots : Roots) (variables : List (List ℕ × ValueOrError)) → All (λ b. b < 256) image.constants → HasValues roots values → Fits (routine_context roots variables image.constants) 0 0 (start_body image values)
+unfolding start_memory
+start_fits image values roots variables bytes has = record {
+  frame = record { shallow = omega arith; pointer_is = refl; records_are = refl; memory = start_laws.memory image.constants bytes };
+  values = has;
+  holds = record { names = λ n. tt; memos = λ i x is. inl (word_in-zeros 4096 i) };
+  constants = refl;
+}
+
+pub program_exits : DecodesSpelling → ProgramExits
+program_exits law image deep values roots piece routines steps charges variables v n x m code bytes constants insns table g more =
+    let s = with_variables image deep steps charges in
+    let start = start_body image values in
+    let whole = piece ++ Exit ∷ [] in
+    let stands : Stands image.code 0 whole = subst (λ (bs : List ℕ). Stands bs 0 whole) (sym code) (spelled_stands law [] routines whole 0 refl (subst (λ (bs : List ℕ). All (λ b. b < 256) bs) code bytes) insns) in
+    let exit : fetched image.code (pos (0 + size piece)) ≡ Some (Some Exit) = stands_first image.code (0 + size piece) Exit [] (stands_back image.code 0 piece (Exit ∷ []) stands) in
+    let runs = g.runs start (stands_front image.code 0 piece (Exit ∷ []) stands) (start_fits image values roots variables constants table) in
+    let Named : Body → Type 0 = λ b. Names b.values.values (b.registers R0) v × (b.records ≡ []) in
+    let named = into s Named (λ b shown. (shown.shows, shown.keeps.records)) runs in
+    let most = pending-most 0 steps start.memory.scratch in
+    let halts = comes_to_exit s n x 0 (0 + size piece) m start Named named exit (λ b q. q.1) (omega arith) in
+    subst (λ (t : State). Halts s x start (λ b. Names b.values.values (b.registers R0) v) (state_after m t)) (sym (start_is image values)) (halts_into s x start Named _ (λ b q. q.0) halts)

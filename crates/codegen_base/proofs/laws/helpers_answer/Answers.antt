@@ -1,0 +1,5 @@
+use Rattle.codegen_base.proofs.Helpers.{helpers}
+use Rattle.codegen_base.proofs.laws.helpers_answer.Goals as goal
+
+pub returns : goal.returns
+returns c = helpers

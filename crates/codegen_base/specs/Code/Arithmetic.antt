@@ -1,0 +1,116 @@
+-- Arithmetic on ints of 64 bits, and the joining of texts and lists. A result that does not fit is found by comparing
+-- words, and of a product by dividing it back.
+use Rattle.std.specs.Prelude.{ℕ, ◌+◌, ◌^◌, ℤ, pos, negsuc, List, [], ◌∷◌, ◌++◌}
+use Rattle.insn_codec.specs.declared.alu_op.AluOp.{AluOp}
+use Rattle.insn_codec.specs.declared.alu_op.AluOp.TheVariants.{Add, Sub, Mul, Sdiv}
+use Rattle.insn_codec.specs.declared.comparison.Comparison.{Comparison}
+use Rattle.insn_codec.specs.declared.comparison.Comparison.TheVariants.{Eq, Ne, Sge, Sgt, Sle, Slt}
+use Rattle.insn_codec.specs.declared.insn.Insn.{Insn}
+use Rattle.insn_codec.specs.declared.insn.Insn.TheVariants.{Call, Neg}
+use Rattle.insn_codec.specs.declared.register.Register.TheVariants.{R0, R1, R2, R6, R7}
+use Rattle.insn_codec.specs.declared.width.Width.TheVariants.{W64}
+use Rattle.codegen_base.specs.Instructions.{compute, copy, load, load_wide, put, skip, skip_if, skip_where}
+
+-- the kind of an int, as helper 1 answers it
+abbrev pub int_kind : ℤ
+int_kind = pos 3
+
+-- the word of the least int
+abbrev pub least_word : ℕ
+least_word = 2 ^ 63
+
+-- the ints of word k and of R0 into R6 and R7; where they are no ints, on to the slot so many behind these
+abbrev pub int_operands : ℕ → ℕ → List Insn
+int_operands k off =
+    copy R7 R0
+    ∷ load R6 k
+    ∷ copy R1 R6
+    ∷ Call (pos 1)
+    ∷ skip_if Ne R0 int_kind (off + 9)
+    ∷ copy R1 R7
+    ∷ Call (pos 1)
+    ∷ skip_if Ne R0 int_kind (off + 6)
+    ∷ copy R1 R6
+    ∷ Call (pos 2)
+    ∷ copy R6 R0
+    ∷ copy R1 R7
+    ∷ Call (pos 2)
+    ∷ copy R7 R0
+    ∷ []
+
+-- the int of R1, and behind it the error
+abbrev pub int_answer : List Insn
+int_answer = Call (pos 3) ∷ skip 1 ∷ put R0 (pos 0) ∷ []
+
+-- a sum or a difference of R6 and R7: where R7 is negative it fits unless the one comparison with R6 holds, else unless the other does
+abbrev pub checked_tail : AluOp → Comparison → Comparison → List Insn
+checked_tail op below above =
+    copy R1 R6
+    ∷ compute op R1 R7
+    ∷ skip_if Slt R7 (pos 0) 2
+    ∷ skip_where above R1 R6 4
+    ∷ skip 1
+    ∷ skip_where below R1 R6 2
+    ∷ int_answer
+
+-- R6 + R7
+abbrev pub sum_tail : List Insn
+sum_tail = checked_tail Add Sge Slt
+
+-- R6 - R7
+abbrev pub difference_tail : List Insn
+difference_tail = checked_tail Sub Sle Sgt
+
+-- R6 * R7: it fits where R7 is 0, or where it divided by R7 is R6 and the operands are not the least int and -1
+unfoldable pub product_tail : List Insn
+product_tail =
+    copy R1 R6
+    ∷ compute Mul R1 R7
+    ∷ skip_if Eq R7 (pos 0) 7
+    ∷ skip_if Ne R7 (negsuc 0) 3
+    ∷ load_wide R2 least_word
+    ∷ skip_where Eq R6 R2 5
+    ∷ copy R2 R1
+    ∷ compute Sdiv R2 R7
+    ∷ skip_where Ne R2 R6 2
+    ∷ int_answer
+
+-- R6 / R7 or R6 % R7: the error where R7 is 0, and of the least int and -1
+abbrev pub divided_tail : AluOp → List Insn
+divided_tail op =
+    skip_if Eq R7 (pos 0) 8
+    ∷ skip_if Ne R7 (negsuc 0) 3
+    ∷ load_wide R2 least_word
+    ∷ skip_where Eq R6 R2 4
+    ∷ copy R1 R6
+    ∷ compute op R1 R7
+    ∷ int_answer
+
+-- word k - R0, and the like
+abbrev pub difference_code : ℕ → List Insn
+difference_code k = int_operands k 8 ++ difference_tail
+
+abbrev pub product_code : ℕ → List Insn
+product_code k = int_operands k 12 ++ product_tail
+
+abbrev pub divided_code : AluOp → ℕ → List Insn
+divided_code op k = int_operands k 9 ++ divided_tail op
+
+-- word k + R0: of two ints their sum, of all else what joining gives
+abbrev pub sum_code : ℕ → List Insn
+sum_code k = int_operands k 10 ++ (sum_tail ++ skip 3 ∷ copy R1 R6 ∷ copy R2 R7 ∷ Call (pos 11) ∷ [])
+
+-- -R0: the error of the least int, and of all that is no int
+unfoldable pub negation_tail : List Insn
+negation_tail =
+    copy R6 R0
+    ∷ copy R1 R0
+    ∷ Call (pos 1)
+    ∷ skip_if Ne R0 int_kind 9
+    ∷ copy R1 R6
+    ∷ Call (pos 2)
+    ∷ copy R1 R0
+    ∷ load_wide R2 least_word
+    ∷ skip_where Eq R1 R2 3
+    ∷ Neg W64 R1
+    ∷ int_answer

@@ -1,0 +1,50 @@
+-- Logical operators and the conditional. References 2 and 3 are those of false and true, 0 is the error's.
+use Rattle.std.specs.Prelude.{ℕ, ◌+◌, ℤ, pos, List, [], ◌∷◌, ◌++◌}
+use Rattle.insn_codec.specs.declared.comparison.Comparison.TheVariants.{Eq, Ne}
+use Rattle.insn_codec.specs.declared.insn.Insn.{Insn}
+use Rattle.insn_codec.specs.declared.register.Register.TheVariants.{R0, R1}
+use Rattle.codegen_base.specs.Instructions.{load, put, skip, skip_if, store}
+use Rattle.codegen_base.specs.Pieces.{size}
+use Rattle.codegen_base.specs.Code.Calls.{call_one}
+
+abbrev pub no_ref : ℤ
+no_ref = pos 2
+
+abbrev pub yes_ref : ℤ
+yes_ref = pos 3
+
+-- the operator for which the one truth decides, with its right side in R0 and its left side, which does not decide, in word k: R0 stays where it decides, and where both sides are the other truth
+abbrev pub absorbing_tail : ℤ → ℤ → ℕ → List Insn
+absorbing_tail decides other k =
+    load R1 k
+    ∷ skip_if Eq R0 decides 3
+    ∷ skip_if Ne R1 other 1
+    ∷ skip_if Eq R0 other 1
+    ∷ put R0 (pos 0)
+    ∷ []
+
+-- where the left side decides, the right one is left out
+abbrev pub absorbing_code : ℤ → ℤ → List Insn → List Insn → ℕ → List Insn
+absorbing_code decides other left right k = left ++ skip_if Eq R0 decides (size right + 6) ∷ store k R0 ∷ (right ++ absorbing_tail decides other k)
+
+abbrev pub and_code : List Insn → List Insn → ℕ → List Insn
+and_code left right k = absorbing_code no_ref yes_ref left right k
+
+abbrev pub or_code : List Insn → List Insn → ℕ → List Insn
+or_code left right k = absorbing_code yes_ref no_ref left right k
+
+abbrev pub not_tail : List Insn
+not_tail = call_one (pos 23)
+
+-- what stands where the condition is true or where it is false, or the error where it is neither
+abbrev pub ternary_code : List Insn → List Insn → List Insn → List Insn
+ternary_code condition if_true if_false =
+    condition
+    ++ skip_if Eq R0 no_ref (size if_true + 2)
+    ∷ skip_if Ne R0 yes_ref (size if_true + size if_false + 2)
+    ∷ (if_true
+    ++ skip (size if_false + 2)
+    ∷ (if_false
+    ++ skip 1
+    ∷ put R0 (pos 0)
+    ∷ []))

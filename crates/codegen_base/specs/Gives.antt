@@ -1,0 +1,2 @@
+-- What the code of constructs gives, where the code of their parts gives this.
+pub mod Logic

@@ -1,0 +1,46 @@
+-- Short words for the instructions that code is made of. A frame's words are counted from 0: word k begins 8 * (k + 1)
+-- bytes below R10.
+use Rattle.std.specs.Prelude.{ℕ, ℤ, pos, negsuc}
+use Rattle.insn_codec.specs.declared.alu_op.AluOp.{AluOp}
+use Rattle.insn_codec.specs.declared.alu_op.AluOp.TheVariants.{Mov}
+use Rattle.insn_codec.specs.declared.comparison.Comparison.{Comparison}
+use Rattle.insn_codec.specs.declared.insn.Insn.{Insn}
+use Rattle.insn_codec.specs.declared.insn.Insn.TheVariants.{Alu, Branch, Jump, Load, LoadWide, Store}
+use Rattle.insn_codec.specs.declared.operand.Operand.TheVariants.{Imm, Reg}
+use Rattle.insn_codec.specs.declared.register.Register.{Register}
+use Rattle.insn_codec.specs.declared.register.Register.TheVariants.{R10}
+use Rattle.insn_codec.specs.declared.size.Size.TheVariants.{Dw}
+use Rattle.insn_codec.specs.declared.width.Width.TheVariants.{W64}
+use Rattle.codegen_base.specs.Words.{word_offset}
+
+abbrev pub load : Register → ℕ → Insn
+load r k = Load Dw r R10 (word_offset k)
+
+abbrev pub store : ℕ → Register → Insn
+store k r = Store Dw R10 (word_offset k) r
+
+abbrev pub compute : AluOp → Register → Register → Insn
+compute op r s = Alu op W64 r (Reg s)
+
+abbrev pub copy : Register → Register → Insn
+copy r s = compute Mov r s
+
+abbrev pub put : Register → ℤ → Insn
+put r n = Alu Mov W64 r (Imm n)
+
+abbrev pub load_wide : Register → ℕ → Insn
+load_wide r w = LoadWide r w
+
+-- a jump over so many slots where the register and the number compare so, and where two registers do
+abbrev pub skip_if : Comparison → Register → ℤ → ℕ → Insn
+skip_if c r n off = Branch c W64 r (Imm n) (pos off)
+
+abbrev pub skip_where : Comparison → Register → Register → ℕ → Insn
+skip_where c r s off = Branch c W64 r (Reg s) (pos off)
+
+abbrev pub skip : ℕ → Insn
+skip off = Jump (pos off)
+
+-- a jump back, to the place of the instruction so many slots before this one
+abbrev pub go_back : ℕ → Insn
+go_back off = Jump (negsuc off)

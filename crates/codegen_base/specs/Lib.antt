@@ -1,0 +1,14 @@
+pub mod Body
+pub mod Words
+pub mod Calls
+pub mod Engine
+pub mod Pieces
+pub mod Contexts
+pub mod Loops
+pub mod Variables
+pub mod Programs
+pub mod Helpers
+pub mod Instructions
+pub mod Code
+pub mod Gives
+pub mod Operators

@@ -1,0 +1,63 @@
+-- Variables: each has a memo, a word of the scratch region, and a routine that fills it on first use.
+use Rattle.std.specs.Prelude.{◌≡◌, ℕ, suc, ◌+◌, ◌<◌, ◌≤◌, ℤ, pos, negsuc, ◌+ℤ◌, List, [], ◌∷◌, ◌++◌, length, nat_eq, Bool, if◌then◌else◌}
+use Rattle.guest_memory.specs.RegionWords.{word_in}
+use Rattle.insn_codec.specs.declared.alu_op.AluOp.TheVariants.{Add}
+use Rattle.insn_codec.specs.declared.comparison.Comparison.TheVariants.{Ne}
+use Rattle.insn_codec.specs.declared.insn.Insn.{Insn}
+use Rattle.insn_codec.specs.declared.insn.Insn.TheVariants.{Alu, Branch, CallLocal, Exit, Load, LoadWide, Store}
+use Rattle.insn_codec.specs.declared.operand.Operand.TheVariants.{Imm}
+use Rattle.insn_codec.specs.declared.register.Register.TheVariants.{R0, R1}
+use Rattle.insn_codec.specs.declared.size.Size.TheVariants.{Dw}
+use Rattle.insn_codec.specs.declared.width.Width.TheVariants.{W64}
+use Rattle.loader.specs.Contents.{Contents}
+use Rattle.value_store.specs.Value.{Value, ValueOrError}
+use Rattle.cel_macros.specs.Environment.{Roots}
+use Rattle.codegen_base.specs.Contexts.{Context, Gives}
+use Rattle.codegen_base.specs.Engine.{Setting}
+use Rattle.codegen_base.specs.Pieces.{Stands}
+use Rattle.codegen_base.specs.Words.{memo_address}
+
+-- R0 gets the reference of variable i from its memo, which the routine fills where it is empty
+abbrev pub use_code : ℕ → ℤ → List Insn
+use_code i offset =
+    LoadWide R1 (memo_address i)
+    ∷ Load Dw R0 R1 (pos 0)
+    ∷ Branch Ne W64 R0 (Imm (pos 0)) (pos 1)
+    ∷ CallLocal offset
+    ∷ Alu Add W64 R0 (Imm (negsuc 0))
+    ∷ []
+
+-- the end of the routine of variable i: its memo and R0 get 1 more than the reference in R0, so that 0 stands for no value yet, and the error's reference can be told from it
+abbrev pub memo_tail : ℕ → List Insn
+memo_tail i =
+    Alu Add W64 R0 (Imm (pos 1))
+    ∷ LoadWide R1 (memo_address i)
+    ∷ Store Dw R1 (pos 0) R0
+    ∷ Exit
+    ∷ []
+
+-- what the first uses still to come may take: the cost of each variable, from i on, whose memo is empty
+unfoldable pub pending : ℕ → List ℕ → List ℕ → ℕ
+pending i [] scratch = 0
+pending i (cost ∷ costs) scratch = (if nat_eq (word_in scratch i) 0 then cost else 0) + pending (suc i) costs scratch
+
+-- the setting of variables that cost these steps and charges
+abbrev pub with_variables : Contents → Bool → List ℕ → List ℕ → Setting
+with_variables image deep steps charges = record { image = image; steps_for = pending 0 steps; charge_for = pending 0 charges; is_deep = deep }
+
+-- in a routine, as at the start of a program, no iteration name is in force; the variables before its own can be used
+abbrev pub routine_context : Roots → List (List ℕ × ValueOrError) → List ℕ → Context
+routine_context roots variables constants = record { environment = record { roots = roots; items = []; variables = variables }; words = []; constants = constants }
+
+-- the context with the variables given one after another: those before, the one in question, and those after it
+abbrev pub used_context : Roots → List (List ℕ × Value) → List (List ℕ × ℕ) → List ℕ → List (List ℕ × ValueOrError) → Context
+used_context roots items words constants variables = record { environment = record { roots = roots; items = items; variables = variables }; words = words; constants = constants }
+
+-- code for a variable's value, with those before it, makes a routine; its use gives the value, with 5 steps of its own
+abbrev pub VariableGives : Type 0
+VariableGives = (image : Contents) (deep : Bool) (steps charges later_steps later_charges constants : List ℕ) (words : List (List ℕ × ℕ)) (roots : Roots) (items : List (List ℕ × Value)) (variables later : List (List ℕ × ValueOrError)) (name : List ℕ) (v : ValueOrError) (body : List Insn) (routine p depth base n x : ℕ) (offset : ℤ)
+    → length steps ≡ length variables → length charges ≡ length variables → length variables < 512 → base ≤ 60 → depth < 7
+    → pos (p + 4) +ℤ pos 1 +ℤ offset ≡ pos routine
+    → Stands image.code routine (body ++ memo_tail (length variables))
+    → Gives (with_variables image deep steps charges) routine body (routine_context roots variables constants) (depth + 1) 0 v n x
+    → Gives (with_variables image deep (steps ++ (n + 9) ∷ later_steps) (charges ++ x ∷ later_charges)) p (use_code (length variables) offset) (used_context roots items words constants (variables ++ (name, v) ∷ later)) depth base v 5 0

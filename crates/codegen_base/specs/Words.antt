@@ -1,0 +1,52 @@
+-- The words of stack frames and of the scratch region.
+use Rattle.std.specs.Prelude.{◌≡◌, ℕ, ◌+◌, ◌-◌, ◌*◌, ◌≤◌, ℤ, negsuc, List, length}
+use Rattle.guest_memory.specs.Memory.{Memory, Scratch, Verdict, IsMemory, base_of}
+use Rattle.guest_memory.specs.RegionWords.{word_in, put_word}
+use Rattle.insn_codec.specs.declared.register.Register.TheVariants.{R10}
+use Rattle.bpf_machine.specs.declared.frame.Frame.{Frame}
+use Rattle.codegen_base.specs.Body.{Body}
+
+-- the frame pointer where so many local calls are open
+abbrev pub pointer_of : ℕ → ℕ
+pointer_of depth = 0x1_0000_0200 + 512 * depth
+
+-- word k of a frame, of 64, begins 8 * (k + 1) bytes below the frame pointer: its number among the words of the stack
+abbrev pub stack_index : ℕ → ℕ → ℕ
+stack_index depth k = 64 * depth + 63 - k
+
+-- where it begins, counted from the frame pointer
+abbrev pub word_offset : ℕ → ℤ
+word_offset k = negsuc (8 * k + 7)
+
+abbrev pub word_at : ℕ → ℕ → Body → ℕ
+word_at depth k b = word_in b.memory.stack (stack_index depth k)
+
+abbrev pub set_word : ℕ → ℕ → ℕ → Body → Body
+set_word depth k w b = record b { memory = record b.memory { stack = put_word b.memory.stack (stack_index depth k) w } }
+
+-- word i of the scratch region is the memo of variable i
+abbrev pub memo_address : ℕ → ℕ
+memo_address i = base_of Scratch + 8 * i
+
+abbrev pub memo_at : ℕ → Body → ℕ
+memo_at i b = word_in b.memory.scratch i
+
+abbrev pub set_memo : ℕ → ℕ → Body → Body
+set_memo i w b = record b { memory = record b.memory { scratch = put_word b.memory.scratch i w } }
+
+-- word i of the verdict region
+abbrev pub verdict_address : ℕ → ℕ
+verdict_address i = base_of Verdict + 8 * i
+
+abbrev pub set_verdict : ℕ → ℕ → Body → Body
+set_verdict i w b = record b { memory = record b.memory { verdict = put_word b.memory.verdict i w } }
+
+-- so many local calls are open: their records, the frame pointer, and memory
+pub record HasFrame (depth pointer : ℕ) (records : List Frame) (m : Memory) : Type 0 where
+  pub shallow : depth ≤ 7
+  pub pointer_is : pointer ≡ pointer_of depth
+  pub records_are : length records ≡ depth
+  pub memory : IsMemory m
+
+abbrev pub Framed : ℕ → Body → Type 0
+Framed depth b = HasFrame depth (b.registers R10) b.records b.memory

@@ -1,0 +1,57 @@
+//! Laws of code, each the clause of a function that does nothing.
+ghost use Rattle.codegen_base.specs.Gives.Logic.{LogicGives};
+ghost use Rattle.codegen_base.specs.Helpers.{HelpersAnswer};
+ghost use Rattle.codegen_base.specs.Loops.{FoldGives};
+ghost use Rattle.codegen_base.specs.Operators.{OneGives, TwoGives, ConvertsThen, CombinesThen, CallsGive};
+ghost use Rattle.codegen_base.specs.Pieces.{SpelledStands};
+ghost use Rattle.codegen_base.specs.Programs.{ProgramExits};
+ghost use Rattle.codegen_base.specs.Variables.{VariableGives};
+
+use bpf_machine::laws::decodes_spelling;
+
+/// Where the bytes that spell a piece stand in the code, the machine finds the piece's instructions.
+pub fn spelled_stands()
+    ensures { SpelledStands }
+{
+    decodes_spelling();
+}
+
+/// What each helper answers, of what its operands name.
+pub fn helpers_answer()
+    ensures { HelpersAnswer }
+{}
+
+/// Code for one or two operands with a piece behind it gives what the piece makes of them, one piece
+/// goes on with what another gives, and the call of a helper is such a piece.
+pub fn operands_give()
+    ensures one { OneGives }
+    ensures two { TwoGives }
+    ensures converts { ConvertsThen }
+    ensures combines { CombinesThen }
+    ensures calls { CallsGive }
+{}
+
+/// Code for their operands makes code for `&&`, `||`, `!` and the conditional; `&&` and `||` leave early
+/// where the left side decides, and of the conditional only the chosen side runs.
+pub fn logic_gives()
+    ensures { LogicGives }
+{}
+
+/// Code for a range, for a first answer and for a turn makes a loop over the range's items, which gives
+/// the fold; it leaves early where no further item changes the answer.
+pub fn fold_gives()
+    ensures { FoldGives }
+{}
+
+/// The use of a variable gives its value, and the potentials pay for its first use.
+pub fn variable_gives()
+    ensures { VariableGives }
+{}
+
+/// A program whose code begins with a piece for a value and an exit leaves a reference of it, or has
+/// stopped for its charge or a depth, after its steps and those of its variables.
+pub fn program_exits()
+    ensures { ProgramExits }
+{
+    decodes_spelling();
+}
