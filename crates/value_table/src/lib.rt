@@ -2,8 +2,28 @@
 //! then those that the program places.
 #![tactic(auto)]
 
+mod backing;
+mod backings;
+mod cell;
+mod content;
+mod documents;
+mod entries;
+mod equality;
+mod heap;
+mod items;
+mod lists;
+mod lookup;
+mod order;
+mod part;
+mod references;
+mod roots;
+mod search;
+mod seeing;
 mod table;
 #[cfg(test)]
 mod tests;
+mod text;
+mod texts;
+mod writing;
 
 pub use table::Table;

@@ -1,17 +1,40 @@
 //! The table of values.
 
-ghost use Rattle.std.specs.Prelude.{map};
+ghost use Rattle.std.specs.Prelude.{◌≡◌, ◌≤◌, map};
 ghost use Rattle.serde_json.specs.View.{view};
+ghost use Rattle.value_store.specs.Keys.{AreOrdered};
 ghost use Rattle.value_store.specs.Roots.{start_contents, Starts};
 
+use crate::references::References;
+use crate::roots::start_references;
 use serde_json::Value;
 use std::alloc::{AllocError, Global};
+use std::marker::Model;
 use value_store::{PlainTable, Shape, TableError, ValueStore};
 
-/// The values of a program, by reference.
+/// The values of a program, by reference. Copies of a table share its cells, texts, lists and maps
+/// until one of them grows.
 #[derive(Drop)]
 pub struct Table {
-    store: PlainTable,
+    references: References,
+    charge: u64,
+}
+
+impl Model for Table {
+    ghost use Rattle.std.specs.Coded.{codes};
+    ghost use Rattle.value_store.specs.Codes.{coded_stored};
+    ghost use Rattle.value_table.specs.Held.{Held};
+
+    ghost Value = { Held };
+
+    ghost coded = { Prim.hlevel (codes, coded_stored) };
+
+    ghost use Rattle.std.specs.Prelude.{◌≤◌};
+    ghost use Rattle.value_table.specs.References.{reference_values, AreReferences};
+
+    ghost view = { λ t. record { values = reference_values t.references; charge = t.charge } };
+
+    ghost invariant = { λ t. AreReferences t.references × (t.charge ≤ 16777216) };
 }
 
 impl Table {
@@ -25,100 +48,115 @@ impl Table {
     pub fn of_roots(alloc: Global, roots: &[Value; 5]) -> Result<Table, TableError>
         ensures { Starts (λ t. record { values = ⟦<Table as ValueStore>⟧.values t; charge = ⟦<Table as ValueStore>⟧.charge t }) (start_contents (map view roots.now)) result }
     {
-        match PlainTable::of_roots(alloc, roots) {
-            Ok(store) => Ok(Table { store }),
-            Err(refusal) => Err(refusal),
-        }
+        let charge = match PlainTable::of_roots(alloc, roots) {
+            Ok(judged) => judged_charge(&judged),
+            Err(refusal) => return Err(refusal),
+        };
+        let references = start_references(alloc, roots)?;
+        Ok(Table { references, charge })
     }
 }
 
-impl ValueStore for Table {
-    ghost values = { λ t. ⟦<PlainTable as ValueStore>⟧.values t.store };
+// What the plain table of the same roots is charged. Its keys stand in order.
+fn judged_charge(table: &PlainTable) -> u64
+    ensures charge { result ≡ ⟦<PlainTable as ValueStore>⟧.charge table.now }
+    ensures limit { result ≤ 16777216 }
+    ensures ordered { AreOrdered (⟦<PlainTable as ValueStore>⟧.values table.now) }
+{
+    let _ = table.len();
+    table.charge()
+}
 
-    ghost charge = { λ t. ⟦<PlainTable as ValueStore>⟧.charge t.store };
+impl ValueStore for Table {
+    ghost values = { λ t. t.values };
+
+    ghost charge = { λ t. t.charge };
 
     fn len(&self) -> u64 {
-        self.store.len()
+        self.references.count()
     }
 
     fn charge(&self) -> u64 {
-        self.store.charge()
+        self.charge
     }
 
     fn spend(&mut self, n: u64) {
-        self.store.spend(n)
+        self.charge += n;
     }
 
     fn at(&self, h: u64) -> Option<Shape<'_>> {
-        self.store.at(h)
+        self.references.shape(h)
     }
 
     fn text(&self, h: u64) -> Option<&str> {
-        self.store.text(h)
+        self.references.text(h)
     }
 
     fn depth(&self, h: u64) -> u64 {
-        self.store.depth(h)
+        self.references.depth(h)
     }
 
     fn equal(&mut self, a: u64, b: u64) -> bool {
-        self.store.equal(a, b)
+        self.references.equal(a, b)
     }
 
     fn less(&self, a: u64, b: u64) -> bool {
-        self.store.less(a, b)
+        self.references.less(a, b)
     }
 
     fn member(&mut self, x: u64, c: u64) -> bool {
-        self.store.member(x, c)
+        self.references.member(x, c)
     }
 
     fn find(&self, m: u64, key: &[u8]) -> Option<u64> {
-        self.store.find(m, key)
+        self.references.find(m, key)
     }
 
     fn json(&self, h: u64) -> Result<String, AllocError> {
-        self.store.json(h)
+        self.references.json(h)
     }
 
     fn place_int(&mut self, n: i64) -> Result<u64, AllocError> {
-        self.store.place_int(n)
+        self.references.place_int(n)
     }
 
     fn place_text(&mut self, s: &str) -> Result<u64, AllocError> {
-        self.store.place_text(s)
+        self.references.place_text(s)
     }
 
     fn alias(&mut self, h: u64, i: u64) -> Result<u64, AllocError> {
-        self.store.alias(h, i)
+        self.references.alias(h, i)
     }
 
     fn alias_key(&mut self, h: u64, i: u64) -> Result<u64, AllocError> {
-        self.store.alias_key(h, i)
+        self.references.alias_key(h, i)
     }
 
     fn join(&mut self, a: u64, b: u64) -> Result<u64, AllocError> {
-        self.store.join(a, b)
+        self.references.join(a, b)
     }
 
     fn new_list(&mut self) -> Result<u64, AllocError> {
-        self.store.new_list()
+        self.references.new_list()
     }
 
     fn new_map(&mut self) -> Result<u64, AllocError> {
-        self.store.new_map()
+        self.references.new_map()
     }
 
     fn push(&mut self, l: u64, x: u64) -> Result<u64, AllocError> {
-        self.store.push(l, x)
+        self.references.push(l, x)
     }
 
     fn put(&mut self, m: u64, k: u64, x: u64) -> Result<u64, AllocError> {
-        self.store.put(m, k, x)
+        self.references.put(m, k, x)
     }
 
     fn copy(&self) -> Result<Self, AllocError> {
-        let store = self.store.copy()?;
-        Ok(Table { store })
+        let references = self.references.copy()?;
+        Ok(Table {
+            references,
+            charge: self.charge,
+        })
     }
 }

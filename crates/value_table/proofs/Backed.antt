@@ -1,0 +1,46 @@
+-- Backings that grow.
+use Rattle.std.proofs.Common.{◌≡◌, ℕ, zero, suc, ◌-◌, ◌<◌, List, [], ◌∷◌, ◌++◌, length, get_or, refl, sym, ap, ◌∙◌, arith, length-append, append_assoc, append-nil}
+use Rattle.std.specs.Prelude.{slice_range, slice_set}
+use Rattle.std.proofs.lemmas.Str.{IsUtf8-append}
+use Rattle.std.proofs.Math.Seq.{drop-append_seam}
+use Rattle.std.proofs.lemmas.List.{take_all, length-set}
+use Rattle.value_table.specs.Meaning.{part_of}
+use Rattle.value_table.specs.Heaps.{IsText, Extends}
+use Rattle.value_table.specs.declared.part.Part.{Part}
+use Rattle.value_table.specs.declared.backings.Backings.{Backings}
+use Rattle.value_table.proofs.Growth.{text_kept}
+
+more_set : (bs : List (List ℕ)) (b c : ℕ) (ws : List ℕ) → c < length bs → (rest : List ℕ) × (get_or (slice_set bs b (get_or bs b [] ++ ws)) c [] ≡ get_or bs c [] ++ rest)
+more_set [] b c ws h = absurd (omega arith)
+more_set (y ∷ bs) zero zero ws h = (ws, refl)
+more_set (y ∷ bs) zero (suc c) ws h = ([], sym (append-nil _))
+more_set (y ∷ bs) (suc b) zero ws h = ([], sym (append-nil _))
+more_set (y ∷ bs) (suc b) (suc c) ws h = more_set bs b c ws (omega arith)
+
+-- one backing grows in place
+pub items_pushed : (old : Backings) (lists : List (List ℕ)) (b : ℕ) (ws : List ℕ) → lists ≡ slice_set old.lists b (get_or old.lists b [] ++ ws) → Extends old (record old { lists = lists })
+items_pushed old lists b ws e =
+    let l = length-set old.lists b (get_or old.lists b [] ++ ws) in
+    record {
+      bytes = ([], sym (append-nil old.bytes));
+      keys = ([], sym (append-nil old.keys));
+      lists = rw e (omega arith);
+      items = λ c h. rw e (more_set old.lists b c ws h);
+    }
+
+whole_behind : (bs ws : List ℕ) (a b : ℕ) → a ≡ length bs → b ≡ length (bs ++ ws) → slice_range (bs ++ ws) a b ≡ ws
+whole_behind bs ws a b p q =
+    let l = length-append bs ws in
+    rw (p, drop-append_seam bs ws) (take_all (b - length bs) ws (omega arith))
+
+-- two texts behind all others, as one
+pub texts_joined : (bs ms ns : List ℕ) (p q : Part) (from to : ℕ) → IsText bs p → IsText bs q → ms ≡ bs ++ part_of bs p → ns ≡ ms ++ part_of ms q → from ≡ length bs → to ≡ length ns
+    → IsText ns (record { from = from; to = to }) × (part_of ns (record { from = from; to = to }) ≡ part_of bs p ++ part_of bs q)
+texts_joined bs ms ns p q from to hp hq em en ef et =
+    let kept = text_kept bs (part_of bs p) q hq in
+    let same : part_of ms q ≡ part_of bs q = rw em kept.0 in
+    let all : ns ≡ bs ++ (part_of bs p ++ part_of bs q) = en ∙ rw (same, em) (append_assoc bs (part_of bs p) (part_of bs q)) in
+    let l = length-append bs (part_of bs p ++ part_of bs q) in
+    let is : slice_range ns from to ≡ part_of bs p ++ part_of bs q = rw all (whole_behind bs (part_of bs p ++ part_of bs q) from to ef (et ∙ ap length all)) in
+    let n : length ns ≡ length (bs ++ (part_of bs p ++ part_of bs q)) = ap length all in
+    ((omega arith, omega arith, rw is (IsUtf8-append _ _ hp.2 hq.2)), is)

@@ -1,0 +1,77 @@
+-- What comparisons in a heap answer.
+use Rattle.std.proofs.Common.{◌≡◌, ℕ, suc, ◌+◌, ◌≤◌, ◌<◌, List, [], ◌∷◌, ◌++◌, inl, inr, length, Option, length-append, subst, Bool, ◌||◌, add-one, drop-cons, Some, slice_get, get_or, drop, sym, ap, ◌∙◌, arith}
+use Rattle.std.specs.Prelude.{Decides, is_some, option_map}
+use Rattle.std.proofs.lemmas.List.{get_or_append_left}
+use Rattle.std.proofs.Math.Seq.{get_or-append_seam}
+use Rattle.std.specs.Bool.{one_answer}
+use Rattle.std.proofs.lemmas.Option.{slice_get-get_or}
+use Rattle.value_store.specs.Value as kind
+use Rattle.value_store.specs.Value.{Value}
+use Rattle.value_store.specs.Equality.{equal}
+use Rattle.value_store.proofs.Equal.{equal_decides}
+use Rattle.value_store.specs.Lookup.{has_item, member, place_of_key}
+use Rattle.value_store.specs.Calls.{entries_part}
+use Rattle.value_store.proofs.Places.{has_key_place}
+use Rattle.value_table.specs.Meaning.{value_in, items_at, refs_at, grown}
+use Rattle.value_table.specs.Heaps.{AreBelow, IsRange, AreCells, AreSame}
+use Rattle.value_table.specs.Equality.{AreContents, AreMeanings}
+use Rattle.value_table.specs.declared.cell.Cell.{Cell}
+use Rattle.value_table.specs.declared.backings.Backings.{Backings}
+use Rattle.value_table.proofs.Growth.{found}
+use Rattle.value_table.proofs.Searches.{up_to}
+use Rattle.value_table.proofs.Walks.{same_value, same_place}
+
+-- a comparison of two places answers whether their values are equal
+pub answer_is : (bs : Backings) (vs : List Value) (cs : List Cell) (a b : ℕ) (r : Bool) → AreMeanings bs vs cs → a < length cs → b < length cs → Decides r (slice_get vs a ≡ slice_get vs b)
+    → r ≡ equal (value_in vs a) (value_in vs b)
+answer_is bs vs cs a b r m h k d =
+    let e = equal_decides (value_in vs a) (value_in vs b) in
+    one_answer r (equal (value_in vs a) (value_in vs b)) d (λ s. same_place bs vs cs a b m h k (e.0 s), λ s. e.1 (same_value vs a b s))
+
+pub contents_of : (bs : Backings) (cs : List Cell) → AreCells bs [] cs → AreContents bs cs
+contents_of bs cs h = λ r c e. (found bs cs r c e h).content
+
+pub meanings_of : (bs : Backings) (cs : List Cell) → AreCells bs [] cs → AreMeanings bs (grown bs [] cs) cs
+meanings_of bs cs h = λ r c e. let f = found bs cs r c e h in slice_get-get_or (grown bs [] cs) r kind.null f.inside ∙ ap (λ v. Some v) f.is
+
+-- the first of some places, and those behind it
+pub item_step : (vs : List Value) (x : Value) (rs : List ℕ) (i : ℕ) (r : Bool) → i < length rs → r ≡ equal x (value_in vs (get_or rs i 0)) → has_item x (items_at vs (drop i rs)) ≡ r || has_item x (items_at vs (drop (i + 1) rs))
+item_step vs x rs i r h e = rw (add-one, drop-cons rs i 0 h) (ap (λ b. b || has_item x (items_at vs (drop (suc i) rs))) (sym e))
+
+-- ---- one more word
+
+pub word_added : (vs : List Value) (same more : List ℕ) (n : ℕ) → AreSame vs same → length same ≡ n → n < length vs → more ≡ same ++ n ∷ [] → AreSame vs more
+word_added vs same more n h e l is =
+    subst (AreSame vs) (sym is)
+    (record {
+      long = let k = length-append same (n ∷ []) in let o = h.long in omega (arith, k);
+      below = λ i d b. elim (up_to (length same) i (omega (arith, length-append same (n ∷ []), b))) [
+        | inl j ↦ subst (λ w. w ≤ i) (sym (get_or_append_left same (n ∷ []) d i j)) (h.below i d j)
+        | inr j ↦ subst (λ w. w ≤ i) (sym (ap (λ p. get_or (same ++ n ∷ []) p d) (sym j) ∙ get_or-append_seam same n [] d)) (omega arith)
+      ];
+      equal = λ i d b. elim (up_to (length same) i (omega (arith, length-append same (n ∷ []), b))) [
+        | inl j ↦ ap (slice_get vs) (get_or_append_left same (n ∷ []) d i j) ∙ h.equal i d j
+        | inr j ↦ ap (slice_get vs) (ap (λ p. get_or (same ++ n ∷ []) p d) (sym j) ∙ get_or-append_seam same n [] d ∙ sym e ∙ j)
+      ];
+    })
+
+-- ---- members
+
+below_more : (i m : ℕ) (rs : List ℕ) → i ≤ m → AreBelow i rs → AreBelow m rs
+below_more i m [] h b = tt
+below_more i m (r ∷ rs) h b = (let l = b.0 in omega arith, below_more i m rs h b.1)
+
+pub range_within : (lists : List (List ℕ)) (i m b n : ℕ) → i ≤ m → IsRange lists i b n → IsRange lists m b n
+range_within lists i m b n h r = record { inside = r.inside; long = r.long; below = below_more i m (refs_at lists b n) h r.below }
+
+some_same : {A : Type 0} {a b : A} → Some a ≡ Some b → a ≡ b
+some_same e = cc
+
+-- a map has a text as a key where the key has a place
+pub key_member : (x m : Value) (key : List ℕ) (o : Option ℕ) → x ≡ kind.text key → Some o ≡ option_map (place_of_key key) (entries_part m) → Some (is_some o) ≡ member x m
+key_member x (kind.map es) key o e f = ap (λ p. Some (is_some p)) (some_same f) ∙ ap (λ b. Some b) (sym (has_key_place key es)) ∙ ap (λ v. member v (kind.map es)) (sym e)
+key_member x kind.null key o e f = absurd (cc)
+key_member x (kind.boolean b) key o e f = absurd (cc)
+key_member x (kind.int n) key o e f = absurd (cc)
+key_member x (kind.text s) key o e f = absurd (cc)
+key_member x (kind.list is) key o e f = absurd (cc)

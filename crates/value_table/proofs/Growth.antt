@@ -1,0 +1,175 @@
+-- Values stay when backings grow and when values come behind them.
+use Rattle.std.proofs.Common.{◌≡◌, ℕ, zero, suc, ◌+◌, ◌-◌, ◌<◌, ◌≤◌, List, [], ◌∷◌, ◌++◌, length, get_or, take, drop, refl, sym, ap, ◌∙◌, arith, length-append, append_assoc, append-nil, subst, zero-add, length-drop, Some, slice_get}
+use Rattle.std.specs.Prelude.{slice_range}
+use Rattle.std.proofs.lemmas.List.{take-append-le, drop-append-le, get_or_append_left}
+use Rattle.std.proofs.Math.Seq.{get_or-append_seam}
+use Rattle.value_store.specs.Value as kind
+use Rattle.value_store.specs.Value.{Value, Items, item, Entries, entry}
+use Rattle.value_store.specs.Size.{depth_of}
+use Rattle.value_table.specs.Meaning.{part_of, value_in, items_at, entries_at, refs_at, keys_at, meaning, grown}
+use Rattle.value_table.specs.Heaps.{IsText, AreTexts, AreBelow, IsRange, AreKeys, IsContent, IsCell, AreCells, Extends, Found}
+use Rattle.value_table.specs.declared.part.Part.{Part}
+use Rattle.value_table.specs.declared.content.Content.{Content}
+use Rattle.value_table.specs.declared.content.Content.TheVariants as cell
+use Rattle.value_table.specs.declared.cell.Cell.{Cell}
+use Rattle.value_table.specs.declared.backings.Backings.{Backings}
+
+-- ---- parts of what has grown
+
+pub range_kept : {A : Type 0} (xs rest : List A) (a b : ℕ) → a ≤ b → b ≤ length xs → slice_range (xs ++ rest) a b ≡ slice_range xs a b
+range_kept {A} xs rest a b le lt =
+    let d = length-drop a xs in
+    ap (take (b - a)) (drop-append-le a xs rest (omega arith)) ∙ take-append-le (b - a) (drop a xs) rest (omega (arith, d))
+
+pub text_kept : (bytes rest : List ℕ) (p : Part) → IsText bytes p → (part_of (bytes ++ rest) p ≡ part_of bytes p) × IsText (bytes ++ rest) p
+text_kept bytes rest p h =
+    let e = range_kept bytes rest p.from p.to h.0 h.1 in
+    let l = length-append bytes rest in
+    let order = h.0 in
+    let inside = h.1 in
+    (e, (order, omega (arith, l, inside), rw e h.2))
+
+texts_kept : (bytes rest : List ℕ) (ks : List Part) → AreTexts bytes ks → AreTexts (bytes ++ rest) ks
+texts_kept bytes rest [] h = tt
+texts_kept bytes rest (k ∷ ks) h = ((text_kept bytes rest k h.0).1, texts_kept bytes rest ks h.1)
+
+entries_kept : (bytes rest : List ℕ) (vs : List Value) (ks : List Part) (rs : List ℕ) → AreTexts bytes ks → entries_at (bytes ++ rest) vs ks rs ≡ entries_at bytes vs ks rs
+entries_kept bytes rest vs [] rs h = refl
+entries_kept bytes rest vs (k ∷ ks) [] h = refl
+entries_kept bytes rest vs (k ∷ ks) (r ∷ rs) h = rw ((text_kept bytes rest k h.0).0, entries_kept bytes rest vs ks rs h.1)
+
+refs_kept : (bs cs : Backings) (i b n : ℕ) → Extends bs cs → IsRange bs.lists i b n → refs_at cs.lists b n ≡ refs_at bs.lists b n
+refs_kept bs cs i b n e h = let m = e.items b h.inside in rw m.1 (take-append-le n (get_or bs.lists b []) m.0 h.long)
+
+range_stays : (bs cs : Backings) (i b n : ℕ) → Extends bs cs → IsRange bs.lists i b n → IsRange cs.lists i b n
+range_stays bs cs i b n e h =
+    let m = e.items b h.inside in
+    let l = length-append (get_or bs.lists b []) m.0 in
+    let low = h.inside in
+    let fits = h.long in
+    let long = e.lists in
+    record { inside = omega arith; long = rw m.1 (omega arith); below = rw (refs_kept bs cs i b n e h) h.below }
+
+keys_kept : (bs cs : Backings) (k n : ℕ) → Extends bs cs → AreKeys bs.bytes bs.keys k n → keys_at cs.keys k n ≡ keys_at bs.keys k n
+keys_kept bs cs k n e h = let m = e.keys in rw m.1 (range_kept bs.keys m.0 k (k + n) (omega arith) h.inside)
+
+keys_stay : (bs cs : Backings) (k n : ℕ) → Extends bs cs → AreKeys bs.bytes bs.keys k n → AreKeys cs.bytes cs.keys k n
+keys_stay bs cs k n e h =
+    let m = e.keys in
+    let l = length-append bs.keys m.0 in
+    let fits = h.inside in
+    let long : k + n ≤ length cs.keys = rw m.1 (omega arith) in
+    record { inside = long; texts = rw (keys_kept bs cs k n e h, e.bytes.1) (texts_kept bs.bytes e.bytes.0 (keys_at bs.keys k n) h.texts) }
+
+pub meaning_kept : (bs cs : Backings) (i : ℕ) (vs : List Value) (c : Content) → Extends bs cs → IsContent bs i c → meaning cs vs c ≡ meaning bs vs c
+meaning_kept bs cs i vs cell.Null e h = refl
+meaning_kept bs cs i vs (cell.Bool b) e h = refl
+meaning_kept bs cs i vs (cell.Int n) e h = refl
+meaning_kept bs cs i vs (cell.Text p) e h = rw e.bytes.1 (ap kind.text (text_kept bs.bytes e.bytes.0 p h).0)
+meaning_kept bs cs i vs (cell.List b n) e h = rw (refs_kept bs cs i b n e h)
+meaning_kept bs cs i vs (cell.Map k b n) e h =
+    rw (refs_kept bs cs i b n e h.0, keys_kept bs cs k n e h.1, e.bytes.1)
+    (ap kind.map (entries_kept bs.bytes e.bytes.0 vs (keys_at bs.keys k n) (refs_at bs.lists b n) h.1.texts))
+
+pub content_kept : (bs cs : Backings) (i : ℕ) (c : Content) → Extends bs cs → IsContent bs i c → IsContent cs i c
+content_kept bs cs i cell.Null e h = tt
+content_kept bs cs i (cell.Bool b) e h = tt
+content_kept bs cs i (cell.Int n) e h = tt
+content_kept bs cs i (cell.Text p) e h = rw e.bytes.1 (text_kept bs.bytes e.bytes.0 p h).1
+content_kept bs cs i (cell.List b n) e h = range_stays bs cs i b n e h
+content_kept bs cs i (cell.Map k b n) e h = (range_stays bs cs i b n e h.0, keys_stay bs cs k n e h.1)
+
+cell_kept : (bs cs : Backings) (vs : List Value) (c : Cell) → Extends bs cs → IsCell bs vs c → IsCell cs vs c
+cell_kept bs cs vs c e h =
+    let m = meaning_kept bs cs (length vs) vs c.content e h.content in
+    record { content = content_kept bs cs (length vs) c.content e h.content; depth = h.depth ∙ ap depth_of (sym m); shallow = h.shallow; ordered = rw m h.ordered }
+
+-- every old value stays when backings grow
+pub grown_kept : (bs cs : Backings) (vs : List Value) (xs : List Cell) → Extends bs cs → AreCells bs vs xs → grown cs vs xs ≡ grown bs vs xs
+grown_kept bs cs vs [] e h = refl
+grown_kept bs cs vs (c ∷ xs) e h =
+    rw (meaning_kept bs cs (length vs) vs c.content e h.0.content) (grown_kept bs cs (vs ++ meaning bs vs c.content ∷ []) xs e h.1)
+
+pub cells_kept : (bs cs : Backings) (vs : List Value) (xs : List Cell) → Extends bs cs → AreCells bs vs xs → AreCells cs vs xs
+cells_kept bs cs vs [] e h = tt
+cells_kept bs cs vs (c ∷ xs) e h =
+    (cell_kept bs cs vs c e h.0, rw (meaning_kept bs cs (length vs) vs c.content e h.0.content) (cells_kept bs cs (vs ++ meaning bs vs c.content ∷ []) xs e h.1))
+
+-- ---- one more cell
+
+pub grown_one : (bs : Backings) (vs : List Value) (xs : List Cell) (c : Cell) → grown bs vs (xs ++ c ∷ []) ≡ grown bs vs xs ++ meaning bs (grown bs vs xs) c.content ∷ []
+grown_one bs vs [] c = refl
+grown_one bs vs (d ∷ xs) c = grown_one bs (vs ++ meaning bs vs d.content ∷ []) xs c
+
+pub cells_one : (bs : Backings) (vs : List Value) (xs : List Cell) (c : Cell) → AreCells bs vs xs → IsCell bs (grown bs vs xs) c → AreCells bs vs (xs ++ c ∷ [])
+cells_one bs vs [] c h k = (k, tt)
+cells_one bs vs (d ∷ xs) c h k = (h.0, cells_one bs (vs ++ meaning bs vs d.content ∷ []) xs c h.1 k)
+
+pub length_grown : (bs : Backings) (vs : List Value) (xs : List Cell) → length (grown bs vs xs) ≡ length vs + length xs
+length_grown bs vs [] = omega arith
+length_grown bs vs (d ∷ xs) =
+    let e = length_grown bs (vs ++ meaning bs vs d.content ∷ []) xs in
+    let l = length-append vs (meaning bs vs d.content ∷ []) in
+    omega (arith, e, l)
+
+pub count_values : (bs : Backings) (xs : List Cell) → length (grown bs [] xs) ≡ length xs
+count_values bs xs = length_grown bs [] xs ∙ zero-add (length xs)
+
+-- ---- a cell among the others
+
+pub value_stable : (vs ws : List Value) (r : ℕ) → r < length vs → value_in (vs ++ ws) r ≡ value_in vs r
+value_stable vs ws r h = get_or_append_left vs ws kind.null r h
+
+pub items_stable : (vs ws : List Value) (rs : List ℕ) → AreBelow (length vs) rs → items_at (vs ++ ws) rs ≡ items_at vs rs
+items_stable vs ws [] h = refl
+items_stable vs ws (r ∷ rs) h = rw (value_stable vs ws r h.0, items_stable vs ws rs h.1)
+
+pub entries_stable : (bytes : List ℕ) (vs ws : List Value) (ks : List Part) (rs : List ℕ) → AreBelow (length vs) rs → entries_at bytes (vs ++ ws) ks rs ≡ entries_at bytes vs ks rs
+entries_stable bytes vs ws [] rs h = refl
+entries_stable bytes vs ws (k ∷ ks) [] h = refl
+entries_stable bytes vs ws (k ∷ ks) (r ∷ rs) h = rw (value_stable vs ws r h.0, entries_stable bytes vs ws ks rs h.1)
+
+pub meaning_stable : (bs : Backings) (vs ws : List Value) (c : Content) → IsContent bs (length vs) c → meaning bs (vs ++ ws) c ≡ meaning bs vs c
+meaning_stable bs vs ws cell.Null h = refl
+meaning_stable bs vs ws (cell.Bool b) h = refl
+meaning_stable bs vs ws (cell.Int n) h = refl
+meaning_stable bs vs ws (cell.Text p) h = refl
+meaning_stable bs vs ws (cell.List b n) h = ap kind.list (items_stable vs ws (refs_at bs.lists b n) h.below)
+meaning_stable bs vs ws (cell.Map k b n) h = ap kind.map (entries_stable bs.bytes vs ws (keys_at bs.keys k n) (refs_at bs.lists b n) h.0.below)
+
+pub grows : (bs : Backings) (vs : List Value) (xs : List Cell) → (more : List Value) × (grown bs vs xs ≡ vs ++ more)
+grows bs vs [] = ([], sym (append-nil vs))
+grows bs vs (c ∷ xs) =
+    let g = grows bs (vs ++ meaning bs vs c.content ∷ []) xs in
+    (meaning bs vs c.content ∷ g.0, g.1 ∙ append_assoc vs (meaning bs vs c.content ∷ []) g.0)
+
+here : (bs : Backings) (vs : List Value) (xs : List Cell) (c : Cell) → AreCells bs vs (c ∷ xs) → Found bs (grown bs vs (c ∷ xs)) (length vs) c
+here bs vs xs c h =
+    let g = grows bs (vs ++ meaning bs vs c.content ∷ []) xs in
+    let all : grown bs vs (c ∷ xs) ≡ vs ++ meaning bs vs c.content ∷ g.0 = g.1 ∙ append_assoc vs (meaning bs vs c.content ∷ []) g.0 in
+    let same : meaning bs (vs ++ meaning bs vs c.content ∷ g.0) c.content ≡ meaning bs vs c.content = meaning_stable bs vs (meaning bs vs c.content ∷ g.0) c.content h.0.content in
+    let l = length-append vs (meaning bs vs c.content ∷ g.0) in
+    let one : length (meaning bs vs c.content ∷ g.0) ≡ suc (length g.0) = refl in
+    subst (λ ws. Found bs ws (length vs) c) (sym all)
+    (record {
+      inside = omega (arith, l, one);
+      is = get_or-append_seam vs (meaning bs vs c.content) g.0 kind.null ∙ sym same;
+      content = h.0.content;
+      depth = h.0.depth ∙ ap depth_of (sym same);
+      shallow = h.0.shallow;
+      ordered = rw same h.0.ordered;
+    })
+
+found_at : (bs : Backings) (vs : List Value) (xs : List Cell) (r : ℕ) (c : Cell) → slice_get xs r ≡ Some c → AreCells bs vs xs → Found bs (grown bs vs xs) (length vs + r) c
+found_at bs vs [] r c e h = absurd (cc)
+found_at bs vs (d ∷ xs) zero c e h =
+    let s : d ≡ c = cc in
+    let k : length vs ≡ length vs + zero = omega arith in
+    subst (λ i. Found bs (grown bs vs (d ∷ xs)) i c) k (subst (Found bs (grown bs vs (d ∷ xs)) (length vs)) s (here bs vs xs d h))
+found_at bs vs (d ∷ xs) (suc r) c e h =
+    let n : length (vs ++ meaning bs vs d.content ∷ []) ≡ length vs + 1 = length-append vs (meaning bs vs d.content ∷ []) in
+    let k : length (vs ++ meaning bs vs d.content ∷ []) + r ≡ length vs + suc r = omega (arith, n) in
+    subst (λ i. Found bs (grown bs vs (d ∷ xs)) i c) k (found_at bs (vs ++ meaning bs vs d.content ∷ []) xs r c e h.1)
+
+pub found : (bs : Backings) (xs : List Cell) (r : ℕ) (c : Cell) → slice_get xs r ≡ Some c → AreCells bs [] xs → Found bs (grown bs [] xs) r c
+found bs xs r c e h = subst (λ i. Found bs (grown bs [] xs) i c) (zero-add r) (found_at bs [] xs r c e h)

@@ -1,0 +1,150 @@
+-- Lists made of others.
+use Rattle.std.proofs.Common.{◌≡◌, ℕ, ◌+◌, ◌<◌, ◌≤◌, List, [], ◌∷◌, ◌++◌, length, refl, sym, ap, ap₂, ◌∙◌, arith, subst, max, Option, Some, None, Result, Ok, Err}
+use Rattle.std.specs.Prelude.{IfSome, IsErr}
+use Rattle.std.specs.declared.alloc.AllocError.{AllocError}
+use Rattle.value_store.specs.Value as kind
+use Rattle.value_store.specs.Value.{Value, Items, no_items, item, items_push, items_join}
+use Rattle.value_store.specs.Size.{depth_of, items_depth}
+use Rattle.value_store.specs.Keys.{IsOrdered}
+use Rattle.value_store.specs.Calls.{push_of, join_of}
+use Rattle.value_store.proofs.Keys.{push_ordered, join_ordered}
+use Rattle.value_table.specs.Meaning.{value_in, items_at, refs_at, meaning}
+use Rattle.value_table.specs.Heaps.{AreBelow, IsRange, IsContent, IsCell, Found, Holds, Adds}
+use Rattle.value_table.specs.declared.content.Content.TheVariants as cell
+use Rattle.value_table.specs.declared.cell.Cell.{Cell}
+use Rattle.value_table.specs.declared.backings.Backings.{Backings}
+
+-- a cell that may be placed, and what is due
+pub record Made (bs : Backings) (vs : List Value) (c : Cell) (due : Option Value) : Type 0 where
+  pub cell : IsCell bs vs c
+  pub value : due ≡ Some (meaning bs vs c.content)
+
+-- the answer of the call that places it
+pub made_added : (bs : Backings) (old mid new : List Value) (c : Cell) (due : Option Value) (r : Result ℕ AllocError) → mid ≡ old → Made bs mid c due → Adds mid (meaning bs mid c.content) r new → IfSome due (λ v. Adds old v r new)
+made_added bs old mid new c due r e m a =
+    subst (λ (vs : List Value). IfSome due (λ v. Adds vs v r new)) e (subst (λ (o : Option Value). IfSome o (λ v. Adds mid v r new)) (sym m.value) a)
+
+pub made_there : (bs : Backings) (vs ws : List Value) (c : Cell) (due : Option Value) → ws ≡ vs → Made bs vs c due → Made bs ws c due
+made_there bs vs ws c due e m = subst (λ (us : List Value). Made bs us c due) (sym e) m
+
+-- a call that failed before has placed nothing
+pub nothing_added : (old new : List Value) (v : Value) (r : Result ℕ AllocError) → IsErr r → new ≡ old → Adds old v r new
+nothing_added old new v (Ok i) x s = absurd (cc)
+nothing_added old new v (Err x) y s = s
+
+pub not_added : (old new : List Value) (due : Option Value) (r : Result ℕ AllocError) → IsErr r → new ≡ old → IfSome due (λ v. Adds old v r new)
+not_added old new None r x s = tt
+not_added old new (Some v) r x s = nothing_added old new v r x s
+
+-- what was placed behind values that had not changed
+pub added_there : (old mid new : List Value) (v : Value) (r : Result ℕ AllocError) → mid ≡ old → Adds mid v r new → Adds old v r new
+added_there old mid new v r e a = subst (λ (vs : List Value). Adds vs v r new) e a
+
+pub list_added : (bs : Backings) (old mid new : List Value) (b : ℕ) (r : Result ℕ AllocError) → mid ≡ old → Adds mid (meaning bs mid (cell.List b 0)) r new → Adds old (kind.list no_items) r new
+list_added bs old mid new b r e a = added_there old mid new (kind.list no_items) r e a
+
+pub text_added : (old mid new : List Value) (s t : List ℕ) (r : Result ℕ AllocError) → t ≡ s → mid ≡ old → Adds mid (kind.text t) r new → Adds old (kind.text s) r new
+text_added old mid new s t r same e a = added_there old mid new (kind.text s) r e (subst (λ u. Adds mid (kind.text u) r new) same a)
+
+pub below_le : (i j : ℕ) (rs : List ℕ) → i ≤ j → AreBelow i rs → AreBelow j rs
+below_le i j [] h b = tt
+below_le i j (r ∷ rs) h b = let l = b.0 in (omega (arith, l, h), below_le i j rs h b.1)
+
+pub below_append : (i : ℕ) (rs ss : List ℕ) → AreBelow i rs → AreBelow i ss → AreBelow i (rs ++ ss)
+below_append i [] ss b d = d
+below_append i (r ∷ rs) ss b d = (b.0, below_append i rs ss b.1 d)
+
+items_more : (vs : List Value) (rs : List ℕ) (x : ℕ) → items_at vs (rs ++ x ∷ []) ≡ items_push (items_at vs rs) (value_in vs x)
+items_more vs [] x = refl
+items_more vs (r ∷ rs) x = ap (item (value_in vs r)) (items_more vs rs x)
+
+items_both : (vs : List Value) (rs ss : List ℕ) → items_at vs (rs ++ ss) ≡ items_join (items_at vs rs) (items_at vs ss)
+items_both vs [] ss = refl
+items_both vs (r ∷ rs) ss = ap (item (value_in vs r)) (items_both vs rs ss)
+
+push_depth : (is : Items) (v : Value) → items_depth (items_push is v) ≡ max (items_depth is) (depth_of v)
+push_depth no_items v = omega arith
+push_depth (item w is) v = let e = push_depth is v in omega (arith, e)
+
+join_depth : (is js : Items) → items_depth (items_join is js) ≡ max (items_depth is) (items_depth js)
+join_depth no_items js = omega arith
+join_depth (item w is) js = let e = join_depth is js in omega (arith, e)
+
+if_made : (P : Value → Type 0) (o : Option Value) (v : Value) → o ≡ Some v → IfSome o P → P v
+if_made P o v e h = subst (λ (p : Option Value). IfSome p P) e h
+
+-- what a list's cell stands for
+pub record ListFound (bs : Backings) (vs : List Value) (l b n deep : ℕ) : Type 0 where
+  pub inside : l < length vs
+  pub range : IsRange bs.lists l b n
+  pub is : value_in vs l ≡ kind.list (items_at vs (refs_at bs.lists b n))
+  pub depth : deep ≡ 1 + items_depth (items_at vs (refs_at bs.lists b n))
+  pub shallow : deep ≤ l + 1
+  pub ordered : IsOrdered (value_in vs l)
+
+pub list_found : (bs : Backings) (vs : List Value) (l b n : ℕ) (c : Cell) → Found bs vs l c → c.content ≡ cell.List b n → ListFound bs vs l b n c.depth
+list_found bs vs l b n c f e =
+    let m : meaning bs vs c.content ≡ kind.list (items_at vs (refs_at bs.lists b n)) = ap (meaning bs vs) e in
+    record {
+      inside = f.inside;
+      range = subst (IsContent bs l) e f.content;
+      is = f.is ∙ m;
+      depth = f.depth ∙ ap depth_of m;
+      shallow = f.shallow;
+      ordered = rw f.is f.ordered;
+    }
+
+pub list_pushed : (bs cs : Backings) (vs : List Value) (l x b n c d j : ℕ) (lc xc : Cell) → Found bs vs l lc → Found bs vs x xc → lc.content ≡ cell.List b n → Holds cs.lists c (n + 1) (refs_at bs.lists b n ++ x ∷ []) → d ≡ max lc.depth (xc.depth + 1)
+    → Made cs vs (record { content = cell.List c (n + 1); depth = d; json = j }) (push_of (value_in vs l) (value_in vs x))
+list_pushed bs cs vs l x b n c d j lc xc fl fx e h deep =
+    let rs = refs_at bs.lists b n in
+    let f = list_found bs vs l b n lc fl e in
+    let here : items_at vs (refs_at cs.lists c (n + 1)) ≡ items_push (items_at vs rs) (value_in vs x) = ap (items_at vs) h.items ∙ items_more vs rs x in
+    let due : push_of (value_in vs l) (value_in vs x) ≡ Some (kind.list (items_push (items_at vs rs) (value_in vs x))) = ap (λ v. push_of v (value_in vs x)) f.is in
+    let xd : xc.depth ≡ depth_of (value_in vs x) = fx.depth ∙ ap depth_of (sym fx.is) in
+    let ld = f.depth in
+    let pd = push_depth (items_at vs rs) (value_in vs x) in
+    let s1 = f.shallow in
+    let s2 = fx.shallow in
+    let i1 = f.inside in
+    let i2 = fx.inside in
+    let low : AreBelow (length vs) rs = below_le l (length vs) rs (omega arith) f.range.below in
+    let order : IsOrdered (kind.list (items_push (items_at vs rs) (value_in vs x))) = if_made IsOrdered _ _ due (push_ordered (value_in vs l) (value_in vs x) f.ordered (rw fx.is fx.ordered)) in
+    record {
+      cell = record {
+        content = record { inside = h.inside; long = h.long; below = subst (AreBelow (length vs)) (sym h.items) (below_append (length vs) rs (x ∷ []) low (i2, tt)) };
+        depth = rw here (omega (arith, deep, xd, ld, pd));
+        shallow = omega (arith, deep, s1, s2, i1, i2);
+        ordered = rw here order;
+      };
+      value = due ∙ ap (λ is. Some (kind.list is)) (sym here);
+    }
+
+pub lists_joined : (bs cs : Backings) (vs : List Value) (l x b n b' n' c d j : ℕ) (lc xc : Cell) → Found bs vs l lc → Found bs vs x xc → lc.content ≡ cell.List b n → xc.content ≡ cell.List b' n' → Holds cs.lists c (n + n') (refs_at bs.lists b n ++ refs_at bs.lists b' n') → d ≡ max lc.depth xc.depth
+    → Made cs vs (record { content = cell.List c (n + n'); depth = d; json = j }) (join_of (value_in vs l) (value_in vs x))
+lists_joined bs cs vs l x b n b' n' c d j lc xc fl fx e e' h deep =
+    let rs = refs_at bs.lists b n in
+    let ss = refs_at bs.lists b' n' in
+    let f = list_found bs vs l b n lc fl e in
+    let g = list_found bs vs x b' n' xc fx e' in
+    let here : items_at vs (refs_at cs.lists c (n + n')) ≡ items_join (items_at vs rs) (items_at vs ss) = ap (items_at vs) h.items ∙ items_both vs rs ss in
+    let due : join_of (value_in vs l) (value_in vs x) ≡ Some (kind.list (items_join (items_at vs rs) (items_at vs ss))) = ap₂ join_of f.is g.is in
+    let ld = f.depth in
+    let xd = g.depth in
+    let pd = join_depth (items_at vs rs) (items_at vs ss) in
+    let s1 = f.shallow in
+    let s2 = g.shallow in
+    let i1 = f.inside in
+    let i2 = g.inside in
+    let low : AreBelow (length vs) rs = below_le l (length vs) rs (omega arith) f.range.below in
+    let low' : AreBelow (length vs) ss = below_le x (length vs) ss (omega arith) g.range.below in
+    let order : IsOrdered (kind.list (items_join (items_at vs rs) (items_at vs ss))) = if_made IsOrdered _ _ due (join_ordered (value_in vs l) (value_in vs x) f.ordered g.ordered) in
+    record {
+      cell = record {
+        content = record { inside = h.inside; long = h.long; below = subst (AreBelow (length vs)) (sym h.items) (below_append (length vs) rs ss low low') };
+        depth = rw here (omega (arith, deep, xd, ld, pd));
+        shallow = omega (arith, deep, s1, s2, i1, i2);
+        ordered = rw here order;
+      };
+      value = due ∙ ap (λ is. Some (kind.list is)) (sym here);
+    }

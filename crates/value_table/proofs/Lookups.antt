@@ -1,0 +1,93 @@
+-- The place of a key that a search finds.
+use Rattle.std.proofs.Common.{◌≡◌, ℕ, zero, suc, ◌≤◌, ◌<◌, List, [], ◌∷◌, ◌⊎◌, inl, inr, length, get_or, Option, Some, None, slice_get, Bool, true, false, true≢false, refl, sym, ap, ◌∙◌, subst, arith}
+use Rattle.std.specs.Prelude.{bytes_eq, if◌then◌else◌, option_map}
+use Rattle.std.specs.declared.cmp.Ordering.TheVariants.{Less}
+use Rattle.std.specs.Ordering.{nat_cmp, is_eq}
+use Rattle.std.specs.Cmp.Lexicographic.{slice_cmp}
+use Rattle.std.specs.List.Sorted.{IsStrictlySortedBy}
+use Rattle.std.proofs.lemmas.Map.Text.{is_eq-slice_cmp}
+use Rattle.std.proofs.lemmas.Slice.Eq.{bytes_eq-Decides}
+use Rattle.std.proofs.lemmas.Option.{get_or_from_slice_get}
+use Rattle.value_store.specs.Keys.{Ascend, IsOrdered}
+use Rattle.value_store.specs.Value.{Value, map, Entries, no_entries, entry, keys_of}
+use Rattle.value_store.specs.Calls.{entries_part}
+use Rattle.value_store.specs.Lookup.{place_of_key}
+use Rattle.value_table.specs.Meaning.{value_in, entries_at, refs_at, keys_at, meaning}
+use Rattle.value_table.specs.Heaps.{IsContent, Found}
+use Rattle.value_table.specs.Heads.{texts_of}
+use Rattle.value_table.specs.declared.cell.Cell.{Cell}
+use Rattle.value_table.specs.declared.content.Content.TheVariants as cell
+use Rattle.value_table.specs.declared.backings.Backings.{Backings}
+use Rattle.value_table.specs.Search.{IsAt, IsGap, place_among}
+use Rattle.value_table.proofs.Searches.{ascend_at}
+use Rattle.value_table.proofs.Heads.{map_keys}
+
+pub place_by_keys : (key : List ℕ) (es : Entries) → place_of_key key es ≡ place_among key (keys_of es)
+place_by_keys key no_entries = refl
+place_by_keys key (entry k v es) = ap (λ p. if bytes_eq k key then Some 0 else option_map suc p) (place_by_keys key es)
+
+-- ---- keys that are not equal
+
+unequal : (a b : List ℕ) (o : Bool) → bytes_eq a b ≡ o → (a ≡ b → ⊥) → o ≡ false
+unequal a b true e f = absurd (f ((bytes_eq-Decides a b).0 e))
+unequal a b false e f = refl
+
+ordered_apart : (a b : List ℕ) → is_eq (slice_cmp nat_cmp a b) ≡ false → a ≡ b → ⊥
+ordered_apart a b e s = true≢false (sym ((bytes_eq-Decides a b).1 s) ∙ sym (is_eq-slice_cmp a b) ∙ e)
+
+-- ---- a key that is there
+
+passed : (key k : List ℕ) (p : Option ℕ) → bytes_eq k key ≡ false → (if bytes_eq k key then Some 0 else option_map suc p) ≡ option_map suc p
+passed key k p e = rw e refl
+
+first : (key k : List ℕ) (p : Option ℕ) → bytes_eq k key ≡ true → (if bytes_eq k key then Some 0 else option_map suc p) ≡ Some 0
+first key k p e = rw e refl
+
+some_same : {A : Type 0} {a b : A} → Some a ≡ Some b → a ≡ b
+some_same e = cc
+
+at_place : (key : List ℕ) (ks : List (List ℕ)) (i : ℕ) → Ascend ks → i < length ks → slice_get ks i ≡ Some key → place_among key ks ≡ Some i
+unfolding IsStrictlySortedBy
+at_place key [] i a h e = absurd (omega arith)
+at_place key (k ∷ ks) zero a h e = first key k (place_among key ks) ((bytes_eq-Decides k key).1 (some_same e))
+at_place key (k ∷ ks) (suc i) a h e =
+    let here = get_or_from_slice_get (k ∷ ks) (suc i) key [] e in
+    let below = ascend_at (k ∷ ks) 0 (suc i) [] [] a (omega arith) h in
+    let less : slice_cmp nat_cmp k key ≡ Less = ap (slice_cmp nat_cmp k) (sym here) ∙ below in
+    passed key k (place_among key ks) (unequal k key (bytes_eq k key) refl (ordered_apart k key (ap is_eq less))) ∙ ap (option_map suc) (at_place key ks i a.1 (omega arith) e)
+
+pub found_place : (key : List ℕ) (ks : List (List ℕ)) (i : ℕ) → Ascend ks → IsAt ks key i → place_among key ks ≡ Some i
+found_place key ks i a h = at_place key ks i a h.inside h.is
+
+-- ---- a key that is not there
+
+no_place : (key : List ℕ) (ks : List (List ℕ)) → ((j : ℕ) (d : List ℕ) → j < length ks → is_eq (slice_cmp nat_cmp key (get_or ks j d)) ≡ false) → place_among key ks ≡ None
+no_place key [] f = refl
+no_place key (k ∷ ks) f =
+    let apart = λ (s : k ≡ key). ordered_apart key k (f 0 [] (omega arith)) (sym s) in
+    passed key k (place_among key ks) (unequal k key (bytes_eq k key) refl apart) ∙ ap (option_map suc) (no_place key ks (λ j d h. f (suc j) d (omega arith)))
+
+either : (i j : ℕ) → (j < i) ⊎ (i ≤ j)
+either zero j = inr (omega arith)
+either (suc i) zero = inl (omega arith)
+either (suc i) (suc j) = elim (either i j) [ inl h ↦ inl (omega arith) | inr h ↦ inr (omega arith) ]
+
+pub missing_place : (key : List ℕ) (ks : List (List ℕ)) (i : ℕ) → IsGap ks key i → place_among key ks ≡ None
+missing_place key ks i g = no_place key ks (λ j d h. elim (either i j) [ inl b ↦ ap is_eq (g.before j d b) | inr b ↦ ap is_eq (g.behind j d b h) ])
+
+-- ---- the map of a cell
+
+pub record MapHere (bs : Backings) (v : Value) (k n : ℕ) : Type 0 where
+  pub entries : Entries
+  pub is : v ≡ map entries
+  pub keys : keys_of entries ≡ texts_of bs.bytes (keys_at bs.keys k n)
+  pub ordered : Ascend (texts_of bs.bytes (keys_at bs.keys k n))
+
+pub map_here : (bs : Backings) (vs : List Value) (r : ℕ) (c : Cell) (k b n : ℕ) → Found bs vs r c → c.content ≡ cell.Map k b n → MapHere bs (value_in vs r) k n
+map_here bs vs r c k b n f e =
+    let m = ap (meaning bs vs) e in
+    let keys = map_keys bs vs r k b n (subst (IsContent bs r) e f.content) in
+    record { entries = entries_at bs.bytes vs (keys_at bs.keys k n) (refs_at bs.lists b n); is = f.is ∙ m; keys = keys; ordered = subst Ascend keys (subst IsOrdered m f.ordered).0 }
+
+pub find_here : (bs : Backings) (v : Value) (k n : ℕ) (key : List ℕ) → MapHere bs v k n → option_map (place_of_key key) (entries_part v) ≡ Some (place_among key (texts_of bs.bytes (keys_at bs.keys k n)))
+find_here bs v k n key h = ap (λ w. option_map (place_of_key key) (entries_part w)) h.is ∙ ap (λ p. Some p) (place_by_keys key h.entries ∙ ap (place_among key) h.keys)

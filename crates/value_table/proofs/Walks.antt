@@ -1,0 +1,103 @@
+-- What a walk over the parts of two cells goes by.
+use Rattle.std.proofs.Common.{◌≡◌, ℕ, zero, suc, ◌<◌, List, [], ◌∷◌, length, get_or, Some, slice_get, sym, ap, ◌∙◌, subst, arith}
+use Rattle.std.specs.Prelude.{unwrap_or}
+use Rattle.std.proofs.lemmas.Option.{slice_get-get_or, unwrap_or-slice_get, get_or_from_slice_get}
+use Rattle.value_store.specs.Value as kind
+use Rattle.value_store.specs.Value.{Value}
+use Rattle.value_table.specs.Meaning.{value_in, meaning}
+use Rattle.value_table.specs.Heaps.{IsContent, AreBelow, AreTexts, IsText}
+use Rattle.value_table.specs.Heads.{head, parts, values_at}
+use Rattle.value_table.specs.Equality.{AreContents, AreMeanings}
+use Rattle.value_table.specs.declared.part.Part.{Part}
+use Rattle.value_table.specs.declared.cell.Cell.{Cell}
+use Rattle.value_table.specs.declared.content.Content.{Content}
+use Rattle.value_table.specs.declared.content.Content.TheVariants as cell
+use Rattle.value_table.specs.declared.backings.Backings.{Backings}
+use Rattle.value_table.proofs.Heads.{Alike, same_meaning, meaning_apart, parts_long}
+
+pub below_here : (i : ℕ) (rs : List ℕ) (k d : ℕ) → AreBelow i rs → k < length rs → get_or rs k d < i
+below_here i [] k d h l = absurd (omega arith)
+below_here i (r ∷ rs) zero d h l = h.0
+below_here i (r ∷ rs) (suc k) d h l = below_here i rs k d h.1 (omega arith)
+
+below_parts : (bs : Backings) (i : ℕ) (c : Content) → IsContent bs i c → AreBelow i (parts bs c)
+below_parts bs i cell.Null h = tt
+below_parts bs i (cell.Bool b) h = tt
+below_parts bs i (cell.Int n) h = tt
+below_parts bs i (cell.Text p) h = tt
+below_parts bs i (cell.List b n) h = h.below
+below_parts bs i (cell.Map k b n) h = h.0.below
+
+-- a part stands before its cell
+pub part_below : (bs : Backings) (i : ℕ) (c : Content) (k d : ℕ) → IsContent bs i c → k < length (parts bs c) → get_or (parts bs c) k d < i
+part_below bs i c k d h l = below_here i (parts bs c) k d (below_parts bs i c h) l
+
+pub text_here : (bytes : List ℕ) (ps : List Part) (k : ℕ) (d : Part) → AreTexts bytes ps → k < length ps → IsText bytes (get_or ps k d)
+text_here bytes [] k d h l = absurd (omega arith)
+text_here bytes (p ∷ ps) zero d h l = h.0
+text_here bytes (p ∷ ps) (suc k) d h l = text_here bytes ps k d h.1 (omega arith)
+
+pub content_here : (bs : Backings) (cs : List Cell) (r : ℕ) (d : Cell) → AreContents bs cs → r < length cs → IsContent bs r (get_or cs r d).content
+content_here bs cs r d h l = h r (get_or cs r d) (slice_get-get_or cs r d l)
+
+pub value_here : (bs : Backings) (vs : List Value) (cs : List Cell) (r : ℕ) (d : Cell) → AreMeanings bs vs cs → r < length cs → slice_get vs r ≡ Some (meaning bs vs (get_or cs r d).content)
+value_here bs vs cs r d h l = h r (get_or cs r d) (slice_get-get_or cs r d l)
+
+-- ---- values at places, and what is read there
+
+pub same_value : (vs : List Value) (r s : ℕ) → slice_get vs r ≡ slice_get vs s → value_in vs r ≡ value_in vs s
+same_value vs r s e = sym (unwrap_or-slice_get vs r kind.null) ∙ ap (λ o. unwrap_or o kind.null) e ∙ unwrap_or-slice_get vs s kind.null
+
+stands : (vs : List Value) (r : ℕ) (v : Value) → slice_get vs r ≡ Some v → slice_get vs r ≡ Some (value_in vs r)
+stands vs r v e = e ∙ ap (λ w. Some w) (sym (get_or_from_slice_get vs r v kind.null e))
+
+-- any cell
+abbrev pub some_cell : Cell
+some_cell = record { content = cell.Null; depth = 0; json = 0 }
+
+pub same_place : (bs : Backings) (vs : List Value) (cs : List Cell) (r s : ℕ) → AreMeanings bs vs cs → r < length cs → s < length cs → value_in vs r ≡ value_in vs s → slice_get vs r ≡ slice_get vs s
+same_place bs vs cs r s m h k same =
+    stands vs r _ (value_here bs vs cs r some_cell m h) ∙ ap (λ w. Some w) same ∙ sym (stands vs s _ (value_here bs vs cs s some_cell m k))
+
+-- ---- the cells at two places
+
+some_same : {v w : Value} → Some v ≡ Some w → v ≡ w
+some_same e = cc
+
+met : (bs : Backings) (vs : List Value) (cs : List Cell) (x y : ℕ) (c d : Cell) → AreContents bs cs → AreMeanings bs vs cs → x < length cs → y < length cs → slice_get vs x ≡ slice_get vs y
+    → Alike bs vs (get_or cs x c).content (get_or cs y d).content
+met bs vs cs x y c d s m h k e =
+    let v = value_here bs vs cs x c m h in
+    let w = value_here bs vs cs y d m k in
+    let same : meaning bs vs (get_or cs x c).content ≡ meaning bs vs (get_or cs y d).content = some_same (sym v ∙ e ∙ w) in
+    meaning_apart bs vs x y (get_or cs x c).content (get_or cs y d).content (content_here bs cs x c s h) (content_here bs cs y d s k) same
+
+-- equal values have one head
+pub same_heads : (bs : Backings) (vs : List Value) (cs : List Cell) (x y : ℕ) (c d : Cell) → AreContents bs cs → AreMeanings bs vs cs → x < length cs → y < length cs → slice_get vs x ≡ slice_get vs y
+    → head bs (get_or cs x c).content ≡ head bs (get_or cs y d).content
+same_heads bs vs cs x y c d s m h k e = (met bs vs cs x y c d s m h k e).heads
+
+-- and their parts have equal values
+pub same_parts : (bs : Backings) (vs : List Value) (cs : List Cell) (x y : ℕ) (c d : Cell) (xs ys : List ℕ) → xs ≡ parts bs (get_or cs x c).content → ys ≡ parts bs (get_or cs y d).content
+    → AreContents bs cs → AreMeanings bs vs cs → x < length cs → y < length cs → slice_get vs x ≡ slice_get vs y → values_at vs xs ≡ values_at vs ys
+same_parts bs vs cs x y c d xs ys p q s m h k e = ap (values_at vs) p ∙ (met bs vs cs x y c d s m h k e).values ∙ sym (ap (values_at vs) q)
+
+-- with one head and equal parts two values are equal
+pub same_cells : (bs : Backings) (vs : List Value) (cs : List Cell) (x y : ℕ) (c d : Cell) (xs ys : List ℕ) → xs ≡ parts bs (get_or cs x c).content → ys ≡ parts bs (get_or cs y d).content
+    → AreMeanings bs vs cs → x < length cs → y < length cs → head bs (get_or cs x c).content ≡ head bs (get_or cs y d).content → values_at vs xs ≡ values_at vs ys → slice_get vs x ≡ slice_get vs y
+same_cells bs vs cs x y c d xs ys p q m h k e f =
+    let v = value_here bs vs cs x c m h in
+    let w = value_here bs vs cs y d m k in
+    v ∙ ap (λ u. Some u) (same_meaning bs vs (get_or cs x c).content (get_or cs y d).content e (sym (ap (values_at vs) p) ∙ f ∙ ap (values_at vs) q)) ∙ sym w
+
+-- one head has as many parts
+pub same_long : (bs : Backings) (cs : List Cell) (x y : ℕ) (c d : Cell) (xs ys : List ℕ) → xs ≡ parts bs (get_or cs x c).content → ys ≡ parts bs (get_or cs y d).content
+    → AreContents bs cs → x < length cs → y < length cs → head bs (get_or cs x c).content ≡ head bs (get_or cs y d).content → length xs ≡ length ys
+same_long bs cs x y c d xs ys p q s h k e =
+    ap length p ∙ parts_long bs x y (get_or cs x c).content (get_or cs y d).content (content_here bs cs x c s h) (content_here bs cs y d s k) e ∙ sym (ap length q)
+
+-- a part stands before its cell
+pub part_before : (bs : Backings) (cs : List Cell) (x : ℕ) (c : Cell) (xs : List ℕ) (k d : ℕ) → xs ≡ parts bs (get_or cs x c).content → AreContents bs cs → x < length cs → k < length xs → get_or xs k d < x
+part_before bs cs x c xs k d p s h l =
+    let t : k < length (parts bs (get_or cs x c).content) = subst (λ zs. k < length zs) p l in
+    subst (λ zs. get_or zs k d < x) (sym p) (part_below bs x (get_or cs x c).content k d (content_here bs cs x c s h) t)

@@ -1,0 +1,13 @@
+use Rattle.std.proofs.Common.{◌≡◌, ◌≤◌, List, slice_get}
+use Rattle.value_store.specs.Value.{Value}
+use Rattle.value_table.specs.Heaps.{AreSame}
+use Rattle.value_table.proofs.equality.classes.representative.Given as goal
+
+abbrev pub invariant-loop-next : goal.invariant-loop-next
+invariant-loop-next l = record {
+  not_above : l.here ≤ l.place;
+  value : (vs : List Value) → AreSame vs l.fn.same → AreSame vs l.same × (slice_get vs l.next ≡ slice_get vs l.here) × (slice_get vs l.here ≡ slice_get vs l.place);
+}
+
+abbrev pub decreases-loop-next : goal.decreases-loop-next
+decreases-loop-next l = l.here

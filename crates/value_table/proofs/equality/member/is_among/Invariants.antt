@@ -1,0 +1,11 @@
+use Rattle.std.proofs.Common.{◌≡◌, List, drop}
+use Rattle.value_store.specs.Value.{Value}
+use Rattle.value_store.specs.Lookup.{has_item}
+use Rattle.value_table.specs.Meaning.{value_in, items_at}
+use Rattle.value_table.specs.Heaps.{AreSame}
+use Rattle.value_table.specs.Equality.{AreMeanings}
+use Rattle.value_table.proofs.equality.member.is_among.Given as goal
+
+abbrev pub invariant-loop-i : goal.invariant-loop-i
+invariant-loop-i l = (vs : List Value) → AreMeanings l.backings vs l.cells → AreSame vs l.fn.same
+    → AreSame vs l.same × (has_item (value_in vs l.x) (items_at vs l.places) ≡ has_item (value_in vs l.x) (items_at vs (drop l.i l.places)))

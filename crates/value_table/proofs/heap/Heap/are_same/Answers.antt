@@ -1,0 +1,43 @@
+use Rattle.std.proofs.Common.{◌≡◌, length, ap, ◌∙◌, arith}
+use Rattle.std.proofs.lemmas.List.{with_items_is}
+use Rattle.value_table.specs.Heaps.{AreSame}
+use Rattle.value_table.specs.Heap.{heap_values}
+use Rattle.value_table.specs.Equality.{AreMeanings}
+use Rattle.value_table.proofs.Growth.{count_values}
+use Rattle.value_table.proofs.Comparisons.{answer_is, contents_of, meanings_of}
+use Rattle.value_table.proofs.heap.Heap.are_same.Goals as goal
+
+pub equal-requires-clause-contents : goal.equal-requires-clause-contents
+equal-requires-clause-contents c =
+    let items : c.items.result.now ≡ c.args.self.now.cells = cc in
+    rw items (contents_of c.args.self.now.backings c.args.self.now.cells c.requires.heap.cells)
+
+pub equal-requires-clause-left : goal.equal-requires-clause-left
+equal-requires-clause-left c =
+    let items : c.items.result.now ≡ c.args.self.now.cells = cc in
+    rw items (omega (arith, count_values c.args.self.now.backings c.args.self.now.cells))
+
+pub equal-requires-clause-right : goal.equal-requires-clause-right
+equal-requires-clause-right c =
+    let items : c.items.result.now ≡ c.args.self.now.cells = cc in
+    rw items (omega (arith, count_values c.args.self.now.backings c.args.self.now.cells))
+
+pub returns-clause-heap : goal.returns-clause-heap
+returns-clause-heap c =
+    let items : c.items.result.now ≡ c.args.self.now.cells = cc in
+    let heap = c.args.self.now in
+    let m : AreMeanings heap.backings (heap_values heap) c.items.result.now = rw items (meanings_of heap.backings heap.cells c.requires.heap.cells) in
+    let s : AreSame (heap_values heap) c.deref_mut.result.now = rw c.deref_mut.ensures.value c.requires.heap.same in
+    let after = c.equal.ensures (heap_values heap) m s in
+    record { cells = c.requires.heap.cells; same = rw (with_items_is heap.same c.equal.new.same (c.equal.auto.same ∙ c.deref_mut.ensures.len)) after.known }
+
+pub returns-clause-answer : goal.returns-clause-answer
+returns-clause-answer c =
+    let items : c.items.result.now ≡ c.args.self.now.cells = cc in
+    let heap = c.args.self.now in
+    let m : AreMeanings heap.backings (heap_values heap) c.items.result.now = rw items (meanings_of heap.backings heap.cells c.requires.heap.cells) in
+    let s : AreSame (heap_values heap) c.deref_mut.result.now = rw c.deref_mut.ensures.value c.requires.heap.same in
+    let after = c.equal.ensures (heap_values heap) m s in
+    let n = count_values heap.backings heap.cells in
+    let l = ap length items in
+    answer_is heap.backings (heap_values heap) c.items.result.now c.args.a c.args.b c.equal.result m (omega arith) (omega arith) after.right

@@ -1,0 +1,11 @@
+use Rattle.std.proofs.Common.{◌≡◌, length}
+use Rattle.value_table.specs.Heap.{IsHeap}
+use Rattle.value_table.proofs.heap.Heap.complete_words.Given as goal
+
+abbrev pub invariant-loop-place : goal.invariant-loop-place
+invariant-loop-place l = record {
+  heap : IsHeap l.self;
+  cells : l.self.cells ≡ l.fn.self.cells;
+  backings : l.self.backings ≡ l.fn.self.backings;
+  next : length l.self.same.items ≡ l.place;
+}

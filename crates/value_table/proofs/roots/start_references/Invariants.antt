@@ -1,0 +1,14 @@
+use Rattle.std.proofs.Common.{◌++◌, drop, take, map}
+use Rattle.std.specs.List.{AllByRecursion}
+use Rattle.serde_json.specs.View.{view}
+use Rattle.value_store.specs.Value.{value}
+use Rattle.value_store.specs.Placing.{first_values}
+use Rattle.value_store.specs.Plain.{plain_value}
+use Rattle.value_table.specs.Start.{StartsWith, IsWelcome}
+use Rattle.value_table.proofs.roots.start_references.Given as goal
+
+abbrev pub invariant-loop-root : goal.invariant-loop-root
+invariant-loop-root l = record {
+  starts : StartsWith l.references (first_values ++ map value (map plain_value (map view (take l.root-index l.roots))));
+  welcome : AllByRecursion IsWelcome (map view (drop l.root-index l.roots));
+}

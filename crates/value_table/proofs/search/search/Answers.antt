@@ -1,0 +1,59 @@
+use Rattle.std.proofs.Common.{◌≡◌, ◌+◌, ◌-◌, ◌/◌, ◌<◌, [], length, get_or, sym, ap, ◌∙◌, Some, arith}
+use Rattle.std.specs.declared.cmp.Ordering.TheVariants.{Less, Greater}
+use Rattle.std.specs.Ordering.{nat_cmp}
+use Rattle.std.specs.Cmp.Lexicographic.{slice_cmp}
+use Rattle.std.proofs.lemmas.List.{length-map, get_or-map}
+use Rattle.std.proofs.lemmas.Map.Lookups.{exact_bytes}
+use Rattle.std.proofs.lemmas.Option.{slice_get-get_or}
+use Rattle.value_table.specs.Meaning.{part_of}
+use Rattle.value_table.specs.Heads.{texts_of}
+use Rattle.value_table.proofs.Walks.{text_here}
+use Rattle.value_table.proofs.Searches.{above_all, below_all}
+use Rattle.value_table.proofs.search.search.Goals as goal
+
+pub text-requires : goal.text-requires
+text-requires c = text_here c.args.bytes.now c.args.keys.now _ _ c.requires.texts (omega arith)
+
+pub returns-in-Equal : goal.returns-in-Equal
+returns-in-Equal c =
+    let m = c.loop-from.from + (c.loop-from.to - c.loop-from.from) / 2 in
+    let keys = c.args.keys.now in
+    let ts = texts_of c.args.bytes.now keys in
+    let lt : m < length keys = omega arith in
+    let n = length-map keys (part_of c.args.bytes.now) in
+    let lts : m < length ts = omega (arith, n) in
+    let is : c.text.result.now ≡ get_or ts m [] = c.text.ensures ∙ sym (get_or-map (part_of c.args.bytes.now) keys m _ [] lt) in
+    let same = exact_bytes c.args.key.now c.text.result.now (sym c.cmp.ensures ∙ c.in-Equal.is) in
+    record { inside = lts; is = slice_get-get_or ts m [] lts ∙ ap (λ t. Some t) (sym (same ∙ is)) }
+
+pub loop-from-preserved-in-Less : goal.loop-from-preserved-in-Less
+loop-from-preserved-in-Less c =
+    let m = c.loop-from.from + (c.loop-from.to - c.loop-from.from) / 2 in
+    let keys = c.args.keys.now in
+    let ts = texts_of c.args.bytes.now keys in
+    let lt : m < length keys = omega arith in
+    let n = length-map keys (part_of c.args.bytes.now) in
+    let is : c.text.result.now ≡ get_or ts m [] = c.text.ensures ∙ sym (get_or-map (part_of c.args.bytes.now) keys m _ [] lt) in
+    let here : slice_cmp nat_cmp c.args.key.now (get_or ts m []) ≡ Less = ap (slice_cmp nat_cmp c.args.key.now) (sym is) ∙ sym c.cmp.ensures ∙ c.in-Less.is in
+    record {
+      order = omega arith;
+      inside = omega arith;
+      before = c.loop-from.invariant.before;
+      behind = λ j d le l. below_all ts c.args.key.now m j [] d c.requires.ordered (omega (arith, n)) here le (omega (arith, n, l));
+    }
+
+pub loop-from-preserved : goal.loop-from-preserved
+loop-from-preserved c =
+    let m = c.loop-from.from + (c.loop-from.to - c.loop-from.from) / 2 in
+    let keys = c.args.keys.now in
+    let ts = texts_of c.args.bytes.now keys in
+    let lt : m < length keys = omega arith in
+    let n = length-map keys (part_of c.args.bytes.now) in
+    let is : c.text.result.now ≡ get_or ts m [] = c.text.ensures ∙ sym (get_or-map (part_of c.args.bytes.now) keys m _ [] lt) in
+    let here : slice_cmp nat_cmp c.args.key.now (get_or ts m []) ≡ Greater = ap (slice_cmp nat_cmp c.args.key.now) (sym is) ∙ sym c.cmp.ensures ∙ c.in-Greater.is in
+    record {
+      order = omega arith;
+      inside = omega arith;
+      before = λ j d l. above_all ts c.args.key.now m j [] d c.requires.ordered (omega (arith, n)) here l;
+      behind = c.loop-from.invariant.behind;
+    }

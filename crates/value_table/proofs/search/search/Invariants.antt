@@ -1,0 +1,18 @@
+use Rattle.std.proofs.Common.{◌≡◌, ℕ, ◌≤◌, ◌<◌, ◌-◌, List, length}
+use Rattle.std.specs.Prelude.{slice_index_or}
+use Rattle.std.specs.declared.cmp.Ordering.TheVariants.{Less, Greater}
+use Rattle.std.specs.Ordering.{nat_cmp}
+use Rattle.std.specs.Cmp.Lexicographic.{slice_cmp}
+use Rattle.value_table.specs.Heads.{texts_of}
+use Rattle.value_table.proofs.search.search.Given as goal
+
+abbrev pub invariant-loop-from : goal.invariant-loop-from
+invariant-loop-from l = record {
+  order : l.from ≤ l.to;
+  inside : l.to ≤ length l.keys;
+  before : (j : ℕ) (d : List ℕ) → j < l.from → slice_cmp nat_cmp l.key (slice_index_or (texts_of l.bytes l.keys) j d) ≡ Greater;
+  behind : (j : ℕ) (d : List ℕ) → l.to ≤ j → j < length l.keys → slice_cmp nat_cmp l.key (slice_index_or (texts_of l.bytes l.keys) j d) ≡ Less;
+}
+
+abbrev pub decreases-loop-from : goal.decreases-loop-from
+decreases-loop-from l = l.to - l.from

@@ -1,0 +1,12 @@
+pub mod Meaning
+pub mod Heaps
+pub mod Heap
+pub mod References
+pub mod Heads
+pub mod Equality
+pub mod Search
+pub mod Entries
+pub mod Growing
+pub mod Held
+pub mod Start
+pub mod Tokens

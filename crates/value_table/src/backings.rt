@@ -1,0 +1,135 @@
+//! The parts of texts, lists and maps.
+
+ghost use Rattle.std.specs.Prelude.{◌≡◌, ◌≤◌, ◌<◌, ◌+◌, ◌^◌, ◌∷◌, ◌++◌, [], length, slice_index_or, IfOk, OnOk};
+ghost use Rattle.std.specs.Str.{IsUtf8};
+
+use crate::backing::Backing;
+use crate::lists::Lists;
+use crate::part::Part;
+use std::alloc::{AllocError, Global};
+
+/// What the cells of texts, lists and maps name parts of.
+#[derive(Drop)]
+pub(crate) struct Backings {
+    /// The bytes of all texts.
+    pub(crate) bytes: Backing<u8>,
+    /// The keys of all maps, those of one map in a row.
+    pub(crate) keys: Backing<Part>,
+    /// The items of lists and the values of maps, each by its cell's place.
+    pub(crate) lists: Lists,
+}
+
+// Each call lets the parts that stand stay as they are, whether it succeeds or not.
+impl Backings {
+    ghost use Rattle.value_table.specs.Meaning.{part_of, refs_at};
+    ghost use Rattle.value_table.specs.Heaps.{IsText, Extends, Holds};
+
+    pub(crate) fn new(alloc: Global) -> Result<Backings, AllocError> {
+        Ok(Backings {
+            bytes: Backing::new(alloc)?,
+            keys: Backing::new(alloc)?,
+            lists: Lists::new(alloc)?,
+        })
+    }
+
+    /// The same backings, shared.
+    pub(crate) fn copy(&self) -> Result<Backings, AllocError>
+        ensures { IfOk result (λ b. b ≡ self.now) }
+    {
+        Ok(Backings {
+            bytes: self.bytes.clone()?,
+            keys: self.keys.clone()?,
+            lists: self.lists.clone()?,
+        })
+    }
+
+    /// Puts a text behind all others.
+    pub(crate) fn add_text(&mut self, text: &[u8]) -> Result<Part, AllocError>
+        requires { IsUtf8 text.now }
+        ensures grown { Extends self.old self.new }
+        ensures part { IfOk result (λ p. IsText self.new.bytes p × (part_of self.new.bytes p ≡ text.now)) }
+    {
+        let from = self.bytes.len() as u64;
+        self.bytes.extend(text)?;
+        let to = self.bytes.len() as u64;
+        Ok(Part { from, to })
+    }
+
+    /// Puts two texts behind all others, as one.
+    pub(crate) fn join_texts(&mut self, first: Part, second: Part) -> Result<Part, AllocError>
+        requires first { IsText self.old.bytes first }
+        requires second { IsText self.old.bytes second }
+        ensures grown { Extends self.old self.new }
+        ensures part { IfOk result (λ p. IsText self.new.bytes p × (part_of self.new.bytes p ≡ part_of self.old.bytes first ++ part_of self.old.bytes second)) }
+    {
+        let from = self.bytes.len() as u64;
+        self.bytes
+            .extend_within(first.from as usize, first.to as usize)?;
+        self.bytes
+            .extend_within(second.from as usize, second.to as usize)?;
+        let to = self.bytes.len() as u64;
+        Ok(Part { from, to })
+    }
+
+    /// A new backing with these items.
+    pub(crate) fn add_items(&mut self, items: Backing<u64>) -> Result<u64, AllocError>
+        ensures grown { Extends self.old self.new }
+        ensures items { IfOk result (λ b. Holds self.new.lists b (length items) items) }
+    {
+        let place = self.lists.backings().len() as u64;
+        self.lists.push(items)?;
+        Ok(place)
+    }
+
+    /// A backing that has the first `count` items of another and then `item`: the same one where it
+    /// ends there, and else a new one.
+    pub(crate) fn push_item(
+        &mut self,
+        backing: u64,
+        count: u64,
+        item: u64,
+    ) -> Result<u64, AllocError>
+        requires inside { backing < length self.old.lists }
+        requires long { count ≤ length (slice_index_or self.old.lists backing []) }
+        ensures grown { Extends self.old self.new }
+        ensures short { count < 2 ^ 63 }
+        ensures items { IfOk result (λ b. Holds self.new.lists b (count + 1) (refs_at self.old.lists backing count ++ item ∷ [])) }
+    {
+        let items = &self.lists.backings()[backing as usize];
+        if items.len() == count as usize {
+            self.lists.push_item(backing as usize, item)?;
+            return Ok(backing);
+        }
+        let mut copy = items.first(count as usize, 1)?;
+        copy.push(item)?;
+        self.add_items(copy)
+    }
+
+    /// A backing that has the first items of one and then the first items of another: the first one
+    /// where it ends there, and else a new one.
+    pub(crate) fn join_items(
+        &mut self,
+        first: (u64, u64),
+        second: (u64, u64),
+    ) -> Result<u64, AllocError>
+        requires first_inside { first.0 < length self.old.lists }
+        requires first_long { first.1 ≤ length (slice_index_or self.old.lists first.0 []) }
+        requires second_inside { second.0 < length self.old.lists }
+        requires second_long { second.1 ≤ length (slice_index_or self.old.lists second.0 []) }
+        ensures grown { Extends self.old self.new }
+        ensures short { OnOk result (first.1 + second.1 < 2 ^ 64) }
+        ensures items { IfOk result (λ b. Holds self.new.lists b (first.1 + second.1) (refs_at self.old.lists first.0 first.1 ++ refs_at self.old.lists second.0 second.1)) }
+    {
+        let (backing, count) = first;
+        let (other, more) = second;
+        let others = self.lists.backings()[other as usize].clone()?;
+        let others = &others.items()[..more as usize];
+        let items = self.lists.backings()[backing as usize].items();
+        if items.len() == count as usize {
+            self.lists.push_items(backing as usize, others)?;
+            return Ok(backing);
+        }
+        let both = Backing::joined(self.keys.alloc(), &items[..count as usize], others)?;
+        self.add_items(both)
+    }
+}

@@ -1,0 +1,110 @@
+//! Deep equality that remembers what it found equal.
+
+ghost use Rattle.std.specs.Prelude.{◌≡◌, ◌<◌, length, Some, IsSome};
+ghost use Rattle.value_store.specs.Equality.{equal};
+ghost use Rattle.value_store.specs.Lookup.{has_item, member};
+ghost use Rattle.value_store.specs.Calls.{entries_part};
+ghost use Rattle.value_table.specs.Meaning.{value_in, items_at, refs_at};
+ghost use Rattle.value_table.specs.Heaps.{IsRange};
+ghost use Rattle.value_table.specs.Heap.{heap_values, IsHeap};
+
+mod alike;
+mod classes;
+mod member;
+mod walk;
+
+use crate::content::Content;
+use crate::equality::member::is_among;
+use crate::equality::walk::first;
+pub(crate) use crate::equality::walk::parts_of;
+use crate::heap::Heap;
+use crate::text::text;
+
+// No call takes memory: there is room for a word of each cell.
+impl Heap {
+    /// Whether the values of two cells are equal in depth.
+    pub(crate) fn equal(&mut self, a: u64, b: u64) -> bool
+        requires heap { IsHeap self.old }
+        requires left { a < length (heap_values self.old) }
+        requires right { b < length (heap_values self.old) }
+        ensures heap { IsHeap self.new }
+        ensures values { heap_values self.new ≡ heap_values self.old }
+        ensures answer { result ≡ equal (value_in (heap_values self.old) a) (value_in (heap_values self.old) b) }
+    {
+        self.complete_words();
+        self.are_same(a, b)
+    }
+
+    // The same, once each cell has a word.
+    fn are_same(&mut self, a: u64, b: u64) -> bool
+        requires heap { IsHeap self.old }
+        requires left { a < length (heap_values self.old) }
+        requires right { b < length (heap_values self.old) }
+        ensures heap { IsHeap self.new }
+        ensures values { heap_values self.new ≡ heap_values self.old }
+        ensures answer { result ≡ equal (value_in (heap_values self.old) a) (value_in (heap_values self.old) b) }
+    {
+        walk::equal(self.cells.items(), &self.backings, &mut self.same, a, b)
+    }
+
+    /// Whether an item of the list at `c` is equal to the value at `x`, or the map at `c` has the text
+    /// at `x` as a key.
+    pub(crate) fn member(&mut self, x: u64, c: u64) -> bool
+        requires heap { IsHeap self.old }
+        requires value { x < length (heap_values self.old) }
+        requires container { c < length (heap_values self.old) }
+        requires kinds { IsSome (member (value_in (heap_values self.old) x) (value_in (heap_values self.old) c)) }
+        ensures heap { IsHeap self.new }
+        ensures values { heap_values self.new ≡ heap_values self.old }
+        ensures answer { Some result ≡ member (value_in (heap_values self.old) x) (value_in (heap_values self.old) c) }
+    {
+        self.complete_words();
+        match self.cell(c).content {
+            Content::List(backing, count) => self.has_item(x, backing, count),
+            _ => self.has_key(c, x),
+        }
+    }
+
+    // Whether one of the first items of a backing is equal to the value at `x`.
+    fn has_item(&mut self, x: u64, backing: u64, count: u64) -> bool
+        requires heap { IsHeap self.old }
+        requires value { x < length (heap_values self.old) }
+        requires items { IsRange self.old.backings.lists (length (heap_values self.old)) backing count }
+        ensures heap { IsHeap self.new }
+        ensures values { heap_values self.new ≡ heap_values self.old }
+        ensures answer { result ≡ has_item (value_in (heap_values self.old) x) (items_at (heap_values self.old) (refs_at self.old.backings.lists backing count)) }
+    {
+        let items = first(&self.backings, backing, count);
+        is_among(self.cells.items(), &self.backings, &mut self.same, x, items)
+    }
+
+    // Whether the map at `map` has the text at `x` as a key.
+    fn has_key(&self, map: u64, x: u64) -> bool
+        requires heap { IsHeap self.now }
+        requires inside { map < length (heap_values self.now) }
+        requires key { x < length (heap_values self.now) }
+        requires kinds { IsSome (member (value_in (heap_values self.now) x) (value_in (heap_values self.now) map)) }
+        requires map { IsSome (entries_part (value_in (heap_values self.now) map)) }
+        ensures { Some result ≡ member (value_in (heap_values self.now) x) (value_in (heap_values self.now) map) }
+    {
+        let Content::Text(part) = self.cell(x).content else {
+            return false;
+        };
+        self.find(map, text(self.backings.bytes.items(), part))
+            .is_some()
+    }
+
+    // Gives each cell that has no word its own place.
+    fn complete_words(&mut self)
+        requires { IsHeap self.old }
+        ensures heap { IsHeap self.new }
+        ensures cells { self.new.cells ≡ self.old.cells }
+        ensures backings { self.new.backings ≡ self.old.backings }
+    {
+        for place in self.same.len()..self.cells.len() {
+            if self.same.push(place as u64).is_err() {
+                return;
+            }
+        }
+    }
+}

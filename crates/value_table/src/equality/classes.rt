@@ -1,0 +1,53 @@
+//! Classes of places that are known to hold the same value.
+
+ghost use Rattle.std.specs.Prelude.{◌≡◌, ◌≤◌, List, slice_get};
+ghost use Rattle.value_store.specs.Value.{Value};
+ghost use Rattle.value_table.specs.Heaps.{AreSame};
+
+/// The next place on the way down to the representative, or the place itself.
+fn below(same: &[u64], place: u64) -> u64
+    ensures not_above { result ≤ place }
+    ensures value { (vs : List Value) → AreSame vs same.now → slice_get vs result ≡ slice_get vs place }
+{
+    match same.get(place as usize) {
+        Some(next) if *next < place => *next,
+        _ => place,
+    }
+}
+
+/// The representative of a place's class. Each place on the way is pointed further down.
+pub(crate) fn representative(same: &mut [u64], place: u64) -> u64
+    ensures not_above { result ≤ place }
+    ensures value { (vs : List Value) → AreSame vs same.old → AreSame vs same.new × (slice_get vs result ≡ slice_get vs place) }
+{
+    let mut here = place;
+    let mut next = below(same, here);
+    while next < here {
+        let further = below(same, next);
+        point(same, here, further);
+        here = next;
+        next = below(same, here);
+    }
+    here
+}
+
+// Notes that a place has the value of another, which does not stand behind it.
+fn point(same: &mut [u64], place: u64, target: u64)
+    requires { target ≤ place }
+    ensures { (vs : List Value) → AreSame vs same.old → slice_get vs target ≡ slice_get vs place → AreSame vs same.new }
+{
+    if (place as usize) < same.len() {
+        same[place as usize] = target;
+    }
+}
+
+/// Makes the classes of two representatives one.
+pub(crate) fn unite(same: &mut [u64], a: u64, b: u64)
+    ensures { (vs : List Value) → AreSame vs same.old → slice_get vs a ≡ slice_get vs b → AreSame vs same.new }
+{
+    if a < b {
+        point(same, b, a);
+    } else {
+        point(same, a, b);
+    }
+}

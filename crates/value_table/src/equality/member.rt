@@ -1,0 +1,33 @@
+//! Whether a value is among others.
+
+ghost use Rattle.std.specs.Prelude.{◌≡◌, ◌<◌, List, length};
+ghost use Rattle.value_store.specs.Value.{Value};
+ghost use Rattle.value_store.specs.Lookup.{has_item};
+ghost use Rattle.value_table.specs.Meaning.{value_in, items_at};
+ghost use Rattle.value_table.specs.Heaps.{AreBelow, AreSame};
+ghost use Rattle.value_table.specs.Equality.{AreContents, AreMeanings};
+
+use crate::backings::Backings;
+use crate::cell::Cell;
+use crate::equality::walk::equal;
+
+/// Whether one of the cells at `places` has the value of the cell `x`.
+pub(crate) fn is_among(
+    cells: &[Cell],
+    backings: &Backings,
+    same: &mut [u64],
+    x: u64,
+    places: &[u64],
+) -> bool
+    requires contents { AreContents backings.now cells.now }
+    requires value { x < length cells.now }
+    requires places { AreBelow (length cells.now) places.now }
+    ensures { (vs : List Value) → AreMeanings backings.now vs cells.now → AreSame vs same.old → AreSame vs same.new × (result ≡ has_item (value_in vs x) (items_at vs places.now)) }
+{
+    for i in 0..places.len() {
+        if equal(cells, backings, same, x, places[i]) {
+            return true;
+        }
+    }
+    false
+}

@@ -1,0 +1,73 @@
+//! Whether the values of two cells are equal.
+
+ghost use Rattle.std.specs.Prelude.{◌≡◌, ◌<◌, List, length, take};
+ghost use Rattle.value_store.specs.Value.{Value};
+ghost use Rattle.value_table.specs.Heaps.{AreSame};
+ghost use Rattle.value_table.specs.Heads.{parts};
+ghost use Rattle.value_table.specs.Meaning.{refs_at};
+ghost use Rattle.value_table.specs.Equality.{AreContents, AreMeanings, Compares};
+
+use crate::backings::Backings;
+use crate::cell::Cell;
+use crate::content::Content;
+use crate::equality::alike::alike;
+use crate::equality::classes::{representative, unite};
+
+/// Whether the values of two cells are equal. Each two that are found equal are remembered, so that
+/// values with shared parts take about as many steps as they have cells. It goes as deep as the values.
+pub(crate) fn equal(cells: &[Cell], backings: &Backings, same: &mut [u64], a: u64, b: u64) -> bool
+    requires contents { AreContents backings.now cells.now }
+    requires left { a < length cells.now }
+    requires right { b < length cells.now }
+    ensures { (vs : List Value) → AreMeanings backings.now vs cells.now → AreSame vs same.old → Compares vs same.new a b result }
+{
+    let x = representative(same, a);
+    let y = representative(same, b);
+    if x == y {
+        return true;
+    }
+    let left = cells[x as usize].content;
+    let right = cells[y as usize].content;
+    if !alike(backings, left, right) {
+        return false;
+    }
+    let xs = parts_of(backings, left);
+    let ys = parts_of(backings, right);
+    for i in 0..xs.len() {
+        if !equal(cells, backings, same, xs[i], ys[i]) {
+            return false;
+        }
+    }
+    unite(same, x, y);
+    true
+}
+
+pub(crate) fn parts_of(backings: &Backings, content: Content) -> &[u64]
+    ensures { result.now ≡ parts backings.now content }
+{
+    match content {
+        Content::List(backing, count) => first(backings, backing, count),
+        Content::Map(_, backing, count) => first(backings, backing, count),
+        _ => &[],
+    }
+}
+
+/// The first items of a backing.
+pub(crate) fn first(backings: &Backings, backing: u64, count: u64) -> &[u64]
+    ensures { result.now ≡ refs_at backings.now.lists backing count }
+{
+    match backings.lists.backings().get(backing as usize) {
+        Some(items) => front(items.items(), count as usize),
+        None => &[],
+    }
+}
+
+fn front(items: &[u64], count: usize) -> &[u64]
+    ensures { result.now ≡ take count items.now }
+{
+    if count < items.len() {
+        &items[..count]
+    } else {
+        items
+    }
+}

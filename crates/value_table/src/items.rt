@@ -1,0 +1,87 @@
+//! Lists in a heap.
+
+ghost use Rattle.std.specs.Prelude.{◌≡◌, ◌<◌, length, IsSome, IfSome};
+ghost use Rattle.value_store.specs.Value.{list, no_items};
+ghost use Rattle.value_store.specs.Calls.{push_of, join_of};
+ghost use Rattle.value_table.specs.Meaning.{value_in, list_part};
+ghost use Rattle.value_table.specs.Heaps.{Adds};
+ghost use Rattle.value_table.specs.Heap.{heap_values, IsHeap};
+
+use crate::backing::Backing;
+use crate::cell::Cell;
+use crate::content::Content;
+use crate::heap::Heap;
+use std::alloc::AllocError;
+
+impl Heap {
+    /// One more list, without items.
+    pub(crate) fn new_list(&mut self) -> Result<u64, AllocError>
+        requires { IsHeap self.old }
+        ensures heap { IsHeap self.new }
+        ensures added { Adds (heap_values self.old) (list no_items) result (heap_values self.new) }
+    {
+        let items = Backing::new(self.cells.alloc())?;
+        let backing = self.backings.add_items(items)?;
+        self.add(Cell {
+            content: Content::List(backing, 0),
+            depth: 1,
+            json: 2,
+        })
+    }
+
+    /// The list at `l` with the value at `x` behind its last item.
+    pub(crate) fn push(&mut self, l: u64, x: u64) -> Result<u64, AllocError>
+        requires heap { IsHeap self.old }
+        requires list { l < length (heap_values self.old) }
+        requires item { x < length (heap_values self.old) }
+        requires kinds { IsSome (push_of (value_in (heap_values self.old) l) (value_in (heap_values self.old) x)) }
+        ensures heap { IsHeap self.new }
+        ensures added { IfSome (push_of (value_in (heap_values self.old) l) (value_in (heap_values self.old) x)) (λ v. Adds (heap_values self.old) v result (heap_values self.new)) }
+    {
+        let list = self.cell(l);
+        let item = self.cell(x);
+        let Content::List(backing, count) = list.content else {
+            unreachable!();
+        };
+        let depth = list.depth.max(item.depth.saturating_add(1));
+        let json = list_length(list.json, count, item.json);
+        let pushed = self.backings.push_item(backing, count, x)?;
+        self.add(Cell {
+            content: Content::List(pushed, count + 1),
+            depth,
+            json,
+        })
+    }
+
+    /// The items of the list at `a` and then those of the list at `b`.
+    pub(crate) fn join_lists(&mut self, a: u64, b: u64) -> Result<u64, AllocError>
+        requires heap { IsHeap self.old }
+        requires first { a < length (heap_values self.old) }
+        requires second { b < length (heap_values self.old) }
+        requires lists { IsSome (list_part (value_in (heap_values self.old) a)) × IsSome (list_part (value_in (heap_values self.old) b)) }
+        ensures heap { IsHeap self.new }
+        ensures added { IfSome (join_of (value_in (heap_values self.old) a) (value_in (heap_values self.old) b)) (λ v. Adds (heap_values self.old) v result (heap_values self.new)) }
+    {
+        let first = self.cell(a);
+        let second = self.cell(b);
+        let Content::List(backing, count) = first.content else {
+            unreachable!();
+        };
+        let Content::List(other, more) = second.content else {
+            unreachable!();
+        };
+        let json = list_length(first.json, count, second.json);
+        let joined = self.backings.join_items((backing, count), (other, more))?;
+        self.add(Cell {
+            content: Content::List(joined, count + more),
+            depth: first.depth.max(second.depth),
+            json,
+        })
+    }
+}
+
+// How many bytes a list's JSON text has with one more item behind `count` others.
+fn list_length(list: u64, count: u64, item: u64) -> u64 {
+    let comma = if count == 0 { 0 } else { 1 };
+    list.saturating_add(comma).saturating_add(item)
+}

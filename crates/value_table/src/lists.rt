@@ -1,0 +1,102 @@
+//! Backings of lists.
+
+ghost use Rattle.std.specs.Prelude.{◌≡◌, ◌<◌, [], ◌∷◌, ◌++◌, length, IfOk, OnOk, OnErr, slice_index_or, slice_set};
+
+use crate::backing::Backing;
+use std::alloc::{AllocError, Global};
+use std::marker::Model;
+use std::rc::Rc;
+
+/// A vector that copies share until one of them grows.
+#[derive(Drop)]
+pub(crate) struct Lists {
+    backings: Rc<Vec<Backing<u64>>>,
+}
+
+impl Model for Lists {
+    ghost use Rattle.std.specs.Prelude.{List, ℕ};
+
+    ghost Value = { List (List ℕ) };
+
+    ghost view = { λ l. l.backings.value.items };
+}
+
+impl Lists {
+    pub(crate) fn new(alloc: Global) -> Result<Lists, AllocError>
+        ensures { IfOk result (λ b. b ≡ []) }
+    {
+        let Ok(backings) = Rc::new(alloc, Vec::new(alloc)) else {
+            return Err(AllocError);
+        };
+        Ok(Lists { backings })
+    }
+
+    pub(crate) fn backings(&self) -> &[Backing<u64>]
+        ensures { result.now ≡ self.now }
+    {
+        &self.backings[..]
+    }
+
+    pub(crate) fn push(&mut self, backing: Backing<u64>) -> Result<(), AllocError>
+        ensures ok { OnOk result (self.new ≡ self.old ++ backing ∷ []) }
+        ensures err { OnErr result (self.new ≡ self.old) }
+    {
+        let backings = Rc::make_mut(&mut self.backings)?;
+        backings.push(backing)?;
+        Ok(())
+    }
+
+    /// One more item behind the backing's last.
+    pub(crate) fn push_item(&mut self, backing: usize, item: u64) -> Result<(), AllocError>
+        requires { backing < length self.old }
+        ensures ok { OnOk result (self.new ≡ slice_set self.old backing (slice_index_or self.old backing [] ++ item ∷ [])) }
+        ensures err { OnErr result (self.new ≡ self.old) }
+    {
+        let backings = Rc::make_mut(&mut self.backings)?;
+        push_to(backings, backing, item)?;
+        Ok(())
+    }
+
+    /// More items behind the backing's last.
+    pub(crate) fn push_items(&mut self, backing: usize, items: &[u64]) -> Result<(), AllocError>
+        requires { backing < length self.old }
+        ensures ok { OnOk result (self.new ≡ slice_set self.old backing (slice_index_or self.old backing [] ++ items.now)) }
+        ensures err { OnErr result (self.new ≡ self.old) }
+    {
+        let backings = Rc::make_mut(&mut self.backings)?;
+        extend_at(backings, backing, items)?;
+        Ok(())
+    }
+}
+
+fn extend_at(
+    backings: &mut Vec<Backing<u64>>,
+    place: usize,
+    items: &[u64],
+) -> Result<(), AllocError>
+    requires { place < length backings.old.items }
+    ensures ok { OnOk result (backings.new.items ≡ slice_set backings.old.items place (slice_index_or backings.old.items place [] ++ items.now)) }
+    ensures err { OnErr result (backings.new.items ≡ backings.old.items) }
+{
+    backings[place].extend(items)?;
+    Ok(())
+}
+
+fn push_to(backings: &mut Vec<Backing<u64>>, place: usize, item: u64) -> Result<(), AllocError>
+    requires { place < length backings.old.items }
+    ensures ok { OnOk result (backings.new.items ≡ slice_set backings.old.items place (slice_index_or backings.old.items place [] ++ item ∷ [])) }
+    ensures err { OnErr result (backings.new.items ≡ backings.old.items) }
+{
+    backings[place].push(item)?;
+    Ok(())
+}
+
+impl Clone for Lists {
+    ghost is_clone = { λ b copy. copy ≡ b };
+
+    fn clone(&self) -> Result<Lists, AllocError> {
+        Ok(Lists {
+            backings: self.backings.clone()?,
+        })
+    }
+}

@@ -1,0 +1,105 @@
+//! What is seen of a heap's values.
+
+ghost use Rattle.std.specs.Prelude.{◌≡◌, ◌<◌, ◌^◌, length, slice_get, Some, IsSome, option_map};
+ghost use Rattle.value_store.specs.Value.{value, text};
+ghost use Rattle.value_store.specs.Lookup.{text_part};
+ghost use Rattle.value_store.specs.Seen.{seen, shown, seen_size};
+ghost use Rattle.value_store.specs.Calls.{parts_of as value_parts};
+ghost use Rattle.value_table.specs.Meaning.{part_of, value_in, keys_at, key_in};
+ghost use Rattle.value_table.specs.Heaps.{IsText, IsRange, AreKeys};
+ghost use Rattle.value_table.specs.Heap.{heap_values, IsHeap};
+
+use crate::content::Content;
+use crate::equality::parts_of;
+use crate::heap::Heap;
+use crate::part::Part;
+use crate::text::text;
+use std::str::from_utf8_unchecked;
+use value_store::Shape;
+
+impl Heap {
+    /// What is seen of a value at first.
+    pub(crate) fn shape(&self, place: u64) -> Shape<'_>
+        requires heap { IsHeap self.now }
+        requires inside { place < length (heap_values self.now) }
+        ensures shape { shown result ≡ seen (value (value_in (heap_values self.now) place)) }
+        ensures short { seen_size (shown result) < 2 ^ 63 }
+    {
+        match self.cell(place).content {
+            Content::Null => Shape::Null,
+            Content::Bool(truth) => Shape::Bool(truth),
+            Content::Int(n) => Shape::Int(n),
+            Content::Text(part) => Shape::Text(self.lend(part)),
+            Content::List(backing, count) => Shape::List(self.count(backing, count)),
+            Content::Map(_, backing, count) => Shape::Map(self.count(backing, count)),
+        }
+    }
+
+    /// The text at a place, if one stands there.
+    pub(crate) fn text(&self, place: u64) -> Option<&str>
+        requires heap { IsHeap self.now }
+        requires inside { place < length (heap_values self.now) }
+        ensures { option_map (λ t. t.now) result ≡ text_part (value_in (heap_values self.now) place) }
+    {
+        match self.cell(place).content {
+            Content::Text(part) => Some(self.lend(part)),
+            _ => None,
+        }
+    }
+
+    // The text of a part.
+    fn lend(&self, part: Part) -> &str
+        requires { IsText self.now.backings.bytes part }
+        ensures text { result.now ≡ part_of self.now.backings.bytes part }
+        ensures short { length result.now < 2 ^ 63 }
+    {
+        let bytes = text(self.backings.bytes.items(), part);
+        // Each text's part of the bytes is UTF-8.
+        unsafe { from_utf8_unchecked(bytes) }
+    }
+
+    // How many the first `count` items of a backing are.
+    fn count(&self, backing: u64, count: u64) -> u64
+        requires { IsRange self.now.backings.lists (length self.now.cells) backing count }
+        ensures count { result ≡ count }
+        ensures short { result < 2 ^ 63 }
+    {
+        let items = self.backings.lists.backings()[backing as usize].items();
+        items[..count as usize].len() as u64
+    }
+
+    /// The place of the i-th item of a list, or of the value of a map's i-th entry.
+    pub(crate) fn part(&self, place: u64, i: u64) -> u64
+        requires heap { IsHeap self.now }
+        requires inside { place < length (heap_values self.now) }
+        requires part { IsSome (slice_get (value_parts (value_in (heap_values self.now) place)) i) }
+        ensures inside { result < length (heap_values self.now) }
+        ensures value { slice_get (value_parts (value_in (heap_values self.now) place)) i ≡ Some (value_in (heap_values self.now) result) }
+    {
+        let content = self.cell(place).content;
+        parts_of(&self.backings, content)[i as usize]
+    }
+
+    /// Where the i-th key of a map stands.
+    pub(crate) fn key(&self, place: u64, i: u64) -> Part
+        requires heap { IsHeap self.now }
+        requires inside { place < length (heap_values self.now) }
+        requires key { IsSome (key_in (value_in (heap_values self.now) place) i) }
+        ensures text { IsText self.now.backings.bytes result }
+        ensures value { key_in (value_in (heap_values self.now) place) i ≡ Some (part_of self.now.backings.bytes result) }
+    {
+        match self.cell(place).content {
+            Content::Map(keys, _, count) => self.keys(keys, count)[i as usize],
+            _ => unreachable!(),
+        }
+    }
+
+    // Where `count` keys stand, from a place among all keys on.
+    fn keys(&self, keys: u64, count: u64) -> &[Part]
+        requires { AreKeys self.now.backings.bytes self.now.backings.keys keys count }
+        ensures { result.now ≡ keys_at self.now.backings.keys keys count }
+    {
+        let all = self.backings.keys.items();
+        &all[keys as usize..(keys + count) as usize]
+    }
+}

@@ -1,0 +1,91 @@
+//! Texts in a heap.
+
+ghost use Rattle.std.specs.Prelude.{◌<◌, ◌++◌, length, IsSome, IfSome};
+ghost use Rattle.value_store.specs.Value.{text};
+ghost use Rattle.value_store.specs.Calls.{join_of};
+ghost use Rattle.value_table.specs.Meaning.{part_of, value_in};
+ghost use Rattle.value_table.specs.Heaps.{Adds, IsText};
+ghost use Rattle.value_table.specs.Heap.{heap_values, IsHeap};
+
+use crate::cell::Cell;
+use crate::content::Content;
+use crate::heap::Heap;
+use crate::part::Part;
+use std::alloc::AllocError;
+
+impl Heap {
+    /// One more text.
+    pub(crate) fn add_text(&mut self, s: &str) -> Result<u64, AllocError>
+        requires { IsHeap self.old }
+        ensures heap { IsHeap self.new }
+        ensures added { Adds (heap_values self.old) (text s.now) result (heap_values self.new) }
+    {
+        let part = self.backings.add_text(s.as_bytes())?;
+        self.add_part(part)
+    }
+
+    /// One more text, which is one behind another.
+    pub(crate) fn join_texts(&mut self, first: Part, second: Part) -> Result<u64, AllocError>
+        requires heap { IsHeap self.old }
+        requires first { IsText self.old.backings.bytes first }
+        requires second { IsText self.old.backings.bytes second }
+        ensures heap { IsHeap self.new }
+        ensures added { Adds (heap_values self.old) (text (part_of self.old.backings.bytes first ++ part_of self.old.backings.bytes second)) result (heap_values self.new) }
+    {
+        let part = self.backings.join_texts(first, second)?;
+        self.add_part(part)
+    }
+
+    /// The text at `a`, or the list, and that at `b` behind it.
+    pub(crate) fn join(&mut self, a: u64, b: u64) -> Result<u64, AllocError>
+        requires heap { IsHeap self.old }
+        requires first { a < length (heap_values self.old) }
+        requires second { b < length (heap_values self.old) }
+        requires kinds { IsSome (join_of (value_in (heap_values self.old) a) (value_in (heap_values self.old) b)) }
+        ensures heap { IsHeap self.new }
+        ensures added { IfSome (join_of (value_in (heap_values self.old) a) (value_in (heap_values self.old) b)) (λ v. Adds (heap_values self.old) v result (heap_values self.new)) }
+    {
+        let first = self.cell(a);
+        let second = self.cell(b);
+        let Content::Text(text) = first.content else {
+            return self.join_lists(a, b);
+        };
+        let Content::Text(more) = second.content else {
+            unreachable!();
+        };
+        self.join_texts(text, more)
+    }
+
+    /// One more text, which stands among the bytes already.
+    pub(crate) fn add_part(&mut self, part: Part) -> Result<u64, AllocError>
+        requires heap { IsHeap self.old }
+        requires part { IsText self.old.backings.bytes part }
+        ensures heap { IsHeap self.new }
+        ensures added { Adds (heap_values self.old) (text (part_of self.old.backings.bytes part)) result (heap_values self.new) }
+    {
+        let bytes = &self.backings.bytes.items()[part.from as usize..part.to as usize];
+        let json = quoted_length(bytes);
+        self.add(Cell {
+            content: Content::Text(part),
+            depth: 0,
+            json,
+        })
+    }
+}
+
+// How many bytes a text has in JSON, with its quotes and escapes.
+pub(crate) fn quoted_length(text: &[u8]) -> u64 {
+    let mut length = 2u64;
+    for byte in text {
+        length = length.saturating_add(escaped_length(*byte));
+    }
+    length
+}
+
+fn escaped_length(byte: u8) -> u64 {
+    match byte {
+        b'"' | b'\\' | 8 | 9 | 10 | 12 | 13 => 2,
+        0..=31 => 6,
+        _ => 1,
+    }
+}

@@ -1,0 +1,129 @@
+//! Values as JSON.
+
+ghost use Rattle.std.specs.Prelude.{◌≡◌, ◌<◌, ◌++◌, List, length, drop, IfOk, OnOk, string_bytes};
+ghost use Rattle.std.specs.Str.{IsUtf8};
+ghost use Rattle.value_store.specs.Value.{Value};
+ghost use Rattle.value_store.specs.Json.{json_text};
+ghost use Rattle.value_table.specs.Meaning.{value_in};
+ghost use Rattle.value_table.specs.Heap.{heap_values, IsHeap};
+ghost use Rattle.value_table.specs.Heads.{head, texts_of, IsReadable};
+ghost use Rattle.value_table.specs.Equality.{AreContents, AreMeanings};
+ghost use Rattle.value_table.specs.Tokens.{value_tokens, opening, closing, head_keys, name_tokens};
+ghost use Rattle.value_table.specs.Heaps.{AreTexts};
+
+use crate::backings::Backings;
+use crate::cell::Cell;
+use crate::content::Content;
+use crate::equality::parts_of;
+use crate::heap::Heap;
+use crate::part::Part;
+use crate::text::{keys, text};
+use json::Writer;
+use std::alloc::{AllocError, Global};
+use std::str;
+
+impl Heap {
+    /// What stands at a place as JSON. Its whole room is asked at once, before a byte is written.
+    pub(crate) fn json(&self, alloc: Global, place: u64) -> Result<String, AllocError>
+        requires heap { IsHeap self.now }
+        requires inside { place < length (heap_values self.now) }
+        ensures { IfOk result (λ s. string_bytes s ≡ json_text (value_in (heap_values self.now) place)) }
+    {
+        let room = Vec::with_capacity(alloc, self.cell(place).json as usize)?;
+        let mut writer = Writer::new(room);
+        write(self.cells.items(), &self.backings, &mut writer, place)?;
+        let Ok(text) = String::from_utf8(writer.into_inner()) else {
+            unreachable!();
+        };
+        Ok(text)
+    }
+}
+
+// Writes what stands at a place. It goes as deep as the value.
+fn write(
+    cells: &[Cell],
+    backings: &Backings,
+    writer: &mut Writer,
+    place: u64,
+) -> Result<(), AllocError>
+    requires contents { AreContents backings.now cells.now }
+    requires inside { place < length cells.now }
+    ensures before { writer.new.before ≡ writer.old.before }
+    ensures tokens { (vs : List Value) → AreMeanings backings.now vs cells.now → OnOk result (writer.new.tokens ≡ writer.old.tokens ++ value_tokens (value_in vs place)) }
+{
+    let content = cells[place as usize].content;
+    open(backings, writer, content)?;
+    let names = names(backings, content);
+    let parts = parts_of(backings, content);
+    for i in 0..parts.len() {
+        write_name(backings, writer, names, i)?;
+        write(cells, backings, writer, parts[i])?;
+    }
+    close(backings, writer, content)?;
+    Ok(())
+}
+
+// Writes the key at a place, if one stands there.
+fn write_name(
+    backings: &Backings,
+    writer: &mut Writer,
+    names: &[Part],
+    place: usize,
+) -> Result<(), AllocError>
+    requires { AreTexts backings.now.bytes names.now }
+    ensures before { writer.new.before ≡ writer.old.before }
+    ensures tokens { OnOk result (writer.new.tokens ≡ writer.old.tokens ++ name_tokens (texts_of backings.now.bytes (drop place names.now))) }
+{
+    if place < names.len() {
+        return writer.key(read(text(backings.bytes.items(), names[place])));
+    }
+    Ok(())
+}
+
+fn open(backings: &Backings, writer: &mut Writer, content: Content) -> Result<(), AllocError>
+    requires { IsReadable backings.now content }
+    ensures before { writer.new.before ≡ writer.old.before }
+    ensures tokens { OnOk result (writer.new.tokens ≡ writer.old.tokens ++ opening (head backings.now content)) }
+{
+    match content {
+        Content::Null => writer.null(),
+        Content::Bool(b) => writer.boolean(b),
+        Content::Int(n) => writer.i64(n),
+        Content::Text(part) => writer.string(read(text(backings.bytes.items(), part))),
+        Content::List(_, _) => writer.begin_array(),
+        Content::Map(_, _, _) => writer.begin_object(),
+    }
+}
+
+fn close(backings: &Backings, writer: &mut Writer, content: Content) -> Result<(), AllocError>
+    ensures before { writer.new.before ≡ writer.old.before }
+    ensures tokens { OnOk result (writer.new.tokens ≡ writer.old.tokens ++ closing (head backings.now content)) }
+{
+    match content {
+        Content::List(_, _) => writer.end_array(),
+        Content::Map(_, _, _) => writer.end_object(),
+        _ => Ok(()),
+    }
+}
+
+// The keys of a map.
+fn names(backings: &Backings, content: Content) -> &[Part]
+    requires { IsReadable backings.now content }
+    ensures texts { AreTexts backings.now.bytes result.now }
+    ensures keys { texts_of backings.now.bytes result.now ≡ head_keys (head backings.now content) }
+{
+    match content {
+        Content::Map(row, _, count) => keys(backings.keys.items(), row, count),
+        _ => &[],
+    }
+}
+
+fn read(bytes: &[u8]) -> &str
+    requires { IsUtf8 bytes.now }
+    ensures { result.now ≡ bytes.now }
+{
+    let Ok(text) = str::from_utf8(bytes) else {
+        unreachable!();
+    };
+    text
+}
