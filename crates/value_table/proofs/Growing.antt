@@ -1,12 +1,13 @@
 -- Documents become values one by one.
-use Rattle.std.proofs.Common.{◌≡◌, ℕ, false, List, [], ◌∷◌, ◌++◌, length, refl, sym, ap, ap₂, ◌∙◌, arith, length-append, append_assoc, append-nil, subst, Option, Some, None, Result, Ok, Err}
-use Rattle.std.specs.Prelude.{IfSome, IsSome, IfOk, option_map}
+use Rattle.std.proofs.Common.{◌≡◌, ℕ, zero, suc, ◌+◌, ◌<◌, ◌≤◌, Bool, true, false, List, [], ◌∷◌, ◌++◌, length, get_or, drop, refl, sym, ap, ap₂, ◌∙◌, arith, length-append, append_assoc, append-nil, subst, Option, Some, None, Result, Ok, Err}
+use Rattle.std.specs.Prelude.{IfSome, IsSome, IfOk, option_map, ⊤}
 use Rattle.std.specs.List.{AllByRecursion}
 use Rattle.std.specs.List.Sorted.{IsStrictlySortedBy}
 use Rattle.std.specs.Ordering.{nat_cmp}
 use Rattle.std.specs.Cmp.Lexicographic.{slice_cmp}
 use Rattle.std.specs.declared.alloc.AllocError.{AllocError}
-use Rattle.std.specs.declared.cmp.Ordering.TheVariants.{Less, Greater}
+use Rattle.std.specs.declared.cmp.Ordering.{Ordering}
+use Rattle.std.specs.declared.cmp.Ordering.TheVariants.{Less, Equal, Greater}
 use Rattle.serde_json.specs.Data as json
 use Rattle.std.proofs.lemmas.Cmp.{nat_list_cmp_total}
 use Rattle.std.specs.Ordering.{ordering_reverse}
@@ -16,12 +17,12 @@ use Rattle.value_store.specs.Keys.{Ascend, IsOrdered, AreItemsOrdered, AreEntrie
 use Rattle.value_store.specs.Calls.{push_of}
 use Rattle.value_store.specs.Roots.{has_other, items_have_other, members_have_other}
 use Rattle.value_store.specs.Plain.{plain_value, plain_items, plain_entries}
-use Rattle.value_store.proofs.Trees.{second_no}
+use Rattle.value_store.proofs.Trees.{first_no, second_no}
 use Rattle.value_table.specs.Meaning.{value_in}
 use Rattle.value_table.specs.Heaps.{Adds}
 use Rattle.value_store.specs.Lookup.{inserted, inserted_by}
 use Rattle.value_table.specs.Entries.{put_values}
-use Rattle.value_table.specs.Growing.{HasGrown, Stands}
+use Rattle.value_table.specs.Growing.{HasGrown, Stands, MembersStand}
 use Rattle.value_table.proofs.Growth.{value_stable}
 use Rattle.value_table.proofs.Named.{place_added}
 
@@ -105,8 +106,6 @@ pub record EntriesStand (all : Entries) (vs : List Value) (map : ℕ) (rest : js
   pub done : Entries
   pub is : entries_join done (plain_entries rest) ≡ all
   pub stands : Stands vs map (kind.map done)
-  pub whole : members_have_other rest ≡ false
-  pub ordered : AreEntriesOrdered (plain_entries rest)
   pub ascend : Ascend (keys_of all)
 
 join_entry : (es : Entries) (k : List ℕ) (v : Value) (fs : Entries) → entries_join (entries_join es (entry k v no_entries)) fs ≡ entries_join es (entry k v fs)
@@ -117,8 +116,8 @@ join_no_entries : (es : Entries) → entries_join es no_entries ≡ es
 join_no_entries no_entries = refl
 join_no_entries (entry k v es) = ap (entry k v) (join_no_entries es)
 
-pub entries_start : (ds : json.Members) (vs : List Value) (map : ℕ) → members_have_other ds ≡ false → IsOrdered (kind.map (plain_entries ds)) → Stands vs map (kind.map no_entries) → EntriesStand (plain_entries ds) vs map ds
-entries_start ds vs map w o s = record { done = no_entries; is = refl; stands = s; whole = w; ordered = o.1; ascend = o.0 }
+pub entries_start : (ds : json.Members) (vs : List Value) (map : ℕ) → IsOrdered (kind.map (plain_entries ds)) → Stands vs map (kind.map no_entries) → EntriesStand (plain_entries ds) vs map ds
+entries_start ds vs map o s = record { done = no_entries; is = refl; stands = s; ascend = o.0 }
 
 after_by : (key : List ℕ) (k l : List ℕ) (more : List (List ℕ)) (es : Entries) (x : Value) (fs : Entries) → more ≡ keys_of (entries_join es (entry key x fs)) → AllByRecursion (λ m. slice_cmp nat_cmp l m ≡ Less) more → slice_cmp nat_cmp l key ≡ Less
 after_by key k l more no_entries x fs e a = (subst (AllByRecursion (λ m. slice_cmp nat_cmp l m ≡ Less)) e a).0
@@ -136,7 +135,7 @@ inserted_last (entry l w es) key x fs up =
     ap (λ o. inserted_by o key x l w es (inserted key x es)) (greater key l below) ∙ ap (option_map (entry l w)) (inserted_last es key x fs up.1)
 
 pub entries_on : (all : Entries) (vs ws : List Value) (map : ℕ) (rest : json.Members) → HasGrown vs ws → EntriesStand all vs map rest → EntriesStand all ws map rest
-entries_on all vs ws map rest g s = record { done = s.done; is = s.is; stands = stands_on vs ws map (kind.map s.done) g s.stands; whole = s.whole; ordered = s.ordered; ascend = s.ascend }
+entries_on all vs ws map rest g s = record { done = s.done; is = s.is; stands = stands_on vs ws map (kind.map s.done) g s.stands; ascend = s.ascend }
 
 pub entry_due : (all : Entries) (vs : List Value) (map name place : ℕ) (key : List ℕ) (d : json.Data) (rest : json.Members) → (g : EntriesStand all vs map (json.member key d rest)) → Stands vs name (kind.text key) → Stands vs place (plain_value d)
     → put_values (value_in vs map) (value_in vs name) (value_in vs place) ≡ Some (kind.map (entries_join g.done (entry key (plain_value d) no_entries)))
@@ -151,25 +150,66 @@ entries_step all vs ws map name place map' key d rest g n p a =
       done = entries_join g.done (entry key (plain_value d) no_entries);
       is = join_entry g.done key (plain_value d) (plain_entries rest) ∙ g.is;
       stands = stands_due vs ws _ (kind.map (entries_join g.done (entry key (plain_value d) no_entries))) map' (entry_due all vs map name place key d rest g n p) a;
-      whole = second_no (has_other d) _ g.whole;
-      ordered = g.ordered.1;
       ascend = g.ascend;
     }
 
 pub entries_end : (all : Entries) (vs : List Value) (map : ℕ) → EntriesStand all vs map json.no_members → Stands vs map (kind.map all)
 entries_end all vs map g = subst (λ es. Stands vs map (kind.map es)) (sym (join_no_entries g.done) ∙ g.is) g.stands
 
--- a member whose key and value are placed
+-- a member whose key is placed
 pub record MemberStands (all : Entries) (us vs : List Value) (map name place : ℕ) (key : List ℕ) (d : json.Data) (rest : json.Members) : Type 0 where
   pub entries : EntriesStand all vs map (json.member key d rest)
   pub name_is : Stands vs name (kind.text key)
+  pub place_is : Stands vs place (plain_value d)
   pub fits : IsSome (put_values (value_in vs map) (value_in vs name) (value_in vs place))
   pub grown : HasGrown us vs
 
-pub member_stands : (all : Entries) (us us' vs : List Value) (map name place : ℕ) (key s : List ℕ) (d : json.Data) (rest : json.Members) → EntriesStand all us map (json.member key d rest) → s ≡ key → Adds us (kind.text s) (Ok name) us' → HasGrown us' vs
-    → Stands vs place (plain_value d) → MemberStands all us vs map name place key d rest
-member_stands all us us' vs map name place key s d rest g e a h p =
-    let up : HasGrown us vs = grown_more us us' vs (grown_added us us' (kind.text s) (Ok name) a) h in
-    let n : Stands vs name (kind.text key) = stands_on us' vs name (kind.text key) h (subst (λ t. Stands us' name (kind.text t)) e (stands_added us us' (kind.text s) name a)) in
+pub member_stands : (all : Entries) (us vs : List Value) (map name place : ℕ) (key s : List ℕ) (d : json.Data) (rest : json.Members) → EntriesStand all us map (json.member key d rest) → s ≡ key → Adds us (kind.text s) (Ok name) vs
+    → Stands us place (plain_value d) → MemberStands all us vs map name place key d rest
+member_stands all us vs map name place key s d rest g e a p =
+    let up : HasGrown us vs = grown_added us vs (kind.text s) (Ok name) a in
+    let n : Stands vs name (kind.text key) = subst (λ t. Stands vs name (kind.text t)) e (stands_added us vs (kind.text s) name a) in
+    let x = stands_on us vs place (plain_value d) up p in
     let go = entries_on all us vs map (json.member key d rest) up g in
-    record { entries = go; name_is = n; fits = subst (λ (o : Option Value). IsSome o) (sym (entry_due all vs map name place key d rest go n p)) refl; grown = up }
+    record { entries = go; name_is = n; place_is = x; fits = subst (λ (o : Option Value). IsSome o) (sym (entry_due all vs map name place key d rest go n x)) refl; grown = up }
+
+-- ---- the values of members
+
+pub members_on : (vs ws : List Value) (rs : List ℕ) (ms : json.Members) → HasGrown vs ws → MembersStand vs rs ms → MembersStand ws rs ms
+members_on vs ws [] json.no_members g h = tt
+members_on vs ws [] (json.member k d ms) g h = absurd h
+members_on vs ws (r ∷ rs) json.no_members g h = absurd h
+members_on vs ws (r ∷ rs) (json.member k d ms) g h = (stands_on vs ws r (plain_value d) g h.0, members_on vs ws rs ms g h.1)
+
+-- what is left once values stand at these places
+pub record MembersLeft (all : json.Members) (vs : List Value) (places : List ℕ) (rest : json.Members) : Type 0 where
+  pub all_stand : (rs : List ℕ) (ws : List Value) → HasGrown vs ws → MembersStand ws rs rest → MembersStand ws (places ++ rs) all
+  pub whole : members_have_other rest ≡ false
+  pub ordered : AreEntriesOrdered (plain_entries rest)
+
+pub members_start : (ms : json.Members) (vs : List Value) → members_have_other ms ≡ false → IsOrdered (kind.map (plain_entries ms)) → MembersLeft ms vs [] ms
+members_start ms vs w o = record { all_stand = λ rs ws g h. h; whole = w; ordered = o.1 }
+
+pub members_step : (all : json.Members) (us vs : List Value) (places places' : List ℕ) (r : ℕ) (key : List ℕ) (d : json.Data) (rest : json.Members) → places' ≡ places ++ r ∷ [] → HasGrown us vs → Stands vs r (plain_value d) → MembersLeft all us places (json.member key d rest)
+    → MembersLeft all vs places' rest
+members_step all us vs places places' r key d rest e up s m =
+    record {
+      all_stand = λ rs ws g h. subst (λ ps. MembersStand ws ps all) (sym (ap (λ ps. ps ++ rs) e ∙ append_assoc places (r ∷ []) rs)) (m.all_stand (r ∷ rs) ws (grown_more us vs ws up g) (stands_on vs ws r (plain_value d) g s, h));
+      whole = second_no (has_other d) _ m.whole;
+      ordered = m.ordered.1;
+    }
+
+pub members_end : (all : json.Members) (vs : List Value) (places : List ℕ) → MembersLeft all vs places json.no_members → MembersStand vs places all
+members_end all vs places m = subst (λ ps. MembersStand vs ps all) (append-nil places) (m.all_stand [] vs (grown_same vs) tt)
+
+-- the first value of those from a place on
+pub record NextStands (vs : List Value) (places : List ℕ) (i : ℕ) (d : json.Data) (rest : json.Members) : Type 0 where
+  pub inside : i < length places
+  pub stands : Stands vs (get_or places i 0) (plain_value d)
+  pub more : MembersStand vs (drop (i + 1) places) rest
+
+pub next_stands : (vs : List Value) (places : List ℕ) (i : ℕ) (key : List ℕ) (d : json.Data) (rest : json.Members) → MembersStand vs (drop i places) (json.member key d rest) → NextStands vs places i d rest
+next_stands vs [] zero key d rest h = absurd h
+next_stands vs [] (suc i) key d rest h = absurd h
+next_stands vs (p ∷ ps) zero key d rest h = record { inside = omega arith; stands = h.0; more = h.1 }
+next_stands vs (p ∷ ps) (suc i) key d rest h = let n = next_stands vs ps i key d rest h in let l = n.inside in let e : suc (i + 1) ≡ suc i + 1 = omega arith in record { inside = omega (arith, l); stands = n.stands; more = subst (λ j. MembersStand vs (drop j (p ∷ ps)) rest) e n.more }

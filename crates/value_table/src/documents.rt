@@ -7,7 +7,7 @@ ghost use Rattle.value_store.specs.Value as kind;
 ghost use Rattle.value_store.specs.Keys.{IsOrdered};
 ghost use Rattle.value_store.specs.Roots.{has_other, items_have_other, members_have_other};
 ghost use Rattle.value_store.specs.Plain.{plain_value, plain_items, plain_entries};
-ghost use Rattle.value_table.specs.Growing.{HasGrown, Stands};
+ghost use Rattle.value_table.specs.Growing.{HasGrown, Stands, MembersStand};
 ghost use Rattle.value_table.specs.Heap.{heap_values, IsHeap};
 
 use crate::cell::Cell;
@@ -108,11 +108,33 @@ fn add_members(heap: &mut Heap, members: &Map<String, Value>) -> Result<u64, All
     ensures grown { HasGrown (heap_values heap.old) (heap_values heap.new) }
     ensures value { IfOk result (λ r. Stands (heap_values heap.new) r (kind.map (plain_entries (members_view members.now.entries)))) }
 {
+    let mut places = Vec::new(heap.cells.alloc());
+    for (_, member) in members.iter() {
+        places.push(add_document(heap, member)?)?;
+    }
+    add_entries(heap, members, &places)
+}
+
+// Puts the map of the members behind all others. Their values stand, so that nothing else comes
+// between its keys and it grows in place.
+fn add_entries(
+    heap: &mut Heap,
+    members: &Map<String, Value>,
+    places: &[u64],
+) -> Result<u64, AllocError>
+    requires heap { IsHeap heap.old }
+    requires ordered { IsOrdered (kind.map (plain_entries (members_view members.now.entries))) }
+    requires places { MembersStand (heap_values heap.old) places.now (members_view members.now.entries) }
+    ensures heap { IsHeap heap.new }
+    ensures grown { HasGrown (heap_values heap.old) (heap_values heap.new) }
+    ensures value { IfOk result (λ r. Stands (heap_values heap.new) r (kind.map (plain_entries (members_view members.now.entries)))) }
+{
     let mut map = heap.new_map()?;
-    for (key, member) in members.iter() {
+    let mut count = 0;
+    for (key, _) in members.iter() {
         let name = heap.add_text(key.as_str())?;
-        let place = add_document(heap, member)?;
-        map = heap.put(map, name, place)?;
+        map = heap.put(map, name, places[count])?;
+        count += 1;
     }
     Ok(map)
 }
