@@ -17,3 +17,7 @@ pub mod Programs
 pub mod Loops
 pub mod Operators
 pub mod Logic
+pub mod Insertions
+pub mod Aggregates
+pub mod Lists
+pub mod Maps

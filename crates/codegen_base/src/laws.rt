@@ -1,4 +1,5 @@
 //! Laws of code, each the clause of a function that does nothing.
+ghost use Rattle.codegen_base.specs.Gives.Aggregates.{ListGives, MapGives};
 ghost use Rattle.codegen_base.specs.Gives.Logic.{LogicGives};
 ghost use Rattle.codegen_base.specs.Helpers.{HelpersAnswer};
 ghost use Rattle.codegen_base.specs.Loops.{FoldGives};
@@ -35,6 +36,14 @@ pub fn operands_give()
 /// where the left side decides, and of the conditional only the chosen side runs.
 pub fn logic_gives()
     ensures { LogicGives }
+{}
+
+/// Code for items makes code for a list, and code for keys and values makes code for a map, of which a
+/// part that is the error, a doubled key and a key that is no text make the error; it stops for a depth
+/// only where an item or a value is as deep as a list or a map may be.
+pub fn aggregates_give()
+    ensures list { ListGives }
+    ensures map { MapGives }
 {}
 
 /// Code for a range, for a first answer and for a turn makes a loop over the range's items, which gives
