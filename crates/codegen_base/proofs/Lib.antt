@@ -17,3 +17,6 @@ pub mod Programs
 pub mod Loops
 pub mod Operators
 pub mod Logic
+pub mod Comparison
+pub mod Ints
+pub mod Operands

@@ -1,2 +1,3 @@
 -- What the code of constructs gives, where the code of their parts gives this.
 pub mod Logic
+pub mod Comparison

@@ -1,4 +1,5 @@
 //! Laws of code, each the clause of a function that does nothing.
+ghost use Rattle.codegen_base.specs.Gives.Comparison.{ComparisonGives};
 ghost use Rattle.codegen_base.specs.Gives.Logic.{LogicGives};
 ghost use Rattle.codegen_base.specs.Helpers.{HelpersAnswer};
 ghost use Rattle.codegen_base.specs.Loops.{FoldGives};
@@ -35,6 +36,11 @@ pub fn operands_give()
 /// where the left side decides, and of the conditional only the chosen side runs.
 pub fn logic_gives()
     ensures { LogicGives }
+{}
+
+/// Pieces behind two operands give comparisons and membership.
+pub fn comparison_gives()
+    ensures { ComparisonGives }
 {}
 
 /// Code for a range, for a first answer and for a turn makes a loop over the range's items, which gives
