@@ -20,3 +20,5 @@ pub mod Logic
 pub mod Comparison
 pub mod Ints
 pub mod Operands
+pub mod Limits
+pub mod Macros

@@ -4,3 +4,4 @@ pub mod Calls
 pub mod Logic
 pub mod Arithmetic
 pub mod Comparison
+pub mod Folds

@@ -1,0 +1,10 @@
+pub mod Budgets
+pub mod Depths
+pub mod Turn
+pub mod Firsts
+pub mod Within
+pub mod Once
+pub mod AbsorbingTurn
+pub mod PushingTurn
+pub mod OnceTurn
+pub mod Quantifiers
