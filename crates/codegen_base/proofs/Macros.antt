@@ -8,3 +8,4 @@ pub mod AbsorbingTurn
 pub mod PushingTurn
 pub mod OnceTurn
 pub mod Quantifiers
+pub mod Lists
