@@ -9,3 +9,4 @@ pub mod PushingTurn
 pub mod OnceTurn
 pub mod Quantifiers
 pub mod Lists
+pub mod ExistsOne
