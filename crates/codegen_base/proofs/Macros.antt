@@ -10,3 +10,5 @@ pub mod OnceTurn
 pub mod Quantifiers
 pub mod Lists
 pub mod ExistsOne
+pub mod MapsWhere
+pub mod All
