@@ -21,3 +21,8 @@ pub mod Insertions
 pub mod Aggregates
 pub mod Lists
 pub mod Maps
+pub mod Comparison
+pub mod Ints
+pub mod Operands
+pub mod Limits
+pub mod Macros

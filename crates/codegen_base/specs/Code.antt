@@ -5,3 +5,4 @@ pub mod Logic
 pub mod Arithmetic
 pub mod Comparison
 pub mod Aggregates
+pub mod Folds

@@ -1,3 +1,5 @@
 -- What the code of constructs gives, where the code of their parts gives this.
 pub mod Logic
 pub mod Aggregates
+pub mod Comparison
+pub mod Macros

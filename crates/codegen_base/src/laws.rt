@@ -1,5 +1,6 @@
 //! Laws of code, each the clause of a function that does nothing.
 ghost use Rattle.codegen_base.specs.Gives.Aggregates.{ListGives, MapGives};
+ghost use Rattle.codegen_base.specs.Gives.Comparison.{ComparisonGives};
 ghost use Rattle.codegen_base.specs.Gives.Logic.{LogicGives};
 ghost use Rattle.codegen_base.specs.Helpers.{HelpersAnswer};
 ghost use Rattle.codegen_base.specs.Loops.{FoldGives};
@@ -44,6 +45,11 @@ pub fn logic_gives()
 pub fn aggregates_give()
     ensures list { ListGives }
     ensures map { MapGives }
+{}
+
+/// Pieces behind two operands give comparisons and membership.
+pub fn comparison_gives()
+    ensures { ComparisonGives }
 {}
 
 /// Code for a range, for a first answer and for a turn makes a loop over the range's items, which gives
