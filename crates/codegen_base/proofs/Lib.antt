@@ -20,3 +20,4 @@ pub mod Logic
 pub mod Comparison
 pub mod Ints
 pub mod Operands
+pub mod Sums
