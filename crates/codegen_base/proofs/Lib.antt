@@ -21,3 +21,4 @@ pub mod Comparison
 pub mod Ints
 pub mod Operands
 pub mod Sums
+pub mod Additions

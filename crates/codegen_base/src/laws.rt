@@ -1,4 +1,5 @@
 //! Laws of code, each the clause of a function that does nothing.
+ghost use Rattle.codegen_base.specs.Gives.Arithmetic.{AdditionsGive};
 ghost use Rattle.codegen_base.specs.Gives.Comparison.{ComparisonGives};
 ghost use Rattle.codegen_base.specs.Gives.Logic.{LogicGives};
 ghost use Rattle.codegen_base.specs.Helpers.{HelpersAnswer};
@@ -41,6 +42,12 @@ pub fn logic_gives()
 /// Pieces behind two operands give comparisons and membership.
 pub fn comparison_gives()
     ensures { ComparisonGives }
+{}
+
+/// Pieces behind two operands give `+`, on ints, texts and lists, and `-`; a result that is no int of 64
+/// bits is the error.
+pub fn additions_give()
+    ensures { AdditionsGive }
 {}
 
 /// Code for a range, for a first answer and for a turn makes a loop over the range's items, which gives
