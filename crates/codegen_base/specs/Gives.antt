@@ -1,3 +1,4 @@
 -- What the code of constructs gives, where the code of their parts gives this.
+pub mod Selection
 pub mod Logic
 pub mod Comparison
