@@ -1,4 +1,5 @@
 -- What the code of constructs gives, where the code of their parts gives this.
+pub mod Leaves
 pub mod Selection
 pub mod Logic
 pub mod Comparison

@@ -1,5 +1,6 @@
 //! Laws of code, each the clause of a function that does nothing.
 ghost use Rattle.codegen_base.specs.Gives.Comparison.{ComparisonGives};
+ghost use Rattle.codegen_base.specs.Gives.Leaves.{LeavesGive};
 ghost use Rattle.codegen_base.specs.Gives.Logic.{LogicGives};
 ghost use Rattle.codegen_base.specs.Gives.Selection.{SelectionGives};
 ghost use Rattle.codegen_base.specs.Helpers.{HelpersAnswer};
@@ -48,6 +49,11 @@ pub fn comparison_gives()
 /// the fold; it leaves early where no further item changes the answer.
 pub fn fold_gives()
     ensures { FoldGives }
+{}
+
+/// Literals without parts, and names, have code that gives their values.
+pub fn leaves_give()
+    ensures { LeavesGive }
 {}
 
 /// Behind the code of an operand stands the code for a field, for whether there is one, for a size and
