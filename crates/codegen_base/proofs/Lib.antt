@@ -12,6 +12,8 @@ pub mod Values
 pub mod Frames
 pub mod Answers
 pub mod Helpers
+pub mod Leaves
+pub mod Selection
 pub mod Variables
 pub mod Programs
 pub mod Loops
