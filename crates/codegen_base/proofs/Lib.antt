@@ -24,3 +24,4 @@ pub mod Ints
 pub mod Operands
 pub mod Sums
 pub mod Additions
+pub mod Scopes

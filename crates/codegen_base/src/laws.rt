@@ -9,6 +9,8 @@ ghost use Rattle.codegen_base.specs.Loops.{FoldGives};
 ghost use Rattle.codegen_base.specs.Operators.{OneGives, TwoGives, ConvertsThen, CombinesThen, CallsGive};
 ghost use Rattle.codegen_base.specs.Pieces.{SpelledStands};
 ghost use Rattle.codegen_base.specs.Programs.{ProgramExits};
+ghost use Rattle.codegen_base.specs.Rows.{RowsStand};
+ghost use Rattle.codegen_base.specs.Scopes.{NoScope, ScopeBegins, ScopeGives, ScopeGrows};
 ghost use Rattle.codegen_base.specs.Variables.{VariableGives};
 
 use bpf_machine::laws::decodes_spelling;
@@ -72,6 +74,20 @@ pub fn selection_gives()
 /// The use of a variable gives its value, and the potentials pay for its first use.
 pub fn variable_gives()
     ensures { VariableGives }
+{}
+
+/// The use of a variable of a scope, found by its name, gives what the name stands for; a scope is made
+/// one variable after another, each with a routine that may use those before it.
+pub fn scopes_give()
+    ensures uses { ScopeGives }
+    ensures none { NoScope }
+    ensures begins { ScopeBegins }
+    ensures grows { ScopeGrows }
+{}
+
+/// Programs run by hand.
+pub fn rows_stand()
+    ensures { RowsStand }
 {}
 
 /// A program whose code begins with a piece for a value and an exit leaves a reference of it, or has
