@@ -12,6 +12,8 @@ pub mod Values
 pub mod Frames
 pub mod Answers
 pub mod Helpers
+pub mod Leaves
+pub mod Selection
 pub mod Variables
 pub mod Programs
 pub mod Loops
@@ -26,3 +28,6 @@ pub mod Ints
 pub mod Operands
 pub mod Limits
 pub mod Macros
+pub mod Sums
+pub mod Additions
+pub mod Scopes

@@ -108,7 +108,7 @@ module _ (s : Setting) (p k depth : ℕ) (range part : List Insn) (c : Context) 
       (one_gives s p loop exists_one_end c depth k once (once_end once) (steps - 3) charge 3 0
       (fold_within s p k depth range first_false turn c r (value (boolean false)) (once_of f) (λ a. false) (λ a. true) w x visits spent (λ v. step_budget (visits v) + 7) (λ v. charge_budget (spent v) + 0) low refl refl refl gives_range (false_gives s (p + size range + 9) c depth (k + 3) (omega arith))
       (λ items is. turn_gives s (p + size range + 17) end part (exists_one_turn k) c depth k n items f (once_of f) (λ a. false) (λ a. true) (λ v. step_budget (visits v)) (λ v. charge_budget (spent v)) (λ v. 7) (λ v. 0) low
-          (λ i v item. gives_part v (record { items = items; place = i; range_is = is; item_is = item }))
-          (once_runs items end))
+      (λ i v item. gives_part v (record { items = items; place = i; range_is = is; item_is = item }))
+      (once_runs items end))
       (λ v. omega arith) (λ v. omega arith))
       (end_converts s end c depth k once)))

@@ -135,6 +135,6 @@ map_where_gives s p k depth range predicate transform c n r t f w x visits spent
     (gives_within s p (map_where_code k range predicate transform) c depth k _ _ _ _ _ (omega arith) (omega arith)
     (fold_within s p k depth range first_empty turn c r (value (list no_items)) g (λ a. false) (is_shallow s.is_deep) w x all_visits all_spent (λ v. step_budget (visits v) + more v) (λ v. charge_budget (spent v) + more_charge v) low refl (first_shallow s.is_deep (value (list no_items)) refl) refl gives_range (empty_gives s (p + size range + 9) c depth (k + 3) (omega arith))
     (λ items is. turn_gives s (p + size range + 17) end predicate tail c depth k n items t g (λ a. false) (is_shallow s.is_deep) (λ v. step_budget (visits v)) (λ v. charge_budget (spent v)) more more_charge low
-        (λ i v item. gives_predicate v (record { items = items; place = i; range_is = is; item_is = item }))
-        (tails items is))
+    (λ i v item. gives_predicate v (record { items = items; place = i; range_is = is; item_is = item }))
+    (tails items is))
     (λ v. omega (arith, chosen_steps (truth (t v)) (visits_then v))) (λ v. omega (arith, chosen_charge (truth (t v)) (spent_then v)))))
