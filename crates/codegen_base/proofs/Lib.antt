@@ -21,3 +21,6 @@ pub mod Comparison
 pub mod Ints
 pub mod Operands
 pub mod Sums
+pub mod IntWords
+pub mod Products
+pub mod Multiplications
