@@ -12,6 +12,8 @@ pub mod Values
 pub mod Frames
 pub mod Answers
 pub mod Helpers
+pub mod Leaves
+pub mod Selection
 pub mod Variables
 pub mod Programs
 pub mod Loops
@@ -24,3 +26,4 @@ pub mod Sums
 pub mod IntWords
 pub mod Products
 pub mod Multiplications
+pub mod Additions

@@ -137,12 +137,12 @@ module _ (op : AluOp) (below above : Comparison) (f : ℤ → ℤ → ℤ) (chec
       (jump has 4 1 refl
       (answers (result_fits (check.rises positive is_not)))))))))))
 
-sum_runs : (s : Setting) (p : ℕ) (c : Context) (depth k : ℕ) (m n : ℤ) → k ≤ 64 → OnInts s p sum_tail c depth k m n (int_or_error (m +ℤ n)) 7 1
+pub sum_runs : (s : Setting) (p : ℕ) (c : Context) (depth k : ℕ) (m n : ℤ) → k ≤ 64 → OnInts s p sum_tail c depth k m n (int_or_error (m +ℤ n)) 7 1
 sum_runs s p c depth k m n low = record {
   runs = λ b has fits first second fm fn. checked_runs Add Sge Slt (λ a z. a +ℤ z) sum_checked s c depth k p low m n has b fits first second fm fn;
 }
 
-difference_runs : (s : Setting) (p : ℕ) (c : Context) (depth k : ℕ) (m n : ℤ) → k ≤ 64 → OnInts s p difference_tail c depth k m n (int_or_error (m -ℤ n)) 7 1
+pub difference_runs : (s : Setting) (p : ℕ) (c : Context) (depth k : ℕ) (m n : ℤ) → k ≤ 64 → OnInts s p difference_tail c depth k m n (int_or_error (m -ℤ n)) 7 1
 difference_runs s p c depth k m n low = record {
   runs = λ b has fits first second fm fn. checked_runs Sub Sle Sgt (λ a z. a -ℤ z) difference_checked s c depth k p low m n has b fits first second fm fn;
 }

@@ -1,4 +1,6 @@
 -- What the code of constructs gives, where the code of their parts gives this.
+pub mod Leaves
+pub mod Selection
 pub mod Logic
 pub mod Comparison
 pub mod Arithmetic
