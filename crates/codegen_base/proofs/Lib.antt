@@ -23,7 +23,8 @@ pub mod Comparison
 pub mod Ints
 pub mod Operands
 pub mod Sums
+pub mod Additions
 pub mod IntWords
 pub mod Products
 pub mod Multiplications
-pub mod Additions
+pub mod Negation

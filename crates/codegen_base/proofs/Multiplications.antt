@@ -9,13 +9,16 @@ use Rattle.insn_codec.specs.declared.register.Register.{Register}
 use Rattle.insn_codec.specs.declared.register.Register.TheVariants.{R1, R2, R6, R7, R10}
 use Rattle.insn_codec.specs.declared.width.Width.TheVariants.{W64}
 use Rattle.value_store.specs.Value.{ValueOrError, error, value, int}
-use Rattle.cel_macros.specs.Arithmetic.{fits, product, quotient, remainder}
+use Rattle.cel_macros.specs.Arithmetic.{fits, product, product_of, quotient, quotient_of, remainder, remainder_of}
 use Rattle.bpf_machine.specs.Words.{alu_result, compares}
 use Rattle.codegen_base.specs.Body.{Body, set_register}
-use Rattle.codegen_base.specs.Code.Arithmetic.{divided_tail, least_word, product_tail}
+use Rattle.codegen_base.specs.Code.Arithmetic.{divided_code, divided_tail, least_word, product_code, product_tail}
 use Rattle.codegen_base.specs.Contexts.{Context, Fits, Shows}
 use Rattle.codegen_base.specs.Engine.{Setting, Comes}
+use Rattle.codegen_base.specs.Gives.Arithmetic.{ProductsGive}
+use Rattle.codegen_base.specs.Gives.Comparison.{TailGives}
 use Rattle.codegen_base.specs.Pieces.{Stands}
+use Rattle.codegen_base.proofs.Additions.{ints_give}
 use Rattle.codegen_base.proofs.IntWords.{fits_from, least, minus_one}
 use Rattle.codegen_base.proofs.Listings.{alu, begins, load_wide, mov, no, yes}
 use Rattle.codegen_base.proofs.Loops.{either}
@@ -139,3 +142,21 @@ quotient_runs = divided_runs Sdiv quotient quotient_divided
 
 pub remainder_runs : (s : Setting) (p : ℕ) (c : Context) (depth k : ℕ) (m n : ℤ) → k ≤ 64 → OnInts s p (divided_tail Smod) c depth k m n (remainder m n) 8 1
 remainder_runs = divided_runs Smod remainder remainder_divided
+
+-- ---- behind any operands
+
+product_gives : TailGives product_code product_of 25 5
+unfolding product_tail
+product_gives s p k c depth x y low =
+    ints_give product s p k 12 product_tail c depth 11 1 x y low refl refl (λ m n. product_runs s (p + 14) c depth k m n (omega arith))
+
+quotient_gives : TailGives (divided_code Sdiv) quotient_of 22 5
+quotient_gives s p k c depth x y low =
+    ints_give quotient s p k 9 (divided_tail Sdiv) c depth 8 1 x y low refl refl (λ m n. quotient_runs s (p + 14) c depth k m n (omega arith))
+
+remainder_gives : TailGives (divided_code Smod) remainder_of 22 5
+remainder_gives s p k c depth x y low =
+    ints_give remainder s p k 9 (divided_tail Smod) c depth 8 1 x y low refl refl (λ m n. remainder_runs s (p + 14) c depth k m n (omega arith))
+
+pub products_give : ProductsGive
+products_give = record { product = product_gives; quotient = quotient_gives; remainder = remainder_gives }
