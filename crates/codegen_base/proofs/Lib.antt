@@ -31,3 +31,7 @@ pub mod Macros
 pub mod Sums
 pub mod Additions
 pub mod Scopes
+pub mod IntWords
+pub mod Products
+pub mod Multiplications
+pub mod Negation

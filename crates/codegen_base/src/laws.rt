@@ -1,6 +1,6 @@
 //! Laws of code, each the clause of a function that does nothing.
 ghost use Rattle.codegen_base.specs.Gives.Aggregates.{ListGives, MapGives};
-ghost use Rattle.codegen_base.specs.Gives.Arithmetic.{AdditionsGive};
+ghost use Rattle.codegen_base.specs.Gives.Arithmetic.{AdditionsGive, NegationGives, ProductsGive};
 ghost use Rattle.codegen_base.specs.Gives.Comparison.{ComparisonGives};
 ghost use Rattle.codegen_base.specs.Gives.Leaves.{LeavesGive};
 ghost use Rattle.codegen_base.specs.Gives.Logic.{LogicGives};
@@ -61,6 +61,17 @@ pub fn comparison_gives()
 /// bits is the error.
 pub fn additions_give()
     ensures { AdditionsGive }
+{}
+
+/// Pieces behind two operands give `*`, `/` and `%` on ints; a product that is no int of 64 bits, a
+/// divisor of zero, and the least int divided by -1 are the error.
+pub fn products_give()
+    ensures { ProductsGive }
+{}
+
+/// The piece behind an operand gives its negative; that of the least int is the error.
+pub fn negation_gives()
+    ensures { NegationGives }
 {}
 
 /// Code for a range, for a first answer and for a turn makes a loop over the range's items, which gives
