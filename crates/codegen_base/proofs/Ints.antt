@@ -1,5 +1,5 @@
 -- Ints of 64 bits as words, and when results fit.
-use Rattle.std.proofs.Common.{◌≡◌, ℕ, ◌+◌, ◌-◌, ◌%◌, ◌^◌, ◌<◌, ◌≤◌, true, false, refl, ap, ◌∙◌, arith}
+use Rattle.std.proofs.Common.{◌≡◌, ℕ, ◌+◌, ◌-◌, ◌%◌, ◌^◌, ◌<◌, ◌≤◌, true, false, refl, ap, ◌∙◌, rules, arith}
 use Rattle.std.specs.Prelude.{ℤ, pos, negsuc, ◌+ℤ◌, ◌-ℤ◌, FitsSigned, unsigned_abs}
 use Rattle.std.specs.Int.{w64, cast_signed, cast_unsigned, int_wrap}
 use Rattle.std.proofs.lemmas.Int.{ints, to_z-of_z, int_rem_euclid_is}
@@ -46,6 +46,9 @@ fits_not (negsuc n) h = grind (arith, ints, nat_tests)
 pub signed_fits : (z : ℤ) → FitsSigned w64 z → IsSigned z
 signed_fits (pos n) h = grind (arith, ints)
 signed_fits (negsuc n) h = grind (arith, ints)
+
+pub cast_fits : (w : ℕ) → w < 2 ^ 64 → FitsSigned w64 (cast_signed w64 w)
+cast_fits w h = search (rules, ints)
 
 -- the word of a number, and what a difference of words is
 pub word_of-small : (z : ℤ) → word_of 64 z < 2 ^ 64

@@ -12,6 +12,8 @@ pub mod Values
 pub mod Frames
 pub mod Answers
 pub mod Helpers
+pub mod Leaves
+pub mod Selection
 pub mod Variables
 pub mod Programs
 pub mod Loops
@@ -20,5 +22,7 @@ pub mod Logic
 pub mod Comparison
 pub mod Ints
 pub mod Operands
+pub mod Sums
+pub mod Additions
 pub mod Limits
 pub mod Macros

@@ -1,4 +1,7 @@
 -- What the code of constructs gives, where the code of their parts gives this.
+pub mod Leaves
+pub mod Selection
 pub mod Logic
 pub mod Comparison
+pub mod Arithmetic
 pub mod Macros

@@ -1,6 +1,10 @@
 //! Laws of code, each the clause of a function that does nothing.
+ghost use Rattle.codegen_base.specs.Gives.Arithmetic.{AdditionsGive};
 ghost use Rattle.codegen_base.specs.Gives.Comparison.{ComparisonGives};
+ghost use Rattle.codegen_base.specs.Gives.Leaves.{LeavesGive};
 ghost use Rattle.codegen_base.specs.Gives.Logic.{LogicGives};
+ghost use Rattle.codegen_base.specs.Gives.Macros.{MacroGives, MapWhereGives};
+ghost use Rattle.codegen_base.specs.Gives.Selection.{SelectionGives};
 ghost use Rattle.codegen_base.specs.Helpers.{HelpersAnswer};
 ghost use Rattle.codegen_base.specs.Loops.{FoldGives};
 ghost use Rattle.codegen_base.specs.Operators.{OneGives, TwoGives, ConvertsThen, CombinesThen, CallsGive};
@@ -43,10 +47,36 @@ pub fn comparison_gives()
     ensures { ComparisonGives }
 {}
 
+/// Pieces behind two operands give `+`, on ints, texts and lists, and `-`; a result that is no int of 64
+/// bits is the error.
+pub fn additions_give()
+    ensures { AdditionsGive }
+{}
+
 /// Code for a range, for a first answer and for a turn makes a loop over the range's items, which gives
 /// the fold; it leaves early where no further item changes the answer.
 pub fn fold_gives()
     ensures { FoldGives }
+{}
+
+/// Literals without parts, and names, have code that gives their values.
+pub fn leaves_give()
+    ensures { LeavesGive }
+{}
+
+/// Behind the code of an operand stands the code for a field, for whether there is one, for a size and
+/// for a text, and behind that of two the code for an index and for tests of texts.
+pub fn selection_gives()
+    ensures { SelectionGives }
+{}
+
+/// Code for a range and for a part makes the code of each macro, within budgets of the visits and of what
+/// is spent: `all` and `exists` leave early, a `map` with a predicate runs its transform where that is
+/// true, a range that is neither list nor map makes the error, and a list is refused for its depth only
+/// where an item that it is to hold is too deep.
+pub fn macros_give()
+    ensures macros { MacroGives }
+    ensures map_where { MapWhereGives }
 {}
 
 /// The use of a variable gives its value, and the potentials pay for its first use.

@@ -1,0 +1,10 @@
+use Rattle.std.proofs.Common.{◌≡◌, ◌+◌, map, drop, length, string_bytes}
+use Rattle.cel_measures.specs.Saturated.{saturated}
+use Rattle.codegen.specs.Constants.{joined}
+use Rattle.codegen.proofs.constants.byte_count.Given as goal
+
+abbrev pub invariant-loop-text : goal.invariant-loop-text
+invariant-loop-text l = record {
+  fits : l.total ≡ saturated l.total;
+  so_far : saturated (length (joined (map string_bytes l.texts))) ≡ saturated (l.total + length (joined (map string_bytes (drop l.text-index l.texts))));
+}

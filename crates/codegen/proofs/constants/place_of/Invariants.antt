@@ -1,0 +1,10 @@
+use Rattle.std.proofs.Common.{◌≡◌, ◌+◌, map, drop, option_map, string_bytes}
+use Rattle.cel_measures.specs.Saturated.{saturated}
+use Rattle.codegen.specs.Constants as specs
+use Rattle.codegen.proofs.constants.place_of.Given as goal
+
+abbrev pub invariant-loop-other : goal.invariant-loop-other
+invariant-loop-other l = record {
+  fits : l.place ≡ saturated l.place;
+  so_far : option_map saturated (specs.place_of l.text (map string_bytes l.texts)) ≡ option_map (λ n. saturated (l.place + n)) (specs.place_of l.text (map string_bytes (drop l.other-index l.texts)));
+}

@@ -1,0 +1,40 @@
+-- What an emitter has taken.
+use Rattle.std.specs.Prelude.{ℕ, ◌+◌, List, [], ◌∷◌, ◌++◌, length, Option, Some, None, ◌*◌, ◌<◌, slice_set}
+use Rattle.insn_codec.specs.Spelling.{spelling}
+use Rattle.insn_codec.specs.declared.insn.Insn.{Insn}
+use Rattle.cel_measures.specs.Saturated.{saturated}
+use Rattle.codegen.specs.Constants.{joined}
+use Rattle.codegen.specs.Pieces.{slots}
+
+-- the instruction that begins at each slot of the code; the texts that the code names; and the nodes for which it stands
+pub record Emitted : Type 0 where
+  pub code : List (Option Insn)
+  pub constants : List (List ℕ)
+  pub nodes : ℕ
+
+abbrev pub no_code : Emitted
+no_code = record { code = []; constants = []; nodes = 0 }
+
+abbrev pub with_piece : Emitted → List Insn → Emitted
+with_piece e piece = record e { code = e.code ++ slots piece }
+
+-- an instruction put in the place of another
+abbrev pub with_insn_at : Emitted → ℕ → Insn → Emitted
+with_insn_at e slot i = record e { code = slice_set e.code slot (Some i) }
+
+abbrev pub with_nodes : Emitted → ℕ → Emitted
+with_nodes e n = record e { nodes = saturated (e.nodes + n) }
+
+-- the bytes of what begins at these slots
+abbrev pub slot_spellings : List (Option Insn) → List ℕ
+slot_spellings [] = []
+slot_spellings (Some i ∷ more) = spelling i ++ slot_spellings more
+slot_spellings (None ∷ more) = slot_spellings more
+
+-- so much code that its steps may pass the slots of an image: 128 for each node, above 65,536
+abbrev pub IsTooLong : Emitted → Type 0
+IsTooLong e = 65536 < 128 * e.nodes
+
+-- more bytes of texts than an image's constants
+abbrev pub HasTooManyTexts : Emitted → Type 0
+HasTooManyTexts e = 1048576 < length (joined e.constants)

@@ -1,0 +1,5 @@
+pub mod Cost
+pub mod CostRows
+pub mod Pieces
+pub mod Constants
+pub mod Emitted

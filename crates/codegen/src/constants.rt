@@ -1,0 +1,58 @@
+//! The texts that code names.
+
+ghost use Rattle.std.specs.Prelude.{◌≡◌, map, option_map, length, string_bytes, IfOk, OnOk, OnErr};
+ghost use Rattle.cel_measures.specs.Saturated.{saturated};
+ghost use Rattle.codegen.specs.Constants as specs;
+
+use indexmap::IndexSet;
+use std::alloc::{AllocError, Global};
+
+/// Takes the text among the others, if it is not there. The error says that there is no memory for it.
+pub(crate) fn take_text(
+    alloc: Global,
+    texts: &mut IndexSet<String>,
+    text: &str,
+) -> Result<(), AllocError>
+    ensures ok { OnOk result (map string_bytes texts.new.keys ≡ specs.with_text (map string_bytes texts.old.keys) text.now) }
+    ensures err { OnErr result (texts.new.keys ≡ texts.old.keys) }
+{
+    let text = String::from_str(alloc, text)?;
+    texts.insert(text)?;
+    Ok(())
+}
+
+/// Where the text begins among the bytes of all; the greatest number of 64 bits where that is more.
+pub(crate) fn place_of(texts: &[String], text: &str) -> Option<u64>
+    ensures { result ≡ option_map saturated (specs.place_of text.now (map string_bytes texts.now)) }
+{
+    let mut place: u64 = 0;
+    for other in texts {
+        if text == other.as_str() {
+            return Some(place);
+        }
+        place = place.saturating_add(other.len() as u64);
+    }
+    None
+}
+
+/// How many bytes the texts have; the greatest number of 64 bits where they have more.
+pub(crate) fn byte_count(texts: &[String]) -> u64
+    ensures { result ≡ saturated (length (specs.joined (map string_bytes texts.now))) }
+{
+    let mut total: u64 = 0;
+    for text in texts {
+        total = total.saturating_add(text.len() as u64);
+    }
+    total
+}
+
+/// The bytes of all. The error says that there is no memory for them.
+pub(crate) fn joined(alloc: Global, texts: &[String]) -> Result<Vec<u8>, AllocError>
+    ensures { IfOk result (λ bytes. bytes.items ≡ specs.joined (map string_bytes texts.now)) }
+{
+    let mut bytes = Vec::new(alloc);
+    for text in texts {
+        bytes.extend_from_slice(text.as_bytes())?;
+    }
+    Ok(bytes)
+}

@@ -1,0 +1,13 @@
+//! CEL expressions as code of the machine.
+#![tactic(auto)]
+
+mod code_error;
+mod constants;
+mod emitter;
+mod laws;
+#[cfg(test)]
+mod tests;
+
+pub use code_error::CodeError;
+pub use emitter::Emitter;
+pub use laws::costs_stand;
