@@ -4,6 +4,7 @@ ghost use Rattle.codegen_base.specs.Gives.Arithmetic.{AdditionsGive, NegationGiv
 ghost use Rattle.codegen_base.specs.Gives.Comparison.{ComparisonGives};
 ghost use Rattle.codegen_base.specs.Gives.Leaves.{LeavesGive};
 ghost use Rattle.codegen_base.specs.Gives.Logic.{LogicGives};
+ghost use Rattle.codegen_base.specs.Gives.Macros.{MacroGives, MapWhereGives};
 ghost use Rattle.codegen_base.specs.Gives.Selection.{SelectionGives};
 ghost use Rattle.codegen_base.specs.Helpers.{HelpersAnswer};
 ghost use Rattle.codegen_base.specs.Loops.{FoldGives};
@@ -89,6 +90,15 @@ pub fn leaves_give()
 /// for a text, and behind that of two the code for an index and for tests of texts.
 pub fn selection_gives()
     ensures { SelectionGives }
+{}
+
+/// Code for a range and for a part makes the code of each macro, within budgets of the visits and of what
+/// is spent: `all` and `exists` leave early, a `map` with a predicate runs its transform where that is
+/// true, a range that is neither list nor map makes the error, and a list is refused for its depth only
+/// where an item that it is to hold is too deep.
+pub fn macros_give()
+    ensures macros { MacroGives }
+    ensures map_where { MapWhereGives }
 {}
 
 /// The use of a variable gives its value, and the potentials pay for its first use.

@@ -3,7 +3,7 @@
 //!
 //! `laws` has the laws for crates above, each on a function that does nothing. Of the lemmas those of
 //! `proofs/Runs`, `Steps`, `Listings`, `Pieces`, `Frames`, `Values`, `Helpers`, `Operators`, `Loops`,
-//! `Logic` and `Aggregates` are for crates above too.
+//! `Logic`, `Aggregates` and `Macros` are for crates above too.
 #![tactic(auto)]
 
 pub mod laws;

@@ -95,14 +95,14 @@ module _ (s : Setting) (p k depth : ℕ) (range part : List Insn) (c : Context) 
     fine = λ acc i v item fine. refl;
   }
 
-  pub exists_one_gives : Gives s p (exists_one_code k range part) c depth k (folded ExistsOne f (range_of r)) (step_budget (1 + w + items_visits visits (range_of r))) (charge_budget (8 + x + items_spent spent (range_of r)))
+  pub exists_one_gives : Gives s p (exists_one_code k range part) c depth k (folded ExistsOne f (range_of r)) (step_budget (1 + w + items_visits visits (range_of r))) (charge_budget (9 + x + items_spent spent (range_of r)))
   exists_one_gives =
       let turn = part ++ exists_one_turn k in
       let loop = fold_code k range first_false turn in
       let end = p + size loop in
       let once = fold_of (once_of f) (value (boolean false)) (range_of r) in
       let steps = step_budget (1 + w + items_visits visits (range_of r)) in
-      let charge = charge_budget (8 + x + items_spent spent (range_of r)) in
+      let charge = charge_budget (9 + x + items_spent spent (range_of r)) in
       subst (λ (y : ValueOrError). Gives s p (exists_one_code k range part) c depth k y steps charge) (once_folds f (range_of r))
       (gives_within s p (exists_one_code k range part) c depth k (once_end once) (steps - 3 + 3) (charge + 0) steps charge (omega arith) (omega arith)
       (one_gives s p loop exists_one_end c depth k once (once_end once) (steps - 3) charge 3 0

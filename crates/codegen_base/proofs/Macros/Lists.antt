@@ -45,11 +45,11 @@ module _ (s : Setting) (p k depth : ℕ) (range part : List Insn) (c : Context) 
     fine = λ acc i v item fine. push_shallow s.is_deep acc (f v) (may v (record { items = items; place = i; range_is = is; item_is = item })) fine;
   }
 
-  pub map_gives : ((v : Value) → IsItem r v → is_too_deep (f v) ≡ true → s.is_deep ≡ true) → Gives s p (map_code k range part) c depth k (folded Map f (range_of r)) (step_budget (1 + w + items_visits visits (range_of r))) (charge_budget (8 + x + items_spent spent (range_of r)))
+  pub map_gives : ((v : Value) → IsItem r v → is_too_deep (f v) ≡ true → s.is_deep ≡ true) → Gives s p (map_code k range part) c depth k (folded Map f (range_of r)) (step_budget (1 + w + items_visits visits (range_of r))) (charge_budget (9 + x + items_spent spent (range_of r)))
   map_gives may =
       let turn = part ++ map_turn k in
       let end = p + size (fold_code k range first_empty turn) in
-      subst (λ (y : ValueOrError). Gives s p (map_code k range part) c depth k y (step_budget (1 + w + items_visits visits (range_of r))) (charge_budget (8 + x + items_spent spent (range_of r)))) (map_folds f (range_of r))
+      subst (λ (y : ValueOrError). Gives s p (map_code k range part) c depth k y (step_budget (1 + w + items_visits visits (range_of r))) (charge_budget (9 + x + items_spent spent (range_of r)))) (map_folds f (range_of r))
       (gives_within s p (map_code k range part) c depth k _ _ _ _ _ (omega arith) (omega arith)
       (fold_within s p k depth range first_empty turn c r (start_of Map) (step_of Map f) (λ a. false) (is_shallow s.is_deep) w x visits spent (λ v. step_budget (visits v) + 3) (λ v. charge_budget (spent v) + 2) low refl (first_shallow s.is_deep (start_of Map) refl) refl gives_range (empty_gives s (p + size range + 9) c depth (k + 3) (omega arith))
       (λ items is. turn_gives s (p + size range + 17) end part (map_turn k) c depth k n items f (step_of Map f) (λ a. false) (is_shallow s.is_deep) (λ v. step_budget (visits v)) (λ v. charge_budget (spent v)) (λ v. 3) (λ v. 2) low
@@ -69,11 +69,11 @@ module _ (s : Setting) (p k depth : ℕ) (range part : List Insn) (c : Context) 
         fine = λ acc i v item fine. chosen_shallow s.is_deep (truth (f v)) acc (value v) (deep v (record { items = items; place = i; range_is = is; item_is = item })) fine;
       }
 
-  pub filter_gives : ((v : Value) → IsItem r v → holds_too_deep Filter v (f v) ≡ true → s.is_deep ≡ true) → Gives s p (filter_code k range part) c depth k (folded Filter f (range_of r)) (step_budget (1 + w + items_visits visits (range_of r))) (charge_budget (8 + x + items_spent spent (range_of r)))
+  pub filter_gives : ((v : Value) → IsItem r v → holds_too_deep Filter v (f v) ≡ true → s.is_deep ≡ true) → Gives s p (filter_code k range part) c depth k (folded Filter f (range_of r)) (step_budget (1 + w + items_visits visits (range_of r))) (charge_budget (9 + x + items_spent spent (range_of r)))
   filter_gives may =
       let turn = part ++ filter_turn k in
       let end = p + size (fold_code k range first_empty turn) in
-      subst (λ (y : ValueOrError). Gives s p (filter_code k range part) c depth k y (step_budget (1 + w + items_visits visits (range_of r))) (charge_budget (8 + x + items_spent spent (range_of r)))) (filter_folds f (range_of r))
+      subst (λ (y : ValueOrError). Gives s p (filter_code k range part) c depth k y (step_budget (1 + w + items_visits visits (range_of r))) (charge_budget (9 + x + items_spent spent (range_of r)))) (filter_folds f (range_of r))
       (gives_within s p (filter_code k range part) c depth k _ _ _ _ _ (omega arith) (omega arith)
       (fold_within s p k depth range first_empty turn c r (start_of Filter) (step_of Filter f) (λ a. false) (is_shallow s.is_deep) w x visits spent (λ v. step_budget (visits v) + 6) (λ v. charge_budget (spent v) + 2) low refl (first_shallow s.is_deep (start_of Filter) refl) refl gives_range (empty_gives s (p + size range + 9) c depth (k + 3) (omega arith))
       (λ items is. turn_gives s (p + size range + 17) end part (filter_turn k) c depth k n items f (step_of Filter f) (λ a. false) (is_shallow s.is_deep) (λ v. step_budget (visits v)) (λ v. charge_budget (spent v)) (λ v. 6) (λ v. 2) low

@@ -122,7 +122,7 @@ map_where_gives s p k depth range predicate transform c n r t f w x visits spent
     let more : Value → ℕ = λ v. chosen (truth (t v)) (step_budget (visits_then v)) 0 0 + 6 in
     let more_charge : Value → ℕ = λ v. chosen (truth (t v)) (charge_budget (spent_then v)) 0 0 + 2 in
     let steps = step_budget (1 + w + items_visits all_visits (range_of r)) in
-    let charge = charge_budget (8 + x + items_spent all_spent (range_of r)) in
+    let charge = charge_budget (9 + x + items_spent all_spent (range_of r)) in
     let tails : (items : List Value) → range_of r ≡ Some items → TailRuns s q end tail c depth k items t g (λ a. false) (is_shallow s.is_deep) more more_charge = λ items is. record {
       goes_on = λ b acc i v item fine has at not_last on.
           let inside : IsItem r v = record { items = items; place = i; range_is = is; item_is = item } in

@@ -38,11 +38,11 @@ module _ (s : Setting) (p k depth : ℕ) (range part : List Insn) (c : Context) 
     fine = λ acc i v item fine. refl;
   }
 
-  pub all_gives : Gives s p (all_code k range part) c depth k (folded All f (range_of r)) (step_budget (1 + w + items_visits visits (range_of r))) (charge_budget (8 + x + items_spent spent (range_of r)))
+  pub all_gives : Gives s p (all_code k range part) c depth k (folded All f (range_of r)) (step_budget (1 + w + items_visits visits (range_of r))) (charge_budget (9 + x + items_spent spent (range_of r)))
   all_gives =
       let turn = part ++ absorbing_turn no_ref yes_ref k in
       let place : p + size range + 17 + size part + 11 ≡ p + size (fold_code k range first_true turn) = omega (arith, fold_end p k range first_true turn refl, size-append part (absorbing_turn no_ref yes_ref k)) in
-      subst (λ (y : ValueOrError). Gives s p (all_code k range part) c depth k y (step_budget (1 + w + items_visits visits (range_of r))) (charge_budget (8 + x + items_spent spent (range_of r)))) (all_folds f (range_of r))
+      subst (λ (y : ValueOrError). Gives s p (all_code k range part) c depth k y (step_budget (1 + w + items_visits visits (range_of r))) (charge_budget (9 + x + items_spent spent (range_of r)))) (all_folds f (range_of r))
       (gives_within s p (all_code k range part) c depth k _ _ _ _ _ (omega arith) (omega arith)
       (fold_within s p k depth range first_true turn c r (start_of All) (step_of All f) (is_settled All) (λ a. true) w x visits spent (λ v. step_budget (visits v) + 5) (λ v. charge_budget (spent v) + 0) low refl refl refl gives_range (true_gives s (p + size range + 9) c depth (k + 3) (omega arith))
       (λ items is. turn_gives s (p + size range + 17) (p + size (fold_code k range first_true turn)) part (absorbing_turn no_ref yes_ref k) c depth k n items f (step_of All f) (is_settled All) (λ a. true) (λ v. step_budget (visits v)) (λ v. charge_budget (spent v)) (λ v. 5) (λ v. 0) low
@@ -58,11 +58,11 @@ module _ (s : Setting) (p k depth : ℕ) (range part : List Insn) (c : Context) 
     fine = λ acc i v item fine. refl;
   }
 
-  pub exists_gives : Gives s p (exists_code k range part) c depth k (folded Exists f (range_of r)) (step_budget (1 + w + items_visits visits (range_of r))) (charge_budget (8 + x + items_spent spent (range_of r)))
+  pub exists_gives : Gives s p (exists_code k range part) c depth k (folded Exists f (range_of r)) (step_budget (1 + w + items_visits visits (range_of r))) (charge_budget (9 + x + items_spent spent (range_of r)))
   exists_gives =
       let turn = part ++ absorbing_turn yes_ref no_ref k in
       let place : p + size range + 17 + size part + 11 ≡ p + size (fold_code k range first_false turn) = omega (arith, fold_end p k range first_false turn refl, size-append part (absorbing_turn yes_ref no_ref k)) in
-      subst (λ (y : ValueOrError). Gives s p (exists_code k range part) c depth k y (step_budget (1 + w + items_visits visits (range_of r))) (charge_budget (8 + x + items_spent spent (range_of r)))) (exists_folds f (range_of r))
+      subst (λ (y : ValueOrError). Gives s p (exists_code k range part) c depth k y (step_budget (1 + w + items_visits visits (range_of r))) (charge_budget (9 + x + items_spent spent (range_of r)))) (exists_folds f (range_of r))
       (gives_within s p (exists_code k range part) c depth k _ _ _ _ _ (omega arith) (omega arith)
       (fold_within s p k depth range first_false turn c r (start_of Exists) (step_of Exists f) (is_settled Exists) (λ a. true) w x visits spent (λ v. step_budget (visits v) + 5) (λ v. charge_budget (spent v) + 0) low refl refl refl gives_range (false_gives s (p + size range + 9) c depth (k + 3) (omega arith))
       (λ items is. turn_gives s (p + size range + 17) (p + size (fold_code k range first_false turn)) part (absorbing_turn yes_ref no_ref k) c depth k n items f (step_of Exists f) (is_settled Exists) (λ a. true) (λ v. step_budget (visits v)) (λ v. charge_budget (spent v)) (λ v. 5) (λ v. 0) low

@@ -26,11 +26,11 @@ pub fold_within : (s : Setting) (p k depth : ℕ) (range first turn : List Insn)
     → ((items : List Value) → range_of r ≡ Some items → TurnGives s (p + size range + 17) (p + size (fold_code k range first turn)) turn c depth k items g is_last is_fine steps charge)
     → ((v : Value) → steps v + 11 ≤ 128 * (1 + visits v))
     → ((v : Value) → charge v + 1 ≤ 16 * (8 + spent v))
-    → Gives s p (fold_code k range first turn) c depth k (fold_of g acc (range_of r)) (step_budget (1 + w + items_visits visits (range_of r)) - 3) (charge_budget (8 + x + items_spent spent (range_of r)))
+    → Gives s p (fold_code k range first turn) c depth k (fold_of g acc (range_of r)) (step_budget (1 + w + items_visits visits (range_of r)) - 3) (charge_budget (9 + x + items_spent spent (range_of r)))
 fold_within s p k depth range first turn c r acc g is_last is_fine w x visits spent steps charge low not_last fine one gives_range gives_first turns few paid =
     let place : p + size range + 17 ≡ p + size range + 9 + size first + 7 = omega arith in
     let end = p + size (fold_code k range first turn) in
     let within = steps_within steps visits few (range_of r) in
     let cost = charge_within charge spent paid (range_of r) in
-    gives_within s p (fold_code k range first turn) c depth k (fold_of g acc (range_of r)) _ _ (step_budget (1 + w + items_visits visits (range_of r)) - 3) (charge_budget (8 + x + items_spent spent (range_of r))) (omega arith) (omega arith)
+    gives_within s p (fold_code k range first turn) c depth k (fold_of g acc (range_of r)) _ _ (step_budget (1 + w + items_visits visits (range_of r)) - 3) (charge_budget (9 + x + items_spent spent (range_of r))) (omega arith) (omega arith)
     (fold_gives s p k depth (step_budget w) (charge_budget x) 1 1 range first turn c r acc g is_last is_fine steps charge low not_last fine gives_range gives_first (λ items is. subst (λ (i : ℕ). TurnGives s i end turn c depth k items g is_last is_fine steps charge) place (turns items is)))

@@ -1,4 +1,4 @@
--- Macros, within budgets: 128 steps for each visit of a node or an item, less 8 for the whole, and 16 of charge for each 1 of what was spent.
+-- Macros, within budgets: 128 steps for each visit of a node or an item and 16 of charge for each 1 of what was spent, less 8 of each for the whole.
 use Rattle.std.specs.Prelude.{◌≡◌, ℕ, ◌+◌, ◌-◌, ◌*◌, ◌<◌, nat_le, Bool, true, false, List, [], ◌∷◌, Option, Some, None, slice_get}
 use Rattle.insn_codec.specs.declared.insn.Insn.{Insn}
 use Rattle.value_store.specs.Size.{result_depth}
@@ -19,7 +19,7 @@ abbrev pub step_budget : ℕ → ℕ
 step_budget visits = 128 * visits - 8
 
 abbrev pub charge_budget : ℕ → ℕ
-charge_budget spent = 16 * spent
+charge_budget spent = 16 * spent - 8
 
 -- each item is a visit, beside those of its part
 abbrev pub each_visits : (Value → ℕ) → List Value → ℕ
@@ -65,7 +65,7 @@ MacroGives = (m : Macro) (s : Setting) (p k depth : ℕ) (range part : List Insn
     → Gives s p range c depth k r (step_budget w) (charge_budget x)
     → ((v : Value) → IsItem r v → Gives s (p + size range + 17) part (with_item c k n v) depth (k + 5) (f v) (step_budget (visits v)) (charge_budget (spent v)))
     → ((v : Value) → IsItem r v → holds_too_deep m v (f v) ≡ true → s.is_deep ≡ true)
-    → Gives s p (macro_code m k range part) c depth k (folded m f (range_of r)) (step_budget (1 + w + items_visits visits (range_of r))) (charge_budget (8 + x + items_spent spent (range_of r)))
+    → Gives s p (macro_code m k range part) c depth k (folded m f (range_of r)) (step_budget (1 + w + items_visits visits (range_of r))) (charge_budget (9 + x + items_spent spent (range_of r)))
 
 -- `map` with a predicate, whose value for v is t v; the transform runs where that is true
 abbrev pub MapWhereGives : Type 0
@@ -75,4 +75,4 @@ MapWhereGives = (s : Setting) (p k depth : ℕ) (range predicate transform : Lis
     → ((v : Value) → IsItem r v → Gives s (p + size range + 17) predicate (with_item c k n v) depth (k + 5) (t v) (step_budget (visits v)) (charge_budget (spent v)))
     → ((v : Value) → IsItem r v → truth (t v) ≡ Yes → Gives s (p + size range + 17 + size predicate + 2) transform (with_item c k n v) depth (k + 5) (f v) (step_budget (visits_then v)) (charge_budget (spent_then v)))
     → ((v : Value) → IsItem r v → truth (t v) ≡ Yes → is_too_deep (f v) ≡ true → s.is_deep ≡ true)
-    → Gives s p (map_where_code k range predicate transform) c depth k (folded_map (λ v. truth (t v)) f (range_of r)) (step_budget (1 + w + items_visits (λ v. visits v + chosen (truth (t v)) (visits_then v) 0 0) (range_of r))) (charge_budget (8 + x + items_spent (λ v. spent v + chosen (truth (t v)) (spent_then v) 0 0) (range_of r)))
+    → Gives s p (map_where_code k range predicate transform) c depth k (folded_map (λ v. truth (t v)) f (range_of r)) (step_budget (1 + w + items_visits (λ v. visits v + chosen (truth (t v)) (visits_then v) 0 0) (range_of r))) (charge_budget (9 + x + items_spent (λ v. spent v + chosen (truth (t v)) (spent_then v) 0 0) (range_of r)))
