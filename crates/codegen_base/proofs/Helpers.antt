@@ -26,6 +26,7 @@ use Rattle.value_store.specs.Lookup.{has_key}
 use Rattle.value_store.specs.Seen.{seen}
 use Rattle.value_store.specs.Size.{depth_of, result_depth}
 use Rattle.value_store.specs.Value.{Value, ValueOrError, error, value, null, boolean, int, text, list, map, Items, Entries, no_items, no_entries, items_join, list_of, keys_of}
+use Rattle.cel_macros.specs.Arithmetic.{int_part}
 use Rattle.cel_macros.specs.Comparison.{equal_of, less_of, member_of, truth_or_error}
 use Rattle.cel_macros.specs.Environment.{Roots, value_or_error}
 use Rattle.cel_macros.specs.FoldMeaning.{pushed}
@@ -410,6 +411,21 @@ text_of_int_places : (roots : Roots) (b : Body) (z : ℤ) → HasValues roots b.
 unfolding of_number row_of text_of_int_row
 text_of_int_places roots b z values named = unary roots b values (pos 22) (value (int z)) (value (text (signed_decimal z))) (length (signed_decimal z)) text_of_int_row (λ a c d e f. refl) (Placed (text (signed_decimal z)) refl refl) named
 
+-- what is no int has no decimal text
+no_decimal : (x : ValueOrError) → int_part x ≡ None → IsNamed error 0 (text_of_int_row x)
+unfolding text_of_int_row
+no_decimal error e = Missing refl refl
+no_decimal (value null) e = Missing refl refl
+no_decimal (value (boolean b)) e = Missing refl refl
+no_decimal (value (int z)) e = absurd (cc)
+no_decimal (value (text s)) e = Missing refl refl
+no_decimal (value (list is)) e = Missing refl refl
+no_decimal (value (map es)) e = Missing refl refl
+
+no_text_places : (roots : Roots) (b : Body) (x : ValueOrError) → HasValues roots b.values → Holding b R1 x → int_part x ≡ None → Places (pos 22) b error 1
+unfolding of_number row_of
+no_text_places roots b x values named none = unary roots b values (pos 22) x error 0 text_of_int_row (λ a c d e f. refl) (no_decimal x none) named
+
 not_places : Unary (pos 23) not_of
 unfolding of_number row_of not_row
 not_places roots b x values named = unary roots b values (pos 23) x (not_of x) 0 not_row (λ a c d e f. refl) (by_truth roots b values (not_of x) (option_map not (truth_part (seen x))) (not_is x)) named
@@ -442,5 +458,6 @@ helpers = record {
   count = count_tells;
   no_count = no_count_tells;
   text_of_int = text_of_int_places;
+  no_text_of_int = no_text_places;
   not = not_places;
 }

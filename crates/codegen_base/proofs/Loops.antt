@@ -62,7 +62,7 @@ fold_last f is_last acc (v ∷ vs) law last = ap (λ (a : ValueOrError). fold_le
 
 -- ---- a range that is named in a table has few items
 
-all_at : (n : ℕ) (vs : List ValueOrError) (r : ℕ) (x : ValueOrError) → All (IsResultBounded n) vs → slice_get vs r ≡ Some x → IsResultBounded n x
+pub all_at : (n : ℕ) (vs : List ValueOrError) (r : ℕ) (x : ValueOrError) → All (IsResultBounded n) vs → slice_get vs r ≡ Some x → IsResultBounded n x
 all_at n [] r x all e = absurd (cc)
 all_at n (v ∷ vs) zero x all e = let same : v ≡ x = cc in subst (IsResultBounded n) same (All-head (IsResultBounded n) v vs all)
 all_at n (v ∷ vs) (suc r) x all e = all_at n vs r x (All-tail (IsResultBounded n) v vs all) e

@@ -12,7 +12,8 @@ use Rattle.insn_codec.specs.declared.register.Register.TheVariants.{R1, R2, R3}
 use Rattle.value_store.specs.Calls.{joined}
 use Rattle.value_store.specs.Seen.{seen}
 use Rattle.value_store.specs.Size.{result_depth}
-use Rattle.value_store.specs.Value.{Value, ValueOrError, value, int, text, list, map, no_items, no_entries, list_of}
+use Rattle.value_store.specs.Value.{Value, ValueOrError, error, value, int, text, list, map, no_items, no_entries, list_of}
+use Rattle.cel_macros.specs.Arithmetic.{int_part}
 use Rattle.cel_macros.specs.Comparison.{equal_of, less_of, member_of}
 use Rattle.cel_macros.specs.Environment.{Roots, value_or_error}
 use Rattle.cel_macros.specs.FoldMeaning.{pushed}
@@ -85,4 +86,5 @@ pub record HelpersAnswer : Type 0 where
   pub count : (roots : Roots) (b : Body) (x : ValueOrError) (items : List Value) → HasValues roots b.values → Holding b R1 x → range_of x ≡ Some items → Tells (pos 21) b (length items) 1
   pub no_count : (roots : Roots) (b : Body) (x : ValueOrError) → HasValues roots b.values → Holding b R1 x → range_of x ≡ None → Tells (pos 21) b 0xffff_ffff_ffff_ffff 1
   pub text_of_int : (roots : Roots) (b : Body) (z : ℤ) → HasValues roots b.values → Holding b R1 (value (int z)) → Places (pos 22) b (value (text (signed_decimal z))) (1 + length (signed_decimal z))
+  pub no_text_of_int : (roots : Roots) (b : Body) (x : ValueOrError) → HasValues roots b.values → Holding b R1 x → int_part x ≡ None → Places (pos 22) b error 1
   pub not : Unary (pos 23) not_of

@@ -1,0 +1,192 @@
+-- The code of sums and differences gives their meaning.
+use Rattle.std.proofs.Common.{◌≡◌, ℕ, ◌+◌, ◌<◌, List, [], ◌∷◌, ◌++◌, Option, Some, None, refl, sym, ap, ◌∙◌, subst, arith, inl, inr}
+use Rattle.std.specs.Prelude.{◌⊎◌, ℤ, pos, ◌+ℤ◌, FitsSigned, slice_get}
+use Rattle.std.specs.Int.{w64}
+use Rattle.std.proofs.lemmas.Int.{ints}
+use Rattle.helper_table.specs.Laws.{Names}
+use Rattle.helper_table.specs.Tables.{IsResultBounded}
+use Rattle.insn_codec.specs.declared.insn.Insn.{Insn}
+use Rattle.insn_codec.specs.declared.insn.Insn.TheVariants.{Call}
+use Rattle.insn_codec.specs.declared.register.Register.TheVariants.{R0, R1, R2, R6, R7}
+use Rattle.value_store.specs.Calls.{joined}
+use Rattle.value_store.specs.Value.{Value, ValueOrError, error, value, null, boolean, int, text, list, map, Items}
+use Rattle.cel_macros.specs.Arithmetic.{difference, difference_of, int_or_error, int_part, on_ints, sum_of}
+use Rattle.codegen_base.specs.Body.{Body, set_register}
+use Rattle.codegen_base.specs.Calls.{answered}
+use Rattle.codegen_base.specs.Code.Arithmetic.{difference_code, difference_tail, int_operands, sum_code, sum_tail}
+use Rattle.codegen_base.specs.Contexts.{Context, Fits, Shows}
+use Rattle.codegen_base.specs.Engine.{Setting, Comes}
+use Rattle.codegen_base.specs.Gives.Arithmetic.{AdditionsGive}
+use Rattle.codegen_base.specs.Gives.Comparison.{TailGives}
+use Rattle.codegen_base.specs.Helpers.{join_of, joined_length}
+use Rattle.codegen_base.specs.Instructions as insn
+use Rattle.codegen_base.specs.Operators.{Combines}
+use Rattle.codegen_base.specs.Pieces.{Stands, size, slots}
+use Rattle.codegen_base.specs.Words.{word_at}
+use Rattle.codegen_base.proofs.Frames.{keeps_then, shows_registers}
+use Rattle.codegen_base.proofs.Helpers.{helpers}
+use Rattle.codegen_base.proofs.Listings.{ask, mov}
+use Rattle.codegen_base.proofs.Loops.{all_at}
+use Rattle.codegen_base.proofs.Operands.{are_ints, are_others, int_is}
+use Rattle.codegen_base.proofs.Operators.{shows_placed}
+use Rattle.codegen_base.proofs.Pieces.{size-append, stands_back, stands_front}
+use Rattle.codegen_base.proofs.Runs.{and_then, done, from_place, into, looser, to_place}
+use Rattle.codegen_base.proofs.Steps as step
+use Rattle.codegen_base.proofs.Sums.{OnInts, difference_runs, sum_runs}
+use Rattle.codegen_base.proofs.Values.{names_error}
+
+-- an int that is named in a table fits
+pub int_fits : (c : Context) (depth base r : ℕ) (x : ValueOrError) (z : ℤ) (b : Body) → Fits c depth base b → Names b.values.values r x → int_part x ≡ Some z → FitsSigned w64 z
+int_fits c depth base r x z b fits named is = subst (IsResultBounded b.values.charge) (int_is x z is) (all_at b.values.charge b.values.values r x fits.values.table.bounded named)
+
+-- ---- operands that are to be ints, and a piece that ends with the error for others
+
+module _ (f : ℤ → ℤ → ValueOrError) (s : Setting) (p k off : ℕ) (tail : List Insn) (c : Context) (depth steps charge : ℕ) (x y : ValueOrError) (low : k < 64) (long : size tail ≡ off + 1) (error_at : slice_get (slots tail) off ≡ Some (Some (insn.put R0 (pos 0)))) (gives : (m n : ℤ) → OnInts s (p + 14) tail c depth k m n (f m n) steps charge) (has : Stands s.image.code p (int_operands k off ++ tail)) (b : Body) (fits : Fits c depth k b) (left : Names b.values.values (word_at depth k b) x) (right : Names b.values.values (b.registers R0) y) where
+  abbrev whole : ℕ
+  whole = p + size (int_operands k off ++ tail)
+
+  has_operands : Stands s.image.code p (int_operands k off)
+  has_operands = stands_front s.image.code p (int_operands k off) tail has
+
+  has_tail : Stands s.image.code (p + 14) tail
+  has_tail = stands_back s.image.code p (int_operands k off) tail has
+
+  place : p + 14 + size tail ≡ whole
+  place = omega (arith, size-append (int_operands k off) tail)
+
+  of_others : (int_part x ≡ None) ⊎ (int_part y ≡ None) → Comes s (14 + steps) (4 + charge) p b whole (Shows c depth k error b)
+  of_others none =
+      to_place s whole place
+      (looser s {n = 8 + 1} {x = 2 + 0} (14 + steps) (4 + charge) (omega arith) (omega arith)
+      (and_then s 1 0 (p + 14 + size tail) (Shows c depth k error b) (are_others s c depth k p off low has_operands b fits x y left right (int_part x) (int_part y) refl refl none) (λ b1 g1.
+      from_place s (p + (14 + off)) (omega arith)
+      (to_place s (p + 14 + size tail) (omega arith)
+      (mov has_tail off error_at refl
+      (done s (p + 14 + (off + 1)) _ (Shows c depth k error b) (
+      let shown = shows_registers c depth k b1 (set_register b1 R0 0).registers refl error g1.fitting (names_error b1.values g1.fitting.values.table.store) in
+      record { shows = shown.shows; fits = shown.fits; keeps = keeps_then (omega arith) g1.keeps shown.keeps }
+      )))))))
+
+  of_ints : (m n : ℤ) → int_part x ≡ Some m → int_part y ≡ Some n → Comes s (14 + steps) (4 + charge) p b whole (Shows c depth k (f m n) b)
+  of_ints m n is_x is_y =
+      to_place s whole place
+      (and_then s steps charge (p + 14 + size tail) (Shows c depth k (f m n) b) (are_ints s c depth k p off low has_operands b fits x y left right m n is_x is_y) (λ b1 g1.
+      into s (Shows c depth k (f m n) b) (λ b2 g2. record { shows = g2.shows; fits = g2.fits; keeps = keeps_then (omega arith) g1.keeps g2.keeps })
+      ((gives m n).runs b1 has_tail g1.fitting g1.first g1.second (int_fits c depth k (word_at depth k b) x m b fits left is_x) (int_fits c depth k (b.registers R0) y n b fits right is_y))))
+
+  by_parts : (m n : Option ℤ) → int_part x ≡ m → int_part y ≡ n → Comes s (14 + steps) (4 + charge) p b whole (Shows c depth k (on_ints f m n) b)
+  by_parts (Some m) (Some n) is_x is_y = of_ints m n is_x is_y
+  by_parts (Some m) None is_x is_y = of_others (inr is_y)
+  by_parts None n is_x is_y = of_others (inl is_x)
+
+  pub ints_run : Comes s (14 + steps) (4 + charge) p b whole (Shows c depth k (on_ints f (int_part x) (int_part y)) b)
+  ints_run = by_parts (int_part x) (int_part y) refl refl
+
+-- a piece for two ints makes a piece for any operands
+pub ints_give : (f : ℤ → ℤ → ValueOrError) (s : Setting) (p k off : ℕ) (tail : List Insn) (c : Context) (depth steps charge : ℕ) (x y : ValueOrError) → k < 64 → size tail ≡ off + 1 → slice_get (slots tail) off ≡ Some (Some (insn.put R0 (pos 0))) → ((m n : ℤ) → OnInts s (p + 14) tail c depth k m n (f m n) steps charge) → Combines s p (int_operands k off ++ tail) c depth k x y (on_ints f (int_part x) (int_part y)) (14 + steps) (4 + charge)
+ints_give f s p k off tail c depth steps charge x y low long error_at gives = record { runs = λ b has fits left right. ints_run f s p k off tail c depth steps charge x y low long error_at gives has b fits left right }
+
+pub difference_gives : TailGives difference_code difference_of 21 5
+difference_gives s p k c depth x y low =
+    ints_give difference s p k 8 difference_tail c depth 7 1 x y low refl refl (λ m n. difference_runs s (p + 14) c depth k m n (omega arith))
+
+-- ---- `+`
+
+list_sum : (is : Items) (y : ValueOrError) → sum_of (value (list is)) y ≡ join_of (value (list is)) y
+list_sum is error = refl
+list_sum is (value null) = refl
+list_sum is (value (boolean b)) = refl
+list_sum is (value (int z)) = refl
+list_sum is (value (text s)) = refl
+list_sum is (value (list js)) = refl
+list_sum is (value (map es)) = refl
+
+text_sum : (s : List ℕ) (y : ValueOrError) → sum_of (value (text s)) y ≡ join_of (value (text s)) y
+text_sum s error = refl
+text_sum s (value null) = refl
+text_sum s (value (boolean b)) = refl
+text_sum s (value (int z)) = refl
+text_sum s (value (text t)) = refl
+text_sum s (value (list js)) = refl
+text_sum s (value (map es)) = refl
+
+int_sum : (z : ℤ) (y : ValueOrError) → int_part y ≡ None → sum_of (value (int z)) y ≡ join_of (value (int z)) y
+int_sum z error e = refl
+int_sum z (value null) e = refl
+int_sum z (value (boolean b)) e = refl
+int_sum z (value (int a)) e = absurd (cc)
+int_sum z (value (text t)) e = refl
+int_sum z (value (list js)) e = refl
+int_sum z (value (map es)) e = refl
+
+none_sum : (v : Value) (y : ValueOrError) → sum_of (value v) y ≡ error → join_of (value v) y ≡ error → sum_of (value v) y ≡ join_of (value v) y
+none_sum v y e f = e ∙ sym f
+
+-- all but two ints is joined
+sum_is : (x y : ValueOrError) → (int_part x ≡ None) ⊎ (int_part y ≡ None) → sum_of x y ≡ join_of x y
+sum_is error y none = refl
+sum_is (value null) error none = refl
+sum_is (value null) (value v) none = refl
+sum_is (value (boolean b)) error none = refl
+sum_is (value (boolean b)) (value v) none = refl
+sum_is (value (int z)) y (inl e) = absurd (cc)
+sum_is (value (int z)) y (inr e) = int_sum z y e
+sum_is (value (text s)) y none = text_sum s y
+sum_is (value (list is)) y none = list_sum is y
+sum_is (value (map es)) error none = refl
+sum_is (value (map es)) (value v) none = refl
+
+module _ (s : Setting) (p k : ℕ) (c : Context) (depth : ℕ) (x y : ValueOrError) (low : k < 64) (has : Stands s.image.code p (sum_code k)) (b : Body) (fits : Fits c depth k b) (left : Names b.values.values (word_at depth k b) x) (right : Names b.values.values (b.registers R0) y) where
+  abbrev rest : List Insn
+  rest = sum_tail ++ insn.skip 3 ∷ insn.copy R1 R6 ∷ insn.copy R2 R7 ∷ Call (pos 11) ∷ []
+
+  abbrev cost : ℕ
+  cost = 5 + joined_length (joined (Some x) (Some y))
+
+  has_both : Stands s.image.code p (int_operands k 10)
+  has_both = stands_front s.image.code p (int_operands k 10) rest has
+
+  has_rest : Stands s.image.code (p + 14) rest
+  has_rest = stands_back s.image.code p (int_operands k 10) rest has
+
+  of_joined : (int_part x ≡ None) ⊎ (int_part y ≡ None) → Comes s 22 cost p b (p + 27) (Shows c depth k (sum_of x y) b)
+  of_joined none =
+      looser s {n = 8 + 3} {x = 2 + (1 + joined_length (joined (Some x) (Some y)) + 0)} 22 cost (omega arith) (omega arith)
+      (and_then s 3 (1 + joined_length (joined (Some x) (Some y)) + 0) (p + 27) (Shows c depth k (sum_of x y) b) (are_others s c depth k p 10 low has_both b fits x y left right (int_part x) (int_part y) refl refl none) (λ b1 g1.
+      let asks = set_register (set_register b1 R1 (b1.registers R6)) R2 (b1.registers R7) in
+      let fits1 = g1.fitting in
+      let a = helpers.join c.environment.roots asks x y fits1.values g1.first g1.second in
+      let last = answered asks a.word a.list (b1.values.charge + (1 + joined_length (joined (Some x) (Some y)))) in
+      from_place s (p + (14 + 10)) (omega arith)
+      (mov has_rest 10 refl refl
+      (mov has_rest 11 refl refl
+      (ask has_rest 12 refl a.answers (λ paid.
+      to_place s (p + 27) (omega arith)
+      (done s (p + 14 + 13) last (Shows c depth k (sum_of x y) b) (
+      let shown = shows_placed c depth k (pos 11) (join_of x y) (1 + joined_length (joined (Some x) (Some y))) b1 asks.registers (omega arith) refl fits1 a paid in
+      record { shows = subst (Names last.values.values (last.registers R0)) (sym (sum_is x y none)) shown.shows; fits = shown.fits; keeps = keeps_then (omega arith) g1.keeps shown.keeps }
+      ))))))))
+
+  of_summed : (m n : ℤ) → int_part x ≡ Some m → int_part y ≡ Some n → Comes s 22 cost p b (p + 27) (Shows c depth k (int_or_error (m +ℤ n)) b)
+  of_summed m n is_x is_y =
+      let Q = Shows c depth k (int_or_error (m +ℤ n)) b in
+      looser s {n = 14 + (7 + 1)} {x = 4 + (1 + 0)} 22 cost (omega arith) (omega arith)
+      (and_then s (7 + 1) (1 + 0) (p + 27) Q (are_ints s c depth k p 10 low has_both b fits x y left right m n is_x is_y) (λ b1 g1.
+      and_then s 1 0 (p + 27) Q ((sum_runs s (p + 14) c depth k m n (omega arith)).runs b1 (stands_front s.image.code (p + 14) sum_tail _ has_rest) g1.fitting g1.first g1.second (int_fits c depth k (word_at depth k b) x m b fits left is_x) (int_fits c depth k (b.registers R0) y n b fits right is_y)) (λ b2 g2.
+      step.jump s (p + 14 + 9) (p + 27) b2 (pos 3) (has_rest.here 9 _ refl) (omega (arith, ints))
+      (done s (p + 27) b2 Q (record { shows = g2.shows; fits = g2.fits; keeps = keeps_then (omega arith) g1.keeps g2.keeps })))))
+
+  by_addends : (m n : Option ℤ) → int_part x ≡ m → int_part y ≡ n → Comes s 22 cost p b (p + 27) (Shows c depth k (sum_of x y) b)
+  by_addends (Some m) (Some n) is_x is_y =
+      subst (λ (z : ValueOrError). Comes s 22 cost p b (p + 27) (Shows c depth k z b)) (sym (ap (λ (u : ValueOrError). sum_of u y) (int_is x m is_x) ∙ ap (sum_of (value (int m))) (int_is y n is_y))) (of_summed m n is_x is_y)
+  by_addends (Some m) None is_x is_y = of_joined (inr is_y)
+  by_addends None n is_x is_y = of_joined (inl is_x)
+
+  pub sum_run : Comes s 22 cost p b (p + 27) (Shows c depth k (sum_of x y) b)
+  sum_run = by_addends (int_part x) (int_part y) refl refl
+
+pub sum_gives : (s : Setting) (p k : ℕ) (c : Context) (depth : ℕ) (x y : ValueOrError) → k < 64 → Combines s p (sum_code k) c depth k x y (sum_of x y) 22 (5 + joined_length (joined (Some x) (Some y)))
+sum_gives s p k c depth x y low = record { runs = λ b has fits left right. sum_run s p k c depth x y low has b fits left right }
+
+pub additions_give : AdditionsGive
+additions_give = record { sum = sum_gives; difference = difference_gives }

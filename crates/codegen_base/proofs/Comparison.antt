@@ -1,0 +1,74 @@
+-- The code of comparisons and of membership gives their meaning.
+use Rattle.std.proofs.Common.{◌≡◌, ℕ, ◌+◌, ◌<◌, List, Option, Some, None, Bool, true, false, not, refl, subst, arith}
+use Rattle.std.specs.Prelude.{pos, option_map}
+use Rattle.insn_codec.specs.declared.insn.Insn.{Insn}
+use Rattle.value_store.specs.Equality.{equal}
+use Rattle.value_store.specs.Order.{less}
+use Rattle.value_store.specs.Value.{ValueOrError, error, value}
+use Rattle.cel_macros.specs.Comparison.{equal_of, greater_equal_of, greater_of, less_equal_of, less_of, member_of, truth_or_error, unequal_of}
+use Rattle.cel_macros.specs.Logic.{not_of}
+use Rattle.codegen_base.specs.Code.Comparison.{equal_tail, greater_equal_tail, greater_tail, less_equal_tail, less_tail, opposite_of, unequal_tail}
+use Rattle.codegen_base.specs.Code.Logic.{not_tail}
+use Rattle.codegen_base.specs.Contexts.{Context}
+use Rattle.codegen_base.specs.Engine.{Setting}
+use Rattle.codegen_base.specs.Gives.Comparison.{ComparisonGives, TailGives}
+use Rattle.codegen_base.specs.Operators.{Combines}
+use Rattle.codegen_base.specs.Pieces.{size}
+use Rattle.codegen_base.proofs.Helpers.{helpers}
+use Rattle.codegen_base.proofs.Logic.{logic_gives}
+use Rattle.codegen_base.proofs.Operators.{calls_give, combines_then}
+
+-- the opposite of a test's answer
+not_test : (o : Option Bool) → not_of (truth_or_error o) ≡ truth_or_error (option_map not o)
+not_test (Some true) = refl
+not_test (Some false) = refl
+not_test None = refl
+
+unequal_is : (x y : ValueOrError) → not_of (equal_of x y) ≡ unequal_of x y
+unequal_is error y = refl
+unequal_is (value v) error = refl
+unequal_is (value v) (value w) = not_test (Some (equal v w))
+
+greater_is : (x y : ValueOrError) → less_of y x ≡ greater_of x y
+greater_is error error = refl
+greater_is error (value w) = refl
+greater_is (value v) error = refl
+greater_is (value v) (value w) = refl
+
+less_equal_is : (x y : ValueOrError) → not_of (less_of y x) ≡ less_equal_of x y
+less_equal_is error error = refl
+less_equal_is error (value w) = refl
+less_equal_is (value v) error = refl
+less_equal_is (value v) (value w) = not_test (less w v)
+
+greater_equal_is : (x y : ValueOrError) → not_of (less_of x y) ≡ greater_equal_of x y
+greater_equal_is error y = refl
+greater_equal_is (value v) error = refl
+greater_equal_is (value v) (value w) = not_test (less v w)
+
+-- a tail whose meaning has another form
+same_tail : (s : Setting) (p k : ℕ) (tail : List Insn) (c : Context) (depth : ℕ) (x y z w : ValueOrError) (n m : ℕ) → z ≡ w → Combines s p tail c depth k x y z n m → Combines s p tail c depth k x y w n m
+same_tail s p k tail c depth x y z w n m e h = subst (λ (v : ValueOrError). Combines s p tail c depth k x y v n m) e h
+
+opposite_gives : (s : Setting) (p k : ℕ) (tail : List Insn) (c : Context) (depth : ℕ) (x y z : ValueOrError) → k < 64 → Combines s p tail c depth k x y z 3 1 → Combines s p (opposite_of tail) c depth k x y (not_of z) 5 2
+opposite_gives s p k tail c depth x y z low h = combines_then s p k tail not_tail c depth x y z (not_of z) 3 1 2 1 h (logic_gives.not s (p + size tail) c depth k z (omega arith))
+
+equal_gives : TailGives equal_tail equal_of 3 1
+equal_gives s p k c depth x y low = calls_give.two s p k (pos 9) equal_of c depth x y low helpers.equal
+
+less_gives : TailGives less_tail less_of 3 1
+less_gives s p k c depth x y low = calls_give.two s p k (pos 10) less_of c depth x y low helpers.less
+
+swapped_gives : (s : Setting) (p k : ℕ) (c : Context) (depth : ℕ) (x y : ValueOrError) → k < 64 → Combines s p (greater_tail k) c depth k x y (less_of y x) 3 1
+swapped_gives s p k c depth x y low = calls_give.swapped s p k (pos 10) less_of c depth x y low helpers.less
+
+pub comparison_gives : ComparisonGives
+comparison_gives = record {
+  equal = equal_gives;
+  unequal = λ s p k c depth x y low. same_tail s p k (unequal_tail k) c depth x y _ _ 5 2 (unequal_is x y) (opposite_gives s p k (equal_tail k) c depth x y _ low (equal_gives s p k c depth x y low));
+  less = less_gives;
+  less_equal = λ s p k c depth x y low. same_tail s p k (less_equal_tail k) c depth x y _ _ 5 2 (less_equal_is x y) (opposite_gives s p k (greater_tail k) c depth x y _ low (swapped_gives s p k c depth x y low));
+  greater = λ s p k c depth x y low. same_tail s p k (greater_tail k) c depth x y _ _ 3 1 (greater_is x y) (swapped_gives s p k c depth x y low);
+  greater_equal = λ s p k c depth x y low. same_tail s p k (greater_equal_tail k) c depth x y _ _ 5 2 (greater_equal_is x y) (opposite_gives s p k (less_tail k) c depth x y _ low (less_gives s p k c depth x y low));
+  member = λ s p k c depth x y low. calls_give.two s p k (pos 15) member_of c depth x y low helpers.member;
+}

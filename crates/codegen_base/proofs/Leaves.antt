@@ -1,0 +1,118 @@
+-- The code of literals without parts and of names gives their meaning.
+use Rattle.std.proofs.Common.{◌≡◌, ℕ, ◌+◌, ◌≤◌, List, length, Option, Some, None, Bool, true, false, refl, ap, subst, arith}
+use Rattle.std.specs.Prelude.{ℤ, pos, FitsSigned, bytes_eq, codes, if◌then◌else◌}
+use Rattle.std.specs.Int.{w64, cast_signed, cast_unsigned}
+use Rattle.std.specs.Str.{is_utf8}
+use Rattle.std.proofs.lemmas.Int.{to_z-of_z}
+use Rattle.helper_table.specs.Laws.{Names}
+use Rattle.insn_codec.specs.declared.register.Register.TheVariants.{R1, R2}
+use Rattle.value_store.specs.Placing.{Contents}
+use Rattle.value_store.specs.Value.{Value, ValueOrError, error, value, null, boolean, int, text}
+use Rattle.cel_macros.specs.Environment.{Roots, item_or_root, lookup, name_value, root_bindings, value_or_error}
+use Rattle.codegen_base.specs.Body.{Body, set_register}
+use Rattle.codegen_base.specs.Calls.{Places}
+use Rattle.codegen_base.specs.Code.Literals.{int_code, text_code, truth_code}
+use Rattle.codegen_base.specs.Code.Names.{held_code, name_code, reference_code, reference_or_error, root_reference}
+use Rattle.codegen_base.specs.Contexts.{Context, Fits, Gives, HasValues, IsHeld, Shows}
+use Rattle.codegen_base.specs.Engine.{Setting, Comes}
+use Rattle.codegen_base.specs.Gives.Leaves.{LeavesGive}
+use Rattle.codegen_base.specs.Gives.Selection.{HasText}
+use Rattle.codegen_base.specs.Helpers.{Lends}
+use Rattle.codegen_base.specs.Pieces.{Stands, size}
+use Rattle.codegen_base.proofs.Frames.{fits_registers, shows_registers}
+use Rattle.codegen_base.proofs.Helpers.{helpers}
+use Rattle.codegen_base.proofs.Ints.{word_small}
+use Rattle.codegen_base.proofs.Listings.{ask, begins, load, load_wide, mov}
+use Rattle.codegen_base.proofs.Operators.{shows_placed}
+use Rattle.codegen_base.proofs.Runs.{done, looser}
+use Rattle.codegen_base.proofs.Values.{names_error, names_no, names_null, names_yes}
+
+-- a reference that names the value in every body that fits
+reference_gives : (s : Setting) (p : ℕ) (c : Context) (depth base : ℕ) (r : ℤ) (x : ValueOrError) → ((b : Body) → Fits c depth base b → Names b.values.values (cast_unsigned w64 r) x) → Gives s p (reference_code r) c depth base x 1 0
+reference_gives s p c depth base r x named = record {
+  runs = λ b has fits.
+      begins has
+      (mov has 0 refl refl
+      (done s (p + 1) _ _ (shows_registers c depth base b _ refl x fits (named b fits))));
+}
+
+truth_gives : (s : Setting) (p : ℕ) (c : Context) (depth base : ℕ) (t : Bool) → Gives s p (truth_code t) c depth base (value (boolean t)) 1 0
+truth_gives s p c depth base false = reference_gives s p c depth base (pos 2) (value (boolean false)) (λ b fits. names_no b.values fits.values.table.store)
+truth_gives s p c depth base true = reference_gives s p c depth base (pos 3) (value (boolean true)) (λ b fits. names_yes b.values fits.values.table.store)
+
+int_gives : (s : Setting) (p : ℕ) (c : Context) (depth base : ℕ) (z : ℤ) → base ≤ 64 → FitsSigned w64 z → Gives s p (int_code z) c depth base (value (int z)) 2 1
+int_gives s p c depth base z low h = record {
+  runs = λ b has fits.
+      let w = cast_unsigned w64 z in
+      let asks = set_register b R1 w in
+      let fits1 = fits_registers c depth base b asks.registers refl fits in
+      let same : value (int (cast_signed w64 w)) ≡ value (int z) = ap (λ (i : ℤ). value (int i)) (to_z-of_z w64 z h) in
+      let a = subst (λ (x : ValueOrError). Places (pos 3) asks x 1) same (helpers.int_new c.environment.roots asks fits1.values (word_small z h)) in
+      begins has
+      (load_wide has 0 refl refl
+      (ask has 2 refl a.answers (λ paid.
+      done s (p + 3) _ _ (shows_placed c depth base (pos 3) (value (int z)) 1 b asks.registers low refl fits a paid))));
+}
+
+text_gives : (s : Setting) (p : ℕ) (c : Context) (depth base : ℕ) (address : ℕ) (t : List ℕ) → base ≤ 64 → HasText c.constants address t → is_utf8 t ≡ true → Gives s p (text_code address (length t)) c depth base (value (text t)) 3 (1 + length t)
+text_gives s p c depth base address t low h utf8 = record {
+  runs = λ b has fits.
+      let asks = set_register (set_register b R1 address) R2 (length t) in
+      let fits1 = fits_registers c depth base b asks.registers refl fits in
+      let lends : Lends asks R1 R2 t = record { bytes_are = rw (fits.constants) h.bytes_are; address = h.address_is_word; count = h.length_is_word } in
+      let a = helpers.text_const c.environment.roots asks t fits1.values lends utf8 in
+      looser s {n = 3} {x = 1 + length t + 0} 3 (1 + length t) (omega arith) (omega arith) (begins has
+      (load_wide has 0 refl refl
+      (load_wide has 2 refl refl
+      (ask has 4 refl a.answers (λ paid.
+      done s (p + 5) _ _ (shows_placed c depth base (pos 4) (value (text t)) (1 + length t) b asks.registers low refl fits a paid))))));
+}
+
+-- ---- names
+
+-- the reference of a root, by which of the names is its own
+root_by : (roots : Roots) (values : Contents) → HasValues roots values → (t u v w x : Bool)
+    → Names values.values (cast_unsigned w64 (reference_or_error (if t then Some (pos 4) else if u then Some (pos 5) else if v then Some (pos 6) else if w then Some (pos 7) else if x then Some (pos 8) else None)))
+    (value_or_error (if t then Some roots.object else if u then Some roots.old_object else if v then Some roots.params else if w then Some roots.namespace_object else if x then Some roots.request else None))
+root_by roots values h true u v w x = h.stand.object
+root_by roots values h false true v w x = h.stand.old_object
+root_by roots values h false false true w x = h.stand.params
+root_by roots values h false false false true x = h.stand.namespace_object
+root_by roots values h false false false false true = h.stand.request
+root_by roots values h false false false false false = names_error values h.table.store
+
+root_named : (roots : Roots) (values : Contents) (n : List ℕ) → HasValues roots values → Names values.values (cast_unsigned w64 (root_reference n)) (value_or_error (lookup n (root_bindings roots)))
+unfolding root_reference
+root_named roots values n h = root_by roots values h (bytes_eq (codes "object") n) (bytes_eq (codes "oldObject") n) (bytes_eq (codes "params") n) (bytes_eq (codes "namespaceObject") n) (bytes_eq (codes "request") n)
+
+module _ (s : Setting) (p : ℕ) (c : Context) (depth base : ℕ) (low : base ≤ 64) (b : Body) (fits : Fits c depth base b) (r : ℤ) (root : Option Value) (named : Names b.values.values (cast_unsigned w64 r) (value_or_error root)) where
+  held_runs : (word : Option ℕ) (item : Option Value) → IsHeld depth base b word item → Stands s.image.code p (held_code word r) → Comes s 1 0 p b (p + size (held_code word r)) (Shows c depth base (item_or_root item root) b)
+  held_runs (Some k) (Some v) held has =
+      let below = held.0 in
+      begins has
+      (load has 0 k refl fits.frame (omega arith) refl
+      (done s (p + 1) _ _ (shows_registers c depth base b _ refl (value v) fits held.1)))
+  held_runs None None held has =
+      begins has
+      (mov has 0 refl refl
+      (done s (p + 1) _ _ (shows_registers c depth base b _ refl (value_or_error root) fits named)))
+  held_runs (Some k) None held has = absurd held
+  held_runs None (Some v) held has = absurd held
+
+name_gives : (s : Setting) (p : ℕ) (c : Context) (depth base : ℕ) (n : List ℕ) → base ≤ 64 → Gives s p (name_code n c.words) c depth base (name_value n c.environment) 1 0
+unfolding name_value
+name_gives s p c depth base n low = record {
+  runs = λ b has fits.
+      let roots = c.environment.roots in
+      held_runs s p c depth base low b fits (root_reference n) (lookup n (root_bindings roots)) (root_named roots b.values n fits.values) (lookup n c.words) (lookup n c.environment.items) (fits.holds.names n) has;
+}
+
+pub leaves_give : LeavesGive
+leaves_give = record {
+  null = λ s p c depth base low. reference_gives s p c depth base (pos 1) (value null) (λ b fits. names_null b.values fits.values.table.store);
+  truth = λ s p c depth base t low. truth_gives s p c depth base t;
+  int = int_gives;
+  text = text_gives;
+  name = name_gives;
+  error = λ s p c depth base low. reference_gives s p c depth base (pos 0) error (λ b fits. names_error b.values fits.values.table.store);
+}

@@ -1,0 +1,21 @@
+-- Literals of null, truths, ints and texts.
+use Rattle.std.specs.Prelude.{ℕ, ℤ, pos, Bool, true, false, List, [], ◌∷◌}
+use Rattle.std.specs.Int.{w64, cast_unsigned}
+use Rattle.insn_codec.specs.declared.insn.Insn.{Insn}
+use Rattle.insn_codec.specs.declared.insn.Insn.TheVariants.{Call}
+use Rattle.insn_codec.specs.declared.register.Register.TheVariants.{R0, R1, R2}
+use Rattle.codegen_base.specs.Instructions.{load_wide, put}
+
+abbrev pub null_code : List Insn
+null_code = put R0 (pos 1) ∷ []
+
+abbrev pub truth_code : Bool → List Insn
+truth_code false = put R0 (pos 2) ∷ []
+truth_code true = put R0 (pos 3) ∷ []
+
+abbrev pub int_code : ℤ → List Insn
+int_code z = load_wide R1 (cast_unsigned w64 z) ∷ Call (pos 3) ∷ []
+
+-- a text of so many bytes, which begins at an address among the constants
+abbrev pub text_code : ℕ → ℕ → List Insn
+text_code address count = load_wide R1 address ∷ load_wide R2 count ∷ Call (pos 4) ∷ []

@@ -1,0 +1,34 @@
+-- Names: of items, which words of the frame hold, and of the roots, which stand at references of their own.
+use Rattle.std.specs.Prelude.{ℕ, ℤ, pos, List, [], ◌∷◌, Option, Some, None, codes}
+use Rattle.insn_codec.specs.declared.insn.Insn.{Insn}
+use Rattle.insn_codec.specs.declared.register.Register.TheVariants.{R0}
+use Rattle.cel_macros.specs.Environment.{lookup}
+use Rattle.codegen_base.specs.Instructions.{load, put}
+
+-- what a word of the frame names
+abbrev pub word_code : ℕ → List Insn
+word_code k = load R0 k ∷ []
+
+-- what stands at a reference of its own
+abbrev pub reference_code : ℤ → List Insn
+reference_code r = put R0 r ∷ []
+
+-- the references of the roots
+abbrev pub root_references : List (List ℕ × ℤ)
+root_references = (codes "object", pos 4) ∷ (codes "oldObject", pos 5) ∷ (codes "params", pos 6) ∷ (codes "namespaceObject", pos 7) ∷ (codes "request", pos 8) ∷ []
+
+abbrev pub reference_or_error : Option ℤ → ℤ
+reference_or_error (Some r) = r
+reference_or_error None = pos 0
+
+-- the reference of the root of this name, and the error's where there is none
+unfoldable pub root_reference : List ℕ → ℤ
+root_reference n = reference_or_error (lookup n root_references)
+
+-- an iteration name hides a root
+abbrev pub held_code : Option ℕ → ℤ → List Insn
+held_code (Some k) r = word_code k
+held_code None r = reference_code r
+
+abbrev pub name_code : List ℕ → List (List ℕ × ℕ) → List Insn
+name_code n words = held_code (lookup n words) (root_reference n)

@@ -1,0 +1,47 @@
+-- Selection, indices, and functions of texts and sizes.
+use Rattle.std.specs.Prelude.{ℕ, ℤ, pos, List, [], ◌∷◌}
+use Rattle.insn_codec.specs.declared.comparison.Comparison.TheVariants.{Ne}
+use Rattle.insn_codec.specs.declared.insn.Insn.{Insn}
+use Rattle.insn_codec.specs.declared.insn.Insn.TheVariants.{Call}
+use Rattle.insn_codec.specs.declared.register.Register.TheVariants.{R0, R1, R2, R3, R6}
+use Rattle.cel_macros.specs.Functions.{TextTest, StartsWith, EndsWith, Contains}
+use Rattle.codegen_base.specs.Instructions.{copy, load_wide, skip, skip_if}
+use Rattle.codegen_base.specs.Code.Calls.{call_one, call_two}
+
+-- the helper's answer on R0 and a text of so many bytes, which begins at an address among the constants
+abbrev pub call_with_text : ℤ → ℕ → ℕ → List Insn
+call_with_text helper address count = copy R1 R0 ∷ load_wide R2 address ∷ load_wide R3 count ∷ Call helper ∷ []
+
+abbrev pub field_tail : ℕ → ℕ → List Insn
+field_tail address count = call_with_text (pos 5) address count
+
+abbrev pub has_tail : ℕ → ℕ → List Insn
+has_tail address count = call_with_text (pos 6) address count
+
+abbrev pub index_tail : ℕ → List Insn
+index_tail k = call_two (pos 7) k
+
+abbrev pub size_tail : List Insn
+size_tail = call_one (pos 8)
+
+-- a text as it is, and of an int its decimal text
+abbrev pub string_tail : List Insn
+string_tail =
+    copy R6 R0
+    ∷ copy R1 R0
+    ∷ Call (pos 1)
+    ∷ skip_if Ne R0 (pos 4) 2
+    ∷ copy R0 R6
+    ∷ skip 2
+    ∷ copy R1 R6
+    ∷ Call (pos 22)
+    ∷ []
+
+-- the number of the helper that makes the test
+abbrev pub test_helper : TextTest → ℤ
+test_helper StartsWith = pos 12
+test_helper EndsWith = pos 13
+test_helper Contains = pos 14
+
+abbrev pub test_tail : TextTest → ℕ → List Insn
+test_tail t k = call_two (test_helper t) k

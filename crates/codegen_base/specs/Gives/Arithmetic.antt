@@ -1,0 +1,24 @@
+-- Arithmetic on ints, and joining.
+use Rattle.std.specs.Prelude.{ℕ, ◌+◌, ◌<◌, ◌≤◌, Some}
+use Rattle.insn_codec.specs.declared.alu_op.AluOp.TheVariants.{Sdiv, Smod}
+use Rattle.value_store.specs.Calls.{joined}
+use Rattle.value_store.specs.Value.{ValueOrError}
+use Rattle.cel_macros.specs.Arithmetic.{difference_of, negation_of, product_of, quotient_of, remainder_of, sum_of}
+use Rattle.codegen_base.specs.Code.Arithmetic.{difference_code, divided_code, negation_tail, product_code, sum_code}
+use Rattle.codegen_base.specs.Contexts.{Context}
+use Rattle.codegen_base.specs.Engine.{Setting}
+use Rattle.codegen_base.specs.Gives.Comparison.{TailGives}
+use Rattle.codegen_base.specs.Helpers.{joined_length}
+use Rattle.codegen_base.specs.Operators.{Combines, Converts}
+
+pub record AdditionsGive : Type 0 where
+  pub sum : (s : Setting) (p k : ℕ) (c : Context) (depth : ℕ) (x y : ValueOrError) → k < 64 → Combines s p (sum_code k) c depth k x y (sum_of x y) 22 (5 + joined_length (joined (Some x) (Some y)))
+  pub difference : TailGives difference_code difference_of 21 5
+
+pub record ProductsGive : Type 0 where
+  pub product : TailGives product_code product_of 25 5
+  pub quotient : TailGives (divided_code Sdiv) quotient_of 22 5
+  pub remainder : TailGives (divided_code Smod) remainder_of 22 5
+
+abbrev pub NegationGives : Type 0
+NegationGives = (s : Setting) (p : ℕ) (c : Context) (depth base : ℕ) (x : ValueOrError) → base ≤ 64 → Converts s p negation_tail c depth base x (negation_of x) 12 3

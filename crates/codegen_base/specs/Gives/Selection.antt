@@ -1,0 +1,35 @@
+-- Fields, indices, sizes, texts of values, and tests of texts.
+use Rattle.std.specs.Prelude.{◌≡◌, ℕ, ◌+◌, ◌^◌, ◌<◌, ◌≤◌, List, length, Some}
+use Rattle.helper_table.specs.Calls.{bytes_at}
+use Rattle.insn_codec.specs.declared.insn.Insn.{Insn}
+use Rattle.value_store.specs.Value.{ValueOrError, value, text}
+use Rattle.cel_macros.specs.Functions.{TextTest, size_of, string_of, text_test_of}
+use Rattle.cel_macros.specs.Selection.{field_of, has_of, index_of}
+use Rattle.codegen_base.specs.Code.Selection.{field_tail, has_tail, index_tail, size_tail, string_tail, test_tail}
+use Rattle.codegen_base.specs.Contexts.{Context}
+use Rattle.codegen_base.specs.Engine.{Setting}
+use Rattle.codegen_base.specs.Gives.Comparison.{TailGives}
+use Rattle.codegen_base.specs.Operators.{Converts}
+
+-- the bytes of a text stand at an address among the constants
+pub record HasText (constants : List ℕ) (address : ℕ) (bytes : List ℕ) : Type 0 where
+  pub bytes_are : bytes_at constants address (length bytes) ≡ Some bytes
+  pub address_is_word : address < 2 ^ 64
+  pub length_is_word : length bytes < 2 ^ 64
+
+-- the piece behind an operand asks for a key whose text stands at the address
+abbrev pub KeyedGives : (ℕ → ℕ → List Insn) → (ValueOrError → List ℕ → ValueOrError) → ℕ → ℕ → Type 0
+KeyedGives tail f steps charge = (s : Setting) (p : ℕ) (c : Context) (depth base : ℕ) (x : ValueOrError) (address : ℕ) (key : List ℕ) → base ≤ 64 → HasText c.constants address key → Converts s p (tail address (length key)) c depth base x (f x key) steps charge
+
+-- how many bytes a text has, and else 0
+abbrev pub text_length : ValueOrError → ℕ
+text_length (value (text s)) = length s
+text_length _ = 0
+
+pub record SelectionGives : Type 0 where
+  pub field : KeyedGives field_tail field_of 4 1
+  pub has : KeyedGives has_tail has_of 4 1
+  pub index : TailGives index_tail index_of 3 1
+  pub size : (s : Setting) (p : ℕ) (c : Context) (depth base : ℕ) (x : ValueOrError) → base ≤ 64 → Converts s p size_tail c depth base x (size_of x) 2 1
+  pub string : (s : Setting) (p : ℕ) (c : Context) (depth base : ℕ) (x : ValueOrError) → base ≤ 64 → Converts s p string_tail c depth base x (string_of x) 6 (2 + text_length (string_of x))
+  pub test : (t : TextTest) → TailGives (test_tail t) (text_test_of (Some t)) 3 1
