@@ -14,3 +14,4 @@ pub mod Gives
 pub mod Operators
 pub mod Scopes
 pub mod Rows
+pub mod MacroRows

@@ -8,6 +8,7 @@ ghost use Rattle.codegen_base.specs.Gives.Macros.{MacroGives, MapWhereGives};
 ghost use Rattle.codegen_base.specs.Gives.Selection.{SelectionGives};
 ghost use Rattle.codegen_base.specs.Helpers.{HelpersAnswer};
 ghost use Rattle.codegen_base.specs.Loops.{FoldGives};
+ghost use Rattle.codegen_base.specs.MacroRows.{MacroRowsStand};
 ghost use Rattle.codegen_base.specs.Operators.{OneGives, TwoGives, ConvertsThen, CombinesThen, CallsGive};
 ghost use Rattle.codegen_base.specs.Pieces.{SpelledStands};
 ghost use Rattle.codegen_base.specs.Programs.{ProgramExits};
@@ -118,6 +119,11 @@ pub fn scopes_give()
 /// Programs run by hand.
 pub fn rows_stand()
     ensures { RowsStand }
+{}
+
+/// Macros run by hand.
+pub fn macro_rows_stand()
+    ensures { MacroRowsStand }
 {}
 
 /// A program whose code begins with a piece for a value and an exit leaves a reference of it, or has

@@ -1,0 +1,28 @@
+-- Macros run by hand, step by step.
+use Rattle.std.specs.Prelude.{◌≡◌, true, false, List, [], ◌∷◌, ◌++◌}
+use Rattle.insn_codec.specs.declared.insn.Insn.{Insn}
+use Rattle.insn_codec.specs.declared.insn.Insn.TheVariants.{Exit}
+use Rattle.bpf_machine.specs.Trace.{state_after}
+use Rattle.bpf_machine.specs.declared.status.Status.TheVariants.{Exited}
+use Rattle.codegen_base.specs.Code.Aggregates.{item_code, list_code}
+use Rattle.codegen_base.specs.Code.Folds.{all_code, exists_one_code}
+use Rattle.codegen_base.specs.Code.Literals.{null_code, truth_code}
+use Rattle.codegen_base.specs.Code.Names.{word_code}
+use Rattle.codegen_base.specs.Rows.{runs}
+
+-- `[true, false].exists_one(x, x)`: 13 steps for the list, 7 for its count, 2 for the first answer, 17 and 15 for the items, 4 behind them, 2 for the end, and the exit
+abbrev pub one_of_two : List Insn
+one_of_two = exists_one_code 0 (list_code (item_code (truth_code true) 0 ++ item_code (truth_code false) 0) 0) (word_code 4) ++ Exit ∷ []
+
+-- `[false, null].all(x, x)`: 13 steps for the list, 7 for its count, 2 for the first answer, 8 for the first item, which decides, and the exit
+abbrev pub first_decides : List Insn
+first_decides = all_code 0 (list_code (item_code (truth_code false) 0 ++ item_code null_code 0) 0) (word_code 4) ++ Exit ∷ []
+
+-- `null.all(x, x)`: 1 step for the range, 6 for its count, and the exit
+abbrev pub over_no_range : List Insn
+over_no_range = all_code 0 null_code (word_code 4) ++ Exit ∷ []
+
+pub record MacroRowsStand : Type 0 where
+  pub one_of_two_exits : (state_after 61 (runs one_of_two)).status ≡ Exited 3
+  pub first_decides_exits : (state_after 31 (runs first_decides)).status ≡ Exited 2
+  pub over_no_range_exits : (state_after 8 (runs over_no_range)).status ≡ Exited 0
