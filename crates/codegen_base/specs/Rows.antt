@@ -2,6 +2,7 @@
 use Rattle.std.specs.Prelude.{◌≡◌, pos, true, List, [], ◌∷◌, ◌++◌}
 use Rattle.insn_codec.specs.declared.insn.Insn.{Insn}
 use Rattle.insn_codec.specs.declared.insn.Insn.TheVariants.{Exit}
+use Rattle.loader.specs.declared.version.Version.TheVariants.{Second}
 use Rattle.bpf_machine.specs.State.{State, null_values, start_state}
 use Rattle.bpf_machine.specs.Trace.{state_after}
 use Rattle.bpf_machine.specs.declared.status.Status.TheVariants.{Exited}
@@ -13,7 +14,7 @@ use Rattle.codegen_base.specs.Pieces.{spellings}
 use Rattle.codegen_base.specs.Variables.{memo_tail, use_code}
 
 abbrev pub runs : List Insn → State
-runs piece = start_state (record { code = spellings piece; constants = [] }) null_values
+runs piece = start_state (record { version = Second; code = spellings piece; constants = [] }) null_values
 
 -- a variable whose value is true, and true: the routine stands behind the exit, ten slots after the slot that follows its call
 abbrev pub variable_and_true : List Insn
