@@ -1,1 +1,5 @@
-pub mod Texts
+pub mod AmongTexts
+pub mod Sizes
+pub mod Lengths
+pub mod Lent
+pub mod Accepted

@@ -3,7 +3,7 @@
 use Rattle.std.specs.Prelude.{ℕ, ◌+◌, ◌*◌, length, nat_le, Bool, true, false, ◌||◌, List, [], ◌∷◌, Option, Some, None, ◌≡◌}
 use Rattle.cel_reader.specs.Tree as tree
 use Rattle.cel_reader.specs.Tree.{Tree, Trees, Entries, no_trees, more_trees, no_entries, more_entries}
-use Rattle.value_store.specs.Value.{Value, ValueOrError, value}
+use Rattle.value_store.specs.Value.{Value, ValueOrError, error, value}
 use Rattle.value_store.specs.Size.{result_size, result_depth}
 use Rattle.cel_macros.specs.declared.macros.Macro.{Macro}
 use Rattle.cel_macros.specs.declared.macros.Macro.TheVariants.{All, Exists, ExistsOne, Filter, Map}
@@ -97,12 +97,12 @@ unfoldable mutual
   cost (tree.list items) env = node (meaning (tree.list items) env) and costs items env
   cost (tree.map es) env = node (meaning (tree.map es) env) and entry_costs es env
   cost (tree.call n (more_trees a no_trees)) env = node (meaning (tree.call n (more_trees a no_trees)) env) and call_cost (is_has n) (field_name a) (operand_cost a env) (cost a env)
-  cost (tree.call n _) env = nothing
+  cost (tree.call n _) env = node error
   cost (tree.method a n no_trees) env = node (meaning (tree.method a n no_trees) env) and cost a env
   cost (tree.method a n (more_trees b no_trees)) env = node (meaning (tree.method a n (more_trees b no_trees)) env) and cost a env and cost b env
   cost (tree.method a n (more_trees x (more_trees p no_trees))) env = node (meaning (tree.method a n (more_trees x (more_trees p no_trees))) env) and cost a env and macro_cost (macro_named n) (name_of x) (λ i v. cost p (bind i v env)) (λ i v. meaning p (bind i v env)) (range_of (meaning a env))
   cost (tree.method a n (more_trees x (more_trees p (more_trees t no_trees)))) env = node (meaning (tree.method a n (more_trees x (more_trees p (more_trees t no_trees)))) env) and cost a env and map_cost (is_map n) (name_of x) (λ i v. cost p (bind i v env)) (λ i v. truth (meaning p (bind i v env))) (λ i v. cost t (bind i v env) and kept (meaning t (bind i v env))) (range_of (meaning a env))
-  cost (tree.method a n _) env = nothing
+  cost (tree.method a n _) env = node error
 
   -- of `e.f` what e costs
   pub operand_cost : Tree → Environment → Cost

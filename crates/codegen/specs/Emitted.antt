@@ -4,7 +4,7 @@ use Rattle.insn_codec.specs.Spelling.{spelling}
 use Rattle.insn_codec.specs.declared.insn.Insn.{Insn}
 use Rattle.cel_measures.specs.Saturated.{saturated}
 use Rattle.codegen.specs.Constants.{joined}
-use Rattle.codegen.specs.Pieces.{slots}
+use Rattle.codegen_base.specs.Pieces.{slots}
 
 -- the instruction that begins at each slot of the code; the texts that the code names; and the nodes for which it stands
 pub record Emitted : Type 0 where

@@ -1,5 +1,6 @@
 pub mod Cost
 pub mod CostRows
-pub mod Pieces
 pub mod Constants
 pub mod Emitted
+pub mod Code
+pub mod Laws

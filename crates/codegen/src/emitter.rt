@@ -6,7 +6,7 @@ ghost use Rattle.insn_codec.specs.declared.insn.Insn.{Insn};
 ghost use Rattle.insn_codec.specs.declared.insn.Insn.TheVariants.{Exit};
 ghost use Rattle.codegen.specs.Constants.{joined as joined_texts};
 ghost use Rattle.codegen.specs.Emitted.{no_code, with_piece, with_insn_at, with_nodes, slot_spellings, IsTooLong, HasTooManyTexts};
-ghost use Rattle.codegen.specs.Pieces.{slots, insn_slots};
+ghost use Rattle.codegen_base.specs.Pieces.{slots, insn_slots};
 
 use crate::code_error::CodeError;
 use crate::constants::{byte_count, joined};

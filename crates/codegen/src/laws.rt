@@ -1,8 +1,14 @@
 //! The laws of the code generator, each the contract of an empty function.
 
 ghost use Rattle.codegen.specs.CostRows.{CostRows};
+ghost use Rattle.codegen.specs.Laws.{CodeIsShort};
 
 /// Expressions that were worked by hand visit and spend so much.
 pub fn costs_stand()
     ensures { CostRows }
+{}
+
+/// The code of an expression is so short that jumps in it fit 16 bits.
+pub fn code_is_short()
+    ensures { CodeIsShort }
 {}

@@ -1,6 +1,6 @@
 use Rattle.std.proofs.Common.{ap, ◌∙◌, map, string_bytes}
 use Rattle.codegen.specs.Constants as specs
-use Rattle.codegen.proofs.Texts.{text_taken}
+use Rattle.codegen.proofs.AmongTexts.{text_taken}
 use Rattle.codegen.proofs.constants.take_text.Goals as goal
 
 pub returns-clause-ok : goal.returns-clause-ok

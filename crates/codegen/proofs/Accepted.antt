@@ -1,0 +1,169 @@
+-- The forms of what the type checker takes, in a scope without variables.
+use Rattle.std.proofs.Common.{◌≡◌, ℕ, Bool, true, false, List, [], ◌∷◌, Option, Some, None, refl}
+use Rattle.std.specs.Prelude.{bytes_eq, IsSome}
+use Rattle.cel_macros.specs.CoreTree.{CoreTree, CoreTrees, CoreEntries, no_cores, more_cores, no_core_entries, more_core_entries, plain_tree, literal, name, variable, select, has, index, call, method, unary, binary, ternary, list, map, fold, fold_map}
+use Rattle.cel_macros.specs.Functions.{Function, Size, String, Dyn, function_named, TextTest, test_named}
+use Rattle.cel_macros.specs.Macros.{is_variables, variables_name}
+use Rattle.cel_types.specs.declared.cel_type.CelType.{CelType}
+use Rattle.cel_types.specs.CoreTyping.{core_typing, core_typings, core_entry_typings}
+use Rattle.cel_types.specs.Scope.{Scope, name_type, variable_type, within}
+use Rattle.cel_types.specs.TypeTable.{field_row, has_row, index_row, unary_row, binary_row, ternary_row, function_row, method_row, test_row, macro_row, map_row}
+use Rattle.cel_types.specs.Types.{Typing, typed, refused, with_type, with_types}
+
+abbrev pub IsTyped : Typing → Type 0
+IsTyped (typed t) = Unit {0}
+IsTyped (refused y) = ⊥
+
+-- calls are of the functions, methods are sizes and tests of texts, no variable is used, and nothing is selected from `variables`
+unfoldable mutual
+  pub IsAccepted : CoreTree → Type 0
+  IsAccepted (literal l) = Unit {0}
+  IsAccepted (name n) = Unit {0}
+  IsAccepted (variable v) = ⊥
+  IsAccepted (select a f) = (is_variables (plain_tree a) ≡ false) × IsAccepted a
+  IsAccepted (has a f) = IsAccepted a
+  IsAccepted (index a k) = IsAccepted a × IsAccepted k
+  IsAccepted (call n no_cores) = ⊥
+  IsAccepted (call n (more_cores a no_cores)) = IsSome (function_named n) × IsAccepted a
+  IsAccepted (call n (more_cores a (more_cores b more))) = ⊥
+  IsAccepted (method a n no_cores) = (function_named n ≡ Some Size) × IsAccepted a
+  IsAccepted (method a n (more_cores b no_cores)) = IsSome (test_named n) × IsAccepted a × IsAccepted b
+  IsAccepted (method a n (more_cores b (more_cores x more))) = ⊥
+  IsAccepted (unary op a) = IsAccepted a
+  IsAccepted (binary op a b) = IsAccepted a × IsAccepted b
+  IsAccepted (ternary c a b) = IsAccepted c × IsAccepted a × IsAccepted b
+  IsAccepted (list items) = AreAccepted items
+  IsAccepted (map es) = AreEntriesAccepted es
+  IsAccepted (fold m n r p) = IsAccepted r × IsAccepted p
+  IsAccepted (fold_map n r p t) = IsAccepted r × IsAccepted p × IsAccepted t
+
+  pub AreAccepted : CoreTrees → Type 0
+  AreAccepted no_cores = Unit {0}
+  AreAccepted (more_cores a more) = IsAccepted a × AreAccepted more
+
+  pub AreEntriesAccepted : CoreEntries → Type 0
+  AreEntriesAccepted no_core_entries = Unit {0}
+  AreEntriesAccepted (more_core_entries k v more) = IsAccepted k × IsAccepted v × AreEntriesAccepted more
+
+-- a part that is needed has a type, and what stands behind it too
+first_typed : (x : Typing) (f : CelType → Typing) → IsTyped (with_type x f) → IsTyped x
+first_typed (typed t) f h = tt
+first_typed (refused y) f h = h
+
+then_typed : (x : Typing) (f : CelType → Typing) → IsTyped (with_type x f) → (t : CelType) × IsTyped (f t)
+then_typed (typed t) f h = (t, h)
+then_typed (refused y) f h = absurd h
+
+none_typed : (xs : List Typing) (y : _) → IsTyped (with_types xs (refused y)) → ⊥
+none_typed [] y h = h
+none_typed (typed t ∷ xs) y h = none_typed xs y h
+none_typed (refused z ∷ xs) y h = h
+
+function_some : (g : Option Function) (t : CelType) → IsTyped (function_row g t) → IsSome g
+function_some (Some g) t h = refl
+function_some None t h = absurd h
+
+method_size : (g : Option Function) (t : CelType) → IsTyped (method_row g t) → g ≡ Some Size
+method_size (Some Size) t h = refl
+method_size (Some String) t h = absurd h
+method_size (Some Dyn) t h = absurd h
+method_size None t h = absurd h
+
+test_some : (g : Option TextTest) (a b : CelType) → IsTyped (test_row g a b) → IsSome g
+test_some (Some g) a b h = refl
+test_some None a b h = absurd h
+
+no_variable : (v : List ℕ) (variables : List (List ℕ × CelType)) → variables ≡ [] → IsTyped (variable_type v variables) → ⊥
+unfolding variable_type
+no_variable v [] e h = h
+no_variable v (x ∷ variables) e h = absurd (cc)
+
+name_by : (n : List ℕ) (items : List (List ℕ)) (same : Bool) → bytes_eq variables_name n ≡ same → IsTyped (name_type n items) → same ≡ false
+unfolding name_type
+name_by n items true e h = absurd (rw e at h)
+name_by n items false e h = refl
+
+-- the name `variables` has no type
+not_variables : (a : CoreTree) (s : Scope) → IsTyped (core_typing a s) → is_variables (plain_tree a) ≡ false
+unfolding core_typing plain_tree is_variables
+not_variables (name n) s h = name_by n s.items (bytes_eq variables_name n) refl h
+not_variables (literal l) s h = refl
+not_variables (variable v) s h = refl
+not_variables (select a f) s h = refl
+not_variables (has a f) s h = refl
+not_variables (index a k) s h = refl
+not_variables (call n arguments) s h = refl
+not_variables (method a n arguments) s h = refl
+not_variables (unary op a) s h = refl
+not_variables (binary op a b) s h = refl
+not_variables (ternary c a b) s h = refl
+not_variables (list items) s h = refl
+not_variables (map es) s h = refl
+not_variables (fold m n r p) s h = refl
+not_variables (fold_map n r p t) s h = refl
+
+mutual
+  unfolding core_typing IsAccepted
+
+  pub accepted : (e : CoreTree) (s : Scope) → s.variables ≡ [] → IsTyped (core_typing e s) → IsAccepted e
+  accepted (literal l) s v h = tt
+  accepted (name n) s v h = tt
+  accepted (variable x) s v h = no_variable x s.variables v h
+  accepted (select a f) s v h = let first = first_typed (core_typing a s) field_row h in (not_variables a s first, accepted a s v first)
+  accepted (has a f) s v h = accepted a s v (first_typed (core_typing a s) has_row h)
+  accepted (index a k) s v h =
+      let more = then_typed (core_typing a s) (λ x. with_type (core_typing k s) (λ y. index_row x y)) h in
+      (accepted a s v (first_typed (core_typing a s) (λ x. with_type (core_typing k s) (λ y. index_row x y)) h), accepted k s v (first_typed (core_typing k s) (λ y. index_row more.0 y) more.1))
+  accepted (call n no_cores) s v h = h
+  accepted (call n (more_cores a no_cores)) s v h =
+      let more = then_typed (core_typing a s) (function_row (function_named n)) h in
+      (function_some (function_named n) more.0 more.1, accepted a s v (first_typed (core_typing a s) (function_row (function_named n)) h))
+  accepted (call n (more_cores a (more_cores b more))) s v h = none_typed (core_typings (more_cores a (more_cores b more)) s) _ h
+  accepted (method a n no_cores) s v h =
+      let more = then_typed (core_typing a s) (method_row (function_named n)) h in
+      (method_size (function_named n) more.0 more.1, accepted a s v (first_typed (core_typing a s) (method_row (function_named n)) h))
+  accepted (method a n (more_cores b no_cores)) s v h =
+      let row : CelType → Typing = λ x. with_type (core_typing b s) (λ y. test_row (test_named n) x y) in
+      let more = then_typed (core_typing a s) row h in
+      let last = then_typed (core_typing b s) (λ y. test_row (test_named n) more.0 y) more.1 in
+      (test_some (test_named n) more.0 last.0 last.1, accepted a s v (first_typed (core_typing a s) row h), accepted b s v (first_typed (core_typing b s) (λ y. test_row (test_named n) more.0 y) more.1))
+  accepted (method a n (more_cores b (more_cores x more))) s v h = none_typed (core_typing a s ∷ core_typings (more_cores b (more_cores x more)) s) _ h
+  accepted (unary op a) s v h = accepted a s v (first_typed (core_typing a s) (unary_row op) h)
+  accepted (binary op a b) s v h =
+      let row : CelType → Typing = λ x. with_type (core_typing b s) (λ y. binary_row op x y) in
+      let more = then_typed (core_typing a s) row h in
+      (accepted a s v (first_typed (core_typing a s) row h), accepted b s v (first_typed (core_typing b s) (λ y. binary_row op more.0 y) more.1))
+  accepted (ternary c a b) s v h =
+      let row : CelType → Typing = λ x. with_type (core_typing a s) (λ y. with_type (core_typing b s) (λ z. ternary_row x y z)) in
+      let more = then_typed (core_typing c s) row h in
+      let row2 : CelType → Typing = λ y. with_type (core_typing b s) (λ z. ternary_row more.0 y z) in
+      let last = then_typed (core_typing a s) row2 more.1 in
+      (accepted c s v (first_typed (core_typing c s) row h), accepted a s v (first_typed (core_typing a s) row2 more.1), accepted b s v (first_typed (core_typing b s) (λ z. ternary_row more.0 last.0 z) last.1))
+  accepted (list items) s v h = are_accepted items s v _ h
+  accepted (map es) s v h = are_entries_accepted es s v _ h
+  accepted (fold m n r p) s v h =
+      let row : CelType → Typing = λ x. with_type (core_typing p (within n s)) (λ y. macro_row m x y) in
+      let more = then_typed (core_typing r s) row h in
+      (accepted r s v (first_typed (core_typing r s) row h), accepted p (within n s) v (first_typed (core_typing p (within n s)) (λ y. macro_row m more.0 y) more.1))
+  accepted (fold_map n r p t) s v h =
+      let row : CelType → Typing = λ x. with_type (core_typing p (within n s)) (λ y. with_type (core_typing t (within n s)) (λ z. map_row x y z)) in
+      let more = then_typed (core_typing r s) row h in
+      let row2 : CelType → Typing = λ y. with_type (core_typing t (within n s)) (λ z. map_row more.0 y z) in
+      let last = then_typed (core_typing p (within n s)) row2 more.1 in
+      (accepted r s v (first_typed (core_typing r s) row h), accepted p (within n s) v (first_typed (core_typing p (within n s)) row2 more.1), accepted t (within n s) v (first_typed (core_typing t (within n s)) (λ z. map_row more.0 last.0 z) last.1))
+
+  are_accepted : (es : CoreTrees) (s : Scope) → s.variables ≡ [] → (last : Typing) → IsTyped (with_types (core_typings es s) last) → AreAccepted es
+  are_accepted no_cores s v last h = tt
+  are_accepted (more_cores a more) s v last h =
+      let row : CelType → Typing = λ t. with_types (core_typings more s) last in
+      let rest = then_typed (core_typing a s) row h in
+      (accepted a s v (first_typed (core_typing a s) row h), are_accepted more s v last rest.1)
+
+  are_entries_accepted : (es : CoreEntries) (s : Scope) → s.variables ≡ [] → (last : Typing) → IsTyped (with_types (core_entry_typings es s) last) → AreEntriesAccepted es
+  are_entries_accepted no_core_entries s v last h = tt
+  are_entries_accepted (more_core_entries k e more) s v last h =
+      let row2 : CelType → Typing = λ t. with_types (core_entry_typings more s) last in
+      let row : CelType → Typing = λ t. with_type (core_typing e s) row2 in
+      let rest = then_typed (core_typing k s) row h in
+      let tail = then_typed (core_typing e s) row2 rest.1 in
+      (accepted k s v (first_typed (core_typing k s) row h), accepted e s v (first_typed (core_typing e s) row2 rest.1), are_entries_accepted more s v last tail.1)

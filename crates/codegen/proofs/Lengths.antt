@@ -1,0 +1,225 @@
+-- Code takes at most 63 slots for each node, and 8 less.
+use Rattle.std.proofs.Common.{◌≡◌, ℕ, ◌+◌, ◌*◌, ◌≤◌, true, false, List, [], ◌∷◌, ◌++◌, length, Option, Some, None, ap, ◌∙◌, arith}
+use Rattle.insn_codec.specs.declared.insn.Insn.{Insn}
+use Rattle.insn_codec.specs.declared.comparison.Comparison.TheVariants.{Eq, Ne}
+use Rattle.insn_codec.specs.declared.register.Register.TheVariants.{R0}
+use Rattle.std.specs.Prelude.{ℤ, pos}
+use Rattle.cel_reader.specs.Tree as tree
+use Rattle.cel_reader.specs.declared.operator.BinaryOperator.{BinaryOperator}
+use Rattle.cel_reader.specs.declared.operator.BinaryOperator.TheVariants as binary
+use Rattle.cel_reader.specs.declared.operator.UnaryOperator.{UnaryOperator}
+use Rattle.cel_reader.specs.declared.operator.UnaryOperator.TheVariants as unary
+use Rattle.cel_macros.specs.CoreTree as core
+use Rattle.cel_macros.specs.CoreTree.{CoreTree, CoreTrees, CoreEntries, no_cores, more_cores, no_core_entries, more_core_entries}
+use Rattle.cel_macros.specs.declared.macros.Macro.{Macro}
+use Rattle.cel_macros.specs.declared.macros.Macro.TheVariants.{All, Exists, ExistsOne, Filter, Map}
+use Rattle.cel_macros.specs.Environment.{lookup}
+use Rattle.cel_macros.specs.Functions.{Function, Size, String, Dyn, function_named, TextTest, test_named}
+use Rattle.cel_measures.specs.Measures.{nodes, nodes_of, entries_nodes}
+use Rattle.codegen_base.specs.Instructions.{load, put, skip, skip_if, store}
+use Rattle.codegen_base.specs.Pieces.{size}
+use Rattle.codegen_base.specs.Code.Arithmetic.{product_tail, negation_tail}
+use Rattle.codegen_base.specs.Code.Calls.{two_code}
+use Rattle.codegen.specs.Code.Expressions.{code_of, items_code, entries_code, binary_code, binary_tail, unary_tail, function_code, method_function_code, test_code, macro_code}
+use Rattle.codegen_base.specs.Loops.{fold_code}
+use Rattle.codegen_base.proofs.Loops.{fold_size, loop_size}
+use Rattle.codegen.specs.Code.Folds.{first_true, first_false, first_empty, absorbing_turn, exists_one_turn, exists_one_end, filter_turn, map_turn, map_where_turn, map_where_code}
+use Rattle.codegen.specs.Code.Literals.{address_of, literal_code, item_code, push_tail, list_head, list_code, entry_code, entry_tail, map_head, map_code}
+use Rattle.codegen_base.specs.Code.Logic.{no_ref, yes_ref, absorbing_code, absorbing_tail, ternary_code}
+use Rattle.codegen_base.specs.Code.Names.{held_code, root_reference}
+use Rattle.codegen_base.specs.Code.Selection.{field_tail, has_tail, index_tail, size_tail, string_tail, test_tail}
+use Rattle.codegen.proofs.Sizes.{size_append, size_cons, size_map_where}
+
+size_two : (a b : List Insn) (k : ℕ) (tail : List Insn) → size (two_code a b k tail) ≡ size a + (1 + (size b + size tail))
+size_two a b k tail = size_append a (store k R0 ∷ (b ++ tail)) ∙ ap (λ n. size a + n) (size_cons (store k R0) (b ++ tail) ∙ ap (λ n. 1 + n) (size_append b tail))
+
+size_absorbing : (d o : ℤ) (a b : List Insn) (k : ℕ) → size (absorbing_code d o a b k) ≡ size a + (1 + (1 + (size b + 5)))
+size_absorbing d o a b k =
+    let branch = skip_if Eq R0 d (size b + 6) in
+    size_append a (branch ∷ store k R0 ∷ (b ++ absorbing_tail d o k))
+    ∙ ap (λ n. size a + n) (size_cons branch (store k R0 ∷ (b ++ absorbing_tail d o k))
+    ∙ ap (λ n. 1 + n) (size_cons (store k R0) (b ++ absorbing_tail d o k)
+    ∙ ap (λ n. 1 + n) (size_append b (absorbing_tail d o k))))
+
+size_ternary : (c a b : List Insn) → size (ternary_code c a b) ≡ size c + (1 + (1 + (size a + (1 + (size b + 2)))))
+size_ternary c a b =
+    let last = b ++ skip 1 ∷ put R0 (pos 0) ∷ [] in
+    let second = a ++ skip (size b + 2) ∷ last in
+    let test = skip_if Ne R0 yes_ref (size a + size b + 2) in
+    let branch = skip_if Eq R0 no_ref (size a + 2) in
+    size_append c (branch ∷ test ∷ second)
+    ∙ ap (λ n. size c + n) (size_cons branch (test ∷ second)
+    ∙ ap (λ n. 1 + n) (size_cons test second
+    ∙ ap (λ n. 1 + n) (size_append a (skip (size b + 2) ∷ last)
+    ∙ ap (λ n. size a + n) (size_cons (skip (size b + 2)) last
+    ∙ ap (λ n. 1 + n) (size_append b (skip 1 ∷ put R0 (pos 0) ∷ []))))))
+
+size_fold : (k : ℕ) (range first turn : List Insn) → size (fold_code k range first turn) ≡ size range + (9 + (size first + (1 + (6 + (size turn + 6)))))
+size_fold k range first turn = fold_size k range first turn ∙ ap (λ n. size range + (9 + (size first + (1 + n)))) (loop_size k turn)
+
+-- tails are short
+unary_short : (op : UnaryOperator) → size (unary_tail op) ≤ 14
+unfolding negation_tail
+unary_short unary.Not = omega arith
+unary_short unary.Negate = omega arith
+
+binary_short : (op : BinaryOperator) (k : ℕ) → size (binary_tail op k) ≤ 27
+unfolding binary_tail product_tail
+binary_short binary.Or k = omega arith
+binary_short binary.And k = omega arith
+binary_short binary.Less k = omega arith
+binary_short binary.LessEqual k = omega arith
+binary_short binary.GreaterEqual k = omega arith
+binary_short binary.Greater k = omega arith
+binary_short binary.Equal k = omega arith
+binary_short binary.NotEqual k = omega arith
+binary_short binary.In k = omega arith
+binary_short binary.Add k = omega arith
+binary_short binary.Subtract k = omega arith
+binary_short binary.Multiply k = omega arith
+binary_short binary.Divide k = omega arith
+binary_short binary.Remainder k = omega arith
+
+two_short : (a b : List Insn) (k : ℕ) (tail : List Insn) (n m : ℕ) → size a + 8 ≤ 63 * n → size b + 8 ≤ 63 * m → size tail ≤ 27 → size (two_code a b k tail) + 8 ≤ 63 * (1 + n + m)
+two_short a b k tail n m ha hb ht = let e = size_two a b k tail in omega (arith, e, ha, hb, ht)
+
+absorbing_short : (d o : ℤ) (a b : List Insn) (k n m : ℕ) → size a + 8 ≤ 63 * n → size b + 8 ≤ 63 * m → size (absorbing_code d o a b k) + 8 ≤ 63 * (1 + n + m)
+absorbing_short d o a b k n m ha hb = let e = size_absorbing d o a b k in omega (arith, e, ha, hb)
+
+binary_code_short : (op : BinaryOperator) (a b : List Insn) (k n m : ℕ) → size a + 8 ≤ 63 * n → size b + 8 ≤ 63 * m → size (binary_code op a b k) + 8 ≤ 63 * (1 + n + m)
+binary_code_short binary.Or a b k n m ha hb = absorbing_short yes_ref no_ref a b k n m ha hb
+binary_code_short binary.And a b k n m ha hb = absorbing_short no_ref yes_ref a b k n m ha hb
+binary_code_short binary.Less a b k n m ha hb = two_short a b k _ n m ha hb (binary_short binary.Less k)
+binary_code_short binary.LessEqual a b k n m ha hb = two_short a b k _ n m ha hb (binary_short binary.LessEqual k)
+binary_code_short binary.GreaterEqual a b k n m ha hb = two_short a b k _ n m ha hb (binary_short binary.GreaterEqual k)
+binary_code_short binary.Greater a b k n m ha hb = two_short a b k _ n m ha hb (binary_short binary.Greater k)
+binary_code_short binary.Equal a b k n m ha hb = two_short a b k _ n m ha hb (binary_short binary.Equal k)
+binary_code_short binary.NotEqual a b k n m ha hb = two_short a b k _ n m ha hb (binary_short binary.NotEqual k)
+binary_code_short binary.In a b k n m ha hb = two_short a b k _ n m ha hb (binary_short binary.In k)
+binary_code_short binary.Add a b k n m ha hb = two_short a b k _ n m ha hb (binary_short binary.Add k)
+binary_code_short binary.Subtract a b k n m ha hb = two_short a b k _ n m ha hb (binary_short binary.Subtract k)
+binary_code_short binary.Multiply a b k n m ha hb = two_short a b k _ n m ha hb (binary_short binary.Multiply k)
+binary_code_short binary.Divide a b k n m ha hb = two_short a b k _ n m ha hb (binary_short binary.Divide k)
+binary_code_short binary.Remainder a b k n m ha hb = two_short a b k _ n m ha hb (binary_short binary.Remainder k)
+
+-- a part and a tail
+one_short : (a tail : List Insn) (n m : ℕ) → size a + 8 ≤ 63 * n → size tail ≤ 40 → size (a ++ tail) + 8 ≤ 63 * (1 + n)
+one_short a tail n m ha ht = let e = size_append a tail in omega (arith, e, ha, ht)
+
+function_short : (f : Option Function) (a : List Insn) (n : ℕ) → size a + 8 ≤ 63 * n → size (function_code f a) + 8 ≤ 63 * (1 + n)
+function_short (Some Size) a n ha = let e = size_append a size_tail in omega (arith, e, ha)
+function_short (Some String) a n ha = let e = size_append a string_tail in omega (arith, e, ha)
+function_short (Some Dyn) a n ha = omega (arith, ha)
+function_short None a n ha = omega arith
+
+method_short : (f : Option Function) (a : List Insn) (n : ℕ) → size a + 8 ≤ 63 * n → size (method_function_code f a) + 8 ≤ 63 * (1 + n)
+method_short (Some Size) a n ha = let e = size_append a size_tail in omega (arith, e, ha)
+method_short (Some String) a n ha = omega arith
+method_short (Some Dyn) a n ha = omega arith
+method_short None a n ha = omega arith
+
+test_short : (t : Option TextTest) (a b : List Insn) (k n m : ℕ) → size a + 8 ≤ 63 * n → size b + 8 ≤ 63 * m → size (test_code t a b k) + 8 ≤ 63 * (1 + n + m)
+test_short (Some t) a b k n m ha hb = two_short a b k (test_tail t k) n m ha hb (omega arith)
+test_short None a b k n m ha hb = omega arith
+
+fold_short : (k : ℕ) (range first turn : List Insn) (n m : ℕ) → size range + 8 ≤ 63 * n → size first ≤ 1 → size turn ≤ 63 * m + 10 → size (fold_code k range first turn) + 20 ≤ 63 * (1 + n + m)
+fold_short k range first turn n m hr hf ht = let e = size_fold k range first turn in omega (arith, e, hr, hf, ht)
+
+turn_short : (part tail : List Insn) (m : ℕ) → size part + 8 ≤ 63 * m → size tail ≤ 10 → size (part ++ tail) ≤ 63 * m + 10
+turn_short part tail m hp ht = let e = size_append part tail in omega (arith, e, hp, ht)
+
+macro_short : (m : Macro) (k : ℕ) (r p : List Insn) (n q : ℕ) → size r + 8 ≤ 63 * n → size p + 8 ≤ 63 * q → size (macro_code m k r p) + 8 ≤ 63 * (1 + n + q)
+unfolding exists_one_turn filter_turn
+macro_short All k r p n q hr hp = let e = fold_short k r first_true (p ++ absorbing_turn no_ref yes_ref k) n q hr (omega arith) (turn_short p (absorbing_turn no_ref yes_ref k) q hp (omega arith)) in omega (arith, e)
+macro_short Exists k r p n q hr hp = let e = fold_short k r first_false (p ++ absorbing_turn yes_ref no_ref k) n q hr (omega arith) (turn_short p (absorbing_turn yes_ref no_ref k) q hp (omega arith)) in omega (arith, e)
+macro_short ExistsOne k r p n q hr hp =
+    let turn = p ++ exists_one_turn k in
+    let e = fold_short k r first_false turn n q hr (omega arith) (turn_short p (exists_one_turn k) q hp (omega arith)) in
+    let whole = size_append (fold_code k r first_false turn) exists_one_end in
+    omega (arith, e, whole)
+macro_short Filter k r p n q hr hp = let e = fold_short k r first_empty (p ++ filter_turn k) n q hr (omega arith) (turn_short p (filter_turn k) q hp (omega arith)) in omega (arith, e)
+macro_short Map k r p n q hr hp = let e = fold_short k r first_empty (p ++ map_turn k) n q hr (omega arith) (turn_short p (map_turn k) q hp (omega arith)) in omega (arith, e)
+
+map_short : (k : ℕ) (r p t : List Insn) (n q m : ℕ) → size r + 8 ≤ 63 * n → size p + 8 ≤ 63 * q → size t + 8 ≤ 63 * m → size (map_where_code k r p t) + 8 ≤ 63 * (1 + n + q + m)
+map_short k r p t n q m hr hp ht =
+    let tail = map_where_turn t k in
+    let whole = size_append p tail in
+    let turn : size (p ++ tail) ≤ 63 * (q + m) + 10 = let h = size_map_where t k in omega (arith, whole, h, hp, ht) in
+    let e = fold_short k r first_empty (p ++ tail) n (q + m) hr (omega arith) turn in
+    omega (arith, e)
+
+ternary_short : (c a b : List Insn) (n q m : ℕ) → size c + 8 ≤ 63 * n → size a + 8 ≤ 63 * q → size b + 8 ≤ 63 * m → size (ternary_code c a b) + 8 ≤ 63 * (1 + n + q + m)
+ternary_short c a b n q m hc ha hb = let e = size_ternary c a b in omega (arith, e, hc, ha, hb)
+
+held_short : (w : Option ℕ) (r : ℤ) → size (held_code w r) + 8 ≤ 63
+held_short (Some k) r = omega arith
+held_short None r = omega arith
+
+literal_short : (ts : List (List ℕ)) (l : tree.Literal) → size (literal_code ts l) + 8 ≤ 63
+literal_short ts (tree.int z) = omega arith
+literal_short ts (tree.text t) = omega arith
+literal_short ts (tree.truth true) = omega arith
+literal_short ts (tree.truth false) = omega arith
+literal_short ts tree.null = omega arith
+
+list_short : (items : List Insn) (k n : ℕ) → size items ≤ 63 * n → size (list_code items k) + 8 ≤ 63 * (1 + n)
+list_short items k n h =
+    let e = size_append items (load R0 k ∷ []) in
+    let whole : size (list_code items k) ≡ 2 + size (items ++ load R0 k ∷ []) = size_append (list_head k) (items ++ load R0 k ∷ []) in
+    omega (arith, e, whole, h)
+
+map_literal_short : (entries : List Insn) (k n : ℕ) → size entries ≤ 63 * n → size (map_code entries k) + 8 ≤ 63 * (1 + n)
+map_literal_short entries k n h =
+    let e = size_append entries (load R0 k ∷ []) in
+    let whole : size (map_code entries k) ≡ 2 + size (entries ++ load R0 k ∷ []) = size_append (map_head k) (entries ++ load R0 k ∷ []) in
+    omega (arith, e, whole, h)
+
+item_short : (item rest : List Insn) (k n m : ℕ) → size item + 8 ≤ 63 * n → size rest ≤ 63 * m → size (item_code item k ++ rest) ≤ 63 * (n + m)
+item_short item rest k n m hi hr =
+    let e = size_append (item_code item k) rest in
+    let whole = size_append item (push_tail k) in
+    omega (arith, e, whole, hi, hr)
+
+entry_short : (key entry rest : List Insn) (k n q m : ℕ) → size key + 8 ≤ 63 * n → size entry + 8 ≤ 63 * q → size rest ≤ 63 * m → size (entry_code key entry k ++ rest) ≤ 63 * (n + q + m)
+entry_short key entry rest k n q m hk he hr =
+    let e = size_append (entry_code key entry k) rest in
+    let a = size_append key (store (k + 1) R0 ∷ (entry ++ entry_tail k)) in
+    let b = size_cons (store (k + 1) R0) (entry ++ entry_tail k) in
+    let c = size_append entry (entry_tail k) in
+    omega (arith, e, a, b, c, hk, he, hr)
+
+mutual
+  unfolding code_of nodes
+
+  code_short : (e : CoreTree) (ts : List (List ℕ)) (ws : List (List ℕ × ℕ)) (k : ℕ) → size (code_of e ts ws k) + 8 ≤ 63 * nodes e
+  code_short (core.literal l) ts ws k = literal_short ts l
+  code_short (core.name n) ts ws k = held_short (lookup n ws) (root_reference n)
+  code_short (core.variable v) ts ws k = omega arith
+  code_short (core.select a f) ts ws k = one_short _ (field_tail (address_of ts f) (length f)) (nodes a) 0 (code_short a ts ws k) (omega arith)
+  code_short (core.has a f) ts ws k = one_short _ (has_tail (address_of ts f) (length f)) (nodes a) 0 (code_short a ts ws k) (omega arith)
+  code_short (core.index a b) ts ws k = two_short _ _ k (index_tail k) (nodes a) (nodes b) (code_short a ts ws k) (code_short b ts ws (k + 1)) (omega arith)
+  code_short (core.call n no_cores) ts ws k = omega arith
+  code_short (core.call n (more_cores a no_cores)) ts ws k = let h = function_short (function_named n) _ (nodes a) (code_short a ts ws k) in omega (arith, h)
+  code_short (core.call n (more_cores a (more_cores b more))) ts ws k = omega arith
+  code_short (core.method a n no_cores) ts ws k = let h = method_short (function_named n) _ (nodes a) (code_short a ts ws k) in omega (arith, h)
+  code_short (core.method a n (more_cores b no_cores)) ts ws k = let e = test_short (test_named n) _ _ k (nodes a) (nodes b) (code_short a ts ws k) (code_short b ts ws (k + 1)) in omega (arith, e)
+  code_short (core.method a n (more_cores b (more_cores x more))) ts ws k = omega arith
+  code_short (core.unary op a) ts ws k = let h = unary_short op in one_short _ (unary_tail op) (nodes a) 0 (code_short a ts ws k) (omega (arith, h))
+  code_short (core.binary op a b) ts ws k = binary_code_short op _ _ k (nodes a) (nodes b) (code_short a ts ws k) (code_short b ts ws (k + 1))
+  code_short (core.ternary c a b) ts ws k = ternary_short _ _ _ (nodes c) (nodes a) (nodes b) (code_short c ts ws k) (code_short a ts ws k) (code_short b ts ws k)
+  code_short (core.list items) ts ws k = list_short _ k (nodes_of items) (items_short items ts ws k)
+  code_short (core.map es) ts ws k = map_literal_short _ k (entries_nodes es) (entries_short es ts ws k)
+  code_short (core.fold m n r p) ts ws k = macro_short m k _ _ (nodes r) (nodes p) (code_short r ts ws k) (code_short p ts ((n, k + 4) ∷ ws) (k + 5))
+  code_short (core.fold_map n r p t) ts ws k = map_short k _ _ _ (nodes r) (nodes p) (nodes t) (code_short r ts ws k) (code_short p ts ((n, k + 4) ∷ ws) (k + 5)) (code_short t ts ((n, k + 4) ∷ ws) (k + 5))
+
+  items_short : (es : CoreTrees) (ts : List (List ℕ)) (ws : List (List ℕ × ℕ)) (k : ℕ) → size (items_code es ts ws k) ≤ 63 * nodes_of es
+  items_short no_cores ts ws k = omega arith
+  items_short (more_cores a more) ts ws k = item_short _ _ k (nodes a) (nodes_of more) (code_short a ts ws (k + 1)) (items_short more ts ws k)
+
+  entries_short : (es : CoreEntries) (ts : List (List ℕ)) (ws : List (List ℕ × ℕ)) (k : ℕ) → size (entries_code es ts ws k) ≤ 63 * entries_nodes es
+  entries_short no_core_entries ts ws k = omega arith
+  entries_short (more_core_entries key v more) ts ws k = entry_short _ _ _ k (nodes key) (nodes v) (entries_nodes more) (code_short key ts ws (k + 1)) (code_short v ts ws (k + 2)) (entries_short more ts ws k)
+
+-- so code of what an image has room for is near enough for jumps
+pub short_code : (e : CoreTree) (ts : List (List ℕ)) (ws : List (List ℕ × ℕ)) (k : ℕ) → size (code_of e ts ws k) + 8 ≤ 63 * nodes e
+short_code = code_short

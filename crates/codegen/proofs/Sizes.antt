@@ -1,0 +1,52 @@
+-- How many slots pieces take.
+use Rattle.std.proofs.Common.{◌≡◌, ℕ, ◌+◌, ◌*◌, ◌≤◌, List, [], ◌∷◌, ◌++◌, length, ap, ◌∙◌, arith, append_assoc}
+use Rattle.std.specs.Prelude.{pos}
+use Rattle.insn_codec.specs.Spelling.{slot_count}
+use Rattle.insn_codec.specs.declared.comparison.Comparison.TheVariants.{Eq, Ne}
+use Rattle.insn_codec.specs.declared.insn.Insn.{Insn}
+use Rattle.insn_codec.specs.declared.insn.Insn.TheVariants.{Call, LoadWide}
+use Rattle.insn_codec.specs.declared.register.Register.TheVariants.{R0, R1, R2}
+use Rattle.codegen_base.specs.Code.Logic.{no_ref, yes_ref}
+use Rattle.codegen_base.specs.Instructions.{copy, load, put, skip, skip_if, store}
+use Rattle.codegen_base.specs.Loops.{fold_code, loop_code, range_tail}
+use Rattle.codegen_base.specs.Pieces.{size}
+use Rattle.codegen_base.proofs.Loops.{loop_size}
+use Rattle.codegen_base.proofs.Pieces.{size-append, size-cons}
+use Rattle.codegen.specs.Code.Folds.{map_where_turn}
+
+pub size_cons : (i : Insn) (piece : List Insn) → size (i ∷ piece) ≡ slot_count i + size piece
+size_cons i piece = size-cons i piece
+
+pub size_append : (a b : List Insn) → size (a ++ b) ≡ size a + size b
+size_append a b = size-append a b
+
+two_at_most : (i : Insn) → slot_count i ≤ 2
+two_at_most (LoadWide r w) = omega arith
+two_at_most _ = omega arith
+
+-- at most two slots for each instruction
+pub size_by_length : (piece : List Insn) → size piece ≤ 2 * length piece
+size_by_length [] = omega arith
+size_by_length (i ∷ piece) = let e = size-cons i piece in let h = two_at_most i in let more = size_by_length piece in omega (arith, e, h, more)
+
+pub turn_near : (part tail : List Insn) → size part + size tail ≤ 32300 → size (part ++ tail) ≤ 32300
+turn_near part tail h = let e = size-append part tail in omega (arith, e, h)
+
+pub size_map_where : (transform : List Insn) (k : ℕ) → size (map_where_turn transform k) ≡ size transform + 9
+size_map_where t k =
+    let last = copy R2 R0 ∷ load R1 (k + 3) ∷ Call (pos 17) ∷ skip 3 ∷ load R0 (k + 3) ∷ skip 1 ∷ put R0 (pos 0) ∷ [] in
+    let test = skip_if Ne R0 yes_ref (size t + 6) in
+    let a = size-cons (skip_if Eq R0 no_ref (size t + 5)) (test ∷ (t ++ last)) in
+    let b = size-cons test (t ++ last) in
+    let c = size-append t last in
+    omega (arith, a, b, c)
+
+-- the parts of a fold put together
+pub fold_joined : (k n : ℕ) (range : List Insn) (first : Insn) (turn : List Insn) → size (first ∷ []) ≡ 1 → n ≡ size turn + 17 → (((range ++ range_tail k n) ++ first ∷ []) ++ store (k + 3) R0 ∷ []) ++ loop_code k turn ≡ fold_code k range (first ∷ []) turn
+fold_joined k n range first turn one is =
+    let whole = loop_size k turn in
+    let behind : n ≡ size (first ∷ []) + size (loop_code k turn) + 4 = omega (arith, one, is, whole) in
+    ap (λ l. l ++ loop_code k turn) (append_assoc (range ++ range_tail k n) (first ∷ []) (store (k + 3) R0 ∷ []))
+    ∙ append_assoc (range ++ range_tail k n) (first ∷ store (k + 3) R0 ∷ []) (loop_code k turn)
+    ∙ append_assoc range (range_tail k n) (first ∷ store (k + 3) R0 ∷ loop_code k turn)
+    ∙ ap (λ m. range ++ (range_tail k m ++ (first ∷ store (k + 3) R0 ∷ loop_code k turn))) behind

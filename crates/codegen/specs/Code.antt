@@ -1,0 +1,4 @@
+-- The code of lists, maps and macros, and of whole expressions.
+pub mod Literals
+pub mod Folds
+pub mod Expressions
