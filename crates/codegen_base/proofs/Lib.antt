@@ -28,3 +28,4 @@ pub mod IntWords
 pub mod Products
 pub mod Multiplications
 pub mod Negation
+pub mod Joined
