@@ -1,7 +1,7 @@
 -- What is kept when registers, words of the frame, memos and values change.
 use Rattle.std.proofs.Common.{◌≡◌, ℕ, ◌+◌, ◌^◌, ◌<◌, ◌≤◌, List, [], ◌∷◌, length-append, Option, Some, None, refl, sym, ◌∙◌, subst, arith, inl, inr}
 use Rattle.std.specs.Prelude.{◌⊎◌}
-use Rattle.guest_memory.specs.Memory.{Stack, Scratch}
+use Rattle.guest_memory.specs.Memory.{Stack, Scratch, Verdict}
 use Rattle.guest_memory.proofs.RegionWords.{put_word-other, put_word-same, with_word}
 use Rattle.helper_table.specs.Laws.{Extends, Names}
 use Rattle.helper_table.specs.Tables.{IsTable}
@@ -12,8 +12,8 @@ use Rattle.cel_macros.specs.Environment.{Roots, lookup}
 use Rattle.codegen_base.specs.Body.{Body}
 use Rattle.codegen_base.specs.Calls.{answered, entered, frame_at}
 use Rattle.codegen_base.specs.Contexts.{Context, Fits, HasValues, IsHeld, IsMemo, Keeps, Shows, variable_count}
-use Rattle.codegen_base.specs.Words.{Framed, memo_at, set_memo, set_word, stack_index, word_at}
-use Rattle.codegen_base.proofs.Accesses.{has_memo, has_word}
+use Rattle.codegen_base.specs.Words.{Framed, memo_at, set_memo, set_verdict, set_word, stack_index, verdict_at, word_at}
+use Rattle.codegen_base.proofs.Accesses.{has_memo, has_verdict, has_word}
 use Rattle.codegen_base.proofs.Values.{roots_kept}
 
 -- ---- a word of the frame is stored
@@ -100,6 +100,31 @@ module _ (depth i w : ℕ) (b : Body) (f : Framed depth b) (below : i < 512) whe
 
   pub memo_kept : (j : ℕ) → (j ≡ i → ⊥) → memo_at j (set_memo i w b) ≡ memo_at j b
   memo_kept j other = put_word-other b.memory.scratch i w (has_memo i b.memory f.memory below) j other
+
+-- ---- a word of the verdict region is stored
+
+module _ (depth i w : ℕ) (b : Body) (f : Framed depth b) (below : i < 256) where
+  pub frame_verdict : Framed depth (set_verdict i w b)
+  frame_verdict = record {
+    shallow = f.shallow;
+    pointer_is = f.pointer_is;
+    records_are = f.records_are;
+    memory = with_word b.memory Verdict i w (has_verdict i b.memory f.memory below) f.memory;
+  }
+
+  pub verdict_stored : w < 2 ^ 64 → verdict_at i (set_verdict i w b) ≡ w
+  verdict_stored small = put_word-same b.memory.verdict i w (has_verdict i b.memory f.memory below) small
+
+  pub verdict_kept : (j : ℕ) → (j ≡ i → ⊥) → verdict_at j (set_verdict i w b) ≡ verdict_at j b
+  verdict_kept j other = put_word-other b.memory.verdict i w (has_verdict i b.memory f.memory below) j other
+
+  pub fits_verdict : (c : Context) (base : ℕ) → Fits c depth base b → Fits c depth base (set_verdict i w b)
+  fits_verdict c base fits = record {
+    frame = frame_verdict;
+    values = fits.values;
+    holds = record { names = λ n. held_on depth base base b (set_verdict i w b) (lookup n c.words) (lookup n c.environment.items) (λ j h. h) (λ j u inside named. named) (fits.holds.names n); memos = fits.holds.memos };
+    constants = fits.constants;
+  }
 
 -- ---- a local call opens a frame
 

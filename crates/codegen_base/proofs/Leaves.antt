@@ -73,7 +73,7 @@ text_gives s p c depth base address t low h utf8 = record {
 -- the reference of a root, by which of the names is its own
 root_by : (roots : Roots) (values : Contents) → HasValues roots values → (t u v w x : Bool)
     → Names values.values (cast_unsigned w64 (reference_or_error (if t then Some (pos 4) else if u then Some (pos 5) else if v then Some (pos 6) else if w then Some (pos 7) else if x then Some (pos 8) else None)))
-      (value_or_error (if t then Some roots.object else if u then Some roots.old_object else if v then Some roots.params else if w then Some roots.namespace_object else if x then Some roots.request else None))
+    (value_or_error (if t then Some roots.object else if u then Some roots.old_object else if v then Some roots.params else if w then Some roots.namespace_object else if x then Some roots.request else None))
 root_by roots values h true u v w x = h.stand.object
 root_by roots values h false true v w x = h.stand.old_object
 root_by roots values h false false true w x = h.stand.params

@@ -7,3 +7,5 @@ pub mod Selection
 pub mod Logic
 pub mod Arithmetic
 pub mod Comparison
+pub mod Aggregates
+pub mod Folds

@@ -2,5 +2,7 @@
 pub mod Leaves
 pub mod Selection
 pub mod Logic
+pub mod Aggregates
 pub mod Comparison
+pub mod Macros
 pub mod Arithmetic

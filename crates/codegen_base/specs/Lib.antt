@@ -12,3 +12,5 @@ pub mod Instructions
 pub mod Code
 pub mod Gives
 pub mod Operators
+pub mod Scopes
+pub mod Rows

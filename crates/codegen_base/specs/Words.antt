@@ -38,6 +38,9 @@ set_memo i w b = record b { memory = record b.memory { scratch = put_word b.memo
 abbrev pub verdict_address : ℕ → ℕ
 verdict_address i = base_of Verdict + 8 * i
 
+abbrev pub verdict_at : ℕ → Body → ℕ
+verdict_at i b = word_in b.memory.verdict i
+
 abbrev pub set_verdict : ℕ → ℕ → Body → Body
 set_verdict i w b = record b { memory = record b.memory { verdict = put_word b.memory.verdict i w } }
 

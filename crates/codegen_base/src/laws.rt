@@ -1,14 +1,18 @@
 //! Laws of code, each the clause of a function that does nothing.
+ghost use Rattle.codegen_base.specs.Gives.Aggregates.{ListGives, MapGives};
 ghost use Rattle.codegen_base.specs.Gives.Arithmetic.{AdditionsGive, NegationGives, ProductsGive};
 ghost use Rattle.codegen_base.specs.Gives.Comparison.{ComparisonGives};
 ghost use Rattle.codegen_base.specs.Gives.Leaves.{LeavesGive};
 ghost use Rattle.codegen_base.specs.Gives.Logic.{LogicGives};
+ghost use Rattle.codegen_base.specs.Gives.Macros.{MacroGives, MapWhereGives};
 ghost use Rattle.codegen_base.specs.Gives.Selection.{SelectionGives};
 ghost use Rattle.codegen_base.specs.Helpers.{HelpersAnswer};
 ghost use Rattle.codegen_base.specs.Loops.{FoldGives};
 ghost use Rattle.codegen_base.specs.Operators.{OneGives, TwoGives, ConvertsThen, CombinesThen, CallsGive};
 ghost use Rattle.codegen_base.specs.Pieces.{SpelledStands};
 ghost use Rattle.codegen_base.specs.Programs.{ProgramExits};
+ghost use Rattle.codegen_base.specs.Rows.{RowsStand};
+ghost use Rattle.codegen_base.specs.Scopes.{NoScope, ScopeBegins, ScopeGives, ScopeGrows};
 ghost use Rattle.codegen_base.specs.Variables.{VariableGives};
 
 use bpf_machine::laws::decodes_spelling;
@@ -39,6 +43,14 @@ pub fn operands_give()
 /// where the left side decides, and of the conditional only the chosen side runs.
 pub fn logic_gives()
     ensures { LogicGives }
+{}
+
+/// Code for items makes code for a list, and code for keys and values makes code for a map, of which a
+/// part that is the error, a doubled key and a key that is no text make the error; it stops for a depth
+/// only where an item or a value is as deep as a list or a map may be.
+pub fn aggregates_give()
+    ensures list { ListGives }
+    ensures map { MapGives }
 {}
 
 /// Pieces behind two operands give comparisons and membership.
@@ -80,9 +92,32 @@ pub fn selection_gives()
     ensures { SelectionGives }
 {}
 
+/// Code for a range and for a part makes the code of each macro, within budgets of the visits and of what
+/// is spent: `all` and `exists` leave early, a `map` with a predicate runs its transform where that is
+/// true, a range that is neither list nor map makes the error, and a list is refused for its depth only
+/// where an item that it is to hold is too deep.
+pub fn macros_give()
+    ensures macros { MacroGives }
+    ensures map_where { MapWhereGives }
+{}
+
 /// The use of a variable gives its value, and the potentials pay for its first use.
 pub fn variable_gives()
     ensures { VariableGives }
+{}
+
+/// The use of a variable of a scope, found by its name, gives what the name stands for; a scope is made
+/// one variable after another, each with a routine that may use those before it.
+pub fn scopes_give()
+    ensures uses { ScopeGives }
+    ensures none { NoScope }
+    ensures begins { ScopeBegins }
+    ensures grows { ScopeGrows }
+{}
+
+/// Programs run by hand.
+pub fn rows_stand()
+    ensures { RowsStand }
 {}
 
 /// A program whose code begins with a piece for a value and an exit leaves a reference of it, or has

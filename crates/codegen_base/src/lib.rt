@@ -2,8 +2,8 @@
 //! and of charge, on the machine and with its helpers.
 //!
 //! `laws` has the laws for crates above, each on a function that does nothing. Of the lemmas those of
-//! `proofs/Runs`, `Steps`, `Listings`, `Pieces`, `Frames`, `Values`, `Helpers`, `Operators`, `Loops`
-//! and `Logic` are for crates above too.
+//! `proofs/Runs`, `Steps`, `Listings`, `Pieces`, `Frames`, `Values`, `Helpers`, `Operators`, `Loops`,
+//! `Logic`, `Aggregates` and `Macros` are for crates above too.
 #![tactic(auto)]
 
 pub mod laws;

@@ -1,0 +1,14 @@
+pub mod Budgets
+pub mod Depths
+pub mod Turn
+pub mod Firsts
+pub mod Within
+pub mod Once
+pub mod AbsorbingTurn
+pub mod PushingTurn
+pub mod OnceTurn
+pub mod Quantifiers
+pub mod Lists
+pub mod ExistsOne
+pub mod MapsWhere
+pub mod All

@@ -1,0 +1,140 @@
+-- The code of `map` with a predicate gives its fold: the transform runs where the predicate is true.
+use Rattle.std.proofs.Common.{◌≡◌, ℕ, suc, ◌+◌, ◌-◌, ◌*◌, ◌<◌, ◌≤◌, List, [], ◌∷◌, ◌++◌, Option, Some, None, Bool, true, false, refl, subst, sym, arith}
+use Rattle.std.specs.Prelude.{pos}
+use Rattle.std.proofs.lemmas.Int.{ints}
+use Rattle.insn_codec.specs.declared.comparison.Comparison.TheVariants.{Eq, Ne}
+use Rattle.insn_codec.specs.declared.insn.Insn.{Insn}
+use Rattle.insn_codec.specs.declared.insn.Insn.TheVariants.{Call}
+use Rattle.insn_codec.specs.declared.operand.Operand.TheVariants.{Imm}
+use Rattle.insn_codec.specs.declared.register.Register.TheVariants.{R0, R1, R2}
+use Rattle.insn_codec.specs.declared.width.Width.TheVariants.{W64}
+use Rattle.value_store.specs.Value.{Value, ValueOrError, error, value, list, no_items}
+use Rattle.cel_macros.specs.FoldMeaning.{folded_map, is_error, map_step, pushed, when_true}
+use Rattle.cel_macros.specs.Logic.{Truth, Yes, No, Other, chosen, truth}
+use Rattle.cel_macros.specs.Macros.{range_of}
+use Rattle.codegen_base.specs.Body.{Body}
+use Rattle.codegen_base.specs.Code.Folds.{first_empty, map_turn, map_where_code, map_where_turn}
+use Rattle.codegen_base.specs.Code.Logic.{no_ref, yes_ref}
+use Rattle.codegen_base.specs.Contexts.{Context, Gives, Shows}
+use Rattle.codegen_base.specs.Engine.{Setting, Comes}
+use Rattle.codegen_base.specs.Gives.Macros.{IsItem, MapWhereGives, charge_budget, is_too_deep, items_spent, items_visits, step_budget}
+use Rattle.codegen_base.specs.Instructions as insn
+use Rattle.codegen_base.specs.Loops.{fold_code, fold_of, with_item}
+use Rattle.codegen_base.specs.Pieces.{Stands, size}
+use Rattle.codegen_base.proofs.Frames.{keeps_then, shows_registers}
+use Rattle.codegen_base.proofs.Listings.{jump, load, mov}
+use Rattle.codegen_base.proofs.Logic.{told_in}
+use Rattle.codegen_base.proofs.Loops.{item_gives}
+use Rattle.codegen_base.proofs.Macros.Budgets.{gives_within}
+use Rattle.codegen_base.proofs.Macros.Depths.{chosen_shallow, deep_excused, first_shallow, is_shallow}
+use Rattle.codegen_base.proofs.Macros.Firsts.{empty_gives}
+use Rattle.codegen_base.proofs.Macros.PushingTurn.{map_turns}
+use Rattle.codegen_base.proofs.Macros.Turn.{BehindPart, TailRuns, behind, turn_gives}
+use Rattle.codegen_base.proofs.Macros.Within.{fold_within}
+use Rattle.codegen_base.proofs.Pieces.{size-append, size-cons, stands_back, stands_first, stands_front, stands_rest}
+use Rattle.codegen_base.proofs.Runs.{and_then, done, into, looser, to_place}
+use Rattle.codegen_base.proofs.Steps as step
+use Rattle.codegen_base.proofs.Values.{Told, names_error}
+
+-- ---- the tail behind the predicate
+
+module _ (s : Setting) (q : ℕ) (transform : List Insn) (c : Context) (depth k : ℕ) (n : List ℕ) (acc : ValueOrError) (v : Value) (x y : ValueOrError) (n2 x2 : ℕ) (low : k < 56) (has : Stands s.image.code q (map_where_turn transform k)) where
+  abbrev to_kept : Insn
+  to_kept = insn.skip_if Eq R0 no_ref (size transform + 5)
+
+  abbrev to_error : Insn
+  to_error = insn.skip_if Ne R0 yes_ref (size transform + 6)
+
+  abbrev others : List Insn
+  others = insn.skip 3 ∷ insn.load R0 (k + 3) ∷ insn.skip 1 ∷ insn.put R0 (pos 0) ∷ []
+
+  abbrev last : List Insn
+  last = map_turn k ++ others
+
+  abbrev o : ℕ
+  o = q + 2 + size transform
+
+  has1 : Stands s.image.code (q + 1) (to_error ∷ (transform ++ last))
+  has1 = stands_rest s.image.code q to_kept (to_error ∷ (transform ++ last)) has
+
+  has2 : Stands s.image.code (q + 2) (transform ++ last)
+  has2 = let place : q + 1 + 1 ≡ q + 2 = omega arith in subst (λ (i : ℕ). Stands s.image.code i (transform ++ last)) place (stands_rest s.image.code (q + 1) to_error (transform ++ last) has1)
+
+  has3 : Stands s.image.code o last
+  has3 = stands_back s.image.code (q + 2) transform last has2
+
+  pub tail_end : o + 7 ≡ q + size (map_where_turn transform k)
+  tail_end = omega (arith, size-cons to_kept (to_error ∷ (transform ++ last)), size-cons to_error (transform ++ last), size-append transform last)
+
+  tail_by : (u : Truth) (fails : Bool) → (u ≡ Yes → Gives s (q + 2) transform (with_item c k n v) depth (k + 5) y n2 x2) → (u ≡ Yes → is_too_deep y ≡ true → s.is_deep ≡ true) → is_shallow s.is_deep acc ≡ true → (b : Body) → BehindPart c depth k acc v x b → Told u fails (b.registers R0) → Comes s (chosen u n2 0 0 + 6) (chosen u x2 0 0 + 2) q b (o + 7) (Shows c depth (k + 5) (when_true u (pushed acc y) acc) b)
+  tail_by Yes fails gives may fine b at told =
+      let Q = Shows c depth (k + 5) (pushed acc y) b in
+      looser s {n = suc (suc (n2 + (3 + 1)))} {x = x2 + (2 + 0)} (n2 + 6) (x2 + 2) (omega arith) (omega arith)
+      (step.branch_no s q (q + 1) b Eq W64 R0 (Imm no_ref) (pos (size transform + 5)) (stands_first s.image.code q to_kept _ has) told.no refl
+      (step.branch_no s (q + 1) (q + 2) b Ne W64 R0 (Imm yes_ref) (pos (size transform + 6)) (stands_first s.image.code (q + 1) to_error _ has1) told.not_yes (omega arith)
+      (and_then s (3 + 1) (2 + 0) (o + 7) Q (item_gives s (q + 2) transform c depth k n acc v y n2 x2 b low (gives refl) (stands_front s.image.code (q + 2) transform last has2) (record { fits = at.outer; so_far = at.so_far; item = at.item })) (λ b1 g1.
+      let at1 = behind c depth k acc v y b b1 low at.outer g1 at.so_far at.item in
+      and_then s 1 0 (o + 7) Q (map_turns s c depth k o low b1 at1.fits acc y (stands_front s.image.code o (map_turn k) others has3) at1.part_is at1.so_far (deep_excused s.is_deep acc y (may refl) fine)) (λ b2 g2.
+      jump has3 3 3 refl
+      (done s (o + 7) b2 Q (record { shows = g2.shows; fits = g2.fits; keeps = keeps_then (omega arith) g1.keeps g2.keeps })))))))
+  tail_by No fails gives may fine b at told =
+      looser s {n = 3} {x = 0} (0 + 6) (0 + 2) (omega arith) (omega arith)
+      (step.branch_yes s q (o + 4) b Eq W64 R0 (Imm no_ref) (pos (size transform + 5)) (stands_first s.image.code q to_kept _ has) told.no (omega (arith, ints))
+      (load has3 4 (k + 3) refl at.fits.frame (omega arith) refl
+      (jump has3 5 1 refl
+      (done s (o + 7) _ _ (shows_registers c depth (k + 5) b _ refl acc at.fits at.so_far)))))
+  tail_by Other fails gives may fine b at told =
+      looser s {n = 3} {x = 0} (0 + 6) (0 + 2) (omega arith) (omega arith)
+      (step.branch_no s q (q + 1) b Eq W64 R0 (Imm no_ref) (pos (size transform + 5)) (stands_first s.image.code q to_kept _ has) told.no refl
+      (step.branch_yes s (q + 1) (o + 6) b Ne W64 R0 (Imm yes_ref) (pos (size transform + 6)) (stands_first s.image.code (q + 1) to_error _ has1) told.not_yes (omega (arith, ints))
+      (mov has3 6 refl refl
+      (done s (o + 7) _ _ (shows_registers c depth (k + 5) b _ refl error at.fits (names_error b.values at.fits.values.table.store))))))
+
+  pub where_turns : (truth x ≡ Yes → Gives s (q + 2) transform (with_item c k n v) depth (k + 5) y n2 x2) → (truth x ≡ Yes → is_too_deep y ≡ true → s.is_deep ≡ true) → is_shallow s.is_deep acc ≡ true → (b : Body) → BehindPart c depth k acc v x b → Comes s (chosen (truth x) n2 0 0 + 6) (chosen (truth x) x2 0 0 + 2) q b (q + size (map_where_turn transform k)) (Shows c depth (k + 5) (when_true (truth x) (pushed acc y) acc) b)
+  where_turns gives may fine b at = to_place s _ tail_end (tail_by (truth x) (is_error x) gives may fine b at (told_in c depth (k + 5) (b.registers R0) x b at.fits at.part_is))
+
+-- ---- the whole
+
+where_folds : (p : Value → Truth) (f : Value → ValueOrError) (o : Option (List Value)) → fold_of (map_step p f) (value (list no_items)) o ≡ folded_map p f o
+where_folds p f (Some items) = refl
+where_folds p f None = refl
+
+-- budgets of what runs where a predicate is true
+chosen_steps : (t : Truth) (n : ℕ) → chosen t (step_budget n) 0 0 ≤ 128 * chosen t n 0 0
+chosen_steps Yes n = omega arith
+chosen_steps No n = omega arith
+chosen_steps Other n = omega arith
+
+chosen_charge : (t : Truth) (n : ℕ) → chosen t (charge_budget n) 0 0 ≤ 16 * chosen t n 0 0
+chosen_charge Yes n = omega arith
+chosen_charge No n = omega arith
+chosen_charge Other n = omega arith
+
+pub map_where_gives : MapWhereGives
+map_where_gives s p k depth range predicate transform c n r t f w x visits spent visits_then spent_then low gives_range gives_predicate gives_transform may =
+    let tail = map_where_turn transform k in
+    let turn = predicate ++ tail in
+    let end = p + size (fold_code k range first_empty turn) in
+    let q = p + size range + 17 + size predicate in
+    let g = map_step (λ v. truth (t v)) f in
+    let all_visits : Value → ℕ = λ v. visits v + chosen (truth (t v)) (visits_then v) 0 0 in
+    let all_spent : Value → ℕ = λ v. spent v + chosen (truth (t v)) (spent_then v) 0 0 in
+    let more : Value → ℕ = λ v. chosen (truth (t v)) (step_budget (visits_then v)) 0 0 + 6 in
+    let more_charge : Value → ℕ = λ v. chosen (truth (t v)) (charge_budget (spent_then v)) 0 0 + 2 in
+    let steps = step_budget (1 + w + items_visits all_visits (range_of r)) in
+    let charge = charge_budget (9 + x + items_spent all_spent (range_of r)) in
+    let tails : (items : List Value) → range_of r ≡ Some items → TailRuns s q end tail c depth k items t g (λ a. false) (is_shallow s.is_deep) more more_charge = λ items is. record {
+      goes_on = λ b acc i v item fine has at not_last on.
+          let inside : IsItem r v = record { items = items; place = i; range_is = is; item_is = item } in
+          where_turns s q transform c depth k n acc v (t v) (f v) (step_budget (visits_then v)) (charge_budget (spent_then v)) low has (gives_transform v inside) (may v inside) fine b at;
+      leaves = λ b acc i v item fine has at not_last ends. absurd (cc);
+      last = λ acc v e. absurd (cc);
+      fine = λ acc i v item fine. chosen_shallow s.is_deep (truth (t v)) acc (f v) (may v (record { items = items; place = i; range_is = is; item_is = item })) fine;
+    } in
+    subst (λ (y : ValueOrError). Gives s p (map_where_code k range predicate transform) c depth k y steps charge) (where_folds (λ v. truth (t v)) f (range_of r))
+    (gives_within s p (map_where_code k range predicate transform) c depth k _ _ _ _ _ (omega arith) (omega arith)
+    (fold_within s p k depth range first_empty turn c r (value (list no_items)) g (λ a. false) (is_shallow s.is_deep) w x all_visits all_spent (λ v. step_budget (visits v) + more v) (λ v. charge_budget (spent v) + more_charge v) low refl (first_shallow s.is_deep (value (list no_items)) refl) refl gives_range (empty_gives s (p + size range + 9) c depth (k + 3) (omega arith))
+    (λ items is. turn_gives s (p + size range + 17) end predicate tail c depth k n items t g (λ a. false) (is_shallow s.is_deep) (λ v. step_budget (visits v)) (λ v. charge_budget (spent v)) more more_charge low
+    (λ i v item. gives_predicate v (record { items = items; place = i; range_is = is; item_is = item }))
+    (tails items is))
+    (λ v. omega (arith, chosen_steps (truth (t v)) (visits_then v))) (λ v. omega (arith, chosen_charge (truth (t v)) (spent_then v)))))

@@ -1,0 +1,61 @@
+-- A turn of a macro: the code of its part, and a tail behind it.
+use Rattle.std.proofs.Common.{◌≡◌, ℕ, ◌+◌, ◌<◌, ◌≤◌, List, ◌++◌, Some, Bool, true, false, refl, sym, subst, arith, inr}
+use Rattle.std.specs.Prelude.{slice_get}
+use Rattle.helper_table.specs.Laws.{Names}
+use Rattle.insn_codec.specs.declared.insn.Insn.{Insn}
+use Rattle.insn_codec.specs.declared.register.Register.TheVariants.{R0}
+use Rattle.value_store.specs.Value.{Value, ValueOrError, value}
+use Rattle.codegen_base.specs.Body.{Body}
+use Rattle.codegen_base.specs.Contexts.{Context, Fits, Gives, Shows}
+use Rattle.codegen_base.specs.Engine.{Setting, Comes}
+use Rattle.codegen_base.specs.Loops.{AtTurn, TurnGives, with_item}
+use Rattle.codegen_base.specs.Pieces.{Stands, size}
+use Rattle.codegen_base.specs.Words.{word_at}
+use Rattle.codegen_base.proofs.Frames.{fits_below, keeps_then}
+use Rattle.codegen_base.proofs.Loops.{item_gives}
+use Rattle.codegen_base.proofs.Pieces.{size-append, stands_back, stands_front}
+use Rattle.codegen_base.proofs.Runs.{and_then, into, to_place}
+
+-- a body behind the part, whose value R0 names
+pub record BehindPart (c : Context) (depth k : ℕ) (acc : ValueOrError) (v : Value) (x : ValueOrError) (b : Body) : Type 0 where
+  pub outer : Fits c depth k b
+  pub fits : Fits c depth (k + 5) b
+  pub so_far : Names b.values.values (word_at depth (k + 3) b) acc
+  pub item : Names b.values.values (word_at depth (k + 4) b) (value v)
+  pub part_is : Names b.values.values (b.registers R0) x
+
+pub behind : (c : Context) (depth k : ℕ) (acc : ValueOrError) (v : Value) (x : ValueOrError) (b b1 : Body) → k < 56 → Fits c depth k b → Shows c depth (k + 5) x b b1 → Names b.values.values (word_at depth (k + 3) b) acc → Names b.values.values (word_at depth (k + 4) b) (value v) → BehindPart c depth k acc v x b1
+behind c depth k acc v x b b1 low first shown so_far item =
+    let kept : (j : ℕ) (y : ValueOrError) → j < k + 5 → Names b.values.values (word_at depth j b) y → Names b1.values.values (word_at depth j b1) y = λ j y below named. subst (λ (w : ℕ). Names b1.values.values w y) (sym (shown.keeps.words depth j (omega arith) (inr (refl, omega arith)))) (shown.keeps.values _ y named) in
+    record {
+      outer = fits_below c depth k (k + 5) b b1 (omega arith) (omega arith) first shown.keeps shown.fits;
+      fits = shown.fits;
+      so_far = kept (k + 3) acc (omega arith) so_far;
+      item = kept (k + 4) (value v) (omega arith) item;
+      part_is = shown.shows;
+    }
+
+-- what a tail that stands at slot q does behind a part that gives f v: it makes the next answer, and leaves for slot `end` where that is the last
+pub record TailRuns (s : Setting) (q end : ℕ) (tail : List Insn) (c : Context) (depth k : ℕ) (items : List Value) (f : Value → ValueOrError) (g : ValueOrError → Value → ValueOrError) (is_last is_fine : ValueOrError → Bool) (steps charge : Value → ℕ) : Type 0 where
+  pub goes_on : (b : Body) (acc : ValueOrError) (i : ℕ) (v : Value) → slice_get items i ≡ Some v → is_fine acc ≡ true → Stands s.image.code q tail → BehindPart c depth k acc v (f v) b → is_last acc ≡ false → is_last (g acc v) ≡ false → Comes s (steps v) (charge v) q b (q + size tail) (Shows c depth (k + 5) (g acc v) b)
+  pub leaves : (b : Body) (acc : ValueOrError) (i : ℕ) (v : Value) → slice_get items i ≡ Some v → is_fine acc ≡ true → Stands s.image.code q tail → BehindPart c depth k acc v (f v) b → is_last acc ≡ false → is_last (g acc v) ≡ true → Comes s (steps v) (charge v) q b end (Shows c depth (k + 5) (g acc v) b)
+  pub last : (acc : ValueOrError) (v : Value) → is_last acc ≡ true → g acc v ≡ acc
+  pub fine : (acc : ValueOrError) (i : ℕ) (v : Value) → slice_get items i ≡ Some v → is_fine acc ≡ true → is_fine (g acc v) ≡ true
+
+module _ (s : Setting) (o end : ℕ) (part tail : List Insn) (c : Context) (depth k : ℕ) (n : List ℕ) (items : List Value) (f : Value → ValueOrError) (g : ValueOrError → Value → ValueOrError) (is_last is_fine : ValueOrError → Bool) (steps charge more more_charge : Value → ℕ) (low : k < 56) where
+  tail_after : (q : ℕ) (b : Body) (acc : ValueOrError) (v : Value) → Gives s o part (with_item c k n v) depth (k + 5) (f v) (steps v) (charge v) → Stands s.image.code o (part ++ tail) → AtTurn c depth k acc v b → ((b1 : Body) → BehindPart c depth k acc v (f v) b1 → Comes s (more v) (more_charge v) (o + size part) b1 q (Shows c depth (k + 5) (g acc v) b1)) → Comes s (steps v + more v) (charge v + more_charge v) o b q (Shows c depth (k + 5) (g acc v) b)
+  tail_after q b acc v gives has turn runs =
+      let Q = Shows c depth (k + 5) (g acc v) b in
+      and_then s (more v) (more_charge v) q Q (item_gives s o part c depth k n acc v (f v) (steps v) (charge v) b low gives (stands_front s.image.code o part tail has) turn) (λ b1 g1.
+      into s Q (λ b2 g2. record { shows = g2.shows; fits = g2.fits; keeps = keeps_then (omega arith) g1.keeps g2.keeps }) (runs b1 (behind c depth k acc v (f v) b b1 low turn.fits g1 turn.so_far turn.item)))
+
+  pub turn_gives : ((i : ℕ) (v : Value) → slice_get items i ≡ Some v → Gives s o part (with_item c k n v) depth (k + 5) (f v) (steps v) (charge v)) → TailRuns s (o + size part) end tail c depth k items f g is_last is_fine more more_charge → TurnGives s o end (part ++ tail) c depth k items g is_last is_fine (λ v. steps v + more v) (λ v. charge v + more_charge v)
+  turn_gives gives tails = record {
+    goes_on = λ b acc i v item fine has turn not_last on.
+        let place : o + size part + size tail ≡ o + size (part ++ tail) = omega (arith, size-append part tail) in
+        to_place s _ place (tail_after (o + size part + size tail) b acc v (gives i v item) has turn (λ b1 at. tails.goes_on b1 acc i v item fine (stands_back s.image.code o part tail has) at not_last on));
+    leaves = λ b acc i v item fine has turn not_last ends.
+        tail_after end b acc v (gives i v item) has turn (λ b1 at. tails.leaves b1 acc i v item fine (stands_back s.image.code o part tail has) at not_last ends);
+    last = tails.last;
+    fine = tails.fine;
+  }

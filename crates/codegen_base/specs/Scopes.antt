@@ -1,0 +1,71 @@
+-- The variables of a scope, each with its routine; one may use those before it.
+use Rattle.std.specs.Prelude.{◌≡◌, ℕ, suc, ◌+◌, ◌≤◌, ℤ, pos, ◌+ℤ◌, Bool, List, [], ◌∷◌, ◌++◌, length, Option, Some, None, slice_get, bytes_eq, option_map, if◌then◌else◌}
+use Rattle.std.specs.Prelude.{map as each}
+use Rattle.insn_codec.specs.declared.insn.Insn.{Insn}
+use Rattle.loader.specs.Contents.{Contents}
+use Rattle.value_store.specs.Value.{Value, ValueOrError}
+use Rattle.cel_macros.specs.Environment.{Roots, variable_value}
+use Rattle.codegen_base.specs.Contexts.{Gives}
+use Rattle.codegen_base.specs.Engine.{Setting}
+use Rattle.codegen_base.specs.Pieces.{Stands}
+use Rattle.codegen_base.specs.Variables.{memo_tail, routine_context, use_code, used_context, with_variables}
+
+-- a variable: its name and its value or error; the slot and the code of its routine; how many frames a use of it opens at most, its own included; and what its value takes
+pub record Variable : Type 0 where
+  pub name : List ℕ
+  pub value : ValueOrError
+  pub routine : ℕ
+  pub body : List Insn
+  pub nesting : ℕ
+  pub steps : ℕ
+  pub charge : ℕ
+
+-- what names stand for
+abbrev pub bindings : List Variable → List (List ℕ × ValueOrError)
+bindings = each (λ v. (v.name, v.value))
+
+-- what the first use of each takes: the call, the memo and the exit take 9 steps more
+abbrev pub first_steps : List Variable → List ℕ
+first_steps = each (λ v. v.steps + 9)
+
+abbrev pub first_charges : List Variable → List ℕ
+first_charges = each (λ v. v.charge)
+
+-- the setting in which the variables may be used
+abbrev pub scope_setting : Contents → Bool → List Variable → Setting
+scope_setting image deep scope = with_variables image deep (first_steps scope) (first_charges scope)
+
+-- the routine of the variable behind these stands in the image, and gives its value in the setting of these wherever enough frames are left
+pub record HasRoutine (image : Contents) (deep : Bool) (roots : Roots) (constants : List ℕ) (before : List Variable) (v : Variable) : Type 0 where
+  pub stands : Stands image.code v.routine (v.body ++ memo_tail (length before))
+  pub opens : 1 ≤ v.nesting
+  pub gives : (depth : ℕ) → depth + v.nesting ≤ 7 → Gives (scope_setting image deep before) v.routine v.body (routine_context roots (bindings before) constants) (depth + 1) 0 v.value v.steps v.charge
+
+-- each variable of a scope has its routine
+abbrev pub IsScope : Contents → Bool → Roots → List ℕ → List Variable → Type 0
+IsScope image deep roots constants scope = (before later : List Variable) (v : Variable) → scope ≡ before ++ v ∷ later → HasRoutine image deep roots constants before v
+
+-- the place of the first variable of a name
+abbrev pub place_named : List ℕ → List Variable → Option ℕ
+place_named n [] = None
+place_named n (v ∷ more) = if bytes_eq v.name n then Some 0 else option_map suc (place_named n more)
+
+-- the use of a variable, found by its name, gives what the name stands for, with 5 steps of its own, wherever enough frames are left
+abbrev pub ScopeGives : Type 0
+ScopeGives = (image : Contents) (deep : Bool) (roots : Roots) (constants : List ℕ) (scope : List Variable) (words : List (List ℕ × ℕ)) (items : List (List ℕ × Value)) (name : List ℕ) (i : ℕ) (v : Variable) (p depth base : ℕ) (offset : ℤ)
+    → IsScope image deep roots constants scope → length scope ≤ 512 → base ≤ 60
+    → place_named name scope ≡ Some i → slice_get scope i ≡ Some v → depth + v.nesting ≤ 7
+    → pos (p + 4) +ℤ pos 1 +ℤ offset ≡ pos v.routine
+    → Gives (scope_setting image deep scope) p (use_code i offset) (used_context roots items words constants (bindings scope)) depth base (variable_value name (bindings scope)) 5 0
+
+-- no variables are a scope
+abbrev pub NoScope : Type 0
+NoScope = (image : Contents) (deep : Bool) (roots : Roots) (constants : List ℕ) → IsScope image deep roots constants []
+
+-- the first variables of a scope are one
+abbrev pub ScopeBegins : Type 0
+ScopeBegins = (image : Contents) (deep : Bool) (roots : Roots) (constants : List ℕ) (scope more : List Variable) → IsScope image deep roots constants (scope ++ more) → IsScope image deep roots constants scope
+
+-- a scope with one more variable, which may use those before it, is one
+abbrev pub ScopeGrows : Type 0
+ScopeGrows = (image : Contents) (deep : Bool) (roots : Roots) (constants : List ℕ) (scope : List Variable) (v : Variable) → IsScope image deep roots constants scope → HasRoutine image deep roots constants scope v → IsScope image deep roots constants (scope ++ v ∷ [])
