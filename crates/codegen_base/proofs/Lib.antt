@@ -23,6 +23,7 @@ pub mod Insertions
 pub mod Aggregates
 pub mod Lists
 pub mod Maps
+pub mod Insns
 pub mod Comparison
 pub mod Ints
 pub mod Operands
@@ -35,3 +36,4 @@ pub mod IntWords
 pub mod Products
 pub mod Multiplications
 pub mod Negation
+pub mod Joined

@@ -1,0 +1,312 @@
+-- The numbers of the instructions are in range: code can be spelled where that of its parts can, and is short.
+use Rattle.std.proofs.Common.{◌≡◌, ℕ, suc, ◌+◌, ◌^◌, ◌<◌, ◌≤◌, List, [], ◌∷◌, ◌++◌, Option, Some, None, refl, arith}
+use Rattle.std.specs.Prelude.{ℤ, Bool, true, false, pos, bytes_eq, FitsSigned, if◌then◌else◌}
+use Rattle.std.specs.List.{AllByRecursion}
+use Rattle.std.specs.Int.{w16, w32, w64}
+use Rattle.std.proofs.lemmas.Int.{ints}
+use Rattle.insn_codec.specs.declared.alu_op.AluOp.{AluOp}
+use Rattle.insn_codec.specs.declared.alu_op.AluOp.TheVariants.{Add, Sub}
+use Rattle.insn_codec.specs.declared.comparison.Comparison.{Comparison}
+use Rattle.insn_codec.specs.declared.comparison.Comparison.TheVariants.{Sge, Sgt, Sle, Slt}
+use Rattle.insn_codec.specs.declared.insn.Insn.{Insn}
+use Rattle.insn_codec.specs.declared.insn.Insn.TheVariants.{Call}
+use Rattle.insn_codec.specs.declared.register.Register.TheVariants.{R0, R1, R2, R6, R7}
+use Rattle.cel_macros.specs.Environment.{lookup}
+use Rattle.cel_macros.specs.declared.macros.Macro.{Macro}
+use Rattle.cel_macros.specs.declared.macros.Macro.TheVariants.{All, Exists, ExistsOne, Filter, Map}
+use Rattle.cel_macros.specs.Functions.{TextTest, StartsWith, EndsWith, Contains}
+use Rattle.codegen_base.specs.Code.Aggregates.{entry_code, entry_tail, item_code, list_code, list_head, map_code, map_head, push_tail}
+use Rattle.codegen_base.specs.Code.Arithmetic.{checked_tail, difference_code, divided_code, divided_tail, int_answer, int_operands, negation_tail, product_code, product_tail, sum_code, sum_tail, difference_tail}
+use Rattle.codegen_base.specs.Code.Calls.{call_one, call_swapped, call_two, two_code}
+use Rattle.codegen_base.specs.Code.Comparison.{equal_tail, greater_equal_tail, greater_tail, less_equal_tail, less_tail, member_tail, unequal_tail}
+use Rattle.codegen_base.specs.Code.Logic.{absorbing_code, absorbing_tail, no_ref, not_tail, ternary_code, yes_ref}
+use Rattle.codegen_base.specs.Code.Selection.{call_with_text, field_tail, has_tail, index_tail, size_tail, string_tail, test_helper, test_tail}
+use Rattle.codegen_base.specs.Code.Folds.{absorbing_turn, exists_one_end, exists_one_turn, filter_turn, first_empty, first_false, first_true, macro_code, map_turn, map_where_code, map_where_turn}
+use Rattle.codegen_base.specs.Code.Literals.{int_code, null_code, text_code, truth_code}
+use Rattle.codegen_base.specs.Code.Names.{held_code, name_code, reference_or_error, root_reference, root_references}
+use Rattle.codegen_base.specs.Instructions.{copy, load, put, skip}
+use Rattle.codegen_base.specs.Loops.{fold_code, loop_code, loop_head, loop_tail, range_tail}
+use Rattle.codegen_base.specs.Pieces.{AreInsns, size}
+use Rattle.codegen_base.specs.Variables.{memo_tail, use_code}
+use Rattle.codegen_base.specs.Words.{word_offset}
+use Rattle.codegen_base.proofs.Ints.{word_small}
+use Rattle.codegen_base.proofs.Loops.{loop_size}
+use Rattle.codegen_base.proofs.Pieces.{size-append}
+
+-- code this short has no jump that is too far
+abbrev pub short_size : ℕ
+short_size = 32000
+
+pub insns_append : (a b : List Insn) → AreInsns a → AreInsns b → AreInsns (a ++ b)
+insns_append [] b first second = second
+insns_append (i ∷ is) b first second = (first.0, insns_append is b first.1 second)
+
+-- a word of the frame
+word_in_range : (k : ℕ) → k < 64 → FitsSigned w16 (word_offset k)
+word_in_range k below = omega arith
+
+-- a jump forward, and one back
+over : (n : ℕ) → n < 32768 → FitsSigned w16 (pos n)
+over n short = omega arith
+
+-- ---- calls and operands
+
+pub two_insns : (left right tail : List Insn) (k : ℕ) → k < 64 → AreInsns left → AreInsns right → AreInsns tail → AreInsns (two_code left right k tail)
+two_insns left right tail k below first second third = insns_append left _ first (word_in_range k below, insns_append right tail second third)
+
+pub call_one_insns : (helper : ℤ) → FitsSigned w32 helper → AreInsns (call_one helper)
+call_one_insns helper h = (tt, (h, tt))
+
+pub call_two_insns : (helper : ℤ) (k : ℕ) → FitsSigned w32 helper → k < 64 → AreInsns (call_two helper k)
+call_two_insns helper k h below = (tt, (word_in_range k below, (h, tt)))
+
+pub call_swapped_insns : (helper : ℤ) (k : ℕ) → FitsSigned w32 helper → k < 64 → AreInsns (call_swapped helper k)
+call_swapped_insns helper k h below = (tt, (word_in_range k below, (h, tt)))
+
+-- ---- logic
+
+absorbing_tail_insns : (decides other : ℤ) (k : ℕ) → FitsSigned w32 decides → FitsSigned w32 other → k < 64 → AreInsns (absorbing_tail decides other k)
+absorbing_tail_insns decides other k d e below = (word_in_range k below, ((d, over 3 (omega arith)), ((e, over 1 (omega arith)), ((e, over 1 (omega arith)), (omega arith, tt)))))
+
+pub absorbing_insns : (decides other : ℤ) (left right : List Insn) (k : ℕ) → FitsSigned w32 decides → FitsSigned w32 other → k < 64 → size right ≤ short_size → AreInsns left → AreInsns right → AreInsns (absorbing_code decides other left right k)
+absorbing_insns decides other left right k d e below short first second =
+    insns_append left _ first ((d, over (size right + 6) (omega arith)), (word_in_range k below, insns_append right _ second (absorbing_tail_insns decides other k d e below)))
+
+pub not_insns : AreInsns not_tail
+not_insns = call_one_insns (pos 23) (omega arith)
+
+pub ternary_insns : (condition chosen other : List Insn) → size chosen + size other ≤ short_size → AreInsns condition → AreInsns chosen → AreInsns other → AreInsns (ternary_code condition chosen other)
+ternary_insns condition chosen other short first second third =
+    insns_append condition _ first ((omega arith, over (size chosen + 2) (omega arith)), ((omega arith, over (size chosen + size other + 2) (omega arith)), insns_append chosen _ second (over (size other + 2) (omega arith), insns_append other _ third (over 1 (omega arith), (omega arith, tt)))))
+
+-- ---- comparisons and membership
+
+opposite_insns : (tail : List Insn) → AreInsns tail → AreInsns (tail ++ not_tail)
+opposite_insns tail first = insns_append tail not_tail first not_insns
+
+pub equal_insns : (k : ℕ) → k < 64 → AreInsns (equal_tail k)
+equal_insns k below = call_two_insns (pos 9) k (omega arith) below
+
+pub unequal_insns : (k : ℕ) → k < 64 → AreInsns (unequal_tail k)
+unequal_insns k below = opposite_insns (equal_tail k) (equal_insns k below)
+
+pub less_insns : (k : ℕ) → k < 64 → AreInsns (less_tail k)
+less_insns k below = call_two_insns (pos 10) k (omega arith) below
+
+pub greater_insns : (k : ℕ) → k < 64 → AreInsns (greater_tail k)
+greater_insns k below = call_swapped_insns (pos 10) k (omega arith) below
+
+pub less_equal_insns : (k : ℕ) → k < 64 → AreInsns (less_equal_tail k)
+less_equal_insns k below = opposite_insns (greater_tail k) (greater_insns k below)
+
+pub greater_equal_insns : (k : ℕ) → k < 64 → AreInsns (greater_equal_tail k)
+greater_equal_insns k below = opposite_insns (less_tail k) (less_insns k below)
+
+pub member_insns : (k : ℕ) → k < 64 → AreInsns (member_tail k)
+member_insns k below = call_two_insns (pos 15) k (omega arith) below
+
+-- ---- selection
+
+pub with_text_insns : (helper : ℤ) (address count : ℕ) → FitsSigned w32 helper → address < 2 ^ 64 → count < 2 ^ 64 → AreInsns (call_with_text helper address count)
+with_text_insns helper address count h small few = (tt, (small, (few, (h, tt))))
+
+pub field_insns : (address count : ℕ) → address < 2 ^ 64 → count < 2 ^ 64 → AreInsns (field_tail address count)
+field_insns address count small few = with_text_insns (pos 5) address count (omega arith) small few
+
+pub has_insns : (address count : ℕ) → address < 2 ^ 64 → count < 2 ^ 64 → AreInsns (has_tail address count)
+has_insns address count small few = with_text_insns (pos 6) address count (omega arith) small few
+
+pub index_insns : (k : ℕ) → k < 64 → AreInsns (index_tail k)
+index_insns k below = call_two_insns (pos 7) k (omega arith) below
+
+pub size_insns : AreInsns size_tail
+size_insns = call_one_insns (pos 8) (omega arith)
+
+pub string_insns : AreInsns string_tail
+string_insns = (tt, (tt, (omega arith, ((omega arith, omega arith), (tt, (omega arith, (tt, (omega arith, tt))))))))
+
+test_in_range : (t : TextTest) → FitsSigned w32 (test_helper t)
+test_in_range StartsWith = omega arith
+test_in_range EndsWith = omega arith
+test_in_range Contains = omega arith
+
+pub test_insns : (t : TextTest) (k : ℕ) → k < 64 → AreInsns (test_tail t k)
+test_insns t k below = call_two_insns (test_helper t) k (test_in_range t) below
+
+-- ---- arithmetic
+
+int_operands_insns : (k off : ℕ) → k < 64 → off ≤ 100 → AreInsns (int_operands k off)
+int_operands_insns k off below short =
+    (tt, (word_in_range k below, (tt, (omega arith, ((omega arith, over (off + 9) (omega arith)), (tt, (omega arith, ((omega arith, over (off + 6) (omega arith)), (tt, (omega arith, (tt, (tt, (omega arith, (tt, tt))))))))))))))
+
+int_answer_insns : AreInsns int_answer
+int_answer_insns = (omega arith, (omega arith, (omega arith, tt)))
+
+checked_insns : (op : AluOp) (under above : Comparison) → AreInsns (checked_tail op under above)
+checked_insns op under above = (tt, (tt, ((omega arith, omega arith), ((tt, omega arith), (omega arith, ((tt, omega arith), int_answer_insns))))))
+
+product_tail_insns : AreInsns product_tail
+unfolding product_tail
+product_tail_insns = (tt, (tt, ((omega arith, omega arith), ((omega arith, omega arith), (omega arith, ((tt, omega arith), (tt, (tt, ((tt, omega arith), int_answer_insns)))))))))
+
+divided_tail_insns : (op : AluOp) → AreInsns (divided_tail op)
+divided_tail_insns op = ((omega arith, omega arith), ((omega arith, omega arith), (omega arith, ((tt, omega arith), (tt, (tt, int_answer_insns))))))
+
+pub difference_insns : (k : ℕ) → k < 64 → AreInsns (difference_code k)
+difference_insns k below = insns_append (int_operands k 8) difference_tail (int_operands_insns k 8 below (omega arith)) (checked_insns Sub Sle Sgt)
+
+pub product_insns : (k : ℕ) → k < 64 → AreInsns (product_code k)
+product_insns k below = insns_append (int_operands k 12) product_tail (int_operands_insns k 12 below (omega arith)) product_tail_insns
+
+pub divided_insns : (op : AluOp) (k : ℕ) → k < 64 → AreInsns (divided_code op k)
+divided_insns op k below = insns_append (int_operands k 9) (divided_tail op) (int_operands_insns k 9 below (omega arith)) (divided_tail_insns op)
+
+pub sum_insns : (k : ℕ) → k < 64 → AreInsns (sum_code k)
+sum_insns k below =
+    let joining = skip 3 ∷ copy R1 R6 ∷ copy R2 R7 ∷ Call (pos 11) ∷ [] in
+    insns_append (int_operands k 10) (sum_tail ++ joining) (int_operands_insns k 10 below (omega arith)) (insns_append sum_tail joining (checked_insns Add Sge Slt) (omega arith, (tt, (tt, (omega arith, tt)))))
+
+pub negation_insns : AreInsns negation_tail
+unfolding negation_tail
+negation_insns = (tt, (tt, (omega arith, ((omega arith, omega arith), (tt, (omega arith, (tt, (omega arith, ((tt, omega arith), (tt, int_answer_insns))))))))))
+
+-- ---- list and map literals
+
+pub item_insns : (item : List Insn) (k : ℕ) → k < 64 → AreInsns item → AreInsns (item_code item k)
+item_insns item k below first = insns_append item (push_tail k) first (tt, (word_in_range k below, (omega arith, (word_in_range k below, tt))))
+
+pub list_insns : (items : List Insn) (k : ℕ) → k < 64 → AreInsns items → AreInsns (list_code items k)
+list_insns items k below first = insns_append (list_head k) _ (omega arith, (word_in_range k below, tt)) (insns_append items _ first (word_in_range k below, tt))
+
+pub entry_insns : (key entry : List Insn) (k : ℕ) → k < 63 → AreInsns key → AreInsns entry → AreInsns (entry_code key entry k)
+entry_insns key entry k below first second =
+    insns_append key _ first (word_in_range (k + 1) (omega arith), insns_append entry (entry_tail k) second (tt, (word_in_range (k + 1) (omega arith), (word_in_range k (omega arith), (omega arith, (word_in_range k (omega arith), tt))))))
+
+pub map_insns : (entries : List Insn) (k : ℕ) → k < 64 → AreInsns entries → AreInsns (map_code entries k)
+map_insns entries k below first = insns_append (map_head k) _ (omega arith, (word_in_range k below, tt)) (insns_append entries _ first (word_in_range k below, tt))
+
+-- ---- literals without parts, and names
+
+pub null_insns : AreInsns null_code
+null_insns = (omega arith, tt)
+
+pub truth_insns : (b : Bool) → AreInsns (truth_code b)
+truth_insns true = (omega arith, tt)
+truth_insns false = (omega arith, tt)
+
+pub int_insns : (z : ℤ) → FitsSigned w64 z → AreInsns (int_code z)
+int_insns z fits = (word_small z fits, (omega arith, tt))
+
+pub text_insns : (address count : ℕ) → address < 2 ^ 64 → count < 2 ^ 64 → AreInsns (text_code address count)
+text_insns address count small few = (small, (few, (omega arith, tt)))
+
+pub held_insns : (o : Option ℕ) (r : ℤ) → FitsSigned w32 r → ((k : ℕ) → o ≡ Some k → k < 64) → AreInsns (held_code o r)
+held_insns (Some k) r h below = (word_in_range k (below k refl), tt)
+held_insns None r h below = (h, tt)
+
+root_by : (found : Bool) (r : ℤ) (o : Option ℤ) → FitsSigned w32 r → FitsSigned w32 (reference_or_error o) → FitsSigned w32 (reference_or_error (if found then Some r else o))
+root_by true r o first later = first
+root_by false r o first later = later
+
+references_in_range : (n : List ℕ) (roots : List (List ℕ × ℤ)) → AllByRecursion (λ root. FitsSigned w32 root.1) roots → FitsSigned w32 (reference_or_error (lookup n roots))
+references_in_range n [] h = omega arith
+references_in_range n (root ∷ more) h = root_by (bytes_eq root.0 n) root.1 (lookup n more) h.0 (references_in_range n more h.1)
+
+root_in_range : (n : List ℕ) → FitsSigned w32 (root_reference n)
+unfolding root_reference
+root_in_range n = references_in_range n root_references (omega arith, (omega arith, (omega arith, (omega arith, (omega arith, tt)))))
+
+pub name_insns : (n : List ℕ) (words : List (List ℕ × ℕ)) → ((k : ℕ) → lookup n words ≡ Some k → k < 64) → AreInsns (name_code n words)
+name_insns n words below = held_insns (lookup n words) (root_reference n) (root_in_range n) below
+
+-- ---- loops and macros
+
+range_tail_insns : (k off : ℕ) → k < 56 → off < 32768 → AreInsns (range_tail k off)
+range_tail_insns k off below short = (word_in_range k (omega arith), (tt, (omega arith, ((omega (arith, ints), omega arith), (omega arith, (over off short, (word_in_range (k + 1) (omega arith), (omega arith, (word_in_range (k + 2) (omega arith), tt)))))))))
+
+loop_head_insns : (k off : ℕ) → k < 56 → off < 32768 → AreInsns (loop_head k off)
+loop_head_insns k off below short = (word_in_range (k + 1) (omega arith), (word_in_range (k + 2) (omega arith), ((tt, over off short), (word_in_range k (omega arith), (omega arith, (word_in_range (k + 4) (omega arith), tt))))))
+
+loop_tail_insns : (k off : ℕ) → k < 56 → off < 32768 → AreInsns (loop_tail k off)
+loop_tail_insns k off below short = (word_in_range (k + 3) (omega arith), (word_in_range (k + 2) (omega arith), (omega arith, (word_in_range (k + 2) (omega arith), (omega (arith, ints), (word_in_range (k + 3) (omega arith), tt))))))
+
+loop_insns : (k : ℕ) (turn : List Insn) → k < 56 → size turn ≤ short_size → AreInsns turn → AreInsns (loop_code k turn)
+loop_insns k turn below short first = insns_append (loop_head k (size turn + 8)) _ (loop_head_insns k (size turn + 8) below (omega arith)) (insns_append turn (loop_tail k (size turn + 10)) first (loop_tail_insns k (size turn + 10) below (omega arith)))
+
+pub fold_insns : (k : ℕ) (range first turn : List Insn) → k < 56 → size first + size turn ≤ short_size → AreInsns range → AreInsns first → AreInsns turn → AreInsns (fold_code k range first turn)
+fold_insns k range first turn below short one two three =
+    let long = loop_size k turn in
+    let off = size first + size (loop_code k turn) + 4 in
+    insns_append range _ one (insns_append (range_tail k off) _ (range_tail_insns k off below (omega arith)) (insns_append first _ two (word_in_range (k + 3) (omega arith), loop_insns k turn below (omega arith) three)))
+
+absorbing_turn_insns : (decides other : ℤ) (k : ℕ) → FitsSigned w32 decides → FitsSigned w32 other → k < 56 → AreInsns (absorbing_turn decides other k)
+absorbing_turn_insns decides other k d e below = ((d, omega arith), (word_in_range (k + 3) (omega arith), ((e, omega arith), ((e, omega arith), (omega arith, tt)))))
+
+once_turn_insns : (k : ℕ) → k < 56 → AreInsns (exists_one_turn k)
+unfolding exists_one_turn
+once_turn_insns k below = (word_in_range (k + 3) (omega arith), ((omega arith, omega arith), ((omega arith, omega arith), ((omega arith, omega arith), ((omega arith, omega arith), (omega arith, (omega arith, (omega arith, (omega arith, (tt, tt))))))))))
+
+once_end_insns : AreInsns exists_one_end
+once_end_insns = ((omega arith, omega arith), ((omega arith, omega arith), (omega arith, tt)))
+
+filter_turn_insns : (k : ℕ) → k < 56 → AreInsns (filter_turn k)
+unfolding filter_turn
+filter_turn_insns k below = ((omega arith, omega arith), ((omega arith, omega arith), (word_in_range (k + 3) (omega arith), (word_in_range (k + 4) (omega arith), (omega arith, (omega arith, (word_in_range (k + 3) (omega arith), (omega arith, (omega arith, tt)))))))))
+
+map_turn_insns : (k : ℕ) → k < 56 → AreInsns (map_turn k)
+map_turn_insns k below = (tt, (word_in_range (k + 3) (omega arith), (omega arith, tt)))
+
+where_turn_insns : (transform : List Insn) (k : ℕ) → k < 56 → size transform + 6 < 32768 → AreInsns transform → AreInsns (map_where_turn transform k)
+where_turn_insns transform k below short first =
+    ((omega arith, over (size transform + 5) (omega arith)), ((omega arith, over (size transform + 6) (omega arith)), insns_append transform _ first (tt, (word_in_range (k + 3) (omega arith), (omega arith, (omega arith, (word_in_range (k + 3) (omega arith), (omega arith, (omega arith, tt)))))))))
+
+first_true_insns : AreInsns first_true
+first_true_insns = (omega arith, tt)
+
+first_false_insns : AreInsns first_false
+first_false_insns = (omega arith, tt)
+
+first_empty_insns : AreInsns first_empty
+first_empty_insns = (omega arith, tt)
+
+-- a part and a short turn behind it
+turned : (k : ℕ) (range first part turn : List Insn) (n : ℕ) → size first ≡ 1 → size turn ≡ n → n ≤ 20 → k < 56 → size part + 50 ≤ short_size → AreInsns range → AreInsns first → AreInsns part → AreInsns turn → AreInsns (fold_code k range first (part ++ turn))
+turned k range first part turn n one is few below short a b c d =
+    let long = size-append part turn in
+    fold_insns k range first (part ++ turn) below (omega arith) a b (insns_append part turn c d)
+
+size_once : (k : ℕ) → size (exists_one_turn k) ≡ 10
+unfolding exists_one_turn
+size_once k = refl
+
+size_filter : (k : ℕ) → size (filter_turn k) ≡ 9
+unfolding filter_turn
+size_filter k = refl
+
+pub macro_insns : (m : Macro) (k : ℕ) (range part : List Insn) → k < 56 → size part + 50 ≤ short_size → AreInsns range → AreInsns part → AreInsns (macro_code m k range part)
+macro_insns All k range part below short first second = turned k range first_true part (absorbing_turn no_ref yes_ref k) 5 refl refl (omega arith) below short first first_true_insns second (absorbing_turn_insns no_ref yes_ref k (omega arith) (omega arith) below)
+macro_insns Exists k range part below short first second = turned k range first_false part (absorbing_turn yes_ref no_ref k) 5 refl refl (omega arith) below short first first_false_insns second (absorbing_turn_insns yes_ref no_ref k (omega arith) (omega arith) below)
+macro_insns ExistsOne k range part below short first second = insns_append (fold_code k range first_false (part ++ exists_one_turn k)) exists_one_end (turned k range first_false part (exists_one_turn k) 10 refl (size_once k) (omega arith) below short first first_false_insns second (once_turn_insns k below)) once_end_insns
+macro_insns Filter k range part below short first second = turned k range first_empty part (filter_turn k) 9 refl (size_filter k) (omega arith) below short first first_empty_insns second (filter_turn_insns k below)
+macro_insns Map k range part below short first second = turned k range first_empty part (map_turn k) 3 refl refl (omega arith) below short first first_empty_insns second (map_turn_insns k below)
+
+where_size : (transform : List Insn) (k : ℕ) → size (map_where_turn transform k) ≡ 2 + (size transform + 7)
+where_size transform k =
+    let tail = copy R2 R0 ∷ load R1 (k + 3) ∷ Call (pos 17) ∷ skip 3 ∷ load R0 (k + 3) ∷ skip 1 ∷ put R0 (pos 0) ∷ [] in
+    let long = size-append transform tail in
+    let whole : size (map_where_turn transform k) ≡ suc (suc (size (transform ++ tail))) = refl in
+    omega arith
+
+pub map_where_insns : (k : ℕ) (range predicate transform : List Insn) → k < 56 → size predicate + size transform + 50 ≤ short_size → AreInsns range → AreInsns predicate → AreInsns transform → AreInsns (map_where_code k range predicate transform)
+map_where_insns k range predicate transform below short first second third =
+    let long = size-append predicate (map_where_turn transform k) in
+    let more = where_size transform k in
+    fold_insns k range first_empty (predicate ++ map_where_turn transform k) below (omega arith) first first_empty_insns (insns_append predicate _ second (where_turn_insns transform k below (omega arith) third))
+
+-- ---- variables
+
+pub use_insns : (i : ℕ) (offset : ℤ) → i < 512 → FitsSigned w32 offset → AreInsns (use_code i offset)
+use_insns i offset below h = (omega arith, (omega arith, ((omega arith, omega arith), (h, (omega arith, tt)))))
+
+pub memo_insns : (i : ℕ) → i < 512 → AreInsns (memo_tail i)
+memo_insns i below = (omega arith, (omega arith, (omega arith, (omega arith, tt))))
