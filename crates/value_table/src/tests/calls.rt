@@ -8,7 +8,7 @@ use value_store::{Shape, ValueStore};
 
 /// A call that places a value.
 #[derive(Copy, Clone)]
-enum Step {
+pub(crate) enum Step {
     Int(i64),
     Text(&'static str),
     List,
@@ -219,7 +219,7 @@ fn place_of<V: ValueStore>(table: &V, m: u64, key: &[u8]) -> Option<u64> {
 }
 
 /// The reference at which the first step places something else.
-fn first_misplaced(
+pub(crate) fn first_misplaced(
     table: &mut Table,
     steps: &[(u64, Step, &str)],
 ) -> Result<Option<u64>, AllocError> {
@@ -232,7 +232,10 @@ fn first_misplaced(
 }
 
 /// The first reference at which something else stands.
-fn first_changed(table: &Table, steps: &[(u64, Step, &str)]) -> Result<Option<u64>, Fail> {
+pub(crate) fn first_changed(
+    table: &Table,
+    steps: &[(u64, Step, &str)],
+) -> Result<Option<u64>, Fail> {
     for (h, _, json) in steps {
         if json_of(table, *h)?.as_str() != *json {
             return Ok(Some(*h));
