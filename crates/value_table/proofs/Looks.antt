@@ -96,6 +96,12 @@ some_mapped f (Some x) e = refl
 pub push_fits : (l x : Option ValueOrError) (n : ℕ) (z : ℤ) → Some (sees_list n) ≡ option_map seen l → Some (sees_int z) ≡ option_map seen x → IsSome (pushed l x)
 push_fits l x n z e f = let a = list_here l n e in let b = int_here x z f in rw (a.is, b.is) refl
 
+pub bool_fits : (l x : Option ValueOrError) (n : ℕ) (b : Bool) → Some (sees_list n) ≡ option_map seen l → Some (sees_bool b) ≡ option_map seen x → IsSome (pushed l x)
+bool_fits l x n b e f = let a = list_here l n e in let c = bool_here x b f in rw (a.is, c.is) refl
+
+pub list_fits : (l x : Option ValueOrError) (n m : ℕ) → Some (sees_list n) ≡ option_map seen l → Some (sees_list m) ≡ option_map seen x → IsSome (pushed l x)
+list_fits l x n m e f = let a = list_here l n e in let b = list_here x m f in rw (a.is, b.is) refl
+
 pub item_fits : (o : Option ValueOrError) (n i : ℕ) → Some (sees_list n) ≡ option_map seen o → i < n → IsSome (part_at o i)
 item_fits o n i e f = let a = list_here o n e in rw a.is (some_within (list_of a.items) i (let g = a.count in omega arith))
 
@@ -148,6 +154,9 @@ texts_less a b s t e f = let x = text_here a s e in let y = text_here b t f in r
 
 pub int_in_list : (x c : Option ValueOrError) (z : ℤ) (n : ℕ) → Some (sees_int z) ≡ option_map seen x → Some (sees_list n) ≡ option_map seen c → IsSome (member_at x c)
 int_in_list x c z n e f = let a = int_here x z e in let b = list_here c n f in rw (a.is, b.is) refl
+
+pub list_in_list : (x c : Option ValueOrError) (m n : ℕ) → Some (sees_list m) ≡ option_map seen x → Some (sees_list n) ≡ option_map seen c → IsSome (member_at x c)
+list_in_list x c m n e f = let a = list_here x m e in let b = list_here c n f in rw (a.is, b.is) refl
 
 pub text_in_map : (x c : Option ValueOrError) (s : List ℕ) (n : ℕ) → Some (sees_text s) ≡ option_map seen x → Some (sees_map n) ≡ option_map seen c → IsSome (member_at x c)
 text_in_map x c s n e f = let a = text_here x s e in let b = map_here c n f in rw (a.is, b.is) refl

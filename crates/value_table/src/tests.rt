@@ -1,6 +1,7 @@
 //! Reviews that were worked by hand.
 
 mod calls;
+mod lists;
 
 use crate::Table;
 use serde_json::{Map, Value};

@@ -8,7 +8,7 @@ use value_store::{Shape, ValueStore};
 
 /// A call that places a value.
 #[derive(Copy, Clone)]
-enum Step {
+pub(crate) enum Step {
     Int(i64),
     Text(&'static str),
     List,
@@ -91,11 +91,17 @@ const PLACES: [(u64, &[u8], Option<u64>); 6] = [
     (21, b"\xff", None),
 ];
 
-/// The list with the int behind its items.
-#[tactic(auto, using(crate::proofs::Looks::push_fits))]
-fn pushed<V: ValueStore>(table: &mut V, l: u64, x: u64) -> Result<Option<u64>, AllocError> {
+/// The list with the bool, the int or the list behind its items.
+#[tactic(auto, using(crate::proofs::Looks::push_fits, crate::proofs::Looks::bool_fits, crate::proofs::Looks::list_fits))]
+pub(crate) fn pushed<V: ValueStore>(
+    table: &mut V,
+    l: u64,
+    x: u64,
+) -> Result<Option<u64>, AllocError> {
     match (table.at(l), table.at(x)) {
+        (Some(Shape::List(_)), Some(Shape::Bool(_))) => Ok(Some(table.push(l, x)?)),
         (Some(Shape::List(_)), Some(Shape::Int(_))) => Ok(Some(table.push(l, x)?)),
+        (Some(Shape::List(_)), Some(Shape::List(_))) => Ok(Some(table.push(l, x)?)),
         _ => Ok(None),
     }
 }
@@ -171,7 +177,7 @@ fn placed<V: ValueStore>(table: &mut V, step: Step) -> Result<Option<u64>, Alloc
 
 /// Whether two texts, lists or maps are equal.
 #[tactic(auto, using(crate::proofs::Looks::texts_equal, crate::proofs::Looks::lists_equal, crate::proofs::Looks::maps_equal))]
-fn equal<V: ValueStore>(table: &mut V, a: u64, b: u64) -> Option<bool> {
+pub(crate) fn equal<V: ValueStore>(table: &mut V, a: u64, b: u64) -> Option<bool> {
     match (table.at(a), table.at(b)) {
         (Some(Shape::Text(_)), Some(Shape::Text(_))) => Some(table.equal(a, b)),
         (Some(Shape::List(_)), Some(Shape::List(_))) => Some(table.equal(a, b)),
@@ -191,11 +197,12 @@ fn less<V: ValueStore>(table: &V, a: u64, b: u64) -> Option<bool> {
     }
 }
 
-/// Whether a list has an int, or a map has a key.
-#[tactic(auto, using(crate::proofs::Looks::int_in_list, crate::proofs::Looks::text_in_map))]
-fn member<V: ValueStore>(table: &mut V, x: u64, c: u64) -> Option<bool> {
+/// Whether a list has an int or a list, or a map has a key.
+#[tactic(auto, using(crate::proofs::Looks::int_in_list, crate::proofs::Looks::list_in_list, crate::proofs::Looks::text_in_map))]
+pub(crate) fn member<V: ValueStore>(table: &mut V, x: u64, c: u64) -> Option<bool> {
     match (table.at(x), table.at(c)) {
         (Some(Shape::Int(_)), Some(Shape::List(_))) => Some(table.member(x, c)),
+        (Some(Shape::List(_)), Some(Shape::List(_))) => Some(table.member(x, c)),
         (Some(Shape::Text(_)), Some(Shape::Map(_))) => Some(table.member(x, c)),
         _ => None,
     }
@@ -219,7 +226,7 @@ fn place_of<V: ValueStore>(table: &V, m: u64, key: &[u8]) -> Option<u64> {
 }
 
 /// The reference at which the first step places something else.
-fn first_misplaced(
+pub(crate) fn first_misplaced(
     table: &mut Table,
     steps: &[(u64, Step, &str)],
 ) -> Result<Option<u64>, AllocError> {
@@ -232,7 +239,10 @@ fn first_misplaced(
 }
 
 /// The first reference at which something else stands.
-fn first_changed(table: &Table, steps: &[(u64, Step, &str)]) -> Result<Option<u64>, Fail> {
+pub(crate) fn first_changed(
+    table: &Table,
+    steps: &[(u64, Step, &str)],
+) -> Result<Option<u64>, Fail> {
     for (h, _, json) in steps {
         if json_of(table, *h)?.as_str() != *json {
             return Ok(Some(*h));
