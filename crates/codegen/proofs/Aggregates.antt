@@ -15,7 +15,7 @@ use Rattle.codegen_base.proofs.Runs.{looser}
 use Rattle.codegen.specs.Code.Expressions.{code_of, entries_code, items_code, texts_of, texts_of_each, texts_of_entries}
 use Rattle.codegen.specs.Computes.{TextsStand}
 use Rattle.codegen.specs.Cost.{Cost, ◌and◌, kept, node, nothing, spent_by}
-use Rattle.codegen.proofs.Accepted.{AreAccepted, AreEntriesAccepted, IsAccepted}
+use Rattle.codegen.specs.Accepted.{AreAccepted, AreEntriesAccepted, IsAccepted}
 use Rattle.codegen.proofs.Budgets.{gives_within, result_size_least}
 use Rattle.codegen.proofs.Parts.{Part, or_left, or_right, texts_back, texts_front}
 

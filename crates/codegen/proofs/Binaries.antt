@@ -29,9 +29,10 @@ use Rattle.codegen_base.proofs.Negation.{negation_gives}
 use Rattle.codegen.specs.Code.Expressions.{binary_tail, code_of, texts_of}
 use Rattle.codegen.specs.Computes.{Computes}
 use Rattle.codegen.specs.Cost.{Cost, ◌and◌, node}
-use Rattle.codegen.proofs.Accepted.{IsAccepted}
+use Rattle.codegen.specs.Accepted.{IsAccepted}
 use Rattle.codegen.proofs.Budgets.{absorbing, one, two}
-use Rattle.codegen.proofs.Parts.{Part, Ready, joined_within, left_ready, right_ready}
+use Rattle.codegen.proofs.Parts.{Part, joined_within, left_ready, right_ready}
+use Rattle.codegen.specs.Computes.{Ready}
 
 module _ (s : Setting) (texts : List (List ℕ)) (depth : ℕ) (c : Context) (k : ℕ) where
   pub unary_part : (u : UnaryOperator) (a : CoreTree) (x : ValueOrError) (t : Cost) → Part s texts depth c k a x t → Part s texts depth c k (core.unary u a) (unary_of u x) (node (unary_of u x) and t)

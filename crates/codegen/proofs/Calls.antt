@@ -13,8 +13,9 @@ use Rattle.codegen_base.specs.Engine.{Setting}
 use Rattle.codegen.specs.Code.Expressions.{code_of, function_code, method_function_code, test_code, texts_of}
 use Rattle.codegen.specs.Computes.{Computes}
 use Rattle.codegen.specs.Cost.{Cost, ◌and◌, call_cost, node, selection_cost}
-use Rattle.codegen.proofs.Accepted.{IsAccepted}
-use Rattle.codegen.proofs.Parts.{Part, Ready, function_part, has_part, one_ready, or_left, or_right, select_part, test_part, texts_back, texts_front}
+use Rattle.codegen.specs.Accepted.{IsAccepted}
+use Rattle.codegen.proofs.Parts.{Part, function_part, has_part, one_ready, or_left, or_right, select_part, test_part, texts_back, texts_front}
+use Rattle.codegen.specs.Computes.{Ready}
 
 module _ (s : Setting) (texts : List (List ℕ)) (depth : ℕ) (c : Context) (k : ℕ) where
   -- no variable is used

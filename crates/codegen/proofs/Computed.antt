@@ -12,12 +12,13 @@ use Rattle.codegen_base.specs.Engine.{Setting}
 use Rattle.codegen_base.specs.Loops.{with_item}
 use Rattle.codegen.specs.HasLiterals.{EntriesHaveLiterals, HasLiterals, HaveLiterals}
 use Rattle.codegen.specs.Cost.{cost, costs, entry_costs, operand_cost}
-use Rattle.codegen.proofs.Accepted.{IsAccepted}
+use Rattle.codegen.specs.Accepted.{IsAccepted}
 use Rattle.codegen.proofs.Aggregates.{EntriesPart, ItemsPart, entries_more, entries_none, items_more, items_none, list_part, map_part}
 use Rattle.codegen.proofs.Binaries.{binary_part, unary_part}
 use Rattle.codegen.proofs.Calls.{call_part, method_part, selection_part, text_method_part}
 use Rattle.codegen.proofs.Expanded.{expanded_again}
-use Rattle.codegen.proofs.Parts.{Part, Ready, index_part, literal_part, name_part, ternary_part}
+use Rattle.codegen.proofs.Parts.{Part, index_part, literal_part, name_part, ternary_part}
+use Rattle.codegen.specs.Computes.{Ready}
 use Rattle.codegen.proofs.Ranges.{fold_map_part, fold_part}
 
 -- the expression itself is visited

@@ -8,7 +8,7 @@ use Rattle.cel_macros.specs.Functions.{function_named}
 use Rattle.cel_macros.specs.Macros.{macro_name, macro_named, has_name, is_has, is_map, field_name}
 use Rattle.cel_macros.specs.declared.macros.Macro.{Macro}
 use Rattle.cel_macros.specs.declared.macros.Macro.TheVariants.{All, Exists, ExistsOne, Filter, Map}
-use Rattle.codegen.proofs.Accepted.{IsAccepted, AreAccepted, AreEntriesAccepted}
+use Rattle.codegen.specs.Accepted.{IsAccepted, AreAccepted, AreEntriesAccepted}
 
 -- the name of each macro is its own
 macro_again : (m : Macro) → macro_named (macro_name m) ≡ Some m

@@ -24,9 +24,9 @@ use Rattle.codegen_base.proofs.Leaves.{leaves_give}
 use Rattle.codegen_base.proofs.Selection.{selection_gives}
 use Rattle.codegen.specs.Code.Expressions.{code_of, function_code, test_code, texts_of}
 use Rattle.codegen.specs.Code.Literals.{address_of}
-use Rattle.codegen.specs.Computes.{Computes, TextsStand}
+use Rattle.codegen.specs.Computes.{Computes, TextsStand, Ready}
 use Rattle.codegen.specs.Cost.{Cost, ◌and◌, literal_cost, name_or_text, node, nothing}
-use Rattle.codegen.proofs.Accepted.{IsAccepted}
+use Rattle.codegen.specs.Accepted.{IsAccepted}
 use Rattle.codegen.proofs.Budgets.{branches, leaf, one, same, text_within, two}
 
 pub or_left : (a b : Bool) → a ≡ true → (a || b) ≡ true
@@ -89,13 +89,6 @@ joined_within (value (int n)) (value w) = none_joined (value (int n)) (value w) 
 joined_within (value (text t)) (value w) = text_joined t w
 joined_within (value (list is)) (value w) = list_joined is w
 joined_within (value (map es)) (value w) = none_joined (value (map es)) (value w) refl
-
--- the machine and the frame are ready for the code: there is room for its words, its texts stand among the constants, and where a list or map is to hold a value that is too deep the machine may stop for it
-pub record Ready (s : Setting) (texts : List (List ℕ)) (c : Context) (k : ℕ) (e : CoreTree) (deep : Bool) : Type 0 where
-  pub accepted : IsAccepted e
-  pub room : k + need e ≤ 60
-  pub texts_stand : TextsStand c.constants texts (texts_of e)
-  pub may : deep ≡ true → s.is_deep ≡ true
 
 -- where all is ready, the code gives the value within the budgets, wherever it stands
 abbrev pub Part : Setting → List (List ℕ) → ℕ → Context → ℕ → CoreTree → ValueOrError → Cost → Type 0

@@ -14,9 +14,10 @@ use Rattle.codegen_base.specs.Engine.{Setting}
 use Rattle.codegen_base.specs.Loops.{with_item}
 use Rattle.codegen.specs.Code.Expressions.{code_of, texts_of}
 use Rattle.codegen.specs.Cost.{Cost, ◌and◌, items_cost, kept, kept_by, macro_cost, map_cost, node, nothing}
-use Rattle.codegen.proofs.Accepted.{IsAccepted}
+use Rattle.codegen.specs.Accepted.{IsAccepted}
 use Rattle.codegen.proofs.Macros.{item_deep, macro_computes, map_where_computes}
-use Rattle.codegen.proofs.Parts.{Part, Ready, left_ready, or_left, or_right, texts_back, texts_front}
+use Rattle.codegen.proofs.Parts.{Part, left_ready, or_left, or_right, texts_back, texts_front}
+use Rattle.codegen.specs.Computes.{Ready}
 
 module _ (s : Setting) (texts : List (List ℕ)) (depth : ℕ) (c : Context) (k : ℕ) where
   -- no other method has two arguments or more

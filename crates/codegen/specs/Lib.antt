@@ -1,8 +1,9 @@
 pub mod Cost
 pub mod CostRows
 pub mod Constants
-pub mod HasLiterals
-pub mod Computes
 pub mod Emitted
 pub mod Code
+pub mod Accepted
+pub mod HasLiterals
+pub mod Computes
 pub mod Laws
