@@ -20,10 +20,10 @@ use Rattle.codegen_base.specs.Instructions.{load, put, skip, skip_if, store}
 use Rattle.codegen_base.specs.Pieces.{size}
 use Rattle.codegen_base.specs.Code.Arithmetic.{product_tail, negation_tail}
 use Rattle.codegen_base.specs.Code.Calls.{two_code}
-use Rattle.codegen.specs.Code.Expressions.{code_of, items_code, entries_code, binary_code, binary_tail, unary_tail, function_code, method_function_code, test_code, macro_code}
+use Rattle.codegen.specs.Code.Expressions.{code_of, items_code, entries_code, binary_code, binary_tail, unary_tail, function_code, method_function_code, test_code}
 use Rattle.codegen_base.specs.Loops.{fold_code}
 use Rattle.codegen_base.proofs.Loops.{fold_size, loop_size}
-use Rattle.codegen.specs.Code.Folds.{first_true, first_false, first_empty, absorbing_turn, exists_one_turn, exists_one_end, filter_turn, map_turn, map_where_turn, map_where_code}
+use Rattle.codegen_base.specs.Code.Folds.{macro_code, first_true, first_false, first_empty, absorbing_turn, exists_one_turn, exists_one_end, filter_turn, map_turn, map_where_turn, map_where_code}
 use Rattle.codegen.specs.Code.Literals.{address_of, literal_code, item_code, push_tail, list_head, list_code, entry_code, entry_tail, map_head, map_code}
 use Rattle.codegen_base.specs.Code.Logic.{no_ref, yes_ref, absorbing_code, absorbing_tail, ternary_code}
 use Rattle.codegen_base.specs.Code.Names.{held_code, root_reference}

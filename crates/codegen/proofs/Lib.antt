@@ -3,3 +3,13 @@ pub mod Sizes
 pub mod Lengths
 pub mod Lent
 pub mod Accepted
+pub mod Budgets
+pub mod Parts
+pub mod Calls
+pub mod Binaries
+pub mod Macros
+pub mod Ranges
+pub mod Aggregates
+pub mod Expanded
+pub mod Computed
+pub mod CodeInsns

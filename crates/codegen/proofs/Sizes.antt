@@ -12,7 +12,7 @@ use Rattle.codegen_base.specs.Loops.{fold_code, loop_code, range_tail}
 use Rattle.codegen_base.specs.Pieces.{size}
 use Rattle.codegen_base.proofs.Loops.{loop_size}
 use Rattle.codegen_base.proofs.Pieces.{size-append, size-cons}
-use Rattle.codegen.specs.Code.Folds.{map_where_turn}
+use Rattle.codegen_base.specs.Code.Folds.{map_where_turn}
 
 pub size_cons : (i : Insn) (piece : List Insn) → size (i ∷ piece) ≡ slot_count i + size piece
 size_cons i piece = size-cons i piece

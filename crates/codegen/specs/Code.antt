@@ -1,4 +1,3 @@
 -- The code of lists, maps and macros, and of whole expressions.
 pub mod Literals
-pub mod Folds
 pub mod Expressions

@@ -3,4 +3,7 @@ pub mod CostRows
 pub mod Constants
 pub mod Emitted
 pub mod Code
+pub mod Accepted
+pub mod HasLiterals
+pub mod Computes
 pub mod Laws

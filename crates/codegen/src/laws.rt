@@ -1,7 +1,7 @@
 //! The laws of the code generator, each the contract of an empty function.
 
 ghost use Rattle.codegen.specs.CostRows.{CostRows};
-ghost use Rattle.codegen.specs.Laws.{CodeIsShort};
+ghost use Rattle.codegen.specs.Laws.{CodeGives, CodeIsShort};
 
 /// Expressions that were worked by hand visit and spend so much.
 pub fn costs_stand()
@@ -11,4 +11,10 @@ pub fn costs_stand()
 /// The code of an expression is so short that jumps in it fit 16 bits.
 pub fn code_is_short()
     ensures { CodeIsShort }
+{}
+
+/// The code of an expression without variables gives what the expression means, within its bounds on
+/// steps and charge.
+pub fn code_gives()
+    ensures { CodeGives }
 {}

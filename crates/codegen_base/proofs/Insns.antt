@@ -35,7 +35,7 @@ use Rattle.codegen_base.proofs.Pieces.{size-append}
 
 -- code this short has no jump that is too far
 abbrev pub short_size : ℕ
-short_size = 32000
+short_size = 32700
 
 pub insns_append : (a b : List Insn) → AreInsns a → AreInsns b → AreInsns (a ++ b)
 insns_append [] b first second = second

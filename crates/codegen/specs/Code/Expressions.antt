@@ -10,8 +10,6 @@ use Rattle.cel_reader.specs.declared.operator.UnaryOperator.{UnaryOperator}
 use Rattle.cel_reader.specs.declared.operator.UnaryOperator.TheVariants as unary
 use Rattle.cel_macros.specs.CoreTree as core
 use Rattle.cel_macros.specs.CoreTree.{CoreTree, CoreTrees, CoreEntries, no_cores, more_cores, no_core_entries, more_core_entries}
-use Rattle.cel_macros.specs.declared.macros.Macro.{Macro}
-use Rattle.cel_macros.specs.declared.macros.Macro.TheVariants.{All, Exists, ExistsOne, Filter, Map}
 use Rattle.cel_macros.specs.Functions.{Function, Size, String, Dyn, function_named, TextTest, test_named}
 use Rattle.codegen_base.specs.Code.Calls.{two_code}
 use Rattle.codegen_base.specs.Code.Logic.{and_code, or_code, not_tail, ternary_code}
@@ -20,8 +18,7 @@ use Rattle.codegen_base.specs.Code.Comparison.{equal_tail, unequal_tail, less_ta
 use Rattle.codegen.specs.Code.Literals.{address_of, literal_code, item_code, list_code, entry_code, map_code}
 use Rattle.codegen_base.specs.Code.Names.{name_code, reference_code}
 use Rattle.codegen_base.specs.Code.Selection.{field_tail, has_tail, index_tail, size_tail, string_tail, test_tail}
-use Rattle.codegen.specs.Code.Folds.{all_code, exists_code, exists_one_code, filter_code, map_where_code}
-use Rattle.codegen.specs.Code.Folds as folds
+use Rattle.codegen_base.specs.Code.Folds.{macro_code, map_where_code}
 
 -- no expression that the type checker takes has such a part
 abbrev pub no_code : List Insn
@@ -69,13 +66,6 @@ method_function_code None of = no_code
 abbrev pub test_code : Option TextTest → List Insn → List Insn → ℕ → List Insn
 test_code (Some t) left right k = two_code left right k (test_tail t k)
 test_code None left right k = no_code
-
-abbrev pub macro_code : Macro → ℕ → List Insn → List Insn → List Insn
-macro_code All k range part = all_code k range part
-macro_code Exists k range part = exists_code k range part
-macro_code ExistsOne k range part = exists_one_code k range part
-macro_code Filter k range part = filter_code k range part
-macro_code Map k range part = folds.map_code k range part
 
 unfoldable mutual
   pub code_of : CoreTree → List (List ℕ) → List (List ℕ × ℕ) → ℕ → List Insn

@@ -1,0 +1,82 @@
+-- Code of constructs within the budgets of their parts.
+use Rattle.std.proofs.Common.{◌≡◌, ℕ, ◌+◌, ◌-◌, ◌*◌, ◌<◌, ◌≤◌, List, ◌++◌, arith}
+use Rattle.std.specs.Prelude.{ℤ}
+use Rattle.insn_codec.specs.declared.insn.Insn.{Insn}
+use Rattle.value_store.specs.Size.{result_size}
+use Rattle.value_store.specs.Value.{ValueOrError, error, value, null, boolean, int, text, list, map}
+use Rattle.cel_macros.specs.Logic.{Truth, Yes, No, Other, chosen, truth, ternary_of}
+use Rattle.codegen.specs.Computes.{Computes}
+use Rattle.codegen.specs.Cost.{Cost, ◌and◌, node, nothing, spent_by}
+use Rattle.codegen_base.specs.Code.Calls.{two_code}
+use Rattle.codegen_base.specs.Code.Logic.{absorbing_code, ternary_code}
+use Rattle.codegen_base.specs.Contexts.{Context, Gives}
+use Rattle.codegen_base.specs.Engine.{Setting}
+use Rattle.codegen_base.specs.Gives.Logic.{AbsorbingGives}
+use Rattle.codegen_base.specs.Gives.Selection.{text_length}
+use Rattle.codegen_base.specs.Operators.{Combines, Converts}
+use Rattle.codegen_base.specs.Pieces.{size}
+use Rattle.codegen_base.proofs.Logic.{logic_gives}
+use Rattle.codegen_base.proofs.Operators.{one_gives, two_gives}
+use Rattle.codegen_base.proofs.Runs.{looser}
+
+-- ---- numbers
+
+pub result_size_least : (x : ValueOrError) → 1 ≤ result_size x
+result_size_least error = omega arith
+result_size_least (value null) = omega arith
+result_size_least (value (boolean b)) = omega arith
+result_size_least (value (int n)) = omega arith
+result_size_least (value (text s)) = omega arith
+result_size_least (value (list is)) = omega arith
+result_size_least (value (map es)) = omega arith
+
+pub text_within : (x : ValueOrError) → text_length x ≤ result_size x
+text_within error = omega arith
+text_within (value null) = omega arith
+text_within (value (boolean b)) = omega arith
+text_within (value (int n)) = omega arith
+text_within (value (text s)) = omega arith
+text_within (value (list is)) = omega arith
+text_within (value (map es)) = omega arith
+
+-- ---- larger budgets
+
+pub gives_within : (s : Setting) (p : ℕ) (piece : List Insn) (c : Context) (depth k : ℕ) (x : ValueOrError) (n m n1 m1 : ℕ) → n ≤ n1 → m ≤ m1 → Gives s p piece c depth k x n m → Gives s p piece c depth k x n1 m1
+gives_within s p piece c depth k x n m n1 m1 hn hm g = record { runs = λ b has fits. looser s n1 m1 hn hm (g.runs b has fits) }
+
+module _ (s : Setting) (c : Context) (depth k : ℕ) where
+  -- a construct without parts
+  pub leaf : (p : ℕ) (piece : List Insn) (x : ValueOrError) (n m : ℕ) (t : Cost) → n ≤ 120 → 1 ≤ t.visits → m ≤ 120 + 16 * t.sizes → Gives s p piece c depth k x n m → Computes s p piece c depth k x t
+  leaf p piece x n m t hn hv hm g = gives_within s p piece c depth k x n m _ _ (omega arith) (omega arith) g
+
+  -- a part and a piece behind it
+  pub one : (p : ℕ) (operand piece : List Insn) (x z : ValueOrError) (n m : ℕ) (part t : Cost) → n ≤ 120 → m ≤ 120 + 16 * result_size z → 1 + part.visits ≤ t.visits → result_size z + part.sizes ≤ t.sizes → Computes s p operand c depth k x part → Converts s (p + size operand) piece c depth k x z n m → Computes s p (operand ++ piece) c depth k z t
+  one p operand piece x z n m part t hn hm hv hs g h = gives_within s p (operand ++ piece) c depth k z _ _ _ _ (omega arith) (omega arith) (one_gives s p operand piece c depth k x z _ _ n m g h)
+
+  -- a part alone
+  pub same : (p : ℕ) (piece : List Insn) (x : ValueOrError) (part t : Cost) → part.visits ≤ t.visits → part.sizes ≤ t.sizes → Computes s p piece c depth k x part → Computes s p piece c depth k x t
+  same p piece x part t hv hs g = gives_within s p piece c depth k x _ _ _ _ (omega arith) (omega arith) g
+
+  -- two parts and a piece behind them
+  pub two : (p : ℕ) (left right piece : List Insn) (x y z : ValueOrError) (n m : ℕ) (first second : Cost) → k < 60 → n ≤ 119 → m ≤ 120 + 16 * result_size z → Computes s p left c depth k x first → Computes s (p + size left + 1) right c depth (k + 1) y second → Combines s (p + size left + 1 + size right) piece c depth k x y z n m → Computes s p (two_code left right k piece) c depth k z (node z and first and second)
+  two p left right piece x y z n m first second low hn hm g h t = gives_within s p (two_code left right k piece) c depth k z _ _ _ _ (omega arith) (omega arith) (two_gives s p k left right piece c depth x y z _ _ _ _ n m low g h t)
+
+  -- two parts, of which the left one may decide
+  pub absorbing : (p : ℕ) (decides other : ℤ) (f : ValueOrError → ValueOrError → ValueOrError) → AbsorbingGives decides other f → (left right : List Insn) (x y : ValueOrError) (first second : Cost) → k < 60 → Computes s p left c depth k x first → Computes s (p + size left + 2) right c depth (k + 1) y second → Computes s p (absorbing_code decides other left right k) c depth k (f x y) (node (f x y) and first and second)
+  absorbing p decides other f law left right x y first second low g h = gives_within s p (absorbing_code decides other left right k) c depth k (f x y) _ _ _ _ (omega arith) (omega arith) (law s p k left right c depth x y _ _ _ _ low g h)
+
+  -- a ternary, of which the chosen branch is visited
+  chosen_within : (t : Truth) (first one_side other : Cost) (x : ℕ) → (128 * first.visits - 8) + (2 + (chosen t (128 * one_side.visits - 8) (128 * other.visits - 8) 0 + 1)) ≤ 128 * (1 + first.visits + (chosen t one_side other nothing).visits) - 8
+  chosen_within Yes first one_side other x = omega arith
+  chosen_within No first one_side other x = omega arith
+  chosen_within Other first one_side other x = omega arith
+
+  chosen_spent : (t : Truth) (first one_side other : Cost) (x : ℕ) → (16 * spent_by first - 8) + chosen t (16 * spent_by one_side - 8) (16 * spent_by other - 8) 0 ≤ 16 * (8 * (1 + first.visits + (chosen t one_side other nothing).visits) + (x + first.sizes + (chosen t one_side other nothing).sizes)) - 8
+  chosen_spent Yes first one_side other x = omega arith
+  chosen_spent No first one_side other x = omega arith
+  chosen_spent Other first one_side other x = omega arith
+
+  pub branches : (p : ℕ) (condition one_side other : List Insn) (t x y : ValueOrError) (first second third : Cost) → k ≤ 64 → Computes s p condition c depth k t first → (truth t ≡ Yes → Computes s (p + size condition + 2) one_side c depth k x second) → (truth t ≡ No → Computes s (p + size condition + 2 + size one_side + 1) other c depth k y third) → Computes s p (ternary_code condition one_side other) c depth k (ternary_of t x y) (node (ternary_of t x y) and first and chosen (truth t) second third nothing)
+  branches p condition one_side other t x y first second third low g h i =
+      gives_within s p (ternary_code condition one_side other) c depth k (ternary_of t x y) _ _ _ _ (chosen_within (truth t) first second third 0) (chosen_spent (truth t) first second third (result_size (ternary_of t x y)))
+      (logic_gives.ternary s p k condition one_side other c depth t x y _ _ _ _ _ _ low g h i)

@@ -1,0 +1,194 @@
+-- The code of each construct, where the code of its parts gives theirs within their budgets.
+use Rattle.std.proofs.Common.{◌≡◌, ℕ, ◌+◌, ◌<◌, ◌≤◌, Bool, true, false, ◌||◌, List, [], ◌∷◌, ◌++◌, length, Some, refl, ap, ◌∙◌, subst, arith}
+use Rattle.std.proofs.lemmas.Str.{is_utf8-from_IsUtf8}
+use Rattle.cel_reader.specs.Tree as tree
+use Rattle.cel_reader.specs.WellFormed.{IsWellFormedLiteral}
+use Rattle.insn_codec.specs.declared.insn.Insn.{Insn}
+use Rattle.value_store.specs.Calls.{joined}
+use Rattle.value_store.specs.Size.{items_size, result_size, size_of as value_size}
+use Rattle.value_store.specs.Value.{Value, ValueOrError, error, value, null, boolean, int, text, list, map, Items, no_items, item, list_of, items_join}
+use Rattle.cel_macros.specs.Arithmetic.{sum_of}
+use Rattle.cel_macros.specs.CoreTree as core
+use Rattle.cel_macros.specs.CoreTree.{CoreTree, more_cores, no_cores, one_core}
+use Rattle.cel_macros.specs.Environment.{name_value}
+use Rattle.cel_macros.specs.Functions.{Function, Size, String, Dyn, TextTest, function_of, size_of, string_of, text_test_of}
+use Rattle.cel_macros.specs.Literals.{literal_of}
+use Rattle.cel_macros.specs.Logic.{Truth, Yes, No, chosen, ternary_of, truth}
+use Rattle.cel_macros.specs.Selection.{field_of, has_of, index_of}
+use Rattle.cel_measures.specs.Measures.{need}
+use Rattle.codegen_base.specs.Contexts.{Context}
+use Rattle.codegen_base.specs.Engine.{Setting}
+use Rattle.codegen_base.specs.Gives.Selection.{HasText, text_length}
+use Rattle.codegen_base.specs.Helpers.{joined_length}
+use Rattle.codegen_base.proofs.Leaves.{leaves_give}
+use Rattle.codegen_base.proofs.Selection.{selection_gives}
+use Rattle.codegen.specs.Code.Expressions.{code_of, function_code, test_code, texts_of}
+use Rattle.codegen.specs.Code.Literals.{address_of}
+use Rattle.codegen.specs.Computes.{Computes, TextsStand, Ready}
+use Rattle.codegen.specs.Cost.{Cost, ◌and◌, literal_cost, name_or_text, node, nothing}
+use Rattle.codegen.specs.Accepted.{IsAccepted}
+use Rattle.codegen.proofs.Budgets.{branches, leaf, one, same, text_within, two}
+
+pub or_left : (a b : Bool) → a ≡ true → (a || b) ≡ true
+or_left true b e = refl
+or_left false b e = absurd (cc)
+
+pub or_right : (a b : Bool) → b ≡ true → (a || b) ≡ true
+or_right true b e = refl
+or_right false b e = e
+
+-- the texts of the first part, and of the second
+pub texts_front : (constants : List ℕ) (texts xs ys : List (List ℕ)) → TextsStand constants texts (xs ++ ys) → TextsStand constants texts xs
+texts_front constants texts [] ys h = tt
+texts_front constants texts (x ∷ xs) ys h = (h.0, texts_front constants texts xs ys h.1)
+
+pub texts_back : (constants : List ℕ) (texts xs ys : List (List ℕ)) → TextsStand constants texts (xs ++ ys) → TextsStand constants texts ys
+texts_back constants texts [] ys h = h
+texts_back constants texts (x ∷ xs) ys h = texts_back constants texts xs ys h.1
+
+-- ---- what is joined is no larger than its result
+
+item_size : (v : Value) → 1 ≤ value_size v
+item_size null = omega arith
+item_size (boolean b) = omega arith
+item_size (int n) = omega arith
+item_size (text s) = omega arith
+item_size (list is) = omega arith
+item_size (map es) = omega arith
+
+items_many : (is : Items) → length (list_of is) ≤ items_size is
+items_many no_items = omega arith
+items_many (item v more) = let h = item_size v in let rest = items_many more in omega arith
+
+-- where they are no two texts and no two lists, nothing is joined
+text_joined : (t : List ℕ) (w : Value) → joined_length (joined (Some (value (text t))) (Some (value w))) ≤ result_size (sum_of (value (text t)) (value w))
+text_joined t null = omega arith
+text_joined t (boolean b) = omega arith
+text_joined t (int n) = omega arith
+text_joined t (text u) = omega arith
+text_joined t (list is) = omega arith
+text_joined t (map es) = omega arith
+
+list_joined : (is : Items) (w : Value) → joined_length (joined (Some (value (list is))) (Some (value w))) ≤ result_size (sum_of (value (list is)) (value w))
+list_joined is null = omega arith
+list_joined is (boolean b) = omega arith
+list_joined is (int n) = omega arith
+list_joined is (text u) = omega arith
+list_joined is (list js) = let h = items_many (items_join is js) in omega arith
+list_joined is (map es) = omega arith
+
+none_joined : (x y : ValueOrError) → joined_length (joined (Some x) (Some y)) ≡ 0 → joined_length (joined (Some x) (Some y)) ≤ result_size (sum_of x y)
+none_joined x y e = omega arith
+
+pub joined_within : (x y : ValueOrError) → joined_length (joined (Some x) (Some y)) ≤ result_size (sum_of x y)
+joined_within error y = none_joined error y refl
+joined_within (value v) error = none_joined (value v) error refl
+joined_within (value null) (value w) = none_joined (value null) (value w) refl
+joined_within (value (boolean b)) (value w) = none_joined (value (boolean b)) (value w) refl
+joined_within (value (int n)) (value w) = none_joined (value (int n)) (value w) refl
+joined_within (value (text t)) (value w) = text_joined t w
+joined_within (value (list is)) (value w) = list_joined is w
+joined_within (value (map es)) (value w) = none_joined (value (map es)) (value w) refl
+
+-- where all is ready, the code gives the value within the budgets, wherever it stands
+abbrev pub Part : Setting → List (List ℕ) → ℕ → Context → ℕ → CoreTree → ValueOrError → Cost → Type 0
+Part s texts depth c k e x t = Ready s texts c k e t.is_deep → (p : ℕ) → Computes s p (code_of e texts c.words k) c depth k x t
+
+module _ (s : Setting) (texts : List (List ℕ)) (depth : ℕ) (c : Context) (k : ℕ) where
+  -- ---- without parts
+
+  pub literal_part : (l : tree.Literal) → IsWellFormedLiteral l → Part s texts depth c k (core.literal l) (literal_of l) (node (literal_of l) and literal_cost l)
+  unfolding code_of need texts_of
+  literal_part tree.null h ready p = let room = ready.room in leaf s c depth k p _ (value null) 1 0 (node (value null) and literal_cost tree.null) (omega arith) (omega arith) (omega arith) (leaves_give.null s p c depth k (omega arith))
+  literal_part (tree.truth b) h ready p = let room = ready.room in leaf s c depth k p _ (value (boolean b)) 1 0 (node (value (boolean b)) and literal_cost (tree.truth b)) (omega arith) (omega arith) (omega arith) (leaves_give.truth s p c depth k b (omega arith))
+  literal_part (tree.int z) h ready p = let room = ready.room in leaf s c depth k p _ (value (int z)) 2 1 (node (value (int z)) and literal_cost (tree.int z)) (omega arith) (omega arith) (omega arith) (leaves_give.int s p c depth k z (omega arith) h)
+  literal_part (tree.text t) h ready p = let room = ready.room in let stands = ready.texts_stand in leaf s c depth k p _ (value (text t)) 3 (1 + length t) (node (value (text t)) and name_or_text t) (omega arith) (omega arith) (omega arith) (leaves_give.text s p c depth k (address_of texts t) t (omega arith) stands.0 (is_utf8-from_IsUtf8 t h))
+
+  pub name_part : (n : List ℕ) → Part s texts depth c k (core.name n) (name_value n c.environment) (node (name_value n c.environment))
+  unfolding code_of need texts_of
+  name_part n ready p = let room = ready.room in leaf s c depth k p _ (name_value n c.environment) 1 0 (node (name_value n c.environment)) (omega arith) (omega arith) (omega arith) (leaves_give.name s p c depth k n (omega arith))
+
+  -- ---- one part
+
+  -- it is ready where the whole is
+  pub one_ready : (a e : CoreTree) (t u : Bool) (more : List (List ℕ)) → IsAccepted a → need a ≤ need e → texts_of e ≡ texts_of a ++ more → (t ≡ true → u ≡ true) → Ready s texts c k e u → Ready s texts c k a t
+  one_ready a e t u more accepted fits texts_are deep ready =
+      let room = ready.room in
+      record {
+        accepted = accepted;
+        room = omega arith;
+        texts_stand = texts_front c.constants texts (texts_of a) more (subst (λ (ts : List (List ℕ)). TextsStand c.constants texts ts) texts_are ready.texts_stand);
+        may = λ d. ready.may (deep d);
+      }
+
+  key_stands : (a : CoreTree) (f : List ℕ) → TextsStand c.constants texts (texts_of a ++ f ∷ []) → HasText c.constants (address_of texts f) f
+  key_stands a f h = let last = texts_back c.constants texts (texts_of a) (f ∷ []) h in last.0
+
+  pub select_part : (a : CoreTree) (f : List ℕ) (x : ValueOrError) (t : Cost) → Part s texts depth c k a x t → Part s texts depth c k (core.select a f) (field_of x f) (node (field_of x f) and (t and name_or_text f))
+  unfolding code_of need texts_of IsAccepted
+  select_part a f x t part ready p =
+      let room = ready.room in
+      let accepted = ready.accepted in
+      let first = one_ready a (core.select a f) t.is_deep (t.is_deep || false) (f ∷ []) accepted.1 (omega arith) refl (or_left t.is_deep false) ready in
+      one s c depth k p (code_of a texts c.words k) _ x (field_of x f) 4 1 t (node (field_of x f) and (t and name_or_text f)) (omega arith) (omega arith) (omega arith) (omega arith) (part first p) (selection_gives.field s _ c depth k x (address_of texts f) f (omega arith) (key_stands a f ready.texts_stand))
+
+  pub has_part : (a : CoreTree) (f : List ℕ) (x : ValueOrError) (t : Cost) → Part s texts depth c k a x t → Part s texts depth c k (core.has a f) (has_of x f) (node (has_of x f) and (t and name_or_text f))
+  unfolding code_of need texts_of IsAccepted
+  has_part a f x t part ready p =
+      let room = ready.room in
+      let first = one_ready a (core.has a f) t.is_deep (t.is_deep || false) (f ∷ []) ready.accepted (omega arith) refl (or_left t.is_deep false) ready in
+      one s c depth k p (code_of a texts c.words k) _ x (has_of x f) 4 1 t (node (has_of x f) and (t and name_or_text f)) (omega arith) (omega arith) (omega arith) (omega arith) (part first p) (selection_gives.has s _ c depth k x (address_of texts f) f (omega arith) (key_stands a f ready.texts_stand))
+
+  -- a function of what a piece gives
+  pub function_part : (g : Function) (piece : List Insn) (x : ValueOrError) (t : Cost) (p : ℕ) → k ≤ 60 → Computes s p piece c depth k x t → Computes s p (function_code (Some g) piece) c depth k (function_of (Some g) x) (node (function_of (Some g) x) and t)
+  function_part Size piece x t p low part = one s c depth k p piece _ x (size_of x) 2 1 t (node (size_of x) and t) (omega arith) (omega arith) (omega arith) (omega arith) part (selection_gives.size s _ c depth k x (omega arith))
+  function_part String piece x t p low part = let short = text_within (string_of x) in one s c depth k p piece _ x (string_of x) 6 (2 + text_length (string_of x)) t (node (string_of x) and t) (omega arith) (omega arith) (omega arith) (omega arith) part (selection_gives.string s _ c depth k x (omega arith))
+  function_part Dyn piece x t p low part = same s c depth k p piece x t (node x and t) (omega arith) (omega arith) part
+
+  -- ---- two parts
+
+  pub left_ready : (a b e : CoreTree) (t u v : Bool) → IsAccepted a → need a ≤ need e → texts_of e ≡ texts_of a ++ texts_of b → v ≡ (t || u) → Ready s texts c k e v → Ready s texts c k a t
+  left_ready a b e t u v accepted fits texts_are deep ready = one_ready a e t v (texts_of b) accepted fits texts_are (λ d. deep ∙ or_left t u d) ready
+
+  pub right_ready : (a b e : CoreTree) (t u v : Bool) → IsAccepted b → 1 + need b ≤ need e → texts_of e ≡ texts_of a ++ texts_of b → v ≡ (t || u) → Ready s texts c k e v → Ready s texts c (k + 1) b u
+  right_ready a b e t u v accepted fits texts_are deep ready =
+      let room = ready.room in
+      record {
+        accepted = accepted;
+        room = omega arith;
+        texts_stand = texts_back c.constants texts (texts_of a) (texts_of b) (subst (λ (ts : List (List ℕ)). TextsStand c.constants texts ts) texts_are ready.texts_stand);
+        may = λ d. ready.may (deep ∙ or_right t u d);
+      }
+
+  pub index_part : (a b : CoreTree) (x y : ValueOrError) (t u : Cost) → Part s texts depth c k a x t → Part s texts depth c (k + 1) b y u → Part s texts depth c k (core.index a b) (index_of x y) (node (index_of x y) and t and u)
+  unfolding code_of need texts_of IsAccepted
+  index_part a b x y t u first second ready p =
+      let room = ready.room in
+      let accepted = ready.accepted in
+      let left = left_ready a b (core.index a b) t.is_deep u.is_deep (t.is_deep || u.is_deep) accepted.0 (omega arith) refl refl ready in
+      let right = right_ready a b (core.index a b) t.is_deep u.is_deep (t.is_deep || u.is_deep) accepted.1 (omega arith) refl refl ready in
+      two s c depth k p (code_of a texts c.words k) (code_of b texts c.words (k + 1)) _ x y (index_of x y) 3 1 t u (omega arith) (omega arith) (omega arith) (first left p) (second right _) (selection_gives.index s _ k c depth x y (omega arith))
+
+  pub test_part : (g : TextTest) (left right : List Insn) (x y : ValueOrError) (t u : Cost) (p : ℕ) → k < 60 → Computes s p left c depth k x t → ((q : ℕ) → Computes s q right c depth (k + 1) y u) → Computes s p (test_code (Some g) left right k) c depth k (text_test_of (Some g) x y) (node (text_test_of (Some g) x y) and t and u)
+  test_part g left right x y t u p low first second =
+      two s c depth k p left right _ x y (text_test_of (Some g) x y) 3 1 t u low (omega arith) (omega arith) first (second _) (selection_gives.test g s _ k c depth x y (omega arith))
+
+  -- ---- three parts, of which the condition chooses one
+
+  only_yes : (t : ValueOrError) (u v : Cost) → truth t ≡ Yes → (chosen (truth t) u v nothing).is_deep ≡ u.is_deep
+  only_yes t u v e = ap (λ (w : Truth). (chosen w u v nothing).is_deep) e
+
+  only_no : (t : ValueOrError) (u v : Cost) → truth t ≡ No → (chosen (truth t) u v nothing).is_deep ≡ v.is_deep
+  only_no t u v e = ap (λ (w : Truth). (chosen w u v nothing).is_deep) e
+
+  pub ternary_part : (a b d : CoreTree) (x y z : ValueOrError) (t u v : Cost) → Part s texts depth c k a x t → Part s texts depth c k b y u → Part s texts depth c k d z v → Part s texts depth c k (core.ternary a b d) (ternary_of x y z) (node (ternary_of x y z) and t and chosen (truth x) u v nothing)
+  unfolding code_of need texts_of IsAccepted
+  ternary_part a b d x y z t u v first second third ready p =
+      let room = ready.room in
+      let accepted = ready.accepted in
+      let deep = (chosen (truth x) u v nothing).is_deep in
+      let rest = texts_back c.constants texts (texts_of a) (texts_of b ++ texts_of d) ready.texts_stand in
+      branches s c depth k p (code_of a texts c.words k) (code_of b texts c.words k) (code_of d texts c.words k) x y z t u v (omega arith)
+      (first (record { accepted = accepted.0; room = omega arith; texts_stand = texts_front c.constants texts (texts_of a) (texts_of b ++ texts_of d) ready.texts_stand; may = λ h. ready.may (or_left t.is_deep deep h) }) p)
+      (λ e. second (record { accepted = accepted.1; room = omega arith; texts_stand = texts_front c.constants texts (texts_of b) (texts_of d) rest; may = λ h. ready.may (or_right t.is_deep deep (only_yes x u v e ∙ h)) }) _)
+      (λ e. third (record { accepted = accepted.2; room = omega arith; texts_stand = texts_back c.constants texts (texts_of b) (texts_of d) rest; may = λ h. ready.may (or_right t.is_deep deep (only_no x u v e ∙ h)) }) _)
