@@ -3,5 +3,9 @@ mod Filled
 mod Joined
 mod Layouts
 mod Lists
+mod ProgramConditions
+mod ProgramMarks
+mod ProgramSteps
 mod Read
 mod Told
+mod VerdictWords

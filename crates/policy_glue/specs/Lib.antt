@@ -2,6 +2,8 @@ pub mod Denials
 pub mod Documents
 pub mod Layout
 pub mod Policy
+pub mod Program
+pub mod ProgramParts
 pub mod Reading
 pub mod Response
 pub mod Rows

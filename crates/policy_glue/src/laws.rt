@@ -1,4 +1,5 @@
 //! Policies, verdicts and responses worked by hand, each the clause of a function that does nothing.
+ghost use Rattle.std.specs.Prelude.{◌≡◌, ℕ};
 ghost use Rattle.policy_glue.specs.Rows.{PolicyRowsStand, VerdictRowsStand, ResponseRowsStand};
 
 /// Documents of policies, with what they say or why they are refused.
@@ -14,4 +15,9 @@ pub fn verdict_rows_stand()
 /// Texts of responses.
 pub fn response_rows_stand()
     ensures { ResponseRowsStand }
+{}
+
+/// Scratch.
+pub fn scratch()
+    ensures { ◌≡◌ {A = ℕ} 0 0 }
 {}

@@ -1,0 +1,6 @@
+use Rattle.std.proofs.Common.{refl}
+use Rattle.policy_glue.proofs.ProgramConditions.{exit_stands}
+use Rattle.policy_glue.proofs.laws.scratch.Goals as goal
+
+pub returns : goal.returns
+returns c = refl
