@@ -5,6 +5,7 @@ mod Layouts
 mod Lists
 mod ProgramConditions
 mod ProgramMarks
+mod ProgramRows
 mod ProgramSteps
 mod Read
 mod Told

@@ -79,6 +79,7 @@ module _ (s : Setting) (c : Context) (f : FailurePolicy) (o w : ℕ) (has : Stan
       (store_verdict has 6 0 refl marks.fits.frame (omega arith) refl
       (done s (o + 7) (set_verdict 0 1 loaded) (Ends c f Skipped []) (record { marked = stored; answers = refl }))))))))
 
-  pub exit_stands : fetched s.image.code (pos (o + 7)) ≡ Some (Some Exit)
-  unfolding condition_tail
-  exit_stands = has.here 7 Exit refl
+-- the exit of a condition that is false
+pub exit_stands : (code : List ℕ) (f : FailurePolicy) (o : ℕ) → Stands code o (condition_tail f) → fetched code (pos (o + 7)) ≡ Some (Some Exit)
+unfolding condition_tail
+exit_stands code f o has = has.here 7 Exit refl
