@@ -4,6 +4,7 @@ mod Joined
 mod Layouts
 mod Lists
 mod ProgramConditions
+mod ProgramDecided
 mod ProgramMarks
 mod ProgramRows
 mod ProgramSteps

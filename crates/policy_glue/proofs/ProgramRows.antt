@@ -31,17 +31,27 @@ pub part_runs : (s : Setting) (c : Context) (f : FailurePolicy) (w p : ℕ) (xs 
 part_runs s c f w p xs a b has gives marked =
     into s (Judges c f w xs a.value) (λ last shown. record { marked = marks_shown c w (count_of f xs) (result_of xs) (message_of xs) b marked a.value last shown; named = shown.shows }) (gives.runs b has marked.fits)
 
-tail_size : (f : FailurePolicy) → size (condition_tail f) ≡ 9
+pub tail_size : (f : FailurePolicy) → size (condition_tail f) ≡ 9
 unfolding condition_tail
 tail_size f = refl
 
 -- the outcome that stands behind conditions of which none is false
-abbrev stands_after : FailurePolicy → ℕ → List Truth → ℕ
+abbrev pub stands_after : FailurePolicy → ℕ → List Truth → ℕ
 stands_after f w [] = w
 stands_after f w (t ∷ more) = stands_after f (if is_held t then w else outcome_word (undecided f)) more
 
-abbrev truths_of : List Part → List Truth
+abbrev pub truths_of : List Part → List Truth
 truths_of parts = map (λ a. truth_of a.value) parts
+
+-- the slot behind conditions
+abbrev pub place_after : ℕ → List Part → ℕ
+place_after p [] = p
+place_after p (a ∷ more) = place_after (p + size a.code + 9) more
+
+-- the exit of the first condition that is false
+abbrev pub exit_place : ℕ → List Part → ℕ
+exit_place p [] = p
+exit_place p (a ∷ more) = if is_failed (truth_of a.value) then p + size a.code + 7 else exit_place (p + size a.code + 9) more
 
 module _ (s : Setting) (c : Context) (f : FailurePolicy) where
   -- one condition that is not false
@@ -81,11 +91,6 @@ module _ (s : Setting) (c : Context) (f : FailurePolicy) where
   or_right false y e = e
   or_right true y e = absurd (true≢false e)
 
-  -- the slot behind conditions
-  abbrev place_after : ℕ → List Part → ℕ
-  place_after p [] = p
-  place_after p (a ∷ more) = place_after (p + size a.code + 9) more
-
   pub row_passes : (parts : List Part) (p w : ℕ) (b : Body) → list_any is_failed (truths_of parts) ≡ false → Stands s.image.code p (conditions_code f (codes_of parts)) → ConditionsGive s c p parts → Marked c f w [] b → Comes s (conditions_steps parts) (conditions_charge parts) p b (place_after p parts) (Marked c f (stands_after f w (truths_of parts)) [])
   row_passes [] p w b none has gives marked = done s p b (Marked c f w []) marked
   row_passes (a ∷ more) p w b none has gives marked =
@@ -95,11 +100,6 @@ module _ (s : Setting) (c : Context) (f : FailurePolicy) where
       looser s {n = a.steps + 6 + conditions_steps more} {x = a.charge + 0 + conditions_charge more} (a.steps + 6 + conditions_steps more) (a.charge + conditions_charge more) (omega arith) (omega arith)
       (and_then s (conditions_steps more) (conditions_charge more) (place_after p (a ∷ more)) Q (one_passes p w a b t refl (or_left (is_failed t) (list_any is_failed (truths_of more)) none) (first_stands p a more has) gives.0 marked) (λ b1 marked1.
       row_passes more (p + size a.code + 9) w1 b1 (or_right (is_failed t) (list_any is_failed (truths_of more)) none) (more_stands p a more has) gives.1 marked1))
-
-  -- the exit of the first condition that is false
-  abbrev exit_place : ℕ → List Part → ℕ
-  exit_place p [] = p
-  exit_place p (a ∷ more) = if is_failed (truth_of a.value) then p + size a.code + 7 else exit_place (p + size a.code + 9) more
 
   pub exit_here : (parts : List Part) (p : ℕ) → list_any is_failed (truths_of parts) ≡ true → Stands s.image.code p (conditions_code f (codes_of parts)) → fetched s.image.code (pos (exit_place p parts)) ≡ Some (Some Exit)
   exit_here [] p some has = absurd (true≢false (sym some))

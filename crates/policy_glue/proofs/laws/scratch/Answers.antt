@@ -1,5 +1,5 @@
 use Rattle.std.proofs.Common.{refl}
-use Rattle.policy_glue.proofs.ProgramRows.{part_runs, row_fails}
+use Rattle.policy_glue.proofs.ProgramDecided.{conditions_end}
 use Rattle.policy_glue.proofs.laws.scratch.Goals as goal
 
 pub returns : goal.returns
