@@ -6,8 +6,10 @@ mod Lists
 mod ProgramConditions
 mod ProgramDecided
 mod ProgramMarks
+mod ProgramMessages
 mod ProgramRows
 mod ProgramSteps
+mod ProgramValidations
 mod Read
 mod Told
 mod VerdictWords

@@ -95,7 +95,7 @@ module _ (outcome denials : ℕ) (result : ℕ → ℕ) (message : ℕ → Optio
 
 -- ---- more values, and the same messages
 
-text_is : (x : Option ValueOrError) (t : List ℕ) → text_at x ≡ Some t → x ≡ Some (value (text t))
+pub text_is : (x : Option ValueOrError) (t : List ℕ) → text_at x ≡ Some t → x ≡ Some (value (text t))
 text_is None t e = absurd (cc)
 text_is (Some error) t e = absurd (cc)
 text_is (Some (value null)) t e = absurd (cc)
