@@ -8,6 +8,7 @@ mod ProgramDecided
 mod ProgramMarks
 mod ProgramMessages
 mod ProgramRows
+mod ProgramRules
 mod ProgramSteps
 mod ProgramValidations
 mod Read

@@ -155,6 +155,6 @@ module _ (s : Setting) (c : Context) (f : FailurePolicy) (xs : List Finding) (x 
         (store_verdict has 5 1 refl marks.fits.frame (omega arith) refl
         (done s (o + 6) (set_verdict 1 (count_of f (xs ++ x ∷ [])) counted) Counted (denials_stored c 0 (count_of f xs) (result_of (xs ++ x ∷ [])) (message_of xs) counted marks (count_of f (xs ++ x ∷ [])) (omega arith))))))))
 
-    -- without a message
-    pub untold : (last : Body) → Counted last → x.message ≡ None → Marked c f 0 (xs ++ x ∷ []) last
-    untold last marks no_message = marks_told c 0 (count_of f (xs ++ x ∷ [])) (result_of (xs ++ x ∷ [])) (message_of xs) last marks (count_of f (xs ++ x ∷ [])) (result_of (xs ++ x ∷ [])) (message_of (xs ++ x ∷ [])) refl (λ j. refl) (λ j. message_none xs x j no_message)
+  -- without a message
+  pub untold : (last : Body) → Counted last → x.message ≡ None → Marked c f 0 (xs ++ x ∷ []) last
+  untold last marks no_message = marks_told c 0 (count_of f (xs ++ x ∷ [])) (result_of (xs ++ x ∷ [])) (message_of xs) last marks (count_of f (xs ++ x ∷ [])) (result_of (xs ++ x ∷ [])) (message_of (xs ++ x ∷ [])) refl (λ j. refl) (λ j. message_none xs x j no_message)
