@@ -7,6 +7,7 @@ mod ProgramConditions
 mod ProgramDecided
 mod ProgramMarks
 mod ProgramMessages
+mod ProgramOutcome
 mod ProgramRows
 mod ProgramRules
 mod ProgramSteps
