@@ -1,8 +1,16 @@
+pub mod Budget
+pub mod BudgetRows
+pub mod Checking
+pub mod CompileErrors
+pub mod DecisionRows
 pub mod Denials
 pub mod Documents
+pub mod Evaluation
 pub mod Layout
+pub mod Limits
 pub mod Policy
 pub mod Reading
 pub mod Response
 pub mod Rows
+pub mod Trees
 pub mod Verdict

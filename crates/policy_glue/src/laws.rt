@@ -1,4 +1,6 @@
 //! Policies, verdicts and responses worked by hand, each the clause of a function that does nothing.
+ghost use Rattle.policy_glue.specs.BudgetRows.{BudgetRowsStand};
+ghost use Rattle.policy_glue.specs.DecisionRows.{CheckingRowsStand, DecisionRowsStand};
 ghost use Rattle.policy_glue.specs.Rows.{PolicyRowsStand, VerdictRowsStand, ResponseRowsStand};
 
 /// Documents of policies, with what they say or why they are refused.
@@ -14,4 +16,19 @@ pub fn verdict_rows_stand()
 /// Texts of responses.
 pub fn response_rows_stand()
     ensures { ResponseRowsStand }
+{}
+
+/// Decisions of policies on the documents of a request.
+pub fn decision_rows_stand()
+    ensures { DecisionRowsStand }
+{}
+
+/// Expressions that are taken, and those that are refused.
+pub fn checking_rows_stand()
+    ensures { CheckingRowsStand }
+{}
+
+/// What policies visit, spend and have room for.
+pub fn budget_rows_stand()
+    ensures { BudgetRowsStand }
 {}
