@@ -18,7 +18,7 @@ use Rattle.codegen_base.proofs.Pieces.{size-append, stands_back, stands_front}
 use Rattle.codegen_base.proofs.Runs.{and_then, done, from_place, into, looser, to_place}
 use Rattle.policy_glue.specs.Layout.{outcome_word}
 use Rattle.policy_glue.specs.Program.{condition_tail, conditions_code, decided_tail}
-use Rattle.policy_glue.specs.ProgramParts.{ConditionsGive, Part, PartGives, codes_of, conditions_charge, conditions_steps, values_of}
+use Rattle.policy_glue.specs.ProgramParts.{ConditionsGive, Part, PartGives, codes_of, conditions_charge, conditions_steps, values_given}
 use Rattle.policy_glue.specs.Verdict.{Finding, Outcome, Skipped, Truth, Holds, Fails, Errs, decided_before, is_failed, is_held, truth_of, undecided}
 use Rattle.policy_glue.specs.declared.failure_policy.FailurePolicy.{FailurePolicy}
 use Rattle.policy_glue.proofs.ProgramConditions.{Ends, condition_errs, condition_fails, condition_holds, exit_stands}

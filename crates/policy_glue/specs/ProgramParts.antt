@@ -24,8 +24,8 @@ pub record RulePart : Type 0 where
 abbrev pub codes_of : List Part → List (List Insn)
 codes_of parts = map (λ a. a.code) parts
 
-abbrev pub values_of : List Part → List ValueOrError
-values_of parts = map (λ a. a.value) parts
+abbrev pub values_given : List Part → List ValueOrError
+values_given parts = map (λ a. a.value) parts
 
 abbrev pub rule_code : RulePart → Validation
 rule_code r = (r.expression.code, option_map (λ m. m.code) r.message)
@@ -33,15 +33,15 @@ rule_code r = (r.expression.code, option_map (λ m. m.code) r.message)
 abbrev pub rule_codes : List RulePart → List Validation
 rule_codes rules = map rule_code rules
 
-abbrev pub rule_value : RulePart → ValueOrError × Option ValueOrError
-rule_value r = (r.expression.value, option_map (λ m. m.value) r.message)
+abbrev pub rule_given : RulePart → ValueOrError × Option ValueOrError
+rule_given r = (r.expression.value, option_map (λ m. m.value) r.message)
 
-abbrev pub rule_values : List RulePart → List (ValueOrError × Option ValueOrError)
-rule_values rules = map rule_value rules
+abbrev pub rules_given : List RulePart → List (ValueOrError × Option ValueOrError)
+rules_given rules = map rule_given rules
 
 -- what a validation comes to
 abbrev pub found : FailurePolicy → RulePart → Finding
-found f r = finding_of f (rule_value r)
+found f r = finding_of f (rule_given r)
 
 -- ---- places
 

@@ -1,5 +1,7 @@
 //! Policies, verdicts and responses worked by hand, each the clause of a function that does nothing.
 ghost use Rattle.std.specs.Prelude.{◌≡◌, ℕ};
+ghost use Rattle.policy_glue.specs.BudgetRows.{BudgetRowsStand};
+ghost use Rattle.policy_glue.specs.DecisionRows.{CheckingRowsStand, DecisionRowsStand};
 ghost use Rattle.policy_glue.specs.Rows.{PolicyRowsStand, VerdictRowsStand, ResponseRowsStand};
 
 /// Documents of policies, with what they say or why they are refused.
@@ -20,4 +22,19 @@ pub fn response_rows_stand()
 /// Scratch.
 pub fn scratch()
     ensures { ◌≡◌ {A = ℕ} 0 0 }
+{}
+
+/// Decisions of policies on the documents of a request.
+pub fn decision_rows_stand()
+    ensures { DecisionRowsStand }
+{}
+
+/// Expressions that are taken, and those that are refused.
+pub fn checking_rows_stand()
+    ensures { CheckingRowsStand }
+{}
+
+/// What policies visit, spend and have room for.
+pub fn budget_rows_stand()
+    ensures { BudgetRowsStand }
 {}
