@@ -85,6 +85,25 @@ module _ (s : Setting) (c : Context) (f : FailurePolicy) (xs : List Finding) (x 
       (and_then s (message_steps true m) (message_charge true m) (o + 6 + message_size m) (Marked c f 0 (xs ++ x ∷ [])) (denied s c f xs x few o code has b scored denial) (λ b1 counted.
       message_given (o + 6) m b1 behind gives is counted))
 
+rule_code_size : (f : FailurePolicy) (i : ℕ) (r : RulePart) → size (validation_code f i (rule_code r)) ≡ rule_size r
+rule_code_size f i r =
+    let message = message_code i (codes_in r.message) in
+    let whole = size-append r.expression.code (result_tail f i ++ denial_code message) in
+    let rest = size-append (result_tail f i) (denial_code message) in
+    let first = result_size f i in
+    let last = denial_size message in
+    let long = message_code_size i r.message in
+    omega arith
+
+pub rules_size : (f : FailurePolicy) (i : ℕ) (rules : List RulePart) → size (validations_code f i (rule_codes rules)) ≡ rules_slots rules
+unfolding validations_code
+rules_size f i [] = refl
+rules_size f i (r ∷ more) =
+    let whole = size-append (validation_code f i (rule_code r)) (validations_code f (i + 1) (rule_codes more)) in
+    let first = rule_code_size f i r in
+    let rest = rules_size f (i + 1) more in
+    omega arith
+
 module _ (s : Setting) (c : Context) (f : FailurePolicy) where
   -- a validation, with its message
   rule_runs : (xs : List Finding) (r : RulePart) (p : ℕ) (b : Body) → length xs < most_validations → Stands s.image.code p (validation_code f (length xs) (rule_code r)) → PartGives s c p r.expression → MessageGives s c (p + size r.expression.code + 17) r.message → Marked c f 0 xs b → Comes s (rule_steps f r) (rule_charge f r) p b (p + rule_size r) (Marked c f 0 (xs ++ found f r ∷ []))
@@ -104,25 +123,6 @@ module _ (s : Setting) (c : Context) (f : FailurePolicy) where
       and_then s (5 + message_steps d r.message) (message_charge d r.message) (q + 11 + 6 + message_size r.message) Q (result_runs s c f xs (found f r) few q (stands_front s.image.code q tail (denial_code message) behind) e.value b1 judges refl (truth_of e.value) refl) (λ b2 scored.
       denial_runs s c f xs (found f r) few (q + 11) r.message d b2 has_denial (subst (λ (n : ℕ). MessageGives s c n r.message) place told) refl refl scored))))
 
-  rule_code_size : (i : ℕ) (r : RulePart) → size (validation_code f i (rule_code r)) ≡ rule_size r
-  rule_code_size i r =
-      let message = message_code i (codes_in r.message) in
-      let whole = size-append r.expression.code (result_tail f i ++ denial_code message) in
-      let rest = size-append (result_tail f i) (denial_code message) in
-      let first = result_size f i in
-      let last = denial_size message in
-      let long = message_code_size i r.message in
-      omega arith
-
-  pub rules_size : (i : ℕ) (rules : List RulePart) → size (validations_code f i (rule_codes rules)) ≡ rules_slots rules
-  unfolding validations_code
-  rules_size i [] = refl
-  rules_size i (r ∷ more) =
-      let whole = size-append (validation_code f i (rule_code r)) (validations_code f (i + 1) (rule_codes more)) in
-      let first = rule_code_size i r in
-      let rest = rules_size (i + 1) more in
-      omega arith
-
   -- a row of them
   pub rules_run : (rules : List RulePart) (xs : List Finding) (p : ℕ) (b : Body) → length xs + length rules ≤ most_validations → Stands s.image.code p (validations_code f (length xs) (rule_codes rules)) → ValidationsGive s c p rules → Marked c f 0 xs b → Comes s (validations_steps f rules) (validations_charge f rules) p b (p + rules_slots rules) (Marked c f 0 (xs ++ map (found f) rules))
   unfolding validations_code
@@ -135,7 +135,7 @@ module _ (s : Setting) (c : Context) (f : FailurePolicy) where
       let ys = xs ++ found f r ∷ [] in
       let longer : length ys ≡ length xs + 1 = length-append xs (found f r ∷ []) in
       let joined : ys ++ map (found f) more ≡ xs ++ map (found f) (r ∷ more) = append_assoc xs (found f r ∷ []) (map (found f) more) in
-      let has_rest : Stands s.image.code next rest = subst (λ (n : ℕ). Stands s.image.code (p + n) rest) (rule_code_size (length xs) r) (stands_back s.image.code p first rest has) in
+      let has_rest : Stands s.image.code next rest = subst (λ (n : ℕ). Stands s.image.code (p + n) rest) (rule_code_size f (length xs) r) (stands_back s.image.code p first rest has) in
       let has_more = subst (λ (i : ℕ). Stands s.image.code next (validations_code f i (rule_codes more))) (sym longer) has_rest in
       let Q = Marked c f 0 (xs ++ map (found f) (r ∷ more)) in
       to_place s (p + rules_slots (r ∷ more)) (omega arith)

@@ -9,7 +9,7 @@ use Rattle.insn_codec.specs.declared.operand.Operand.TheVariants.{Imm}
 use Rattle.insn_codec.specs.declared.register.Register.TheVariants.{R0, R1, R2, R3, R6}
 use Rattle.insn_codec.specs.declared.size.Size.TheVariants.{Dw}
 use Rattle.insn_codec.specs.declared.width.Width.TheVariants.{W64}
-use Rattle.codegen_base.specs.Instructions.{copy, load_wide, put, skip_if}
+use Rattle.codegen_base.specs.Instructions.{copy, load_wide, put, skip, skip_if}
 use Rattle.codegen_base.specs.Pieces.{size}
 use Rattle.codegen_base.specs.Words.{verdict_address}
 use Rattle.policy_glue.specs.Layout.{first_message, first_result, outcome_word, truth_word}
@@ -121,7 +121,12 @@ unfoldable pub validations_code : FailurePolicy → ℕ → List Validation → 
 validations_code f i [] = []
 validations_code f i (v ∷ more) = validation_code f i v ++ validations_code f (i + 1) more
 
--- the whole but for its exit: routines that are jumped over, conditions, and validations
-abbrev pub policy_code : FailurePolicy → List Insn → List (List Insn) → List Validation → List Insn
+-- routines one behind another, each behind a jump over it
+abbrev pub routines_code : List (List Insn) → List Insn
+routines_code [] = []
+routines_code (routine ∷ more) = skip (size routine) ∷ (routine ++ routines_code more)
+
+-- the whole but for its exit
+unfoldable pub policy_code : FailurePolicy → List (List Insn) → List (List Insn) → List Validation → List Insn
 policy_code f routines conditions validations =
-    routines ++ (conditions_code f conditions ++ (decided_tail ++ (validations_code f 0 validations ++ outcome_tail)))
+    routines_code routines ++ (conditions_code f conditions ++ (decided_tail ++ (validations_code f 0 validations ++ outcome_tail)))
