@@ -1,6 +1,7 @@
 pub mod AmongTexts
 pub mod Sizes
 pub mod Lengths
+pub mod Taken
 pub mod Lent
 pub mod Accepted
 pub mod Budgets
@@ -14,4 +15,5 @@ pub mod Expanded
 pub mod Uses
 pub mod Computed
 pub mod Routines
+pub mod Layer
 pub mod CodeInsns

@@ -14,7 +14,8 @@ use Rattle.cel_types.specs.declared.cel_type.CelType.{CelType}
 use Rattle.codegen_base.specs.Pieces.{Stands, size}
 use Rattle.codegen_base.specs.Scopes.{IsScope, Variable, scope_setting}
 use Rattle.codegen.specs.Accepted.{IsAccepted}
-use Rattle.codegen.specs.Computes.{Computes, Ready, environment_in, routines, scope_context, variable_of}
+use Rattle.codegen.specs.Computes.{Computes, Ready, TextsStand, environment_in, routines, scope_context, variable_of}
+use Rattle.codegen.specs.Constants.{joined, with_texts}
 use Rattle.codegen.specs.Cost.{cost}
 use Rattle.codegen.specs.HasLiterals.{HasLiterals}
 use Rattle.codegen.specs.Code.Expressions.{code_of, routine_code}
@@ -43,3 +44,8 @@ RoutineGives = (image : Contents) (deep : Bool) (roots : Roots) (constants : Lis
     Ready s scope texts c 1 0 e (cost (plain_tree e) (environment_in roots [] scope)).is_deep
     → Stands image.code p (routine_code e texts (routines scope) (length (scope ++ later)) p)
     → IsScope image deep roots constants ((scope ++ later) ++ variable_of roots scope texts name e p ∷ [])
+
+-- the texts that an expression names, once they are taken, stand among the constants where its code looks for them, whatever is taken later
+abbrev pub TextsStay : Type 0
+TextsStay = (texts used later : List (List ℕ)) → length (joined (with_texts (with_texts texts used) later)) ≤ 1048576
+    → TextsStand (joined (with_texts (with_texts texts used) later)) (with_texts texts used) used
