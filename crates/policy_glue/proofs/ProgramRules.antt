@@ -57,18 +57,18 @@ denial_size message = let all = size-append (skip_if Eq R3 (pos 0) (size message
 
 module _ (s : Setting) (c : Context) (f : FailurePolicy) (xs : List Finding) (x : Finding) (few : length xs < most_validations) where
   -- the message of a denial
-  message_given : (o : ℕ) (m : Option Part) (b : Body) → Stands s.image.code o (message_code (length xs) (codes_in m)) → MessageGives s c o m → x.message ≡ text_given (value_in m) → Counted s c f xs x few b → Comes s (message_steps true m) (message_charge true m) o b (o + message_size m) (Marked c f 0 (xs ++ x ∷ []))
+  message_given : (o : ℕ) (m : Option Part) (b : Body) → Stands s.image.code o (message_code (length xs) (codes_in m)) → MessageGives s c o true m → x.message ≡ text_given (value_in m) → Counted s c f xs x few b → Comes s (message_steps true m) (message_charge true m) o b (o + message_size m) (Marked c f 0 (xs ++ x ∷ []))
   message_given o None b has gives is counted =
       to_place s (o + 0) (omega arith) (done s o b (Marked c f 0 (xs ++ x ∷ [])) (untold s c f xs x few b counted is))
   message_given o (Some m) b has gives is counted =
       let q = o + size m.code in
       let Q = Marked c f 0 (xs ++ x ∷ []) in
       to_place s (o + (size m.code + 7)) (omega arith)
-      (and_then s 6 1 (q + 7) Q (gives.runs b (stands_front s.image.code o m.code (message_tail (length xs)) has) counted.fits) (λ b1 shown.
+      (and_then s 6 1 (q + 7) Q ((gives refl).runs b (stands_front s.image.code o m.code (message_tail (length xs)) has) counted.fits) (λ b1 shown.
       message_runs s c f xs x few q (stands_back s.image.code o m.code (message_tail (length xs)) has) m.value b1 (marks_shown c 0 (count_of f (xs ++ x ∷ [])) (result_of (xs ++ x ∷ [])) (message_of xs) b counted m.value b1 shown) shown.shows is))
 
   -- what is done for a denial, or nothing
-  denial_runs : (o : ℕ) (m : Option Part) (d : Bool) (b : Body) → Stands s.image.code o (denial_code (message_code (length xs) (codes_in m))) → MessageGives s c (o + 6) m → is_denial f x ≡ d → x.message ≡ (if d then text_given (value_in m) else None) → Scored s c f xs x few b → Comes s (5 + message_steps d m) (message_charge d m) o b (o + 6 + message_size m) (Marked c f 0 (xs ++ x ∷ []))
+  denial_runs : (o : ℕ) (m : Option Part) (d : Bool) (b : Body) → Stands s.image.code o (denial_code (message_code (length xs) (codes_in m))) → MessageGives s c (o + 6) d m → is_denial f x ≡ d → x.message ≡ (if d then text_given (value_in m) else None) → Scored s c f xs x few b → Comes s (5 + message_steps d m) (message_charge d m) o b (o + 6 + message_size m) (Marked c f 0 (xs ++ x ∷ []))
   denial_runs o m false b has gives denial is scored =
       let long = message_code_size (length xs) m in
       let none = nothing_of m in
@@ -106,7 +106,7 @@ rules_size f i (r ∷ more) =
 
 module _ (s : Setting) (c : Context) (f : FailurePolicy) where
   -- a validation, with its message
-  rule_runs : (xs : List Finding) (r : RulePart) (p : ℕ) (b : Body) → length xs < most_validations → Stands s.image.code p (validation_code f (length xs) (rule_code r)) → PartGives s c p r.expression → MessageGives s c (p + size r.expression.code + 17) r.message → Marked c f 0 xs b → Comes s (rule_steps f r) (rule_charge f r) p b (p + rule_size r) (Marked c f 0 (xs ++ found f r ∷ []))
+  rule_runs : (xs : List Finding) (r : RulePart) (p : ℕ) (b : Body) → length xs < most_validations → Stands s.image.code p (validation_code f (length xs) (rule_code r)) → PartGives s c p r.expression → MessageGives s c (p + size r.expression.code + 17) (denies f (truth_of r.expression.value)) r.message → Marked c f 0 xs b → Comes s (rule_steps f r) (rule_charge f r) p b (p + rule_size r) (Marked c f 0 (xs ++ found f r ∷ []))
   rule_runs xs r p b few has gives told marked =
       let e = r.expression in
       let q = p + size e.code in
@@ -121,10 +121,10 @@ module _ (s : Setting) (c : Context) (f : FailurePolicy) where
       (to_place s (p + rule_size r) (omega arith)
       (and_then s (10 + (5 + message_steps d r.message)) (0 + message_charge d r.message) (q + 11 + 6 + message_size r.message) Q (part_runs s c f 0 p xs e b (stands_front s.image.code p e.code (tail ++ denial_code message) has) gives marked) (λ b1 judges.
       and_then s (5 + message_steps d r.message) (message_charge d r.message) (q + 11 + 6 + message_size r.message) Q (result_runs s c f xs (found f r) few q (stands_front s.image.code q tail (denial_code message) behind) e.value b1 judges refl (truth_of e.value) refl) (λ b2 scored.
-      denial_runs s c f xs (found f r) few (q + 11) r.message d b2 has_denial (subst (λ (n : ℕ). MessageGives s c n r.message) place told) refl refl scored))))
+      denial_runs s c f xs (found f r) few (q + 11) r.message d b2 has_denial (subst (λ (n : ℕ). MessageGives s c n d r.message) place told) refl refl scored))))
 
   -- a row of them
-  pub rules_run : (rules : List RulePart) (xs : List Finding) (p : ℕ) (b : Body) → length xs + length rules ≤ most_validations → Stands s.image.code p (validations_code f (length xs) (rule_codes rules)) → ValidationsGive s c p rules → Marked c f 0 xs b → Comes s (validations_steps f rules) (validations_charge f rules) p b (p + rules_slots rules) (Marked c f 0 (xs ++ map (found f) rules))
+  pub rules_run : (rules : List RulePart) (xs : List Finding) (p : ℕ) (b : Body) → length xs + length rules ≤ most_validations → Stands s.image.code p (validations_code f (length xs) (rule_codes rules)) → ValidationsGive f s c p rules → Marked c f 0 xs b → Comes s (validations_steps f rules) (validations_charge f rules) p b (p + rules_slots rules) (Marked c f 0 (xs ++ map (found f) rules))
   unfolding validations_code
   rules_run [] xs p b few has gives marked =
       to_place s (p + 0) (omega arith) (done s p b (Marked c f 0 (xs ++ [])) (subst (λ (ys : List Finding). Marked c f 0 ys b) (sym (append_none xs)) marked))

@@ -81,7 +81,7 @@ routines_pass s (routine ∷ more) p b has =
 
 -- ---- from the first slot to an exit
 
-module _ (s : Setting) (c : Context) (f : FailurePolicy) (routines : List (List Insn)) (conditions : List Part) (rules : List RulePart) (few : length rules ≤ most_validations) (b : Body) (marked : Marked c f 0 [] b) (has : Stands s.image.code 0 (policy_code f routines (codes_of conditions) (rule_codes rules) ++ Exit ∷ [])) (gives_conditions : ConditionsGive s c (conditions_place routines) conditions) (gives_rules : ValidationsGive s c (validations_place f routines conditions) rules) where
+module _ (s : Setting) (c : Context) (f : FailurePolicy) (routines : List (List Insn)) (conditions : List Part) (rules : List RulePart) (few : length rules ≤ most_validations) (b : Body) (marked : Marked c f 0 [] b) (has : Stands s.image.code 0 (policy_code f routines (codes_of conditions) (rule_codes rules) ++ Exit ∷ [])) (gives_conditions : ConditionsGive s c (conditions_place routines) conditions) (gives_rules : is_running (decided_before f (truths_of conditions)) ≡ true → ValidationsGive f s c (validations_place f routines conditions) rules) where
   abbrev code : List ℕ
   code = s.image.code
 
@@ -149,7 +149,7 @@ module _ (s : Setting) (c : Context) (f : FailurePolicy) (routines : List (List 
       let Q = Ends c f (if list_any (is_denial f) found_all then Denied else Admitted) found_all in
       let long = rules_size f 0 rules in
       and_then s (validations_steps f rules + 7) (validations_charge f rules + 0) (third + 9) Q (conditions_pass s c f conditions first b has_conditions gives_conditions marked e) (λ b1 marked1.
-      and_then s 7 0 (third + 9) Q (to_place s third (omega arith) (rules_run s c f rules [] second b1 (omega arith) (stands_front code second rules_row outcome_tail has_second) gives_rules marked1)) (λ b2 marked2.
+      and_then s 7 0 (third + 9) Q (to_place s third (omega arith) (rules_run s c f rules [] second b1 (omega arith) (stands_front code second rules_row outcome_tail has_second) (gives_rules (ap is_running e)) marked1)) (λ b2 marked2.
       outcome_runs s c f found_all third has_third b2 marked2))
 
   ends_by : (o : Option Outcome) → decided_before f (truths_of conditions) ≡ o → let v = decided o (judged_by f found_all) in Exits s (length routines + (conditions_steps conditions + 3 + (if is_running o then validations_steps f rules + 7 else 0))) (conditions_charge conditions + (if is_running o then validations_charge f rules else 0)) 0 b (Ends c f v.outcome v.findings)
@@ -203,7 +203,7 @@ policy_decides law image deep values roots scope f routines conditions rules aft
     let n = program_steps f routines conditions rules in
     let x = program_charge f conditions rules in
     let stands : Stands image.code 0 whole = subst (λ (bs : List ℕ). Stands bs 0 whole) (sym code) (spelled_stands law [] after whole 0 refl (subst (λ (bs : List ℕ). All (λ b. b < 256) bs) code bytes) insns) in
-    let ends = policy_ends s c f routines conditions rules few start (start_marked image values roots (bindings scope) f constants table) stands gives_conditions gives_rules in
+    let ends = policy_ends s c f routines conditions rules few start (start_marked image values roots (bindings scope) f constants table) stands gives_conditions (λ e. gives_rules (ap (λ ts. is_running (decided_before f ts)) (truths_are conditions) ∙ e)) in
     let most = pending-most 0 (first_steps scope) start.memory.scratch in
     let halts = comes_to_exit s n x 0 ends.place m start (Ends c f v.outcome v.findings) ends.comes ends.here (λ b q. no_records b.records q.marked.fits.frame.records_are) (omega arith) in
     let told = halts_into s x start (Ends c f v.outcome v.findings) (LeavesVerdict f v) (λ b q. record { answers = q.answers; layout = is_layout f v b.values.values b.memory.verdict q.marked.words }) halts in

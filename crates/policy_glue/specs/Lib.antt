@@ -10,6 +10,7 @@ pub mod Layout
 pub mod Limits
 pub mod Policy
 pub mod Program
+pub mod ProgramCode
 pub mod ProgramLaws
 pub mod ProgramParts
 pub mod Reading

@@ -1,5 +1,5 @@
 -- What is proved of the code of a policy as a list of instructions.
-use Rattle.std.specs.Prelude.{◌≡◌, ℕ, ◌+◌, ◌<◌, ◌≤◌, All, Bool, List, [], ◌∷◌, ◌++◌, length, map, if◌then◌else◌}
+use Rattle.std.specs.Prelude.{◌≡◌, ℕ, ◌+◌, ◌<◌, ◌≤◌, All, Bool, true, List, [], ◌∷◌, ◌++◌, length, map, if◌then◌else◌}
 use Rattle.insn_codec.specs.declared.insn.Insn.{Insn}
 use Rattle.insn_codec.specs.declared.insn.Insn.TheVariants.{Exit}
 use Rattle.insn_codec.specs.declared.register.Register.TheVariants.{R0}
@@ -54,6 +54,6 @@ PolicyDecides = (image : loader.Contents) (deep : Bool) (values : Contents) (roo
     → HasValues roots values → length rules ≤ most_validations
     → let s = scope_setting image deep scope in let c = routine_context roots (bindings scope) image.constants in
     ConditionsGive s c (conditions_place routines) conditions
-    → ValidationsGive s c (validations_place f routines conditions) rules
+    → (passes f conditions ≡ true → ValidationsGive f s c (validations_place f routines conditions) rules)
     → program_steps f routines conditions rules + total (first_steps scope) < m
     → Halts s (program_charge f conditions rules) (start_body image values) (LeavesVerdict f (verdict_of f (values_given conditions) (rules_given rules))) (state_after m (start_state image values))

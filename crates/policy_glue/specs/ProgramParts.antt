@@ -1,5 +1,5 @@
 -- What is known of the parts of a policy's code: where each expression stands, what it gives, and what that takes.
-use Rattle.std.specs.Prelude.{ℕ, ◌+◌, List, [], ◌∷◌, map, Bool, Option, Some, None, option_map, if◌then◌else◌}
+use Rattle.std.specs.Prelude.{◌≡◌, ℕ, ◌+◌, List, [], ◌∷◌, map, Bool, true, Option, Some, None, option_map, if◌then◌else◌}
 use Rattle.insn_codec.specs.declared.insn.Insn.{Insn}
 use Rattle.value_store.specs.Value.{ValueOrError}
 use Rattle.codegen_base.specs.Contexts.{Context, Gives}
@@ -73,14 +73,15 @@ abbrev pub ConditionsGive : Setting → Context → ℕ → List Part → Type 0
 ConditionsGive s c p [] = Unit {0}
 ConditionsGive s c p (a ∷ more) = PartGives s c p a × ConditionsGive s c (p + size a.code + condition_slots) more
 
-abbrev pub MessageGives : Setting → Context → ℕ → Option Part → Type 0
-MessageGives s c p (Some m) = PartGives s c p m
-MessageGives s c p None = Unit {0}
+-- a message where it is evaluated
+abbrev pub MessageGives : Setting → Context → ℕ → Bool → Option Part → Type 0
+MessageGives s c p denied (Some m) = denied ≡ true → PartGives s c p m
+MessageGives s c p denied None = Unit {0}
 
--- and so does each validation, with its message
-abbrev pub ValidationsGive : Setting → Context → ℕ → List RulePart → Type 0
-ValidationsGive s c p [] = Unit {0}
-ValidationsGive s c p (r ∷ more) = PartGives s c p r.expression × MessageGives s c (p + size r.expression.code + result_slots) r.message × ValidationsGive s c (p + rule_size r) more
+-- each validation, with its message where it denies
+abbrev pub ValidationsGive : FailurePolicy → Setting → Context → ℕ → List RulePart → Type 0
+ValidationsGive f s c p [] = Unit {0}
+ValidationsGive f s c p (r ∷ more) = PartGives s c p r.expression × MessageGives s c (p + size r.expression.code + result_slots) (denies f (truth_of r.expression.value)) r.message × ValidationsGive f s c (p + rule_size r) more
 
 -- ---- budgets
 
