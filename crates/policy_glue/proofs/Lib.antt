@@ -12,6 +12,7 @@ mod ProgramRows
 mod ProgramRules
 mod ProgramSteps
 mod ProgramValidations
+mod ProgramVariables
 mod ProgramWhole
 mod Read
 mod Told

@@ -13,6 +13,7 @@ pub mod Program
 pub mod ProgramCode
 pub mod ProgramLaws
 pub mod ProgramParts
+pub mod ProgramTrees
 pub mod Reading
 pub mod Response
 pub mod Rows
