@@ -82,3 +82,65 @@ module _ (image : Contents) (deep : Bool) (roots : Roots) where
         is = subst (λ (vs : List Variable). IsScope image deep roots image.constants (vs ++ newest scope l v ∷ [])) same joined_scope;
         shallow = shallow_more ds _ known.shallow low;
       }
+
+  -- ---- all of them
+
+  -- the expression of a variable costs no more than the whole
+  deep_first : (ds : List Declaration) (scope : List Variable) (v : VariableTree) (more : List VariableTree) → ((variables_cost roots (bindings scope) (v ∷ more)).is_deep ≡ true → deep ≡ true) → IsDeep (plain_tree (expanded v.expression)) (environment_in roots [] scope) → deep ≡ true
+  deep_first ds scope v more may e =
+      let here : IsDeep v.expression (environment_with roots (bindings scope)) = subst (λ (a : Tree). IsDeep a (environment_in roots [] scope)) (expansion_plain v.expression) e in
+      may (or_left _ (variables_cost roots (with_value roots (bindings scope) v) more).is_deep here)
+
+  -- the name of the newest stands for its value
+  pub newest_value : (scope : List Variable) (l : Laid) (v : VariableTree) → bindings (scope ++ newest scope l v ∷ []) ≡ with_value roots (bindings scope) v
+  newest_value scope l v =
+      map-append (λ (u : Variable). (u.name, u.value)) scope (newest scope l v ∷ [])
+      ∙ ap (λ (a : Tree). bindings scope ++ (v.name, meaning a (environment_with roots (bindings scope))) ∷ []) (expansion_plain v.expression)
+
+  pub variables_known : (all rest : List (List ℕ)) (vs : List VariableTree) (scope : List Variable) (ds : List Declaration) (l : Laid) → image.constants ≡ joined all → length image.constants ≤ 1048576 → all ≡ with_texts l.texts (variable_texts vs ++ rest) → ((variables_cost roots (bindings scope) vs).is_deep ≡ true → deep ≡ true) → length scope + length vs ≤ 512 → AreVariables ds vs → Stands image.code l.place (routines_code (variable_codes ds l vs)) → Known scope ds l → Known (scope_with scope ds l vs) (fold with_variable ds vs) (after_variables ds l vs)
+  variables_known all rest [] scope ds l are few used may short expressions stands known = known
+  variables_known all rest (v ∷ more) scope ds l are few used may short expressions stands known =
+      let routine = variable_code ds l v in
+      let others = routines_code (variable_codes (with_variable ds v) (with_routine ds l v) more) in
+      let behind = stands_rest image.code l.place (skip (size routine)) (routine ++ others) stands in
+      let first = tree_texts v.expression in
+      let apart : all ≡ with_texts l.texts (first ++ (variable_texts more ++ rest)) = used ∙ ap (with_texts l.texts) (append_assoc first (variable_texts more) rest) in
+      let next = known_more scope ds l v known expressions.0 expressions.1 (omega arith) (has_constants image.constants all l.texts v.expression (variable_texts more ++ rest) are few apart) (deep_first ds scope v more may) (stands_front image.code (l.place + 1) routine others behind) in
+      let scope1 = scope ++ newest scope l v ∷ [] in
+      let longer = length-append scope (newest scope l v ∷ []) in
+      let may1 : (variables_cost roots (bindings scope1) more).is_deep ≡ true → deep ≡ true = λ e. may (or_right (cost v.expression (environment_with roots (bindings scope))).is_deep _ (subst (λ (bs : List (List ℕ × ValueOrError)). (variables_cost roots bs more).is_deep ≡ true) (newest_value scope l v) e)) in
+      variables_known all rest more scope1 (with_variable ds v) (with_routine ds l v) are few (used_more all l.texts first (variable_texts more ++ rest) apart) may1 (omega arith) expressions.2 (stands_back image.code (l.place + 1) routine others behind) next
+
+  pub values_are : (vs : List VariableTree) (scope : List Variable) (ds : List Declaration) (l : Laid) → bindings (scope_with scope ds l vs) ≡ fold (with_value roots) (bindings scope) vs
+  values_are [] scope ds l = refl
+  values_are (v ∷ more) scope ds l =
+      values_are more (scope ++ newest scope l v ∷ []) (with_variable ds v) (with_routine ds l v) ∙ ap (λ (bs : List (List ℕ × ValueOrError)). fold (with_value roots) bs more) (newest_value scope l v)
+
+  -- ---- what they take
+
+  total-append : (ns ms : List ℕ) → total (ns ++ ms) ≡ total ns + total ms
+  total-append [] ms = omega arith
+  total-append (n ∷ ns) ms = let rest = total-append ns ms in omega arith
+
+  -- first uses and the jumps over the routines are paid by their visits
+  pub steps_within : (vs : List VariableTree) (scope : List Variable) (ds : List Declaration) (l : Laid) → total (first_steps (scope_with scope ds l vs)) + length (variable_codes ds l vs) ≤ total (first_steps scope) + 128 * (variables_cost roots (bindings scope) vs).visits
+  steps_within [] scope ds l = omega arith
+  steps_within (v ∷ more) scope ds l =
+      let u = newest scope l v in
+      let rest = steps_within more (scope ++ u ∷ []) (with_variable ds v) (with_routine ds l v) in
+      let joined_steps = map-append (λ (x : Variable). x.steps + 9) scope (u ∷ []) in
+      let whole : total (first_steps (scope ++ u ∷ [])) ≡ total (first_steps scope) + (u.steps + 9) = ap total joined_steps ∙ total-append (first_steps scope) ((u.steps + 9) ∷ []) ∙ omega arith in
+      let visits : u.steps ≡ 128 * (cost v.expression (environment_with roots (bindings scope))).visits - 8 = ap (λ (a : Tree). 128 * (cost a (environment_with roots (bindings scope))).visits - 8) (expansion_plain v.expression) in
+      let same : (variables_cost roots (bindings (scope ++ u ∷ [])) more).visits ≡ (variables_cost roots (with_value roots (bindings scope) v) more).visits = ap (λ (bs : List (List ℕ × ValueOrError)). (variables_cost roots bs more).visits) (newest_value scope l v) in
+      omega arith
+
+  pub charges_within : (vs : List VariableTree) (scope : List Variable) (ds : List Declaration) (l : Laid) → total (first_charges (scope_with scope ds l vs)) ≤ total (first_charges scope) + 16 * spent_by (variables_cost roots (bindings scope) vs)
+  charges_within [] scope ds l = omega arith
+  charges_within (v ∷ more) scope ds l =
+      let u = newest scope l v in
+      let rest = charges_within more (scope ++ u ∷ []) (with_variable ds v) (with_routine ds l v) in
+      let joined_charges = map-append (λ (x : Variable). x.charge) scope (u ∷ []) in
+      let whole : total (first_charges (scope ++ u ∷ [])) ≡ total (first_charges scope) + u.charge = ap total joined_charges ∙ total-append (first_charges scope) (u.charge ∷ []) ∙ omega arith in
+      let spent : u.charge ≡ 16 * spent_by (cost v.expression (environment_with roots (bindings scope))) - 8 = ap (λ (a : Tree). 16 * spent_by (cost a (environment_with roots (bindings scope))) - 8) (expansion_plain v.expression) in
+      let same : spent_by (variables_cost roots (bindings (scope ++ u ∷ [])) more) ≡ spent_by (variables_cost roots (with_value roots (bindings scope) v) more) = ap (λ (bs : List (List ℕ × ValueOrError)). spent_by (variables_cost roots bs more)) (newest_value scope l v) in
+      omega arith
