@@ -1,6 +1,7 @@
 mod Each
 mod Filled
 mod Joined
+mod Judged
 mod Layouts
 mod Lists
 mod Read
