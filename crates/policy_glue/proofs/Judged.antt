@@ -1,6 +1,6 @@
 -- The judging of a text, step by step, over plain variables.
-use Rattle.std.proofs.Common.{◌≡◌, ◌≢◌, ◌≤◌, ◌<◌, ◌+◌, ◌^◌, ◌-◌, ℕ, List, min, nat_lt, true, false, Option, Some, None, Result, Ok, Err, IsErr, IfOk, IfSome, MatchResult, arith, refl, sym, ap, ◌∙◌, subst}
-use Rattle.std.proofs.lemmas.Bool.{false≢true}
+use Rattle.std.proofs.Common.{◌≡◌, ◌≤◌, ◌<◌, ◌++◌, ◌∷◌, [], ℕ, Bool, List, nat_lt, true, false, Option, Some, None, Result, Ok, Err, IsErr, IfSome, arith, refl, sym, ap, ◌∙◌, subst}
+use Rattle.std.proofs.lemmas.Bool.{false≢true, ltb-false}
 use Rattle.std.proofs.lemmas.Bool.Decides.{nat_tests}
 use Rattle.std.specs.Prelude.{if◌then◌else◌}
 use Rattle.std.specs.Result.{IsErrAnd}
@@ -15,7 +15,7 @@ use Rattle.cel_macros.specs.MacroFault.{MacroFault, ArgumentCount, IterationName
 use Rattle.cel_macros.specs.declared.core_tree.Core.{Core}
 use Rattle.cel_macros.specs.declared.macro_error.MacroError.{MacroError}
 use Rattle.cel_macros.specs.declared.macro_error.MacroError.TheVariants as macro_error
-use Rattle.cel_types.specs.Declarations.{Declaration, depths_of, scope_of}
+use Rattle.cel_types.specs.Declarations.{Declaration, declared, depths_of, scope_of}
 use Rattle.cel_types.specs.Types as types
 use Rattle.cel_types.specs.Types.{Typing, allowed, fault_of}
 use Rattle.cel_types.specs.Typing.{typing}
@@ -24,11 +24,15 @@ use Rattle.cel_types.specs.declared.type_error.TypeError.{TypeError}
 use Rattle.cel_types.specs.declared.type_error.TypeError.TheVariants.{Y1, Y2, Y3}
 use Rattle.cel_measures.specs.Measures.{depth, need}
 use Rattle.cel_measures.specs.Saturated.{saturated}
-use Rattle.policy_glue.specs.Checked.{Expands, IsExpanded, Judges, Sorts}
-use Rattle.policy_glue.specs.Checking.{Reads, IsRefused, unread, judged, refused, of_another_type, depth_in, expression_judged, type_error, variable_judged, with_depth, with_macros, with_typing}
+use Rattle.policy_glue.specs.Checked.{ChecksRule, Expands, IsAdded, IsExpanded, Judges, JudgesVariable, Sorts, SortsMessage}
+use Rattle.policy_glue.specs.Checking.{Reads, IsRefused, unread, judged, refused, of_another_type, expression, message, depth_in, expression_judged, texts, truths, type_error, type_or_any, variable_judged, with_depth, with_macros, with_typing}
 use Rattle.policy_glue.specs.CompileErrors.{from_macros, from_reader, in_part}
 use Rattle.policy_glue.specs.declared.compile_error.CompileError.{CompileError}
+use Rattle.policy_glue.specs.Policy.{Named, Rule}
+use Rattle.policy_glue.specs.declared.checked_validation.CheckedValidation.{CheckedValidation}
+use Rattle.policy_glue.specs.declared.compile_error.CompileError.TheVariants.{K7, K9}
 use Rattle.policy_glue.specs.declared.part_kind.PartKind.{PartKind}
+use Rattle.policy_glue.specs.declared.part_kind.PartKind.TheVariants.{Message, Validation, Variable}
 use Rattle.policy_glue.specs.declared.expression_error.ExpressionError.{ExpressionError}
 use Rattle.policy_glue.specs.declared.expression_error.ExpressionError.TheVariants.{G1, G2, Unread, Unexpanded, Untyped}
 use Rattle.policy_glue.specs.declared.expression_error.ExpressionError.TheVariants as expression_error
@@ -157,3 +161,79 @@ part_by types other part place scope text expression_error.Memory judges = λ so
 
 pub part_refused : (types : List CelType) (other : CompileError) (part : PartKind) (place : ℕ) (scope : List Declaration) (text : List ℕ) (e : ExpressionError) (x : CompileError) → Judges (expression_judged scope) text (Err e) → x ≡ in_part part place e → Sorts types other part place scope text (Err x)
 part_refused types other part place scope text e x judges is = subst (λ y. Sorts types other part place scope text (Err y)) (sym is) (part_by types other part place scope text e judges)
+
+-- ---- a variable in scope
+
+variable_by : (scope : List Declaration) (place : ℕ) (text : List ℕ) (e : ExpressionError) → Judges (variable_judged scope) text (Err e) → JudgesVariable scope place text (Err (in_part Variable place e))
+variable_by scope place text (Unread e) judges = λ some. record { cause = Unread e; because = judges (λ no. cc); is = refl }
+variable_by scope place text (Unexpanded e) judges = λ some. record { cause = Unexpanded e; because = judges (λ no. cc); is = refl }
+variable_by scope place text (Untyped e) judges = λ some. record { cause = Untyped e; because = judges (λ no. cc); is = refl }
+variable_by scope place text G1 judges = λ some. record { cause = G1; because = judges (λ no. cc); is = refl }
+variable_by scope place text G2 judges = λ some. record { cause = G2; because = judges (λ no. cc); is = refl }
+variable_by scope place text expression_error.Memory judges = λ some. absurd (some refl)
+
+pub variable_part : (scope : List Declaration) (place : ℕ) (text : List ℕ) (e : ExpressionError) (x : CompileError) → Judges (variable_judged scope) text (Err e) → x ≡ in_part Variable place e → JudgesVariable scope place text (Err x)
+variable_part scope place text e x judges is = subst (λ y. JudgesVariable scope place text (Err y)) (sym is) (variable_by scope place text e judges)
+
+need_known : (b : Bool) (t u : CelType) → (if b then Err G1 else (let r : Result CelType ExpressionError = Ok t in r)) ≡ Ok u → t ≡ u
+need_known true t u is = cc
+need_known false t u is = cc
+
+type_known : (m : Option MacroFault) (t : Typing) (n : ℕ) (u : CelType) → with_macros m t n ≡ Ok u → type_or_any t ≡ u
+type_known (Some fault) t n u is = cc
+type_known None (types.refused y) n u is = cc
+type_known None (types.typed t) n u is = need_known (nat_lt 60 n) t u is
+
+deep_known : (b : Bool) (t u : CelType) → (if b then Err G2 else (let r : Result CelType ExpressionError = Ok t in r)) ≡ Ok u → (b ≡ false) × (t ≡ u)
+deep_known true t u is = cc
+deep_known false t u is = (refl, cc)
+
+shallow_known : (d : ℕ) (r : Result CelType ExpressionError) (u : CelType) → with_depth d r ≡ Ok u → (nat_lt 6 d ≡ false) × (r ≡ Ok u)
+shallow_known d (Err e) u is = cc
+shallow_known d (Ok t) u is = let known = deep_known (nat_lt 6 d) t u is in (known.0, ap Ok known.1)
+
+small_by : (d : ℕ) → nat_lt 6 d ≡ false → saturated d ≡ d
+small_by d is = let within : d ≤ 6 = ltb-false 6 d is in omega arith
+
+type_in_scope : (scope : List Declaration) (a : Tree) (t : CelType) → expression_judged scope a ≡ Ok t → type_or_any (typing a (scope_of scope)) ≡ t
+unfolding expression_judged
+type_in_scope scope a t is = type_known (macro_fault a) (typing a (scope_of scope)) (need (expanded a)) t is
+
+pub added_is : (n : Named) (place : ℕ) (old new : List Declaration) (core : Core) (t : CelType) (d : ℕ) (before after : List CoreTree) → JudgesVariable old place n.expression (Ok (core, t)) → d ≡ saturated (depth (core_view core) (depths_of old)) → new ≡ old ++ declared n.name t d ∷ [] → after ≡ before ++ core_view core ∷ [] → IsAdded n old new before after
+added_is n place old new core t d before after judges depth_is scope_is trees_are =
+    let a = judges.0 in
+    let known = shallow_known (depth_in old a) (expression_judged old a) t judges.2.judged in
+    let deep : d ≡ depth_in old a = depth_by old core a d judges.1 depth_is ∙ small_by (depth_in old a) known.0 in
+    let kind : type_or_any (typing a (scope_of old)) ≡ t = type_in_scope old a t known.1 in
+    record {
+      variable = record { name = n.name; expression = a };
+      taken = record { name = refl; cel_type = t; tree = judges.2 };
+      scope = scope_is ∙ ap (λ k. old ++ declared n.name t k ∷ []) deep ∙ ap (λ u. old ++ declared n.name u (depth_in old a) ∷ []) (sym kind);
+      trees = trees_are ∙ ap (λ c. before ++ c ∷ []) judges.1;
+    }
+
+-- ---- an error that is passed on
+
+pub passed_on : {X : Type 0} (Target : Result X CompileError → Type 0) (e : CompileError) (r : Result X CompileError) → Target (Err e) → IsErr r → IsErrAnd r (λ x. x ≡ e) → Target r
+passed_on Target e (Ok x) here err is = absurd (false≢true err)
+passed_on Target e (Err x) here err is = subst (λ y. Target (Err y)) (sym is) here
+
+-- ---- a validation
+
+message_by_cause : (scope : List Declaration) (place : ℕ) (text : Option (List ℕ)) (source : List ℕ) (e : CompileError) → text ≡ Some source → Sorts texts K9 Message place scope source (Err e) → SortsMessage scope place text (Err e)
+message_by_cause scope place text source e is sorts = λ some. record { source = source; is = is; because = sorts some }
+
+pub message_is : (scope : List Declaration) (place : ℕ) (source : List ℕ) (core : Core) → Sorts texts K9 Message place scope source (Ok core) → SortsMessage scope place (Some source) (Ok (Some core))
+message_is scope place source core sorts = (Some sorts.0, ap Some sorts.1, sorts.2)
+
+pub rule_unexpressed : (scope : List Declaration) (place : ℕ) (n : Rule) (e : CompileError) → Sorts truths K7 Validation place scope n.expression (Err e) → ChecksRule scope place n (Err e)
+rule_unexpressed scope place n e sorts = λ some. expression e (sorts some)
+
+pub rule_unsaid : (scope : List Declaration) (place : ℕ) (n : Rule) (core : Core) (e : CompileError) → Sorts truths K7 Validation place scope n.expression (Ok core) → SortsMessage scope place n.message_expression (Err e) → ChecksRule scope place n (Err e)
+rule_unsaid scope place n core e sorts says = λ some. let none = says some in message sorts.0 none.source e sorts.2 none.is none.because
+
+pair_is : {A B : Type 0} {a b : A} {c d : B} → a ≡ b → c ≡ d → (let p : A × B = (a, c) in p) ≡ (b, d)
+pair_is {b = b} {c = c} first second = ap (λ x. (x, c)) first ∙ ap (λ y. (b, y)) second
+
+pub rule_is : (scope : List Declaration) (place : ℕ) (n : Rule) (v : CheckedValidation) → Sorts truths K7 Validation place scope n.expression (Ok v.expression) → SortsMessage scope place n.message_expression (Ok v.message) → ChecksRule scope place n (Ok v)
+rule_is scope place n v sorts says = (record { expression = sorts.0; message = says.0 }, pair_is sorts.1 says.1, record { expression = sorts.2; message = says.2 })

@@ -4,5 +4,7 @@ mod Joined
 mod Judged
 mod Layouts
 mod Lists
+mod Policies
 mod Read
 mod Told
+mod Walks

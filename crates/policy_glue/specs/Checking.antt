@@ -126,29 +126,35 @@ with_variable scope v = scope ++ declared v.name (type_or_any (type_of v.express
 abbrev pub scope_after : List VariableTree → List Declaration
 scope_after variables = fold with_variable [] variables
 
--- a variable may use those before it
-pub record IsVariable (taken : List VariableTree) (n : Named) (v : VariableTree) : Type 0 where
+-- a variable may use those in scope, which are those before it
+pub record IsVariable (scope : List Declaration) (n : Named) (v : VariableTree) : Type 0 where
   pub name : v.name ≡ n.name
   pub cel_type : CelType
-  pub tree : IsTaken (variable_judged (scope_after taken)) n.expression v.expression cel_type
+  pub tree : IsTaken (variable_judged scope) n.expression v.expression cel_type
 
-pub record IsNoVariable (taken : List VariableTree) (n : Named) (e : CompileError) : Type 0 where
+pub record IsNoVariable (scope : List Declaration) (place : ℕ) (text : List ℕ) (e : CompileError) : Type 0 where
   pub cause : ExpressionError
-  pub refused : IsRefused (variable_judged (scope_after taken)) n.expression cause
-  pub is : e ≡ K6 Variable (length taken) cause
+  pub because : IsRefused (variable_judged scope) text cause
+  pub is : e ≡ K6 Variable place cause
+
+abbrev pub TakesVariable : List VariableTree → Named → VariableTree → Type 0
+TakesVariable taken n v = IsVariable (scope_after taken) n v
+
+abbrev pub RefusesVariable : List VariableTree → Named → CompileError → Type 0
+RefusesVariable taken n e = IsNoVariable (scope_after taken) (length taken) n.expression e
 
 abbrev pub VariablesEnd : List Named → Result (List VariableTree) CompileError → Type 0
-VariablesEnd ns end = Ends IsVariable IsNoVariable [] ns end
+VariablesEnd ns end = Ends TakesVariable RefusesVariable [] ns end
 
 -- a condition may use no variable
-abbrev pub IsCondition : List Tree → Named → Tree → Type 0
-IsCondition taken n a = IsOneOf truths [] n.expression a
+abbrev pub TakesCondition : List Tree → Named → Tree → Type 0
+TakesCondition taken n a = IsOneOf truths [] n.expression a
 
-abbrev pub IsNoCondition : List Tree → Named → CompileError → Type 0
-IsNoCondition taken n e = IsNoneOf truths K7 Condition (length taken) [] n.expression e
+abbrev pub RefusesCondition : List Tree → Named → CompileError → Type 0
+RefusesCondition taken n e = IsNoneOf truths K7 Condition (length taken) [] n.expression e
 
 abbrev pub ConditionsEnd : List Named → Result (List Tree) CompileError → Type 0
-ConditionsEnd ns end = Ends IsCondition IsNoCondition [] ns end
+ConditionsEnd ns end = Ends TakesCondition RefusesCondition [] ns end
 
 -- a validation and its message expression may use all variables
 abbrev pub IsMessage : List Declaration → Option (List ℕ) → Option Tree → Type 0
@@ -165,8 +171,14 @@ pub data IsNoRule (scope : List Declaration) (place : ℕ) (n : Rule) : CompileE
   expression : (e : CompileError) → IsNoneOf truths K7 Validation place scope n.expression e → IsNoRule scope place n e
   message : (a : Tree) (text : List ℕ) (e : CompileError) → IsOneOf truths scope n.expression a → n.message_expression ≡ Some text → IsNoneOf texts K9 Message place scope text e → IsNoRule scope place n e
 
+abbrev pub TakesRule : List Declaration → List RuleTree → Rule → RuleTree → Type 0
+TakesRule scope taken n r = IsRule scope n r
+
+abbrev pub RefusesRule : List Declaration → List RuleTree → Rule → CompileError → Type 0
+RefusesRule scope taken n e = IsNoRule scope (length taken) n e
+
 abbrev pub ValidationsEnd : List Declaration → List Rule → Result (List RuleTree) CompileError → Type 0
-ValidationsEnd scope ns end = Ends (λ taken n r. IsRule scope n r) (λ taken n e. IsNoRule scope (length taken) n e) [] ns end
+ValidationsEnd scope ns end = Ends (TakesRule scope) (RefusesRule scope) [] ns end
 
 -- ---- the policy
 

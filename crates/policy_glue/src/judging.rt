@@ -47,11 +47,7 @@ fn type_of(core: &Core, scope: &Scope) -> Result<CelType, ExpressionError>
 }
 
 /// The expression in a text, which may use the variables of the scope, and its type.
-pub fn judged(
-    alloc: Global,
-    text: &str,
-    scope: &Scope,
-) -> Result<(Core, CelType), ExpressionError>
+pub fn judged(alloc: Global, text: &str, scope: &Scope) -> Result<(Core, CelType), ExpressionError>
     ensures { Judges (expression_judged scope.now) text.now result }
 {
     let core = expression(alloc, text)?;
@@ -113,12 +109,7 @@ pub fn truth(
 }
 
 /// The expression of a validation's message.
-pub fn message(
-    alloc: Global,
-    place: usize,
-    text: &str,
-    scope: &Scope,
-) -> Result<Core, CompileError>
+pub fn message(alloc: Global, place: usize, text: &str, scope: &Scope) -> Result<Core, CompileError>
     ensures { Sorts texts K9 Message place scope.now text.now result }
 {
     match judged(alloc, text, scope) {

@@ -4,6 +4,7 @@
 
 mod checked;
 mod checked_validation;
+mod checking;
 mod compile_error;
 mod denial;
 mod denials;

@@ -1,4 +1,4 @@
-use Rattle.std.proofs.Common.{◌≡◌, ◌∙◌, sym}
+use Rattle.std.proofs.Common.{◌∙◌, sym}
 use Rattle.policy_glue.specs.Checking.{texts}
 use Rattle.policy_glue.specs.declared.compile_error.CompileError.TheVariants.{K9}
 use Rattle.policy_glue.specs.declared.part_kind.PartKind.TheVariants.{Message}

@@ -1,4 +1,4 @@
-use Rattle.std.proofs.Common.{◌≡◌, ◌∙◌, sym}
+use Rattle.std.proofs.Common.{◌∙◌, sym}
 use Rattle.policy_glue.specs.Checking.{truths}
 use Rattle.policy_glue.specs.declared.compile_error.CompileError.TheVariants.{K7}
 use Rattle.policy_glue.proofs.Judged.{other_is, part_refused}

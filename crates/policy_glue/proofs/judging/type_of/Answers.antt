@@ -1,4 +1,4 @@
-use Rattle.std.proofs.Common.{arith, sym, ◌∙◌, ap, ◌≡◌}
+use Rattle.std.proofs.Common.{◌∙◌, ap}
 use Rattle.cel_types.specs.Declarations.{scope_of}
 use Rattle.cel_types.specs.Typing.{typing}
 use Rattle.cel_macros.specs.CoreTree.{expanded}
