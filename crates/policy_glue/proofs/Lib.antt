@@ -1,8 +1,10 @@
 mod Each
 mod Filled
 mod Joined
+mod Judged
 mod Layouts
 mod Lists
+mod Policies
 mod ProgramConditions
 mod ProgramDecided
 mod ProgramMarks
@@ -17,3 +19,4 @@ mod ProgramWhole
 mod Read
 mod Told
 mod VerdictWords
+mod Walks

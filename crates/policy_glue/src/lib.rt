@@ -2,12 +2,16 @@
 //! that programs leave, and the responses to them.
 #![tactic(auto)]
 
+mod checked;
+mod checked_validation;
+mod checking;
 mod compile_error;
 mod denial;
 mod denials;
 mod documents;
 mod expression_error;
 mod failure_policy;
+mod judging;
 pub mod laws;
 mod name_rule;
 mod named_expression;
