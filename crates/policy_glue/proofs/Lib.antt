@@ -11,6 +11,7 @@ mod ProgramOutcome
 mod ProgramRows
 mod ProgramRules
 mod ProgramSteps
+mod ProgramTreeParts
 mod ProgramValidations
 mod ProgramVariables
 mod ProgramWhole

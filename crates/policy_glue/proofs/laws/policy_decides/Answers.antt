@@ -1,4 +1,4 @@
-use Rattle.policy_glue.proofs.ProgramVariables.{known_more}
+use Rattle.policy_glue.proofs.ProgramTreeParts.{rule_codes_are}
 use Rattle.policy_glue.proofs.ProgramWhole.{policy_decides}
 use Rattle.policy_glue.proofs.laws.policy_decides.Goals as goal
 
