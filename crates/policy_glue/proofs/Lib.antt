@@ -10,6 +10,7 @@ mod ProgramMessages
 mod ProgramOutcome
 mod ProgramRows
 mod ProgramRules
+mod ProgramRuns
 mod ProgramSteps
 mod ProgramTreeParts
 mod ProgramValidations
