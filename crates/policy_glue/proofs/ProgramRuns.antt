@@ -23,6 +23,7 @@ use Rattle.codegen_base.specs.Instructions.{skip}
 use Rattle.codegen_base.specs.Pieces.{AreInsns, Stands, size, spellings}
 use Rattle.codegen_base.specs.Programs.{start_body, total}
 use Rattle.codegen_base.specs.Scopes.{IsScope, Variable, bindings, first_charges, first_steps, scope_setting}
+use Rattle.codegen_base.specs.Variables.{routine_context}
 use Rattle.codegen_base.proofs.Pieces.{size-append, size-cons, stands_front}
 use Rattle.codegen_base.proofs.Programs.{pending-most}
 use Rattle.codegen_base.proofs.Scopes.{no_scope}
@@ -202,3 +203,85 @@ module _ (law : DecodesSpelling) (f : FailurePolicy) (p : PolicyTree) (roots : R
 
   short_scope : length scope ≤ 512
   short_scope = let few = has.few_variables in let long = scope_length image deep roots p.variables [] [] nothing_laid in omega arith
+
+  -- ---- where the parts stand, and what they give
+
+  first_place : (laid_routines p).place ≡ conditions_place routines
+  first_place = variables_place p.variables [] nothing_laid ∙ omega arith
+
+  second_place : (laid_conditions p).place ≡ validations_place f routines conditions
+  second_place =
+      let first = conditions_place_is roots p.conditions (laid_routines p) in
+      let second = place_is f (laid_routines p).place conditions in
+      let third = first_place in
+      omega arith
+
+  give_conditions : ConditionsGive (scope_setting image deep scope) (routine_context roots (bindings scope) image.constants) (conditions_place routines) conditions
+  give_conditions =
+      subst (λ (n : ℕ). ConditionsGive (scope_setting image deep scope) (routine_context roots (bindings scope) image.constants) n conditions) first_place (conditions_give image deep roots (policy_texts p) constants_are few_constants scope p.conditions (laid_routines p) (validation_texts p.validations) slots_are has.conditions used_second deep_conditions)
+
+  deep_running : passes f conditions ≡ true → (rules_cost true f env p.validations).is_deep ≡ true → deep ≡ true
+  deep_running runs e =
+      deep_rules (subst (λ (t : Bool). (rules_cost t f (environment_with roots (values_of roots p.variables)) p.validations).is_deep ≡ true) (sym runs ∙ runs_is) (subst (λ (bs : List (List ℕ × ValueOrError)). (rules_cost true f (environment_with roots bs) p.validations).is_deep ≡ true) names_are e))
+
+  give_validations : passes f conditions ≡ true → ValidationsGive f (scope_setting image deep scope) (routine_context roots (bindings scope) image.constants) (validations_place f routines conditions) rules
+  give_validations runs =
+      subst (λ (n : ℕ). ValidationsGive f (scope_setting image deep scope) (routine_context roots (bindings scope) image.constants) n rules) second_place (validations_give image deep roots (policy_texts p) constants_are few_constants f scope ds known.shallow known.is short_scope p.validations (laid_conditions p) [] taken_later has.validations used_third (deep_running runs))
+
+  -- ---- budgets
+
+  rules_paid : (t : Bool) → passes f conditions ≡ t → (if t then validations_steps f rules + 7 else 0) ≤ 128 * (rules_cost (runs_on f p roots) f (environment_with roots (values_of roots p.variables)) p.validations).visits + 7
+  rules_paid false runs = omega arith
+  rules_paid true runs =
+      let within = validations_steps_within f ds (laid_conditions p) env p.validations in
+      let same : (rules_cost true f env p.validations).visits ≡ (rules_cost (runs_on f p roots) f (environment_with roots (values_of roots p.variables)) p.validations).visits = ap (λ bs. (rules_cost true f (environment_with roots bs) p.validations).visits) names_are ∙ ap (λ (t : Bool). (rules_cost t f (environment_with roots (values_of roots p.variables)) p.validations).visits) (sym runs ∙ runs_is) in
+      omega arith
+
+  rules_spent : (t : Bool) → passes f conditions ≡ t → (if t then validations_charge f rules else 0) ≤ 16 * spent_by (rules_cost (runs_on f p roots) f (environment_with roots (values_of roots p.variables)) p.validations)
+  rules_spent false runs = omega arith
+  rules_spent true runs =
+      let within = validations_charge_within f ds (laid_conditions p) env p.validations in
+      let same : spent_by (rules_cost true f env p.validations) ≡ spent_by (rules_cost (runs_on f p roots) f (environment_with roots (values_of roots p.variables)) p.validations) = ap (λ bs. spent_by (rules_cost true f (environment_with roots bs) p.validations)) names_are ∙ ap (λ (t : Bool). spent_by (rules_cost t f (environment_with roots (values_of roots p.variables)) p.validations)) (sym runs ∙ runs_is) in
+      omega arith
+
+  steps_enough : program_steps f routines conditions rules + total (first_steps scope) < 128 * policy_work f p roots
+  unfolding policy_cost
+  steps_enough =
+      let first = steps_within image deep roots p.variables [] [] nothing_laid in
+      let second = conditions_steps_within roots (laid_routines p) p.conditions in
+      let third = rules_paid (passes f conditions) refl in
+      omega arith
+
+  charge_enough : program_charge f conditions rules + total (first_charges scope) ≤ 16 * policy_spent f p roots
+  unfolding policy_cost
+  charge_enough =
+      let first = charges_within image deep roots p.variables [] [] nothing_laid in
+      let second = conditions_charge_within roots (laid_routines p) p.conditions in
+      let third = rules_spent (passes f conditions) refl in
+      omega arith
+
+  -- ---- the end
+
+  rules_few : length rules ≤ most_validations
+  rules_few = let few = has.few_validations in let long = rules_length ds (laid_conditions p) env p.validations in omega arith
+
+  decided : {t : State} → Halts (scope_setting image deep scope) (program_charge f conditions rules) start (LeavesVerdict f (decision_of f p roots)) t → Decides f p roots values t
+  decided (Over e (inl above)) =
+      let most = pending-most 0 (first_charges scope) start.memory.scratch in
+      let enough = charge_enough in
+      trees.Over e (inl (omega arith))
+  decided (Over e (inr is_deep)) = trees.Over e (inr is_deep)
+  decided {t} (Left q b e within leaves) =
+      trees.Left (ap (λ (u : State). u.status) e ∙ ap Exited leaves.answers) (subst (λ (u : State). IsLayout f (decision_of f p roots) u.values.values u.memory.verdict) (sym e) leaves.layout)
+
+  pub decides : (m : ℕ) → 128 * policy_work f p roots ≤ m → Decides f p roots values (state_after m (start_state image values))
+  decides m enough =
+      let whole = sym (append-nil (spellings (policy_code f routines (codes_of conditions) (rule_codes rules) ++ Exit ∷ []))) in
+      let code : image.code ≡ spellings (policy_code f routines (codes_of conditions) (rule_codes rules) ++ Exit ∷ []) ++ [] = code_is ∙ ap spellings whole_is ∙ whole in
+      let steps = steps_enough in
+      let halts = policy_decides law image deep values roots scope f routines conditions rules [] m code bytes constant_bytes (subst AreInsns whole_is insns) table rules_few give_conditions give_validations (omega arith) in
+      decided (subst (λ (v : Verdict). Halts (scope_setting image deep scope) (program_charge f conditions rules) start (LeavesVerdict f v) (state_after m (start_state image values))) decision_is halts)
+
+pub program_decides : DecodesSpelling → ProgramIsCode → ProgramDecides
+program_decides law codes f p roots image values m has code_is constants_are bytes constant_bytes table enough =
+    decides law f p roots image values has (codes f p has) code_is constants_are bytes constant_bytes table m enough
