@@ -16,4 +16,5 @@ pub mod Uses
 pub mod Computed
 pub mod Routines
 pub mod Layer
+pub mod VariableScope
 pub mod CodeInsns

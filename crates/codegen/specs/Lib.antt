@@ -9,3 +9,4 @@ pub mod Computes
 pub mod Laws
 pub mod Surroundings
 pub mod Layer
+pub mod VariableScope

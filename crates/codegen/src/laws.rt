@@ -1,8 +1,9 @@
 //! The laws of the code generator, each the contract of an empty function.
 
 ghost use Rattle.codegen.specs.CostRows.{CostRows};
-ghost use Rattle.codegen.specs.Layer.{ExpressionGives, VariableIsTaken, VariableJoins};
+ghost use Rattle.codegen.specs.Layer.{ExpressionGives, FramesAreEnough, VariableIsTaken, VariableJoins};
 ghost use Rattle.codegen.specs.Laws.{CodeGives, CodeIsShort, RoutineGives, TypedIsAccepted};
+ghost use Rattle.codegen.specs.VariableScope.{ScopeIsMade};
 
 /// Expressions that were worked by hand visit and spend so much.
 pub fn costs_stand()
@@ -34,11 +35,18 @@ pub fn routine_gives()
 /// on steps and charge, for all that the type checker takes in a scope of the variables that the emitter
 /// took first.
 pub fn expression_gives()
-    ensures { ExpressionGives }
+    ensures gives { ExpressionGives }
+    ensures frames { FramesAreEnough }
 {}
 
 /// The variables that an emitter took grow by each that it takes, whose routine stands in the image.
 pub fn variables_join()
     ensures joins { VariableJoins }
     ensures taken { VariableIsTaken }
+{}
+
+/// Variables that are taken one after another make a scope, once their routines stand in an image, and
+/// their first uses take no more than what their expressions visit and spend allows.
+pub fn scope_is_made()
+    ensures { ScopeIsMade }
 {}
