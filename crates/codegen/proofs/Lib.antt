@@ -16,5 +16,4 @@ pub mod Uses
 pub mod Computed
 pub mod Routines
 pub mod Layer
-pub mod VariableScope
 pub mod CodeInsns

@@ -9,4 +9,3 @@ pub mod Computes
 pub mod Laws
 pub mod Surroundings
 pub mod Layer
-pub mod VariableScope

@@ -3,7 +3,6 @@
 ghost use Rattle.codegen.specs.CostRows.{CostRows};
 ghost use Rattle.codegen.specs.Layer.{ExpressionGives, FramesAreEnough, VariableIsTaken, VariableJoins};
 ghost use Rattle.codegen.specs.Laws.{CodeGives, CodeIsShort, RoutineGives, TypedIsAccepted};
-ghost use Rattle.codegen.specs.VariableScope.{ScopeIsMade};
 
 /// Expressions that were worked by hand visit and spend so much.
 pub fn costs_stand()
@@ -43,10 +42,4 @@ pub fn expression_gives()
 pub fn variables_join()
     ensures joins { VariableJoins }
     ensures taken { VariableIsTaken }
-{}
-
-/// Variables that are taken one after another make a scope, once their routines stand in an image, and
-/// their first uses take no more than what their expressions visit and spend allows.
-pub fn scope_is_made()
-    ensures { ScopeIsMade }
 {}
