@@ -12,7 +12,9 @@ mod ProgramMessages
 mod ProgramOutcome
 mod ProgramRows
 mod ProgramRules
+mod ProgramRuns
 mod ProgramSteps
+mod ProgramTreeParts
 mod ProgramValidations
 mod ProgramVariables
 mod ProgramWhole
