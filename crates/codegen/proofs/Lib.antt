@@ -1,6 +1,9 @@
 pub mod AmongTexts
+pub mod Fronts
+pub mod Behind
 pub mod Sizes
 pub mod Lengths
+pub mod Taken
 pub mod Lent
 pub mod Accepted
 pub mod Budgets
@@ -13,3 +16,5 @@ pub mod Aggregates
 pub mod Expanded
 pub mod Computed
 pub mod CodeInsns
+pub mod Passed
+pub mod Finished

@@ -7,3 +7,6 @@ pub mod Accepted
 pub mod HasLiterals
 pub mod Computes
 pub mod Laws
+pub mod Added
+pub mod FrameWords
+pub mod Surroundings

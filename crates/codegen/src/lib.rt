@@ -1,13 +1,24 @@
 //! CEL expressions as code of the machine.
 #![tactic(auto)]
 
+mod code;
 mod code_error;
 mod constants;
+mod emission;
 mod emitter;
+mod expressions;
+mod frame_words;
+mod instructions;
 mod laws;
+mod literals_fit;
+mod routines;
+mod spot;
+mod surroundings;
 #[cfg(test)]
 mod tests;
+mod texts;
 
 pub use code_error::CodeError;
+pub use emission::{expression, variable};
 pub use emitter::Emitter;
 pub use laws::{code_gives, code_is_short, costs_stand};
