@@ -1,4 +1,6 @@
 pub mod AmongTexts
+pub mod Joined
+pub mod Names
 pub mod Sizes
 pub mod Lengths
 pub mod Lent

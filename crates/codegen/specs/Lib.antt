@@ -2,6 +2,7 @@ pub mod Cost
 pub mod CostRows
 pub mod Constants
 pub mod Emitted
+pub mod FrameWords
 pub mod Code
 pub mod Accepted
 pub mod HasLiterals

@@ -1,10 +1,15 @@
 //! CEL expressions as code of the machine.
 #![tactic(auto)]
 
+mod code;
 mod code_error;
 mod constants;
 mod emitter;
+mod frame_words;
+mod helpers;
+mod instructions;
 mod laws;
+mod references;
 #[cfg(test)]
 mod tests;
 
