@@ -13,5 +13,7 @@ pub mod Macros
 pub mod Ranges
 pub mod Aggregates
 pub mod Expanded
+pub mod Uses
 pub mod Computed
+pub mod Routines
 pub mod CodeInsns
