@@ -1,6 +1,8 @@
 pub mod AmongTexts
 pub mod Fronts
 pub mod Behind
+pub mod Joined
+pub mod Names
 pub mod Sizes
 pub mod Lengths
 pub mod Taken
@@ -14,7 +16,9 @@ pub mod Macros
 pub mod Ranges
 pub mod Aggregates
 pub mod Expanded
+pub mod Uses
 pub mod Computed
+pub mod Routines
 pub mod CodeInsns
 pub mod Passed
 pub mod Finished

@@ -2,11 +2,11 @@ pub mod Cost
 pub mod CostRows
 pub mod Constants
 pub mod Emitted
+pub mod FrameWords
 pub mod Code
 pub mod Accepted
 pub mod HasLiterals
 pub mod Computes
 pub mod Laws
-pub mod Added
-pub mod FrameWords
 pub mod Surroundings
+pub mod Added

@@ -11,6 +11,7 @@ pub mod Listings
 pub mod Values
 pub mod Frames
 pub mod Answers
+pub mod Meanings
 pub mod Helpers
 pub mod Leaves
 pub mod Selection

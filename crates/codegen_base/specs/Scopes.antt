@@ -24,7 +24,7 @@ pub record Variable : Type 0 where
 abbrev pub bindings : List Variable → List (List ℕ × ValueOrError)
 bindings = each (λ v. (v.name, v.value))
 
--- what the first use of each takes: the call, the memo and the exit take 9 steps more
+-- what the first use of each takes: the call, the memo and the exit take at most 9 steps more
 abbrev pub first_steps : List Variable → List ℕ
 first_steps = each (λ v. v.steps + 9)
 
@@ -55,7 +55,7 @@ abbrev pub ScopeGives : Type 0
 ScopeGives = (image : Contents) (deep : Bool) (roots : Roots) (constants : List ℕ) (scope : List Variable) (words : List (List ℕ × ℕ)) (items : List (List ℕ × Value)) (name : List ℕ) (i : ℕ) (v : Variable) (p depth base : ℕ) (offset : ℤ)
     → IsScope image deep roots constants scope → length scope ≤ 512 → base ≤ 60
     → place_named name scope ≡ Some i → slice_get scope i ≡ Some v → depth + v.nesting ≤ 7
-    → pos (p + 4) +ℤ pos 1 +ℤ offset ≡ pos v.routine
+    → pos (p + 5) +ℤ pos 1 +ℤ offset ≡ pos v.routine
     → Gives (scope_setting image deep scope) p (use_code i offset) (used_context roots items words constants (bindings scope)) depth base (variable_value name (bindings scope)) 5 0
 
 -- no variables are a scope
