@@ -1,6 +1,6 @@
 -- Emitters with something behind what they had.
-use Rattle.std.proofs.Common.{◌≡◌, ℕ, List, Option, length, map, take, string_bytes, Result, OnErr, Ok, Err, sym, ap, ◌∙◌, subst}
-use Rattle.std.proofs.lemmas.List.{length-map}
+use Rattle.std.proofs.Common.{◌≡◌, ℕ, List, Option, ◌++◌, length, map, take, string_bytes, Result, OnErr, Ok, Err, refl, sym, ap, ◌∙◌, subst, arith}
+use Rattle.std.proofs.lemmas.List.{length-map, take_all, take_at}
 use Rattle.std.specs.Prelude.{String}
 use Rattle.std.specs.declared.alloc.Global.{Global}
 use Rattle.insn_codec.specs.declared.insn.Insn.{Insn}
@@ -18,10 +18,16 @@ emitted code texts nodes slots = record { code = code; constants = map string_by
 
 texts_front : (before after : List (String Global)) → take (length before) after ≡ before → take (length (map string_bytes before)) (map string_bytes after) ≡ map string_bytes before
 texts_front before after h =
-    ap (λ n. take n (map string_bytes after)) (length-map string_bytes before)
+    ap (λ n. take n (map string_bytes after)) (length-map before string_bytes)
     ∙ sym (texts_cut (length before) after)
     ∙ ap (map string_bytes) h
 
-pub behind : (old : Emitted) (code : List (Option Insn)) (nodes : ℕ) (slots later : List ℕ) (before after : List (String Global)) → old ≡ emitted code before nodes slots → take (length before) after ≡ before → take (length slots) later ≡ slots → IsBehind old (emitted code after nodes later)
+pub behind : (old : Emitted) (code : List (Option Insn)) (nodes : ℕ) (slots later : List ℕ) (before after : List (String Global)) → emitted code before nodes slots ≡ old → take (length before) after ≡ before → take (length slots) later ≡ slots → IsBehind old (emitted code after nodes later)
 behind old code nodes slots later before after is texts routines =
-    subst (λ e. IsBehind e (emitted code after nodes later)) (sym is) (λ i. record { code = code; constants = texts_front before after texts i; nodes = nodes; routines = routines i })
+    subst (λ e. IsBehind e (emitted code after nodes later)) is (λ i. record { code = code; constants = texts_front before after texts i; nodes = nodes; routines = routines i })
+
+pub kept : (slots : List ℕ) → take (length slots) slots ≡ slots
+kept slots = take_all (length slots) slots (omega arith)
+
+pub longer : (slots more : List ℕ) → take (length slots) (slots ++ more) ≡ slots
+longer slots more = take_at slots more (length slots) refl

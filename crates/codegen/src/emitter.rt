@@ -10,13 +10,13 @@ ghost use Rattle.cel_types.specs.Declarations.{declaration};
 ghost use Rattle.codegen.specs.Added.{code_at, has_room, with_expression, with_variable, IsBehind};
 ghost use Rattle.codegen.specs.Constants.{joined as joined_texts};
 ghost use Rattle.codegen.specs.Emitted.{no_code, with_piece, with_insn_at, with_nodes, slot_spellings, IsTooLong, HasTooManyTexts};
-ghost use Rattle.codegen_base.specs.Pieces.{slots, insn_slots};
+ghost use Rattle.codegen_base.specs.Pieces.{slots, insn_slots, size};
 
 use crate::code_error::CodeError;
 use crate::constants::{byte_count, joined, take_texts};
 use crate::expressions::code_of;
 use crate::frame_words::FrameWords;
-use crate::routines::passed_routine;
+use crate::code::routines::passed_routine;
 use crate::spot::Spot;
 use crate::surroundings::Surroundings;
 use cel_macros::Core;
@@ -202,6 +202,7 @@ impl Emitter {
     }
 
     /// The expression's code at this slot. The error says that there is no memory for it.
+    #[tactic(auto, using(crate::proofs::Lengths::short_code))]
     fn code_at(
         &self,
         alloc: Global,
@@ -213,7 +214,8 @@ impl Emitter {
         requires nodes { nodes (core_view core.now) ≤ 512 }
         requires slot { slot ≤ 65536 }
         requires routines { length self.now.routines ≤ 512 }
-        ensures { IfOk result (λ code. code.items ≡ code_at self.now (map declaration scope.now) (core_view core.now) slot) }
+        ensures code { IfOk result (λ code. code.items ≡ code_at self.now (map declaration scope.now) (core_view core.now) slot) }
+        ensures short { IfOk result (λ code. size code.items ≤ 32300) }
     {
         let around = Surroundings {
             texts: self.constants.as_slice(),

@@ -13,7 +13,6 @@ mod instructions;
 mod laws;
 mod literals_fit;
 mod references;
-mod routines;
 mod spot;
 mod surroundings;
 #[cfg(test)]
