@@ -4,9 +4,9 @@ ghost use Rattle.std.specs.Prelude.{◌≡◌, ◌<◌};
 ghost use Rattle.codegen_base.specs.Variables as specs;
 ghost use Rattle.codegen_base.specs.Words.{memo_address as address_of_memo};
 
-use crate::instructions::{copy, load_wide, skip_if};
+use crate::instructions::{add, copy, load_wide, skip_if};
 use Register::{R0, R1, R2};
-use insn_codec::{AluOp, Comparison, Insn, Operand, Register, Size, Width};
+use insn_codec::{Comparison, Insn, Register, Size};
 
 /// Where the scratch region begins in memory.
 const SCRATCH: u64 = 0x2_0000_0000;
@@ -17,18 +17,6 @@ fn memo_address(i: usize) -> u64
     ensures { result ≡ address_of_memo i }
 {
     SCRATCH + 8 * i as u64
-}
-
-/// The register plus this number.
-fn add(dst: Register, n: i32) -> Insn
-    ensures { result ≡ Insn.Alu AluOp.Add Width.W64 dst (Operand.Imm n) }
-{
-    Insn::Alu {
-        op: AluOp::Add,
-        width: Width::W64,
-        dst,
-        operand: Operand::Imm(n),
-    }
 }
 
 /// The value of variable i: its memo has 1 more than the reference. Where the memo is empty the value
