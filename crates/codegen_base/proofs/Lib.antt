@@ -33,6 +33,7 @@ pub mod Macros
 pub mod Sums
 pub mod Additions
 pub mod Scopes
+pub mod Later
 pub mod IntWords
 pub mod Products
 pub mod Multiplications

@@ -32,7 +32,7 @@ less_one w r e small = omega arith
 less_than_none : (w : ℕ) → w ≡ 0 → (w + (2 ^ 64 - 1)) % 2 ^ 64 ≡ 2 ^ 64 - 1
 less_than_none w e = omega arith
 
-get_before : {X : Type 0} (xs ys : List X) (i : ℕ) (x : X) → slice_get xs i ≡ Some x → slice_get (xs ++ ys) i ≡ Some x
+pub get_before : {X : Type 0} (xs ys : List X) (i : ℕ) (x : X) → slice_get xs i ≡ Some x → slice_get (xs ++ ys) i ≡ Some x
 get_before [] ys i x h = cc
 get_before (y ∷ xs) ys zero x h = h
 get_before (y ∷ xs) ys (suc i) x h = get_before xs ys i x h
@@ -41,7 +41,7 @@ get_at : {X : Type 0} (xs ys : List X) (x : X) → slice_get (xs ++ x ∷ ys) (l
 get_at [] ys x = refl
 get_at (y ∷ xs) ys x = get_at xs ys x
 
-get_front : {X : Type 0} (xs ys : List X) (i : ℕ) (x : X) → i < length xs → slice_get (xs ++ ys) i ≡ Some x → slice_get xs i ≡ Some x
+pub get_front : {X : Type 0} (xs ys : List X) (i : ℕ) (x : X) → i < length xs → slice_get (xs ++ ys) i ≡ Some x → slice_get xs i ≡ Some x
 get_front [] ys i x inside h = absurd (omega arith)
 get_front (y ∷ xs) ys zero x inside h = h
 get_front (y ∷ xs) ys (suc i) x inside h = get_front xs ys i x (omega arith) h

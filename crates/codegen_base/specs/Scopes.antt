@@ -69,3 +69,9 @@ ScopeBegins = (image : Contents) (deep : Bool) (roots : Roots) (constants : List
 -- a scope with one more variable, which may use those before it, is one
 abbrev pub ScopeGrows : Type 0
 ScopeGrows = (image : Contents) (deep : Bool) (roots : Roots) (constants : List ℕ) (scope : List Variable) (v : Variable) → IsScope image deep roots constants scope → HasRoutine image deep roots constants scope v → IsScope image deep roots constants (scope ++ v ∷ [])
+
+-- what a piece gives in a scope it gives where more variables stand behind it, whose memos it leaves
+abbrev pub LaterGives : Type 0
+LaterGives = (image : Contents) (deep : Bool) (roots : Roots) (constants : List ℕ) (scope later : List Variable) (words : List (List ℕ × ℕ)) (items : List (List ℕ × Value)) (p : ℕ) (piece : List Insn) (depth base : ℕ) (x : ValueOrError) (steps charge : ℕ)
+    → Gives (scope_setting image deep scope) p piece (used_context roots items words constants (bindings scope)) depth base x steps charge
+    → Gives (scope_setting image deep (scope ++ later)) p piece (used_context roots items words constants (bindings (scope ++ later))) depth base x steps charge
