@@ -113,8 +113,8 @@ AreNear routines = (n : List ℕ) (found : ℕ × ℕ) → routine_named n routi
 distance_fits : (a b : ℕ) → a ≤ 65536 → b ≤ 131072 → FitsSigned w32 (pos a -ℤ pos b)
 distance_fits a b low high = grind (arith, ints)
 
-variable_insns : (found : Option (ℕ × ℕ)) (p : ℕ) → p + 5 ≤ 131072 → ((at : ℕ × ℕ) → found ≡ Some at → (at.0 < 512) × (at.1 ≤ 65536)) → AreInsns (variable_code found p)
-variable_insns (Some at) p low near = let is = near at refl in use_insns at.0 (pos at.1 -ℤ pos (p + 5)) is.0 (distance_fits at.1 (p + 5) is.1 low)
+variable_insns : (found : Option (ℕ × ℕ)) (p : ℕ) → p + 6 ≤ 131072 → ((at : ℕ × ℕ) → found ≡ Some at → (at.0 < 512) × (at.1 ≤ 65536)) → AreInsns (variable_code found p)
+variable_insns (Some at) p low near = let is = near at refl in use_insns at.0 (pos at.1 -ℤ pos (p + 6)) is.0 (distance_fits at.1 (p + 6) is.1 low)
 variable_insns None p low near = no_insns
 
 apart_at_most : (op : BinaryOperator) → operands_apart op ≤ 2

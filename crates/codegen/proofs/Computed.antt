@@ -11,7 +11,8 @@ use Rattle.cel_macros.specs.Macros.{field_name, is_has, is_map, is_variables, ma
 use Rattle.cel_macros.specs.Meaning.{entry_meanings, meaning, meanings, operand_meaning}
 use Rattle.codegen_base.specs.Contexts.{Context}
 use Rattle.codegen_base.specs.Engine.{Setting}
-use Rattle.codegen_base.specs.Scopes.{IsScope, Variable, bindings, scope_setting}
+use Rattle.codegen_base.specs.Scopes.{IsScope, Variable, scope_setting}
+use Rattle.codegen_base.proofs.Later.{later_gives}
 use Rattle.codegen.specs.HasLiterals.{EntriesHaveLiterals, HasLiterals, HaveLiterals}
 use Rattle.codegen.specs.Cost.{cost, costs, entry_costs, operand_cost}
 use Rattle.codegen.specs.Accepted.{IsAccepted}
@@ -20,7 +21,9 @@ use Rattle.codegen.proofs.Binaries.{binary_part, unary_part}
 use Rattle.codegen.proofs.Calls.{call_part, method_part, selection_part, text_method_part}
 use Rattle.codegen.proofs.Expanded.{expanded_again}
 use Rattle.codegen.proofs.Parts.{Part, index_part, literal_part, name_part, ternary_part}
-use Rattle.codegen.specs.Computes.{Ready, names, scope_context}
+use Rattle.codegen.specs.Code.Expressions.{code_of}
+use Rattle.codegen.specs.Computes.{Ready, environment_in, names, routines, scope_context}
+use Rattle.codegen.specs.Laws.{CodeGives}
 use Rattle.codegen.proofs.Ranges.{fold_map_part, fold_part}
 use Rattle.codegen.proofs.Uses.{use_gives}
 
@@ -68,12 +71,12 @@ module _ (image : Contents) (deep : Bool) (roots : Roots) (constants : List ℕ)
   here xs ws = scope_context roots xs ws constants scope
 
   abbrev around : List (List ℕ × Value) → Environment
-  around xs = record { roots = roots; items = xs; variables = bindings scope }
+  around xs = environment_in roots xs scope
 
   mutual
     unfolding expanded meaning cost
 
-    pub computes : (e : Tree) (xs : List (List ℕ × Value)) (ws : List (List ℕ × ℕ)) (k : ℕ) → HasLiterals e → Part s scope texts depth (here xs ws) k (expanded e) (meaning e (around xs)) (cost e (around xs))
+    computes : (e : Tree) (xs : List (List ℕ × Value)) (ws : List (List ℕ × ℕ)) (k : ℕ) → HasLiterals e → Part s scope texts depth (here xs ws) k (expanded e) (meaning e (around xs)) (cost e (around xs))
     computes (tree.literal l) xs ws k h = literal_part s scope texts depth (here xs ws) k l h
     computes (tree.name n) xs ws k h = name_part s scope texts depth (here xs ws) k n
     computes (tree.select a f) xs ws k h = selection_part s scope texts depth (here xs ws) k (is_variables a) (expanded a) f (meaning a (around xs)) (cost a (around xs)) (use_gives image deep roots constants scope is few texts xs ws depth k f) (computes a xs ws k h)
@@ -105,7 +108,13 @@ module _ (image : Contents) (deep : Bool) (roots : Roots) (constants : List ℕ)
     entries_compute (more_entries key v more) xs ws k h = entries_more s scope texts depth (here xs ws) k (expanded key) (expanded v) (expanded_entries more) (meaning key (around xs)) (meaning v (around xs)) (entry_meanings more (around xs)) (cost key (around xs)) (cost v (around xs)) (entry_costs more (around xs)) (visited key (around xs)) (visited v (around xs)) (computes key xs ws (k + 1) h.0) (computes v xs ws (k + 2) h.1) (entries_compute more xs ws k h.2)
 
   -- the same of a tree whose macros are expanded, as the type checker takes it
-  pub computes_core : (e : CoreTree) (xs : List (List ℕ × Value)) (ws : List (List ℕ × ℕ)) (k : ℕ) → HasLiterals (plain_tree e) → Part s scope texts depth (here xs ws) k e (meaning (plain_tree e) (around xs)) (cost (plain_tree e) (around xs))
+  computes_core : (e : CoreTree) (xs : List (List ℕ × Value)) (ws : List (List ℕ × ℕ)) (k : ℕ) → HasLiterals (plain_tree e) → Part s scope texts depth (here xs ws) k e (meaning (plain_tree e) (around xs)) (cost (plain_tree e) (around xs))
   computes_core e xs ws k h ready =
       let t = plain_tree e in
       subst (λ (d : CoreTree). Part s scope texts depth (here xs ws) k d (meaning t (around xs)) (cost t (around xs))) (expanded_again e (names scope) ready.accepted) (computes t xs ws k h) ready
+
+-- also where later variables stand behind the scope
+pub code_gives : CodeGives
+code_gives image deep roots constants scope later texts items words depth k p e is few literals ready =
+    let before = computes_core image deep roots constants scope is few texts depth e items words k literals (record { accepted = ready.accepted; frames = ready.frames; room = ready.room; texts_stand = ready.texts_stand; may = ready.may }) p in
+    later_gives image deep roots constants scope later words items p (code_of e texts (routines scope) words k p) depth k _ _ _ before

@@ -43,7 +43,7 @@ found n [] h = absurd (cc)
 found n (u ∷ more) h = by_test n u more (bytes_eq u.name n) refl (found n more) h
 
 -- where the call of a use at slot p goes
-called_slot : (p r : ℕ) → pos (p + 4) +ℤ pos 1 +ℤ (pos r -ℤ pos (p + 5)) ≡ pos r
+called_slot : (p r : ℕ) → pos (p + 5) +ℤ pos 1 +ℤ (pos r -ℤ pos (p + 6)) ≡ pos r
 called_slot p r = omega (arith, ints)
 
 pub use_gives : (image : Contents) (deep : Bool) (roots : Roots) (constants : List ℕ) (scope : List Variable) → IsScope image deep roots constants scope → length scope ≤ 512 → (texts : List (List ℕ)) (items : List (List ℕ × Value)) (words : List (List ℕ × ℕ)) (depth k : ℕ) (n : List ℕ) → UseGives (scope_setting image deep scope) scope texts depth (scope_context roots items words constants scope) k n
@@ -52,5 +52,5 @@ use_gives image deep roots constants scope is few texts items words depth k n lo
     let f = found n scope accepted in
     let v = f.variable in
     let nesting = ap depth_or_none f.nesting_is in
-    let given = scope_gives image deep roots constants scope words items n f.number v p depth k (pos v.routine -ℤ pos (p + 5)) is few low f.place_is f.stands (omega arith) (called_slot p v.routine) in
+    let given = scope_gives image deep roots constants scope words items n f.number v p depth k (pos v.routine -ℤ pos (p + 6)) is few low f.place_is f.stands (omega arith) (called_slot p v.routine) in
     subst (λ (piece : List Insn). Gives (scope_setting image deep scope) p piece (scope_context roots items words constants scope) depth k (variable_value n (bindings scope)) 5 0) (sym (ap (λ (o : Option (ℕ × ℕ)). variable_code o p) f.routine_is)) given

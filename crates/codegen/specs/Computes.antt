@@ -50,18 +50,18 @@ pub record Ready (s : Setting) (scope : List Variable) (texts : List (List ℕ))
   pub texts_stand : TextsStand c.constants texts (texts_of e)
   pub may : deep ≡ true → s.is_deep ≡ true
 
--- in a routine no iteration name is in force
-abbrev pub routine_environment : Roots → List Variable → Environment
-routine_environment roots scope = record { roots = roots; items = []; variables = bindings scope }
+-- what an expression sees whose variables are those of a scope
+abbrev pub environment_in : Roots → List (List ℕ × Value) → List Variable → Environment
+environment_in roots items scope = record { roots = roots; items = items; variables = bindings scope }
 
--- the variable of this name and expression, behind those of a scope, with its routine at slot p
+-- the variable of this name and expression, which may use those of a scope, with its routine at slot p
 abbrev pub variable_of : Roots → List Variable → List (List ℕ) → List ℕ → CoreTree → ℕ → Variable
 variable_of roots scope texts name e p = record {
   name = name;
-  value = meaning (plain_tree e) (routine_environment roots scope);
+  value = meaning (plain_tree e) (environment_in roots [] scope);
   routine = p;
   body = code_of e texts (routines scope) [] 0 p;
   nesting = depth_of e (nestings scope);
-  steps = 128 * (cost (plain_tree e) (routine_environment roots scope)).visits - 8;
-  charge = 16 * spent_by (cost (plain_tree e) (routine_environment roots scope)) - 8;
+  steps = 128 * (cost (plain_tree e) (environment_in roots [] scope)).visits - 8;
+  charge = 16 * spent_by (cost (plain_tree e) (environment_in roots [] scope)) - 8;
 }

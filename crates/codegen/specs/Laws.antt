@@ -18,7 +18,7 @@ use Rattle.codegen_base.specs.Pieces.{Stands, size}
 use Rattle.codegen_base.specs.Scopes.{IsScope, Variable, scope_setting}
 use Rattle.codegen.specs.Accepted.{IsAccepted}
 use Rattle.codegen.specs.Added.{passed}
-use Rattle.codegen.specs.Computes.{Computes, Ready, TextsStand, routines, scope_context, variable_of}
+use Rattle.codegen.specs.Computes.{Computes, Ready, TextsStand, environment_in, routines, scope_context, variable_of}
 use Rattle.codegen.specs.Constants.{joined, with_texts}
 use Rattle.codegen.specs.Cost.{cost}
 use Rattle.codegen.specs.HasLiterals.{HasLiterals}
@@ -32,22 +32,22 @@ CodeIsShort = (e : CoreTree) (texts : List (List ℕ)) (routines words : List (L
 abbrev pub TypedIsAccepted : Type 0
 TypedIsAccepted = (e : CoreTree) (declared : List Declaration) (t : CelType) → core_typing e (scope_of declared) ≡ typed t → IsAccepted e (each (λ d. d.name) declared)
 
--- in each scope, and wherever it stands, the code of an expression leaves what the expression means, within 128 steps a visit and 16 times what is spent, beside what the first uses of variables take, or is stopped where its charge would pass the limit or a value may be too deep
+-- wherever it stands, the code of an expression, which may use the variables of a scope, leaves what the expression means, within 128 steps a visit and 16 times what is spent, beside what the first uses of variables take, or is stopped where its charge would pass the limit or a value may be too deep; later variables may stand behind the scope
 abbrev pub CodeGives : Type 0
-CodeGives = (image : Contents) (deep : Bool) (roots : Roots) (constants : List ℕ) (scope : List Variable) (texts : List (List ℕ)) (items : List (List ℕ × Value)) (words : List (List ℕ × ℕ)) (depth k p : ℕ) (e : CoreTree)
+CodeGives = (image : Contents) (deep : Bool) (roots : Roots) (constants : List ℕ) (scope later : List Variable) (texts : List (List ℕ)) (items : List (List ℕ × Value)) (words : List (List ℕ × ℕ)) (depth k p : ℕ) (e : CoreTree)
     → IsScope image deep roots constants scope → length scope ≤ 512 → HasLiterals (plain_tree e)
-    → let s = scope_setting image deep scope in let c = scope_context roots items words constants scope in let env = c.environment in
+    → let s = scope_setting image deep (scope ++ later) in let c = scope_context roots items words constants (scope ++ later) in let env = environment_in roots items scope in
     Ready s scope texts c depth k e (cost (plain_tree e) env).is_deep
     → Computes s p (code_of e texts (routines scope) words k p) c depth k (meaning (plain_tree e) env) (cost (plain_tree e) env)
 
--- where the routine of an expression stands, the scope grows by the expression's variable
+-- where the routine of an expression stands, which may use the first variables of a scope, the scope grows by the expression's variable
 abbrev pub RoutineGives : Type 0
-RoutineGives = (image : Contents) (deep : Bool) (roots : Roots) (constants : List ℕ) (scope : List Variable) (texts : List (List ℕ)) (name : List ℕ) (p : ℕ) (e : CoreTree)
-    → IsScope image deep roots constants scope → length scope ≤ 512 → HasLiterals (plain_tree e)
-    → let s = scope_setting image deep scope in let c = scope_context roots [] [] constants scope in
-    Ready s scope texts c 1 0 e (cost (plain_tree e) c.environment).is_deep
-    → Stands image.code p (routine_code e texts (routines scope) p)
-    → IsScope image deep roots constants (scope ++ variable_of roots scope texts name e p ∷ [])
+RoutineGives = (image : Contents) (deep : Bool) (roots : Roots) (constants : List ℕ) (scope later : List Variable) (texts : List (List ℕ)) (name : List ℕ) (p : ℕ) (e : CoreTree)
+    → IsScope image deep roots constants (scope ++ later) → length scope ≤ 512 → HasLiterals (plain_tree e)
+    → let s = scope_setting image deep (scope ++ later) in let c = scope_context roots [] [] constants (scope ++ later) in
+    Ready s scope texts c 1 0 e (cost (plain_tree e) (environment_in roots [] scope)).is_deep
+    → Stands image.code p (routine_code e texts (routines scope) (length (scope ++ later)) p)
+    → IsScope image deep roots constants ((scope ++ later) ++ variable_of roots scope texts name e p ∷ [])
 
 -- the texts that an expression names, once they are taken, stand among the constants where its code looks for them, whatever is taken later
 abbrev pub TextsStay : Type 0

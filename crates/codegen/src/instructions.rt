@@ -28,6 +28,7 @@ fn word_offset(k: usize) -> i16
     -1 - (8 * k + 7) as i16
 }
 
+/// The register gets word k of the frame.
 pub(crate) fn load(register: Register, k: usize) -> Insn
     requires { k < 64 }
     ensures { result ≡ specs.load register k }
@@ -40,6 +41,7 @@ pub(crate) fn load(register: Register, k: usize) -> Insn
     }
 }
 
+/// Word k of the frame gets the register.
 pub(crate) fn store(k: usize, register: Register) -> Insn
     requires { k < 64 }
     ensures { result ≡ specs.store k register }
@@ -52,6 +54,7 @@ pub(crate) fn store(k: usize, register: Register) -> Insn
     }
 }
 
+/// The first register gets what the operation makes of both.
 pub(crate) fn compute(op: AluOp, dst: Register, src: Register) -> Insn
     ensures { result ≡ specs.compute op dst src }
 {
@@ -63,12 +66,14 @@ pub(crate) fn compute(op: AluOp, dst: Register, src: Register) -> Insn
     }
 }
 
+/// The first register gets the second one's word.
 pub(crate) fn copy(dst: Register, src: Register) -> Insn
     ensures { result ≡ specs.copy dst src }
 {
     compute(AluOp::Mov, dst, src)
 }
 
+/// The register gets the number.
 pub(crate) fn put(dst: Register, n: i32) -> Insn
     ensures { result ≡ specs.put dst n }
 {
@@ -80,12 +85,26 @@ pub(crate) fn put(dst: Register, n: i32) -> Insn
     }
 }
 
+/// The number is added to the register.
+pub(crate) fn add(dst: Register, n: i32) -> Insn
+    ensures { result ≡ Insn.Alu AluOp.Add Width.W64 dst (Operand.Imm n) }
+{
+    Insn::Alu {
+        op: AluOp::Add,
+        width: Width::W64,
+        dst,
+        operand: Operand::Imm(n),
+    }
+}
+
+/// The register gets the word; this takes two slots.
 pub(crate) fn load_wide(dst: Register, value: u64) -> Insn
     ensures { result ≡ specs.load_wide dst value }
 {
     Insn::LoadWide { dst, value }
 }
 
+/// The call of the helper of this number.
 pub(crate) fn call(helper: i32) -> Insn
     ensures { result ≡ Insn.Call helper }
 {
@@ -120,6 +139,7 @@ pub(crate) fn skip_where(comparison: Comparison, dst: Register, src: Register, s
     }
 }
 
+/// A jump over so many slots.
 pub(crate) fn skip(slots: usize) -> Insn
     requires { slots < 32768 }
     ensures { result ≡ specs.skip slots }

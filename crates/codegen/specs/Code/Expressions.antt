@@ -76,9 +76,9 @@ abbrev pub routine_named : List ℕ → List (List ℕ × ℕ) → Option (ℕ �
 routine_named n [] = None
 routine_named n (r ∷ more) = if bytes_eq r.0 n then Some (0, r.1) else option_map (λ found. (suc found.0, found.1)) (routine_named n more)
 
--- the use, at slot p, of the variable of this number and routine: the call, four slots behind p, counts from the slot behind itself
+-- the use, at slot p, of the variable of this number and routine: the call, in its last slot, counts from the slot behind
 abbrev pub variable_code : Option (ℕ × ℕ) → ℕ → List Insn
-variable_code (Some found) p = use_code found.0 (pos found.1 -ℤ pos (p + 5))
+variable_code (Some found) p = use_code found.0 (pos found.1 -ℤ pos (p + 6))
 variable_code None p = no_code
 
 -- how many slots stand between an operator's operands
@@ -149,9 +149,9 @@ method_code of n no_cores ts rs ws k p = method_function_code (function_named n)
 method_code of n (more_cores b no_cores) ts rs ws k p = test_code (test_named n) of (code_of b ts rs ws (k + 1) (p + size of + 1)) k
 method_code of n _ ts rs ws k p = no_code
 
--- the routine of the variable behind these, at slot p: its expression, from word 0 of a frame of its own, and the memo of its number
-abbrev pub routine_code : CoreTree → List (List ℕ) → List (List ℕ × ℕ) → ℕ → List Insn
-routine_code e ts rs p = code_of e ts rs [] 0 p ++ memo_tail (length rs)
+-- the routine of variable n, at slot p: its expression, from word 0 of a frame of its own, and its memo
+abbrev pub routine_code : CoreTree → List (List ℕ) → List (List ℕ × ℕ) → ℕ → ℕ → List Insn
+routine_code e ts rs n p = code_of e ts rs [] 0 p ++ memo_tail n
 
 abbrev pub literal_texts : tree.Literal → List (List ℕ)
 literal_texts (tree.text s) = s ∷ []

@@ -6,11 +6,13 @@ ghost use Rattle.codegen_base.specs.Code.Folds as specs;
 ghost use Rattle.codegen_base.specs.Pieces.{size as size_of_piece};
 
 use crate::helpers;
-use crate::instructions::{call, copy, go_back, load, put, size, skip, skip_if, skip_where, store};
+use crate::instructions::{
+    add, call, copy, go_back, load, put, size, skip, skip_if, skip_where, store,
+};
 use crate::references::{ERROR, NO, NULL, YES};
 use Register::{R0, R1, R2};
 use cel_macros::Macro;
-use insn_codec::{AluOp, Comparison, Insn, Operand, Register, Width};
+use insn_codec::{Comparison, Insn, Register};
 use std::alloc::{AllocError, Global};
 
 /// R0 names the range; where it is neither list nor map, R0 is the error and so many slots behind the
@@ -58,12 +60,7 @@ fn loop_tail(k: usize, slots: usize) -> [Insn; 6]
     [
         store(k + 3, R0),
         load(R0, k + 2),
-        Insn::Alu {
-            op: AluOp::Add,
-            width: Width::W64,
-            dst: R0,
-            operand: Operand::Imm(1),
-        },
+        add(R0, 1),
         store(k + 2, R0),
         go_back(slots),
         load(R0, k + 3),
@@ -122,6 +119,8 @@ fn absorbing_turn(decides: i32, other: i32, k: usize) -> [Insn; 5]
     ]
 }
 
+/// The predicate's value in R0, counted: the answer so far is false for none, true for one, null for
+/// more, and the error.
 #[tactic(auto, unfolding(codegen_base::specs::Code::Folds::exists_one_turn))]
 fn exists_one_turn(k: usize) -> [Insn; 10]
     requires { k + 4 < 64 }
@@ -141,6 +140,7 @@ fn exists_one_turn(k: usize) -> [Insn; 10]
     ]
 }
 
+/// The item behind the answer so far, where the predicate is true.
 #[tactic(auto, unfolding(codegen_base::specs::Code::Folds::filter_turn))]
 fn filter_turn(k: usize) -> [Insn; 9]
     requires { k + 4 < 64 }
@@ -159,6 +159,7 @@ fn filter_turn(k: usize) -> [Insn; 9]
     ]
 }
 
+/// The transform's value behind the answer so far.
 fn map_turn(k: usize) -> [Insn; 3]
     requires { k + 4 < 64 }
     ensures { result ≡ specs.map_turn k }
@@ -205,13 +206,9 @@ fn turn_of(alloc: Global, part: &[Insn], tail: &[Insn]) -> Result<Vec<Insn>, All
     Ok(code)
 }
 
+/// Whether the predicate is true of all items.
 #[tactic(auto, using(crate::proofs::Sizes::size_by_length))]
-pub(crate) fn all(
-    alloc: Global,
-    range: &[Insn],
-    predicate: &[Insn],
-    k: usize,
-) -> Result<Vec<Insn>, AllocError>
+fn all(alloc: Global, range: &[Insn], predicate: &[Insn], k: usize) -> Result<Vec<Insn>, AllocError>
     requires words { k + 4 < 64 }
     requires near { size_of_piece predicate.now ≤ 32256 }
     ensures { IfOk result (λ code. code.items ≡ specs.all_code k range.now predicate.now) }
@@ -220,8 +217,9 @@ pub(crate) fn all(
     fold(alloc, range, put(R0, YES), &turn, k)
 }
 
+/// Whether the predicate is true of an item.
 #[tactic(auto, using(crate::proofs::Sizes::size_by_length))]
-pub(crate) fn exists(
+fn exists(
     alloc: Global,
     range: &[Insn],
     predicate: &[Insn],
@@ -235,8 +233,9 @@ pub(crate) fn exists(
     fold(alloc, range, put(R0, NO), &turn, k)
 }
 
+/// Whether the predicate is true of one item alone.
 #[tactic(auto, using(crate::proofs::Sizes::size_by_length))]
-pub(crate) fn exists_one(
+fn exists_one(
     alloc: Global,
     range: &[Insn],
     predicate: &[Insn],
@@ -256,8 +255,9 @@ pub(crate) fn exists_one(
     Ok(code)
 }
 
+/// The items of which the predicate is true.
 #[tactic(auto, using(crate::proofs::Sizes::size_by_length))]
-pub(crate) fn filter(
+fn filter(
     alloc: Global,
     range: &[Insn],
     predicate: &[Insn],
@@ -271,13 +271,9 @@ pub(crate) fn filter(
     fold(alloc, range, call(helpers::LIST_NEW), &turn, k)
 }
 
+/// What the transform makes of each item.
 #[tactic(auto, using(crate::proofs::Sizes::size_by_length))]
-pub(crate) fn map(
-    alloc: Global,
-    range: &[Insn],
-    transform: &[Insn],
-    k: usize,
-) -> Result<Vec<Insn>, AllocError>
+fn map(alloc: Global, range: &[Insn], transform: &[Insn], k: usize) -> Result<Vec<Insn>, AllocError>
     requires words { k + 4 < 64 }
     requires near { size_of_piece transform.now ≤ 32256 }
     ensures { IfOk result (λ code. code.items ≡ specs.map_code k range.now transform.now) }
@@ -286,6 +282,7 @@ pub(crate) fn map(
     fold(alloc, range, call(helpers::LIST_NEW), &turn, k)
 }
 
+/// What the transform makes of each item of which the predicate is true.
 pub(crate) fn map_where(
     alloc: Global,
     range: &[Insn],
@@ -301,7 +298,8 @@ pub(crate) fn map_where(
     let turn = turn_of(alloc, predicate, &tail)?;
     fold(alloc, range, call(helpers::LIST_NEW), &turn, k)
 }
-/// The macro with one part.
+
+/// The macro with one part, its predicate or its transform.
 pub(crate) fn macro_of(
     alloc: Global,
     found: Macro,

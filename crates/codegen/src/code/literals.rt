@@ -40,6 +40,7 @@ pub(crate) fn text_range(
     ]
 }
 
+/// A truth, which has a reference of its own.
 fn truth(alloc: Global, truth: bool) -> Result<Vec<Insn>, AllocError>
     ensures { IfOk result (λ code. code.items ≡ base.truth_code truth) }
 {
@@ -47,12 +48,14 @@ fn truth(alloc: Global, truth: bool) -> Result<Vec<Insn>, AllocError>
     [put(R0, reference)].to_vec(alloc)
 }
 
+/// An int, from its word.
 fn int(alloc: Global, n: i64) -> Result<Vec<Insn>, AllocError>
     ensures { IfOk result (λ code. code.items ≡ base.int_code n) }
 {
     [load_wide(R1, n.cast_unsigned()), call(helpers::INT_NEW)].to_vec(alloc)
 }
 
+/// A text, from its bytes among the constants.
 fn text(alloc: Global, texts: &[String], text: &str) -> Result<Vec<Insn>, AllocError>
     ensures { IfOk result (λ code. code.items ≡ base.text_code (specs.address_of (map string_bytes texts.now) text.now) (length text.now)) }
 {

@@ -75,7 +75,7 @@ pub(crate) fn name(alloc: Global, name: &str, words: &FrameWords) -> Result<Vec<
     }
 }
 
-/// What no expression that the type checker takes has a part for.
+/// The code of a part that no expression has which the type checker takes: it gives the error.
 pub(crate) fn nothing(alloc: Global) -> Result<Vec<Insn>, AllocError>
     ensures { IfOk result (λ code. code.items ≡ specs.no_code) }
 {

@@ -28,13 +28,14 @@ pub(crate) fn unary(
     Ok(code)
 }
 
-/// What is made of word k and R0.
+/// What the operator makes of word k and R0.
 #[tactic(auto, unfolding(crate::specs::Code::Expressions::binary_tail))]
 fn binary_tail(alloc: Global, op: BinaryOperator, k: usize) -> Result<Vec<Insn>, AllocError>
     requires { k < 64 }
     ensures { IfOk result (λ code. code.items ≡ specs.binary_tail op k) }
 {
     match op {
+        // These two leave early, so their code is no piece behind both operands.
         BinaryOperator::Or | BinaryOperator::And => Ok(Vec::new(alloc)),
         BinaryOperator::Less => less(alloc, k),
         BinaryOperator::LessEqual => less_equal(alloc, k),

@@ -4,9 +4,9 @@ ghost use Rattle.std.specs.Prelude.{◌≡◌, ◌<◌};
 ghost use Rattle.codegen_base.specs.Variables as specs;
 ghost use Rattle.codegen_base.specs.Words.{memo_address as address_of_memo};
 
-use crate::instructions::{load_wide, skip_if};
-use Register::{R0, R1};
-use insn_codec::{AluOp, Comparison, Insn, Operand, Register, Size, Width};
+use crate::instructions::{add, copy, load_wide, skip_if};
+use Register::{R0, R1, R2};
+use insn_codec::{Comparison, Insn, Register, Size};
 
 /// Where the scratch region begins in memory.
 const SCRATCH: u64 = 0x2_0000_0000;
@@ -19,20 +19,8 @@ fn memo_address(i: usize) -> u64
     SCRATCH + 8 * i as u64
 }
 
-/// R0 plus this number.
-fn add(n: i32) -> Insn
-    ensures { result ≡ Insn.Alu AluOp.Add Width.W64 Register.R0 (Operand.Imm n) }
-{
-    Insn::Alu {
-        op: AluOp::Add,
-        width: Width::W64,
-        dst: R0,
-        operand: Operand::Imm(n),
-    }
-}
-
-/// The value of variable i, from its memo; where that is empty, from its routine, by this offset from
-/// the slot behind the call.
+/// The value of variable i: its memo has 1 more than the reference. Where the memo is empty the value
+/// is its routine's, which begins at this offset from the slot behind the call.
 pub(crate) fn variable_use(i: usize, offset: i32) -> [Insn; 5]
     requires { i < 512 }
     ensures { result ≡ specs.use_code i offset }
@@ -45,25 +33,26 @@ pub(crate) fn variable_use(i: usize, offset: i32) -> [Insn; 5]
             src: R1,
             offset: 0,
         },
-        skip_if(Comparison::Ne, R0, 0, 1),
+        add(R0, -1),
+        skip_if(Comparison::Ne, R0, -1, 1),
         Insn::CallLocal { offset },
-        add(-1),
     ]
 }
 
 /// The end of the routine of variable i, which fills the memo with 1 more than the reference in R0.
-pub(crate) fn memo_tail(i: usize) -> [Insn; 4]
+pub(crate) fn memo_tail(i: usize) -> [Insn; 5]
     requires { i < 512 }
     ensures { result ≡ specs.memo_tail i }
 {
     [
-        add(1),
+        copy(R2, R0),
+        add(R2, 1),
         load_wide(R1, memo_address(i)),
         Insn::Store {
             size: Size::Dw,
             dst: R1,
             offset: 0,
-            src: R0,
+            src: R2,
         },
         Insn::Exit,
     ]
