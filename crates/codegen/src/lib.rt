@@ -22,4 +22,6 @@ mod texts;
 pub use code_error::CodeError;
 pub use emission::{expression, variable};
 pub use emitter::Emitter;
-pub use laws::{code_gives, code_is_short, costs_stand, routine_gives, typed_has_code};
+pub use laws::{
+    code_gives, code_is_short, costs_stand, routine_gives, routine_is_passed, texts_stay, typed_has_code,
+};
