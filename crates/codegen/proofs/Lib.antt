@@ -19,6 +19,7 @@ pub mod Expanded
 pub mod Uses
 pub mod Computed
 pub mod Routines
+pub mod Layer
 pub mod CodeInsns
 pub mod Passed
 pub mod Finished

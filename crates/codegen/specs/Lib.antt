@@ -10,3 +10,4 @@ pub mod Computes
 pub mod Laws
 pub mod Surroundings
 pub mod Added
+pub mod Layer

@@ -1,6 +1,7 @@
 //! The laws of the code generator, each the contract of an empty function.
 
 ghost use Rattle.codegen.specs.CostRows.{CostRows};
+ghost use Rattle.codegen.specs.Layer.{ExpressionGives, VariableIsTaken, VariableJoins};
 ghost use Rattle.codegen.specs.Laws.{CodeGives, CodeIsShort, RoutineGives, RoutineIsPassed, TextsStay, TypedIsAccepted};
 
 /// Expressions that were worked by hand visit and spend so much.
@@ -37,4 +38,17 @@ pub fn texts_stay()
 /// Straight code passes a routine in one step.
 pub fn routine_is_passed()
     ensures { RoutineIsPassed }
+{}
+
+/// The code of an expression, as an emitter makes it, gives what the expression means, within its bounds
+/// on steps and charge, for all that the type checker takes in a scope of the variables that the emitter
+/// took first.
+pub fn expression_gives()
+    ensures { ExpressionGives }
+{}
+
+/// The variables that an emitter took grow by each that it takes, whose routine stands in the image.
+pub fn variables_join()
+    ensures joins { VariableJoins }
+    ensures taken { VariableIsTaken }
 {}

@@ -23,5 +23,6 @@ pub use code_error::CodeError;
 pub use emission::{expression, variable};
 pub use emitter::Emitter;
 pub use laws::{
-    code_gives, code_is_short, costs_stand, routine_gives, routine_is_passed, texts_stay, typed_has_code,
+    code_gives, code_is_short, costs_stand, expression_gives, routine_gives, routine_is_passed,
+    texts_stay, typed_has_code, variables_join,
 };
