@@ -5,9 +5,11 @@ ghost use Rattle.cel_macros.specs.CoreView.{core_view};
 ghost use Rattle.cel_measures.specs.Measures as measures;
 ghost use Rattle.cel_types.specs.Declarations.{depths_of};
 ghost use Rattle.codegen.specs.Added.{with_expression, with_variable};
+ghost use Rattle.codegen.specs.Layer.{EmitsMeaning, EmitsRoutine};
 
 use crate::code_error::CodeError;
 use crate::emitter::Emitter;
+use crate::literals_fit::literals_fit;
 use cel_macros::Core;
 use cel_measures::{depth, need};
 use cel_types::Scope;
@@ -32,6 +34,8 @@ pub fn expression(
     emitter: &mut Emitter,
 ) -> Result<(), CodeError>
     ensures added { OnOk result (emitter.new ≡ with_expression emitter.old scope.now (core_view core.now)) }
+    ensures fits { OnOk result (measures.need (core_view core.now) ≤ 60) }
+    ensures gives { OnOk result (EmitsMeaning emitter.old scope.now (core_view core.now)) }
     ensures refused { OnErr result (emitter.new ≡ emitter.old) }
     ensures g1 { IsErrOf result CodeError.G1 ↔ (60 < measures.need (core_view core.now)) }
     ensures g2 { result ≢ Err CodeError.G2 }
@@ -41,6 +45,7 @@ pub fn expression(
     if need(core) > MOST_WORDS {
         return Err(CodeError::G1);
     }
+    literals_fit(core);
     emitter.add(alloc, core, scope.variables())?;
     Ok(())
 }
@@ -59,6 +64,9 @@ pub fn variable(
     emitter: &mut Emitter,
 ) -> Result<(), CodeError>
     ensures added { OnOk result (emitter.new ≡ with_variable emitter.old scope.now (core_view core.now)) }
+    ensures fits { OnOk result (measures.need (core_view core.now) ≤ 60) }
+    ensures shallow { OnOk result (measures.depth (core_view core.now) (depths_of scope.now) ≤ 6) }
+    ensures joins { OnOk result (EmitsRoutine emitter.old scope.now (core_view core.now)) }
     ensures refused { OnErr result (emitter.new ≡ emitter.old) }
     ensures g1 { IsErrOf result CodeError.G1 ↔ (60 < measures.need (core_view core.now)) }
     ensures g2 { IsErrOf result CodeError.G2 ↔ ((measures.need (core_view core.now) ≤ 60) × (6 < measures.depth (core_view core.now) (depths_of scope.now))) }
@@ -71,6 +79,7 @@ pub fn variable(
     if depth(core, scope) > GREATEST_DEPTH {
         return Err(CodeError::G2);
     }
+    literals_fit(core);
     emitter.add_variable(alloc, core, scope.variables())?;
     Ok(())
 }
