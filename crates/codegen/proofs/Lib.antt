@@ -4,6 +4,8 @@ pub mod Names
 pub mod Sizes
 pub mod Lengths
 pub mod Lent
+pub mod Places
+pub mod Walks
 pub mod Accepted
 pub mod Budgets
 pub mod Parts

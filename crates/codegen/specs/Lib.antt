@@ -4,6 +4,7 @@ pub mod Constants
 pub mod Emitted
 pub mod FrameWords
 pub mod Code
+pub mod Surroundings
 pub mod Accepted
 pub mod HasLiterals
 pub mod Computes
