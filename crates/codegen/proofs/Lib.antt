@@ -7,6 +7,8 @@ pub mod Sizes
 pub mod Lengths
 pub mod Taken
 pub mod Lent
+pub mod Places
+pub mod Walks
 pub mod Accepted
 pub mod Budgets
 pub mod Parts

@@ -28,6 +28,17 @@ pub(crate) fn unary(
     Ok(code)
 }
 
+/// How many slots stand between the operator's operands.
+pub(crate) fn apart(op: BinaryOperator) -> usize
+    ensures apart { result ≡ specs.operands_apart op }
+    ensures few { result ≤ 2 }
+{
+    match op {
+        BinaryOperator::Or | BinaryOperator::And => 2,
+        _ => 1,
+    }
+}
+
 /// What the operator makes of word k and R0.
 #[tactic(auto, unfolding(crate::specs::Code::Expressions::binary_tail))]
 fn binary_tail(alloc: Global, op: BinaryOperator, k: usize) -> Result<Vec<Insn>, AllocError>

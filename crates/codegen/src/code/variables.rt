@@ -1,12 +1,17 @@
 //! Variables, whose routines fill their memos.
 
-ghost use Rattle.std.specs.Prelude.{◌≡◌, ◌<◌};
+ghost use Rattle.std.specs.Prelude.{◌≡◌, ◌<◌, ◌≤◌, IfOk, IfSome};
 ghost use Rattle.codegen_base.specs.Variables as specs;
 ghost use Rattle.codegen_base.specs.Words.{memo_address as address_of_memo};
+ghost use Rattle.codegen.specs.Code.Expressions.{routine_named as first_named, variable_code};
+ghost use Rattle.codegen.specs.Surroundings.{routines_within};
 
+use crate::code::names::nothing;
 use crate::instructions::{add, copy, load_wide, skip_if};
+use crate::surroundings::Surroundings;
 use Register::{R0, R1, R2};
 use insn_codec::{Comparison, Insn, Register, Size};
+use std::alloc::{AllocError, Global};
 
 /// Where the scratch region begins in memory.
 const SCRATCH: u64 = 0x2_0000_0000;
@@ -56,4 +61,38 @@ pub(crate) fn memo_tail(i: usize) -> [Insn; 5]
         },
         Insn::Exit,
     ]
+}
+
+/// The number of the first variable of this name that has a routine, and the routine's first slot.
+fn routine_named(name: &str, around: &Surroundings) -> Option<(usize, u32)>
+    ensures routine { result ≡ first_named name.now (routines_within around.now) }
+    ensures few { IfSome result (λ found. found.0 < 512) }
+    ensures near { IfSome result (λ found. found.1 ≤ 65536) }
+{
+    let count = around.variables.len().min(around.routines.len());
+    for i in 0..count {
+        if around.variables[i].name.as_str() == name {
+            return Some((i, around.routines[i]));
+        }
+    }
+    None
+}
+
+/// The use, at this slot, of the variable of this name.
+pub(crate) fn variable(
+    alloc: Global,
+    name: &str,
+    around: &Surroundings,
+    slot: usize,
+) -> Result<Vec<Insn>, AllocError>
+    requires { slot ≤ 131000 }
+    ensures { IfOk result (λ code. code.items ≡ variable_code (first_named name.now (routines_within around.now)) slot) }
+{
+    match routine_named(name, around) {
+        Some((i, routine)) => {
+            let offset = routine as i32 - (slot as i32 + 6);
+            variable_use(i, offset).to_vec(alloc)
+        }
+        None => nothing(alloc),
+    }
 }
