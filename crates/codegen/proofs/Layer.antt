@@ -17,7 +17,7 @@ use Rattle.codegen.specs.Code.Expressions.{code_of, routine_code, texts_of}
 use Rattle.codegen.specs.Computes.{Computes, Ready, TextsStand, environment_in, names, nestings, routines, scope_context, variable_of}
 use Rattle.codegen.specs.Constants.{with_texts}
 use Rattle.codegen.specs.Cost.{IsDeep, cost}
-use Rattle.codegen.specs.Layer.{AreShallow, AreTaken, ExpressionGives, HasConstants, IsExpression, VariableIsTaken, VariableJoins}
+use Rattle.codegen.specs.Layer.{AreShallow, AreTaken, ExpressionGives, FramesAreEnough, HasConstants, IsExpression, VariableIsTaken, VariableJoins}
 use Rattle.codegen.specs.Surroundings.{routines_of}
 use Rattle.codegen.proofs.Accepted.{names_declared, typed_accepted}
 use Rattle.codegen.proofs.Computed.{code_gives}
@@ -77,36 +77,38 @@ module _ (ds : List Declaration) (shallow : AreShallow ds) where
 
 -- ---- what is ready
 
-module _ (image : Contents) (deep : Bool) (roots : Roots) (constants : List ℕ) (texts : List (List ℕ)) (slots : List ℕ) (ds : List Declaration) (scope later : List Variable) (e : CoreTree) (is : IsExpression ds e) (taken : AreTaken slots ds scope later) (holds : HasConstants constants texts e) (may : IsDeep (plain_tree e) (environment_in roots [] scope) → deep ≡ true) where
-  -- the texts once those of the expression are taken
-  abbrev known : List (List ℕ)
-  known = with_texts texts (texts_of e)
-
-  ready : (frame : ℕ) → frame + deepest e (depths_of ds) ≤ 7 → Ready (scope_setting image deep (scope ++ later)) scope known (scope_context roots [] [] constants (scope ++ later)) frame 0 e (cost (plain_tree e) (environment_in roots [] scope)).is_deep
-  ready frame near =
-      let same : deepest e (nestings scope) ≡ deepest e (depths_of ds) = ap (deepest e) taken.depths_are in
+module _ (image : Contents) (deep : Bool) (roots : Roots) (constants : List ℕ) (ds : List Declaration) (scope later : List Variable) (e : CoreTree) (is : IsExpression ds e) (depths : nestings scope ≡ depths_of ds) (may : IsDeep (plain_tree e) (environment_in roots [] scope) → deep ≡ true) where
+  pub ready : (known : List (List ℕ)) → TextsStand constants known (texts_of e) → (frame : ℕ) → frame + deepest e (depths_of ds) ≤ 7 → Ready (scope_setting image deep (scope ++ later)) scope known (scope_context roots [] [] constants (scope ++ later)) frame 0 e (cost (plain_tree e) (environment_in roots [] scope)).is_deep
+  ready known stand frame near =
+      let same : deepest e (nestings scope) ≡ deepest e (depths_of ds) = ap (deepest e) depths in
       let fits = is.fits in
       record {
-        accepted = subst (IsAccepted e) (sym (names_declared scope ds taken.depths_are)) (typed_accepted e ds is.cel_type is.has_type);
+        accepted = subst (IsAccepted e) (sym (names_declared scope ds depths)) (typed_accepted e ds is.cel_type is.has_type);
         frames = omega arith;
         room = omega arith;
-        texts_stand = subst (λ (bytes : List ℕ). TextsStand bytes known (texts_of e)) (sym holds.constants_are) (texts_stand texts (texts_of e) holds.more (subst (λ (bytes : List ℕ). length bytes ≤ 1048576) holds.constants_are holds.few));
+        texts_stand = stand;
         may = may;
       }
 
+-- the texts that were taken stand among the constants
+known_stand : (constants : List ℕ) (texts : List (List ℕ)) (e : CoreTree) → HasConstants constants texts e → TextsStand constants (with_texts texts (texts_of e)) (texts_of e)
+known_stand constants texts e holds = subst (λ (bytes : List ℕ). TextsStand bytes (with_texts texts (texts_of e)) (texts_of e)) (sym holds.constants_are) (texts_stand texts (texts_of e) holds.more (subst (λ (bytes : List ℕ). length bytes ≤ 1048576) holds.constants_are holds.few))
+
+pub frames_are_enough : FramesAreEnough
+frames_are_enough ds e shallow = deepest_within ds shallow e
+
 pub expression_gives : ExpressionGives
-expression_gives texts slots ds e p is image deep roots constants scope later taken shallow few holds scoped may =
-    let within = deepest_within ds shallow e in
+expression_gives texts slots ds e p is image deep roots constants scope later frame taken near few holds scoped may =
     let known = with_texts texts (texts_of e) in
-    let given = code_gives image deep roots constants scope later known [] [] 0 0 p e scoped few is.literals (ready image deep roots constants texts slots ds scope later e is taken holds may 0 (omega arith)) in
-    subst (λ (rs : List (List ℕ × ℕ)). Computes (scope_setting image deep (scope ++ later)) p (code_of e known rs [] 0 p) (scope_context roots [] [] constants (scope ++ later)) 0 0 (meaning (plain_tree e) (environment_in roots [] scope)) (cost (plain_tree e) (environment_in roots [] scope))) (sym (routines_are slots ds scope later taken)) given
+    let given = code_gives image deep roots constants scope later known [] [] frame 0 p e scoped few is.literals (ready image deep roots constants ds scope later e is taken.depths_are may known (known_stand constants texts e holds) frame near) in
+    subst (λ (rs : List (List ℕ × ℕ)). Computes (scope_setting image deep (scope ++ later)) p (code_of e known rs [] 0 p) (scope_context roots [] [] constants (scope ++ later)) frame 0 (meaning (plain_tree e) (environment_in roots [] scope)) (cost (plain_tree e) (environment_in roots [] scope))) (sym (routines_are slots ds scope later taken)) given
 
 pub variable_joins : VariableJoins
 variable_joins texts slots ds e p is image deep roots constants scope later n taken shallow few holds scoped may stands =
     let known = with_texts texts (texts_of e) in
     let count : length slots ≡ length (scope ++ later) = ap length (sym taken.slots_are) ∙ length-map (scope ++ later) (λ (v : Variable). v.routine) in
     let here = subst (λ (i : ℕ). Stands image.code p (routine_code e known (routines_of ds slots) i p)) count stands in
-    routine_gives image deep roots constants scope later known n p e scoped few is.literals (ready image deep roots constants texts slots ds scope later e is taken holds may 1 (omega arith))
+    routine_gives image deep roots constants scope later known n p e scoped few is.literals (ready image deep roots constants ds scope later e is taken.depths_are may known (known_stand constants texts e holds) 1 (omega arith))
     (subst (λ (rs : List (List ℕ × ℕ)). Stands image.code p (routine_code e known rs (length (scope ++ later)) p)) (routines_are slots ds scope later taken) here)
 
 pub variable_is_taken : VariableIsTaken

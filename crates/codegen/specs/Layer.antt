@@ -6,7 +6,7 @@ use Rattle.loader.specs.Contents.{Contents}
 use Rattle.cel_macros.specs.CoreTree.{CoreTree, plain_tree}
 use Rattle.cel_macros.specs.Environment.{Roots}
 use Rattle.cel_macros.specs.Meaning.{meaning}
-use Rattle.cel_measures.specs.Measures.{depth, need}
+use Rattle.cel_measures.specs.Measures.{deepest, depth, need}
 use Rattle.cel_types.specs.CoreTyping.{core_typing}
 use Rattle.cel_types.specs.Declarations.{Declaration, declared, depths_of, scope_of}
 use Rattle.cel_types.specs.Types.{typed}
@@ -43,13 +43,13 @@ pub record HasConstants (constants : List ℕ) (texts : List (List ℕ)) (e : Co
   pub constants_are : constants ≡ joined (with_texts (with_texts texts (texts_of e)) more)
   pub few : length constants ≤ 1048576
 
--- in each image in which it stands at slot p, the code of the expression gives what the expression means, within 128 steps a visit and 16 times what is spent, beside what the first uses of variables take
+-- in each image in which it stands at slot p, and in each frame above which there are frames enough for its variables, the code of the expression gives what the expression means, within 128 steps a visit and 16 times what is spent, beside what the first uses of variables take
 abbrev pub GivesMeaning : List (List ℕ) → List ℕ → List Declaration → CoreTree → ℕ → Type 0
-GivesMeaning texts slots declarations e p = (image : Contents) (deep : Bool) (roots : Roots) (constants : List ℕ) (scope later : List Variable)
-    → AreTaken slots declarations scope later → AreShallow declarations → length scope ≤ 512 → HasConstants constants texts e
+GivesMeaning texts slots declarations e p = (image : Contents) (deep : Bool) (roots : Roots) (constants : List ℕ) (scope later : List Variable) (frame : ℕ)
+    → AreTaken slots declarations scope later → frame + deepest e (depths_of declarations) ≤ 7 → length scope ≤ 512 → HasConstants constants texts e
     → IsScope image deep roots constants scope
     → let tree = plain_tree e in let env = environment_in roots [] scope in (IsDeep tree env → deep ≡ true)
-    → Computes (scope_setting image deep (scope ++ later)) p (code_of e (with_texts texts (texts_of e)) (routines_of declarations slots) [] 0 p) (scope_context roots [] [] constants (scope ++ later)) 0 0 (meaning tree env) (cost tree env)
+    → Computes (scope_setting image deep (scope ++ later)) p (code_of e (with_texts texts (texts_of e)) (routines_of declarations slots) [] 0 p) (scope_context roots [] [] constants (scope ++ later)) frame 0 (meaning tree env) (cost tree env)
 
 -- in each image in which the expression's routine stands at slot p, as that of a variable that is no deeper than 6, the variables that were taken are a scope with this one more
 abbrev pub JoinsScope : List (List ℕ) → List ℕ → List Declaration → CoreTree → ℕ → Type 0
@@ -68,6 +68,10 @@ IsTakenBehind texts slots declarations e p = (roots : Roots) (scope : List Varia
 
 abbrev pub ExpressionGives : Type 0
 ExpressionGives = (texts : List (List ℕ)) (slots : List ℕ) (declarations : List Declaration) (e : CoreTree) (p : ℕ) → IsExpression declarations e → GivesMeaning texts slots declarations e p
+
+-- where no variable is deeper than 6, the frames of a machine are enough for an expression in the first or second one
+abbrev pub FramesAreEnough : Type 0
+FramesAreEnough = (declarations : List Declaration) (e : CoreTree) → AreShallow declarations → deepest e (depths_of declarations) ≤ 6
 
 abbrev pub VariableJoins : Type 0
 VariableJoins = (texts : List (List ℕ)) (slots : List ℕ) (declarations : List Declaration) (e : CoreTree) (p : ℕ) → IsExpression declarations e → JoinsScope texts slots declarations e p

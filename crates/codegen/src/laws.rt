@@ -1,7 +1,7 @@
 //! The laws of the code generator, each the contract of an empty function.
 
 ghost use Rattle.codegen.specs.CostRows.{CostRows};
-ghost use Rattle.codegen.specs.Layer.{ExpressionGives, VariableIsTaken, VariableJoins};
+ghost use Rattle.codegen.specs.Layer.{ExpressionGives, FramesAreEnough, VariableIsTaken, VariableJoins};
 ghost use Rattle.codegen.specs.Laws.{CodeGives, CodeIsShort, RoutineGives, RoutineIsPassed, TextsStay, TypedIsAccepted};
 
 /// Expressions that were worked by hand visit and spend so much.
@@ -44,7 +44,8 @@ pub fn routine_is_passed()
 /// on steps and charge, for all that the type checker takes in a scope of the variables that the emitter
 /// took first.
 pub fn expression_gives()
-    ensures { ExpressionGives }
+    ensures gives { ExpressionGives }
+    ensures frames { FramesAreEnough }
 {}
 
 /// The variables that an emitter took grow by each that it takes, whose routine stands in the image.
