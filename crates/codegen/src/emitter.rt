@@ -12,11 +12,11 @@ ghost use Rattle.codegen.specs.Constants.{joined as joined_texts};
 ghost use Rattle.codegen.specs.Emitted.{no_code, with_piece, with_insn_at, with_nodes, slot_spellings, IsTooLong, HasTooManyTexts};
 ghost use Rattle.codegen_base.specs.Pieces.{slots, insn_slots, size};
 
+use crate::code::routines::passed_routine;
 use crate::code_error::CodeError;
 use crate::constants::{byte_count, joined, take_texts};
 use crate::expressions::code_of;
 use crate::frame_words::FrameWords;
-use crate::code::routines::passed_routine;
 use crate::spot::Spot;
 use crate::surroundings::Surroundings;
 use cel_macros::Core;
@@ -147,12 +147,7 @@ impl Emitter {
     }
 
     /// Takes the expression. After an error texts may be left behind those that were there.
-    fn grow(
-        &mut self,
-        alloc: Global,
-        core: &Core,
-        scope: &[Variable],
-    ) -> Result<(), AllocError>
+    fn grow(&mut self, alloc: Global, core: &Core, scope: &[Variable]) -> Result<(), AllocError>
         requires { need (core_view core.now) ≤ 60 }
         ensures ok { OnOk result (self.new ≡ with_expression self.old (map declaration scope.now) (core_view core.now)) }
         ensures err { OnErr result (IsBehind self.old self.new) }
@@ -196,9 +191,7 @@ impl Emitter {
     fn has_room(&self, nodes: u64) -> bool
         ensures { result ≡ has_room (record self.now { nodes = nodes }) }
     {
-        nodes <= MOST_NODES
-            && self.code.len() < MOST_SLOTS
-            && self.routines.len() < MOST_VARIABLES
+        nodes <= MOST_NODES && self.code.len() < MOST_SLOTS && self.routines.len() < MOST_VARIABLES
     }
 
     /// The expression's code at this slot. The error says that there is no memory for it.

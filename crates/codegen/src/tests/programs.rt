@@ -73,12 +73,7 @@ fn core(alloc: Global, text: &str) -> Result<Core, Fail> {
 }
 
 /// Takes the text's expression.
-fn take(
-    alloc: Global,
-    text: &str,
-    scope: &Scope,
-    emitter: &mut Emitter,
-) -> Result<(), Fail> {
+fn take(alloc: Global, text: &str, scope: &Scope, emitter: &mut Emitter) -> Result<(), Fail> {
     let core = core(alloc, text)?;
     check(&core, scope)?;
     Ok(expression(alloc, &core, scope, emitter)?)
@@ -139,7 +134,11 @@ fn answer_to_sums(alloc: Global, signs: usize) -> Result<Option<CodeError>, Fail
 #[test]
 fn expressions_leave_their_values(rt: HostRuntime) -> Result<(), Fail> {
     for (text, reference) in &ROWS {
-        assert_eq!(rt; end_of(rt.alloc(), text)?, Status::Exited(*reference), "row {text}");
+        assert_eq!(rt;
+            end_of(rt.alloc(), text)?,
+            Status::Exited(*reference),
+            "row {text}"
+        );
     }
     Ok(())
 }
@@ -147,7 +146,11 @@ fn expressions_leave_their_values(rt: HostRuntime) -> Result<(), Fail> {
 #[test]
 fn variables_leave_their_values(rt: HostRuntime) -> Result<(), Fail> {
     for (text, reference) in &USES {
-        assert_eq!(rt; end_with_variables(rt.alloc(), text)?, Status::Exited(*reference), "row {text}");
+        assert_eq!(rt;
+            end_with_variables(rt.alloc(), text)?,
+            Status::Exited(*reference),
+            "row {text}"
+        );
     }
     Ok(())
 }
@@ -167,6 +170,9 @@ fn depths_are_bounded(rt: HostRuntime) -> Result<(), Fail> {
     variable(rt.alloc(), &first, &scope, &mut emitter)?;
     scope.add("v", check(&first, &scope)?, 6)?;
     let second = core(rt.alloc(), "variables.v")?;
-    assert_eq!(rt; variable(rt.alloc(), &second, &scope, &mut emitter).err(), Some(CodeError::G2));
+    assert_eq!(rt;
+        variable(rt.alloc(), &second, &scope, &mut emitter).err(),
+        Some(CodeError::G2)
+    );
     Ok(())
 }

@@ -1,4 +1,4 @@
-use Rattle.std.proofs.Common.{rules, sym, subst}
+use Rattle.std.proofs.Common.{sym, subst}
 use Rattle.std.proofs.lemmas.Str.{IsUtf8-string_bytes}
 use Rattle.cel_reader.specs.Tree.{literal_view}
 use Rattle.cel_reader.specs.WellFormed.{IsWellFormedLiteral}

@@ -1,7 +1,6 @@
-use Rattle.std.proofs.Common.{◌≡◌, ◌∙◌, length, ap, arith, sym, subst}
-use Rattle.std.proofs.lemmas.List.{take_all}
+use Rattle.std.proofs.Common.{sym, subst}
 use Rattle.codegen.specs.Added.{IsBehind}
-use Rattle.codegen.proofs.Behind.{behind, in_any_case, kept, longer}
+use Rattle.codegen.proofs.Behind.{behind, in_any_case, kept}
 use Rattle.codegen.proofs.emitter.Emitter.grow.Goals as goal
 
 pub returns-in_err-take_texts-clause-err : goal.returns-in_err-take_texts-clause-err

@@ -1,4 +1,4 @@
-use Rattle.std.proofs.Common.{◌≡◌, ◌+◌, [], ◌∷◌, ◌∙◌, length, take, ap, arith, sym, subst}
+use Rattle.std.proofs.Common.{◌+◌, [], ◌∷◌, ◌∙◌, length, take, ap, sym, subst}
 use Rattle.codegen.specs.Added.{IsBehind}
 use Rattle.codegen.proofs.Behind.{behind, in_any_case, kept, longer}
 use Rattle.codegen.proofs.emitter.Emitter.grow_routine.Goals as goal
