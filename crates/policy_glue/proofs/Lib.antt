@@ -1,4 +1,5 @@
 mod Each
+mod EmissionSteps
 mod Filled
 mod Joined
 mod Judged
