@@ -3,5 +3,17 @@ mod Filled
 mod Joined
 mod Layouts
 mod Lists
+mod ProgramConditions
+mod ProgramDecided
+mod ProgramMarks
+mod ProgramMessages
+mod ProgramOutcome
+mod ProgramRows
+mod ProgramRules
+mod ProgramSteps
+mod ProgramValidations
+mod ProgramVariables
+mod ProgramWhole
 mod Read
 mod Told
+mod VerdictWords

@@ -2,14 +2,17 @@
 //! that programs leave, and the responses to them.
 #![tactic(auto)]
 
+mod compile_error;
 mod denial;
 mod denials;
 mod documents;
+mod expression_error;
 mod failure_policy;
 pub mod laws;
 mod name_rule;
 mod named_expression;
 mod named_list;
+mod part_kind;
 mod parts;
 mod policy;
 mod policy_error;
@@ -22,6 +25,9 @@ mod validation;
 mod validations;
 mod verdict;
 
+pub use compile_error::CompileError;
+pub use expression_error::ExpressionError;
+pub use part_kind::PartKind;
 pub use policy::Policy;
 pub use policy_error::PolicyError;
 pub use response::respond;
