@@ -5,11 +5,13 @@ mod Layouts
 mod Lists
 mod ProgramConditions
 mod ProgramDecided
+mod ProgramInsns
 mod ProgramMarks
 mod ProgramMessages
 mod ProgramOutcome
 mod ProgramRows
 mod ProgramRules
+mod ProgramSizes
 mod ProgramSteps
 mod ProgramValidations
 mod ProgramVariables
