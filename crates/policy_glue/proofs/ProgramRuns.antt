@@ -13,6 +13,7 @@ use Rattle.cel_reader.specs.Tree.{Tree}
 use Rattle.cel_macros.specs.Environment.{Environment, Roots}
 use Rattle.cel_types.specs.Declarations.{Declaration}
 use Rattle.bpf_machine.specs.Decoding.{DecodesSpelling}
+use Rattle.bpf_machine.specs.Laws.{stays_stopped}
 use Rattle.bpf_machine.specs.State.{State, start_state}
 use Rattle.bpf_machine.specs.Trace.{state_after}
 use Rattle.bpf_machine.specs.declared.status.Status.TheVariants.{Exited, Fault}
@@ -41,7 +42,7 @@ use Rattle.policy_glue.specs.Program.{Validation, conditions_code, policy_code, 
 use Rattle.policy_glue.specs.ProgramCode.{Laid, after_condition, after_conditions, after_variables, condition_codes, laid_conditions, laid_routines, nothing_laid, program_of, validation_codes, variable_code, variable_codes, with_routine}
 use Rattle.policy_glue.specs.ProgramLaws.{LeavesVerdict, conditions_place, passes, program_charge, program_steps, validations_place}
 use Rattle.policy_glue.specs.ProgramParts.{ConditionsGive, Part, RulePart, ValidationsGive, codes_of, rule_codes, rules_given, validations_charge, validations_steps, values_given}
-use Rattle.policy_glue.specs.ProgramTrees.{Decides, HasProgram, ProgramDecides, ProgramIsCode}
+use Rattle.policy_glue.specs.ProgramTrees.{Decides, HasProgram, ProgramDecides, ProgramIsCode, ProgramStops}
 use Rattle.policy_glue.specs.ProgramTrees as trees
 use Rattle.policy_glue.specs.Trees.{PolicyTree, RuleTree, VariableTree}
 use Rattle.policy_glue.specs.Verdict.{Verdict, decided_before, truth_of, verdict_of}
@@ -285,3 +286,10 @@ module _ (law : DecodesSpelling) (f : FailurePolicy) (p : PolicyTree) (roots : R
 pub program_decides : DecodesSpelling → ProgramIsCode → ProgramDecides
 program_decides law codes f p roots image values m has code_is constants_are bytes constant_bytes table enough =
     decides law f p roots image values has (codes f p has) code_is constants_are bytes constant_bytes table m enough
+
+pub program_stops : ProgramDecides → ProgramStops
+program_stops law f p roots image values k has code_is constants_are bytes constant_bytes table stopped =
+    let start = start_state image values in
+    let m = k + 128 * policy_work f p roots in
+    let same : state_after k start ≡ state_after m start = stays_stopped start (state_after k start) k m refl stopped (omega arith) in
+    subst (Decides f p roots values) (sym same) (law f p roots image values m has code_is constants_are bytes constant_bytes table (omega arith))

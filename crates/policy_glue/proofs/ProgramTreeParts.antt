@@ -20,7 +20,7 @@ use Rattle.codegen.specs.Computes.{Computes, environment_in}
 use Rattle.codegen.specs.Constants.{joined, with_texts}
 use Rattle.codegen.specs.Cost.{Cost, IsDeep, cost, spent_by}
 use Rattle.codegen.specs.Layer.{AreShallow, AreTaken, HasConstants, IsExpression}
-use Rattle.codegen.proofs.Layer.{expression_gives}
+use Rattle.codegen.proofs.Layer.{expression_gives, frames_are_enough}
 use Rattle.policy_glue.specs.Budget.{conditions_cost, is_denied, is_running, message_cost, part_cost, rule_cost, rules_cost}
 use Rattle.policy_glue.specs.Evaluation.{condition_values, environment_with, rule_value}
 use Rattle.policy_glue.specs.Limits.{condition_texts, message_texts, rule_texts, tree_texts, validation_texts}
@@ -97,7 +97,7 @@ module _ (image : Contents) (deep : Bool) (roots : Roots) (everything : List (Li
       let env = environment_with roots (bindings scope) in
       let s = scope_setting image deep (scope ++ later) in
       let c = routine_context roots (bindings (scope ++ later)) image.constants in
-      let given : Computes s l.place (tree_code ds l a) c 0 0 (meaning (plain_tree (expanded a)) env) (cost (plain_tree (expanded a)) env) = expression_gives l.texts l.routines ds (expanded a) l.place expression image deep roots image.constants scope later taken shallow short (has_constants image.constants everything l.texts a rest are few used) is (λ e. may (subst (λ (t : Tree). IsDeep t env) plain e)) in
+      let given : Computes s l.place (tree_code ds l a) c 0 0 (meaning (plain_tree (expanded a)) env) (cost (plain_tree (expanded a)) env) = expression_gives l.texts l.routines ds (expanded a) l.place expression image deep roots image.constants scope later 0 taken (let within = frames_are_enough ds (expanded a) shallow in omega arith) short (has_constants image.constants everything l.texts a rest are few used) is (λ e. may (subst (λ (t : Tree). IsDeep t env) plain e)) in
       let meant : Computes s l.place (tree_code ds l a) c 0 0 (meaning a env) (cost a env) = subst (λ (t : Tree). Computes s l.place (tree_code ds l a) c 0 0 (meaning t env) (cost t env)) plain given in
       subst (λ (vs : List Variable). Computes (scope_setting image deep vs) l.place (tree_code ds l a) (routine_context roots (bindings vs) image.constants) 0 0 (meaning a env) (cost a env)) whole meant
 
