@@ -1,5 +1,5 @@
 -- The policies that have a program, and what their programs do.
-use Rattle.std.specs.Prelude.{◌≡◌, ℕ, ◌+◌, ◌*◌, ◌<◌, ◌≤◌, ◌⊎◌, All, true, false, List, [], ◌∷◌, length, Option, Some, None}
+use Rattle.std.specs.Prelude.{◌≡◌, ℕ, ◌+◌, ◌*◌, ◌<◌, ◌≤◌, ◌⊎◌, All, false, List, [], ◌∷◌, length, Option, Some, None}
 use Rattle.guest_memory.specs.declared.fault.Fault.TheVariants.{F8}
 use Rattle.loader.specs.Contents as loader
 use Rattle.value_store.specs.Placing.{Contents, charge_limit}
