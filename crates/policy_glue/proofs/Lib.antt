@@ -11,8 +11,10 @@ mod ProgramMessages
 mod ProgramOutcome
 mod ProgramRows
 mod ProgramRules
+mod ProgramRuns
 mod ProgramSizes
 mod ProgramSteps
+mod ProgramTreeParts
 mod ProgramValidations
 mod ProgramVariables
 mod ProgramWhole
