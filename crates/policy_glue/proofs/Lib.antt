@@ -1,8 +1,10 @@
 mod Each
 mod Filled
 mod Joined
+mod Judged
 mod Layouts
 mod Lists
+mod Policies
 mod ProgramConditions
 mod ProgramDecided
 mod ProgramInsns
@@ -21,3 +23,4 @@ mod ProgramWhole
 mod Read
 mod Told
 mod VerdictWords
+mod Walks

@@ -18,6 +18,7 @@ use Rattle.cel_types.specs.declared.type_error.TypeError.TheVariants.{Y1, Y2, Y3
 use Rattle.cel_measures.specs.Measures.{need, depth}
 use Rattle.policy_glue.specs.Policy.{Named, Rule, Rules}
 use Rattle.policy_glue.specs.Trees.{VariableTree, RuleTree, PolicyTree}
+use Rattle.policy_glue.specs.declared.part_kind.PartKind.{PartKind}
 use Rattle.policy_glue.specs.declared.part_kind.PartKind.TheVariants.{Variable, Condition, Validation, Message}
 use Rattle.policy_glue.specs.declared.expression_error.ExpressionError.{ExpressionError}
 use Rattle.policy_glue.specs.declared.expression_error.ExpressionError.TheVariants.{Unread, Unexpanded, Untyped, G1, G2}
@@ -100,7 +101,18 @@ pub record IsOther (types : List CelType) (scope : List Declaration) (text : Lis
   pub taken : IsTaken (expression_judged scope) text tree cel_type
   pub kind : allowed types cel_type ≡ false
 
--- ---- the lists, each from the place behind what is taken
+-- the text of the part at this place is refused, or is a tree of another type than these
+pub data IsNoneOf (types : List CelType) (other : CompileError) (part : PartKind) (place : ℕ) (scope : List Declaration) (text : List ℕ) : CompileError → Type 0 where
+  refused : (e : ExpressionError) → IsRefused (expression_judged scope) text e → IsNoneOf types other part place scope text (K6 part place e)
+  of_another_type : IsOther types scope text → IsNoneOf types other part place scope text other
+
+-- ---- lists of parts
+
+-- from here on, behind what is taken, each part is taken, or the first that is not is refused
+pub data Ends {A B : Type 0} (Takes : List B → A → B → Type 0) (Refuses : List B → A → CompileError → Type 0) : List B → List A → Result (List B) CompileError → Type 0 where
+  over : {taken : List B} → Ends Takes Refuses taken [] (Ok taken)
+  refused : {taken : List B} {part : A} {more : List A} (e : CompileError) → Refuses taken part e → Ends Takes Refuses taken (part ∷ more) (Err e)
+  next : {taken : List B} {part : A} {more : List A} {end : Result (List B) CompileError} (tree : B) → Takes taken part tree → Ends Takes Refuses (taken ++ tree ∷ []) more end → Ends Takes Refuses taken (part ∷ more) end
 
 -- with one more variable in scope, of the type that it has there
 abbrev pub type_or_any : Typing → CelType
@@ -114,33 +126,65 @@ with_variable scope v = scope ++ declared v.name (type_or_any (type_of v.express
 abbrev pub scope_after : List VariableTree → List Declaration
 scope_after variables = fold with_variable [] variables
 
-pub data VariablesEnd : List VariableTree → List Named → Result (List VariableTree) CompileError → Type 0 where
-  over : {taken : List VariableTree} → VariablesEnd taken [] (Ok taken)
-  refused : {taken : List VariableTree} {n : Named} {more : List Named} (e : ExpressionError) → IsRefused (variable_judged (scope_after taken)) n.expression e → VariablesEnd taken (n ∷ more) (Err (K6 Variable (length taken) e))
-  next : {taken : List VariableTree} {n : Named} {more : List Named} {r : Result (List VariableTree) CompileError} (a : Tree) (t : CelType) → IsTaken (variable_judged (scope_after taken)) n.expression a t → VariablesEnd (taken ++ record { name = n.name; expression = a } ∷ []) more r → VariablesEnd taken (n ∷ more) r
+-- a variable may use those in scope, which are those before it
+pub record IsVariable (scope : List Declaration) (n : Named) (v : VariableTree) : Type 0 where
+  pub name : v.name ≡ n.name
+  pub cel_type : CelType
+  pub tree : IsTaken (variable_judged scope) n.expression v.expression cel_type
+
+pub record IsNoVariable (scope : List Declaration) (place : ℕ) (text : List ℕ) (e : CompileError) : Type 0 where
+  pub cause : ExpressionError
+  pub because : IsRefused (variable_judged scope) text cause
+  pub is : e ≡ K6 Variable place cause
+
+abbrev pub TakesVariable : List VariableTree → Named → VariableTree → Type 0
+TakesVariable taken n v = IsVariable (scope_after taken) n v
+
+abbrev pub RefusesVariable : List VariableTree → Named → CompileError → Type 0
+RefusesVariable taken n e = IsNoVariable (scope_after taken) (length taken) n.expression e
+
+abbrev pub VariablesEnd : List Named → Result (List VariableTree) CompileError → Type 0
+VariablesEnd ns end = Ends TakesVariable RefusesVariable [] ns end
 
 -- a condition may use no variable
-pub data ConditionsEnd : List Tree → List Named → Result (List Tree) CompileError → Type 0 where
-  over : {taken : List Tree} → ConditionsEnd taken [] (Ok taken)
-  refused : {taken : List Tree} {n : Named} {more : List Named} (e : ExpressionError) → IsRefused (expression_judged []) n.expression e → ConditionsEnd taken (n ∷ more) (Err (K6 Condition (length taken) e))
-  no_truth : {taken : List Tree} {n : Named} {more : List Named} → IsOther truths [] n.expression → ConditionsEnd taken (n ∷ more) (Err K7)
-  next : {taken : List Tree} {n : Named} {more : List Named} {r : Result (List Tree) CompileError} (a : Tree) → IsOneOf truths [] n.expression a → ConditionsEnd (taken ++ a ∷ []) more r → ConditionsEnd taken (n ∷ more) r
+abbrev pub TakesCondition : List Tree → Named → Tree → Type 0
+TakesCondition taken n a = IsOneOf truths [] n.expression a
 
--- validations and message expressions may use all variables
-pub data ValidationsEnd (scope : List Declaration) : List RuleTree → List Rule → Result (List RuleTree) CompileError → Type 0 where
-  over : {taken : List RuleTree} → ValidationsEnd scope taken [] (Ok taken)
-  refused : {taken : List RuleTree} {n : Rule} {more : List Rule} (e : ExpressionError) → IsRefused (expression_judged scope) n.expression e → ValidationsEnd scope taken (n ∷ more) (Err (K6 Validation (length taken) e))
-  no_truth : {taken : List RuleTree} {n : Rule} {more : List Rule} → IsOther truths scope n.expression → ValidationsEnd scope taken (n ∷ more) (Err K7)
-  message_refused : {taken : List RuleTree} {n : Rule} {more : List Rule} (a : Tree) (m : List ℕ) (e : ExpressionError) → IsOneOf truths scope n.expression a → n.message_expression ≡ Some m → IsRefused (expression_judged scope) m e → ValidationsEnd scope taken (n ∷ more) (Err (K6 Message (length taken) e))
-  no_text : {taken : List RuleTree} {n : Rule} {more : List Rule} (a : Tree) (m : List ℕ) → IsOneOf truths scope n.expression a → n.message_expression ≡ Some m → IsOther texts scope m → ValidationsEnd scope taken (n ∷ more) (Err K9)
-  plain : {taken : List RuleTree} {n : Rule} {more : List Rule} {r : Result (List RuleTree) CompileError} (a : Tree) → IsOneOf truths scope n.expression a → n.message_expression ≡ None → ValidationsEnd scope (taken ++ record { expression = a; message = None } ∷ []) more r → ValidationsEnd scope taken (n ∷ more) r
-  with_message : {taken : List RuleTree} {n : Rule} {more : List Rule} {r : Result (List RuleTree) CompileError} (a : Tree) (m : List ℕ) (b : Tree) → IsOneOf truths scope n.expression a → n.message_expression ≡ Some m → IsOneOf texts scope m b → ValidationsEnd scope (taken ++ record { expression = a; message = Some b } ∷ []) more r → ValidationsEnd scope taken (n ∷ more) r
+abbrev pub RefusesCondition : List Tree → Named → CompileError → Type 0
+RefusesCondition taken n e = IsNoneOf truths K7 Condition (length taken) [] n.expression e
+
+abbrev pub ConditionsEnd : List Named → Result (List Tree) CompileError → Type 0
+ConditionsEnd ns end = Ends TakesCondition RefusesCondition [] ns end
+
+-- a validation and its message expression may use all variables
+abbrev pub IsMessage : List Declaration → Option (List ℕ) → Option Tree → Type 0
+IsMessage scope (Some text) (Some a) = IsOneOf texts scope text a
+IsMessage scope (Some text) None = ⊥
+IsMessage scope None (Some a) = ⊥
+IsMessage scope None None = Unit {0}
+
+pub record IsRule (scope : List Declaration) (n : Rule) (r : RuleTree) : Type 0 where
+  pub expression : IsOneOf truths scope n.expression r.expression
+  pub message : IsMessage scope n.message_expression r.message
+
+pub data IsNoRule (scope : List Declaration) (place : ℕ) (n : Rule) : CompileError → Type 0 where
+  expression : (e : CompileError) → IsNoneOf truths K7 Validation place scope n.expression e → IsNoRule scope place n e
+  message : (a : Tree) (text : List ℕ) (e : CompileError) → IsOneOf truths scope n.expression a → n.message_expression ≡ Some text → IsNoneOf texts K9 Message place scope text e → IsNoRule scope place n e
+
+abbrev pub TakesRule : List Declaration → List RuleTree → Rule → RuleTree → Type 0
+TakesRule scope taken n r = IsRule scope n r
+
+abbrev pub RefusesRule : List Declaration → List RuleTree → Rule → CompileError → Type 0
+RefusesRule scope taken n e = IsNoRule scope (length taken) n e
+
+abbrev pub ValidationsEnd : List Declaration → List Rule → Result (List RuleTree) CompileError → Type 0
+ValidationsEnd scope ns end = Ends (TakesRule scope) (RefusesRule scope) [] ns end
 
 -- ---- the policy
 
 -- its expressions as trees, or the first refusal
 pub data PartsEnd (p : Rules) : Result PolicyTree CompileError → Type 0 where
-  in_variables : (e : CompileError) → VariablesEnd [] p.variables (Err e) → PartsEnd p (Err e)
-  in_conditions : (vs : List VariableTree) (e : CompileError) → VariablesEnd [] p.variables (Ok vs) → ConditionsEnd [] p.conditions (Err e) → PartsEnd p (Err e)
-  in_validations : (vs : List VariableTree) (cs : List Tree) (e : CompileError) → VariablesEnd [] p.variables (Ok vs) → ConditionsEnd [] p.conditions (Ok cs) → ValidationsEnd (scope_after vs) [] p.validations (Err e) → PartsEnd p (Err e)
-  taken : (vs : List VariableTree) (cs : List Tree) (rs : List RuleTree) → VariablesEnd [] p.variables (Ok vs) → ConditionsEnd [] p.conditions (Ok cs) → ValidationsEnd (scope_after vs) [] p.validations (Ok rs) → PartsEnd p (Ok (record { variables = vs; conditions = cs; validations = rs }))
+  in_variables : (e : CompileError) → VariablesEnd p.variables (Err e) → PartsEnd p (Err e)
+  in_conditions : (vs : List VariableTree) (e : CompileError) → VariablesEnd p.variables (Ok vs) → ConditionsEnd p.conditions (Err e) → PartsEnd p (Err e)
+  in_validations : (vs : List VariableTree) (cs : List Tree) (e : CompileError) → VariablesEnd p.variables (Ok vs) → ConditionsEnd p.conditions (Ok cs) → ValidationsEnd (scope_after vs) p.validations (Err e) → PartsEnd p (Err e)
+  taken : (vs : List VariableTree) (cs : List Tree) (rs : List RuleTree) → VariablesEnd p.variables (Ok vs) → ConditionsEnd p.conditions (Ok cs) → ValidationsEnd (scope_after vs) p.validations (Ok rs) → PartsEnd p (Ok (record { variables = vs; conditions = cs; validations = rs }))

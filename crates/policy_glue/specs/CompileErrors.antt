@@ -75,3 +75,11 @@ from_macros M1 = Unexpanded M1
 from_macros M2 = Unexpanded M2
 from_macros M3 = Unexpanded M3
 from_macros macro_error.Memory = expression_error.Memory
+
+abbrev pub in_part : PartKind → ℕ → ExpressionError → CompileError
+in_part part place (Unread e) = K6 part place (Unread e)
+in_part part place (Unexpanded e) = K6 part place (Unexpanded e)
+in_part part place (Untyped e) = K6 part place (Untyped e)
+in_part part place G1 = K6 part place G1
+in_part part place G2 = K6 part place G2
+in_part part place expression_error.Memory = compile_error.Memory

@@ -1,10 +1,12 @@
 pub mod Budget
 pub mod BudgetRows
+pub mod Checked
 pub mod Checking
 pub mod CompileErrors
 pub mod DecisionRows
 pub mod Denials
 pub mod Documents
+pub mod Emission
 pub mod Evaluation
 pub mod Layout
 pub mod Limits

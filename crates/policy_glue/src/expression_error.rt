@@ -1,9 +1,11 @@
 //! Why a policy's expression is refused.
 
 ghost use Rattle.std.specs.Prelude.{◌≡◌, Some};
-ghost use Rattle.policy_glue.specs.CompileErrors.{expression_text, from_macros, from_reader};
+ghost use Rattle.policy_glue.specs.CompileErrors.{expression_text, from_macros, from_reader, in_part};
 ghost use Rattle.policy_glue.specs.declared.expression_error.ExpressionError.TheVariants.{Memory, Untyped};
 
+use crate::compile_error::CompileError;
+use crate::part_kind::PartKind;
 use cel_macros::MacroError;
 use cel_reader::ReadError;
 use cel_types::TypeError;
@@ -24,6 +26,18 @@ pub enum ExpressionError {
     G2,
     /// There is no memory for the expression.
     Memory,
+}
+
+impl ExpressionError {
+    /// The refusal of the part at this place of its list.
+    pub(crate) fn at(self, part: PartKind, place: usize) -> CompileError
+        ensures { result ≡ in_part part place self }
+    {
+        match self {
+            ExpressionError::Memory => CompileError::Memory,
+            _ => CompileError::K6(part, place, self),
+        }
+    }
 }
 
 /// The refusal's number, and the byte where the text is refused.

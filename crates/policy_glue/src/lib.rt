@@ -2,12 +2,17 @@
 //! that programs leave, and the responses to them.
 #![tactic(auto)]
 
+mod checked;
+mod checked_validation;
+mod checking;
 mod compile_error;
 mod denial;
 mod denials;
 mod documents;
 mod expression_error;
 mod failure_policy;
+mod instructions;
+mod judging;
 pub mod laws;
 mod name_rule;
 mod named_expression;
@@ -16,6 +21,7 @@ mod part_kind;
 mod parts;
 mod policy;
 mod policy_error;
+mod program;
 mod reading;
 mod reason;
 mod response;
