@@ -1,4 +1,6 @@
 mod Each
+mod EmittedCode
+mod EmittedCounts
 mod Filled
 mod Joined
 mod Judged
