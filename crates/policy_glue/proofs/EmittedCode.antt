@@ -1,6 +1,6 @@
 -- The code of a policy's program as it is emitted, where the program is within its limits.
-use Rattle.std.proofs.Common.{◌≡◌, ℕ, suc, ◌+◌, ◌-◌, ◌*◌, ◌<◌, ◌≤◌, Bool, true, false, List, [], ◌∷◌, ◌++◌, length, length-append, map, take, append-nil, append_assoc, Option, Some, None, fold, refl, sym, ap, ◌∙◌, subst, arith, if◌then◌else◌}
-use Rattle.std.specs.Prelude.{nat_le, nat_lt, option_map, pos, slice_set}
+use Rattle.std.proofs.Common.{◌≡◌, ℕ, ◌+◌, ◌-◌, ◌*◌, ◌<◌, ◌≤◌, Bool, true, List, [], ◌∷◌, ◌++◌, length, length-append, map, take, append-nil, append_assoc, Option, Some, None, fold, refl, sym, ap, ◌∙◌, subst, arith, if◌then◌else◌}
+use Rattle.std.specs.Prelude.{option_map, pos, slice_set}
 use Rattle.std.specs.List.{sum_by}
 use Rattle.std.proofs.lemmas.Bool.{le-leb, lt-ltb}
 use Rattle.std.proofs.lemmas.List.{set-append_right, take-append-le, take_all}
@@ -9,7 +9,7 @@ use Rattle.insn_codec.specs.declared.comparison.Comparison.TheVariants.{Eq}
 use Rattle.insn_codec.specs.declared.insn.Insn.{Insn}
 use Rattle.insn_codec.specs.declared.register.Register.TheVariants.{R3}
 use Rattle.cel_reader.specs.Tree.{Tree}
-use Rattle.cel_macros.specs.CoreTree.{CoreTree, expanded}
+use Rattle.cel_macros.specs.CoreTree.{expanded}
 use Rattle.cel_measures.specs.Measures.{nodes}
 use Rattle.cel_measures.specs.Saturated.{saturated}
 use Rattle.cel_types.specs.Declarations.{Declaration, declared, scope_of}
@@ -20,22 +20,20 @@ use Rattle.codegen_base.specs.Variables.{memo_tail}
 use Rattle.codegen_base.proofs.Pieces.{size-append, size-cons, slots-append}
 use Rattle.codegen.specs.Added.{code_at, has_room, passed, with_code, with_expression, with_variable}
 use Rattle.codegen.specs.Added.{with_routine as with_emitted_routine}
-use Rattle.codegen.specs.Code.Expressions.{code_of, routine_code, texts_of}
-use Rattle.codegen.specs.Constants.{with_texts}
+use Rattle.codegen.specs.Code.Expressions.{code_of, routine_code}
 use Rattle.codegen.specs.Emitted.{Emitted, no_code, with_insn_at, with_nodes, with_piece}
 use Rattle.codegen.specs.Surroundings.{routines_of}
 use Rattle.policy_glue.specs.Checked.{rule_expanded}
 use Rattle.policy_glue.specs.Checking.{depth_in, scope_after, type_or_any}
 use Rattle.policy_glue.specs.Checking.{with_variable as with_declared}
 use Rattle.policy_glue.specs.Emission.{unless_denied, with_condition, with_conditions, with_denial, with_message, with_validation, with_validations, with_variables}
-use Rattle.policy_glue.specs.Limits.{message_nodes, part_nodes, policy_nodes, rule_nodes, tree_texts}
+use Rattle.policy_glue.specs.Limits.{message_nodes, part_nodes, policy_nodes, rule_nodes}
 use Rattle.policy_glue.specs.Program.{Validation, condition_tail, conditions_code, count_code, decided_tail, denial_code, message_code, message_tail, outcome_tail, policy_code, result_tail, routines_code, validation_code, validations_code}
 use Rattle.policy_glue.specs.ProgramCode.{Laid, after_condition, after_conditions, after_variables, before_message, condition_codes, laid_conditions, laid_routines, message_codes, nothing_laid, texts_with, tree_code, validation_codes, variable_code, variable_codes, with_routine, with_slots, with_tree}
 use Rattle.policy_glue.specs.ProgramCode.{with_message as with_message_laid}
 use Rattle.policy_glue.specs.Trees.{PolicyTree, RuleTree, VariableTree}
 use Rattle.policy_glue.specs.declared.failure_policy.FailurePolicy.{FailurePolicy}
 use Rattle.policy_glue.proofs.EmittedCounts.{emitted_before, emitted_of}
-use Rattle.policy_glue.proofs.ProgramOutcome.{outcome_tail_size}
 use Rattle.policy_glue.proofs.ProgramRows.{tail_size}
 use Rattle.policy_glue.proofs.ProgramRules.{denial_size, message_tail_size, result_size}
 use Rattle.policy_glue.proofs.ProgramSizes.{message_short, routine_short, rule_size, tree_short}

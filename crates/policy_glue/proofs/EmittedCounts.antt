@@ -1,5 +1,5 @@
 -- The nodes and the texts of a policy's program as it is emitted.
-use Rattle.std.proofs.Common.{◌≡◌, ℕ, ◌+◌, Bool, true, false, List, [], ◌∷◌, ◌++◌, map, take, Option, Some, None, fold, length, if◌then◌else◌, refl, sym, ap, ◌∙◌, subst, arith}
+use Rattle.std.proofs.Common.{◌≡◌, ℕ, ◌+◌, Bool, true, false, List, [], ◌∷◌, ◌++◌, map, take, Option, Some, None, length, if◌then◌else◌, refl, sym, ap, ◌∙◌, subst, arith}
 use Rattle.std.specs.Prelude.{option_map}
 use Rattle.std.specs.List.{sum_by}
 use Rattle.std.proofs.lemmas.List.Sums.{fold-append, sum_by-cons}
@@ -9,14 +9,14 @@ use Rattle.cel_macros.specs.CoreTree.{CoreTree, expanded}
 use Rattle.cel_measures.specs.Measures.{nodes}
 use Rattle.cel_measures.specs.Saturated.{saturated}
 use Rattle.cel_types.specs.Declarations.{Declaration}
-use Rattle.codegen.specs.Added.{code_at, has_room, passed, with_code, with_counted, with_expression, with_variable}
+use Rattle.codegen.specs.Added.{code_at, has_room, with_code, with_counted, with_expression, with_variable}
 use Rattle.codegen.specs.Added.{with_routine as with_emitted_routine}
 use Rattle.codegen.specs.Code.Expressions.{texts_of}
 use Rattle.codegen.specs.Constants.{with_text, with_texts}
 use Rattle.codegen.specs.Emitted.{Emitted, no_code, with_nodes, with_piece}
 use Rattle.policy_glue.specs.Checked.{rule_expanded}
 use Rattle.policy_glue.specs.Checking.{scope_after}
-use Rattle.policy_glue.specs.Emission.{with_condition, with_conditions, with_denial, with_message, with_validation, with_validations, with_variables}
+use Rattle.policy_glue.specs.Emission.{with_condition, with_conditions, with_denial, with_validation, with_validations, with_variables}
 use Rattle.policy_glue.specs.Limits.{condition_texts, message_nodes, message_texts, part_nodes, policy_nodes, policy_texts, rule_nodes, rule_texts, tree_texts, validation_texts, variable_texts}
 use Rattle.policy_glue.specs.Program.{decided_tail, denial_code, outcome_tail, result_tail}
 use Rattle.policy_glue.specs.Trees.{PolicyTree, RuleTree, VariableTree}

@@ -1,6 +1,7 @@
 mod Each
 mod EmittedCode
 mod EmittedCounts
+mod EmittedWhole
 mod Filled
 mod Joined
 mod Judged

@@ -1,6 +1,5 @@
 //! Policies, verdicts and responses worked by hand, and what is proved of the code of policies, each the
 //! clause of a function that does nothing.
-ghost use Rattle.std.specs.Prelude.{◌≡◌, true};
 ghost use Rattle.policy_glue.specs.BudgetRows.{BudgetRowsStand};
 ghost use Rattle.policy_glue.specs.DecisionRows.{CheckingRowsStand, DecisionRowsStand};
 ghost use Rattle.policy_glue.specs.ProgramLaws.{PolicyDecides};
@@ -51,9 +50,4 @@ pub fn policy_decides()
 pub fn program_is_code()
     ensures short { ProgramIsShort }
     ensures code { ProgramIsCode }
-{}
-
-/// Scratch.
-pub fn emission_scratch()
-    ensures { true ≡ true }
 {}
