@@ -1,5 +1,8 @@
 mod Each
 mod EmissionSteps
+mod EmittedCode
+mod EmittedCounts
+mod EmittedWhole
 mod Filled
 mod Joined
 mod Judged
@@ -8,12 +11,14 @@ mod Lists
 mod Policies
 mod ProgramConditions
 mod ProgramDecided
+mod ProgramInsns
 mod ProgramMarks
 mod ProgramMessages
 mod ProgramOutcome
 mod ProgramRows
 mod ProgramRules
 mod ProgramRuns
+mod ProgramSizes
 mod ProgramSteps
 mod ProgramTreeParts
 mod ProgramValidations

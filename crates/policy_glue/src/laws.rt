@@ -3,6 +3,7 @@
 ghost use Rattle.policy_glue.specs.BudgetRows.{BudgetRowsStand};
 ghost use Rattle.policy_glue.specs.DecisionRows.{CheckingRowsStand, DecisionRowsStand};
 ghost use Rattle.policy_glue.specs.ProgramLaws.{PolicyDecides};
+ghost use Rattle.policy_glue.specs.ProgramTrees.{ProgramIsCode, ProgramIsShort};
 ghost use Rattle.policy_glue.specs.Rows.{PolicyRowsStand, VerdictRowsStand, ResponseRowsStand};
 
 use bpf_machine::laws::decodes_spelling;
@@ -44,3 +45,9 @@ pub fn policy_decides()
 {
     decodes_spelling();
 }
+
+/// The program of a policy has at most 128 slots for each of the policy's nodes, and can be spelled.
+pub fn program_is_code()
+    ensures short { ProgramIsShort }
+    ensures code { ProgramIsCode }
+{}
