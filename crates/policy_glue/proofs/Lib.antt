@@ -5,12 +5,14 @@ mod Layouts
 mod Lists
 mod ProgramConditions
 mod ProgramDecided
+mod ProgramInsns
 mod ProgramMarks
 mod ProgramMessages
 mod ProgramOutcome
 mod ProgramRows
 mod ProgramRules
 mod ProgramRuns
+mod ProgramSizes
 mod ProgramSteps
 mod ProgramTreeParts
 mod ProgramValidations
