@@ -3,7 +3,8 @@
 ghost use Rattle.policy_glue.specs.BudgetRows.{BudgetRowsStand};
 ghost use Rattle.policy_glue.specs.DecisionRows.{CheckingRowsStand, DecisionRowsStand};
 ghost use Rattle.policy_glue.specs.ProgramLaws.{PolicyDecides};
-ghost use Rattle.policy_glue.specs.ProgramTrees.{ProgramIsCode, ProgramIsShort};
+ghost use Rattle.policy_glue.specs.ProgramTrees.{ProgramDecides, ProgramIsCode, ProgramIsShort, ProgramStops};
+ghost use Rattle.policy_glue.specs.RunRows.{RunRowsStand};
 ghost use Rattle.policy_glue.specs.Rows.{PolicyRowsStand, VerdictRowsStand, ResponseRowsStand};
 
 use bpf_machine::laws::decodes_spelling;
@@ -46,8 +47,23 @@ pub fn policy_decides()
     decodes_spelling();
 }
 
+/// Programs of policies run by hand.
+pub fn run_rows_stand()
+    ensures { RunRowsStand }
+{}
+
 /// The program of a policy has at most 128 slots for each of the policy's nodes, and can be spelled.
 pub fn program_is_code()
     ensures short { ProgramIsShort }
     ensures code { ProgramIsCode }
 {}
+
+/// The program of a policy, run from the start, has decided as the policy does after 128 steps for each
+/// unit of the policy's work, and wherever it stands stopped: it left the verdict, or it was stopped where
+/// 16 of charge for each unit of what is spent pass the limit, or where a value is too deep.
+pub fn program_decides()
+    ensures decides { ProgramDecides }
+    ensures stops { ProgramStops }
+{
+    decodes_spelling();
+}
