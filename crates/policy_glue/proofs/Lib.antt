@@ -1,4 +1,5 @@
 mod Each
+mod EmissionEnds
 mod EmissionSteps
 mod EmittedCode
 mod EmittedCounts
