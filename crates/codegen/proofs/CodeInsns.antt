@@ -1,6 +1,8 @@
 -- The code of an expression that an image has room for can be spelled: the numbers of its instructions are in range.
-use Rattle.std.proofs.Common.{◌≡◌, ℕ, ◌+◌, ◌^◌, ◌<◌, ◌≤◌, List, [], ◌∷◌, ◌++◌, length, Option, Some, None, Bool, true, false, ap, arith}
-use Rattle.std.specs.Prelude.{bytes_eq, if◌then◌else◌, unwrap_or, option_map}
+use Rattle.std.proofs.Common.{◌≡◌, ℕ, ◌+◌, ◌*◌, ◌^◌, ◌<◌, ◌≤◌, List, [], ◌∷◌, ◌++◌, length, Option, Some, None, Bool, true, false, refl, ap, arith}
+use Rattle.std.proofs.lemmas.Int.{ints}
+use Rattle.std.specs.Prelude.{bytes_eq, if◌then◌else◌, unwrap_or, option_map, FitsSigned, pos, ◌-ℤ◌}
+use Rattle.std.specs.Int.{w32}
 use Rattle.std.specs.List.{AllByRecursion}
 use Rattle.insn_codec.specs.declared.alu_op.AluOp.TheVariants.{Sdiv, Smod}
 use Rattle.insn_codec.specs.declared.insn.Insn.{Insn}
@@ -19,8 +21,8 @@ use Rattle.cel_measures.specs.Saturated.{saturated}
 use Rattle.codegen_base.specs.Code.Logic.{no_ref, yes_ref}
 use Rattle.codegen_base.specs.Pieces.{AreInsns, size}
 use Rattle.codegen_base.specs.Code.Selection.{index_tail, size_tail, string_tail, test_tail}
-use Rattle.codegen_base.proofs.Insns.{absorbing_insns, difference_insns, divided_insns, entry_insns, equal_insns, field_insns, greater_equal_insns, greater_insns, has_insns, index_insns, insns_append, int_insns, item_insns, less_equal_insns, less_insns, list_insns, macro_insns, map_insns, map_where_insns, member_insns, name_insns, negation_insns, not_insns, null_insns, product_insns, size_insns, string_insns, sum_insns, ternary_insns, test_insns, text_insns, truth_insns, two_insns, unequal_insns}
-use Rattle.codegen.specs.Code.Expressions.{binary_code, binary_tail, code_of, entries_code, function_code, items_code, method_function_code, no_code, test_code, texts_of, texts_of_each, texts_of_entries, unary_tail}
+use Rattle.codegen_base.proofs.Insns.{absorbing_insns, difference_insns, divided_insns, entry_insns, equal_insns, field_insns, greater_equal_insns, greater_insns, has_insns, index_insns, insns_append, int_insns, item_insns, less_equal_insns, less_insns, list_insns, macro_insns, map_insns, map_where_insns, member_insns, name_insns, negation_insns, not_insns, null_insns, product_insns, size_insns, string_insns, sum_insns, ternary_insns, test_insns, text_insns, truth_insns, two_insns, unequal_insns, use_insns}
+use Rattle.codegen.specs.Code.Expressions.{binary_code, binary_tail, code_of, entries_code, function_code, items_code, method_function_code, no_code, operands_apart, routine_named, test_code, texts_of, texts_of_each, texts_of_entries, unary_tail, variable_code}
 use Rattle.codegen.specs.Code.Literals.{address_of, literal_code}
 use Rattle.codegen.specs.Constants.{place_of}
 use Rattle.codegen.specs.HasLiterals.{EntriesHaveLiterals, HasLiterals, HaveLiterals}
@@ -102,53 +104,105 @@ tested_insns : (t : Option TextTest) (left right : List Insn) (k : ℕ) → k < 
 tested_insns (Some t) left right k low a b = two_insns left right (test_tail t k) k (omega arith) a b (test_insns t k (omega arith))
 tested_insns None left right k low a b = no_insns
 
-module _ (ts : List (List ℕ)) where
+-- ---- variables
+
+-- each routine begins in an image, and each memo stands in the scratch region
+abbrev pub AreNear : List (List ℕ × ℕ) → Type 0
+AreNear routines = (n : List ℕ) (found : ℕ × ℕ) → routine_named n routines ≡ Some found → (found.0 < 512) × (found.1 ≤ 65536)
+
+distance_fits : (a b : ℕ) → a ≤ 65536 → b ≤ 131072 → FitsSigned w32 (pos a -ℤ pos b)
+distance_fits a b low high = grind (arith, ints)
+
+variable_insns : (found : Option (ℕ × ℕ)) (p : ℕ) → p + 6 ≤ 131072 → ((at : ℕ × ℕ) → found ≡ Some at → (at.0 < 512) × (at.1 ≤ 65536)) → AreInsns (variable_code found p)
+variable_insns (Some at) p low near = let is = near at refl in use_insns at.0 (pos at.1 -ℤ pos (p + 6)) is.0 (distance_fits at.1 (p + 6) is.1 low)
+variable_insns None p low near = no_insns
+
+apart_at_most : (op : BinaryOperator) → operands_apart op ≤ 2
+apart_at_most binary.Or = omega arith
+apart_at_most binary.And = omega arith
+apart_at_most binary.Less = omega arith
+apart_at_most binary.LessEqual = omega arith
+apart_at_most binary.GreaterEqual = omega arith
+apart_at_most binary.Greater = omega arith
+apart_at_most binary.Equal = omega arith
+apart_at_most binary.NotEqual = omega arith
+apart_at_most binary.In = omega arith
+apart_at_most binary.Add = omega arith
+apart_at_most binary.Subtract = omega arith
+apart_at_most binary.Multiply = omega arith
+apart_at_most binary.Divide = omega arith
+apart_at_most binary.Remainder = omega arith
+
+module _ (ts : List (List ℕ)) (rs : List (List ℕ × ℕ)) (near : AreNear rs) where
+  abbrev code : CoreTree → List (List ℕ × ℕ) → ℕ → ℕ → List Insn
+  code e ws k p = code_of e ts rs ws k p
+
   mutual
     unfolding code_of need nodes texts_of plain_tree
 
-    pub code_insns : (e : CoreTree) (ws : List (List ℕ × ℕ)) (k : ℕ) → AreWithin ws → k + need e ≤ 60 → nodes e ≤ 512 → HasLiterals (plain_tree e) → AreShort (texts_of e) → AreInsns (code_of e ts ws k)
-    code_insns (core.literal l) ws k words room few h short = literal_insns ts l h short
-    code_insns (core.name n) ws k words room few h short = name_insns n ws (words n)
-    code_insns (core.variable v) ws k words room few h short = no_insns
-    code_insns (core.select a f) ws k words room few h short = insns_append (code_of a ts ws k) _ (code_insns a ws k words room (omega arith) h (short_front (texts_of a) (f ∷ []) short)) (field_insns (address_of ts f) (length f) (address_small ts f) (short_last (texts_of a) f short))
-    code_insns (core.has a f) ws k words room few h short = insns_append (code_of a ts ws k) _ (code_insns a ws k words room (omega arith) h.0 (short_front (texts_of a) (f ∷ []) short)) (has_insns (address_of ts f) (length f) (address_small ts f) (short_last (texts_of a) f short))
-    code_insns (core.index a b) ws k words room few h short = two_insns (code_of a ts ws k) (code_of b ts ws (k + 1)) (index_tail k) k (omega arith) (code_insns a ws k words (omega arith) (omega arith) h.0 (short_front (texts_of a) (texts_of b) short)) (code_insns b ws (k + 1) words (omega arith) (omega arith) h.1 (short_back (texts_of a) (texts_of b) short)) (index_insns k (omega arith))
-    code_insns (core.call n no_cores) ws k words room few h short = no_insns
-    code_insns (core.call n (more_cores a no_cores)) ws k words room few h short = function_insns (function_named n) (code_of a ts ws k) (code_insns a ws k words room (omega arith) h.0 (short_front (texts_of a) [] short))
-    code_insns (core.call n (more_cores a (more_cores b more))) ws k words room few h short = no_insns
-    code_insns (core.method a n no_cores) ws k words room few h short = method_insns (function_named n) (code_of a ts ws k) (code_insns a ws k words (omega arith) (omega arith) h.0 (short_front (texts_of a) [] short))
-    code_insns (core.method a n (more_cores b no_cores)) ws k words room few h short =
+    pub code_insns : (e : CoreTree) (ws : List (List ℕ × ℕ)) (k p : ℕ) → AreWithin ws → k + need e ≤ 60 → nodes e ≤ 512 → p + 63 * nodes e ≤ 131072 → HasLiterals (plain_tree e) → AreShort (texts_of e) → AreInsns (code_of e ts rs ws k p)
+    code_insns (core.literal l) ws k p words room few inside h short = literal_insns ts l h short
+    code_insns (core.name n) ws k p words room few inside h short = name_insns n ws (words n)
+    code_insns (core.variable v) ws k p words room few inside h short = variable_insns (routine_named v rs) p (omega arith) (near v)
+    code_insns (core.select a f) ws k p words room few inside h short = insns_append (code a ws k p) _ (code_insns a ws k p words room (omega arith) (omega arith) h (short_front (texts_of a) (f ∷ []) short)) (field_insns (address_of ts f) (length f) (address_small ts f) (short_last (texts_of a) f short))
+    code_insns (core.has a f) ws k p words room few inside h short = insns_append (code a ws k p) _ (code_insns a ws k p words room (omega arith) (omega arith) h.0 (short_front (texts_of a) (f ∷ []) short)) (has_insns (address_of ts f) (length f) (address_small ts f) (short_last (texts_of a) f short))
+    code_insns (core.index a b) ws k p words room few inside h short =
+        let long = short_code a ts rs ws k p in
+        two_insns (code a ws k p) _ (index_tail k) k (omega arith) (code_insns a ws k p words (omega arith) (omega arith) (omega arith) h.0 (short_front (texts_of a) (texts_of b) short)) (code_insns b ws (k + 1) _ words (omega arith) (omega arith) (omega arith) h.1 (short_back (texts_of a) (texts_of b) short)) (index_insns k (omega arith))
+    code_insns (core.call n no_cores) ws k p words room few inside h short = no_insns
+    code_insns (core.call n (more_cores a no_cores)) ws k p words room few inside h short = function_insns (function_named n) (code a ws k p) (code_insns a ws k p words room (omega arith) (omega arith) h.0 (short_front (texts_of a) [] short))
+    code_insns (core.call n (more_cores a (more_cores b more))) ws k p words room few inside h short = no_insns
+    code_insns (core.method a n no_cores) ws k p words room few inside h short = method_insns (function_named n) (code a ws k p) (code_insns a ws k p words (omega arith) (omega arith) (omega arith) h.0 (short_front (texts_of a) [] short))
+    code_insns (core.method a n (more_cores b no_cores)) ws k p words room few inside h short =
+        let long = short_code a ts rs ws k p in
         let rest = short_back (texts_of a) (texts_of b ++ []) short in
-        tested_insns (test_named n) (code_of a ts ws k) (code_of b ts ws (k + 1)) k (omega arith) (code_insns a ws k words (omega arith) (omega arith) h.0 (short_front (texts_of a) (texts_of b ++ []) short)) (code_insns b ws (k + 1) words (omega arith) (omega arith) h.1.0 (short_front (texts_of b) [] rest))
-    code_insns (core.method a n (more_cores b (more_cores x more))) ws k words room few h short = no_insns
-    code_insns (core.unary op a) ws k words room few h short = insns_append (code_of a ts ws k) (unary_tail op) (code_insns a ws k words room (omega arith) h short) (unary_insns op)
-    code_insns (core.binary op a b) ws k words room few h short =
-        let length_of_b = short_code b ts ws (k + 1) in
-        binary_insns op (code_of a ts ws k) (code_of b ts ws (k + 1)) k (omega arith) (omega arith) (code_insns a ws k words (omega arith) (omega arith) h.0 (short_front (texts_of a) (texts_of b) short)) (code_insns b ws (k + 1) words (omega arith) (omega arith) h.1 (short_back (texts_of a) (texts_of b) short))
-    code_insns (core.ternary c a b) ws k words room few h short =
-        let length_of_a = short_code a ts ws k in
-        let length_of_b = short_code b ts ws k in
+        tested_insns (test_named n) (code a ws k p) _ k (omega arith) (code_insns a ws k p words (omega arith) (omega arith) (omega arith) h.0 (short_front (texts_of a) (texts_of b ++ []) short)) (code_insns b ws (k + 1) _ words (omega arith) (omega arith) (omega arith) h.1.0 (short_front (texts_of b) [] rest))
+    code_insns (core.method a n (more_cores b (more_cores x more))) ws k p words room few inside h short = no_insns
+    code_insns (core.unary op a) ws k p words room few inside h short = insns_append (code a ws k p) (unary_tail op) (code_insns a ws k p words room (omega arith) (omega arith) h short) (unary_insns op)
+    code_insns (core.binary op a b) ws k p words room few inside h short =
+        let q = p + size (code a ws k p) + operands_apart op in
+        let apart = apart_at_most op in
+        let long = short_code a ts rs ws k p in
+        let long_right = short_code b ts rs ws (k + 1) q in
+        binary_insns op (code a ws k p) (code b ws (k + 1) q) k (omega arith) (omega arith) (code_insns a ws k p words (omega arith) (omega arith) (omega arith) h.0 (short_front (texts_of a) (texts_of b) short)) (code_insns b ws (k + 1) q words (omega arith) (omega arith) (omega arith) h.1 (short_back (texts_of a) (texts_of b) short))
+    code_insns (core.ternary c a b) ws k p words room few inside h short =
+        let q = p + size (code c ws k p) + 2 in
+        let r = q + size (code a ws k q) + 1 in
+        let long = short_code c ts rs ws k p in
+        let long_first = short_code a ts rs ws k q in
+        let long_second = short_code b ts rs ws k r in
         let rest = short_back (texts_of c) (texts_of a ++ texts_of b) short in
-        ternary_insns (code_of c ts ws k) (code_of a ts ws k) (code_of b ts ws k) (omega arith) (code_insns c ws k words (omega arith) (omega arith) h.0 (short_front (texts_of c) (texts_of a ++ texts_of b) short)) (code_insns a ws k words (omega arith) (omega arith) h.1 (short_front (texts_of a) (texts_of b) rest)) (code_insns b ws k words (omega arith) (omega arith) h.2 (short_back (texts_of a) (texts_of b) rest))
-    code_insns (core.list items) ws k words room few h short = list_insns (items_code items ts ws k) k (omega arith) (items_insns items ws k words (omega arith) (omega arith) h short)
-    code_insns (core.map es) ws k words room few h short = map_insns (entries_code es ts ws k) k (omega arith) (entries_insns es ws k words (omega arith) (omega arith) h short)
-    code_insns (core.fold m n r p) ws k words room few h short =
-        let length_of_p = short_code p ts ((n, k + 4) ∷ ws) (k + 5) in
-        macro_insns m k (code_of r ts ws k) (code_of p ts ((n, k + 4) ∷ ws) (k + 5)) (omega arith) (omega arith) (code_insns r ws k words (omega arith) (omega arith) h.0 (short_front (texts_of r) (texts_of p) short)) (code_insns p ((n, k + 4) ∷ ws) (k + 5) (within_more n (k + 4) ws (omega arith) words) (omega arith) (omega arith) h.1.1.0 (short_back (texts_of r) (texts_of p) short))
-    code_insns (core.fold_map n r p t) ws k words room few h short =
+        ternary_insns (code c ws k p) (code a ws k q) (code b ws k r) (omega arith) (code_insns c ws k p words (omega arith) (omega arith) (omega arith) h.0 (short_front (texts_of c) (texts_of a ++ texts_of b) short)) (code_insns a ws k q words (omega arith) (omega arith) (omega arith) h.1 (short_front (texts_of a) (texts_of b) rest)) (code_insns b ws k r words (omega arith) (omega arith) (omega arith) h.2 (short_back (texts_of a) (texts_of b) rest))
+    code_insns (core.list items) ws k p words room few inside h short = list_insns (items_code items ts rs ws k (p + 2)) k (omega arith) (items_insns items ws k (p + 2) words (omega arith) (omega arith) (omega arith) h short)
+    code_insns (core.map es) ws k p words room few inside h short = map_insns (entries_code es ts rs ws k (p + 2)) k (omega arith) (entries_insns es ws k (p + 2) words (omega arith) (omega arith) (omega arith) h short)
+    code_insns (core.fold m n r e) ws k p words room few inside h short =
         let ws1 = (n, k + 4) ∷ ws in
-        let length_of_p = short_code p ts ws1 (k + 5) in
-        let length_of_t = short_code t ts ws1 (k + 5) in
-        let rest = short_back (texts_of r) (texts_of p ++ texts_of t) short in
+        let q = p + size (code r ws k p) + 17 in
+        let long = short_code r ts rs ws k p in
+        let long_part = short_code e ts rs ws1 (k + 5) q in
+        macro_insns m k (code r ws k p) (code e ws1 (k + 5) q) (omega arith) (omega arith) (code_insns r ws k p words (omega arith) (omega arith) (omega arith) h.0 (short_front (texts_of r) (texts_of e) short)) (code_insns e ws1 (k + 5) q (within_more n (k + 4) ws (omega arith) words) (omega arith) (omega arith) (omega arith) h.1.1.0 (short_back (texts_of r) (texts_of e) short))
+    code_insns (core.fold_map n r e t) ws k p words room few inside h short =
+        let ws1 = (n, k + 4) ∷ ws in
+        let q = p + size (code r ws k p) + 17 in
+        let u = q + size (code e ws1 (k + 5) q) + 2 in
+        let long = short_code r ts rs ws k p in
+        let long_first = short_code e ts rs ws1 (k + 5) q in
+        let long_second = short_code t ts rs ws1 (k + 5) u in
+        let rest = short_back (texts_of r) (texts_of e ++ texts_of t) short in
         let inner = within_more n (k + 4) ws (omega arith) words in
-        map_where_insns k (code_of r ts ws k) (code_of p ts ws1 (k + 5)) (code_of t ts ws1 (k + 5)) (omega arith) (omega arith) (code_insns r ws k words (omega arith) (omega arith) h.0 (short_front (texts_of r) (texts_of p ++ texts_of t) short)) (code_insns p ws1 (k + 5) inner (omega arith) (omega arith) h.1.1.0 (short_front (texts_of p) (texts_of t) rest)) (code_insns t ws1 (k + 5) inner (omega arith) (omega arith) h.1.1.1.0 (short_back (texts_of p) (texts_of t) rest))
+        map_where_insns k (code r ws k p) (code e ws1 (k + 5) q) (code t ws1 (k + 5) u) (omega arith) (omega arith) (code_insns r ws k p words (omega arith) (omega arith) (omega arith) h.0 (short_front (texts_of r) (texts_of e ++ texts_of t) short)) (code_insns e ws1 (k + 5) q inner (omega arith) (omega arith) (omega arith) h.1.1.0 (short_front (texts_of e) (texts_of t) rest)) (code_insns t ws1 (k + 5) u inner (omega arith) (omega arith) (omega arith) h.1.1.1.0 (short_back (texts_of e) (texts_of t) rest))
 
-    items_insns : (items : CoreTrees) (ws : List (List ℕ × ℕ)) (k : ℕ) → AreWithin ws → k + 1 + needs items ≤ 60 → nodes_of items ≤ 512 → HaveLiterals (plain_trees items) → AreShort (texts_of_each items) → AreInsns (items_code items ts ws k)
-    items_insns no_cores ws k words room few h short = tt
-    items_insns (more_cores a more) ws k words room few h short = insns_append _ (items_code more ts ws k) (item_insns (code_of a ts ws (k + 1)) k (omega arith) (code_insns a ws (k + 1) words (omega arith) (omega arith) h.0 (short_front (texts_of a) (texts_of_each more) short))) (items_insns more ws k words (omega arith) (omega arith) h.1 (short_back (texts_of a) (texts_of_each more) short))
+    items_insns : (items : CoreTrees) (ws : List (List ℕ × ℕ)) (k p : ℕ) → AreWithin ws → k + 1 + needs items ≤ 60 → nodes_of items ≤ 512 → p + 63 * nodes_of items ≤ 131072 → HaveLiterals (plain_trees items) → AreShort (texts_of_each items) → AreInsns (items_code items ts rs ws k p)
+    items_insns no_cores ws k p words room few inside h short = tt
+    items_insns (more_cores a more) ws k p words room few inside h short =
+        let long = short_code a ts rs ws (k + 1) p in
+        insns_append _ (items_code more ts rs ws k _) (item_insns (code a ws (k + 1) p) k (omega arith) (code_insns a ws (k + 1) p words (omega arith) (omega arith) (omega arith) h.0 (short_front (texts_of a) (texts_of_each more) short))) (items_insns more ws k _ words (omega arith) (omega arith) (omega arith) h.1 (short_back (texts_of a) (texts_of_each more) short))
 
-    entries_insns : (es : CoreEntries) (ws : List (List ℕ × ℕ)) (k : ℕ) → AreWithin ws → k + entries_need es ≤ 60 → entries_nodes es ≤ 512 → EntriesHaveLiterals (plain_entries es) → AreShort (texts_of_entries es) → AreInsns (entries_code es ts ws k)
-    entries_insns no_core_entries ws k words room few h short = tt
-    entries_insns (more_core_entries key v more) ws k words room few h short =
+    entries_insns : (es : CoreEntries) (ws : List (List ℕ × ℕ)) (k p : ℕ) → AreWithin ws → k + entries_need es ≤ 60 → entries_nodes es ≤ 512 → p + 63 * entries_nodes es ≤ 131072 → EntriesHaveLiterals (plain_entries es) → AreShort (texts_of_entries es) → AreInsns (entries_code es ts rs ws k p)
+    entries_insns no_core_entries ws k p words room few inside h short = tt
+    entries_insns (more_core_entries key v more) ws k p words room few inside h short =
+        let q = p + size (code key ws (k + 1) p) + 1 in
+        let long = short_code key ts rs ws (k + 1) p in
+        let long_value = short_code v ts rs ws (k + 2) q in
         let rest = short_back (texts_of key) (texts_of v ++ texts_of_entries more) short in
-        insns_append _ (entries_code more ts ws k) (entry_insns (code_of key ts ws (k + 1)) (code_of v ts ws (k + 2)) k (omega arith) (code_insns key ws (k + 1) words (omega arith) (omega arith) h.0 (short_front (texts_of key) (texts_of v ++ texts_of_entries more) short)) (code_insns v ws (k + 2) words (omega arith) (omega arith) h.1 (short_front (texts_of v) (texts_of_entries more) rest))) (entries_insns more ws k words (omega arith) (omega arith) h.2 (short_back (texts_of v) (texts_of_entries more) rest))
+        insns_append _ (entries_code more ts rs ws k _) (entry_insns (code key ws (k + 1) p) (code v ws (k + 2) q) k (omega arith) (code_insns key ws (k + 1) p words (omega arith) (omega arith) (omega arith) h.0 (short_front (texts_of key) (texts_of v ++ texts_of_entries more) short)) (code_insns v ws (k + 2) q words (omega arith) (omega arith) (omega arith) h.1 (short_front (texts_of v) (texts_of_entries more) rest))) (entries_insns more ws k _ words (omega arith) (omega arith) (omega arith) h.2 (short_back (texts_of v) (texts_of_entries more) rest))

@@ -1,15 +1,18 @@
 -- The code of an expression gives its meaning within its budgets, by induction on its tree.
-use Rattle.std.proofs.Common.{ℕ, ◌+◌, ◌≤◌, Bool, List, IfSome, subst, arith}
+use Rattle.std.proofs.Common.{ℕ, ◌+◌, ◌≤◌, Bool, List, ◌∷◌, length, IfSome, subst, arith}
+use Rattle.loader.specs.Contents.{Contents}
+use Rattle.value_store.specs.Value.{Value}
 use Rattle.cel_reader.specs.Tree as tree
 use Rattle.cel_reader.specs.Tree.{Tree, Trees, Entries, no_trees, more_trees, no_entries, more_entries}
 use Rattle.cel_macros.specs.CoreTree as core
 use Rattle.cel_macros.specs.CoreTree.{CoreTree, CoreTrees, CoreEntries, expanded, expanded_entries, expanded_operand, expanded_trees, more_cores, no_cores, plain_tree}
-use Rattle.cel_macros.specs.Environment.{Environment, bind}
+use Rattle.cel_macros.specs.Environment.{Environment, Roots, bind}
 use Rattle.cel_macros.specs.Macros.{field_name, is_has, is_map, is_variables, macro_named, name_of}
 use Rattle.cel_macros.specs.Meaning.{entry_meanings, meaning, meanings, operand_meaning}
 use Rattle.codegen_base.specs.Contexts.{Context}
 use Rattle.codegen_base.specs.Engine.{Setting}
-use Rattle.codegen_base.specs.Loops.{with_item}
+use Rattle.codegen_base.specs.Scopes.{IsScope, Variable, scope_setting}
+use Rattle.codegen_base.proofs.Later.{later_gives}
 use Rattle.codegen.specs.HasLiterals.{EntriesHaveLiterals, HasLiterals, HaveLiterals}
 use Rattle.codegen.specs.Cost.{cost, costs, entry_costs, operand_cost}
 use Rattle.codegen.specs.Accepted.{IsAccepted}
@@ -18,8 +21,11 @@ use Rattle.codegen.proofs.Binaries.{binary_part, unary_part}
 use Rattle.codegen.proofs.Calls.{call_part, method_part, selection_part, text_method_part}
 use Rattle.codegen.proofs.Expanded.{expanded_again}
 use Rattle.codegen.proofs.Parts.{Part, index_part, literal_part, name_part, ternary_part}
-use Rattle.codegen.specs.Computes.{Ready}
+use Rattle.codegen.specs.Code.Expressions.{code_of}
+use Rattle.codegen.specs.Computes.{Ready, environment_in, names, routines, scope_context}
+use Rattle.codegen.specs.Laws.{CodeGives}
 use Rattle.codegen.proofs.Ranges.{fold_map_part, fold_part}
+use Rattle.codegen.proofs.Uses.{use_gives}
 
 -- the expression itself is visited
 pub visited : (e : Tree) (env : Environment) → 1 ≤ (cost e env).visits
@@ -42,56 +48,73 @@ visited (tree.method a n (more_trees x (more_trees p no_trees))) env = omega ari
 visited (tree.method a n (more_trees x (more_trees p (more_trees t no_trees)))) env = omega arith
 visited (tree.method a n (more_trees x (more_trees p (more_trees t (more_trees u more))))) env = omega arith
 
-module _ (s : Setting) (texts : List (List ℕ)) (depth : ℕ) where
+module _ (s : Setting) (scope : List Variable) (texts : List (List ℕ)) (depth : ℕ) where
   -- no such call, and no such method, is accepted
-  no_call : (c : Context) (k : ℕ) (n : List ℕ) (d : Bool) → Ready s texts c k (core.call n no_cores) d → ⊥
+  no_call : (c : Context) (k : ℕ) (n : List ℕ) (d : Bool) → Ready s scope texts c depth k (core.call n no_cores) d → ⊥
   unfolding IsAccepted
   no_call c k n d ready = ready.accepted
 
-  no_longer_call : (c : Context) (k : ℕ) (n : List ℕ) (a b : CoreTree) (more : CoreTrees) (d : Bool) → Ready s texts c k (core.call n (more_cores a (more_cores b more))) d → ⊥
+  no_longer_call : (c : Context) (k : ℕ) (n : List ℕ) (a b : CoreTree) (more : CoreTrees) (d : Bool) → Ready s scope texts c depth k (core.call n (more_cores a (more_cores b more))) d → ⊥
   unfolding IsAccepted
   no_longer_call c k n a b more d ready = ready.accepted
 
-  no_longer_method : (c : Context) (k : ℕ) (a : CoreTree) (n : List ℕ) (x y : CoreTree) (more : CoreTrees) (d : Bool) → Ready s texts c k (core.method a n (more_cores x (more_cores y more))) d → ⊥
+  no_longer_method : (c : Context) (k : ℕ) (a : CoreTree) (n : List ℕ) (x y : CoreTree) (more : CoreTrees) (d : Bool) → Ready s scope texts c depth k (core.method a n (more_cores x (more_cores y more))) d → ⊥
   unfolding IsAccepted
   no_longer_method c k a n x y more d ready = ready.accepted
+
+-- in each scope the code gives what the expression means
+module _ (image : Contents) (deep : Bool) (roots : Roots) (constants : List ℕ) (scope : List Variable) (is : IsScope image deep roots constants scope) (few : length scope ≤ 512) (texts : List (List ℕ)) (depth : ℕ) where
+  abbrev s : Setting
+  s = scope_setting image deep scope
+
+  abbrev here : List (List ℕ × Value) → List (List ℕ × ℕ) → Context
+  here xs ws = scope_context roots xs ws constants scope
+
+  abbrev around : List (List ℕ × Value) → Environment
+  around xs = environment_in roots xs scope
 
   mutual
     unfolding expanded meaning cost
 
-    pub computes : (e : Tree) (c : Context) (k : ℕ) → HasLiterals e → Part s texts depth c k (expanded e) (meaning e c.environment) (cost e c.environment)
-    computes (tree.literal l) c k h = literal_part s texts depth c k l h
-    computes (tree.name n) c k h = name_part s texts depth c k n
-    computes (tree.select a f) c k h = selection_part s texts depth c k (is_variables a) (expanded a) f (meaning a c.environment) (cost a c.environment) (computes a c k h)
-    computes (tree.index a b) c k h = index_part s texts depth c k (expanded a) (expanded b) (meaning a c.environment) (meaning b c.environment) (cost a c.environment) (cost b c.environment) (computes a c k h.0) (computes b c (k + 1) h.1)
-    computes (tree.unary op a) c k h = unary_part s texts depth c k op (expanded a) (meaning a c.environment) (cost a c.environment) (computes a c k h)
-    computes (tree.binary op a b) c k h = binary_part s texts depth c k (expanded a) (expanded b) (meaning a c.environment) (meaning b c.environment) (cost a c.environment) (cost b c.environment) (computes a c k h.0) (computes b c (k + 1) h.1) op
-    computes (tree.ternary t a b) c k h = ternary_part s texts depth c k (expanded t) (expanded a) (expanded b) (meaning t c.environment) (meaning a c.environment) (meaning b c.environment) (cost t c.environment) (cost a c.environment) (cost b c.environment) (computes t c k h.0) (computes a c k h.1) (computes b c k h.2)
-    computes (tree.list items) c k h = list_part s texts depth c k (expanded_trees items) (meanings items c.environment) (costs items c.environment) (items_compute items c k h)
-    computes (tree.map es) c k h = map_part s texts depth c k (expanded_entries es) (entry_meanings es c.environment) (entry_costs es c.environment) (entries_compute es c k h)
-    computes (tree.call n no_trees) c k h = λ ready p. absurd (no_call c k n _ ready)
-    computes (tree.call n (more_trees a no_trees)) c k h = call_part s texts depth c k (is_has n) (field_name a) n (expanded_operand a) (expanded a) (operand_meaning a c.environment) (meaning a c.environment) (operand_cost a c.environment) (cost a c.environment) (operand_computes a c k h.0) (computes a c k h.0)
-    computes (tree.call n (more_trees a (more_trees b more))) c k h = λ ready p. absurd (no_longer_call c k n (expanded a) (expanded b) (expanded_trees more) _ ready)
-    computes (tree.method a n no_trees) c k h = method_part s texts depth c k n (expanded a) (meaning a c.environment) (cost a c.environment) (computes a c k h.0)
-    computes (tree.method a n (more_trees b no_trees)) c k h = text_method_part s texts depth c k n (expanded a) (expanded b) (meaning a c.environment) (meaning b c.environment) (cost a c.environment) (cost b c.environment) (computes a c k h.0) (computes b c (k + 1) h.1.0)
-    computes (tree.method a n (more_trees x (more_trees p no_trees))) c k h = fold_part s texts depth c k (macro_named n) (name_of x) n (expanded a) (expanded x) (expanded p) (meaning a c.environment) (cost a c.environment) (λ i v. meaning p (bind i v c.environment)) (λ i v. cost p (bind i v c.environment)) (computes a c k h.0) (λ i v. computes p (with_item c k i v) (k + 5) h.1.1.0)
-    computes (tree.method a n (more_trees x (more_trees p (more_trees t no_trees)))) c k h = fold_map_part s texts depth c k (is_map n) (name_of x) n (expanded a) (expanded x) (expanded p) (expanded t) (meaning a c.environment) (cost a c.environment) (λ i v. meaning p (bind i v c.environment)) (λ i v. meaning t (bind i v c.environment)) (λ i v. cost p (bind i v c.environment)) (λ i v. cost t (bind i v c.environment)) (computes a c k h.0) (λ i v. computes p (with_item c k i v) (k + 5) h.1.1.0) (λ i v. computes t (with_item c k i v) (k + 5) h.1.1.1.0)
-    computes (tree.method a n (more_trees x (more_trees p (more_trees t (more_trees u more))))) c k h = λ ready q. absurd (no_longer_method c k (expanded a) n (expanded x) (expanded p) _ _ ready)
+    computes : (e : Tree) (xs : List (List ℕ × Value)) (ws : List (List ℕ × ℕ)) (k : ℕ) → HasLiterals e → Part s scope texts depth (here xs ws) k (expanded e) (meaning e (around xs)) (cost e (around xs))
+    computes (tree.literal l) xs ws k h = literal_part s scope texts depth (here xs ws) k l h
+    computes (tree.name n) xs ws k h = name_part s scope texts depth (here xs ws) k n
+    computes (tree.select a f) xs ws k h = selection_part s scope texts depth (here xs ws) k (is_variables a) (expanded a) f (meaning a (around xs)) (cost a (around xs)) (use_gives image deep roots constants scope is few texts xs ws depth k f) (computes a xs ws k h)
+    computes (tree.index a b) xs ws k h = index_part s scope texts depth (here xs ws) k (expanded a) (expanded b) (meaning a (around xs)) (meaning b (around xs)) (cost a (around xs)) (cost b (around xs)) (computes a xs ws k h.0) (computes b xs ws (k + 1) h.1)
+    computes (tree.unary op a) xs ws k h = unary_part s scope texts depth (here xs ws) k op (expanded a) (meaning a (around xs)) (cost a (around xs)) (computes a xs ws k h)
+    computes (tree.binary op a b) xs ws k h = binary_part s scope texts depth (here xs ws) k (expanded a) (expanded b) (meaning a (around xs)) (meaning b (around xs)) (cost a (around xs)) (cost b (around xs)) (computes a xs ws k h.0) (computes b xs ws (k + 1) h.1) op
+    computes (tree.ternary t a b) xs ws k h = ternary_part s scope texts depth (here xs ws) k (expanded t) (expanded a) (expanded b) (meaning t (around xs)) (meaning a (around xs)) (meaning b (around xs)) (cost t (around xs)) (cost a (around xs)) (cost b (around xs)) (computes t xs ws k h.0) (computes a xs ws k h.1) (computes b xs ws k h.2)
+    computes (tree.list items) xs ws k h = list_part s scope texts depth (here xs ws) k (expanded_trees items) (meanings items (around xs)) (costs items (around xs)) (items_compute items xs ws k h)
+    computes (tree.map es) xs ws k h = map_part s scope texts depth (here xs ws) k (expanded_entries es) (entry_meanings es (around xs)) (entry_costs es (around xs)) (entries_compute es xs ws k h)
+    computes (tree.call n no_trees) xs ws k h = λ ready p. absurd (no_call s scope texts depth (here xs ws) k n _ ready)
+    computes (tree.call n (more_trees a no_trees)) xs ws k h = call_part s scope texts depth (here xs ws) k (is_has n) (field_name a) n (expanded_operand a) (expanded a) (operand_meaning a (around xs)) (meaning a (around xs)) (operand_cost a (around xs)) (cost a (around xs)) (operand_computes a xs ws k h.0) (computes a xs ws k h.0)
+    computes (tree.call n (more_trees a (more_trees b more))) xs ws k h = λ ready p. absurd (no_longer_call s scope texts depth (here xs ws) k n (expanded a) (expanded b) (expanded_trees more) _ ready)
+    computes (tree.method a n no_trees) xs ws k h = method_part s scope texts depth (here xs ws) k n (expanded a) (meaning a (around xs)) (cost a (around xs)) (computes a xs ws k h.0)
+    computes (tree.method a n (more_trees b no_trees)) xs ws k h = text_method_part s scope texts depth (here xs ws) k n (expanded a) (expanded b) (meaning a (around xs)) (meaning b (around xs)) (cost a (around xs)) (cost b (around xs)) (computes a xs ws k h.0) (computes b xs ws (k + 1) h.1.0)
+    computes (tree.method a n (more_trees x (more_trees p no_trees))) xs ws k h = fold_part s scope texts depth (here xs ws) k (macro_named n) (name_of x) n (expanded a) (expanded x) (expanded p) (meaning a (around xs)) (cost a (around xs)) (λ i v. meaning p (bind i v (around xs))) (λ i v. cost p (bind i v (around xs))) (computes a xs ws k h.0) (λ i v. computes p ((i, v) ∷ xs) ((i, k + 4) ∷ ws) (k + 5) h.1.1.0)
+    computes (tree.method a n (more_trees x (more_trees p (more_trees t no_trees)))) xs ws k h = fold_map_part s scope texts depth (here xs ws) k (is_map n) (name_of x) n (expanded a) (expanded x) (expanded p) (expanded t) (meaning a (around xs)) (cost a (around xs)) (λ i v. meaning p (bind i v (around xs))) (λ i v. meaning t (bind i v (around xs))) (λ i v. cost p (bind i v (around xs))) (λ i v. cost t (bind i v (around xs))) (computes a xs ws k h.0) (λ i v. computes p ((i, v) ∷ xs) ((i, k + 4) ∷ ws) (k + 5) h.1.1.0) (λ i v. computes t ((i, v) ∷ xs) ((i, k + 4) ∷ ws) (k + 5) h.1.1.1.0)
+    computes (tree.method a n (more_trees x (more_trees p (more_trees t (more_trees u more))))) xs ws k h = λ ready q. absurd (no_longer_method s scope texts depth (here xs ws) k (expanded a) n (expanded x) (expanded p) _ _ ready)
 
-    operand_computes : (a : Tree) (c : Context) (k : ℕ) → HasLiterals a → IfSome (field_name a) (λ f. Part s texts depth c k (expanded_operand a) (operand_meaning a c.environment) (operand_cost a c.environment))
-    operand_computes (tree.select a f) c k h = computes a c k h
-    operand_computes _ c k h = tt
+    operand_computes : (a : Tree) (xs : List (List ℕ × Value)) (ws : List (List ℕ × ℕ)) (k : ℕ) → HasLiterals a → IfSome (field_name a) (λ f. Part s scope texts depth (here xs ws) k (expanded_operand a) (operand_meaning a (around xs)) (operand_cost a (around xs)))
+    operand_computes (tree.select a f) xs ws k h = computes a xs ws k h
+    operand_computes _ xs ws k h = tt
 
-    items_compute : (items : Trees) (c : Context) (k : ℕ) → HaveLiterals items → ItemsPart s texts depth c k (expanded_trees items) (meanings items c.environment) (costs items c.environment)
-    items_compute no_trees c k h = items_none s texts depth c k
-    items_compute (more_trees a more) c k h = items_more s texts depth c k (expanded a) (expanded_trees more) (meaning a c.environment) (meanings more c.environment) (cost a c.environment) (costs more c.environment) (visited a c.environment) (computes a c (k + 1) h.0) (items_compute more c k h.1)
+    items_compute : (items : Trees) (xs : List (List ℕ × Value)) (ws : List (List ℕ × ℕ)) (k : ℕ) → HaveLiterals items → ItemsPart s scope texts depth (here xs ws) k (expanded_trees items) (meanings items (around xs)) (costs items (around xs))
+    items_compute no_trees xs ws k h = items_none s scope texts depth (here xs ws) k
+    items_compute (more_trees a more) xs ws k h = items_more s scope texts depth (here xs ws) k (expanded a) (expanded_trees more) (meaning a (around xs)) (meanings more (around xs)) (cost a (around xs)) (costs more (around xs)) (visited a (around xs)) (computes a xs ws (k + 1) h.0) (items_compute more xs ws k h.1)
 
-    entries_compute : (es : Entries) (c : Context) (k : ℕ) → EntriesHaveLiterals es → EntriesPart s texts depth c k (expanded_entries es) (entry_meanings es c.environment) (entry_costs es c.environment)
-    entries_compute no_entries c k h = entries_none s texts depth c k
-    entries_compute (more_entries key v more) c k h = entries_more s texts depth c k (expanded key) (expanded v) (expanded_entries more) (meaning key c.environment) (meaning v c.environment) (entry_meanings more c.environment) (cost key c.environment) (cost v c.environment) (entry_costs more c.environment) (visited key c.environment) (visited v c.environment) (computes key c (k + 1) h.0) (computes v c (k + 2) h.1) (entries_compute more c k h.2)
+    entries_compute : (es : Entries) (xs : List (List ℕ × Value)) (ws : List (List ℕ × ℕ)) (k : ℕ) → EntriesHaveLiterals es → EntriesPart s scope texts depth (here xs ws) k (expanded_entries es) (entry_meanings es (around xs)) (entry_costs es (around xs))
+    entries_compute no_entries xs ws k h = entries_none s scope texts depth (here xs ws) k
+    entries_compute (more_entries key v more) xs ws k h = entries_more s scope texts depth (here xs ws) k (expanded key) (expanded v) (expanded_entries more) (meaning key (around xs)) (meaning v (around xs)) (entry_meanings more (around xs)) (cost key (around xs)) (cost v (around xs)) (entry_costs more (around xs)) (visited key (around xs)) (visited v (around xs)) (computes key xs ws (k + 1) h.0) (computes v xs ws (k + 2) h.1) (entries_compute more xs ws k h.2)
 
   -- the same of a tree whose macros are expanded, as the type checker takes it
-  pub computes_core : (e : CoreTree) (c : Context) (k : ℕ) → HasLiterals (plain_tree e) → Part s texts depth c k e (meaning (plain_tree e) c.environment) (cost (plain_tree e) c.environment)
-  computes_core e c k h ready =
+  computes_core : (e : CoreTree) (xs : List (List ℕ × Value)) (ws : List (List ℕ × ℕ)) (k : ℕ) → HasLiterals (plain_tree e) → Part s scope texts depth (here xs ws) k e (meaning (plain_tree e) (around xs)) (cost (plain_tree e) (around xs))
+  computes_core e xs ws k h ready =
       let t = plain_tree e in
-      subst (λ (d : CoreTree). Part s texts depth c k d (meaning t c.environment) (cost t c.environment)) (expanded_again e ready.accepted) (computes t c k h) ready
+      subst (λ (d : CoreTree). Part s scope texts depth (here xs ws) k d (meaning t (around xs)) (cost t (around xs))) (expanded_again e (names scope) ready.accepted) (computes t xs ws k h) ready
+
+-- also where later variables stand behind the scope
+pub code_gives : CodeGives
+code_gives image deep roots constants scope later texts items words depth k p e is few literals ready =
+    let before = computes_core image deep roots constants scope is few texts depth e items words k literals (record { accepted = ready.accepted; frames = ready.frames; room = ready.room; texts_stand = ready.texts_stand; may = ready.may }) p in
+    later_gives image deep roots constants scope later words items p (code_of e texts (routines scope) words k p) depth k _ _ _ before

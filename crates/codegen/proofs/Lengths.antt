@@ -20,11 +20,12 @@ use Rattle.codegen_base.specs.Instructions.{load, put, skip, skip_if, store}
 use Rattle.codegen_base.specs.Pieces.{size}
 use Rattle.codegen_base.specs.Code.Arithmetic.{product_tail, negation_tail}
 use Rattle.codegen_base.specs.Code.Calls.{two_code}
-use Rattle.codegen.specs.Code.Expressions.{code_of, items_code, entries_code, binary_code, binary_tail, unary_tail, function_code, method_function_code, test_code}
+use Rattle.codegen.specs.Code.Expressions.{code_of, items_code, entries_code, binary_code, binary_tail, unary_tail, function_code, method_function_code, routine_named, test_code, variable_code}
 use Rattle.codegen_base.specs.Loops.{fold_code}
 use Rattle.codegen_base.proofs.Loops.{fold_size, loop_size}
 use Rattle.codegen_base.specs.Code.Folds.{macro_code, first_true, first_false, first_empty, absorbing_turn, exists_one_turn, exists_one_end, filter_turn, map_turn, map_where_turn, map_where_code}
-use Rattle.codegen.specs.Code.Literals.{address_of, literal_code, item_code, push_tail, list_head, list_code, entry_code, entry_tail, map_head, map_code}
+use Rattle.codegen.specs.Code.Literals.{address_of, literal_code}
+use Rattle.codegen_base.specs.Code.Aggregates.{item_code, push_tail, list_head, list_code, entry_code, entry_tail, map_head, map_code}
 use Rattle.codegen_base.specs.Code.Logic.{no_ref, yes_ref, absorbing_code, absorbing_tail, ternary_code}
 use Rattle.codegen_base.specs.Code.Names.{held_code, root_reference}
 use Rattle.codegen_base.specs.Code.Selection.{field_tail, has_tail, index_tail, size_tail, string_tail, test_tail}
@@ -188,38 +189,45 @@ entry_short key entry rest k n q m hk he hr =
     let c = size_append entry (entry_tail k) in
     omega (arith, e, a, b, c, hk, he, hr)
 
-mutual
-  unfolding code_of nodes
+variable_short : (found : Option (ℕ × ℕ)) (p : ℕ) → size (variable_code found p) + 8 ≤ 63
+variable_short (Some found) p = omega arith
+variable_short None p = omega arith
 
-  code_short : (e : CoreTree) (ts : List (List ℕ)) (ws : List (List ℕ × ℕ)) (k : ℕ) → size (code_of e ts ws k) + 8 ≤ 63 * nodes e
-  code_short (core.literal l) ts ws k = literal_short ts l
-  code_short (core.name n) ts ws k = held_short (lookup n ws) (root_reference n)
-  code_short (core.variable v) ts ws k = omega arith
-  code_short (core.select a f) ts ws k = one_short _ (field_tail (address_of ts f) (length f)) (nodes a) 0 (code_short a ts ws k) (omega arith)
-  code_short (core.has a f) ts ws k = one_short _ (has_tail (address_of ts f) (length f)) (nodes a) 0 (code_short a ts ws k) (omega arith)
-  code_short (core.index a b) ts ws k = two_short _ _ k (index_tail k) (nodes a) (nodes b) (code_short a ts ws k) (code_short b ts ws (k + 1)) (omega arith)
-  code_short (core.call n no_cores) ts ws k = omega arith
-  code_short (core.call n (more_cores a no_cores)) ts ws k = let h = function_short (function_named n) _ (nodes a) (code_short a ts ws k) in omega (arith, h)
-  code_short (core.call n (more_cores a (more_cores b more))) ts ws k = omega arith
-  code_short (core.method a n no_cores) ts ws k = let h = method_short (function_named n) _ (nodes a) (code_short a ts ws k) in omega (arith, h)
-  code_short (core.method a n (more_cores b no_cores)) ts ws k = let e = test_short (test_named n) _ _ k (nodes a) (nodes b) (code_short a ts ws k) (code_short b ts ws (k + 1)) in omega (arith, e)
-  code_short (core.method a n (more_cores b (more_cores x more))) ts ws k = omega arith
-  code_short (core.unary op a) ts ws k = let h = unary_short op in one_short _ (unary_tail op) (nodes a) 0 (code_short a ts ws k) (omega (arith, h))
-  code_short (core.binary op a b) ts ws k = binary_code_short op _ _ k (nodes a) (nodes b) (code_short a ts ws k) (code_short b ts ws (k + 1))
-  code_short (core.ternary c a b) ts ws k = ternary_short _ _ _ (nodes c) (nodes a) (nodes b) (code_short c ts ws k) (code_short a ts ws k) (code_short b ts ws k)
-  code_short (core.list items) ts ws k = list_short _ k (nodes_of items) (items_short items ts ws k)
-  code_short (core.map es) ts ws k = map_literal_short _ k (entries_nodes es) (entries_short es ts ws k)
-  code_short (core.fold m n r p) ts ws k = macro_short m k _ _ (nodes r) (nodes p) (code_short r ts ws k) (code_short p ts ((n, k + 4) ∷ ws) (k + 5))
-  code_short (core.fold_map n r p t) ts ws k = map_short k _ _ _ (nodes r) (nodes p) (nodes t) (code_short r ts ws k) (code_short p ts ((n, k + 4) ∷ ws) (k + 5)) (code_short t ts ((n, k + 4) ∷ ws) (k + 5))
+module _ (ts : List (List ℕ)) (rs : List (List ℕ × ℕ)) where
+  mutual
+    unfolding code_of nodes
 
-  items_short : (es : CoreTrees) (ts : List (List ℕ)) (ws : List (List ℕ × ℕ)) (k : ℕ) → size (items_code es ts ws k) ≤ 63 * nodes_of es
-  items_short no_cores ts ws k = omega arith
-  items_short (more_cores a more) ts ws k = item_short _ _ k (nodes a) (nodes_of more) (code_short a ts ws (k + 1)) (items_short more ts ws k)
+    code_short : (e : CoreTree) (ws : List (List ℕ × ℕ)) (k p : ℕ) → size (code_of e ts rs ws k p) + 8 ≤ 63 * nodes e
+    code_short (core.literal l) ws k p = literal_short ts l
+    code_short (core.name n) ws k p = held_short (lookup n ws) (root_reference n)
+    code_short (core.variable v) ws k p = variable_short (routine_named v rs) p
+    code_short (core.select a f) ws k p = one_short _ (field_tail (address_of ts f) (length f)) (nodes a) 0 (code_short a ws k p) (omega arith)
+    code_short (core.has a f) ws k p = one_short _ (has_tail (address_of ts f) (length f)) (nodes a) 0 (code_short a ws k p) (omega arith)
+    code_short (core.index a b) ws k p = two_short _ _ k (index_tail k) (nodes a) (nodes b) (code_short a ws k p) (code_short b ws (k + 1) _) (omega arith)
+    code_short (core.call n no_cores) ws k p = omega arith
+    code_short (core.call n (more_cores a no_cores)) ws k p = let h = function_short (function_named n) _ (nodes a) (code_short a ws k p) in omega (arith, h)
+    code_short (core.call n (more_cores a (more_cores b more))) ws k p = omega arith
+    code_short (core.method a n no_cores) ws k p = let h = method_short (function_named n) _ (nodes a) (code_short a ws k p) in omega (arith, h)
+    code_short (core.method a n (more_cores b no_cores)) ws k p =
+        let h = test_short (test_named n) _ _ k (nodes a) (nodes b) (code_short a ws k p) (code_short b ws (k + 1) (p + size (code_of a ts rs ws k p) + 1)) in
+        omega (arith, h)
+    code_short (core.method a n (more_cores b (more_cores x more))) ws k p = omega arith
+    code_short (core.unary op a) ws k p = one_short _ (unary_tail op) (nodes a) 0 (code_short a ws k p) (let h = unary_short op in omega (arith, h))
+    code_short (core.binary op a b) ws k p = binary_code_short op _ _ k (nodes a) (nodes b) (code_short a ws k p) (code_short b ws (k + 1) _)
+    code_short (core.ternary c a b) ws k p = ternary_short _ _ _ (nodes c) (nodes a) (nodes b) (code_short c ws k p) (code_short a ws k _) (code_short b ws k _)
+    code_short (core.list items) ws k p = list_short _ k (nodes_of items) (items_short items ws k _)
+    code_short (core.map es) ws k p = map_literal_short _ k (entries_nodes es) (entries_short es ws k _)
+    code_short (core.fold m n r e) ws k p = macro_short m k _ _ (nodes r) (nodes e) (code_short r ws k p) (code_short e ((n, k + 4) ∷ ws) (k + 5) _)
+    code_short (core.fold_map n r e t) ws k p = map_short k _ _ _ (nodes r) (nodes e) (nodes t) (code_short r ws k p) (code_short e ((n, k + 4) ∷ ws) (k + 5) _) (code_short t ((n, k + 4) ∷ ws) (k + 5) _)
 
-  entries_short : (es : CoreEntries) (ts : List (List ℕ)) (ws : List (List ℕ × ℕ)) (k : ℕ) → size (entries_code es ts ws k) ≤ 63 * entries_nodes es
-  entries_short no_core_entries ts ws k = omega arith
-  entries_short (more_core_entries key v more) ts ws k = entry_short _ _ _ k (nodes key) (nodes v) (entries_nodes more) (code_short key ts ws (k + 1)) (code_short v ts ws (k + 2)) (entries_short more ts ws k)
+    items_short : (es : CoreTrees) (ws : List (List ℕ × ℕ)) (k p : ℕ) → size (items_code es ts rs ws k p) ≤ 63 * nodes_of es
+    items_short no_cores ws k p = omega arith
+    items_short (more_cores a more) ws k p = item_short _ _ k (nodes a) (nodes_of more) (code_short a ws (k + 1) p) (items_short more ws k _)
+
+    entries_short : (es : CoreEntries) (ws : List (List ℕ × ℕ)) (k p : ℕ) → size (entries_code es ts rs ws k p) ≤ 63 * entries_nodes es
+    entries_short no_core_entries ws k p = omega arith
+    entries_short (more_core_entries key v more) ws k p = entry_short _ _ _ k (nodes key) (nodes v) (entries_nodes more) (code_short key ws (k + 1) p) (code_short v ws (k + 2) _) (entries_short more ws k _)
 
 -- so code of what an image has room for is near enough for jumps
-pub short_code : (e : CoreTree) (ts : List (List ℕ)) (ws : List (List ℕ × ℕ)) (k : ℕ) → size (code_of e ts ws k) + 8 ≤ 63 * nodes e
-short_code = code_short
+pub short_code : (e : CoreTree) (ts : List (List ℕ)) (rs ws : List (List ℕ × ℕ)) (k p : ℕ) → size (code_of e ts rs ws k p) + 8 ≤ 63 * nodes e
+short_code e ts rs ws k p = code_short ts rs e ws k p

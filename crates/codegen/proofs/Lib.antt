@@ -1,6 +1,7 @@
 pub mod AmongTexts
 pub mod Sizes
 pub mod Lengths
+pub mod Taken
 pub mod Lent
 pub mod Accepted
 pub mod Budgets
@@ -11,5 +12,8 @@ pub mod Macros
 pub mod Ranges
 pub mod Aggregates
 pub mod Expanded
+pub mod Uses
 pub mod Computed
+pub mod Routines
+pub mod Layer
 pub mod CodeInsns

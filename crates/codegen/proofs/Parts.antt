@@ -15,16 +15,18 @@ use Rattle.cel_macros.specs.Functions.{Function, Size, String, Dyn, TextTest, fu
 use Rattle.cel_macros.specs.Literals.{literal_of}
 use Rattle.cel_macros.specs.Logic.{Truth, Yes, No, chosen, ternary_of, truth}
 use Rattle.cel_macros.specs.Selection.{field_of, has_of, index_of}
-use Rattle.cel_measures.specs.Measures.{need}
+use Rattle.cel_measures.specs.Measures.{deepest, need}
 use Rattle.codegen_base.specs.Contexts.{Context}
 use Rattle.codegen_base.specs.Engine.{Setting}
 use Rattle.codegen_base.specs.Gives.Selection.{HasText, text_length}
 use Rattle.codegen_base.specs.Helpers.{joined_length}
+use Rattle.codegen_base.specs.Pieces.{size}
+use Rattle.codegen_base.specs.Scopes.{Variable}
 use Rattle.codegen_base.proofs.Leaves.{leaves_give}
 use Rattle.codegen_base.proofs.Selection.{selection_gives}
 use Rattle.codegen.specs.Code.Expressions.{code_of, function_code, test_code, texts_of}
 use Rattle.codegen.specs.Code.Literals.{address_of}
-use Rattle.codegen.specs.Computes.{Computes, TextsStand, Ready}
+use Rattle.codegen.specs.Computes.{Computes, Ready, TextsStand, names, nestings, routines}
 use Rattle.codegen.specs.Cost.{Cost, ◌and◌, literal_cost, name_or_text, node, nothing}
 use Rattle.codegen.specs.Accepted.{IsAccepted}
 use Rattle.codegen.proofs.Budgets.{branches, leaf, one, same, text_within, two}
@@ -91,31 +93,41 @@ joined_within (value (list is)) (value w) = list_joined is w
 joined_within (value (map es)) (value w) = none_joined (value (map es)) (value w) refl
 
 -- where all is ready, the code gives the value within the budgets, wherever it stands
-abbrev pub Part : Setting → List (List ℕ) → ℕ → Context → ℕ → CoreTree → ValueOrError → Cost → Type 0
-Part s texts depth c k e x t = Ready s texts c k e t.is_deep → (p : ℕ) → Computes s p (code_of e texts c.words k) c depth k x t
+abbrev pub Part : Setting → List Variable → List (List ℕ) → ℕ → Context → ℕ → CoreTree → ValueOrError → Cost → Type 0
+Part s scope texts depth c k e x t = Ready s scope texts c depth k e t.is_deep → (p : ℕ) → Computes s p (code_of e texts (routines scope) c.words k p) c depth k x t
 
-module _ (s : Setting) (texts : List (List ℕ)) (depth : ℕ) (c : Context) (k : ℕ) where
+module _ (s : Setting) (scope : List Variable) (texts : List (List ℕ)) (depth : ℕ) (c : Context) (k : ℕ) where
+  -- the code at a slot, with words from another one on
+  abbrev code : CoreTree → ℕ → ℕ → List Insn
+  code e j p = code_of e texts (routines scope) c.words j p
+
+  -- how many frames the variables that it names open
+  abbrev opened : CoreTree → ℕ
+  opened e = deepest e (nestings scope)
+
   -- ---- without parts
 
-  pub literal_part : (l : tree.Literal) → IsWellFormedLiteral l → Part s texts depth c k (core.literal l) (literal_of l) (node (literal_of l) and literal_cost l)
+  pub literal_part : (l : tree.Literal) → IsWellFormedLiteral l → Part s scope texts depth c k (core.literal l) (literal_of l) (node (literal_of l) and literal_cost l)
   unfolding code_of need texts_of
   literal_part tree.null h ready p = let room = ready.room in leaf s c depth k p _ (value null) 1 0 (node (value null) and literal_cost tree.null) (omega arith) (omega arith) (omega arith) (leaves_give.null s p c depth k (omega arith))
   literal_part (tree.truth b) h ready p = let room = ready.room in leaf s c depth k p _ (value (boolean b)) 1 0 (node (value (boolean b)) and literal_cost (tree.truth b)) (omega arith) (omega arith) (omega arith) (leaves_give.truth s p c depth k b (omega arith))
   literal_part (tree.int z) h ready p = let room = ready.room in leaf s c depth k p _ (value (int z)) 2 1 (node (value (int z)) and literal_cost (tree.int z)) (omega arith) (omega arith) (omega arith) (leaves_give.int s p c depth k z (omega arith) h)
   literal_part (tree.text t) h ready p = let room = ready.room in let stands = ready.texts_stand in leaf s c depth k p _ (value (text t)) 3 (1 + length t) (node (value (text t)) and name_or_text t) (omega arith) (omega arith) (omega arith) (leaves_give.text s p c depth k (address_of texts t) t (omega arith) stands.0 (is_utf8-from_IsUtf8 t h))
 
-  pub name_part : (n : List ℕ) → Part s texts depth c k (core.name n) (name_value n c.environment) (node (name_value n c.environment))
+  pub name_part : (n : List ℕ) → Part s scope texts depth c k (core.name n) (name_value n c.environment) (node (name_value n c.environment))
   unfolding code_of need texts_of
   name_part n ready p = let room = ready.room in leaf s c depth k p _ (name_value n c.environment) 1 0 (node (name_value n c.environment)) (omega arith) (omega arith) (omega arith) (leaves_give.name s p c depth k n (omega arith))
 
   -- ---- one part
 
   -- it is ready where the whole is
-  pub one_ready : (a e : CoreTree) (t u : Bool) (more : List (List ℕ)) → IsAccepted a → need a ≤ need e → texts_of e ≡ texts_of a ++ more → (t ≡ true → u ≡ true) → Ready s texts c k e u → Ready s texts c k a t
-  one_ready a e t u more accepted fits texts_are deep ready =
+  pub one_ready : (a e : CoreTree) (t u : Bool) (more : List (List ℕ)) → IsAccepted a (names scope) → need a ≤ need e → opened a ≤ opened e → texts_of e ≡ texts_of a ++ more → (t ≡ true → u ≡ true) → Ready s scope texts c depth k e u → Ready s scope texts c depth k a t
+  one_ready a e t u more accepted fits near texts_are deep ready =
       let room = ready.room in
+      let frames = ready.frames in
       record {
         accepted = accepted;
+        frames = omega arith;
         room = omega arith;
         texts_stand = texts_front c.constants texts (texts_of a) more (subst (λ (ts : List (List ℕ)). TextsStand c.constants texts ts) texts_are ready.texts_stand);
         may = λ d. ready.may (deep d);
@@ -124,20 +136,20 @@ module _ (s : Setting) (texts : List (List ℕ)) (depth : ℕ) (c : Context) (k 
   key_stands : (a : CoreTree) (f : List ℕ) → TextsStand c.constants texts (texts_of a ++ f ∷ []) → HasText c.constants (address_of texts f) f
   key_stands a f h = let last = texts_back c.constants texts (texts_of a) (f ∷ []) h in last.0
 
-  pub select_part : (a : CoreTree) (f : List ℕ) (x : ValueOrError) (t : Cost) → Part s texts depth c k a x t → Part s texts depth c k (core.select a f) (field_of x f) (node (field_of x f) and (t and name_or_text f))
-  unfolding code_of need texts_of IsAccepted
+  pub select_part : (a : CoreTree) (f : List ℕ) (x : ValueOrError) (t : Cost) → Part s scope texts depth c k a x t → Part s scope texts depth c k (core.select a f) (field_of x f) (node (field_of x f) and (t and name_or_text f))
+  unfolding code_of need deepest texts_of IsAccepted
   select_part a f x t part ready p =
       let room = ready.room in
       let accepted = ready.accepted in
-      let first = one_ready a (core.select a f) t.is_deep (t.is_deep || false) (f ∷ []) accepted.1 (omega arith) refl (or_left t.is_deep false) ready in
-      one s c depth k p (code_of a texts c.words k) _ x (field_of x f) 4 1 t (node (field_of x f) and (t and name_or_text f)) (omega arith) (omega arith) (omega arith) (omega arith) (part first p) (selection_gives.field s _ c depth k x (address_of texts f) f (omega arith) (key_stands a f ready.texts_stand))
+      let first = one_ready a (core.select a f) t.is_deep (t.is_deep || false) (f ∷ []) accepted.1 (omega arith) (omega arith) refl (or_left t.is_deep false) ready in
+      one s c depth k p (code a k p) _ x (field_of x f) 4 1 t (node (field_of x f) and (t and name_or_text f)) (omega arith) (omega arith) (omega arith) (omega arith) (part first p) (selection_gives.field s _ c depth k x (address_of texts f) f (omega arith) (key_stands a f ready.texts_stand))
 
-  pub has_part : (a : CoreTree) (f : List ℕ) (x : ValueOrError) (t : Cost) → Part s texts depth c k a x t → Part s texts depth c k (core.has a f) (has_of x f) (node (has_of x f) and (t and name_or_text f))
-  unfolding code_of need texts_of IsAccepted
+  pub has_part : (a : CoreTree) (f : List ℕ) (x : ValueOrError) (t : Cost) → Part s scope texts depth c k a x t → Part s scope texts depth c k (core.has a f) (has_of x f) (node (has_of x f) and (t and name_or_text f))
+  unfolding code_of need deepest texts_of IsAccepted
   has_part a f x t part ready p =
       let room = ready.room in
-      let first = one_ready a (core.has a f) t.is_deep (t.is_deep || false) (f ∷ []) ready.accepted (omega arith) refl (or_left t.is_deep false) ready in
-      one s c depth k p (code_of a texts c.words k) _ x (has_of x f) 4 1 t (node (has_of x f) and (t and name_or_text f)) (omega arith) (omega arith) (omega arith) (omega arith) (part first p) (selection_gives.has s _ c depth k x (address_of texts f) f (omega arith) (key_stands a f ready.texts_stand))
+      let first = one_ready a (core.has a f) t.is_deep (t.is_deep || false) (f ∷ []) ready.accepted (omega arith) (omega arith) refl (or_left t.is_deep false) ready in
+      one s c depth k p (code a k p) _ x (has_of x f) 4 1 t (node (has_of x f) and (t and name_or_text f)) (omega arith) (omega arith) (omega arith) (omega arith) (part first p) (selection_gives.has s _ c depth k x (address_of texts f) f (omega arith) (key_stands a f ready.texts_stand))
 
   -- a function of what a piece gives
   pub function_part : (g : Function) (piece : List Insn) (x : ValueOrError) (t : Cost) (p : ℕ) → k ≤ 60 → Computes s p piece c depth k x t → Computes s p (function_code (Some g) piece) c depth k (function_of (Some g) x) (node (function_of (Some g) x) and t)
@@ -147,31 +159,33 @@ module _ (s : Setting) (texts : List (List ℕ)) (depth : ℕ) (c : Context) (k 
 
   -- ---- two parts
 
-  pub left_ready : (a b e : CoreTree) (t u v : Bool) → IsAccepted a → need a ≤ need e → texts_of e ≡ texts_of a ++ texts_of b → v ≡ (t || u) → Ready s texts c k e v → Ready s texts c k a t
-  left_ready a b e t u v accepted fits texts_are deep ready = one_ready a e t v (texts_of b) accepted fits texts_are (λ d. deep ∙ or_left t u d) ready
+  pub left_ready : (a b e : CoreTree) (t u v : Bool) → IsAccepted a (names scope) → need a ≤ need e → opened a ≤ opened e → texts_of e ≡ texts_of a ++ texts_of b → v ≡ (t || u) → Ready s scope texts c depth k e v → Ready s scope texts c depth k a t
+  left_ready a b e t u v accepted fits near texts_are deep ready = one_ready a e t v (texts_of b) accepted fits near texts_are (λ d. deep ∙ or_left t u d) ready
 
-  pub right_ready : (a b e : CoreTree) (t u v : Bool) → IsAccepted b → 1 + need b ≤ need e → texts_of e ≡ texts_of a ++ texts_of b → v ≡ (t || u) → Ready s texts c k e v → Ready s texts c (k + 1) b u
-  right_ready a b e t u v accepted fits texts_are deep ready =
+  pub right_ready : (a b e : CoreTree) (t u v : Bool) → IsAccepted b (names scope) → 1 + need b ≤ need e → opened b ≤ opened e → texts_of e ≡ texts_of a ++ texts_of b → v ≡ (t || u) → Ready s scope texts c depth k e v → Ready s scope texts c depth (k + 1) b u
+  right_ready a b e t u v accepted fits near texts_are deep ready =
       let room = ready.room in
+      let frames = ready.frames in
       record {
         accepted = accepted;
+        frames = omega arith;
         room = omega arith;
         texts_stand = texts_back c.constants texts (texts_of a) (texts_of b) (subst (λ (ts : List (List ℕ)). TextsStand c.constants texts ts) texts_are ready.texts_stand);
         may = λ d. ready.may (deep ∙ or_right t u d);
       }
 
-  pub index_part : (a b : CoreTree) (x y : ValueOrError) (t u : Cost) → Part s texts depth c k a x t → Part s texts depth c (k + 1) b y u → Part s texts depth c k (core.index a b) (index_of x y) (node (index_of x y) and t and u)
-  unfolding code_of need texts_of IsAccepted
+  pub index_part : (a b : CoreTree) (x y : ValueOrError) (t u : Cost) → Part s scope texts depth c k a x t → Part s scope texts depth c (k + 1) b y u → Part s scope texts depth c k (core.index a b) (index_of x y) (node (index_of x y) and t and u)
+  unfolding code_of need deepest texts_of IsAccepted
   index_part a b x y t u first second ready p =
       let room = ready.room in
       let accepted = ready.accepted in
-      let left = left_ready a b (core.index a b) t.is_deep u.is_deep (t.is_deep || u.is_deep) accepted.0 (omega arith) refl refl ready in
-      let right = right_ready a b (core.index a b) t.is_deep u.is_deep (t.is_deep || u.is_deep) accepted.1 (omega arith) refl refl ready in
-      two s c depth k p (code_of a texts c.words k) (code_of b texts c.words (k + 1)) _ x y (index_of x y) 3 1 t u (omega arith) (omega arith) (omega arith) (first left p) (second right _) (selection_gives.index s _ k c depth x y (omega arith))
+      let left = left_ready a b (core.index a b) t.is_deep u.is_deep (t.is_deep || u.is_deep) accepted.0 (omega arith) (omega arith) refl refl ready in
+      let right = right_ready a b (core.index a b) t.is_deep u.is_deep (t.is_deep || u.is_deep) accepted.1 (omega arith) (omega arith) refl refl ready in
+      two s c depth k p (code a k p) (code b (k + 1) (p + size (code a k p) + 1)) _ x y (index_of x y) 3 1 t u (omega arith) (omega arith) (omega arith) (first left p) (second right _) (selection_gives.index s _ k c depth x y (omega arith))
 
-  pub test_part : (g : TextTest) (left right : List Insn) (x y : ValueOrError) (t u : Cost) (p : ℕ) → k < 60 → Computes s p left c depth k x t → ((q : ℕ) → Computes s q right c depth (k + 1) y u) → Computes s p (test_code (Some g) left right k) c depth k (text_test_of (Some g) x y) (node (text_test_of (Some g) x y) and t and u)
+  pub test_part : (g : TextTest) (left right : List Insn) (x y : ValueOrError) (t u : Cost) (p : ℕ) → k < 60 → Computes s p left c depth k x t → Computes s (p + size left + 1) right c depth (k + 1) y u → Computes s p (test_code (Some g) left right k) c depth k (text_test_of (Some g) x y) (node (text_test_of (Some g) x y) and t and u)
   test_part g left right x y t u p low first second =
-      two s c depth k p left right _ x y (text_test_of (Some g) x y) 3 1 t u low (omega arith) (omega arith) first (second _) (selection_gives.test g s _ k c depth x y (omega arith))
+      two s c depth k p left right _ x y (text_test_of (Some g) x y) 3 1 t u low (omega arith) (omega arith) first second (selection_gives.test g s _ k c depth x y (omega arith))
 
   -- ---- three parts, of which the condition chooses one
 
@@ -181,14 +195,16 @@ module _ (s : Setting) (texts : List (List ℕ)) (depth : ℕ) (c : Context) (k 
   only_no : (t : ValueOrError) (u v : Cost) → truth t ≡ No → (chosen (truth t) u v nothing).is_deep ≡ v.is_deep
   only_no t u v e = ap (λ (w : Truth). (chosen w u v nothing).is_deep) e
 
-  pub ternary_part : (a b d : CoreTree) (x y z : ValueOrError) (t u v : Cost) → Part s texts depth c k a x t → Part s texts depth c k b y u → Part s texts depth c k d z v → Part s texts depth c k (core.ternary a b d) (ternary_of x y z) (node (ternary_of x y z) and t and chosen (truth x) u v nothing)
-  unfolding code_of need texts_of IsAccepted
+  pub ternary_part : (a b d : CoreTree) (x y z : ValueOrError) (t u v : Cost) → Part s scope texts depth c k a x t → Part s scope texts depth c k b y u → Part s scope texts depth c k d z v → Part s scope texts depth c k (core.ternary a b d) (ternary_of x y z) (node (ternary_of x y z) and t and chosen (truth x) u v nothing)
+  unfolding code_of need deepest texts_of IsAccepted
   ternary_part a b d x y z t u v first second third ready p =
       let room = ready.room in
+      let frames = ready.frames in
       let accepted = ready.accepted in
       let deep = (chosen (truth x) u v nothing).is_deep in
       let rest = texts_back c.constants texts (texts_of a) (texts_of b ++ texts_of d) ready.texts_stand in
-      branches s c depth k p (code_of a texts c.words k) (code_of b texts c.words k) (code_of d texts c.words k) x y z t u v (omega arith)
-      (first (record { accepted = accepted.0; room = omega arith; texts_stand = texts_front c.constants texts (texts_of a) (texts_of b ++ texts_of d) ready.texts_stand; may = λ h. ready.may (or_left t.is_deep deep h) }) p)
-      (λ e. second (record { accepted = accepted.1; room = omega arith; texts_stand = texts_front c.constants texts (texts_of b) (texts_of d) rest; may = λ h. ready.may (or_right t.is_deep deep (only_yes x u v e ∙ h)) }) _)
-      (λ e. third (record { accepted = accepted.2; room = omega arith; texts_stand = texts_back c.constants texts (texts_of b) (texts_of d) rest; may = λ h. ready.may (or_right t.is_deep deep (only_no x u v e ∙ h)) }) _)
+      let q = p + size (code a k p) + 2 in
+      branches s c depth k p (code a k p) (code b k q) (code d k (q + size (code b k q) + 1)) x y z t u v (omega arith)
+      (first (record { accepted = accepted.0; frames = omega arith; room = omega arith; texts_stand = texts_front c.constants texts (texts_of a) (texts_of b ++ texts_of d) ready.texts_stand; may = λ h. ready.may (or_left t.is_deep deep h) }) p)
+      (λ e. second (record { accepted = accepted.1; frames = omega arith; room = omega arith; texts_stand = texts_front c.constants texts (texts_of b) (texts_of d) rest; may = λ h. ready.may (or_right t.is_deep deep (only_yes x u v e ∙ h)) }) _)
+      (λ e. third (record { accepted = accepted.2; frames = omega arith; room = omega arith; texts_stand = texts_back c.constants texts (texts_of b) (texts_of d) rest; may = λ h. ready.may (or_right t.is_deep deep (only_no x u v e ∙ h)) }) _)

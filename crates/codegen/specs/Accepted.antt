@@ -1,36 +1,37 @@
--- The forms of the expressions that have code so far: those that the type checker takes, without variables.
-use Rattle.std.specs.Prelude.{◌≡◌, false, Some, IsSome}
+-- The forms of the expressions that have code: those that the type checker takes.
+use Rattle.std.specs.Prelude.{◌≡◌, ℕ, true, false, List, Some, IsSome, bytes_eq}
+use Rattle.std.specs.List.{list_any}
 use Rattle.cel_macros.specs.CoreTree.{CoreTree, CoreTrees, CoreEntries, no_cores, more_cores, no_core_entries, more_core_entries, plain_tree, literal, name, variable, select, has, index, call, method, unary, binary, ternary, list, map, fold, fold_map}
 use Rattle.cel_macros.specs.Functions.{Size, function_named, test_named}
 use Rattle.cel_macros.specs.Macros.{is_variables}
 
--- calls are of the functions, methods are sizes and tests of texts, no variable is used, and nothing is selected from `variables`
+-- calls are of the functions, methods are sizes and tests of texts, variables have these names, and nothing is selected from `variables`
 unfoldable mutual
-  pub IsAccepted : CoreTree → Type 0
-  IsAccepted (literal l) = Unit {0}
-  IsAccepted (name n) = Unit {0}
-  IsAccepted (variable v) = ⊥
-  IsAccepted (select a f) = (is_variables (plain_tree a) ≡ false) × IsAccepted a
-  IsAccepted (has a f) = IsAccepted a
-  IsAccepted (index a k) = IsAccepted a × IsAccepted k
-  IsAccepted (call n no_cores) = ⊥
-  IsAccepted (call n (more_cores a no_cores)) = IsSome (function_named n) × IsAccepted a
-  IsAccepted (call n (more_cores a (more_cores b more))) = ⊥
-  IsAccepted (method a n no_cores) = (function_named n ≡ Some Size) × IsAccepted a
-  IsAccepted (method a n (more_cores b no_cores)) = IsSome (test_named n) × IsAccepted a × IsAccepted b
-  IsAccepted (method a n (more_cores b (more_cores x more))) = ⊥
-  IsAccepted (unary op a) = IsAccepted a
-  IsAccepted (binary op a b) = IsAccepted a × IsAccepted b
-  IsAccepted (ternary c a b) = IsAccepted c × IsAccepted a × IsAccepted b
-  IsAccepted (list items) = AreAccepted items
-  IsAccepted (map es) = AreEntriesAccepted es
-  IsAccepted (fold m n r p) = IsAccepted r × IsAccepted p
-  IsAccepted (fold_map n r p t) = IsAccepted r × IsAccepted p × IsAccepted t
+  pub IsAccepted : CoreTree → List (List ℕ) → Type 0
+  IsAccepted (literal l) vs = Unit {0}
+  IsAccepted (name n) vs = Unit {0}
+  IsAccepted (variable v) vs = list_any (λ m. bytes_eq m v) vs ≡ true
+  IsAccepted (select a f) vs = (is_variables (plain_tree a) ≡ false) × IsAccepted a vs
+  IsAccepted (has a f) vs = IsAccepted a vs
+  IsAccepted (index a k) vs = IsAccepted a vs × IsAccepted k vs
+  IsAccepted (call n no_cores) vs = ⊥
+  IsAccepted (call n (more_cores a no_cores)) vs = IsSome (function_named n) × IsAccepted a vs
+  IsAccepted (call n (more_cores a (more_cores b more))) vs = ⊥
+  IsAccepted (method a n no_cores) vs = (function_named n ≡ Some Size) × IsAccepted a vs
+  IsAccepted (method a n (more_cores b no_cores)) vs = IsSome (test_named n) × IsAccepted a vs × IsAccepted b vs
+  IsAccepted (method a n (more_cores b (more_cores x more))) vs = ⊥
+  IsAccepted (unary op a) vs = IsAccepted a vs
+  IsAccepted (binary op a b) vs = IsAccepted a vs × IsAccepted b vs
+  IsAccepted (ternary c a b) vs = IsAccepted c vs × IsAccepted a vs × IsAccepted b vs
+  IsAccepted (list items) vs = AreAccepted items vs
+  IsAccepted (map es) vs = AreEntriesAccepted es vs
+  IsAccepted (fold m n r p) vs = IsAccepted r vs × IsAccepted p vs
+  IsAccepted (fold_map n r p t) vs = IsAccepted r vs × IsAccepted p vs × IsAccepted t vs
 
-  pub AreAccepted : CoreTrees → Type 0
-  AreAccepted no_cores = Unit {0}
-  AreAccepted (more_cores a more) = IsAccepted a × AreAccepted more
+  pub AreAccepted : CoreTrees → List (List ℕ) → Type 0
+  AreAccepted no_cores vs = Unit {0}
+  AreAccepted (more_cores a more) vs = IsAccepted a vs × AreAccepted more vs
 
-  pub AreEntriesAccepted : CoreEntries → Type 0
-  AreEntriesAccepted no_core_entries = Unit {0}
-  AreEntriesAccepted (more_core_entries k v more) = IsAccepted k × IsAccepted v × AreEntriesAccepted more
+  pub AreEntriesAccepted : CoreEntries → List (List ℕ) → Type 0
+  AreEntriesAccepted no_core_entries vs = Unit {0}
+  AreEntriesAccepted (more_core_entries k v more) vs = IsAccepted k vs × IsAccepted v vs × AreEntriesAccepted more vs

@@ -1,17 +1,22 @@
 -- Within which budgets the code of an expression gives its value.
-use Rattle.std.specs.Prelude.{◌≡◌, ◌≤◌, ℕ, ◌+◌, ◌-◌, ◌*◌, List, Bool, true}
+use Rattle.std.specs.Prelude.{◌≡◌, ◌≤◌, ℕ, ◌+◌, ◌-◌, ◌*◌, List, [], Bool, true}
+use Rattle.std.specs.Prelude.{map as each}
 use Rattle.std.specs.List.{AllByRecursion}
 use Rattle.insn_codec.specs.declared.insn.Insn.{Insn}
-use Rattle.value_store.specs.Value.{ValueOrError}
-use Rattle.cel_macros.specs.CoreTree.{CoreTree}
-use Rattle.cel_measures.specs.Measures.{need}
+use Rattle.value_store.specs.Value.{Value, ValueOrError}
+use Rattle.cel_macros.specs.CoreTree.{CoreTree, plain_tree}
+use Rattle.cel_macros.specs.Environment.{Environment, Roots}
+use Rattle.cel_macros.specs.Meaning.{meaning}
+use Rattle.cel_measures.specs.Measures.{deepest, depth as depth_of, need}
 use Rattle.codegen.specs.Accepted.{IsAccepted}
-use Rattle.codegen.specs.Code.Expressions.{texts_of}
+use Rattle.codegen.specs.Code.Expressions.{code_of, texts_of}
 use Rattle.codegen.specs.Code.Literals.{address_of}
-use Rattle.codegen.specs.Cost.{Cost, spent_by}
+use Rattle.codegen.specs.Cost.{Cost, cost, spent_by}
 use Rattle.codegen_base.specs.Contexts.{Context, Gives}
 use Rattle.codegen_base.specs.Engine.{Setting}
 use Rattle.codegen_base.specs.Gives.Selection.{HasText}
+use Rattle.codegen_base.specs.Scopes.{Variable, bindings}
+use Rattle.codegen_base.specs.Variables.{used_context}
 
 -- each of these texts stands among the constants, where the code looks for it
 abbrev pub TextsStand : List ℕ → List (List ℕ) → List (List ℕ) → Type 0
@@ -19,11 +24,44 @@ TextsStand constants texts used = AllByRecursion (λ t. HasText constants (addre
 
 -- the piece gives the value or the error within 128 steps a visit and 16 times what is spent, less 8 of each: out of these 8 a list or a map pays for keeping the value
 abbrev pub Computes : Setting → ℕ → List Insn → Context → ℕ → ℕ → ValueOrError → Cost → Type 0
-Computes s p piece c depth k x cost = Gives s p piece c depth k x (128 * cost.visits - 8) (16 * spent_by cost - 8)
+Computes s p piece c depth k x t = Gives s p piece c depth k x (128 * t.visits - 8) (16 * spent_by t - 8)
 
--- the machine and the frame are ready for the code: there is room for its words, its texts stand among the constants, and where a list or map is to hold a value that is too deep the machine may stop for it
-pub record Ready (s : Setting) (texts : List (List ℕ)) (c : Context) (k : ℕ) (e : CoreTree) (deep : Bool) : Type 0 where
-  pub accepted : IsAccepted e
+-- what names stand for where a scope's variables may be used
+abbrev pub scope_context : Roots → List (List ℕ × Value) → List (List ℕ × ℕ) → List ℕ → List Variable → Context
+scope_context roots items words constants scope = used_context roots items words constants (bindings scope)
+
+-- the names of a scope's variables
+abbrev pub names : List Variable → List (List ℕ)
+names = each (λ v. v.name)
+
+-- where the routine of each begins
+abbrev pub routines : List Variable → List (List ℕ × ℕ)
+routines = each (λ v. (v.name, v.routine))
+
+-- how many frames a use of each opens at most
+abbrev pub nestings : List Variable → List (List ℕ × ℕ)
+nestings = each (λ v. (v.name, v.nesting))
+
+-- the machine and the frame are ready for the code: its variables are among those of the scope, and enough frames are left for them, there is room for its words, its texts stand among the constants, and where a list or map is to hold a value that is too deep the machine may stop for it
+pub record Ready (s : Setting) (scope : List Variable) (texts : List (List ℕ)) (c : Context) (depth k : ℕ) (e : CoreTree) (deep : Bool) : Type 0 where
+  pub accepted : IsAccepted e (names scope)
+  pub frames : depth + deepest e (nestings scope) ≤ 7
   pub room : k + need e ≤ 60
   pub texts_stand : TextsStand c.constants texts (texts_of e)
   pub may : deep ≡ true → s.is_deep ≡ true
+
+-- what an expression sees whose variables are those of a scope
+abbrev pub environment_in : Roots → List (List ℕ × Value) → List Variable → Environment
+environment_in roots items scope = record { roots = roots; items = items; variables = bindings scope }
+
+-- the variable of this name and expression, which may use those of a scope, with its routine at slot p
+abbrev pub variable_of : Roots → List Variable → List (List ℕ) → List ℕ → CoreTree → ℕ → Variable
+variable_of roots scope texts name e p = record {
+  name = name;
+  value = meaning (plain_tree e) (environment_in roots [] scope);
+  routine = p;
+  body = code_of e texts (routines scope) [] 0 p;
+  nesting = depth_of e (nestings scope);
+  steps = 128 * (cost (plain_tree e) (environment_in roots [] scope)).visits - 8;
+  charge = 16 * spent_by (cost (plain_tree e) (environment_in roots [] scope)) - 8;
+}

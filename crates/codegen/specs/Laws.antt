@@ -1,20 +1,51 @@
 -- What is proved of the code of expressions as lists of instructions.
-use Rattle.std.specs.Prelude.{ℕ, ◌+◌, ◌*◌, ◌≤◌, List}
+use Rattle.std.specs.Prelude.{◌≡◌, ℕ, ◌+◌, ◌*◌, ◌≤◌, Bool, List, [], ◌∷◌, ◌++◌, length}
+use Rattle.std.specs.Prelude.{map as each}
+use Rattle.loader.specs.Contents.{Contents}
+use Rattle.value_store.specs.Value.{Value}
 use Rattle.cel_macros.specs.CoreTree.{CoreTree, plain_tree}
+use Rattle.cel_macros.specs.Environment.{Roots}
 use Rattle.cel_macros.specs.Meaning.{meaning}
 use Rattle.cel_measures.specs.Measures.{nodes}
-use Rattle.codegen_base.specs.Contexts.{Context}
-use Rattle.codegen_base.specs.Engine.{Setting}
-use Rattle.codegen_base.specs.Pieces.{size}
-use Rattle.codegen.specs.Computes.{Computes, Ready}
+use Rattle.cel_types.specs.CoreTyping.{core_typing}
+use Rattle.cel_types.specs.Declarations.{Declaration, scope_of}
+use Rattle.cel_types.specs.Types.{typed}
+use Rattle.cel_types.specs.declared.cel_type.CelType.{CelType}
+use Rattle.codegen_base.specs.Pieces.{Stands, size}
+use Rattle.codegen_base.specs.Scopes.{IsScope, Variable, scope_setting}
+use Rattle.codegen.specs.Accepted.{IsAccepted}
+use Rattle.codegen.specs.Computes.{Computes, Ready, TextsStand, environment_in, routines, scope_context, variable_of}
+use Rattle.codegen.specs.Constants.{joined, with_texts}
 use Rattle.codegen.specs.Cost.{cost}
 use Rattle.codegen.specs.HasLiterals.{HasLiterals}
-use Rattle.codegen.specs.Code.Expressions.{code_of}
+use Rattle.codegen.specs.Code.Expressions.{code_of, routine_code}
 
 -- code takes at most 63 slots for each node, and 8 less, so that jumps in the code of 512 nodes fit 16 bits
 abbrev pub CodeIsShort : Type 0
-CodeIsShort = (e : CoreTree) (texts : List (List ℕ)) (words : List (List ℕ × ℕ)) (k : ℕ) → size (code_of e texts words k) + 8 ≤ 63 * nodes e
+CodeIsShort = (e : CoreTree) (texts : List (List ℕ)) (routines words : List (List ℕ × ℕ)) (k p : ℕ) → size (code_of e texts routines words k p) + 8 ≤ 63 * nodes e
 
--- wherever it stands, the code of an expression leaves what the expression means, within 128 steps a visit and 16 times what is spent, or is stopped where its charge would pass the limit or a value may be too deep
+-- what the type checker takes has code, in the scope that it is given
+abbrev pub TypedIsAccepted : Type 0
+TypedIsAccepted = (e : CoreTree) (declared : List Declaration) (t : CelType) → core_typing e (scope_of declared) ≡ typed t → IsAccepted e (each (λ d. d.name) declared)
+
+-- wherever it stands, the code of an expression, which may use the variables of a scope, leaves what the expression means, within 128 steps a visit and 16 times what is spent, beside what the first uses of variables take, or is stopped where its charge would pass the limit or a value may be too deep; later variables may stand behind the scope
 abbrev pub CodeGives : Type 0
-CodeGives = (s : Setting) (texts : List (List ℕ)) (depth : ℕ) (e : CoreTree) (c : Context) (k p : ℕ) → HasLiterals (plain_tree e) → Ready s texts c k e (cost (plain_tree e) c.environment).is_deep → Computes s p (code_of e texts c.words k) c depth k (meaning (plain_tree e) c.environment) (cost (plain_tree e) c.environment)
+CodeGives = (image : Contents) (deep : Bool) (roots : Roots) (constants : List ℕ) (scope later : List Variable) (texts : List (List ℕ)) (items : List (List ℕ × Value)) (words : List (List ℕ × ℕ)) (depth k p : ℕ) (e : CoreTree)
+    → IsScope image deep roots constants scope → length scope ≤ 512 → HasLiterals (plain_tree e)
+    → let s = scope_setting image deep (scope ++ later) in let c = scope_context roots items words constants (scope ++ later) in let env = environment_in roots items scope in
+    Ready s scope texts c depth k e (cost (plain_tree e) env).is_deep
+    → Computes s p (code_of e texts (routines scope) words k p) c depth k (meaning (plain_tree e) env) (cost (plain_tree e) env)
+
+-- where the routine of an expression stands, which may use the first variables of a scope, the scope grows by the expression's variable
+abbrev pub RoutineGives : Type 0
+RoutineGives = (image : Contents) (deep : Bool) (roots : Roots) (constants : List ℕ) (scope later : List Variable) (texts : List (List ℕ)) (name : List ℕ) (p : ℕ) (e : CoreTree)
+    → IsScope image deep roots constants (scope ++ later) → length scope ≤ 512 → HasLiterals (plain_tree e)
+    → let s = scope_setting image deep (scope ++ later) in let c = scope_context roots [] [] constants (scope ++ later) in
+    Ready s scope texts c 1 0 e (cost (plain_tree e) (environment_in roots [] scope)).is_deep
+    → Stands image.code p (routine_code e texts (routines scope) (length (scope ++ later)) p)
+    → IsScope image deep roots constants ((scope ++ later) ++ variable_of roots scope texts name e p ∷ [])
+
+-- the texts that an expression names, once they are taken, stand among the constants where its code looks for them, whatever is taken later
+abbrev pub TextsStay : Type 0
+TextsStay = (texts used later : List (List ℕ)) → length (joined (with_texts (with_texts texts used) later)) ≤ 1048576
+    → TextsStand (joined (with_texts (with_texts texts used) later)) (with_texts texts used) used

@@ -7,3 +7,5 @@ pub mod Accepted
 pub mod HasLiterals
 pub mod Computes
 pub mod Laws
+pub mod Surroundings
+pub mod Layer

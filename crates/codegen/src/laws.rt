@@ -1,7 +1,8 @@
 //! The laws of the code generator, each the contract of an empty function.
 
 ghost use Rattle.codegen.specs.CostRows.{CostRows};
-ghost use Rattle.codegen.specs.Laws.{CodeGives, CodeIsShort};
+ghost use Rattle.codegen.specs.Layer.{ExpressionGives, FramesAreEnough, VariableIsTaken, VariableJoins};
+ghost use Rattle.codegen.specs.Laws.{CodeGives, CodeIsShort, RoutineGives, TypedIsAccepted};
 
 /// Expressions that were worked by hand visit and spend so much.
 pub fn costs_stand()
@@ -13,8 +14,32 @@ pub fn code_is_short()
     ensures { CodeIsShort }
 {}
 
-/// The code of an expression without variables gives what the expression means, within its bounds on
-/// steps and charge.
+/// What the type checker takes has code.
+pub fn typed_has_code()
+    ensures { TypedIsAccepted }
+{}
+
+/// In each scope the code of an expression gives what the expression means, within its bounds on steps
+/// and charge.
 pub fn code_gives()
     ensures { CodeGives }
+{}
+
+/// A scope grows by each variable whose routine stands in the image.
+pub fn routine_gives()
+    ensures { RoutineGives }
+{}
+
+/// The code of an expression, as an emitter makes it, gives what the expression means, within its bounds
+/// on steps and charge, for all that the type checker takes in a scope of the variables that the emitter
+/// took first.
+pub fn expression_gives()
+    ensures gives { ExpressionGives }
+    ensures frames { FramesAreEnough }
+{}
+
+/// The variables that an emitter took grow by each that it takes, whose routine stands in the image.
+pub fn variables_join()
+    ensures joins { VariableJoins }
+    ensures taken { VariableIsTaken }
 {}

@@ -10,4 +10,4 @@ mod tests;
 
 pub use code_error::CodeError;
 pub use emitter::Emitter;
-pub use laws::{code_gives, code_is_short, costs_stand};
+pub use laws::{code_gives, code_is_short, costs_stand, expression_gives, routine_gives, typed_has_code, variables_join};

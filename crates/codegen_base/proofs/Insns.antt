@@ -306,7 +306,7 @@ map_where_insns k range predicate transform below short first second third =
 -- ---- variables
 
 pub use_insns : (i : ℕ) (offset : ℤ) → i < 512 → FitsSigned w32 offset → AreInsns (use_code i offset)
-use_insns i offset below h = (omega arith, (omega arith, ((omega arith, omega arith), (h, (omega arith, tt)))))
+use_insns i offset below h = (omega arith, (omega arith, (omega arith, ((omega arith, omega arith), (h, tt)))))
 
 pub memo_insns : (i : ℕ) → i < 512 → AreInsns (memo_tail i)
-memo_insns i below = (omega arith, (omega arith, (omega arith, (omega arith, tt))))
+memo_insns i below = (tt, (omega arith, (omega arith, (omega arith, (tt, tt)))))

@@ -11,6 +11,7 @@ pub mod Listings
 pub mod Values
 pub mod Frames
 pub mod Answers
+pub mod Meanings
 pub mod Helpers
 pub mod Leaves
 pub mod Selection
@@ -32,6 +33,7 @@ pub mod Macros
 pub mod Sums
 pub mod Additions
 pub mod Scopes
+pub mod Later
 pub mod IntWords
 pub mod Products
 pub mod Multiplications

@@ -13,7 +13,7 @@ pending-same i (cost ∷ costs) m m' same =
     ap (λ (w : ℕ). (if nat_eq w 0 then cost else 0) + pending (suc i) costs m') (same i (omega arith) (omega arith))
     ∙ ap (λ (q : ℕ). (if nat_eq (word_in m i) 0 then cost else 0) + q) (pending-same (suc i) costs m m' (λ j low high. same j (omega arith) (omega arith)))
 
-pending-append : (i : ℕ) (costs more m : List ℕ) → pending i (costs ++ more) m ≡ pending i costs m + pending (i + length costs) more m
+pub pending-append : (i : ℕ) (costs more m : List ℕ) → pending i (costs ++ more) m ≡ pending i costs m + pending (i + length costs) more m
 unfolding pending
 pending-append i [] more m =
     let e : i + 0 ≡ i = omega arith in

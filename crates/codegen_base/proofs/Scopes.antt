@@ -57,7 +57,7 @@ module _ (image : Contents) (deep : Bool) (roots : Roots) (constants : List ℕ)
   charges_are : first_charges all ≡ first_charges before ++ v.charge ∷ first_charges later
   charges_are = map-append (λ (u : Variable). u.charge) before (v ∷ later)
 
-  pub used : HasRoutine image deep roots constants before v → length before < 512 → base ≤ 60 → depth + v.nesting ≤ 7 → pos (p + 4) +ℤ pos 1 +ℤ offset ≡ pos v.routine → Gives (scope_setting image deep all) p (use_code (length before) offset) (used_context roots items words constants (bindings all)) depth base v.value 5 0
+  pub used : HasRoutine image deep roots constants before v → length before < 512 → base ≤ 60 → depth + v.nesting ≤ 7 → pos (p + 5) +ℤ pos 1 +ℤ offset ≡ pos v.routine → Gives (scope_setting image deep all) p (use_code (length before) offset) (used_context roots items words constants (bindings all)) depth base v.value 5 0
   used routine few low room place =
       let opens = routine.opens in
       let long_steps : length (first_steps before) ≡ length before = length-map before (λ (u : Variable). u.steps + 9) in
@@ -67,7 +67,7 @@ module _ (image : Contents) (deep : Bool) (roots : Roots) (constants : List ℕ)
       let given = variable_gives image deep (first_steps before) (first_charges before) (first_steps later) (first_charges later) constants words roots items (bindings before) (bindings later) v.name v.value v.body v.routine p depth base v.steps v.charge offset (long_steps ∙ sym long) (long_charges ∙ sym long) (omega arith) low (omega arith) place stands (routine.gives depth room) in
       rw (bindings_are, steps_are, charges_are) (subst (λ (n : ℕ). Gives (with_variables image deep (first_steps before ++ (v.steps + 9) ∷ first_steps later) (first_charges before ++ v.charge ∷ first_charges later)) p (use_code n offset) (used_context roots items words constants (bindings before ++ (v.name, v.value) ∷ bindings later)) depth base v.value 5 0) long given)
 
-scope_uses : (image : Contents) (deep : Bool) (roots : Roots) (constants : List ℕ) (scope : List Variable) (words : List (List ℕ × ℕ)) (items : List (List ℕ × Value)) (i : ℕ) (v : Variable) (p depth base : ℕ) (offset : ℤ) → IsScope image deep roots constants scope → length scope ≤ 512 → base ≤ 60 → slice_get scope i ≡ Some v → depth + v.nesting ≤ 7 → pos (p + 4) +ℤ pos 1 +ℤ offset ≡ pos v.routine → Gives (scope_setting image deep scope) p (use_code i offset) (used_context roots items words constants (bindings scope)) depth base v.value 5 0
+scope_uses : (image : Contents) (deep : Bool) (roots : Roots) (constants : List ℕ) (scope : List Variable) (words : List (List ℕ × ℕ)) (items : List (List ℕ × Value)) (i : ℕ) (v : Variable) (p depth base : ℕ) (offset : ℤ) → IsScope image deep roots constants scope → length scope ≤ 512 → base ≤ 60 → slice_get scope i ≡ Some v → depth + v.nesting ≤ 7 → pos (p + 5) +ℤ pos 1 +ℤ offset ≡ pos v.routine → Gives (scope_setting image deep scope) p (use_code i offset) (used_context roots items words constants (bindings scope)) depth base v.value 5 0
 scope_uses image deep roots constants scope words items i v p depth base offset is few low at room place =
     let inside = slice_get_within scope i v at in
     let parts = split scope i v at in

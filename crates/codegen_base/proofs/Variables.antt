@@ -3,7 +3,7 @@ use Rattle.std.proofs.Common.{◌≡◌, ℕ, zero, suc, ◌+◌, ◌-◌, ◌*�
 use Rattle.std.specs.Prelude.{ℤ, pos, ◌+ℤ◌, slice_get}
 use Rattle.std.proofs.lemmas.Bool.{cases_lt}
 use Rattle.insn_codec.specs.declared.insn.Insn.{Insn}
-use Rattle.insn_codec.specs.declared.register.Register.TheVariants.{R0, R1}
+use Rattle.insn_codec.specs.declared.register.Register.TheVariants.{R0, R1, R2}
 use Rattle.loader.specs.Contents.{Contents}
 use Rattle.value_store.specs.Value.{Value, ValueOrError, value}
 use Rattle.cel_macros.specs.Environment.{Roots, lookup}
@@ -18,8 +18,8 @@ use Rattle.guest_memory.specs.RegionWords.{put_word}
 use Rattle.codegen_base.specs.Words.{memo_address, memo_at, set_memo}
 use Rattle.codegen_base.proofs.Effects.{add_is, differs_no, differs_yes}
 use Rattle.codegen_base.proofs.Frames.{frame_entered, frame_memo, held_on, memo_kept, memo_on, memo_stored, shows_registers}
-use Rattle.codegen_base.proofs.Values.{short_reference, small_reference}
-use Rattle.codegen_base.proofs.Listings.{alu, begins, load_memo, load_wide, no, store_memo, yes}
+use Rattle.codegen_base.proofs.Values.{short_reference}
+use Rattle.codegen_base.proofs.Listings.{alu, begins, load_memo, load_wide, mov, no, store_memo, yes}
 use Rattle.codegen_base.proofs.Pending.{pending-empty, pending-filled, pending-same}
 use Rattle.codegen_base.proofs.Pieces.{stands_back, stands_front}
 use Rattle.codegen_base.proofs.Runs.{and_then, done, into, looser, Pays, settle}
@@ -29,7 +29,10 @@ use Rattle.guest_memory.proofs.RegionWords.{put_word-other}
 less_one : (w r : ℕ) → w ≡ r + 1 → r < 2 ^ 64 → (w + (2 ^ 64 - 1)) % 2 ^ 64 ≡ r
 less_one w r e small = omega arith
 
-get_before : {X : Type 0} (xs ys : List X) (i : ℕ) (x : X) → slice_get xs i ≡ Some x → slice_get (xs ++ ys) i ≡ Some x
+less_than_none : (w : ℕ) → w ≡ 0 → (w + (2 ^ 64 - 1)) % 2 ^ 64 ≡ 2 ^ 64 - 1
+less_than_none w e = omega arith
+
+pub get_before : {X : Type 0} (xs ys : List X) (i : ℕ) (x : X) → slice_get xs i ≡ Some x → slice_get (xs ++ ys) i ≡ Some x
 get_before [] ys i x h = cc
 get_before (y ∷ xs) ys zero x h = h
 get_before (y ∷ xs) ys (suc i) x h = get_before xs ys i x h
@@ -38,7 +41,7 @@ get_at : {X : Type 0} (xs ys : List X) (x : X) → slice_get (xs ++ x ∷ ys) (l
 get_at [] ys x = refl
 get_at (y ∷ xs) ys x = get_at xs ys x
 
-get_front : {X : Type 0} (xs ys : List X) (i : ℕ) (x : X) → i < length xs → slice_get (xs ++ ys) i ≡ Some x → slice_get xs i ≡ Some x
+pub get_front : {X : Type 0} (xs ys : List X) (i : ℕ) (x : X) → i < length xs → slice_get (xs ++ ys) i ≡ Some x → slice_get xs i ≡ Some x
 get_front [] ys i x inside h = absurd (omega arith)
 get_front (y ∷ xs) ys zero x inside h = h
 get_front (y ∷ xs) ys (suc i) x inside h = get_front xs ys i x (omega arith) h
@@ -52,17 +55,17 @@ variable_in None other = other
 module _ (s : Setting) (c : Context) (depth base i p : ℕ) (offset : ℤ) (has : Stands s.image.code p (use_code i offset)) (below : i < 512) (b : Body) (fits : Fits c depth base b) where
   filled_runs : (r : ℕ) (v : ValueOrError) → memo_at i b ≡ r + 1 → Names b.values.values r v → Comes s 4 0 p b (p + 6) (Shows c depth base v b)
   filled_runs r v word named =
-      let small = small_reference b.values r v fits.values.table named in
+      let short = short_reference b.values r v fits.values.table named in
       begins has
       (load_wide has 0 refl refl
       (load_memo has 2 i refl fits.frame below refl refl
-      (yes has 3 1 refl (differs_yes (memo_at i b) 0 (λ e. omega arith))
-      (alu has 5 r refl refl (add_is (memo_at i b) (2 ^ 64 - 1) ∙ less_one _ r word small)
+      (alu has 3 r refl refl (add_is (memo_at i b) (2 ^ 64 - 1) ∙ less_one _ r word (omega arith))
+      (yes has 4 1 refl (differs_yes r (2 ^ 64 - 1) (λ e. omega arith))
       (done s (p + 6) _ _ (shows_registers c depth base b _ refl v fits named))))))
 
 -- ---- the memo is empty
 
-module _ (image : Contents) (deep : Bool) (steps charges later_steps later_charges constants : List ℕ) (words : List (List ℕ × ℕ)) (roots : Roots) (items : List (List ℕ × Value)) (variables later : List (List ℕ × ValueOrError)) (name : List ℕ) (v : ValueOrError) (body : List Insn) (routine p depth base n x : ℕ) (offset : ℤ) (steps_are : length steps ≡ length variables) (charges_are : length charges ≡ length variables) (below : length variables < 512) (low : base ≤ 60) (room : depth < 7) (place : pos (p + 4) +ℤ pos 1 +ℤ offset ≡ pos routine) (there : Stands image.code routine (body ++ memo_tail (length variables))) (has : Stands image.code p (use_code (length variables) offset)) where
+module _ (image : Contents) (deep : Bool) (steps charges later_steps later_charges constants : List ℕ) (words : List (List ℕ × ℕ)) (roots : Roots) (items : List (List ℕ × Value)) (variables later : List (List ℕ × ValueOrError)) (name : List ℕ) (v : ValueOrError) (body : List Insn) (routine p depth base n x : ℕ) (offset : ℤ) (steps_are : length steps ≡ length variables) (charges_are : length charges ≡ length variables) (below : length variables < 512) (low : base ≤ 60) (room : depth < 7) (place : pos (p + 5) +ℤ pos 1 +ℤ offset ≡ pos routine) (there : Stands image.code routine (body ++ memo_tail (length variables))) (has : Stands image.code p (use_code (length variables) offset)) where
   abbrev index : ℕ
   index = length variables
 
@@ -90,17 +93,17 @@ module _ (image : Contents) (deep : Bool) (steps charges later_steps later_charg
   module _ (b : Body) (fits : Fits c depth base b) where
     -- the routine's caller
     abbrev caller : Body
-    caller = set_register (set_register b R1 (memo_address index)) R0 (memo_at index b)
+    caller = set_register (set_register (set_register b R1 (memo_address index)) R0 (memo_at index b)) R0 (2 ^ 64 - 1)
 
-    fits_entered : Fits before (depth + 1) 0 (entered (p + 4) caller)
+    fits_entered : Fits before (depth + 1) 0 (entered (p + 5) caller)
     fits_entered = record {
-      frame = frame_entered depth (p + 4) caller fits.frame room;
+      frame = frame_entered depth (p + 5) caller fits.frame room;
       values = fits.values;
       holds = record { names = λ m. tt; memos = λ j y is. fits.holds.memos j y (get_before variables ((name, v) ∷ later) j y is) };
       constants = fits.constants;
     }
 
-    module _ (b3 : Body) (g3 : Shows before (depth + 1) 0 v (entered (p + 4) caller) b3) where
+    module _ (b3 : Body) (g3 : Shows before (depth + 1) 0 v (entered (p + 5) caller) b3) where
       abbrev r : ℕ
       r = b3.registers R0
 
@@ -109,11 +112,11 @@ module _ (image : Contents) (deep : Bool) (steps charges later_steps later_charg
 
       -- the memo is filled
       abbrev filled_body : Body
-      filled_body = set_memo index (r + 1) (set_register (set_register b3 R0 (r + 1)) R1 (memo_address index))
+      filled_body = set_memo index (r + 1) (set_register (set_register (set_register b3 R2 r) R2 (r + 1)) R1 (memo_address index))
 
       -- the caller goes on
       abbrev last : Body
-      last = set_register (resumed caller filled_body) R0 r
+      last = resumed caller filled_body
 
       other_memo : (j : ℕ) → (j ≡ index → ⊥) → memo_at j last ≡ memo_at j b3
       other_memo j other = memo_kept (depth + 1) index (r + 1) b3 g3.fits.frame below j other
@@ -168,7 +171,7 @@ module _ (image : Contents) (deep : Bool) (steps charges later_steps later_charg
 
   -- ---- the routine is called and returns
 
-  first_runs : (b : Body) → Fits c depth base b → memo_at index b ≡ 0 → Gives inner_setting routine body before (depth + 1) 0 v n x → Comes inner_setting (suc (suc (suc (suc (n + 5))))) (x + 0) p b (p + 6) (First b)
+  first_runs : (b : Body) → Fits c depth base b → memo_at index b ≡ 0 → Gives inner_setting routine body before (depth + 1) 0 v n x → Comes inner_setting (suc (suc (suc (suc (suc (n + 5)))))) (x + 0) p b (p + 6) (First b)
   first_runs b fits empty g =
       let s = inner_setting in
       let pointer = fits.frame.pointer_is in
@@ -178,21 +181,22 @@ module _ (image : Contents) (deep : Bool) (steps charges later_steps later_charg
       begins has
       (load_wide has 0 refl refl
       (load_memo has 2 index refl fits.frame below refl refl
-      (no has 3 refl (differs_no (memo_at index b) 0 empty)
-      (step.call_local s (p + 4) routine start depth offset (has.here 4 _ refl) fits.frame room place
-      (and_then s 5 0 (p + 6) (First b) (g.runs (entered (p + 4) start) (stands_front image.code routine body (memo_tail index) there) (fits_entered b fits)) (λ b3 g3.
+      (alu has 3 (2 ^ 64 - 1) refl refl (add_is (memo_at index b) (2 ^ 64 - 1) ∙ less_than_none _ empty)
+      (no has 4 refl (differs_no (2 ^ 64 - 1) (2 ^ 64 - 1) refl)
+      (step.call_local s (p + 5) routine start depth offset (has.here 5 _ refl) fits.frame room place
+      (and_then s 5 0 (p + 6) (First b) (g.runs (entered (p + 5) start) (stands_front image.code routine body (memo_tail index) there) (fits_entered b fits)) (λ b3 g3.
       let f3 = g3.fits.frame in
       let r = b3.registers R0 in
       let long = f3.memory.scratch in
       let short = short_reference b3.values r v g3.fits.values.table g3.shows in
       let full = filled_body b fits b3 g3 in
       begins has_tail
-      (alu has_tail 0 (r + 1) refl refl (add_is r 1 ∙ omega arith)
-      (load_wide has_tail 1 refl refl
-      (store_memo has_tail 3 index refl f3 below refl (same_pending steps b3.memory.scratch (r + 1) steps_are (omega arith)) (same_pending charges b3.memory.scratch (r + 1) charges_are (omega arith))
-      (step.exit s (routine + size body + 4) (p + 5) full start (p + 4) (has_tail.here 4 _ refl) g3.keeps.records g3.keeps.pointer (omega arith) (omega arith)
-      (alu has 5 r refl refl (add_is (r + 1) (2 ^ 64 - 1) ∙ less_one (r + 1) r refl (omega arith))
-      (done s (p + 6) _ (First b) (first_use b fits b3 g3)))))))))))))
+      (mov has_tail 0 refl refl
+      (alu has_tail 1 (r + 1) refl refl (add_is r 1 ∙ omega arith)
+      (load_wide has_tail 2 refl refl
+      (store_memo has_tail 4 index refl f3 below refl (same_pending steps b3.memory.scratch (r + 1) steps_are (omega arith)) (same_pending charges b3.memory.scratch (r + 1) charges_are (omega arith))
+      (step.exit s (routine + size body + 5) (p + 6) full start (p + 5) (has_tail.here 5 _ refl) g3.keeps.records g3.keeps.pointer (omega arith) (omega arith)
+      (done s (p + 6) _ (First b) (first_use b fits b3 g3))))))))))))))
 
   abbrev outer_steps : List ℕ
   outer_steps = steps ++ (n + 9) ∷ later_steps
@@ -204,7 +208,7 @@ module _ (image : Contents) (deep : Bool) (steps charges later_steps later_charg
   outer_setting = with_variables image deep outer_steps outer_charges
 
   -- the potentials pay for the first use
-  first_paid : (b last : Body) → memo_at index b ≡ 0 → First b last → Pays image deep (pending 0 steps) (pending 0 charges) (pending 0 outer_steps) (pending 0 outer_charges) (suc (suc (suc (suc (n + 5))))) (x + 0) 5 0 b last
+  first_paid : (b last : Body) → memo_at index b ≡ 0 → First b last → Pays image deep (pending 0 steps) (pending 0 charges) (pending 0 outer_steps) (pending 0 outer_charges) (suc (suc (suc (suc (suc (n + 5)))))) (x + 0) 5 0 b last
   first_paid b last empty f = record {
     steps =
         let earlier = pending-empty steps later_steps b.memory.scratch (n + 9) index (sym steps_are) empty in

@@ -16,14 +16,14 @@ use Rattle.codegen_base.specs.Variables.{memo_tail, use_code}
 abbrev pub runs : List Insn → State
 runs piece = start_state (record { version = Second; code = spellings piece; constants = [] }) null_values
 
--- a variable whose value is true, and true: the routine stands behind the exit, ten slots after the slot that follows its call
+-- a variable whose value is true, and true: the routine stands behind the exit, nine slots after the slot that follows its call
 abbrev pub variable_and_true : List Insn
-variable_and_true = and_code (use_code 0 (pos 10)) (truth_code true) 0 ++ Exit ∷ (truth_code true ++ memo_tail 0)
+variable_and_true = and_code (use_code 0 (pos 9)) (truth_code true) 0 ++ Exit ∷ (truth_code true ++ memo_tail 0)
 
 -- `null != true`
 abbrev pub null_is_not_true : List Insn
 null_is_not_true = two_code null_code (truth_code true) 0 (unequal_tail 0) ++ Exit ∷ []
 
 pub record RowsStand : Type 0 where
-  pub variable_and_true_exits : (state_after 18 (runs variable_and_true)).status ≡ Exited 3
+  pub variable_and_true_exits : (state_after 19 (runs variable_and_true)).status ≡ Exited 3
   pub null_is_not_true_exits : (state_after 9 (runs null_is_not_true)).status ≡ Exited 3

@@ -24,7 +24,7 @@ pub record Variable : Type 0 where
 abbrev pub bindings : List Variable → List (List ℕ × ValueOrError)
 bindings = each (λ v. (v.name, v.value))
 
--- what the first use of each takes: the call, the memo and the exit take 9 steps more
+-- what the first use of each takes: the call, the memo and the exit take at most 9 steps more
 abbrev pub first_steps : List Variable → List ℕ
 first_steps = each (λ v. v.steps + 9)
 
@@ -55,7 +55,7 @@ abbrev pub ScopeGives : Type 0
 ScopeGives = (image : Contents) (deep : Bool) (roots : Roots) (constants : List ℕ) (scope : List Variable) (words : List (List ℕ × ℕ)) (items : List (List ℕ × Value)) (name : List ℕ) (i : ℕ) (v : Variable) (p depth base : ℕ) (offset : ℤ)
     → IsScope image deep roots constants scope → length scope ≤ 512 → base ≤ 60
     → place_named name scope ≡ Some i → slice_get scope i ≡ Some v → depth + v.nesting ≤ 7
-    → pos (p + 4) +ℤ pos 1 +ℤ offset ≡ pos v.routine
+    → pos (p + 5) +ℤ pos 1 +ℤ offset ≡ pos v.routine
     → Gives (scope_setting image deep scope) p (use_code i offset) (used_context roots items words constants (bindings scope)) depth base (variable_value name (bindings scope)) 5 0
 
 -- no variables are a scope
@@ -69,3 +69,9 @@ ScopeBegins = (image : Contents) (deep : Bool) (roots : Roots) (constants : List
 -- a scope with one more variable, which may use those before it, is one
 abbrev pub ScopeGrows : Type 0
 ScopeGrows = (image : Contents) (deep : Bool) (roots : Roots) (constants : List ℕ) (scope : List Variable) (v : Variable) → IsScope image deep roots constants scope → HasRoutine image deep roots constants scope v → IsScope image deep roots constants (scope ++ v ∷ [])
+
+-- what a piece gives in a scope it gives where more variables stand behind it, whose memos it leaves
+abbrev pub LaterGives : Type 0
+LaterGives = (image : Contents) (deep : Bool) (roots : Roots) (constants : List ℕ) (scope later : List Variable) (words : List (List ℕ × ℕ)) (items : List (List ℕ × Value)) (p : ℕ) (piece : List Insn) (depth base : ℕ) (x : ValueOrError) (steps charge : ℕ)
+    → Gives (scope_setting image deep scope) p piece (used_context roots items words constants (bindings scope)) depth base x steps charge
+    → Gives (scope_setting image deep (scope ++ later)) p piece (used_context roots items words constants (bindings (scope ++ later))) depth base x steps charge

@@ -6,7 +6,7 @@ use Rattle.insn_codec.specs.declared.comparison.Comparison.TheVariants.{Ne}
 use Rattle.insn_codec.specs.declared.insn.Insn.{Insn}
 use Rattle.insn_codec.specs.declared.insn.Insn.TheVariants.{Alu, Branch, CallLocal, Exit, Load, LoadWide, Store}
 use Rattle.insn_codec.specs.declared.operand.Operand.TheVariants.{Imm}
-use Rattle.insn_codec.specs.declared.register.Register.TheVariants.{R0, R1}
+use Rattle.insn_codec.specs.declared.register.Register.TheVariants.{R0, R1, R2}
 use Rattle.insn_codec.specs.declared.size.Size.TheVariants.{Dw}
 use Rattle.insn_codec.specs.declared.width.Width.TheVariants.{W64}
 use Rattle.loader.specs.Contents.{Contents}
@@ -14,25 +14,27 @@ use Rattle.value_store.specs.Value.{Value, ValueOrError}
 use Rattle.cel_macros.specs.Environment.{Roots}
 use Rattle.codegen_base.specs.Contexts.{Context, Gives}
 use Rattle.codegen_base.specs.Engine.{Setting}
+use Rattle.codegen_base.specs.Instructions.{copy}
 use Rattle.codegen_base.specs.Pieces.{Stands}
 use Rattle.codegen_base.specs.Words.{memo_address}
 
--- R0 gets the reference of variable i from its memo, which the routine fills where it is empty
+-- R0 gets the reference of variable i: 1 less than its memo, which the routine fills where it is empty, so that 1 less is no reference
 abbrev pub use_code : ℕ → ℤ → List Insn
 use_code i offset =
     LoadWide R1 (memo_address i)
     ∷ Load Dw R0 R1 (pos 0)
-    ∷ Branch Ne W64 R0 (Imm (pos 0)) (pos 1)
-    ∷ CallLocal offset
     ∷ Alu Add W64 R0 (Imm (negsuc 0))
+    ∷ Branch Ne W64 R0 (Imm (negsuc 0)) (pos 1)
+    ∷ CallLocal offset
     ∷ []
 
--- the end of the routine of variable i: its memo and R0 get 1 more than the reference in R0, so that 0 stands for no value yet, and the error's reference can be told from it
+-- the end of the routine of variable i: its memo gets 1 more than the reference in R0, so that 0 stands for no value yet, and the error's reference can be told from it
 abbrev pub memo_tail : ℕ → List Insn
 memo_tail i =
-    Alu Add W64 R0 (Imm (pos 1))
+    copy R2 R0
+    ∷ Alu Add W64 R2 (Imm (pos 1))
     ∷ LoadWide R1 (memo_address i)
-    ∷ Store Dw R1 (pos 0) R0
+    ∷ Store Dw R1 (pos 0) R2
     ∷ Exit
     ∷ []
 
@@ -57,7 +59,7 @@ used_context roots items words constants variables = record { environment = reco
 abbrev pub VariableGives : Type 0
 VariableGives = (image : Contents) (deep : Bool) (steps charges later_steps later_charges constants : List ℕ) (words : List (List ℕ × ℕ)) (roots : Roots) (items : List (List ℕ × Value)) (variables later : List (List ℕ × ValueOrError)) (name : List ℕ) (v : ValueOrError) (body : List Insn) (routine p depth base n x : ℕ) (offset : ℤ)
     → length steps ≡ length variables → length charges ≡ length variables → length variables < 512 → base ≤ 60 → depth < 7
-    → pos (p + 4) +ℤ pos 1 +ℤ offset ≡ pos routine
+    → pos (p + 5) +ℤ pos 1 +ℤ offset ≡ pos routine
     → Stands image.code routine (body ++ memo_tail (length variables))
     → Gives (with_variables image deep steps charges) routine body (routine_context roots variables constants) (depth + 1) 0 v n x
     → Gives (with_variables image deep (steps ++ (n + 9) ∷ later_steps) (charges ++ x ∷ later_charges)) p (use_code (length variables) offset) (used_context roots items words constants (variables ++ (name, v) ∷ later)) depth base v 5 0

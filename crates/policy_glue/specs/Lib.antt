@@ -10,6 +10,11 @@ pub mod Evaluation
 pub mod Layout
 pub mod Limits
 pub mod Policy
+pub mod Program
+pub mod ProgramCode
+pub mod ProgramLaws
+pub mod ProgramParts
+pub mod ProgramTrees
 pub mod Reading
 pub mod Response
 pub mod Rows

@@ -1,7 +1,11 @@
-//! Policies, verdicts and responses worked by hand, each the clause of a function that does nothing.
+//! Policies, verdicts and responses worked by hand, and what is proved of the code of policies, each the
+//! clause of a function that does nothing.
 ghost use Rattle.policy_glue.specs.BudgetRows.{BudgetRowsStand};
 ghost use Rattle.policy_glue.specs.DecisionRows.{CheckingRowsStand, DecisionRowsStand};
+ghost use Rattle.policy_glue.specs.ProgramLaws.{PolicyDecides};
 ghost use Rattle.policy_glue.specs.Rows.{PolicyRowsStand, VerdictRowsStand, ResponseRowsStand};
+
+use bpf_machine::laws::decodes_spelling;
 
 /// Documents of policies, with what they say or why they are refused.
 pub fn policy_rows_stand()
@@ -32,3 +36,11 @@ pub fn checking_rows_stand()
 pub fn budget_rows_stand()
     ensures { BudgetRowsStand }
 {}
+
+/// The code of a policy, made of code for its expressions, leaves the policy's verdict in its words and
+/// its outcome in R0, or has stopped for its charge or a depth, after its steps and those of its variables.
+pub fn policy_decides()
+    ensures { PolicyDecides }
+{
+    decodes_spelling();
+}

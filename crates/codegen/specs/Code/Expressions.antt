@@ -1,6 +1,7 @@
 -- The code of an expression: of each construct the code of its parts, put together. It names texts by their places among
--- the constants, and iteration names by the words of the frame that hold their items.
-use Rattle.std.specs.Prelude.{ℕ, ◌+◌, pos, List, [], ◌∷◌, ◌++◌, length, Option, Some, None}
+-- the constants, iteration names by the words of the frame that hold their items, and variables by the slots at which
+-- their routines begin, relative to its own place.
+use Rattle.std.specs.Prelude.{ℕ, suc, ◌+◌, pos, ◌-ℤ◌, List, [], ◌∷◌, ◌++◌, length, Option, Some, None, bytes_eq, option_map, if◌then◌else◌}
 use Rattle.insn_codec.specs.declared.alu_op.AluOp.TheVariants.{Sdiv, Smod}
 use Rattle.insn_codec.specs.declared.insn.Insn.{Insn}
 use Rattle.cel_reader.specs.Tree as tree
@@ -15,10 +16,13 @@ use Rattle.codegen_base.specs.Code.Calls.{two_code}
 use Rattle.codegen_base.specs.Code.Logic.{and_code, or_code, not_tail, ternary_code}
 use Rattle.codegen_base.specs.Code.Arithmetic.{sum_code, difference_code, product_code, divided_code, negation_tail}
 use Rattle.codegen_base.specs.Code.Comparison.{equal_tail, unequal_tail, less_tail, less_equal_tail, greater_tail, greater_equal_tail, member_tail}
-use Rattle.codegen.specs.Code.Literals.{address_of, literal_code, item_code, list_code, entry_code, map_code}
+use Rattle.codegen.specs.Code.Literals.{address_of, literal_code}
+use Rattle.codegen_base.specs.Code.Aggregates.{item_code, list_code, entry_code, map_code}
 use Rattle.codegen_base.specs.Code.Names.{name_code, reference_code}
 use Rattle.codegen_base.specs.Code.Selection.{field_tail, has_tail, index_tail, size_tail, string_tail, test_tail}
 use Rattle.codegen_base.specs.Code.Folds.{macro_code, map_where_code}
+use Rattle.codegen_base.specs.Pieces.{size}
+use Rattle.codegen_base.specs.Variables.{memo_tail, use_code}
 
 -- no expression that the type checker takes has such a part
 abbrev pub no_code : List Insn
@@ -67,47 +71,87 @@ abbrev pub test_code : Option TextTest → List Insn → List Insn → ℕ → L
 test_code (Some t) left right k = two_code left right k (test_tail t k)
 test_code None left right k = no_code
 
+-- of the first variable of a name among these, its number and the slot of its routine
+abbrev pub routine_named : List ℕ → List (List ℕ × ℕ) → Option (ℕ × ℕ)
+routine_named n [] = None
+routine_named n (r ∷ more) = if bytes_eq r.0 n then Some (0, r.1) else option_map (λ found. (suc found.0, found.1)) (routine_named n more)
+
+-- the use, at slot p, of the variable of this number and routine: the call, in its last slot, counts from the slot behind
+abbrev pub variable_code : Option (ℕ × ℕ) → ℕ → List Insn
+variable_code (Some found) p = use_code found.0 (pos found.1 -ℤ pos (p + 6))
+variable_code None p = no_code
+
+-- how many slots stand between an operator's operands
+abbrev pub operands_apart : BinaryOperator → ℕ
+operands_apart binary.Or = 2
+operands_apart binary.And = 2
+operands_apart _ = 1
+
+-- the code of an expression whose texts stand among ts, whose variables have the routines rs, in order of declaration, and whose iteration names have the words ws: it keeps the words below k of its frame, and stands at slot p
 unfoldable mutual
-  pub code_of : CoreTree → List (List ℕ) → List (List ℕ × ℕ) → ℕ → List Insn
-  code_of (core.literal l) ts ws k = literal_code ts l
-  code_of (core.name n) ts ws k = name_code n ws
-  code_of (core.variable v) ts ws k = no_code
-  code_of (core.select a f) ts ws k = code_of a ts ws k ++ field_tail (address_of ts f) (length f)
-  code_of (core.has a f) ts ws k = code_of a ts ws k ++ has_tail (address_of ts f) (length f)
-  code_of (core.index a b) ts ws k = two_code (code_of a ts ws k) (code_of b ts ws (k + 1)) k (index_tail k)
-  code_of (core.call n (more_cores a no_cores)) ts ws k = function_code (function_named n) (code_of a ts ws k)
-  code_of (core.call n _) ts ws k = no_code
-  code_of (core.method a n no_cores) ts ws k = method_function_code (function_named n) (code_of a ts ws k)
-  code_of (core.method a n (more_cores b no_cores)) ts ws k = test_code (test_named n) (code_of a ts ws k) (code_of b ts ws (k + 1)) k
-  code_of (core.method a n _) ts ws k = no_code
-  code_of (core.unary op a) ts ws k = code_of a ts ws k ++ unary_tail op
-  code_of (core.binary op a b) ts ws k = binary_code op (code_of a ts ws k) (code_of b ts ws (k + 1)) k
-  code_of (core.ternary c a b) ts ws k = ternary_code (code_of c ts ws k) (code_of a ts ws k) (code_of b ts ws k)
-  code_of (core.list items) ts ws k = list_code (items_code items ts ws k) k
-  code_of (core.map es) ts ws k = map_code (entries_code es ts ws k) k
-  code_of (core.fold m n r p) ts ws k = macro_code m k (code_of r ts ws k) (code_of p ts ((n, k + 4) ∷ ws) (k + 5))
-  code_of (core.fold_map n r p t) ts ws k = map_where_code k (code_of r ts ws k) (code_of p ts ((n, k + 4) ∷ ws) (k + 5)) (code_of t ts ((n, k + 4) ∷ ws) (k + 5))
+  pub code_of : CoreTree → List (List ℕ) → List (List ℕ × ℕ) → List (List ℕ × ℕ) → ℕ → ℕ → List Insn
+  code_of (core.literal l) ts rs ws k p = literal_code ts l
+  code_of (core.name n) ts rs ws k p = name_code n ws
+  code_of (core.variable v) ts rs ws k p = variable_code (routine_named v rs) p
+  code_of (core.select a f) ts rs ws k p = code_of a ts rs ws k p ++ field_tail (address_of ts f) (length f)
+  code_of (core.has a f) ts rs ws k p = code_of a ts rs ws k p ++ has_tail (address_of ts f) (length f)
+  code_of (core.index a b) ts rs ws k p =
+      let first = code_of a ts rs ws k p in
+      two_code first (code_of b ts rs ws (k + 1) (p + size first + 1)) k (index_tail k)
+  code_of (core.call n (more_cores a no_cores)) ts rs ws k p = function_code (function_named n) (code_of a ts rs ws k p)
+  code_of (core.call n _) ts rs ws k p = no_code
+  code_of (core.method a n no_cores) ts rs ws k p = method_function_code (function_named n) (code_of a ts rs ws k p)
+  code_of (core.method a n (more_cores b no_cores)) ts rs ws k p =
+      let first = code_of a ts rs ws k p in
+      test_code (test_named n) first (code_of b ts rs ws (k + 1) (p + size first + 1)) k
+  code_of (core.method a n _) ts rs ws k p = no_code
+  code_of (core.unary op a) ts rs ws k p = code_of a ts rs ws k p ++ unary_tail op
+  code_of (core.binary op a b) ts rs ws k p =
+      let left = code_of a ts rs ws k p in
+      binary_code op left (code_of b ts rs ws (k + 1) (p + size left + operands_apart op)) k
+  code_of (core.ternary c a b) ts rs ws k p =
+      let condition = code_of c ts rs ws k p in
+      let if_true = code_of a ts rs ws k (p + size condition + 2) in
+      ternary_code condition if_true (code_of b ts rs ws k (p + size condition + 2 + size if_true + 1))
+  code_of (core.list items) ts rs ws k p = list_code (items_code items ts rs ws k (p + 2)) k
+  code_of (core.map es) ts rs ws k p = map_code (entries_code es ts rs ws k (p + 2)) k
+  code_of (core.fold m n r e) ts rs ws k p =
+      let range = code_of r ts rs ws k p in
+      macro_code m k range (code_of e ts rs ((n, k + 4) ∷ ws) (k + 5) (p + size range + 17))
+  code_of (core.fold_map n r e t) ts rs ws k p =
+      let range = code_of r ts rs ws k p in
+      let predicate = code_of e ts rs ((n, k + 4) ∷ ws) (k + 5) (p + size range + 17) in
+      map_where_code k range predicate (code_of t ts rs ((n, k + 4) ∷ ws) (k + 5) (p + size range + 17 + size predicate + 2))
 
   -- the items of a list in word k
-  pub items_code : CoreTrees → List (List ℕ) → List (List ℕ × ℕ) → ℕ → List Insn
-  items_code no_cores ts ws k = []
-  items_code (more_cores a more) ts ws k = item_code (code_of a ts ws (k + 1)) k ++ items_code more ts ws k
+  pub items_code : CoreTrees → List (List ℕ) → List (List ℕ × ℕ) → List (List ℕ × ℕ) → ℕ → ℕ → List Insn
+  items_code no_cores ts rs ws k p = []
+  items_code (more_cores a more) ts rs ws k p =
+      let item = code_of a ts rs ws (k + 1) p in
+      item_code item k ++ items_code more ts rs ws k (p + size item + 4)
 
   -- the entries of a map in word k
-  pub entries_code : CoreEntries → List (List ℕ) → List (List ℕ × ℕ) → ℕ → List Insn
-  entries_code no_core_entries ts ws k = []
-  entries_code (more_core_entries key v more) ts ws k = entry_code (code_of key ts ws (k + 1)) (code_of v ts ws (k + 2)) k ++ entries_code more ts ws k
+  pub entries_code : CoreEntries → List (List ℕ) → List (List ℕ × ℕ) → List (List ℕ × ℕ) → ℕ → ℕ → List Insn
+  entries_code no_core_entries ts rs ws k p = []
+  entries_code (more_core_entries a b more) ts rs ws k p =
+      let key = code_of a ts rs ws (k + 1) p in
+      let entry = code_of b ts rs ws (k + 2) (p + size key + 1) in
+      entry_code key entry k ++ entries_code more ts rs ws k (p + size key + 1 + size entry + 5)
 
 -- a call by its arguments
-abbrev pub call_code : List ℕ → CoreTrees → List (List ℕ) → List (List ℕ × ℕ) → ℕ → List Insn
-call_code n (more_cores a no_cores) ts ws k = function_code (function_named n) (code_of a ts ws k)
-call_code n _ ts ws k = no_code
+abbrev pub call_code : List ℕ → CoreTrees → List (List ℕ) → List (List ℕ × ℕ) → List (List ℕ × ℕ) → ℕ → ℕ → List Insn
+call_code n (more_cores a no_cores) ts rs ws k p = function_code (function_named n) (code_of a ts rs ws k p)
+call_code n _ ts rs ws k p = no_code
 
--- a method, of what code gives, by its arguments
-abbrev pub method_code : List Insn → List ℕ → CoreTrees → List (List ℕ) → List (List ℕ × ℕ) → ℕ → List Insn
-method_code of n no_cores ts ws k = method_function_code (function_named n) of
-method_code of n (more_cores b no_cores) ts ws k = test_code (test_named n) of (code_of b ts ws (k + 1)) k
-method_code of n _ ts ws k = no_code
+-- a method, at slot p, of what code gives, by its arguments
+abbrev pub method_code : List Insn → List ℕ → CoreTrees → List (List ℕ) → List (List ℕ × ℕ) → List (List ℕ × ℕ) → ℕ → ℕ → List Insn
+method_code of n no_cores ts rs ws k p = method_function_code (function_named n) of
+method_code of n (more_cores b no_cores) ts rs ws k p = test_code (test_named n) of (code_of b ts rs ws (k + 1) (p + size of + 1)) k
+method_code of n _ ts rs ws k p = no_code
+
+-- the routine of variable n, at slot p: its expression, from word 0 of a frame of its own, and its memo
+abbrev pub routine_code : CoreTree → List (List ℕ) → List (List ℕ × ℕ) → ℕ → ℕ → List Insn
+routine_code e ts rs n p = code_of e ts rs [] 0 p ++ memo_tail n
 
 abbrev pub literal_texts : tree.Literal → List (List ℕ)
 literal_texts (tree.text s) = s ∷ []

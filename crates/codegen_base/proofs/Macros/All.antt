@@ -1,5 +1,4 @@
 -- The code of each macro gives its fold.
-use Rattle.std.proofs.Common.{◌≡◌, ℕ, true}
 use Rattle.cel_macros.specs.declared.macros.Macro.TheVariants.{All, Exists, ExistsOne, Filter, Map}
 use Rattle.codegen_base.specs.Gives.Macros.{MacroGives}
 use Rattle.codegen_base.proofs.Macros.ExistsOne.{exists_one_gives}

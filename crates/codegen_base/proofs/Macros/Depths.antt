@@ -1,5 +1,5 @@
 -- The depth of the list that a macro makes: it stays within its limit, where no item that it is to hold is too deep.
-use Rattle.std.proofs.Common.{◌≡◌, ℕ, ◌+◌, ◌<◌, ◌≤◌, max, Bool, true, false, refl, arith}
+use Rattle.std.proofs.Common.{◌≡◌, ◌<◌, ◌≤◌, max, Bool, true, false, refl, arith}
 use Rattle.std.proofs.lemmas.Bool.{le-leb, leb-false, leb-true}
 use Rattle.std.specs.Prelude.{nat_le, ◌||◌}
 use Rattle.helper_table.specs.Building.{depth_limit}

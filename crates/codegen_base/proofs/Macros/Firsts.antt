@@ -1,5 +1,5 @@
 -- The answers before the first item.
-use Rattle.std.proofs.Common.{◌≡◌, ℕ, ◌+◌, ◌≤◌, true, false, refl, arith}
+use Rattle.std.proofs.Common.{ℕ, ◌+◌, ◌≤◌, true, false, refl, arith}
 use Rattle.std.specs.Prelude.{pos}
 use Rattle.value_store.specs.Value.{value, boolean, list, no_items}
 use Rattle.codegen_base.specs.Code.Folds.{first_empty, first_false, first_true}

@@ -1,5 +1,5 @@
 -- The code of `map` and `filter` gives their folds.
-use Rattle.std.proofs.Common.{◌≡◌, ℕ, ◌+◌, ◌-◌, ◌*◌, ◌<◌, ◌≤◌, List, ◌++◌, Option, Some, None, Bool, true, false, refl, subst, sym, ap, ◌∙◌, arith}
+use Rattle.std.proofs.Common.{◌≡◌, ℕ, ◌+◌, ◌<◌, List, ◌++◌, Option, Some, None, true, false, refl, subst, ap, ◌∙◌, arith}
 use Rattle.insn_codec.specs.declared.insn.Insn.{Insn}
 use Rattle.value_store.specs.Value.{Value, ValueOrError, value}
 use Rattle.cel_macros.specs.declared.macros.Macro.TheVariants.{Filter, Map}

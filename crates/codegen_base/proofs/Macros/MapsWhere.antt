@@ -1,12 +1,11 @@
 -- The code of `map` with a predicate gives its fold: the transform runs where the predicate is true.
-use Rattle.std.proofs.Common.{◌≡◌, ℕ, suc, ◌+◌, ◌-◌, ◌*◌, ◌<◌, ◌≤◌, List, [], ◌∷◌, ◌++◌, Option, Some, None, Bool, true, false, refl, subst, sym, arith}
+use Rattle.std.proofs.Common.{◌≡◌, ℕ, suc, ◌+◌, ◌*◌, ◌<◌, ◌≤◌, List, [], ◌∷◌, ◌++◌, Option, Some, None, Bool, true, false, refl, subst, arith}
 use Rattle.std.specs.Prelude.{pos}
 use Rattle.std.proofs.lemmas.Int.{ints}
 use Rattle.insn_codec.specs.declared.comparison.Comparison.TheVariants.{Eq, Ne}
 use Rattle.insn_codec.specs.declared.insn.Insn.{Insn}
-use Rattle.insn_codec.specs.declared.insn.Insn.TheVariants.{Call}
 use Rattle.insn_codec.specs.declared.operand.Operand.TheVariants.{Imm}
-use Rattle.insn_codec.specs.declared.register.Register.TheVariants.{R0, R1, R2}
+use Rattle.insn_codec.specs.declared.register.Register.TheVariants.{R0}
 use Rattle.insn_codec.specs.declared.width.Width.TheVariants.{W64}
 use Rattle.value_store.specs.Value.{Value, ValueOrError, error, value, list, no_items}
 use Rattle.cel_macros.specs.FoldMeaning.{folded_map, is_error, map_step, pushed, when_true}
@@ -32,7 +31,7 @@ use Rattle.codegen_base.proofs.Macros.PushingTurn.{map_turns}
 use Rattle.codegen_base.proofs.Macros.Turn.{BehindPart, TailRuns, behind, turn_gives}
 use Rattle.codegen_base.proofs.Macros.Within.{fold_within}
 use Rattle.codegen_base.proofs.Pieces.{size-append, size-cons, stands_back, stands_first, stands_front, stands_rest}
-use Rattle.codegen_base.proofs.Runs.{and_then, done, into, looser, to_place}
+use Rattle.codegen_base.proofs.Runs.{and_then, done, looser, to_place}
 use Rattle.codegen_base.proofs.Steps as step
 use Rattle.codegen_base.proofs.Values.{Told, names_error}
 

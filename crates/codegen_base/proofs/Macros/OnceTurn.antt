@@ -1,14 +1,10 @@
 -- What the turn of `exists_one` does behind its predicate, and what is done behind the loop.
-use Rattle.std.proofs.Common.{◌≡◌, ℕ, ◌+◌, ◌<◌, ◌≤◌, Bool, true, false, refl, sym, subst, arith}
-use Rattle.std.specs.Prelude.{pos}
+use Rattle.std.proofs.Common.{ℕ, ◌+◌, ◌<◌, Bool, true, false, refl, sym, subst, arith}
 use Rattle.helper_table.specs.Laws.{Names}
-use Rattle.insn_codec.specs.declared.comparison.Comparison.TheVariants.{Eq}
 use Rattle.insn_codec.specs.declared.register.Register.TheVariants.{R0}
-use Rattle.insn_codec.specs.declared.width.Width.TheVariants.{W64}
 use Rattle.value_store.specs.Value.{ValueOrError, error, value, boolean, null}
 use Rattle.cel_macros.specs.FoldMeaning.{is_error, when_true}
 use Rattle.cel_macros.specs.Logic.{Truth, Yes, No, Other, truth}
-use Rattle.bpf_machine.specs.Words.{compares}
 use Rattle.codegen_base.specs.Body.{Body}
 use Rattle.codegen_base.specs.Contexts.{Context, Fits, Shows}
 use Rattle.codegen_base.specs.Engine.{Setting, Comes}

@@ -1,5 +1,5 @@
 -- The code of `all` and `exists` gives their folds; it leaves the loop at an item that decides.
-use Rattle.std.proofs.Common.{◌≡◌, ℕ, ◌+◌, ◌-◌, ◌*◌, ◌<◌, ◌≤◌, List, ◌++◌, Option, Some, None, Bool, true, false, refl, subst, sym, arith}
+use Rattle.std.proofs.Common.{◌≡◌, ℕ, ◌+◌, ◌<◌, List, ◌++◌, Option, Some, None, true, refl, subst, arith}
 use Rattle.insn_codec.specs.declared.insn.Insn.{Insn}
 use Rattle.value_store.specs.Value.{Value, ValueOrError}
 use Rattle.cel_macros.specs.declared.macros.Macro.TheVariants.{All, Exists}

@@ -1,5 +1,5 @@
 -- A turn of a macro: the code of its part, and a tail behind it.
-use Rattle.std.proofs.Common.{◌≡◌, ℕ, ◌+◌, ◌<◌, ◌≤◌, List, ◌++◌, Some, Bool, true, false, refl, sym, subst, arith, inr}
+use Rattle.std.proofs.Common.{◌≡◌, ℕ, ◌+◌, ◌<◌, List, ◌++◌, Some, Bool, true, false, refl, sym, subst, arith, inr}
 use Rattle.std.specs.Prelude.{slice_get}
 use Rattle.helper_table.specs.Laws.{Names}
 use Rattle.insn_codec.specs.declared.insn.Insn.{Insn}

@@ -1,5 +1,5 @@
 -- A fold within the budgets of a macro.
-use Rattle.std.proofs.Common.{◌≡◌, ℕ, ◌+◌, ◌-◌, ◌*◌, ◌<◌, ◌≤◌, List, Option, Some, Bool, true, false, sym, subst, arith}
+use Rattle.std.proofs.Common.{◌≡◌, ℕ, ◌+◌, ◌-◌, ◌*◌, ◌<◌, ◌≤◌, List, Some, Bool, true, false, subst, arith}
 use Rattle.insn_codec.specs.declared.insn.Insn.{Insn}
 use Rattle.value_store.specs.Value.{Value, ValueOrError}
 use Rattle.cel_macros.specs.Macros.{range_of}

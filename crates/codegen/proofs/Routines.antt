@@ -1,0 +1,15 @@
+-- A variable's routine, which makes a scope grow.
+use Rattle.std.proofs.Common.{◌+◌, ◌++◌, [], arith}
+use Rattle.codegen_base.proofs.Scopes.{scope_begins, scope_grows}
+use Rattle.codegen.specs.Computes.{variable_of}
+use Rattle.codegen.specs.Laws.{RoutineGives}
+use Rattle.codegen.proofs.Computed.{code_gives}
+
+pub routine_gives : RoutineGives
+routine_gives image deep roots constants scope later texts name p e is few literals ready stands =
+    scope_grows image deep roots constants (scope ++ later) (variable_of roots scope texts name e p) is (record {
+      stands = stands;
+      opens = omega arith;
+      gives = λ depth room.
+          code_gives image deep roots constants scope later texts [] [] (depth + 1) 0 p e (scope_begins image deep roots constants scope later is) few literals (record { accepted = ready.accepted; frames = omega arith; room = ready.room; texts_stand = ready.texts_stand; may = ready.may });
+    })

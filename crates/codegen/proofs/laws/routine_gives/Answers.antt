@@ -1,0 +1,5 @@
+use Rattle.codegen.proofs.Routines.{routine_gives}
+use Rattle.codegen.proofs.laws.routine_gives.Goals as goal
+
+pub returns : goal.returns
+returns c = routine_gives
