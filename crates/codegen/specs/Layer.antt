@@ -17,6 +17,7 @@ use Rattle.codegen.specs.Code.Expressions.{code_of, routine_code, texts_of}
 use Rattle.codegen.specs.Computes.{Computes, environment_in, nestings, scope_context, variable_of}
 use Rattle.codegen.specs.Constants.{joined, with_texts}
 use Rattle.codegen.specs.Cost.{IsDeep, cost}
+use Rattle.codegen.specs.Emitted.{Emitted}
 use Rattle.codegen.specs.HasLiterals.{HasLiterals}
 use Rattle.codegen.specs.Surroundings.{routines_of}
 
@@ -77,3 +78,12 @@ VariableJoins = (texts : List (List ℕ)) (slots : List ℕ) (declarations : Lis
 
 abbrev pub VariableIsTaken : Type 0
 VariableIsTaken = (texts : List (List ℕ)) (slots : List ℕ) (declarations : List Declaration) (e : CoreTree) (p : ℕ) → IsTakenBehind texts slots declarations e p
+
+-- the expression's code, put behind the emitter's, gives its meaning, where the type checker takes it in the scope
+abbrev pub EmitsMeaning : Emitted → List Declaration → CoreTree → Type 0
+EmitsMeaning emitter declarations e = (t : CelType) → core_typing e (scope_of declarations) ≡ typed t → GivesMeaning emitter.constants emitter.routines declarations e (length emitter.code)
+
+-- the expression's routine, put behind the emitter's code and a jump over it, is that of the next variable
+abbrev pub EmitsRoutine : Emitted → List Declaration → CoreTree → Type 0
+EmitsRoutine emitter declarations e = (t : CelType) → core_typing e (scope_of declarations) ≡ typed t
+    → JoinsScope emitter.constants emitter.routines declarations e (length emitter.code + 1) × IsTakenBehind emitter.constants emitter.routines declarations e (length emitter.code + 1)
