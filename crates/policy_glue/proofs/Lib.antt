@@ -1,3 +1,4 @@
+mod Accepted
 mod Each
 mod Filled
 mod Joined
