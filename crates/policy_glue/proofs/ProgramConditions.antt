@@ -1,8 +1,7 @@
 -- The code behind the conditions of a policy.
-use Rattle.std.proofs.Common.{◌≡◌, ℕ, ◌+◌, ◌<◌, ◌≤◌, ◌^◌, List, [], Some, Bool, true, false, not, refl, ap, ◌∙◌, subst, sym, arith}
+use Rattle.std.proofs.Common.{◌≡◌, ℕ, ◌+◌, ◌<◌, ◌^◌, List, [], Some, refl, subst, sym, arith}
 use Rattle.std.specs.Prelude.{pos}
 use Rattle.std.specs.Int.{w64, cast_unsigned}
-use Rattle.helper_table.specs.Laws.{Names}
 use Rattle.insn_codec.specs.declared.insn.Insn.TheVariants.{Exit}
 use Rattle.insn_codec.specs.declared.register.Register.TheVariants.{R0, R1, R2}
 use Rattle.value_store.specs.Value.{ValueOrError}
@@ -15,13 +14,13 @@ use Rattle.codegen_base.specs.Words.{set_verdict, verdict_address}
 use Rattle.codegen_base.proofs.Listings.{begins, load_wide, mov, no, yes}
 use Rattle.codegen_base.proofs.Runs.{done, looser}
 use Rattle.policy_glue.specs.Layout.{outcome_word}
-use Rattle.policy_glue.specs.Program.{condition_tail, decided_tail}
-use Rattle.policy_glue.specs.Verdict.{Finding, Outcome, Skipped, Truth, Holds, Fails, Errs, is_failed, is_held, truth_of, undecided}
+use Rattle.policy_glue.specs.Program.{condition_tail}
+use Rattle.policy_glue.specs.Verdict.{Finding, Outcome, Skipped, Holds, Fails, Errs, truth_of, undecided}
 use Rattle.policy_glue.specs.declared.failure_policy.FailurePolicy.{FailurePolicy}
 use Rattle.policy_glue.specs.declared.failure_policy.FailurePolicy.TheVariants.{Fail, Ignore}
-use Rattle.policy_glue.proofs.ProgramMarks.{Judges, Marked, Tests, marks_registers, outcome_stored, tested}
-use Rattle.policy_glue.proofs.ProgramSteps.{load_verdict, store_verdict}
-use Rattle.policy_glue.proofs.VerdictWords.{count_of, message_of, result_of}
+use Rattle.policy_glue.proofs.ProgramMarks.{Judges, Marked, marks_registers, outcome_stored, tested}
+use Rattle.policy_glue.proofs.ProgramSteps.{store_verdict}
+use Rattle.policy_glue.proofs.VerdictWords.{message_of, result_of}
 
 -- the outcome stands in the verdict region and in R0
 pub record Ends (c : Context) (f : FailurePolicy) (outcome : Outcome) (xs : List Finding) (b : Body) : Type 0 where

@@ -1,16 +1,14 @@
 -- What the conditions of a policy decide: the end of the program, or that the policy runs.
-use Rattle.std.proofs.Common.{◌≡◌, ℕ, ◌+◌, ◌<◌, ◌≤◌, List, [], ◌∷◌, ◌++◌, Some, None, Option, Bool, true, false, refl, ap, ◌∙◌, subst, sym, arith}
+use Rattle.std.proofs.Common.{◌≡◌, ℕ, ◌+◌, List, [], ◌∷◌, ◌++◌, Some, None, Option, Bool, true, false, refl, ap, ◌∙◌, subst, sym, arith}
 use Rattle.std.specs.Prelude.{◌&&◌, pos, if◌then◌else◌}
 use Rattle.std.specs.List.{list_any, list_all}
 use Rattle.insn_codec.specs.declared.insn.Insn.{Insn}
 use Rattle.insn_codec.specs.declared.insn.Insn.TheVariants.{Exit}
-use Rattle.insn_codec.specs.declared.register.Register.TheVariants.{R0, R1}
 use Rattle.bpf_machine.specs.Decoding.{fetched}
-use Rattle.codegen_base.specs.Body.{Body, set_register}
+use Rattle.codegen_base.specs.Body.{Body}
 use Rattle.codegen_base.specs.Contexts.{Context}
 use Rattle.codegen_base.specs.Engine.{Setting, Comes}
 use Rattle.codegen_base.specs.Pieces.{Stands, size}
-use Rattle.codegen_base.specs.Words.{verdict_address}
 use Rattle.codegen_base.proofs.Effects.{equal_no, equal_yes}
 use Rattle.codegen_base.proofs.Listings.{begins, load_wide, no, yes}
 use Rattle.codegen_base.proofs.Pieces.{size-append, stands_back, stands_front}

@@ -1,13 +1,11 @@
 -- The code behind the message expression of a validation that denies.
-use Rattle.std.proofs.Common.{◌≡◌, ℕ, ◌+◌, ◌<◌, ◌≤◌, ◌%◌, ◌^◌, ◌⊎◌, inl, inr, List, [], ◌∷◌, ◌++◌, length, length-append, Option, Some, None, Bool, true, false, not, refl, ap, ◌∙◌, subst, sym, arith}
-use Rattle.std.specs.Prelude.{pos, slice_get, if◌then◌else◌}
-use Rattle.std.specs.Int.{w64, cast_unsigned}
+use Rattle.std.proofs.Common.{◌≡◌, ℕ, ◌+◌, ◌<◌, ◌≤◌, inl, inr, List, [], ◌∷◌, ◌++◌, length, Some, None, true, false, refl, ap, ◌∙◌, subst, sym, arith}
+use Rattle.std.specs.Prelude.{pos, slice_get}
 use Rattle.std.proofs.lemmas.Bool.{cases_lt}
 use Rattle.helper_table.specs.Conversions.{kind_number}
 use Rattle.helper_table.specs.Laws.{Names}
-use Rattle.insn_codec.specs.declared.comparison.Comparison.TheVariants.{Eq, Ne}
-use Rattle.insn_codec.specs.declared.insn.Insn.{Insn}
-use Rattle.insn_codec.specs.declared.register.Register.TheVariants.{R0, R1, R2, R3, R6, R10}
+use Rattle.insn_codec.specs.declared.comparison.Comparison.TheVariants.{Ne}
+use Rattle.insn_codec.specs.declared.register.Register.TheVariants.{R0, R1, R6}
 use Rattle.insn_codec.specs.declared.width.Width.TheVariants.{W64}
 use Rattle.value_store.specs.Calls.{text_at}
 use Rattle.value_store.specs.Placing.{Contents, IsStore, charge_limit}
@@ -18,23 +16,22 @@ use Rattle.codegen_base.specs.Body.{Body, set_register}
 use Rattle.codegen_base.specs.Calls.{Tells, answered}
 use Rattle.codegen_base.specs.Contexts.{Context, Fits}
 use Rattle.codegen_base.specs.Engine.{Setting, Comes}
-use Rattle.codegen_base.specs.Pieces.{Stands, size}
-use Rattle.codegen_base.specs.Words.{set_verdict, verdict_address, verdict_at}
-use Rattle.codegen_base.proofs.Effects.{add_is, differs_no, differs_yes, equal_no, equal_yes}
+use Rattle.codegen_base.specs.Pieces.{Stands}
+use Rattle.codegen_base.specs.Words.{set_verdict, verdict_address}
+use Rattle.codegen_base.proofs.Effects.{differs_no, differs_yes}
 use Rattle.codegen_base.proofs.Frames.{fits_registers}
 use Rattle.codegen_base.proofs.Helpers.{helpers}
-use Rattle.codegen_base.proofs.Listings.{alu, ask, begins, load_wide, mov, no, yes}
+use Rattle.codegen_base.proofs.Listings.{ask, begins, load_wide, mov, no, yes}
 use Rattle.codegen_base.proofs.Operands.{fits_told}
-use Rattle.codegen_base.proofs.Runs.{done, from_place, looser, to_place}
+use Rattle.codegen_base.proofs.Runs.{done, looser}
 use Rattle.codegen_base.proofs.Values.{names_error, small_reference}
-use Rattle.policy_glue.specs.Layout.{IsMessageWord, first_message, first_result, most_validations, truth_word}
-use Rattle.policy_glue.specs.Program.{denial_code, error_denies, message_tail, result_tail}
-use Rattle.policy_glue.specs.Verdict.{Finding, Truth, Holds, Fails, Errs, denies, is_denial, truth_of}
+use Rattle.policy_glue.specs.Layout.{IsMessageWord, first_message, most_validations}
+use Rattle.policy_glue.specs.Program.{message_tail}
+use Rattle.policy_glue.specs.Verdict.{Finding}
 use Rattle.policy_glue.specs.declared.failure_policy.FailurePolicy.{FailurePolicy}
-use Rattle.policy_glue.specs.declared.failure_policy.FailurePolicy.TheVariants.{Fail, Ignore}
-use Rattle.policy_glue.proofs.ProgramMarks.{Judges, Marked, Marks, denials_stored, marks_registers, marks_told, message_stored, result_stored, tested}
-use Rattle.policy_glue.proofs.ProgramSteps.{load_verdict, store_verdict}
-use Rattle.policy_glue.proofs.VerdictWords.{count_more, count_of, count_small, message_last, message_none, message_of, message_other, result_last, result_of, result_other, text_is}
+use Rattle.policy_glue.proofs.ProgramMarks.{Marked, marks_registers, marks_told, message_stored}
+use Rattle.policy_glue.proofs.ProgramSteps.{store_verdict}
+use Rattle.policy_glue.proofs.VerdictWords.{count_of, message_last, message_none, message_of, message_other, result_of}
 use Rattle.policy_glue.proofs.ProgramValidations.{Counted}
 
 -- a text, or something else

@@ -1,5 +1,5 @@
 -- The outcome of a policy that ran.
-use Rattle.std.proofs.Common.{◌≡◌, ℕ, ◌+◌, ◌<◌, ◌≤◌, ◌^◌, List, [], ◌∷◌, length, Bool, true, false, refl, ap, ◌∙◌, subst, sym, arith}
+use Rattle.std.proofs.Common.{◌≡◌, ℕ, ◌+◌, ◌≤◌, List, [], ◌∷◌, Bool, true, false, refl, ◌∙◌, subst, sym, arith}
 use Rattle.std.specs.Prelude.{◌||◌, if◌then◌else◌}
 use Rattle.std.specs.List.{list_any}
 use Rattle.std.proofs.lemmas.List.Sums.{sum_by-cons}
@@ -12,9 +12,8 @@ use Rattle.codegen_base.specs.Words.{set_verdict, verdict_address, verdict_at}
 use Rattle.codegen_base.proofs.Effects.{equal_no, equal_yes}
 use Rattle.codegen_base.proofs.Listings.{begins, load_wide, mov, no, yes}
 use Rattle.codegen_base.proofs.Runs.{done, looser}
-use Rattle.policy_glue.specs.Layout.{outcome_word}
 use Rattle.policy_glue.specs.Program.{outcome_tail}
-use Rattle.policy_glue.specs.Verdict.{Finding, Outcome, Denied, Admitted, is_denial}
+use Rattle.policy_glue.specs.Verdict.{Finding, Denied, Admitted, is_denial}
 use Rattle.policy_glue.specs.declared.failure_policy.FailurePolicy.{FailurePolicy}
 use Rattle.policy_glue.proofs.ProgramConditions.{Ends}
 use Rattle.policy_glue.proofs.ProgramMarks.{Marked, marks_registers, outcome_stored}

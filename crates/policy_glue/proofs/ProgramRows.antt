@@ -1,29 +1,22 @@
 -- The conditions of a policy, one behind another, and what they decide.
-use Rattle.std.proofs.Common.{append_assoc, ◌≡◌, ℕ, ◌+◌, ◌<◌, ◌≤◌, ◌^◌, List, [], ◌∷◌, ◌++◌, Some, None, Option, Bool, true, false, not, refl, ap, ◌∙◌, subst, sym, arith, true≢false}
+use Rattle.std.proofs.Common.{append_assoc, ◌≡◌, ℕ, ◌+◌, List, [], ◌∷◌, ◌++◌, Some, Bool, true, false, refl, subst, sym, arith, true≢false}
 use Rattle.std.specs.Prelude.{◌||◌, pos, map, if◌then◌else◌}
-use Rattle.std.specs.List.{list_any, list_all}
-use Rattle.insn_codec.specs.declared.insn.Insn.{Insn}
+use Rattle.std.specs.List.{list_any}
 use Rattle.insn_codec.specs.declared.insn.Insn.TheVariants.{Exit}
-use Rattle.insn_codec.specs.declared.register.Register.TheVariants.{R0, R1}
-use Rattle.value_store.specs.Value.{ValueOrError}
 use Rattle.bpf_machine.specs.Decoding.{fetched}
-use Rattle.codegen_base.specs.Body.{Body, set_register}
+use Rattle.codegen_base.specs.Body.{Body}
 use Rattle.codegen_base.specs.Contexts.{Context}
 use Rattle.codegen_base.specs.Engine.{Setting, Comes}
 use Rattle.codegen_base.specs.Pieces.{Stands, size}
-use Rattle.codegen_base.specs.Words.{verdict_address}
-use Rattle.codegen_base.proofs.Effects.{equal_no, equal_yes}
-use Rattle.codegen_base.proofs.Listings.{begins, load_wide, no, yes}
-use Rattle.codegen_base.proofs.Pieces.{size-append, stands_back, stands_front}
-use Rattle.codegen_base.proofs.Runs.{and_then, done, from_place, into, looser, to_place}
+use Rattle.codegen_base.proofs.Pieces.{stands_back, stands_front}
+use Rattle.codegen_base.proofs.Runs.{and_then, done, into, looser}
 use Rattle.policy_glue.specs.Layout.{outcome_word}
-use Rattle.policy_glue.specs.Program.{condition_tail, conditions_code, decided_tail}
-use Rattle.policy_glue.specs.ProgramParts.{ConditionsGive, Part, PartGives, codes_of, conditions_charge, conditions_steps, values_given}
-use Rattle.policy_glue.specs.Verdict.{Finding, Outcome, Skipped, Truth, Holds, Fails, Errs, decided_before, is_failed, is_held, truth_of, undecided}
+use Rattle.policy_glue.specs.Program.{condition_tail, conditions_code}
+use Rattle.policy_glue.specs.ProgramParts.{ConditionsGive, Part, PartGives, codes_of, conditions_charge, conditions_steps}
+use Rattle.policy_glue.specs.Verdict.{Finding, Skipped, Truth, Holds, Fails, Errs, is_failed, is_held, truth_of, undecided}
 use Rattle.policy_glue.specs.declared.failure_policy.FailurePolicy.{FailurePolicy}
 use Rattle.policy_glue.proofs.ProgramConditions.{Ends, condition_errs, condition_fails, condition_holds, exit_stands}
-use Rattle.policy_glue.proofs.ProgramMarks.{Judges, Marked, marks_registers, marks_shown}
-use Rattle.policy_glue.proofs.ProgramSteps.{load_verdict}
+use Rattle.policy_glue.proofs.ProgramMarks.{Judges, Marked, marks_shown}
 use Rattle.policy_glue.proofs.VerdictWords.{count_of, message_of, result_of}
 
 -- an expression has run between the others

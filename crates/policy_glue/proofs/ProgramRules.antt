@@ -1,25 +1,24 @@
 -- The validations of a policy, one behind another.
-use Rattle.std.proofs.Common.{◌≡◌, ℕ, suc, ◌+◌, ◌<◌, ◌≤◌, List, [], ◌∷◌, ◌++◌, length, length-append, Option, Some, None, Bool, true, false, refl, ap, ◌∙◌, subst, sym, arith, append_assoc}
+use Rattle.std.proofs.Common.{◌≡◌, ℕ, ◌+◌, ◌<◌, ◌≤◌, List, [], ◌∷◌, ◌++◌, length, length-append, Option, Some, None, Bool, true, false, refl, ap, ◌∙◌, subst, sym, arith, append_assoc}
 use Rattle.std.specs.Prelude.{map, option_map, if◌then◌else◌}
 use Rattle.insn_codec.specs.declared.insn.Insn.{Insn}
 use Rattle.insn_codec.specs.declared.comparison.Comparison.TheVariants.{Eq}
 use Rattle.insn_codec.specs.declared.register.Register.TheVariants.{R3}
 use Rattle.std.specs.Prelude.{pos}
-use Rattle.value_store.specs.Calls.{text_at}
 use Rattle.value_store.specs.Value.{ValueOrError}
 use Rattle.codegen_base.specs.Body.{Body}
 use Rattle.codegen_base.specs.Contexts.{Context}
 use Rattle.codegen_base.specs.Engine.{Setting, Comes}
 use Rattle.codegen_base.specs.Instructions.{skip_if}
 use Rattle.codegen_base.specs.Pieces.{Stands, size}
-use Rattle.codegen_base.proofs.Pieces.{size-append, stands_back, stands_front, stands_rest}
-use Rattle.codegen_base.proofs.Runs.{and_then, done, into, looser, to_place}
+use Rattle.codegen_base.proofs.Pieces.{size-append, stands_back, stands_front}
+use Rattle.codegen_base.proofs.Runs.{and_then, done, looser, to_place}
 use Rattle.policy_glue.specs.Layout.{most_validations}
-use Rattle.policy_glue.specs.Program.{Validation, count_code, denial_code, message_code, message_tail, result_tail, validation_code, validations_code}
+use Rattle.policy_glue.specs.Program.{count_code, denial_code, message_code, message_tail, result_tail, validation_code, validations_code}
 use Rattle.policy_glue.specs.ProgramParts.{MessageGives, Part, PartGives, RulePart, ValidationsGive, found, message_charge, message_size, message_steps, rule_charge, rule_code, rule_codes, rule_size, rule_steps, validations_charge, validations_steps}
-use Rattle.policy_glue.specs.Verdict.{Finding, Truth, denies, is_denial, text_given, truth_of}
+use Rattle.policy_glue.specs.Verdict.{Finding, denies, is_denial, text_given, truth_of}
 use Rattle.policy_glue.specs.declared.failure_policy.FailurePolicy.{FailurePolicy}
-use Rattle.policy_glue.proofs.ProgramMarks.{Judges, Marked, marks_shown}
+use Rattle.policy_glue.proofs.ProgramMarks.{Marked, marks_shown}
 use Rattle.policy_glue.proofs.ProgramMessages.{message_runs}
 use Rattle.policy_glue.proofs.ProgramRows.{part_runs}
 use Rattle.policy_glue.proofs.ProgramValidations.{Counted, Scored, denied, not_denied, result_runs, untold}

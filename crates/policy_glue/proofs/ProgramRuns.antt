@@ -1,28 +1,26 @@
 -- The program of a policy decides as the policy does, within its budget.
-use Rattle.std.proofs.Common.{◌≡◌, ℕ, suc, ◌+◌, ◌-◌, ◌*◌, ◌<◌, ◌≤◌, ◌⊎◌, inl, inr, List, [], ◌∷◌, ◌++◌, length, length-append, append-nil, append_assoc, Option, Some, None, Bool, true, false, refl, ap, ◌∙◌, subst, sym, arith, true≢false}
-use Rattle.std.specs.Prelude.{◌||◌, All, fold, map, if◌then◌else◌}
-use Rattle.std.proofs.lemmas.List.Sums.{fold-append}
-use Rattle.guest_memory.specs.declared.fault.Fault.TheVariants.{F8}
+use Rattle.std.proofs.Common.{◌≡◌, ℕ, suc, ◌+◌, ◌*◌, ◌<◌, ◌≤◌, inl, inr, List, [], ◌∷◌, ◌++◌, length, length-append, append-nil, append_assoc, Bool, true, false, refl, ap, ◌∙◌, subst, sym, arith}
+use Rattle.std.specs.Prelude.{◌||◌, All, map, if◌then◌else◌}
 use Rattle.insn_codec.specs.declared.insn.Insn.{Insn}
 use Rattle.insn_codec.specs.declared.insn.Insn.TheVariants.{Exit}
-use Rattle.insn_codec.specs.declared.register.Register.TheVariants.{R0}
 use Rattle.loader.specs.Contents as loader
-use Rattle.value_store.specs.Placing.{Contents, charge_limit}
+use Rattle.value_store.specs.Placing.{Contents}
 use Rattle.value_store.specs.Value.{ValueOrError}
 use Rattle.cel_reader.specs.Tree.{Tree}
 use Rattle.cel_macros.specs.Environment.{Environment, Roots}
 use Rattle.cel_types.specs.Declarations.{Declaration}
 use Rattle.bpf_machine.specs.Decoding.{DecodesSpelling}
+use Rattle.bpf_machine.specs.Laws.{stays_stopped}
 use Rattle.bpf_machine.specs.State.{State, start_state}
 use Rattle.bpf_machine.specs.Trace.{state_after}
-use Rattle.bpf_machine.specs.declared.status.Status.TheVariants.{Exited, Fault}
-use Rattle.codegen_base.specs.Body.{Body, at}
+use Rattle.bpf_machine.specs.declared.status.Status.TheVariants.{Exited}
+use Rattle.codegen_base.specs.Body.{Body}
 use Rattle.codegen_base.specs.Contexts.{HasValues}
 use Rattle.codegen_base.specs.Engine.{Halts, Left, Over}
 use Rattle.codegen_base.specs.Instructions.{skip}
 use Rattle.codegen_base.specs.Pieces.{AreInsns, Stands, size, spellings}
 use Rattle.codegen_base.specs.Programs.{start_body, total}
-use Rattle.codegen_base.specs.Scopes.{IsScope, Variable, bindings, first_charges, first_steps, scope_setting}
+use Rattle.codegen_base.specs.Scopes.{Variable, bindings, first_charges, first_steps, scope_setting}
 use Rattle.codegen_base.specs.Variables.{routine_context}
 use Rattle.codegen_base.proofs.Pieces.{size-append, size-cons, stands_front}
 use Rattle.codegen_base.proofs.Programs.{pending-most}
@@ -35,13 +33,13 @@ use Rattle.policy_glue.specs.Budget.{conditions_cost, is_running, policy_cost, p
 use Rattle.policy_glue.specs.Checking.{scope_after, with_variable}
 use Rattle.policy_glue.specs.Evaluation.{condition_values, decision_of, environment_with, values_of, with_value}
 use Rattle.policy_glue.specs.Evaluation as evaluation
-use Rattle.policy_glue.specs.Layout.{IsLayout, most_validations, outcome_word}
+use Rattle.policy_glue.specs.Layout.{IsLayout, most_validations}
 use Rattle.policy_glue.specs.Limits.{condition_texts, policy_texts, tree_texts, validation_texts, variable_texts}
-use Rattle.policy_glue.specs.Program.{Validation, conditions_code, policy_code, routines_code}
-use Rattle.policy_glue.specs.ProgramCode.{Laid, after_condition, after_conditions, after_variables, condition_codes, laid_conditions, laid_routines, nothing_laid, program_of, validation_codes, variable_code, variable_codes, with_routine}
+use Rattle.policy_glue.specs.Program.{policy_code, routines_code}
+use Rattle.policy_glue.specs.ProgramCode.{Laid, after_condition, after_conditions, after_variables, laid_conditions, laid_routines, nothing_laid, program_of, validation_codes, variable_code, variable_codes, with_routine}
 use Rattle.policy_glue.specs.ProgramLaws.{LeavesVerdict, conditions_place, passes, program_charge, program_steps, validations_place}
 use Rattle.policy_glue.specs.ProgramParts.{ConditionsGive, Part, RulePart, ValidationsGive, codes_of, rule_codes, rules_given, validations_charge, validations_steps, values_given}
-use Rattle.policy_glue.specs.ProgramTrees.{Decides, HasProgram, ProgramDecides, ProgramIsCode}
+use Rattle.policy_glue.specs.ProgramTrees.{Decides, HasProgram, ProgramDecides, ProgramIsCode, ProgramStops}
 use Rattle.policy_glue.specs.ProgramTrees as trees
 use Rattle.policy_glue.specs.Trees.{PolicyTree, RuleTree, VariableTree}
 use Rattle.policy_glue.specs.Verdict.{Verdict, decided_before, truth_of, verdict_of}
@@ -285,3 +283,10 @@ module _ (law : DecodesSpelling) (f : FailurePolicy) (p : PolicyTree) (roots : R
 pub program_decides : DecodesSpelling → ProgramIsCode → ProgramDecides
 program_decides law codes f p roots image values m has code_is constants_are bytes constant_bytes table enough =
     decides law f p roots image values has (codes f p has) code_is constants_are bytes constant_bytes table m enough
+
+pub program_stops : ProgramDecides → ProgramStops
+program_stops law f p roots image values k has code_is constants_are bytes constant_bytes table stopped =
+    let start = start_state image values in
+    let m = k + 128 * policy_work f p roots in
+    let same : state_after k start ≡ state_after m start = stays_stopped start (state_after k start) k m refl stopped (omega arith) in
+    subst (Decides f p roots values) (sym same) (law f p roots image values m has code_is constants_are bytes constant_bytes table (omega arith))

@@ -1,6 +1,6 @@
 -- The conditions and validations of a policy's program: what the code of each gives where it stands.
-use Rattle.std.proofs.Common.{◌≡◌, ℕ, ◌+◌, ◌-◌, ◌*◌, ◌<◌, ◌≤◌, List, [], ◌∷◌, ◌++◌, length, append-nil, append_assoc, Option, Some, None, Bool, true, false, refl, ap, ◌∙◌, subst, sym, arith, true≢false}
-use Rattle.std.specs.Prelude.{◌&&◌, ◌||◌, map, option_map, if◌then◌else◌}
+use Rattle.std.proofs.Common.{◌≡◌, ℕ, ◌+◌, ◌-◌, ◌*◌, ◌≤◌, List, [], ◌∷◌, ◌++◌, length, append-nil, append_assoc, Option, Some, None, Bool, true, false, refl, ap, ◌∙◌, subst, sym, arith, true≢false}
+use Rattle.std.specs.Prelude.{◌||◌, map, option_map}
 use Rattle.insn_codec.specs.declared.insn.Insn.{Insn}
 use Rattle.loader.specs.Contents.{Contents}
 use Rattle.value_store.specs.Value.{ValueOrError}
@@ -10,27 +10,26 @@ use Rattle.cel_macros.specs.Environment.{Environment, Roots}
 use Rattle.cel_macros.specs.Meaning.{meaning}
 use Rattle.cel_macros.proofs.Expansion.{expansion_plain}
 use Rattle.cel_types.specs.Declarations.{Declaration}
-use Rattle.codegen_base.specs.Contexts.{Context, Gives}
+use Rattle.codegen_base.specs.Contexts.{Context}
 use Rattle.codegen_base.specs.Engine.{Setting}
-use Rattle.codegen_base.specs.Pieces.{size}
 use Rattle.codegen_base.specs.Scopes.{IsScope, Variable, bindings, scope_setting}
 use Rattle.codegen_base.specs.Variables.{routine_context}
 use Rattle.codegen_base.proofs.Scopes.{no_scope}
-use Rattle.codegen.specs.Computes.{Computes, environment_in}
+use Rattle.codegen.specs.Computes.{Computes}
 use Rattle.codegen.specs.Constants.{joined, with_texts}
-use Rattle.codegen.specs.Cost.{Cost, IsDeep, cost, spent_by}
-use Rattle.codegen.specs.Layer.{AreShallow, AreTaken, HasConstants, IsExpression}
-use Rattle.codegen.proofs.Layer.{expression_gives}
-use Rattle.policy_glue.specs.Budget.{conditions_cost, is_denied, is_running, message_cost, part_cost, rule_cost, rules_cost}
+use Rattle.codegen.specs.Cost.{IsDeep, cost, spent_by}
+use Rattle.codegen.specs.Layer.{AreShallow, AreTaken, IsExpression}
+use Rattle.codegen.proofs.Layer.{expression_gives, frames_are_enough}
+use Rattle.policy_glue.specs.Budget.{conditions_cost, message_cost, rules_cost}
 use Rattle.policy_glue.specs.Evaluation.{condition_values, environment_with, rule_value}
 use Rattle.policy_glue.specs.Limits.{condition_texts, message_texts, rule_texts, tree_texts, validation_texts}
-use Rattle.policy_glue.specs.ProgramCode.{Laid, after_condition, after_conditions, before_message, condition_codes, message_codes, tree_code, validation_codes, with_message, with_tree}
-use Rattle.policy_glue.specs.ProgramParts.{ConditionsGive, MessageGives, Part, PartGives, RulePart, ValidationsGive, codes_of, conditions_charge, conditions_steps, message_charge, message_size, message_steps, rule_charge, rule_codes, rule_size, rule_steps, rules_given, validations_charge, validations_steps, values_given}
+use Rattle.policy_glue.specs.ProgramCode.{Laid, after_condition, before_message, condition_codes, message_codes, tree_code, validation_codes, with_message}
+use Rattle.policy_glue.specs.ProgramParts.{ConditionsGive, MessageGives, Part, PartGives, RulePart, ValidationsGive, codes_of, conditions_charge, conditions_steps, message_charge, message_size, message_steps, rule_codes, rule_size, rules_given, validations_charge, validations_steps, values_given}
 use Rattle.policy_glue.specs.ProgramTrees.{AreConditions, AreRules, IsMessage}
 use Rattle.policy_glue.specs.Trees.{RuleTree}
 use Rattle.policy_glue.specs.Verdict.{denies, truth_of}
 use Rattle.policy_glue.specs.declared.failure_policy.FailurePolicy.{FailurePolicy}
-use Rattle.policy_glue.proofs.ProgramVariables.{Known, has_constants, or_left, or_right, used_more}
+use Rattle.policy_glue.proofs.ProgramVariables.{has_constants, or_left, or_right, used_more}
 
 -- ---- the parts of the trees
 
@@ -97,7 +96,7 @@ module _ (image : Contents) (deep : Bool) (roots : Roots) (everything : List (Li
       let env = environment_with roots (bindings scope) in
       let s = scope_setting image deep (scope ++ later) in
       let c = routine_context roots (bindings (scope ++ later)) image.constants in
-      let given : Computes s l.place (tree_code ds l a) c 0 0 (meaning (plain_tree (expanded a)) env) (cost (plain_tree (expanded a)) env) = expression_gives l.texts l.routines ds (expanded a) l.place expression image deep roots image.constants scope later taken shallow short (has_constants image.constants everything l.texts a rest are few used) is (λ e. may (subst (λ (t : Tree). IsDeep t env) plain e)) in
+      let given : Computes s l.place (tree_code ds l a) c 0 0 (meaning (plain_tree (expanded a)) env) (cost (plain_tree (expanded a)) env) = expression_gives l.texts l.routines ds (expanded a) l.place expression image deep roots image.constants scope later 0 taken (let within = frames_are_enough ds (expanded a) shallow in omega arith) short (has_constants image.constants everything l.texts a rest are few used) is (λ e. may (subst (λ (t : Tree). IsDeep t env) plain e)) in
       let meant : Computes s l.place (tree_code ds l a) c 0 0 (meaning a env) (cost a env) = subst (λ (t : Tree). Computes s l.place (tree_code ds l a) c 0 0 (meaning t env) (cost t env)) plain given in
       subst (λ (vs : List Variable). Computes (scope_setting image deep vs) l.place (tree_code ds l a) (routine_context roots (bindings vs) image.constants) 0 0 (meaning a env) (cost a env)) whole meant
 

@@ -1,18 +1,15 @@
 -- The variables of a policy's program, one behind another.
-use Rattle.std.proofs.Common.{◌≡◌, ℕ, ◌+◌, ◌-◌, ◌*◌, ◌<◌, ◌≤◌, List, [], ◌∷◌, ◌++◌, length, length-append, append-nil, append_assoc, Bool, true, false, refl, ap, ◌∙◌, subst, sym, arith, inl, inr}
+use Rattle.std.proofs.Common.{◌≡◌, ℕ, ◌+◌, ◌-◌, ◌*◌, ◌≤◌, List, [], ◌∷◌, ◌++◌, length, length-append, append-nil, append_assoc, Bool, true, false, refl, ap, ◌∙◌, subst, sym, arith}
 use Rattle.std.specs.Prelude.{◌||◌, fold}
-use Rattle.std.specs.Prelude.{map as each}
-use Rattle.std.specs.List.{AllByRecursion}
 use Rattle.std.proofs.lemmas.List.{map-append}
 use Rattle.std.proofs.lemmas.List.Sums.{fold-append}
-use Rattle.insn_codec.specs.declared.insn.Insn.{Insn}
 use Rattle.loader.specs.Contents.{Contents}
 use Rattle.value_store.specs.Value.{ValueOrError}
 use Rattle.cel_macros.specs.CoreTree.{expanded, plain_tree}
 use Rattle.cel_macros.specs.Environment.{Roots}
 use Rattle.cel_macros.specs.Meaning.{meaning}
 use Rattle.cel_macros.proofs.Expansion.{expansion_plain}
-use Rattle.cel_types.specs.Declarations.{Declaration, declared, scope_of}
+use Rattle.cel_types.specs.Declarations.{Declaration, scope_of}
 use Rattle.cel_types.specs.Typing.{typing as type_of}
 use Rattle.codegen_base.specs.Instructions.{skip}
 use Rattle.codegen_base.specs.Pieces.{Stands, size}

@@ -1,12 +1,11 @@
 -- The code of a policy, from its start to its exit.
-use Rattle.std.proofs.Common.{◌≡◌, ℕ, suc, ◌+◌, ◌*◌, ◌<◌, ◌≤◌, List, [], ◌∷◌, ◌++◌, length, replicate, Option, Some, None, Bool, true, false, refl, ap, ◌∙◌, subst, sym, arith, append_assoc}
+use Rattle.std.proofs.Common.{◌≡◌, ℕ, ◌+◌, ◌<◌, ◌≤◌, List, [], ◌∷◌, ◌++◌, length, Option, Some, None, true, refl, ap, ◌∙◌, subst, sym, arith, append_assoc}
 use Rattle.std.specs.Prelude.{All, map, pos, if◌then◌else◌}
 use Rattle.std.specs.List.{list_any}
 use Rattle.std.proofs.lemmas.Int.{ints}
 use Rattle.guest_memory.specs.Memory.{start_memory}
 use Rattle.insn_codec.specs.declared.insn.Insn.{Insn}
 use Rattle.insn_codec.specs.declared.insn.Insn.TheVariants.{Exit}
-use Rattle.insn_codec.specs.declared.register.Register.TheVariants.{R0}
 use Rattle.loader.specs.Contents as loader
 use Rattle.value_store.specs.Placing.{Contents}
 use Rattle.value_store.specs.Value.{ValueOrError}
@@ -20,19 +19,19 @@ use Rattle.codegen_base.specs.Contexts.{Context, HasValues}
 use Rattle.codegen_base.specs.Engine.{Setting, Comes, Halts}
 use Rattle.codegen_base.specs.Instructions.{skip}
 use Rattle.codegen_base.specs.Pieces.{Stands, size}
-use Rattle.codegen_base.specs.Programs.{start_body, total}
-use Rattle.codegen_base.specs.Scopes.{Variable, bindings, first_steps, scope_setting}
-use Rattle.codegen_base.specs.Variables.{pending, routine_context}
+use Rattle.codegen_base.specs.Programs.{start_body}
+use Rattle.codegen_base.specs.Scopes.{bindings, first_steps, scope_setting}
+use Rattle.codegen_base.specs.Variables.{routine_context}
 use Rattle.codegen_base.proofs.Exits.{comes_to_exit}
 use Rattle.codegen_base.proofs.Pieces.{size-append, size-cons, stands_back, stands_first, stands_front, stands_rest}
 use Rattle.codegen_base.proofs.Programs.{halts_into, pending-most, start_fits, start_is, word_in-zeros}
-use Rattle.codegen_base.proofs.Runs.{and_then, done, into, looser, to_place}
+use Rattle.codegen_base.proofs.Runs.{and_then, done, looser, to_place}
 use Rattle.codegen_base.proofs.Spelled.{spelled_stands}
 use Rattle.codegen_base.proofs.Steps as step
 use Rattle.policy_glue.specs.Budget.{is_running}
-use Rattle.policy_glue.specs.Layout.{most_validations, outcome_word}
+use Rattle.policy_glue.specs.Layout.{most_validations}
 use Rattle.policy_glue.specs.Program.{conditions_code, decided_tail, outcome_tail, policy_code, routines_code, validations_code}
-use Rattle.policy_glue.specs.ProgramLaws.{LeavesVerdict, PolicyDecides, conditions_place, passes, program_charge, program_steps, validations_place}
+use Rattle.policy_glue.specs.ProgramLaws.{LeavesVerdict, PolicyDecides, conditions_place, program_charge, program_steps, validations_place}
 use Rattle.policy_glue.specs.ProgramParts.{ConditionsGive, Part, RulePart, ValidationsGive, codes_of, conditions_charge, conditions_steps, found, rule_codes, rules_given, validations_charge, validations_steps, values_given}
 use Rattle.policy_glue.specs.Verdict.{Denied, Admitted, Finding, Outcome, Verdict, decided, decided_before, finding_of, is_denial, judged_by, truth_of, verdict_of}
 use Rattle.policy_glue.specs.declared.failure_policy.FailurePolicy.{FailurePolicy}
@@ -41,7 +40,7 @@ use Rattle.policy_glue.proofs.ProgramDecided.{Exits, conditions_end, conditions_
 use Rattle.policy_glue.proofs.ProgramMarks.{Marked}
 use Rattle.policy_glue.proofs.ProgramOutcome.{outcome_runs, outcome_tail_size}
 use Rattle.policy_glue.proofs.ProgramRows.{truths_of}
-use Rattle.policy_glue.proofs.ProgramRules.{rules_run, rules_size, rules_slots}
+use Rattle.policy_glue.proofs.ProgramRules.{rules_run, rules_size}
 use Rattle.policy_glue.proofs.VerdictWords.{is_layout}
 
 -- ---- lists of values

@@ -18,5 +18,6 @@ pub mod ProgramTrees
 pub mod Reading
 pub mod Response
 pub mod Rows
+pub mod RunRows
 pub mod Trees
 pub mod Verdict

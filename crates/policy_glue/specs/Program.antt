@@ -9,9 +9,10 @@ use Rattle.insn_codec.specs.declared.operand.Operand.TheVariants.{Imm}
 use Rattle.insn_codec.specs.declared.register.Register.TheVariants.{R0, R1, R2, R3, R6}
 use Rattle.insn_codec.specs.declared.size.Size.TheVariants.{Dw}
 use Rattle.insn_codec.specs.declared.width.Width.TheVariants.{W64}
-use Rattle.codegen_base.specs.Instructions.{copy, load_wide, put, skip, skip_if}
+use Rattle.codegen_base.specs.Instructions.{copy, load_wide, put, skip_if}
 use Rattle.codegen_base.specs.Pieces.{size}
 use Rattle.codegen_base.specs.Words.{verdict_address}
+use Rattle.codegen.specs.Added.{passed}
 use Rattle.policy_glue.specs.Layout.{first_message, first_result, outcome_word, truth_word}
 use Rattle.policy_glue.specs.Verdict.{Skipped, Denied, Admitted, Holds, Fails, Errs, undecided}
 use Rattle.policy_glue.specs.declared.failure_policy.FailurePolicy.{FailurePolicy}
@@ -124,7 +125,7 @@ validations_code f i (v ∷ more) = validation_code f i v ++ validations_code f 
 -- routines one behind another, each behind a jump over it
 abbrev pub routines_code : List (List Insn) → List Insn
 routines_code [] = []
-routines_code (routine ∷ more) = skip (size routine) ∷ (routine ++ routines_code more)
+routines_code (routine ∷ more) = passed routine ++ routines_code more
 
 -- the whole but for its exit
 unfoldable pub policy_code : FailurePolicy → List (List Insn) → List (List Insn) → List Validation → List Insn

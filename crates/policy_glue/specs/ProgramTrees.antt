@@ -1,5 +1,5 @@
 -- The policies that have a program, and what their programs do.
-use Rattle.std.specs.Prelude.{◌≡◌, ℕ, ◌+◌, ◌*◌, ◌<◌, ◌≤◌, ◌⊎◌, All, true, List, [], ◌∷◌, length, Option, Some, None}
+use Rattle.std.specs.Prelude.{◌≡◌, ℕ, ◌+◌, ◌*◌, ◌<◌, ◌≤◌, ◌⊎◌, All, false, List, [], ◌∷◌, length, Option, Some, None}
 use Rattle.guest_memory.specs.declared.fault.Fault.TheVariants.{F8}
 use Rattle.loader.specs.Contents as loader
 use Rattle.value_store.specs.Placing.{Contents, charge_limit}
@@ -8,6 +8,7 @@ use Rattle.cel_macros.specs.CoreTree.{expanded}
 use Rattle.cel_macros.specs.Environment.{Roots}
 use Rattle.cel_types.specs.Declarations.{Declaration}
 use Rattle.bpf_machine.specs.State.{State, start_state}
+use Rattle.bpf_machine.specs.Step.{is_running}
 use Rattle.bpf_machine.specs.Trace.{state_after}
 use Rattle.bpf_machine.specs.declared.status.Status.TheVariants.{Exited, Fault}
 use Rattle.codegen_base.specs.Contexts.{HasValues}
@@ -65,6 +66,13 @@ ProgramDecides = (f : FailurePolicy) (p : PolicyTree) (roots : Roots) (image : l
     → HasProgram p → image.code ≡ spellings (program_of f p) → image.constants ≡ joined (policy_texts p)
     → All (λ b. b < 256) image.code → All (λ b. b < 256) image.constants → HasValues roots values
     → 128 * policy_work f p roots ≤ m → Decides f p roots values (state_after m (start_state image values))
+
+-- and wherever that run stands stopped, it is there
+abbrev pub ProgramStops : Type 0
+ProgramStops = (f : FailurePolicy) (p : PolicyTree) (roots : Roots) (image : loader.Contents) (values : Contents) (k : ℕ)
+    → HasProgram p → image.code ≡ spellings (program_of f p) → image.constants ≡ joined (policy_texts p)
+    → All (λ b. b < 256) image.code → All (λ b. b < 256) image.constants → HasValues roots values
+    → is_running (state_after k (start_state image values)).status ≡ false → Decides f p roots values (state_after k (start_state image values))
 
 -- it has at most 128 slots for each of the policy's nodes, and can be spelled
 abbrev pub ProgramIsShort : Type 0

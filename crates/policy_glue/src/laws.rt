@@ -3,6 +3,7 @@
 ghost use Rattle.policy_glue.specs.BudgetRows.{BudgetRowsStand};
 ghost use Rattle.policy_glue.specs.DecisionRows.{CheckingRowsStand, DecisionRowsStand};
 ghost use Rattle.policy_glue.specs.ProgramLaws.{PolicyDecides};
+ghost use Rattle.policy_glue.specs.RunRows.{RunRowsStand};
 ghost use Rattle.policy_glue.specs.Rows.{PolicyRowsStand, VerdictRowsStand, ResponseRowsStand};
 
 use bpf_machine::laws::decodes_spelling;
@@ -44,3 +45,8 @@ pub fn policy_decides()
 {
     decodes_spelling();
 }
+
+/// Programs of policies run by hand.
+pub fn run_rows_stand()
+    ensures { RunRowsStand }
+{}
