@@ -8,12 +8,14 @@ mod Lists
 mod Policies
 mod ProgramConditions
 mod ProgramDecided
+mod ProgramInsns
 mod ProgramMarks
 mod ProgramMessages
 mod ProgramOutcome
 mod ProgramRows
 mod ProgramRules
 mod ProgramRuns
+mod ProgramSizes
 mod ProgramSteps
 mod ProgramTreeParts
 mod ProgramValidations

@@ -33,7 +33,7 @@ append_none : (xs : List Finding) → xs ++ [] ≡ xs
 append_none [] = refl
 append_none (x ∷ xs) = ap (λ (ys : List Finding). x ∷ ys) (append_none xs)
 
-result_size : (f : FailurePolicy) (i : ℕ) → size (result_tail f i) ≡ 11
+pub result_size : (f : FailurePolicy) (i : ℕ) → size (result_tail f i) ≡ 11
 unfolding result_tail
 result_size f i = refl
 
@@ -51,7 +51,7 @@ pub message_code_size : (i : ℕ) (m : Option Part) → size (message_code i (co
 message_code_size i None = refl
 message_code_size i (Some m) = let tail = message_tail_size i in size-append m.code (message_tail i) ∙ omega arith
 
-denial_size : (message : List Insn) → size (denial_code message) ≡ size message + 6
+pub denial_size : (message : List Insn) → size (denial_code message) ≡ size message + 6
 denial_size message = let all = size-append (skip_if Eq R3 (pos 0) (size message + 5) ∷ count_code) message in all ∙ omega arith
 
 module _ (s : Setting) (c : Context) (f : FailurePolicy) (xs : List Finding) (x : Finding) (few : length xs < most_validations) where

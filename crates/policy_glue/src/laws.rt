@@ -3,6 +3,7 @@
 ghost use Rattle.policy_glue.specs.BudgetRows.{BudgetRowsStand};
 ghost use Rattle.policy_glue.specs.DecisionRows.{CheckingRowsStand, DecisionRowsStand};
 ghost use Rattle.policy_glue.specs.ProgramLaws.{PolicyDecides};
+ghost use Rattle.policy_glue.specs.ProgramTrees.{ProgramIsCode, ProgramIsShort};
 ghost use Rattle.policy_glue.specs.RunRows.{RunRowsStand};
 ghost use Rattle.policy_glue.specs.Rows.{PolicyRowsStand, VerdictRowsStand, ResponseRowsStand};
 
@@ -49,4 +50,10 @@ pub fn policy_decides()
 /// Programs of policies run by hand.
 pub fn run_rows_stand()
     ensures { RunRowsStand }
+{}
+
+/// The program of a policy has at most 128 slots for each of the policy's nodes, and can be spelled.
+pub fn program_is_code()
+    ensures short { ProgramIsShort }
+    ensures code { ProgramIsCode }
 {}
