@@ -6,6 +6,7 @@ pub mod CompileErrors
 pub mod DecisionRows
 pub mod Denials
 pub mod Documents
+pub mod Emission
 pub mod Evaluation
 pub mod Layout
 pub mod Limits
