@@ -21,7 +21,9 @@ use Rattle.cel_measures.specs.Measures.{need}
 use Rattle.codegen.specs.Constants.{joined}
 use Rattle.codegen.specs.HasLiterals.{HasLiterals, HaveLiterals, EntriesHaveLiterals}
 use Rattle.codegen.specs.Layer.{IsExpression}
-use Rattle.policy_glue.specs.Checked.{IsFormed, IsFormedRule}
+use Rattle.policy_glue.specs.Checked.{Checks, IsFormedRule}
+use Rattle.policy_glue.specs.Emission.{HasTrees}
+use Rattle.policy_glue.specs.declared.checked.Checked.{Checked}
 use Rattle.policy_glue.specs.Checking as parts
 use Rattle.policy_glue.specs.Checking.{Ends, over, refused, next, in_conditions, in_validations, in_variables, IsMessage, IsOneOf, IsRule, IsTaken, IsVariable, PartsEnd, TakesCondition, RefusesCondition, TakesRule, RefusesRule, TakesVariable, RefusesVariable, depth_in, expression_judged, scope_after, texts, truths, variable_judged, with_depth, with_macros, with_need, with_typing, with_variable}
 use Rattle.policy_glue.specs.Limits.{excess, policy_nodes, policy_texts}
@@ -236,18 +238,38 @@ count_by P ns all rest = ap length rest.is ∙ rest.count
 held_by : {A B : Type 0} (P : List B → Type 0) (ns : List A) (all : List B) → Rest P [] ns all → P all
 held_by P ns all rest = subst P (sym rest.is) rest.holds
 
--- the trees of a policy within the limits have a program
-pub has_program : (p : Rules) (t : PolicyTree) → IsAccepted p → PartsEnd p (Ok t) → IsFormed t → excess t ≡ None → HasProgram t
-has_program p t accepted end formed within =
-    let whole = whole_by p (Ok t) end t refl in
-    let limits = within_limits t within in
-    let few = few_parts p accepted in
+-- the trees of what is checked are taken, and the validations are few
+pub has_trees : (p : Rules) (c : Checked) → IsAccepted p → Checks p (Ok c) → HasTrees c
+has_trees p c accepted checks =
+    let t = checks.0 in
+    let whole = whole_by p (Ok t) checks.2 t refl in
+    let formed = checks.1.formed in
     record {
+      trees = t;
+      are = checks.1;
       variables = are_variables [] t.variables (held_by (AreJudged []) p.variables t.variables whole.variables) formed.variables;
       conditions = are_conditions t.conditions (held_by (Each (IsOne truths [])) p.conditions t.conditions whole.conditions) formed.conditions;
       validations = are_rules (scope_after t.variables) t.validations (held_by (Each (IsOneRule (scope_after t.variables))) p.validations t.validations whole.validations) formed.validations;
-      few_variables = subst (λ n. n ≤ 64) (sym (count_by (AreJudged []) p.variables t.variables whole.variables)) few.0;
-      few_validations = subst (λ n. n ≤ 64) (sym (count_by (Each (IsOneRule (scope_after t.variables))) p.validations t.validations whole.validations)) few.1;
+      few = subst (λ n. n ≤ 64) (sym (count_by (Each (IsOneRule (scope_after t.variables))) p.validations t.validations whole.validations)) (few_parts p accepted).1;
+    }
+
+few_variables : (p : Rules) (c : Checked) → IsAccepted p → (checks : Checks p (Ok c)) → length checks.0.variables ≤ 64
+few_variables p c accepted checks =
+    let t = checks.0 in
+    subst (λ n. n ≤ 64) (sym (count_by (AreJudged []) p.variables t.variables (whole_by p (Ok t) checks.2 t refl).variables)) (few_parts p accepted).0
+
+-- within the limits they have a program
+pub has_program : (p : Rules) (c : Checked) → IsAccepted p → (checks : Checks p (Ok c)) → excess checks.0 ≡ None → HasProgram checks.0
+unfolding has_trees
+has_program p c accepted checks within =
+    let trees = has_trees p c accepted checks in
+    let limits = within_limits checks.0 within in
+    record {
+      variables = trees.variables;
+      conditions = trees.conditions;
+      validations = trees.validations;
+      few_variables = few_variables p c accepted checks;
+      few_validations = trees.few;
       short = limits.0;
       few_texts = limits.1;
     }

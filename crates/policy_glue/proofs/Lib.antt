@@ -1,4 +1,5 @@
 mod Accepted
+mod Compiles
 mod Each
 mod Filled
 mod Joined

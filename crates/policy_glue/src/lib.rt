@@ -6,6 +6,7 @@ mod checked;
 mod checked_validation;
 mod checking;
 mod compile_error;
+mod compiling;
 mod denial;
 mod denials;
 mod documents;
@@ -32,6 +33,7 @@ mod validations;
 mod verdict;
 
 pub use compile_error::CompileError;
+pub use compiling::compile;
 pub use expression_error::ExpressionError;
 pub use part_kind::PartKind;
 pub use policy::Policy;
