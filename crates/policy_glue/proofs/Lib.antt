@@ -1,6 +1,9 @@
 mod Accepted
 mod Compiles
 mod Each
+mod EmittedCode
+mod EmittedCounts
+mod EmittedWhole
 mod Filled
 mod Joined
 mod Judged
