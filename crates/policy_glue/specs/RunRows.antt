@@ -1,5 +1,5 @@
 -- Programs of policies run by hand, step by step, on five documents `null`.
-use Rattle.std.specs.Prelude.{◌≡◌, ℕ, List, [], ◌∷◌, map, Option, Some, None, codes}
+use Rattle.std.specs.Prelude.{◌≡◌, ℕ, List, [], ◌∷◌, map, Some, codes}
 use Rattle.guest_memory.specs.RegionWords.{word_in}
 use Rattle.loader.specs.declared.version.Version.TheVariants.{Second}
 use Rattle.cel_reader.specs.Tree.{Tree, literal, null}

@@ -7,9 +7,9 @@ ghost use Rattle.policy_glue.specs.Compiled.{contents, CompilesTo};
 
 use crate::checking::checked;
 use crate::compile_error::CompileError;
+use crate::laws::program_decides;
 use crate::policy::Policy;
 use crate::program::program;
-use bpf_machine::laws::decodes_spelling;
 use loader::Image;
 use std::alloc::Global;
 
@@ -25,8 +25,7 @@ pub fn compile(alloc: Global, policy: &Policy) -> Result<Image, CompileError>
     ensures { CompilesTo policy.now result }
 {
     let checked = checked(alloc, policy)?;
-    // What the program decides is proved of what instructions spell.
-    decodes_spelling();
+    program_decides();
     let (code, constants) = program(alloc, policy.parts.failure_policy, &checked)?;
     Ok(image(code, constants))
 }

@@ -3,7 +3,7 @@
 ghost use Rattle.policy_glue.specs.BudgetRows.{BudgetRowsStand};
 ghost use Rattle.policy_glue.specs.DecisionRows.{CheckingRowsStand, DecisionRowsStand};
 ghost use Rattle.policy_glue.specs.ProgramLaws.{PolicyDecides};
-ghost use Rattle.policy_glue.specs.ProgramTrees.{ProgramIsCode, ProgramIsShort};
+ghost use Rattle.policy_glue.specs.ProgramTrees.{ProgramDecides, ProgramIsCode, ProgramIsShort, ProgramStops};
 ghost use Rattle.policy_glue.specs.RunRows.{RunRowsStand};
 ghost use Rattle.policy_glue.specs.Rows.{PolicyRowsStand, VerdictRowsStand, ResponseRowsStand};
 
@@ -57,3 +57,13 @@ pub fn program_is_code()
     ensures short { ProgramIsShort }
     ensures code { ProgramIsCode }
 {}
+
+/// The program of a policy, run from the start, has decided as the policy does after 128 steps for each
+/// unit of the policy's work, and wherever it stands stopped: it left the verdict, or it was stopped where
+/// 16 of charge for each unit of what is spent pass the limit, or where a value is too deep.
+pub fn program_decides()
+    ensures decides { ProgramDecides }
+    ensures stops { ProgramStops }
+{
+    decodes_spelling();
+}

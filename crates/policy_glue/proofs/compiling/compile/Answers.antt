@@ -7,8 +7,6 @@ use Rattle.policy_glue.specs.Trees.{PolicyTree}
 use Rattle.policy_glue.proofs.Accepted.{has_trees}
 use Rattle.policy_glue.proofs.Compiles.{image_compiled, image_due, refused_part, refused_whole}
 use Rattle.policy_glue.proofs.Judged.{passed_on}
-use Rattle.policy_glue.proofs.ProgramInsns.{program_is_code}
-use Rattle.policy_glue.proofs.ProgramRuns.{program_decides}
 use Rattle.policy_glue.proofs.ProgramSizes.{program_is_short}
 use Rattle.policy_glue.proofs.compiling.compile.Goals as goal
 
@@ -35,4 +33,4 @@ returns c =
     let checks = c.in_ok-checked.ensures in
     let emits = subst (λ p. (t : PolicyTree) → IsChecked c.in_ok-checked.checked t → Emits p.failure_policy t (Ok (c.in_ok-code.code, c.in_ok-code.constants))) c.policy.view_is c.in_ok-code.ensures in
     let due = emits checks.0 checks.1 in
-    image_compiled program_is_short (program_decides c.decodes_spelling.ensures program_is_code) c.args.policy.now c.in_ok-checked.checked c.in_ok-code.code.items c.in_ok-code.constants.items c.image.result (subst IsAccepted c.policy.view_is c.policy.invariant) checks due.0 due.1 due.2 c.image.ensures.is c.image.ensures.code c.image.ensures.constants
+    image_compiled program_is_short c.program_decides.ensures.decides c.args.policy.now c.in_ok-checked.checked c.in_ok-code.code.items c.in_ok-code.constants.items c.image.result (subst IsAccepted c.policy.view_is c.policy.invariant) checks due.0 due.1 due.2 c.image.ensures.is c.image.ensures.code c.image.ensures.constants

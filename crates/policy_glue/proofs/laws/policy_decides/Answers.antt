@@ -1,4 +1,3 @@
-use Rattle.policy_glue.proofs.ProgramRuns.{program_stops}
 use Rattle.policy_glue.proofs.ProgramWhole.{policy_decides}
 use Rattle.policy_glue.proofs.laws.policy_decides.Goals as goal
 
