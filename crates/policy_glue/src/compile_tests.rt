@@ -109,7 +109,11 @@ fn chain(alloc: Global, n: u64) -> Result<String, AllocError> {
         "{\"validations\":[{\"expression\":\"true\"}],\"variables\":[{\"name\":\"v0\",\"expression\":\"1\"}",
     )?;
     for i in 1..n {
-        let variable = format!(in alloc; ",{{\"name\":\"v{}\",\"expression\":\"variables.v{}\"}}", i, i - 1)?;
+        let variable = format!(in alloc;
+            ",{{\"name\":\"v{}\",\"expression\":\"variables.v{}\"}}",
+            i,
+            i - 1
+        )?;
         spec.push_str(variable.as_str())?;
     }
     spec.push_str("]}")?;
@@ -135,12 +139,49 @@ fn repeated(alloc: Global, text: &str, n: u64) -> Result<String, AllocError> {
     Ok(all)
 }
 
-/// What an expression begins with, what follows n times, its end, and what becomes of a policy with it.
-const LIMITS: [(&str, u64, &str, &str); 6] = [
-    ("(", 100, "true", "K6 validation 0 P5 at 100"),
-    ("1 + (", 58, "1", "K6 validation 0 P4 at 292"),
-    ("true", 254, " && true", "compiled"),
-    ("true", 255, " && true", "G3"),
-    ("!", 4094, "true", "G3"),
-    ("!", 4095, "true", "K6 validation 0 P6 at 4096"),
+/// An expression in brackets or behind operators, which are repeated on both sides of what stands
+/// between them; its end; and what becomes of a policy with it.
+const REPEATED: [(&str, u64, &str, &str, &str, &str); 7] = [
+    ("(", 100, "true", ")", "", "compiled"),
+    ("(", 101, "true", ")", "", "K6 validation 0 P5 at 100"),
+    ("1+(", 58, "1+1", ")", "==1", "compiled"),
+    ("1+(", 59, "1+1", ")", "==1", "K6 validation 0 G1"),
+    ("true&&", 254, "true", "", "", "compiled"),
+    ("true&&", 255, "true", "", "", "G3"),
+    ("!", 4096, "true", "", "", "K6 validation 0 P6 at 4096"),
 ];
+
+#[test]
+fn limits_of_expressions(rt: HostRuntime) -> Result<(), Fail> {
+    for (before, n, middle, behind, end, want) in REPEATED {
+        let first = repeated(rt.alloc(), before, n)?;
+        let last = repeated(rt.alloc(), behind, n)?;
+        let expression = format!(in rt.alloc(); "{first}{middle}{last}{end}")?;
+        let spec = one_validation(rt.alloc(), expression.as_str())?;
+        let found = outcome(rt.alloc(), spec.as_str())?;
+        assert_eq!(rt; found.as_str(), want, "{before} {n}");
+    }
+    Ok(())
+}
+
+/// A specification with this many validations, each with a text of 62,000 bytes that no other has.
+fn with_texts(alloc: Global, n: u64) -> Result<String, AllocError> {
+    let letters = repeated(alloc, "a", 61_998)?;
+    let mut spec = String::from_str(alloc, "{\"validations\":[{\"expression\":\"true\"}")?;
+    for i in 0..n {
+        let validation = format!(in alloc; ",{{\"expression\":\"'{:02}{letters}' == 'a'\"}}", i)?;
+        spec.push_str(validation.as_str())?;
+    }
+    spec.push_str("]}")?;
+    Ok(spec)
+}
+
+#[test]
+fn texts_of_policies(rt: HostRuntime) -> Result<(), Fail> {
+    for (n, want) in [(16, "compiled"), (17, "G4")] {
+        let spec = with_texts(rt.alloc(), n)?;
+        let found = outcome(rt.alloc(), spec.as_str())?;
+        assert_eq!(rt; found.as_str(), want, "{n}");
+    }
+    Ok(())
+}

@@ -6,6 +6,8 @@ mod checked;
 mod checked_validation;
 mod checking;
 mod compile_error;
+#[cfg(test)]
+mod compile_tests;
 mod compiling;
 mod denial;
 mod denials;
