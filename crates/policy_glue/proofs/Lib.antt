@@ -1,6 +1,7 @@
 mod Accepted
 mod Compiles
 mod Each
+mod EmissionSteps
 mod EmittedCode
 mod EmittedCounts
 mod EmittedWhole
