@@ -134,14 +134,14 @@ above_by n m is above = omega arith
 within_by : (n m : ℕ) → m ≡ saturated n → m ≤ 6 → n ≤ 6
 within_by n m is within = omega arith
 
-depth_by : (scope : List Declaration) (core : Core) (a : Tree) (m : ℕ) → IsExpanded core a → m ≡ saturated (depth (core_view core) (depths_of scope)) → m ≡ saturated (depth_in scope a)
+depth_by : (scope : List Declaration) (core : Core) (a : Tree) (m : ℕ) → core_view core ≡ expanded a → m ≡ saturated (depth (core_view core) (depths_of scope)) → m ≡ saturated (depth_in scope a)
 depth_by scope core a m expands is = is ∙ ap (λ t. saturated (depth t (depths_of scope))) expands
 
 pub deep_is : (scope : List Declaration) (text : List ℕ) (core : Core) (t : CelType) (m : ℕ) → Judges (expression_judged scope) text (Ok (core, t)) → m ≡ saturated (depth (core_view core) (depths_of scope)) → 6 < m → Judges (variable_judged scope) text (Err G2)
-deep_is scope text core t m judges is above = λ some. judged judges.0 G2 judges.2.reads (deep_by (depth_in scope judges.0) t (expression_judged scope judges.0) judges.2.judged (above_by (depth_in scope judges.0) m (depth_by scope core judges.0 m judges.1 is) above))
+deep_is scope text core t m judges is above = λ some. judged judges.0 G2 judges.2.reads (deep_by (depth_in scope judges.0) t (expression_judged scope judges.0) judges.2.judged (above_by (depth_in scope judges.0) m (depth_by scope core judges.0 m judges.1.0 is) above))
 
 pub shallow_is : (scope : List Declaration) (text : List ℕ) (core : Core) (t : CelType) (m : ℕ) → Judges (expression_judged scope) text (Ok (core, t)) → m ≡ saturated (depth (core_view core) (depths_of scope)) → m ≤ 6 → Judges (variable_judged scope) text (Ok (core, t))
-shallow_is scope text core t m judges is within = (judges.0, judges.1, record { reads = judges.2.reads; judged = shallow_by (depth_in scope judges.0) t (expression_judged scope judges.0) judges.2.judged (within_by (depth_in scope judges.0) m (depth_by scope core judges.0 m judges.1 is) within) })
+shallow_is scope text core t m judges is within = (judges.0, judges.1, record { reads = judges.2.reads; judged = shallow_by (depth_in scope judges.0) t (expression_judged scope judges.0) judges.2.judged (within_by (depth_in scope judges.0) m (depth_by scope core judges.0 m judges.1.0 is) within) })
 
 -- ---- the kind of a type
 
@@ -203,13 +203,14 @@ pub added_is : (n : Named) (place : ℕ) (old new : List Declaration) (core : Co
 added_is n place old new core t d before after judges depth_is scope_is trees_are =
     let a = judges.0 in
     let known = shallow_known (depth_in old a) (expression_judged old a) t judges.2.judged in
-    let deep : d ≡ depth_in old a = depth_by old core a d judges.1 depth_is ∙ small_by (depth_in old a) known.0 in
+    let deep : d ≡ depth_in old a = depth_by old core a d judges.1.0 depth_is ∙ small_by (depth_in old a) known.0 in
     let kind : type_or_any (typing a (scope_of old)) ≡ t = type_in_scope old a t known.1 in
     record {
       variable = record { name = n.name; expression = a };
       taken = record { name = refl; cel_type = t; tree = judges.2 };
       scope = scope_is ∙ ap (λ k. old ++ declared n.name t k ∷ []) deep ∙ ap (λ u. old ++ declared n.name u (depth_in old a) ∷ []) (sym kind);
-      trees = trees_are ∙ ap (λ c. before ++ c ∷ []) judges.1;
+      trees = trees_are ∙ ap (λ c. before ++ c ∷ []) judges.1.0;
+      formed = judges.1.1;
     }
 
 -- ---- an error that is passed on
@@ -224,7 +225,7 @@ message_by_cause : (scope : List Declaration) (place : ℕ) (text : Option (List
 message_by_cause scope place text source e is sorts = λ some. record { source = source; is = is; because = sorts some }
 
 pub message_is : (scope : List Declaration) (place : ℕ) (source : List ℕ) (core : Core) → Sorts texts K9 Message place scope source (Ok core) → SortsMessage scope place (Some source) (Ok (Some core))
-message_is scope place source core sorts = (Some sorts.0, ap Some sorts.1, sorts.2)
+message_is scope place source core sorts = (Some sorts.0, ap Some sorts.1.0, sorts.2, sorts.1.1)
 
 pub rule_unexpressed : (scope : List Declaration) (place : ℕ) (n : Rule) (e : CompileError) → Sorts truths K7 Validation place scope n.expression (Err e) → ChecksRule scope place n (Err e)
 rule_unexpressed scope place n e sorts = λ some. expression e (sorts some)
@@ -236,4 +237,4 @@ pair_is : {A B : Type 0} {a b : A} {c d : B} → a ≡ b → c ≡ d → (let p 
 pair_is {b = b} {c = c} first second = ap (λ x. (x, c)) first ∙ ap (λ y. (b, y)) second
 
 pub rule_is : (scope : List Declaration) (place : ℕ) (n : Rule) (v : CheckedValidation) → Sorts truths K7 Validation place scope n.expression (Ok v.expression) → SortsMessage scope place n.message_expression (Ok v.message) → ChecksRule scope place n (Ok v)
-rule_is scope place n v sorts says = (record { expression = sorts.0; message = says.0 }, pair_is sorts.1 says.1, record { expression = sorts.2; message = says.2 })
+rule_is scope place n v sorts says = (record { expression = sorts.0; message = says.0 }, pair_is sorts.1.0 says.1, record { expression = sorts.2; message = says.2 }, (sorts.1.1, says.3))

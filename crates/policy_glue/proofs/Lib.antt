@@ -1,3 +1,5 @@
+mod Accepted
+mod Compiles
 mod Each
 mod EmissionEnds
 mod EmissionSteps

@@ -22,6 +22,6 @@ refused_validations p scope trees others e variables conditions checks = λ some
 pub all_taken : (p : Rules) (c : Checked) → AreVariables p.variables c.scope (map core_view c.variables.items) → AreConditions p.conditions (map core_view c.conditions.items) → AreRules c.scope p.validations (map rule_trees c.validations.items) → Checks p (Ok c)
 all_taken p c variables conditions rules = (
   record { variables = variables.taken; conditions = conditions.taken; validations = rules.taken },
-  record { scope = variables.scope_is; variables = variables.trees_are; conditions = conditions.trees_are; validations = rules.trees_are },
+  record { scope = variables.scope_is; variables = variables.trees_are; conditions = conditions.trees_are; validations = rules.trees_are; formed = record { variables = variables.formed; conditions = conditions.formed; validations = rules.formed } },
   taken variables.taken conditions.taken rules.taken variables.end conditions.end (subst (λ s. ValidationsEnd s p.validations (Ok rules.taken)) variables.scope_is rules.end),
 )

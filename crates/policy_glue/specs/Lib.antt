@@ -3,6 +3,7 @@ pub mod BudgetRows
 pub mod Checked
 pub mod Checking
 pub mod CompileErrors
+pub mod Compiled
 pub mod DecisionRows
 pub mod Denials
 pub mod Documents

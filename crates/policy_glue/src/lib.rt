@@ -6,6 +6,9 @@ mod checked;
 mod checked_validation;
 mod checking;
 mod compile_error;
+#[cfg(test)]
+mod compile_tests;
+mod compiling;
 mod denial;
 mod denials;
 mod documents;
@@ -32,6 +35,7 @@ mod validations;
 mod verdict;
 
 pub use compile_error::CompileError;
+pub use compiling::compile;
 pub use expression_error::ExpressionError;
 pub use part_kind::PartKind;
 pub use policy::Policy;

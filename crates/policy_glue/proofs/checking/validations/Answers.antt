@@ -26,7 +26,7 @@ loop-place-preserved c =
     let at = at_place rule_view c.args.validations.now place c.index-validations-place.result c.loop-place-test.true c.index-validations-place.is in
     let go = subst (λ ns. RulesGo scope all ns place trees) at c.loop-place.invariant in
     let checks = c.in_ok-validation.ensures in
-    rules_step scope all (rule_view c.index-validations-place.result) (map rule_view (drop (place + 1) c.args.validations.now)) place trees (map rule_trees c.push.new.self.items) (rule_trees c.in_ok-validation.validation) checks.0 go checks.1 checks.2
+    rules_step scope all (rule_view c.index-validations-place.result) (map rule_view (drop (place + 1) c.args.validations.now)) place trees (map rule_trees c.push.new.self.items) (rule_trees c.in_ok-validation.validation) checks.0 go checks.1 checks.2 checks.3
     (pushed rule_trees c.loop-place.checked.items c.push.new.self.items c.in_ok-validation.validation c.in_ok-push.ensures.items)
 
 pub returns : goal.returns
