@@ -18,7 +18,7 @@ use Rattle.policy_glue.specs.Limits.{Compiles, excess, policy_nodes, policy_text
 use Rattle.policy_glue.specs.Limits as limits
 use Rattle.policy_glue.specs.Policy.{Rules}
 use Rattle.policy_glue.specs.ProgramCode.{program_of}
-use Rattle.policy_glue.specs.ProgramTrees.{HasProgram, ProgramDecides, ProgramIsShort, ProgramStops}
+use Rattle.policy_glue.specs.ProgramTrees.{ProgramDecides, ProgramIsShort, ProgramStops}
 use Rattle.policy_glue.specs.Reading.{IsAccepted}
 use Rattle.policy_glue.specs.Trees.{PolicyTree}
 use Rattle.policy_glue.specs.declared.checked.Checked.{Checked}
