@@ -1,5 +1,5 @@
 -- How many slots pieces take.
-use Rattle.std.proofs.Common.{◌≡◌, ℕ, ◌+◌, ◌*◌, ◌≤◌, List, [], ◌∷◌, ◌++◌, length, ap, ◌∙◌, arith, append_assoc}
+use Rattle.std.proofs.Common.{◌≡◌, ℕ, ◌+◌, ◌*◌, ◌≤◌, List, [], ◌∷◌, ◌++◌, length, arith}
 use Rattle.std.specs.Prelude.{pos}
 use Rattle.insn_codec.specs.Spelling.{slot_count}
 use Rattle.insn_codec.specs.declared.comparison.Comparison.TheVariants.{Eq, Ne}
@@ -7,10 +7,8 @@ use Rattle.insn_codec.specs.declared.insn.Insn.{Insn}
 use Rattle.insn_codec.specs.declared.insn.Insn.TheVariants.{Call, LoadWide}
 use Rattle.insn_codec.specs.declared.register.Register.TheVariants.{R0, R1, R2}
 use Rattle.codegen_base.specs.Code.Logic.{no_ref, yes_ref}
-use Rattle.codegen_base.specs.Instructions.{copy, load, put, skip, skip_if, store}
-use Rattle.codegen_base.specs.Loops.{fold_code, loop_code, range_tail}
+use Rattle.codegen_base.specs.Instructions.{copy, load, put, skip, skip_if}
 use Rattle.codegen_base.specs.Pieces.{size}
-use Rattle.codegen_base.proofs.Loops.{loop_size}
 use Rattle.codegen_base.proofs.Pieces.{size-append, size-cons}
 use Rattle.codegen_base.specs.Code.Folds.{map_where_turn}
 
@@ -40,13 +38,3 @@ size_map_where t k =
     let b = size-cons test (t ++ last) in
     let c = size-append t last in
     omega (arith, a, b, c)
-
--- the parts of a fold put together
-pub fold_joined : (k n : ℕ) (range : List Insn) (first : Insn) (turn : List Insn) → size (first ∷ []) ≡ 1 → n ≡ size turn + 17 → (((range ++ range_tail k n) ++ first ∷ []) ++ store (k + 3) R0 ∷ []) ++ loop_code k turn ≡ fold_code k range (first ∷ []) turn
-fold_joined k n range first turn one is =
-    let whole = loop_size k turn in
-    let behind : n ≡ size (first ∷ []) + size (loop_code k turn) + 4 = omega (arith, one, is, whole) in
-    ap (λ l. l ++ loop_code k turn) (append_assoc (range ++ range_tail k n) (first ∷ []) (store (k + 3) R0 ∷ []))
-    ∙ append_assoc (range ++ range_tail k n) (first ∷ store (k + 3) R0 ∷ []) (loop_code k turn)
-    ∙ append_assoc range (range_tail k n) (first ∷ store (k + 3) R0 ∷ loop_code k turn)
-    ∙ ap (λ m. range ++ (range_tail k m ++ (first ∷ store (k + 3) R0 ∷ loop_code k turn))) behind

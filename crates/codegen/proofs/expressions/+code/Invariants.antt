@@ -1,0 +1,68 @@
+use Rattle.std.proofs.Common.{◌≡◌, ◌+◌, ◌*◌, ◌≤◌, ◌++◌, drop}
+use Rattle.std.specs.Prelude as list
+use Rattle.cel_macros.specs.CoreTree as core
+use Rattle.cel_macros.specs.CoreView.{core_view, cores, core_entries}
+use Rattle.cel_macros.specs.Expanding.{core_pair}
+use Rattle.cel_measures.specs.Measures.{needs, entries_need, nodes, nodes_of, entries_nodes}
+use Rattle.codegen.specs.Code.Expressions.{items_code, entries_code}
+use Rattle.codegen.specs.FrameWords.{words_of}
+use Rattle.codegen.specs.Surroundings.{texts_within, routines_within}
+use Rattle.codegen.proofs.expressions.+code.Given as goal
+
+abbrev pub decreases-code_of : goal.decreases-code_of
+decreases-code_of l = 4 * nodes (core_view l.core.now) + 2
+
+abbrev pub decreases-part : goal.decreases-part
+decreases-part l = 4 * nodes (core_view l.core.now) + 3
+
+abbrev pub decreases-list : goal.decreases-list
+decreases-list l = 4 * nodes (core.list (cores (list.map core_view l.parts.now))) + 1
+
+abbrev pub decreases-map : goal.decreases-map
+decreases-map l = 4 * nodes (core.map (core_entries (list.map core_pair l.pairs.now))) + 1
+
+abbrev pub decreases-call : goal.decreases-call
+decreases-call l = 4 * nodes (core.call l.name.now (cores (list.map core_view l.arguments.now))) + 1
+
+abbrev pub decreases-method : goal.decreases-method
+decreases-method l = 4 * nodes (core.method (core_view l.of.now) l.name.now (cores (list.map core_view l.arguments.now))) + 1
+
+abbrev pub decreases-operands : goal.decreases-operands
+decreases-operands l = 4 * nodes (core.index (core_view l.left.now) (core_view l.right.now))
+
+abbrev pub decreases-ternary : goal.decreases-ternary
+decreases-ternary l = 4 * nodes (core.ternary (core_view l.condition.now) (core_view l.yes.now) (core_view l.no.now)) + 1
+
+abbrev pub decreases-fold : goal.decreases-fold
+decreases-fold l = 4 * nodes (core.fold l.found l.name.now (core_view l.range.now) (core_view l.body.now)) + 1
+
+abbrev pub decreases-fold_map : goal.decreases-fold_map
+decreases-fold_map l = 4 * nodes (core.fold_map l.name.now (core_view l.range.now) (core_view l.predicate.now) (core_view l.transform.now)) + 1
+
+abbrev pub invariant-list-loop-item : goal.invariant-list-loop-item
+invariant-list-loop-item l =
+    let ts = texts_within l.around in
+    let rs = routines_within l.around in
+    let ws = words_of l.words in
+    let all = cores (list.map core_view l.parts) in
+    let rest = cores (list.map core_view (drop l.item-index l.parts)) in
+    record {
+      so_far : l.items.items ++ items_code rest ts rs ws l.spot.word l.slot ≡ items_code all ts rs ws l.spot.word (l.spot.slot + 2);
+      room : l.spot.word + 1 + needs rest ≤ 60;
+      fewer : nodes_of rest ≤ nodes_of all;
+      near : l.slot + 63 * nodes_of rest ≤ 131000;
+    }
+
+abbrev pub invariant-map-loop-key : goal.invariant-map-loop-key
+invariant-map-loop-key l =
+    let ts = texts_within l.around in
+    let rs = routines_within l.around in
+    let ws = words_of l.words in
+    let all = core_entries (list.map core_pair l.pairs) in
+    let rest = core_entries (list.map core_pair (drop l.key-index l.pairs)) in
+    record {
+      so_far : l.entries.items ++ entries_code rest ts rs ws l.spot.word l.slot ≡ entries_code all ts rs ws l.spot.word (l.spot.slot + 2);
+      room : l.spot.word + entries_need rest ≤ 60;
+      fewer : entries_nodes rest ≤ entries_nodes all;
+      near : l.slot + 63 * entries_nodes rest ≤ 131000;
+    }

@@ -1,0 +1,6 @@
+use Rattle.std.proofs.Common.{◌≡◌, ◌+◌, drop}
+use Rattle.codegen_base.specs.Pieces as specs
+use Rattle.codegen.proofs.instructions.size.Given as goal
+
+abbrev pub invariant-loop-insn : goal.invariant-loop-insn
+invariant-loop-insn l = l.total + specs.size (drop l.insn-index l.piece) ≡ specs.size l.piece

@@ -1,0 +1,15 @@
+//! The code of each construct, from the code of its parts. Each function's error says that there is no
+//! memory for the code.
+
+pub(crate) mod aggregates;
+pub(crate) mod arithmetic;
+pub(crate) mod calls;
+pub(crate) mod comparison;
+pub(crate) mod folds;
+pub(crate) mod literals;
+pub(crate) mod logic;
+pub(crate) mod names;
+pub(crate) mod operators;
+pub(crate) mod routines;
+pub(crate) mod selection;
+pub(crate) mod variables;

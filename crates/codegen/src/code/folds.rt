@@ -1,0 +1,321 @@
+//! Macros: loops over the items of a list or the keys of a map.
+
+ghost use Rattle.std.specs.Prelude.{◌≡◌, ◌<◌, ◌≤◌, ◌+◌, ◌++◌, ◌∷◌, [], IfOk};
+ghost use Rattle.codegen_base.specs.Loops as loops;
+ghost use Rattle.codegen_base.specs.Code.Folds as specs;
+ghost use Rattle.codegen_base.specs.Pieces.{size as size_of_piece};
+
+use crate::helpers;
+use crate::instructions::{
+    add, call, copy, go_back, load, put, size, skip, skip_if, skip_where, store,
+};
+use crate::references::{ERROR, NO, NULL, YES};
+use Register::{R0, R1, R2};
+use cel_macros::Macro;
+use insn_codec::{Comparison, Insn, Register};
+use std::alloc::{AllocError, Global};
+
+/// R0 names the range; where it is neither list nor map, R0 is the error and so many slots behind the
+/// sixth of these are left out.
+fn range_tail(k: usize, slots: usize) -> [Insn; 9]
+    requires words { k + 4 < 64 }
+    requires near { slots < 32768 }
+    ensures { result ≡ loops.range_tail k slots }
+{
+    [
+        store(k, R0),
+        copy(R1, R0),
+        call(helpers::COUNT),
+        skip_if(Comparison::Ne, R0, -1, 2),
+        put(R0, ERROR),
+        skip(slots),
+        store(k + 1, R0),
+        put(R0, 0),
+        store(k + 2, R0),
+    ]
+}
+
+/// The next item, or on to where the answer is loaded.
+fn loop_head(k: usize, slots: usize) -> [Insn; 6]
+    requires words { k + 4 < 64 }
+    requires near { slots < 32768 }
+    ensures { result ≡ loops.loop_head k slots }
+{
+    [
+        load(R1, k + 1),
+        load(R2, k + 2),
+        skip_where(Comparison::Eq, R1, R2, slots),
+        load(R1, k),
+        call(helpers::ITEM),
+        store(k + 4, R0),
+    ]
+}
+
+/// R0 names the next answer; a turn that ends the loop goes on behind these.
+fn loop_tail(k: usize, slots: usize) -> [Insn; 6]
+    requires words { k + 4 < 64 }
+    requires near { slots < 32768 }
+    ensures { result ≡ loops.loop_tail k slots }
+{
+    [
+        store(k + 3, R0),
+        load(R0, k + 2),
+        add(R0, 1),
+        store(k + 2, R0),
+        go_back(slots),
+        load(R0, k + 3),
+    ]
+}
+
+/// A loop whose turn makes the next answer of the answer so far and an item.
+fn loop_of(alloc: Global, turn: &[Insn], k: usize) -> Result<Vec<Insn>, AllocError>
+    requires words { k + 4 < 64 }
+    requires near { size_of_piece turn.now ≤ 32300 }
+    ensures { IfOk result (λ code. code.items ≡ loops.loop_code k turn.now) }
+{
+    let slots = size(turn);
+    let mut code = loop_head(k, slots + 8).to_vec(alloc)?;
+    code.extend_from_slice(turn)?;
+    code.extend_from_slice(&loop_tail(k, slots + 10))?;
+    Ok(code)
+}
+
+/// The range, the answer before the first item, and the loop.
+#[tactic(auto, using(crate::proofs::Joined::fold_joined))]
+fn fold(
+    alloc: Global,
+    range: &[Insn],
+    first: Insn,
+    turn: &[Insn],
+    k: usize,
+) -> Result<Vec<Insn>, AllocError>
+    requires words { k + 4 < 64 }
+    requires near { size_of_piece turn.now ≤ 32300 }
+    requires first { size_of_piece (first ∷ []) ≡ 1 }
+    ensures { IfOk result (λ code. code.items ≡ loops.fold_code k range.now (first ∷ []) turn.now) }
+{
+    let turns = loop_of(alloc, turn, k)?;
+    let behind = size(turn) + 17;
+    let mut code = range.to_vec(alloc)?;
+    code.extend_from_slice(&range_tail(k, behind))?;
+    code.push(first)?;
+    code.push(store(k + 3, R0))?;
+    code.extend_from_slice(&turns)?;
+    Ok(code)
+}
+
+/// The predicate's value, and the answer so far, which does not decide; a value that decides ends the
+/// loop.
+fn absorbing_turn(decides: i32, other: i32, k: usize) -> [Insn; 5]
+    requires { k + 4 < 64 }
+    ensures { result ≡ specs.absorbing_turn decides other k }
+{
+    [
+        skip_if(Comparison::Eq, R0, decides, 10),
+        load(R1, k + 3),
+        skip_if(Comparison::Ne, R1, other, 1),
+        skip_if(Comparison::Eq, R0, other, 1),
+        put(R0, ERROR),
+    ]
+}
+
+/// The predicate's value in R0, counted: the answer so far is false for none, true for one, null for
+/// more, and the error.
+#[tactic(auto, unfolding(codegen_base::specs::Code::Folds::exists_one_turn))]
+fn exists_one_turn(k: usize) -> [Insn; 10]
+    requires { k + 4 < 64 }
+    ensures { result ≡ specs.exists_one_turn k }
+{
+    [
+        load(R1, k + 3),
+        skip_if(Comparison::Eq, R0, NO, 7),
+        skip_if(Comparison::Ne, R0, YES, 4),
+        skip_if(Comparison::Eq, R1, ERROR, 5),
+        skip_if(Comparison::Eq, R1, NO, 5),
+        put(R0, NULL),
+        skip(3),
+        put(R0, ERROR),
+        skip(1),
+        copy(R0, R1),
+    ]
+}
+
+/// The item behind the answer so far, where the predicate is true.
+#[tactic(auto, unfolding(codegen_base::specs::Code::Folds::filter_turn))]
+fn filter_turn(k: usize) -> [Insn; 9]
+    requires { k + 4 < 64 }
+    ensures { result ≡ specs.filter_turn k }
+{
+    [
+        skip_if(Comparison::Eq, R0, NO, 5),
+        skip_if(Comparison::Ne, R0, YES, 6),
+        load(R1, k + 3),
+        load(R2, k + 4),
+        call(helpers::PUSH),
+        skip(3),
+        load(R0, k + 3),
+        skip(1),
+        put(R0, ERROR),
+    ]
+}
+
+/// The transform's value behind the answer so far.
+fn map_turn(k: usize) -> [Insn; 3]
+    requires { k + 4 < 64 }
+    ensures { result ≡ specs.map_turn k }
+{
+    [copy(R2, R0), load(R1, k + 3), call(helpers::PUSH)]
+}
+
+/// The transform where the predicate is true.
+#[tactic(auto, using(crate::proofs::Sizes::size_map_where))]
+fn map_where_turn(alloc: Global, transform: &[Insn], k: usize) -> Result<Vec<Insn>, AllocError>
+    requires words { k + 4 < 64 }
+    requires near { size_of_piece transform.now ≤ 32256 }
+    ensures code { IfOk result (λ code. code.items ≡ specs.map_where_turn transform.now k) }
+    ensures near { IfOk result (λ code. size_of_piece code.items ≡ size_of_piece transform.now + 9) }
+{
+    let slots = size(transform);
+    let mut code = [
+        skip_if(Comparison::Eq, R0, NO, slots + 5),
+        skip_if(Comparison::Ne, R0, YES, slots + 6),
+    ]
+    .to_vec(alloc)?;
+    code.extend_from_slice(transform)?;
+    code.extend_from_slice(&[
+        copy(R2, R0),
+        load(R1, k + 3),
+        call(helpers::PUSH),
+        skip(3),
+        load(R0, k + 3),
+        skip(1),
+        put(R0, ERROR),
+    ])?;
+    Ok(code)
+}
+
+/// A predicate or transform, and behind it what makes the next answer.
+#[tactic(auto, using(crate::proofs::Sizes::turn_near))]
+fn turn_of(alloc: Global, part: &[Insn], tail: &[Insn]) -> Result<Vec<Insn>, AllocError>
+    requires { size_of_piece part.now + size_of_piece tail.now ≤ 32300 }
+    ensures code { IfOk result (λ code. code.items ≡ part.now ++ tail.now) }
+    ensures near { IfOk result (λ code. size_of_piece code.items ≤ 32300) }
+{
+    let mut code = part.to_vec(alloc)?;
+    code.extend_from_slice(tail)?;
+    Ok(code)
+}
+
+/// Whether the predicate is true of all items.
+#[tactic(auto, using(crate::proofs::Sizes::size_by_length))]
+fn all(alloc: Global, range: &[Insn], predicate: &[Insn], k: usize) -> Result<Vec<Insn>, AllocError>
+    requires words { k + 4 < 64 }
+    requires near { size_of_piece predicate.now ≤ 32256 }
+    ensures { IfOk result (λ code. code.items ≡ specs.all_code k range.now predicate.now) }
+{
+    let turn = turn_of(alloc, predicate, &absorbing_turn(NO, YES, k))?;
+    fold(alloc, range, put(R0, YES), &turn, k)
+}
+
+/// Whether the predicate is true of an item.
+#[tactic(auto, using(crate::proofs::Sizes::size_by_length))]
+fn exists(
+    alloc: Global,
+    range: &[Insn],
+    predicate: &[Insn],
+    k: usize,
+) -> Result<Vec<Insn>, AllocError>
+    requires words { k + 4 < 64 }
+    requires near { size_of_piece predicate.now ≤ 32256 }
+    ensures { IfOk result (λ code. code.items ≡ specs.exists_code k range.now predicate.now) }
+{
+    let turn = turn_of(alloc, predicate, &absorbing_turn(YES, NO, k))?;
+    fold(alloc, range, put(R0, NO), &turn, k)
+}
+
+/// Whether the predicate is true of one item alone.
+#[tactic(auto, using(crate::proofs::Sizes::size_by_length))]
+fn exists_one(
+    alloc: Global,
+    range: &[Insn],
+    predicate: &[Insn],
+    k: usize,
+) -> Result<Vec<Insn>, AllocError>
+    requires words { k + 4 < 64 }
+    requires near { size_of_piece predicate.now ≤ 32256 }
+    ensures { IfOk result (λ code. code.items ≡ specs.exists_one_code k range.now predicate.now) }
+{
+    let turn = turn_of(alloc, predicate, &exists_one_turn(k))?;
+    let mut code = fold(alloc, range, put(R0, NO), &turn, k)?;
+    code.extend_from_slice(&[
+        skip_if(Comparison::Eq, R0, ERROR, 2),
+        skip_if(Comparison::Eq, R0, YES, 1),
+        put(R0, NO),
+    ])?;
+    Ok(code)
+}
+
+/// The items of which the predicate is true.
+#[tactic(auto, using(crate::proofs::Sizes::size_by_length))]
+fn filter(
+    alloc: Global,
+    range: &[Insn],
+    predicate: &[Insn],
+    k: usize,
+) -> Result<Vec<Insn>, AllocError>
+    requires words { k + 4 < 64 }
+    requires near { size_of_piece predicate.now ≤ 32256 }
+    ensures { IfOk result (λ code. code.items ≡ specs.filter_code k range.now predicate.now) }
+{
+    let turn = turn_of(alloc, predicate, &filter_turn(k))?;
+    fold(alloc, range, call(helpers::LIST_NEW), &turn, k)
+}
+
+/// What the transform makes of each item.
+#[tactic(auto, using(crate::proofs::Sizes::size_by_length))]
+fn map(alloc: Global, range: &[Insn], transform: &[Insn], k: usize) -> Result<Vec<Insn>, AllocError>
+    requires words { k + 4 < 64 }
+    requires near { size_of_piece transform.now ≤ 32256 }
+    ensures { IfOk result (λ code. code.items ≡ specs.map_code k range.now transform.now) }
+{
+    let turn = turn_of(alloc, transform, &map_turn(k))?;
+    fold(alloc, range, call(helpers::LIST_NEW), &turn, k)
+}
+
+/// What the transform makes of each item of which the predicate is true.
+pub(crate) fn map_where(
+    alloc: Global,
+    range: &[Insn],
+    predicate: &[Insn],
+    transform: &[Insn],
+    k: usize,
+) -> Result<Vec<Insn>, AllocError>
+    requires words { k + 4 < 64 }
+    requires near { size_of_piece predicate.now + size_of_piece transform.now ≤ 32256 }
+    ensures { IfOk result (λ code. code.items ≡ specs.map_where_code k range.now predicate.now transform.now) }
+{
+    let tail = map_where_turn(alloc, transform, k)?;
+    let turn = turn_of(alloc, predicate, &tail)?;
+    fold(alloc, range, call(helpers::LIST_NEW), &turn, k)
+}
+
+/// The macro with one part, its predicate or its transform.
+pub(crate) fn macro_of(
+    alloc: Global,
+    found: Macro,
+    range: &[Insn],
+    part: &[Insn],
+    k: usize,
+) -> Result<Vec<Insn>, AllocError>
+    requires words { k + 4 < 64 }
+    requires near { size_of_piece part.now ≤ 32256 }
+    ensures { IfOk result (λ code. code.items ≡ specs.macro_code found k range.now part.now) }
+{
+    match found {
+        Macro::All => all(alloc, range, part, k),
+        Macro::Exists => exists(alloc, range, part, k),
+        Macro::ExistsOne => exists_one(alloc, range, part, k),
+        Macro::Filter => filter(alloc, range, part, k),
+        Macro::Map => map(alloc, range, part, k),
+    }
+}

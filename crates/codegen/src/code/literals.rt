@@ -1,0 +1,81 @@
+//! Literals of null, truths, ints and texts.
+
+ghost use Rattle.std.specs.Prelude.{◌≡◌, ◌∷◌, [], length, map, string_bytes, IfOk};
+ghost use Rattle.cel_reader.specs.Tree.{literal_view};
+ghost use Rattle.codegen_base.specs.Code.Literals as base;
+ghost use Rattle.codegen_base.specs.Instructions.{load_wide as load_wide_insn};
+ghost use Rattle.codegen.specs.Code.Literals as specs;
+
+use crate::constants::place_of;
+use crate::helpers;
+use crate::instructions::{call, load_wide, put};
+use crate::references::{NO, NULL, YES};
+use Register::{R0, R1, R2};
+use cel_reader::Literal;
+use insn_codec::{Insn, Register};
+use std::alloc::{AllocError, Global};
+
+/// Where the constants begin in memory.
+const CONSTANTS: u64 = 0x4_0000_0000;
+
+/// Where the text, which is among these, begins in memory.
+fn address_of(texts: &[String], text: &str) -> u64
+    ensures { result ≡ specs.address_of (map string_bytes texts.now) text.now }
+{
+    CONSTANTS.saturating_add(place_of(texts, text).unwrap_or(0))
+}
+
+/// The address and the length of a text into two registers.
+pub(crate) fn text_range(
+    texts: &[String],
+    text: &str,
+    address: Register,
+    bytes: Register,
+) -> [Insn; 2]
+    ensures { result ≡ load_wide_insn address (specs.address_of (map string_bytes texts.now) text.now) ∷ load_wide_insn bytes (length text.now) ∷ [] }
+{
+    [
+        load_wide(address, address_of(texts, text)),
+        load_wide(bytes, text.len() as u64),
+    ]
+}
+
+/// A truth, which has a reference of its own.
+fn truth(alloc: Global, truth: bool) -> Result<Vec<Insn>, AllocError>
+    ensures { IfOk result (λ code. code.items ≡ base.truth_code truth) }
+{
+    let reference = if truth { YES } else { NO };
+    [put(R0, reference)].to_vec(alloc)
+}
+
+/// An int, from its word.
+fn int(alloc: Global, n: i64) -> Result<Vec<Insn>, AllocError>
+    ensures { IfOk result (λ code. code.items ≡ base.int_code n) }
+{
+    [load_wide(R1, n.cast_unsigned()), call(helpers::INT_NEW)].to_vec(alloc)
+}
+
+/// A text, from its bytes among the constants.
+fn text(alloc: Global, texts: &[String], text: &str) -> Result<Vec<Insn>, AllocError>
+    ensures { IfOk result (λ code. code.items ≡ base.text_code (specs.address_of (map string_bytes texts.now) text.now) (length text.now)) }
+{
+    let mut code = text_range(texts, text, R1, R2).to_vec(alloc)?;
+    code.push(call(helpers::TEXT_CONST))?;
+    Ok(code)
+}
+
+/// The literal's value; a text is among these.
+pub(crate) fn literal(
+    alloc: Global,
+    texts: &[String],
+    literal: &Literal,
+) -> Result<Vec<Insn>, AllocError>
+    ensures { IfOk result (λ code. code.items ≡ specs.literal_code (map string_bytes texts.now) (literal_view literal.now)) }
+{
+    match literal {
+        Literal::Null => [put(R0, NULL)].to_vec(alloc),
+        Literal::Bool(b) => truth(alloc, *b),
+        Literal::Int(n) => int(alloc, *n),
+        Literal::Text(t) => text(alloc, texts, t.as_str()),
+    }
+}

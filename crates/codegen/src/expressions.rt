@@ -1,0 +1,361 @@
+//! The code of expressions.
+
+ghost use Rattle.std.specs.Prelude.{◌≡◌, ◌≤◌, ◌+◌, ◌*◌, IfOk};
+ghost use Rattle.std.specs.Prelude as list;
+ghost use Rattle.cel_macros.specs.CoreTree as core;
+ghost use Rattle.cel_macros.specs.CoreView.{core_view, cores, core_entries};
+ghost use Rattle.cel_macros.specs.Expanding.{core_pair};
+ghost use Rattle.cel_measures.specs.Measures.{nodes};
+ghost use Rattle.codegen_base.specs.Pieces.{size as size_of_piece};
+ghost use Rattle.codegen.specs.Surroundings.{piece_of, HasRoom};
+
+use crate::code::calls::two;
+use crate::code::{aggregates, folds, literals, logic, names, operators, selection, variables};
+use crate::frame_words::FrameWords;
+use crate::instructions::size;
+use crate::spot::Spot;
+use crate::surroundings::Surroundings;
+use cel_macros::{Core, Macro};
+use insn_codec::Insn;
+use std::alloc::{AllocError, Global};
+
+/// A part, and how many slots it takes.
+#[cycle(code)]
+#[tactic(auto, using(crate::proofs::Walks::near_code))]
+fn part(
+    alloc: Global,
+    core: &Core,
+    around: &Surroundings,
+    words: &FrameWords,
+    spot: Spot,
+) -> Result<(Vec<Insn>, usize), AllocError>
+    requires { HasRoom (core_view core.now) words.now spot }
+    ensures code { IfOk result (λ part. part.0.items ≡ piece_of (core_view core.now) around.now words.now spot) }
+    ensures slots { IfOk result (λ part. part.1 ≡ size_of_piece part.0.items) }
+    ensures short { IfOk result (λ part. part.1 + 8 ≤ 63 * nodes (core_view core.now)) }
+{
+    let code = code_of(alloc, core, around, words, spot)?;
+    let slots = size(&code);
+    Ok((code, slots))
+}
+
+/// Two operands, so many slots apart.
+#[cycle(code)]
+#[tactic(auto, unfolding(crate::specs::Code::Expressions::code_of, cel_measures::specs::Measures::need, cel_measures::specs::Measures::nodes))]
+fn operands(
+    alloc: Global,
+    left: &Core,
+    right: &Core,
+    apart: usize,
+    around: &Surroundings,
+    words: &FrameWords,
+    spot: Spot,
+) -> Result<(Vec<Insn>, Vec<Insn>), AllocError>
+    requires room { HasRoom (core.index (core_view left.now) (core_view right.now)) words.now spot }
+    requires apart { apart ≤ 2 }
+    ensures left { IfOk result (λ code. code.0.items ≡ piece_of (core_view left.now) around.now words.now spot) }
+    ensures right { IfOk result (λ code. code.1.items ≡ piece_of (core_view right.now) around.now words.now (record { word = spot.word + 1; slot = spot.slot + size_of_piece code.0.items + apart })) }
+    ensures near { IfOk result (λ code. size_of_piece code.1.items ≤ 32256) }
+{
+    let (first, slots) = part(alloc, left, around, words, spot)?;
+    let behind = Spot {
+        word: spot.word + 1,
+        slot: spot.slot + slots + apart,
+    };
+    let (second, _) = part(alloc, right, around, words, behind)?;
+    Ok((first, second))
+}
+
+/// A list.
+#[cycle(code)]
+#[tactic(auto, unfolding(crate::specs::Code::Expressions::code_of, cel_measures::specs::Measures::need, cel_measures::specs::Measures::nodes))]
+fn list(
+    alloc: Global,
+    parts: &[Core],
+    around: &Surroundings,
+    words: &FrameWords,
+    spot: Spot,
+) -> Result<Vec<Insn>, AllocError>
+    requires { HasRoom (core.list (cores (list.map core_view parts.now))) words.now spot }
+    ensures { IfOk result (λ code. code.items ≡ piece_of (core.list (cores (list.map core_view parts.now))) around.now words.now spot) }
+{
+    let mut items = Vec::new(alloc);
+    let mut slot = spot.slot + 2;
+    for item in parts {
+        let place = Spot {
+            word: spot.word + 1,
+            slot,
+        };
+        let (code, slots) = part(alloc, item, around, words, place)?;
+        aggregates::add_item(&mut items, &code, spot.word)?;
+        slot += slots + 4;
+    }
+    aggregates::list(alloc, &items, spot.word)
+}
+
+/// A map.
+#[cycle(code)]
+#[tactic(auto, unfolding(crate::specs::Code::Expressions::code_of, cel_measures::specs::Measures::need, cel_measures::specs::Measures::nodes))]
+fn map(
+    alloc: Global,
+    pairs: &[(Core, Core)],
+    around: &Surroundings,
+    words: &FrameWords,
+    spot: Spot,
+) -> Result<Vec<Insn>, AllocError>
+    requires { HasRoom (core.map (core_entries (list.map core_pair pairs.now))) words.now spot }
+    ensures { IfOk result (λ code. code.items ≡ piece_of (core.map (core_entries (list.map core_pair pairs.now))) around.now words.now spot) }
+{
+    let mut entries = Vec::new(alloc);
+    let mut slot = spot.slot + 2;
+    for (key, value) in pairs {
+        let place = Spot {
+            word: spot.word + 1,
+            slot,
+        };
+        let (first, slots) = part(alloc, key, around, words, place)?;
+        let behind = Spot {
+            word: spot.word + 2,
+            slot: slot + slots + 1,
+        };
+        let (second, slots) = part(alloc, value, around, words, behind)?;
+        aggregates::add_entry(&mut entries, &first, &second, spot.word)?;
+        slot = behind.slot + slots + 5;
+    }
+    aggregates::map(alloc, &entries, spot.word)
+}
+
+/// A call.
+#[cycle(code)]
+#[tactic(auto, unfolding(crate::specs::Code::Expressions::code_of, cel_measures::specs::Measures::need, cel_measures::specs::Measures::nodes))]
+fn call(
+    alloc: Global,
+    name: &str,
+    arguments: &[Core],
+    around: &Surroundings,
+    words: &FrameWords,
+    spot: Spot,
+) -> Result<Vec<Insn>, AllocError>
+    requires { HasRoom (core.call name.now (cores (list.map core_view arguments.now))) words.now spot }
+    ensures { IfOk result (λ code. code.items ≡ piece_of (core.call name.now (cores (list.map core_view arguments.now))) around.now words.now spot) }
+{
+    match arguments {
+        [operand] => {
+            let of = code_of(alloc, operand, around, words, spot)?;
+            names::function(alloc, name, &of)
+        }
+        _ => names::nothing(alloc),
+    }
+}
+
+/// A method.
+#[cycle(code)]
+#[tactic(auto, unfolding(crate::specs::Code::Expressions::code_of, cel_measures::specs::Measures::need, cel_measures::specs::Measures::nodes))]
+fn method(
+    alloc: Global,
+    of: &Core,
+    name: &str,
+    arguments: &[Core],
+    around: &Surroundings,
+    words: &FrameWords,
+    spot: Spot,
+) -> Result<Vec<Insn>, AllocError>
+    requires { HasRoom (core.method (core_view of.now) name.now (cores (list.map core_view arguments.now))) words.now spot }
+    ensures { IfOk result (λ code. code.items ≡ piece_of (core.method (core_view of.now) name.now (cores (list.map core_view arguments.now))) around.now words.now spot) }
+{
+    match arguments {
+        [] => {
+            let of = code_of(alloc, of, around, words, spot)?;
+            names::method(alloc, name, &of)
+        }
+        [argument] => {
+            let (left, right) = operands(alloc, of, argument, 1, around, words, spot)?;
+            names::test(alloc, name, &left, &right, spot.word)
+        }
+        _ => names::nothing(alloc),
+    }
+}
+
+/// A conditional.
+#[cycle(code)]
+#[tactic(auto, unfolding(crate::specs::Code::Expressions::code_of, cel_measures::specs::Measures::need, cel_measures::specs::Measures::nodes))]
+fn ternary(
+    alloc: Global,
+    condition: &Core,
+    yes: &Core,
+    no: &Core,
+    around: &Surroundings,
+    words: &FrameWords,
+    spot: Spot,
+) -> Result<Vec<Insn>, AllocError>
+    requires { HasRoom (core.ternary (core_view condition.now) (core_view yes.now) (core_view no.now)) words.now spot }
+    ensures { IfOk result (λ code. code.items ≡ piece_of (core.ternary (core_view condition.now) (core_view yes.now) (core_view no.now)) around.now words.now spot) }
+{
+    let (test, slots) = part(alloc, condition, around, words, spot)?;
+    let behind_test = Spot {
+        word: spot.word,
+        slot: spot.slot + slots + 2,
+    };
+    let (first, slots) = part(alloc, yes, around, words, behind_test)?;
+    let behind_first = Spot {
+        word: spot.word,
+        slot: behind_test.slot + slots + 1,
+    };
+    let (second, _) = part(alloc, no, around, words, behind_first)?;
+    logic::ternary(alloc, &test, &first, &second)
+}
+
+/// A macro with one part.
+#[cycle(code)]
+#[tactic(auto, unfolding(crate::specs::Code::Expressions::code_of, cel_measures::specs::Measures::need, cel_measures::specs::Measures::nodes))]
+fn fold(
+    alloc: Global,
+    found: Macro,
+    name: &str,
+    range: &Core,
+    body: &Core,
+    around: &Surroundings,
+    words: &FrameWords,
+    spot: Spot,
+) -> Result<Vec<Insn>, AllocError>
+    requires { HasRoom (core.fold found name.now (core_view range.now) (core_view body.now)) words.now spot }
+    ensures { IfOk result (λ code. code.items ≡ piece_of (core.fold found name.now (core_view range.now) (core_view body.now)) around.now words.now spot) }
+{
+    let (items, slots) = part(alloc, range, around, words, spot)?;
+    let within = FrameWords::Within(name, spot.word + 4, &*words);
+    let inside = Spot {
+        word: spot.word + 5,
+        slot: spot.slot + slots + 17,
+    };
+    let (turn, _) = part(alloc, body, around, &within, inside)?;
+    folds::macro_of(alloc, found, &items, &turn, spot.word)
+}
+
+/// `map` with a predicate and a transform.
+#[cycle(code)]
+#[tactic(auto, unfolding(crate::specs::Code::Expressions::code_of, cel_measures::specs::Measures::need, cel_measures::specs::Measures::nodes))]
+fn fold_map(
+    alloc: Global,
+    name: &str,
+    range: &Core,
+    predicate: &Core,
+    transform: &Core,
+    around: &Surroundings,
+    words: &FrameWords,
+    spot: Spot,
+) -> Result<Vec<Insn>, AllocError>
+    requires { HasRoom (core.fold_map name.now (core_view range.now) (core_view predicate.now) (core_view transform.now)) words.now spot }
+    ensures { IfOk result (λ code. code.items ≡ piece_of (core.fold_map name.now (core_view range.now) (core_view predicate.now) (core_view transform.now)) around.now words.now spot) }
+{
+    let (items, slots) = part(alloc, range, around, words, spot)?;
+    let within = FrameWords::Within(name, spot.word + 4, &*words);
+    let inside = Spot {
+        word: spot.word + 5,
+        slot: spot.slot + slots + 17,
+    };
+    let (test, slots) = part(alloc, predicate, around, &within, inside)?;
+    let behind = Spot {
+        word: spot.word + 5,
+        slot: inside.slot + slots + 2,
+    };
+    let (turn, _) = part(alloc, transform, around, &within, behind)?;
+    folds::map_where(alloc, &items, &test, &turn, spot.word)
+}
+
+/// The code of the expression among these surroundings, at the spot. Within the macros around it the
+/// words of the frame hold their items. The error says that there is no memory for it.
+#[cycle(code)]
+#[tactic(auto, unfolding(crate::specs::Code::Expressions::code_of, cel_measures::specs::Measures::need, cel_measures::specs::Measures::nodes))]
+pub(crate) fn code_of(
+    alloc: Global,
+    core: &Core,
+    around: &Surroundings,
+    words: &FrameWords,
+    spot: Spot,
+) -> Result<Vec<Insn>, AllocError>
+    requires { HasRoom (core_view core.now) words.now spot }
+    ensures { IfOk result (λ code. code.items ≡ piece_of (core_view core.now) around.now words.now spot) }
+{
+    match core {
+        Core::Literal(literal) => literals::literal(alloc, around.texts, literal),
+        Core::Name(name) => names::name(alloc, name.as_str(), words),
+        Core::Variable(name) => variables::variable(alloc, name.as_str(), around, spot.slot),
+        Core::Select(of, field) => {
+            let of = code_of(alloc, of, around, words, spot)?;
+            selection::select(alloc, &of, around.texts, field.as_str())
+        }
+        Core::Has(of, field) => {
+            let of = code_of(alloc, of, around, words, spot)?;
+            selection::has(alloc, &of, around.texts, field.as_str())
+        }
+        Core::Index(of, at) => {
+            let (left, right) = operands(alloc, of, at, 1, around, words, spot)?;
+            two(
+                alloc,
+                &left,
+                &right,
+                spot.word,
+                &selection::index_tail(spot.word),
+            )
+        }
+        Core::Call(name, arguments) => {
+            call(
+                alloc,
+                name.as_str(),
+                arguments.as_slice(),
+                around,
+                words,
+                spot,
+            )
+        }
+        Core::Method(of, name, arguments) => {
+            method(
+                alloc,
+                of,
+                name.as_str(),
+                arguments.as_slice(),
+                around,
+                words,
+                spot,
+            )
+        }
+        Core::Unary(op, operand) => {
+            let code = code_of(alloc, operand, around, words, spot)?;
+            operators::unary(alloc, *op, &code)
+        }
+        Core::Binary(op, left, right) => {
+            let apart = operators::apart(*op);
+            let (left, right) = operands(alloc, left, right, apart, around, words, spot)?;
+            operators::binary(alloc, *op, &left, &right, spot.word)
+        }
+        Core::Ternary(condition, yes, no) => {
+            ternary(alloc, condition, yes, no, around, words, spot)
+        }
+        Core::List(parts) => list(alloc, parts.as_slice(), around, words, spot),
+        Core::Map(pairs) => map(alloc, pairs.as_slice(), around, words, spot),
+        Core::Fold(found, name, range, body) => {
+            fold(
+                alloc,
+                *found,
+                name.as_str(),
+                range,
+                body,
+                around,
+                words,
+                spot,
+            )
+        }
+        Core::FoldMap(name, range, predicate, transform) => {
+            fold_map(
+                alloc,
+                name.as_str(),
+                range,
+                predicate,
+                transform,
+                around,
+                words,
+                spot,
+            )
+        }
+    }
+}

@@ -1,0 +1,87 @@
+//! The texts that the code of an expression names.
+
+ghost use Rattle.std.specs.Prelude.{◌≡◌, ◌++◌, ◌∷◌, [], OnOk, string_bytes};
+ghost use Rattle.std.specs.Prelude as list;
+ghost use Rattle.cel_macros.specs.CoreView.{core_view, cores, core_entries};
+ghost use Rattle.cel_macros.specs.Expanding.{core_pair};
+ghost use Rattle.codegen.specs.Code.Expressions.{texts_of, texts_of_each, texts_of_entries};
+
+use cel_macros::Core;
+use cel_reader::Literal;
+use std::alloc::{AllocError, Global};
+
+/// Puts a text behind the others.
+fn add(alloc: Global, text: &str, texts: &mut Vec<String>) -> Result<(), AllocError>
+    ensures { OnOk result (list.map string_bytes texts.new.items ≡ list.map string_bytes texts.old.items ++ text.now ∷ []) }
+{
+    let text = String::from_str(alloc, text)?;
+    texts.push(text)?;
+    Ok(())
+}
+
+/// Puts the texts of these behind the others.
+#[cycle(texts)]
+#[tactic(auto, unfolding(crate::specs::Code::Expressions::texts_of))]
+fn add_parts(alloc: Global, parts: &[Core], texts: &mut Vec<String>) -> Result<(), AllocError>
+    ensures { OnOk result (list.map string_bytes texts.new.items ≡ list.map string_bytes texts.old.items ++ texts_of_each (cores (list.map core_view parts.now))) }
+{
+    for part in parts {
+        add_texts(alloc, part, texts)?;
+    }
+    Ok(())
+}
+
+/// Puts the texts of these keys and values behind the others.
+#[cycle(texts)]
+#[tactic(auto, unfolding(crate::specs::Code::Expressions::texts_of))]
+fn add_entries(
+    alloc: Global,
+    pairs: &[(Core, Core)],
+    texts: &mut Vec<String>,
+) -> Result<(), AllocError>
+    ensures { OnOk result (list.map string_bytes texts.new.items ≡ list.map string_bytes texts.old.items ++ texts_of_entries (core_entries (list.map core_pair pairs.now))) }
+{
+    for (key, value) in pairs {
+        add_texts(alloc, key, texts)?;
+        add_texts(alloc, value, texts)?;
+    }
+    Ok(())
+}
+
+/// Puts the texts that the code of the expression names behind the others, in order of first use. The
+/// error says that there is no memory for them.
+#[cycle(texts)]
+#[tactic(auto, unfolding(crate::specs::Code::Expressions::texts_of))]
+pub(crate) fn add_texts(
+    alloc: Global,
+    core: &Core,
+    texts: &mut Vec<String>,
+) -> Result<(), AllocError>
+    ensures { OnOk result (list.map string_bytes texts.new.items ≡ list.map string_bytes texts.old.items ++ texts_of (core_view core.now)) }
+{
+    match core {
+        Core::Literal(Literal::Text(text)) => add(alloc, text.as_str(), texts),
+        Core::Literal(_) | Core::Name(_) | Core::Variable(_) => Ok(()),
+        Core::Select(of, field) | Core::Has(of, field) => {
+            add_texts(alloc, of, texts)?;
+            add(alloc, field.as_str(), texts)
+        }
+        Core::Unary(_, of) => add_texts(alloc, of, texts),
+        Core::Index(a, b) | Core::Binary(_, a, b) | Core::Fold(_, _, a, b) => {
+            add_texts(alloc, a, texts)?;
+            add_texts(alloc, b, texts)
+        }
+        Core::Call(_, arguments) => add_parts(alloc, arguments.as_slice(), texts),
+        Core::Method(of, _, arguments) => {
+            add_texts(alloc, of, texts)?;
+            add_parts(alloc, arguments.as_slice(), texts)
+        }
+        Core::Ternary(a, b, c) | Core::FoldMap(_, a, b, c) => {
+            add_texts(alloc, a, texts)?;
+            add_texts(alloc, b, texts)?;
+            add_texts(alloc, c, texts)
+        }
+        Core::List(items) => add_parts(alloc, items.as_slice(), texts),
+        Core::Map(pairs) => add_entries(alloc, pairs.as_slice(), texts),
+    }
+}
