@@ -1,4 +1,5 @@
 //! The code of expressions.
+#![tactic(auto, unfolding(crate::specs::Code::Expressions::code_of, cel_measures::specs::Measures::need, cel_measures::specs::Measures::nodes))]
 
 ghost use Rattle.std.specs.Prelude.{◌≡◌, ◌≤◌, ◌+◌, ◌*◌, IfOk};
 ghost use Rattle.std.specs.Prelude as list;
@@ -42,7 +43,6 @@ fn part(
 
 /// Two operands, so many slots apart.
 #[cycle(code)]
-#[tactic(auto, unfolding(crate::specs::Code::Expressions::code_of, cel_measures::specs::Measures::need, cel_measures::specs::Measures::nodes))]
 fn operands(
     alloc: Global,
     left: &Core,
@@ -69,7 +69,6 @@ fn operands(
 
 /// An index.
 #[cycle(code)]
-#[tactic(auto, unfolding(crate::specs::Code::Expressions::code_of, cel_measures::specs::Measures::need, cel_measures::specs::Measures::nodes))]
 fn index(
     alloc: Global,
     of: &Core,
@@ -88,7 +87,6 @@ fn index(
 
 /// An operator of two operands.
 #[cycle(code)]
-#[tactic(auto, unfolding(crate::specs::Code::Expressions::code_of, cel_measures::specs::Measures::need, cel_measures::specs::Measures::nodes))]
 fn binary(
     alloc: Global,
     op: BinaryOperator,
@@ -108,7 +106,6 @@ fn binary(
 
 /// A list.
 #[cycle(code)]
-#[tactic(auto, unfolding(crate::specs::Code::Expressions::code_of, cel_measures::specs::Measures::need, cel_measures::specs::Measures::nodes))]
 fn list(
     alloc: Global,
     parts: &[Core],
@@ -135,7 +132,6 @@ fn list(
 
 /// A map.
 #[cycle(code)]
-#[tactic(auto, unfolding(crate::specs::Code::Expressions::code_of, cel_measures::specs::Measures::need, cel_measures::specs::Measures::nodes))]
 fn map(
     alloc: Global,
     pairs: &[(Core, Core)],
@@ -167,7 +163,6 @@ fn map(
 
 /// A call.
 #[cycle(code)]
-#[tactic(auto, unfolding(crate::specs::Code::Expressions::code_of, cel_measures::specs::Measures::need, cel_measures::specs::Measures::nodes))]
 fn call(
     alloc: Global,
     name: &str,
@@ -190,7 +185,6 @@ fn call(
 
 /// A method.
 #[cycle(code)]
-#[tactic(auto, unfolding(crate::specs::Code::Expressions::code_of, cel_measures::specs::Measures::need, cel_measures::specs::Measures::nodes))]
 fn method(
     alloc: Global,
     of: &Core,
@@ -218,7 +212,6 @@ fn method(
 
 /// A conditional.
 #[cycle(code)]
-#[tactic(auto, unfolding(crate::specs::Code::Expressions::code_of, cel_measures::specs::Measures::need, cel_measures::specs::Measures::nodes))]
 fn ternary(
     alloc: Global,
     test: &Core,
@@ -247,7 +240,6 @@ fn ternary(
 
 /// A macro with one part.
 #[cycle(code)]
-#[tactic(auto, unfolding(crate::specs::Code::Expressions::code_of, cel_measures::specs::Measures::need, cel_measures::specs::Measures::nodes))]
 fn fold(
     alloc: Global,
     found: Macro,
@@ -273,7 +265,6 @@ fn fold(
 
 /// `map` with a predicate and a transform.
 #[cycle(code)]
-#[tactic(auto, unfolding(crate::specs::Code::Expressions::code_of, cel_measures::specs::Measures::need, cel_measures::specs::Measures::nodes))]
 fn fold_map(
     alloc: Global,
     name: &str,
@@ -305,7 +296,6 @@ fn fold_map(
 /// The code of the expression among these surroundings, at the spot. Within the macros around it the
 /// words of the frame hold their items. The error says that there is no memory for it.
 #[cycle(code)]
-#[tactic(auto, unfolding(crate::specs::Code::Expressions::code_of, cel_measures::specs::Measures::need, cel_measures::specs::Measures::nodes))]
 pub(crate) fn code_of(
     alloc: Global,
     core: &Core,
