@@ -1,6 +1,6 @@
-use Rattle.std.proofs.Common.{◌≡◌, ◌+◌, ◌*◌, ◌≤◌, ◌<◌, ◌∷◌, ◌++◌, length, map, sym, ap, subst, ◌∙◌, rules, arith}
+use Rattle.std.proofs.Common.{◌≡◌, ◌+◌, ◌∷◌, ◌++◌, length, map, sym, ap, subst, ◌∙◌, arith}
 use Rattle.cel_macros.specs.CoreTree as core
-use Rattle.cel_macros.specs.CoreView.{core_view, cores, core_entries}
+use Rattle.cel_macros.specs.CoreView.{core_view, core_entries}
 use Rattle.cel_macros.specs.CoreViewLaws.{view_map}
 use Rattle.cel_macros.specs.Expanding.{core_pair}
 use Rattle.cel_measures.specs.Measures.{nodes}
