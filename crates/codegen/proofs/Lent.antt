@@ -6,12 +6,14 @@ use Rattle.std.proofs.lemmas.Bool.{le-leb, ne_eqb}
 use Rattle.std.proofs.lemmas.List.{take_all, take-append-le, drop-drop, drop_at}
 use Rattle.guest_memory.specs.Access.{constants_of}
 use Rattle.guest_memory.specs.Memory.{start_memory}
+use Rattle.std.specs.List.{AllByRecursion}
 use Rattle.helper_table.specs.Calls.{bytes_at}
-use Rattle.insn_codec.specs.declared.register.Register.{Register}
-use Rattle.codegen_base.specs.Body.{Body}
-use Rattle.codegen_base.specs.Helpers.{Lends}
+use Rattle.codegen_base.specs.Gives.Selection.{HasText}
 use Rattle.codegen.specs.Code.Literals.{address_of}
-use Rattle.codegen.specs.Constants.{joined, place_of}
+use Rattle.codegen.specs.Computes.{TextsStand}
+use Rattle.codegen.specs.Constants.{joined, place_of, with_texts}
+use Rattle.codegen.specs.Laws.{TextsStay}
+use Rattle.codegen.proofs.Taken.{HasPlace, each_placed, joined_begins}
 
 -- the text stands at this place of the bytes
 pub record StandsAt (t bytes : List ℕ) (n : ℕ) : Type 0 where
@@ -58,17 +60,28 @@ lent_by (x ∷ xs) constants n h =
 address_is : (t : List ℕ) (texts : List (List ℕ)) (n : ℕ) → n ≤ 1048576 → place_of t texts ≡ Some n → address_of texts t ≡ 0x4_0000_0000 + n
 address_is t texts n small h = rw h (omega arith)
 
--- where the constants begin with all texts, the machine lends each of them
-pub text_lent : (b : Body) (r q : Register) (t : List ℕ) (texts : List (List ℕ)) (rest : List ℕ) (n : ℕ) → place_of t texts ≡ Some n → length (joined texts) ≤ 1048576 → b.memory.constants ≡ joined texts ++ rest → b.registers r ≡ address_of texts t → b.registers q ≡ length t → Lends b r q t
-text_lent b r q t texts rest n place small begins address count =
-    let stands = text_stands t texts rest n place in
-    let whole = length-append (joined texts) rest in
+-- where the constants begin with all texts, each of them stands where code looks for it
+pub has_text : (t : List ℕ) (texts : List (List ℕ)) (rest : List ℕ) (n : ℕ) → place_of t texts ≡ Some n → length (joined texts) ≤ 1048576 → HasText (joined texts ++ rest) (address_of texts t) t
+has_text t texts rest n place small =
     let inside = text_stands t texts [] n place in
     let w = inside.within in
     let all = length-append (joined texts) [] in
-    let at : b.registers r ≡ 0x4_0000_0000 + n = address ∙ address_is t texts n (omega (arith, w, small, all)) place in
+    let at : address_of texts t ≡ 0x4_0000_0000 + n = address_is t texts n (omega (arith, w, small, all)) place in
     record {
-      bytes_are = ap (λ m. bytes_at m (b.registers r) (b.registers q)) begins ∙ ap (λ a. bytes_at (joined texts ++ rest) a (b.registers q)) at ∙ ap (λ m. bytes_at (joined texts ++ rest) (0x4_0000_0000 + n) m) count ∙ lent_by t (joined texts ++ rest) n stands;
-      address = omega (arith, at, w, small, all);
-      count = omega (arith, count, w, small, all);
+      bytes_are = ap (λ a. bytes_at (joined texts ++ rest) a (length t)) at ∙ lent_by t (joined texts ++ rest) n (text_stands t texts rest n place);
+      address_is_word = omega (arith, at, w, small, all);
+      length_is_word = omega (arith, w, small, all);
     }
+
+all_stand : (texts : List (List ℕ)) (rest : List ℕ) → length (joined texts) ≤ 1048576 → (used : List (List ℕ)) → AllByRecursion (HasPlace texts) used → TextsStand (joined texts ++ rest) texts used
+all_stand texts rest small [] placed = tt
+all_stand texts rest small (t ∷ used) placed = (has_text t texts rest placed.0.0 placed.0.1 small, all_stand texts rest small used placed.1)
+
+-- so do the texts of an expression once they are taken, whatever is taken later
+pub texts_stand : TextsStay
+texts_stand texts used later small =
+    let taken = with_texts texts used in
+    let behind = joined_begins taken later in
+    let count = length-append (joined taken) behind.0 in
+    let whole = ap length behind.1 in
+    subst (λ bytes. TextsStand bytes taken used) (sym behind.1) (all_stand taken behind.0 (omega (arith, count, whole, small)) used (each_placed texts used))

@@ -1,8 +1,11 @@
 pub mod AmongTexts
+pub mod Fronts
+pub mod Behind
 pub mod Joined
 pub mod Names
 pub mod Sizes
 pub mod Lengths
+pub mod Taken
 pub mod Lent
 pub mod Places
 pub mod Walks
@@ -18,4 +21,7 @@ pub mod Expanded
 pub mod Uses
 pub mod Computed
 pub mod Routines
+pub mod Layer
 pub mod CodeInsns
+pub mod Passed
+pub mod Finished

@@ -6,14 +6,15 @@ use Rattle.cel_measures.specs.Saturated.{saturated}
 use Rattle.codegen.specs.Constants.{joined}
 use Rattle.codegen_base.specs.Pieces.{slots}
 
--- the instruction that begins at each slot of the code; the texts that the code names; and the nodes for which it stands
+-- the instruction that begins at each slot of the code; the texts that the code names; the nodes for which it stands; and the slots at which the variables' routines begin, in their order
 pub record Emitted : Type 0 where
   pub code : List (Option Insn)
   pub constants : List (List ℕ)
   pub nodes : ℕ
+  pub routines : List ℕ
 
 abbrev pub no_code : Emitted
-no_code = record { code = []; constants = []; nodes = 0 }
+no_code = record { code = []; constants = []; nodes = 0; routines = [] }
 
 abbrev pub with_piece : Emitted → List Insn → Emitted
 with_piece e piece = record e { code = e.code ++ slots piece }

@@ -1,6 +1,7 @@
 -- What is proved of the code of expressions as lists of instructions.
 use Rattle.std.specs.Prelude.{◌≡◌, ℕ, ◌+◌, ◌*◌, ◌≤◌, Bool, List, [], ◌∷◌, ◌++◌, length}
 use Rattle.std.specs.Prelude.{map as each}
+use Rattle.insn_codec.specs.declared.insn.Insn.{Insn}
 use Rattle.loader.specs.Contents.{Contents}
 use Rattle.value_store.specs.Value.{Value}
 use Rattle.cel_macros.specs.CoreTree.{CoreTree, plain_tree}
@@ -11,10 +12,14 @@ use Rattle.cel_types.specs.CoreTyping.{core_typing}
 use Rattle.cel_types.specs.Declarations.{Declaration, scope_of}
 use Rattle.cel_types.specs.Types.{typed}
 use Rattle.cel_types.specs.declared.cel_type.CelType.{CelType}
+use Rattle.codegen_base.specs.Body.{Body}
+use Rattle.codegen_base.specs.Engine.{Comes, Setting}
 use Rattle.codegen_base.specs.Pieces.{Stands, size}
 use Rattle.codegen_base.specs.Scopes.{IsScope, Variable, scope_setting}
 use Rattle.codegen.specs.Accepted.{IsAccepted}
-use Rattle.codegen.specs.Computes.{Computes, Ready, environment_in, routines, scope_context, variable_of}
+use Rattle.codegen.specs.Added.{passed}
+use Rattle.codegen.specs.Computes.{Computes, Ready, TextsStand, environment_in, routines, scope_context, variable_of}
+use Rattle.codegen.specs.Constants.{joined, with_texts}
 use Rattle.codegen.specs.Cost.{cost}
 use Rattle.codegen.specs.HasLiterals.{HasLiterals}
 use Rattle.codegen.specs.Code.Expressions.{code_of, routine_code}
@@ -43,3 +48,12 @@ RoutineGives = (image : Contents) (deep : Bool) (roots : Roots) (constants : Lis
     Ready s scope texts c 1 0 e (cost (plain_tree e) (environment_in roots [] scope)).is_deep
     → Stands image.code p (routine_code e texts (routines scope) (length (scope ++ later)) p)
     → IsScope image deep roots constants ((scope ++ later) ++ variable_of roots scope texts name e p ∷ [])
+
+-- the texts that an expression names, once they are taken, stand among the constants where its code looks for them, whatever is taken later
+abbrev pub TextsStay : Type 0
+TextsStay = (texts used later : List (List ℕ)) → length (joined (with_texts (with_texts texts used) later)) ≤ 1048576
+    → TextsStand (joined (with_texts (with_texts texts used) later)) (with_texts texts used) used
+
+-- from the jump before a routine the machine comes to the slot behind it, in one step that changes nothing else
+abbrev pub RoutineIsPassed : Type 0
+RoutineIsPassed = (s : Setting) (p : ℕ) (piece : List Insn) (b : Body) → Stands s.image.code p (passed piece) → Comes s 1 0 p b (p + size (passed piece)) (λ new. new ≡ b)

@@ -9,3 +9,5 @@ pub mod Accepted
 pub mod HasLiterals
 pub mod Computes
 pub mod Laws
+pub mod Added
+pub mod Layer

@@ -10,5 +10,6 @@ pub(crate) mod literals;
 pub(crate) mod logic;
 pub(crate) mod names;
 pub(crate) mod operators;
+pub(crate) mod routines;
 pub(crate) mod selection;
 pub(crate) mod variables;

@@ -1,24 +1,52 @@
 //! The texts that code names.
 
-ghost use Rattle.std.specs.Prelude.{◌≡◌, map, option_map, length, string_bytes, IfOk, OnOk, OnErr};
+ghost use Rattle.std.specs.Prelude.{◌≡◌, map, option_map, length, string_bytes, take, IfOk, OnOk};
+ghost use Rattle.cel_macros.specs.CoreView.{core_view};
 ghost use Rattle.cel_measures.specs.Saturated.{saturated};
+ghost use Rattle.codegen.specs.Code.Expressions.{texts_of};
 ghost use Rattle.codegen.specs.Constants as specs;
 
+use crate::texts::add_texts;
+use cel_macros::Core;
 use indexmap::IndexSet;
 use std::alloc::{AllocError, Global};
 
 /// Takes the text among the others, if it is not there. The error says that there is no memory for it.
-pub(crate) fn take_text(
-    alloc: Global,
-    texts: &mut IndexSet<String>,
-    text: &str,
-) -> Result<(), AllocError>
+fn take_text(alloc: Global, texts: &mut IndexSet<String>, text: &str) -> Result<(), AllocError>
     ensures ok { OnOk result (map string_bytes texts.new.keys ≡ specs.with_text (map string_bytes texts.old.keys) text.now) }
-    ensures err { OnErr result (texts.new.keys ≡ texts.old.keys) }
+    ensures front { take (length texts.old.keys) texts.new.keys ≡ texts.old.keys }
 {
     let text = String::from_str(alloc, text)?;
     texts.insert(text)?;
     Ok(())
+}
+
+/// Takes these texts among the others, each if it is not there. The error says that there is no memory
+/// for all of them; those that were there are still in front.
+#[tactic(auto, using(crate::proofs::Fronts::front_later))]
+fn take_each(alloc: Global, texts: &mut IndexSet<String>, used: &[String]) -> Result<(), AllocError>
+    ensures ok { OnOk result (map string_bytes texts.new.keys ≡ specs.with_texts (map string_bytes texts.old.keys) (map string_bytes used.now)) }
+    ensures front { take (length texts.old.keys) texts.new.keys ≡ texts.old.keys }
+{
+    for text in used {
+        take_text(alloc, texts, text.as_str())?;
+    }
+    Ok(())
+}
+
+/// Takes the texts of the expression among the others, each if it is not there, in order of first use.
+/// The error says that there is no memory for all of them; those that were there are still in front.
+pub(crate) fn take_texts(
+    alloc: Global,
+    texts: &mut IndexSet<String>,
+    core: &Core,
+) -> Result<(), AllocError>
+    ensures ok { OnOk result (map string_bytes texts.new.keys ≡ specs.with_texts (map string_bytes texts.old.keys) (texts_of (core_view core.now))) }
+    ensures front { take (length texts.old.keys) texts.new.keys ≡ texts.old.keys }
+{
+    let mut used = Vec::new(alloc);
+    add_texts(alloc, core, &mut used)?;
+    take_each(alloc, texts, &used)
 }
 
 /// Where the text begins among the bytes of all; the greatest number of 64 bits where that is more.

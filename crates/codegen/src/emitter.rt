@@ -1,15 +1,27 @@
 //! Code as it grows.
 
-ghost use Rattle.std.specs.Prelude.{◌≡◌, ◌≢◌, ◌+◌, ◌++◌, ◌∷◌, [], ◌↔◌, length, Some, slice_get, IfOk, OnOk, OnErr, IsErrOf};
+ghost use Rattle.std.specs.Prelude.{◌≡◌, ◌≢◌, ◌+◌, ◌<◌, ◌≤◌, ◌++◌, ◌∷◌, [], ◌↔◌, length, map, take, Some, slice_get, IfOk, OnOk, OnErr, IsErrOf};
 ghost use Rattle.insn_codec.specs.Spelling.{slot_count, spelling};
 ghost use Rattle.insn_codec.specs.declared.insn.Insn.{Insn};
 ghost use Rattle.insn_codec.specs.declared.insn.Insn.TheVariants.{Exit};
+ghost use Rattle.cel_macros.specs.CoreView.{core_view};
+ghost use Rattle.cel_measures.specs.Measures.{need, nodes};
+ghost use Rattle.cel_types.specs.Declarations.{declaration};
+ghost use Rattle.codegen.specs.Added.{code_at, has_room, with_expression, with_variable, IsBehind};
 ghost use Rattle.codegen.specs.Constants.{joined as joined_texts};
 ghost use Rattle.codegen.specs.Emitted.{no_code, with_piece, with_insn_at, with_nodes, slot_spellings, IsTooLong, HasTooManyTexts};
-ghost use Rattle.codegen_base.specs.Pieces.{slots, insn_slots};
+ghost use Rattle.codegen_base.specs.Pieces.{slots, insn_slots, size};
 
+use crate::code::routines::passed_routine;
 use crate::code_error::CodeError;
-use crate::constants::{byte_count, joined};
+use crate::constants::{byte_count, joined, take_texts};
+use crate::expressions::code_of;
+use crate::frame_words::FrameWords;
+use crate::spot::Spot;
+use crate::surroundings::Surroundings;
+use cel_macros::Core;
+use cel_measures::nodes;
+use cel_types::Variable;
 use indexmap::IndexSet;
 use insn_codec::{Insn, encode};
 use std::alloc::{AllocError, Global};
@@ -17,6 +29,12 @@ use std::marker::Model;
 
 /// The most nodes for which an image has room.
 const MOST_NODES: u64 = 512;
+
+/// The slots that an image has.
+const MOST_SLOTS: usize = 65_536;
+
+/// The memos for which the scratch region has room.
+const MOST_VARIABLES: usize = 512;
 
 /// The most bytes of constants that an image has.
 const MOST_CONSTANTS: u64 = 1_048_576;
@@ -29,15 +47,19 @@ pub struct Emitter {
     /// The texts in order of first use.
     constants: IndexSet<String>,
     nodes: u64,
+    /// The slots at which the routines of the variables begin, in the order of the variables.
+    routines: Vec<u32>,
 }
 
 impl Model for Emitter {
-    ghost use Rattle.std.specs.Prelude.{map, string_bytes};
+    ghost use Rattle.std.specs.Prelude.{◌≤◌, map, string_bytes, All};
     ghost use Rattle.codegen.specs.Emitted.{Emitted};
 
     ghost Value = { Emitted };
 
-    ghost view = { λ e. record { code = e.code.items; constants = map string_bytes e.constants.keys; nodes = e.nodes } };
+    ghost view = { λ e. record { code = e.code.items; constants = map string_bytes e.constants.keys; nodes = e.nodes; routines = e.routines.items } };
+
+    ghost invariant = { λ e. All (λ slot. slot ≤ 65536) e.routines.items };
 }
 
 impl Emitter {
@@ -49,6 +71,7 @@ impl Emitter {
             code: Vec::new(alloc),
             constants: IndexSet::new(alloc),
             nodes: 0,
+            routines: Vec::new(alloc),
         }
     }
 
@@ -83,6 +106,137 @@ impl Emitter {
         self.nodes = self.nodes.saturating_add(n);
     }
 
+    /// Takes the expression: its texts and nodes, and its code behind the code where there is room. The
+    /// error says that there is no memory for it.
+    pub(crate) fn add(
+        &mut self,
+        alloc: Global,
+        core: &Core,
+        scope: &[Variable],
+    ) -> Result<(), AllocError>
+        requires { need (core_view core.now) ≤ 60 }
+        ensures ok { OnOk result (self.new ≡ with_expression self.old (map declaration scope.now) (core_view core.now)) }
+        ensures err { OnErr result (self.new ≡ self.old) }
+    {
+        let (texts, routines) = (self.constants.len(), self.routines.len());
+        let added = self.grow(alloc, core, scope);
+        if added.is_err() {
+            self.cut(texts, routines);
+        }
+        added
+    }
+
+    /// Takes the next variable with this expression: its texts and nodes, and its routine behind the
+    /// code where there is room. The error says that there is no memory for it.
+    pub(crate) fn add_variable(
+        &mut self,
+        alloc: Global,
+        core: &Core,
+        scope: &[Variable],
+    ) -> Result<(), AllocError>
+        requires { need (core_view core.now) ≤ 60 }
+        ensures ok { OnOk result (self.new ≡ with_variable self.old (map declaration scope.now) (core_view core.now)) }
+        ensures err { OnErr result (self.new ≡ self.old) }
+    {
+        let (texts, routines) = (self.constants.len(), self.routines.len());
+        let added = self.grow_routine(alloc, core, scope);
+        if added.is_err() {
+            self.cut(texts, routines);
+        }
+        added
+    }
+
+    /// Takes the expression. After an error texts may be left behind those that were there.
+    fn grow(&mut self, alloc: Global, core: &Core, scope: &[Variable]) -> Result<(), AllocError>
+        requires { need (core_view core.now) ≤ 60 }
+        ensures ok { OnOk result (self.new ≡ with_expression self.old (map declaration scope.now) (core_view core.now)) }
+        ensures err { OnErr result (IsBehind self.old self.new) }
+    {
+        take_texts(alloc, &mut self.constants, core)?;
+        let counted = self.nodes.saturating_add(nodes(core));
+        if self.has_room(counted) {
+            let piece = self.code_at(alloc, core, scope, self.code.len())?;
+            self.append(alloc, &piece)?;
+        }
+        self.nodes = counted;
+        Ok(())
+    }
+
+    /// Takes the variable. After an error texts, and the routine's slot, may be left behind those
+    /// that were there.
+    fn grow_routine(
+        &mut self,
+        alloc: Global,
+        core: &Core,
+        scope: &[Variable],
+    ) -> Result<(), AllocError>
+        requires { need (core_view core.now) ≤ 60 }
+        ensures ok { OnOk result (self.new ≡ with_variable self.old (map declaration scope.now) (core_view core.now)) }
+        ensures err { OnErr result (IsBehind self.old self.new) }
+    {
+        take_texts(alloc, &mut self.constants, core)?;
+        let counted = self.nodes.saturating_add(nodes(core)).saturating_add(1);
+        if self.has_room(counted) {
+            let slot = self.code.len() + 1;
+            let body = self.code_at(alloc, core, scope, slot)?;
+            let routine = passed_routine(alloc, &body, self.routines.len())?;
+            self.routines.push(slot as u32)?;
+            self.append(alloc, &routine)?;
+        }
+        self.nodes = counted;
+        Ok(())
+    }
+
+    /// Whether there is room for code that makes the nodes so many.
+    fn has_room(&self, nodes: u64) -> bool
+        ensures { result ≡ has_room (record self.now { nodes = nodes }) }
+    {
+        nodes <= MOST_NODES && self.code.len() < MOST_SLOTS && self.routines.len() < MOST_VARIABLES
+    }
+
+    /// The expression's code at this slot. The error says that there is no memory for it.
+    #[tactic(auto, using(crate::proofs::Lengths::short_code))]
+    fn code_at(
+        &self,
+        alloc: Global,
+        core: &Core,
+        scope: &[Variable],
+        slot: usize,
+    ) -> Result<Vec<Insn>, AllocError>
+        requires need { need (core_view core.now) ≤ 60 }
+        requires nodes { nodes (core_view core.now) ≤ 512 }
+        requires slot { slot ≤ 65536 }
+        requires routines { length self.now.routines ≤ 512 }
+        ensures code { IfOk result (λ code. code.items ≡ code_at self.now (map declaration scope.now) (core_view core.now) slot) }
+        ensures short { IfOk result (λ code. size code.items ≤ 32300) }
+    {
+        let around = Surroundings {
+            texts: self.constants.as_slice(),
+            variables: scope,
+            routines: self.routines.as_slice(),
+        };
+        let spot = Spot { word: 0, slot };
+        code_of(alloc, core, &around, &FrameWords::Outside, spot)
+    }
+
+    /// Puts the piece behind the code. The error says that there is no memory for it.
+    fn append(&mut self, alloc: Global, piece: &[Insn]) -> Result<(), AllocError>
+        ensures ok { OnOk result (self.new ≡ with_piece self.old piece.now) }
+        ensures err { OnErr result (self.new ≡ self.old) }
+    {
+        let begins = slots_of(alloc, piece)?;
+        self.code.extend_from_slice(&begins)
+    }
+
+    /// Keeps so many texts and routines.
+    #[tactic(auto, using(crate::proofs::AmongTexts::texts_cut))]
+    fn cut(&mut self, texts: usize, routines: usize)
+        ensures { self.new ≡ record self.old { constants = take texts self.old.constants; routines = take routines self.old.routines } }
+    {
+        self.constants.truncate(texts);
+        self.routines.truncate(routines);
+    }
+
     /// The code, ended by an exit, and the constants that it names, in bytes. G3 where there are too many
     /// nodes, else G4 where there are too many bytes of texts.
     pub fn finish(self) -> Result<(Vec<u8>, Vec<u8>), CodeError>
@@ -106,6 +260,20 @@ impl Emitter {
         let constants = joined(alloc, texts)?;
         Ok((code, constants))
     }
+}
+
+/// What begins at each slot of the piece. The error says that there is no memory for it.
+fn slots_of(alloc: Global, piece: &[Insn]) -> Result<Vec<Option<Insn>>, AllocError>
+    ensures { IfOk result (λ begins. begins.items ≡ slots piece.now) }
+{
+    let mut begins = Vec::new(alloc);
+    for insn in piece {
+        begins.push(Some(*insn))?;
+        if insn.slots() == 2 {
+            begins.push(None)?;
+        }
+    }
+    Ok(begins)
 }
 
 /// The bytes of what begins at these slots. The error says that there is no memory for them.

@@ -1,7 +1,8 @@
 //! The laws of the code generator, each the contract of an empty function.
 
 ghost use Rattle.codegen.specs.CostRows.{CostRows};
-ghost use Rattle.codegen.specs.Laws.{CodeGives, CodeIsShort, RoutineGives, TypedIsAccepted};
+ghost use Rattle.codegen.specs.Layer.{ExpressionGives, FramesAreEnough, VariableIsTaken, VariableJoins};
+ghost use Rattle.codegen.specs.Laws.{CodeGives, CodeIsShort, RoutineGives, RoutineIsPassed, TextsStay, TypedIsAccepted};
 
 /// Expressions that were worked by hand visit and spend so much.
 pub fn costs_stand()
@@ -27,4 +28,28 @@ pub fn code_gives()
 /// A scope grows by each variable whose routine stands in the image.
 pub fn routine_gives()
     ensures { RoutineGives }
+{}
+
+/// The texts of an expression, once taken, stand where its code looks for them, whatever is taken later.
+pub fn texts_stay()
+    ensures { TextsStay }
+{}
+
+/// Straight code passes a routine in one step.
+pub fn routine_is_passed()
+    ensures { RoutineIsPassed }
+{}
+
+/// The code of an expression, as an emitter makes it, gives what the expression means, within its bounds
+/// on steps and charge, for all that the type checker takes in a scope of the variables that the emitter
+/// took first.
+pub fn expression_gives()
+    ensures gives { ExpressionGives }
+    ensures frames { FramesAreEnough }
+{}
+
+/// The variables that an emitter took grow by each that it takes, whose routine stands in the image.
+pub fn variables_join()
+    ensures joins { VariableJoins }
+    ensures taken { VariableIsTaken }
 {}

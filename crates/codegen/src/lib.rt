@@ -4,12 +4,14 @@
 mod code;
 mod code_error;
 mod constants;
+mod emission;
 mod emitter;
 mod expressions;
 mod frame_words;
 mod helpers;
 mod instructions;
 mod laws;
+mod literals_fit;
 mod references;
 mod spot;
 mod surroundings;
@@ -18,5 +20,9 @@ mod tests;
 mod texts;
 
 pub use code_error::CodeError;
+pub use emission::{expression, variable};
 pub use emitter::Emitter;
-pub use laws::{code_gives, code_is_short, costs_stand, routine_gives, typed_has_code};
+pub use laws::{
+    code_gives, code_is_short, costs_stand, expression_gives, routine_gives, routine_is_passed,
+    texts_stay, typed_has_code, variables_join,
+};

@@ -8,6 +8,8 @@ use insn_codec::{AluOp, Insn, Operand, Register, Width};
 use std::alloc::Global;
 use std::test::Fail;
 
+mod programs;
+
 /// `mov64 r0, n`.
 fn move_to_r0(n: i32) -> Insn
     ensures { slot_count result ≡ 1 }

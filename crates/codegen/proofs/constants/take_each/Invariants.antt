@@ -1,0 +1,9 @@
+use Rattle.std.proofs.Common.{◌≡◌, length, map, drop, take, string_bytes}
+use Rattle.codegen.specs.Constants.{with_texts}
+use Rattle.codegen.proofs.constants.take_each.Given as goal
+
+abbrev pub invariant-loop-text : goal.invariant-loop-text
+invariant-loop-text l = record {
+  so_far : with_texts (map string_bytes l.texts.keys) (map string_bytes (drop l.text-index l.used)) ≡ with_texts (map string_bytes l.initial.texts.keys) (map string_bytes l.used);
+  front : take (length l.initial.texts.keys) l.texts.keys ≡ l.initial.texts.keys;
+}

@@ -1,0 +1,6 @@
+use Rattle.std.proofs.Common.{◌≡◌, ◌++◌, drop}
+use Rattle.codegen_base.specs.Pieces.{slots}
+use Rattle.codegen.proofs.emitter.slots_of.Given as goal
+
+abbrev pub invariant-loop-insn : goal.invariant-loop-insn
+invariant-loop-insn l = slots l.piece ≡ l.begins.items ++ slots (drop l.insn-index l.piece)

@@ -1,0 +1,5 @@
+use Rattle.codegen.proofs.Layer.{variable_is_taken, variable_joins}
+use Rattle.codegen.proofs.laws.variables_join.Goals as goal
+
+pub returns : goal.returns
+returns c = record { joins = variable_joins; taken = variable_is_taken }

@@ -1,0 +1,50 @@
+-- What an emitter has taken once an expression or a variable is added to it.
+use Rattle.std.specs.Prelude.{◌≡◌, ℕ, ◌+◌, Bool, ◌&&◌, nat_le, nat_lt, if◌then◌else◌, List, [], ◌∷◌, ◌++◌, length, take}
+use Rattle.insn_codec.specs.declared.insn.Insn.{Insn}
+use Rattle.cel_macros.specs.CoreTree.{CoreTree}
+use Rattle.cel_measures.specs.Measures.{nodes}
+use Rattle.cel_types.specs.Declarations.{Declaration}
+use Rattle.codegen_base.specs.Instructions.{skip}
+use Rattle.codegen_base.specs.Pieces.{size}
+use Rattle.codegen_base.specs.Variables.{memo_tail}
+use Rattle.codegen.specs.Code.Expressions.{code_of, texts_of}
+use Rattle.codegen.specs.Constants.{with_texts}
+use Rattle.codegen.specs.Emitted.{Emitted, with_nodes, with_piece}
+use Rattle.codegen.specs.Surroundings.{routines_of}
+
+-- there is room for code: an image has slots for 512 nodes, 128 for each, and it has at most 65,536, of which an exit takes one; its scratch region has memos for 512 variables
+abbrev pub has_room : Emitted → Bool
+has_room e = nat_le e.nodes 512 && (nat_lt (length e.code) 65536 && nat_lt (length e.routines) 512)
+
+-- an expression's code at a slot, from the start of a frame
+abbrev pub code_at : Emitted → List Declaration → CoreTree → ℕ → List Insn
+code_at e scope tree p = code_of tree e.constants (routines_of scope e.routines) [] 0 p
+
+-- a piece among other code, which jumps over it
+abbrev pub passed : List Insn → List Insn
+passed piece = skip (size piece) ∷ piece
+
+-- its texts, each once, and so many nodes are added
+abbrev pub with_counted : Emitted → CoreTree → ℕ → Emitted
+with_counted e tree n = record (with_nodes e n) { constants = with_texts e.constants (texts_of tree) }
+
+-- the emitter, its texts and nodes counted, with the expression's code behind its own, where there is room
+abbrev pub with_code : Emitted → List Declaration → CoreTree → Emitted
+with_code e scope tree = if has_room e then with_piece e (code_at e scope tree (length e.code)) else e
+
+abbrev pub with_expression : Emitted → List Declaration → CoreTree → Emitted
+with_expression e scope tree = with_code (with_counted e tree (nodes tree)) scope tree
+
+-- the same with the code as the routine of the next variable, which straight code passes
+abbrev pub with_routine : Emitted → List Declaration → CoreTree → Emitted
+with_routine e scope tree =
+    if has_room e
+    then record (with_piece e (passed (code_at e scope tree (length e.code + 1) ++ memo_tail (length e.routines)))) { routines = e.routines ++ (length e.code + 1) ∷ [] }
+    else e
+
+abbrev pub with_variable : Emitted → List Declaration → CoreTree → Emitted
+with_variable e scope tree = with_routine (with_counted e tree (1 + nodes tree)) scope tree
+
+-- the old emitter, with nothing but texts and slots of routines behind its own
+abbrev pub IsBehind : Emitted → Emitted → Type 0
+IsBehind old new = record new { constants = take (length old.constants) new.constants; routines = take (length old.routines) new.routines } ≡ old

@@ -1,0 +1,85 @@
+//! Code for expressions and variables.
+
+ghost use Rattle.std.specs.Prelude.{◌≡◌, ◌≢◌, ◌<◌, ◌≤◌, ◌↔◌, OnOk, OnErr, IsErrOf};
+ghost use Rattle.cel_macros.specs.CoreView.{core_view};
+ghost use Rattle.cel_measures.specs.Measures as measures;
+ghost use Rattle.cel_types.specs.Declarations.{depths_of};
+ghost use Rattle.codegen.specs.Added.{with_expression, with_variable};
+ghost use Rattle.codegen.specs.Layer.{EmitsMeaning, EmitsRoutine};
+
+use crate::code_error::CodeError;
+use crate::emitter::Emitter;
+use crate::literals_fit::literals_fit;
+use cel_macros::Core;
+use cel_measures::{depth, need};
+use cel_types::Scope;
+use std::alloc::Global;
+
+/// The most words of its frame that an expression's code may need.
+const MOST_WORDS: u64 = 60;
+
+/// The greatest depth of a variable.
+const GREATEST_DEPTH: u64 = 6;
+
+/// Adds the expression's code to the emitter, its texts and its nodes. The variables of the scope are
+/// the first that the emitter took, in their order.
+///
+/// # Errors
+///
+/// `G1` where it needs more than 60 words of the stack, and `Memory`; the emitter is then as before.
+pub fn expression(
+    alloc: Global,
+    core: &Core,
+    scope: &Scope,
+    emitter: &mut Emitter,
+) -> Result<(), CodeError>
+    ensures added { OnOk result (emitter.new ≡ with_expression emitter.old scope.now (core_view core.now)) }
+    ensures fits { OnOk result (measures.need (core_view core.now) ≤ 60) }
+    ensures gives { OnOk result (EmitsMeaning emitter.old scope.now (core_view core.now)) }
+    ensures refused { OnErr result (emitter.new ≡ emitter.old) }
+    ensures g1 { IsErrOf result CodeError.G1 ↔ (60 < measures.need (core_view core.now)) }
+    ensures g2 { result ≢ Err CodeError.G2 }
+    ensures g3 { result ≢ Err CodeError.G3 }
+    ensures g4 { result ≢ Err CodeError.G4 }
+{
+    if need(core) > MOST_WORDS {
+        return Err(CodeError::G1);
+    }
+    literals_fit(core);
+    emitter.add(alloc, core, scope.variables())?;
+    Ok(())
+}
+
+/// Adds the next variable to the emitter: the routine of its expression with its memo, its texts, and 1
+/// more than its nodes. The variables of the scope are the first that the emitter took, in their order.
+///
+/// # Errors
+///
+/// `G1` where the expression needs more than 60 words of the stack, then `G2` where the variable's depth
+/// is above 6, and `Memory`; the emitter is then as before.
+pub fn variable(
+    alloc: Global,
+    core: &Core,
+    scope: &Scope,
+    emitter: &mut Emitter,
+) -> Result<(), CodeError>
+    ensures added { OnOk result (emitter.new ≡ with_variable emitter.old scope.now (core_view core.now)) }
+    ensures fits { OnOk result (measures.need (core_view core.now) ≤ 60) }
+    ensures shallow { OnOk result (measures.depth (core_view core.now) (depths_of scope.now) ≤ 6) }
+    ensures joins { OnOk result (EmitsRoutine emitter.old scope.now (core_view core.now)) }
+    ensures refused { OnErr result (emitter.new ≡ emitter.old) }
+    ensures g1 { IsErrOf result CodeError.G1 ↔ (60 < measures.need (core_view core.now)) }
+    ensures g2 { IsErrOf result CodeError.G2 ↔ ((measures.need (core_view core.now) ≤ 60) × (6 < measures.depth (core_view core.now) (depths_of scope.now))) }
+    ensures g3 { result ≢ Err CodeError.G3 }
+    ensures g4 { result ≢ Err CodeError.G4 }
+{
+    if need(core) > MOST_WORDS {
+        return Err(CodeError::G1);
+    }
+    if depth(core, scope) > GREATEST_DEPTH {
+        return Err(CodeError::G2);
+    }
+    literals_fit(core);
+    emitter.add_variable(alloc, core, scope.variables())?;
+    Ok(())
+}
