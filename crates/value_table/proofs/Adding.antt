@@ -43,3 +43,10 @@ pub backings_grown : (old : Heap) (cs : Backings) → IsHeap old → Extends old
 backings_grown old cs h e =
     let v : grown cs [] old.cells ≡ heap_values old = grown_kept old.backings cs [] old.cells e h.cells in
     record { cells = cells_kept old.backings cs [] old.cells e h.cells; same = rw v h.same }
+
+-- the same where they have grown twice, and the values
+pub heap_twice : (old : Heap) (cs ds : Backings) → IsHeap old → Extends old.backings cs → Extends cs ds
+    → IsHeap (record old { backings = ds }) × (heap_values (record old { backings = ds }) ≡ heap_values old)
+heap_twice old cs ds h e f =
+    let mid = backings_grown old cs h e in
+    (backings_grown (record old { backings = cs }) ds mid f, grown_kept cs ds [] old.cells f mid.cells ∙ grown_kept old.backings cs [] old.cells e h.cells)

@@ -14,10 +14,10 @@ use crate::backings::Backings;
 use crate::cell::Cell;
 use crate::content::Content;
 use crate::heap::Heap;
+use crate::lengths::put_length;
 use crate::part::Part;
 use crate::search::search;
 use crate::text::{keys, text};
-use crate::texts::quoted_length;
 use std::alloc::AllocError;
 
 impl Heap {
@@ -51,7 +51,8 @@ impl Heap {
         let Content::Map(row, backing, count) = map.content else {
             unreachable!();
         };
-        let Content::Text(key) = self.cell(k).content else {
+        let name = self.cell(k);
+        let Content::Text(key) = name.content else {
             unreachable!();
         };
         let bytes = self.backings.bytes.items();
@@ -62,7 +63,7 @@ impl Heap {
         ) else {
             unreachable!();
         };
-        let json = map_length(map.json, count, quoted_length(text(bytes, key)), value.json);
+        let json = put_length(map.json, count, name.json, value.json);
         let depth = map.depth.max(value.depth.saturating_add(1));
         let items = self.backings.put_item(backing, count, gap, x)?;
         let keys = self.backings.put_key(row, count, gap, key)?;
@@ -168,12 +169,4 @@ impl Backings {
         self.keys.extend(more.items())?;
         Ok(first)
     }
-}
-
-// How many bytes a map's JSON text has with one more entry behind `count` others.
-fn map_length(map: u64, count: u64, key: u64, value: u64) -> u64 {
-    let comma = if count == 0 { 1 } else { 2 };
-    map.saturating_add(comma)
-        .saturating_add(key)
-        .saturating_add(value)
 }

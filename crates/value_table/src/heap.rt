@@ -9,6 +9,7 @@ use crate::backing::Backing;
 use crate::backings::Backings;
 use crate::cell::Cell;
 use crate::content::Content;
+use crate::lengths::int_length;
 use std::alloc::{AllocError, Global};
 
 /// Values, each named by its cell's place. None ever changes.
@@ -93,18 +94,7 @@ impl Heap {
         self.add(Cell {
             content: Content::Int(n),
             depth: 0,
-            json: digits(n),
+            json: int_length(n),
         })
     }
-}
-
-// How many bytes a number has in decimal, with its sign.
-fn digits(n: i64) -> u64 {
-    let mut count = if n < 0 { 2u64 } else { 1 };
-    let mut rest = n.unsigned_abs() / 10;
-    while rest > 0 {
-        rest /= 10;
-        count = count.saturating_add(1);
-    }
-    count
 }
