@@ -120,6 +120,7 @@ list_pushed bs cs vs l x b n c d j lc xc fl fx e h deep long =
     let here : items_at vs (refs_at cs.lists c (n + 1)) ≡ items_push (items_at vs rs) (value_in vs x) = ap (items_at vs) h.items ∙ items_more vs rs x in
     let due : push_of (value_in vs l) (value_in vs x) ≡ Some (kind.list (items_push (items_at vs rs) (value_in vs x))) = ap (λ v. push_of v (value_in vs x)) f.is in
     let xd : xc.depth ≡ depth_of (value_in vs x) = fx.depth ∙ ap depth_of (sym fx.is) in
+    let whole = h.long in
     let ld = f.depth in
     let pd = push_depth (items_at vs rs) (value_in vs x) in
     let s1 = f.shallow in
@@ -133,7 +134,7 @@ list_pushed bs cs vs l x b n c d j lc xc fl fx e h deep long =
     let order : IsOrdered (kind.list (items_push (items_at vs rs) (value_in vs x))) = if_made IsOrdered _ _ due (push_ordered (value_in vs l) (value_in vs x) f.ordered (rw fx.is fx.ordered)) in
     record {
       cell = record {
-        content = record { inside = h.inside; long = h.long; below = subst (AreBelow (length vs)) (sym h.items) (below_append (length vs) rs (x ∷ []) low (i2, tt)) };
+        content = record { inside = h.inside; long = omega (arith, whole); below = subst (AreBelow (length vs)) (sym h.items) (below_append (length vs) rs (x ∷ []) low (i2, tt)) };
         depth = rw here (omega (arith, deep, xd, ld, pd));
         shallow = omega (arith, deep, s1, s2, i1, i2);
         json = rw here (omega (arith, long, lj, xj, text));
@@ -151,6 +152,7 @@ lists_joined bs cs vs l x b n b' n' c d j lc xc fl fx e e' h deep long =
     let g = list_found bs vs x b' n' xc fx e' in
     let here : items_at vs (refs_at cs.lists c (n + n')) ≡ items_join (items_at vs rs) (items_at vs ss) = ap (items_at vs) h.items ∙ items_both vs rs ss in
     let due : join_of (value_in vs l) (value_in vs x) ≡ Some (kind.list (items_join (items_at vs rs) (items_at vs ss))) = ap₂ join_of f.is g.is in
+    let whole = h.long in
     let ld = f.depth in
     let xd = g.depth in
     let pd = join_depth (items_at vs rs) (items_at vs ss) in
@@ -168,7 +170,7 @@ lists_joined bs cs vs l x b n b' n' c d j lc xc fl fx e e' h deep long =
     let order : IsOrdered (kind.list (items_join (items_at vs rs) (items_at vs ss))) = if_made IsOrdered _ _ due (join_ordered (value_in vs l) (value_in vs x) f.ordered g.ordered) in
     record {
       cell = record {
-        content = record { inside = h.inside; long = h.long; below = subst (AreBelow (length vs)) (sym h.items) (below_append (length vs) rs ss low low') };
+        content = record { inside = h.inside; long = omega (arith, whole); below = subst (AreBelow (length vs)) (sym h.items) (below_append (length vs) rs ss low low') };
         depth = rw here (omega (arith, deep, xd, ld, pd));
         shallow = omega (arith, deep, s1, s2, i1, i2);
         json = rw here (omega (arith, long, lj, xj, text, least, least'));

@@ -106,6 +106,8 @@ map_put bs cs vs m k x row b n row' b' i d j mc kc xc key fm fk fx em ek long ga
     let kj : kc.json ≡ json_length (kind.text (part_of bs.bytes key)) = fk.json ∙ ap (λ t. json_length (meaning bs vs t)) ek in
     let xj : xc.json ≡ json_length (value_in vs x) = fx.json ∙ ap json_length (sym fx.is) in
     let text = put_long bs.bytes vs ks rs key x i n long (range_long bs.keys row n content.1.inside) (omega (arith, inside, count)) in
+    let whole = hr.long in
+    let row_end = hk.inside in
     let s1 = fm.shallow in
     let s2 = fx.shallow in
     let i1 = fm.inside in
@@ -117,8 +119,8 @@ map_put bs cs vs m k x row b n row' b' i d j mc kc xc key fm fk fx em ek long ga
     record {
       cell = record {
         content = (
-          record { inside = hr.inside; long = hr.long; below = subst (AreBelow (length vs)) (sym hr.items) (below_one (length vs) rs x i low i2) },
-          record { inside = hk.inside; texts = rw (same, hk.are) (texts_one bs.bytes ks key i content.1.texts (subst (IsContent bs k) ek fk.content)) },
+          record { inside = hr.inside; long = omega (arith, whole); below = subst (AreBelow (length vs)) (sym hr.items) (below_one (length vs) rs x i low i2) },
+          record { inside = omega (arith, row_end); texts = rw (same, hk.are) (texts_one bs.bytes ks key i content.1.texts (subst (IsContent bs k) ek fk.content)) },
         );
         depth = rw here (omega (arith, deep, xd, md, depths));
         shallow = omega (arith, deep, s1, s2, i1, i2);

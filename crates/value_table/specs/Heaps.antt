@@ -81,10 +81,10 @@ pub record Extends (old new : Backings) : Type 0 where
   pub lists : length old.lists ≤ length new.lists
   pub items : (b : ℕ) → b < length old.lists → (rest : List ℕ) × (slice_index_or new.lists b [] ≡ slice_index_or old.lists b [] ++ rest)
 
--- the first n items of the backing b are these
+-- the backing b has n items, which are these
 pub record Holds (lists : List (List ℕ)) (b n : ℕ) (rs : List ℕ) : Type 0 where
   pub inside : b < length lists
-  pub long : n ≤ length (slice_index_or lists b [])
+  pub long : length (slice_index_or lists b []) ≡ n
   pub items : refs_at lists b n ≡ rs
 
 -- one more value, and the place of its cell; or the host had no memory for it, and the values stay
