@@ -1,6 +1,6 @@
 //! Values as cells.
 
-ghost use Rattle.std.specs.Prelude.{◌≡◌, ◌<◌, ◌^◌, [], length, IfOk};
+ghost use Rattle.std.specs.Prelude.{◌≡◌, ◌<◌, ◌≤◌, ◌+◌, ◌^◌, [], length, vec_capacity, IfOk, OnOk};
 ghost use Rattle.value_store.specs.Value.{int};
 ghost use Rattle.value_table.specs.Meaning.{meaning};
 ghost use Rattle.value_table.specs.Heaps.{IsCell, Adds, Found};
@@ -64,6 +64,7 @@ impl Heap {
         ensures heap { IsHeap self.new }
         ensures backings { self.new.backings ≡ self.old.backings }
         ensures cells { self.new.cells ≡ self.old.cells }
+        ensures room { OnOk result (length self.new.cells + 1 ≤ vec_capacity self.new.same) }
     {
         let count = self.cells.len() + 1;
         self.same.reserve(count.saturating_sub(self.same.len()))?;
