@@ -1,3 +1,4 @@
+pub mod TextLengths
 pub mod Growth
 pub mod Backed
 pub mod Adding

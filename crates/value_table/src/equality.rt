@@ -1,6 +1,6 @@
 //! Deep equality that remembers what it found equal.
 
-ghost use Rattle.std.specs.Prelude.{◌≡◌, ◌<◌, length, Some, IsSome};
+ghost use Rattle.std.specs.Prelude.{◌≡◌, ◌<◌, ◌≤◌, length, Some, IsSome};
 ghost use Rattle.value_store.specs.Equality.{equal};
 ghost use Rattle.value_store.specs.Lookup.{has_item, member};
 ghost use Rattle.value_store.specs.Calls.{entries_part};
@@ -100,11 +100,12 @@ impl Heap {
         ensures heap { IsHeap self.new }
         ensures cells { self.new.cells ≡ self.old.cells }
         ensures backings { self.new.backings ≡ self.old.backings }
+        ensures words { length self.old.cells ≤ length self.new.same.items }
     {
         for place in self.same.len()..self.cells.len() {
-            if self.same.push(place as u64).is_err() {
-                return;
-            }
+            let Ok(()) = self.same.push(place as u64) else {
+                unreachable!();
+            };
         }
     }
 }
