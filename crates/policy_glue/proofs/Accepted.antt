@@ -1,5 +1,5 @@
 -- What the trees of a policy that is compiled are, as its program asks of them.
-use Rattle.std.proofs.Common.{◌≡◌, ◌<◌, ◌≤◌, ◌*◌, ◌++◌, ◌∷◌, [], ℕ, Bool, true, false, List, Option, Some, None, Result, Ok, Err, length, nat_lt, suc, append_assoc, arith, refl, sym, ap, ◌∙◌, subst}
+use Rattle.std.proofs.Common.{◌≡◌, ◌≤◌, ◌*◌, ◌++◌, ◌∷◌, [], ℕ, Bool, true, false, List, Option, Some, None, Result, Ok, Err, length, nat_lt, suc, append_assoc, refl, sym, ap, ◌∙◌, subst}
 use Rattle.std.proofs.lemmas.Bool.{ltb-false}
 use Rattle.std.proofs.lemmas.List.Elements.{All-head, All-tail}
 use Rattle.std.proofs.lemmas.List.Sums.{fold-append}
@@ -7,10 +7,9 @@ use Rattle.std.specs.Prelude.{All, IfSome, ◌||◌, if◌then◌else◌}
 use Rattle.cel_reader.specs.Tree as tree
 use Rattle.cel_reader.specs.Tree.{Tree, Trees, Entries, no_trees, more_trees, no_entries, more_entries}
 use Rattle.cel_reader.specs.WellFormed.{IsWellFormed, AreWellFormed, HasWellFormedEntries}
-use Rattle.cel_macros.specs.CoreTree.{expanded, plain_tree}
+use Rattle.cel_macros.specs.CoreTree.{expanded}
 use Rattle.cel_macros.specs.MacroFault.{MacroFault, macro_fault}
 use Rattle.cel_macros.proofs.Expansion.{expansion_plain}
-use Rattle.cel_types.specs.CoreTyping.{core_typing}
 use Rattle.cel_types.specs.Declarations.{Declaration, scope_of}
 use Rattle.cel_types.specs.Types as types
 use Rattle.cel_types.specs.Types.{Typing}

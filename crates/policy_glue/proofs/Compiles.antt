@@ -1,28 +1,24 @@
 -- From the parts of a policy that are checked, and the bytes of its program, to its image.
-use Rattle.std.proofs.Common.{◌≡◌, ◌≢◌, ◌<◌, ◌≤◌, ◌*◌, ◌%◌, ◌/◌, ◌+◌, ℕ, Bool, true, false, nat_eq, nat_lt, List, [], ◌∷◌, ◌++◌, length, length-append, None, Some, Result, Ok, Err, arith, refl, sym, ap, ◌∙◌, subst}
+use Rattle.std.proofs.Common.{◌≡◌, ◌≢◌, ◌<◌, ◌≤◌, ◌*◌, ◌%◌, ◌/◌, ℕ, false, nat_eq, List, [], ◌∷◌, ◌++◌, length, length-append, None, Ok, Err, arith, refl, sym, ap, ◌∙◌, subst}
 use Rattle.std.proofs.lemmas.Bool.Decides.{nat_tests}
-use Rattle.std.specs.Prelude.{All, ◌||◌, not, if◌then◌else◌}
+use Rattle.std.specs.Prelude.{All, not}
 use Rattle.insn_codec.specs.Spelling.{spelling}
 use Rattle.insn_codec.specs.declared.insn.Insn.{Insn}
 use Rattle.insn_codec.specs.declared.insn.Insn.TheVariants.{Exit}
 use Rattle.loader.specs.Contents as loader
 use Rattle.loader.specs.Format.{image_from, is_bad_count, is_too_long}
-use Rattle.loader.specs.declared.load_error.LoadError.{LoadError}
-use Rattle.loader.specs.declared.load_error.LoadError.TheVariants.{L3, L4, L5}
-use Rattle.loader.specs.declared.version.Version.{Version}
 use Rattle.loader.specs.declared.version.Version.TheVariants.{Second}
 use Rattle.codegen.specs.Constants.{joined}
-use Rattle.codegen_base.proofs.Pieces.{length-spelling, size-append, size-cons, some_slots}
-use Rattle.codegen_base.specs.Pieces.{AreInsns, size, spellings}
+use Rattle.codegen_base.proofs.Pieces.{length-spelling, size-append, size-cons}
+use Rattle.codegen_base.specs.Pieces.{size, spellings}
 use Rattle.policy_glue.specs.Checked.{Checks, IsChecked}
-use Rattle.policy_glue.specs.Checking.{PartsEnd}
 use Rattle.policy_glue.specs.Compiled.{CompilesTo, IsCompiled, contents}
-use Rattle.policy_glue.specs.Emission.{Emits, HasTrees}
+use Rattle.policy_glue.specs.Emission.{Emits}
 use Rattle.policy_glue.specs.Limits.{Compiles, excess, policy_nodes, policy_texts}
 use Rattle.policy_glue.specs.Limits as limits
 use Rattle.policy_glue.specs.Policy.{Rules}
 use Rattle.policy_glue.specs.ProgramCode.{program_of}
-use Rattle.policy_glue.specs.ProgramTrees.{HasProgram, ProgramDecides, ProgramIsCode, ProgramIsShort}
+use Rattle.policy_glue.specs.ProgramTrees.{ProgramDecides, ProgramIsShort}
 use Rattle.policy_glue.specs.Reading.{IsAccepted}
 use Rattle.policy_glue.specs.Trees.{PolicyTree}
 use Rattle.policy_glue.specs.declared.checked.Checked.{Checked}
@@ -30,7 +26,7 @@ use Rattle.policy_glue.specs.declared.compile_error.CompileError.{CompileError}
 use Rattle.policy_glue.specs.declared.compile_error.CompileError.TheVariants.{K6, K7, K9, G3, G4}
 use Rattle.policy_glue.specs.declared.compile_error.CompileError.TheVariants as compile_error
 use Rattle.policy_glue.specs.declared.failure_policy.FailurePolicy.{FailurePolicy}
-use Rattle.policy_glue.proofs.Accepted.{has_program, has_trees}
+use Rattle.policy_glue.proofs.Accepted.{has_program}
 
 -- ---- refusals
 

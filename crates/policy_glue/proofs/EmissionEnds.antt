@@ -1,5 +1,5 @@
 -- What an emitter that has taken what was checked of a policy answers.
-use Rattle.std.proofs.Common.{◌≡◌, ℕ, List, ◌++◌, Option, Some, None, Ok, IsErrOf, sym, subst, ◌∙◌}
+use Rattle.std.proofs.Common.{◌≡◌, ℕ, List, ◌++◌, Some, None, Ok, IsErrOf, sym, subst, ◌∙◌}
 use Rattle.insn_codec.specs.Spelling.{spelling}
 use Rattle.insn_codec.specs.declared.insn.Insn.TheVariants.{Exit}
 use Rattle.codegen_base.specs.Pieces.{spellings}

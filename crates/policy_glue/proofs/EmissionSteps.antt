@@ -1,6 +1,6 @@
 -- What is put into an emitter step by step.
 use Rattle.std.proofs.Common.{◌≡◌, ℕ, zero, suc, ◌+◌, ◌-◌, ◌<◌, ◌≤◌, Bool, true, false, List, [], ◌∷◌, ◌++◌, length, map, take, get_or, Option, Some, None, Result, Ok, Err, OnOk, IfOk, refl, sym, ap, ◌∙◌, subst, arith, append_assoc, length-append, append-nil}
-use Rattle.std.specs.Prelude.{nat_le, nat_lt, ◌&&◌, if◌then◌else◌, pos, slice_get, slice_index_or, option_map, fold, replicate}
+use Rattle.std.specs.Prelude.{nat_le, nat_lt, ◌&&◌, if◌then◌else◌, slice_get, slice_index_or, option_map, fold, replicate}
 use Rattle.std.proofs.lemmas.List.{length-map}
 use Rattle.std.proofs.lemmas.Bool.{leb-true}
 use Rattle.insn_codec.specs.Spelling.{slot_count}
@@ -77,9 +77,9 @@ pub few_slots : (e : Emitted) (scope : List Declaration) (tree : CoreTree) → l
 few_slots e scope tree =
     let counted = with_counted e tree (nodes tree) in
     few_where (has_room counted) counted (code_at counted scope tree (length e.code)) (λ room.
-      let within : counted.nodes ≤ 512 = leb-true counted.nodes 512 (and_left (nat_le counted.nodes 512) (nat_lt (length counted.code) 65536 && nat_lt (length counted.routines) 512) room) in
-      let short = short_code tree counted.constants (routines_of scope counted.routines) [] 0 (length e.code) in
-      omega (arith, within, short))
+    let within : counted.nodes ≤ 512 = leb-true counted.nodes 512 (and_left (nat_le counted.nodes 512) (nat_lt (length counted.code) 65536 && nat_lt (length counted.routines) 512) room) in
+    let short = short_code tree counted.constants (routines_of scope counted.routines) [] 0 (length e.code) in
+    omega (arith, within, short))
 
 -- and stands behind the code that was there
 begins_where : (room : Bool) (e : Emitted) (piece : List Insn) → (more : List (Option Insn)) × ((if room then with_piece e piece else e).code ≡ e.code ++ more)
@@ -109,12 +109,12 @@ jump_stands i scope tree e e1 e2 e3 jump count one first second third =
     let code1 : e1.code ≡ e.code ++ Some jump ∷ [] = ap (λ (x : Emitted). x.code) first ∙ ap (λ (l : List (Option Insn)). e.code ++ l) single in
     let code2 : e2.code ≡ (e.code ++ Some jump ∷ []) ++ slots count = ap (λ (x : Emitted). x.code) second ∙ ap (λ (l : List (Option Insn)). l ++ slots count) code1 in
     let code3 : e3.code ≡ (((e.code ++ Some jump ∷ []) ++ slots count) ++ behind.0) ++ slots (message_tail i) =
-        ap (λ (x : Emitted). x.code) third ∙ ap (λ (l : List (Option Insn)). l ++ slots (message_tail i)) (behind.1 ∙ ap (λ (l : List (Option Insn)). l ++ behind.0) code2) in
+    ap (λ (x : Emitted). x.code) third ∙ ap (λ (l : List (Option Insn)). l ++ slots (message_tail i)) (behind.1 ∙ ap (λ (l : List (Option Insn)). l ++ behind.0) code2) in
     let whole : e3.code ≡ e.code ++ Some jump ∷ rest =
-        code3
-        ∙ append_assoc ((e.code ++ Some jump ∷ []) ++ slots count) behind.0 (slots (message_tail i))
-        ∙ append_assoc (e.code ++ Some jump ∷ []) (slots count) (behind.0 ++ slots (message_tail i))
-        ∙ append_assoc e.code (Some jump ∷ []) rest in
+    code3
+    ∙ append_assoc ((e.code ++ Some jump ∷ []) ++ slots count) behind.0 (slots (message_tail i))
+    ∙ append_assoc (e.code ++ Some jump ∷ []) (slots count) (behind.0 ++ slots (message_tail i))
+    ∙ append_assoc e.code (Some jump ∷ []) rest in
     ap (λ (l : List (Option Insn)). slice_get l (length e.code)) whole ∙ get_behind e.code (Some jump) rest
 
 pub few_between : (i : ℕ) (scope : List Declaration) (tree : CoreTree) (e e1 e2 e3 : Emitted) (jump : Insn) (count : List Insn) (last : ℕ) → slot_count jump ≡ 1 → size count ≤ 5 → e1 ≡ with_piece e (jump ∷ []) → e2 ≡ with_piece e1 count → e3 ≡ with_message i scope e2 tree → last + 1 ≡ length e3.code → last - length e.code < 32768

@@ -317,7 +317,7 @@ policy_emitted f t few =
     let third = done_validations f scope t.validations 0 (emitted_before f t) (laid_conditions t) ((routines ++ conditions) ++ decided_tail) n2 95 (omega (arith, few)) (record { same = decided; short = record { slots_few = omega (arith, so_far, whole); routines_few = less } }) in
     let all = ((routines ++ conditions) ++ decided_tail) ++ rules in
     let joined : all ++ outcome_tail ≡ routines ++ (conditions ++ (decided_tail ++ (rules ++ outcome_tail))) =
-        append_assoc ((routines ++ conditions) ++ decided_tail) rules outcome_tail ∙ append_assoc (routines ++ conditions) decided_tail (rules ++ outcome_tail) ∙ append_assoc routines conditions (decided_tail ++ (rules ++ outcome_tail)) in
+    append_assoc ((routines ++ conditions) ++ decided_tail) rules outcome_tail ∙ append_assoc (routines ++ conditions) decided_tail (rules ++ outcome_tail) ∙ append_assoc routines conditions (decided_tail ++ (rules ++ outcome_tail)) in
     ap (λ (x : Emitted). x.code ++ slots outcome_tail) third.same.is
     ∙ sym (slots-append all outcome_tail)
     ∙ ap slots joined

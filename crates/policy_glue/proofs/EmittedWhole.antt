@@ -79,7 +79,8 @@ with_exit piece =
 pub finished : (f : FailurePolicy) (t : PolicyTree) (code constants : List ℕ) → (IsTooLong (emitted_of f t) → ⊥) → (HasTooManyTexts (emitted_of f t) → ⊥) → code ≡ slot_spellings (emitted_of f t).code ++ spelling Exit → constants ≡ joined (emitted_of f t).constants → (excess t ≡ None) × (code ≡ spellings (program_of f t)) × (constants ≡ joined (policy_texts t))
 unfolding program_of
 finished f t code constants short few is are =
-    let room = not_long f t short in
-    (no_excess f t short few,
-     is ∙ ap (λ (os : List (Option Insn)). slot_spellings os ++ spelling Exit) (policy_emitted f t (omega arith)) ∙ with_exit (code_before f t),
-     are ∙ ap joined (policy_counted f t).texts_are)
+    let room = not_long f t short in (
+      no_excess f t short few,
+      is ∙ ap (λ (os : List (Option Insn)). slot_spellings os ++ spelling Exit) (policy_emitted f t (omega arith)) ∙ with_exit (code_before f t),
+      are ∙ ap joined (policy_counted f t).texts_are,
+    )

@@ -127,11 +127,12 @@ routines_insns scope l (v ∷ more) are low inside short =
     let counted = sum_by-cons (λ u. part_nodes u.expression) v more in
     let routine = variable_code scope l v in
     let long = routine_short scope l v in
-    let jump : size routine ≤ 32767 = omega (arith, counted, inside, long) in
-    (omega (arith, jump),
-     insns_append routine (routines_code (variable_codes (with_variable scope v) (with_routine scope l v) more))
-     (routine_insns scope l v (length more) are.0 low (omega (arith, counted, inside)) (short_front (tree_texts v.expression) (variable_texts more) short))
-     (routines_insns (with_variable scope v) (with_routine scope l v) more are.2 (with_routine_low scope l v (length more) low (omega (arith, counted, inside))) (omega (arith, counted, inside, long)) (short_back (tree_texts v.expression) (variable_texts more) short)))
+    let jump : size routine ≤ 32767 = omega (arith, counted, inside, long) in (
+      omega (arith, jump),
+      insns_append routine (routines_code (variable_codes (with_variable scope v) (with_routine scope l v) more))
+          (routine_insns scope l v (length more) are.0 low (omega (arith, counted, inside)) (short_front (tree_texts v.expression) (variable_texts more) short))
+          (routines_insns (with_variable scope v) (with_routine scope l v) more are.2 (with_routine_low scope l v (length more) low (omega (arith, counted, inside))) (omega (arith, counted, inside, long)) (short_back (tree_texts v.expression) (variable_texts more) short)),
+    )
 
 -- what stands behind them
 record Behind (l before : Laid) (slots : ℕ) : Type 0 where

@@ -59,9 +59,20 @@ fn emitted(
     let scope = &checked.scope;
     let declared = scope.variables();
     variables(alloc, declared, checked.variables.as_slice(), &mut emitter)?;
-    conditions(alloc, failure_policy, checked.conditions.as_slice(), &mut emitter)?;
+    conditions(
+        alloc,
+        failure_policy,
+        checked.conditions.as_slice(),
+        &mut emitter,
+    )?;
     put_each(&decided_tail(), &mut emitter)?;
-    validations(alloc, failure_policy, checked.validations.as_slice(), scope, &mut emitter)?;
+    validations(
+        alloc,
+        failure_policy,
+        checked.validations.as_slice(),
+        scope,
+        &mut emitter,
+    )?;
     put_each(&outcome_tail(), &mut emitter)?;
     Ok(emitter)
 }

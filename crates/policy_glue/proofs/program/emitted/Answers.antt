@@ -1,7 +1,5 @@
-use Rattle.std.proofs.Common.{◌∙◌, ap, map, subst}
-use Rattle.std.specs.List.{slice_index_or}
+use Rattle.std.proofs.Common.{◌∙◌, ap, map}
 use Rattle.cel_macros.specs.CoreView.{core_view}
-use Rattle.cel_macros.specs.declared.core_tree.Core.{Core}
 use Rattle.cel_types.specs.Declarations.{declaration}
 use Rattle.policy_glue.specs.Checked.{rule_trees}
 use Rattle.policy_glue.specs.Checking.{scope_after}

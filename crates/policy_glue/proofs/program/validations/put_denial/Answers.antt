@@ -1,7 +1,6 @@
-use Rattle.std.proofs.Common.{◌≡◌, ◌-◌, ◌<◌, ◌≤◌, length, ap, refl, subst, sym, ◌∙◌, arith}
-use Rattle.std.specs.Prelude.{slice_get, Some, Option}
+use Rattle.std.proofs.Common.{◌≡◌, ap, sym, ◌∙◌, arith}
+use Rattle.std.specs.Prelude.{slice_get}
 use Rattle.insn_codec.specs.Spelling.{slot_count}
-use Rattle.insn_codec.specs.declared.insn.Insn.{Insn}
 use Rattle.cel_macros.specs.CoreView.{core_view}
 use Rattle.codegen_base.specs.Pieces.{size}
 use Rattle.policy_glue.proofs.EmissionSteps.{few_between, jump_stands}

@@ -1,5 +1,4 @@
-use Rattle.std.proofs.Common.{◌≡◌, ℕ, ◌+◌, ◌<◌, ◌≤◌, List, [], ◌∷◌, ◌++◌, drop, length, map, string_bytes, take, ap, subst, sym, ◌∙◌, arith}
-use Rattle.cel_macros.specs.CoreTree.{CoreTree}
+use Rattle.std.proofs.Common.{◌≡◌, ℕ, ◌+◌, ◌≤◌, List, [], ◌∷◌, ◌++◌, drop, map, take, ap, subst, sym, ◌∙◌, arith}
 use Rattle.cel_macros.specs.CoreView.{core_view}
 use Rattle.cel_measures.specs.Measures.{depth}
 use Rattle.cel_types.specs.Declarations.{Declaration, declaration, declared, depths_of}
