@@ -18,7 +18,7 @@ use Rattle.policy_glue.specs.Limits.{Compiles, excess, policy_nodes, policy_text
 use Rattle.policy_glue.specs.Limits as limits
 use Rattle.policy_glue.specs.Policy.{Rules}
 use Rattle.policy_glue.specs.ProgramCode.{program_of}
-use Rattle.policy_glue.specs.ProgramTrees.{ProgramDecides, ProgramIsShort}
+use Rattle.policy_glue.specs.ProgramTrees.{HasProgram, ProgramDecides, ProgramIsShort, ProgramStops}
 use Rattle.policy_glue.specs.Reading.{IsAccepted}
 use Rattle.policy_glue.specs.Trees.{PolicyTree}
 use Rattle.policy_glue.specs.declared.checked.Checked.{Checked}
@@ -84,9 +84,9 @@ image_due short p c f code constants accepted checks within code_is constants_ar
     let limit = has.short in
     image_by code constants (size (program_of f t)) long (some_size f t) (omega arith) (subst (λ (bs : List ℕ). length bs ≤ 1048576) (sym constants_are) has.few_texts)
 
-pub image_compiled : (short : ProgramIsShort) (law : ProgramDecides) (p : Rules) (c : Checked) (code constants : List ℕ) (image : loader.Contents) → IsAccepted p → (checks : Checks p (Ok c)) → excess checks.0 ≡ None → code ≡ spellings (program_of p.failure_policy checks.0) → constants ≡ joined (policy_texts checks.0)
+pub image_compiled : (short : ProgramIsShort) (law : ProgramDecides) (stopped : ProgramStops) (p : Rules) (c : Checked) (code constants : List ℕ) (image : loader.Contents) → IsAccepted p → (checks : Checks p (Ok c)) → excess checks.0 ≡ None → code ≡ spellings (program_of p.failure_policy checks.0) → constants ≡ joined (policy_texts checks.0)
     → image ≡ contents Second code constants → All (λ b. b < 256) code → All (λ b. b < 256) constants → IsCompiled p image
-image_compiled short law p c code constants image accepted checks within code_is constants_are is bytes constant_bytes =
+image_compiled short law stopped p c code constants image accepted checks within code_is constants_are is bytes constant_bytes =
     let t = checks.0 in
     let f = p.failure_policy in
     let due = contents Second code constants in
@@ -102,5 +102,6 @@ image_compiled short law p c code constants image accepted checks within code_is
         constants = constant_bytes;
         few_slots = omega arith;
         decides = λ roots values m table enough. law f t roots due values m has code_is constants_are bytes constant_bytes table enough;
+        stops = λ roots values k table over. stopped f t roots due values k has code_is constants_are bytes constant_bytes table over;
       };
     })

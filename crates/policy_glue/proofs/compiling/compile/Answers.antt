@@ -33,4 +33,4 @@ returns c =
     let checks = c.in_ok-checked.ensures in
     let emits = subst (λ p. (t : PolicyTree) → IsChecked c.in_ok-checked.checked t → Emits p.failure_policy t (Ok (c.in_ok-code.code, c.in_ok-code.constants))) c.policy.view_is c.in_ok-code.ensures in
     let due = emits checks.0 checks.1 in
-    image_compiled program_is_short c.program_decides.ensures.decides c.args.policy.now c.in_ok-checked.checked c.in_ok-code.code.items c.in_ok-code.constants.items c.image.result (subst IsAccepted c.policy.view_is c.policy.invariant) checks due.0 due.1 due.2 c.image.ensures.is c.image.ensures.code c.image.ensures.constants
+    image_compiled program_is_short c.program_decides.ensures.decides c.program_decides.ensures.stops c.args.policy.now c.in_ok-checked.checked c.in_ok-code.code.items c.in_ok-code.constants.items c.image.result (subst IsAccepted c.policy.view_is c.policy.invariant) checks due.0 due.1 due.2 c.image.ensures.is c.image.ensures.code c.image.ensures.constants
