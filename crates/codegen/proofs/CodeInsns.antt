@@ -36,11 +36,11 @@ AreShort texts = AllByRecursion (λ t. length t < 2 ^ 64) texts
 abbrev pub AreWithin : List (List ℕ × ℕ) → Type 0
 AreWithin words = (n : List ℕ) (k : ℕ) → lookup n words ≡ Some k → k < 64
 
-short_front : (xs ys : List (List ℕ)) → AreShort (xs ++ ys) → AreShort xs
+pub short_front : (xs ys : List (List ℕ)) → AreShort (xs ++ ys) → AreShort xs
 short_front [] ys h = tt
 short_front (x ∷ xs) ys h = (h.0, short_front xs ys h.1)
 
-short_back : (xs ys : List (List ℕ)) → AreShort (xs ++ ys) → AreShort ys
+pub short_back : (xs ys : List (List ℕ)) → AreShort (xs ++ ys) → AreShort ys
 short_back [] ys h = h
 short_back (x ∷ xs) ys h = short_back xs ys h.1
 

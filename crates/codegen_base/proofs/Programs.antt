@@ -27,7 +27,7 @@ use Rattle.codegen_base.proofs.Pieces.{stands_back, stands_first, stands_front}
 use Rattle.codegen_base.proofs.Runs.{into}
 use Rattle.codegen_base.proofs.Spelled.{spelled_stands}
 
-halts_into : (s : Setting) (x : ℕ) (b0 : Body) (P Q : Body → Type 0) {t : State} → ((b : Body) → P b → Q b) → Halts s x b0 P t → Halts s x b0 Q t
+pub halts_into : (s : Setting) (x : ℕ) (b0 : Body) (P Q : Body → Type 0) {t : State} → ((b : Body) → P b → Q b) → Halts s x b0 P t → Halts s x b0 Q t
 halts_into s x b0 P Q f (Over e o) = Over e o
 halts_into s x b0 P Q f (Left p b e l q) = Left p b e l (f b q)
 
@@ -38,7 +38,7 @@ zeros_word (b ∷ bs) zeros =
     let rest = zeros_word bs (All-tail (λ b. b ≡ 0) b bs zeros) in
     omega arith
 
-word_in-zeros : (n i : ℕ) → word_in (replicate n 0) i ≡ 0
+pub word_in-zeros : (n i : ℕ) → word_in (replicate n 0) i ≡ 0
 unfolding word_in
 word_in-zeros n i = zeros_word (part (replicate n 0) (8 * i) 8) (All-take (λ b. b ≡ 0) 8 _ (All-drop (λ b. b ≡ 0) (8 * i) _ (All-replicate (λ b. b ≡ 0) n 0 refl)))
 
@@ -46,7 +46,7 @@ at_most : (b : Bool) (cost : ℕ) → (if b then cost else 0) ≤ cost
 at_most true cost = omega arith
 at_most false cost = omega arith
 
-pending-most : (i : ℕ) (costs m : List ℕ) → pending i costs m ≤ total costs
+pub pending-most : (i : ℕ) (costs m : List ℕ) → pending i costs m ≤ total costs
 unfolding pending
 pending-most i [] m = omega arith
 pending-most i (cost ∷ costs) m =
@@ -54,7 +54,7 @@ pending-most i (cost ∷ costs) m =
     let first = at_most (nat_eq (word_in m i) 0) cost in
     omega arith
 
-start_is : (image : loader.Contents) (values : Contents) → start_state image values ≡ at image 0 (start_body image values)
+pub start_is : (image : loader.Contents) (values : Contents) → start_state image values ≡ at image 0 (start_body image values)
 unfolding start_state
 start_is image values = refl
 

@@ -1,5 +1,13 @@
-//! Policies, verdicts and responses worked by hand, each the clause of a function that does nothing.
+//! Policies, verdicts and responses worked by hand, and what is proved of the code of policies, each the
+//! clause of a function that does nothing.
+ghost use Rattle.policy_glue.specs.BudgetRows.{BudgetRowsStand};
+ghost use Rattle.policy_glue.specs.DecisionRows.{CheckingRowsStand, DecisionRowsStand};
+ghost use Rattle.policy_glue.specs.ProgramLaws.{PolicyDecides};
+ghost use Rattle.policy_glue.specs.ProgramTrees.{ProgramDecides, ProgramIsCode, ProgramIsShort, ProgramStops};
+ghost use Rattle.policy_glue.specs.RunRows.{RunRowsStand};
 ghost use Rattle.policy_glue.specs.Rows.{PolicyRowsStand, VerdictRowsStand, ResponseRowsStand};
+
+use bpf_machine::laws::decodes_spelling;
 
 /// Documents of policies, with what they say or why they are refused.
 pub fn policy_rows_stand()
@@ -15,3 +23,47 @@ pub fn verdict_rows_stand()
 pub fn response_rows_stand()
     ensures { ResponseRowsStand }
 {}
+
+/// Decisions of policies on the documents of a request.
+pub fn decision_rows_stand()
+    ensures { DecisionRowsStand }
+{}
+
+/// Expressions that are taken, and those that are refused.
+pub fn checking_rows_stand()
+    ensures { CheckingRowsStand }
+{}
+
+/// What policies visit, spend and have room for.
+pub fn budget_rows_stand()
+    ensures { BudgetRowsStand }
+{}
+
+/// The code of a policy, made of code for its expressions, leaves the policy's verdict in its words and
+/// its outcome in R0, or has stopped for its charge or a depth, after its steps and those of its variables.
+pub fn policy_decides()
+    ensures { PolicyDecides }
+{
+    decodes_spelling();
+}
+
+/// Programs of policies run by hand.
+pub fn run_rows_stand()
+    ensures { RunRowsStand }
+{}
+
+/// The program of a policy has at most 128 slots for each of the policy's nodes, and can be spelled.
+pub fn program_is_code()
+    ensures short { ProgramIsShort }
+    ensures code { ProgramIsCode }
+{}
+
+/// The program of a policy, run from the start, has decided as the policy does after 128 steps for each
+/// unit of the policy's work, and wherever it stands stopped: it left the verdict, or it was stopped where
+/// 16 of charge for each unit of what is spent pass the limit, or where a value is too deep.
+pub fn program_decides()
+    ensures decides { ProgramDecides }
+    ensures stops { ProgramStops }
+{
+    decodes_spelling();
+}

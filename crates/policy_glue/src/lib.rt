@@ -2,17 +2,29 @@
 //! that programs leave, and the responses to them.
 #![tactic(auto)]
 
+mod checked;
+mod checked_validation;
+mod checking;
+mod compile_error;
+#[cfg(test)]
+mod compile_tests;
+mod compiling;
 mod denial;
 mod denials;
 mod documents;
+mod expression_error;
 mod failure_policy;
+mod instructions;
+mod judging;
 pub mod laws;
 mod name_rule;
 mod named_expression;
 mod named_list;
+mod part_kind;
 mod parts;
 mod policy;
 mod policy_error;
+mod program;
 mod reading;
 mod reason;
 mod response;
@@ -22,6 +34,10 @@ mod validation;
 mod validations;
 mod verdict;
 
+pub use compile_error::CompileError;
+pub use compiling::compile;
+pub use expression_error::ExpressionError;
+pub use part_kind::PartKind;
 pub use policy::Policy;
 pub use policy_error::PolicyError;
 pub use response::respond;

@@ -14,13 +14,13 @@ use value_store::ValueStore;
 const MOST_VALIDATIONS: usize = 64;
 
 /// The first address of the region in which a program leaves its verdict.
-const VERDICT: u64 = 0x3_0000_0000;
+pub(crate) const VERDICT: u64 = 0x3_0000_0000;
 
 /// The word from which on there is one for what each validation came to.
-const FIRST_RESULT: u64 = 2;
+pub(crate) const FIRST_RESULT: u64 = 2;
 
 /// The word from which on there is one for the text of each message.
-const FIRST_MESSAGE: u64 = 66;
+pub(crate) const FIRST_MESSAGE: u64 = 66;
 
 /// What a program decided, in the words of its verdict.
 #[derive(Debug, Drop)]

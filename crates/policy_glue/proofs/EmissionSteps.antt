@@ -1,0 +1,220 @@
+-- What is put into an emitter step by step.
+use Rattle.std.proofs.Common.{◌≡◌, ℕ, zero, suc, ◌+◌, ◌-◌, ◌<◌, ◌≤◌, Bool, true, false, List, [], ◌∷◌, ◌++◌, length, map, take, get_or, Option, Some, None, Result, Ok, Err, OnOk, IfOk, refl, sym, ap, ◌∙◌, subst, arith, append_assoc, length-append, append-nil}
+use Rattle.std.specs.Prelude.{nat_le, nat_lt, ◌&&◌, if◌then◌else◌, slice_get, slice_index_or, option_map, fold, replicate}
+use Rattle.std.proofs.lemmas.List.{length-map}
+use Rattle.std.proofs.lemmas.Bool.{leb-true}
+use Rattle.insn_codec.specs.Spelling.{slot_count}
+use Rattle.insn_codec.specs.declared.insn.Insn.{Insn}
+use Rattle.cel_reader.specs.Tree.{Tree}
+use Rattle.cel_macros.specs.CoreTree.{CoreTree, expanded}
+use Rattle.cel_macros.specs.CoreView.{core_view}
+use Rattle.cel_macros.specs.declared.core_tree.Core.{Core}
+use Rattle.cel_measures.specs.Measures.{depth, need, nodes}
+use Rattle.cel_types.specs.Declarations.{Declaration, declared, depths_of, scope_of}
+use Rattle.cel_types.specs.Typing.{typing as type_of}
+use Rattle.codegen.specs.Added.{code_at, has_room, with_counted, with_expression}
+use Rattle.codegen.specs.Emitted.{Emitted, with_nodes, with_piece}
+use Rattle.codegen.specs.Surroundings.{routines_of}
+use Rattle.codegen.proofs.Lengths.{short_code}
+use Rattle.codegen_base.specs.Pieces.{insn_slots, size, slots}
+use Rattle.codegen_base.proofs.Pieces.{length-insn_slots, slots-append}
+use Rattle.policy_glue.specs.Checked.{rule_expanded, rule_trees}
+use Rattle.policy_glue.specs.Checking.{depth_in, scope_after, type_or_any, with_variable}
+use Rattle.policy_glue.specs.Emission.{FitInOrder, Fits, MayFit, with_message}
+use Rattle.policy_glue.specs.Program.{message_tail}
+use Rattle.policy_glue.specs.ProgramTrees.{AreConditions, AreRules, AreVariables, IsMessage}
+use Rattle.policy_glue.specs.Trees.{RuleTree, VariableTree}
+use Rattle.policy_glue.specs.declared.checked_validation.CheckedValidation.{CheckedValidation}
+use Rattle.policy_glue.proofs.ProgramRules.{message_tail_size}
+
+-- ---- pieces
+
+pub pieces_joined : (e : Emitted) (a b : List Insn) → with_piece (with_piece e a) b ≡ with_piece e (a ++ b)
+pieces_joined e a b = ap (λ (code : List (Option Insn)). record e { code = code }) (append_assoc e.code (slots a) (slots b) ∙ ap (λ (more : List (Option Insn)). e.code ++ more) (sym (slots-append a b)))
+
+message_tail_ends : (i : ℕ) (d : Insn) → take 5 (message_tail i) ++ get_or (message_tail i) 5 d ∷ [] ≡ message_tail i
+unfolding message_tail
+message_tail_ends i d = refl
+
+pub tail_put : (i : ℕ) (tail : List Insn) (d : Insn) (e e1 e2 : Emitted) → tail ≡ message_tail i → e1 ≡ with_piece e (take 5 tail) → e2 ≡ with_piece e1 (get_or tail 5 d ∷ []) → e2 ≡ with_piece e (message_tail i)
+tail_put i tail d e e1 e2 is first last =
+    last
+    ∙ ap (λ (x : Emitted). with_piece x (get_or tail 5 d ∷ [])) first
+    ∙ pieces_joined e (take 5 tail) (get_or tail 5 d ∷ [])
+    ∙ ap (λ (l : List Insn). with_piece e (take 5 l ++ get_or l 5 d ∷ [])) is
+    ∙ ap (with_piece e) (message_tail_ends i d)
+
+message_tail_last : (i : ℕ) (d : Insn) → slot_count (get_or (message_tail i) 5 d) ≡ 1
+unfolding message_tail
+message_tail_last i d = refl
+
+one_slot : (x : Insn) → slot_count x ≡ 1 → length (slots (x ∷ [])) ≡ 1
+one_slot x one = ap (λ (l : List (Option Insn)). length l) (append-nil (insn_slots x)) ∙ length-insn_slots x ∙ one
+
+-- the slot of the last instruction of the tail is the last slot
+pub last_slot : {E : Type 0} (i : ℕ) (tail : List Insn) (d : Insn) (e1 e2 : Emitted) (r : Result ℕ E) → tail ≡ message_tail i → IfOk r (λ slot. slot ≡ length e1.code) → OnOk r (e2 ≡ with_piece e1 (get_or tail 5 d ∷ [])) → IfOk r (λ slot. slot + 1 ≡ length e2.code)
+last_slot i tail d e1 e2 (Ok slot) is at put =
+    let x = get_or tail 5 d in
+    let one : slot_count x ≡ 1 = ap (λ (l : List Insn). slot_count (get_or l 5 d)) is ∙ message_tail_last i d in
+    let whole = ap (λ (e : Emitted). length e.code) put in
+    let counted = length-append e1.code (slots (x ∷ [])) in
+    let slot_of = one_slot x one in
+    omega (arith, at, whole, counted, slot_of)
+last_slot i tail d e1 e2 (Err e) is at put = tt
+
+-- ---- an expression
+
+-- it has few slots, whether there is room for it or not
+few_where : (room : Bool) (e : Emitted) (piece : List Insn) → (room ≡ true → size piece ≤ 32256) → length (if room then with_piece e piece else e).code ≤ length e.code + 32256
+few_where true e piece few = let counted = length-append e.code (slots piece) in let within = few refl in omega arith
+few_where false e piece few = omega arith
+
+and_left : (a b : Bool) → (a && b) ≡ true → a ≡ true
+and_left true b e = refl
+and_left false b e = e
+
+pub few_slots : (e : Emitted) (scope : List Declaration) (tree : CoreTree) → length (with_expression e scope tree).code ≤ length e.code + 32256
+few_slots e scope tree =
+    let counted = with_counted e tree (nodes tree) in
+    few_where (has_room counted) counted (code_at counted scope tree (length e.code)) (λ room.
+    let within : counted.nodes ≤ 512 = leb-true counted.nodes 512 (and_left (nat_le counted.nodes 512) (nat_lt (length counted.code) 65536 && nat_lt (length counted.routines) 512) room) in
+    let short = short_code tree counted.constants (routines_of scope counted.routines) [] 0 (length e.code) in
+    omega (arith, within, short))
+
+-- and stands behind the code that was there
+begins_where : (room : Bool) (e : Emitted) (piece : List Insn) → (more : List (Option Insn)) × ((if room then with_piece e piece else e).code ≡ e.code ++ more)
+begins_where true e piece = (slots piece, refl)
+begins_where false e piece = ([], sym (append-nil e.code))
+
+begins : (e : Emitted) (scope : List Declaration) (tree : CoreTree) → (more : List (Option Insn)) × ((with_expression e scope tree).code ≡ e.code ++ more)
+begins e scope tree =
+    let counted = with_counted e tree (nodes tree) in
+    begins_where (has_room counted) counted (code_at counted scope tree (length e.code))
+
+-- ---- the jump over what is done for a denial
+
+slots_one : (x : Insn) → slot_count x ≡ 1 → slots (x ∷ []) ≡ Some x ∷ []
+slots_one x one = ap (λ (n : ℕ). Some x ∷ replicate (n - 1) None ++ []) one
+
+-- where it stood once the message is there
+get_behind : (xs : List (Option Insn)) (x : Option Insn) (ys : List (Option Insn)) → slice_get (xs ++ x ∷ ys) (length xs) ≡ Some x
+get_behind [] x ys = refl
+get_behind (z ∷ xs) x ys = get_behind xs x ys
+
+pub jump_stands : (i : ℕ) (scope : List Declaration) (tree : CoreTree) (e e1 e2 e3 : Emitted) (jump : Insn) (count : List Insn) → slot_count jump ≡ 1 → e1 ≡ with_piece e (jump ∷ []) → e2 ≡ with_piece e1 count → e3 ≡ with_message i scope e2 tree → slice_get e3.code (length e.code) ≡ Some (Some jump)
+jump_stands i scope tree e e1 e2 e3 jump count one first second third =
+    let behind = begins (with_nodes e2 1) scope tree in
+    let rest = slots count ++ (behind.0 ++ slots (message_tail i)) in
+    let single : slots (jump ∷ []) ≡ Some jump ∷ [] = slots_one jump one in
+    let code1 : e1.code ≡ e.code ++ Some jump ∷ [] = ap (λ (x : Emitted). x.code) first ∙ ap (λ (l : List (Option Insn)). e.code ++ l) single in
+    let code2 : e2.code ≡ (e.code ++ Some jump ∷ []) ++ slots count = ap (λ (x : Emitted). x.code) second ∙ ap (λ (l : List (Option Insn)). l ++ slots count) code1 in
+    let code3 : e3.code ≡ (((e.code ++ Some jump ∷ []) ++ slots count) ++ behind.0) ++ slots (message_tail i) =
+    ap (λ (x : Emitted). x.code) third ∙ ap (λ (l : List (Option Insn)). l ++ slots (message_tail i)) (behind.1 ∙ ap (λ (l : List (Option Insn)). l ++ behind.0) code2) in
+    let whole : e3.code ≡ e.code ++ Some jump ∷ rest =
+    code3
+    ∙ append_assoc ((e.code ++ Some jump ∷ []) ++ slots count) behind.0 (slots (message_tail i))
+    ∙ append_assoc (e.code ++ Some jump ∷ []) (slots count) (behind.0 ++ slots (message_tail i))
+    ∙ append_assoc e.code (Some jump ∷ []) rest in
+    ap (λ (l : List (Option Insn)). slice_get l (length e.code)) whole ∙ get_behind e.code (Some jump) rest
+
+pub few_between : (i : ℕ) (scope : List Declaration) (tree : CoreTree) (e e1 e2 e3 : Emitted) (jump : Insn) (count : List Insn) (last : ℕ) → slot_count jump ≡ 1 → size count ≤ 5 → e1 ≡ with_piece e (jump ∷ []) → e2 ≡ with_piece e1 count → e3 ≡ with_message i scope e2 tree → last + 1 ≡ length e3.code → last - length e.code < 32768
+few_between i scope tree e e1 e2 e3 jump count last one five first second third at =
+    let few = few_slots (with_nodes e2 1) scope tree in
+    let tail = message_tail_size i in
+    let x = with_expression (with_nodes e2 1) scope tree in
+    let n1 = ap (λ (y : Emitted). length y.code) first ∙ length-append e.code (slots (jump ∷ [])) in
+    let n2 = ap (λ (y : Emitted). length y.code) second ∙ length-append e1.code (slots count) in
+    let n3 = ap (λ (y : Emitted). length y.code) third ∙ length-append x.code (slots (message_tail i)) in
+    let single = one_slot jump one in
+    omega (arith, few, tail, n1, n2, n3, single, five, at)
+
+-- ---- variables
+
+pub at_index : {A B : Type 0} (f : A → B) (xs : List A) (i : ℕ) (x : A) → i < length xs → x ≡ get_or xs i x → slice_get (map f xs) i ≡ Some (f x)
+at_index f [] i x below is = absurd (omega arith)
+at_index f (y ∷ ys) zero x below is = ap (λ z. Some (f z)) (sym is)
+at_index f (y ∷ ys) (suc i) x below is = at_index f ys i x (omega arith) is
+
+pub take_more : {A B : Type 0} (f : A → B) (xs : List A) (i : ℕ) (x : A) → i < length xs → x ≡ get_or xs i x → take (i + 1) (map f xs) ≡ take i (map f xs) ++ f x ∷ []
+take_more f [] i x below is = absurd (omega arith)
+take_more f (y ∷ ys) zero x below is = ap (λ z. f z ∷ []) (sym is)
+take_more f (y ∷ ys) (suc i) x below is = let n : suc i + 1 ≡ suc (i + 1) = omega arith in ap (λ m. take m (f y ∷ map f ys)) n ∙ ap (λ l. f y ∷ l) (take_more f ys i x (omega arith) is)
+
+abbrev pub variable_trees : List VariableTree → List CoreTree
+variable_trees vs = map (λ (v : VariableTree). expanded v.expression) vs
+
+one_more : (ds : List Declaration) (v : VariableTree) → length (with_variable ds v) ≡ length ds + 1
+one_more ds v = length-append ds (declared v.name (type_or_any (type_of v.expression (scope_of ds))) (depth_in ds v.expression) ∷ [])
+
+-- a scope with more variables begins with those that were there
+scope_begins : (vs : List VariableTree) (ds : List Declaration) → (more : List Declaration) × (fold with_variable ds vs ≡ ds ++ more)
+scope_begins [] ds = ([], sym (append-nil ds))
+scope_begins (v ∷ vs) ds =
+    let whole = scope_begins vs (with_variable ds v) in
+    (_, whole.1 ∙ append_assoc ds _ whole.0)
+
+take_front : {A : Type 0} (xs ys : List A) → take (length xs) (xs ++ ys) ≡ xs
+take_front [] ys = refl
+take_front (x ∷ xs) ys = ap (λ l. x ∷ l) (take_front xs ys)
+
+abbrev FitsAt : List Declaration → CoreTree → Type 0
+FitsAt ds tree = (need tree ≤ 60) × (depth tree (depths_of ds) ≤ 6)
+
+fits_first : (v : VariableTree) (more : List VariableTree) (ds : List Declaration) (tree : CoreTree) → AreVariables ds (v ∷ more) → Some (expanded v.expression) ≡ Some tree → FitsAt (take (length ds) (fold with_variable ds (v ∷ more))) tree
+fits_first v more ds tree are is =
+    let here : expanded v.expression ≡ tree = cc in
+    let begun = scope_begins (v ∷ more) ds in
+    let front : ds ≡ take (length ds) (fold with_variable ds (v ∷ more)) = sym (ap (take (length ds)) begun.1 ∙ take_front ds begun.0) in
+    subst (λ (s : List Declaration). FitsAt s tree) front (subst (λ (a : CoreTree). FitsAt ds a) here (are.0.fits, are.1))
+
+fits_from : (vs : List VariableTree) (ds : List Declaration) → AreVariables ds vs → (i : ℕ) (tree : CoreTree) → slice_get (variable_trees vs) i ≡ Some tree → FitsAt (take (length ds + i) (fold with_variable ds vs)) tree
+fits_from [] ds are i tree is = absurd (cc)
+fits_from (v ∷ more) ds are zero tree is = subst (λ (n : ℕ). FitsAt (take n (fold with_variable ds (v ∷ more))) tree) (omega arith) (fits_first v more ds tree are is)
+fits_from (v ∷ more) ds are (suc i) tree is =
+    let count = one_more ds v in
+    let rest = fits_from more (with_variable ds v) are.2 i tree is in
+    subst (λ (n : ℕ). FitsAt (take n (fold with_variable (with_variable ds v) more)) tree) (omega (arith, count)) rest
+
+pub fit_in_order : (vs : List VariableTree) (declarations : List Declaration) (trees : List CoreTree) → AreVariables [] vs → declarations ≡ scope_after vs → trees ≡ variable_trees vs → FitInOrder declarations trees
+fit_in_order vs declarations trees are scope same =
+    subst (λ (ds : List Declaration). FitInOrder ds trees) (sym scope) (subst (FitInOrder (scope_after vs)) (sym same) (λ i tree is. subst (λ (n : ℕ). FitsAt (take n (scope_after vs)) tree) (omega arith) (fits_from vs [] are i tree is)))
+
+length_scope : (vs : List VariableTree) (ds : List Declaration) → length (fold with_variable ds vs) ≡ length ds + length vs
+length_scope [] ds = omega arith
+length_scope (v ∷ vs) ds = let rest = length_scope vs (with_variable ds v) in let count = one_more ds v in omega (arith, rest, count)
+
+pub as_many : {A B : Type 0} (f : A → Declaration) (g : B → CoreTree) (vs : List VariableTree) (xs : List A) (ys : List B) → map f xs ≡ scope_after vs → map g ys ≡ variable_trees vs → length ys ≤ length xs
+as_many f g vs xs ys scope same =
+    let a = sym (length-map xs f) ∙ ap (λ (l : List Declaration). length l) scope ∙ length_scope vs [] in
+    let b = sym (length-map ys g) ∙ ap (λ (l : List CoreTree). length l) same ∙ length-map vs (λ (v : VariableTree). expanded v.expression) in
+    omega (arith, a, b)
+
+-- ---- conditions and validations
+
+first_same : {A : Type 0} (x y : A) (xs ys : List A) → x ∷ xs ≡ y ∷ ys → x ≡ y
+first_same x y xs ys e = cc
+
+rest_same : {A : Type 0} (x y : A) (xs ys : List A) → x ∷ xs ≡ y ∷ ys → xs ≡ ys
+rest_same x y xs ys e = cc
+
+pub conditions_fit : (trees : List Tree) (cores : List Core) → AreConditions trees → map core_view cores ≡ map expanded trees → (k : ℕ) (d : Core) → k < length cores → Fits (core_view (slice_index_or cores k d))
+conditions_fit trees [] are same k d below = absurd (omega arith)
+conditions_fit [] (c ∷ cores) are same k d below = absurd (cc)
+conditions_fit (a ∷ more) (c ∷ cores) are same zero d below = let here = first_same (core_view c) (expanded a) (map core_view cores) (map expanded more) same in subst Fits (sym here) are.0.fits
+conditions_fit (a ∷ more) (c ∷ cores) are same (suc k) d below = let rest = rest_same (core_view c) (expanded a) (map core_view cores) (map expanded more) same in conditions_fit more cores are.1 rest k d (omega arith)
+
+pub rules_fit : (scope : List Declaration) (rs : List RuleTree) (vs : List CheckedValidation) → AreRules scope rs → map rule_trees vs ≡ map rule_expanded rs → (k : ℕ) (d : CheckedValidation) → k < length vs → Fits (core_view (slice_index_or vs k d).expression)
+rules_fit scope rs [] are same k d below = absurd (omega arith)
+rules_fit scope [] (v ∷ vs) are same k d below = absurd (cc)
+rules_fit scope (r ∷ more) (v ∷ vs) are same zero d below = let here : core_view v.expression ≡ expanded r.expression = ap (λ (p : CoreTree × Option CoreTree). p.0) (first_same (rule_trees v) (rule_expanded r) (map rule_trees vs) (map rule_expanded more) same) in subst Fits (sym here) are.0.fits
+rules_fit scope (r ∷ more) (v ∷ vs) are same (suc k) d below = let rest = rest_same (rule_trees v) (rule_expanded r) (map rule_trees vs) (map rule_expanded more) same in rules_fit scope more vs are.2 rest k d (omega arith)
+
+message_fits : (scope : List Declaration) (m : Option Tree) → IsMessage scope m → MayFit (option_map expanded m)
+message_fits scope (Some a) is = is.fits
+message_fits scope None is = tt
+
+pub messages_fit : (scope : List Declaration) (rs : List RuleTree) (vs : List CheckedValidation) → AreRules scope rs → map rule_trees vs ≡ map rule_expanded rs → (k : ℕ) (d : CheckedValidation) → k < length vs → MayFit (option_map core_view (slice_index_or vs k d).message)
+messages_fit scope rs [] are same k d below = absurd (omega arith)
+messages_fit scope [] (v ∷ vs) are same k d below = absurd (cc)
+messages_fit scope (r ∷ more) (v ∷ vs) are same zero d below = let here : option_map core_view v.message ≡ option_map expanded r.message = ap (λ (p : CoreTree × Option CoreTree). p.1) (first_same (rule_trees v) (rule_expanded r) (map rule_trees vs) (map rule_expanded more) same) in subst MayFit (sym here) (message_fits scope r.message are.1)
+messages_fit scope (r ∷ more) (v ∷ vs) are same (suc k) d below = let rest = rest_same (rule_trees v) (rule_expanded r) (map rule_trees vs) (map rule_expanded more) same in messages_fit scope more vs are.2 rest k d (omega arith)

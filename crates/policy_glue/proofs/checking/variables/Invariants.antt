@@ -1,0 +1,8 @@
+use Rattle.std.proofs.Common.{drop, map}
+use Rattle.cel_macros.specs.CoreView.{core_view}
+use Rattle.policy_glue.specs.Policy.{named_view}
+use Rattle.policy_glue.proofs.Walks.{VariablesGo}
+use Rattle.policy_glue.proofs.checking.variables.Given as goal
+
+abbrev pub invariant-loop-place : goal.invariant-loop-place
+invariant-loop-place l = VariablesGo (map named_view l.named) (map named_view (drop l.place l.named)) l.place l.scope (map core_view l.cores.items)

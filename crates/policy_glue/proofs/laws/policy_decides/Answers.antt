@@ -1,0 +1,5 @@
+use Rattle.policy_glue.proofs.ProgramWhole.{policy_decides}
+use Rattle.policy_glue.proofs.laws.policy_decides.Goals as goal
+
+pub returns : goal.returns
+returns c = policy_decides c.decodes_spelling.ensures

@@ -1,0 +1,7 @@
+use Rattle.std.proofs.Common.{◌≡◌, drop, map}
+use Rattle.cel_macros.specs.CoreView.{core_view}
+use Rattle.policy_glue.specs.Emission.{with_conditions}
+use Rattle.policy_glue.proofs.program.conditions.conditions.Given as goal
+
+abbrev pub invariant-loop-core : goal.invariant-loop-core
+invariant-loop-core l = with_conditions l.failure_policy l.emitter (map core_view (drop l.core-index l.cores)) ≡ with_conditions l.failure_policy l.fn.emitter (map core_view l.cores)

@@ -1,0 +1,6 @@
+use Rattle.std.proofs.Common.{◌≡◌, drop}
+use Rattle.codegen.specs.Emitted.{with_piece}
+use Rattle.policy_glue.proofs.program.pieces.put_each.Given as goal
+
+abbrev pub invariant-loop-insn : goal.invariant-loop-insn
+invariant-loop-insn l = with_piece l.emitter (drop l.insn-index l.insns) ≡ with_piece l.fn.emitter l.insns

@@ -1,0 +1,7 @@
+use Rattle.std.proofs.Common.{◌≡◌, drop, map}
+use Rattle.policy_glue.specs.Checked.{rule_trees}
+use Rattle.policy_glue.specs.Emission.{with_validations}
+use Rattle.policy_glue.proofs.program.validations.validations.Given as goal
+
+abbrev pub invariant-loop-place : goal.invariant-loop-place
+invariant-loop-place l = with_validations l.failure_policy l.place l.scope l.emitter (map rule_trees (drop l.place l.checked)) ≡ with_validations l.failure_policy 0 l.scope l.fn.emitter (map rule_trees l.checked)

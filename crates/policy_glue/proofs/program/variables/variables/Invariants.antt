@@ -1,0 +1,13 @@
+use Rattle.std.proofs.Common.{◌≡◌, drop, map, take}
+use Rattle.cel_macros.specs.CoreView.{core_view}
+use Rattle.cel_types.specs.Declarations.{declaration}
+use Rattle.policy_glue.specs.Emission.{with_variables}
+use Rattle.policy_glue.proofs.program.variables.variables.Given as goal
+
+abbrev pub invariant-loop-place : goal.invariant-loop-place
+invariant-loop-place l =
+    let declarations = map declaration l.declared in
+    record {
+      so_far : with_variables declarations l.place l.emitter (map core_view (drop l.place l.cores)) ≡ with_variables declarations 0 l.fn.emitter (map core_view l.cores);
+      scope : l.scope ≡ take l.place declarations;
+    }

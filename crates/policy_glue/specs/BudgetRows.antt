@@ -1,0 +1,33 @@
+-- What policies visit, spend and have room for, worked by hand.
+use Rattle.std.specs.Prelude.{◌≡◌, [], ◌∷◌, Some, None, codes}
+use Rattle.cel_reader.specs.Written.{str, yes, no}
+use Rattle.cel_measures.specs.Rows.{conjoined}
+use Rattle.policy_glue.specs.Budget.{policy_spent, policy_work}
+use Rattle.policy_glue.specs.DecisionRows.{at_most_three, bare, five, ruled, wrong}
+use Rattle.policy_glue.specs.Limits.{excess, policy_nodes, policy_texts}
+use Rattle.policy_glue.specs.Trees.{PolicyTree}
+use Rattle.policy_glue.specs.declared.compile_error.CompileError.TheVariants.{G3}
+use Rattle.policy_glue.specs.declared.failure_policy.FailurePolicy.TheVariants.{Fail}
+
+abbrev pub few_replicas : PolicyTree
+few_replicas = ruled (bare at_most_three ∷ [])
+
+-- a validation that is true, and one that is false, each with a message expression of one node
+abbrev pub with_messages : PolicyTree
+with_messages = ruled (record { expression = yes; message = Some (str "a") } ∷ record { expression = no; message = Some (str "b") } ∷ [])
+
+pub record BudgetRowsStand : Type 0 where
+  -- the policy, the validation, an operator, two selections, a name and a literal
+  pub work : policy_work Fail few_replicas five ≡ 7
+  -- 8 * 7, results of 1, 1, 11, 17 and 1, and field names of 9 and 5
+  pub spent : policy_spent Fail few_replicas five ≡ 101
+  -- the policy, two validations of one node, and the one message that is evaluated
+  pub messages : policy_work Fail with_messages five ≡ 7
+  -- and none where the policy does not run
+  pub no_messages : policy_work Fail (record with_messages { conditions = no ∷ [] }) five ≡ 7
+  pub variable : policy_work Fail (record few_replicas { variables = record { name = []; expression = wrong } ∷ [] }) five ≡ 11
+  pub nodes : policy_nodes with_messages ≡ 9
+  pub texts : policy_texts (ruled (bare at_most_three ∷ bare at_most_three ∷ [])) ≡ codes "spec" ∷ codes "replicas" ∷ []
+  -- true && true && .. of 255 literals, and of 256
+  pub largest : excess (ruled (bare (conjoined 254) ∷ [])) ≡ None
+  pub too_large : excess (ruled (bare (conjoined 255) ∷ [])) ≡ Some G3

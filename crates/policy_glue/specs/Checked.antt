@@ -1,0 +1,138 @@
+-- What the code answers of a policy's expressions.
+use Rattle.std.specs.Prelude.{◌≡◌, ◌≢◌, ℕ, All, IfSome, List, [], ◌∷◌, ◌++◌, map, Option, Some, None, option_map, Result, Ok, Err, Vec}
+use Rattle.std.specs.Global.{Global}
+use Rattle.cel_reader.specs.Tree.{Tree}
+use Rattle.cel_reader.specs.WellFormed.{IsWellFormed}
+use Rattle.cel_macros.specs.CoreTree.{CoreTree, expanded}
+use Rattle.cel_macros.specs.CoreView.{core_view}
+use Rattle.cel_macros.specs.MacroFault.{macro_fault}
+use Rattle.cel_macros.specs.declared.core_tree.Core.{Core}
+use Rattle.cel_types.specs.Declarations.{Declaration}
+use Rattle.cel_types.specs.declared.scope.Scope.{Scope}
+use Rattle.cel_types.specs.declared.cel_type.CelType.{CelType}
+use Rattle.policy_glue.specs.Checking.{Reads, IsTaken, IsRefused, IsOneOf, IsNoneOf, IsVariable, IsNoVariable, IsMessage, IsRule, IsNoRule, PartsEnd, VariablesEnd, ConditionsEnd, ValidationsEnd, expression_judged, scope_after, texts, variable_judged, with_variable}
+use Rattle.policy_glue.specs.Policy.{Named, Rule, Rules}
+use Rattle.policy_glue.specs.Trees.{VariableTree, RuleTree, PolicyTree}
+use Rattle.policy_glue.specs.declared.checked.Checked.{Checked}
+use Rattle.policy_glue.specs.declared.checked_validation.CheckedValidation.{CheckedValidation}
+use Rattle.policy_glue.specs.declared.compile_error.CompileError.{CompileError}
+use Rattle.policy_glue.specs.declared.compile_error.CompileError.TheVariants.{K9}
+use Rattle.policy_glue.specs.declared.compile_error.CompileError.TheVariants as compile_error
+use Rattle.policy_glue.specs.declared.expression_error.ExpressionError.{ExpressionError}
+use Rattle.policy_glue.specs.declared.expression_error.ExpressionError.TheVariants as expression_error
+use Rattle.policy_glue.specs.declared.part_kind.PartKind.{PartKind}
+use Rattle.policy_glue.specs.declared.part_kind.PartKind.TheVariants.{Message}
+
+-- the tree with its macros expanded, whose literals are values and whose names are names
+abbrev pub IsExpanded : Core → Tree → Type 0
+IsExpanded core a = (core_view core ≡ expanded a) × IsWellFormed a
+
+-- a validation's trees are such
+abbrev pub IsFormedRule : RuleTree → Type 0
+IsFormedRule r = IsWellFormed r.expression × IfSome r.message IsWellFormed
+
+-- a text is read and its macros are expanded, or it is refused in every scope; or the host has no memory for it
+abbrev pub Expands : List ℕ → Result Core ExpressionError → Type 0
+Expands text (Ok core) = (a : Tree) × IsExpanded core a × Reads text a × (macro_fault a ≡ None)
+Expands text (Err e) = e ≢ expression_error.Memory → (scope : List Declaration) → IsRefused (expression_judged scope) text e
+
+-- a text is judged, or the host has no memory for it
+abbrev pub Judges : (Tree → Result CelType ExpressionError) → List ℕ → Result (Core × CelType) ExpressionError → Type 0
+Judges judge text (Ok x) = (a : Tree) × IsExpanded x.0 a × IsTaken judge text a x.1
+Judges judge text (Err e) = e ≢ expression_error.Memory → IsRefused judge text e
+
+-- and is of one of these types
+abbrev pub Sorts : List CelType → CompileError → PartKind → ℕ → List Declaration → List ℕ → Result Core CompileError → Type 0
+Sorts types other part place scope text (Ok core) = (a : Tree) × IsExpanded core a × IsOneOf types scope text a
+Sorts types other part place scope text (Err e) = e ≢ compile_error.Memory → IsNoneOf types other part place scope text e
+
+-- ---- parts and lists of them
+
+-- a variable's text is judged
+abbrev pub JudgesVariable : List Declaration → ℕ → List ℕ → Result (Core × CelType) CompileError → Type 0
+JudgesVariable scope place text (Ok x) = (a : Tree) × IsExpanded x.0 a × IsTaken (variable_judged scope) text a x.1
+JudgesVariable scope place text (Err e) = e ≢ compile_error.Memory → IsNoVariable scope place text e
+
+-- a variable comes into scope, and its tree behind the others
+pub record IsAdded (n : Named) (old new : List Declaration) (before after : List CoreTree) : Type 0 where
+  pub variable : VariableTree
+  pub taken : IsVariable old n variable
+  pub scope : new ≡ with_variable old variable
+  pub trees : after ≡ before ++ expanded variable.expression ∷ []
+  pub formed : IsWellFormed variable.expression
+
+abbrev pub Adds : Named → ℕ → List Declaration → List Declaration → List CoreTree → List CoreTree → Result (Unit {0}) CompileError → Type 0
+Adds n place old new before after (Ok u) = IsAdded n old new before after
+Adds n place old new before after (Err e) = e ≢ compile_error.Memory → IsNoVariable old place n.expression e
+
+pub record AreVariables (ns : List Named) (scope : List Declaration) (trees : List CoreTree) : Type 0 where
+  pub taken : List VariableTree
+  pub end : VariablesEnd ns (Ok taken)
+  pub scope_is : scope ≡ scope_after taken
+  pub trees_are : trees ≡ map (λ v. expanded v.expression) taken
+  pub formed : All (λ v. IsWellFormed v.expression) taken
+
+abbrev pub ChecksVariables : List Named → Result (Scope × Vec Core Global) CompileError → Type 0
+ChecksVariables ns (Ok x) = AreVariables ns x.0 (map core_view x.1.items)
+ChecksVariables ns (Err e) = e ≢ compile_error.Memory → VariablesEnd ns (Err e)
+
+pub record AreConditions (ns : List Named) (trees : List CoreTree) : Type 0 where
+  pub taken : List Tree
+  pub end : ConditionsEnd ns (Ok taken)
+  pub trees_are : trees ≡ map expanded taken
+  pub formed : All IsWellFormed taken
+
+abbrev pub ChecksConditions : List Named → Result (Vec Core Global) CompileError → Type 0
+ChecksConditions ns (Ok v) = AreConditions ns (map core_view v.items)
+ChecksConditions ns (Err e) = e ≢ compile_error.Memory → ConditionsEnd ns (Err e)
+
+abbrev pub rule_trees : CheckedValidation → CoreTree × Option CoreTree
+rule_trees v = (core_view v.expression, option_map core_view v.message)
+
+abbrev pub rule_expanded : RuleTree → CoreTree × Option CoreTree
+rule_expanded r = (expanded r.expression, option_map expanded r.message)
+
+-- a message expression that a validation may have
+pub record IsNoMessage (scope : List Declaration) (place : ℕ) (text : Option (List ℕ)) (e : CompileError) : Type 0 where
+  pub source : List ℕ
+  pub is : text ≡ Some source
+  pub because : IsNoneOf texts K9 Message place scope source e
+
+abbrev pub SortsMessage : List Declaration → ℕ → Option (List ℕ) → Result (Option Core) CompileError → Type 0
+SortsMessage scope place text (Ok m) = (b : Option Tree) × (option_map core_view m ≡ option_map expanded b) × IsMessage scope text b × IfSome b IsWellFormed
+SortsMessage scope place text (Err e) = e ≢ compile_error.Memory → IsNoMessage scope place text e
+
+abbrev pub ChecksRule : List Declaration → ℕ → Rule → Result CheckedValidation CompileError → Type 0
+ChecksRule scope place n (Ok v) = (r : RuleTree) × (rule_trees v ≡ rule_expanded r) × IsRule scope n r × IsFormedRule r
+ChecksRule scope place n (Err e) = e ≢ compile_error.Memory → IsNoRule scope place n e
+
+pub record AreRules (scope : List Declaration) (ns : List Rule) (trees : List (CoreTree × Option CoreTree)) : Type 0 where
+  pub taken : List RuleTree
+  pub end : ValidationsEnd scope ns (Ok taken)
+  pub trees_are : trees ≡ map rule_expanded taken
+  pub formed : All IsFormedRule taken
+
+abbrev pub ChecksRules : List Declaration → List Rule → Result (Vec CheckedValidation Global) CompileError → Type 0
+ChecksRules scope ns (Ok v) = AreRules scope ns (map rule_trees v.items)
+ChecksRules scope ns (Err e) = e ≢ compile_error.Memory → ValidationsEnd scope ns (Err e)
+
+-- ---- a policy
+
+-- its trees' literals are values, and their names are names
+pub record IsFormed (t : PolicyTree) : Type 0 where
+  pub variables : All (λ v. IsWellFormed v.expression) t.variables
+  pub conditions : All IsWellFormed t.conditions
+  pub validations : All IsFormedRule t.validations
+
+-- what is checked, beside its trees
+pub record IsChecked (checked : Checked) (t : PolicyTree) : Type 0 where
+  pub scope : checked.scope ≡ scope_after t.variables
+  pub variables : map core_view checked.variables.items ≡ map (λ v. expanded v.expression) t.variables
+  pub conditions : map core_view checked.conditions.items ≡ map expanded t.conditions
+  pub validations : map rule_trees checked.validations.items ≡ map rule_expanded t.validations
+  pub formed : IsFormed t
+
+-- the policy's parts are checked, or the first refusal is answered; or the host has no memory for them
+abbrev pub Checks : Rules → Result Checked CompileError → Type 0
+Checks p (Ok checked) = (t : PolicyTree) × IsChecked checked t × PartsEnd p (Ok t)
+Checks p (Err e) = e ≢ compile_error.Memory → PartsEnd p (Err e)

@@ -1,0 +1,190 @@
+-- Which expressions a policy may have, and the first that is refused: variables, conditions and validations, each in its
+-- order, a message expression behind its validation, and each judged whole before the next.
+use Rattle.std.specs.Prelude.{◌≡◌, ◌≢◌, ℕ, true, false, List, [], ◌∷◌, ◌++◌, length, fold, nat_lt, Option, Some, None, Result, Ok, Err, if◌then◌else◌}
+use Rattle.cel_tokens.specs.declared.read_error.ReadError.{ReadError}
+use Rattle.cel_tokens.specs.declared.read_error.ReadError.TheVariants as read_error
+use Rattle.cel_reader.specs.Tree.{Tree}
+use Rattle.cel_reader.specs.Answers.{Answers, HasTokens, IsExpression}
+use Rattle.cel_macros.specs.CoreTree.{expanded}
+use Rattle.cel_macros.specs.MacroFault.{MacroFault, macro_fault, fault_error}
+use Rattle.cel_types.specs.Declarations.{Declaration, declared, depths_of, scope_of}
+use Rattle.cel_types.specs.Types as typing
+use Rattle.cel_types.specs.Types.{TypeFault, Typing, UnknownName, NoOverload, MisplacedVariables, allowed}
+use Rattle.cel_types.specs.Typing.{typing as type_of}
+use Rattle.cel_types.specs.declared.cel_type.CelType.{CelType}
+use Rattle.cel_types.specs.declared.cel_type.CelType.TheVariants as type
+use Rattle.cel_types.specs.declared.type_error.TypeError.{TypeError}
+use Rattle.cel_types.specs.declared.type_error.TypeError.TheVariants.{Y1, Y2, Y3}
+use Rattle.cel_measures.specs.Measures.{need, depth}
+use Rattle.policy_glue.specs.Policy.{Named, Rule, Rules}
+use Rattle.policy_glue.specs.Trees.{VariableTree, RuleTree, PolicyTree}
+use Rattle.policy_glue.specs.declared.part_kind.PartKind.{PartKind}
+use Rattle.policy_glue.specs.declared.part_kind.PartKind.TheVariants.{Variable, Condition, Validation, Message}
+use Rattle.policy_glue.specs.declared.expression_error.ExpressionError.{ExpressionError}
+use Rattle.policy_glue.specs.declared.expression_error.ExpressionError.TheVariants.{Unread, Unexpanded, Untyped, G1, G2}
+use Rattle.policy_glue.specs.declared.compile_error.CompileError.{CompileError}
+use Rattle.policy_glue.specs.declared.compile_error.CompileError.TheVariants.{K6, K7, K9}
+
+-- ---- one tree: macros, types, stack words, and for a variable its depth
+
+-- the most stack words of an expression, and the greatest depth of a variable
+abbrev pub most_need : ℕ
+most_need = 60
+
+abbrev pub most_depth : ℕ
+most_depth = 6
+
+abbrev pub type_error : TypeFault → TypeError
+type_error UnknownName = Y1
+type_error NoOverload = Y2
+type_error MisplacedVariables = Y3
+
+abbrev pub with_need : ℕ → CelType → Result CelType ExpressionError
+with_need n t = if nat_lt most_need n then Err G1 else Ok t
+
+abbrev pub with_typing : Typing → ℕ → Result CelType ExpressionError
+with_typing (typing.typed t) n = with_need n t
+with_typing (typing.refused y) n = Err (Untyped (type_error y))
+
+abbrev pub with_macros : Option MacroFault → Typing → ℕ → Result CelType ExpressionError
+with_macros None t n = with_typing t n
+with_macros (Some fault) t n = Err (Unexpanded (fault_error fault))
+
+-- the type of a tree that may use these variables, or why it is refused
+unfoldable pub expression_judged : List Declaration → Tree → Result CelType ExpressionError
+expression_judged scope a = with_macros (macro_fault a) (type_of a (scope_of scope)) (need (expanded a))
+
+abbrev pub with_depth : ℕ → Result CelType ExpressionError → Result CelType ExpressionError
+with_depth d (Ok t) = if nat_lt most_depth d then Err G2 else Ok t
+with_depth d (Err e) = Err e
+
+abbrev pub depth_in : List Declaration → Tree → ℕ
+depth_in scope a = depth (expanded a) (depths_of scope)
+
+-- the same of a variable's tree
+abbrev pub variable_judged : List Declaration → Tree → Result CelType ExpressionError
+variable_judged scope a = with_depth (depth_in scope a) (expression_judged scope a)
+
+-- ---- one text
+
+-- the text is this tree, with at most 100 brackets and conditionals open
+abbrev pub Reads : List ℕ → Tree → Type 0
+Reads text a = HasTokens text (λ ws. IsExpression 100 ws a)
+
+-- the text is this tree, of this type
+pub record IsTaken (judge : Tree → Result CelType ExpressionError) (text : List ℕ) (a : Tree) (t : CelType) : Type 0 where
+  pub reads : Reads text a
+  pub judged : judge a ≡ Ok t
+
+-- the text is no expression, or is refused as the tree that it is
+pub data IsRefused (judge : Tree → Result CelType ExpressionError) (text : List ℕ) : ExpressionError → Type 0 where
+  unread : (e : ReadError) → e ≢ read_error.Memory → Answers text (Err e) → IsRefused judge text (Unread e)
+  judged : (a : Tree) (e : ExpressionError) → Reads text a → judge a ≡ Err e → IsRefused judge text e
+
+-- conditions and validations are bools, message expressions texts, each as far as is known
+abbrev pub truths : List CelType
+truths = type.Bool ∷ []
+
+abbrev pub texts : List CelType
+texts = type.String ∷ []
+
+-- the text is this tree, of one of these types or of none that is known
+pub record IsOneOf (types : List CelType) (scope : List Declaration) (text : List ℕ) (a : Tree) : Type 0 where
+  pub cel_type : CelType
+  pub taken : IsTaken (expression_judged scope) text a cel_type
+  pub kind : allowed types cel_type ≡ true
+
+-- the text is a tree of another type
+pub record IsOther (types : List CelType) (scope : List Declaration) (text : List ℕ) : Type 0 where
+  pub tree : Tree
+  pub cel_type : CelType
+  pub taken : IsTaken (expression_judged scope) text tree cel_type
+  pub kind : allowed types cel_type ≡ false
+
+-- the text of the part at this place is refused, or is a tree of another type than these
+pub data IsNoneOf (types : List CelType) (other : CompileError) (part : PartKind) (place : ℕ) (scope : List Declaration) (text : List ℕ) : CompileError → Type 0 where
+  refused : (e : ExpressionError) → IsRefused (expression_judged scope) text e → IsNoneOf types other part place scope text (K6 part place e)
+  of_another_type : IsOther types scope text → IsNoneOf types other part place scope text other
+
+-- ---- lists of parts
+
+-- from here on, behind what is taken, each part is taken, or the first that is not is refused
+pub data Ends {A B : Type 0} (Takes : List B → A → B → Type 0) (Refuses : List B → A → CompileError → Type 0) : List B → List A → Result (List B) CompileError → Type 0 where
+  over : {taken : List B} → Ends Takes Refuses taken [] (Ok taken)
+  refused : {taken : List B} {part : A} {more : List A} (e : CompileError) → Refuses taken part e → Ends Takes Refuses taken (part ∷ more) (Err e)
+  next : {taken : List B} {part : A} {more : List A} {end : Result (List B) CompileError} (tree : B) → Takes taken part tree → Ends Takes Refuses (taken ++ tree ∷ []) more end → Ends Takes Refuses taken (part ∷ more) end
+
+-- with one more variable in scope, of the type that it has there
+abbrev pub type_or_any : Typing → CelType
+type_or_any (typing.typed t) = t
+type_or_any (typing.refused y) = type.Dyn
+
+abbrev pub with_variable : List Declaration → VariableTree → List Declaration
+with_variable scope v = scope ++ declared v.name (type_or_any (type_of v.expression (scope_of scope))) (depth_in scope v.expression) ∷ []
+
+-- the scope of what may use these variables
+abbrev pub scope_after : List VariableTree → List Declaration
+scope_after variables = fold with_variable [] variables
+
+-- a variable may use those in scope, which are those before it
+pub record IsVariable (scope : List Declaration) (n : Named) (v : VariableTree) : Type 0 where
+  pub name : v.name ≡ n.name
+  pub cel_type : CelType
+  pub tree : IsTaken (variable_judged scope) n.expression v.expression cel_type
+
+pub record IsNoVariable (scope : List Declaration) (place : ℕ) (text : List ℕ) (e : CompileError) : Type 0 where
+  pub cause : ExpressionError
+  pub because : IsRefused (variable_judged scope) text cause
+  pub is : e ≡ K6 Variable place cause
+
+abbrev pub TakesVariable : List VariableTree → Named → VariableTree → Type 0
+TakesVariable taken n v = IsVariable (scope_after taken) n v
+
+abbrev pub RefusesVariable : List VariableTree → Named → CompileError → Type 0
+RefusesVariable taken n e = IsNoVariable (scope_after taken) (length taken) n.expression e
+
+abbrev pub VariablesEnd : List Named → Result (List VariableTree) CompileError → Type 0
+VariablesEnd ns end = Ends TakesVariable RefusesVariable [] ns end
+
+-- a condition may use no variable
+abbrev pub TakesCondition : List Tree → Named → Tree → Type 0
+TakesCondition taken n a = IsOneOf truths [] n.expression a
+
+abbrev pub RefusesCondition : List Tree → Named → CompileError → Type 0
+RefusesCondition taken n e = IsNoneOf truths K7 Condition (length taken) [] n.expression e
+
+abbrev pub ConditionsEnd : List Named → Result (List Tree) CompileError → Type 0
+ConditionsEnd ns end = Ends TakesCondition RefusesCondition [] ns end
+
+-- a validation and its message expression may use all variables
+abbrev pub IsMessage : List Declaration → Option (List ℕ) → Option Tree → Type 0
+IsMessage scope (Some text) (Some a) = IsOneOf texts scope text a
+IsMessage scope (Some text) None = ⊥
+IsMessage scope None (Some a) = ⊥
+IsMessage scope None None = Unit {0}
+
+pub record IsRule (scope : List Declaration) (n : Rule) (r : RuleTree) : Type 0 where
+  pub expression : IsOneOf truths scope n.expression r.expression
+  pub message : IsMessage scope n.message_expression r.message
+
+pub data IsNoRule (scope : List Declaration) (place : ℕ) (n : Rule) : CompileError → Type 0 where
+  expression : (e : CompileError) → IsNoneOf truths K7 Validation place scope n.expression e → IsNoRule scope place n e
+  message : (a : Tree) (text : List ℕ) (e : CompileError) → IsOneOf truths scope n.expression a → n.message_expression ≡ Some text → IsNoneOf texts K9 Message place scope text e → IsNoRule scope place n e
+
+abbrev pub TakesRule : List Declaration → List RuleTree → Rule → RuleTree → Type 0
+TakesRule scope taken n r = IsRule scope n r
+
+abbrev pub RefusesRule : List Declaration → List RuleTree → Rule → CompileError → Type 0
+RefusesRule scope taken n e = IsNoRule scope (length taken) n e
+
+abbrev pub ValidationsEnd : List Declaration → List Rule → Result (List RuleTree) CompileError → Type 0
+ValidationsEnd scope ns end = Ends (TakesRule scope) (RefusesRule scope) [] ns end
+
+-- ---- the policy
+
+-- its expressions as trees, or the first refusal
+pub data PartsEnd (p : Rules) : Result PolicyTree CompileError → Type 0 where
+  in_variables : (e : CompileError) → VariablesEnd p.variables (Err e) → PartsEnd p (Err e)
+  in_conditions : (vs : List VariableTree) (e : CompileError) → VariablesEnd p.variables (Ok vs) → ConditionsEnd p.conditions (Err e) → PartsEnd p (Err e)
+  in_validations : (vs : List VariableTree) (cs : List Tree) (e : CompileError) → VariablesEnd p.variables (Ok vs) → ConditionsEnd p.conditions (Ok cs) → ValidationsEnd (scope_after vs) p.validations (Err e) → PartsEnd p (Err e)
+  taken : (vs : List VariableTree) (cs : List Tree) (rs : List RuleTree) → VariablesEnd p.variables (Ok vs) → ConditionsEnd p.conditions (Ok cs) → ValidationsEnd (scope_after vs) p.validations (Ok rs) → PartsEnd p (Ok (record { variables = vs; conditions = cs; validations = rs }))

@@ -1,0 +1,48 @@
+-- What is known of the image of a compiled policy.
+use Rattle.std.specs.Prelude.{◌≡◌, ℕ, ◌*◌, ◌<◌, ◌≤◌, All, false, List, length, Result, Ok, Err}
+use Rattle.loader.specs.Contents as loader
+use Rattle.loader.specs.declared.version.Version.{Version}
+use Rattle.loader.specs.declared.version.Version.TheVariants.{Second}
+use Rattle.value_store.specs.Placing.{Contents}
+use Rattle.cel_macros.specs.Environment.{Roots}
+use Rattle.bpf_machine.specs.State.{start_state}
+use Rattle.bpf_machine.specs.Step.{is_running}
+use Rattle.bpf_machine.specs.Trace.{state_after}
+use Rattle.codegen_base.specs.Contexts.{HasValues}
+use Rattle.policy_glue.specs.Budget.{policy_work}
+use Rattle.policy_glue.specs.Limits.{Compiles, policy_nodes}
+use Rattle.policy_glue.specs.Policy.{Rules}
+use Rattle.policy_glue.specs.ProgramTrees.{Decides}
+use Rattle.policy_glue.specs.Trees.{PolicyTree}
+use Rattle.policy_glue.specs.declared.compile_error.CompileError.{CompileError}
+use Rattle.policy_glue.specs.declared.compile_error.CompileError.TheVariants.{K6, K7, K9, G3, G4, Memory}
+use Rattle.policy_glue.specs.declared.failure_policy.FailurePolicy.{FailurePolicy}
+
+-- what an image of this version holds
+abbrev pub contents : Version → List ℕ → List ℕ → loader.Contents
+contents version code constants = record { version = version; code = code; constants = constants }
+
+-- an image of version 2 with at most 128 slots for each of the policy's nodes, which decides as the policy does on every five roots, within 128 steps for each unit of the policy's work, and has decided so wherever it stands stopped
+pub record IsProgram (f : FailurePolicy) (t : PolicyTree) (image : loader.Contents) : Type 0 where
+  pub version : image.version ≡ Second
+  pub code : All (λ b. b < 256) image.code
+  pub constants : All (λ b. b < 256) image.constants
+  pub few_slots : length image.code ≤ 8 * (128 * policy_nodes t)
+  pub decides : (roots : Roots) (values : Contents) (m : ℕ) → HasValues roots values → 128 * policy_work f t roots ≤ m → Decides f t roots values (state_after m (start_state image values))
+  pub stops : (roots : Roots) (values : Contents) (k : ℕ) → HasValues roots values → is_running (state_after k (start_state image values)).status ≡ false → Decides f t roots values (state_after k (start_state image values))
+
+-- the image of a policy that is compiled
+pub record IsCompiled (p : Rules) (image : loader.Contents) : Type 0 where
+  pub trees : PolicyTree
+  pub compiles : Compiles p (Ok trees)
+  pub program : IsProgram p.failure_policy trees image
+
+-- the image is answered, or why there is none; or the host has no memory for it
+abbrev pub CompilesTo : Rules → Result loader.Contents CompileError → Type 0
+CompilesTo p (Ok image) = IsCompiled p image
+CompilesTo p (Err (K6 part place e)) = Compiles p (Err (K6 part place e))
+CompilesTo p (Err K7) = Compiles p (Err K7)
+CompilesTo p (Err K9) = Compiles p (Err K9)
+CompilesTo p (Err G3) = Compiles p (Err G3)
+CompilesTo p (Err G4) = Compiles p (Err G4)
+CompilesTo p (Err Memory) = Unit {0}

@@ -1,0 +1,108 @@
+-- A policy's program as it is emitted: what an emitter has taken behind each part of the policy.
+use Rattle.std.specs.Prelude.{◌≡◌, ◌≢◌, ℕ, ◌+◌, ◌-◌, ◌≤◌, List, [], ◌∷◌, fold, length, map, pos, slice_get, take, Option, Some, None, Result, Ok, Err, Vec}
+use Rattle.std.specs.Global.{Global}
+use Rattle.insn_codec.specs.declared.comparison.Comparison.TheVariants.{Eq}
+use Rattle.insn_codec.specs.declared.insn.Insn.{Insn}
+use Rattle.insn_codec.specs.declared.register.Register.TheVariants.{R3}
+use Rattle.cel_macros.specs.CoreTree.{CoreTree}
+use Rattle.cel_macros.specs.CoreView.{core_view}
+use Rattle.cel_measures.specs.Measures.{depth, need}
+use Rattle.cel_types.specs.Declarations.{Declaration, depths_of}
+use Rattle.codegen.specs.Added.{with_expression, with_variable}
+use Rattle.codegen.specs.Constants.{joined}
+use Rattle.codegen.specs.Emitted.{Emitted, no_code, with_insn_at, with_nodes, with_piece}
+use Rattle.codegen_base.specs.Instructions.{skip_if}
+use Rattle.codegen_base.specs.Pieces.{spellings}
+use Rattle.policy_glue.specs.Checked.{IsChecked, rule_trees}
+use Rattle.policy_glue.specs.Checking.{scope_after}
+use Rattle.policy_glue.specs.Layout.{most_validations}
+use Rattle.policy_glue.specs.Limits.{excess, policy_texts}
+use Rattle.policy_glue.specs.Program.{condition_tail, decided_tail, denial_code, message_tail, outcome_tail, result_tail}
+use Rattle.policy_glue.specs.ProgramCode.{program_of}
+use Rattle.policy_glue.specs.ProgramTrees.{AreConditions, AreRules, AreVariables}
+use Rattle.policy_glue.specs.Trees.{PolicyTree}
+use Rattle.policy_glue.specs.declared.checked.Checked.{Checked}
+use Rattle.policy_glue.specs.declared.compile_error.CompileError.{CompileError}
+use Rattle.policy_glue.specs.declared.compile_error.CompileError.TheVariants.{Memory}
+use Rattle.policy_glue.specs.declared.failure_policy.FailurePolicy.{FailurePolicy}
+
+-- ---- each part
+
+-- from variable i on, each in the scope of those before it
+abbrev pub with_variables : List Declaration → ℕ → Emitted → List CoreTree → Emitted
+with_variables declarations i e [] = e
+with_variables declarations i e (tree ∷ more) = with_variables declarations (i + 1) (with_variable e (take i declarations) tree) more
+
+abbrev pub with_condition : FailurePolicy → Emitted → CoreTree → Emitted
+with_condition f e tree = with_piece (with_expression (with_nodes e 1) [] tree) (condition_tail f)
+
+abbrev pub with_conditions : FailurePolicy → Emitted → List CoreTree → Emitted
+with_conditions f e trees = fold (with_condition f) e trees
+
+-- a jump over so many slots where a validation does not deny
+abbrev pub unless_denied : ℕ → Insn
+unless_denied n = skip_if Eq R3 (pos 0) n
+
+abbrev pub with_message : ℕ → List Declaration → Emitted → CoreTree → Emitted
+with_message i scope e tree = with_piece (with_expression (with_nodes e 1) scope tree) (message_tail i)
+
+-- the jump at a slot leads behind all of the code
+abbrev pub with_jump_at : ℕ → Emitted → Emitted
+with_jump_at slot e = with_insn_at e slot (unless_denied (length e.code - 1 - slot))
+
+-- what is done for a denial, and the message
+abbrev pub with_denial : ℕ → List Declaration → Emitted → Option CoreTree → Emitted
+with_denial i scope e None = with_piece e (denial_code [])
+with_denial i scope e (Some tree) = with_jump_at (length e.code) (with_message i scope (with_piece e (denial_code [])) tree)
+
+abbrev pub with_validation : FailurePolicy → ℕ → List Declaration → Emitted → CoreTree × Option CoreTree → Emitted
+with_validation f i scope e v = with_denial i scope (with_piece (with_expression (with_nodes e 1) scope v.0) (result_tail f i)) v.1
+
+-- from validation i on
+abbrev pub with_validations : FailurePolicy → ℕ → List Declaration → Emitted → List (CoreTree × Option CoreTree) → Emitted
+with_validations f i scope e [] = e
+with_validations f i scope e (v ∷ more) = with_validations f (i + 1) scope (with_validation f i scope e v) more
+
+-- ---- the whole
+
+abbrev pub variables_of : Checked → List CoreTree
+variables_of c = map core_view c.variables.items
+
+abbrev pub conditions_of : Checked → List CoreTree
+conditions_of c = map core_view c.conditions.items
+
+abbrev pub validations_of : Checked → List (CoreTree × Option CoreTree)
+validations_of c = map rule_trees c.validations.items
+
+abbrev pub before_validations : FailurePolicy → Checked → Emitted
+before_validations f c = with_piece (with_conditions f (with_variables c.scope 0 (with_nodes no_code 1) (variables_of c)) (conditions_of c)) decided_tail
+
+abbrev pub emitted : FailurePolicy → Checked → Emitted
+emitted f c = with_piece (with_validations f 0 c.scope (before_validations f c) (validations_of c)) outcome_tail
+
+-- ---- what can be emitted
+
+-- each expression has words enough in a frame, and each variable's is not too deep among those before it
+abbrev pub FitInOrder : List Declaration → List CoreTree → Type 0
+FitInOrder declarations trees = (i : ℕ) (tree : CoreTree) → slice_get trees i ≡ Some tree → (need tree ≤ 60) × (depth tree (depths_of (take i declarations)) ≤ 6)
+
+abbrev pub Fits : CoreTree → Type 0
+Fits tree = need tree ≤ 60
+
+abbrev pub MayFit : Option CoreTree → Type 0
+MayFit (Some tree) = Fits tree
+MayFit None = Unit {0}
+
+-- what is checked are the trees of a policy, and they are taken
+pub record HasTrees (checked : Checked) : Type 0 where
+  pub trees : PolicyTree
+  pub are : IsChecked checked trees
+  pub variables : AreVariables [] trees.variables
+  pub conditions : AreConditions trees.conditions
+  pub validations : AreRules (scope_after trees.variables) trees.validations
+  pub few : length trees.validations ≤ most_validations
+
+-- the bytes of a policy's program and those of its texts, or that it is too large; or the host has no memory for them
+abbrev pub Emits : FailurePolicy → PolicyTree → Result (Vec ℕ Global × Vec ℕ Global) CompileError → Type 0
+Emits f t (Ok r) = (excess t ≡ None) × (r.0.items ≡ spellings (program_of f t)) × (r.1.items ≡ joined (policy_texts t))
+Emits f t (Err e) = e ≢ Memory → excess t ≡ Some e

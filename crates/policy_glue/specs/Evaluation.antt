@@ -1,0 +1,36 @@
+-- What a policy decides of a request, from what its expressions mean.
+use Rattle.std.specs.Prelude.{ℕ, List, [], ◌∷◌, ◌++◌, map, fold, Option, option_map}
+use Rattle.value_store.specs.Value.{ValueOrError}
+use Rattle.cel_reader.specs.Tree.{Tree}
+use Rattle.cel_macros.specs.Environment.{Environment, Roots}
+use Rattle.cel_macros.specs.Meaning.{meaning}
+use Rattle.policy_glue.specs.Trees.{VariableTree, RuleTree, PolicyTree}
+use Rattle.policy_glue.specs.Verdict.{Verdict, verdict_of}
+use Rattle.policy_glue.specs.declared.failure_policy.FailurePolicy.{FailurePolicy}
+
+-- outside of every macro, the roots and these variables have names
+abbrev pub environment_with : Roots → List (List ℕ × ValueOrError) → Environment
+environment_with roots variables = record { roots = roots; items = []; variables = variables }
+
+-- one more variable, which may use those before it
+abbrev pub with_value : Roots → List (List ℕ × ValueOrError) → VariableTree → List (List ℕ × ValueOrError)
+with_value roots before v = before ++ (v.name, meaning v.expression (environment_with roots before)) ∷ []
+
+-- each variable gets its value or the error, in order
+abbrev pub values_of : Roots → List VariableTree → List (List ℕ × ValueOrError)
+values_of roots variables = fold (with_value roots) [] variables
+
+-- conditions may use no variable
+abbrev pub condition_values : Roots → List Tree → List ValueOrError
+condition_values roots conditions = map (λ e. meaning e (environment_with roots [])) conditions
+
+abbrev pub rule_value : Environment → RuleTree → ValueOrError × Option ValueOrError
+rule_value env r = (meaning r.expression env, option_map (λ m. meaning m env) r.message)
+
+-- validations and their message expressions may use all variables
+abbrev pub rule_values : Roots → PolicyTree → List (ValueOrError × Option ValueOrError)
+rule_values roots p = map (rule_value (environment_with roots (values_of roots p.variables))) p.validations
+
+-- the verdict on a request with these roots
+unfoldable pub decision_of : FailurePolicy → PolicyTree → Roots → Verdict
+decision_of f p roots = verdict_of f (condition_values roots p.conditions) (rule_values roots p)

@@ -1,0 +1,70 @@
+-- How large a policy may be, and which policies are compiled.
+use Rattle.std.specs.Prelude.{◌≡◌, ℕ, ◌+◌, ◌*◌, List, [], ◌∷◌, ◌++◌, length, nat_lt, Option, Some, None, Result, Ok, Err, if◌then◌else◌}
+use Rattle.std.specs.List.{sum_by}
+use Rattle.cel_reader.specs.Tree.{Tree}
+use Rattle.cel_macros.specs.CoreTree.{expanded}
+use Rattle.cel_measures.specs.Measures.{nodes}
+use Rattle.codegen.specs.Constants.{joined, with_texts}
+use Rattle.codegen.specs.Code.Expressions.{texts_of}
+use Rattle.policy_glue.specs.Checking.{PartsEnd}
+use Rattle.policy_glue.specs.Policy.{Rules}
+use Rattle.policy_glue.specs.Trees.{VariableTree, RuleTree, PolicyTree}
+use Rattle.policy_glue.specs.declared.compile_error.CompileError.{CompileError}
+use Rattle.policy_glue.specs.declared.compile_error.CompileError.TheVariants.{G3, G4}
+
+-- ---- nodes: one for the policy, and one for each part beside those of its expression
+
+abbrev pub part_nodes : Tree → ℕ
+part_nodes a = 1 + nodes (expanded a)
+
+abbrev pub message_nodes : Option Tree → ℕ
+message_nodes (Some a) = part_nodes a
+message_nodes None = 0
+
+abbrev pub rule_nodes : RuleTree → ℕ
+rule_nodes r = part_nodes r.expression + message_nodes r.message
+
+unfoldable pub policy_nodes : PolicyTree → ℕ
+policy_nodes p = 1 + sum_by (λ v. part_nodes v.expression) p.variables + sum_by part_nodes p.conditions + sum_by rule_nodes p.validations
+
+-- ---- texts: the field names and text literals, each once, in order of first use
+
+abbrev pub tree_texts : Tree → List (List ℕ)
+tree_texts a = texts_of (expanded a)
+
+abbrev pub message_texts : Option Tree → List (List ℕ)
+message_texts (Some a) = tree_texts a
+message_texts None = []
+
+abbrev pub rule_texts : RuleTree → List (List ℕ)
+rule_texts r = tree_texts r.expression ++ message_texts r.message
+
+abbrev pub variable_texts : List VariableTree → List (List ℕ)
+variable_texts [] = []
+variable_texts (v ∷ vs) = tree_texts v.expression ++ variable_texts vs
+
+abbrev pub condition_texts : List Tree → List (List ℕ)
+condition_texts [] = []
+condition_texts (a ∷ more) = tree_texts a ++ condition_texts more
+
+abbrev pub validation_texts : List RuleTree → List (List ℕ)
+validation_texts [] = []
+validation_texts (r ∷ rs) = rule_texts r ++ validation_texts rs
+
+unfoldable pub policy_texts : PolicyTree → List (List ℕ)
+policy_texts p = with_texts [] (variable_texts p.variables ++ (condition_texts p.conditions ++ validation_texts p.validations))
+
+-- ---- the limits, and the whole
+
+-- an image has room for 65,536 slots, 128 for each node, and for 1,048,576 bytes of texts
+abbrev pub excess : PolicyTree → Option CompileError
+excess p =
+    if nat_lt 65536 (128 * policy_nodes p) then Some G3
+    else (if nat_lt 1048576 (length (joined (policy_texts p))) then Some G4
+    else None)
+
+-- the trees of a policy that is compiled, or why it is not
+pub data Compiles (p : Rules) : Result PolicyTree CompileError → Type 0 where
+  refused : (e : CompileError) → PartsEnd p (Err e) → Compiles p (Err e)
+  too_large : (t : PolicyTree) (e : CompileError) → PartsEnd p (Ok t) → excess t ≡ Some e → Compiles p (Err e)
+  compiled : (t : PolicyTree) → PartsEnd p (Ok t) → excess t ≡ None → Compiles p (Ok t)

@@ -1,0 +1,133 @@
+-- The code of a policy. The code of each expression leaves the reference of its value in R0; what comes to be known stands
+-- in the words of the verdict region, since code for expressions keeps these.
+use Rattle.std.specs.Prelude.{ℕ, ◌+◌, pos, List, [], ◌∷◌, ◌++◌, Option, Some, None}
+use Rattle.insn_codec.specs.declared.alu_op.AluOp.TheVariants.{Add}
+use Rattle.insn_codec.specs.declared.comparison.Comparison.TheVariants.{Eq, Ne}
+use Rattle.insn_codec.specs.declared.insn.Insn.{Insn}
+use Rattle.insn_codec.specs.declared.insn.Insn.TheVariants.{Alu, Call, Exit, Load, Store}
+use Rattle.insn_codec.specs.declared.operand.Operand.TheVariants.{Imm}
+use Rattle.insn_codec.specs.declared.register.Register.TheVariants.{R0, R1, R2, R3, R6}
+use Rattle.insn_codec.specs.declared.size.Size.TheVariants.{Dw}
+use Rattle.insn_codec.specs.declared.width.Width.TheVariants.{W64}
+use Rattle.codegen_base.specs.Instructions.{copy, load_wide, put, skip_if}
+use Rattle.codegen_base.specs.Pieces.{size}
+use Rattle.codegen_base.specs.Words.{verdict_address}
+use Rattle.codegen.specs.Added.{passed}
+use Rattle.policy_glue.specs.Layout.{first_message, first_result, outcome_word, truth_word}
+use Rattle.policy_glue.specs.Verdict.{Skipped, Denied, Admitted, Holds, Fails, Errs, undecided}
+use Rattle.policy_glue.specs.declared.failure_policy.FailurePolicy.{FailurePolicy}
+use Rattle.policy_glue.specs.declared.failure_policy.FailurePolicy.TheVariants.{Fail, Ignore}
+
+-- behind a condition: true goes on, false ends the program with the policy skipped, and an error leaves the outcome that stands where no condition is false
+unfoldable pub condition_tail : FailurePolicy → List Insn
+condition_tail f =
+    skip_if Eq R0 (pos 3) 8
+    ∷ put R2 (pos (outcome_word (undecided f)))
+    ∷ load_wide R1 (verdict_address 0)
+    ∷ skip_if Ne R0 (pos 2) 3
+    ∷ put R0 (pos (outcome_word Skipped))
+    ∷ Store Dw R1 (pos 0) R0
+    ∷ Exit
+    ∷ Store Dw R1 (pos 0) R2
+    ∷ []
+
+-- behind all conditions: an outcome that stands ends the program
+abbrev pub decided_tail : List Insn
+decided_tail =
+    load_wide R1 (verdict_address 0)
+    ∷ Load Dw R0 R1 (pos 0)
+    ∷ skip_if Eq R0 (pos 0) 1
+    ∷ Exit
+    ∷ []
+
+-- 1 where an error denies
+abbrev pub error_denies : FailurePolicy → ℕ
+error_denies Fail = 1
+error_denies Ignore = 0
+
+-- behind validation i: its word, and in R3 whether it denies
+unfoldable pub result_tail : FailurePolicy → ℕ → List Insn
+result_tail f i =
+    load_wide R1 (verdict_address (first_result + i))
+    ∷ put R2 (pos (truth_word Holds))
+    ∷ put R3 (pos 0)
+    ∷ skip_if Eq R0 (pos 3) 5
+    ∷ put R2 (pos (truth_word Fails))
+    ∷ put R3 (pos 1)
+    ∷ skip_if Eq R0 (pos 2) 2
+    ∷ put R2 (pos (truth_word Errs))
+    ∷ put R3 (pos (error_denies f))
+    ∷ Store Dw R1 (pos 0) R2
+    ∷ []
+
+-- one more denial
+abbrev pub count_code : List Insn
+count_code =
+    load_wide R1 (verdict_address 1)
+    ∷ Load Dw R2 R1 (pos 0)
+    ∷ Alu Add W64 R2 (Imm (pos 1))
+    ∷ Store Dw R1 (pos 0) R2
+    ∷ []
+
+-- the kind of a text, as helper 1 answers it
+abbrev pub text_kind : ℕ
+text_kind = 4
+
+-- behind the message expression of validation i: its word gets the reference of a text
+unfoldable pub message_tail : ℕ → List Insn
+message_tail i =
+    copy R6 R0
+    ∷ copy R1 R0
+    ∷ Call (pos 1)
+    ∷ skip_if Ne R0 (pos text_kind) 3
+    ∷ load_wide R1 (verdict_address (first_message + i))
+    ∷ Store Dw R1 (pos 0) R6
+    ∷ []
+
+-- the message of validation i, where it has an expression for it
+abbrev pub message_code : ℕ → Option (List Insn) → List Insn
+message_code i (Some message) = message ++ message_tail i
+message_code i None = []
+
+-- what is done for a denial, past which R3 leads where it is 0
+abbrev pub denial_code : List Insn → List Insn
+denial_code message = skip_if Eq R3 (pos 0) (size message + 5) ∷ (count_code ++ message)
+
+-- a validation's code, and that of its message expression, if it has one
+abbrev pub Validation : Type 0
+Validation = List Insn × Option (List Insn)
+
+abbrev pub validation_code : FailurePolicy → ℕ → Validation → List Insn
+validation_code f i v = v.0 ++ (result_tail f i ++ denial_code (message_code i v.1))
+
+-- the outcome of a policy that ran: the exit behind it answers R0
+unfoldable pub outcome_tail : List Insn
+outcome_tail =
+    load_wide R1 (verdict_address 1)
+    ∷ Load Dw R2 R1 (pos 0)
+    ∷ put R0 (pos (outcome_word Admitted))
+    ∷ skip_if Eq R2 (pos 0) 1
+    ∷ put R0 (pos (outcome_word Denied))
+    ∷ load_wide R1 (verdict_address 0)
+    ∷ Store Dw R1 (pos 0) R0
+    ∷ []
+
+-- conditions one behind another
+unfoldable pub conditions_code : FailurePolicy → List (List Insn) → List Insn
+conditions_code f [] = []
+conditions_code f (condition ∷ more) = condition ++ (condition_tail f ++ conditions_code f more)
+
+-- validations one behind another, from number i on
+unfoldable pub validations_code : FailurePolicy → ℕ → List Validation → List Insn
+validations_code f i [] = []
+validations_code f i (v ∷ more) = validation_code f i v ++ validations_code f (i + 1) more
+
+-- routines one behind another, each behind a jump over it
+abbrev pub routines_code : List (List Insn) → List Insn
+routines_code [] = []
+routines_code (routine ∷ more) = passed routine ++ routines_code more
+
+-- the whole but for its exit
+unfoldable pub policy_code : FailurePolicy → List (List Insn) → List (List Insn) → List Validation → List Insn
+policy_code f routines conditions validations =
+    routines_code routines ++ (conditions_code f conditions ++ (decided_tail ++ (validations_code f 0 validations ++ outcome_tail)))

@@ -1,0 +1,82 @@
+-- The policies that have a program, and what their programs do.
+use Rattle.std.specs.Prelude.{◌≡◌, ℕ, ◌+◌, ◌*◌, ◌<◌, ◌≤◌, ◌⊎◌, All, false, List, [], ◌∷◌, length, Option, Some, None}
+use Rattle.guest_memory.specs.declared.fault.Fault.TheVariants.{F8}
+use Rattle.loader.specs.Contents as loader
+use Rattle.value_store.specs.Placing.{Contents, charge_limit}
+use Rattle.cel_reader.specs.Tree.{Tree}
+use Rattle.cel_macros.specs.CoreTree.{expanded}
+use Rattle.cel_macros.specs.Environment.{Roots}
+use Rattle.cel_types.specs.Declarations.{Declaration}
+use Rattle.bpf_machine.specs.State.{State, start_state}
+use Rattle.bpf_machine.specs.Step.{is_running}
+use Rattle.bpf_machine.specs.Trace.{state_after}
+use Rattle.bpf_machine.specs.declared.status.Status.TheVariants.{Exited, Fault}
+use Rattle.codegen_base.specs.Contexts.{HasValues}
+use Rattle.codegen_base.specs.Pieces.{AreInsns, size, spellings}
+use Rattle.codegen.specs.Constants.{joined}
+use Rattle.codegen.specs.Layer.{IsExpression}
+use Rattle.policy_glue.specs.Budget.{IsDeepPolicy, policy_spent, policy_work}
+use Rattle.policy_glue.specs.Checking.{depth_in, scope_after, with_variable}
+use Rattle.policy_glue.specs.Evaluation.{decision_of}
+use Rattle.policy_glue.specs.Layout.{IsLayout, most_validations, outcome_word}
+use Rattle.policy_glue.specs.Limits.{policy_nodes, policy_texts}
+use Rattle.policy_glue.specs.ProgramCode.{program_of}
+use Rattle.policy_glue.specs.Trees.{PolicyTree, RuleTree, VariableTree}
+use Rattle.policy_glue.specs.declared.failure_policy.FailurePolicy.{FailurePolicy}
+
+-- ---- policies
+
+-- each expression is one that the type checker takes with the variables before it, and no variable is too deep
+abbrev pub AreVariables : List Declaration → List VariableTree → Type 0
+AreVariables scope [] = Unit {0}
+AreVariables scope (v ∷ more) = IsExpression scope (expanded v.expression) × (depth_in scope v.expression ≤ 6) × AreVariables (with_variable scope v) more
+
+abbrev pub AreConditions : List Tree → Type 0
+AreConditions [] = Unit {0}
+AreConditions (a ∷ more) = IsExpression [] (expanded a) × AreConditions more
+
+abbrev pub IsMessage : List Declaration → Option Tree → Type 0
+IsMessage scope (Some a) = IsExpression scope (expanded a)
+IsMessage scope None = Unit {0}
+
+abbrev pub AreRules : List Declaration → List RuleTree → Type 0
+AreRules scope [] = Unit {0}
+AreRules scope (r ∷ more) = IsExpression scope (expanded r.expression) × IsMessage scope r.message × AreRules scope more
+
+-- a policy whose expressions are taken, within its limits
+pub record HasProgram (p : PolicyTree) : Type 0 where
+  pub variables : AreVariables [] p.variables
+  pub conditions : AreConditions p.conditions
+  pub validations : AreRules (scope_after p.variables) p.validations
+  pub few_variables : length p.variables ≤ 64
+  pub few_validations : length p.validations ≤ most_validations
+  pub short : 128 * policy_nodes p ≤ 65536
+  pub few_texts : length (joined (policy_texts p)) ≤ 1048576
+
+-- ---- programs
+
+-- the program of a policy has exited with the outcome of its decision in R0 and the layout of the decision in the verdict region, or has stopped where its charge would pass the limit or a value is too deep
+pub data Decides (f : FailurePolicy) (p : PolicyTree) (roots : Roots) (values : Contents) (t : State) : Type 0 where
+  Over : t.status ≡ Fault F8 → (charge_limit < values.charge + 16 * policy_spent f p roots) ⊎ IsDeepPolicy f p roots → Decides f p roots values t
+  Left : t.status ≡ Exited (outcome_word (decision_of f p roots).outcome) → IsLayout f (decision_of f p roots) t.values.values t.memory.verdict → Decides f p roots values t
+
+-- the image of a policy's program, with its texts, run from the start, is there after 128 steps for each unit of the policy's work
+abbrev pub ProgramDecides : Type 0
+ProgramDecides = (f : FailurePolicy) (p : PolicyTree) (roots : Roots) (image : loader.Contents) (values : Contents) (m : ℕ)
+    → HasProgram p → image.code ≡ spellings (program_of f p) → image.constants ≡ joined (policy_texts p)
+    → All (λ b. b < 256) image.code → All (λ b. b < 256) image.constants → HasValues roots values
+    → 128 * policy_work f p roots ≤ m → Decides f p roots values (state_after m (start_state image values))
+
+-- and wherever that run stands stopped, it is there
+abbrev pub ProgramStops : Type 0
+ProgramStops = (f : FailurePolicy) (p : PolicyTree) (roots : Roots) (image : loader.Contents) (values : Contents) (k : ℕ)
+    → HasProgram p → image.code ≡ spellings (program_of f p) → image.constants ≡ joined (policy_texts p)
+    → All (λ b. b < 256) image.code → All (λ b. b < 256) image.constants → HasValues roots values
+    → is_running (state_after k (start_state image values)).status ≡ false → Decides f p roots values (state_after k (start_state image values))
+
+-- it has at most 128 slots for each of the policy's nodes, and can be spelled
+abbrev pub ProgramIsShort : Type 0
+ProgramIsShort = (f : FailurePolicy) (p : PolicyTree) → size (program_of f p) ≤ 128 * policy_nodes p
+
+abbrev pub ProgramIsCode : Type 0
+ProgramIsCode = (f : FailurePolicy) (p : PolicyTree) → HasProgram p → AreInsns (program_of f p)

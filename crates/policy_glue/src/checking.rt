@@ -1,0 +1,149 @@
+//! The checking of a policy's expressions.
+
+ghost use Rattle.std.specs.Prelude.{◌≡◌, map, option_map, string_bytes};
+ghost use Rattle.cel_macros.specs.CoreView.{core_view};
+ghost use Rattle.policy_glue.specs.Checked.{Adds, Checks, ChecksConditions, ChecksRule, ChecksRules, ChecksVariables, JudgesVariable, SortsMessage};
+ghost use Rattle.policy_glue.specs.Policy.{named_view, rule_view, rules_view};
+
+use crate::checked::Checked;
+use crate::checked_validation::CheckedValidation;
+use crate::compile_error::CompileError;
+use crate::judging::{message, truth, variable_judged};
+use crate::named_expression::NamedExpression;
+use crate::part_kind::PartKind;
+use crate::parts::Parts;
+use crate::policy::Policy;
+use crate::validation::Validation;
+use cel_macros::Core;
+use cel_measures::depth;
+use cel_types::{CelType, Scope};
+use std::alloc::Global;
+
+/// The policy with its expressions checked, or its first refusal: of its variables, match conditions
+/// and validations in this order, each with its place, a message expression behind its validation.
+pub(crate) fn checked(alloc: Global, policy: &Policy) -> Result<Checked, CompileError>
+    ensures { Checks policy.now result }
+{
+    parts_checked(alloc, &policy.parts)
+}
+
+fn parts_checked(alloc: Global, parts: &Parts) -> Result<Checked, CompileError>
+    ensures { Checks (rules_view parts.now) result }
+{
+    let (scope, variables) = variables(alloc, parts.variables.as_slice())?;
+    let conditions = conditions(alloc, parts.conditions.as_slice())?;
+    let validations = validations(alloc, parts.validations.as_slice(), &scope)?;
+    Ok(Checked {
+        scope,
+        variables,
+        conditions,
+        validations,
+    })
+}
+
+/// The variables, each of which may use those before it.
+fn variables(alloc: Global, named: &[NamedExpression]) -> Result<(Scope, Vec<Core>), CompileError>
+    ensures { ChecksVariables (map named_view named.now) result }
+{
+    let mut scope = Scope::new(alloc);
+    let mut cores = Vec::new(alloc);
+    for (place, variable) in named.iter().enumerate() {
+        add_variable(alloc, variable, place, &mut scope, &mut cores)?;
+    }
+    Ok((scope, cores))
+}
+
+/// Adds the variable at this place, which may use those in scope.
+fn add_variable(
+    alloc: Global,
+    variable: &NamedExpression,
+    place: usize,
+    scope: &mut Scope,
+    cores: &mut Vec<Core>,
+) -> Result<(), CompileError>
+    ensures { Adds (named_view variable.now) place scope.old scope.new (map core_view cores.old.items) (map core_view cores.new.items) result }
+{
+    let (core, cel_type) = variable_at(alloc, place, variable.expression.as_str(), scope)?;
+    let depth = depth(&core, scope);
+    cores.push(core)?;
+    scope.add(variable.name.as_str(), cel_type, depth)?;
+    Ok(())
+}
+
+/// The expression of the variable at this place, and its type.
+fn variable_at(
+    alloc: Global,
+    place: usize,
+    text: &str,
+    scope: &Scope,
+) -> Result<(Core, CelType), CompileError>
+    ensures { JudgesVariable scope.now place text.now result }
+{
+    match variable_judged(alloc, text, scope) {
+        Ok(judged) => Ok(judged),
+        Err(error) => Err(error.at(PartKind::Variable, place)),
+    }
+}
+
+/// The match conditions, which may use no variable.
+fn conditions(alloc: Global, named: &[NamedExpression]) -> Result<Vec<Core>, CompileError>
+    ensures { ChecksConditions (map named_view named.now) result }
+{
+    let scope = Scope::new(alloc);
+    let mut cores = Vec::new(alloc);
+    for (place, condition) in named.iter().enumerate() {
+        let text = condition.expression.as_str();
+        let core = truth(alloc, PartKind::Condition, place, text, &scope)?;
+        cores.push(core)?;
+    }
+    Ok(cores)
+}
+
+/// The validations, which may use the variables of the scope.
+fn validations(
+    alloc: Global,
+    validations: &[Validation],
+    scope: &Scope,
+) -> Result<Vec<CheckedValidation>, CompileError>
+    ensures { ChecksRules scope.now (map rule_view validations.now) result }
+{
+    let mut checked = Vec::new(alloc);
+    for (place, validation) in validations.iter().enumerate() {
+        let validation = validation_at(alloc, place, validation, scope)?;
+        checked.push(validation)?;
+    }
+    Ok(checked)
+}
+
+/// The validation at this place.
+fn validation_at(
+    alloc: Global,
+    place: usize,
+    validation: &Validation,
+    scope: &Scope,
+) -> Result<CheckedValidation, CompileError>
+    ensures { ChecksRule scope.now place (rule_view validation.now) result }
+{
+    let text = validation.expression.as_str();
+    let expression = truth(alloc, PartKind::Validation, place, text, scope)?;
+    let message = message_at(alloc, place, &validation.message_expression, scope)?;
+    Ok(CheckedValidation {
+        expression,
+        message,
+    })
+}
+
+/// The message expression of the validation at this place, if it has one.
+fn message_at(
+    alloc: Global,
+    place: usize,
+    text: &Option<String>,
+    scope: &Scope,
+) -> Result<Option<Core>, CompileError>
+    ensures { SortsMessage scope.now place (option_map string_bytes text.now) result }
+{
+    match text {
+        Some(text) => Ok(Some(message(alloc, place, text.as_str(), scope)?)),
+        None => Ok(None),
+    }
+}

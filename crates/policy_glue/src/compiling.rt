@@ -1,0 +1,44 @@
+//! The compilation of policies.
+
+ghost use Rattle.std.specs.Prelude.{◌≡◌, ◌<◌, All, Ok};
+ghost use Rattle.loader.specs.Format.{image_from};
+ghost use Rattle.loader.specs.declared.version.Version.TheVariants.{Second};
+ghost use Rattle.policy_glue.specs.Compiled.{contents, CompilesTo};
+
+use crate::checking::checked;
+use crate::compile_error::CompileError;
+use crate::laws::program_decides;
+use crate::policy::Policy;
+use crate::program::program;
+use loader::Image;
+use std::alloc::Global;
+
+/// The image of the policy's program, of version 2. From its start on the roots of a request it leaves the
+/// verdict in the words of its verdict region and exits with the outcome, or is stopped for its charge or
+/// for a value that is too deep.
+///
+/// # Errors
+///
+/// The first refusal in the order of [`CompileError`]; `Memory` where memory runs out, which says nothing
+/// of the policy.
+pub fn compile(alloc: Global, policy: &Policy) -> Result<Image, CompileError>
+    ensures { CompilesTo policy.now result }
+{
+    let checked = checked(alloc, policy)?;
+    program_decides();
+    let (code, constants) = program(alloc, policy.parts.failure_policy, &checked)?;
+    Ok(image(code, constants))
+}
+
+/// The image of this code and these constants, which fit one.
+fn image(code: Vec<u8>, constants: Vec<u8>) -> Image
+    requires { image_from Second code.items constants.items ≡ Ok (contents Second code.items constants.items) }
+    ensures is { result ≡ contents Second code.items constants.items }
+    ensures code { All (λ b. b < 256) code.items }
+    ensures constants { All (λ b. b < 256) constants.items }
+{
+    match Image::new_2(code, constants) {
+        Ok(image) => image,
+        Err(_) => unreachable!(),
+    }
+}

@@ -1,0 +1,80 @@
+//! Instructions in short words.
+
+ghost use Rattle.std.specs.Prelude.{◌≡◌, ◌<◌, pos};
+ghost use Rattle.codegen_base.specs.Instructions as specs;
+
+use insn_codec::{AluOp, Comparison, Insn, Operand, Register, Size, Width};
+
+/// The first register gets the second one's word.
+pub(crate) fn copy(dst: Register, src: Register) -> Insn
+    ensures { result ≡ specs.copy dst src }
+{
+    Insn::Alu {
+        op: AluOp::Mov,
+        width: Width::W64,
+        dst,
+        operand: Operand::Reg(src),
+    }
+}
+
+/// The register gets the number.
+pub(crate) fn put(dst: Register, n: i32) -> Insn
+    ensures { result ≡ specs.put dst n }
+{
+    Insn::Alu {
+        op: AluOp::Mov,
+        width: Width::W64,
+        dst,
+        operand: Operand::Imm(n),
+    }
+}
+
+/// The number is added to the register.
+pub(crate) fn add(dst: Register, n: i32) -> Insn
+    ensures { result ≡ Insn.Alu AluOp.Add Width.W64 dst (Operand.Imm n) }
+{
+    Insn::Alu {
+        op: AluOp::Add,
+        width: Width::W64,
+        dst,
+        operand: Operand::Imm(n),
+    }
+}
+
+/// The first register gets the word at the address in the second one.
+pub(crate) fn load_at(dst: Register, src: Register) -> Insn
+    ensures { result ≡ Insn.Load Size.Dw dst src (pos 0) }
+{
+    Insn::Load {
+        size: Size::Dw,
+        dst,
+        src,
+        offset: 0,
+    }
+}
+
+/// The word at the address in the first register gets the second one.
+pub(crate) fn store_at(dst: Register, src: Register) -> Insn
+    ensures { result ≡ Insn.Store Size.Dw dst (pos 0) src }
+{
+    Insn::Store {
+        size: Size::Dw,
+        dst,
+        offset: 0,
+        src,
+    }
+}
+
+/// A jump over so many slots where the register and the number compare so.
+pub(crate) fn skip_if(comparison: Comparison, dst: Register, n: i32, slots: u64) -> Insn
+    requires { slots < 32768 }
+    ensures { result ≡ specs.skip_if comparison dst n slots }
+{
+    Insn::Branch {
+        comparison,
+        width: Width::W64,
+        dst,
+        operand: Operand::Imm(n),
+        offset: slots as i16,
+    }
+}

@@ -1,0 +1,32 @@
+//! The parts of a policy that have an expression.
+
+ghost use Rattle.std.specs.Prelude.{Some};
+ghost use Rattle.policy_glue.specs.CompileErrors.{kind_text};
+
+use std::fmt;
+
+/// What kind of part of a policy an expression is.
+#[derive(Clone, Copy, Debug, PartialEq, Eq)]
+pub enum PartKind {
+    /// A variable's.
+    Variable,
+    /// A match condition's.
+    Condition,
+    /// A validation's.
+    Validation,
+    /// That of a validation's message.
+    Message,
+}
+
+impl fmt::Display for PartKind {
+    ghost output = { λ k. Some (kind_text k) };
+
+    fn fmt<W: fmt::Write>(&self, f: &mut fmt::Formatter<W>) -> fmt::Result {
+        f.write_str(match self {
+            PartKind::Variable => "variable",
+            PartKind::Condition => "condition",
+            PartKind::Validation => "validation",
+            PartKind::Message => "message",
+        })
+    }
+}

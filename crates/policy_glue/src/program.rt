@@ -1,0 +1,78 @@
+//! The programs of policies.
+
+ghost use Rattle.std.specs.Prelude.{◌≡◌, IfOk};
+ghost use Rattle.policy_glue.specs.Checked.{IsChecked};
+ghost use Rattle.policy_glue.specs.Emission.{emitted, Emits, HasTrees};
+ghost use Rattle.policy_glue.specs.Trees.{PolicyTree};
+
+mod conditions;
+mod pieces;
+mod tails;
+mod validations;
+mod variables;
+
+use crate::checked::Checked;
+use crate::compile_error::CompileError;
+use crate::failure_policy::FailurePolicy;
+use codegen::{CodeError, Emitter};
+use conditions::conditions;
+use pieces::put_each;
+use std::alloc::{AllocError, Global};
+use tails::{decided_tail, outcome_tail};
+use validations::validations;
+use variables::variables;
+
+/// The bytes of the policy's program, and of the texts that it names.
+///
+/// # Errors
+///
+/// `G3` where the policy has too many nodes, else `G4` where it has too many bytes of texts; `Memory`.
+pub(crate) fn program(
+    alloc: Global,
+    failure_policy: FailurePolicy,
+    checked: &Checked,
+) -> Result<(Vec<u8>, Vec<u8>), CompileError>
+    requires { HasTrees checked.now }
+    ensures { (t : PolicyTree) → IsChecked checked.now t → Emits failure_policy t result }
+{
+    let emitter = emitted(alloc, failure_policy, checked)?;
+    match emitter.finish() {
+        Ok(program) => Ok(program),
+        Err(CodeError::G3) => Err(CompileError::G3),
+        Err(CodeError::G4) => Err(CompileError::G4),
+        Err(CodeError::Memory) => Err(CompileError::Memory),
+        Err(_) => unreachable!(),
+    }
+}
+
+/// An emitter that has taken the policy. The error says that there is no memory for it.
+fn emitted(
+    alloc: Global,
+    failure_policy: FailurePolicy,
+    checked: &Checked,
+) -> Result<Emitter, AllocError>
+    requires { HasTrees checked.now }
+    ensures { IfOk result (λ e. e ≡ emitted failure_policy checked.now) }
+{
+    let mut emitter = Emitter::new(alloc);
+    emitter.count(1);
+    let scope = &checked.scope;
+    let declared = scope.variables();
+    variables(alloc, declared, checked.variables.as_slice(), &mut emitter)?;
+    conditions(
+        alloc,
+        failure_policy,
+        checked.conditions.as_slice(),
+        &mut emitter,
+    )?;
+    put_each(&decided_tail(), &mut emitter)?;
+    validations(
+        alloc,
+        failure_policy,
+        checked.validations.as_slice(),
+        scope,
+        &mut emitter,
+    )?;
+    put_each(&outcome_tail(), &mut emitter)?;
+    Ok(emitter)
+}

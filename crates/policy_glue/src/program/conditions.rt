@@ -1,0 +1,45 @@
+//! The match conditions in a policy's program.
+
+ghost use Rattle.std.specs.Prelude.{◌≡◌, map, All, OnOk};
+ghost use Rattle.cel_macros.specs.CoreView.{core_view};
+ghost use Rattle.policy_glue.specs.Emission.{with_condition, with_conditions, Fits};
+
+use super::pieces::{put_each, put_expression};
+use super::tails::condition_tail;
+use crate::failure_policy::FailurePolicy;
+use cel_macros::Core;
+use cel_types::Scope;
+use codegen::Emitter;
+use std::alloc::{AllocError, Global};
+
+/// Puts the conditions into the emitter. The error says that there is no memory for them.
+pub(super) fn conditions(
+    alloc: Global,
+    failure_policy: FailurePolicy,
+    cores: &[Core],
+    emitter: &mut Emitter,
+) -> Result<(), AllocError>
+    requires { All (λ core. Fits (core_view core)) cores.now }
+    ensures { OnOk result (emitter.new ≡ with_conditions failure_policy emitter.old (map core_view cores.now)) }
+{
+    for core in cores {
+        put_condition(alloc, failure_policy, core, emitter)?;
+    }
+    Ok(())
+}
+
+/// Puts the condition into the emitter. It may use no variable.
+fn put_condition(
+    alloc: Global,
+    failure_policy: FailurePolicy,
+    core: &Core,
+    emitter: &mut Emitter,
+) -> Result<(), AllocError>
+    requires { Fits (core_view core.now) }
+    ensures { OnOk result (emitter.new ≡ with_condition failure_policy emitter.old (core_view core.now)) }
+{
+    let scope = Scope::new(alloc);
+    emitter.count(1);
+    put_expression(alloc, core, &scope, emitter)?;
+    put_each(&condition_tail(failure_policy), emitter)
+}

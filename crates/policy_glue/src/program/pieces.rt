@@ -1,0 +1,61 @@
+//! What is put into an emitter.
+
+ghost use Rattle.std.specs.Prelude.{◌≡◌, ◌≤◌, OnOk};
+ghost use Rattle.cel_macros.specs.CoreView.{core_view};
+ghost use Rattle.cel_measures.specs.Measures.{depth};
+ghost use Rattle.cel_types.specs.Declarations.{depths_of};
+ghost use Rattle.codegen.specs.Added.{with_expression, with_variable};
+ghost use Rattle.codegen.specs.Emitted.{with_piece};
+ghost use Rattle.policy_glue.specs.Emission.{Fits};
+
+use cel_macros::Core;
+use cel_types::Scope;
+use codegen::{CodeError, Emitter, expression, variable};
+use insn_codec::Insn;
+use std::alloc::{AllocError, Global};
+
+/// Puts the instructions behind the code. The error says that there is no memory for them.
+pub(super) fn put_each(insns: &[Insn], emitter: &mut Emitter) -> Result<(), AllocError>
+    ensures { OnOk result (emitter.new ≡ with_piece emitter.old insns.now) }
+{
+    for insn in insns {
+        emitter.put(insn)?;
+    }
+    Ok(())
+}
+
+/// Puts the code of the expression behind the code. The error says that there is no memory for it.
+pub(super) fn put_expression(
+    alloc: Global,
+    core: &Core,
+    scope: &Scope,
+    emitter: &mut Emitter,
+) -> Result<(), AllocError>
+    requires { Fits (core_view core.now) }
+    ensures { OnOk result (emitter.new ≡ with_expression emitter.old scope.now (core_view core.now)) }
+{
+    match expression(alloc, core, scope, emitter) {
+        Ok(()) => Ok(()),
+        Err(CodeError::Memory) => Err(AllocError),
+        Err(_) => unreachable!(),
+    }
+}
+
+/// Puts the routine of the next variable behind the code. The error says that there is no memory for
+/// it.
+pub(super) fn put_variable(
+    alloc: Global,
+    core: &Core,
+    scope: &Scope,
+    emitter: &mut Emitter,
+) -> Result<(), AllocError>
+    requires fits { Fits (core_view core.now) }
+    requires shallow { depth (core_view core.now) (depths_of scope.now) ≤ 6 }
+    ensures { OnOk result (emitter.new ≡ with_variable emitter.old scope.now (core_view core.now)) }
+{
+    match variable(alloc, core, scope, emitter) {
+        Ok(()) => Ok(()),
+        Err(CodeError::Memory) => Err(AllocError),
+        Err(_) => unreachable!(),
+    }
+}

@@ -1,0 +1,185 @@
+//! What a program does with the value of each expression, whose reference stands in R0.
+
+ghost use Rattle.std.specs.Prelude.{◌≡◌, ◌<◌, pos};
+ghost use Rattle.codegen_base.specs.Words.{verdict_address as address_of_word};
+ghost use Rattle.policy_glue.specs.Emission.{unless_denied as jump_unless_denied};
+ghost use Rattle.policy_glue.specs.Program as specs;
+ghost use Rattle.policy_glue.specs.Layout.{most_validations, outcome_word};
+ghost use Rattle.policy_glue.specs.Verdict.{undecided as outcome_undecided};
+
+use crate::failure_policy::FailurePolicy;
+use crate::instructions::{add, copy, load_at, put, skip_if, store_at};
+use crate::verdict::{FIRST_MESSAGE, FIRST_RESULT, VERDICT};
+use Register::{R0, R1, R2, R3, R6};
+use insn_codec::{Comparison, Insn, Register};
+
+/// The reference of false.
+const NO: i32 = 2;
+
+/// The reference of true.
+const YES: i32 = 3;
+
+/// The helper that answers the kind of a value.
+const KIND: i32 = 1;
+
+/// The kind of a text.
+const TEXT_KIND: i32 = 4;
+
+/// The outcome of a policy of which a condition is false.
+const SKIPPED: i32 = 1;
+
+/// The outcome of a policy of which a condition could not be decided, under `Fail`.
+const REJECTED: i32 = 2;
+
+/// The outcome of a policy of which a validation denies.
+const DENIED: i32 = 3;
+
+/// The outcome of a policy of which no validation denies.
+const ADMITTED: i32 = 4;
+
+/// What is kept of a validation that is true.
+const HOLDS: i32 = 0;
+
+/// What is kept of a validation that is false.
+const FAILS: i32 = 1;
+
+/// What is kept of a validation that is an error.
+const ERRS: i32 = 2;
+
+/// The word of the verdict in which the denials are counted.
+const DENIALS: u64 = 1;
+
+/// The slots of `count_code`.
+pub(super) const COUNT_SLOTS: u64 = 5;
+
+/// R1 gets the address of word i of the verdict. This takes two slots.
+fn verdict_word(i: u64) -> Insn
+    requires { i < 256 }
+    ensures { result ≡ Insn.LoadWide Register.R1 (address_of_word i) }
+{
+    Insn::LoadWide {
+        dst: R1,
+        value: VERDICT + 8 * i,
+    }
+}
+
+/// The outcome where no condition is false and one could not be decided.
+fn undecided(failure_policy: FailurePolicy) -> i32
+    ensures { result ≡ pos (outcome_word (outcome_undecided failure_policy)) }
+{
+    match failure_policy {
+        FailurePolicy::Fail => REJECTED,
+        FailurePolicy::Ignore => SKIPPED,
+    }
+}
+
+/// Behind a condition: true goes on, false ends the program, and an error leaves its outcome.
+#[tactic(auto, unfolding(crate::specs::Program::condition_tail))]
+pub(super) fn condition_tail(failure_policy: FailurePolicy) -> [Insn; 8]
+    ensures { result ≡ specs.condition_tail failure_policy }
+{
+    [
+        skip_if(Comparison::Eq, R0, YES, 8),
+        put(R2, undecided(failure_policy)),
+        verdict_word(0),
+        skip_if(Comparison::Ne, R0, NO, 3),
+        put(R0, SKIPPED),
+        store_at(R1, R0),
+        Insn::Exit,
+        store_at(R1, R2),
+    ]
+}
+
+/// Behind all conditions: an outcome that was left ends the program.
+pub(super) fn decided_tail() -> [Insn; 4]
+    ensures { result ≡ specs.decided_tail }
+{
+    [
+        verdict_word(0),
+        load_at(R0, R1),
+        skip_if(Comparison::Eq, R0, 0, 1),
+        Insn::Exit,
+    ]
+}
+
+/// 1 where an error denies.
+fn error_denies(failure_policy: FailurePolicy) -> i32
+    ensures { result ≡ pos (specs.error_denies failure_policy) }
+{
+    match failure_policy {
+        FailurePolicy::Fail => 1,
+        FailurePolicy::Ignore => 0,
+    }
+}
+
+/// Behind validation i: its word, and in R3 whether it denies.
+#[tactic(auto, unfolding(crate::specs::Program::result_tail))]
+pub(super) fn result_tail(failure_policy: FailurePolicy, i: usize) -> [Insn; 10]
+    requires { i < most_validations }
+    ensures { result ≡ specs.result_tail failure_policy i }
+{
+    [
+        verdict_word(FIRST_RESULT + i as u64),
+        put(R2, HOLDS),
+        put(R3, 0),
+        skip_if(Comparison::Eq, R0, YES, 5),
+        put(R2, FAILS),
+        put(R3, 1),
+        skip_if(Comparison::Eq, R0, NO, 2),
+        put(R2, ERRS),
+        put(R3, error_denies(failure_policy)),
+        store_at(R1, R2),
+    ]
+}
+
+/// Past so many slots where the validation does not deny.
+pub(super) fn unless_denied(slots: u64) -> Insn
+    requires { slots < 32768 }
+    ensures { result ≡ jump_unless_denied slots }
+{
+    skip_if(Comparison::Eq, R3, 0, slots)
+}
+
+/// One more denial.
+pub(super) fn count_code() -> [Insn; 4]
+    ensures { result ≡ specs.count_code }
+{
+    [
+        verdict_word(DENIALS),
+        load_at(R2, R1),
+        add(R2, 1),
+        store_at(R1, R2),
+    ]
+}
+
+/// Behind the message expression of validation i: its word gets the reference of a text.
+#[tactic(auto, unfolding(crate::specs::Program::message_tail))]
+pub(super) fn message_tail(i: usize) -> [Insn; 6]
+    requires { i < most_validations }
+    ensures { result ≡ specs.message_tail i }
+{
+    [
+        copy(R6, R0),
+        copy(R1, R0),
+        Insn::Call { helper: KIND },
+        skip_if(Comparison::Ne, R0, TEXT_KIND, 3),
+        verdict_word(FIRST_MESSAGE + i as u64),
+        store_at(R1, R6),
+    ]
+}
+
+/// At the end: the outcome of a policy that ran.
+#[tactic(auto, unfolding(crate::specs::Program::outcome_tail))]
+pub(super) fn outcome_tail() -> [Insn; 7]
+    ensures { result ≡ specs.outcome_tail }
+{
+    [
+        verdict_word(DENIALS),
+        load_at(R2, R1),
+        put(R0, ADMITTED),
+        skip_if(Comparison::Eq, R2, 0, 1),
+        put(R0, DENIED),
+        verdict_word(0),
+        store_at(R1, R0),
+    ]
+}

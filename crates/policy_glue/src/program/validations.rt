@@ -1,0 +1,98 @@
+//! The validations in a policy's program.
+
+ghost use Rattle.std.specs.Prelude.{◌≡◌, ◌<◌, ◌≤◌, ◌+◌, length, map, option_map, All, OnOk, IfOk};
+ghost use Rattle.cel_macros.specs.CoreView.{core_view};
+ghost use Rattle.policy_glue.specs.Checked.{rule_trees};
+ghost use Rattle.policy_glue.specs.Emission.{with_denial, with_message, with_validation, with_validations, Fits, MayFit};
+ghost use Rattle.policy_glue.specs.Layout.{most_validations};
+
+use super::pieces::{put_each, put_expression};
+use super::tails::{COUNT_SLOTS, count_code, message_tail, result_tail, unless_denied};
+use crate::checked_validation::CheckedValidation;
+use crate::failure_policy::FailurePolicy;
+use cel_macros::Core;
+use cel_types::Scope;
+use codegen::Emitter;
+use std::alloc::{AllocError, Global};
+
+/// Puts the validations into the emitter. The error says that there is no memory for them.
+pub(super) fn validations(
+    alloc: Global,
+    failure_policy: FailurePolicy,
+    checked: &[CheckedValidation],
+    scope: &Scope,
+    emitter: &mut Emitter,
+) -> Result<(), AllocError>
+    requires expressions { All (λ v. Fits (core_view v.expression)) checked.now }
+    requires messages { All (λ v. MayFit (option_map core_view v.message)) checked.now }
+    requires few { length checked.now ≤ most_validations }
+    ensures { OnOk result (emitter.new ≡ with_validations failure_policy 0 scope.now emitter.old (map rule_trees checked.now)) }
+{
+    for (place, validation) in checked.iter().enumerate() {
+        put_validation(alloc, failure_policy, place, validation, scope, emitter)?;
+    }
+    Ok(())
+}
+
+/// Puts the validation at this place into the emitter.
+fn put_validation(
+    alloc: Global,
+    failure_policy: FailurePolicy,
+    place: usize,
+    validation: &CheckedValidation,
+    scope: &Scope,
+    emitter: &mut Emitter,
+) -> Result<(), AllocError>
+    requires expression { Fits (core_view validation.now.expression) }
+    requires message { MayFit (option_map core_view validation.now.message) }
+    requires few { place < most_validations }
+    ensures { OnOk result (emitter.new ≡ with_validation failure_policy place scope.now emitter.old (rule_trees validation.now)) }
+{
+    emitter.count(1);
+    put_expression(alloc, &validation.expression, scope, emitter)?;
+    put_each(&result_tail(failure_policy, place), emitter)?;
+    put_denial(alloc, place, &validation.message, scope, emitter)
+}
+
+/// Puts into the emitter what is done where the validation at this place denies: the denial is counted,
+/// and its message, if it has an expression for one, evaluated.
+fn put_denial(
+    alloc: Global,
+    place: usize,
+    message: &Option<Core>,
+    scope: &Scope,
+    emitter: &mut Emitter,
+) -> Result<(), AllocError>
+    requires message { MayFit (option_map core_view message.now) }
+    requires few { place < most_validations }
+    ensures { OnOk result (emitter.new ≡ with_denial place scope.now emitter.old (option_map core_view message.now)) }
+{
+    let jump = emitter.put(&unless_denied(COUNT_SLOTS))?;
+    put_each(&count_code(), emitter)?;
+    if let Some(core) = message {
+        let last = put_message(alloc, place, core, scope, emitter)?;
+        emitter.patch(jump, &unless_denied(last - jump));
+    }
+    Ok(())
+}
+
+/// Puts the message expression of the validation at this place into the emitter, and answers the slot of
+/// the last instruction.
+fn put_message(
+    alloc: Global,
+    place: usize,
+    core: &Core,
+    scope: &Scope,
+    emitter: &mut Emitter,
+) -> Result<u64, AllocError>
+    requires fits { Fits (core_view core.now) }
+    requires few { place < most_validations }
+    ensures added { OnOk result (emitter.new ≡ with_message place scope.now emitter.old (core_view core.now)) }
+    ensures last { IfOk result (λ slot. slot + 1 ≡ length emitter.new.code) }
+{
+    emitter.count(1);
+    put_expression(alloc, core, scope, emitter)?;
+    let tail = message_tail(place);
+    put_each(&tail[..5], emitter)?;
+    emitter.put(&tail[5])
+}
