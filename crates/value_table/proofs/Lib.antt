@@ -12,6 +12,7 @@ pub mod Maps
 pub mod Heads
 pub mod Walks
 pub mod Rows
+pub mod Classes
 pub mod Comparisons
 pub mod Searches
 pub mod Lookups

@@ -1,6 +1,7 @@
 use Rattle.std.proofs.Common.{◌≡◌, ◌∷◌, [], length, length-append, true, ap, arith}
 use Rattle.std.specs.Prelude.{is_ok}
 use Rattle.value_table.proofs.Growth.{count_values}
+use Rattle.value_table.proofs.Classes.{words_before}
 use Rattle.value_table.proofs.Comparisons.{word_added}
 use Rattle.value_table.proofs.heap.Heap.complete_words.Goals as goal
 
@@ -20,4 +21,5 @@ loop-place-preserved c =
       cells = inv.cells;
       backings = inv.backings;
       next = let n = inv.next in omega arith;
+      stay = λ vs s. inv.stay vs (words_before c.loop-place.self.same.items (c.loop-place.place ∷ []) c.push.new.self.items more vs s);
     }
