@@ -1,3 +1,3 @@
--- The code of lists, maps and macros, and of whole expressions.
+-- The code of literals whose texts stand among the constants, and of whole expressions.
 pub mod Literals
 pub mod Expressions

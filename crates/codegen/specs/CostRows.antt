@@ -68,9 +68,19 @@ pub record CostRows : Type 0 where
   pub variable_spent : spent_of (variable "one") review ≡ 9
   -- object['spec']: three nodes, results of 11, 17 and 5, and a text of 5
   pub index_spent : spent_of (index (name "object") (str "spec")) five ≡ 62
+  -- 1 / 0: three nodes, of which the error has a size of 1
+  pub error_spent : spent_of (binary Divide (num 1) (num 0)) review ≡ 27
+  -- [1, 2].all(x, false): eight visits, of which the two items have no size of their own; results of 1, 3, 1, 1, 1 and 1
+  pub items_spent : spent_of (method (list_literal (num 1 ∷ num 2 ∷ [])) "all" (name "x" ∷ no ∷ [])) review ≡ 72
+  -- [1, 2].map(x, x == 2, 'ab'): thirteen visits; results of 4, 3, 1 and 1, three of 1 for each item, and 3 for the one transform, with its text of 3
+  pub transform_spent : spent_of (method (list_literal (num 1 ∷ num 2 ∷ [])) "map" (name "x" ∷ binary Equal (name "x") (num 2) ∷ str "ab" ∷ [])) review ≡ 125
+  -- 'ab'.size(): two nodes, results of 1 and 3, and a text of 3
+  pub method_spent : spent_of (method (str "ab") "size" []) review ≡ 23
   -- [x] where x has depth 254, and where it has depth 255
   pub not_yet_deep : IsShallowAt (list_literal (name "x" ∷ [])) 253
   pub deep : IsDeepAt (list_literal (name "x" ∷ [])) 254
+  -- [[x]] where x has depth 254: the inner list is as deep as one may be
+  pub deep_inside : IsDeepAt (list_literal (list_literal (name "x" ∷ []) ∷ [])) 253
   -- {'a': x}
   pub deep_entry : IsDeepAt (map_literal ((str "a", name "x") ∷ [])) 254
   -- [1 / 0, x], though the whole is an error

@@ -32,7 +32,7 @@ slot_spellings [] = []
 slot_spellings (Some i ∷ more) = spelling i ++ slot_spellings more
 slot_spellings (None ∷ more) = slot_spellings more
 
--- so much code that its steps may pass the slots of an image: 128 for each node, above 65,536
+-- so many nodes that their code may pass the slots of an image: 128 for each, above 65,536
 abbrev pub IsTooLong : Emitted → Type 0
 IsTooLong e = 65536 < 128 * e.nodes
 

@@ -22,7 +22,8 @@ const MOST_WORDS: u64 = 60;
 const GREATEST_DEPTH: u64 = 6;
 
 /// Adds the expression's code to the emitter, its texts and its nodes. The variables of the scope are
-/// the first that the emitter took, in their order.
+/// the first that the emitter took, in their order. Beyond 512 nodes, 65,535 slots or 511 variables
+/// there is no room for code, and texts and nodes alone are added.
 ///
 /// # Errors
 ///
@@ -45,6 +46,7 @@ pub fn expression(
     if need(core) > MOST_WORDS {
         return Err(CodeError::G1);
     }
+    // what is called only for its contract: the literals are values, by their types
     literals_fit(core);
     emitter.add(alloc, core, scope.variables())?;
     Ok(())
@@ -52,6 +54,7 @@ pub fn expression(
 
 /// Adds the next variable to the emitter: the routine of its expression with its memo, its texts, and 1
 /// more than its nodes. The variables of the scope are the first that the emitter took, in their order.
+/// Where there is no room for code, texts and nodes alone are added.
 ///
 /// # Errors
 ///
@@ -79,6 +82,7 @@ pub fn variable(
     if depth(core, scope) > GREATEST_DEPTH {
         return Err(CodeError::G2);
     }
+    // as above
     literals_fit(core);
     emitter.add_variable(alloc, core, scope.variables())?;
     Ok(())

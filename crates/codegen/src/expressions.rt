@@ -1,4 +1,5 @@
 //! The code of expressions.
+#![tactic(auto, unfolding(crate::specs::Code::Expressions::code_of, cel_measures::specs::Measures::need, cel_measures::specs::Measures::nodes))]
 
 ghost use Rattle.std.specs.Prelude.{◌≡◌, ◌≤◌, ◌+◌, ◌*◌, IfOk};
 ghost use Rattle.std.specs.Prelude as list;
@@ -16,6 +17,7 @@ use crate::instructions::size;
 use crate::spot::Spot;
 use crate::surroundings::Surroundings;
 use cel_macros::{Core, Macro};
+use cel_reader::BinaryOperator;
 use insn_codec::Insn;
 use std::alloc::{AllocError, Global};
 
@@ -41,7 +43,6 @@ fn part(
 
 /// Two operands, so many slots apart.
 #[cycle(code)]
-#[tactic(auto, unfolding(crate::specs::Code::Expressions::code_of, cel_measures::specs::Measures::need, cel_measures::specs::Measures::nodes))]
 fn operands(
     alloc: Global,
     left: &Core,
@@ -66,9 +67,45 @@ fn operands(
     Ok((first, second))
 }
 
+/// An index.
+#[cycle(code)]
+fn index(
+    alloc: Global,
+    of: &Core,
+    at: &Core,
+    around: &Surroundings,
+    words: &FrameWords,
+    spot: Spot,
+) -> Result<Vec<Insn>, AllocError>
+    requires { HasRoom (core.index (core_view of.now) (core_view at.now)) words.now spot }
+    ensures { IfOk result (λ code. code.items ≡ piece_of (core.index (core_view of.now) (core_view at.now)) around.now words.now spot) }
+{
+    let (left, right) = operands(alloc, of, at, 1, around, words, spot)?;
+    let tail = selection::index_tail(spot.word);
+    two(alloc, &left, &right, spot.word, &tail)
+}
+
+/// An operator of two operands.
+#[cycle(code)]
+fn binary(
+    alloc: Global,
+    op: BinaryOperator,
+    left: &Core,
+    right: &Core,
+    around: &Surroundings,
+    words: &FrameWords,
+    spot: Spot,
+) -> Result<Vec<Insn>, AllocError>
+    requires { HasRoom (core.binary op (core_view left.now) (core_view right.now)) words.now spot }
+    ensures { IfOk result (λ code. code.items ≡ piece_of (core.binary op (core_view left.now) (core_view right.now)) around.now words.now spot) }
+{
+    let apart = operators::apart(op);
+    let (left, right) = operands(alloc, left, right, apart, around, words, spot)?;
+    operators::binary(alloc, op, &left, &right, spot.word)
+}
+
 /// A list.
 #[cycle(code)]
-#[tactic(auto, unfolding(crate::specs::Code::Expressions::code_of, cel_measures::specs::Measures::need, cel_measures::specs::Measures::nodes))]
 fn list(
     alloc: Global,
     parts: &[Core],
@@ -95,7 +132,6 @@ fn list(
 
 /// A map.
 #[cycle(code)]
-#[tactic(auto, unfolding(crate::specs::Code::Expressions::code_of, cel_measures::specs::Measures::need, cel_measures::specs::Measures::nodes))]
 fn map(
     alloc: Global,
     pairs: &[(Core, Core)],
@@ -127,7 +163,6 @@ fn map(
 
 /// A call.
 #[cycle(code)]
-#[tactic(auto, unfolding(crate::specs::Code::Expressions::code_of, cel_measures::specs::Measures::need, cel_measures::specs::Measures::nodes))]
 fn call(
     alloc: Global,
     name: &str,
@@ -150,7 +185,6 @@ fn call(
 
 /// A method.
 #[cycle(code)]
-#[tactic(auto, unfolding(crate::specs::Code::Expressions::code_of, cel_measures::specs::Measures::need, cel_measures::specs::Measures::nodes))]
 fn method(
     alloc: Global,
     of: &Core,
@@ -178,36 +212,34 @@ fn method(
 
 /// A conditional.
 #[cycle(code)]
-#[tactic(auto, unfolding(crate::specs::Code::Expressions::code_of, cel_measures::specs::Measures::need, cel_measures::specs::Measures::nodes))]
 fn ternary(
     alloc: Global,
-    condition: &Core,
+    test: &Core,
     yes: &Core,
     no: &Core,
     around: &Surroundings,
     words: &FrameWords,
     spot: Spot,
 ) -> Result<Vec<Insn>, AllocError>
-    requires { HasRoom (core.ternary (core_view condition.now) (core_view yes.now) (core_view no.now)) words.now spot }
-    ensures { IfOk result (λ code. code.items ≡ piece_of (core.ternary (core_view condition.now) (core_view yes.now) (core_view no.now)) around.now words.now spot) }
+    requires { HasRoom (core.ternary (core_view test.now) (core_view yes.now) (core_view no.now)) words.now spot }
+    ensures { IfOk result (λ code. code.items ≡ piece_of (core.ternary (core_view test.now) (core_view yes.now) (core_view no.now)) around.now words.now spot) }
 {
-    let (test, slots) = part(alloc, condition, around, words, spot)?;
-    let behind_test = Spot {
+    let (condition, slots) = part(alloc, test, around, words, spot)?;
+    let behind_condition = Spot {
         word: spot.word,
         slot: spot.slot + slots + 2,
     };
-    let (first, slots) = part(alloc, yes, around, words, behind_test)?;
+    let (first, slots) = part(alloc, yes, around, words, behind_condition)?;
     let behind_first = Spot {
         word: spot.word,
-        slot: behind_test.slot + slots + 1,
+        slot: behind_condition.slot + slots + 1,
     };
     let (second, _) = part(alloc, no, around, words, behind_first)?;
-    logic::ternary(alloc, &test, &first, &second)
+    logic::ternary(alloc, &condition, &first, &second)
 }
 
 /// A macro with one part.
 #[cycle(code)]
-#[tactic(auto, unfolding(crate::specs::Code::Expressions::code_of, cel_measures::specs::Measures::need, cel_measures::specs::Measures::nodes))]
 fn fold(
     alloc: Global,
     found: Macro,
@@ -233,19 +265,18 @@ fn fold(
 
 /// `map` with a predicate and a transform.
 #[cycle(code)]
-#[tactic(auto, unfolding(crate::specs::Code::Expressions::code_of, cel_measures::specs::Measures::need, cel_measures::specs::Measures::nodes))]
 fn fold_map(
     alloc: Global,
     name: &str,
     range: &Core,
-    predicate: &Core,
-    transform: &Core,
+    test: &Core,
+    body: &Core,
     around: &Surroundings,
     words: &FrameWords,
     spot: Spot,
 ) -> Result<Vec<Insn>, AllocError>
-    requires { HasRoom (core.fold_map name.now (core_view range.now) (core_view predicate.now) (core_view transform.now)) words.now spot }
-    ensures { IfOk result (λ code. code.items ≡ piece_of (core.fold_map name.now (core_view range.now) (core_view predicate.now) (core_view transform.now)) around.now words.now spot) }
+    requires { HasRoom (core.fold_map name.now (core_view range.now) (core_view test.now) (core_view body.now)) words.now spot }
+    ensures { IfOk result (λ code. code.items ≡ piece_of (core.fold_map name.now (core_view range.now) (core_view test.now) (core_view body.now)) around.now words.now spot) }
 {
     let (items, slots) = part(alloc, range, around, words, spot)?;
     let within = FrameWords::Within(name, spot.word + 4, &*words);
@@ -253,19 +284,18 @@ fn fold_map(
         word: spot.word + 5,
         slot: spot.slot + slots + 17,
     };
-    let (test, slots) = part(alloc, predicate, around, &within, inside)?;
+    let (first, slots) = part(alloc, test, around, &within, inside)?;
     let behind = Spot {
         word: spot.word + 5,
         slot: inside.slot + slots + 2,
     };
-    let (turn, _) = part(alloc, transform, around, &within, behind)?;
-    folds::map_where(alloc, &items, &test, &turn, spot.word)
+    let (turn, _) = part(alloc, body, around, &within, behind)?;
+    folds::map_where(alloc, &items, &first, &turn, spot.word)
 }
 
 /// The code of the expression among these surroundings, at the spot. Within the macros around it the
 /// words of the frame hold their items. The error says that there is no memory for it.
 #[cycle(code)]
-#[tactic(auto, unfolding(crate::specs::Code::Expressions::code_of, cel_measures::specs::Measures::need, cel_measures::specs::Measures::nodes))]
 pub(crate) fn code_of(
     alloc: Global,
     core: &Core,
@@ -278,84 +308,34 @@ pub(crate) fn code_of(
 {
     match core {
         Core::Literal(literal) => literals::literal(alloc, around.texts, literal),
-        Core::Name(name) => names::name(alloc, name.as_str(), words),
-        Core::Variable(name) => variables::variable(alloc, name.as_str(), around, spot.slot),
+        Core::Name(name) => names::name(alloc, name, words),
+        Core::Variable(name) => variables::variable(alloc, name, around, spot.slot),
         Core::Select(of, field) => {
             let of = code_of(alloc, of, around, words, spot)?;
-            selection::select(alloc, &of, around.texts, field.as_str())
+            selection::select(alloc, &of, around.texts, field)
         }
         Core::Has(of, field) => {
             let of = code_of(alloc, of, around, words, spot)?;
-            selection::has(alloc, &of, around.texts, field.as_str())
-        }
-        Core::Index(of, at) => {
-            let (left, right) = operands(alloc, of, at, 1, around, words, spot)?;
-            two(
-                alloc,
-                &left,
-                &right,
-                spot.word,
-                &selection::index_tail(spot.word),
-            )
-        }
-        Core::Call(name, arguments) => {
-            call(
-                alloc,
-                name.as_str(),
-                arguments.as_slice(),
-                around,
-                words,
-                spot,
-            )
-        }
-        Core::Method(of, name, arguments) => {
-            method(
-                alloc,
-                of,
-                name.as_str(),
-                arguments.as_slice(),
-                around,
-                words,
-                spot,
-            )
+            selection::has(alloc, &of, around.texts, field)
         }
         Core::Unary(op, operand) => {
             let code = code_of(alloc, operand, around, words, spot)?;
             operators::unary(alloc, *op, &code)
         }
-        Core::Binary(op, left, right) => {
-            let apart = operators::apart(*op);
-            let (left, right) = operands(alloc, left, right, apart, around, words, spot)?;
-            operators::binary(alloc, *op, &left, &right, spot.word)
-        }
-        Core::Ternary(condition, yes, no) => {
-            ternary(alloc, condition, yes, no, around, words, spot)
-        }
-        Core::List(parts) => list(alloc, parts.as_slice(), around, words, spot),
-        Core::Map(pairs) => map(alloc, pairs.as_slice(), around, words, spot),
-        Core::Fold(found, name, range, body) => {
-            fold(
-                alloc,
-                *found,
-                name.as_str(),
-                range,
-                body,
-                around,
-                words,
-                spot,
-            )
-        }
-        Core::FoldMap(name, range, predicate, transform) => {
-            fold_map(
-                alloc,
-                name.as_str(),
-                range,
-                predicate,
-                transform,
-                around,
-                words,
-                spot,
-            )
-        }
+        Core::Index(of, at) => index(alloc, of, at, around, words, spot),
+        Core::Binary(op, left, right) => binary(alloc, *op, left, right, around, words, spot),
+        Core::Call(name, arguments) => call(alloc, name, arguments, around, words, spot),
+        Core::Method(of, name, arguments) => method(
+            alloc, of, name, arguments, around, words, spot,
+        ),
+        Core::Ternary(test, yes, no) => ternary(alloc, test, yes, no, around, words, spot),
+        Core::List(parts) => list(alloc, parts, around, words, spot),
+        Core::Map(pairs) => map(alloc, pairs, around, words, spot),
+        Core::Fold(found, name, range, body) => fold(
+            alloc, *found, name, range, body, around, words, spot,
+        ),
+        Core::FoldMap(name, range, test, body) => fold_map(
+            alloc, name, range, test, body, around, words, spot,
+        ),
     }
 }

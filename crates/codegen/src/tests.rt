@@ -8,7 +8,9 @@ use insn_codec::{AluOp, Insn, Operand, Register, Width};
 use std::alloc::Global;
 use std::test::Fail;
 
+mod meanings;
 mod programs;
+mod running;
 
 /// `mov64 r0, n`.
 fn move_to_r0(n: i32) -> Insn

@@ -51,7 +51,7 @@ with_variables image deep steps charges = record { image = image; steps_for = pe
 abbrev pub routine_context : Roots → List (List ℕ × ValueOrError) → List ℕ → Context
 routine_context roots variables constants = record { environment = record { roots = roots; items = []; variables = variables }; words = []; constants = constants }
 
--- the context with the variables given one after another: those before, the one in question, and those after it
+-- the context of an expression that sees these items and variables
 abbrev pub used_context : Roots → List (List ℕ × Value) → List (List ℕ × ℕ) → List ℕ → List (List ℕ × ValueOrError) → Context
 used_context roots items words constants variables = record { environment = record { roots = roots; items = items; variables = variables }; words = words; constants = constants }
 

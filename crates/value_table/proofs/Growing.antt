@@ -1,13 +1,12 @@
 -- Documents become values one by one.
-use Rattle.std.proofs.Common.{◌≡◌, ℕ, zero, suc, ◌+◌, ◌<◌, ◌≤◌, Bool, true, false, List, [], ◌∷◌, ◌++◌, length, get_or, drop, refl, sym, ap, ap₂, ◌∙◌, arith, length-append, append_assoc, append-nil, subst, Option, Some, None, Result, Ok, Err}
-use Rattle.std.specs.Prelude.{IfSome, IsSome, IfOk, option_map, ⊤}
+use Rattle.std.proofs.Common.{◌≡◌, ℕ, zero, suc, ◌+◌, ◌<◌, false, List, [], ◌∷◌, ◌++◌, length, get_or, drop, refl, sym, ap, ap₂, ◌∙◌, arith, length-append, append_assoc, append-nil, subst, Option, Some, None, Result, Ok, Err}
+use Rattle.std.specs.Prelude.{IfSome, IsSome, IfOk, option_map}
 use Rattle.std.specs.List.{AllByRecursion}
 use Rattle.std.specs.List.Sorted.{IsStrictlySortedBy}
 use Rattle.std.specs.Ordering.{nat_cmp}
 use Rattle.std.specs.Cmp.Lexicographic.{slice_cmp}
 use Rattle.std.specs.declared.alloc.AllocError.{AllocError}
-use Rattle.std.specs.declared.cmp.Ordering.{Ordering}
-use Rattle.std.specs.declared.cmp.Ordering.TheVariants.{Less, Equal, Greater}
+use Rattle.std.specs.declared.cmp.Ordering.TheVariants.{Less, Greater}
 use Rattle.serde_json.specs.Data as json
 use Rattle.std.proofs.lemmas.Cmp.{nat_list_cmp_total}
 use Rattle.std.specs.Ordering.{ordering_reverse}
@@ -17,7 +16,7 @@ use Rattle.value_store.specs.Keys.{Ascend, IsOrdered, AreItemsOrdered, AreEntrie
 use Rattle.value_store.specs.Calls.{push_of}
 use Rattle.value_store.specs.Roots.{has_other, items_have_other, members_have_other}
 use Rattle.value_store.specs.Plain.{plain_value, plain_items, plain_entries}
-use Rattle.value_store.proofs.Trees.{first_no, second_no}
+use Rattle.value_store.proofs.Trees.{second_no}
 use Rattle.value_table.specs.Meaning.{value_in}
 use Rattle.value_table.specs.Heaps.{Adds}
 use Rattle.value_store.specs.Lookup.{inserted, inserted_by}

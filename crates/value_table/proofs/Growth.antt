@@ -7,6 +7,7 @@ use Rattle.value_store.specs.Value as kind
 use Rattle.value_store.specs.Value.{Value, Items, item, Entries, entry}
 use Rattle.value_store.specs.Size.{depth_of}
 use Rattle.value_table.specs.Meaning.{part_of, value_in, items_at, entries_at, refs_at, keys_at, meaning, grown}
+use Rattle.value_table.specs.Lengths.{json_length}
 use Rattle.value_table.specs.Heaps.{IsText, AreTexts, AreBelow, IsRange, AreKeys, IsContent, IsCell, AreCells, Extends, Found}
 use Rattle.value_table.specs.declared.part.Part.{Part}
 use Rattle.value_table.specs.declared.content.Content.{Content}
@@ -82,7 +83,7 @@ content_kept bs cs i (cell.Map k b n) e h = (range_stays bs cs i b n e h.0, keys
 cell_kept : (bs cs : Backings) (vs : List Value) (c : Cell) → Extends bs cs → IsCell bs vs c → IsCell cs vs c
 cell_kept bs cs vs c e h =
     let m = meaning_kept bs cs (length vs) vs c.content e h.content in
-    record { content = content_kept bs cs (length vs) c.content e h.content; depth = h.depth ∙ ap depth_of (sym m); shallow = h.shallow; ordered = rw m h.ordered }
+    record { content = content_kept bs cs (length vs) c.content e h.content; depth = h.depth ∙ ap depth_of (sym m); shallow = h.shallow; json = h.json ∙ ap json_length (sym m); ordered = rw m h.ordered }
 
 -- every old value stays when backings grow
 pub grown_kept : (bs cs : Backings) (vs : List Value) (xs : List Cell) → Extends bs cs → AreCells bs vs xs → grown cs vs xs ≡ grown bs vs xs
@@ -157,6 +158,7 @@ here bs vs xs c h =
       content = h.0.content;
       depth = h.0.depth ∙ ap depth_of (sym same);
       shallow = h.0.shallow;
+      json = h.0.json ∙ ap json_length (sym same);
       ordered = rw same h.0.ordered;
     })
 

@@ -46,10 +46,10 @@ Fits (simple v) n = HasNoParts v × (n ≡ 0)
 Fits (items m) n = m ≡ n
 Fits (entries ks) n = length ks ≡ n
 
-range_long : {A : Type 0} (xs : List A) (k n : ℕ) → k + n ≤ length xs → length (slice_range xs k (k + n)) ≡ n
+pub range_long : {A : Type 0} (xs : List A) (k n : ℕ) → k + n ≤ length xs → length (slice_range xs k (k + n)) ≡ n
 range_long xs k n h = length-take (k + n - k) (drop k xs) ∙ (let l = length-drop k xs in omega arith)
 
-taken_long : {A : Type 0} (xs : List A) (n : ℕ) → n ≤ length xs → length (take n xs) ≡ n
+pub taken_long : {A : Type 0} (xs : List A) (n : ℕ) → n ≤ length xs → length (take n xs) ≡ n
 taken_long xs n h = length-take n xs ∙ omega arith
 
 pub fits : (bs : Backings) (i : ℕ) (c : Content) → IsContent bs i c → Fits (head bs c) (length (parts bs c))

@@ -1,3 +1,4 @@
+pub mod TextLengths
 pub mod Growth
 pub mod Backed
 pub mod Adding
@@ -11,6 +12,7 @@ pub mod Maps
 pub mod Heads
 pub mod Walks
 pub mod Rows
+pub mod Classes
 pub mod Comparisons
 pub mod Searches
 pub mod Lookups

@@ -1,15 +1,19 @@
 -- Lists made of others.
-use Rattle.std.proofs.Common.{◌≡◌, ℕ, ◌+◌, ◌<◌, ◌≤◌, List, [], ◌∷◌, ◌++◌, length, refl, sym, ap, ap₂, ◌∙◌, arith, subst, max, Option, Some, None, Result, Ok, Err}
-use Rattle.std.specs.Prelude.{IfSome, IsErr}
+use Rattle.std.proofs.Common.{◌≡◌, ℕ, suc, ◌+◌, ◌-◌, ◌<◌, ◌≤◌, List, [], ◌∷◌, ◌++◌, length, refl, sym, ap, ap₂, ◌∙◌, arith, subst, max, Option, Some, None, Result, Ok, Err}
+use Rattle.std.specs.Prelude.{IfSome, IsErr, slice_index_or}
 use Rattle.std.specs.declared.alloc.AllocError.{AllocError}
 use Rattle.value_store.specs.Value as kind
-use Rattle.value_store.specs.Value.{Value, Items, no_items, item, items_push, items_join}
+use Rattle.value_store.specs.Value.{Value, Items, no_items, item, list_of, items_push, items_join}
 use Rattle.value_store.specs.Size.{depth_of, items_depth}
 use Rattle.value_store.specs.Keys.{IsOrdered}
+use Rattle.value_store.specs.Plain.{saturated}
 use Rattle.value_store.specs.Calls.{push_of, join_of}
 use Rattle.value_store.proofs.Keys.{push_ordered, join_ordered}
 use Rattle.value_table.specs.Meaning.{value_in, items_at, refs_at, meaning}
 use Rattle.value_table.specs.Heaps.{AreBelow, IsRange, IsContent, IsCell, Found, Holds, Adds}
+use Rattle.value_table.specs.Lengths.{json_length, commas}
+use Rattle.value_table.proofs.Heads.{taken_long}
+use Rattle.value_table.proofs.TextLengths.{push_long, join_long, list_long}
 use Rattle.value_table.specs.declared.content.Content.TheVariants as cell
 use Rattle.value_table.specs.declared.cell.Cell.{Cell}
 use Rattle.value_table.specs.declared.backings.Backings.{Backings}
@@ -46,6 +50,10 @@ list_added bs old mid new b r e a = added_there old mid new (kind.list no_items)
 pub text_added : (old mid new : List Value) (s t : List ℕ) (r : Result ℕ AllocError) → t ≡ s → mid ≡ old → Adds mid (kind.text t) r new → Adds old (kind.text s) r new
 text_added old mid new s t r same e a = added_there old mid new (kind.text s) r e (subst (λ u. Adds mid (kind.text u) r new) same a)
 
+pub items_length : (vs : List Value) (rs : List ℕ) → length (list_of (items_at vs rs)) ≡ length rs
+items_length vs [] = refl
+items_length vs (r ∷ rs) = ap suc (items_length vs rs)
+
 pub below_le : (i j : ℕ) (rs : List ℕ) → i ≤ j → AreBelow i rs → AreBelow j rs
 below_le i j [] h b = tt
 below_le i j (r ∷ rs) h b = let l = b.0 in (omega (arith, l, h), below_le i j rs h b.1)
@@ -81,54 +89,70 @@ pub record ListFound (bs : Backings) (vs : List Value) (l b n deep : ℕ) : Type
   pub depth : deep ≡ 1 + items_depth (items_at vs (refs_at bs.lists b n))
   pub shallow : deep ≤ l + 1
   pub ordered : IsOrdered (value_in vs l)
+  pub count : length (list_of (items_at vs (refs_at bs.lists b n))) ≡ n
 
 pub list_found : (bs : Backings) (vs : List Value) (l b n : ℕ) (c : Cell) → Found bs vs l c → c.content ≡ cell.List b n → ListFound bs vs l b n c.depth
 list_found bs vs l b n c f e =
     let m : meaning bs vs c.content ≡ kind.list (items_at vs (refs_at bs.lists b n)) = ap (meaning bs vs) e in
+    let range : IsRange bs.lists l b n = subst (IsContent bs l) e f.content in
     record {
       inside = f.inside;
-      range = subst (IsContent bs l) e f.content;
+      range = range;
       is = f.is ∙ m;
       depth = f.depth ∙ ap depth_of m;
       shallow = f.shallow;
       ordered = rw f.is f.ordered;
+      count = items_length vs (refs_at bs.lists b n) ∙ taken_long (slice_index_or bs.lists b []) n range.long;
     }
 
-pub list_pushed : (bs cs : Backings) (vs : List Value) (l x b n c d j : ℕ) (lc xc : Cell) → Found bs vs l lc → Found bs vs x xc → lc.content ≡ cell.List b n → Holds cs.lists c (n + 1) (refs_at bs.lists b n ++ x ∷ []) → d ≡ max lc.depth (xc.depth + 1)
+-- a list's text has its two brackets
+pub list_brackets : (bs : Backings) (vs : List Value) (l b n : ℕ) (c : Cell) → Found bs vs l c → c.content ≡ cell.List b n → 2 ≤ c.json
+list_brackets bs vs l b n c f e =
+    let j : c.json ≡ json_length (kind.list (items_at vs (refs_at bs.lists b n))) = f.json ∙ ap (λ t. json_length (meaning bs vs t)) e in
+    let least = list_long (items_at vs (refs_at bs.lists b n)) in
+    omega (arith, j, least)
+
+pub list_pushed : (bs cs : Backings) (vs : List Value) (l x b n c d j : ℕ) (lc xc : Cell) → Found bs vs l lc → Found bs vs x xc → lc.content ≡ cell.List b n → Holds cs.lists c (n + 1) (refs_at bs.lists b n ++ x ∷ []) → d ≡ max lc.depth (xc.depth + 1) → j ≡ saturated (lc.json + commas n 1 + xc.json)
     → Made cs vs (record { content = cell.List c (n + 1); depth = d; json = j }) (push_of (value_in vs l) (value_in vs x))
-list_pushed bs cs vs l x b n c d j lc xc fl fx e h deep =
+list_pushed bs cs vs l x b n c d j lc xc fl fx e h deep long =
     let rs = refs_at bs.lists b n in
     let f = list_found bs vs l b n lc fl e in
     let here : items_at vs (refs_at cs.lists c (n + 1)) ≡ items_push (items_at vs rs) (value_in vs x) = ap (items_at vs) h.items ∙ items_more vs rs x in
     let due : push_of (value_in vs l) (value_in vs x) ≡ Some (kind.list (items_push (items_at vs rs) (value_in vs x))) = ap (λ v. push_of v (value_in vs x)) f.is in
     let xd : xc.depth ≡ depth_of (value_in vs x) = fx.depth ∙ ap depth_of (sym fx.is) in
+    let whole = h.long in
     let ld = f.depth in
     let pd = push_depth (items_at vs rs) (value_in vs x) in
     let s1 = f.shallow in
     let s2 = fx.shallow in
     let i1 = f.inside in
     let i2 = fx.inside in
+    let lj : lc.json ≡ json_length (kind.list (items_at vs rs)) = fl.json ∙ ap (λ t. json_length (meaning bs vs t)) e in
+    let xj : xc.json ≡ json_length (value_in vs x) = fx.json ∙ ap json_length (sym fx.is) in
+    let text = push_long (items_at vs rs) (value_in vs x) n f.count in
     let low : AreBelow (length vs) rs = below_le l (length vs) rs (omega arith) f.range.below in
     let order : IsOrdered (kind.list (items_push (items_at vs rs) (value_in vs x))) = if_made IsOrdered _ _ due (push_ordered (value_in vs l) (value_in vs x) f.ordered (rw fx.is fx.ordered)) in
     record {
       cell = record {
-        content = record { inside = h.inside; long = h.long; below = subst (AreBelow (length vs)) (sym h.items) (below_append (length vs) rs (x ∷ []) low (i2, tt)) };
+        content = record { inside = h.inside; long = omega (arith, whole); below = subst (AreBelow (length vs)) (sym h.items) (below_append (length vs) rs (x ∷ []) low (i2, tt)) };
         depth = rw here (omega (arith, deep, xd, ld, pd));
         shallow = omega (arith, deep, s1, s2, i1, i2);
+        json = rw here (omega (arith, long, lj, xj, text));
         ordered = rw here order;
       };
       value = due ∙ ap (λ is. Some (kind.list is)) (sym here);
     }
 
-pub lists_joined : (bs cs : Backings) (vs : List Value) (l x b n b' n' c d j : ℕ) (lc xc : Cell) → Found bs vs l lc → Found bs vs x xc → lc.content ≡ cell.List b n → xc.content ≡ cell.List b' n' → Holds cs.lists c (n + n') (refs_at bs.lists b n ++ refs_at bs.lists b' n') → d ≡ max lc.depth xc.depth
+pub lists_joined : (bs cs : Backings) (vs : List Value) (l x b n b' n' c d j : ℕ) (lc xc : Cell) → Found bs vs l lc → Found bs vs x xc → lc.content ≡ cell.List b n → xc.content ≡ cell.List b' n' → Holds cs.lists c (n + n') (refs_at bs.lists b n ++ refs_at bs.lists b' n') → d ≡ max lc.depth xc.depth → j ≡ saturated (lc.json + commas n n' + (xc.json - 2))
     → Made cs vs (record { content = cell.List c (n + n'); depth = d; json = j }) (join_of (value_in vs l) (value_in vs x))
-lists_joined bs cs vs l x b n b' n' c d j lc xc fl fx e e' h deep =
+lists_joined bs cs vs l x b n b' n' c d j lc xc fl fx e e' h deep long =
     let rs = refs_at bs.lists b n in
     let ss = refs_at bs.lists b' n' in
     let f = list_found bs vs l b n lc fl e in
     let g = list_found bs vs x b' n' xc fx e' in
     let here : items_at vs (refs_at cs.lists c (n + n')) ≡ items_join (items_at vs rs) (items_at vs ss) = ap (items_at vs) h.items ∙ items_both vs rs ss in
     let due : join_of (value_in vs l) (value_in vs x) ≡ Some (kind.list (items_join (items_at vs rs) (items_at vs ss))) = ap₂ join_of f.is g.is in
+    let whole = h.long in
     let ld = f.depth in
     let xd = g.depth in
     let pd = join_depth (items_at vs rs) (items_at vs ss) in
@@ -136,14 +160,20 @@ lists_joined bs cs vs l x b n b' n' c d j lc xc fl fx e e' h deep =
     let s2 = g.shallow in
     let i1 = f.inside in
     let i2 = g.inside in
+    let lj : lc.json ≡ json_length (kind.list (items_at vs rs)) = fl.json ∙ ap (λ t. json_length (meaning bs vs t)) e in
+    let xj : xc.json ≡ json_length (kind.list (items_at vs ss)) = fx.json ∙ ap (λ t. json_length (meaning bs vs t)) e' in
+    let text = join_long (items_at vs rs) (items_at vs ss) n n' f.count g.count in
+    let least = list_long (items_at vs ss) in
+    let least' = list_long (items_at vs rs) in
     let low : AreBelow (length vs) rs = below_le l (length vs) rs (omega arith) f.range.below in
     let low' : AreBelow (length vs) ss = below_le x (length vs) ss (omega arith) g.range.below in
     let order : IsOrdered (kind.list (items_join (items_at vs rs) (items_at vs ss))) = if_made IsOrdered _ _ due (join_ordered (value_in vs l) (value_in vs x) f.ordered g.ordered) in
     record {
       cell = record {
-        content = record { inside = h.inside; long = h.long; below = subst (AreBelow (length vs)) (sym h.items) (below_append (length vs) rs ss low low') };
+        content = record { inside = h.inside; long = omega (arith, whole); below = subst (AreBelow (length vs)) (sym h.items) (below_append (length vs) rs ss low low') };
         depth = rw here (omega (arith, deep, xd, ld, pd));
         shallow = omega (arith, deep, s1, s2, i1, i2);
+        json = rw here (omega (arith, long, lj, xj, text, least, least'));
         ordered = rw here order;
       };
       value = due ∙ ap (λ is. Some (kind.list is)) (sym here);

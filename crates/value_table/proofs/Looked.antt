@@ -13,15 +13,11 @@ use Rattle.value_table.specs.declared.content.Content.{Content}
 use Rattle.value_table.specs.declared.content.Content.TheVariants as cell
 use Rattle.value_table.specs.declared.cell.Cell.{Cell}
 use Rattle.value_table.specs.declared.backings.Backings.{Backings}
-use Rattle.value_table.proofs.Listed.{below_le}
+use Rattle.value_table.proofs.Listed.{below_le, items_length}
 use Rattle.value_table.proofs.Growth.{count_values}
 use Rattle.value_table.proofs.Heads.{map_keys}
 use Rattle.value_table.proofs.Walks.{text_here}
 use Rattle.value_store.specs.Seen.{seen, sees_list, sees_map}
-
-pub items_length : (vs : List Value) (rs : List ℕ) → length (list_of (items_at vs rs)) ≡ length rs
-items_length vs [] = refl
-items_length vs (r ∷ rs) = ap suc (items_length vs rs)
 
 pub keys_length : (bytes : List ℕ) (vs : List Value) (ks : List Part) (rs : List ℕ) → length ks ≡ length rs → length (keys_of (entries_at bytes vs ks rs)) ≡ length rs
 keys_length bytes vs [] rs e = e

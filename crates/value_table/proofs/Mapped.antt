@@ -12,12 +12,14 @@ use Rattle.value_store.specs.Value as kind
 use Rattle.value_store.specs.Value.{Value, Entries, no_entries, entry, keys_of}
 use Rattle.value_store.specs.Size.{depth_of, entries_depth}
 use Rattle.value_store.specs.Keys.{Ascend, IsOrdered}
+use Rattle.value_store.specs.Plain.{saturated}
 use Rattle.value_store.specs.Calls.{put_of}
 use Rattle.value_store.specs.Lookup.{inserted, inserted_by}
 use Rattle.value_store.proofs.Keys.{put_ordered, inserted_once}
 use Rattle.value_store.proofs.Places.{has_key_place}
 use Rattle.value_table.specs.Meaning.{part_of, value_in, entries_at, refs_at, keys_at, meaning}
 use Rattle.value_table.specs.Heaps.{IsText, AreTexts, AreBelow, IsContent, IsCell, Found, Holds, Adds}
+use Rattle.value_table.specs.Lengths.{json_length, commas}
 use Rattle.value_table.specs.Heads.{texts_of}
 use Rattle.value_table.specs.Search.{IsAt, IsGap}
 use Rattle.value_table.specs.Entries.{put_values, with_one, HoldsKeys}
@@ -26,6 +28,8 @@ use Rattle.value_table.specs.declared.content.Content.TheVariants as cell
 use Rattle.value_table.specs.declared.cell.Cell.{Cell}
 use Rattle.value_table.specs.declared.backings.Backings.{Backings}
 use Rattle.value_table.proofs.Lookups.{place_by_keys, found_place}
+use Rattle.value_table.proofs.Heads.{range_long}
+use Rattle.value_table.proofs.TextLengths.{put_long}
 use Rattle.value_table.proofs.Listed.{Made, below_le, added_there}
 
 pub map_added : (bs : Backings) (old mid new : List Value) (b : ℕ) (r : Result ℕ AllocError) → mid ≡ old → Adds mid (meaning bs mid (cell.Map 0 b 0)) r new → Adds old (kind.map no_entries) r new
@@ -80,9 +84,9 @@ if_made P o v e h = subst (λ (p : Option Value). IfSome p P) e h
 -- the cell of a map with one more entry
 pub map_put : (bs cs : Backings) (vs : List Value) (m k x row b n row' b' i d j : ℕ) (mc kc xc : Cell) (key : Part) → Found bs vs m mc → Found bs vs k kc → Found bs vs x xc → mc.content ≡ cell.Map row b n → kc.content ≡ cell.Text key
     → length (keys_at bs.keys row n) ≡ length (refs_at bs.lists b n) → IsGap (texts_of bs.bytes (keys_at bs.keys row n)) (part_of bs.bytes key) i → cs.bytes ≡ bs.bytes
-    → Holds cs.lists b' (n + 1) (with_one i x (refs_at bs.lists b n)) → HoldsKeys cs.keys row' (n + 1) (with_one i key (keys_at bs.keys row n)) → d ≡ max mc.depth (xc.depth + 1)
+    → Holds cs.lists b' (n + 1) (with_one i x (refs_at bs.lists b n)) → HoldsKeys cs.keys row' (n + 1) (with_one i key (keys_at bs.keys row n)) → d ≡ max mc.depth (xc.depth + 1) → j ≡ saturated (mc.json + (1 + commas n 1) + kc.json + xc.json)
     → Made cs vs (record { content = cell.Map row' b' (n + 1); depth = d; json = j }) (put_values (value_in vs m) (value_in vs k) (value_in vs x))
-map_put bs cs vs m k x row b n row' b' i d j mc kc xc key fm fk fx em ek long gap same hr hk deep =
+map_put bs cs vs m k x row b n row' b' i d j mc kc xc key fm fk fx em ek long gap same hr hk deep json =
     let ks = keys_at bs.keys row n in
     let rs = refs_at bs.lists b n in
     let old = entries_at bs.bytes vs ks rs in
@@ -98,6 +102,12 @@ map_put bs cs vs m k x row b n row' b' i d j mc kc xc key fm fk fx em ek long ga
     let depths = depth_one bs.bytes vs ks rs key x i long (omega (arith, inside, count)) in
     let md : mc.depth ≡ 1 + entries_depth old = fm.depth ∙ ap depth_of (ap (meaning bs vs) em) in
     let xd : xc.depth ≡ depth_of (value_in vs x) = fx.depth ∙ ap depth_of (sym fx.is) in
+    let mj : mc.json ≡ json_length (kind.map old) = fm.json ∙ ap (λ t. json_length (meaning bs vs t)) em in
+    let kj : kc.json ≡ json_length (kind.text (part_of bs.bytes key)) = fk.json ∙ ap (λ t. json_length (meaning bs vs t)) ek in
+    let xj : xc.json ≡ json_length (value_in vs x) = fx.json ∙ ap json_length (sym fx.is) in
+    let text = put_long bs.bytes vs ks rs key x i n long (range_long bs.keys row n content.1.inside) (omega (arith, inside, count)) in
+    let whole = hr.long in
+    let row_end = hk.inside in
     let s1 = fm.shallow in
     let s2 = fx.shallow in
     let i1 = fm.inside in
@@ -109,19 +119,20 @@ map_put bs cs vs m k x row b n row' b' i d j mc kc xc key fm fk fx em ek long ga
     record {
       cell = record {
         content = (
-          record { inside = hr.inside; long = hr.long; below = subst (AreBelow (length vs)) (sym hr.items) (below_one (length vs) rs x i low i2) },
-          record { inside = hk.inside; texts = rw (same, hk.are) (texts_one bs.bytes ks key i content.1.texts (subst (IsContent bs k) ek fk.content)) },
+          record { inside = hr.inside; long = omega (arith, whole); below = subst (AreBelow (length vs)) (sym hr.items) (below_one (length vs) rs x i low i2) },
+          record { inside = omega (arith, row_end); texts = rw (same, hk.are) (texts_one bs.bytes ks key i content.1.texts (subst (IsContent bs k) ek fk.content)) },
         );
         depth = rw here (omega (arith, deep, xd, md, depths));
         shallow = omega (arith, deep, s1, s2, i1, i2);
+        json = rw here (omega (arith, json, mj, kj, xj, text));
         ordered = rw here order;
       };
       value = due ∙ ap (λ es. Some (kind.map es)) (sym here);
     }
 
-pub map_new : (cs : Backings) (vs : List Value) (b n j : ℕ) (rs : List ℕ) → Holds cs.lists b n rs → IsCell cs vs (record { content = cell.Map 0 b 0; depth = 1; json = j })
+pub map_new : (cs : Backings) (vs : List Value) (b n : ℕ) (rs : List ℕ) → Holds cs.lists b n rs → IsCell cs vs (record { content = cell.Map 0 b 0; depth = 1; json = 2 })
 unfolding IsStrictlySortedBy
-map_new cs vs b n j rs h = record { content = (record { inside = h.inside; long = omega arith; below = tt }, record { inside = omega arith; texts = tt }); depth = refl; shallow = omega arith; ordered = (tt, tt) }
+map_new cs vs b n rs h = record { content = (record { inside = h.inside; long = omega arith; below = tt }, record { inside = omega arith; texts = tt }); depth = refl; shallow = omega arith; json = refl; ordered = (tt, tt) }
 
 -- ---- a key that a map has cannot be put
 

@@ -1,5 +1,5 @@
 -- A map with one more entry.
-use Rattle.std.specs.Prelude.{◌≡◌, ◌≤◌, ℕ, ◌+◌, List, ◌∷◌, ◌++◌, length, take, drop, Option, option_and_then}
+use Rattle.std.specs.Prelude.{◌≡◌, ℕ, ◌+◌, List, ◌∷◌, ◌++◌, length, take, drop, Option, option_and_then}
 use Rattle.value_store.specs.Value.{Value}
 use Rattle.value_store.specs.Calls.{entries_part, put_of}
 use Rattle.value_store.specs.Lookup.{text_part}
@@ -14,7 +14,7 @@ put_values m k x = option_and_then (λ es. option_and_then (λ key. put_of es ke
 abbrev pub with_one : {A : Type 0} → ℕ → A → List A → List A
 with_one at x xs = take at xs ++ x ∷ drop at xs
 
--- these keys stand in a row from the place k on
+-- the keys from the place k on are these n
 pub record HoldsKeys (keys : List Part) (k n : ℕ) (ks : List Part) : Type 0 where
-  pub inside : k + n ≤ length keys
+  pub inside : k + n ≡ length keys
   pub are : keys_at keys k n ≡ ks

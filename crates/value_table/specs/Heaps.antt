@@ -6,6 +6,7 @@ use Rattle.value_store.specs.Value.{Value}
 use Rattle.value_store.specs.Size.{depth_of}
 use Rattle.value_store.specs.Keys.{IsOrdered}
 use Rattle.value_table.specs.Meaning.{part_of, value_in, refs_at, keys_at, meaning}
+use Rattle.value_table.specs.Lengths.{json_length}
 use Rattle.value_table.specs.declared.part.Part.{Part}
 use Rattle.value_table.specs.declared.content.Content.{Content}
 use Rattle.value_table.specs.declared.content.Content.TheVariants as cell
@@ -50,6 +51,7 @@ pub record IsCell (bs : Backings) (vs : List Value) (c : Cell) : Type 0 where
   pub content : IsContent bs (length vs) c.content
   pub depth : c.depth ≡ depth_of (meaning bs vs c.content)
   pub shallow : c.depth ≤ length vs + 1
+  pub json : c.json ≡ json_length (meaning bs vs c.content)
   pub ordered : IsOrdered (meaning bs vs c.content)
 
 abbrev pub AreCells : Backings → List Value → List Cell → Type 0
@@ -63,6 +65,7 @@ pub record Found (bs : Backings) (vs : List Value) (r : ℕ) (c : Cell) : Type 0
   pub content : IsContent bs r c.content
   pub depth : c.depth ≡ depth_of (meaning bs vs c.content)
   pub shallow : c.depth ≤ r + 1
+  pub json : c.json ≡ json_length (meaning bs vs c.content)
   pub ordered : IsOrdered (meaning bs vs c.content)
 
 -- each place has the value of the place that represents it, which does not stand behind it
@@ -78,10 +81,10 @@ pub record Extends (old new : Backings) : Type 0 where
   pub lists : length old.lists ≤ length new.lists
   pub items : (b : ℕ) → b < length old.lists → (rest : List ℕ) × (slice_index_or new.lists b [] ≡ slice_index_or old.lists b [] ++ rest)
 
--- the first n items of the backing b are these
+-- the backing b has n items, which are these
 pub record Holds (lists : List (List ℕ)) (b n : ℕ) (rs : List ℕ) : Type 0 where
   pub inside : b < length lists
-  pub long : n ≤ length (slice_index_or lists b [])
+  pub long : length (slice_index_or lists b []) ≡ n
   pub items : refs_at lists b n ≡ rs
 
 -- one more value, and the place of its cell; or the host had no memory for it, and the values stay

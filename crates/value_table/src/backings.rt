@@ -63,6 +63,8 @@ impl Backings {
         ensures part { IfOk result (λ p. IsText self.new.bytes p × (part_of self.new.bytes p ≡ part_of self.old.bytes first ++ part_of self.old.bytes second)) }
     {
         let from = self.bytes.len() as u64;
+        let more = (first.to - first.from).saturating_add(second.to - second.from);
+        self.bytes.reserve(more as usize)?;
         self.bytes
             .extend_within(first.from as usize, first.to as usize)?;
         self.bytes

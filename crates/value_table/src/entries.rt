@@ -14,10 +14,10 @@ use crate::backings::Backings;
 use crate::cell::Cell;
 use crate::content::Content;
 use crate::heap::Heap;
+use crate::lengths::put_length;
 use crate::part::Part;
 use crate::search::search;
 use crate::text::{keys, text};
-use crate::texts::quoted_length;
 use std::alloc::AllocError;
 
 impl Heap {
@@ -51,7 +51,8 @@ impl Heap {
         let Content::Map(row, backing, count) = map.content else {
             unreachable!();
         };
-        let Content::Text(key) = self.cell(k).content else {
+        let name = self.cell(k);
+        let Content::Text(key) = name.content else {
             unreachable!();
         };
         let bytes = self.backings.bytes.items();
@@ -62,7 +63,7 @@ impl Heap {
         ) else {
             unreachable!();
         };
-        let json = map_length(map.json, count, quoted_length(text(bytes, key)), value.json);
+        let json = put_length(map.json, count, name.json, value.json);
         let depth = map.depth.max(value.depth.saturating_add(1));
         let items = self.backings.put_item(backing, count, gap, x)?;
         let keys = self.backings.put_key(row, count, gap, key)?;
@@ -98,31 +99,11 @@ impl Backings {
             self.lists.push_item(backing as usize, item)?;
             return Ok(backing);
         }
-        self.copy_with_item(backing, count, place, item)
-    }
-
-    // A new backing that has the first items of another, and one more at a place.
-    fn copy_with_item(
-        &mut self,
-        backing: u64,
-        count: u64,
-        place: usize,
-        item: u64,
-    ) -> Result<u64, AllocError>
-        requires inside { backing < length self.old.lists }
-        requires long { count ≤ length (slice_index_or self.old.lists backing []) }
-        requires place { place ≤ count }
-        ensures grown { Extends self.old self.new }
-        ensures bytes { self.new.bytes ≡ self.old.bytes }
-        ensures keys { self.new.keys ≡ self.old.keys }
-        ensures short { count < 2 ^ 63 }
-        ensures items { IfOk result (λ b. Holds self.new.lists b (count + 1) (with_one place item (refs_at self.old.lists backing count))) }
-    {
-        let items = &self.lists.backings()[backing as usize].items()[..count as usize];
+        let items = &items[..count as usize];
         let more = Backing::with_item(self.keys.alloc(), items, place, item)?;
-        let first = self.lists.backings().len() as u64;
+        let new = self.lists.backings().len() as u64;
         self.lists.push(more)?;
-        Ok(first)
+        Ok(new)
     }
 
     // The keys in a row with one more at a place: the same row where the key comes last and no
@@ -140,40 +121,13 @@ impl Backings {
             self.keys.push(key)?;
             return Ok(row);
         }
-        self.copy_with_key(row, count, place, key)
-    }
-
-    // A new row behind all others that has the keys of another, and one more at a place.
-    fn copy_with_key(
-        &mut self,
-        row: u64,
-        count: u64,
-        place: usize,
-        key: Part,
-    ) -> Result<u64, AllocError>
-        requires inside { row + count ≤ length self.old.keys }
-        requires place { place ≤ count }
-        ensures grown { Extends self.old self.new }
-        ensures bytes { self.new.bytes ≡ self.old.bytes }
-        ensures lists { self.new.lists ≡ self.old.lists }
-        ensures keys { IfOk result (λ k. HoldsKeys self.new.keys k (count + 1) (with_one place key (keys_at self.old.keys row count))) }
-    {
         let more = Backing::with_item(
             self.keys.alloc(),
             keys(self.keys.items(), row, count),
             place,
             key,
         )?;
-        let first = self.keys.len() as u64;
         self.keys.extend(more.items())?;
-        Ok(first)
+        Ok(end)
     }
-}
-
-// How many bytes a map's JSON text has with one more entry behind `count` others.
-fn map_length(map: u64, count: u64, key: u64, value: u64) -> u64 {
-    let comma = if count == 0 { 1 } else { 2 };
-    map.saturating_add(comma)
-        .saturating_add(key)
-        .saturating_add(value)
 }

@@ -1,10 +1,11 @@
 //! Deep equality that remembers what it found equal.
 
-ghost use Rattle.std.specs.Prelude.{◌≡◌, ◌<◌, length, Some, IsSome};
+ghost use Rattle.std.specs.Prelude.{◌≡◌, ◌<◌, ◌≤◌, length, true, Some, IsSome};
 ghost use Rattle.value_store.specs.Equality.{equal};
 ghost use Rattle.value_store.specs.Lookup.{has_item, member};
 ghost use Rattle.value_store.specs.Calls.{entries_part};
 ghost use Rattle.value_table.specs.Meaning.{value_in, items_at, refs_at};
+ghost use Rattle.value_table.specs.Equality.{AreOneClass, ClassesStay};
 ghost use Rattle.value_table.specs.Heaps.{IsRange};
 ghost use Rattle.value_table.specs.Heap.{heap_values, IsHeap};
 
@@ -22,7 +23,8 @@ use crate::text::text;
 
 // No call takes memory: there is room for a word of each cell.
 impl Heap {
-    /// Whether the values of two cells are equal in depth.
+    /// Whether the values of two cells are equal in depth. Those that are found equal are of one class
+    /// from then on, so that they are not compared again.
     pub(crate) fn equal(&mut self, a: u64, b: u64) -> bool
         requires heap { IsHeap self.old }
         requires left { a < length (heap_values self.old) }
@@ -30,6 +32,8 @@ impl Heap {
         ensures heap { IsHeap self.new }
         ensures values { heap_values self.new ≡ heap_values self.old }
         ensures answer { result ≡ equal (value_in (heap_values self.old) a) (value_in (heap_values self.old) b) }
+        ensures stay { ClassesStay self.old.same.items self.new.same.items }
+        ensures one { result ≡ true → AreOneClass self.new.same.items a b }
     {
         self.complete_words();
         self.are_same(a, b)
@@ -40,9 +44,12 @@ impl Heap {
         requires heap { IsHeap self.old }
         requires left { a < length (heap_values self.old) }
         requires right { b < length (heap_values self.old) }
+        requires words { length self.old.cells ≤ length self.old.same.items }
         ensures heap { IsHeap self.new }
         ensures values { heap_values self.new ≡ heap_values self.old }
         ensures answer { result ≡ equal (value_in (heap_values self.old) a) (value_in (heap_values self.old) b) }
+        ensures stay { ClassesStay self.old.same.items self.new.same.items }
+        ensures one { result ≡ true → AreOneClass self.new.same.items a b }
     {
         walk::equal(self.cells.items(), &self.backings, &mut self.same, a, b)
     }
@@ -100,11 +107,13 @@ impl Heap {
         ensures heap { IsHeap self.new }
         ensures cells { self.new.cells ≡ self.old.cells }
         ensures backings { self.new.backings ≡ self.old.backings }
+        ensures words { length self.old.cells ≤ length self.new.same.items }
+        ensures stay { ClassesStay self.old.same.items self.new.same.items }
     {
         for place in self.same.len()..self.cells.len() {
-            if self.same.push(place as u64).is_err() {
-                return;
-            }
+            let Ok(()) = self.same.push(place as u64) else {
+                unreachable!();
+            };
         }
     }
 }

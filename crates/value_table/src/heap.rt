@@ -1,6 +1,6 @@
 //! Values as cells.
 
-ghost use Rattle.std.specs.Prelude.{◌≡◌, ◌<◌, ◌^◌, [], length, IfOk};
+ghost use Rattle.std.specs.Prelude.{◌≡◌, ◌<◌, ◌≤◌, ◌+◌, ◌^◌, [], length, vec_capacity, IfOk, OnOk};
 ghost use Rattle.value_store.specs.Value.{int};
 ghost use Rattle.value_table.specs.Meaning.{meaning};
 ghost use Rattle.value_table.specs.Heaps.{IsCell, Adds, Found};
@@ -9,6 +9,7 @@ use crate::backing::Backing;
 use crate::backings::Backings;
 use crate::cell::Cell;
 use crate::content::Content;
+use crate::lengths::int_length;
 use std::alloc::{AllocError, Global};
 
 /// Values, each named by its cell's place. None ever changes.
@@ -63,6 +64,7 @@ impl Heap {
         ensures heap { IsHeap self.new }
         ensures backings { self.new.backings ≡ self.old.backings }
         ensures cells { self.new.cells ≡ self.old.cells }
+        ensures room { OnOk result (length self.new.cells + 1 ≤ vec_capacity self.new.same) }
     {
         let count = self.cells.len() + 1;
         self.same.reserve(count.saturating_sub(self.same.len()))?;
@@ -93,18 +95,7 @@ impl Heap {
         self.add(Cell {
             content: Content::Int(n),
             depth: 0,
-            json: digits(n),
+            json: int_length(n),
         })
     }
-}
-
-// How many bytes a number has in decimal, with its sign.
-fn digits(n: i64) -> u64 {
-    let mut count = if n < 0 { 2u64 } else { 1 };
-    let mut rest = n.unsigned_abs() / 10;
-    while rest > 0 {
-        rest /= 10;
-        count = count.saturating_add(1);
-    }
-    count
 }

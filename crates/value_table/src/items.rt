@@ -11,6 +11,7 @@ use crate::backing::Backing;
 use crate::cell::Cell;
 use crate::content::Content;
 use crate::heap::Heap;
+use crate::lengths::{joined_length, pushed_length};
 use std::alloc::AllocError;
 
 impl Heap {
@@ -44,7 +45,7 @@ impl Heap {
             unreachable!();
         };
         let depth = list.depth.max(item.depth.saturating_add(1));
-        let json = list_length(list.json, count, item.json);
+        let json = pushed_length(list.json, count, item.json);
         let pushed = self.backings.push_item(backing, count, x)?;
         self.add(Cell {
             content: Content::List(pushed, count + 1),
@@ -70,7 +71,7 @@ impl Heap {
         let Content::List(other, more) = second.content else {
             unreachable!();
         };
-        let json = list_length(first.json, count, second.json);
+        let json = joined_length(first.json, count, second.json, more);
         let joined = self.backings.join_items((backing, count), (other, more))?;
         self.add(Cell {
             content: Content::List(joined, count + more),
@@ -78,10 +79,4 @@ impl Heap {
             json,
         })
     }
-}
-
-// How many bytes a list's JSON text has with one more item behind `count` others.
-fn list_length(list: u64, count: u64, item: u64) -> u64 {
-    let comma = if count == 0 { 0 } else { 1 };
-    list.saturating_add(comma).saturating_add(item)
 }

@@ -11,6 +11,7 @@ mod entries;
 mod equality;
 mod heap;
 mod items;
+mod lengths;
 mod lists;
 mod lookup;
 mod order;

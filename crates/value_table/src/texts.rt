@@ -10,6 +10,7 @@ ghost use Rattle.value_table.specs.Heap.{heap_values, IsHeap};
 use crate::cell::Cell;
 use crate::content::Content;
 use crate::heap::Heap;
+use crate::lengths::quoted_length;
 use crate::part::Part;
 use std::alloc::AllocError;
 
@@ -70,22 +71,5 @@ impl Heap {
             depth: 0,
             json,
         })
-    }
-}
-
-// How many bytes a text has in JSON, with its quotes and escapes.
-pub(crate) fn quoted_length(text: &[u8]) -> u64 {
-    let mut length = 2u64;
-    for byte in text {
-        length = length.saturating_add(escaped_length(*byte));
-    }
-    length
-}
-
-fn escaped_length(byte: u8) -> u64 {
-    match byte {
-        b'"' | b'\\' | 8 | 9 | 10 | 12 | 13 => 2,
-        0..=31 => 6,
-        _ => 1,
     }
 }

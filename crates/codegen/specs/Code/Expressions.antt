@@ -138,17 +138,6 @@ unfoldable mutual
       let entry = code_of b ts rs ws (k + 2) (p + size key + 1) in
       entry_code key entry k ++ entries_code more ts rs ws k (p + size key + 1 + size entry + 5)
 
--- a call by its arguments
-abbrev pub call_code : List ℕ → CoreTrees → List (List ℕ) → List (List ℕ × ℕ) → List (List ℕ × ℕ) → ℕ → ℕ → List Insn
-call_code n (more_cores a no_cores) ts rs ws k p = function_code (function_named n) (code_of a ts rs ws k p)
-call_code n _ ts rs ws k p = no_code
-
--- a method, at slot p, of what code gives, by its arguments
-abbrev pub method_code : List Insn → List ℕ → CoreTrees → List (List ℕ) → List (List ℕ × ℕ) → List (List ℕ × ℕ) → ℕ → ℕ → List Insn
-method_code of n no_cores ts rs ws k p = method_function_code (function_named n) of
-method_code of n (more_cores b no_cores) ts rs ws k p = test_code (test_named n) of (code_of b ts rs ws (k + 1) (p + size of + 1)) k
-method_code of n _ ts rs ws k p = no_code
-
 -- the routine of variable n, at slot p: its expression, from word 0 of a frame of its own, and its memo
 abbrev pub routine_code : CoreTree → List (List ℕ) → List (List ℕ × ℕ) → ℕ → ℕ → List Insn
 routine_code e ts rs n p = code_of e ts rs [] 0 p ++ memo_tail n

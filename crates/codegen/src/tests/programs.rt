@@ -1,20 +1,24 @@
 //! Expressions, and variables with them, as programs that run on five null roots.
 
+use crate::tests::running::{core, end, take, take_variable};
 use crate::{CodeError, Emitter, expression, variable};
-use bpf_machine::{Machine, Status};
-use cel_macros::{Core, expand};
-use cel_measures::depth;
-use cel_reader::read;
+use bpf_machine::Status;
 use cel_types::{Scope, check};
-use guest_memory::Guest;
-use loader::Image;
+use serde_json::Value;
 use std::alloc::Global;
-use std::process::Abort;
 use std::test::Fail;
-use value_store::{PlainTable, TableError};
 
 /// More steps than any of these programs takes.
 const STEPS: u64 = 10_000;
+
+/// Five null roots.
+const NULLS: [Value; 5] = [
+    Value::Null,
+    Value::Null,
+    Value::Null,
+    Value::Null,
+    Value::Null,
+];
 
 /// Texts, and the reference with which their programs exit: 0 the error, 2 false, 3 true.
 const ROWS: [(&str, u64); 14] = [
@@ -52,62 +56,11 @@ const USES: [(&str, u64); 6] = [
     ("[1].exists(x, variables.three == x)", 2),
 ];
 
-/// The table of five null roots.
-fn nulls(alloc: Global) -> Result<PlainTable, TableError> {
-    PlainTable::of_roots(
-        alloc,
-        &[
-            Default::default(),
-            Default::default(),
-            Default::default(),
-            Default::default(),
-            Default::default(),
-        ],
-    )
-}
-
-/// The text's expression.
-fn core(alloc: Global, text: &str) -> Result<Core, Fail> {
-    let tree = read(alloc, text)?;
-    Ok(expand(alloc, tree)?)
-}
-
-/// Takes the text's expression.
-fn take(alloc: Global, text: &str, scope: &Scope, emitter: &mut Emitter) -> Result<(), Fail> {
-    let core = core(alloc, text)?;
-    check(&core, scope)?;
-    Ok(expression(alloc, &core, scope, emitter)?)
-}
-
-/// Takes the text's expression as the next variable, of this name.
-fn take_variable(
-    alloc: Global,
-    name: &str,
-    text: &str,
-    scope: &mut Scope,
-    emitter: &mut Emitter,
-) -> Result<(), Fail> {
-    let core = core(alloc, text)?;
-    let found = check(&core, &*scope)?;
-    variable(alloc, &core, &*scope, emitter)?;
-    let deep = depth(&core, &*scope);
-    Ok(scope.add(name, found, deep)?)
-}
-
-/// How the program of what the emitter took ends.
-fn end(alloc: Global, emitter: Emitter) -> Result<Status, Fail> {
-    let (code, constants) = emitter.finish()?;
-    let image = Image::new_2(code, constants)?;
-    let mut machine: Machine<PlainTable, Guest> = Machine::start(alloc, image, nulls(alloc)?)?;
-    let (_, status) = machine.run(STEPS)?;
-    Ok(status)
-}
-
 /// How the program of the text's expression ends.
 fn end_of(alloc: Global, text: &str) -> Result<Status, Fail> {
     let mut emitter = Emitter::new(alloc);
     take(alloc, text, &Scope::new(alloc), &mut emitter)?;
-    end(alloc, emitter)
+    end(alloc, emitter, &NULLS, STEPS)
 }
 
 /// How the program of the text's expression ends, with the variables.
@@ -118,7 +71,7 @@ fn end_with_variables(alloc: Global, text: &str) -> Result<Status, Fail> {
         take_variable(alloc, name, of, &mut scope, &mut emitter)?;
     }
     take(alloc, text, &scope, &mut emitter)?;
-    end(alloc, emitter)
+    end(alloc, emitter, &NULLS, STEPS)
 }
 
 /// What is answered of so many plus signs, nested to the right.
@@ -174,5 +127,23 @@ fn depths_are_bounded(rt: HostRuntime) -> Result<(), Fail> {
         variable(rt.alloc(), &second, &scope, &mut emitter).err(),
         Some(CodeError::G2)
     );
+    Ok(())
+}
+
+#[test]
+fn exists_leaves_at_the_first_item(rt: HostRuntime) -> Result<(), Fail> {
+    let twos = ",2".repeat(rt.alloc(), 9_999)?;
+    let text = format!(in rt.alloc(); "{{\"items\":[1{twos}]}}")?;
+    let object = Value::from_str(rt.alloc(), text.as_str())?;
+    let roots = [object, Value::Null, Value::Null, Value::Null, Value::Null];
+    let mut emitter = Emitter::new(rt.alloc());
+    let expression = "object.items.exists(x, x == 1)";
+    take(
+        rt.alloc(),
+        expression,
+        &Scope::new(rt.alloc()),
+        &mut emitter,
+    )?;
+    assert_eq!(rt; end(rt.alloc(), emitter, &roots, 1_024)?, Status::Exited(3));
     Ok(())
 }

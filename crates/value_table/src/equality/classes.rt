@@ -1,13 +1,15 @@
 //! Classes of places that are known to hold the same value.
 
-ghost use Rattle.std.specs.Prelude.{◌≡◌, ◌≤◌, List, slice_get};
+ghost use Rattle.std.specs.Prelude.{◌≡◌, ◌≤◌, List, nat_lt, slice_get, slice_set, if◌then◌else◌};
 ghost use Rattle.value_store.specs.Value.{Value};
+ghost use Rattle.value_table.specs.Equality.{Finds, LeadDown, way_down};
 ghost use Rattle.value_table.specs.Heaps.{AreSame};
 
 /// The next place on the way down to the representative, or the place itself.
 fn below(same: &[u64], place: u64) -> u64
     ensures not_above { result ≤ place }
     ensures value { (vs : List Value) → AreSame vs same.now → slice_get vs result ≡ slice_get vs place }
+    ensures down { result ≡ way_down (slice_get same.now place) place }
 {
     match same.get(place as usize) {
         Some(next) if *next < place => *next,
@@ -19,6 +21,7 @@ fn below(same: &[u64], place: u64) -> u64
 pub(crate) fn representative(same: &mut [u64], place: u64) -> u64
     ensures not_above { result ≤ place }
     ensures value { (vs : List Value) → AreSame vs same.old → AreSame vs same.new × (slice_get vs result ≡ slice_get vs place) }
+    ensures classes { LeadDown same.old → Finds same.old same.new place result }
 {
     let mut here = place;
     let mut next = below(same, here);
@@ -34,7 +37,8 @@ pub(crate) fn representative(same: &mut [u64], place: u64) -> u64
 // Notes that a place has the value of another, which does not stand behind it.
 fn point(same: &mut [u64], place: u64, target: u64)
     requires { target ≤ place }
-    ensures { (vs : List Value) → AreSame vs same.old → slice_get vs target ≡ slice_get vs place → AreSame vs same.new }
+    ensures value { (vs : List Value) → AreSame vs same.old → slice_get vs target ≡ slice_get vs place → AreSame vs same.new }
+    ensures word { same.new ≡ slice_set same.old place target }
 {
     if (place as usize) < same.len() {
         same[place as usize] = target;
@@ -43,7 +47,8 @@ fn point(same: &mut [u64], place: u64, target: u64)
 
 /// Makes the classes of two representatives one.
 pub(crate) fn unite(same: &mut [u64], a: u64, b: u64)
-    ensures { (vs : List Value) → AreSame vs same.old → slice_get vs a ≡ slice_get vs b → AreSame vs same.new }
+    ensures value { (vs : List Value) → AreSame vs same.old → slice_get vs a ≡ slice_get vs b → AreSame vs same.new }
+    ensures word { same.new ≡ (if nat_lt a b then slice_set same.old b a else slice_set same.old a b) }
 {
     if a < b {
         point(same, b, a);

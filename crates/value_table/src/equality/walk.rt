@@ -19,7 +19,7 @@ pub(crate) fn equal(cells: &[Cell], backings: &Backings, same: &mut [u64], a: u6
     requires contents { AreContents backings.now cells.now }
     requires left { a < length cells.now }
     requires right { b < length cells.now }
-    ensures { (vs : List Value) → AreMeanings backings.now vs cells.now → AreSame vs same.old → Compares vs same.new a b result }
+    ensures { (vs : List Value) → AreMeanings backings.now vs cells.now → AreSame vs same.old → Compares vs (length cells.now) same.old same.new a b result }
 {
     let x = representative(same, a);
     let y = representative(same, b);

@@ -126,7 +126,11 @@ fn put<V: ValueStore>(table: &mut V, m: u64, k: u64, x: u64) -> Result<Option<u6
 
 /// Two texts or two lists as one.
 #[tactic(auto, using(crate::proofs::Looks::texts_join, crate::proofs::Looks::lists_join))]
-fn joined<V: ValueStore>(table: &mut V, a: u64, b: u64) -> Result<Option<u64>, AllocError> {
+pub(crate) fn joined<V: ValueStore>(
+    table: &mut V,
+    a: u64,
+    b: u64,
+) -> Result<Option<u64>, AllocError> {
     match (table.at(a), table.at(b)) {
         (Some(Shape::Text(_)), Some(Shape::Text(_))) => Ok(Some(table.join(a, b)?)),
         (Some(Shape::List(_)), Some(Shape::List(_))) => Ok(Some(table.join(a, b)?)),

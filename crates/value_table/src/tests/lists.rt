@@ -2,8 +2,8 @@
 
 use crate::Table;
 use crate::tests::calls::Step::{Int, List, Push};
-use crate::tests::calls::{Step, equal, first_changed, first_misplaced, member, pushed};
-use crate::tests::{NULLS, table_of};
+use crate::tests::calls::{Step, equal, first_changed, first_misplaced, joined, member, pushed};
+use crate::tests::{NULLS, json_of, table_of};
 use std::test::Fail;
 use value_store::{Shape, ValueStore};
 
@@ -108,5 +108,26 @@ fn ten_thousand_items(rt: HostRuntime) -> Result<(), Fail> {
     assert_eq!(rt; table.at(10_009), Some(Shape::List(10_000)));
     assert_eq!(rt; table.at(5_009), Some(Shape::List(5_000)));
     assert_eq!(rt; table.len(), 10_010);
+    Ok(())
+}
+
+/// The empty list, 70 times joined to itself.
+fn often_joined(table: &mut Table) -> Result<u64, Fail> {
+    let mut list = table.new_list()?;
+    for _ in 0..70 {
+        match joined(table, list, list)? {
+            Some(both) => list = both,
+            None => Err("no lists")?,
+        }
+    }
+    Ok(list)
+}
+
+/// The length of a joined list's text is that of the text, and no more.
+#[test]
+fn empty_lists_joined(rt: HostRuntime) -> Result<(), Fail> {
+    let mut table = table_of(rt.alloc(), NULLS)?;
+    let list = often_joined(&mut table)?;
+    assert!(rt; json_of(&table, list)?.as_str() == "[]");
     Ok(())
 }

@@ -39,13 +39,13 @@ method-returns-in_default t c =
 
 pub code_of-map-requires : goal.code_of-map-requires
 code_of-map-requires t c =
-    let seen : core_view c.args.core.now ≡ core.map (core_entries (map core_pair c.as_slice-in-Map.result.now)) = ap core_view c.in-Map.is ∙ view_map c.in-Map.pairs ∙ ap (λ ps. core.map (core_entries (map core_pair ps))) (sym c.as_slice-in-Map.ensures.value) in
+    let seen : core_view c.args.core.now ≡ core.map (core_entries (map core_pair c.deref-in-Map.result.now)) = ap core_view c.in-Map.is ∙ view_map c.in-Map.pairs ∙ ap (λ ps. core.map (core_entries (map core_pair ps))) (sym c.deref-in-Map.ensures.value) in
     let count = ap nodes seen in
     (omega arith, subst (λ e. HasRoom e c.args.words.now c.args.spot) seen c.requires)
 
 pub code_of-returns-in-Map : goal.code_of-returns-in-Map
 code_of-returns-in-Map t c =
-    let seen : core_view c.args.core.now ≡ core.map (core_entries (map core_pair c.as_slice-in-Map.result.now)) = ap core_view c.in-Map.is ∙ view_map c.in-Map.pairs ∙ ap (λ ps. core.map (core_entries (map core_pair ps))) (sym c.as_slice-in-Map.ensures.value) in
+    let seen : core_view c.args.core.now ≡ core.map (core_entries (map core_pair c.deref-in-Map.result.now)) = ap core_view c.in-Map.is ∙ view_map c.in-Map.pairs ∙ ap (λ ps. core.map (core_entries (map core_pair ps))) (sym c.deref-in-Map.ensures.value) in
     same_code _ _ _ (ap (λ e. piece_of e c.args.around.now c.args.words.now c.args.spot) (sym seen)) c.map.ensures
 
 pub fold_map-returns : goal.fold_map-returns
@@ -58,11 +58,11 @@ fold_map-returns t c =
     let inner = (c.args.name.now, k + 4) ∷ ws in
     let within = words_within c.args.name (k + 4) c.args.words in
     let range = c.in_ok-items in
-    let test = c.in_ok-test in
+    let test = c.in_ok-first in
     let turn = c.in_ok-turn in
-    let test_is : test.test.items ≡ code_of (core_view c.args.predicate.now) ts rs inner (k + 5) (p + range.slots + 17) = test.ensures.code ∙ ap (λ w. code_of (core_view c.args.predicate.now) ts rs w (k + 5) (p + range.slots + 17)) within in
-    let turn_is : turn.turn.items ≡ code_of (core_view c.args.transform.now) ts rs inner (k + 5) (p + range.slots + 17 + test.slots + 2) = turn.ensures.code ∙ ap (λ w. code_of (core_view c.args.transform.now) ts rs w (k + 5) (p + range.slots + 17 + test.slots + 2)) within in
-    let whole = fold_map_of ts rs ws k p c.args.name.now (core_view c.args.range.now) (core_view c.args.predicate.now) (core_view c.args.transform.now) range.items.items test.test.items turn.turn.items range.slots test.slots range.ensures.code range.ensures.slots test_is test.ensures.slots turn_is in
+    let test_is : test.first.items ≡ code_of (core_view c.args.test.now) ts rs inner (k + 5) (p + range.slots + 17) = test.ensures.code ∙ ap (λ w. code_of (core_view c.args.test.now) ts rs w (k + 5) (p + range.slots + 17)) within in
+    let turn_is : turn.turn.items ≡ code_of (core_view c.args.body.now) ts rs inner (k + 5) (p + range.slots + 17 + test.slots + 2) = turn.ensures.code ∙ ap (λ w. code_of (core_view c.args.body.now) ts rs w (k + 5) (p + range.slots + 17 + test.slots + 2)) within in
+    let whole = fold_map_of ts rs ws k p c.args.name.now (core_view c.args.range.now) (core_view c.args.test.now) (core_view c.args.body.now) range.items.items test.first.items turn.turn.items range.slots test.slots range.ensures.code range.ensures.slots test_is test.ensures.slots turn_is in
     same_code _ _ _ ((λ j. map_where_code k (c.deref.ensures.value j) (c.deref-2.ensures.value j) (c.deref-3.ensures.value j)) ∙ whole) c.map_where.ensures
 
 pub list-loop-item-preserved : goal.list-loop-item-preserved

@@ -30,14 +30,20 @@ decreases-method l = 4 * nodes (core.method (core_view l.of.now) l.name.now (cor
 abbrev pub decreases-operands : goal.decreases-operands
 decreases-operands l = 4 * nodes (core.index (core_view l.left.now) (core_view l.right.now))
 
+abbrev pub decreases-index : goal.decreases-index
+decreases-index l = 4 * nodes (core.index (core_view l.of.now) (core_view l.at.now)) + 1
+
+abbrev pub decreases-binary : goal.decreases-binary
+decreases-binary l = 4 * nodes (core.binary l.op (core_view l.left.now) (core_view l.right.now)) + 1
+
 abbrev pub decreases-ternary : goal.decreases-ternary
-decreases-ternary l = 4 * nodes (core.ternary (core_view l.condition.now) (core_view l.yes.now) (core_view l.no.now)) + 1
+decreases-ternary l = 4 * nodes (core.ternary (core_view l.test.now) (core_view l.yes.now) (core_view l.no.now)) + 1
 
 abbrev pub decreases-fold : goal.decreases-fold
 decreases-fold l = 4 * nodes (core.fold l.found l.name.now (core_view l.range.now) (core_view l.body.now)) + 1
 
 abbrev pub decreases-fold_map : goal.decreases-fold_map
-decreases-fold_map l = 4 * nodes (core.fold_map l.name.now (core_view l.range.now) (core_view l.predicate.now) (core_view l.transform.now)) + 1
+decreases-fold_map l = 4 * nodes (core.fold_map l.name.now (core_view l.range.now) (core_view l.test.now) (core_view l.body.now)) + 1
 
 abbrev pub invariant-list-loop-item : goal.invariant-list-loop-item
 invariant-list-loop-item l =

@@ -1,10 +1,10 @@
-use Rattle.std.proofs.Common.{◌≡◌, ◌+◌, [], ◌∷◌, ◌++◌, Ok, Some, drop, length, string_bytes, refl, sym, ap, ◌∙◌, subst, arith, rules, Option}
+use Rattle.std.proofs.Common.{◌≡◌, ◌+◌, [], ◌∷◌, ◌++◌, Ok, drop, string_bytes, refl, sym, ap, ◌∙◌, subst, arith, rules, Option}
 use Rattle.std.specs.Prelude.{IsSome}
 use Rattle.std.proofs.lemmas.List.{drop_more, drop_all}
 use Rattle.serde_json.specs.View.{view, items_view, members_view}
 use Rattle.value_store.specs.Value as kind
 use Rattle.value_store.specs.Value.{Value}
-use Rattle.value_store.specs.Plain.{plain_value, plain_items, plain_entries}
+use Rattle.value_store.specs.Plain.{plain_value, plain_items}
 use Rattle.value_table.specs.Heap.{heap_values}
 use Rattle.value_table.specs.Growing.{Stands, MembersStand}
 use Rattle.value_table.proofs.Growing.{ItemsStand, MembersLeft, grown_more, grown_added, grown_due, stands_added, items_start, items_on, items_step, items_end, item_due, members_step, members_end}

@@ -1,5 +1,6 @@
 use Rattle.std.proofs.Common.{◌≡◌, ◌≤◌, List, slice_get}
 use Rattle.value_store.specs.Value.{Value}
+use Rattle.value_table.specs.Equality.{LeadDown, Shortens, way_down}
 use Rattle.value_table.specs.Heaps.{AreSame}
 use Rattle.value_table.proofs.equality.classes.representative.Given as goal
 
@@ -7,6 +8,8 @@ abbrev pub invariant-loop-next : goal.invariant-loop-next
 invariant-loop-next l = record {
   not_above : l.here ≤ l.place;
   value : (vs : List Value) → AreSame vs l.fn.same → AreSame vs l.same × (slice_get vs l.next ≡ slice_get vs l.here) × (slice_get vs l.here ≡ slice_get vs l.place);
+  shorter : LeadDown l.fn.same → Shortens l.fn.same l.same l.place;
+  next_is : l.next ≡ way_down (slice_get l.same l.here) l.here;
 }
 
 abbrev pub decreases-loop-next : goal.decreases-loop-next

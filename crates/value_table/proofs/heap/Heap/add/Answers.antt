@@ -6,7 +6,7 @@ use Rattle.value_table.proofs.heap.Heap.add.Goals as goal
 
 pub returns-clause-heap : goal.returns-clause-heap
 returns-clause-heap c =
-    cell_added c.reserve_cell.new.self _ c.args.cell c.reserve_cell.ensures.heap (cell_moved _ _ _ _ c.args.cell c.reserve_cell.ensures.backings c.reserve_cell.ensures.cells c.requires.cell) c.in_ok-push.ensures.ok
+    cell_added c.reserve_cell.new.self _ c.args.cell c.reserve_cell.ensures.heap (cell_moved _ _ _ _ c.args.cell c.reserve_cell.ensures.backings c.reserve_cell.ensures.cells c.requires.cell) c.in_ok-reserve_cell.ensures.room c.in_ok-push.ensures.ok
 
 pub returns-clause-added : goal.returns-clause-added
 returns-clause-added c =

@@ -1,8 +1,8 @@
-use Rattle.std.proofs.Common.{◌≡◌, length, ap, ◌∙◌, arith}
+use Rattle.std.proofs.Common.{◌≡◌, ℕ, List, length, ap, ◌∙◌, subst, arith}
 use Rattle.std.proofs.lemmas.List.{with_items_is}
 use Rattle.value_table.specs.Heaps.{AreSame}
 use Rattle.value_table.specs.Heap.{heap_values}
-use Rattle.value_table.specs.Equality.{AreMeanings}
+use Rattle.value_table.specs.Equality.{AreMeanings, ClassesStay}
 use Rattle.value_table.proofs.Growth.{count_values}
 use Rattle.value_table.proofs.Comparisons.{answer_is, contents_of, meanings_of}
 use Rattle.value_table.proofs.heap.Heap.are_same.Goals as goal
@@ -29,7 +29,7 @@ returns-clause-heap c =
     let m : AreMeanings heap.backings (heap_values heap) c.items.result.now = rw items (meanings_of heap.backings heap.cells c.requires.heap.cells) in
     let s : AreSame (heap_values heap) c.deref_mut.result.now = rw c.deref_mut.ensures.value c.requires.heap.same in
     let after = c.equal.ensures (heap_values heap) m s in
-    record { cells = c.requires.heap.cells; same = rw (with_items_is heap.same c.equal.new.same (c.equal.auto.same ∙ c.deref_mut.ensures.len)) after.known }
+    record { cells = c.requires.heap.cells; same = rw (with_items_is heap.same c.equal.new.same (c.equal.auto.same ∙ c.deref_mut.ensures.len)) after.known; room = c.requires.heap.room }
 
 pub returns-clause-answer : goal.returns-clause-answer
 returns-clause-answer c =
@@ -41,3 +41,24 @@ returns-clause-answer c =
     let n = count_values heap.backings heap.cells in
     let l = ap length items in
     answer_is heap.backings (heap_values heap) c.items.result.now c.args.a c.args.b c.equal.result m (omega arith) (omega arith) after.right
+
+pub returns-clause-stay : goal.returns-clause-stay
+returns-clause-stay c =
+    let items : c.items.result.now ≡ c.args.self.now.cells = cc in
+    let heap = c.args.self.now in
+    let m : AreMeanings heap.backings (heap_values heap) c.items.result.now = rw items (meanings_of heap.backings heap.cells c.requires.heap.cells) in
+    let s : AreSame (heap_values heap) c.deref_mut.result.now = rw c.deref_mut.ensures.value c.requires.heap.same in
+    let after = c.equal.ensures (heap_values heap) m s in
+    rw (with_items_is heap.same c.equal.new.same (c.equal.auto.same ∙ c.deref_mut.ensures.len)) (subst (λ (old : List ℕ). ClassesStay old c.equal.new.same) c.deref_mut.ensures.value after.stay)
+
+pub returns-clause-one : goal.returns-clause-one
+returns-clause-one c = λ found.
+    let items : c.items.result.now ≡ c.args.self.now.cells = cc in
+    let heap = c.args.self.now in
+    let m : AreMeanings heap.backings (heap_values heap) c.items.result.now = rw items (meanings_of heap.backings heap.cells c.requires.heap.cells) in
+    let s : AreSame (heap_values heap) c.deref_mut.result.now = rw c.deref_mut.ensures.value c.requires.heap.same in
+    let after = c.equal.ensures (heap_values heap) m s in
+    let words = c.requires.words in
+    let same_items = ap length items in
+    let same_words = ap length c.deref_mut.ensures.value in
+    rw (with_items_is heap.same c.equal.new.same (c.equal.auto.same ∙ c.deref_mut.ensures.len)) (after.one found (omega arith))

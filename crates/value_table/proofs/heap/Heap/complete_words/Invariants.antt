@@ -1,4 +1,5 @@
 use Rattle.std.proofs.Common.{◌≡◌, length}
+use Rattle.value_table.specs.Equality.{ClassesStay}
 use Rattle.value_table.specs.Heap.{IsHeap}
 use Rattle.value_table.proofs.heap.Heap.complete_words.Given as goal
 
@@ -8,4 +9,5 @@ invariant-loop-place l = record {
   cells : l.self.cells ≡ l.fn.self.cells;
   backings : l.self.backings ≡ l.fn.self.backings;
   next : length l.self.same.items ≡ l.place;
+  stay : ClassesStay l.fn.self.same.items l.self.same.items;
 }

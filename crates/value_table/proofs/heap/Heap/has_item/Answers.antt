@@ -26,7 +26,7 @@ returns-clause-heap c =
     let m : AreMeanings heap.backings (heap_values heap) c.items.result.now = rw c.items.ensures.value (meanings_of heap.backings heap.cells c.requires.heap.cells) in
     let s : AreSame (heap_values heap) c.deref_mut.result.now = rw c.deref_mut.ensures.value c.requires.heap.same in
     let after = c.is_among.ensures (heap_values heap) m s in
-    record { cells = c.requires.heap.cells; same = rw (with_items_is heap.same c.is_among.new.same (c.is_among.auto.same ∙ c.deref_mut.ensures.len)) after.0 }
+    record { cells = c.requires.heap.cells; same = rw (with_items_is heap.same c.is_among.new.same (c.is_among.auto.same ∙ c.deref_mut.ensures.len)) after.0; room = c.requires.heap.room }
 
 pub returns-clause-answer : goal.returns-clause-answer
 returns-clause-answer c =

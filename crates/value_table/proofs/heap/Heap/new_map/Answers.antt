@@ -16,7 +16,7 @@ pub add-requires-clause-heap : goal.add-requires-clause-heap
 add-requires-clause-heap c = backings_grown c.args.self.now c.add_items.new.self c.requires c.add_items.ensures.grown
 
 pub add-requires-clause-cell : goal.add-requires-clause-cell
-add-requires-clause-cell c = map_new c.add_items.new.self _ c.in_ok-backing.backing _ 2 _ c.in_ok-backing.ensures.items
+add-requires-clause-cell c = map_new c.add_items.new.self _ c.in_ok-backing.backing _ _ c.in_ok-backing.ensures.items
 
 pub returns-clause-added : goal.returns-clause-added
 returns-clause-added c =

@@ -27,7 +27,7 @@ add-requires-clause-cell c =
     let n = c.cell-item.ensures.short in
     let deep : c.max-depth.result ≡ max l.depth (x.depth + 1) = omega (arith, a, b, s, n) in
     let kept = grown_kept _ c.push_item.new.self [] c.args.self.now.cells c.push_item.ensures.grown c.requires.heap.cells in
-    (made_there _ _ _ _ _ kept (list_pushed c.args.self.now.backings c.push_item.new.self _ c.args.l c.args.x c.in-List.backing c.in-List.count c.in_ok-pushed.pushed _ c.list_length-json.result l x c.cell-list.ensures.found c.cell-item.ensures.found c.in-List.is c.in_ok-pushed.ensures.items deep)).cell
+    (made_there _ _ _ _ _ kept (list_pushed c.args.self.now.backings c.push_item.new.self _ c.args.l c.args.x c.in-List.backing c.in-List.count c.in_ok-pushed.pushed _ c.pushed_length-json.result l x c.cell-list.ensures.found c.cell-item.ensures.found c.in-List.is c.in_ok-pushed.ensures.items deep c.pushed_length-json.ensures)).cell
 
 pub returns-clause-added : goal.returns-clause-added
 returns-clause-added c =
@@ -40,5 +40,5 @@ returns-clause-added c =
     let deep : c.max-depth.result ≡ max l.depth (x.depth + 1) = omega (arith, a, b, s, n) in
     let kept = grown_kept _ c.push_item.new.self [] c.args.self.now.cells c.push_item.ensures.grown c.requires.heap.cells in
     made_added c.push_item.new.self _ _ _ _ _ c.add.result kept
-    (made_there _ _ _ _ _ kept (list_pushed c.args.self.now.backings c.push_item.new.self _ c.args.l c.args.x c.in-List.backing c.in-List.count c.in_ok-pushed.pushed _ c.list_length-json.result l x c.cell-list.ensures.found c.cell-item.ensures.found c.in-List.is c.in_ok-pushed.ensures.items deep))
+    (made_there _ _ _ _ _ kept (list_pushed c.args.self.now.backings c.push_item.new.self _ c.args.l c.args.x c.in-List.backing c.in-List.count c.in_ok-pushed.pushed _ c.pushed_length-json.result l x c.cell-list.ensures.found c.cell-item.ensures.found c.in-List.is c.in_ok-pushed.ensures.items deep c.pushed_length-json.ensures))
     c.add.ensures.added

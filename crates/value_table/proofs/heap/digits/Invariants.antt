@@ -1,4 +1,0 @@
-use Rattle.value_table.proofs.heap.digits.Given as goal
-
-abbrev pub decreases-loop-rest : goal.decreases-loop-rest
-decreases-loop-rest l = l.rest

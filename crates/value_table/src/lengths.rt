@@ -1,0 +1,97 @@
+//! Lengths of JSON texts, each at most the greatest number of 64 bits.
+
+ghost use Rattle.std.specs.Prelude.{◌≡◌, ◌≤◌, ◌+◌, ◌-◌, length, nat_lt, decimal};
+ghost use Rattle.std.specs.Fmt.{signed_decimal};
+ghost use Rattle.json.specs.Print.{quoted, escape_letter, escape_byte};
+ghost use Rattle.value_store.specs.Plain.{saturated};
+ghost use Rattle.value_table.specs.Lengths.{commas};
+
+// How many commas stand between `count` things and `more` others behind them.
+fn commas(count: u64, more: u64) -> u64
+    ensures { result ≡ commas count more }
+{
+    if count == 0 || more == 0 { 0 } else { 1 }
+}
+
+/// The length of a list's text with one more item behind `count` others.
+pub(crate) fn pushed_length(list: u64, count: u64, item: u64) -> u64
+    ensures { result ≡ saturated (list + commas count 1 + item) }
+{
+    list.saturating_add(commas(count, 1)).saturating_add(item)
+}
+
+/// The length of the text of two lists' items, `count` and `more`, as one list: a closing and an
+/// opening bracket fall away.
+pub(crate) fn joined_length(first: u64, count: u64, second: u64, more: u64) -> u64
+    requires { 2 ≤ second }
+    ensures { result ≡ saturated (first + commas count more + (second - 2)) }
+{
+    first
+        .saturating_add(commas(count, more))
+        .saturating_add(second - 2)
+}
+
+/// The length of a map's text with one more entry beside `count` others.
+pub(crate) fn put_length(map: u64, count: u64, key: u64, value: u64) -> u64
+    ensures { result ≡ saturated (map + (1 + commas count 1) + key + value) }
+{
+    map.saturating_add(1 + commas(count, 1))
+        .saturating_add(key)
+        .saturating_add(value)
+}
+
+/// How many bytes an int has in decimal, with its sign.
+pub(crate) fn int_length(n: i64) -> u64
+    ensures { result ≡ length (signed_decimal n) }
+{
+    if n < 0 {
+        return 1 + digits(n.unsigned_abs());
+    }
+    digits(n.unsigned_abs())
+}
+
+fn digits(n: u64) -> u64
+    ensures count { result ≡ length (decimal n) }
+    ensures short { result ≤ 20 }
+{
+    let mut count = 1u64;
+    let mut rest = n / 10;
+    while rest > 0 {
+        rest /= 10;
+        count = count.saturating_add(1);
+    }
+    count
+}
+
+/// How many bytes a text has in JSON, with its quotes and escapes.
+pub(crate) fn quoted_length(text: &[u8]) -> u64
+    ensures { result ≡ saturated (length (quoted text.now)) }
+{
+    let mut length = 2u64;
+    for byte in text {
+        length = length.saturating_add(escaped_length(*byte));
+    }
+    length
+}
+
+fn escaped_length(byte: u8) -> u64
+    ensures { result ≡ length (escape_byte byte) }
+{
+    if has_letter(byte) {
+        2
+    } else if byte < 32 {
+        6
+    } else {
+        1
+    }
+}
+
+// Whether a backslash and a letter stand in a string for the byte.
+fn has_letter(byte: u8) -> bool
+    ensures { result ≡ nat_lt 0 (escape_letter byte) }
+{
+    match byte {
+        b'"' | b'\\' | 8 | 9 | 10 | 12 | 13 => true,
+        _ => false,
+    }
+}
