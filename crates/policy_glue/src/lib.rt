@@ -34,6 +34,9 @@ mod validation;
 mod validations;
 mod verdict;
 
+pub use cel_macros::MacroError;
+pub use cel_reader::ReadError;
+pub use cel_types::TypeError;
 pub use compile_error::CompileError;
 pub use compiling::compile;
 pub use expression_error::ExpressionError;

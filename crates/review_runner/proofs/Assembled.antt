@@ -28,7 +28,7 @@ use Rattle.review_runner.specs.declared.file_error.FileError.{FileError}
 use Rattle.review_runner.specs.declared.file_error.FileError.TheVariants.{Failed}
 use Rattle.review_runner.specs.declared.file_error.FileError.TheVariants as file_error
 use Rattle.review_runner.specs.declared.refusal.Refusal.{Refusal}
-use Rattle.review_runner.specs.declared.refusal.Refusal.TheVariants.{Documents, File, Image, Input, Memory, Output, Program, Text, Words}
+use Rattle.review_runner.specs.declared.refusal.Refusal.TheVariants.{Policy, Run, File, Image, Input, Memory, Output, Program, Text, Words}
 
 -- ---- the image's file
 
@@ -97,7 +97,8 @@ of_code held text code (Err (Image e)) same utf8 source is = at_text held text c
 of_code held text code (Err File) same utf8 source is = at_text held text code _ same utf8 source is
 of_code held text code (Err Text) same utf8 source is = at_text held text code _ same utf8 source is
 of_code held text code (Err (Program e)) same utf8 source is = at_text held text code _ same utf8 source is
-of_code held text code (Err (Documents e)) same utf8 source is = at_text held text code _ same utf8 source is
+of_code held text code (Err (Policy e)) same utf8 source is = at_text held text code _ same utf8 source is
+of_code held text code (Err (Run e)) same utf8 source is = at_text held text code _ same utf8 source is
 of_code held text code (Err Input) same utf8 source is = at_text held text code _ same utf8 source is
 of_code held text code (Err Output) same utf8 source is = at_text held text code _ same utf8 source is
 
@@ -151,7 +152,8 @@ of_not_assembled old new text image (Image e) a stays = not_assembled old new te
 of_not_assembled old new text image File a stays = not_assembled old new text image _ a.reading a.is_reading a.assembles stays
 of_not_assembled old new text image Text a stays = not_assembled old new text image _ a.reading a.is_reading a.assembles stays
 of_not_assembled old new text image (Program e) a stays = not_assembled old new text image _ a.reading a.is_reading a.assembles stays
-of_not_assembled old new text image (Documents e) a stays = not_assembled old new text image _ a.reading a.is_reading a.assembles stays
+of_not_assembled old new text image (Policy e) a stays = not_assembled old new text image _ a.reading a.is_reading a.assembles stays
+of_not_assembled old new text image (Run e) a stays = not_assembled old new text image _ a.reading a.is_reading a.assembles stays
 of_not_assembled old new text image Input a stays = not_assembled old new text image _ a.reading a.is_reading a.assembles stays
 of_not_assembled old new text image Output a stays = not_assembled old new text image _ a.reading a.is_reading a.assembles stays
 
@@ -168,7 +170,7 @@ has_text reading due file (no_text bad) is = cc
 has_text reading due file (no_program utf8 answer) is = cc
 has_text reading due file (program utf8 source) is = text_alone _ utf8 (of_source _ _ _ refl source (subst IsOk (sym is) refl))
 
-was_kept : (old new : Option FileSystem) (name bytes : List ℕ) → IsWriting old name bytes new (Err file_error.Memory) → KeepsFiles old new
+pub was_kept : (old new : Option FileSystem) (name bytes : List ℕ) → IsWriting old name bytes new (Err file_error.Memory) → KeepsFiles old new
 was_kept old new name bytes write f known =
     let after = write f known in
     (after.0, after.1, record { holds = λ n. ap (λ (k : FileSystem). k.holds n) after.2; takes = ap (λ (k : FileSystem). k.takes) after.2 })

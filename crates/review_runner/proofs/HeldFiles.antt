@@ -12,7 +12,7 @@ use Rattle.review_runner.specs.declared.file_error.FileError.TheVariants as file
 -- ---- files
 
 -- of a file that is not read nothing is known
-unread : (known : Option FileSystem) (name : Option (List ℕ)) → (reading : ReadingGiven) × IsReadingGiven known name reading
+pub unread : (known : Option FileSystem) (name : Option (List ℕ)) → (reading : ReadingGiven) × IsReadingGiven known name reading
 unread known (Some name) = (Err file_error.Memory, λ f is. tt)
 unread known None = (Ok None, refl)
 

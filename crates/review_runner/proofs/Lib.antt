@@ -9,3 +9,7 @@ pub mod Programs
 pub mod Readings
 pub mod Shape
 mod Reviewed
+pub mod DocumentNumbers
+pub mod RootContents
+pub mod PolicyFiles
+pub mod Decided

@@ -22,10 +22,10 @@ use Rattle.clap.specs.declared.builder.value_parser.ValueParser.TheVariants as p
 use Rattle.clap.specs.declared.error.kind.ErrorKind.{ErrorKind}
 use Rattle.clap.specs.declared.parser.matches.ValueSource.{ValueSource}
 use Rattle.clap.specs.declared.parser.matches.ValueSource.TheVariants.{CommandLine, DefaultValue}
-use Rattle.review_runner.specs.Commands.{asm_app, image_rule, list_app, steps_rule, text_rule, review_rule, namespace_rule, params_rule, running_app, run_image_app, debug_app, bare_app}
+use Rattle.review_runner.specs.Commands.{asm_app, image_rule, list_app, steps_rule, text_rule, review_rule, namespace_rule, params_rule, policy_rule, named_policy_rule, given_review_rule, compile_app, review_app, reviewed_app, deciding_app, running_app, run_image_app, debug_app, bare_app}
 use Rattle.review_runner.specs.Commands.{celbpf_app, faults, entered}
 use Rattle.review_runner.specs.Number.{number_of, number_written, writes_u64}
-use Rattle.review_runner.specs.Order.{Ordered, IsWithinLimits, assemble_in, debug_in, list_in, order_in, order_view, run_image_in}
+use Rattle.review_runner.specs.Order.{Ordered, IsWithinLimits, assemble_in, compile_in, debug_in, list_in, order_in, order_view, review_in, run_image_in}
 use Rattle.review_runner.specs.Order.{task_named}
 use Rattle.review_runner.specs.declared.order.Order.{Order}
 use Rattle.review_runner.specs.declared.order_error.OrderError.{OrderError}
@@ -126,7 +126,7 @@ level_keeps s words ok e =
     defaults_keep RowsOk s.rules _ (all_defaults_keep s.rules ok.1) (settle_keeps RowsOk s [] ok.0 end q.0 (walk_keeps RowsOk s [] ok.0 words (walk_from nothing_held) p.0 tt))
 
 shapes : Each ShapeOk (built celbpf_app).subs
-unfolding celbpf_app running_app bare_app run_image_app asm_app list_app debug_app image_rule steps_rule text_rule review_rule namespace_rule params_rule
+unfolding celbpf_app deciding_app running_app bare_app compile_app review_app reviewed_app run_image_app asm_app list_app debug_app image_rule steps_rule text_rule review_rule namespace_rule params_rule policy_rule named_policy_rule given_review_rule
 shapes = (
   (
     (
@@ -153,15 +153,45 @@ shapes = (
       ),
       (
         (
-          ((λ vs rows e g. set_keeps _ _ _ rows (λ is. cc) g), ((λ vs rows e g. g), tt)),
-          ((λ is. cc), ((λ is. cc), tt)),
+          (
+            (λ vs rows e g. set_keeps _ _ _ rows (λ is. cc) g),
+            (
+              (λ vs rows e g. set_keeps _ _ _ rows (λ is. cc) g),
+              (
+                (λ vs rows e g. set_keeps _ _ _ rows (λ is. cc) g),
+                (
+                  (λ vs rows e g. set_keeps _ _ _ rows (λ is. cc) g),
+                  (
+                    (λ vs rows e g. set_keeps _ _ _ rows (λ is. (values_within false _ (nothing _ _ (nothing _ _ e).1).1, refl)) g),
+                    ((λ vs rows e g. g), tt),
+                  ),
+                ),
+              ),
+            ),
+          ),
+          ((λ is. cc), ((λ is. cc), ((λ is. cc), ((λ is. cc), ((λ is. ((refl, tt), refl)), ((λ is. cc), tt)))))),
         ),
         (
           (
-            ((λ vs rows e g. with_keeps _ _ CommandLine _ rows (λ is. cc) g), tt),
-            ((λ is. cc), tt),
+            (
+              (λ vs rows e g. set_keeps _ _ _ rows (λ is. cc) g),
+              ((λ vs rows e g. set_keeps _ _ _ rows (λ is. cc) g), ((λ vs rows e g. g), tt)),
+            ),
+            ((λ is. cc), ((λ is. cc), ((λ is. cc), tt))),
           ),
-          tt,
+          (
+            (
+              ((λ vs rows e g. set_keeps _ _ _ rows (λ is. cc) g), ((λ vs rows e g. g), tt)),
+              ((λ is. cc), ((λ is. cc), tt)),
+            ),
+            (
+              (
+                ((λ vs rows e g. with_keeps _ _ CommandLine _ rows (λ is. cc) g), tt),
+                ((λ is. cc), tt),
+              ),
+              tt,
+            ),
+          ),
         ),
       ),
     ),
@@ -220,15 +250,17 @@ of_rows : (rows : List Row) → RowsOk rows
 of_rows rows g = of_row (find (λ r. bytes_eq r.id (codes "steps")) rows) (found_so RowOk (λ r. bytes_eq r.id (codes "steps")) rows g)
 
 of_task : (name : Text) (rows : List Row) → RowsOk rows → IsWithinLimits (task_named name rows)
-unfolding run_image_in assemble_in list_in debug_in
-of_task name rows g = by (bytes_eq name (codes "run-image")) (bytes_eq name (codes "asm")) (bytes_eq name (codes "list"))
+unfolding compile_in review_in run_image_in assemble_in list_in debug_in
+of_task name rows g = by (bytes_eq name (codes "compile")) (bytes_eq name (codes "review")) (bytes_eq name (codes "run-image")) (bytes_eq name (codes "asm")) (bytes_eq name (codes "list"))
   where
-    by : (a b c : Bool)
-        → IsWithinLimits (if a then run_image_in rows else (if b then assemble_in rows else (if c then list_in rows else debug_in rows)))
-    by true b c = of_rows rows g
-    by false true c = tt
-    by false false true = tt
-    by false false false = tt
+    by : (c r a b l : Bool)
+        → IsWithinLimits (if c then compile_in rows else (if r then review_in rows else (if a then run_image_in rows else (if b then assemble_in rows else (if l then list_in rows else debug_in rows)))))
+    by true r a b l = tt
+    by false true a b l = of_rows rows g
+    by false false true b l = of_rows rows g
+    by false false false true l = tt
+    by false false false false true = tt
+    by false false false false false = tt
 
 abbrev TakenIsOk : List Text → Shape → Type 0
 TakenIsOk words s = level_fault s [] nothing_held words false [] ≡ [] → RowsOk (rows_after s.rules [] words)

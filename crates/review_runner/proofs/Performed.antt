@@ -3,7 +3,7 @@ use Rattle.std.proofs.Common.{◌≡◌, ℕ, true, List, Result, Ok, Err, Optio
 use Rattle.std.specs.Prelude.{IfOk, IsErr, OnErr}
 use Rattle.std.specs.declared.alloc.AllocError.{AllocError}
 use Rattle.review_runner.specs.FileSystem.{FileSystem, IsWriting, KeepsFiles}
-use Rattle.review_runner.specs.Order.{Task, assemble, debug, list, run_image}
+use Rattle.review_runner.specs.Order.{Task, assemble, compile, debug, list, review, run_image}
 use Rattle.review_runner.specs.Output.{Outcome, Output, Report, output_by, output_of, refused}
 use Rattle.review_runner.specs.Performing.{IsDone, LacksMemory, Performs, PerformsBy, WritesImage, failed, lacks_memory, nothing, only_reads, performs, written}
 use Rattle.review_runner.specs.declared.done.Done.{Done}
@@ -15,12 +15,16 @@ use Rattle.review_runner.proofs.Assembled.{same_files}
 -- ---- files
 
 read_alone : (old new : Option FileSystem) (task : Task) (outcome : Outcome) → Performs old task new outcome → only_reads task ≡ true → new ≡ old
+read_alone old new (compile policy image) outcome p is = cc
+read_alone old new (review files n) outcome p is = p.stays
 read_alone old new (run_image image n) outcome p is = p.stays
 read_alone old new (assemble text image) outcome p is = cc
 read_alone old new (list image) outcome p is = p.stays
 read_alone old new (debug image documents) outcome p is = absurd p
 
 lacked_alone : (old new : Option FileSystem) (task : Task) → LacksMemory old task new → only_reads task ≡ true → new ≡ old
+lacked_alone old new (compile policy image) l is = cc
+lacked_alone old new (review files n) l is = absurd l
 lacked_alone old new (run_image image n) l is = l.0
 lacked_alone old new (assemble text image) l is = cc
 lacked_alone old new (list image) l is = l.0
@@ -42,12 +46,16 @@ kept_by_image old new name file outcome (written {bytes} write) is = cc
 kept_by_image old new name file outcome (failed {bytes} write) is = kept_by_write old new name bytes write
 
 kept_by_task : (old new : Option FileSystem) (task : Task) (outcome : Outcome) → Performs old task new outcome → IsErr outcome → KeepsFiles old new
+kept_by_task old new (compile policy image) outcome p is = kept_by_image old new image p.file outcome p.writes is
+kept_by_task old new (review files n) outcome p is = same_files old new p.stays
 kept_by_task old new (run_image image n) outcome p is = same_files old new p.stays
 kept_by_task old new (assemble text image) outcome p is = kept_by_image old new image p.file outcome p.writes is
 kept_by_task old new (list image) outcome p is = same_files old new p.stays
 kept_by_task old new (debug image documents) outcome p is = absurd p
 
 kept_by_lack : (old new : Option FileSystem) (task : Task) → LacksMemory old task new → KeepsFiles old new
+kept_by_lack old new (compile policy image) l = l.0
+kept_by_lack old new (review files n) l = absurd l
 kept_by_lack old new (run_image image n) l = same_files old new l.0
 kept_by_lack old new (assemble text image) l = l.0
 kept_by_lack old new (list image) l = same_files old new l.0

@@ -17,7 +17,7 @@ use Rattle.review_runner.specs.declared.file_error.FileError.{FileError}
 use Rattle.review_runner.specs.declared.file_error.FileError.TheVariants.{Failed}
 use Rattle.review_runner.specs.declared.file_error.FileError.TheVariants as file_error
 use Rattle.review_runner.specs.declared.refusal.Refusal.{Refusal}
-use Rattle.review_runner.specs.declared.refusal.Refusal.TheVariants.{Words, Image, File, Text, Program, Documents, Input, Output, Memory}
+use Rattle.review_runner.specs.declared.refusal.Refusal.TheVariants.{Words, Image, File, Text, Program, Policy, Run, Input, Output, Memory}
 
 -- ---- answers
 
@@ -74,7 +74,8 @@ ran old new image n reading (Err (Image e)) read stays due = ran_so old new imag
 ran old new image n reading (Err File) read stays due = ran_so old new image n reading _ read stays due
 ran old new image n reading (Err Text) read stays due = ran_so old new image n reading _ read stays due
 ran old new image n reading (Err (Program e)) read stays due = ran_so old new image n reading _ read stays due
-ran old new image n reading (Err (Documents e)) read stays due = ran_so old new image n reading _ read stays due
+ran old new image n reading (Err (Policy e)) read stays due = ran_so old new image n reading _ read stays due
+ran old new image n reading (Err (Run e)) read stays due = ran_so old new image n reading _ read stays due
 ran old new image n reading (Err Input) read stays due = ran_so old new image n reading _ read stays due
 ran old new image n reading (Err Output) read stays due = ran_so old new image n reading _ read stays due
 
@@ -99,7 +100,8 @@ not_listed old new image (Image e) o stays = listed_none old new image _ o.readi
 not_listed old new image File o stays = listed_none old new image _ o.reading o.is_reading stays o.opens
 not_listed old new image Text o stays = listed_none old new image _ o.reading o.is_reading stays o.opens
 not_listed old new image (Program e) o stays = listed_none old new image _ o.reading o.is_reading stays o.opens
-not_listed old new image (Documents e) o stays = listed_none old new image _ o.reading o.is_reading stays o.opens
+not_listed old new image (Policy e) o stays = listed_none old new image _ o.reading o.is_reading stays o.opens
+not_listed old new image (Run e) o stays = listed_none old new image _ o.reading o.is_reading stays o.opens
 not_listed old new image Input o stays = listed_none old new image _ o.reading o.is_reading stays o.opens
 not_listed old new image Output o stays = listed_none old new image _ o.reading o.is_reading stays o.opens
 

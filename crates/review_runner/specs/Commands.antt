@@ -15,6 +15,17 @@ image_rule = record (new_rule (codes "IMAGE")) { required = true }
 unfoldable pub text_rule : Rule
 text_rule = record (new_rule (codes "TEXT")) { required = true }
 
+-- the file name of a policy, which has to be there
+unfoldable pub policy_rule : Rule
+policy_rule = record (new_rule (codes "POLICY")) { required = true }
+
+unfoldable pub named_policy_rule : Rule
+named_policy_rule = record (new_rule (codes "policy")) { long = Some (codes "policy"); required = true }
+
+-- that of a review, which has to be there
+unfoldable pub given_review_rule : Rule
+given_review_rule = record (new_rule (codes "review")) { long = Some (codes "review"); required = true }
+
 -- a number of steps, at most 1,000,000,000 of them
 unfoldable pub steps_rule : Rule
 steps_rule = record (new_rule (codes "steps")) {
@@ -51,6 +62,18 @@ list_app = with_rule (new_app (codes "list")) image_rule
 unfoldable pub debug_app : App
 debug_app = with_rule (with_rule (with_rule (with_rule (new_app (codes "debug")) image_rule) review_rule) namespace_rule) params_rule
 
+-- compile POLICY IMAGE
+unfoldable pub compile_app : App
+compile_app = with_rule (with_rule (new_app (codes "compile")) policy_rule) image_rule
+
+-- review --policy F --review F
+unfoldable pub reviewed_app : App
+reviewed_app = with_rule (with_rule (new_app (codes "review")) named_policy_rule) given_review_rule
+
+-- review --policy F --review F [--namespace F] [--params F] [--steps N]
+unfoldable pub review_app : App
+review_app = with_rule (with_rule (with_rule reviewed_app namespace_rule) params_rule) steps_rule
+
 -- celbpf alone does nothing: it wants a command
 unfoldable pub bare_app : App
 bare_app = on_top (λ s. record s { subcommand_required = true }) (new_app (codes "celbpf"))
@@ -59,9 +82,13 @@ bare_app = on_top (λ s. record s { subcommand_required = true }) (new_app (code
 unfoldable pub running_app : App
 running_app = with_subcommand (with_subcommand bare_app run_image_app.top) debug_app.top
 
--- and those that write one and list one
+-- those, and the commands on a policy
+unfoldable pub deciding_app : App
+deciding_app = with_subcommand (with_subcommand running_app compile_app.top) review_app.top
+
+-- and those that write an image of a text and list one
 unfoldable pub celbpf_app : App
-celbpf_app = with_subcommand (with_subcommand running_app asm_app.top) list_app.top
+celbpf_app = with_subcommand (with_subcommand deciding_app asm_app.top) list_app.top
 
 -- ---- a command line
 

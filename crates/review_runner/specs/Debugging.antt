@@ -18,7 +18,7 @@ use Rattle.review_runner.specs.Reviews.{contents_given}
 use Rattle.review_runner.specs.declared.file_error.FileError.{FileError}
 use Rattle.review_runner.specs.declared.held_files.HeldFiles.{HeldFiles}
 use Rattle.review_runner.specs.declared.refusal.Refusal.{Refusal}
-use Rattle.review_runner.specs.declared.refusal.Refusal.TheVariants.{Words, Image, File, Text, Program, Documents, Input, Output, Memory}
+use Rattle.review_runner.specs.declared.refusal.Refusal.TheVariants.{Words, Image, File, Text, Program, Policy, Run, Input, Output, Memory}
 use Rattle.review_runner.specs.declared.run_error.RunError.{RunError}
 
 -- ---- files
@@ -136,7 +136,8 @@ DebugsByResult known name files r r_after w w_after (Err Memory) =
     DebugsNone known name files r r_after w w_after Memory ⊎ Debugs known name files r r_after w w_after (Err session_error.Memory)
 DebugsByResult known name files r r_after w w_after (Err File) = DebugsNone known name files r r_after w w_after File
 DebugsByResult known name files r r_after w w_after (Err (Image e)) = DebugsNone known name files r r_after w w_after (Image e)
-DebugsByResult known name files r r_after w w_after (Err (Documents e)) = DebugsNone known name files r r_after w w_after (Documents e)
+DebugsByResult known name files r r_after w w_after (Err (Run e)) = DebugsNone known name files r r_after w w_after (Run e)
 DebugsByResult known name files r r_after w w_after (Err Words) = ⊥
 DebugsByResult known name files r r_after w w_after (Err Text) = ⊥
 DebugsByResult known name files r r_after w w_after (Err (Program e)) = ⊥
+DebugsByResult known name files r r_after w w_after (Err (Policy e)) = ⊥

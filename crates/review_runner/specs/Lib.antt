@@ -6,9 +6,11 @@ pub mod Commands
 pub mod Number
 pub mod Order
 pub mod Reviews
+pub mod Deciding
 pub mod RootRows
 pub mod Rows
 pub mod Opening
 pub mod Debugging
+pub mod PolicyFiles
 pub mod Performing
 pub mod Program

@@ -6,6 +6,7 @@ use Rattle.clap.specs.Words.{Row, Text, first_of, one_of}
 use Rattle.review_runner.specs.Number.{number_of}
 use Rattle.review_runner.specs.Commands.{faults, entered}
 use Rattle.review_runner.specs.declared.document_names.DocumentNames.{DocumentNames}
+use Rattle.review_runner.specs.declared.review_names.ReviewNames.{ReviewNames}
 use Rattle.review_runner.specs.declared.order.Order.{Order}
 use Rattle.review_runner.specs.declared.order.Order.TheVariants as code
 use Rattle.review_runner.specs.declared.order_error.OrderError.{OrderError}
@@ -24,8 +25,27 @@ files_view names = record {
   params = option_map string_bytes names.params;
 }
 
+-- the file names of a policy and of the documents of a review, of which the last two may be left out
+pub record ReviewFiles : Type 0 where
+  pub policy : Text
+  pub review : Text
+  pub namespace : Option Text
+  pub params : Option Text
+
+abbrev pub review_files_view : ReviewNames → ReviewFiles
+review_files_view names = record {
+  policy = string_bytes names.policy;
+  review = string_bytes names.review;
+  namespace = option_map string_bytes names.namespace;
+  params = option_map string_bytes names.params;
+}
+
 -- what is asked for, as plain data: a constructor for each command
 pub data Task : Type 0 where
+  -- the file names of a policy and of its image
+  compile : Text → Text → Task
+  -- the files of a policy and of a review's documents, and the most steps
+  review : ReviewFiles → ℕ → Task
   -- the image's file name, and the most steps
   run_image : Text → ℕ → Task
   -- the file names of a program's text and of its image
@@ -36,6 +56,8 @@ pub data Task : Type 0 where
   debug : Text → DocumentFiles → Task
 
 abbrev pub order_view : Order → Task
+order_view (code.Compile policy image) = compile (string_bytes policy) (string_bytes image)
+order_view (code.Review files steps) = review (review_files_view files) steps
 order_view (code.RunImage image steps) = run_image (string_bytes image) steps
 order_view (code.Assemble text image) = assemble (string_bytes text) (string_bytes image)
 order_view (code.List image) = list (string_bytes image)
@@ -44,6 +66,17 @@ order_view (code.Debug image names) = debug (string_bytes image) (files_view nam
 -- ---- from the values of a command's arguments to its task
 
 -- a value that is not there is read as the empty name, or as the default number of steps
+unfoldable pub compile_in : List Row → Task
+compile_in rows = compile (unwrap_or (first_of (codes "POLICY") rows) []) (unwrap_or (first_of (codes "IMAGE") rows) [])
+
+unfoldable pub review_in : List Row → Task
+review_in rows = review (record {
+  policy = unwrap_or (first_of (codes "policy") rows) [];
+  review = unwrap_or (first_of (codes "review") rows) [];
+  namespace = first_of (codes "namespace") rows;
+  params = first_of (codes "params") rows;
+}) (unwrap_or (number_of (one_of (codes "steps") rows)) 10000000)
+
 unfoldable pub run_image_in : List Row → Task
 run_image_in rows = run_image (unwrap_or (first_of (codes "IMAGE") rows) [])
     (unwrap_or (number_of (one_of (codes "steps") rows)) 10000000)
@@ -64,10 +97,12 @@ debug_in rows = debug (unwrap_or (first_of (codes "IMAGE") rows) []) (record {
 -- by the command's name; the last command is the one that is left
 abbrev pub task_named : Text → List Row → Task
 task_named name rows =
-    if bytes_eq name (codes "run-image") then run_image_in rows
+    if bytes_eq name (codes "compile") then compile_in rows
+    else (if bytes_eq name (codes "review") then review_in rows
+    else (if bytes_eq name (codes "run-image") then run_image_in rows
     else (if bytes_eq name (codes "asm") then assemble_in rows
     else (if bytes_eq name (codes "list") then list_in rows
-    else debug_in rows))
+    else debug_in rows))))
 
 abbrev pub order_in : Option (Text × List Row) → Option Task
 order_in (Some p) = Some (task_named p.0 p.1)
@@ -92,6 +127,8 @@ Ordered words (Err Memory) = Unit {0}
 
 -- a session, which reads and writes as it goes on
 abbrev pub is_session : Task → Bool
+is_session (compile policy image) = false
+is_session (review files steps) = false
 is_session (run_image image steps) = false
 is_session (assemble text image) = false
 is_session (list image) = false
@@ -101,5 +138,6 @@ is_session (debug image documents) = true
 
 -- no task asks for more steps than a run may have
 abbrev pub IsWithinLimits : Task → Type 0
+IsWithinLimits (review files steps) = steps ≤ 1000000000
 IsWithinLimits (run_image image steps) = steps ≤ 1000000000
 IsWithinLimits _ = Unit {0}

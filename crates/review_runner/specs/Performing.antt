@@ -14,8 +14,9 @@ use Rattle.loader.specs.declared.load_error.LoadError.{LoadError}
 use Rattle.loader.specs.declared.version.Version.TheVariants.{First}
 use Rattle.review_runner.specs.FileSystem.{FileSystem, Reading, IsReading, IsWriting, KeepsFiles}
 use Rattle.review_runner.specs.Opening.{OpensFile, opened}
-use Rattle.review_runner.specs.Order.{Task, assemble, debug, list, run_image}
+use Rattle.review_runner.specs.Order.{Task, assemble, compile, debug, list, review, run_image}
 use Rattle.review_runner.specs.Output.{Outcome, Output, output_by, run_image_outcome, succeeded}
+use Rattle.review_runner.specs.PolicyFiles.{CompiledFrom, HasRead, ReviewsFiles}
 use Rattle.review_runner.specs.Refusals.{file_refusal, load_refusal}
 use Rattle.review_runner.specs.declared.file_error.FileError.{FileError}
 use Rattle.review_runner.specs.declared.file_error.FileError.TheVariants.{Failed}
@@ -68,10 +69,20 @@ pub record AssemblesTo (old : Option FileSystem) (text image : List ℕ) (new : 
   pub assembled : Assembled reading file
   pub writes : WritesImage old image file new outcome
 
+-- `compile`, whatever its files hold
+pub record CompilesTo (old : Option FileSystem) (policy image : List ℕ) (new : Option FileSystem) (outcome : Outcome) : Type 0 where
+  pub reading : Reading
+  pub is_reading : IsReading old policy reading
+  pub file : Result (List ℕ) Refusal
+  pub compiled : CompiledFrom reading file
+  pub writes : WritesImage old image file new outcome
+
 -- ---- all orders
 
 -- what a task does: a session does not go this way
 abbrev pub Performs : Option FileSystem → Task → Option FileSystem → Outcome → Type 0
+Performs old (compile policy image) new outcome = CompilesTo old policy image new outcome
+Performs old (review files n) new outcome = ReviewsFiles old files n new outcome
 Performs old (run_image image n) new outcome = RunsImage old image n new outcome
 Performs old (assemble text image) new outcome = AssemblesTo old text image new outcome
 Performs old (list image) new outcome = ListsImage old image new outcome
@@ -91,6 +102,8 @@ pub record AssemblesFile (known : Option FileSystem) (name : List ℕ) (result :
 
 -- memory ran out: known files stay, and no refusal stood before anything grew
 abbrev pub LacksMemory : Option FileSystem → Task → Option FileSystem → Type 0
+LacksMemory old (compile policy image) new = KeepsFiles old new × HasRead old policy
+LacksMemory old (review files n) new = ⊥
 LacksMemory old (run_image image n) new = (new ≡ old) × OpensFile old image (Err Memory)
 LacksMemory old (assemble text image) new = KeepsFiles old new × AssemblesFile old text (Err Memory)
 LacksMemory old (list image) new = (new ≡ old) × OpensFile old image (Err Memory)
@@ -110,6 +123,8 @@ pub record IsDone (old : Option FileSystem) (task : Task) (new : Option FileSyst
 
 -- the task writes no file
 abbrev pub only_reads : Task → Bool
+only_reads (compile policy image) = false
+only_reads (review files n) = true
 only_reads (run_image image n) = true
 only_reads (assemble text image) = false
 only_reads (list image) = true

@@ -6,6 +6,13 @@ use Rattle.assembler.specs.declared.asm_error.AsmError.TheVariants as asm_error
 use Rattle.debugger.specs.declared.session_error.SessionError.{SessionError}
 use Rattle.debugger.specs.declared.session_error.SessionError.TheVariants.{S1, S2}
 use Rattle.debugger.specs.declared.session_error.SessionError.TheVariants as session_error
+use Rattle.policy_glue.specs.CompileErrors.{compile_text}
+use Rattle.policy_glue.specs.declared.compile_error.CompileError.{CompileError}
+use Rattle.policy_glue.specs.declared.compile_error.CompileError.TheVariants.{K6, K7, K9, G3, G4}
+use Rattle.policy_glue.specs.declared.compile_error.CompileError.TheVariants as compile_error
+use Rattle.policy_glue.specs.declared.policy_error.PolicyError.{PolicyError}
+use Rattle.policy_glue.specs.declared.policy_error.PolicyError.TheVariants.{K1, K2, K3, K4, K5, K8}
+use Rattle.policy_glue.specs.declared.policy_error.PolicyError.TheVariants as policy_error
 use Rattle.loader.specs.declared.load_error.LoadError.{LoadError}
 use Rattle.loader.specs.declared.load_error.LoadError.TheVariants.{L1, L2, L3, L4, L5}
 use Rattle.loader.specs.declared.load_error.LoadError.TheVariants as load_error
@@ -16,10 +23,13 @@ use Rattle.review_runner.specs.declared.order_error.OrderError.{OrderError}
 use Rattle.review_runner.specs.declared.order_error.OrderError.TheVariants.{U1}
 use Rattle.review_runner.specs.declared.order_error.OrderError.TheVariants as order_error
 use Rattle.review_runner.specs.declared.run_error.RunError.{RunError}
-use Rattle.review_runner.specs.declared.run_error.RunError.TheVariants.{N2, N3}
+use Rattle.review_runner.specs.declared.policy_refusal.PolicyRefusal.{PolicyRefusal}
+use Rattle.review_runner.specs.declared.policy_refusal.PolicyRefusal.TheVariants.{Unread, Uncompiled}
+use Rattle.review_runner.specs.declared.policy_refusal.PolicyRefusal.TheVariants as policy_refusal
+use Rattle.review_runner.specs.declared.run_error.RunError.TheVariants.{N1, N2, N3, N4, N5}
 use Rattle.review_runner.specs.declared.run_error.RunError.TheVariants as run_error
 use Rattle.review_runner.specs.declared.refusal.Refusal.{Refusal}
-use Rattle.review_runner.specs.declared.refusal.Refusal.TheVariants.{Words, Image, File, Text, Program, Documents, Input, Output, Memory}
+use Rattle.review_runner.specs.declared.refusal.Refusal.TheVariants.{Words, Image, File, Text, Program, Policy, Run, Input, Output, Memory}
 
 -- ---- causes
 
@@ -52,10 +62,44 @@ program_refusal (A5 line) = Program (A5 line)
 program_refusal (A6 line) = Program (A6 line)
 program_refusal asm_error.Memory = Memory
 
--- why documents give no roots
+-- why a document says no policy
+abbrev pub document_refusal : PolicyError → PolicyRefusal
+document_refusal K1 = Unread K1
+document_refusal K2 = Unread K2
+document_refusal K3 = Unread K3
+document_refusal K4 = Unread K4
+document_refusal K5 = Unread K5
+document_refusal K8 = Unread K8
+document_refusal policy_error.Memory = policy_refusal.Memory
+
+-- why a policy is not compiled
+abbrev pub compile_refusal : CompileError → PolicyRefusal
+compile_refusal (K6 part place e) = Uncompiled (K6 part place e)
+compile_refusal K7 = Uncompiled K7
+compile_refusal K9 = Uncompiled K9
+compile_refusal G3 = Uncompiled G3
+compile_refusal G4 = Uncompiled G4
+compile_refusal compile_error.Memory = policy_refusal.Memory
+
+-- why a policy gives no image
+abbrev pub policy_refusal_of : PolicyRefusal → Refusal
+policy_refusal_of (Unread e) = Policy (Unread e)
+policy_refusal_of (Uncompiled e) = Policy (Uncompiled e)
+policy_refusal_of policy_refusal.Memory = Memory
+
+-- the same of a review's policy
+abbrev pub run_policy_refusal : PolicyRefusal → RunError
+run_policy_refusal (Unread e) = N1 (Unread e)
+run_policy_refusal (Uncompiled e) = N1 (Uncompiled e)
+run_policy_refusal policy_refusal.Memory = run_error.Memory
+
+-- why a review is not answered
 abbrev pub run_refusal : RunError → Refusal
-run_refusal N2 = Documents N2
-run_refusal N3 = Documents N3
+run_refusal (N1 e) = Run (N1 e)
+run_refusal N2 = Run N2
+run_refusal N3 = Run N3
+run_refusal N4 = Run N4
+run_refusal N5 = Run N5
 run_refusal run_error.Memory = Memory
 
 -- why a session broke off
@@ -85,11 +129,30 @@ text_refusal (A5 line) = codes "A5 line " ++ decimal line
 text_refusal (A6 line) = codes "A6 line " ++ decimal line
 text_refusal asm_error.Memory = codes "memory"
 
--- the number of refused documents
-abbrev pub documents_refusal : RunError → List ℕ
-documents_refusal N2 = codes "N2"
-documents_refusal N3 = codes "N3"
-documents_refusal run_error.Memory = codes "memory"
+-- the number of a document that says no policy
+abbrev pub document_text : PolicyError → List ℕ
+document_text K1 = codes "K1"
+document_text K2 = codes "K2"
+document_text K3 = codes "K3"
+document_text K4 = codes "K4"
+document_text K5 = codes "K5"
+document_text K8 = codes "K8"
+document_text policy_error.Memory = codes "memory"
+
+-- the number of a refused policy, and what it says more
+abbrev pub policy_text : PolicyRefusal → List ℕ
+policy_text (Unread e) = document_text e
+policy_text (Uncompiled e) = compile_text e
+policy_text policy_refusal.Memory = codes "memory"
+
+-- the number of a review that is not answered, with the policy's refusal
+abbrev pub run_text : RunError → List ℕ
+run_text (N1 e) = codes "N1 " ++ policy_text e
+run_text N2 = codes "N2"
+run_text N3 = codes "N3"
+run_text N4 = codes "N4"
+run_text N5 = codes "N5"
+run_text run_error.Memory = codes "memory"
 
 abbrev pub refusal_text : Refusal → List ℕ
 refusal_text Words = codes "U1"
@@ -97,7 +160,8 @@ refusal_text (Image e) = image_refusal e
 refusal_text File = codes "file"
 refusal_text Text = codes "text"
 refusal_text (Program e) = text_refusal e
-refusal_text (Documents e) = documents_refusal e
+refusal_text (Policy e) = policy_text e
+refusal_text (Run e) = run_text e
 refusal_text Input = codes "S1"
 refusal_text Output = codes "S2"
 refusal_text Memory = codes "memory"
@@ -106,7 +170,17 @@ refusal_text Memory = codes "memory"
 abbrev pub refusal_line : Refusal → List ℕ
 refusal_line r = codes "celbpf: " ++ (refusal_text r ++ 10 ∷ [])
 
+-- a run without a verdict ends with 4, all else that keeps a review from its answer with 3
+abbrev pub run_error_status : RunError → ℕ
+run_error_status (N1 e) = 3
+run_error_status N2 = 3
+run_error_status N3 = 3
+run_error_status N4 = 4
+run_error_status N5 = 4
+run_error_status run_error.Memory = 3
+
 -- words that are not taken end with 2, input, files and memory with 3
 abbrev pub refusal_status : Refusal → ℕ
 refusal_status Words = 2
+refusal_status (Run e) = run_error_status e
 refusal_status _ = 3

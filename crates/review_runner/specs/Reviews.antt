@@ -10,9 +10,9 @@ use Rattle.value_store.specs.Roots.{start_contents}
 use Rattle.value_store.specs.declared.table_error.TableError.{TableError}
 use Rattle.value_store.specs.declared.table_error.TableError.TheVariants.{V1, V2, V3}
 use Rattle.value_store.specs.declared.table_error.TableError.TheVariants as table_error
-use Rattle.review_runner.specs.declared.review.Review.{Review}
+use Rattle.review_runner.specs.declared.review_document.Review.{Review}
 use Rattle.review_runner.specs.declared.run_error.RunError.{RunError}
-use Rattle.review_runner.specs.declared.run_error.RunError.TheVariants.{N2, N3, Memory}
+use Rattle.review_runner.specs.declared.run_error.RunError.TheVariants.{N1, N2, N3, N4, N5, Memory}
 
 -- ---- documents
 
@@ -103,29 +103,56 @@ abbrev pub accepted : Result Contents TableError → Result Contents RunError
 accepted (Ok contents) = Ok contents
 accepted (Err e) = Err (root_refusal e)
 
--- the values at the start, or the first refusal: of the review's form, of the namespace, of the params, of the roots
-abbrev pub contents_from : Option Parts → Option json.Data → Option json.Data → Result Contents RunError
-contents_from (Some parts) (Some namespace) (Some params) = accepted (start_contents (roots_from parts namespace params))
-contents_from (Some parts) (Some namespace) None = Err N3
-contents_from (Some parts) None params = Err N3
-contents_from None namespace params = Err N2
+-- the documents of the roots, or the first refusal: of the review's form, of the namespace, of the params
+abbrev pub documents_from : Option Parts → Option json.Data → Option json.Data → Result (List json.Data) RunError
+documents_from (Some parts) (Some namespace) (Some params) = Ok (roots_from parts namespace params)
+documents_from (Some parts) (Some namespace) None = Err N3
+documents_from (Some parts) None params = Err N3
+documents_from None namespace params = Err N2
 
 -- the same of the documents of a review, a namespace and the params
+unfoldable pub documents_given : Option (List ℕ) → Option (List ℕ) → Option (List ℕ) → Result (List json.Data) RunError
+documents_given review namespace params = documents_from (parts_given review) (document_given namespace) (document_given params)
+
+-- the values at the start of these roots, or the first refusal
+abbrev pub contents_from : Result (List json.Data) RunError → Result Contents RunError
+contents_from (Ok roots) = accepted (start_contents roots)
+contents_from (Err e) = Err e
+
 unfoldable pub contents_given : Option (List ℕ) → Option (List ℕ) → Option (List ℕ) → Result Contents RunError
-contents_given review namespace params = contents_from (parts_given review) (document_given namespace) (document_given params)
+contents_given review namespace params = contents_from (documents_given review namespace params)
+
+-- ---- uids
+
+abbrev pub text_or_empty : Option json.Data → List ℕ
+text_or_empty (Some (json.string s)) = s
+text_or_empty _ = []
+
+abbrev pub uid_of : json.Data → List ℕ
+uid_of request = text_or_empty (get (codes "uid") request)
+
+-- the uid of the request of a review, which has one
+unfoldable pub uid_in : List ℕ → List ℕ
+uid_in bytes = text_or_empty (option_and_then (get_member (codes "uid")) (option_and_then request_of (document_of bytes)))
 
 -- ---- answers
 
 -- what is due was read, or this refusal is; memory may run out first
 abbrev pub Reads : {A B : Type 0} → RunError → (B → A) → Option A → Result B RunError → Type 0
 Reads refusal see due (Ok b) = due ≡ Some (see b)
+Reads refusal see due (Err (N1 e)) = ⊥
 Reads refusal see due (Err N2) = (due ≡ None) × (refusal ≡ N2)
 Reads refusal see due (Err N3) = (due ≡ None) × (refusal ≡ N3)
+Reads refusal see due (Err N4) = ⊥
+Reads refusal see due (Err N5) = ⊥
 Reads refusal see due (Err Memory) = Unit {0}
 
 -- the answer is the one that is due; memory may run out first
 abbrev pub Gives : {A B : Type 0} → (B → A) → Result A RunError → Result B RunError → Type 0
 Gives see due (Ok b) = due ≡ Ok (see b)
+Gives see due (Err (N1 e)) = due ≡ Err (N1 e)
 Gives see due (Err N2) = due ≡ Err N2
 Gives see due (Err N3) = due ≡ Err N3
+Gives see due (Err N4) = due ≡ Err N4
+Gives see due (Err N5) = due ≡ Err N5
 Gives see due (Err Memory) = Unit {0}

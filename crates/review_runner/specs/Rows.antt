@@ -2,7 +2,7 @@
 use Rattle.std.specs.Prelude.{◌≡◌, List, [], ◌∷◌, ◌++◌, Some, None, codes}
 use Rattle.clap.specs.Words.{Text}
 use Rattle.review_runner.specs.Commands.{faults, entered}
-use Rattle.review_runner.specs.Order.{DocumentFiles, Task, order_in}
+use Rattle.review_runner.specs.Order.{DocumentFiles, ReviewFiles, Task, order_in}
 
 -- the words are taken, and ask for this
 abbrev pub IsTakenAs : List Text → Task → Type 0
@@ -41,3 +41,25 @@ list_words = codes "celbpf" ∷ codes "list" ∷ codes "a.img" ∷ []
 -- celbpf run-image a.img --steps N
 abbrev pub with_steps : Text → List Text
 with_steps number = without_steps ++ codes "--steps" ∷ number ∷ []
+
+-- celbpf compile p.json a.img
+abbrev pub compile_words : List Text
+compile_words = codes "celbpf" ∷ codes "compile" ∷ codes "p.json" ∷ codes "a.img" ∷ []
+
+-- celbpf review --policy p.json
+abbrev pub without_review : List Text
+without_review = codes "celbpf" ∷ codes "review" ∷ codes "--policy" ∷ codes "p.json" ∷ []
+
+-- celbpf review --policy p.json --review r.json
+abbrev pub review_words : List Text
+review_words = without_review ++ codes "--review" ∷ codes "r.json" ∷ []
+
+-- celbpf review --policy p.json --review r.json --namespace n.json --params q.json --steps 896
+abbrev pub review_all_words : List Text
+review_all_words = review_words ++ codes "--namespace" ∷ codes "n.json" ∷ codes "--params" ∷ codes "q.json" ∷ codes "--steps" ∷ codes "896" ∷ []
+
+abbrev pub two_files : ReviewFiles
+two_files = record { policy = codes "p.json"; review = codes "r.json"; namespace = None; params = None }
+
+abbrev pub four_files : ReviewFiles
+four_files = record { policy = codes "p.json"; review = codes "r.json"; namespace = Some (codes "n.json"); params = Some (codes "q.json") }

@@ -2,7 +2,7 @@
 ghost use Rattle.std.specs.Prelude.{◌≡◌, map, IfOk, false, true};
 ghost use Rattle.clap.specs.Words.{app_of, has_subcommand, rule_of, subcommand_rows_of, FailsBy};
 ghost use Rattle.clap.specs.declared.builder.command.Command.TheViews.{out-Command as fields_of};
-ghost use Rattle.review_runner.specs.Commands.{asm_app, celbpf_app, debug_app, image_rule, list_app, namespace_rule, params_rule, review_rule, run_image_app, running_app, steps_rule, text_rule};
+ghost use Rattle.review_runner.specs.Commands.{asm_app, celbpf_app, compile_app, debug_app, deciding_app, given_review_rule, image_rule, list_app, named_policy_rule, namespace_rule, params_rule, policy_rule, review_app, review_rule, reviewed_app, run_image_app, running_app, steps_rule, text_rule};
 ghost use Rattle.review_runner.specs.Commands.{faults, entered};
 
 use clap::{Arg, ArgMatches, Command, Error, value_parser};
@@ -24,6 +24,33 @@ fn text_argument<'a>(alloc: Global) -> Arg<'a>
     ensures local { result.global ≡ false }
 {
     Arg::new(alloc, "TEXT").required(true)
+}
+
+// POLICY, the file of a policy
+#[tactic(auto, unfolding(crate::specs::Commands::policy_rule))]
+fn policy_argument<'a>(alloc: Global) -> Arg<'a>
+    ensures rule { rule_of result ≡ policy_rule }
+    ensures local { result.global ≡ false }
+{
+    Arg::new(alloc, "POLICY").required(true)
+}
+
+// --policy F, the file of a policy, which has to be there
+#[tactic(auto, unfolding(crate::specs::Commands::named_policy_rule))]
+fn named_policy_argument<'a>(alloc: Global) -> Arg<'a>
+    ensures rule { rule_of result ≡ named_policy_rule }
+    ensures local { result.global ≡ false }
+{
+    Arg::new(alloc, "policy").long("policy").required(true)
+}
+
+// --review F, the file of a review, which has to be there
+#[tactic(auto, unfolding(crate::specs::Commands::given_review_rule))]
+fn given_review_argument<'a>(alloc: Global) -> Arg<'a>
+    ensures rule { rule_of result ≡ given_review_rule }
+    ensures local { result.global ≡ false }
+{
+    Arg::new(alloc, "review").long("review").required(true)
 }
 
 // --steps N, the most instructions that may run
@@ -102,6 +129,36 @@ fn debug_command<'a>(alloc: Global) -> Result<Command<'a>, AllocError>
     command.arg(params_argument(alloc))
 }
 
+#[tactic(auto, unfolding(crate::specs::Commands::compile_app))]
+fn compile_command<'a>(alloc: Global) -> Result<Command<'a>, AllocError>
+    ensures shape { IfOk result (λ c. app_of c ≡ compile_app) }
+    ensures local { IfOk result (λ c. (fields_of c).has_globals ≡ false) }
+{
+    let command = Command::new(alloc, "compile").arg(policy_argument(alloc))?;
+    command.arg(image_argument(alloc))
+}
+
+// the command `review` with the arguments that have to be there
+#[tactic(auto, unfolding(crate::specs::Commands::reviewed_app))]
+fn reviewed_command<'a>(alloc: Global) -> Result<Command<'a>, AllocError>
+    ensures shape { IfOk result (λ c. app_of c ≡ reviewed_app) }
+    ensures local { IfOk result (λ c. (fields_of c).has_globals ≡ false) }
+{
+    let command = Command::new(alloc, "review").arg(named_policy_argument(alloc))?;
+    command.arg(given_review_argument(alloc))
+}
+
+#[tactic(auto, unfolding(crate::specs::Commands::review_app))]
+fn review_command<'a>(alloc: Global) -> Result<Command<'a>, AllocError>
+    ensures shape { IfOk result (λ c. app_of c ≡ review_app) }
+    ensures local { IfOk result (λ c. (fields_of c).has_globals ≡ false) }
+{
+    let command = reviewed_command(alloc)?;
+    let command = command.arg(namespace_argument(alloc))?;
+    let command = command.arg(params_argument(alloc))?;
+    command.arg(steps_argument(alloc))
+}
+
 // the program, with the commands that run an image
 #[tactic(auto, unfolding(crate::specs::Commands::running_app, crate::specs::Commands::bare_app))]
 fn running_command<'a>(alloc: Global) -> Result<Command<'a>, AllocError>
@@ -113,13 +170,24 @@ fn running_command<'a>(alloc: Global) -> Result<Command<'a>, AllocError>
     command.subcommand(debug_command(alloc)?)
 }
 
+// those, and the commands on a policy
+#[tactic(auto, unfolding(crate::specs::Commands::deciding_app))]
+fn deciding_command<'a>(alloc: Global) -> Result<Command<'a>, AllocError>
+    ensures shape { IfOk result (λ c. app_of c ≡ deciding_app) }
+    ensures local { IfOk result (λ c. (fields_of c).has_globals ≡ false) }
+{
+    let command = running_command(alloc)?;
+    let command = command.subcommand(compile_command(alloc)?)?;
+    command.subcommand(review_command(alloc)?)
+}
+
 // the program, with each of its commands
 #[tactic(auto, unfolding(crate::specs::Commands::celbpf_app))]
 fn celbpf_command<'a>(alloc: Global) -> Result<Command<'a>, AllocError>
     ensures shape { IfOk result (λ c. app_of c ≡ celbpf_app) }
     ensures local { IfOk result (λ c. (fields_of c).has_globals ≡ false) }
 {
-    let command = running_command(alloc)?;
+    let command = deciding_command(alloc)?;
     let command = command.subcommand(asm_command(alloc)?)?;
     command.subcommand(list_command(alloc)?)
 }

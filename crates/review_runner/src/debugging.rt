@@ -23,7 +23,7 @@ use value_table::Table;
 ///
 /// # Errors
 ///
-/// `File`, `Image` and `Documents` where there is nothing to debug, `Input` and `Output` where the
+/// `File`, `Image` and `Run` where there is nothing to debug, `Input` and `Output` where the
 /// session broke off, and `Memory` before its first line.
 pub fn debug<F: Files, R: Source, W: Sink>(
     alloc: Global,

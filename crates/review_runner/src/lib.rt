@@ -8,6 +8,8 @@ mod assembling;
 #[cfg(test)]
 mod assembling_tests;
 mod command_line;
+mod compiled_policy;
+mod compiling;
 mod debugging;
 mod document;
 mod document_names;
@@ -17,6 +19,7 @@ mod doubles;
 mod file_error;
 mod files;
 mod held_files;
+mod held_review;
 mod listing;
 mod null_table;
 mod opening;
@@ -27,13 +30,20 @@ mod order_tests;
 mod performing;
 #[cfg(test)]
 mod performing_tests;
+mod policy_refusal;
 mod program;
 #[cfg(test)]
 mod program_tests;
 pub mod reader;
 mod refusal;
 mod refusal_line;
-mod review;
+mod reply;
+mod review_document;
+mod review_files;
+mod review_names;
+#[cfg(test)]
+mod review_tests;
+mod reviewing;
 #[cfg(test)]
 mod root_tests;
 mod root_values;
@@ -52,8 +62,12 @@ pub use files::Files;
 pub use order::Order;
 pub use order_error::OrderError;
 pub use performing::perform;
+pub use policy_refusal::PolicyRefusal;
 pub use program::exit_code;
 pub use refusal::Refusal;
+pub use reply::Reply;
+pub use review_names::ReviewNames;
+pub use reviewing::review;
 pub use root_values::roots;
 pub use run_error::RunError;
 pub use running::{RunImageError, run_image};

@@ -8,11 +8,13 @@ ghost use Rattle.review_runner.specs.Performing.{IsDone, only_reads, PerformsBy}
 
 use crate::answer::Answer;
 use crate::assembling::assemble_file;
+use crate::compiling::compile_file;
 use crate::done::Done;
 use crate::files::Files;
 use crate::listing::list_file;
 use crate::order::Order;
 use crate::refusal::Refusal;
+use crate::review_files::review_files;
 use crate::running::run_image;
 use bpf_machine::Status;
 use std::alloc::{AllocError, Global};
@@ -45,6 +47,13 @@ pub(crate) fn outcome<F: Files>(
     ensures { PerformsBy (F.known files.old) (order_view order.now) (F.known files.new) (outcome_of result) }
 {
     match order {
+        Order::Compile { policy, image } => {
+            compile_file(alloc, policy.as_str(), image.as_str(), files)
+        }
+        Order::Review {
+            files: names,
+            steps,
+        } => review_files(alloc, names, *steps, files),
         Order::RunImage { image, steps } => run_file(alloc, image.as_str(), *steps, files),
         Order::Assemble { text, image } => {
             assemble_file(alloc, text.as_str(), image.as_str(), files)

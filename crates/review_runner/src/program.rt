@@ -74,9 +74,11 @@ fn done<F: Files, R: Source, W: Sink>(
     ensures { DoesTask (system (F.known files.old) (stream (R.left input.old) (R.failed input.old)) (stream (W.taken output.old) (W.failed output.old))) (system (F.known files.new) (stream (R.left input.new) (R.failed input.new)) (stream (W.taken output.new) (W.failed output.new))) (order_view order.now) result }
 {
     match order {
-        Order::RunImage { .. } | Order::Assemble { .. } | Order::List { .. } => {
-            answer(alloc, order, files, output)
-        }
+        Order::Compile { .. }
+        | Order::Review { .. }
+        | Order::RunImage { .. }
+        | Order::Assemble { .. }
+        | Order::List { .. } => answer(alloc, order, files, output),
         Order::Debug { image, documents } => {
             debug(alloc, image.as_str(), documents, files, input, output)?;
             Ok(0)

@@ -1,13 +1,14 @@
 //! From the words of a command line to the order that they give.
 ghost use Rattle.std.specs.Prelude.{map, IfOk};
 ghost use Rattle.clap.specs.Words.{found_of, rows_of};
-ghost use Rattle.review_runner.specs.Order.{assemble_in, debug_in, list_in, order_view, run_image_in, task_named};
+ghost use Rattle.review_runner.specs.Order.{assemble_in, compile_in, debug_in, list_in, order_view, review_in, run_image_in, task_named};
 ghost use Rattle.review_runner.specs.Order.{Gives, IsWithinLimits, Ordered};
 
 use crate::command_line::parse;
 use crate::document_names::DocumentNames;
 use crate::order::Order;
 use crate::order_error::OrderError;
+use crate::review_names::ReviewNames;
 use crate::values::{name_in, number_in, text_or_empty};
 use clap::ArgMatches;
 use clap::error::ErrorKind;
@@ -15,6 +16,29 @@ use std::alloc::Global;
 
 // the steps of a run where the words give no number
 const DEFAULT_STEPS: u64 = 10_000_000;
+
+#[tactic(auto, unfolding(crate::specs::Order::compile_in))]
+fn compile_order(alloc: Global, matches: &ArgMatches) -> Result<Order, OrderError>
+    ensures { Gives (compile_in (rows_of (found_of matches.now))) result }
+{
+    let policy = String::from_str(alloc, text_or_empty(matches, "POLICY"))?;
+    let image = String::from_str(alloc, text_or_empty(matches, "IMAGE"))?;
+    Ok(Order::Compile { policy, image })
+}
+
+#[tactic(auto, unfolding(crate::specs::Order::review_in))]
+fn review_order(alloc: Global, matches: &ArgMatches) -> Result<Order, OrderError>
+    ensures { Gives (review_in (rows_of (found_of matches.now))) result }
+{
+    let files = ReviewNames {
+        policy: String::from_str(alloc, text_or_empty(matches, "policy"))?,
+        review: String::from_str(alloc, text_or_empty(matches, "review"))?,
+        namespace: name_in(alloc, matches, "namespace")?,
+        params: name_in(alloc, matches, "params")?,
+    };
+    let steps = number_in(matches, "steps").unwrap_or(DEFAULT_STEPS);
+    Ok(Order::Review { files, steps })
+}
 
 #[tactic(auto, unfolding(crate::specs::Order::run_image_in))]
 fn run_image_order(alloc: Global, matches: &ArgMatches) -> Result<Order, OrderError>
@@ -60,6 +84,8 @@ fn order_named(alloc: Global, name: &str, matches: &ArgMatches) -> Result<Order,
     ensures { Gives (task_named name.now (rows_of (found_of matches.now))) result }
 {
     match name {
+        "compile" => compile_order(alloc, matches),
+        "review" => review_order(alloc, matches),
         "run-image" => run_image_order(alloc, matches),
         "asm" => assemble_order(alloc, matches),
         "list" => list_order(alloc, matches),

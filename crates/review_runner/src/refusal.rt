@@ -1,12 +1,13 @@
 //! Why the program does not do what it is asked.
 ghost use Rattle.std.specs.Prelude.{◌≡◌, IfOk};
 ghost use Rattle.review_runner.specs.Output.{output_of, refused};
-ghost use Rattle.review_runner.specs.Refusals.{file_refusal, load_refusal, order_refusal, program_refusal, refusal_status, run_refusal, session_refusal};
+ghost use Rattle.review_runner.specs.Refusals.{file_refusal, load_refusal, order_refusal, policy_refusal_of, program_refusal, refusal_status, run_error_status, run_refusal, session_refusal};
 ghost use Rattle.review_runner.specs.declared.refusal.Refusal.TheVariants as refusal;
 
 use crate::done::Done;
 use crate::file_error::FileError;
 use crate::order_error::OrderError;
+use crate::policy_refusal::PolicyRefusal;
 use crate::refusal_line::refusal_line;
 use crate::run_error::RunError;
 use assembler::AsmError;
@@ -27,8 +28,10 @@ pub enum Refusal {
     Text,
     /// A program's text is refused.
     Program(AsmError),
-    /// The documents of a review are refused.
-    Documents(RunError),
+    /// A policy gives no image.
+    Policy(PolicyRefusal),
+    /// A review is not answered.
+    Run(RunError),
     /// The input of a session could not be read.
     Input,
     /// The output of a session could not be written.
@@ -44,6 +47,7 @@ impl Refusal {
     {
         match self {
             Refusal::Words => 2,
+            Refusal::Run(error) => run_error_status(error),
             _ => 3,
         }
     }
@@ -128,13 +132,24 @@ impl From<OrderError> for Refusal {
     }
 }
 
+impl From<PolicyRefusal> for Refusal {
+    ghost from_gives = { λ e r. r ≡ policy_refusal_of e };
+
+    fn from(error: PolicyRefusal) -> Refusal {
+        match error {
+            PolicyRefusal::Memory => Refusal::Memory,
+            _ => Refusal::Policy(error),
+        }
+    }
+}
+
 impl From<RunError> for Refusal {
     ghost from_gives = { λ e r. r ≡ run_refusal e };
 
     fn from(error: RunError) -> Refusal {
         match error {
             RunError::Memory => Refusal::Memory,
-            _ => Refusal::Documents(error),
+            _ => Refusal::Run(error),
         }
     }
 }
@@ -148,5 +163,15 @@ impl From<SessionError> for Refusal {
             SessionError::S2 => Refusal::Output,
             SessionError::Memory => Refusal::Memory,
         }
+    }
+}
+
+/// The status that the program ends with where a review is not answered.
+fn run_error_status(error: RunError) -> u8
+    ensures { result ≡ run_error_status error }
+{
+    match error {
+        RunError::N4 | RunError::N5 => 4,
+        RunError::N1(_) | RunError::N2 | RunError::N3 | RunError::Memory => 3,
     }
 }

@@ -1,11 +1,16 @@
 //! The line of standard error that tells of a refusal.
 ghost use Rattle.std.specs.Prelude.{◌≡◌, ◌≤◌, ◌<◌, ◌+◌, ◌∷◌, ◌++◌, [], length, decimal, codes};
-ghost use Rattle.review_runner.specs.Refusals.{documents_refusal, image_refusal, refusal_line, refusal_text, text_refusal};
+ghost use Rattle.review_runner.specs.Refusals.{document_text, image_refusal, policy_text, refusal_line, refusal_text, run_text, text_refusal};
+ghost use Rattle.policy_glue.specs.CompileErrors.{compile_text, expression_text, kind_text, macro_text, reading_text, type_text};
 
+use crate::policy_refusal::PolicyRefusal;
 use crate::refusal::Refusal;
 use crate::run_error::RunError;
 use assembler::AsmError;
 use loader::LoadError;
+use policy_glue::{
+    CompileError, ExpressionError, MacroError, PartKind, PolicyError, ReadError, TypeError,
+};
 use smallvec::SmallVec;
 use std::alloc::Global;
 use std::marker::Model;
@@ -21,11 +26,11 @@ pub fn refusal_line(alloc: Global, refusal: Refusal) -> RefusalLine
     line
 }
 
-/// A line in room of its own for 64 bytes, the most being the 37 of a text refused at a line with
-/// 20 digits.
+/// A line in room of its own for 80 bytes, the most being the 73 of a validation that is refused, with
+/// 20 digits each for its place and for that in its text.
 #[derive(Drop)]
 pub struct RefusalLine {
-    bytes: SmallVec<u8, 64>,
+    bytes: SmallVec<u8, 80>,
 }
 
 impl Model for RefusalLine {
@@ -36,7 +41,7 @@ impl Model for RefusalLine {
 
     ghost view = { λ l. l.bytes.items };
 
-    ghost invariant = { λ l. l.bytes.capacity ≡ 64 };
+    ghost invariant = { λ l. l.bytes.capacity ≡ 80 };
 }
 
 impl RefusalLine {
@@ -59,7 +64,7 @@ impl RefusalLine {
     fn push_refusal(&mut self, refusal: Refusal)
         requires { length self.old ≤ 8 }
         ensures text { self.new ≡ self.old ++ refusal_text refusal }
-        ensures length { length self.new ≤ 36 }
+        ensures length { length self.new ≤ 72 }
     {
         match refusal {
             Refusal::Words => self.push_text("U1"),
@@ -67,7 +72,8 @@ impl RefusalLine {
             Refusal::File => self.push_text("file"),
             Refusal::Text => self.push_text("text"),
             Refusal::Program(error) => self.push_program(error),
-            Refusal::Documents(error) => self.push_text(documents_refusal(error)),
+            Refusal::Policy(error) => self.push_policy(error),
+            Refusal::Run(error) => self.push_run(error),
             Refusal::Input => self.push_text("S1"),
             Refusal::Output => self.push_text("S2"),
             Refusal::Memory => self.push_text("memory"),
@@ -91,6 +97,118 @@ impl RefusalLine {
         }
     }
 
+    /// Appends the number of a review that is not answered.
+    fn push_run(&mut self, error: RunError)
+        requires { length self.old ≤ 8 }
+        ensures text { self.new ≡ self.old ++ run_text error }
+        ensures length { length self.new ≤ 72 }
+    {
+        match error {
+            RunError::N1(refusal) => self.push_refused_policy(refusal),
+            RunError::N2 => self.push_text("N2"),
+            RunError::N3 => self.push_text("N3"),
+            RunError::N4 => self.push_text("N4"),
+            RunError::N5 => self.push_text("N5"),
+            RunError::Memory => self.push_text("memory"),
+        }
+    }
+
+    /// Appends that a review's policy is refused, and why.
+    fn push_refused_policy(&mut self, refusal: PolicyRefusal)
+        requires { length self.old ≤ 8 }
+        ensures text { self.new ≡ self.old ++ (codes "N1 " ++ policy_text refusal) }
+        ensures length { length self.new ≤ 72 }
+    {
+        self.push_text("N1 ");
+        self.push_policy(refusal);
+    }
+
+    /// Appends why a policy gives no image.
+    fn push_policy(&mut self, refusal: PolicyRefusal)
+        requires { length self.old ≤ 11 }
+        ensures text { self.new ≡ self.old ++ policy_text refusal }
+        ensures length { length self.new ≤ 72 }
+    {
+        match refusal {
+            PolicyRefusal::Unread(error) => self.push_text(document_text(error)),
+            PolicyRefusal::Uncompiled(error) => self.push_compile_error(error),
+            PolicyRefusal::Memory => self.push_text("memory"),
+        }
+    }
+
+    /// Appends why a policy is not compiled.
+    fn push_compile_error(&mut self, error: CompileError)
+        requires { length self.old ≤ 11 }
+        ensures text { self.new ≡ self.old ++ compile_text error }
+        ensures length { length self.new ≤ 72 }
+    {
+        match error {
+            CompileError::K6(part, place, error) => self.push_part(part, place, error),
+            CompileError::K7 => self.push_text("K7"),
+            CompileError::K9 => self.push_text("K9"),
+            CompileError::G3 => self.push_text("G3"),
+            CompileError::G4 => self.push_text("G4"),
+            CompileError::Memory => self.push_text("memory"),
+        }
+    }
+
+    /// Appends which part of a policy is refused, and why.
+    fn push_part(&mut self, part: PartKind, place: usize, error: ExpressionError)
+        requires { length self.old ≤ 11 }
+        ensures text { self.new ≡ self.old ++ (codes "K6 " ++ (kind_text part ++ (codes " " ++ (decimal place ++ (codes " " ++ expression_text error))))) }
+        ensures length { length self.new ≤ 72 }
+    {
+        self.push_text("K6 ");
+        self.push_text(kind_text(part));
+        self.push_text(" ");
+        self.push_number(place);
+        self.push_text(" ");
+        self.push_expression(error);
+    }
+
+    /// Appends why an expression is refused.
+    fn push_expression(&mut self, error: ExpressionError)
+        requires { length self.old ≤ 46 }
+        ensures text { self.new ≡ self.old ++ expression_text error }
+        ensures length { length self.new ≤ 72 }
+    {
+        match error {
+            ExpressionError::Unread(error) => self.push_read_error(error),
+            ExpressionError::Unexpanded(error) => self.push_text(macro_text(error)),
+            ExpressionError::Untyped(error) => self.push_text(type_text(error)),
+            ExpressionError::G1 => self.push_text("G1"),
+            ExpressionError::G2 => self.push_text("G2"),
+            ExpressionError::Memory => self.push_text("memory"),
+        }
+    }
+
+    /// Appends why a text is no expression, and where.
+    fn push_read_error(&mut self, error: ReadError)
+        requires { length self.old ≤ 46 }
+        ensures text { self.new ≡ self.old ++ reading_text error }
+        ensures length { length self.new ≤ 72 }
+    {
+        match error {
+            ReadError::P1(place) => self.push_at("P1 at ", place),
+            ReadError::P2(place) => self.push_at("P2 at ", place),
+            ReadError::P3(place) => self.push_at("P3 at ", place),
+            ReadError::P4(place) => self.push_at("P4 at ", place),
+            ReadError::P5(place) => self.push_at("P5 at ", place),
+            ReadError::P6(place) => self.push_at("P6 at ", place),
+            ReadError::Memory => self.push_text("memory"),
+        }
+    }
+
+    /// Appends these words and a place.
+    fn push_at(&mut self, words: &str, place: usize)
+        requires { length self.old + length words.now ≤ 52 }
+        ensures text { self.new ≡ self.old ++ (words.now ++ decimal place) }
+        ensures length { length self.new ≤ 72 }
+    {
+        self.push_text(words);
+        self.push_number(place);
+    }
+
     /// Appends these words and a line's number.
     fn push_at_line(&mut self, words: &str, line: usize)
         requires { length self.old + length words.now ≤ 16 }
@@ -103,7 +221,7 @@ impl RefusalLine {
 
     /// Appends a number's decimal digits.
     fn push_number(&mut self, n: usize)
-        requires { length self.old + length (decimal n) ≤ 64 }
+        requires { length self.old + length (decimal n) ≤ 80 }
         ensures { self.new ≡ self.old ++ decimal n }
     {
         if n < 10 {
@@ -117,7 +235,7 @@ impl RefusalLine {
     /// Appends a decimal digit.
     fn push_digit(&mut self, digit: usize)
         requires digit { digit < 10 }
-        requires room { length self.old < 64 }
+        requires room { length self.old < 80 }
         ensures { self.new ≡ self.old ++ (48 + digit) ∷ [] }
     {
         self.bytes.push_reserved(48 + digit as u8);
@@ -125,7 +243,7 @@ impl RefusalLine {
 
     /// Appends a text.
     fn push_text(&mut self, text: &str)
-        requires { length self.old + length text.now ≤ 64 }
+        requires { length self.old + length text.now ≤ 80 }
         ensures { self.new ≡ self.old ++ text.now }
     {
         match self.bytes.extend_from_slice(text.as_bytes()) {
@@ -150,14 +268,56 @@ fn image_refusal(error: LoadError) -> &'static str
     }
 }
 
-/// The number of refused documents.
-fn documents_refusal(error: RunError) -> &'static str
-    ensures text { result.now ≡ documents_refusal error }
+/// The number of a document that says no policy.
+fn document_text(error: PolicyError) -> &'static str
+    ensures text { result.now ≡ document_text error }
     ensures length { length result.now ≤ 6 }
 {
     match error {
-        RunError::N2 => "N2",
-        RunError::N3 => "N3",
-        RunError::Memory => "memory",
+        PolicyError::K1 => "K1",
+        PolicyError::K2 => "K2",
+        PolicyError::K3 => "K3",
+        PolicyError::K4 => "K4",
+        PolicyError::K5 => "K5",
+        PolicyError::K8 => "K8",
+        PolicyError::Memory => "memory",
+    }
+}
+
+/// The word for a part of a policy.
+fn kind_text(part: PartKind) -> &'static str
+    ensures text { result.now ≡ kind_text part }
+    ensures length { length result.now ≤ 10 }
+{
+    match part {
+        PartKind::Variable => "variable",
+        PartKind::Condition => "condition",
+        PartKind::Validation => "validation",
+        PartKind::Message => "message",
+    }
+}
+
+/// The number of a macro that is not well formed.
+fn macro_text(error: MacroError) -> &'static str
+    ensures text { result.now ≡ macro_text error }
+    ensures length { length result.now ≤ 6 }
+{
+    match error {
+        MacroError::M1 => "M1",
+        MacroError::M2 => "M2",
+        MacroError::M3 => "M3",
+        MacroError::Memory => "memory",
+    }
+}
+
+/// The number of an expression without a type.
+fn type_text(error: TypeError) -> &'static str
+    ensures text { result.now ≡ type_text error }
+    ensures length { length result.now ≤ 6 }
+{
+    match error {
+        TypeError::Y1 => "Y1",
+        TypeError::Y2 => "Y2",
+        TypeError::Y3 => "Y3",
     }
 }

@@ -1,10 +1,12 @@
 //! The values of the roots of a review.
-ghost use Rattle.std.specs.Prelude.{◌≡◌, option_map};
-ghost use Rattle.review_runner.specs.Reviews.{contents_given, Gives};
+ghost use Rattle.std.specs.Prelude.{◌≡◌, map, option_map};
+ghost use Rattle.serde_json.specs.View.{view};
+ghost use Rattle.review_runner.specs.Reviews.{contents_given, documents_given, Gives};
 
 use crate::document::optional_document;
-use crate::review::read_review;
+use crate::review_document::read_review;
 use crate::run_error::RunError;
+use serde_json::Value;
 use std::alloc::Global;
 use value_store::ValueStore;
 use value_table::Table;
@@ -27,15 +29,28 @@ pub fn roots(
 ) -> Result<Table, RunError>
     ensures { Gives (λ t. record { values = ⟦<Table as ValueStore>⟧.values t; charge = ⟦<Table as ValueStore>⟧.charge t }) (contents_given (option_map (λ b. b.now) review.entry) (option_map (λ b. b.now) namespace.entry) (option_map (λ b. b.now) params.entry)) result }
 {
+    let documents = root_documents(alloc, review, namespace, params)?;
+    Ok(Table::of_roots(alloc, &documents)?)
+}
+
+/// The documents of those roots, in the order of their references.
+#[tactic(auto, unfolding(crate::specs::Reviews::documents_given))]
+pub(crate) fn root_documents(
+    alloc: Global,
+    review: Option<&[u8]>,
+    namespace: Option<&[u8]>,
+    params: Option<&[u8]>,
+) -> Result<[Value; 5], RunError>
+    ensures { Gives (λ ds. map view ds) (documents_given (option_map (λ b. b.now) review.entry) (option_map (λ b. b.now) namespace.entry) (option_map (λ b. b.now) params.entry)) result }
+{
     let review = read_review(alloc, review)?;
     let namespace = optional_document(alloc, namespace)?;
     let params = optional_document(alloc, params)?;
-    let roots = [
+    Ok([
         review.object,
         review.old_object,
         params,
         namespace,
         review.request,
-    ];
-    Ok(Table::of_roots(alloc, &roots)?)
+    ])
 }

@@ -1,8 +1,8 @@
 //! Command lines and documents written out, with the orders and the values that the definitions give
 //! for them.
 ghost use Rattle.review_runner.specs.RootRows.{RootRowsStand};
-ghost use Rattle.review_runner.specs.Rows.{all_documents, asm_words, debug_all_words, debug_words, list_words, no_documents, without_steps, with_steps, IsRefused, IsTakenAs};
-ghost use Rattle.review_runner.specs.Order.{assemble, debug, list, run_image};
+ghost use Rattle.review_runner.specs.Rows.{all_documents, asm_words, compile_words, debug_all_words, debug_words, four_files, list_words, no_documents, review_all_words, review_words, two_files, without_review, without_steps, with_steps, IsRefused, IsTakenAs};
+ghost use Rattle.review_runner.specs.Order.{assemble, compile, debug, list, review, run_image};
 ghost use Rattle.std.specs.Prelude.{codes};
 
 /// `celbpf run-image a.img --steps 5` runs `a.img` for at most 5 steps, and without `--steps` it is
@@ -24,6 +24,20 @@ pub fn debug_rows_stand()
 /// `celbpf asm a.txt a.img` assembles `a.txt` to `a.img`.
 pub fn asm_row_stands()
     ensures { IsTakenAs asm_words (assemble (codes "a.txt") (codes "a.img")) }
+{}
+
+/// `celbpf compile p.json a.img` compiles `p.json` to `a.img`.
+pub fn compile_row_stands()
+    ensures { IsTakenAs compile_words (compile (codes "p.json") (codes "a.img")) }
+{}
+
+/// `celbpf review --policy p.json --review r.json` reviews `r.json` under `p.json`, for at most
+/// 10,000,000 steps, and with `--namespace`, `--params` and `--steps` on those documents and for so many.
+/// A review has to be there.
+pub fn review_rows_stand()
+    ensures alone { IsTakenAs review_words (review two_files 10000000) }
+    ensures all { IsTakenAs review_all_words (review four_files 896) }
+    ensures none { IsRefused without_review }
 {}
 
 /// `celbpf list a.img` lists `a.img`.

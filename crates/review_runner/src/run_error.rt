@@ -1,15 +1,20 @@
-//! Why the documents of a review were refused.
+//! Why a review is not answered.
 ghost use Rattle.std.specs.Prelude.{◌≡◌};
+ghost use Rattle.review_runner.specs.Refusals.{run_policy_refusal};
 ghost use Rattle.review_runner.specs.Reviews.{refusal_at, root_refusal};
 ghost use Rattle.review_runner.specs.declared.run_error.RunError.TheVariants as run_error;
 
+use crate::policy_refusal::PolicyRefusal;
 use std::alloc::AllocError;
 use thiserror::Error;
 use value_store::TableError;
 
-/// Why the documents of a review were refused.
+/// Why a review is not answered. Where several hold, the first one counts.
 #[derive(Clone, Copy, Debug, PartialEq, Eq, Error)]
 pub enum RunError {
+    /// The policy gives no image.
+    #[error("the policy is refused")]
+    N1(PolicyRefusal),
     /// The review: it is no JSON text or has not a review's form, or the root object, oldObject or
     /// request is refused, or the roots together are too large.
     #[error("the review is refused")]
@@ -17,6 +22,12 @@ pub enum RunError {
     /// The namespace or the params: one is no JSON text, or is refused as a root.
     #[error("the namespace or the params are refused")]
     N3,
+    /// The policy's program has not stopped within the steps that it may take.
+    #[error("the policy's program has not ended")]
+    N4,
+    /// The policy's program was stopped, since its charge would pass the limit or a value is too deep.
+    #[error("the policy's program was stopped")]
+    N5,
     /// Memory ran out.
     #[error("out of memory")]
     Memory,
@@ -27,6 +38,17 @@ impl From<AllocError> for RunError {
 
     fn from(_error: AllocError) -> RunError {
         RunError::Memory
+    }
+}
+
+impl From<PolicyRefusal> for RunError {
+    ghost from_gives = { λ e r. r ≡ run_policy_refusal e };
+
+    fn from(error: PolicyRefusal) -> RunError {
+        match error {
+            PolicyRefusal::Memory => RunError::Memory,
+            _ => RunError::N1(error),
+        }
     }
 }
 

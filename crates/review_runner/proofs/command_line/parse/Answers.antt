@@ -3,7 +3,7 @@ use Rattle.std.proofs.lemmas.Result.{IfOk-weaker}
 use Rattle.clap.specs.Words.{App, Text, FailsBy, fault_of, is_simple, is_simple_and_free}
 use Rattle.clap.specs.Words.{subcommand_of}
 use Rattle.clap.proofs.CallerLemmas.{subcommand_required}
-use Rattle.review_runner.specs.Commands.{celbpf_app, bare_app, running_app, faults, entered}
+use Rattle.review_runner.specs.Commands.{celbpf_app, bare_app, deciding_app, running_app, faults, entered}
 use Rattle.review_runner.proofs.Shape.{simple, free}
 use Rattle.review_runner.proofs.command_line.parse.Goals as goal
 
@@ -26,7 +26,7 @@ returns-clause-faults c =
     (c.try_get_matches_from.ensures.kinds (ap is_simple_and_free is ∙ free))
 
 pub returns-clause-named : goal.returns-clause-named
-unfolding celbpf_app running_app bare_app
+unfolding celbpf_app deciding_app running_app bare_app
 returns-clause-named c =
     let local = c.in_ok-command.ensures.local in
     let wanted = ap (λ (a : App). a.top.subcommand_required) c.in_ok-command.ensures.shape in

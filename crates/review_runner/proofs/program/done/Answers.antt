@@ -12,5 +12,5 @@ pub returns-in_ok-debug-in-Debug : goal.returns-in_ok-debug-in-Debug
 returns-in_ok-debug-in-Debug g c =
     debugged _ _ _ _ _ _ (ap order_view c.in-Debug.is) c.as_str.ensures.value c.in_ok-debug-in-Debug.ensures.debugs c.in_ok-debug-in-Debug.ensures.known
 
-pub returns-in-RunImage : goal.returns-in-RunImage
-returns-in-RunImage g c = order c.answer.ensures refl
+pub returns-in-Compile : goal.returns-in-Compile
+returns-in-Compile g c = order c.answer.ensures refl

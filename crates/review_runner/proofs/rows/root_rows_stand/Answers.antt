@@ -2,11 +2,11 @@ use Rattle.std.proofs.Common.{refl}
 use Rattle.std.specs.Char.{encode_utf8}
 use Rattle.std.specs.Str.{chars, is_utf8}
 use Rattle.serde_json.proofs.OnLiterals.{serde_json_on_literals}
-use Rattle.review_runner.specs.Reviews.{contents_given, document_of, parts_of}
+use Rattle.review_runner.specs.Reviews.{contents_given, document_of, documents_given, parts_of}
 use Rattle.review_runner.proofs.rows.root_rows_stand.Goals as goal
 
 pub returns : goal.returns
-unfolding serde_json_on_literals chars encode_utf8 is_utf8 contents_given document_of parts_of
+unfolding serde_json_on_literals chars encode_utf8 is_utf8 contents_given documents_given document_of parts_of
 returns c = record {
   a_review = refl;
   no_documents = refl;

@@ -1,0 +1,201 @@
+-- The contents at the start of a review's roots.
+use Rattle.std.proofs.Common.{◌≡◌, ℕ, suc, Bool, true, false, List, [], ◌∷◌, ◌++◌, length, Option, Some, None, Result, Ok, Err, bytes_eq, refl, sym, ap, ◌∙◌, subst, arith}
+use Rattle.std.specs.Prelude.{codes, map, nat_le, option_and_then, option_map, unwrap_or, if◌then◌else◌, slice_get}
+use Rattle.serde_json.specs.Data as json
+use Rattle.serde_json.specs.Find.{get, get_member}
+use Rattle.value_store.specs.Laws.{StartIsCanonical}
+use Rattle.value_store.specs.Placing.{Contents, charge_limit, first_values}
+use Rattle.value_store.specs.Roots.{before, contents_of, root_of, root_then, roots_of, sizes, start_contents}
+use Rattle.value_store.specs.Value.{Value, value}
+use Rattle.value_store.specs.declared.table_error.TableError.{TableError}
+use Rattle.value_store.specs.declared.table_error.TableError.TheVariants.{V1, V2, V3}
+use Rattle.value_store.specs.declared.table_error.TableError.TheVariants as table_error
+use Rattle.cel_macros.specs.Environment.{Roots}
+use Rattle.bpf_machine.specs.Starts.{AreDocuments, HasNumbers, MembersHaveNumbers, StartsAreTables}
+use Rattle.codegen_base.specs.Contexts.{HasValues}
+use Rattle.review_runner.specs.Deciding.{started, values_of_roots}
+use Rattle.review_runner.specs.Reviews.{Parts, accepted, contents_from, contents_given, document_given, document_of, documents_from, documents_given, is_review, is_text, member_or_null, members_in, parts_given, parts_in, parts_of, refusal_at, request_of, root_refusal, roots_from, text_or_empty, uid_in, uid_of, without}
+use Rattle.review_runner.specs.declared.run_error.RunError.{RunError}
+use Rattle.review_runner.proofs.DocumentNumbers.{document_fits, get_fits, member_fits}
+use Rattle.review_runner.proofs.Reviewed.{member_kept}
+
+-- ---- the numbers of the roots
+
+record HaveNumbers (p : Parts) : Type 0 where
+  object : HasNumbers p.object
+  old_object : HasNumbers p.old_object
+  request : HasNumbers p.request
+
+without_when : (b : Bool) (k : List ℕ) (d : json.Data) (ms more : json.Members) → HasNumbers d → MembersHaveNumbers ms → MembersHaveNumbers more → MembersHaveNumbers (if b then ms else json.member k d more)
+without_when true k d ms more own rest later = rest
+without_when false k d ms more own rest later = (own, later)
+
+without_fits : (key : List ℕ) (ms : json.Members) → MembersHaveNumbers ms → MembersHaveNumbers (without key ms)
+without_fits key json.no_members has = tt
+without_fits key (json.member k d ms) has = without_when (bytes_eq key k) k d ms (without key ms) has.0 has.1 (without_fits key ms has.1)
+
+null_or : (o : Option json.Data) → ((d : json.Data) → o ≡ Some d → HasNumbers d) → HasNumbers (unwrap_or o json.null)
+null_or None fits = tt
+null_or (Some d) fits = fits d refl
+
+parts_fit : (ms : json.Members) → MembersHaveNumbers ms → HaveNumbers (parts_of ms)
+unfolding parts_of
+parts_fit ms has = record {
+  object = null_or (get_member (codes "object") ms) (λ d is. member_fits (codes "object") ms d has is);
+  old_object = null_or (get_member (codes "oldObject") ms) (λ d is. member_fits (codes "oldObject") ms d has is);
+  request = without_fits (codes "oldObject") (without (codes "object") ms) (without_fits (codes "object") ms has);
+}
+
+kept_when : (b : Bool) (ms out : json.Members) → MembersHaveNumbers ms → (if b then Some ms else None) ≡ Some out → MembersHaveNumbers out
+kept_when true ms out has e = let same : ms ≡ out = cc in subst MembersHaveNumbers same has
+kept_when false ms out has e = absurd (cc)
+
+members_fit : (d : json.Data) (ms : json.Members) → HasNumbers d → members_in d ≡ Some ms → MembersHaveNumbers ms
+members_fit json.null ms has e = absurd (cc)
+members_fit (json.boolean b) ms has e = absurd (cc)
+members_fit (json.number n) ms has e = absurd (cc)
+members_fit (json.string s) ms has e = absurd (cc)
+members_fit (json.array ds) ms has e = absurd (cc)
+members_fit (json.object own) ms has e = kept_when (is_text (get_member (codes "uid") own)) own ms has e
+
+request_by : (o : Option json.Data) (ms : json.Members) → ((d : json.Data) → o ≡ Some d → HasNumbers d) → option_and_then members_in o ≡ Some ms → MembersHaveNumbers ms
+request_by None ms fits e = absurd (cc)
+request_by (Some d) ms fits e = members_fit d ms (fits d refl) e
+
+request_when : (b : Bool) (o : Option json.Data) (ms : json.Members) → ((d : json.Data) → o ≡ Some d → HasNumbers d) → (if b then option_and_then members_in o else None) ≡ Some ms → MembersHaveNumbers ms
+request_when true o ms fits e = request_by o ms fits e
+request_when false o ms fits e = absurd (cc)
+
+request_fits : (d : json.Data) (ms : json.Members) → HasNumbers d → request_of d ≡ Some ms → MembersHaveNumbers ms
+request_fits d ms has e = request_when (is_review d) (get (codes "request") d) ms (λ r is. get_fits (codes "request") d r has is) e
+
+parts_by : (o : Option json.Members) (p : Parts) → ((ms : json.Members) → o ≡ Some ms → MembersHaveNumbers ms) → option_map parts_of o ≡ Some p → HaveNumbers p
+parts_by None p fits e = absurd (cc)
+parts_by (Some ms) p fits e = let same : parts_of ms ≡ p = cc in subst HaveNumbers same (parts_fit ms (fits ms refl))
+
+review_by : (o : Option json.Data) (p : Parts) → ((d : json.Data) → o ≡ Some d → HasNumbers d) → option_and_then parts_in o ≡ Some p → HaveNumbers p
+review_by None p fits e = absurd (cc)
+review_by (Some d) p fits e = parts_by (request_of d) p (λ ms is. request_fits d ms (fits d refl) is) e
+
+review_fits : (review : List ℕ) (p : Parts) → parts_given (Some review) ≡ Some p → HaveNumbers p
+review_fits review p e = review_by (document_of review) p (document_fits review) e
+
+other_fits : (o : Option (List ℕ)) (d : json.Data) → document_given o ≡ Some d → HasNumbers d
+other_fits (Some bytes) d e = document_fits bytes d e
+other_fits None d e = let same : json.null ≡ d = cc in subst HasNumbers same tt
+
+-- five documents, with their numbers
+pub record AreFive (ds : List json.Data) : Type 0 where
+  pub five : length ds ≡ 5
+  pub documents : AreDocuments ds
+
+five_by : (a : Option Parts) (b c : Option json.Data) (ds : List json.Data) → ((p : Parts) → a ≡ Some p → HaveNumbers p) → ((d : json.Data) → b ≡ Some d → HasNumbers d) → ((d : json.Data) → c ≡ Some d → HasNumbers d)
+    → documents_from a b c ≡ Ok ds → AreFive ds
+five_by None b c ds first second third e = absurd (cc)
+five_by (Some p) None c ds first second third e = absurd (cc)
+five_by (Some p) (Some n) None ds first second third e = absurd (cc)
+five_by (Some p) (Some n) (Some q) ds first second third e =
+    let same : roots_from p n q ≡ ds = cc in
+    let parts = first p refl in
+    subst AreFive same (record { five = refl; documents = (parts.object, (parts.old_object, (third q refl, (second n refl, (parts.request, tt))))) })
+
+pub are_five : (review : List ℕ) (namespace params : Option (List ℕ)) (ds : List json.Data) → documents_given (Some review) namespace params ≡ Ok ds → AreFive ds
+unfolding documents_given
+are_five review namespace params ds e = five_by (parts_given (Some review)) (document_given namespace) (document_given params) ds (review_fits review) (other_fits namespace) (other_fits params) e
+
+-- ---- the uid
+
+uid_kept : (ms : json.Members) → uid_of (parts_of ms).request ≡ text_or_empty (get_member (codes "uid") ms)
+unfolding parts_of
+uid_kept ms =
+    ap text_or_empty (member_kept (codes "oldObject") (codes "uid") (without (codes "object") ms) refl)
+    ∙ ap text_or_empty (member_kept (codes "object") (codes "uid") ms refl)
+
+uid_parts : (o : Option json.Members) (p : Parts) → option_map parts_of o ≡ Some p → uid_of p.request ≡ text_or_empty (option_and_then (get_member (codes "uid")) o)
+uid_parts None p e = absurd (cc)
+uid_parts (Some ms) p e = let same : parts_of ms ≡ p = cc in ap (λ (q : Parts). uid_of q.request) (sym same) ∙ uid_kept ms
+
+uid_review : (o : Option json.Data) (p : Parts) → option_and_then parts_in o ≡ Some p → uid_of p.request ≡ text_or_empty (option_and_then (get_member (codes "uid")) (option_and_then request_of o))
+uid_review None p e = absurd (cc)
+uid_review (Some d) p e = uid_parts (request_of d) p e
+
+uid_by : (a : Option Parts) (b c : Option json.Data) (ds : List json.Data) (request : json.Data) (uid : List ℕ) → ((p : Parts) → a ≡ Some p → uid_of p.request ≡ uid) → documents_from a b c ≡ Ok ds → slice_get ds 4 ≡ Some request → uid_of request ≡ uid
+uid_by None b c ds request uid is e at = absurd (cc)
+uid_by (Some p) None c ds request uid is e at = absurd (cc)
+uid_by (Some p) (Some n) None ds request uid is e at = absurd (cc)
+uid_by (Some p) (Some n) (Some q) ds request uid is e at =
+    let same : roots_from p n q ≡ ds = cc in
+    let there : Some p.request ≡ Some request = subst (λ (xs : List json.Data). slice_get xs 4 ≡ Some request) (sym same) at in
+    let own : p.request ≡ request = cc in
+    ap uid_of (sym own) ∙ is p refl
+
+pub uid_is : (review : List ℕ) (namespace params : Option (List ℕ)) (ds : List json.Data) (request : json.Data) → documents_given (Some review) namespace params ≡ Ok ds → slice_get ds 4 ≡ Some request → uid_of request ≡ uid_in review
+unfolding documents_given uid_in
+uid_is review namespace params ds request e at =
+    uid_by (parts_given (Some review)) (document_given namespace) (document_given params) ds request _ (uid_review (document_of review)) e at
+
+-- ---- the contents
+
+more_roots : (count : ℕ) (r : Result Value TableError) (rest : Result (List Value) TableError) (vs : List Value) → ((ws : List Value) → rest ≡ Ok ws → length ws ≡ count) → root_then r rest ≡ Ok vs → length vs ≡ suc count
+more_roots count (Err e) rest vs later h = absurd (cc)
+more_roots count (Ok v) (Err e) vs later h = absurd (cc)
+more_roots count (Ok v) (Ok ws) vs later h = let same : v ∷ ws ≡ vs = cc in ap length (sym same) ∙ ap suc (later ws refl)
+
+as_many : (place : ℕ) (ds : List json.Data) (vs : List Value) → roots_of place ds ≡ Ok vs → length vs ≡ length ds
+as_many place [] vs e = let same : [] ≡ vs = cc in ap length (sym same)
+as_many place (d ∷ ds) vs e = more_roots (length ds) (root_of place d) (roots_of (suc place) ds) vs (as_many (suc place) ds) e
+
+record AreRoots (vs : List Value) : Type 0 where
+  roots : Roots
+  are : vs ≡ values_of_roots roots
+
+five_roots : (vs : List Value) → length vs ≡ 5 → AreRoots vs
+five_roots [] e = absurd (omega (arith, e))
+five_roots (a ∷ []) e = absurd (omega (arith, e))
+five_roots (a ∷ b ∷ []) e = absurd (omega (arith, e))
+five_roots (a ∷ b ∷ c ∷ []) e = absurd (omega (arith, e))
+five_roots (a ∷ b ∷ c ∷ d ∷ []) e = absurd (omega (arith, e))
+five_roots (a ∷ b ∷ c ∷ d ∷ f ∷ []) e = record { roots = record { object = a; old_object = b; params = c; namespace_object = d; request = f }; are = refl }
+five_roots (a ∷ b ∷ c ∷ d ∷ f ∷ g ∷ more) e = absurd (omega (arith, e))
+
+-- the contents are those at the start of some roots
+pub record AreStarted (values : Contents) : Type 0 where
+  pub roots : Roots
+  pub are : values ≡ started roots
+
+limited : (test : Bool) (vs : List Value) (values : Contents) → AreRoots vs → (if test then Ok (record { values = first_values ++ map value vs; charge = sizes vs }) else Err V3) ≡ Ok values → AreStarted values
+limited false vs values own e = absurd (cc)
+limited true vs values own e =
+    let same : record { values = first_values ++ map value vs; charge = sizes vs } ≡ values = cc in
+    record { roots = own.roots; are = sym same ∙ ap (λ (ws : List Value). record { values = first_values ++ map value ws; charge = sizes ws }) own.are }
+
+started_by : (r : Result (List Value) TableError) (values : Contents) → ((vs : List Value) → r ≡ Ok vs → length vs ≡ 5) → contents_of r ≡ Ok values → AreStarted values
+started_by (Err e) values five h = absurd (cc)
+started_by (Ok vs) values five h = limited (nat_le (sizes vs) charge_limit) vs values (five_roots vs (five vs refl)) h
+
+pub are_started : (ds : List json.Data) (values : Contents) → length ds ≡ 5 → start_contents ds ≡ Ok values → AreStarted values
+are_started ds values five e = started_by (roots_of 4 ds) values (λ vs h. as_many 4 ds vs h ∙ five) e
+
+-- code for expressions may run on them
+pub has_values : StartsAreTables → StartIsCanonical → (ds : List json.Data) (r : Roots) → AreFive ds → start_contents ds ≡ Ok (started r) → HasValues r (started r)
+has_values tables canonical ds r five e = record {
+  table = tables ds (started r) five.five five.documents e;
+  canonical = canonical ds (started r) e;
+  stand = record { object = refl; old_object = refl; params = refl; namespace_object = refl; request = refl };
+}
+
+-- ---- refusals
+
+-- documents that give no roots are refused so
+pub refused_documents : (review : List ℕ) (namespace params : Option (List ℕ)) (e : RunError) → documents_given (Some review) namespace params ≡ Err e → contents_given (Some review) namespace params ≡ Err e
+unfolding contents_given
+refused_documents review namespace params e is = ap contents_from is
+
+-- and so are roots that are refused
+pub refused_roots : (review : List ℕ) (namespace params : Option (List ℕ)) (ds : List json.Data) (e : TableError) → documents_given (Some review) namespace params ≡ Ok ds → start_contents ds ≡ Err e → contents_given (Some review) namespace params ≡ Err (root_refusal e)
+unfolding contents_given
+refused_roots review namespace params ds e documents is = ap contents_from documents ∙ ap accepted is
+
+pub contents_are : (review : List ℕ) (namespace params : Option (List ℕ)) (ds : List json.Data) (values : Contents) → documents_given (Some review) namespace params ≡ Ok ds → start_contents ds ≡ Ok values → contents_given (Some review) namespace params ≡ Ok values
+unfolding contents_given
+contents_are review namespace params ds values documents is = ap contents_from documents ∙ ap accepted is

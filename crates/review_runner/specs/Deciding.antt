@@ -1,0 +1,168 @@
+-- The answer to a review under a policy.
+use Rattle.std.specs.Prelude.{◌≡◌, ℕ, ◌+◌, ◌*◌, ◌<◌, ◌≤◌, ◌⊎◌, Bool, true, false, ◌||◌, nat_eq, List, [], ◌∷◌, ◌++◌, length, map, Option, Some, None, Result, Ok, Err}
+use Rattle.guest_memory.specs.Memory.{IsMemory}
+use Rattle.guest_memory.specs.declared.fault.Fault.TheVariants.{F8}
+use Rattle.guest_memory.specs.declared.fault.Fault as guest
+use Rattle.loader.specs.Contents as loader
+use Rattle.value_store.specs.Placing.{Contents, charge_limit, first_values}
+use Rattle.value_store.specs.Roots.{sizes}
+use Rattle.value_store.specs.Value.{Value, value}
+use Rattle.cel_macros.specs.Environment.{Roots}
+use Rattle.bpf_machine.specs.State.{State, start_state}
+use Rattle.bpf_machine.specs.Trace.{state_after}
+use Rattle.bpf_machine.specs.declared.status.Status.{Status}
+use Rattle.bpf_machine.specs.declared.status.Status.TheVariants.{Exited, Fault, Running}
+use Rattle.policy_glue.specs.Budget.{IsDeepPolicy, policy_spent, policy_work}
+use Rattle.policy_glue.specs.Compiled.{IsCompiled}
+use Rattle.policy_glue.specs.Evaluation.{decision_of}
+use Rattle.policy_glue.specs.Layout.{IsLayout, outcome_word}
+use Rattle.policy_glue.specs.Limits.{Compiles}
+use Rattle.policy_glue.specs.Policy.{Rules}
+use Rattle.policy_glue.specs.Reading.{policy_in}
+use Rattle.policy_glue.specs.Response.{response_of}
+use Rattle.policy_glue.specs.Trees.{PolicyTree}
+use Rattle.policy_glue.specs.Verdict.{Outcome, Skipped, Rejected, Denied, Admitted, Verdict}
+use Rattle.review_runner.specs.Reviews.{contents_given, uid_in}
+use Rattle.review_runner.specs.declared.compiled_policy.CompiledPolicy.{CompiledPolicy}
+use Rattle.review_runner.specs.declared.policy_refusal.PolicyRefusal.{PolicyRefusal}
+use Rattle.review_runner.specs.declared.policy_refusal.PolicyRefusal.TheVariants.{Unread, Uncompiled}
+use Rattle.review_runner.specs.declared.policy_refusal.PolicyRefusal.TheVariants as policy_refusal
+use Rattle.review_runner.specs.declared.reply.Reply.{Reply}
+use Rattle.review_runner.specs.declared.run_error.RunError.{RunError}
+use Rattle.review_runner.specs.declared.run_error.RunError.TheVariants.{N1, N2, N3, N4, N5, Memory}
+
+-- ---- replies
+
+-- the text of a response, and whether it allows the request
+pub record Answer : Type 0 where
+  pub response : List ℕ
+  pub allowed : Bool
+
+abbrev pub is_allowed : Outcome → Bool
+is_allowed Skipped = true
+is_allowed Rejected = false
+is_allowed Denied = false
+is_allowed Admitted = true
+
+-- the answer to the request with this uid, by the verdict
+abbrev pub answer_of : Rules → Verdict → List ℕ → Answer
+answer_of p v uid = record { response = response_of p v uid; allowed = is_allowed v.outcome }
+
+abbrev pub answer_view : Result Reply RunError → Result Answer RunError
+answer_view (Ok reply) = Ok (record { response = reply.response.items; allowed = reply.allowed })
+answer_view (Err e) = Err e
+
+-- ---- policies
+
+-- a document says a policy that is compiled
+pub record IsPolicy (document : List ℕ) : Type 0 where
+  pub rules : Rules
+  pub is_said : policy_in document ≡ Ok rules
+  pub trees : PolicyTree
+  pub compiles : Compiles rules (Ok trees)
+
+-- why a document gives no image
+abbrev pub IsRefused : List ℕ → PolicyRefusal → Type 0
+IsRefused document (Unread e) = policy_in document ≡ Err e
+IsRefused document (Uncompiled e) = (p : Rules) × (policy_in document ≡ Ok p) × Compiles p (Err e)
+IsRefused document policy_refusal.Memory = ⊥
+
+-- the policy and its image, or why there is none; or the host has no memory for it
+abbrev pub CompilesDocument : List ℕ → Result CompiledPolicy PolicyRefusal → Type 0
+CompilesDocument document (Ok c) = (policy_in document ≡ Ok c.policy) × IsCompiled c.policy c.image
+CompilesDocument document (Err (Unread e)) = IsRefused document (Unread e)
+CompilesDocument document (Err (Uncompiled e)) = IsRefused document (Uncompiled e)
+CompilesDocument document (Err policy_refusal.Memory) = Unit {0}
+
+-- ---- runs
+
+abbrev pub values_of_roots : Roots → List Value
+values_of_roots r = r.object ∷ r.old_object ∷ r.params ∷ r.namespace_object ∷ r.request ∷ []
+
+-- the contents at the start, with these roots
+abbrev pub started : Roots → Contents
+started r = record { values = first_values ++ map value (values_of_roots r); charge = sizes (values_of_roots r) }
+
+-- the documents of a policy and of a review
+pub record Documents : Type 0 where
+  pub policy : List ℕ
+  pub review : List ℕ
+  pub namespace : Option (List ℕ)
+  pub params : Option (List ℕ)
+
+-- the values at the start of a review's roots, or its refusal
+abbrev pub values_given : Documents → Result Contents RunError
+values_given d = contents_given (Some d.review) d.namespace d.params
+
+-- the policy is compiled to an image, and the documents give roots on which it runs
+pub record Runs (d : Documents) : Type 0 where
+  pub rules : Rules
+  pub is_said : policy_in d.policy ≡ Ok rules
+  pub image : loader.Contents
+  pub compiled : IsCompiled rules image
+  pub roots : Roots
+  pub are_given : values_given d ≡ Ok (started roots)
+
+module _ {d : Documents} (run : Runs d) where
+  -- where it stands after n steps
+  abbrev pub stands : ℕ → State
+  stands n = state_after n (start_state run.image (started run.roots))
+
+  -- what the policy decides
+  abbrev pub decision : Verdict
+  decision = decision_of run.rules.failure_policy run.compiled.trees run.roots
+
+  abbrev pub work : ℕ
+  work = policy_work run.rules.failure_policy run.compiled.trees run.roots
+
+  -- the bound on its charge is above the limit, or a value is too deep
+  abbrev pub IsBeyond : Type 0
+  IsBeyond = (charge_limit < (started run.roots).charge + 16 * policy_spent run.rules.failure_policy run.compiled.trees run.roots) ⊎ IsDeepPolicy run.rules.failure_policy run.compiled.trees run.roots
+
+-- it has exited within n steps, and the answer is that to the policy's verdict
+pub record IsAnswered (d : Documents) (n : ℕ) (answer : Answer) : Type 0 where
+  pub run : Runs d
+  pub exits : (stands run n).status ≡ Exited (outcome_word (decision run).outcome)
+  pub answer_is : answer ≡ answer_of run.rules (decision run) (uid_in d.review)
+
+-- it still runs after n steps
+pub record IsUnended (d : Documents) (n : ℕ) : Type 0 where
+  pub run : Runs d
+  pub goes_on : (stands run n).status ≡ Running
+  pub early : n < 128 * work run
+
+-- it was stopped within n steps
+pub record IsStopped (d : Documents) (n : ℕ) : Type 0 where
+  pub run : Runs d
+  pub stops : (stands run n).status ≡ Fault F8
+  pub beyond : IsBeyond run
+
+-- the answer to a review, of which the policy's program may take n steps, or the first refusal: of the policy, of the documents, of the run; or the host has no memory for it
+abbrev pub Reviews : Documents → ℕ → Result Answer RunError → Type 0
+Reviews d n (Ok answer) = IsAnswered d n answer
+Reviews d n (Err (N1 e)) = IsRefused d.policy e
+Reviews d n (Err N2) = IsPolicy d.policy × (values_given d ≡ Err N2)
+Reviews d n (Err N3) = IsPolicy d.policy × (values_given d ≡ Err N3)
+Reviews d n (Err N4) = IsUnended d n
+Reviews d n (Err N5) = IsStopped d n
+Reviews d n (Err Memory) = Unit {0}
+
+-- ---- parts
+
+-- whether the word of an outcome is one that allows the request
+abbrev pub is_allowing : ℕ → Bool
+is_allowing outcome = nat_eq outcome 1 || nat_eq outcome 4
+
+-- the answer by a state that has exited with a verdict in its verdict region
+abbrev pub IsToldBy : Rules → State → List ℕ → Answer → Type 0
+IsToldBy p s uid answer = (v : Verdict) → IsMemory s.memory → length v.findings ≤ length p.validations → IsLayout p.failure_policy v s.values.values s.memory.verdict → answer ≡ answer_of p v uid
+
+-- the answer by the state in which a program stands
+abbrev pub AnswersFrom : Rules → State → List ℕ → Result Answer RunError → Type 0
+AnswersFrom p s uid (Ok answer) = ((w : ℕ) × (s.status ≡ Exited w)) × IsToldBy p s uid answer
+AnswersFrom p s uid (Err (N1 e)) = ⊥
+AnswersFrom p s uid (Err N2) = ⊥
+AnswersFrom p s uid (Err N3) = ⊥
+AnswersFrom p s uid (Err N4) = s.status ≡ Running
+AnswersFrom p s uid (Err N5) = (f : guest.Fault) × (s.status ≡ Fault f)
+AnswersFrom p s uid (Err Memory) = Unit {0}

@@ -1,0 +1,38 @@
+//! Why a policy gives no image.
+ghost use Rattle.std.specs.Prelude.{◌≡◌};
+ghost use Rattle.review_runner.specs.Refusals.{compile_refusal, document_refusal};
+
+use policy_glue::{CompileError, PolicyError};
+
+/// Why a policy gives no image.
+#[derive(Clone, Copy, Debug, PartialEq, Eq)]
+pub enum PolicyRefusal {
+    /// Its document says no policy.
+    Unread(PolicyError),
+    /// The policy is not compiled.
+    Uncompiled(CompileError),
+    /// Memory ran out.
+    Memory,
+}
+
+impl From<PolicyError> for PolicyRefusal {
+    ghost from_gives = { λ e r. r ≡ document_refusal e };
+
+    fn from(error: PolicyError) -> PolicyRefusal {
+        match error {
+            PolicyError::Memory => PolicyRefusal::Memory,
+            _ => PolicyRefusal::Unread(error),
+        }
+    }
+}
+
+impl From<CompileError> for PolicyRefusal {
+    ghost from_gives = { λ e r. r ≡ compile_refusal e };
+
+    fn from(error: CompileError) -> PolicyRefusal {
+        match error {
+            CompileError::Memory => PolicyRefusal::Memory,
+            _ => PolicyRefusal::Uncompiled(error),
+        }
+    }
+}
