@@ -1,6 +1,6 @@
 pub mod Runs
 pub mod Numbers
-pub mod Escapes
+pub mod EscapeDigits
 pub mod Contents
 pub mod PlainStretches
 pub mod Fronts

@@ -8,7 +8,7 @@ use crate::bytes::{digits_len, tail};
 use crate::int::number;
 
 /// The number that this many digits at the front spell, or the largest `u64` where it is above.
-#[tactic(auto, using(crate::proofs::Escapes::too_short))]
+#[tactic(auto, using(crate::proofs::EscapeDigits::too_short))]
 fn digits(bytes: &[u8], base: u64, count: usize) -> Option<u64>
     requires { 1 ≤ base }
     ensures value { result ≡ option_map (λ n. min n (2 ^ 64 - 1)) (texts.digits base count bytes.now) }
@@ -27,7 +27,7 @@ fn digits(bytes: &[u8], base: u64, count: usize) -> Option<u64>
 }
 
 /// The code point of this number.
-#[tactic(auto, using(crate::proofs::Escapes::scalar_is))]
+#[tactic(auto, using(crate::proofs::EscapeDigits::scalar_is))]
 fn code_point(number: u64) -> Option<char>
     ensures value { result ≡ texts.code_point number }
     ensures scalar { IfSome result (λ c. IsScalar c) }
@@ -39,7 +39,7 @@ fn code_point(number: u64) -> Option<char>
 }
 
 /// The code point that this many digits at the front spell, and `len`, the escape's length.
-#[tactic(auto, using(crate::proofs::Escapes::kept_code))]
+#[tactic(auto, using(crate::proofs::EscapeDigits::kept_code))]
 fn numeric(bytes: &[u8], base: u64, count: usize, len: usize) -> Option<(char, usize)>
     requires { 1 ≤ base }
     ensures value { result ≡ texts.numeric base count len bytes.now }

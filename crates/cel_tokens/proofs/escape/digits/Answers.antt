@@ -1,5 +1,5 @@
 use Rattle.std.proofs.Common.{sym, ◌∙◌}
-use Rattle.cel_tokens.proofs.Escapes.{digits_ascii}
+use Rattle.cel_tokens.proofs.EscapeDigits.{digits_ascii}
 use Rattle.cel_tokens.proofs.escape.digits.Goals as goal
 
 pub returns-then-digits_len-count-clause-ascii : goal.returns-then-digits_len-count-clause-ascii
