@@ -1,0 +1,62 @@
+"""Runs of the built program, and how long they take."""
+
+import json
+import subprocess
+import sys
+import tempfile
+import time
+
+
+class Runs:
+    """The built program, and a folder for the files that it is run on."""
+
+    def __init__(self, program, folder):
+        self.program = program
+        self.folder = folder
+
+    def run(self, words, lines="", statuses=(0, 4)):
+        """The seconds of one run, whose output is dropped and whose status is one of these."""
+        began = time.perf_counter()
+        ended = subprocess.run([self.program, *words], input=lines.encode(), stdout=subprocess.DEVNULL)
+        seconds = time.perf_counter() - began
+        if ended.returncode not in statuses:
+            sys.exit(f"measure: {' '.join(words)} ended with status {ended.returncode}")
+        return seconds
+
+    def memory(self, words, lines=""):
+        """The greatest resident memory of one run, in megabytes."""
+        with tempfile.NamedTemporaryFile("r") as report:
+            watched = ["env", "time", "-q", "-f", "%M", "-o", report.name, self.program, *words]
+            subprocess.run(watched, input=lines.encode(), stdout=subprocess.DEVNULL)
+            return int(report.read()) / 1024
+
+    def best(self, words, lines="", statuses=(0, 4), count=3):
+        """The least seconds of so many runs, and the memory of one more."""
+        seconds = min(self.run(words, lines, statuses) for _ in range(count))
+        return seconds, self.memory(words, lines)
+
+    def image(self, name, source):
+        """The image of these lines."""
+        text, path = f"{self.folder}/{name}.asm", f"{self.folder}/{name}.img"
+        with open(text, "w") as file:
+            file.write(source)
+        self.run(["asm", text, path])
+        return path
+
+    def document(self, name, value):
+        """The file of this document."""
+        path = f"{self.folder}/{name}.json"
+        with open(path, "w") as file:
+            json.dump(value, file, separators=(",", ":"))
+        return path
+
+    def review(self, name, thing):
+        """A review of this object."""
+        request = {"uid": "u", "object": thing}
+        document = {"apiVersion": "admission.k8s.io/v1", "kind": "AdmissionReview", "request": request}
+        return self.document(name, document)
+
+
+def row(name, figure, memory):
+    """Prints a row."""
+    print(f"{name:38} {figure:>24} {memory:8.1f} MB", flush=True)

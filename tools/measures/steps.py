@@ -1,0 +1,52 @@
+"""How long steps take, in runs and in sessions."""
+
+from measures.runs import row
+
+STEPS = 10_000_000
+
+ARITHMETIC = """again:
+add64 r0, 1
+xor64 r1, r0
+mul64 r1, 3
+add64 r2, r1
+ja again
+"""
+
+# the count is kept in memory, so that each turn loads and stores
+COUNTING = """again:
+ldxdw r1, [r10-8]
+add64 r1, 1
+stxdw [r10-8], r1
+ja again
+"""
+
+MILLION = "s 1000000\n"
+
+
+def long_run(runs, name, steps, words, lines=""):
+    """How many steps a second a run of so many takes."""
+    seconds, memory = runs.best(words, lines)
+    row(name, f"{steps / seconds:,.0f} steps/s", memory)
+
+
+def after(runs, name, path, before, lines):
+    """What each of `lines` adds to a session that begins with `before`."""
+    without = min(runs.run(["debug", path], before) for _ in range(3))
+    whole, memory = runs.best(["debug", path], before + lines)
+    row(name, f"{(whole - without) * 1000 / lines.count(chr(10)):.2f} ms a line", memory)
+
+
+def measure(runs):
+    """Two loops, and sessions on one of them."""
+    arithmetic = runs.image("arithmetic", ARITHMETIC)
+    counting = runs.image("counting", COUNTING)
+    for name, path in (("loop of arithmetic", arithmetic), ("loop of loads and stores", counting)):
+        long_run(runs, name, STEPS, ["run-image", path, "--steps", str(STEPS)])
+    long_run(runs, "s 1000000", 1_000_000, ["debug", counting], MILLION)
+    after(runs, "rs 1, a hundred times after it", counting, MILLION, "rs 1\n" * 100)
+    # a breakpoint at a slot that the loop does not reach, so that all steps are searched
+    searched = "b 9\nc 1000000\n"
+    long_run(runs, "c 1000000 with a breakpoint", 1_000_000, ["debug", counting], searched)
+    after(runs, "rc, a hundred times", counting, MILLION + "b 1\n", "rc\n" * 100)
+    again = MILLION + "g 3\ns 100000\n"
+    after(runs, "rs 1, after g 3 and s 100000", counting, again, "rs 1\n" * 100)
