@@ -26,6 +26,8 @@ class Documents:
         return numbers.pick([None, True, 3, -1, "a", *lists, *maps])
 
     def several(self, make, most):
+        """At most so many, and now and then six times as many."""
+        most = 6 * most if self.numbers.one_in(20) else most
         return [make() for _ in range(self.numbers.below(most + 1))]
 
     def object(self, **makers):
