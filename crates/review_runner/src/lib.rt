@@ -64,6 +64,8 @@ mod run_error;
 mod running;
 #[cfg(test)]
 mod running_tests;
+#[cfg(test)]
+mod seeded_tests;
 mod values;
 
 pub use debugging::debug;
