@@ -11,6 +11,8 @@ mod command_line;
 mod compiled_policy;
 mod compiling;
 mod debugging;
+#[cfg(test)]
+mod decision_tests;
 mod document;
 mod document_names;
 mod done;
@@ -31,6 +33,8 @@ mod performing;
 #[cfg(test)]
 mod performing_tests;
 mod policy_refusal;
+#[cfg(test)]
+mod policy_refusal_tests;
 mod program;
 #[cfg(test)]
 mod program_tests;
@@ -39,7 +43,15 @@ mod refusal;
 mod refusal_line;
 mod reply;
 mod review_document;
+#[cfg(test)]
+mod review_document_tests;
+#[cfg(test)]
+mod review_expression_tests;
 mod review_files;
+#[cfg(test)]
+mod review_fixtures;
+#[cfg(test)]
+mod review_limit_tests;
 mod review_names;
 #[cfg(test)]
 mod review_tests;
@@ -52,6 +64,8 @@ mod run_error;
 mod running;
 #[cfg(test)]
 mod running_tests;
+#[cfg(test)]
+mod seeded_tests;
 mod values;
 
 pub use debugging::debug;

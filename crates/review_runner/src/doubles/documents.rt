@@ -3,12 +3,28 @@
 use crate::{FileError, Files};
 use std::alloc::Global;
 
-/// A policy `p.json`, a review `r.json`, and an image `a.img`, which can be written.
+/// A policy `p.json`, a review `r.json`, a namespace `n.json` and params `a.json` where they are
+/// given, and an image `a.img`, which can be written.
 #[derive(Drop)]
 pub struct Documents<'a> {
     pub policy: &'a [u8],
     pub review: &'a [u8],
+    pub namespace: Option<&'a [u8]>,
+    pub params: Option<&'a [u8]>,
     pub image: Vec<u8>,
+}
+
+impl<'a> Documents<'a> {
+    /// These two documents, and an empty image.
+    pub fn new(alloc: Global, policy: &'a [u8], review: &'a [u8]) -> Documents<'a> {
+        Documents {
+            policy,
+            review,
+            namespace: None,
+            params: None,
+            image: Vec::new(alloc),
+        }
+    }
 }
 
 impl Files for Documents<'_> {
@@ -20,6 +36,8 @@ impl Files for Documents<'_> {
         match name {
             "p.json" => Ok(Vec::from_slice(alloc, self.policy)?),
             "r.json" => Ok(Vec::from_slice(alloc, self.review)?),
+            "n.json" => held(alloc, self.namespace),
+            "a.json" => held(alloc, self.params),
             "a.img" => Ok(Vec::from_slice(alloc, &self.image)?),
             _ => Err(FileError::Failed),
         }
@@ -32,5 +50,13 @@ impl Files for Documents<'_> {
         self.image.clear();
         self.image.extend_from_slice(bytes)?;
         Ok(())
+    }
+}
+
+/// What the file of a document holds, if there is one.
+fn held(alloc: Global, document: Option<&[u8]>) -> Result<Vec<u8>, FileError> {
+    match document {
+        Some(bytes) => Ok(Vec::from_slice(alloc, bytes)?),
+        None => Err(FileError::Failed),
     }
 }

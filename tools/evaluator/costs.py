@@ -1,0 +1,48 @@
+"""What evaluation costs: the nodes that are visited, and what they spend."""
+
+from .values import depth, length, size
+
+MOST_CHARGE = 16_777_216
+STEPS_A_VISIT = 128
+CHARGE_A_UNIT = 16
+TOO_DEEP = 255
+
+
+class Costs:
+    """What has been visited so far."""
+
+    def __init__(self):
+        self.work = 0
+        self.sizes = 0
+        self.deep = False
+
+    def turn(self, count=1):
+        """Counts what is not a node: a part of a policy, or an item that a macro goes over."""
+        self.work += count
+
+    def visit(self, result):
+        """Counts a node with this result."""
+        self.work += 1
+        self.sizes += size(result)
+
+    def text(self, text):
+        """Counts a text literal or a field name."""
+        self.sizes += 1 + length(text)
+
+    def keep(self, value):
+        """Looks at what becomes an item of a list or a value of a map."""
+        self.deep = self.deep or depth(value) >= TOO_DEEP
+
+    @property
+    def spent(self):
+        """Eight for each visit, the size of each result, and the texts."""
+        return 8 * self.work + self.sizes
+
+    @property
+    def steps(self):
+        """After how many steps the program has stopped."""
+        return STEPS_A_VISIT * self.work
+
+    def is_within(self, charge):
+        """Whether no program is stopped for its charge or for depth, where the roots are charged this."""
+        return charge + CHARGE_A_UNIT * self.spent <= MOST_CHARGE and not self.deep
