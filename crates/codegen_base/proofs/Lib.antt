@@ -12,7 +12,7 @@ pub mod Values
 pub mod Frames
 pub mod Answers
 pub mod Meanings
-pub mod Helpers
+pub mod HelperAnswers
 pub mod Leaves
 pub mod Selection
 pub mod Variables

@@ -24,7 +24,7 @@ use Rattle.codegen_base.specs.Pieces.{Stands, size}
 use Rattle.codegen_base.specs.Words.{word_at}
 use Rattle.codegen_base.proofs.Effects.{mov_is}
 use Rattle.codegen_base.proofs.Frames.{keeps_then, shows_registers}
-use Rattle.codegen_base.proofs.Helpers.{helpers}
+use Rattle.codegen_base.proofs.HelperAnswers.{helpers}
 use Rattle.codegen_base.proofs.Listings.{begins, load, mov, no, yes}
 use Rattle.codegen_base.proofs.Loops.{either}
 use Rattle.codegen_base.proofs.Operators.{calls_give, keeps_left}

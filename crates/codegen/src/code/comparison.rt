@@ -5,7 +5,7 @@ ghost use Rattle.codegen_base.specs.Code.Comparison as specs;
 
 use crate::code::calls::{call_swapped, call_two};
 use crate::code::logic::not_tail;
-use crate::helpers;
+use codegen_base::helpers;
 use insn_codec::Insn;
 use std::alloc::{AllocError, Global};
 

@@ -5,13 +5,12 @@ ghost use Rattle.codegen_base.specs.Loops as loops;
 ghost use Rattle.codegen_base.specs.Code.Folds as specs;
 ghost use Rattle.codegen_base.specs.Pieces.{size as size_of_piece};
 
-use crate::helpers;
-use crate::instructions::{
-    add, call, copy, go_back, load, put, size, skip, skip_if, skip_where, store,
-};
-use crate::references::{ERROR, NO, NULL, YES};
+use crate::instructions::{go_back, load, size, skip, skip_where, store};
 use Register::{R0, R1, R2};
 use cel_macros::Macro;
+use codegen_base::helpers;
+use codegen_base::instructions::{add, call, copy, put, skip_if};
+use codegen_base::references::{ERROR, NO, NULL, YES};
 use insn_codec::{Comparison, Insn, Register};
 use std::alloc::{AllocError, Global};
 

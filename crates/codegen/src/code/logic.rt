@@ -5,9 +5,10 @@ ghost use Rattle.codegen_base.specs.Code.Logic as specs;
 ghost use Rattle.codegen_base.specs.Pieces.{size as size_of_piece};
 
 use crate::code::calls::call_one;
-use crate::helpers;
-use crate::instructions::{load, put, size, skip, skip_if, store};
-use crate::references::{ERROR, NO, YES};
+use crate::instructions::{load, size, skip, store};
+use codegen_base::helpers;
+use codegen_base::instructions::{put, skip_if};
+use codegen_base::references::{ERROR, NO, YES};
 use insn_codec::{Comparison, Insn, Register};
 use std::alloc::{AllocError, Global};
 
