@@ -19,6 +19,7 @@ pub mod Variables
 pub mod Programs
 pub mod Loops
 pub mod Operators
+pub mod Absorbing
 pub mod Logic
 pub mod Insertions
 pub mod Aggregates
