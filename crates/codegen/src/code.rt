@@ -4,7 +4,6 @@
 pub(crate) mod aggregates;
 pub(crate) mod arithmetic;
 pub(crate) mod calls;
-pub(crate) mod comparison;
 pub(crate) mod folds;
 pub(crate) mod literals;
 pub(crate) mod logic;

@@ -66,65 +66,6 @@ pub(crate) fn compute(op: AluOp, dst: Register, src: Register) -> Insn
     }
 }
 
-/// The first register gets the second one's word.
-pub(crate) fn copy(dst: Register, src: Register) -> Insn
-    ensures { result ≡ specs.copy dst src }
-{
-    compute(AluOp::Mov, dst, src)
-}
-
-/// The register gets the number.
-pub(crate) fn put(dst: Register, n: i32) -> Insn
-    ensures { result ≡ specs.put dst n }
-{
-    Insn::Alu {
-        op: AluOp::Mov,
-        width: Width::W64,
-        dst,
-        operand: Operand::Imm(n),
-    }
-}
-
-/// The number is added to the register.
-pub(crate) fn add(dst: Register, n: i32) -> Insn
-    ensures { result ≡ Insn.Alu AluOp.Add Width.W64 dst (Operand.Imm n) }
-{
-    Insn::Alu {
-        op: AluOp::Add,
-        width: Width::W64,
-        dst,
-        operand: Operand::Imm(n),
-    }
-}
-
-/// The register gets the word; this takes two slots.
-pub(crate) fn load_wide(dst: Register, value: u64) -> Insn
-    ensures { result ≡ specs.load_wide dst value }
-{
-    Insn::LoadWide { dst, value }
-}
-
-/// The call of the helper of this number.
-pub(crate) fn call(helper: i32) -> Insn
-    ensures { result ≡ Insn.Call helper }
-{
-    Insn::Call { helper }
-}
-
-/// A jump over so many slots where the register and the number compare so.
-pub(crate) fn skip_if(comparison: Comparison, dst: Register, n: i32, slots: usize) -> Insn
-    requires { slots < 32768 }
-    ensures { result ≡ specs.skip_if comparison dst n slots }
-{
-    Insn::Branch {
-        comparison,
-        width: Width::W64,
-        dst,
-        operand: Operand::Imm(n),
-        offset: slots as i16,
-    }
-}
-
 /// A jump over so many slots where the registers compare so.
 pub(crate) fn skip_where(comparison: Comparison, dst: Register, src: Register, slots: usize) -> Insn
     requires { slots < 32768 }

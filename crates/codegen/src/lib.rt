@@ -8,11 +8,9 @@ mod emission;
 mod emitter;
 mod expressions;
 mod frame_words;
-mod helpers;
 mod instructions;
 mod laws;
 mod literals_fit;
-mod references;
 mod spot;
 mod surroundings;
 #[cfg(test)]

@@ -24,7 +24,7 @@ use Rattle.codegen_base.specs.Operators.{Combines}
 use Rattle.codegen_base.specs.Pieces.{Stands, size, slots}
 use Rattle.codegen_base.specs.Words.{word_at}
 use Rattle.codegen_base.proofs.Frames.{keeps_then, shows_registers}
-use Rattle.codegen_base.proofs.Helpers.{helpers}
+use Rattle.codegen_base.proofs.HelperAnswers.{helpers}
 use Rattle.codegen_base.proofs.Listings.{ask, mov}
 use Rattle.codegen_base.proofs.Loops.{all_at}
 use Rattle.codegen_base.proofs.Operands.{are_ints, are_others, int_is}

@@ -14,7 +14,7 @@ use Rattle.codegen_base.specs.Engine.{Setting}
 use Rattle.codegen_base.specs.Gives.Comparison.{ComparisonGives, TailGives}
 use Rattle.codegen_base.specs.Operators.{Combines}
 use Rattle.codegen_base.specs.Pieces.{size}
-use Rattle.codegen_base.proofs.Helpers.{helpers}
+use Rattle.codegen_base.proofs.HelperAnswers.{helpers}
 use Rattle.codegen_base.proofs.Logic.{logic_gives}
 use Rattle.codegen_base.proofs.Operators.{calls_give, combines_then}
 

@@ -20,7 +20,7 @@ use Rattle.codegen_base.specs.Gives.Selection.{HasText}
 use Rattle.codegen_base.specs.Helpers.{Lends}
 use Rattle.codegen_base.specs.Pieces.{Stands, size}
 use Rattle.codegen_base.proofs.Frames.{fits_registers, shows_registers}
-use Rattle.codegen_base.proofs.Helpers.{helpers}
+use Rattle.codegen_base.proofs.HelperAnswers.{helpers}
 use Rattle.codegen_base.proofs.Ints.{word_small}
 use Rattle.codegen_base.proofs.Listings.{ask, begins, load, load_wide, mov}
 use Rattle.codegen_base.proofs.Operators.{shows_placed}

@@ -12,13 +12,14 @@ pub mod Values
 pub mod Frames
 pub mod Answers
 pub mod Meanings
-pub mod Helpers
+pub mod HelperAnswers
 pub mod Leaves
 pub mod Selection
 pub mod Variables
 pub mod Programs
 pub mod Loops
 pub mod Operators
+pub mod Absorbing
 pub mod Logic
 pub mod Insertions
 pub mod Aggregates

@@ -20,7 +20,7 @@ use Rattle.codegen_base.specs.Pieces.{Stands, size}
 use Rattle.codegen_base.specs.Words.{word_at}
 use Rattle.codegen_base.proofs.Aggregates.{Beside, builds_nothing, builds_then, literal_runs, made_stored, part_runs}
 use Rattle.codegen_base.proofs.Frames.{fits_registers, keeps_then}
-use Rattle.codegen_base.proofs.Helpers.{helpers}
+use Rattle.codegen_base.proofs.HelperAnswers.{helpers}
 use Rattle.codegen_base.proofs.Listings.{ask, begins, load, mov, refused, store}
 use Rattle.codegen_base.proofs.Operators.{shows_placed}
 use Rattle.codegen_base.proofs.Pieces.{size-append, stands_back, stands_front}

@@ -1,7 +1,6 @@
 -- The code of logical operators and of the conditional gives their meaning.
-use Rattle.std.proofs.Common.{◌≡◌, ℕ, suc, ◌+◌, ◌<◌, ◌≤◌, List, [], ◌∷◌, ◌++◌, Bool, true, false, not, refl, sym, ap, ◌∙◌, subst, arith}
+use Rattle.std.proofs.Common.{◌≡◌, ℕ, suc, ◌+◌, ◌<◌, ◌≤◌, List, [], ◌∷◌, ◌++◌, Bool, true, false, refl, sym, ap, ◌∙◌, subst, arith}
 use Rattle.std.specs.Prelude.{ℤ, pos}
-use Rattle.std.specs.Int.{w64, cast_unsigned}
 use Rattle.std.proofs.lemmas.Int.{ints}
 use Rattle.helper_table.specs.Laws.{Names}
 use Rattle.insn_codec.specs.declared.alu_op.AluOp.TheVariants.{Mov}
@@ -13,7 +12,6 @@ use Rattle.insn_codec.specs.declared.width.Width.TheVariants.{W64}
 use Rattle.value_store.specs.Value.{ValueOrError, error, value, null, boolean, int, text, list, map}
 use Rattle.cel_macros.specs.FoldMeaning.{is_error}
 use Rattle.cel_macros.specs.Logic.{Truth, Yes, No, Other, and_of, chosen, conjunction, disjunction, not_of, of_truth, or_of, ternary_of, truth}
-use Rattle.bpf_machine.specs.Words.{compares}
 use Rattle.codegen_base.specs.Body.{Body}
 use Rattle.codegen_base.specs.Code.Logic.{absorbing_code, absorbing_tail, no_ref, ternary_code, yes_ref}
 use Rattle.codegen_base.specs.Contexts.{Context, Fits, Gives, Shows}
@@ -22,10 +20,11 @@ use Rattle.codegen_base.specs.Gives.Logic.{AbsorbingGives, LogicGives, TernaryGi
 use Rattle.codegen_base.specs.Instructions as insn
 use Rattle.codegen_base.specs.Pieces.{Stands, size}
 use Rattle.codegen_base.specs.Words.{word_at}
+use Rattle.codegen_base.proofs.Absorbing.{Absorbing, Decides, Leaves, Neither, Side, Tested, answer_runs, decides_is, is_decides, right_named, told_in}
 use Rattle.codegen_base.proofs.Effects.{mov_is}
 use Rattle.codegen_base.proofs.Frames.{keeps_then, shows_registers}
-use Rattle.codegen_base.proofs.Helpers.{helpers}
-use Rattle.codegen_base.proofs.Listings.{begins, load, mov, no, yes}
+use Rattle.codegen_base.proofs.HelperAnswers.{helpers}
+use Rattle.codegen_base.proofs.Listings.{begins, load, no, yes}
 use Rattle.codegen_base.proofs.Loops.{either}
 use Rattle.codegen_base.proofs.Operators.{calls_give, keeps_left}
 use Rattle.codegen_base.proofs.Pieces.{size-append, size-cons, stands_back, stands_first, stands_front, stands_rest}
@@ -35,96 +34,18 @@ use Rattle.codegen_base.proofs.Values.{Told, names_error, told}
 
 -- ---- operators for which one truth decides
 
--- a side of such an operator: the truth that decides, the other one, or neither
-pub data Side : Type 0 where
-  Decides : Side
-  Leaves : Side
-  Neither : Side
-
-abbrev pub is_decides : Side → Bool
-is_decides Decides = true
-is_decides Leaves = false
-is_decides Neither = false
-
-abbrev pub is_leaves : Side → Bool
-is_leaves Decides = false
-is_leaves Leaves = true
-is_leaves Neither = false
-
--- what tests of a reference say of a side
-pub record Tested (decides other : ℤ) (side : Side) (r : ℕ) : Type 0 where
-  pub decided : compares W64 Eq r (cast_unsigned w64 decides) ≡ is_decides side
-  pub leaves : compares W64 Eq r (cast_unsigned w64 other) ≡ is_leaves side
-  pub not_leaves : compares W64 Ne r (cast_unsigned w64 other) ≡ not (is_leaves side)
-
--- an operator with its sides
-pub record Absorbing (decides other : ℤ) (f : ValueOrError → ValueOrError → ValueOrError) : Type 0 where
-  pub side : ValueOrError → Side
-  pub tested : (x : ValueOrError) (r : ℕ) → Told (truth x) (is_error x) r → Tested decides other (side x) r
-  pub left_decides : (x y : ValueOrError) → side x ≡ Decides → f x y ≡ x
-  pub right_decides : (x y : ValueOrError) → side y ≡ Decides → f x y ≡ y
-  pub both_leave : (x y : ValueOrError) → side x ≡ Leaves → side y ≡ Leaves → f x y ≡ y
-  pub left_neither : (x y : ValueOrError) → side x ≡ Neither → is_decides (side y) ≡ false → f x y ≡ error
-  pub right_neither : (x y : ValueOrError) → is_decides (side x) ≡ false → side y ≡ Neither → f x y ≡ error
-
-pub told_in : (c : Context) (depth base r : ℕ) (x : ValueOrError) (b : Body) → Fits c depth base b → Names b.values.values r x → Told (truth x) (is_error x) r
-told_in c depth base r x b fits named = told b.values r x fits.values.table.store fits.values.canonical named
-
-module _ (decides other : ℤ) (f : ValueOrError → ValueOrError → ValueOrError) (op : Absorbing decides other f) (s : Setting) (c : Context) (depth base k o : ℕ) (has : Stands s.image.code o (absorbing_tail decides other k)) (below : k < 64) (b : Body) (fits : Fits c depth base b) (x y : ValueOrError) (left : Tested decides other (op.side x) (word_at depth k b)) (right : Tested decides other (op.side y) (b.registers R0)) (named : Names b.values.values (b.registers R0) y) where
-  -- R0 keeps the right side
-  decided_runs : op.side y ≡ Decides → Comes s 5 0 o b (o + 5) (Shows c depth base (f x y) b)
-  decided_runs is =
-      looser s 5 0 (omega arith) (omega arith) (begins has
-      (load has 0 k refl fits.frame below refl
-      (yes has 1 3 refl (right.decided ∙ ap is_decides is)
-      (done s (o + 5) _ _ (shows_registers c depth base b _ refl (f x y) fits (subst (Names b.values.values (b.registers R0)) (sym (op.right_decides x y is)) named))))))
-
-  both_runs : op.side x ≡ Leaves → op.side y ≡ Leaves → Comes s 5 0 o b (o + 5) (Shows c depth base (f x y) b)
-  both_runs is_left is_right =
-      looser s 5 0 (omega arith) (omega arith) (begins has
-      (load has 0 k refl fits.frame below refl
-      (no has 1 refl (right.decided ∙ ap is_decides is_right)
-      (no has 2 refl (left.not_leaves ∙ ap (λ (side : Side). not (is_leaves side)) is_left)
-      (yes has 3 1 refl (right.leaves ∙ ap is_leaves is_right)
-      (done s (o + 5) _ _ (shows_registers c depth base b _ refl (f x y) fits (subst (Names b.values.values (b.registers R0)) (sym (op.both_leave x y is_left is_right)) named))))))))
-
-  -- R0 gets the error's reference
-  left_runs : op.side x ≡ Neither → is_decides (op.side y) ≡ false → Comes s 5 0 o b (o + 5) (Shows c depth base (f x y) b)
-  left_runs is_left is_right =
-      looser s 5 0 (omega arith) (omega arith) (begins has
-      (load has 0 k refl fits.frame below refl
-      (no has 1 refl (right.decided ∙ is_right)
-      (yes has 2 1 refl (left.not_leaves ∙ ap (λ (side : Side). not (is_leaves side)) is_left)
-      (mov has 4 refl refl
-      (done s (o + 5) _ _ (shows_registers c depth base b _ refl (f x y) fits (subst (Names b.values.values 0) (sym (op.left_neither x y is_left is_right)) (names_error b.values fits.values.table.store)))))))))
-
-  right_runs : op.side x ≡ Leaves → op.side y ≡ Neither → Comes s 5 0 o b (o + 5) (Shows c depth base (f x y) b)
-  right_runs is_left is_right =
-      looser s 5 0 (omega arith) (omega arith) (begins has
-      (load has 0 k refl fits.frame below refl
-      (no has 1 refl (right.decided ∙ ap is_decides is_right)
-      (no has 2 refl (left.not_leaves ∙ ap (λ (side : Side). not (is_leaves side)) is_left)
-      (no has 3 refl (right.leaves ∙ ap is_leaves is_right)
-      (mov has 4 refl refl
-      (done s (o + 5) _ _ (shows_registers c depth base b _ refl (f x y) fits (subst (Names b.values.values 0) (sym (op.right_neither x y (ap is_decides is_left) is_right)) (names_error b.values fits.values.table.store))))))))))
-
-  tail_by : (t u : Side) → op.side x ≡ t → op.side y ≡ u → is_decides t ≡ false → Comes s 5 0 o b (o + 5) (Shows c depth base (f x y) b)
-  tail_by Decides u is_left is_right early = absurd (cc)
-  tail_by Leaves Decides is_left is_right early = decided_runs is_right
-  tail_by Leaves Leaves is_left is_right early = both_runs is_left is_right
-  tail_by Leaves Neither is_left is_right early = right_runs is_left is_right
-  tail_by Neither Decides is_left is_right early = decided_runs is_right
-  tail_by Neither Leaves is_left is_right early = left_runs is_left (ap is_decides is_right)
-  tail_by Neither Neither is_left is_right early = left_runs is_left (ap is_decides is_right)
-
-  -- the tail of an operator whose left side does not decide
-  pub absorbing_runs : is_decides (op.side x) ≡ false → Comes s 5 0 o b (o + 5) (Shows c depth base (f x y) b)
-  absorbing_runs early = tail_by (op.side x) (op.side y) refl refl early
-
-decides_is : (side : Side) → is_decides side ≡ true → side ≡ Decides
-decides_is Decides e = refl
-decides_is Leaves e = absurd (cc)
-decides_is Neither e = absurd (cc)
+-- the tail of an operator whose left side does not decide
+absorbing_runs : (decides other : ℤ) (f : ValueOrError → ValueOrError → ValueOrError) (op : Absorbing decides other f) (s : Setting) (c : Context) (depth base k o : ℕ) → Stands s.image.code o (absorbing_tail decides other k) → k < 64 → (b : Body) → Fits c depth base b → (x y : ValueOrError) → Tested decides other (op.side x) (word_at depth k b) → Tested decides other (op.side y) (b.registers R0) → Names b.values.values (b.registers R0) y → is_decides (op.side x) ≡ false → Comes s 5 0 o b (o + 5) (Shows c depth base (f x y) b)
+absorbing_runs decides other f op s c depth base k o has below b fits x y left right named early =
+    either (is_decides (op.side y))
+    (λ is. looser s 5 0 (omega arith) (omega arith) (begins has
+    (load has 0 k refl fits.frame below refl
+    (yes has 1 3 refl (right.decided ∙ is)
+    (done s (o + 5) _ _ (shows_registers c depth base b _ refl (f x y) fits (right_named decides other f op x y b.values.values (b.registers R0) named is)))))))
+    (λ is_not. begins has
+    (load has 0 k refl fits.frame below refl
+    (no has 1 refl (right.decided ∙ is_not)
+    (answer_runs decides other f op s c depth base k o (absorbing_tail decides other k) has refl refl refl b fits x y left right named early is_not))))
 
 absorbing_gives : (decides other : ℤ) (f : ValueOrError → ValueOrError → ValueOrError) → Absorbing decides other f → AbsorbingGives decides other f
 absorbing_gives decides other f op s p k left right c depth x y n1 x1 n2 x2 low gives_left gives_right = record {
@@ -263,6 +184,7 @@ yes_left Other = refl
 pub and_absorbs : Absorbing no_ref yes_ref and_of
 and_absorbs = record {
   side = λ x. and_side (truth x);
+  of_error = refl;
   tested = λ x r h. and_tested (truth x) (is_error x) r h;
   left_decides = λ x y e. let t = and_decided (truth x) e in ap (λ (u : Truth). of_truth (conjunction u (truth y))) t ∙ ap of_truth (no_left (truth y)) ∙ truth_is x No t (λ h. absurd (cc));
   right_decides = λ x y e. let t = and_decided (truth y) e in ap (λ (u : Truth). of_truth (conjunction (truth x) u)) t ∙ ap of_truth (and_no (truth x)) ∙ truth_is y No t (λ h. absurd (cc));
@@ -274,6 +196,7 @@ and_absorbs = record {
 pub or_absorbs : Absorbing yes_ref no_ref or_of
 or_absorbs = record {
   side = λ x. or_side (truth x);
+  of_error = refl;
   tested = λ x r h. or_tested (truth x) (is_error x) r h;
   left_decides = λ x y e. let t = or_decided (truth x) e in ap (λ (u : Truth). of_truth (disjunction u (truth y))) t ∙ ap of_truth (yes_left (truth y)) ∙ truth_is x Yes t (λ h. absurd (cc));
   right_decides = λ x y e. let t = or_decided (truth y) e in ap (λ (u : Truth). of_truth (disjunction (truth x) u)) t ∙ ap of_truth (or_yes (truth x)) ∙ truth_is y Yes t (λ h. absurd (cc));
@@ -281,6 +204,15 @@ or_absorbs = record {
   left_neither = λ x y e f. ap (λ (w : Truth). of_truth (disjunction w (truth y))) (or_neither (truth x) e) ∙ ap of_truth (or_other_left (truth y) f);
   right_neither = λ x y e f. ap (λ (w : Truth). of_truth (disjunction (truth x) w)) (or_neither (truth y) f) ∙ ap of_truth (or_other_right (truth x) e);
 }
+
+-- the truths that decide nothing
+pub true_leaves : is_decides (and_absorbs.side (value (boolean true))) ≡ false
+unfolding and_absorbs
+true_leaves = refl
+
+pub false_leaves : is_decides (or_absorbs.side (value (boolean false))) ≡ false
+unfolding or_absorbs
+false_leaves = refl
 
 -- ---- the conditional
 

@@ -29,7 +29,7 @@ use Rattle.codegen_base.specs.Pieces.{size, Stands}
 use Rattle.codegen_base.specs.Words.{set_word, word_at, word_offset}
 use Rattle.codegen_base.proofs.Effects.{add_is, differs_no, differs_yes, equal_no, equal_yes}
 use Rattle.codegen_base.proofs.Frames.{Stored, fits_above, fits_answered, fits_below, fits_registers, held_on, keeps_answered, keeps_registers, keeps_then, shows_after, shows_registers, stored}
-use Rattle.codegen_base.proofs.Helpers.{helpers}
+use Rattle.codegen_base.proofs.HelperAnswers.{helpers}
 use Rattle.codegen_base.proofs.Listings.{alu, ask, begins, jump, load, mov, no, store, yes}
 use Rattle.codegen_base.proofs.Pieces.{size-append, size-cons, stands_back, stands_first, stands_front, stands_rest}
 use Rattle.codegen_base.proofs.Runs.{and_then, done, from_place, into, looser, to_place}

@@ -24,7 +24,7 @@ use Rattle.codegen_base.specs.Pieces.{Stands, size}
 use Rattle.codegen_base.specs.Words.{word_at}
 use Rattle.codegen_base.proofs.Aggregates.{Beside, beside, builds_nothing, builds_then, literal_runs, made_stored}
 use Rattle.codegen_base.proofs.Frames.{fits_above, fits_registers, keeps_then}
-use Rattle.codegen_base.proofs.Helpers.{helpers}
+use Rattle.codegen_base.proofs.HelperAnswers.{helpers}
 use Rattle.codegen_base.proofs.Insertions.{map_is}
 use Rattle.codegen_base.proofs.Listings.{ask, begins, load, mov, refused, store}
 use Rattle.codegen_base.proofs.Operators.{keeps_left, shows_placed}

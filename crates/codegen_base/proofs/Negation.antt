@@ -29,7 +29,7 @@ use Rattle.codegen_base.specs.Pieces.{Stands, slots}
 use Rattle.codegen_base.proofs.Additions.{int_fits}
 use Rattle.codegen_base.proofs.Effects.{does, operand_is, result_is}
 use Rattle.codegen_base.proofs.Frames.{fits_registers, keeps_registers, keeps_then}
-use Rattle.codegen_base.proofs.Helpers.{helpers}
+use Rattle.codegen_base.proofs.HelperAnswers.{helpers}
 use Rattle.codegen_base.proofs.IntWords.{Negated, fits_from, least, negated_is, word}
 use Rattle.codegen_base.proofs.Listings.{ask, begins, load_wide, mov, no, yes}
 use Rattle.codegen_base.proofs.Loops.{either}

@@ -22,7 +22,7 @@ use Rattle.codegen_base.specs.Pieces.{Stands}
 use Rattle.codegen_base.specs.Words.{word_at}
 use Rattle.codegen_base.proofs.Effects.{differs_no, differs_yes}
 use Rattle.codegen_base.proofs.Frames.{fits_answered, fits_registers, keeps_answered, keeps_registers, keeps_then}
-use Rattle.codegen_base.proofs.Helpers.{helpers}
+use Rattle.codegen_base.proofs.HelperAnswers.{helpers}
 use Rattle.codegen_base.proofs.Listings.{ask, begins, load, mov, no, yes}
 use Rattle.codegen_base.proofs.Runs.{done, from_place, looser}
 

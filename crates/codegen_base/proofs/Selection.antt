@@ -24,7 +24,7 @@ use Rattle.codegen_base.specs.Operators.{Converts}
 use Rattle.codegen_base.specs.Pieces.{Stands}
 use Rattle.codegen_base.proofs.Effects.{differs_no, differs_yes}
 use Rattle.codegen_base.proofs.Frames.{fits_answered, fits_registers, keeps_answered, keeps_registers, keeps_then}
-use Rattle.codegen_base.proofs.Helpers.{helpers}
+use Rattle.codegen_base.proofs.HelperAnswers.{helpers}
 use Rattle.codegen_base.proofs.Listings.{ask, begins, jump, load_wide, mov, no, yes}
 use Rattle.codegen_base.proofs.Operators.{calls_give, shows_placed}
 use Rattle.codegen_base.proofs.Runs.{done, looser}

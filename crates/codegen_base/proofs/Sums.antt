@@ -25,7 +25,7 @@ use Rattle.codegen_base.specs.Engine.{Setting, Comes}
 use Rattle.codegen_base.specs.Instructions as insn
 use Rattle.codegen_base.specs.Pieces.{Stands, size, slots}
 use Rattle.codegen_base.proofs.Frames.{fits_registers, shows_registers}
-use Rattle.codegen_base.proofs.Helpers.{helpers}
+use Rattle.codegen_base.proofs.HelperAnswers.{helpers}
 use Rattle.codegen_base.proofs.Ints.{Checked, cast_fits, difference_checked, fits_is, fits_not, signed_fits, signed_is, signed_word, sum_checked, word_small}
 use Rattle.codegen_base.proofs.Listings.{alu, ask, begins, jump, mov, no, yes}
 use Rattle.codegen_base.proofs.Loops.{either}

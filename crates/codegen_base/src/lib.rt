@@ -1,9 +1,16 @@
 //! The ground of the code generator: what it means that code gives a value, within budgets of steps
 //! and of charge, on the machine and with its helpers.
 //!
+//! `instructions`, `helpers` and `references` are what code is written with. They are public for the
+//! crates above, which make code of expressions and of policies, and are no part of the program's own
+//! surface.
+//!
 //! `laws` has the laws for crates above, each on a function that does nothing. Of the lemmas those of
-//! `proofs/Runs`, `Steps`, `Listings`, `Pieces`, `Frames`, `Values`, `Helpers`, `Operators`, `Loops`,
+//! `proofs/Runs`, `Steps`, `Listings`, `Pieces`, `Frames`, `Values`, `HelperAnswers`, `Operators`, `Loops`,
 //! `Logic`, `Aggregates` and `Macros` are for crates above too.
 #![tactic(auto)]
 
+pub mod helpers;
+pub mod instructions;
 pub mod laws;
+pub mod references;

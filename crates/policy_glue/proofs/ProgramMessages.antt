@@ -20,7 +20,7 @@ use Rattle.codegen_base.specs.Pieces.{Stands}
 use Rattle.codegen_base.specs.Words.{set_verdict, verdict_address}
 use Rattle.codegen_base.proofs.Effects.{differs_no, differs_yes}
 use Rattle.codegen_base.proofs.Frames.{fits_registers}
-use Rattle.codegen_base.proofs.Helpers.{helpers}
+use Rattle.codegen_base.proofs.HelperAnswers.{helpers}
 use Rattle.codegen_base.proofs.Listings.{ask, begins, load_wide, mov, no, yes}
 use Rattle.codegen_base.proofs.Operands.{fits_told}
 use Rattle.codegen_base.proofs.Runs.{done, looser}

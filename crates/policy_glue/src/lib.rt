@@ -14,7 +14,6 @@ mod denials;
 mod documents;
 mod expression_error;
 mod failure_policy;
-mod instructions;
 mod judging;
 pub mod laws;
 mod name_rule;

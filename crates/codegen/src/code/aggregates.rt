@@ -3,9 +3,10 @@
 ghost use Rattle.std.specs.Prelude.{◌≡◌, ◌<◌, ◌+◌, ◌++◌, IfOk, OnOk};
 ghost use Rattle.codegen_base.specs.Code.Aggregates as specs;
 
-use crate::helpers;
-use crate::instructions::{call, copy, load, store};
+use crate::instructions::{load, store};
 use Register::{R0, R1, R2, R3};
+use codegen_base::helpers;
+use codegen_base::instructions::{call, copy};
 use insn_codec::{Insn, Register};
 use std::alloc::{AllocError, Global};
 

@@ -3,10 +3,11 @@
 ghost use Rattle.std.specs.Prelude.{◌≡◌, ◌<◌, ◌≤◌, IfOk};
 ghost use Rattle.codegen_base.specs.Code.Arithmetic as specs;
 
-use crate::helpers::{self, INT_KIND};
-use crate::instructions::{call, compute, copy, load, load_wide, put, skip, skip_if, skip_where};
-use crate::references::ERROR;
+use crate::instructions::{compute, load, skip, skip_where};
 use Register::{R0, R1, R2, R6, R7};
+use codegen_base::helpers::{self, INT_KIND};
+use codegen_base::instructions::{call, copy, load_wide, put, skip_if};
+use codegen_base::references::ERROR;
 use insn_codec::{AluOp, Comparison, Insn, Register, Width};
 use std::alloc::{AllocError, Global};
 

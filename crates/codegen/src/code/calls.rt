@@ -3,7 +3,8 @@
 ghost use Rattle.std.specs.Prelude.{◌≡◌, ◌<◌, IfOk};
 ghost use Rattle.codegen_base.specs.Code.Calls as specs;
 
-use crate::instructions::{call, copy, load, store};
+use crate::instructions::{load, store};
+use codegen_base::instructions::{call, copy};
 use insn_codec::{Insn, Register};
 use std::alloc::{AllocError, Global};
 

@@ -5,13 +5,12 @@ ghost use Rattle.codegen_base.specs.Loops as loops;
 ghost use Rattle.codegen_base.specs.Code.Folds as specs;
 ghost use Rattle.codegen_base.specs.Pieces.{size as size_of_piece};
 
-use crate::helpers;
-use crate::instructions::{
-    add, call, copy, go_back, load, put, size, skip, skip_if, skip_where, store,
-};
-use crate::references::{ERROR, NO, NULL, YES};
+use crate::instructions::{go_back, load, size, skip, skip_where, store};
 use Register::{R0, R1, R2};
 use cel_macros::Macro;
+use codegen_base::helpers;
+use codegen_base::instructions::{add, call, copy, put, skip_if};
+use codegen_base::references::{ERROR, NO, NULL, YES};
 use insn_codec::{Comparison, Insn, Register};
 use std::alloc::{AllocError, Global};
 
@@ -206,31 +205,22 @@ fn turn_of(alloc: Global, part: &[Insn], tail: &[Insn]) -> Result<Vec<Insn>, All
     Ok(code)
 }
 
-/// Whether the predicate is true of all items.
-#[tactic(auto, using(crate::proofs::Sizes::size_by_length))]
-fn all(alloc: Global, range: &[Insn], predicate: &[Insn], k: usize) -> Result<Vec<Insn>, AllocError>
-    requires words { k + 4 < 64 }
-    requires near { size_of_piece predicate.now ≤ 32256 }
-    ensures { IfOk result (λ code. code.items ≡ specs.all_code k range.now predicate.now) }
-{
-    let turn = turn_of(alloc, predicate, &absorbing_turn(NO, YES, k))?;
-    fold(alloc, range, put(R0, YES), &turn, k)
-}
-
-/// Whether the predicate is true of an item.
-#[tactic(auto, using(crate::proofs::Sizes::size_by_length))]
-fn exists(
+/// A fold whose turn is this part with these instructions behind it.
+fn fold_part(
     alloc: Global,
     range: &[Insn],
-    predicate: &[Insn],
+    first: Insn,
+    part: &[Insn],
+    tail: &[Insn],
     k: usize,
 ) -> Result<Vec<Insn>, AllocError>
     requires words { k + 4 < 64 }
-    requires near { size_of_piece predicate.now ≤ 32256 }
-    ensures { IfOk result (λ code. code.items ≡ specs.exists_code k range.now predicate.now) }
+    requires near { size_of_piece part.now + size_of_piece tail.now ≤ 32300 }
+    requires first { size_of_piece (first ∷ []) ≡ 1 }
+    ensures { IfOk result (λ code. code.items ≡ loops.fold_code k range.now (first ∷ []) (part.now ++ tail.now)) }
 {
-    let turn = turn_of(alloc, predicate, &absorbing_turn(YES, NO, k))?;
-    fold(alloc, range, put(R0, NO), &turn, k)
+    let turn = turn_of(alloc, part, tail)?;
+    fold(alloc, range, first, &turn, k)
 }
 
 /// Whether the predicate is true of one item alone.
@@ -245,41 +235,13 @@ fn exists_one(
     requires near { size_of_piece predicate.now ≤ 32256 }
     ensures { IfOk result (λ code. code.items ≡ specs.exists_one_code k range.now predicate.now) }
 {
-    let turn = turn_of(alloc, predicate, &exists_one_turn(k))?;
-    let mut code = fold(alloc, range, put(R0, NO), &turn, k)?;
+    let mut code = fold_part(alloc, range, put(R0, NO), predicate, &exists_one_turn(k), k)?;
     code.extend_from_slice(&[
         skip_if(Comparison::Eq, R0, ERROR, 2),
         skip_if(Comparison::Eq, R0, YES, 1),
         put(R0, NO),
     ])?;
     Ok(code)
-}
-
-/// The items of which the predicate is true.
-#[tactic(auto, using(crate::proofs::Sizes::size_by_length))]
-fn filter(
-    alloc: Global,
-    range: &[Insn],
-    predicate: &[Insn],
-    k: usize,
-) -> Result<Vec<Insn>, AllocError>
-    requires words { k + 4 < 64 }
-    requires near { size_of_piece predicate.now ≤ 32256 }
-    ensures { IfOk result (λ code. code.items ≡ specs.filter_code k range.now predicate.now) }
-{
-    let turn = turn_of(alloc, predicate, &filter_turn(k))?;
-    fold(alloc, range, call(helpers::LIST_NEW), &turn, k)
-}
-
-/// What the transform makes of each item.
-#[tactic(auto, using(crate::proofs::Sizes::size_by_length))]
-fn map(alloc: Global, range: &[Insn], transform: &[Insn], k: usize) -> Result<Vec<Insn>, AllocError>
-    requires words { k + 4 < 64 }
-    requires near { size_of_piece transform.now ≤ 32256 }
-    ensures { IfOk result (λ code. code.items ≡ specs.map_code k range.now transform.now) }
-{
-    let turn = turn_of(alloc, transform, &map_turn(k))?;
-    fold(alloc, range, call(helpers::LIST_NEW), &turn, k)
 }
 
 /// What the transform makes of each item of which the predicate is true.
@@ -295,11 +257,11 @@ pub(crate) fn map_where(
     ensures { IfOk result (λ code. code.items ≡ specs.map_where_code k range.now predicate.now transform.now) }
 {
     let tail = map_where_turn(alloc, transform, k)?;
-    let turn = turn_of(alloc, predicate, &tail)?;
-    fold(alloc, range, call(helpers::LIST_NEW), &turn, k)
+    fold_part(alloc, range, call(helpers::LIST_NEW), predicate, &tail, k)
 }
 
 /// The macro with one part, its predicate or its transform.
+#[tactic(auto, using(crate::proofs::Sizes::size_by_length))]
 pub(crate) fn macro_of(
     alloc: Global,
     found: Macro,
@@ -312,10 +274,23 @@ pub(crate) fn macro_of(
     ensures { IfOk result (λ code. code.items ≡ specs.macro_code found k range.now part.now) }
 {
     match found {
-        Macro::All => all(alloc, range, part, k),
-        Macro::Exists => exists(alloc, range, part, k),
+        Macro::All => {
+            let tail = absorbing_turn(NO, YES, k);
+            fold_part(alloc, range, put(R0, YES), part, &tail, k)
+        }
+        Macro::Exists => {
+            let tail = absorbing_turn(YES, NO, k);
+            fold_part(alloc, range, put(R0, NO), part, &tail, k)
+        }
         Macro::ExistsOne => exists_one(alloc, range, part, k),
-        Macro::Filter => filter(alloc, range, part, k),
-        Macro::Map => map(alloc, range, part, k),
+        Macro::Filter => fold_part(
+            alloc,
+            range,
+            call(helpers::LIST_NEW),
+            part,
+            &filter_turn(k),
+            k,
+        ),
+        Macro::Map => fold_part(alloc, range, call(helpers::LIST_NEW), part, &map_turn(k), k),
     }
 }

@@ -7,11 +7,11 @@ ghost use Rattle.codegen_base.specs.Instructions.{load_wide as load_wide_insn};
 ghost use Rattle.codegen.specs.Code.Literals as specs;
 
 use crate::constants::place_of;
-use crate::helpers;
-use crate::instructions::{call, load_wide, put};
-use crate::references::{NO, NULL, YES};
 use Register::{R0, R1, R2};
 use cel_reader::Literal;
+use codegen_base::helpers;
+use codegen_base::instructions::{call, load_wide, put};
+use codegen_base::references::{NO, NULL, YES};
 use insn_codec::{Insn, Register};
 use std::alloc::{AllocError, Global};
 

@@ -1,13 +1,15 @@
 //! Logical operators and the conditional.
 
 ghost use Rattle.std.specs.Prelude.{◌≡◌, ◌<◌, ◌≤◌, ◌+◌, IfOk};
+ghost use Rattle.codegen_base.specs.Code.Comparison as comparison;
 ghost use Rattle.codegen_base.specs.Code.Logic as specs;
 ghost use Rattle.codegen_base.specs.Pieces.{size as size_of_piece};
 
 use crate::code::calls::call_one;
-use crate::helpers;
-use crate::instructions::{load, put, size, skip, skip_if, store};
-use crate::references::{ERROR, NO, YES};
+use crate::instructions::{load, size, skip, store};
+use codegen_base::helpers;
+use codegen_base::instructions::{put, skip_if};
+use codegen_base::references::{ERROR, NO, YES};
 use insn_codec::{Comparison, Insn, Register};
 use std::alloc::{AllocError, Global};
 
@@ -27,8 +29,8 @@ fn absorbing_tail(decides: i32, other: i32, k: usize) -> [Insn; 5]
 }
 
 /// The operator for which the one truth decides: where it is the left side's, the right one is left
-/// out.
-fn absorbing(
+/// out. Where neither side decides, both sides have to be the other truth, or the answer is the error.
+pub(crate) fn absorbing(
     alloc: Global,
     decides: i32,
     other: i32,
@@ -49,39 +51,20 @@ fn absorbing(
     Ok(code)
 }
 
-/// False where one side is false, true where both are true, and else the error.
-pub(crate) fn and(
-    alloc: Global,
-    left: &[Insn],
-    right: &[Insn],
-    k: usize,
-) -> Result<Vec<Insn>, AllocError>
-    requires word { k < 64 }
-    requires near { size_of_piece right.now ≤ 32256 }
-    ensures { IfOk result (λ code. code.items ≡ specs.and_code left.now right.now k) }
-{
-    absorbing(alloc, NO, YES, left, right, k)
-}
-
-/// True where one side is true, false where both are false, and else the error.
-pub(crate) fn or(
-    alloc: Global,
-    left: &[Insn],
-    right: &[Insn],
-    k: usize,
-) -> Result<Vec<Insn>, AllocError>
-    requires word { k < 64 }
-    requires near { size_of_piece right.now ≤ 32256 }
-    ensures { IfOk result (λ code. code.items ≡ specs.or_code left.now right.now k) }
-{
-    absorbing(alloc, YES, NO, left, right, k)
-}
-
 /// The other truth than R0.
 pub(crate) fn not_tail() -> [Insn; 2]
     ensures { result ≡ specs.not_tail }
 {
     call_one(helpers::NOT)
+}
+
+/// The opposite of the truth that this code gives.
+pub(crate) fn opposite_of(alloc: Global, code: &[Insn]) -> Result<Vec<Insn>, AllocError>
+    ensures { IfOk result (λ opposite. opposite.items ≡ comparison.opposite_of code.now) }
+{
+    let mut opposite = code.to_vec(alloc)?;
+    opposite.extend_from_slice(&not_tail())?;
+    Ok(opposite)
 }
 
 /// The chosen side, or the error where the condition is neither true nor false.

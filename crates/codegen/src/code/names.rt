@@ -10,9 +10,10 @@ ghost use Rattle.codegen.specs.FrameWords.{words_of, AreWords};
 use crate::code::calls::{call_two, two};
 use crate::code::selection::{size_tail, string_tail};
 use crate::frame_words::FrameWords;
-use crate::helpers;
-use crate::instructions::{load, put};
-use crate::references::{ERROR, NAMESPACE_OBJECT, OBJECT, OLD_OBJECT, PARAMS, REQUEST};
+use crate::instructions::load;
+use codegen_base::helpers;
+use codegen_base::instructions::put;
+use codegen_base::references::{ERROR, NAMESPACE_OBJECT, OBJECT, OLD_OBJECT, PARAMS, REQUEST};
 use insn_codec::{Insn, Register};
 use std::alloc::{AllocError, Global};
 

@@ -5,10 +5,11 @@ ghost use Rattle.codegen.specs.Code.Expressions as specs;
 ghost use Rattle.codegen_base.specs.Pieces.{size as size_of_piece};
 
 use crate::code::arithmetic::{difference, divided, negation_tail, product, sum};
-use crate::code::calls::two;
-use crate::code::comparison::{equal, greater, greater_equal, less, less_equal, member, unequal};
-use crate::code::logic::{and, not_tail, or};
+use crate::code::calls::{call_swapped, call_two, two};
+use crate::code::logic::{absorbing, not_tail, opposite_of};
 use cel_reader::{BinaryOperator, UnaryOperator};
+use codegen_base::helpers::{EQUAL, LESS, MEMBER};
+use codegen_base::references::{NO, YES};
 use insn_codec::{AluOp, Insn};
 use std::alloc::{AllocError, Global};
 
@@ -48,13 +49,14 @@ fn binary_tail(alloc: Global, op: BinaryOperator, k: usize) -> Result<Vec<Insn>,
     match op {
         // These two leave early, so their code is no piece behind both operands.
         BinaryOperator::Or | BinaryOperator::And => Ok(Vec::new(alloc)),
-        BinaryOperator::Less => less(alloc, k),
-        BinaryOperator::LessEqual => less_equal(alloc, k),
-        BinaryOperator::GreaterEqual => greater_equal(alloc, k),
-        BinaryOperator::Greater => greater(alloc, k),
-        BinaryOperator::Equal => equal(alloc, k),
-        BinaryOperator::NotEqual => unequal(alloc, k),
-        BinaryOperator::In => member(alloc, k),
+        BinaryOperator::Less => call_two(LESS, k).to_vec(alloc),
+        BinaryOperator::Greater => call_swapped(LESS, k).to_vec(alloc),
+        // word k is at most R0 where R0 is not below it
+        BinaryOperator::LessEqual => opposite_of(alloc, &call_swapped(LESS, k)),
+        BinaryOperator::GreaterEqual => opposite_of(alloc, &call_two(LESS, k)),
+        BinaryOperator::Equal => call_two(EQUAL, k).to_vec(alloc),
+        BinaryOperator::NotEqual => opposite_of(alloc, &call_two(EQUAL, k)),
+        BinaryOperator::In => call_two(MEMBER, k).to_vec(alloc),
         BinaryOperator::Add => sum(alloc, k),
         BinaryOperator::Subtract => difference(alloc, k),
         BinaryOperator::Multiply => product(alloc, k),
@@ -76,8 +78,8 @@ pub(crate) fn binary(
     ensures { IfOk result (λ code. code.items ≡ specs.binary_code op left.now right.now k) }
 {
     match op {
-        BinaryOperator::Or => or(alloc, left, right, k),
-        BinaryOperator::And => and(alloc, left, right, k),
+        BinaryOperator::Or => absorbing(alloc, YES, NO, left, right, k),
+        BinaryOperator::And => absorbing(alloc, NO, YES, left, right, k),
         _ => {
             let tail = binary_tail(alloc, op, k)?;
             two(alloc, left, right, k, &tail)

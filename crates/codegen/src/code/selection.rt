@@ -6,9 +6,10 @@ ghost use Rattle.codegen.specs.Code.Literals.{address_of};
 
 use crate::code::calls::{call_one, call_two};
 use crate::code::literals::text_range;
-use crate::helpers::{self, TEXT_KIND};
-use crate::instructions::{call, copy, skip, skip_if};
+use crate::instructions::skip;
 use Register::{R0, R1, R2, R3, R6};
+use codegen_base::helpers::{self, TEXT_KIND};
+use codegen_base::instructions::{call, copy, skip_if};
 use insn_codec::{Comparison, Insn, Register};
 use std::alloc::{AllocError, Global};
 

@@ -7,10 +7,10 @@ ghost use Rattle.codegen.specs.Code.Expressions.{routine_named as first_named, v
 ghost use Rattle.codegen.specs.Surroundings.{routines_within};
 
 use crate::code::names::nothing;
-use crate::instructions::{add, copy, load_wide, skip_if};
 use crate::surroundings::Surroundings;
 use Register::{R0, R1, R2};
-use insn_codec::{Comparison, Insn, Register, Size};
+use codegen_base::instructions::{add, copy, load_at, load_wide, skip_if, store_at};
+use insn_codec::{Comparison, Insn, Register};
 use std::alloc::{AllocError, Global};
 
 /// Where the scratch region begins in memory.
@@ -32,12 +32,7 @@ pub(crate) fn variable_use(i: usize, offset: i32) -> [Insn; 5]
 {
     [
         load_wide(R1, memo_address(i)),
-        Insn::Load {
-            size: Size::Dw,
-            dst: R0,
-            src: R1,
-            offset: 0,
-        },
+        load_at(R0, R1),
         add(R0, -1),
         skip_if(Comparison::Ne, R0, -1, 1),
         Insn::CallLocal { offset },
@@ -53,12 +48,7 @@ pub(crate) fn memo_tail(i: usize) -> [Insn; 5]
         copy(R2, R0),
         add(R2, 1),
         load_wide(R1, memo_address(i)),
-        Insn::Store {
-            size: Size::Dw,
-            dst: R1,
-            offset: 0,
-            src: R2,
-        },
+        store_at(R1, R2),
         Insn::Exit,
     ]
 }

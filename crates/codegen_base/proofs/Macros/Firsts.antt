@@ -6,7 +6,7 @@ use Rattle.codegen_base.specs.Code.Folds.{first_empty, first_false, first_true}
 use Rattle.codegen_base.specs.Contexts.{Context, Gives}
 use Rattle.codegen_base.specs.Engine.{Setting}
 use Rattle.codegen_base.proofs.Frames.{shows_registers}
-use Rattle.codegen_base.proofs.Helpers.{helpers}
+use Rattle.codegen_base.proofs.HelperAnswers.{helpers}
 use Rattle.codegen_base.proofs.Listings.{ask, begins, mov}
 use Rattle.codegen_base.proofs.Operators.{shows_placed}
 use Rattle.codegen_base.proofs.Runs.{done, looser}

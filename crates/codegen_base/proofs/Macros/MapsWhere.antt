@@ -22,7 +22,7 @@ use Rattle.codegen_base.specs.Loops.{fold_code, fold_of, with_item}
 use Rattle.codegen_base.specs.Pieces.{Stands, size}
 use Rattle.codegen_base.proofs.Frames.{keeps_then, shows_registers}
 use Rattle.codegen_base.proofs.Listings.{jump, load, mov}
-use Rattle.codegen_base.proofs.Logic.{told_in}
+use Rattle.codegen_base.proofs.Absorbing.{told_in}
 use Rattle.codegen_base.proofs.Loops.{item_gives}
 use Rattle.codegen_base.proofs.Macros.Budgets.{gives_within}
 use Rattle.codegen_base.proofs.Macros.Depths.{chosen_shallow, deep_excused, first_shallow, is_shallow}

@@ -14,7 +14,7 @@ use Rattle.codegen_base.specs.Engine.{Setting, Comes}
 use Rattle.codegen_base.specs.Pieces.{Stands}
 use Rattle.codegen_base.specs.Words.{word_at}
 use Rattle.codegen_base.proofs.Frames.{shows_registers}
-use Rattle.codegen_base.proofs.Helpers.{helpers}
+use Rattle.codegen_base.proofs.HelperAnswers.{helpers}
 use Rattle.codegen_base.proofs.Listings.{ask, begins, jump, load, mov, no, refused, yes}
 use Rattle.codegen_base.proofs.Runs.{done, looser}
 use Rattle.codegen_base.proofs.Values.{Told, names_error, told}

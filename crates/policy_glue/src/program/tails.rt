@@ -8,22 +8,12 @@ ghost use Rattle.policy_glue.specs.Layout.{most_validations, outcome_word};
 ghost use Rattle.policy_glue.specs.Verdict.{undecided as outcome_undecided};
 
 use crate::failure_policy::FailurePolicy;
-use crate::instructions::{add, copy, load_at, put, skip_if, store_at};
 use crate::verdict::{FIRST_MESSAGE, FIRST_RESULT, VERDICT};
 use Register::{R0, R1, R2, R3, R6};
+use codegen_base::helpers::{KIND, TEXT_KIND};
+use codegen_base::instructions::{add, call, copy, load_at, load_wide, put, skip_if, store_at};
+use codegen_base::references::{NO, YES};
 use insn_codec::{Comparison, Insn, Register};
-
-/// The reference of false.
-const NO: i32 = 2;
-
-/// The reference of true.
-const YES: i32 = 3;
-
-/// The helper that answers the kind of a value.
-const KIND: i32 = 1;
-
-/// The kind of a text.
-const TEXT_KIND: i32 = 4;
 
 /// The outcome of a policy of which a condition is false.
 const SKIPPED: i32 = 1;
@@ -57,10 +47,7 @@ fn verdict_word(i: u64) -> Insn
     requires { i < 256 }
     ensures { result ≡ Insn.LoadWide Register.R1 (address_of_word i) }
 {
-    Insn::LoadWide {
-        dst: R1,
-        value: VERDICT + 8 * i,
-    }
+    load_wide(R1, VERDICT + 8 * i)
 }
 
 /// The outcome where no condition is false and one could not be decided.
@@ -137,7 +124,7 @@ pub(super) fn unless_denied(slots: u64) -> Insn
     requires { slots < 32768 }
     ensures { result ≡ jump_unless_denied slots }
 {
-    skip_if(Comparison::Eq, R3, 0, slots)
+    skip_if(Comparison::Eq, R3, 0, slots as usize)
 }
 
 /// One more denial.
@@ -161,7 +148,7 @@ pub(super) fn message_tail(i: usize) -> [Insn; 6]
     [
         copy(R6, R0),
         copy(R1, R0),
-        Insn::Call { helper: KIND },
+        call(KIND),
         skip_if(Comparison::Ne, R0, TEXT_KIND, 3),
         verdict_word(FIRST_MESSAGE + i as u64),
         store_at(R1, R6),

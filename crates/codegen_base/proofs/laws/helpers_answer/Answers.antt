@@ -1,4 +1,4 @@
-use Rattle.codegen_base.proofs.Helpers.{helpers}
+use Rattle.codegen_base.proofs.HelperAnswers.{helpers}
 use Rattle.codegen_base.proofs.laws.helpers_answer.Goals as goal
 
 pub returns : goal.returns

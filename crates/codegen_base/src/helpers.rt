@@ -1,76 +1,76 @@
 //! The numbers of the helpers that code calls, and of what they answer.
 
 /// The kind of a value.
-pub(crate) const KIND: i32 = 1;
+pub const KIND: i32 = 1;
 
 /// An int as a word.
-pub(crate) const INT_OF: i32 = 2;
+pub const INT_OF: i32 = 2;
 
 /// The int that a word is, read as signed.
-pub(crate) const INT_NEW: i32 = 3;
+pub const INT_NEW: i32 = 3;
 
 /// The text in a range of constants.
-pub(crate) const TEXT_CONST: i32 = 4;
+pub const TEXT_CONST: i32 = 4;
 
 /// The value of a map at a key in the constants.
-pub(crate) const FIELD: i32 = 5;
+pub const FIELD: i32 = 5;
 
 /// Whether a map has a key in the constants.
-pub(crate) const HAS: i32 = 6;
+pub const HAS: i32 = 6;
 
 /// An item of a list at an int, or a map's value at a text.
-pub(crate) const INDEX: i32 = 7;
+pub const INDEX: i32 = 7;
 
 /// The number of code points, items or entries, as a value.
-pub(crate) const SIZE: i32 = 8;
+pub const SIZE: i32 = 8;
 
 /// Whether two values are equal.
-pub(crate) const EQUAL: i32 = 9;
+pub const EQUAL: i32 = 9;
 
 /// Whether the first of two values is below the second.
-pub(crate) const LESS: i32 = 10;
+pub const LESS: i32 = 10;
 
 /// Two texts or two lists, one after the other.
-pub(crate) const JOIN: i32 = 11;
+pub const JOIN: i32 = 11;
 
 /// Whether a text begins with another.
-pub(crate) const STARTS: i32 = 12;
+pub const STARTS: i32 = 12;
 
 /// Whether a text ends with another.
-pub(crate) const ENDS: i32 = 13;
+pub const ENDS: i32 = 13;
 
 /// Whether a text stands in another.
-pub(crate) const CONTAINS: i32 = 14;
+pub const CONTAINS: i32 = 14;
 
 /// Whether a value is an item of a list, or a key of a map.
-pub(crate) const MEMBER: i32 = 15;
+pub const MEMBER: i32 = 15;
 
 /// An empty list.
-pub(crate) const LIST_NEW: i32 = 16;
+pub const LIST_NEW: i32 = 16;
 
 /// A list with one item more.
-pub(crate) const PUSH: i32 = 17;
+pub const PUSH: i32 = 17;
 
 /// An empty map.
-pub(crate) const MAP_NEW: i32 = 18;
+pub const MAP_NEW: i32 = 18;
 
 /// A map with one entry more.
-pub(crate) const PUT: i32 = 19;
+pub const PUT: i32 = 19;
 
 /// An item of a list, or a key of a map, at a place.
-pub(crate) const ITEM: i32 = 20;
+pub const ITEM: i32 = 20;
 
 /// The number of items or entries, as a word; -1 of what has neither.
-pub(crate) const COUNT: i32 = 21;
+pub const COUNT: i32 = 21;
 
 /// The decimal text of an int.
-pub(crate) const TEXT_OF_INT: i32 = 22;
+pub const TEXT_OF_INT: i32 = 22;
 
 /// The other truth.
-pub(crate) const NOT: i32 = 23;
+pub const NOT: i32 = 23;
 
 /// The kind of an int.
-pub(crate) const INT_KIND: i32 = 3;
+pub const INT_KIND: i32 = 3;
 
 /// The kind of a text.
-pub(crate) const TEXT_KIND: i32 = 4;
+pub const TEXT_KIND: i32 = 4;

@@ -1,4 +1,4 @@
-//! Instructions in short words.
+//! Instructions in short words, for the crates that write code.
 
 ghost use Rattle.std.specs.Prelude.{◌≡◌, ◌<◌, pos};
 ghost use Rattle.codegen_base.specs.Instructions as specs;
@@ -6,7 +6,7 @@ ghost use Rattle.codegen_base.specs.Instructions as specs;
 use insn_codec::{AluOp, Comparison, Insn, Operand, Register, Size, Width};
 
 /// The first register gets the second one's word.
-pub(crate) fn copy(dst: Register, src: Register) -> Insn
+pub fn copy(dst: Register, src: Register) -> Insn
     ensures { result ≡ specs.copy dst src }
 {
     Insn::Alu {
@@ -18,7 +18,7 @@ pub(crate) fn copy(dst: Register, src: Register) -> Insn
 }
 
 /// The register gets the number.
-pub(crate) fn put(dst: Register, n: i32) -> Insn
+pub fn put(dst: Register, n: i32) -> Insn
     ensures { result ≡ specs.put dst n }
 {
     Insn::Alu {
@@ -30,7 +30,7 @@ pub(crate) fn put(dst: Register, n: i32) -> Insn
 }
 
 /// The number is added to the register.
-pub(crate) fn add(dst: Register, n: i32) -> Insn
+pub fn add(dst: Register, n: i32) -> Insn
     ensures { result ≡ Insn.Alu AluOp.Add Width.W64 dst (Operand.Imm n) }
 {
     Insn::Alu {
@@ -42,7 +42,7 @@ pub(crate) fn add(dst: Register, n: i32) -> Insn
 }
 
 /// The first register gets the word at the address in the second one.
-pub(crate) fn load_at(dst: Register, src: Register) -> Insn
+pub fn load_at(dst: Register, src: Register) -> Insn
     ensures { result ≡ Insn.Load Size.Dw dst src (pos 0) }
 {
     Insn::Load {
@@ -54,7 +54,7 @@ pub(crate) fn load_at(dst: Register, src: Register) -> Insn
 }
 
 /// The word at the address in the first register gets the second one.
-pub(crate) fn store_at(dst: Register, src: Register) -> Insn
+pub fn store_at(dst: Register, src: Register) -> Insn
     ensures { result ≡ Insn.Store Size.Dw dst (pos 0) src }
 {
     Insn::Store {
@@ -65,8 +65,22 @@ pub(crate) fn store_at(dst: Register, src: Register) -> Insn
     }
 }
 
+/// The register gets the word; this takes two slots.
+pub fn load_wide(dst: Register, value: u64) -> Insn
+    ensures { result ≡ specs.load_wide dst value }
+{
+    Insn::LoadWide { dst, value }
+}
+
+/// The call of the helper of this number.
+pub fn call(helper: i32) -> Insn
+    ensures { result ≡ Insn.Call helper }
+{
+    Insn::Call { helper }
+}
+
 /// A jump over so many slots where the register and the number compare so.
-pub(crate) fn skip_if(comparison: Comparison, dst: Register, n: i32, slots: u64) -> Insn
+pub fn skip_if(comparison: Comparison, dst: Register, n: i32, slots: usize) -> Insn
     requires { slots < 32768 }
     ensures { result ≡ specs.skip_if comparison dst n slots }
 {
