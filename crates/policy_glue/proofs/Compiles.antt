@@ -97,7 +97,7 @@ image_compiled short law stopped p c code constants image accepted checks within
       trees = t;
       compiles = limits.compiled t checks.2 within;
       program = record {
-        version = refl;
+        is = λ i. contents Second (code_is i) (constants_are i);
         code = bytes;
         constants = constant_bytes;
         few_slots = omega arith;

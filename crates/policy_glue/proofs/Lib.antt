@@ -11,6 +11,8 @@ mod Joined
 mod Judged
 mod Layouts
 mod Lists
+mod OneAnswer
+mod OneExpression
 mod Policies
 mod ProgramConditions
 mod ProgramDecided

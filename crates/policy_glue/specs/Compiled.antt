@@ -9,9 +9,12 @@ use Rattle.bpf_machine.specs.State.{start_state}
 use Rattle.bpf_machine.specs.Step.{is_running}
 use Rattle.bpf_machine.specs.Trace.{state_after}
 use Rattle.codegen_base.specs.Contexts.{HasValues}
+use Rattle.codegen_base.specs.Pieces.{spellings}
+use Rattle.codegen.specs.Constants.{joined}
 use Rattle.policy_glue.specs.Budget.{policy_work}
-use Rattle.policy_glue.specs.Limits.{Compiles, policy_nodes}
+use Rattle.policy_glue.specs.Limits.{Compiles, policy_nodes, policy_texts}
 use Rattle.policy_glue.specs.Policy.{Rules}
+use Rattle.policy_glue.specs.ProgramCode.{program_of}
 use Rattle.policy_glue.specs.ProgramTrees.{Decides}
 use Rattle.policy_glue.specs.Trees.{PolicyTree}
 use Rattle.policy_glue.specs.declared.compile_error.CompileError.{CompileError}
@@ -22,9 +25,13 @@ use Rattle.policy_glue.specs.declared.failure_policy.FailurePolicy.{FailurePolic
 abbrev pub contents : Version → List ℕ → List ℕ → loader.Contents
 contents version code constants = record { version = version; code = code; constants = constants }
 
--- an image of version 2 with at most 128 slots for each of the policy's nodes, which decides as the policy does on every five roots, within 128 steps for each unit of the policy's work, and has decided so wherever it stands stopped
+-- the image of a policy: the code of its program and its texts, in version 2
+abbrev pub program_image : FailurePolicy → PolicyTree → loader.Contents
+program_image f t = contents Second (spellings (program_of f t)) (joined (policy_texts t))
+
+-- that image, which has at most 128 slots for each of the policy's nodes, decides as the policy does on every five roots, within 128 steps for each unit of the policy's work, and has decided so wherever it stands stopped
 pub record IsProgram (f : FailurePolicy) (t : PolicyTree) (image : loader.Contents) : Type 0 where
-  pub version : image.version ≡ Second
+  pub is : image ≡ program_image f t
   pub code : All (λ b. b < 256) image.code
   pub constants : All (λ b. b < 256) image.constants
   pub few_slots : length image.code ≤ 8 * (128 * policy_nodes t)

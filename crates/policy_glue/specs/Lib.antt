@@ -1,5 +1,6 @@
 pub mod Budget
 pub mod BudgetRows
+pub mod Causes
 pub mod Checked
 pub mod Checking
 pub mod CompileErrors

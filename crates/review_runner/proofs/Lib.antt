@@ -13,3 +13,4 @@ pub mod DocumentNumbers
 pub mod RootContents
 pub mod PolicyFiles
 pub mod Decided
+mod OneReview

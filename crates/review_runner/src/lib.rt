@@ -22,6 +22,7 @@ mod file_error;
 mod files;
 mod held_files;
 mod held_review;
+mod laws;
 mod listing;
 mod null_table;
 mod opening;
