@@ -5,7 +5,7 @@ use policy_glue::laws::compiles_once;
 
 /// Within the same steps a review has one answer, or one cause for which it is refused, but for want of
 /// memory.
-pub(crate) fn reviews_once()
+pub fn reviews_once()
     ensures { HasOneAnswer }
 {
     compiles_once();

@@ -22,7 +22,7 @@ mod file_error;
 mod files;
 mod held_files;
 mod held_review;
-mod laws;
+pub mod laws;
 mod listing;
 mod null_table;
 mod opening;
