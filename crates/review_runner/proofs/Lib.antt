@@ -1,6 +1,5 @@
 pub mod Assembled
 pub mod HeldFiles
-pub mod Decimals
 pub mod Kept
 pub mod Limit
 pub mod Number
