@@ -1,6 +1,7 @@
 pub mod Assembled
 pub mod HeldFiles
 pub mod Kept
+pub mod MadeFiles
 pub mod Limit
 pub mod Number
 pub mod Performed

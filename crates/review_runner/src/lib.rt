@@ -21,6 +21,7 @@ mod files;
 mod held_files;
 mod held_review;
 mod listing;
+mod making;
 mod null_table;
 mod opening;
 mod order;
@@ -52,6 +53,7 @@ mod run_error;
 mod running;
 #[cfg(test)]
 mod running_tests;
+mod source_kind;
 mod values;
 
 pub use debugging::debug;
