@@ -1,11 +1,10 @@
 -- Reviews, from the states in which the policies' programs stand.
-use Rattle.std.proofs.Common.{◌≡◌, ℕ, ◌+◌, ◌*◌, ◌<◌, ◌≤◌, ◌⊎◌, Bool, true, false, List, [], ◌∷◌, ◌++◌, length, Option, Some, None, Result, Ok, Err, refl, sym, ap, ◌∙◌, subst, arith, inl, inr}
+use Rattle.std.proofs.Common.{◌≡◌, ℕ, ◌+◌, ◌*◌, ◌≤◌, ◌⊎◌, Bool, true, false, List, [], ◌∷◌, ◌++◌, length, Option, Some, None, Result, Ok, Err, refl, sym, ap, ◌∙◌, subst, arith, inl, inr}
 use Rattle.std.specs.Prelude.{IsErrAnd, ◌||◌, get_or, map, nat_eq, slice_get, if◌then◌else◌}
 use Rattle.std.proofs.lemmas.Bool.{cases_lt}
 use Rattle.std.proofs.lemmas.List.{length-map, length_push}
 use Rattle.guest_memory.specs.Memory.{IsMemory}
 use Rattle.guest_memory.specs.declared.fault.Fault.{Fault as GuestFault}
-use Rattle.guest_memory.specs.declared.fault.Fault.TheVariants.{F8}
 use Rattle.loader.specs.Contents as loader
 use Rattle.value_store.specs.Laws.{StartIsCanonical}
 use Rattle.value_store.specs.Placing.{Contents}
@@ -13,7 +12,6 @@ use Rattle.value_store.specs.Roots.{Starts, start_contents}
 use Rattle.value_store.specs.declared.table_error.TableError.{TableError}
 use Rattle.value_store.specs.declared.table_error.TableError.TheVariants.{V1, V2, V3}
 use Rattle.value_store.specs.declared.table_error.TableError.TheVariants as table_error
-use Rattle.value_store.specs.Value.{ValueOrError}
 use Rattle.serde_json.specs.Data as json
 use Rattle.serde_json.specs.View.{view}
 use Rattle.serde_json.specs.declared.value.Value.{Value}
@@ -30,25 +28,23 @@ use Rattle.codegen_base.specs.Contexts.{HasValues}
 use Rattle.policy_glue.specs.Checking.{Ends, PartsEnd}
 use Rattle.policy_glue.specs.Checking as checking
 use Rattle.policy_glue.specs.Budget.{policy_work}
-use Rattle.policy_glue.specs.Compiled.{IsCompiled, IsProgram}
+use Rattle.policy_glue.specs.Compiled.{IsCompiled}
 use Rattle.policy_glue.specs.Evaluation.{condition_values, decision_of, environment_with, rule_value, rule_values, values_of}
-use Rattle.policy_glue.specs.Layout.{IsLayout, outcome_word}
 use Rattle.policy_glue.specs.Limits.{Compiles}
 use Rattle.policy_glue.specs.Limits as limits
 use Rattle.policy_glue.specs.Policy.{Rules}
 use Rattle.policy_glue.specs.ProgramTrees.{Decides, Over, Left}
 use Rattle.policy_glue.specs.Reading.{policy_in}
 use Rattle.policy_glue.specs.Trees.{PolicyTree}
-use Rattle.policy_glue.specs.Verdict.{Finding, Outcome, Verdict, decided, decided_before, finding_of, judged_by, truth_of, verdict_of}
+use Rattle.policy_glue.specs.Verdict.{Finding, Outcome, decided, decided_before, finding_of, judged_by, truth_of, verdict_of}
 use Rattle.policy_glue.specs.declared.compile_error.CompileError.{CompileError}
 use Rattle.policy_glue.specs.declared.failure_policy.FailurePolicy.{FailurePolicy}
 use Rattle.review_runner.specs.Deciding.{Answer, AnswersFrom, Documents, IsAnswered, IsPolicy, IsStopped, IsToldBy, IsUnended, Reviews, Runs, answer_view, started, values_given}
 use Rattle.review_runner.specs.Reviews.{Gives, Parts, document_given, documents_from, documents_given, parts_given, root_refusal, uid_in, uid_of}
-use Rattle.review_runner.specs.declared.policy_refusal.PolicyRefusal.{PolicyRefusal}
 use Rattle.review_runner.specs.declared.reply.Reply.{Reply}
 use Rattle.review_runner.specs.declared.run_error.RunError.{RunError}
 use Rattle.review_runner.specs.declared.run_error.RunError.TheVariants.{N1, N2, N3, N4, N5, Memory}
-use Rattle.review_runner.proofs.RootContents.{AreStarted, are_five, are_started, contents_are, has_values, refused_documents, refused_roots, uid_is}
+use Rattle.review_runner.proofs.RootContents.{are_five, are_started, contents_are, has_values, refused_documents, refused_roots, uid_is}
 
 -- ---- findings
 

@@ -1,7 +1,6 @@
 -- The negative numbers of documents are of 64 bits signed.
-use Rattle.std.proofs.Common.{◌≡◌, ℕ, zero, suc, ◌^◌, ◌<◌, ◌≤◌, Bool, true, false, List, Option, Some, None, Ordering, Less, Equal, Greater, nat_cmp, bytes_eq, refl, subst, arith, Float}
+use Rattle.std.proofs.Common.{◌≡◌, ℕ, zero, suc, ◌^◌, ◌<◌, ◌≤◌, Bool, true, false, List, Option, Some, None, Ordering, Less, Equal, Greater, nat_cmp, refl, subst, arith, Float}
 use Rattle.std.proofs.lemmas.Bool.{leb-true}
-use Rattle.std.proofs.lemmas.Bool.Decides.{nat_tests}
 use Rattle.std.specs.Cmp.Lexicographic.{slice_cmp}
 use Rattle.std.specs.Float.{binary64, float_is_finite}
 use Rattle.std.specs.Int.{w64}
@@ -14,7 +13,7 @@ use Rattle.json.specs.Json.{if_last, value}
 use Rattle.json.specs.Lex.{tokens}
 use Rattle.serde_json.specs.Data as json
 use Rattle.serde_json.specs.Find.{get, get_member}
-use Rattle.serde_json.specs.Read.{float_of, is_integer, max_depth, number_from, number_of, of_items, of_json, of_members, read}
+use Rattle.serde_json.specs.Read.{float_of, is_integer, max_depth, number_from, number_of, of_items, of_json, of_members}
 use Rattle.bpf_machine.specs.Starts.{FitsNumber, HasNumbers, HaveNumbers, MembersHaveNumbers}
 use Rattle.review_runner.specs.Reviews.{document_of}
 

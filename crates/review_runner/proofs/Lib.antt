@@ -1,7 +1,7 @@
 pub mod Assembled
 pub mod HeldFiles
-pub mod Decimals
 pub mod Kept
+pub mod MadeFiles
 pub mod Limit
 pub mod Number
 pub mod Performed

@@ -22,7 +22,7 @@ use Rattle.clap.specs.declared.builder.value_parser.ValueParser.TheVariants as p
 use Rattle.clap.specs.declared.error.kind.ErrorKind.{ErrorKind}
 use Rattle.clap.specs.declared.parser.matches.ValueSource.{ValueSource}
 use Rattle.clap.specs.declared.parser.matches.ValueSource.TheVariants.{CommandLine, DefaultValue}
-use Rattle.review_runner.specs.Commands.{asm_app, image_rule, list_app, steps_rule, text_rule, review_rule, namespace_rule, params_rule, policy_rule, named_policy_rule, given_review_rule, compile_app, review_app, reviewed_app, deciding_app, running_app, run_image_app, debug_app, bare_app}
+use Rattle.review_runner.specs.Commands.{file_rule, option_rule, required_option_rule, list_app, steps_rule, making_app, with_documents, review_app, deciding_app, running_app, run_image_app, debug_app, bare_app}
 use Rattle.review_runner.specs.Commands.{celbpf_app, faults, entered}
 use Rattle.review_runner.specs.Number.{number_of, number_written, writes_u64}
 use Rattle.review_runner.specs.Order.{Ordered, IsWithinLimits, assemble_in, compile_in, debug_in, list_in, order_in, order_view, review_in, run_image_in}
@@ -126,7 +126,7 @@ level_keeps s words ok e =
     defaults_keep RowsOk s.rules _ (all_defaults_keep s.rules ok.1) (settle_keeps RowsOk s [] ok.0 end q.0 (walk_keeps RowsOk s [] ok.0 words (walk_from nothing_held) p.0 tt))
 
 shapes : Each ShapeOk (built celbpf_app).subs
-unfolding celbpf_app deciding_app running_app bare_app compile_app review_app reviewed_app run_image_app asm_app list_app debug_app image_rule steps_rule text_rule review_rule namespace_rule params_rule policy_rule named_policy_rule given_review_rule
+unfolding celbpf_app deciding_app running_app bare_app making_app with_documents review_app run_image_app list_app debug_app file_rule option_rule required_option_rule steps_rule
 shapes = (
   (
     (

@@ -10,7 +10,7 @@ use Rattle.review_runner.specs.declared.done.Done.{Done}
 use Rattle.review_runner.specs.declared.file_error.FileError.TheVariants.{Failed}
 use Rattle.review_runner.specs.declared.refusal.Refusal.{Refusal}
 use Rattle.review_runner.specs.declared.refusal.Refusal.TheVariants.{Memory}
-use Rattle.review_runner.proofs.Assembled.{same_files}
+use Rattle.review_runner.proofs.MadeFiles.{same_files}
 
 -- ---- files
 

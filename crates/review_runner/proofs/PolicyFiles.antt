@@ -1,5 +1,5 @@
 -- Policies and reviews in files.
-use Rattle.std.proofs.Common.{◌≡◌, ◌∙◌, ℕ, List, [], Option, Some, None, Result, Ok, Err, Vec, refl, sym, subst, ap}
+use Rattle.std.proofs.Common.{◌≡◌, ◌∙◌, ℕ, List, Option, Result, Ok, Err, Vec, refl, sym, subst, inl, inr}
 use Rattle.std.specs.Prelude.{IsErrAnd}
 use Rattle.std.specs.declared.alloc.Global.{Global}
 use Rattle.loader.specs.Contents.{Contents}
@@ -8,15 +8,15 @@ use Rattle.policy_glue.specs.Compiled.{IsCompiled}
 use Rattle.policy_glue.specs.Policy.{Rules}
 use Rattle.policy_glue.specs.Reading.{policy_in}
 use Rattle.review_runner.specs.Debugging.{IsReadingGiven, ReadingGiven}
-use Rattle.review_runner.specs.Deciding.{Answer, CompilesDocument, Documents, IsRefused, Reviews, answer_view}
-use Rattle.review_runner.specs.FileSystem.{FileSystem, IsReading, IsWriting, Reading}
-use Rattle.review_runner.specs.Order.{ReviewFiles, compile, review}
-use Rattle.review_runner.specs.Output.{Outcome, Report, outcome_of, succeeded}
-use Rattle.review_runner.specs.Performing.{PerformsBy, WritesImage, failed, lacks_memory, nothing, performs, written}
-use Rattle.review_runner.specs.PolicyFiles.{CompiledFrom, CompilesBy, CompilesFile, HasRead, HoldsReview, ReviewsHeld, answer_report, documents_of, image, no_file, no_image, review_outcome, reviewed, unread}
+use Rattle.review_runner.specs.Deciding.{Answer, CompilesDocument, Documents, Reviews}
+use Rattle.review_runner.specs.FileSystem.{FileSystem, IsReading, Reading}
+use Rattle.review_runner.specs.Making.{MadeBy}
+use Rattle.review_runner.specs.Order.{ReviewFiles, review}
+use Rattle.review_runner.specs.Output.{Outcome, Report, outcome_of}
+use Rattle.review_runner.specs.Performing.{PerformsBy, performs}
+use Rattle.review_runner.specs.PolicyFiles.{CompiledFrom, HoldsReview, ReviewsHeld, answer_report, documents_of, image, no_image, reviewed, unread}
 use Rattle.review_runner.specs.Refusals.{file_refusal, policy_refusal_of, run_refusal}
 use Rattle.review_runner.specs.declared.answer.Answer.{Answer as CodeAnswer}
-use Rattle.review_runner.specs.declared.compiled_policy.CompiledPolicy.{CompiledPolicy}
 use Rattle.review_runner.specs.declared.file_error.FileError.{FileError}
 use Rattle.review_runner.specs.declared.file_error.FileError.TheVariants.{Failed}
 use Rattle.review_runner.specs.declared.file_error.FileError.TheVariants as file_error
@@ -25,11 +25,10 @@ use Rattle.review_runner.specs.declared.policy_refusal.PolicyRefusal.{PolicyRefu
 use Rattle.review_runner.specs.declared.policy_refusal.PolicyRefusal.TheVariants.{Unread, Uncompiled}
 use Rattle.review_runner.specs.declared.policy_refusal.PolicyRefusal.TheVariants as policy_refusal
 use Rattle.review_runner.specs.declared.refusal.Refusal.{Refusal}
-use Rattle.review_runner.specs.declared.refusal.Refusal.TheVariants.{Run, File, Image, Input, Memory, Output, Policy, Program, Text, Words}
-use Rattle.review_runner.specs.declared.reply.Reply.{Reply}
+use Rattle.review_runner.specs.declared.refusal.Refusal.TheVariants.{Memory}
 use Rattle.review_runner.specs.declared.run_error.RunError.{RunError}
 use Rattle.review_runner.specs.declared.run_error.RunError.TheVariants as run_error
-use Rattle.review_runner.proofs.Assembled.{same_files, was_kept}
+use Rattle.review_runner.specs.declared.source_kind.SourceKind.TheVariants.{PolicyDocument}
 use Rattle.review_runner.proofs.HeldFiles.{unread as any_reading}
 
 -- ---- images
@@ -37,92 +36,23 @@ use Rattle.review_runner.proofs.HeldFiles.{unread as any_reading}
 ok_not_failed : (held : List ℕ) → (let r : Reading = Ok held in r ≡ Err Failed) → ⊥
 ok_not_failed held e = cc
 
-refused_so : (document : List ℕ) (e : PolicyRefusal) → CompilesDocument document (Err e) → CompilesBy (Ok document) (Err (policy_refusal_of e))
-refused_so document (Unread e) is = no_image is
-refused_so document (Uncompiled e) is = no_image is
-refused_so document policy_refusal.Memory is = ok_not_failed document
+refused_so : (document : List ℕ) (e : PolicyRefusal) → CompilesDocument document (Err e) → MadeBy PolicyDocument (Ok document) (Err (policy_refusal_of e))
+refused_so document (Unread e) is = inl (no_image is)
+refused_so document (Uncompiled e) is = inl (no_image is)
+refused_so document policy_refusal.Memory is = inr (refl, ok_not_failed document)
 
 -- a policy that gives no image
-pub no_policy : (document : List ℕ) (e : PolicyRefusal) (r : Result (Vec ℕ Global) Refusal) → IsErrAnd r (λ q. q ≡ policy_refusal_of e) → CompilesDocument document (Err e) → CompilesBy (Ok document) r
+pub no_policy : (document : List ℕ) (e : PolicyRefusal) (r : Result (Vec ℕ Global) Refusal) → IsErrAnd r (λ q. q ≡ policy_refusal_of e) → CompilesDocument document (Err e) → MadeBy PolicyDocument (Ok document) r
 no_policy document e (Ok file) is due = absurd is
-no_policy document e (Err r) is due = subst (λ (q : Refusal). CompilesBy (Ok document) (Err q)) (sym is) (refused_so document e due)
+no_policy document e (Err r) is due = subst (λ (q : Refusal). MadeBy PolicyDocument (Ok document) (Err q)) (sym is) (refused_so document e due)
 
 -- there is no memory for the file of an image
-pub no_memory : (document : List ℕ) (r : Result (Vec ℕ Global) Refusal) → IsErrAnd r (λ q. q ≡ Memory) → CompilesBy (Ok document) r
+pub no_memory : (document : List ℕ) (r : Result (Vec ℕ Global) Refusal) → IsErrAnd r (λ q. q ≡ Memory) → MadeBy PolicyDocument (Ok document) r
 no_memory document (Ok file) is = absurd is
-no_memory document (Err r) is = subst (λ (q : Refusal). CompilesBy (Ok document) (Err q)) (sym is) (ok_not_failed document)
+no_memory document (Err r) is = inr (is, ok_not_failed document)
 
-pub has_image : (document : List ℕ) (p : Rules) (contents : Contents) (file : Vec ℕ Global) → policy_in document ≡ Ok p → IsCompiled p contents → file.items ≡ file_of contents → CompilesBy (Ok document) (Ok file)
+pub has_image : (document : List ℕ) (p : Rules) (contents : Contents) (file : Vec ℕ Global) → policy_in document ≡ Ok p → IsCompiled p contents → file.items ≡ file_of contents → MadeBy PolicyDocument (Ok document) (Ok file)
 has_image document p contents file said compiled is = subst (λ (f : List ℕ). CompiledFrom (Ok document) (Ok f)) (sym is) (image said compiled)
-
-failure_so : (e : FileError) → CompilesBy (Err e) (Err (file_refusal e))
-failure_so Failed = no_file
-failure_so file_error.Memory = λ e. cc
-
--- the file of the policy was not read
-pub of_no_file : (known : Option FileSystem) (name : List ℕ) (e : FileError) (r : Result (Vec ℕ Global) Refusal) → IsReading known name (Err e)
-    → IsErrAnd r (λ q. q ≡ file_refusal e) → CompilesFile known name r
-of_no_file known name e (Ok file) read is = absurd is
-of_no_file known name e (Err r) read is =
-    record { reading = Err e; is_reading = read; compiles = subst (λ (q : Refusal). CompilesBy (Err e) (Err q)) (sym is) (failure_so e) }
-
--- ---- the order
-
-not_compiled : (old new : Option FileSystem) (policy target : List ℕ) (r : Refusal) (reading : Reading) → IsReading old policy reading
-    → CompiledFrom reading (Err r) → new ≡ old → PerformsBy old (compile policy target) new (Err r)
-not_compiled old new policy target r reading read due stays =
-    performs (record { reading = reading; is_reading = read; file = Err r; compiled = due; writes = subst (λ (k : Option FileSystem). WritesImage old target (Err r) k (Err r)) (sym stays) nothing })
-
-of_not_compiled : (old new : Option FileSystem) (policy target : List ℕ) (r : Refusal) → CompilesFile old policy (Err r) → new ≡ old
-    → PerformsBy old (compile policy target) new (Err r)
-of_not_compiled old new policy target Memory c stays = lacks_memory (same_files old new stays, record { reading = c.reading; is_reading = c.is_reading; not_failed = c.compiles })
-of_not_compiled old new policy target Words c stays = not_compiled old new policy target _ c.reading c.is_reading c.compiles stays
-of_not_compiled old new policy target (Image e) c stays = not_compiled old new policy target _ c.reading c.is_reading c.compiles stays
-of_not_compiled old new policy target File c stays = not_compiled old new policy target _ c.reading c.is_reading c.compiles stays
-of_not_compiled old new policy target Text c stays = not_compiled old new policy target _ c.reading c.is_reading c.compiles stays
-of_not_compiled old new policy target (Program e) c stays = not_compiled old new policy target _ c.reading c.is_reading c.compiles stays
-of_not_compiled old new policy target (Policy e) c stays = not_compiled old new policy target _ c.reading c.is_reading c.compiles stays
-of_not_compiled old new policy target (Run e) c stays = not_compiled old new policy target _ c.reading c.is_reading c.compiles stays
-of_not_compiled old new policy target Input c stays = not_compiled old new policy target _ c.reading c.is_reading c.compiles stays
-of_not_compiled old new policy target Output c stays = not_compiled old new policy target _ c.reading c.is_reading c.compiles stays
-
--- there is no image to write
-pub none_to_write : (old new : Option FileSystem) (policy target : List ℕ) (r : Refusal) (result : Result CodeAnswer Refusal) → IsErrAnd result (λ q. q ≡ r)
-    → CompilesFile old policy (Err r) → new ≡ old → PerformsBy old (compile policy target) new (outcome_of result)
-none_to_write old new policy target r (Ok a) is file stays = absurd is
-none_to_write old new policy target r (Err q) is file stays =
-    of_not_compiled old new policy target q (subst (λ (s : Refusal). CompilesFile old policy (Err s)) (sym is) file) stays
-
-has_read : (reading : Reading) (due : Result (List ℕ) Refusal) (file : List ℕ) → CompiledFrom reading due → due ≡ Ok file → reading ≡ Err Failed → ⊥
-has_read reading due file no_file is fails = cc
-has_read reading due file (no_image why) is fails = cc
-has_read reading due file (image said compiled) is fails = cc
-
-of_not_written : (old new : Option FileSystem) (policy target : List ℕ) (file : Vec ℕ Global) (e : FileError) → CompilesFile old policy (Ok file)
-    → IsWriting old target file.items new (Err e) → PerformsBy old (compile policy target) new (Err (file_refusal e))
-of_not_written old new policy target file Failed c write =
-    performs (record { reading = c.reading; is_reading = c.is_reading; file = Ok file.items; compiled = c.compiles; writes = failed write })
-of_not_written old new policy target file file_error.Memory c write =
-    lacks_memory (was_kept old new target file.items write, record { reading = c.reading; is_reading = c.is_reading; not_failed = has_read c.reading _ file.items c.compiles refl })
-
--- the image was not written
-pub not_written : (old mid new : Option FileSystem) (policy target given : List ℕ) (file : Vec ℕ Global) (e : FileError) (result : Result CodeAnswer Refusal)
-    → IsErrAnd result (λ q. q ≡ file_refusal e) → CompilesFile old policy (Ok file) → mid ≡ old → given ≡ file.items
-    → IsWriting mid target given new (Err e) → PerformsBy old (compile policy target) new (outcome_of result)
-not_written old mid new policy target given file e (Ok a) is compiles stays same write = absurd is
-not_written old mid new policy target given file e (Err r) is compiles stays same write =
-    let write : IsWriting old target given new (Err e) = subst (λ (k : Option FileSystem). IsWriting k target given new (Err e)) stays write in
-    let write : IsWriting old target file.items new (Err e) = subst (λ (b : List ℕ). IsWriting old target b new (Err e)) same write in
-    subst (λ (q : Refusal). PerformsBy old (compile policy target) new (Err q)) (sym is) (of_not_written old new policy target file e compiles write)
-
--- the image was written
-pub was_written : (old mid new : Option FileSystem) (policy target given : List ℕ) (file : Vec ℕ Global) (report : Report) → CompilesFile old policy (Ok file)
-    → mid ≡ old → given ≡ file.items → IsWriting mid target given new (Ok tt) → report ≡ succeeded [] → PerformsBy old (compile policy target) new (Ok report)
-was_written old mid new policy target given file report c stays same write done =
-    let write : IsWriting old target given new (Ok tt) = subst (λ (k : Option FileSystem). IsWriting k target given new (Ok tt)) stays write in
-    let write : IsWriting old target file.items new (Ok tt) = subst (λ (b : List ℕ). IsWriting old target b new (Ok tt)) same write in
-    subst (λ (q : Report). PerformsBy old (compile policy target) new (Ok q)) (sym done)
-    (performs (record { reading = c.reading; is_reading = c.is_reading; file = Ok file.items; compiled = c.compiles; writes = written write }))
 
 -- ---- the files of a review
 

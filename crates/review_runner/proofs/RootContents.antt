@@ -5,16 +5,15 @@ use Rattle.serde_json.specs.Data as json
 use Rattle.serde_json.specs.Find.{get, get_member}
 use Rattle.value_store.specs.Laws.{StartIsCanonical}
 use Rattle.value_store.specs.Placing.{Contents, charge_limit, first_values}
-use Rattle.value_store.specs.Roots.{before, contents_of, root_of, root_then, roots_of, sizes, start_contents}
+use Rattle.value_store.specs.Roots.{contents_of, root_of, root_then, roots_of, sizes, start_contents}
 use Rattle.value_store.specs.Value.{Value, value}
 use Rattle.value_store.specs.declared.table_error.TableError.{TableError}
-use Rattle.value_store.specs.declared.table_error.TableError.TheVariants.{V1, V2, V3}
-use Rattle.value_store.specs.declared.table_error.TableError.TheVariants as table_error
+use Rattle.value_store.specs.declared.table_error.TableError.TheVariants.{V3}
 use Rattle.cel_macros.specs.Environment.{Roots}
 use Rattle.bpf_machine.specs.Starts.{AreDocuments, HasNumbers, MembersHaveNumbers, StartsAreTables}
 use Rattle.codegen_base.specs.Contexts.{HasValues}
 use Rattle.review_runner.specs.Deciding.{started, values_of_roots}
-use Rattle.review_runner.specs.Reviews.{Parts, accepted, contents_from, contents_given, document_given, document_of, documents_from, documents_given, is_review, is_text, member_or_null, members_in, parts_given, parts_in, parts_of, refusal_at, request_of, root_refusal, roots_from, text_or_empty, uid_in, uid_of, without}
+use Rattle.review_runner.specs.Reviews.{Parts, accepted, contents_from, contents_given, document_given, document_of, documents_from, documents_given, is_review, is_text, members_in, parts_given, parts_in, parts_of, request_of, root_refusal, roots_from, text_or_empty, uid_in, uid_of, without}
 use Rattle.review_runner.specs.declared.run_error.RunError.{RunError}
 use Rattle.review_runner.proofs.DocumentNumbers.{document_fits, get_fits, member_fits}
 use Rattle.review_runner.proofs.Reviewed.{member_kept}

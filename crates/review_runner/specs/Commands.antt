@@ -7,24 +7,17 @@ use Rattle.clap.specs.declared.builder.value_parser.ValueParser.TheVariants as p
 
 -- ---- arguments
 
--- a file name, which has to be there
-unfoldable pub image_rule : Rule
-image_rule = record (new_rule (codes "IMAGE")) { required = true }
+-- a file's name, which has to be there
+unfoldable pub file_rule : Text → Rule
+file_rule name = record (new_rule name) { required = true }
 
--- the file name of a program's text, which has to be there
-unfoldable pub text_rule : Rule
-text_rule = record (new_rule (codes "TEXT")) { required = true }
+-- an option with a file's name, which may be left out
+unfoldable pub option_rule : Text → Rule
+option_rule name = record (new_rule name) { long = Some name }
 
--- the file name of a policy, which has to be there
-unfoldable pub policy_rule : Rule
-policy_rule = record (new_rule (codes "POLICY")) { required = true }
-
-unfoldable pub named_policy_rule : Rule
-named_policy_rule = record (new_rule (codes "policy")) { long = Some (codes "policy"); required = true }
-
--- that of a review, which has to be there
-unfoldable pub given_review_rule : Rule
-given_review_rule = record (new_rule (codes "review")) { long = Some (codes "review"); required = true }
+-- one that has to be there
+unfoldable pub required_option_rule : Text → Rule
+required_option_rule name = record (new_rule name) { long = Some name; required = true }
 
 -- a number of steps, at most 1,000,000,000 of them
 unfoldable pub steps_rule : Rule
@@ -34,45 +27,31 @@ steps_rule = record (new_rule (codes "steps")) {
   parser = Some (parser.Unsigned 0 1000000000);
 }
 
--- the file names of a review, of its namespace and of its parameters, each of which may be left out
-unfoldable pub review_rule : Rule
-review_rule = record (new_rule (codes "review")) { long = Some (codes "review") }
-
-unfoldable pub namespace_rule : Rule
-namespace_rule = record (new_rule (codes "namespace")) { long = Some (codes "namespace") }
-
-unfoldable pub params_rule : Rule
-params_rule = record (new_rule (codes "params")) { long = Some (codes "params") }
-
 -- ---- commands
 
 -- run-image IMAGE [--steps N]
 unfoldable pub run_image_app : App
-run_image_app = with_rule (with_rule (new_app (codes "run-image")) image_rule) steps_rule
+run_image_app = with_rule (with_rule (new_app (codes "run-image")) (file_rule (codes "IMAGE"))) steps_rule
 
--- asm TEXT IMAGE
-unfoldable pub asm_app : App
-asm_app = with_rule (with_rule (new_app (codes "asm")) text_rule) image_rule
+-- a command NAME SOURCE IMAGE, which makes an image's file of another one
+unfoldable pub making_app : Text → Text → App
+making_app name source = with_rule (with_rule (new_app name) (file_rule source)) (file_rule (codes "IMAGE"))
 
 -- list IMAGE
 unfoldable pub list_app : App
-list_app = with_rule (new_app (codes "list")) image_rule
+list_app = with_rule (new_app (codes "list")) (file_rule (codes "IMAGE"))
+
+-- a command, and [--namespace F] [--params F]
+unfoldable pub with_documents : App → App
+with_documents app = with_rule (with_rule app (option_rule (codes "namespace"))) (option_rule (codes "params"))
 
 -- debug IMAGE [--review F] [--namespace F] [--params F]
 unfoldable pub debug_app : App
-debug_app = with_rule (with_rule (with_rule (with_rule (new_app (codes "debug")) image_rule) review_rule) namespace_rule) params_rule
-
--- compile POLICY IMAGE
-unfoldable pub compile_app : App
-compile_app = with_rule (with_rule (new_app (codes "compile")) policy_rule) image_rule
-
--- review --policy F --review F
-unfoldable pub reviewed_app : App
-reviewed_app = with_rule (with_rule (new_app (codes "review")) named_policy_rule) given_review_rule
+debug_app = with_documents (with_rule (with_rule (new_app (codes "debug")) (file_rule (codes "IMAGE"))) (option_rule (codes "review")))
 
 -- review --policy F --review F [--namespace F] [--params F] [--steps N]
 unfoldable pub review_app : App
-review_app = with_rule (with_rule (with_rule reviewed_app namespace_rule) params_rule) steps_rule
+review_app = with_rule (with_documents (with_rule (with_rule (new_app (codes "review")) (required_option_rule (codes "policy"))) (required_option_rule (codes "review")))) steps_rule
 
 -- celbpf alone does nothing: it wants a command
 unfoldable pub bare_app : App
@@ -84,11 +63,11 @@ running_app = with_subcommand (with_subcommand bare_app run_image_app.top) debug
 
 -- those, and the commands on a policy
 unfoldable pub deciding_app : App
-deciding_app = with_subcommand (with_subcommand running_app compile_app.top) review_app.top
+deciding_app = with_subcommand (with_subcommand running_app (making_app (codes "compile") (codes "POLICY")).top) review_app.top
 
 -- and those that write an image of a text and list one
 unfoldable pub celbpf_app : App
-celbpf_app = with_subcommand (with_subcommand deciding_app asm_app.top) list_app.top
+celbpf_app = with_subcommand (with_subcommand deciding_app (making_app (codes "asm") (codes "TEXT")).top) list_app.top
 
 -- ---- a command line
 

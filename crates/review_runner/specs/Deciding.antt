@@ -1,5 +1,5 @@
 -- The answer to a review under a policy.
-use Rattle.std.specs.Prelude.{◌≡◌, ℕ, ◌+◌, ◌*◌, ◌<◌, ◌≤◌, ◌⊎◌, Bool, true, false, ◌||◌, nat_eq, List, [], ◌∷◌, ◌++◌, length, map, Option, Some, None, Result, Ok, Err}
+use Rattle.std.specs.Prelude.{◌≡◌, ℕ, ◌+◌, ◌*◌, ◌<◌, ◌≤◌, ◌⊎◌, Bool, true, false, ◌||◌, nat_eq, List, [], ◌∷◌, ◌++◌, length, map, Option, Some, Result, Ok, Err}
 use Rattle.guest_memory.specs.Memory.{IsMemory}
 use Rattle.guest_memory.specs.declared.fault.Fault.TheVariants.{F8}
 use Rattle.guest_memory.specs.declared.fault.Fault as guest
@@ -10,7 +10,6 @@ use Rattle.value_store.specs.Value.{Value, value}
 use Rattle.cel_macros.specs.Environment.{Roots}
 use Rattle.bpf_machine.specs.State.{State, start_state}
 use Rattle.bpf_machine.specs.Trace.{state_after}
-use Rattle.bpf_machine.specs.declared.status.Status.{Status}
 use Rattle.bpf_machine.specs.declared.status.Status.TheVariants.{Exited, Fault, Running}
 use Rattle.policy_glue.specs.Budget.{IsDeepPolicy, policy_spent, policy_work}
 use Rattle.policy_glue.specs.Compiled.{IsCompiled}

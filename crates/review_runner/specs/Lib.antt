@@ -13,5 +13,6 @@ pub mod Rows
 pub mod Opening
 pub mod Debugging
 pub mod PolicyFiles
+pub mod Making
 pub mod Performing
 pub mod Program

@@ -1,6 +1,5 @@
 -- Policies and reviews in files.
-use Rattle.std.specs.Prelude.{◌≡◌, ℕ, Bool, true, false, List, [], ◌∷◌, ◌++◌, Option, option_map, Result, Ok, Err, Vec}
-use Rattle.std.specs.declared.alloc.Global.{Global}
+use Rattle.std.specs.Prelude.{◌≡◌, ℕ, Bool, true, false, List, [], ◌∷◌, ◌++◌, Option, option_map, Result, Ok, Err}
 use Rattle.loader.specs.Contents.{Contents}
 use Rattle.loader.specs.Format.{file_of}
 use Rattle.policy_glue.specs.Compiled.{IsCompiled}
@@ -8,16 +7,15 @@ use Rattle.policy_glue.specs.Policy.{Rules}
 use Rattle.policy_glue.specs.Reading.{policy_in}
 use Rattle.review_runner.specs.Debugging.{IsReadingGiven, ReadingGiven}
 use Rattle.review_runner.specs.Deciding.{Answer, Documents, IsRefused, Reviews}
-use Rattle.review_runner.specs.FileSystem.{FileSystem, Reading, IsReading, IsWriting, KeepsFiles}
+use Rattle.review_runner.specs.FileSystem.{FileSystem, Reading, IsReading}
 use Rattle.review_runner.specs.Order.{ReviewFiles}
 use Rattle.review_runner.specs.Output.{Outcome, Report}
 use Rattle.review_runner.specs.Refusals.{file_refusal, run_refusal}
 use Rattle.review_runner.specs.declared.file_error.FileError.{FileError}
-use Rattle.review_runner.specs.declared.file_error.FileError.TheVariants.{Failed}
 use Rattle.review_runner.specs.declared.held_review.HeldReview.{HeldReview}
 use Rattle.review_runner.specs.declared.policy_refusal.PolicyRefusal.{PolicyRefusal}
 use Rattle.review_runner.specs.declared.refusal.Refusal.{Refusal}
-use Rattle.review_runner.specs.declared.refusal.Refusal.TheVariants.{Policy, Memory}
+use Rattle.review_runner.specs.declared.refusal.Refusal.TheVariants.{Policy}
 use Rattle.review_runner.specs.declared.run_error.RunError.{RunError}
 
 -- ---- images
@@ -27,24 +25,6 @@ pub data CompiledFrom : Reading → Result (List ℕ) Refusal → Type 0 where
   no_file : {e : FileError} → CompiledFrom (Err e) (Err (file_refusal e))
   no_image : {document : List ℕ} {e : PolicyRefusal} → IsRefused document e → CompiledFrom (Ok document) (Err (Policy e))
   image : {document : List ℕ} {p : Rules} {image : Contents} → policy_in document ≡ Ok p → IsCompiled p image → CompiledFrom (Ok document) (Ok (file_of image))
-
--- a read that did not fail
-pub record HasRead (known : Option FileSystem) (name : List ℕ) : Type 0 where
-  pub reading : Reading
-  pub is_reading : IsReading known name reading
-  pub not_failed : reading ≡ Err Failed → ⊥
-
--- the image's file, or that there is no memory for it, where the policy's file was read
-abbrev pub CompilesBy : Reading → Result (Vec ℕ Global) Refusal → Type 0
-CompilesBy reading (Ok file) = CompiledFrom reading (Ok file.items)
-CompilesBy reading (Err Memory) = reading ≡ Err Failed → ⊥
-CompilesBy reading (Err r) = CompiledFrom reading (Err r)
-
--- the file of the image of the policy in the file of this name
-pub record CompilesFile (known : Option FileSystem) (name : List ℕ) (result : Result (Vec ℕ Global) Refusal) : Type 0 where
-  pub reading : Reading
-  pub is_reading : IsReading known name reading
-  pub compiles : CompilesBy reading result
 
 -- ---- reviews
 

@@ -8,7 +8,6 @@ use Rattle.debugger.specs.declared.session_error.SessionError.TheVariants.{S1, S
 use Rattle.debugger.specs.declared.session_error.SessionError.TheVariants as session_error
 use Rattle.policy_glue.specs.CompileErrors.{compile_text}
 use Rattle.policy_glue.specs.declared.compile_error.CompileError.{CompileError}
-use Rattle.policy_glue.specs.declared.compile_error.CompileError.TheVariants.{K6, K7, K9, G3, G4}
 use Rattle.policy_glue.specs.declared.compile_error.CompileError.TheVariants as compile_error
 use Rattle.policy_glue.specs.declared.policy_error.PolicyError.{PolicyError}
 use Rattle.policy_glue.specs.declared.policy_error.PolicyError.TheVariants.{K1, K2, K3, K4, K5, K8}
@@ -31,7 +30,7 @@ use Rattle.review_runner.specs.declared.run_error.RunError.TheVariants as run_er
 use Rattle.review_runner.specs.declared.refusal.Refusal.{Refusal}
 use Rattle.review_runner.specs.declared.refusal.Refusal.TheVariants.{Words, Image, File, Text, Program, Policy, Run, Input, Output, Memory}
 
--- ---- causes
+-- ---- refusals of their own names
 
 -- why no order was read
 abbrev pub order_refusal : OrderError → Refusal
@@ -43,70 +42,48 @@ abbrev pub file_refusal : FileError → Refusal
 file_refusal Failed = File
 file_refusal file_error.Memory = Memory
 
--- why a file holds no image
-abbrev pub load_refusal : LoadError → Refusal
-load_refusal L1 = Image L1
-load_refusal L2 = Image L2
-load_refusal L3 = Image L3
-load_refusal L4 = Image L4
-load_refusal L5 = Image L5
-load_refusal load_error.Memory = Memory
-
--- why a text gives no image
-abbrev pub program_refusal : AsmError → Refusal
-program_refusal (A1 line) = Program (A1 line)
-program_refusal (A2 line) = Program (A2 line)
-program_refusal (A3 line) = Program (A3 line)
-program_refusal (A4 line) = Program (A4 line)
-program_refusal (A5 line) = Program (A5 line)
-program_refusal (A6 line) = Program (A6 line)
-program_refusal asm_error.Memory = Memory
-
--- why a document says no policy
-abbrev pub document_refusal : PolicyError → PolicyRefusal
-document_refusal K1 = Unread K1
-document_refusal K2 = Unread K2
-document_refusal K3 = Unread K3
-document_refusal K4 = Unread K4
-document_refusal K5 = Unread K5
-document_refusal K8 = Unread K8
-document_refusal policy_error.Memory = policy_refusal.Memory
-
--- why a policy is not compiled
-abbrev pub compile_refusal : CompileError → PolicyRefusal
-compile_refusal (K6 part place e) = Uncompiled (K6 part place e)
-compile_refusal K7 = Uncompiled K7
-compile_refusal K9 = Uncompiled K9
-compile_refusal G3 = Uncompiled G3
-compile_refusal G4 = Uncompiled G4
-compile_refusal compile_error.Memory = policy_refusal.Memory
-
--- why a policy gives no image
-abbrev pub policy_refusal_of : PolicyRefusal → Refusal
-policy_refusal_of (Unread e) = Policy (Unread e)
-policy_refusal_of (Uncompiled e) = Policy (Uncompiled e)
-policy_refusal_of policy_refusal.Memory = Memory
-
--- the same of a review's policy
-abbrev pub run_policy_refusal : PolicyRefusal → RunError
-run_policy_refusal (Unread e) = N1 (Unread e)
-run_policy_refusal (Uncompiled e) = N1 (Uncompiled e)
-run_policy_refusal policy_refusal.Memory = run_error.Memory
-
--- why a review is not answered
-abbrev pub run_refusal : RunError → Refusal
-run_refusal (N1 e) = Run (N1 e)
-run_refusal N2 = Run N2
-run_refusal N3 = Run N3
-run_refusal N4 = Run N4
-run_refusal N5 = Run N5
-run_refusal run_error.Memory = Memory
-
 -- why a session broke off
 abbrev pub session_refusal : SessionError → Refusal
 session_refusal S1 = Input
 session_refusal S2 = Output
 session_refusal session_error.Memory = Memory
+
+-- ---- want of memory is told for itself, and each other cause as what it is
+
+-- why a file holds no image
+abbrev pub load_refusal : LoadError → Refusal
+load_refusal load_error.Memory = Memory
+load_refusal e = Image e
+
+-- why a text gives no image
+abbrev pub program_refusal : AsmError → Refusal
+program_refusal asm_error.Memory = Memory
+program_refusal e = Program e
+
+-- why a document says no policy
+abbrev pub document_refusal : PolicyError → PolicyRefusal
+document_refusal policy_error.Memory = policy_refusal.Memory
+document_refusal e = Unread e
+
+-- why a policy is not compiled
+abbrev pub compile_refusal : CompileError → PolicyRefusal
+compile_refusal compile_error.Memory = policy_refusal.Memory
+compile_refusal e = Uncompiled e
+
+-- why a policy gives no image
+abbrev pub policy_refusal_of : PolicyRefusal → Refusal
+policy_refusal_of policy_refusal.Memory = Memory
+policy_refusal_of e = Policy e
+
+-- the same of a review's policy
+abbrev pub run_policy_refusal : PolicyRefusal → RunError
+run_policy_refusal policy_refusal.Memory = run_error.Memory
+run_policy_refusal e = N1 e
+
+-- why a review is not answered
+abbrev pub run_refusal : RunError → Refusal
+run_refusal run_error.Memory = Memory
+run_refusal e = Run e
 
 -- ---- texts
 

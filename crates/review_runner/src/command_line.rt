@@ -2,55 +2,37 @@
 ghost use Rattle.std.specs.Prelude.{◌≡◌, map, IfOk, false, true};
 ghost use Rattle.clap.specs.Words.{app_of, has_subcommand, rule_of, subcommand_rows_of, FailsBy};
 ghost use Rattle.clap.specs.declared.builder.command.Command.TheViews.{out-Command as fields_of};
-ghost use Rattle.review_runner.specs.Commands.{asm_app, celbpf_app, compile_app, debug_app, deciding_app, given_review_rule, image_rule, list_app, named_policy_rule, namespace_rule, params_rule, policy_rule, review_app, review_rule, reviewed_app, run_image_app, running_app, steps_rule, text_rule};
+ghost use Rattle.review_runner.specs.Commands.{celbpf_app, deciding_app, debug_app, file_rule, list_app, making_app, option_rule, required_option_rule, review_app, run_image_app, running_app, steps_rule, with_documents};
 ghost use Rattle.review_runner.specs.Commands.{faults, entered};
 
 use clap::{Arg, ArgMatches, Command, Error, value_parser};
 use std::alloc::{AllocError, Global};
 
-// IMAGE, the file to run
-#[tactic(auto, unfolding(crate::specs::Commands::image_rule))]
-fn image_argument<'a>(alloc: Global) -> Arg<'a>
-    ensures rule { rule_of result ≡ image_rule }
+// the name of a file, which has to be there
+#[tactic(auto, unfolding(crate::specs::Commands::file_rule))]
+fn file_argument<'a>(alloc: Global, name: &'a str) -> Arg<'a>
+    ensures rule { rule_of result ≡ file_rule name.entry.now }
     ensures local { result.global ≡ false }
 {
-    Arg::new(alloc, "IMAGE").required(true)
+    Arg::new(alloc, name).required(true)
 }
 
-// TEXT, the file of a program's text
-#[tactic(auto, unfolding(crate::specs::Commands::text_rule))]
-fn text_argument<'a>(alloc: Global) -> Arg<'a>
-    ensures rule { rule_of result ≡ text_rule }
+// an option with the name of a file, which may be left out
+#[tactic(auto, unfolding(crate::specs::Commands::option_rule))]
+fn option_argument<'a>(alloc: Global, name: &'a str) -> Arg<'a>
+    ensures rule { rule_of result ≡ option_rule name.entry.now }
     ensures local { result.global ≡ false }
 {
-    Arg::new(alloc, "TEXT").required(true)
+    Arg::new(alloc, name).long(name)
 }
 
-// POLICY, the file of a policy
-#[tactic(auto, unfolding(crate::specs::Commands::policy_rule))]
-fn policy_argument<'a>(alloc: Global) -> Arg<'a>
-    ensures rule { rule_of result ≡ policy_rule }
+// one that has to be there
+#[tactic(auto, unfolding(crate::specs::Commands::required_option_rule))]
+fn required_option_argument<'a>(alloc: Global, name: &'a str) -> Arg<'a>
+    ensures rule { rule_of result ≡ required_option_rule name.entry.now }
     ensures local { result.global ≡ false }
 {
-    Arg::new(alloc, "POLICY").required(true)
-}
-
-// --policy F, the file of a policy, which has to be there
-#[tactic(auto, unfolding(crate::specs::Commands::named_policy_rule))]
-fn named_policy_argument<'a>(alloc: Global) -> Arg<'a>
-    ensures rule { rule_of result ≡ named_policy_rule }
-    ensures local { result.global ≡ false }
-{
-    Arg::new(alloc, "policy").long("policy").required(true)
-}
-
-// --review F, the file of a review, which has to be there
-#[tactic(auto, unfolding(crate::specs::Commands::given_review_rule))]
-fn given_review_argument<'a>(alloc: Global) -> Arg<'a>
-    ensures rule { rule_of result ≡ given_review_rule }
-    ensures local { result.global ≡ false }
-{
-    Arg::new(alloc, "review").long("review").required(true)
+    Arg::new(alloc, name).long(name).required(true)
 }
 
 // --steps N, the most instructions that may run
@@ -65,49 +47,27 @@ fn steps_argument<'a>(alloc: Global) -> Arg<'a>
         .default_value("10000000")
 }
 
-// --review F, the file of a review
-#[tactic(auto, unfolding(crate::specs::Commands::review_rule))]
-fn review_argument<'a>(alloc: Global) -> Arg<'a>
-    ensures rule { rule_of result ≡ review_rule }
-    ensures local { result.global ≡ false }
-{
-    Arg::new(alloc, "review").long("review")
-}
-
-// --namespace F, the file of its namespace
-#[tactic(auto, unfolding(crate::specs::Commands::namespace_rule))]
-fn namespace_argument<'a>(alloc: Global) -> Arg<'a>
-    ensures rule { rule_of result ≡ namespace_rule }
-    ensures local { result.global ≡ false }
-{
-    Arg::new(alloc, "namespace").long("namespace")
-}
-
-// --params F, the file of the parameters
-#[tactic(auto, unfolding(crate::specs::Commands::params_rule))]
-fn params_argument<'a>(alloc: Global) -> Arg<'a>
-    ensures rule { rule_of result ≡ params_rule }
-    ensures local { result.global ≡ false }
-{
-    Arg::new(alloc, "params").long("params")
-}
-
 #[tactic(auto, unfolding(crate::specs::Commands::run_image_app))]
 fn run_image_command<'a>(alloc: Global) -> Result<Command<'a>, AllocError>
     ensures shape { IfOk result (λ c. app_of c ≡ run_image_app) }
     ensures local { IfOk result (λ c. (fields_of c).has_globals ≡ false) }
 {
-    let command = Command::new(alloc, "run-image").arg(image_argument(alloc))?;
+    let command = Command::new(alloc, "run-image").arg(file_argument(alloc, "IMAGE"))?;
     command.arg(steps_argument(alloc))
 }
 
-#[tactic(auto, unfolding(crate::specs::Commands::asm_app))]
-fn asm_command<'a>(alloc: Global) -> Result<Command<'a>, AllocError>
-    ensures shape { IfOk result (λ c. app_of c ≡ asm_app) }
+// a command that makes an image's file of another one
+#[tactic(auto, unfolding(crate::specs::Commands::making_app))]
+fn making_command<'a>(
+    alloc: Global,
+    name: &'a str,
+    source: &'a str,
+) -> Result<Command<'a>, AllocError>
+    ensures shape { IfOk result (λ c. app_of c ≡ making_app name.entry.now source.entry.now) }
     ensures local { IfOk result (λ c. (fields_of c).has_globals ≡ false) }
 {
-    let command = Command::new(alloc, "asm").arg(text_argument(alloc))?;
-    command.arg(image_argument(alloc))
+    let command = Command::new(alloc, name).arg(file_argument(alloc, source))?;
+    command.arg(file_argument(alloc, "IMAGE"))
 }
 
 #[tactic(auto, unfolding(crate::specs::Commands::list_app))]
@@ -115,7 +75,17 @@ fn list_command<'a>(alloc: Global) -> Result<Command<'a>, AllocError>
     ensures shape { IfOk result (λ c. app_of c ≡ list_app) }
     ensures local { IfOk result (λ c. (fields_of c).has_globals ≡ false) }
 {
-    Command::new(alloc, "list").arg(image_argument(alloc))
+    Command::new(alloc, "list").arg(file_argument(alloc, "IMAGE"))
+}
+
+// the command, and the options for a namespace and for parameters
+#[tactic(auto, unfolding(crate::specs::Commands::with_documents))]
+fn with_documents<'a>(alloc: Global, command: Command<'a>) -> Result<Command<'a>, AllocError>
+    ensures shape { IfOk result (λ c. app_of c ≡ with_documents (app_of command.entry)) }
+    ensures local { (fields_of command.entry).has_globals ≡ false → IfOk result (λ c. (fields_of c).has_globals ≡ false) }
+{
+    let command = command.arg(option_argument(alloc, "namespace"))?;
+    command.arg(option_argument(alloc, "params"))
 }
 
 #[tactic(auto, unfolding(crate::specs::Commands::debug_app))]
@@ -123,29 +93,8 @@ fn debug_command<'a>(alloc: Global) -> Result<Command<'a>, AllocError>
     ensures shape { IfOk result (λ c. app_of c ≡ debug_app) }
     ensures local { IfOk result (λ c. (fields_of c).has_globals ≡ false) }
 {
-    let command = Command::new(alloc, "debug").arg(image_argument(alloc))?;
-    let command = command.arg(review_argument(alloc))?;
-    let command = command.arg(namespace_argument(alloc))?;
-    command.arg(params_argument(alloc))
-}
-
-#[tactic(auto, unfolding(crate::specs::Commands::compile_app))]
-fn compile_command<'a>(alloc: Global) -> Result<Command<'a>, AllocError>
-    ensures shape { IfOk result (λ c. app_of c ≡ compile_app) }
-    ensures local { IfOk result (λ c. (fields_of c).has_globals ≡ false) }
-{
-    let command = Command::new(alloc, "compile").arg(policy_argument(alloc))?;
-    command.arg(image_argument(alloc))
-}
-
-// the command `review` with the arguments that have to be there
-#[tactic(auto, unfolding(crate::specs::Commands::reviewed_app))]
-fn reviewed_command<'a>(alloc: Global) -> Result<Command<'a>, AllocError>
-    ensures shape { IfOk result (λ c. app_of c ≡ reviewed_app) }
-    ensures local { IfOk result (λ c. (fields_of c).has_globals ≡ false) }
-{
-    let command = Command::new(alloc, "review").arg(named_policy_argument(alloc))?;
-    command.arg(given_review_argument(alloc))
+    let command = Command::new(alloc, "debug").arg(file_argument(alloc, "IMAGE"))?;
+    with_documents(alloc, command.arg(option_argument(alloc, "review"))?)
 }
 
 #[tactic(auto, unfolding(crate::specs::Commands::review_app))]
@@ -153,10 +102,9 @@ fn review_command<'a>(alloc: Global) -> Result<Command<'a>, AllocError>
     ensures shape { IfOk result (λ c. app_of c ≡ review_app) }
     ensures local { IfOk result (λ c. (fields_of c).has_globals ≡ false) }
 {
-    let command = reviewed_command(alloc)?;
-    let command = command.arg(namespace_argument(alloc))?;
-    let command = command.arg(params_argument(alloc))?;
-    command.arg(steps_argument(alloc))
+    let command = Command::new(alloc, "review").arg(required_option_argument(alloc, "policy"))?;
+    let command = command.arg(required_option_argument(alloc, "review"))?;
+    with_documents(alloc, command)?.arg(steps_argument(alloc))
 }
 
 // the program, with the commands that run an image
@@ -177,7 +125,7 @@ fn deciding_command<'a>(alloc: Global) -> Result<Command<'a>, AllocError>
     ensures local { IfOk result (λ c. (fields_of c).has_globals ≡ false) }
 {
     let command = running_command(alloc)?;
-    let command = command.subcommand(compile_command(alloc)?)?;
+    let command = command.subcommand(making_command(alloc, "compile", "POLICY")?)?;
     command.subcommand(review_command(alloc)?)
 }
 
@@ -188,7 +136,7 @@ fn celbpf_command<'a>(alloc: Global) -> Result<Command<'a>, AllocError>
     ensures local { IfOk result (λ c. (fields_of c).has_globals ≡ false) }
 {
     let command = deciding_command(alloc)?;
-    let command = command.subcommand(asm_command(alloc)?)?;
+    let command = command.subcommand(making_command(alloc, "asm", "TEXT")?)?;
     command.subcommand(list_command(alloc)?)
 }
 

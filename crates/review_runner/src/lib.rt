@@ -24,6 +24,7 @@ mod held_files;
 mod held_review;
 pub mod laws;
 mod listing;
+mod making;
 mod null_table;
 mod opening;
 mod order;
@@ -67,6 +68,7 @@ mod running;
 mod running_tests;
 #[cfg(test)]
 mod seeded_tests;
+mod source_kind;
 mod values;
 
 pub use debugging::debug;

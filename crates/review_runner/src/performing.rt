@@ -7,15 +7,15 @@ ghost use Rattle.review_runner.specs.Output.{outcome_of, output_by, output_of, r
 ghost use Rattle.review_runner.specs.Performing.{IsDone, only_reads, PerformsBy};
 
 use crate::answer::Answer;
-use crate::assembling::assemble_file;
-use crate::compiling::compile_file;
 use crate::done::Done;
 use crate::files::Files;
 use crate::listing::list_file;
+use crate::making::make_file;
 use crate::order::Order;
 use crate::refusal::Refusal;
 use crate::review_files::review_files;
 use crate::running::run_image;
+use crate::source_kind::SourceKind;
 use bpf_machine::Status;
 use std::alloc::{AllocError, Global};
 
@@ -48,7 +48,8 @@ pub(crate) fn outcome<F: Files>(
 {
     match order {
         Order::Compile { policy, image } => {
-            compile_file(alloc, policy.as_str(), image.as_str(), files)
+            let kind = SourceKind::PolicyDocument;
+            make_file(alloc, kind, policy.as_str(), image.as_str(), files)
         }
         Order::Review {
             files: names,
@@ -56,7 +57,8 @@ pub(crate) fn outcome<F: Files>(
         } => review_files(alloc, names, *steps, files),
         Order::RunImage { image, steps } => run_file(alloc, image.as_str(), *steps, files),
         Order::Assemble { text, image } => {
-            assemble_file(alloc, text.as_str(), image.as_str(), files)
+            let kind = SourceKind::ProgramText;
+            make_file(alloc, kind, text.as_str(), image.as_str(), files)
         }
         Order::List { image } => list_file(alloc, image.as_str(), files),
         Order::Debug { .. } => unreachable!(),

@@ -1,5 +1,5 @@
 //! The line of standard error that tells of a refusal.
-ghost use Rattle.std.specs.Prelude.{◌≡◌, ◌≤◌, ◌<◌, ◌+◌, ◌∷◌, ◌++◌, [], length, decimal, codes};
+ghost use Rattle.std.specs.Prelude.{◌≡◌, ◌≤◌, ◌+◌, ◌++◌, [], length, decimal, codes};
 ghost use Rattle.review_runner.specs.Refusals.{document_text, image_refusal, policy_text, refusal_line, refusal_text, run_text, text_refusal};
 ghost use Rattle.policy_glue.specs.CompileErrors.{compile_text, expression_text, kind_text, macro_text, reading_text, type_text};
 
@@ -7,6 +7,7 @@ use crate::policy_refusal::PolicyRefusal;
 use crate::refusal::Refusal;
 use crate::run_error::RunError;
 use assembler::AsmError;
+use itoa::Buffer;
 use loader::LoadError;
 use policy_glue::{
     CompileError, ExpressionError, MacroError, PartKind, PolicyError, ReadError, TypeError,
@@ -15,7 +16,8 @@ use smallvec::SmallVec;
 use std::alloc::Global;
 use std::marker::Model;
 
-/// The line that tells of a refusal. It takes no memory.
+/// The line that tells of a refusal. It takes no memory, and is written by hand: a `Display` may
+/// fail whatever it writes to, and this line is told of every refusal.
 pub fn refusal_line(alloc: Global, refusal: Refusal) -> RefusalLine
     ensures { result ≡ refusal_line refusal }
 {
@@ -84,15 +86,15 @@ impl RefusalLine {
     fn push_program(&mut self, error: AsmError)
         requires { length self.old ≤ 8 }
         ensures text { self.new ≡ self.old ++ text_refusal error }
-        ensures length { length self.new ≤ 36 }
+        ensures length { length self.new ≤ 72 }
     {
         match error {
-            AsmError::A1(line) => self.push_at_line("A1 line ", line),
-            AsmError::A2(line) => self.push_at_line("A2 line ", line),
-            AsmError::A3(line) => self.push_at_line("A3 line ", line),
-            AsmError::A4(line) => self.push_at_line("A4 line ", line),
-            AsmError::A5(line) => self.push_at_line("A5 line ", line),
-            AsmError::A6(line) => self.push_at_line("A6 line ", line),
+            AsmError::A1(line) => self.push_numbered("A1 line ", line),
+            AsmError::A2(line) => self.push_numbered("A2 line ", line),
+            AsmError::A3(line) => self.push_numbered("A3 line ", line),
+            AsmError::A4(line) => self.push_numbered("A4 line ", line),
+            AsmError::A5(line) => self.push_numbered("A5 line ", line),
+            AsmError::A6(line) => self.push_numbered("A6 line ", line),
             AsmError::Memory => self.push_text("memory"),
         }
     }
@@ -104,23 +106,16 @@ impl RefusalLine {
         ensures length { length self.new ≤ 72 }
     {
         match error {
-            RunError::N1(refusal) => self.push_refused_policy(refusal),
+            RunError::N1(refusal) => {
+                self.push_text("N1 ");
+                self.push_policy(refusal);
+            }
             RunError::N2 => self.push_text("N2"),
             RunError::N3 => self.push_text("N3"),
             RunError::N4 => self.push_text("N4"),
             RunError::N5 => self.push_text("N5"),
             RunError::Memory => self.push_text("memory"),
         }
-    }
-
-    /// Appends that a review's policy is refused, and why.
-    fn push_refused_policy(&mut self, refusal: PolicyRefusal)
-        requires { length self.old ≤ 8 }
-        ensures text { self.new ≡ self.old ++ (codes "N1 " ++ policy_text refusal) }
-        ensures length { length self.new ≤ 72 }
-    {
-        self.push_text("N1 ");
-        self.push_policy(refusal);
     }
 
     /// Appends why a policy gives no image.
@@ -160,8 +155,7 @@ impl RefusalLine {
     {
         self.push_text("K6 ");
         self.push_text(kind_text(part));
-        self.push_text(" ");
-        self.push_number(place);
+        self.push_numbered(" ", place);
         self.push_text(" ");
         self.push_expression(error);
     }
@@ -189,62 +183,31 @@ impl RefusalLine {
         ensures length { length self.new ≤ 72 }
     {
         match error {
-            ReadError::P1(place) => self.push_at("P1 at ", place),
-            ReadError::P2(place) => self.push_at("P2 at ", place),
-            ReadError::P3(place) => self.push_at("P3 at ", place),
-            ReadError::P4(place) => self.push_at("P4 at ", place),
-            ReadError::P5(place) => self.push_at("P5 at ", place),
-            ReadError::P6(place) => self.push_at("P6 at ", place),
+            ReadError::P1(place) => self.push_numbered("P1 at ", place),
+            ReadError::P2(place) => self.push_numbered("P2 at ", place),
+            ReadError::P3(place) => self.push_numbered("P3 at ", place),
+            ReadError::P4(place) => self.push_numbered("P4 at ", place),
+            ReadError::P5(place) => self.push_numbered("P5 at ", place),
+            ReadError::P6(place) => self.push_numbered("P6 at ", place),
             ReadError::Memory => self.push_text("memory"),
         }
     }
 
-    /// Appends these words and a place.
-    fn push_at(&mut self, words: &str, place: usize)
+    /// Appends these words and a number.
+    fn push_numbered(&mut self, words: &str, n: usize)
         requires { length self.old + length words.now ≤ 52 }
-        ensures text { self.new ≡ self.old ++ (words.now ++ decimal place) }
-        ensures length { length self.new ≤ 72 }
+        ensures text { self.new ≡ self.old ++ (words.now ++ decimal n) }
+        ensures length { length self.new ≤ length self.old + length words.now + 20 }
     {
         self.push_text(words);
-        self.push_number(place);
-    }
-
-    /// Appends these words and a line's number.
-    fn push_at_line(&mut self, words: &str, line: usize)
-        requires { length self.old + length words.now ≤ 16 }
-        ensures text { self.new ≡ self.old ++ (words.now ++ decimal line) }
-        ensures length { length self.new ≤ 36 }
-    {
-        self.push_text(words);
-        self.push_number(line);
-    }
-
-    /// Appends a number's decimal digits.
-    fn push_number(&mut self, n: usize)
-        requires { length self.old + length (decimal n) ≤ 80 }
-        ensures { self.new ≡ self.old ++ decimal n }
-    {
-        if n < 10 {
-            self.push_digit(n);
-            return;
-        }
-        self.push_number(n / 10);
-        self.push_digit(n % 10);
-    }
-
-    /// Appends a decimal digit.
-    fn push_digit(&mut self, digit: usize)
-        requires digit { digit < 10 }
-        requires room { length self.old < 80 }
-        ensures { self.new ≡ self.old ++ (48 + digit) ∷ [] }
-    {
-        self.bytes.push_reserved(48 + digit as u8);
+        self.push_text(Buffer::new().format(n));
     }
 
     /// Appends a text.
     fn push_text(&mut self, text: &str)
         requires { length self.old + length text.now ≤ 80 }
-        ensures { self.new ≡ self.old ++ text.now }
+        ensures text { self.new ≡ self.old ++ text.now }
+        ensures length { length self.new ≡ length self.old + length text.now }
     {
         match self.bytes.extend_from_slice(text.as_bytes()) {
             Ok(()) => {}

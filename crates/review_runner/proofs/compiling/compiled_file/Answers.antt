@@ -1,13 +1,11 @@
-use Rattle.std.proofs.Common.{Ok}
-use Rattle.review_runner.proofs.PolicyFiles.{of_no_file}
+use Rattle.review_runner.proofs.PolicyFiles.{has_image, no_memory, no_policy}
 use Rattle.review_runner.proofs.compiling.compiled_file.Goals as goal
 
-pub returns-in_err-document-clause-compiled : goal.returns-in_err-document-clause-compiled
-returns-in_err-document-clause-compiled g c = of_no_file _ _ _ _ c.in_err-document.ensures.read c.from_residual.ensures.1
+pub returns-in_err-compiled : goal.returns-in_err-compiled
+returns-in_err-compiled c = no_policy _ _ _ c.from_residual.ensures.1 c.in_err-compiled.ensures
 
-pub returns-clause-compiled : goal.returns-clause-compiled
-returns-clause-compiled g c = record {
-  reading = Ok c.in_ok-document.document.items;
-  is_reading = c.in_ok-document.ensures.read;
-  compiles = rw c.deref.ensures.value at c.image_file.ensures;
-}
+pub returns-in_err-file : goal.returns-in_err-file
+returns-in_err-file c = no_memory _ _ c.from_residual-in_err-file.ensures.1
+
+pub returns : goal.returns
+returns c = has_image _ _ _ c.in_ok-file.file c.in_ok-compiled.ensures.0 c.in_ok-compiled.ensures.1 c.in_ok-file.ensures

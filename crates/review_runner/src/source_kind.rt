@@ -1,0 +1,10 @@
+//! What the file of an image is made from.
+
+/// What the file of an image is made from.
+#[derive(Clone, Copy)]
+pub enum SourceKind {
+    /// The document of a policy.
+    PolicyDocument,
+    /// The text of a program.
+    ProgramText,
+}
