@@ -1,16 +1,13 @@
 //! Policies that are compiled, and why others are not.
 
+use crate::policy_texts::policy_text;
 use crate::{Policy, compile};
 use std::alloc::{AllocError, Global};
 use std::test::Fail;
 
-/// What stands before and behind the specification of a policy.
-const HEAD: &str =
-    "{\"apiVersion\":\"admissionregistration.k8s.io/v1\",\"kind\":\"ValidatingAdmissionPolicy\",\"spec\":";
-
 /// What becomes of the policy with this specification: `compiled`, or why it is refused.
 fn outcome(alloc: Global, spec: &str) -> Result<String, Fail> {
-    let text = format!(in alloc; "{HEAD}{spec}}}")?;
+    let text = policy_text(alloc, spec)?;
     let policy = Policy::read(alloc, text.as_bytes())?;
     match compile(alloc, &policy) {
         Ok(_) => Ok(String::from_str(alloc, "compiled")?),
@@ -130,18 +127,9 @@ fn variables_of_variables(rt: HostRuntime) -> Result<(), Fail> {
     Ok(())
 }
 
-/// The text n times.
-fn repeated(alloc: Global, text: &str, n: u64) -> Result<String, AllocError> {
-    let mut all = String::new(alloc);
-    for _ in 0..n {
-        all.push_str(text)?;
-    }
-    Ok(all)
-}
-
 /// An expression in brackets or behind operators, which are repeated on both sides of what stands
 /// between them; its end; and what becomes of a policy with it.
-const REPEATED: [(&str, u64, &str, &str, &str, &str); 7] = [
+const REPEATED: [(&str, usize, &str, &str, &str, &str); 7] = [
     ("(", 100, "true", ")", "", "compiled"),
     ("(", 101, "true", ")", "", "K6 validation 0 P5 at 100"),
     ("1+(", 58, "1+1", ")", "==1", "compiled"),
@@ -154,8 +142,8 @@ const REPEATED: [(&str, u64, &str, &str, &str, &str); 7] = [
 #[test]
 fn limits_of_expressions(rt: HostRuntime) -> Result<(), Fail> {
     for (before, n, middle, behind, end, want) in REPEATED {
-        let first = repeated(rt.alloc(), before, n)?;
-        let last = repeated(rt.alloc(), behind, n)?;
+        let first = before.repeat(rt.alloc(), n)?;
+        let last = behind.repeat(rt.alloc(), n)?;
         let expression = format!(in rt.alloc(); "{first}{middle}{last}{end}")?;
         let spec = one_validation(rt.alloc(), expression.as_str())?;
         let found = outcome(rt.alloc(), spec.as_str())?;
@@ -166,7 +154,7 @@ fn limits_of_expressions(rt: HostRuntime) -> Result<(), Fail> {
 
 /// A specification with this many validations, each with a text of 62,000 bytes that no other has.
 fn with_texts(alloc: Global, n: u64) -> Result<String, AllocError> {
-    let letters = repeated(alloc, "a", 61_998)?;
+    let letters = "a".repeat(alloc, 61_998)?;
     let mut spec = String::from_str(alloc, "{\"validations\":[{\"expression\":\"true\"}")?;
     for i in 0..n {
         let validation = format!(in alloc; ",{{\"expression\":\"'{:02}{letters}' == 'a'\"}}", i)?;

@@ -23,15 +23,19 @@ mod part_kind;
 mod parts;
 mod policy;
 mod policy_error;
+#[cfg(test)]
+mod policy_tests;
+#[cfg(test)]
+mod policy_texts;
 mod program;
 mod reading;
 mod reason;
 mod response;
-#[cfg(test)]
-mod tests;
 mod validation;
 mod validations;
 mod verdict;
+#[cfg(test)]
+mod verdict_tests;
 
 pub use cel_macros::MacroError;
 pub use cel_reader::ReadError;
