@@ -19,9 +19,13 @@ fn reviewed_with(
 ) -> Result<Done, AllocError> {
     let policy = policy_of(alloc, spec)?;
     let review = review_of(alloc, object)?;
-    let mut documents = Documents::new(alloc, &policy, &review);
-    documents.namespace = bytes_of(namespace);
-    documents.params = bytes_of(params);
+    let mut documents = Documents {
+        policy: &policy,
+        review: &review,
+        namespace: bytes_of(namespace),
+        params: bytes_of(params),
+        image: Vec::new(alloc),
+    };
     answered(alloc, &mut documents, DEFAULT_STEPS)
 }
 
