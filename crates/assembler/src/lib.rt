@@ -6,8 +6,6 @@ mod assembling;
 mod laws;
 mod lines;
 mod passes;
-#[cfg(test)]
-mod tests;
 mod text;
 
 pub use asm_error::AsmError;

@@ -7,8 +7,6 @@ pub mod laws;
 mod machine;
 mod status;
 mod targets;
-#[cfg(test)]
-mod tests;
 mod word_text;
 mod words;
 

@@ -13,8 +13,6 @@ mod readings;
 mod sign_bits;
 mod signs;
 mod swap_width;
-#[cfg(test)]
-mod tests;
 
 pub use arithmetic::{alu32, alu64};
 pub use bytes::swap;

@@ -11,8 +11,6 @@ mod macro_error;
 mod macros;
 mod names;
 mod shape;
-#[cfg(test)]
-mod tests;
 
 pub use core_tree::Core;
 pub use expanding::expand;

@@ -5,8 +5,6 @@ mod laws;
 mod node_count;
 mod saturating;
 mod stack_need;
-#[cfg(test)]
-mod tests;
 mod variable_depth;
 
 pub use laws::rows_stand;

@@ -15,8 +15,6 @@ mod place;
 mod reader;
 mod role;
 mod source;
-#[cfg(test)]
-mod tests;
 mod word;
 
 pub use cel_tokens::ReadError;

@@ -12,8 +12,6 @@ mod laws;
 mod literal;
 mod mark;
 mod read_error;
-#[cfg(test)]
-mod tests;
 mod token;
 
 pub use bytes::is_name;

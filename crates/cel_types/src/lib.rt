@@ -8,8 +8,6 @@ mod laws;
 mod names;
 mod rows;
 mod scope;
-#[cfg(test)]
-mod tests;
 mod type_error;
 mod variable;
 

@@ -13,8 +13,6 @@ mod laws;
 mod literals_fit;
 mod spot;
 mod surroundings;
-#[cfg(test)]
-mod tests;
 mod texts;
 
 pub use code_error::CodeError;

@@ -6,8 +6,6 @@ mod answering;
 mod breakpoints;
 mod command;
 mod counting;
-#[cfg(test)]
-mod doubles;
 mod failed;
 mod inspecting;
 pub mod laws;
@@ -16,18 +14,12 @@ mod listing;
 mod moves;
 mod reply;
 mod session_error;
-#[cfg(test)]
-mod session_tests;
 mod sessions;
 mod sink;
 mod source;
 mod state_text;
-#[cfg(test)]
-mod stream_tests;
 mod transfer;
 mod verdict;
-#[cfg(test)]
-mod verdict_tests;
 
 pub use counting::Counting;
 pub use failed::Failed;

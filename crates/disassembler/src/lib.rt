@@ -5,8 +5,6 @@ mod dis_error;
 mod front;
 mod laws;
 mod lines;
-#[cfg(test)]
-mod tests;
 
 pub use dis_error::DisError;
 pub use laws::{one_listing, rows_stand};

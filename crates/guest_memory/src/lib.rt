@@ -10,8 +10,6 @@ mod pages;
 mod region;
 mod regions;
 mod size;
-#[cfg(test)]
-mod tests;
 mod words;
 mod write_error;
 

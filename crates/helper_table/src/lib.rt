@@ -13,8 +13,6 @@ pub mod laws;
 mod lookups;
 mod operands;
 mod plan;
-#[cfg(test)]
-mod tests;
 
 pub use calling::call;
 pub use helper_end::HelperEnd;

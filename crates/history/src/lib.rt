@@ -10,8 +10,6 @@ mod past;
 mod replay;
 mod search;
 mod stop;
-#[cfg(test)]
-mod tests;
 
 pub use emulator::Emulator;
 pub use history::History;

@@ -11,8 +11,6 @@ mod comparison;
 mod extension;
 mod insn;
 mod laws;
-#[cfg(test)]
-mod line_tests;
 mod mnemonic;
 mod number_text;
 mod offset_text;
@@ -23,8 +21,6 @@ mod size;
 mod slot;
 mod statement;
 mod swap_width;
-#[cfg(test)]
-mod tests;
 mod wide_text;
 mod width;
 

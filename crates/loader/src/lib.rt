@@ -5,8 +5,6 @@ mod format;
 mod image;
 pub mod laws;
 mod load_error;
-#[cfg(test)]
-mod tests;
 mod version;
 
 pub use image::Image;

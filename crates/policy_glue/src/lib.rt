@@ -6,8 +6,6 @@ mod checked;
 mod checked_validation;
 mod checking;
 mod compile_error;
-#[cfg(test)]
-mod compile_tests;
 mod compiling;
 mod denial;
 mod denials;
@@ -23,10 +21,6 @@ mod part_kind;
 mod parts;
 mod policy;
 mod policy_error;
-#[cfg(test)]
-mod policy_tests;
-#[cfg(test)]
-mod policy_texts;
 mod program;
 mod reading;
 mod reason;
@@ -34,8 +28,6 @@ mod response;
 mod validation;
 mod validations;
 mod verdict;
-#[cfg(test)]
-mod verdict_tests;
 
 pub use cel_macros::MacroError;
 pub use cel_reader::ReadError;

@@ -5,19 +5,13 @@
 
 mod answer;
 mod assembling;
-#[cfg(test)]
-mod assembling_tests;
 mod command_line;
 mod compiled_policy;
 mod compiling;
 mod debugging;
-#[cfg(test)]
-mod decision_tests;
 mod document;
 mod document_names;
 mod done;
-#[cfg(test)]
-mod doubles;
 mod file_error;
 mod files;
 mod held_files;
@@ -29,45 +23,21 @@ mod null_table;
 mod opening;
 mod order;
 mod order_error;
-#[cfg(test)]
-mod order_tests;
 mod performing;
-#[cfg(test)]
-mod performing_tests;
 mod policy_refusal;
-#[cfg(test)]
-mod policy_refusal_tests;
 mod program;
-#[cfg(test)]
-mod program_tests;
 pub mod reader;
 mod refusal;
 mod refusal_line;
 mod reply;
 mod review_document;
-#[cfg(test)]
-mod review_document_tests;
-#[cfg(test)]
-mod review_expression_tests;
 mod review_files;
-#[cfg(test)]
-mod review_fixtures;
-#[cfg(test)]
-mod review_limit_tests;
 mod review_names;
-#[cfg(test)]
-mod review_tests;
 mod reviewing;
-#[cfg(test)]
-mod root_tests;
 mod root_values;
 pub mod rows;
 mod run_error;
 mod running;
-#[cfg(test)]
-mod running_tests;
-#[cfg(test)]
-mod seeded_tests;
 mod source_kind;
 mod values;
 

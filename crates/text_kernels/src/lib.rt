@@ -4,8 +4,6 @@
 mod comparing;
 mod counting;
 mod skipping;
-#[cfg(test)]
-mod tests;
 
 pub use comparing::first_difference;
 pub use counting::code_points;

@@ -7,7 +7,6 @@ pub mod Named
 pub mod Growing
 pub mod Starting
 pub mod Looked
-pub mod Looks
 pub mod Maps
 pub mod Heads
 pub mod Walks

@@ -21,8 +21,6 @@ mod roots;
 mod search;
 mod seeing;
 mod table;
-#[cfg(test)]
-mod tests;
 mod text;
 mod texts;
 mod writing;

@@ -1,0 +1,93 @@
+//! Rows that were worked by hand.
+
+use cel_tokens::{ReadError, tokens};
+use std::alloc::Global;
+use std::test::Fail;
+
+/// Texts, and their tokens: place, end and kind of each.
+const READ: [(&str, &str); 14] = [
+    ("--1", "0-1 Mark 1-3 Int(-1) "),
+    ("1-1", "0-1 Int(1) 1-2 Mark 2-3 Int(1) "),
+    ("object.metadata", "0-6 Name 6-7 Mark 7-15 Name "),
+    ("[,]", "0-1 Mark 1-2 Mark 2-3 Mark "),
+    ("R'\\d'", "0-5 Text(\"\\\\d\") "),
+    ("'\\X41'", "0-6 Text(\"A\") "),
+    ("'\u{e9}\\u00e9'", "0-10 Text(\"\u{e9}\u{e9}\") "),
+    ("\"\\377\"", "0-6 Text(\"\u{ff}\") "),
+    ("- // x\n 0x1F", "0-12 Int(-31) "),
+    ("0x", "0-1 Int(0) 1-2 Name "),
+    ("x in -1", "0-1 Name 2-4 Name 5-7 Int(-1) "),
+    (")-1", "0-1 Mark 1-2 Mark 2-3 Int(1) "),
+    ("-9223372036854775808", "0-20 Int(-9223372036854775808) "),
+    ("<=<", "0-2 Mark 2-3 Mark "),
+];
+
+/// Texts that have no tokens, and why.
+const REFUSED: [(&str, ReadError); 12] = [
+    ("a # b", ReadError::P1(2)),
+    ("a | b", ReadError::P1(2)),
+    ("\u{e9}", ReadError::P1(0)),
+    ("'ab", ReadError::P2(0)),
+    (" r'a", ReadError::P2(1)),
+    ("'\\400'", ReadError::P2(0)),
+    ("'\\ud800'", ReadError::P2(0)),
+    ("1 '\\x4'", ReadError::P2(2)),
+    ("'a\nb'", ReadError::P2(0)),
+    ("-(9223372036854775808)", ReadError::P3(2)),
+    ("9223372036854775808", ReadError::P3(0)),
+    ("- 9223372036854775809", ReadError::P3(2)),
+];
+
+/// The tokens of the text in words.
+fn spelled(alloc: Global, text: &str) -> Result<String, Fail> {
+    let mut out = String::new(alloc);
+    for token in &tokens(alloc, text)? {
+        let words = format!(in alloc; "{}-{} {:?} ", token.place, token.end, token.kind)?;
+        out.push_str(words.as_str())?;
+    }
+    Ok(out)
+}
+
+/// A text of so many such bytes, and more.
+fn repeated(alloc: Global, unit: &str, count: usize, more: &str) -> Result<String, Fail> {
+    let mut out = String::new(alloc);
+    for _ in 0..count {
+        out.push_str(unit)?;
+    }
+    out.push_str(more)?;
+    Ok(out)
+}
+
+#[test]
+fn reads_texts(rt: HostRuntime) -> Result<(), Fail> {
+    for (text, words) in READ {
+        assert_eq!(rt; spelled(rt.alloc(), text)?.as_str(), words, "row {text}");
+    }
+    Ok(())
+}
+
+#[test]
+fn refuses_texts(rt: HostRuntime) {
+    for (text, cause) in REFUSED {
+        let answer = tokens(rt.alloc(), text);
+        assert_eq!(rt; answer.err(), Some(cause), "row {text}");
+    }
+}
+
+#[test]
+fn keeps_the_limits(rt: HostRuntime) -> Result<(), Fail> {
+    let rows = [
+        ("(", 4_096, "", None),
+        ("(", 65_536, "", Some(ReadError::P6(4_096))),
+        ("(", 4_096, " 'a", Some(ReadError::P6(4_097))),
+        ("(", 4_096, " #", Some(ReadError::P1(4_097))),
+        (" ", 65_536, "", None),
+        (" ", 65_537, "", Some(ReadError::P6(65_536))),
+    ];
+    for (unit, count, more, cause) in rows {
+        let text = repeated(rt.alloc(), unit, count, more)?;
+        let answer = tokens(rt.alloc(), text.as_str());
+        assert_eq!(rt; answer.err(), cause, "row {count} {more}");
+    }
+    Ok(())
+}

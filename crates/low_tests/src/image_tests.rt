@@ -1,0 +1,152 @@
+//! Files and parts that were made by hand.
+
+use loader::{Image, LoadError};
+use std::alloc::{AllocError, Global};
+use std::test::Fail;
+
+/// A program of three slots, `r0 = 5`, `r0 += 2` and `exit`, without constants.
+const PROGRAM: &[u8] =
+    b"CELBPF01\x03\0\0\0\0\0\0\0\xb7\0\0\0\x05\0\0\0\x07\0\0\0\x02\0\0\0\x95\0\0\0\0\0\0\0";
+
+/// The same as an image of version 2.
+const SECOND: &[u8] =
+    b"CELBPF02\x03\0\0\0\0\0\0\0\xb7\0\0\0\x05\0\0\0\x07\0\0\0\x02\0\0\0\x95\0\0\0\0\0\0\0";
+
+/// Files that hold no image, and why.
+const REFUSED: [(&[u8], LoadError); 12] = [
+    (b"", LoadError::L1),
+    (b"CELBPF01\x01\0\0\0\0\0\0", LoadError::L1),
+    (
+        b"CELBPF03\x01\0\0\0\0\0\0\0\x95\0\0\0\0\0\0\0",
+        LoadError::L2,
+    ),
+    (
+        b"CELBPF00\x01\0\0\0\0\0\0\0\x95\0\0\0\0\0\0\0",
+        LoadError::L2,
+    ),
+    (b"CELBPF02\0\0\0\0\0\0\0\0", LoadError::L3),
+    (b"CELBPF01\0\0\0\0\0\0\0\0", LoadError::L3),
+    (b"CELBPF01\x01\0\x01\0\0\0\0\0", LoadError::L3),
+    (b"CELBPF01\0\0\0\0\xff\xff\xff\xff", LoadError::L3),
+    (b"CELBPF01\x01\0\0\0\x01\0\x10\0", LoadError::L4),
+    (b"CELBPF01\x01\0\0\0\0\0\0\0\x95\0\0\0\0\0\0", LoadError::L5),
+    (
+        b"CELBPF01\x01\0\0\0\0\0\0\0\x95\0\0\0\0\0\0\0\0",
+        LoadError::L5,
+    ),
+    (
+        b"CELBPF01\x01\0\0\0\x01\0\0\0\x95\0\0\0\0\0\0\0",
+        LoadError::L5,
+    ),
+];
+
+#[test]
+fn refuses_files(rt: HostRuntime) {
+    for (file, cause) in REFUSED {
+        let answer = Image::read(rt.alloc(), file);
+        assert_eq!(rt; answer.err(), Some(cause));
+    }
+}
+
+/// Whether the image has this version, these parts and this file.
+fn has_parts(
+    image: &Image,
+    version: u8,
+    code: &[u8],
+    constants: &[u8],
+    file: &[u8],
+) -> Result<bool, AllocError> {
+    let written = image.write()?;
+    let parts = image.code() == code && image.constants() == constants;
+    Ok(image.version() == version && parts && written.as_slice() == file)
+}
+
+/// The image of this version and these parts, or a copy of it.
+fn made(
+    alloc: Global,
+    version: u8,
+    code: &[u8],
+    constants: &[u8],
+    copied: bool,
+) -> Result<Image, LoadError> {
+    let code = Vec::from_slice(alloc, code)?;
+    let constants = Vec::from_slice(alloc, constants)?;
+    let image = if version == 2 {
+        Image::new_2(code, constants)?
+    } else {
+        Image::new(code, constants)?
+    };
+    if copied { Ok(image.copy()?) } else { Ok(image) }
+}
+
+#[test]
+fn reads_and_writes_a_program(rt: HostRuntime) -> Result<(), Fail> {
+    for (version, file) in [(1, PROGRAM), (2, SECOND)] {
+        let image = Image::read(rt.alloc(), file)?;
+        assert!(rt;
+            has_parts(&image, version, &PROGRAM[16..], b"", file)?,
+            "version {version}"
+        );
+    }
+    Ok(())
+}
+
+#[test]
+fn makes_images_of_parts(rt: HostRuntime) -> Result<(), Fail> {
+    let exit = &PROGRAM[32..];
+    let files: [(u8, &[u8]); 2] = [
+        (1, b"CELBPF01\x01\0\0\0\x03\0\0\0\x95\0\0\0\0\0\0\0abc"),
+        (2, b"CELBPF02\x01\0\0\0\x03\0\0\0\x95\0\0\0\0\0\0\0abc"),
+    ];
+    for (version, file) in files {
+        for copied in [false, true] {
+            let image = made(rt.alloc(), version, exit, b"abc", copied)?;
+            assert!(rt;
+                has_parts(&image, version, exit, b"abc", file)?,
+                "{version} {copied}"
+            );
+        }
+    }
+    Ok(())
+}
+
+#[test]
+fn refuses_parts(rt: HostRuntime) -> Result<(), Fail> {
+    let rows = [
+        (12, 0, LoadError::L5),
+        (524_292, 1_048_577, LoadError::L5),
+        (0, 0, LoadError::L3),
+        (524_296, 1_048_577, LoadError::L3),
+        (524_288, 1_048_577, LoadError::L4),
+    ];
+    for (code_length, constants_length, cause) in rows {
+        let code = vec![in rt.alloc(); 0; code_length]?;
+        let constants = vec![in rt.alloc(); 0; constants_length]?;
+        assert_eq!(rt; Image::new(code, constants).err(), Some(cause));
+        let code = vec![in rt.alloc(); 0; code_length]?;
+        let constants = vec![in rt.alloc(); 0; constants_length]?;
+        assert_eq!(rt; Image::new_2(code, constants).err(), Some(cause));
+    }
+    Ok(())
+}
+
+#[test]
+fn takes_the_longest_parts(rt: HostRuntime) -> Result<(), Fail> {
+    let code = vec![in rt.alloc(); 0; 524_288]?;
+    let constants = vec![in rt.alloc(); 0; 1_048_576]?;
+    let file = Image::new(code, constants)?.write()?;
+    let image = Image::read(rt.alloc(), file.as_slice())?;
+    assert_eq!(rt; image.code().len(), 524_288);
+    assert_eq!(rt; image.constants().len(), 1_048_576);
+    Ok(())
+}
+
+#[test]
+fn says_what_is_wrong(rt: HostRuntime) -> Result<(), Fail> {
+    let text = format!(in rt.alloc(); "{}, {}", LoadError::L2, LoadError::Memory)?;
+    assert_eq!(rt;
+        text.as_str(),
+        "the file begins with neither CELBPF01 nor CELBPF02, out of memory"
+    );
+    Ok(())
+}

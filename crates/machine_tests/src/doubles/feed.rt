@@ -1,0 +1,65 @@
+//! A source in memory.
+ghost use Rattle.std.specs.Prelude.{◌≡◌, ◌<◌, ◌≤◌, Some, take, length};
+ghost use Rattle.debugger.specs.Streams.{one_more};
+
+use debugger::{Failed, Source};
+
+/// Gives bytes in small pieces, and fails at one of its reads.
+#[derive(Drop)]
+pub struct Feed {
+    left: &'static [u8],
+    piece: usize,
+    reads: u64,
+    fails_at: u64,
+    failed: u64,
+    ghost some: { 0 < piece },
+}
+
+impl Feed {
+    /// Gives at most `piece` bytes a read. The reads are counted from 1, and the one with the
+    /// number `fails_at` fails.
+    pub fn new(bytes: &'static [u8], piece: usize, fails_at: u64) -> Feed
+        requires { 0 < piece }
+    {
+        Feed {
+            left: bytes,
+            piece,
+            reads: 0,
+            fails_at,
+            failed: 0,
+        }
+    }
+}
+
+impl Source for Feed {
+    ghost left = { λ f. Some f.left.now };
+
+    ghost failed = { λ f. f.failed };
+
+    fn read(&mut self, buf: &mut [u8]) -> Result<usize, Failed> {
+        self.reads = self.reads.wrapping_add(1);
+        if self.reads == self.fails_at {
+            self.failed = self.failed.wrapping_add(1);
+            return Err(Failed);
+        }
+        let n = put_front(buf, self.left, self.piece);
+        self.left = &self.left[n..];
+        Ok(n)
+    }
+
+    fn failures(&self) -> u64 {
+        self.failed
+    }
+}
+
+/// Copies at most `piece` of the bytes into the front of the buffer, and answers how many.
+fn put_front(buf: &mut [u8], bytes: &[u8], piece: usize) -> usize
+    ensures room { result ≤ length buf.old }
+    ensures within { result ≤ length bytes.now }
+    ensures front { take result buf.new ≡ take result bytes.now }
+    ensures end { result ≡ 0 → 0 < length buf.old → 0 < piece → length bytes.now ≡ 0 }
+{
+    let n = piece.min(buf.len()).min(bytes.len());
+    buf[..n].copy_from_slice(&bytes[..n]);
+    n
+}

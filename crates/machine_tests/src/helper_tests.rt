@@ -1,0 +1,110 @@
+//! Calls over the plain store and plain memory.
+
+mod rows;
+
+use guest_memory::{Guest, Regions};
+use helper_table::{HelperEnd, call};
+use std::alloc::{AllocError, Global};
+use std::test::Fail;
+use value_store::{PlainTable, TableError, ValueStore};
+
+/// The bytes k, t, those of é, and one that begins nothing in UTF-8.
+const CONSTANTS: &[u8; 5] = b"kt\xc3\xa9\xff";
+
+/// Their first address.
+const BASE: u64 = 0x4_0000_0000;
+
+/// A store of five null roots: nine values, and a charge of 5.
+fn nulls(alloc: Global) -> Result<PlainTable, TableError> {
+    PlainTable::of_roots(
+        alloc,
+        &[
+            Default::default(),
+            Default::default(),
+            Default::default(),
+            Default::default(),
+            Default::default(),
+        ],
+    )
+}
+
+/// A call with three arguments. Where the host refuses memory, the store has as many values and the
+/// charge that it had, and the call is made again.
+fn called(
+    id: i32,
+    [a, b, c]: [u64; 3],
+    table: &mut PlainTable,
+    memory: &Guest,
+) -> Result<HelperEnd, AllocError> {
+    let args = [a, b, c, 0, 0];
+    let before = (table.len(), table.charge());
+    match call(id, args, table, memory) {
+        Ok(end) => Ok(end),
+        Err(error) => {
+            if (table.len(), table.charge()) != before {
+                return Err(error);
+            }
+            call(id, args, table, memory)
+        }
+    }
+}
+
+/// The memory of a program with these constants.
+fn memory_of_constants(alloc: Global) -> Result<Guest, AllocError> {
+    Guest::of_constants(alloc, CONSTANTS)
+}
+
+/// How many times a list can be put into a list of its own before a call stops.
+fn nestings(table: &mut PlainTable, memory: &Guest) -> Result<u64, AllocError> {
+    let mut part = 9;
+    for n in 0..300 {
+        let HelperEnd::Word(list) = called(16, [0, 0, 0], table, memory)? else {
+            return Ok(n);
+        };
+        let HelperEnd::Word(whole) = called(17, [list, part, 0], table, memory)? else {
+            return Ok(n);
+        };
+        part = whole;
+    }
+    Ok(300)
+}
+
+#[test]
+fn a_list_is_at_most_255_deep(rt: HostRuntime) -> Result<(), Fail> {
+    let memory = memory_of_constants(rt.alloc())?;
+    let mut table = nulls(rt.alloc())?;
+    assert_eq!(rt;
+        called(16, [0, 0, 0], &mut table, &memory)?,
+        HelperEnd::Word(9)
+    );
+    assert_eq!(rt; nestings(&mut table, &memory)?, 254);
+    assert_eq!(rt; table.len(), 519);
+    assert_eq!(rt; table.charge(), 769);
+    Ok(())
+}
+
+/// How many times a text of one byte can be doubled before a call stops.
+fn doublings(table: &mut PlainTable, memory: &Guest) -> Result<u64, AllocError> {
+    let mut text = 9;
+    for n in 0..300 {
+        let HelperEnd::Word(whole) = called(11, [text, text, 0], table, memory)? else {
+            return Ok(n);
+        };
+        text = whole;
+    }
+    Ok(300)
+}
+
+#[test]
+fn a_text_is_doubled_within_the_charge(rt: HostRuntime) -> Result<(), Fail> {
+    let memory = memory_of_constants(rt.alloc())?;
+    let mut table = nulls(rt.alloc())?;
+    assert_eq!(rt;
+        called(4, [BASE, 1, 0], &mut table, &memory)?,
+        HelperEnd::Word(9)
+    );
+    assert_eq!(rt; doublings(&mut table, &memory)?, 22);
+    assert_eq!(rt; table.len(), 32);
+    assert_eq!(rt; table.charge(), 8_388_635);
+    Ok(())
+}

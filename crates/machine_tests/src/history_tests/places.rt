@@ -1,0 +1,115 @@
+//! A run that is shown at places before and behind its end.
+use super::{Plain, begun};
+use bpf_machine::Status;
+use history::{Emulator, History, Past};
+use insn_codec::Register;
+use std::alloc::{AllocError, Global};
+use std::test::Fail;
+
+/// `r0 = 5` and `exit`.
+const CODE: &[u8] = b"\xb7\0\0\0\x05\0\0\0\x95\0\0\0\0\0\0\0";
+
+/// A place that is shown, with the slot, r0 and the status.
+type Shown = (u64, i64, u64, Status);
+
+/// Places in the order in which they are shown.
+const SHOWN: [Shown; 8] = [
+    (0, 0, 0, Status::Running),
+    (1, 1, 5, Status::Running),
+    (2, 1, 5, Status::Exited(5)),
+    (5, 1, 5, Status::Exited(5)),
+    (1, 1, 5, Status::Running),
+    (0, 0, 0, Status::Running),
+    (1_000_000, 1, 5, Status::Exited(5)),
+    (1, 1, 5, Status::Running),
+];
+
+/// Shows a place, also where the first way there is refused.
+fn shown(history: &mut Past<Plain>, place: u64) -> Result<Shown, AllocError> {
+    if history.go(place).is_err() {
+        history.go(place)?;
+    }
+    let machine = history.machine();
+    let r0 = machine.register(Register::R0);
+    Ok((history.now(), machine.pc(), r0, machine.status()))
+}
+
+/// The first row that is shown otherwise.
+fn wrong_row(history: &mut Past<Plain>) -> Result<Option<usize>, AllocError> {
+    for (row, expected) in SHOWN.into_iter().enumerate() {
+        if shown(history, expected.0)? != expected {
+            return Ok(Some(row));
+        }
+    }
+    Ok(None)
+}
+
+#[test]
+fn shows_each_place(rt: HostRuntime) -> Result<(), Fail> {
+    let mut history = begun(rt.alloc(), CODE)?;
+    assert_eq!(rt; wrong_row(&mut history)?, None);
+    Ok(())
+}
+
+/// `r1 = [r10 - 8]`, `r1 += 1`, `[r10 - 8] = r1`, and back to the first.
+const COUNTS: &[u8] =
+    b"\x79\xa1\xf8\xff\0\0\0\0\x07\x01\0\0\x01\0\0\0\x7b\x1a\xf8\xff\0\0\0\0\x05\0\xfc\xff\0\0\0\0";
+
+/// Places in the order in which they are shown, with the steps that are replayed for each: from
+/// the place shown before, from the start, or from the last multiple of 1,024.
+const REPLAYED: [(u64, u64); 9] = [
+    (1_000_000, 1_000_000),
+    (999_999, 575),
+    (999_998, 574),
+    (999_998, 0),
+    (3, 3),
+    (100_003, 100_000),
+    (100_002, 674),
+    (100_004, 2),
+    (98_304, 0),
+];
+
+/// The first of these places that is shown after another number of steps.
+fn wrong_replay(history: &mut Past<Plain>) -> Result<Option<u64>, AllocError> {
+    for (place, steps) in REPLAYED {
+        history.go(place)?;
+        if history.replayed() != steps {
+            return Ok(Some(place));
+        }
+    }
+    Ok(None)
+}
+
+#[test]
+fn replays_from_the_nearest(rt: HostRuntime) -> Result<(), Fail> {
+    let mut history = begun(rt.alloc(), COUNTS)?;
+    assert_eq!(rt; wrong_replay(&mut history)?, None);
+    Ok(())
+}
+
+/// `r1 = 0x200000000`, `r0 = [r1]`, `r0 += 5`, `[r1] = r0` and `exit`.
+const STORES: &[u8] =
+    b"\x18\x01\0\0\0\0\0\0\0\0\0\0\x02\0\0\0\x79\x10\0\0\0\0\0\0\x07\0\0\0\x05\0\0\0\x7b\x01\0\0\0\0\0\0\x95\0\0\0\0\0\0\0";
+
+/// How a copy of the machine that is shown at the last of these places ends `n` steps on.
+fn end_from(history: &mut Past<Plain>, places: &[u64], n: u64) -> Result<Status, AllocError> {
+    for place in places {
+        history.go(*place)?;
+    }
+    let mut again = history.machine().copy()?;
+    again.run(n)?;
+    Ok(again.status())
+}
+
+fn end_after(alloc: Global, places: &[u64], n: u64) -> Result<Status, Fail> {
+    let mut history = begun(alloc, STORES)?;
+    Ok(end_from(&mut history, places, n)?)
+}
+
+/// A machine behind the store has changed nothing in the memory of the one before it.
+#[test]
+fn takes_memory_back(rt: HostRuntime) -> Result<(), Fail> {
+    assert!(rt; end_after(rt.alloc(), &[5], 0)? == Status::Exited(5));
+    assert!(rt; end_after(rt.alloc(), &[5, 1], 4)? == Status::Exited(5));
+    Ok(())
+}

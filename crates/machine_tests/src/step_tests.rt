@@ -1,0 +1,84 @@
+//! Programs whose ends were computed by hand. A slot is written as its eight bytes in storage order.
+use bpf_machine::{Machine, Status};
+use guest_memory::Guest;
+use loader::Image;
+use std::alloc::Global;
+use std::test::Fail;
+use value_store::{PlainTable, TableError};
+
+mod accesses;
+mod arithmetic;
+mod atomics;
+mod copies;
+mod helper_calls;
+mod jumps;
+mod runs;
+
+const EXIT: u64 = 0x9500_0000_0000_0000;
+
+/// The machine over the plain store and plain memory.
+type Plain = Machine<PlainTable, Guest>;
+
+/// The two slots of the wide load of a word into the register with this number.
+fn wide(register: u8, word: u64) -> [u64; 2] {
+    let [a, b, c, d, e, f, g, h] = word.to_le_bytes();
+    let low = u32::from_be_bytes([a, b, c, d]);
+    let high = u32::from_be_bytes([e, f, g, h]);
+    [
+        u64::from_be_bytes([0x18, register, 0, 0, 0, 0, 0, 0]) | u64::from(low),
+        u64::from(high),
+    ]
+}
+
+/// The code of these slots.
+fn code(alloc: Global, slots: &[u64]) -> Result<Vec<u8>, Fail> {
+    let mut code = Vec::new(alloc);
+    for slot in slots {
+        code.extend_from_slice(&slot.to_be_bytes())?;
+    }
+    Ok(code)
+}
+
+/// The table of five null roots.
+fn nulls(alloc: Global) -> Result<PlainTable, TableError> {
+    PlainTable::of_roots(
+        alloc,
+        &[
+            Default::default(),
+            Default::default(),
+            Default::default(),
+            Default::default(),
+            Default::default(),
+        ],
+    )
+}
+
+/// The machine at the start of this code with these constants.
+fn machine(alloc: Global, slots: &[u64], constants: &[u8]) -> Result<Plain, Fail> {
+    let code = code(alloc, slots)?;
+    let constants = Vec::from_slice(alloc, constants)?;
+    let image = Image::new(code, constants)?;
+    let values = nulls(alloc)?;
+    Ok(Machine::start(alloc, image, values)?)
+}
+
+/// What a run of at most so many steps answers.
+fn run_answer(mut machine: Plain, limit: u64) -> Result<(u64, Status), Fail> {
+    Ok(machine.run(limit)?)
+}
+
+/// The machine after a run of at most so many steps.
+fn run_machine(mut machine: Plain, limit: u64) -> Result<Plain, Fail> {
+    machine.run(limit)?;
+    Ok(machine)
+}
+
+/// What a run of at most nine steps answers from the start.
+fn answer(alloc: Global, slots: &[u64], constants: &[u8]) -> Result<(u64, Status), Fail> {
+    run_answer(machine(alloc, slots, constants)?, 9)
+}
+
+/// Whether it answers so.
+fn answers(alloc: Global, slots: &[u64], expected: (u64, Status)) -> Result<bool, Fail> {
+    Ok(answer(alloc, slots, &[])? == expected)
+}

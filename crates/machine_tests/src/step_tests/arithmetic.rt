@@ -1,0 +1,375 @@
+use super::{EXIT, answer, wide};
+use bpf_machine::Status;
+use std::alloc::Global;
+use std::test::Fail;
+
+/// R1, R2, a slot, and what R0 is after that slot, `r0 = r1` and `exit`.
+type Row = (u64, u64, u64, u64);
+
+/// The status after `r1 = dst`, `r2 = operand`, the slot, `r0 = r1` and `exit`.
+fn status_after(alloc: Global, dst: u64, operand: u64, slot: u64) -> Result<Status, Fail> {
+    let [dst_low, dst_high] = wide(1, dst);
+    let [operand_low, operand_high] = wide(2, operand);
+    let slots = [
+        dst_low,
+        dst_high,
+        operand_low,
+        operand_high,
+        slot,
+        0xbf10_0000_0000_0000,
+        EXIT,
+    ];
+    let (_, status) = answer(alloc, &slots, &[])?;
+    Ok(status)
+}
+
+/// The first row that ends otherwise, if one does.
+fn wrong_row(alloc: Global, rows: &[Row]) -> Result<Option<usize>, Fail> {
+    for (row, (dst, operand, slot, r0)) in rows.iter().copied().enumerate() {
+        if status_after(alloc, dst, operand, slot)? != Status::Exited(r0) {
+            return Ok(Some(row));
+        }
+    }
+    Ok(None)
+}
+
+/// Add, sub, mul, div, sdiv, or, and, lsh, rsh, mod, smod, xor, mov, arsh.
+const IMMEDIATES_OF_64: [Row; 14] = [
+    (
+        0xffff_ffff_ffff_fff0,
+        0,
+        0x0701_0000_ffff_ffff,
+        0xffff_ffff_ffff_ffef,
+    ),
+    (5, 0, 0x1701_0000_0700_0000, 0xffff_ffff_ffff_fffe),
+    (
+        0x1_0000_0003,
+        0,
+        0x2701_0000_feff_ffff,
+        0xffff_fffd_ffff_fffa,
+    ),
+    (
+        0x8000_0000_0000_0009,
+        0,
+        0x3701_0000_0200_0000,
+        0x4000_0000_0000_0004,
+    ),
+    (
+        0xffff_fff2_ffff_fff3,
+        0,
+        0x3701_0100_fcff_ffff,
+        0x3_4000_0003,
+    ),
+    (
+        0xf00_0000_0000_000f,
+        0,
+        0x4701_0000_00ff_ffff,
+        0xffff_ffff_ffff_ff0f,
+    ),
+    (
+        0xff00_ff00_ff00_ff00,
+        0,
+        0x5701_0000_00f0_ffff,
+        0xff00_ff00_ff00_f000,
+    ),
+    (0x1_8000_0001, 0, 0x6701_0000_0400_0000, 0x18_0000_0010),
+    (0x8000_0001_8000_0000, 0, 0x7701_0000_2400_0000, 0x800_0000),
+    (0x1_0000_000d, 0, 0x9701_0000_0400_0000, 1),
+    (
+        0xffff_ffff_ffff_fff3,
+        0,
+        0x9701_0100_0300_0000,
+        0xffff_ffff_ffff_ffff,
+    ),
+    (
+        0xaaaa_aaaa_aaaa_aaaa,
+        0,
+        0xa701_0000_ffff_ffff,
+        0x5555_5555_5555_5555,
+    ),
+    (7, 0, 0xb701_0000_feff_ffff, 0xffff_ffff_ffff_fffe),
+    (
+        0x8000_0000_8000_0000,
+        0,
+        0xc701_0000_0400_0000,
+        0xf800_0000_0800_0000,
+    ),
+];
+
+#[test]
+fn on_64_bits_with_an_immediate(rt: HostRuntime) -> Result<(), Fail> {
+    assert_eq!(rt; wrong_row(rt.alloc(), &IMMEDIATES_OF_64)?, None);
+    Ok(())
+}
+
+/// The same operations with R2, which stands beside R1.
+const REGISTERS_OF_64: [Row; 14] = [
+    (0xffff_ffff_ffff_fff0, 0x20, 0x0f21_0000_0000_0000, 0x10),
+    (
+        5,
+        0x1_0000_0007,
+        0x1f21_0000_0000_0000,
+        0xffff_fffe_ffff_fffe,
+    ),
+    (
+        0x1_0000_0003,
+        0x8000_0001_0000_0002,
+        0x2f21_0000_0000_0000,
+        0x8000_0005_0000_0006,
+    ),
+    (
+        0x8000_0000_0000_0009,
+        0x1_0000_0002,
+        0x3f21_0000_0000_0000,
+        0x7fff_ffff,
+    ),
+    (
+        0xffff_fff2_ffff_fff3,
+        3,
+        0x3f21_0100_0000_0000,
+        0xffff_fffb_aaaa_aaa7,
+    ),
+    (
+        0xf00_0000_0000_000f,
+        0x10_0000_00f0,
+        0x4f21_0000_0000_0000,
+        0xf00_0010_0000_00ff,
+    ),
+    (
+        0xff00_ff00_ff00_ff00,
+        0xff0_0ff0_0ff0_0ff0,
+        0x5f21_0000_0000_0000,
+        0xf00_0f00_0f00_0f00,
+    ),
+    (0x1_8000_0001, 0x21, 0x6f21_0000_0000_0000, 0x2_0000_0000),
+    (
+        0x8000_0001_8000_0000,
+        0x21,
+        0x7f21_0000_0000_0000,
+        0x4000_0000,
+    ),
+    (0x1_0000_000d, 0x1_0000_0005, 0x9f21_0000_0000_0000, 8),
+    (
+        0xffff_ffff_ffff_fff3,
+        0x1_0000_0005,
+        0x9f21_0100_0000_0000,
+        0xffff_ffff_ffff_fff3,
+    ),
+    (
+        0xaaaa_aaaa_aaaa_aaaa,
+        0xffff_0000_ffff_0000,
+        0xaf21_0000_0000_0000,
+        0x5555_aaaa_5555_aaaa,
+    ),
+    (
+        7,
+        0x1234_5678_9abc_def0,
+        0xbf21_0000_0000_0000,
+        0x1234_5678_9abc_def0,
+    ),
+    (
+        0x8000_0000_8000_0000,
+        0x23,
+        0xcf21_0000_0000_0000,
+        0xffff_ffff_f000_0000,
+    ),
+];
+
+#[test]
+fn on_64_bits_with_a_register(rt: HostRuntime) -> Result<(), Fail> {
+    assert_eq!(rt; wrong_row(rt.alloc(), &REGISTERS_OF_64)?, None);
+    Ok(())
+}
+
+/// The same operations on the low halves.
+const IMMEDIATES_OF_32: [Row; 14] = [
+    (0xffff_ffff_ffff_fff0, 0, 0x0401_0000_ffff_ffff, 0xffff_ffef),
+    (5, 0, 0x1401_0000_0700_0000, 0xffff_fffe),
+    (0x1_0000_0003, 0, 0x2401_0000_feff_ffff, 0xffff_fffa),
+    (0x8000_0000_0000_0009, 0, 0x3401_0000_0200_0000, 4),
+    (0xffff_fff2_ffff_fff3, 0, 0x3401_0100_fcff_ffff, 3),
+    (0xf00_0000_0000_000f, 0, 0x4401_0000_00ff_ffff, 0xffff_ff0f),
+    (0xff00_ff00_ff00_ff00, 0, 0x5401_0000_00f0_ffff, 0xff00_f000),
+    (0x1_8000_0001, 0, 0x6401_0000_0400_0000, 0x10),
+    (0x8000_0001_8000_0000, 0, 0x7401_0000_2400_0000, 0x800_0000),
+    (0x1_0000_000d, 0, 0x9401_0000_0400_0000, 1),
+    (0xffff_ffff_ffff_fff3, 0, 0x9401_0100_0300_0000, 0xffff_ffff),
+    (0xaaaa_aaaa_aaaa_aaaa, 0, 0xa401_0000_ffff_ffff, 0x5555_5555),
+    (7, 0, 0xb401_0000_feff_ffff, 0xffff_fffe),
+    (0x8000_0000_8000_0000, 0, 0xc401_0000_0400_0000, 0xf800_0000),
+];
+
+#[test]
+fn on_32_bits_with_an_immediate(rt: HostRuntime) -> Result<(), Fail> {
+    assert_eq!(rt; wrong_row(rt.alloc(), &IMMEDIATES_OF_32)?, None);
+    Ok(())
+}
+
+/// The same operations on the low halves of R1 and R2.
+const REGISTERS_OF_32: [Row; 14] = [
+    (0xffff_ffff_ffff_fff0, 0x20, 0x0c21_0000_0000_0000, 0x10),
+    (5, 0x1_0000_0007, 0x1c21_0000_0000_0000, 0xffff_fffe),
+    (
+        0x1_0000_0003,
+        0x8000_0001_0000_0002,
+        0x2c21_0000_0000_0000,
+        6,
+    ),
+    (
+        0x8000_0000_0000_0009,
+        0x1_0000_0002,
+        0x3c21_0000_0000_0000,
+        4,
+    ),
+    (0xffff_fff2_ffff_fff3, 3, 0x3c21_0100_0000_0000, 0xffff_fffc),
+    (
+        0xf00_0000_0000_000f,
+        0x10_0000_00f0,
+        0x4c21_0000_0000_0000,
+        0xff,
+    ),
+    (
+        0xff00_ff00_ff00_ff00,
+        0xff0_0ff0_0ff0_0ff0,
+        0x5c21_0000_0000_0000,
+        0xf00_0f00,
+    ),
+    (0x1_8000_0001, 0x21, 0x6c21_0000_0000_0000, 2),
+    (
+        0x8000_0001_8000_0000,
+        0x21,
+        0x7c21_0000_0000_0000,
+        0x4000_0000,
+    ),
+    (0x1_0000_000d, 0x1_0000_0005, 0x9c21_0000_0000_0000, 3),
+    (
+        0xffff_ffff_ffff_fff3,
+        0x1_0000_0005,
+        0x9c21_0100_0000_0000,
+        0xffff_fffd,
+    ),
+    (
+        0xaaaa_aaaa_aaaa_aaaa,
+        0xffff_0000_ffff_0000,
+        0xac21_0000_0000_0000,
+        0x5555_aaaa,
+    ),
+    (7, 0x1234_5678_9abc_def0, 0xbc21_0000_0000_0000, 0x9abc_def0),
+    (
+        0x8000_0000_8000_0000,
+        0x23,
+        0xcc21_0000_0000_0000,
+        0xf000_0000,
+    ),
+];
+
+#[test]
+fn on_32_bits_with_a_register(rt: HostRuntime) -> Result<(), Fail> {
+    assert_eq!(rt; wrong_row(rt.alloc(), &REGISTERS_OF_32)?, None);
+    Ok(())
+}
+
+/// Sign-extending moves from 8, 16, 8, 16 and 32 bits, negatives, and le, be and swap of 16, 32 and
+/// 64 bits.
+const SIGNS_AND_BYTE_ORDER: [Row; 16] = [
+    (7, 0x1_8000_8080, 0xbc21_0800_0000_0000, 0xffff_ff80),
+    (7, 0x1_8000_8080, 0xbc21_1000_0000_0000, 0xffff_8080),
+    (
+        7,
+        0x1_8000_8080,
+        0xbf21_0800_0000_0000,
+        0xffff_ffff_ffff_ff80,
+    ),
+    (
+        7,
+        0x1_8000_8080,
+        0xbf21_1000_0000_0000,
+        0xffff_ffff_ffff_8080,
+    ),
+    (
+        7,
+        0x1_8000_8080,
+        0xbf21_2000_0000_0000,
+        0xffff_ffff_8000_8080,
+    ),
+    (0x1_0000_0001, 0, 0x8401_0000_0000_0000, 0xffff_ffff),
+    (
+        0x1_0000_0001,
+        0,
+        0x8701_0000_0000_0000,
+        0xffff_fffe_ffff_ffff,
+    ),
+    (0x1122_3344_8899_aabb, 0, 0xd401_0000_1000_0000, 0xaabb),
+    (0x1122_3344_8899_aabb, 0, 0xd401_0000_2000_0000, 0x8899_aabb),
+    (
+        0x1122_3344_8899_aabb,
+        0,
+        0xd401_0000_4000_0000,
+        0x1122_3344_8899_aabb,
+    ),
+    (0x1122_3344_8899_aabb, 0, 0xdc01_0000_1000_0000, 0xbbaa),
+    (0x1122_3344_8899_aabb, 0, 0xdc01_0000_2000_0000, 0xbbaa_9988),
+    (
+        0x1122_3344_8899_aabb,
+        0,
+        0xdc01_0000_4000_0000,
+        0xbbaa_9988_4433_2211,
+    ),
+    (0x1122_3344_8899_aabb, 0, 0xd701_0000_1000_0000, 0xbbaa),
+    (0x1122_3344_8899_aabb, 0, 0xd701_0000_2000_0000, 0xbbaa_9988),
+    (
+        0x1122_3344_8899_aabb,
+        0,
+        0xd701_0000_4000_0000,
+        0xbbaa_9988_4433_2211,
+    ),
+];
+
+#[test]
+fn signs_and_byte_order(rt: HostRuntime) -> Result<(), Fail> {
+    assert_eq!(rt; wrong_row(rt.alloc(), &SIGNS_AND_BYTE_ORDER)?, None);
+    Ok(())
+}
+
+/// Division by zero of every kind, the least value by -1, a large unsigned divisor, and shifts by the
+/// width and more.
+const EDGES: [Row; 17] = [
+    (0x1_0000_0007, 0, 0x3f21_0000_0000_0000, 0),
+    (0x1_0000_0007, 0x5_0000_0000, 0x3c21_0000_0000_0000, 0),
+    (0x1_0000_0007, 0, 0x3f21_0100_0000_0000, 0),
+    (0x1_0000_0007, 0x5_0000_0000, 0x3c21_0100_0000_0000, 0),
+    (0x1_0000_0007, 0, 0x9f21_0000_0000_0000, 0x1_0000_0007),
+    (0x1_0000_0007, 0x5_0000_0000, 0x9c21_0000_0000_0000, 7),
+    (0x1_0000_0007, 0, 0x9f21_0100_0000_0000, 0x1_0000_0007),
+    (0x1_0000_0007, 0x5_0000_0000, 0x9c21_0100_0000_0000, 7),
+    (
+        0x8000_0000_0000_0000,
+        0,
+        0x3701_0100_ffff_ffff,
+        0x8000_0000_0000_0000,
+    ),
+    (0x8000_0000_0000_0000, 0, 0x9701_0100_ffff_ffff, 0),
+    (5, 0, 0x3701_0000_ffff_ffff, 0),
+    (
+        0x8000_0000,
+        0xffff_ffff_ffff_ffff,
+        0x3c21_0100_0000_0000,
+        0x8000_0000,
+    ),
+    (0x8000_0000, 0xffff_ffff_ffff_ffff, 0x9c21_0100_0000_0000, 0),
+    (1, 0x40, 0x6f21_0000_0000_0000, 1),
+    (0x8000_0000_0000_0000, 0x7f, 0x7f21_0000_0000_0000, 1),
+    (
+        0x8000_0000_0000_0000,
+        0,
+        0xc701_0000_ffff_ffff,
+        0xffff_ffff_ffff_ffff,
+    ),
+    (1, 0x20, 0x6c21_0000_0000_0000, 1),
+];
+
+#[test]
+fn edges(rt: HostRuntime) -> Result<(), Fail> {
+    assert_eq!(rt; wrong_row(rt.alloc(), &EDGES)?, None);
+    Ok(())
+}

@@ -1,0 +1,226 @@
+use super::{EXIT, answer, answers, machine, run_answer, run_machine, wide};
+use bpf_machine::Status;
+use guest_memory::Fault;
+use insn_codec::Register;
+use std::alloc::Global;
+use std::test::Fail;
+
+/// The status after `r1 = dst`, `r2 = operand`, the jump over the next slot, `r0 = 1` and `exit`.
+fn status_over(alloc: Global, dst: u64, operand: u64, jump: u64) -> Result<Status, Fail> {
+    let [dst_low, dst_high] = wide(1, dst);
+    let [operand_low, operand_high] = wide(2, operand);
+    let one = 0xb700_0000_0100_0000;
+    let slots = [
+        dst_low,
+        dst_high,
+        operand_low,
+        operand_high,
+        jump,
+        one,
+        EXIT,
+    ];
+    let (_, status) = answer(alloc, &slots, &[])?;
+    Ok(status)
+}
+
+/// The opcodes of each comparison (an immediate and a register of 64 bits, the same of 32), and
+/// whether it holds between -1 and 1, between 1 and 1, and between 2 and 1.
+const BRANCHES: [([u8; 4], [bool; 3]); 11] = [
+    ([0x15, 0x1d, 0x16, 0x1e], [false, true, false]),
+    ([0x25, 0x2d, 0x26, 0x2e], [true, false, true]),
+    ([0x35, 0x3d, 0x36, 0x3e], [true, true, true]),
+    ([0x45, 0x4d, 0x46, 0x4e], [true, true, false]),
+    ([0x55, 0x5d, 0x56, 0x5e], [true, false, true]),
+    ([0x65, 0x6d, 0x66, 0x6e], [false, false, true]),
+    ([0x75, 0x7d, 0x76, 0x7e], [false, true, true]),
+    ([0xa5, 0xad, 0xa6, 0xae], [false, false, false]),
+    ([0xb5, 0xbd, 0xb6, 0xbe], [false, true, false]),
+    ([0xc5, 0xcd, 0xc6, 0xce], [true, false, false]),
+    ([0xd5, 0xdd, 0xd6, 0xde], [true, true, false]),
+];
+
+/// Words of 64 bits, and words of which the low halves count, that are compared with 1.
+const COMPARED: [(u64, u64); 3] = [
+    (u64::MAX, 0x7_ffff_ffff),
+    (1, 0x7_0000_0001),
+    (2, 0x7_0000_0002),
+];
+
+/// Whether the jump, taken or not by these words, leads to the exit.
+fn is_taken(alloc: Global, dst: u64, operand: u64, jump: [u8; 8]) -> Result<bool, Fail> {
+    let status = status_over(alloc, dst, operand, u64::from_be_bytes(jump))?;
+    Ok(status == Status::Exited(0))
+}
+
+/// Which of a comparison's four jumps are taken with these words, compared with 1.
+fn taken(alloc: Global, opcodes: [u8; 4], whole: u64, half: u64) -> Result<[bool; 4], Fail> {
+    let [imm_64, reg_64, imm_32, reg_32] = opcodes;
+    Ok([
+        is_taken(alloc, whole, 0, [imm_64, 0x01, 1, 0, 1, 0, 0, 0])?,
+        is_taken(alloc, whole, 1, [reg_64, 0x21, 1, 0, 0, 0, 0, 0])?,
+        is_taken(alloc, half, 0, [imm_32, 0x01, 1, 0, 1, 0, 0, 0])?,
+        is_taken(alloc, half, 0x9_0000_0001, [reg_32, 0x21, 1, 0, 0, 0, 0, 0])?,
+    ])
+}
+
+/// Whether a comparison's jumps are taken exactly where it holds.
+fn branches_where(alloc: Global, opcodes: [u8; 4], holds: [bool; 3]) -> Result<bool, Fail> {
+    for ((whole, half), holds) in COMPARED.into_iter().zip(holds) {
+        if taken(alloc, opcodes, whole, half)? != [holds, holds, holds, holds] {
+            return Ok(false);
+        }
+    }
+    Ok(true)
+}
+
+#[test]
+fn branches(rt: HostRuntime) -> Result<(), Fail> {
+    for (row, (opcodes, holds)) in BRANCHES.into_iter().enumerate() {
+        assert!(rt; branches_where(rt.alloc(), opcodes, holds)?, "row {row}");
+    }
+    Ok(())
+}
+
+/// An immediate of a comparison is extended by its sign: 64-bit `==` and `>` with -2.
+const NEGATIVE: [(u64, [u8; 8], bool); 5] = [
+    (
+        0xffff_ffff_ffff_fffe,
+        [0x15, 1, 1, 0, 0xfe, 0xff, 0xff, 0xff],
+        true,
+    ),
+    (
+        0x0000_0000_ffff_fffe,
+        [0x15, 1, 1, 0, 0xfe, 0xff, 0xff, 0xff],
+        false,
+    ),
+    (
+        0x0000_0001_ffff_fffe,
+        [0x16, 1, 1, 0, 0xfe, 0xff, 0xff, 0xff],
+        true,
+    ),
+    (
+        0x0000_0001_0000_0000,
+        [0x25, 1, 1, 0, 0xfe, 0xff, 0xff, 0xff],
+        false,
+    ),
+    (
+        0x0000_0001_0000_0000,
+        [0x65, 1, 1, 0, 0xfe, 0xff, 0xff, 0xff],
+        true,
+    ),
+];
+
+#[test]
+fn branches_on_a_negative_immediate(rt: HostRuntime) -> Result<(), Fail> {
+    for (row, (dst, jump, taken)) in NEGATIVE.into_iter().enumerate() {
+        let is_taken = is_taken(rt.alloc(), dst, 0, jump)?;
+        assert!(rt; is_taken == taken, "row {row}");
+    }
+    Ok(())
+}
+
+/// Slots, the steps made and the status, and then `pc` and how many records are open.
+const JUMPS: [(&[u64], (u64, Status), (i64, usize)); 9] = [
+    (
+        &[0x0500_0100_0000_0000, 0xb700_0000_0500_0000, EXIT],
+        (2, Status::Exited(0)),
+        (2, 0),
+    ),
+    (
+        &[0x0600_0000_0100_0000, 0xb700_0000_0500_0000, EXIT],
+        (2, Status::Exited(0)),
+        (2, 0),
+    ),
+    (&[0x0500_ffff_0000_0000], (9, Status::Running), (0, 0)),
+    (
+        &[0x0500_0500_0000_0000],
+        (2, Status::Fault(Fault::F1)),
+        (6, 0),
+    ),
+    (
+        &[0x0500_fdff_0000_0000],
+        (2, Status::Fault(Fault::F1)),
+        (-2, 0),
+    ),
+    (
+        &[0x0600_0000_ffff_ff7f],
+        (2, Status::Fault(Fault::F1)),
+        (0x8000_0000, 0),
+    ),
+    (
+        &[0x8500_0000_1800_0000, EXIT],
+        (1, Status::Fault(Fault::F5)),
+        (0, 0),
+    ),
+    (
+        &[0x8510_0000_ffff_ffff],
+        (8, Status::Fault(Fault::F7)),
+        (0, 7),
+    ),
+    (
+        &[0x8510_0000_0000_0080],
+        (2, Status::Fault(Fault::F1)),
+        (-0x7fff_ffff, 1),
+    ),
+];
+
+/// Whether `pc` and how many records are open are these after a run of at most nine steps.
+fn leads_to(alloc: Global, slots: &[u64], place: (i64, usize)) -> Result<bool, Fail> {
+    let machine = run_machine(machine(alloc, slots, &[])?, 9)?;
+    Ok((machine.pc(), machine.records().len()) == place)
+}
+
+#[test]
+fn jumps_and_calls(rt: HostRuntime) -> Result<(), Fail> {
+    for (row, jump) in JUMPS.iter().enumerate() {
+        assert!(rt; answers(rt.alloc(), jump.0, jump.1)?, "row {row}");
+    }
+    Ok(())
+}
+
+#[test]
+fn jumps_and_calls_lead_to_slots(rt: HostRuntime) -> Result<(), Fail> {
+    for (row, jump) in JUMPS.iter().enumerate() {
+        assert!(rt; leads_to(rt.alloc(), jump.0, jump.2)?, "row {row}");
+    }
+    Ok(())
+}
+
+/// The callee has a frame 512 bytes higher and its own R6; both come back at its exit.
+const CALL: [u64; 7] = [
+    0xb706_0000_0700_0000, // r6 = 7
+    0x8510_0000_0100_0000, // call the slot after the next one
+    EXIT,
+    0xb706_0000_0900_0000, // r6 = 9
+    0x7b6a_f8ff_0000_0000, // the word at r10 - 8 becomes r6
+    0x79a0_f8ff_0000_0000, // r0 = the word at r10 - 8
+    EXIT,
+];
+
+/// `pc`, R6, R10 and how many records are open after so many steps.
+fn frame_after(alloc: Global, steps: u64) -> Result<(i64, u64, u64, usize), Fail> {
+    let machine = run_machine(machine(alloc, &CALL, &[])?, steps)?;
+    let r6 = machine.register(Register::R6);
+    let r10 = machine.register(Register::R10);
+    Ok((machine.pc(), r6, r10, machine.records().len()))
+}
+
+#[test]
+fn a_call_keeps_the_callers_registers(rt: HostRuntime) -> Result<(), Fail> {
+    let table = [
+        (2, (3, 7, 0x1_0000_0400, 1)),
+        (4, (5, 9, 0x1_0000_0400, 1)),
+        (9, (2, 7, 0x1_0000_0200, 0)),
+    ];
+    for (steps, frame) in table {
+        assert!(rt; frame_after(rt.alloc(), steps)? == frame, "after {steps}");
+    }
+    Ok(())
+}
+
+#[test]
+fn a_run_goes_on(rt: HostRuntime) -> Result<(), Fail> {
+    let machine = run_machine(machine(rt.alloc(), &CALL, &[])?, 2)?;
+    assert!(rt; run_answer(machine, 9)? == (5, Status::Exited(9)));
+    Ok(())
+}

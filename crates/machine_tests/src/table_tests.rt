@@ -1,0 +1,190 @@
+//! Reviews that were worked by hand.
+
+mod calls;
+mod lists;
+
+use serde_json::{Map, Value};
+use std::alloc::Global;
+use std::test::Fail;
+use value_store::{Shape, TableError, ValueStore};
+use value_table::Table;
+
+/// A review's object, and the rest of its request.
+const REVIEW: [&str; 5] = [
+    "{\"spec\":{\"replicas\":5}}",
+    "null",
+    "null",
+    "null",
+    "{\"uid\":\"u1\"}",
+];
+
+/// Some of the review's values, as JSON.
+const REVIEW_VALUES: [(u64, &str); 5] = [
+    (0, "error"),
+    (3, "true"),
+    (4, "{\"spec\":{\"replicas\":5}}"),
+    (5, "null"),
+    (8, "{\"uid\":\"u1\"}"),
+];
+
+const NULLS: [&str; 5] = ["null", "null", "null", "null", "null"];
+
+/// Roots that are refused, and why.
+const REFUSED: [([&str; 5], TableError); 9] = [
+    (["1", "null", "null", "null", "null"], TableError::V1(4)),
+    (["null", "null", "[]", "null", "null"], TableError::V1(6)),
+    (["null", "null", "null", "null", "\"\""], TableError::V1(8)),
+    (
+        ["null", "{\"a\":1.5}", "null", "null", "null"],
+        TableError::V2(5),
+    ),
+    (
+        ["null", "null", "null", "{\"a\":-0}", "null"],
+        TableError::V2(7),
+    ),
+    (
+        [
+            "{\"a\":9223372036854775808}",
+            "null",
+            "null",
+            "null",
+            "null",
+        ],
+        TableError::V2(4),
+    ),
+    (
+        [
+            "{\"a\":[{\"b\":-9223372036854775809}]}",
+            "null",
+            "null",
+            "null",
+            "null",
+        ],
+        TableError::V2(4),
+    ),
+    (
+        ["{\"a\":1.5}", "true", "null", "null", "null"],
+        TableError::V2(4),
+    ),
+    (
+        ["null", "true", "{\"a\":1.5}", "null", "null"],
+        TableError::V1(5),
+    ),
+];
+
+/// Texts, and what they are as JSON.
+const TEXTS: [(&str, &str); 6] = [
+    ("é", "\"é\""),
+    ("😀", "\"😀\""),
+    ("\"", "\"\\\"\""),
+    ("\\", "\"\\\\\""),
+    ("\u{1}", "\"\\u0001\""),
+    ("\n", "\"\\n\""),
+];
+
+fn documents(alloc: Global, texts: [&str; 5]) -> Result<[Value; 5], Fail> {
+    let [object, old, params, namespace, request] = texts;
+    Ok([
+        Value::from_str(alloc, object)?,
+        Value::from_str(alloc, old)?,
+        Value::from_str(alloc, params)?,
+        Value::from_str(alloc, namespace)?,
+        Value::from_str(alloc, request)?,
+    ])
+}
+
+fn table_of(alloc: Global, texts: [&str; 5]) -> Result<Table, Fail> {
+    let roots = documents(alloc, texts)?;
+    Ok(Table::of_roots(alloc, &roots)?)
+}
+
+fn refusal_of(alloc: Global, texts: [&str; 5]) -> Result<Option<TableError>, Fail> {
+    let roots = documents(alloc, texts)?;
+    Ok(Table::of_roots(alloc, &roots).err())
+}
+
+fn json_of(table: &Table, h: u64) -> Result<String, Fail> {
+    if h < table.len() {
+        return Ok(table.json(h)?);
+    }
+    Err("no such reference")?
+}
+
+#[test]
+fn a_review(rt: HostRuntime) -> Result<(), Fail> {
+    let table = table_of(rt.alloc(), REVIEW)?;
+    assert!(rt; table.charge() == 28 && table.len() == 9);
+    for (h, json) in REVIEW_VALUES {
+        let text = json_of(&table, h)?;
+        assert!(rt; text.as_str() == json, "value {h}");
+    }
+    Ok(())
+}
+
+#[test]
+fn five_nulls(rt: HostRuntime) -> Result<(), Fail> {
+    let table = table_of(rt.alloc(), NULLS)?;
+    assert_eq!(rt; table.charge(), 5);
+    assert_eq!(rt; table.at(8), Some(Shape::Null));
+    assert_eq!(rt; table.at(9), None);
+    Ok(())
+}
+
+/// The first roots that are not refused so.
+fn first_taken(alloc: Global, rows: &[([&str; 5], TableError)]) -> Result<Option<usize>, Fail> {
+    for (row, (texts, cause)) in rows.iter().enumerate() {
+        if refusal_of(alloc, *texts)?.as_ref() != Some(cause) {
+            return Ok(Some(row));
+        }
+    }
+    Ok(None)
+}
+
+#[test]
+fn refused_roots(rt: HostRuntime) -> Result<(), Fail> {
+    assert_eq!(rt; first_taken(rt.alloc(), &REFUSED)?, None);
+    Ok(())
+}
+
+/// An object whose text has 16,777,216 bytes.
+#[test]
+fn a_root_too_large(rt: HostRuntime) -> Result<(), Fail> {
+    let mut large = Map::new(rt.alloc());
+    let mut text = String::from_str(rt.alloc(), "a")?;
+    for _ in 0..24 {
+        let half = text.clone()?;
+        text.push_str(half.as_str())?;
+    }
+    large.insert(String::from_str(rt.alloc(), "a")?, Value::String(text))?;
+    let roots = [
+        Value::Object(large),
+        Value::Null,
+        Value::Null,
+        Value::Null,
+        Value::Null,
+    ];
+    assert_eq!(rt;
+        Table::of_roots(rt.alloc(), &roots).err(),
+        Some(TableError::V3)
+    );
+    Ok(())
+}
+
+/// The first text that is kept, or written, as something else.
+fn first_written_wrong(table: &mut Table, rows: &[(&str, &str)]) -> Result<Option<usize>, Fail> {
+    for (row, (text, json)) in rows.iter().enumerate() {
+        let h = table.place_text(text)?;
+        let written = json_of(table, h)?;
+        if table.text(h) != Some(*text) || written.as_str() != *json {
+            return Ok(Some(row));
+        }
+    }
+    Ok(None)
+}
+
+#[test]
+fn texts_as_json(rt: HostRuntime) -> Result<(), Fail> {
+    let mut table = table_of(rt.alloc(), NULLS)?;
+    assert_eq!(rt; first_written_wrong(&mut table, &TEXTS)?, None);
+    Ok(())
+}

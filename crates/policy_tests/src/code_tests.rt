@@ -1,0 +1,74 @@
+//! Code put together by hand.
+
+ghost use Rattle.std.specs.Prelude.{◌≡◌};
+ghost use Rattle.insn_codec.specs.Spelling.{slot_count};
+
+use codegen::{CodeError, Emitter};
+use insn_codec::{AluOp, Insn, Operand, Register, Width};
+use std::alloc::Global;
+use std::test::Fail;
+
+mod meanings;
+mod programs;
+mod running;
+
+/// `mov64 r0, n`.
+fn move_to_r0(n: i32) -> Insn
+    ensures { slot_count result ≡ 1 }
+{
+    Insn::Alu {
+        op: AluOp::Mov,
+        width: Width::W64,
+        dst: Register::R0,
+        operand: Operand::Imm(n),
+    }
+}
+
+/// The answer of `finish` after so many nodes.
+fn after_nodes(alloc: Global, n: u64) -> Option<CodeError> {
+    let mut emitter = Emitter::new(alloc);
+    emitter.count(n);
+    emitter.finish().err()
+}
+
+#[test]
+fn slots_are_counted(rt: HostRuntime) -> Result<(), Fail> {
+    let mut emitter = Emitter::new(rt.alloc());
+    let wide = Insn::LoadWide {
+        dst: Register::R1,
+        value: 0x1122_3344_5566_7788,
+    };
+    assert_eq!(rt; emitter.put(&Insn::Jump { offset: 0 })?, 0);
+    emitter.patch(0, &move_to_r0(5));
+    assert_eq!(rt; emitter.put(&wide)?, 1);
+    assert_eq!(rt; emitter.put(&move_to_r0(7))?, 3);
+    let (code, constants) = emitter.finish()?;
+    let expected: [u8; 40] = [
+        0xb7, 0, 0, 0, 5, 0, 0, 0, 0x18, 1, 0, 0, 0x88, 0x77, 0x66, 0x55, 0, 0, 0, 0, 0x44, 0x33,
+        0x22, 0x11, 0xb7, 0, 0, 0, 7, 0, 0, 0, 0x95, 0, 0, 0, 0, 0, 0, 0,
+    ];
+    assert_eq!(rt; code.as_slice(), expected.as_slice());
+    assert!(rt; constants.is_empty());
+    Ok(())
+}
+
+#[test]
+fn nodes_are_bounded(rt: HostRuntime) {
+    let rows = [
+        (0, None),
+        (512, None),
+        (513, Some(CodeError::G3)),
+        (u64::MAX, Some(CodeError::G3)),
+    ];
+    for (nodes, refusal) in rows {
+        assert_eq!(rt; after_nodes(rt.alloc(), nodes), refusal);
+    }
+}
+
+#[test]
+fn nodes_do_not_wrap_around(rt: HostRuntime) {
+    let mut emitter = Emitter::new(rt.alloc());
+    emitter.count(u64::MAX);
+    emitter.count(2);
+    assert_eq!(rt; emitter.finish().err(), Some(CodeError::G3));
+}

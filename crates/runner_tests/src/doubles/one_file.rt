@@ -1,0 +1,29 @@
+//! A file of known bytes.
+
+use review_runner::{FileError, Files};
+use std::alloc::Global;
+
+/// One file, named `a.img`, that cannot be written.
+#[derive(Drop)]
+pub struct OneFile<'a> {
+    pub bytes: &'a [u8],
+}
+
+impl Files for OneFile<'_> {
+    ghost use Rattle.std.specs.Prelude.{Some, None, codes, false, if◌then◌else◌};
+    ghost use Rattle.std.specs.Str.{bytes_eq};
+
+    ghost known = { λ f. Some (record { holds = λ name. (if bytes_eq name (codes "a.img") then Some f.bytes.now else None); takes = λ _. false }) };
+
+    fn read(&mut self, alloc: Global, name: &str) -> Result<Vec<u8>, FileError> {
+        if name == "a.img" {
+            Ok(Vec::from_slice(alloc, self.bytes)?)
+        } else {
+            Err(FileError::Failed)
+        }
+    }
+
+    fn write(&mut self, _name: &str, _bytes: &[u8]) -> Result<(), FileError> {
+        Err(FileError::Failed)
+    }
+}

@@ -1,0 +1,146 @@
+//! Images run by their bytes.
+
+use bpf_machine::Status;
+use loader::LoadError;
+use review_runner::run_image;
+use std::alloc::{AllocError, Global};
+use std::test::Fail;
+
+/// The file of an image with this code and these constants.
+fn file(alloc: Global, code: &[u8], constants: &[u8]) -> Result<Vec<u8>, AllocError> {
+    let mut file = Vec::from_slice(alloc, b"CELBPF01")?;
+    file.push((code.len() / 8 % 256) as u8)?;
+    file.extend_from_slice(&[0; 3])?;
+    file.push((constants.len() % 256) as u8)?;
+    file.extend_from_slice(&[0; 3])?;
+    file.extend_from_slice(code)?;
+    file.extend_from_slice(constants)?;
+    Ok(file)
+}
+
+/// Code with constants, and the last line that its run prints.
+const CALLS: [(&[u8], &[u8], &[u8]); 6] = [
+    // The kind of the truth at reference 3, of none at 9, and no helper.
+    (
+        b"\xb7\x01\0\0\x03\0\0\0\x85\0\0\0\x01\0\0\0\x95\0\0\0\0\0\0\0",
+        b"",
+        b"\nstep 3 pc 2 exited 0x0000000000000002\n",
+    ),
+    (
+        b"\xb7\x01\0\0\x09\0\0\0\x85\0\0\0\x01\0\0\0\x95\0\0\0\0\0\0\0",
+        b"",
+        b"\nstep 2 pc 1 fault F6\n",
+    ),
+    (
+        b"\xb7\x01\0\0\x03\0\0\0\x85\0\0\0\x18\0\0\0\x95\0\0\0\0\0\0\0",
+        b"",
+        b"\nstep 2 pc 1 fault F5\n",
+    ),
+    // The size of a text of one character.
+    (
+        b"\x18\x01\0\0\0\0\0\0\0\0\0\0\x04\0\0\0\xb7\x02\0\0\x02\0\0\0\x85\0\0\0\x04\0\0\0\xbf\x01\0\0\0\0\0\0\x85\0\0\0\x08\0\0\0\xbf\x01\0\0\0\0\0\0\x85\0\0\0\x02\0\0\0\x95\0\0\0\0\0\0\0",
+        b"\xc3\xa9",
+        b"\nstep 8 pc 8 exited 0x0000000000000001\n",
+    ),
+    // A list in a list, over and over: that of depth 255 is made, that of 256 is not.
+    (
+        b"\x85\0\0\0\x10\0\0\0\xbf\x06\0\0\0\0\0\0\x85\0\0\0\x10\0\0\0\xbf\x01\0\0\0\0\0\0\xbf\x62\0\0\0\0\0\0\x85\0\0\0\x11\0\0\0\xbf\x06\0\0\0\0\0\0\x05\0\xfa\xff\0\0\0\0",
+        b"",
+        b"\nstep 1530 pc 5 fault F8\n",
+    ),
+    // A text that is doubled until it is charged too much.
+    (
+        b"\x18\x01\0\0\0\0\0\0\0\0\0\0\x04\0\0\0\xb7\x02\0\0\x01\0\0\0\x85\0\0\0\x04\0\0\0\xbf\x01\0\0\0\0\0\0\xbf\x02\0\0\0\0\0\0\x85\0\0\0\x0b\0\0\0\x05\0\xfc\xff\0\0\0\0",
+        b"a",
+        b"\nstep 94 pc 6 fault F8\n",
+    ),
+];
+
+/// Code without constants, and the last line that its run prints.
+const RUNS: [(&[u8], &[u8]); 9] = [
+    // The wide load lacks its second slot.
+    (b"\x18\0\0\0\0\0\0\0", b"\nstep 1 pc 0 fault F2\n"),
+    // The jump goes to the second slot of a wide load.
+    (
+        b"\x05\0\x01\0\0\0\0\0\x18\0\0\0\x05\0\0\0\0\0\0\0\0\0\0\0\x95\0\0\0\0\0\0\0",
+        b"\nstep 2 pc 2 fault F2\n",
+    ),
+    // The load is from the last address.
+    (
+        b"\xb7\x01\0\0\xff\xff\xff\xff\x79\x10\0\0\0\0\0\0",
+        b"\nstep 2 pc 1 fault F3\n",
+    ),
+    // The function calls itself.
+    (b"\x85\x10\0\0\xff\xff\xff\xff", b"\nstep 8 pc 0 fault F7\n"),
+    // 0x80 as a signed byte, to 64 and to 32 bits.
+    (
+        b"\xb7\x01\0\0\x80\0\0\0\xbf\x10\x08\0\0\0\0\0\x95\0\0\0\0\0\0\0",
+        b"\nstep 3 pc 2 exited 0xffffffffffffff80\n",
+    ),
+    (
+        b"\xb7\x01\0\0\x80\0\0\0\xbc\x10\x08\0\0\0\0\0\x95\0\0\0\0\0\0\0",
+        b"\nstep 3 pc 2 exited 0x00000000ffffff80\n",
+    ),
+    // 0x1234 as two bytes in the other order, and as four.
+    (
+        b"\xb7\0\0\0\x34\x12\0\0\xdc\0\0\0\x10\0\0\0\x95\0\0\0\0\0\0\0",
+        b"\nstep 3 pc 2 exited 0x0000000000003412\n",
+    ),
+    (
+        b"\xb7\0\0\0\x34\x12\0\0\xd7\0\0\0\x20\0\0\0\x95\0\0\0\0\0\0\0",
+        b"\nstep 3 pc 2 exited 0x0000000034120000\n",
+    ),
+    // A move of 32 bits clears the others.
+    (
+        b"\xb4\0\0\0\xff\xff\xff\xff\x95\0\0\0\0\0\0\0",
+        b"\nstep 2 pc 1 exited 0x00000000ffffffff\n",
+    ),
+];
+
+/// Whether the run of this code with these constants prints this line last.
+fn ends_with(alloc: Global, code: &[u8], constants: &[u8], line: &[u8]) -> Result<bool, LoadError> {
+    let (text, _) = run_image(alloc, &file(alloc, code, constants)?, 2000)?;
+    Ok(text.ends_with(line))
+}
+
+#[test]
+fn calls_helpers(rt: HostRuntime) -> Result<(), Fail> {
+    for (row, (code, constants, line)) in CALLS.into_iter().enumerate() {
+        assert!(rt; ends_with(rt.alloc(), code, constants, line)?, "row {row}");
+    }
+    Ok(())
+}
+
+#[test]
+fn runs_to_the_last_line(rt: HostRuntime) -> Result<(), Fail> {
+    for (row, (code, line)) in RUNS.into_iter().enumerate() {
+        assert!(rt; ends_with(rt.alloc(), code, b"", line)?, "row {row}");
+    }
+    Ok(())
+}
+
+/// `r0 = 5`, `r0 += 2` and `exit`.
+const SEVEN: &[u8] = b"\xb7\0\0\0\x05\0\0\0\x07\0\0\0\x02\0\0\0\x95\0\0\0\0\0\0\0";
+
+/// What is printed of it.
+const PRINTED: &[u8] = b"r0 0x0000000000000007
+r1 0x0000000000000000
+r2 0x0000000000000000
+r3 0x0000000000000000
+r4 0x0000000000000000
+r5 0x0000000000000000
+r6 0x0000000000000000
+r7 0x0000000000000000
+r8 0x0000000000000000
+r9 0x0000000000000000
+r10 0x0000000100000200
+step 3 pc 2 exited 0x0000000000000007
+";
+
+#[test]
+fn prints_registers(rt: HostRuntime) -> Result<(), Fail> {
+    let (text, status) = run_image(rt.alloc(), &file(rt.alloc(), SEVEN, b"")?, 10_000_000)?;
+    assert!(rt; text.as_slice() == PRINTED);
+    assert!(rt; status == Status::Exited(7));
+    Ok(())
+}
