@@ -2,7 +2,7 @@ use Rattle.std.proofs.Common.{◌≡◌, ◌∷◌, [], ◌++◌, pos, ap, sym, 
 use Rattle.std.specs.Prelude.{slice_get}
 use Rattle.insn_codec.specs.declared.insn.Insn.TheVariants.{Jump}
 use Rattle.codegen_base.specs.Pieces.{slots}
-use Rattle.codegen.proofs.tests.slots_are_counted.Goals as goal
+use Rattle.policy_tests.proofs.code_tests.slots_are_counted.Goals as goal
 
 pub patch-requires : goal.patch-requires
 patch-requires g c =
