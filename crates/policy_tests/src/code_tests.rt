@@ -1,11 +1,12 @@
 //! Code put together by hand.
 
 ghost use Rattle.std.specs.Prelude.{◌≡◌};
+ghost use Rattle.codegen.specs.Emitted.{no_code};
 ghost use Rattle.insn_codec.specs.Spelling.{slot_count};
 
 use codegen::{CodeError, Emitter};
 use insn_codec::{AluOp, Insn, Operand, Register, Width};
-use std::alloc::Global;
+use std::alloc::{AllocError, Global};
 use std::test::Fail;
 
 mod meanings;
@@ -31,37 +32,59 @@ fn after_nodes(alloc: Global, n: u64) -> Option<CodeError> {
     emitter.finish().err()
 }
 
-#[test]
-fn slots_are_counted(rt: HostRuntime) -> Result<(), Fail> {
-    let mut emitter = Emitter::new(rt.alloc());
+/// The slot of the first instruction, in whose place another is put.
+fn put_first(emitter: &mut Emitter) -> Result<u64, AllocError>
+    requires { emitter.old ≡ no_code }
+{
+    let slot = emitter.put(&Insn::Jump { offset: 0 })?;
+    emitter.patch(0, &move_to_r0(5));
+    Ok(slot)
+}
+
+/// The slots of a wide instruction and of one behind it.
+fn put_behind(emitter: &mut Emitter) -> Result<(u64, u64), AllocError> {
     let wide = Insn::LoadWide {
         dst: Register::R1,
         value: 0x1122_3344_5566_7788,
     };
-    assert_eq!(rt; emitter.put(&Insn::Jump { offset: 0 })?, 0);
-    emitter.patch(0, &move_to_r0(5));
-    assert_eq!(rt; emitter.put(&wide)?, 1);
-    assert_eq!(rt; emitter.put(&move_to_r0(7))?, 3);
-    let (code, constants) = emitter.finish()?;
-    let expected: [u8; 40] = [
-        0xb7, 0, 0, 0, 5, 0, 0, 0, 0x18, 1, 0, 0, 0x88, 0x77, 0x66, 0x55, 0, 0, 0, 0, 0x44, 0x33,
-        0x22, 0x11, 0xb7, 0, 0, 0, 7, 0, 0, 0, 0x95, 0, 0, 0, 0, 0, 0, 0,
-    ];
-    assert_eq!(rt; code.as_slice(), expected.as_slice());
-    assert!(rt; constants.is_empty());
-    Ok(())
+    Ok((emitter.put(&wide)?, emitter.put(&move_to_r0(7))?))
+}
+
+/// The code of the three instructions and of the one at the end.
+const THREE: [u8; 40] = [
+    0xb7, 0, 0, 0, 5, 0, 0, 0, 0x18, 1, 0, 0, 0x88, 0x77, 0x66, 0x55, 0, 0, 0, 0, 0x44, 0x33, 0x22,
+    0x11, 0xb7, 0, 0, 0, 7, 0, 0, 0, 0x95, 0, 0, 0, 0, 0, 0, 0,
+];
+
+/// Whether what the emitter took is this code, without constants.
+fn is_code(emitter: Emitter, expected: &[u8]) -> bool {
+    match emitter.finish() {
+        Ok((code, constants)) => code.as_slice() == expected && constants.is_empty(),
+        Err(_) => false,
+    }
 }
 
 #[test]
+fn slots_are_counted(rt: HostRuntime) -> Result<(), Fail> {
+    let mut emitter = Emitter::new(rt.alloc());
+    assert_eq!(rt; put_first(&mut emitter)?, 0);
+    assert_eq!(rt; put_behind(&mut emitter)?, (1, 3));
+    assert!(rt; is_code(emitter, &THREE));
+    Ok(())
+}
+
+/// Numbers of nodes, and the answers of `finish` after them.
+const NODES: [(u64, Option<CodeError>); 4] = [
+    (0, None),
+    (512, None),
+    (513, Some(CodeError::G3)),
+    (u64::MAX, Some(CodeError::G3)),
+];
+
+#[test]
 fn nodes_are_bounded(rt: HostRuntime) {
-    let rows = [
-        (0, None),
-        (512, None),
-        (513, Some(CodeError::G3)),
-        (u64::MAX, Some(CodeError::G3)),
-    ];
-    for (nodes, refusal) in rows {
-        assert_eq!(rt; after_nodes(rt.alloc(), nodes), refusal);
+    for (nodes, refusal) in &NODES {
+        assert_eq!(rt; after_nodes(rt.alloc(), *nodes), *refusal);
     }
 }
 

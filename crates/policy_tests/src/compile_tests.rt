@@ -1,8 +1,9 @@
 //! Policies that are compiled, and why others are not.
 
-use crate::policy_texts::policy_text;
+use crate::policy_texts::{joined, policy_text};
 use policy_glue::{Policy, compile};
 use std::alloc::{AllocError, Global};
+use std::process::Abort;
 use std::test::Fail;
 
 /// What becomes of the policy with this specification: `compiled`, or why it is refused.
@@ -13,6 +14,13 @@ fn outcome(alloc: Global, spec: &str) -> Result<String, Fail> {
         Ok(_) => Ok(String::from_str(alloc, "compiled")?),
         Err(error) => Ok(format!(in alloc; "{error}")?),
     }
+}
+
+/// Asserts what becomes of the policy with this specification.
+fn assert_outcome(rt: &impl Abort, alloc: Global, spec: &str, want: &str) -> Result<(), Fail> {
+    let found = outcome(alloc, spec)?;
+    assert_eq!(rt; found.as_str(), want, "{spec}");
+    Ok(())
 }
 
 /// The expression of a policy's only validation, and what becomes of the policy.
@@ -30,19 +38,21 @@ const EXPRESSIONS: [(&str, &str); 11] = [
     ("1 + 1", "K7"),
 ];
 
-#[test]
-fn expressions(rt: HostRuntime) -> Result<(), Fail> {
-    for (expression, want) in EXPRESSIONS {
-        let spec = one_validation(rt.alloc(), expression)?;
-        let found = outcome(rt.alloc(), spec.as_str())?;
-        assert_eq!(rt; found.as_str(), want, "{expression}");
-    }
-    Ok(())
+/// Asserts what becomes of the policy with this validation.
+fn assert_validation(rt: &impl Abort, alloc: Global, text: &str, want: &str) -> Result<(), Fail> {
+    let spec = joined(
+        alloc,
+        &["{\"validations\":[{\"expression\":\"", text, "\"}]}"],
+    )?;
+    assert_outcome(rt, alloc, spec.as_str(), want)
 }
 
-/// A specification with this validation.
-fn one_validation(alloc: Global, expression: &str) -> Result<String, AllocError> {
-    format!(in alloc; "{{\"validations\":[{{\"expression\":\"{expression}\"}}]}}")
+#[test]
+fn expressions(rt: HostRuntime) -> Result<(), Fail> {
+    for (expression, want) in &EXPRESSIONS {
+        assert_validation(&rt, rt.alloc(), expression, want)?;
+    }
+    Ok(())
 }
 
 /// A specification, and what becomes of its policy.
@@ -92,9 +102,8 @@ const SPECS: [(&str, &str); 10] = [
 
 #[test]
 fn specifications(rt: HostRuntime) -> Result<(), Fail> {
-    for (spec, want) in SPECS {
-        let found = outcome(rt.alloc(), spec)?;
-        assert_eq!(rt; found.as_str(), want, "{spec}");
+    for (spec, want) in &SPECS {
+        assert_outcome(&rt, rt.alloc(), spec, want)?;
     }
     Ok(())
 }
@@ -119,12 +128,10 @@ fn chain(alloc: Global, n: u64) -> Result<String, AllocError> {
 
 #[test]
 fn variables_of_variables(rt: HostRuntime) -> Result<(), Fail> {
-    for (n, want) in [(6, "compiled"), (7, "K6 variable 6 G2")] {
-        let spec = chain(rt.alloc(), n)?;
-        let found = outcome(rt.alloc(), spec.as_str())?;
-        assert_eq!(rt; found.as_str(), want, "{n}");
-    }
-    Ok(())
+    let shallow = chain(rt.alloc(), 6)?;
+    assert_outcome(&rt, rt.alloc(), shallow.as_str(), "compiled")?;
+    let deep = chain(rt.alloc(), 7)?;
+    assert_outcome(&rt, rt.alloc(), deep.as_str(), "K6 variable 6 G2")
 }
 
 /// An expression in brackets or behind operators, which are repeated on both sides of what stands
@@ -139,15 +146,26 @@ const REPEATED: [(&str, usize, &str, &str, &str, &str); 7] = [
     ("!", 4096, "true", "", "", "K6 validation 0 P6 at 4096"),
 ];
 
+/// A text in brackets or behind operators, which are repeated on both sides of it.
+fn around(
+    alloc: Global,
+    before: &str,
+    n: usize,
+    middle: &str,
+    behind: &str,
+) -> Result<String, AllocError> {
+    let mut text = before.repeat(alloc, n)?;
+    text.push_str(middle)?;
+    text.push_str(behind.repeat(alloc, n)?.as_str())?;
+    Ok(text)
+}
+
 #[test]
 fn limits_of_expressions(rt: HostRuntime) -> Result<(), Fail> {
-    for (before, n, middle, behind, end, want) in REPEATED {
-        let first = before.repeat(rt.alloc(), n)?;
-        let last = behind.repeat(rt.alloc(), n)?;
-        let expression = format!(in rt.alloc(); "{first}{middle}{last}{end}")?;
-        let spec = one_validation(rt.alloc(), expression.as_str())?;
-        let found = outcome(rt.alloc(), spec.as_str())?;
-        assert_eq!(rt; found.as_str(), want, "{before} {n}");
+    for (before, n, middle, behind, end, want) in &REPEATED {
+        let mut expression = around(rt.alloc(), before, *n, middle, behind)?;
+        expression.push_str(end)?;
+        assert_validation(&rt, rt.alloc(), expression.as_str(), want)?;
     }
     Ok(())
 }
@@ -166,10 +184,8 @@ fn with_texts(alloc: Global, n: u64) -> Result<String, AllocError> {
 
 #[test]
 fn texts_of_policies(rt: HostRuntime) -> Result<(), Fail> {
-    for (n, want) in [(16, "compiled"), (17, "G4")] {
-        let spec = with_texts(rt.alloc(), n)?;
-        let found = outcome(rt.alloc(), spec.as_str())?;
-        assert_eq!(rt; found.as_str(), want, "{n}");
-    }
-    Ok(())
+    let most = with_texts(rt.alloc(), 16)?;
+    assert_outcome(&rt, rt.alloc(), most.as_str(), "compiled")?;
+    let more = with_texts(rt.alloc(), 17)?;
+    assert_outcome(&rt, rt.alloc(), more.as_str(), "G4")
 }

@@ -1,14 +1,26 @@
 //! Policies that are read, and why others are not.
 
-use crate::policy_texts::policy_text;
+use crate::policy_texts::{joined, policy_text};
 use policy_glue::{Policy, PolicyError};
 use std::alloc::{AllocError, Global};
+use std::process::Abort;
 use std::test::Fail;
 
-/// The refusal of the policy with this specification, if it is refused.
-fn refusal(alloc: Global, spec: &str) -> Result<Option<PolicyError>, AllocError> {
+/// The refusal of the document, if it is refused.
+fn refusal(alloc: Global, text: &str) -> Option<PolicyError> {
+    Policy::read(alloc, text.as_bytes()).err()
+}
+
+/// Asserts the refusal of the policy with this specification.
+fn assert_refusal(
+    rt: &impl Abort,
+    alloc: Global,
+    spec: &str,
+    want: Option<PolicyError>,
+) -> Result<(), AllocError> {
     let text = policy_text(alloc, spec)?;
-    Ok(Policy::read(alloc, text.as_bytes()).err())
+    assert_eq!(rt; refusal(alloc, text.as_str()), want, "{spec}");
+    Ok(())
 }
 
 const K3: Option<PolicyError> = Some(PolicyError::K3);
@@ -74,14 +86,24 @@ const ENDS: [(&str, Option<PolicyError>); 23] = [
     ),
 ];
 
+/// Asserts the refusal of the policy whose validations end so behind the first expression.
+fn assert_end(
+    rt: &impl Abort,
+    alloc: Global,
+    end: &str,
+    want: Option<PolicyError>,
+) -> Result<(), AllocError> {
+    let spec = joined(alloc, &["{\"validations\":[{\"expression\":\"a\"", end])?;
+    assert_refusal(rt, alloc, spec.as_str(), want)
+}
+
 #[test]
 fn specifications(rt: HostRuntime) -> Result<(), Fail> {
-    for (spec, want) in SPECS {
-        assert_eq!(rt; refusal(rt.alloc(), spec)?, want, "{spec}");
+    for (spec, want) in &SPECS {
+        assert_refusal(&rt, rt.alloc(), spec, *want)?;
     }
-    for (end, want) in ENDS {
-        let spec = format!(in rt.alloc(); "{{\"validations\":[{{\"expression\":\"a\"{end}")?;
-        assert_eq!(rt; refusal(rt.alloc(), spec.as_str())?, want, "{end}");
+    for (end, want) in &ENDS {
+        assert_end(&rt, rt.alloc(), end, *want)?;
     }
     Ok(())
 }
@@ -103,38 +125,46 @@ const DOCUMENTS: [(&str, PolicyError); 6] = [
 ];
 
 #[test]
-fn documents(rt: HostRuntime) -> Result<(), Fail> {
-    for (text, want) in DOCUMENTS {
-        assert_eq!(rt;
-            Policy::read(rt.alloc(), text.as_bytes()).err(),
-            Some(want),
-            "{text}"
-        );
+fn documents(rt: HostRuntime) {
+    for (text, want) in &DOCUMENTS {
+        assert_eq!(rt; refusal(rt.alloc(), text), Some(*want), "{text}");
+    }
+}
+
+/// A specification with so many validations behind the first.
+fn with_more(alloc: Global, n: usize) -> Result<String, AllocError> {
+    let mut spec = String::from_str(alloc, "{\"validations\":[{\"expression\":\"a\"}")?;
+    spec.push_str(",{\"expression\":\"a\"}".repeat(alloc, n)?.as_str())?;
+    spec.push_str("]}")?;
+    Ok(spec)
+}
+
+/// Numbers of validations behind the first, and the refusals.
+const COUNTS: [(usize, Option<PolicyError>); 3] = [
+    (0, None),
+    (63, None),
+    (64, Some(PolicyError::K5)),
+];
+
+#[test]
+fn counts(rt: HostRuntime) -> Result<(), Fail> {
+    for (n, want) in &COUNTS {
+        let spec = with_more(rt.alloc(), *n)?;
+        assert_refusal(&rt, rt.alloc(), spec.as_str(), *want)?;
     }
     Ok(())
 }
 
-#[test]
-fn counts(rt: HostRuntime) -> Result<(), Fail> {
-    for (n, want) in [(0, None), (63, None), (64, Some(PolicyError::K5))] {
-        let more = ",{\"expression\":\"a\"}".repeat(rt.alloc(), n)?;
-        let spec = format!(in rt.alloc(); "{{\"validations\":[{{\"expression\":\"a\"}}{more}]}}")?;
-        assert_eq!(rt; refusal(rt.alloc(), spec.as_str())?, want, "{n} more");
-    }
-    Ok(())
+/// The refusal of so many lists in one another, if they are refused.
+fn refusal_of_nested(alloc: Global, n: usize) -> Result<Option<PolicyError>, AllocError> {
+    let mut text = "[".repeat(alloc, n)?;
+    text.push_str("]".repeat(alloc, n)?.as_str())?;
+    Ok(refusal(alloc, text.as_str()))
 }
 
 #[test]
 fn nested_documents(rt: HostRuntime) -> Result<(), Fail> {
-    for (n, want) in [(127, PolicyError::K2), (200, PolicyError::K1)] {
-        let opened = "[".repeat(rt.alloc(), n)?;
-        let closed = "]".repeat(rt.alloc(), n)?;
-        let text = format!(in rt.alloc(); "{opened}{closed}")?;
-        assert_eq!(rt;
-            Policy::read(rt.alloc(), text.as_bytes()).err(),
-            Some(want),
-            "{n}"
-        );
-    }
+    assert_eq!(rt; refusal_of_nested(rt.alloc(), 127)?, Some(PolicyError::K2));
+    assert_eq!(rt; refusal_of_nested(rt.alloc(), 200)?, Some(PolicyError::K1));
     Ok(())
 }

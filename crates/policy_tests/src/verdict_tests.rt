@@ -1,10 +1,10 @@
 //! Verdicts that stand in memory, and the responses to them.
 
-use crate::policy_texts::policy_text;
+use crate::policy_texts::{joined, policy_text};
 use guest_memory::{Guest, Regions, Size};
 use policy_glue::{Policy, Verdict, respond};
 use serde_json::Value;
-use std::alloc::Global;
+use std::alloc::{AllocError, Global};
 use std::test::Fail;
 use value_store::{PlainTable, TableError, ValueStore};
 
@@ -47,6 +47,24 @@ fn memory(
     Ok(memory)
 }
 
+/// The place of the text in the values, and 0 of none.
+fn place(values: &mut PlainTable, text: Option<&str>) -> Result<u64, Fail> {
+    match text {
+        Some(text) => Ok(values.place_text(text)?),
+        None => Ok(0),
+    }
+}
+
+/// The verdict that stands in the memory.
+fn verdict_of<'v>(memory: &Guest, values: &'v PlainTable, policy: &Policy) -> Verdict<'v> {
+    Verdict::of(memory, values, policy)
+}
+
+/// The response to the verdict.
+fn response_of(alloc: Global, policy: &Policy, verdict: &Verdict) -> Result<Vec<u8>, AllocError> {
+    respond(alloc, policy, verdict, "u1")
+}
+
 /// The response to a verdict that stands in memory, where the first message has a text.
 fn response(
     alloc: Global,
@@ -57,14 +75,11 @@ fn response(
     message: Option<&str>,
 ) -> Result<Vec<u8>, Fail> {
     let mut values = null_values(alloc)?;
-    let place = match message {
-        Some(text) => values.place_text(text)?,
-        None => 0,
-    };
+    let place = place(&mut values, message)?;
     let memory = memory(alloc, outcome, denials, results, place)?;
     let policy = policy(alloc, spec)?;
-    let verdict = Verdict::of(&memory, &values, &policy);
-    Ok(respond(alloc, &policy, &verdict, "u1")?)
+    let verdict = verdict_of(&memory, &values, &policy);
+    Ok(response_of(alloc, &policy, &verdict)?)
 }
 
 /// A policy with one validation.
@@ -84,72 +99,154 @@ const PLAIN: &str =
     "{\"allowed\":false,\"status\":{\"code\":422,\"message\":\"failed expression: object.spec.replicas <= 3\",\"reason\":\"Invalid\"},\"uid\":\"u1\"}";
 
 /// A policy, the words of a verdict, the text of the first message, and the response.
-const RESPONSES: [(&str, u64, u64, &[u64], Option<&str>, &str); 10] = [
-    (REPLICAS, 1, 0, &[0], None, ALLOWED),
-    (
-        REPLICAS,
-        2,
-        0,
-        &[0],
-        None,
-        "{\"allowed\":false,\"status\":{\"code\":422,\"message\":\"match conditions not decided\",\"reason\":\"Invalid\"},\"uid\":\"u1\"}",
-    ),
-    (REPLICAS, 3, 1, &[1], None, PLAIN),
-    (REPLICAS, 4, 0, &[0], None, ALLOWED),
-    (
-        REPLICAS,
-        3,
-        1,
-        &[1],
-        Some("replicas 5 above 3"),
-        "{\"allowed\":false,\"status\":{\"code\":422,\"message\":\"replicas 5 above 3\",\"reason\":\"Invalid\"},\"uid\":\"u1\"}",
-    ),
-    (REPLICAS, 3, 1, &[1], Some("  "), PLAIN),
-    (REPLICAS, 3, 1, &[1], Some("a\nb"), PLAIN),
-    (REPLICAS, 3, 1, &[1], Some(""), PLAIN),
-    (
-        TWO,
-        3,
-        2,
-        &[1, 2],
-        None,
-        "{\"allowed\":false,\"status\":{\"code\":403,\"message\":\"a; failed expression: 1/0 == 1\",\"reason\":\"Forbidden\"},\"uid\":\"u1\"}",
-    ),
-    (
-        TWO_IGNORED,
-        3,
-        1,
-        &[1, 2],
-        None,
-        "{\"allowed\":false,\"status\":{\"code\":403,\"message\":\"a\",\"reason\":\"Forbidden\"},\"uid\":\"u1\"}",
-    ),
+struct Row {
+    spec: &'static str,
+    outcome: u64,
+    denials: u64,
+    results: &'static [u64],
+    message: Option<&'static str>,
+    response: &'static str,
+}
+
+const RESPONSES: [Row; 10] = [
+    Row {
+        spec: REPLICAS,
+        outcome: 1,
+        denials: 0,
+        results: &[0],
+        message: None,
+        response: ALLOWED,
+    },
+    Row {
+        spec: REPLICAS,
+        outcome: 2,
+        denials: 0,
+        results: &[0],
+        message: None,
+        response: "{\"allowed\":false,\"status\":{\"code\":422,\"message\":\"match conditions not decided\",\"reason\":\"Invalid\"},\"uid\":\"u1\"}",
+    },
+    Row {
+        spec: REPLICAS,
+        outcome: 3,
+        denials: 1,
+        results: &[1],
+        message: None,
+        response: PLAIN,
+    },
+    Row {
+        spec: REPLICAS,
+        outcome: 4,
+        denials: 0,
+        results: &[0],
+        message: None,
+        response: ALLOWED,
+    },
+    Row {
+        spec: REPLICAS,
+        outcome: 3,
+        denials: 1,
+        results: &[1],
+        message: Some("replicas 5 above 3"),
+        response: "{\"allowed\":false,\"status\":{\"code\":422,\"message\":\"replicas 5 above 3\",\"reason\":\"Invalid\"},\"uid\":\"u1\"}",
+    },
+    Row {
+        spec: REPLICAS,
+        outcome: 3,
+        denials: 1,
+        results: &[1],
+        message: Some("  "),
+        response: PLAIN,
+    },
+    Row {
+        spec: REPLICAS,
+        outcome: 3,
+        denials: 1,
+        results: &[1],
+        message: Some("a\nb"),
+        response: PLAIN,
+    },
+    Row {
+        spec: REPLICAS,
+        outcome: 3,
+        denials: 1,
+        results: &[1],
+        message: Some(""),
+        response: PLAIN,
+    },
+    Row {
+        spec: TWO,
+        outcome: 3,
+        denials: 2,
+        results: &[1, 2],
+        message: None,
+        response: "{\"allowed\":false,\"status\":{\"code\":403,\"message\":\"a; failed expression: 1/0 == 1\",\"reason\":\"Forbidden\"},\"uid\":\"u1\"}",
+    },
+    Row {
+        spec: TWO_IGNORED,
+        outcome: 3,
+        denials: 1,
+        results: &[1, 2],
+        message: None,
+        response: "{\"allowed\":false,\"status\":{\"code\":403,\"message\":\"a\",\"reason\":\"Forbidden\"},\"uid\":\"u1\"}",
+    },
 ];
+
+/// What stands before the response in a review.
+const HEAD: &str =
+    "{\"apiVersion\":\"admission.k8s.io/v1\",\"kind\":\"AdmissionReview\",\"response\":";
+
+/// Whether the text is the review with this response.
+fn is_review(alloc: Global, text: &[u8], response: &str) -> Result<bool, AllocError> {
+    let whole = joined(alloc, &[HEAD, response, "}"])?;
+    Ok(text == whole.as_bytes())
+}
+
+/// Whether the row's response is the one to its verdict.
+fn is_answered(alloc: Global, row: &Row) -> Result<bool, Fail> {
+    let text = response(
+        alloc,
+        row.spec,
+        row.outcome,
+        row.denials,
+        row.results,
+        row.message,
+    )?;
+    Ok(is_review(alloc, text.as_slice(), row.response)?)
+}
 
 #[test]
 fn responses(rt: HostRuntime) -> Result<(), Fail> {
-    for (spec, outcome, denials, results, message, want) in RESPONSES {
-        let text = response(rt.alloc(), spec, outcome, denials, results, message)?;
-        let whole = format!(in rt.alloc();
-            "{{\"apiVersion\":\"admission.k8s.io/v1\",\"kind\":\"AdmissionReview\",\"response\":{want}}}"
-        )?;
-        assert!(rt; text.as_slice() == whole.as_bytes(), "{want}");
+    for row in &RESPONSES {
+        assert!(rt; is_answered(rt.alloc(), row)?, "{}", row.response);
     }
     Ok(())
+}
+
+/// The first words of a verdict: its outcome, how many deny, and what the first three validations came to.
+fn first_words(verdict: &Verdict) -> [u64; 5] {
+    [
+        verdict.outcome,
+        verdict.denials,
+        verdict.results[0],
+        verdict.results[1],
+        verdict.results[2],
+    ]
+}
+
+/// Whether the verdict has these first two messages.
+fn has_messages(verdict: &Verdict, first: Option<&str>, second: Option<&str>) -> bool {
+    let messages = verdict.messages;
+    messages[0] == first && messages[1] == second
 }
 
 #[test]
 fn words_of_a_verdict(rt: HostRuntime) -> Result<(), Fail> {
     let mut values = null_values(rt.alloc())?;
-    let place = values.place_text("a")?;
+    let place = place(&mut values, Some("a"))?;
     let memory = memory(rt.alloc(), 3, 1, &[1, 2, 1], place)?;
     let policy = policy(rt.alloc(), TWO_IGNORED)?;
-    let verdict = Verdict::of(&memory, &values, &policy);
-    assert_eq!(rt; (verdict.outcome, verdict.denials), (3, 1));
-    let results = verdict.results;
-    assert_eq!(rt; (results[0], results[1], results[2]), (1, 2, 0));
-    let messages = verdict.messages;
-    let (first, second) = (messages[0], messages[1]);
-    assert_eq!(rt; first, Some("a"));
-    assert_eq!(rt; second, None);
+    let verdict = verdict_of(&memory, &values, &policy);
+    assert_eq!(rt; first_words(&verdict), [3, 1, 1, 2, 0]);
+    assert!(rt; has_messages(&verdict, Some("a"), None));
     Ok(())
 }

@@ -10,7 +10,6 @@ use codegen::Emitter;
 use serde_json::Value;
 use std::alloc::Global;
 use std::process::Abort;
-use std::test::Fail;
 
 /// Arithmetic, and joining.
 const ARITHMETIC: [(&str, u64); 25] = [
@@ -193,64 +192,67 @@ const SELECTION: [(&str, u64); 24] = [
 ];
 
 /// The roots of the rows.
-fn roots(alloc: Global) -> Result<[Value; 5], Fail> {
-    Ok([
-        Value::from_str(alloc, "{\"spec\":{\"on\":true,\"replicas\":5}}")?,
+fn roots(alloc: Global) -> Option<[Value; 5]> {
+    Some([
+        Value::from_str(alloc, "{\"spec\":{\"on\":true,\"replicas\":5}}").ok()?,
         Value::Null,
-        Value::from_str(alloc, "{\"limit\":3}")?,
-        Value::from_str(alloc, "{\"name\":\"default\"}")?,
-        Value::from_str(alloc, "{\"uid\":\"u1\"}")?,
+        Value::from_str(alloc, "{\"limit\":3}").ok()?,
+        Value::from_str(alloc, "{\"name\":\"default\"}").ok()?,
+        Value::from_str(alloc, "{\"uid\":\"u1\"}").ok()?,
     ])
 }
 
-/// How the program of the text's expression ends, with the two variables.
-fn end_of(alloc: Global, text: &str) -> Result<Status, Fail> {
-    let mut emitter = Emitter::new(alloc);
+/// Takes the two variables and the text's expression, and says whether they were taken.
+fn take_all(alloc: Global, text: &str, emitter: &mut Emitter) -> bool {
     let mut scope = Scope::new(alloc);
-    take_variable(alloc, "one", "1", &mut scope, &mut emitter)?;
-    take_variable(alloc, "wrong", "1/0", &mut scope, &mut emitter)?;
-    take(alloc, text, &scope, &mut emitter)?;
+    take_variable(alloc, "one", "1", &mut scope, emitter)
+        && take_variable(alloc, "wrong", "1/0", &mut scope, emitter)
+        && take(alloc, text, &scope, emitter)
+}
+
+/// How the program of the text's expression ends, with the two variables.
+fn end_of(alloc: Global, text: &str) -> Option<Status> {
+    let mut emitter = Emitter::new(alloc);
+    if !take_all(alloc, text, &mut emitter) {
+        return None;
+    }
     end(alloc, emitter, &roots(alloc)?, 10_000)
 }
 
 /// Asserts these references.
-fn assert_rows(rt: &impl Abort, alloc: Global, rows: &[(&str, u64)]) -> Result<(), Fail> {
+fn assert_rows(rt: &impl Abort, alloc: Global, rows: &[(&str, u64)]) {
     for (text, reference) in rows {
-        assert_eq!(rt;
-            end_of(alloc, text)?,
-            Status::Exited(*reference),
-            "row {text}"
-        );
+        let found = end_of(alloc, text);
+        assert_eq!(rt; found, Some(Status::Exited(*reference)), "row {text}");
     }
-    Ok(())
 }
 
 #[test]
-fn arithmetic_runs(rt: HostRuntime) -> Result<(), Fail> {
-    assert_rows(&rt, rt.alloc(), &ARITHMETIC)
+fn arithmetic_runs(rt: HostRuntime) {
+    assert_rows(&rt, rt.alloc(), &ARITHMETIC);
 }
 
 #[test]
-fn comparison_runs(rt: HostRuntime) -> Result<(), Fail> {
-    assert_rows(&rt, rt.alloc(), &COMPARISON)
+fn comparison_runs(rt: HostRuntime) {
+    assert_rows(&rt, rt.alloc(), &COMPARISON);
 }
 
 #[test]
-fn literals_run(rt: HostRuntime) -> Result<(), Fail> {
-    assert_rows(&rt, rt.alloc(), &LITERALS)
+fn literals_run(rt: HostRuntime) {
+    assert_rows(&rt, rt.alloc(), &LITERALS);
 }
 
 #[test]
-fn logic_runs(rt: HostRuntime) -> Result<(), Fail> {
-    assert_rows(&rt, rt.alloc(), &LOGIC)
+fn logic_runs(rt: HostRuntime) {
+    assert_rows(&rt, rt.alloc(), &LOGIC);
 }
 
 #[test]
-fn macros_run(rt: HostRuntime) -> Result<(), Fail> {
-    assert_rows(&rt, rt.alloc(), &MACROS)
+fn macros_run(rt: HostRuntime) {
+    assert_rows(&rt, rt.alloc(), &MACROS);
 }
 
 #[test]
-fn selection_runs(rt: HostRuntime) -> Result<(), Fail> {
-    assert_rows(&rt, rt.alloc(), &SELECTION)
+fn selection_runs(rt: HostRuntime) {
+    assert_rows(&rt, rt.alloc(), &SELECTION);
 }

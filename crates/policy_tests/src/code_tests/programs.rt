@@ -1,11 +1,13 @@
 //! Expressions, and variables with them, as programs that run on five null roots.
 
-use crate::code_tests::running::{core, end, take, take_variable};
+use crate::code_tests::running::{
+    core, declare, end, refusal, take, take_next, take_variable, variable_refusal,
+};
 use bpf_machine::Status;
-use cel_types::{Scope, check};
-use codegen::{CodeError, Emitter, expression, variable};
+use cel_types::Scope;
+use codegen::{CodeError, Emitter};
 use serde_json::Value;
-use std::alloc::Global;
+use std::alloc::{AllocError, Global};
 use std::test::Fail;
 
 /// More steps than any of these programs takes.
@@ -57,93 +59,126 @@ const USES: [(&str, u64); 6] = [
 ];
 
 /// How the program of the text's expression ends.
-fn end_of(alloc: Global, text: &str) -> Result<Status, Fail> {
+fn end_of(alloc: Global, text: &str) -> Option<Status> {
     let mut emitter = Emitter::new(alloc);
-    take(alloc, text, &Scope::new(alloc), &mut emitter)?;
+    if !take(alloc, text, &Scope::new(alloc), &mut emitter) {
+        return None;
+    }
     end(alloc, emitter, &NULLS, STEPS)
+}
+
+/// Takes the variables, and says whether they were taken.
+fn take_variables(alloc: Global, scope: &mut Scope, emitter: &mut Emitter) -> bool {
+    for (name, of) in &VARIABLES {
+        if !take_variable(alloc, name, of, scope, emitter) {
+            return false;
+        }
+    }
+    true
 }
 
 /// How the program of the text's expression ends, with the variables.
-fn end_with_variables(alloc: Global, text: &str) -> Result<Status, Fail> {
+fn end_with_variables(alloc: Global, text: &str) -> Option<Status> {
     let mut emitter = Emitter::new(alloc);
     let mut scope = Scope::new(alloc);
-    for (name, of) in &VARIABLES {
-        take_variable(alloc, name, of, &mut scope, &mut emitter)?;
+    if !take_variables(alloc, &mut scope, &mut emitter)
+        || !take(alloc, text, &scope, &mut emitter)
+    {
+        return None;
     }
-    take(alloc, text, &scope, &mut emitter)?;
     end(alloc, emitter, &NULLS, STEPS)
 }
 
-/// What is answered of so many plus signs, nested to the right.
-fn answer_to_sums(alloc: Global, signs: usize) -> Result<Option<CodeError>, Fail> {
-    let open = "1+(".repeat(alloc, signs)?;
-    let close = ")".repeat(alloc, signs)?;
-    let text = format!(in alloc; "{open}1{close} == 1")?;
-    let core = core(alloc, text.as_str())?;
+/// The text of so many plus signs, nested to the right.
+fn sums(alloc: Global, signs: usize) -> Result<String, AllocError> {
+    let mut text = "1+(".repeat(alloc, signs)?;
+    text.push_str("1")?;
+    text.push_str(")".repeat(alloc, signs)?.as_str())?;
+    text.push_str(" == 1")?;
+    Ok(text)
+}
+
+/// What is answered of the text, where it is an expression.
+fn answer(alloc: Global, text: &str) -> Option<Option<CodeError>> {
+    let core = core(alloc, text)?;
     let mut emitter = Emitter::new(alloc);
-    Ok(expression(alloc, &core, &Scope::new(alloc), &mut emitter).err())
+    Some(refusal(alloc, &core, &Scope::new(alloc), &mut emitter))
+}
+
+/// Takes a variable without a refusal, declares it with the depth 6, and says whether it did.
+fn take_deep_variable(alloc: Global, scope: &mut Scope, emitter: &mut Emitter) -> bool {
+    match take_next(alloc, "1", &*scope, emitter) {
+        Some((found, _)) => declare(scope, "v", found, 6),
+        None => false,
+    }
+}
+
+/// What is answered of a variable that is the one of depth 6.
+fn answer_to_depth(alloc: Global) -> Option<CodeError> {
+    let mut emitter = Emitter::new(alloc);
+    let mut scope = Scope::new(alloc);
+    if !take_deep_variable(alloc, &mut scope, &mut emitter) {
+        return None;
+    }
+    let core = core(alloc, "variables.v")?;
+    variable_refusal(alloc, &core, &scope, &mut emitter)
+}
+
+/// An object with ten thousand items.
+fn object_of_items(alloc: Global) -> Option<Value> {
+    let mut text = String::from_str(alloc, "{\"items\":[1").ok()?;
+    let twos = ",2".repeat(alloc, 9_999).ok()?;
+    text.push_str(twos.as_str()).ok()?;
+    text.push_str("]}").ok()?;
+    Value::from_str(alloc, text.as_str()).ok()
+}
+
+/// How the search for the first item of many ends.
+fn end_of_search(alloc: Global) -> Option<Status> {
+    let object = object_of_items(alloc)?;
+    let roots = [object, Value::Null, Value::Null, Value::Null, Value::Null];
+    let mut emitter = Emitter::new(alloc);
+    let text = "object.items.exists(x, x == 1)";
+    if !take(alloc, text, &Scope::new(alloc), &mut emitter) {
+        return None;
+    }
+    end(alloc, emitter, &roots, 1_024)
 }
 
 #[test]
-fn expressions_leave_their_values(rt: HostRuntime) -> Result<(), Fail> {
+fn expressions_leave_their_values(rt: HostRuntime) {
     for (text, reference) in &ROWS {
-        assert_eq!(rt;
-            end_of(rt.alloc(), text)?,
-            Status::Exited(*reference),
-            "row {text}"
-        );
+        let found = end_of(rt.alloc(), text);
+        assert_eq!(rt; found, Some(Status::Exited(*reference)), "row {text}");
     }
-    Ok(())
 }
 
 #[test]
-fn variables_leave_their_values(rt: HostRuntime) -> Result<(), Fail> {
+fn variables_leave_their_values(rt: HostRuntime) {
     for (text, reference) in &USES {
-        assert_eq!(rt;
-            end_with_variables(rt.alloc(), text)?,
-            Status::Exited(*reference),
-            "row {text}"
-        );
+        let found = end_with_variables(rt.alloc(), text);
+        assert_eq!(rt; found, Some(Status::Exited(*reference)), "row {text}");
     }
-    Ok(())
 }
 
 #[test]
 fn words_are_bounded(rt: HostRuntime) -> Result<(), Fail> {
-    assert_eq!(rt; answer_to_sums(rt.alloc(), 59)?, None);
-    assert_eq!(rt; answer_to_sums(rt.alloc(), 60)?, Some(CodeError::G1));
-    Ok(())
-}
-
-#[test]
-fn depths_are_bounded(rt: HostRuntime) -> Result<(), Fail> {
-    let mut emitter = Emitter::new(rt.alloc());
-    let mut scope = Scope::new(rt.alloc());
-    let first = core(rt.alloc(), "1")?;
-    variable(rt.alloc(), &first, &scope, &mut emitter)?;
-    scope.add("v", check(&first, &scope)?, 6)?;
-    let second = core(rt.alloc(), "variables.v")?;
+    let fits = sums(rt.alloc(), 59)?;
+    assert_eq!(rt; answer(rt.alloc(), fits.as_str()), Some(None));
+    let long = sums(rt.alloc(), 60)?;
     assert_eq!(rt;
-        variable(rt.alloc(), &second, &scope, &mut emitter).err(),
-        Some(CodeError::G2)
+        answer(rt.alloc(), long.as_str()),
+        Some(Some(CodeError::G1))
     );
     Ok(())
 }
 
 #[test]
-fn exists_leaves_at_the_first_item(rt: HostRuntime) -> Result<(), Fail> {
-    let twos = ",2".repeat(rt.alloc(), 9_999)?;
-    let text = format!(in rt.alloc(); "{{\"items\":[1{twos}]}}")?;
-    let object = Value::from_str(rt.alloc(), text.as_str())?;
-    let roots = [object, Value::Null, Value::Null, Value::Null, Value::Null];
-    let mut emitter = Emitter::new(rt.alloc());
-    let expression = "object.items.exists(x, x == 1)";
-    take(
-        rt.alloc(),
-        expression,
-        &Scope::new(rt.alloc()),
-        &mut emitter,
-    )?;
-    assert_eq!(rt; end(rt.alloc(), emitter, &roots, 1_024)?, Status::Exited(3));
-    Ok(())
+fn depths_are_bounded(rt: HostRuntime) {
+    assert_eq!(rt; answer_to_depth(rt.alloc()), Some(CodeError::G2));
+}
+
+#[test]
+fn exists_leaves_at_the_first_item(rt: HostRuntime) {
+    assert_eq!(rt; end_of_search(rt.alloc()), Some(Status::Exited(3)));
 }
