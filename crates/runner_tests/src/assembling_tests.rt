@@ -29,16 +29,22 @@ const JUMPING: &[u8] =
 /// What the image's file holds before a text is assembled.
 const OLD: &[u8] = b"old";
 
-#[test]
-fn assembles_a_text(rt: HostRuntime) -> Result<(), Fail> {
+/// Whether `asm` of this text leaves this image, and nothing on either output.
+fn assembles(alloc: Global, text: &[u8], made: &[u8]) -> Result<bool, AllocError> {
+    let image = Vec::from_slice(alloc, OLD)?;
     let mut files = Folder {
-        text: b"mov64 r0, 1\nja end\nmov64 r0, 2\nend:\nexit",
-        image: Vec::from_slice(rt.alloc(), OLD)?,
+        text,
+        image,
         is_writable: true,
     };
-    let done = assembled(rt.alloc(), "a.txt", "a.img", &mut files)?;
-    assert!(rt; is_done(&done, 0, b"", b""));
-    assert!(rt; files.image.as_slice() == JUMPING);
+    let done = assembled(alloc, "a.txt", "a.img", &mut files)?;
+    Ok(is_done(&done, 0, b"", b"") && files.image.as_slice() == made)
+}
+
+#[test]
+fn assembles_a_text(rt: HostRuntime) -> Result<(), Fail> {
+    let text = b"mov64 r0, 1\nja end\nmov64 r0, 2\nend:\nexit";
+    assert!(rt; assembles(rt.alloc(), text, JUMPING)?);
     Ok(())
 }
 
@@ -96,7 +102,7 @@ const REFUSED: [(&[u8], &str, &str, bool, &[u8]); 10] = [
 
 #[test]
 fn refuses_texts(rt: HostRuntime) -> Result<(), Fail> {
-    for (row, (text, from, to, is_writable, line)) in REFUSED.into_iter().enumerate() {
+    for (row, &(text, from, to, is_writable, line)) in REFUSED.iter().enumerate() {
         assert!(rt;
             refuses(rt.alloc(), text, from, to, is_writable, line)?,
             "row {row}"
@@ -138,7 +144,7 @@ const LISTED: [(&[u8], &str, &[u8], &[u8], u8); 4] = [
 
 #[test]
 fn lists_images(rt: HostRuntime) -> Result<(), Fail> {
-    for (row, (bytes, name, out, err, status)) in LISTED.into_iter().enumerate() {
+    for (row, &(bytes, name, out, err, status)) in LISTED.iter().enumerate() {
         let done = listed(rt.alloc(), bytes, name)?;
         assert!(rt; is_done(&done, status, out, err), "row {row}");
     }

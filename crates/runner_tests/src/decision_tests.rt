@@ -57,7 +57,7 @@ const DECISIONS: [(&str, &str, &str); 4] = [
 
 #[test]
 fn shows_decisions(rt: HostRuntime) -> Result<(), Fail> {
-    for (row, (spec, object, end)) in DECISIONS.into_iter().enumerate() {
+    for (row, &(spec, object, end)) in DECISIONS.iter().enumerate() {
         let answers = said(rt.alloc(), spec, object, b"w\nc 1000000\nw\n")?;
         assert!(rt; answers.starts_with("verdict 0 0\nstep "), "row {row}");
         assert!(rt; answers.ends_with(end), "row {row}");

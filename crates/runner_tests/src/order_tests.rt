@@ -35,7 +35,7 @@ const RUNS: [(&str, &str, u64); 8] = [
 
 #[test]
 fn words_that_are_taken(rt: HostRuntime) -> Result<(), Fail> {
-    for (line, name, number) in RUNS {
+    for &(line, name, number) in RUNS.iter() {
         assert!(rt; is_run(&order(rt.alloc(), line), name, number), "{line}");
     }
     Ok(())
@@ -77,7 +77,7 @@ const REFUSED: [&str; 23] = [
 
 #[test]
 fn words_that_are_refused(rt: HostRuntime) -> Result<(), Fail> {
-    for line in REFUSED {
+    for &line in REFUSED.iter() {
         assert!(rt; is_refused(&order(rt.alloc(), line)), "{line}");
     }
     Ok(())

@@ -64,7 +64,7 @@ const RUNS: [(&[u8], u64, &[u8], u8); 6] = [
 
 #[test]
 fn runs_images(rt: HostRuntime) -> Result<(), Fail> {
-    for (row, (bytes, steps, end, status)) in RUNS.into_iter().enumerate() {
+    for (row, &(bytes, steps, end, status)) in RUNS.iter().enumerate() {
         let done = run(rt.alloc(), "a.img", steps, bytes)?;
         assert!(rt; ends_with(&done, end, status), "row {row}");
     }
@@ -93,7 +93,7 @@ const REFUSED: [(&[u8], &str, &[u8]); 7] = [
 
 #[test]
 fn refuses_files(rt: HostRuntime) -> Result<(), Fail> {
-    for (row, (bytes, name, line)) in REFUSED.into_iter().enumerate() {
+    for (row, &(bytes, name, line)) in REFUSED.iter().enumerate() {
         let done = run(rt.alloc(), name, 9, bytes)?;
         assert!(rt; is_refused(&done, line, 3), "row {row}");
     }

@@ -60,7 +60,7 @@ const SPECIFICATIONS: [(&str, &str); 15] = [
 
 #[test]
 fn refuses_specifications(rt: HostRuntime) -> Result<(), Fail> {
-    for (spec, refusal) in SPECIFICATIONS {
+    for &(spec, refusal) in SPECIFICATIONS.iter() {
         let policy = policy_of(rt.alloc(), spec)?;
         assert!(rt; comes_to(rt.alloc(), &policy, Some(refusal))?, "{spec}");
     }
@@ -72,7 +72,7 @@ const DOCUMENTS: [(&str, &str); 3] = [("", "K1"), ("{\"apiVersion\":", "K1"), ("
 
 #[test]
 fn refuses_other_documents(rt: HostRuntime) -> Result<(), Fail> {
-    for (document, refusal) in DOCUMENTS {
+    for &(document, refusal) in DOCUMENTS.iter() {
         assert!(rt;
             comes_to(rt.alloc(), document.as_bytes(), Some(refusal))?,
             "{document}"

@@ -99,7 +99,7 @@ const ROWS: [(&str, usize, u8, &[u8], &[u8]); 10] = [
 
 #[test]
 fn ends_with_its_code(rt: HostRuntime) -> Result<(), Fail> {
-    for (row, (line, room, status, out, err)) in ROWS.into_iter().enumerate() {
+    for (row, &(line, room, status, out, err)) in ROWS.iter().enumerate() {
         let said = program(rt.alloc(), Ok(words(rt.alloc(), line)?), room)?;
         assert!(rt; is_said(&said, status, out, err), "row {row}");
     }

@@ -77,7 +77,7 @@ const ANSWERED: [(&str, &str, Option<&str>, Option<&str>, &str); 8] = [
 
 #[test]
 fn answers_by_namespace_and_params(rt: HostRuntime) -> Result<(), Fail> {
-    for (row, (spec, object, namespace, params, message)) in ANSWERED.into_iter().enumerate() {
+    for (row, &(spec, object, namespace, params, message)) in ANSWERED.iter().enumerate() {
         let done = reviewed_with(rt.alloc(), spec, object, namespace, params)?;
         let (status, wanted) = if message.is_empty() {
             (0, printed(rt.alloc(), ALLOWED)?)
@@ -123,7 +123,7 @@ const REFUSED: [(&str, &str, Option<&str>, Option<&str>, &str); 16] = [
 
 #[test]
 fn refuses_documents_in_order(rt: HostRuntime) -> Result<(), Fail> {
-    for (row, (spec, object, namespace, params, line)) in REFUSED.into_iter().enumerate() {
+    for (row, &(spec, object, namespace, params, line)) in REFUSED.iter().enumerate() {
         let done = reviewed_with(rt.alloc(), spec, object, namespace, params)?;
         assert!(rt; is_refused(&done, 3, line), "row {row}");
     }

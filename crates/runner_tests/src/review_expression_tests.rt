@@ -45,7 +45,7 @@ fn ends(
 
 #[test]
 fn answers_by_expressions(rt: HostRuntime) -> Result<(), Fail> {
-    for (expression, object, fail, ignore) in EXPRESSIONS {
+    for &(expression, object, fail, ignore) in EXPRESSIONS.iter() {
         assert!(rt;
             ends(rt.alloc(), expression, "Fail", object, fail)?,
             "{expression}"

@@ -75,7 +75,7 @@ const POLICIES: [(Pieces<'static>, Option<&str>); 9] = [
 
 #[test]
 fn compiles_to_the_limits(rt: HostRuntime) -> Result<(), Fail> {
-    for (row, (pieces, refusal)) in POLICIES.into_iter().enumerate() {
+    for (row, &(pieces, refusal)) in POLICIES.iter().enumerate() {
         let spec = text_of(rt.alloc(), pieces)?;
         let policy = policy_of(rt.alloc(), spec.as_str())?;
         assert!(rt; comes_to(rt.alloc(), &policy, refusal)?, "row {row}");
@@ -144,7 +144,7 @@ const REVIEWS: [(&str, Pieces<'static>, u64, u8, &str); 3] = [
 #[test]
 fn reviews_to_the_limits(rt: HostRuntime) -> Result<(), Fail> {
     let allowed = printed(rt.alloc(), ALLOWED)?;
-    for (row, (spec, pieces, steps, status, line)) in REVIEWS.into_iter().enumerate() {
+    for (row, &(spec, pieces, steps, status, line)) in REVIEWS.iter().enumerate() {
         let object = text_of(rt.alloc(), pieces)?;
         let done = reviewed(rt.alloc(), spec, object.as_str(), steps)?;
         let is_as_said = if line.is_empty() {

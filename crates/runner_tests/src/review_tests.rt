@@ -108,7 +108,7 @@ const ANSWERED: [(&str, &str, u64, u8, &str); 16] = [
 
 #[test]
 fn answers_reviews(rt: HostRuntime) -> Result<(), Fail> {
-    for (row, (spec, object, steps, status, response)) in ANSWERED.into_iter().enumerate() {
+    for (row, &(spec, object, steps, status, response)) in ANSWERED.iter().enumerate() {
         let wanted = printed(rt.alloc(), response)?;
         let done = reviewed(rt.alloc(), spec, object, steps)?;
         assert!(rt; answers(&done, status, &wanted), "row {row}");
@@ -131,7 +131,7 @@ const UNANSWERED: [(&str, &str, u64, u8, &str); 3] = [
 
 #[test]
 fn refuses_reviews_under_policies(rt: HostRuntime) -> Result<(), Fail> {
-    for (row, (spec, object, steps, status, line)) in UNANSWERED.into_iter().enumerate() {
+    for (row, &(spec, object, steps, status, line)) in UNANSWERED.iter().enumerate() {
         let done = reviewed(rt.alloc(), spec, object, steps)?;
         assert!(rt; is_refused(&done, status, line), "row {row}");
     }

@@ -65,7 +65,7 @@ const OBJECTS: [(&[u8], Option<RunError>); 5] = [
 
 #[test]
 fn refuses_reviews(rt: HostRuntime) -> Result<(), Fail> {
-    for (object, cause) in OBJECTS {
+    for &(object, cause) in OBJECTS.iter() {
         let review = review_of(rt.alloc(), object)?;
         assert_eq!(rt; refusal(rt.alloc(), Some(&review), None, None), cause);
     }
@@ -82,7 +82,7 @@ const OTHERS: [(&[u8], Option<RunError>); 4] = [
 
 #[test]
 fn refuses_namespaces_and_params(rt: HostRuntime) -> Result<(), Fail> {
-    for (other, cause) in OTHERS {
+    for &(other, cause) in OTHERS.iter() {
         assert_eq!(rt; refusal(rt.alloc(), Some(REVIEW), Some(other), None), cause);
         assert_eq!(rt; refusal(rt.alloc(), None, None, Some(other)), cause);
     }

@@ -105,7 +105,7 @@ fn ends_with(alloc: Global, code: &[u8], constants: &[u8], line: &[u8]) -> Resul
 
 #[test]
 fn calls_helpers(rt: HostRuntime) -> Result<(), Fail> {
-    for (row, (code, constants, line)) in CALLS.into_iter().enumerate() {
+    for (row, &(code, constants, line)) in CALLS.iter().enumerate() {
         assert!(rt; ends_with(rt.alloc(), code, constants, line)?, "row {row}");
     }
     Ok(())
@@ -113,7 +113,7 @@ fn calls_helpers(rt: HostRuntime) -> Result<(), Fail> {
 
 #[test]
 fn runs_to_the_last_line(rt: HostRuntime) -> Result<(), Fail> {
-    for (row, (code, line)) in RUNS.into_iter().enumerate() {
+    for (row, &(code, line)) in RUNS.iter().enumerate() {
         assert!(rt; ends_with(rt.alloc(), code, b"", line)?, "row {row}");
     }
     Ok(())

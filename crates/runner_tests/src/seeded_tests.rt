@@ -1,6 +1,7 @@
 //! Reviews under policies that were drawn from a seed.
 
 use crate::review_fixtures::{answers, is_refused, printed, reviewed};
+use std::alloc::{AllocError, Global};
 use std::test::Fail;
 
 /// A policy's specification, the object under review, 128 steps for each unit of the policy's work, the
@@ -289,14 +290,35 @@ const SEEDED: [(&str, &str, u64, u8, &str); 40] = [
     ),
 ];
 
+/// Whether the review of this object is answered within so many steps, with this status and
+/// response.
+fn is_answered(
+    alloc: Global,
+    spec: &str,
+    object: &str,
+    steps: u64,
+    status: u8,
+    response: &str,
+) -> Result<bool, AllocError> {
+    let wanted = printed(alloc, response)?;
+    let done = reviewed(alloc, spec, object, steps)?;
+    Ok(answers(&done, status, &wanted))
+}
+
+/// Whether the review of this object still runs after no step.
+fn is_unended(alloc: Global, spec: &str, object: &str) -> Result<bool, AllocError> {
+    let done = reviewed(alloc, spec, object, 0)?;
+    Ok(is_refused(&done, 4, "celbpf: N4\n"))
+}
+
 #[test]
 fn answers_within_the_bound(rt: HostRuntime) -> Result<(), Fail> {
     for (row, (spec, object, bound, status, response)) in SEEDED.into_iter().enumerate() {
-        let wanted = printed(rt.alloc(), response)?;
-        let done = reviewed(rt.alloc(), spec, object, bound)?;
-        assert!(rt; answers(&done, status, &wanted), "row {row}");
-        let done = reviewed(rt.alloc(), spec, object, 0)?;
-        assert!(rt; is_refused(&done, 4, "celbpf: N4\n"), "row {row}");
+        assert!(rt;
+            is_answered(rt.alloc(), spec, object, bound, status, response)?,
+            "row {row}"
+        );
+        assert!(rt; is_unended(rt.alloc(), spec, object)?, "row {row}");
     }
     Ok(())
 }

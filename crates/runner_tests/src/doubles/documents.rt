@@ -25,6 +25,18 @@ impl<'a> Documents<'a> {
             image: Vec::new(alloc),
         }
     }
+
+    /// What the file of this name holds, if there is one.
+    fn file(&self, name: &str) -> Option<&[u8]> {
+        match name {
+            "p.json" => Some(self.policy),
+            "r.json" => Some(self.review),
+            "n.json" => self.namespace,
+            "a.json" => self.params,
+            "a.img" => Some(&self.image),
+            _ => None,
+        }
+    }
 }
 
 impl Files for Documents<'_> {
@@ -33,14 +45,7 @@ impl Files for Documents<'_> {
     ghost known = { λ _. None };
 
     fn read(&mut self, alloc: Global, name: &str) -> Result<Vec<u8>, FileError> {
-        match name {
-            "p.json" => Ok(Vec::from_slice(alloc, self.policy)?),
-            "r.json" => Ok(Vec::from_slice(alloc, self.review)?),
-            "n.json" => held(alloc, self.namespace),
-            "a.json" => held(alloc, self.params),
-            "a.img" => Ok(Vec::from_slice(alloc, &self.image)?),
-            _ => Err(FileError::Failed),
-        }
+        held(alloc, self.file(name))
     }
 
     fn write(&mut self, name: &str, bytes: &[u8]) -> Result<(), FileError> {
@@ -53,9 +58,9 @@ impl Files for Documents<'_> {
     }
 }
 
-/// What the file of a document holds, if there is one.
-fn held(alloc: Global, document: Option<&[u8]>) -> Result<Vec<u8>, FileError> {
-    match document {
+/// A copy of what a file holds, if there is one.
+fn held(alloc: Global, file: Option<&[u8]>) -> Result<Vec<u8>, FileError> {
+    match file {
         Some(bytes) => Ok(Vec::from_slice(alloc, bytes)?),
         None => Err(FileError::Failed),
     }
