@@ -8,6 +8,8 @@ mod measure_tests;
 #[cfg(test)]
 mod reader_tests;
 #[cfg(test)]
+mod texts;
+#[cfg(test)]
 mod token_tests;
 #[cfg(test)]
 mod type_tests;

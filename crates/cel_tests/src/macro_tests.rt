@@ -84,16 +84,16 @@ fn spelled(alloc: Global, text: &str) -> Result<String, Fail> {
 
 #[test]
 fn refuses_macros(rt: HostRuntime) -> Result<(), Fail> {
-    for (text, cause) in REFUSED {
-        assert_eq!(rt; refusal(rt.alloc(), text)?, cause, "row {text}");
+    for (text, cause) in &REFUSED {
+        assert_eq!(rt; refusal(rt.alloc(), text)?, *cause, "row {text}");
     }
     Ok(())
 }
 
 #[test]
 fn expands_macros(rt: HostRuntime) -> Result<(), Fail> {
-    for (text, tree) in EXPANDED {
-        assert_eq!(rt; spelled(rt.alloc(), text)?.as_str(), tree, "row {text}");
+    for (text, tree) in &EXPANDED {
+        assert_eq!(rt; spelled(rt.alloc(), text)?.as_str(), *tree, "row {text}");
     }
     Ok(())
 }

@@ -1,10 +1,11 @@
 //! Measures, worked by hand.
 
+use crate::texts::repeated;
 use cel_macros::{Core, expand};
 use cel_measures::{depth, need, nodes};
-use cel_reader::read;
+use cel_reader::{Expr, read};
 use cel_types::{CelType, Scope};
-use std::alloc::Global;
+use std::alloc::{AllocError, Global};
 use std::process::Abort;
 use std::test::Fail;
 
@@ -87,66 +88,80 @@ const DEPTHS: [(&str, u64); 25] = [
     ("[1].map(x, variables.w, 1)", 4),
 ];
 
+/// The text's tree.
+fn tree(alloc: Global, text: &str) -> Option<Expr> {
+    read(alloc, text).ok()
+}
+
 /// The text's expression.
-fn core(alloc: Global, text: &str) -> Result<Core, Fail> {
-    let tree = read(alloc, text)?;
-    Ok(expand(alloc, tree)?)
+fn core(alloc: Global, text: &str) -> Option<Core> {
+    expand(alloc, tree(alloc, text)?).ok()
 }
 
 /// The nodes and the need of the text's expression.
-fn measures(alloc: Global, text: &str) -> Result<(u64, u64), Fail> {
+fn measures(alloc: Global, text: &str) -> Option<(u64, u64)> {
     let core = core(alloc, text)?;
-    Ok((nodes(&core), need(&core)))
+    Some((nodes(&core), need(&core)))
 }
 
-/// The depth of a variable with the text's expression.
-fn depth_of(alloc: Global, text: &str) -> Result<u64, Fail> {
-    let core = core(alloc, text)?;
+/// The scope of the rows.
+fn scope(alloc: Global) -> Result<Scope, AllocError> {
     let mut scope = Scope::new(alloc);
     scope.add("v", CelType::Bool, 1)?;
     scope.add("w", CelType::Dyn, 3)?;
-    Ok(depth(&core, &scope))
+    Ok(scope)
+}
+
+/// The depth of a variable with the text's expression.
+fn depth_of(alloc: Global, text: &str) -> Option<u64> {
+    let core = core(alloc, text)?;
+    let scope = scope(alloc).ok()?;
+    Some(depth(&core, &scope))
 }
 
 /// Asserts these nodes and needs.
-fn assert_measures(rt: &impl Abort, alloc: Global, rows: &[(&str, u64, u64)]) -> Result<(), Fail> {
+fn assert_measures(rt: &impl Abort, alloc: Global, rows: &[(&str, u64, u64)]) {
     for (text, nodes, need) in rows {
-        assert_eq!(rt; measures(alloc, text)?, (*nodes, *need), "row {text}");
+        assert_eq!(rt; measures(alloc, text), Some((*nodes, *need)), "row {text}");
     }
-    Ok(())
 }
 
 /// Asserts these depths.
-fn assert_depths(rt: &impl Abort, alloc: Global, rows: &[(&str, u64)]) -> Result<(), Fail> {
+fn assert_depths(rt: &impl Abort, alloc: Global, rows: &[(&str, u64)]) {
     for (text, depth) in rows {
-        assert_eq!(rt; depth_of(alloc, text)?, *depth, "row {text}");
+        assert_eq!(rt; depth_of(alloc, text), Some(*depth), "row {text}");
     }
-    Ok(())
 }
 
 #[test]
-fn counts_nodes_and_words(rt: HostRuntime) -> Result<(), Fail> {
-    assert_measures(&rt, rt.alloc(), &MEASURED)
+fn counts_nodes_and_words(rt: HostRuntime) {
+    assert_measures(&rt, rt.alloc(), &MEASURED);
 }
 
 #[test]
-fn measures_depths(rt: HostRuntime) -> Result<(), Fail> {
-    assert_depths(&rt, rt.alloc(), &DEPTHS)
+fn measures_depths(rt: HostRuntime) {
+    assert_depths(&rt, rt.alloc(), &DEPTHS);
+}
+
+/// The text of so many plus signs, nested to the right.
+fn sums(alloc: Global, signs: usize) -> Result<String, AllocError> {
+    let close = ")".repeat(alloc, signs)?;
+    let mut text = repeated(alloc, "1+(", signs, "1")?;
+    text.push_str(close.as_str())?;
+    text.push_str(" == 1")?;
+    Ok(text)
 }
 
 #[test]
 fn measures_sums_to_the_right(rt: HostRuntime) -> Result<(), Fail> {
-    let open = "1+(".repeat(rt.alloc(), 59)?;
-    let close = ")".repeat(rt.alloc(), 59)?;
-    let text = format!(in rt.alloc(); "{open}1{close} == 1")?;
-    assert_eq!(rt; measures(rt.alloc(), text.as_str())?, (121, 60));
+    let text = sums(rt.alloc(), 59)?;
+    assert_eq!(rt; measures(rt.alloc(), text.as_str()), Some((121, 60)));
     Ok(())
 }
 
 #[test]
 fn measures_long_conjunctions(rt: HostRuntime) -> Result<(), Fail> {
-    let front = "true && ".repeat(rt.alloc(), 254)?;
-    let text = format!(in rt.alloc(); "{front}true")?;
-    assert_eq!(rt; measures(rt.alloc(), text.as_str())?, (509, 2));
+    let text = repeated(rt.alloc(), "true && ", 254, "true")?;
+    assert_eq!(rt; measures(rt.alloc(), text.as_str()), Some((509, 2)));
     Ok(())
 }

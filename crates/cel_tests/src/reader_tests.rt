@@ -1,5 +1,6 @@
 //! Rows that were worked by hand.
 
+use crate::texts::repeated;
 use cel_reader::{ReadError, read};
 use std::alloc::Global;
 use std::test::Fail;
@@ -154,16 +155,6 @@ const LIMITS: [Limit; 14] = [
 fn spelled(alloc: Global, text: &str) -> Result<String, Fail> {
     let tree = read(alloc, text)?;
     Ok(format!(in alloc; "{tree:?}")?)
-}
-
-/// A text of so many such units, and more.
-fn repeated(alloc: Global, unit: &str, count: usize, more: &str) -> Result<String, Fail> {
-    let mut out = String::new(alloc);
-    for _ in 0..count {
-        out.push_str(unit)?;
-    }
-    out.push_str(more)?;
-    Ok(out)
 }
 
 /// The first row whose text has another tree.

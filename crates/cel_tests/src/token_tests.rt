@@ -1,7 +1,8 @@
 //! Rows that were worked by hand.
 
-use cel_tokens::{ReadError, tokens};
-use std::alloc::Global;
+use crate::texts::repeated;
+use cel_tokens::{ReadError, Token, tokens};
+use std::alloc::{AllocError, Global};
 use std::test::Fail;
 
 /// Texts, and their tokens: place, end and kind of each.
@@ -38,56 +39,61 @@ const REFUSED: [(&str, ReadError); 12] = [
     ("- 9223372036854775809", ReadError::P3(2)),
 ];
 
-/// The tokens of the text in words.
-fn spelled(alloc: Global, text: &str) -> Result<String, Fail> {
+/// The token in words.
+fn words(alloc: Global, token: &Token) -> Result<String, AllocError> {
+    format!(in alloc; "{}-{} {:?} ", token.place, token.end, token.kind)
+}
+
+/// The tokens in words.
+fn spelled(alloc: Global, tokens: &[Token]) -> Result<String, AllocError> {
     let mut out = String::new(alloc);
-    for token in &tokens(alloc, text)? {
-        let words = format!(in alloc; "{}-{} {:?} ", token.place, token.end, token.kind)?;
-        out.push_str(words.as_str())?;
+    for token in tokens {
+        out.push_str(words(alloc, token)?.as_str())?;
     }
     Ok(out)
 }
 
-/// A text of so many such bytes, and more.
-fn repeated(alloc: Global, unit: &str, count: usize, more: &str) -> Result<String, Fail> {
-    let mut out = String::new(alloc);
-    for _ in 0..count {
-        out.push_str(unit)?;
-    }
-    out.push_str(more)?;
-    Ok(out)
+/// Why the text has no tokens.
+fn refusal(alloc: Global, text: &str) -> Option<ReadError> {
+    tokens(alloc, text).err()
 }
 
 #[test]
 fn reads_texts(rt: HostRuntime) -> Result<(), Fail> {
-    for (text, words) in READ {
-        assert_eq!(rt; spelled(rt.alloc(), text)?.as_str(), words, "row {text}");
+    for (text, words) in &READ {
+        let found = tokens(rt.alloc(), text)?;
+        let found = spelled(rt.alloc(), found.as_slice())?;
+        assert_eq!(rt; found.as_str(), *words, "row {text}");
     }
     Ok(())
 }
 
 #[test]
 fn refuses_texts(rt: HostRuntime) {
-    for (text, cause) in REFUSED {
-        let answer = tokens(rt.alloc(), text);
-        assert_eq!(rt; answer.err(), Some(cause), "row {text}");
+    for (text, cause) in &REFUSED {
+        assert_eq!(rt; refusal(rt.alloc(), text), Some(*cause), "row {text}");
     }
 }
 
+/// How often a text stands before another, and why both have no tokens.
+const LIMITS: [(&str, usize, &str, Option<ReadError>); 6] = [
+    ("(", 4_096, "", None),
+    ("(", 65_536, "", Some(ReadError::P6(4_096))),
+    ("(", 4_096, " 'a", Some(ReadError::P6(4_097))),
+    ("(", 4_096, " #", Some(ReadError::P1(4_097))),
+    (" ", 65_536, "", None),
+    (" ", 65_537, "", Some(ReadError::P6(65_536))),
+];
+
 #[test]
 fn keeps_the_limits(rt: HostRuntime) -> Result<(), Fail> {
-    let rows = [
-        ("(", 4_096, "", None),
-        ("(", 65_536, "", Some(ReadError::P6(4_096))),
-        ("(", 4_096, " 'a", Some(ReadError::P6(4_097))),
-        ("(", 4_096, " #", Some(ReadError::P1(4_097))),
-        (" ", 65_536, "", None),
-        (" ", 65_537, "", Some(ReadError::P6(65_536))),
-    ];
-    for (unit, count, more, cause) in rows {
-        let text = repeated(rt.alloc(), unit, count, more)?;
-        let answer = tokens(rt.alloc(), text.as_str());
-        assert_eq!(rt; answer.err(), cause, "row {count} {more}");
+    for (unit, count, more, cause) in &LIMITS {
+        let text = repeated(rt.alloc(), unit, *count, more)?;
+        assert_eq!(rt;
+            refusal(rt.alloc(), text.as_str()),
+            *cause,
+            "row {count} {more}"
+        );
     }
     Ok(())
 }

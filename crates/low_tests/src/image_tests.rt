@@ -40,11 +40,15 @@ const REFUSED: [(&[u8], LoadError); 12] = [
     ),
 ];
 
+/// Why the file holds no image.
+fn refusal(alloc: Global, file: &[u8]) -> Option<LoadError> {
+    Image::read(alloc, file).err()
+}
+
 #[test]
 fn refuses_files(rt: HostRuntime) {
-    for (file, cause) in REFUSED {
-        let answer = Image::read(rt.alloc(), file);
-        assert_eq!(rt; answer.err(), Some(cause));
+    for (file, cause) in &REFUSED {
+        assert_eq!(rt; refusal(rt.alloc(), file), Some(*cause));
     }
 }
 
@@ -61,22 +65,15 @@ fn has_parts(
     Ok(image.version() == version && parts && written.as_slice() == file)
 }
 
-/// The image of this version and these parts, or a copy of it.
-fn made(
-    alloc: Global,
-    version: u8,
-    code: &[u8],
-    constants: &[u8],
-    copied: bool,
-) -> Result<Image, LoadError> {
+/// The image of this version and these parts.
+fn made(alloc: Global, version: u8, code: &[u8], constants: &[u8]) -> Result<Image, LoadError> {
     let code = Vec::from_slice(alloc, code)?;
     let constants = Vec::from_slice(alloc, constants)?;
-    let image = if version == 2 {
-        Image::new_2(code, constants)?
+    if version == 2 {
+        Image::new_2(code, constants)
     } else {
-        Image::new(code, constants)?
-    };
-    if copied { Ok(image.copy()?) } else { Ok(image) }
+        Image::new(code, constants)
+    }
 }
 
 #[test]
@@ -91,50 +88,78 @@ fn reads_and_writes_a_program(rt: HostRuntime) -> Result<(), Fail> {
     Ok(())
 }
 
+/// Versions, and the file of an image of `exit` and three constants.
+const FILES: [(u8, &[u8]); 2] = [
+    (1, b"CELBPF01\x01\0\0\0\x03\0\0\0\x95\0\0\0\0\0\0\0abc"),
+    (2, b"CELBPF02\x01\0\0\0\x03\0\0\0\x95\0\0\0\0\0\0\0abc"),
+];
+
+/// Whether the image of `exit` and three constants has this file, and its copy too.
+fn are_made(alloc: Global, version: u8, file: &[u8]) -> Result<[bool; 2], Fail> {
+    let exit = &PROGRAM[32..];
+    let image = made(alloc, version, exit, b"abc")?;
+    let copy = image.copy()?;
+    Ok([
+        has_parts(&image, version, exit, b"abc", file)?,
+        has_parts(&copy, version, exit, b"abc", file)?,
+    ])
+}
+
 #[test]
 fn makes_images_of_parts(rt: HostRuntime) -> Result<(), Fail> {
-    let exit = &PROGRAM[32..];
-    let files: [(u8, &[u8]); 2] = [
-        (1, b"CELBPF01\x01\0\0\0\x03\0\0\0\x95\0\0\0\0\0\0\0abc"),
-        (2, b"CELBPF02\x01\0\0\0\x03\0\0\0\x95\0\0\0\0\0\0\0abc"),
-    ];
-    for (version, file) in files {
-        for copied in [false, true] {
-            let image = made(rt.alloc(), version, exit, b"abc", copied)?;
-            assert!(rt;
-                has_parts(&image, version, exit, b"abc", file)?,
-                "{version} {copied}"
-            );
-        }
+    for (version, file) in &FILES {
+        assert_eq!(rt;
+            are_made(rt.alloc(), *version, file)?,
+            [true, true],
+            "{version}"
+        );
     }
     Ok(())
 }
 
+/// So many zeros.
+fn zeros(alloc: Global, length: usize) -> Result<Vec<u8>, AllocError> {
+    Ok(vec![in alloc; 0; length]?)
+}
+
+/// Why zeros of these lengths are no parts of an image, of either version.
+fn refusals(
+    alloc: Global,
+    code_length: usize,
+    constants_length: usize,
+) -> Result<[Option<LoadError>; 2], AllocError> {
+    let first = Image::new(zeros(alloc, code_length)?, zeros(alloc, constants_length)?).err();
+    let second = Image::new_2(zeros(alloc, code_length)?, zeros(alloc, constants_length)?).err();
+    Ok([first, second])
+}
+
+/// Lengths of code and constants that are no parts, and why.
+const LENGTHS: [(usize, usize, LoadError); 5] = [
+    (12, 0, LoadError::L5),
+    (524_292, 1_048_577, LoadError::L5),
+    (0, 0, LoadError::L3),
+    (524_296, 1_048_577, LoadError::L3),
+    (524_288, 1_048_577, LoadError::L4),
+];
+
 #[test]
 fn refuses_parts(rt: HostRuntime) -> Result<(), Fail> {
-    let rows = [
-        (12, 0, LoadError::L5),
-        (524_292, 1_048_577, LoadError::L5),
-        (0, 0, LoadError::L3),
-        (524_296, 1_048_577, LoadError::L3),
-        (524_288, 1_048_577, LoadError::L4),
-    ];
-    for (code_length, constants_length, cause) in rows {
-        let code = vec![in rt.alloc(); 0; code_length]?;
-        let constants = vec![in rt.alloc(); 0; constants_length]?;
-        assert_eq!(rt; Image::new(code, constants).err(), Some(cause));
-        let code = vec![in rt.alloc(); 0; code_length]?;
-        let constants = vec![in rt.alloc(); 0; constants_length]?;
-        assert_eq!(rt; Image::new_2(code, constants).err(), Some(cause));
+    for (code_length, constants_length, cause) in &LENGTHS {
+        let found = refusals(rt.alloc(), *code_length, *constants_length)?;
+        assert_eq!(rt; found, [Some(*cause), Some(*cause)]);
     }
     Ok(())
+}
+
+/// The file of the longest parts.
+fn longest_file(alloc: Global) -> Result<Vec<u8>, LoadError> {
+    let image = Image::new(zeros(alloc, 524_288)?, zeros(alloc, 1_048_576)?)?;
+    Ok(image.write()?)
 }
 
 #[test]
 fn takes_the_longest_parts(rt: HostRuntime) -> Result<(), Fail> {
-    let code = vec![in rt.alloc(); 0; 524_288]?;
-    let constants = vec![in rt.alloc(); 0; 1_048_576]?;
-    let file = Image::new(code, constants)?.write()?;
+    let file = longest_file(rt.alloc())?;
     let image = Image::read(rt.alloc(), file.as_slice())?;
     assert_eq!(rt; image.code().len(), 524_288);
     assert_eq!(rt; image.constants().len(), 1_048_576);

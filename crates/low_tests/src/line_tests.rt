@@ -138,34 +138,42 @@ const ATOMIC_LINES: [(AtomicOp, &str, &str); 10] = [
     ),
 ];
 
-/// Whether the atomic instruction at `[r1+0]` with R2 has this line.
-fn has_line(alloc: Global, op: AtomicOp, width: Width, line: &str) -> Result<bool, AllocError> {
-    let insn = Insn::Atomic {
+/// The atomic instruction at `[r1+0]` with R2.
+fn atomic(op: AtomicOp, width: Width) -> Insn {
+    Insn::Atomic {
         op,
         width,
         dst: Register::R1,
         offset: 0,
         src: Register::R2,
-    };
-    let text = Statement::Insn(insn).to_string(alloc)?;
-    Ok(text.as_str() == line)
+    }
+}
+
+/// Whether the statement has this line.
+fn has_line(alloc: Global, statement: Statement, line: &str) -> Result<bool, AllocError> {
+    statement.in_range();
+    Ok(statement.to_string(alloc)?.as_str() == line)
+}
+
+/// Whether the atomic instruction has this line.
+fn is_line(alloc: Global, op: AtomicOp, width: Width, line: &str) -> Result<bool, AllocError> {
+    has_line(alloc, Statement::Insn(atomic(op, width)), line)
 }
 
 #[test]
 fn each_atomic_operation_has_its_lines(rt: HostRuntime) -> Result<(), Fail> {
-    for (op, half, whole) in ATOMIC_LINES {
-        assert!(rt; has_line(rt.alloc(), op, Width::W32, half)?);
-        assert!(rt; has_line(rt.alloc(), op, Width::W64, whole)?);
+    for (op, half, whole) in &ATOMIC_LINES {
+        assert!(rt; is_line(rt.alloc(), *op, Width::W32, half)?);
+        assert!(rt; is_line(rt.alloc(), *op, Width::W64, whole)?);
     }
     Ok(())
 }
 
 #[test]
 fn each_statement_has_its_line(rt: HostRuntime) -> Result<(), Fail> {
-    for (statement, slots, line) in LINES {
-        statement.in_range();
-        let text = statement.to_string(rt.alloc())?;
-        assert!(rt; text.as_str() == line && statement.slots() == slots);
+    for (statement, slots, line) in &LINES {
+        assert!(rt; has_line(rt.alloc(), *statement, line)?);
+        assert!(rt; statement.slots() == *slots);
     }
     Ok(())
 }

@@ -197,8 +197,8 @@ fn each_other_slot_has_its_line(rt: HostRuntime) -> Result<(), Fail> {
 
 #[test]
 fn code_has_its_listing(rt: HostRuntime) -> Result<(), Fail> {
-    for (code, text) in LISTINGS {
-        assert_eq!(rt; listing(rt.alloc(), code)?.as_str(), text);
+    for (code, text) in &LISTINGS {
+        assert_eq!(rt; listing(rt.alloc(), code)?.as_str(), *text);
     }
     Ok(())
 }

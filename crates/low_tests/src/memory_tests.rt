@@ -107,8 +107,8 @@ fn stores_as(guest: &mut Guest, addr: u64, size: Size, answer: Result<(), WriteE
 #[test]
 fn loads(rt: HostRuntime) -> Result<(), Fail> {
     let guest = start(rt.alloc(), CONSTANTS)?;
-    for (row, (addr, size, answer)) in LOADS.into_iter().enumerate() {
-        assert!(rt; loads_as(&guest, addr, size, answer), "row {row}");
+    for (row, (addr, size, answer)) in LOADS.iter().enumerate() {
+        assert!(rt; loads_as(&guest, *addr, *size, *answer), "row {row}");
     }
     Ok(())
 }
@@ -116,8 +116,8 @@ fn loads(rt: HostRuntime) -> Result<(), Fail> {
 #[test]
 fn stores(rt: HostRuntime) -> Result<(), Fail> {
     let mut guest = start(rt.alloc(), CONSTANTS)?;
-    for (row, (addr, size, answer)) in STORES.into_iter().enumerate() {
-        assert!(rt; stores_as(&mut guest, addr, size, answer), "row {row}");
+    for (row, (addr, size, answer)) in STORES.iter().enumerate() {
+        assert!(rt; stores_as(&mut guest, *addr, *size, *answer), "row {row}");
     }
     Ok(())
 }
@@ -152,8 +152,8 @@ fn may_store_as(guest: &Guest, addr: u64, size: Size, answer: Result<(), WriteEr
 #[test]
 fn says_what_a_store_would_answer(rt: HostRuntime) -> Result<(), Fail> {
     let guest = start(rt.alloc(), CONSTANTS)?;
-    for (row, (addr, size, answer)) in STORES.into_iter().enumerate() {
-        assert!(rt; may_store_as(&guest, addr, size, answer), "row {row}");
+    for (row, (addr, size, answer)) in STORES.iter().enumerate() {
+        assert!(rt; may_store_as(&guest, *addr, *size, *answer), "row {row}");
     }
     Ok(())
 }
@@ -253,11 +253,23 @@ fn stores_over_borders(rt: HostRuntime) -> Result<(), Fail> {
     Ok(())
 }
 
+/// The memory's copy.
+fn copied(guest: &Guest) -> Result<Guest, Fail> {
+    Ok(guest.copy()?)
+}
+
+/// Stores the word.
+fn put(guest: &mut Guest, addr: u64, size: Size, word: u64) -> Result<(), WriteError> {
+    guest.write(addr, size, word)
+}
+
 /// What a memory and its copy load, each of which has stored at one address after the copy was made.
 fn apart(alloc: Global, addr: u64) -> Result<[Option<u64>; 2], Fail> {
-    let guest = stored(start(alloc, b"")?, addr, Size::Dw, 1)?;
-    let copy = stored(guest.copy()?, addr, Size::Dw, 2)?;
-    let guest = stored(guest, addr, Size::H, 3)?;
+    let mut guest = start(alloc, b"")?;
+    put(&mut guest, addr, Size::Dw, 1)?;
+    let mut copy = copied(&guest)?;
+    put(&mut copy, addr, Size::Dw, 2)?;
+    put(&mut guest, addr, Size::H, 3)?;
     Ok([word(&guest, addr, Size::Dw), word(&copy, addr, Size::Dw)])
 }
 
@@ -280,9 +292,11 @@ fn bytes(guest: &Guest) -> [Option<u64>; 3] {
 
 #[test]
 fn copies(rt: HostRuntime) -> Result<(), Fail> {
-    let guest = stored(start(rt.alloc(), b"a")?, 0x1_0000_0000, Size::B, 1)?;
-    let copy = stored(guest.copy()?, 0x1_0000_0000, Size::B, 2)?;
-    let guest = stored(guest, 0x3_0000_0000, Size::B, 3)?;
+    let mut guest = start(rt.alloc(), b"a")?;
+    put(&mut guest, 0x1_0000_0000, Size::B, 1)?;
+    let mut copy = copied(&guest)?;
+    put(&mut copy, 0x1_0000_0000, Size::B, 2)?;
+    put(&mut guest, 0x3_0000_0000, Size::B, 3)?;
     assert!(rt; bytes(&guest) == [Some(1), Some(3), Some(0x61)]);
     assert!(rt; bytes(&copy) == [Some(2), Some(0), Some(0x61)]);
     Ok(())

@@ -88,22 +88,38 @@ fn stops_among_mixed_bytes(rt: HostRuntime) {
     }
 }
 
+/// Bytes, and how many characters begin in them.
+const COUNTED: [(&[u8], usize); 3] = [(b"", 0), (&[0x80; 33], 0), (&[0xbf; 64], 0)];
+
+/// Bytes, others, and where they first differ.
+const DIFFERENT: [(&[u8], &[u8], usize); 3] = [
+    (b"", b"", 0),
+    (b"", b"a", 0),
+    (b"equal", b"equal", 5),
+];
+
+/// Bytes, and where the first special one stands.
+const SKIPPED: [(&[u8], usize); 3] = [(b"", 0), (b"plain text`", 11), (b"it's", 2)];
+
+/// Where zeros differ from 64 bytes of which only the last is not zero.
+fn first_of_zeros(zeros: &[u8]) -> usize {
+    let mut last = [0; 64];
+    last[63] = 1;
+    first_difference(zeros, &last)
+}
+
 #[test]
 fn edges(rt: HostRuntime) {
-    let nothing: [u8; 0] = [];
-    assert_eq!(rt; code_points(&nothing), 0);
-    assert_eq!(rt; code_points(&[0x80; 33]), 0);
-    assert_eq!(rt; code_points(&[0xbf; 64]), 0);
+    for (bytes, expected) in &COUNTED {
+        assert_eq!(rt; code_points(bytes), *expected);
+    }
     assert_eq!(rt; code_points("aé€😀".as_bytes()), 4);
-    assert_eq!(rt; first_difference(&nothing, &nothing), 0);
-    assert_eq!(rt; first_difference(&nothing, b"a"), 0);
-    assert_eq!(rt; first_difference(b"equal", b"equal"), 5);
-    let zeros = [0; 64];
-    let mut last = zeros;
-    last[63] = 1;
-    assert_eq!(rt; first_difference(&zeros, &last), 63);
-    assert_eq!(rt; first_difference(&zeros[..63], &last), 63);
-    assert_eq!(rt; skip_plain(&nothing), 0);
-    assert_eq!(rt; skip_plain(b"plain text`"), 11);
-    assert_eq!(rt; skip_plain(b"it's"), 2);
+    for (left, right, expected) in &DIFFERENT {
+        assert_eq!(rt; first_difference(left, right), *expected);
+    }
+    assert_eq!(rt; first_of_zeros(&[0; 64]), 63);
+    assert_eq!(rt; first_of_zeros(&[0; 63]), 63);
+    for (bytes, expected) in &SKIPPED {
+        assert_eq!(rt; skip_plain(bytes), *expected);
+    }
 }

@@ -1,7 +1,7 @@
 //! Operands of every type in every place that the table of types has, worked by hand.
 
 use super::{Answer, BOOL, DYN, INT, LIST, MAP, NULL, STRING, Y2, answer};
-use std::alloc::Global;
+use std::alloc::{AllocError, Global};
 use std::process::Abort;
 use std::test::Fail;
 
@@ -177,32 +177,105 @@ const SINGLES: [(&str, &str, Line); 13] = [
     ("f(", ")", [Y2, Y2, Y2, Y2, Y2, Y2, Y2]),
 ];
 
+/// Forms of differences, products, quotients and their rests.
+const COMPUTING: [Form; 4] = [
+    ("", " - ", ""),
+    ("", " * ", ""),
+    ("", " / ", ""),
+    ("", " % ", ""),
+];
+
+/// Forms of equality.
+const EQUATING: [Form; 2] = [("", " == ", ""), ("", " != ", "")];
+
+/// Forms of order.
+const ORDERING: [Form; 4] = [
+    ("", " < ", ""),
+    ("", " <= ", ""),
+    ("", " > ", ""),
+    ("", " >= ", ""),
+];
+
+/// Forms of logic.
+const JUDGING: [Form; 2] = [("", " && ", ""), ("", " || ", "")];
+
+/// Forms of a conditional.
+const BRANCHING: [Form; 2] = [("true ? ", " : ", ""), ("object ? ", " : ", "")];
+
+/// Forms of tests of texts.
+const TESTING: [Form; 3] = [
+    ("", ".startsWith(", ")"),
+    ("", ".endsWith(", ")"),
+    ("", ".contains(", ")"),
+];
+
+/// Forms of macros that answer a truth.
+const QUANTIFYING: [Form; 3] = [
+    ("", ".all(x, ", ")"),
+    ("", ".exists(x, ", ")"),
+    ("", ".exists_one(x, ", ")"),
+];
+
+/// Forms of macros that answer a list, with a predicate.
+const SELECTING: [Form; 2] = [("", ".filter(x, ", ")"), ("", ".map(x, ", ", 1)")];
+
+/// Forms of macros that answer a list, with a transform.
+const MAPPING: [Form; 2] = [("", ".map(x, ", ")"), ("", ".map(x, true, ", ")")];
+
+/// The form with these operands.
+fn filled(alloc: Global, form: Form, first: &str, second: &str) -> Result<String, AllocError> {
+    let (front, middle, back) = form;
+    let mut text = String::from_str(alloc, front)?;
+    text.push_str(first)?;
+    text.push_str(middle)?;
+    text.push_str(second)?;
+    text.push_str(back)?;
+    Ok(text)
+}
+
+/// Asserts what the form answers to these operands.
+fn assert_pair(
+    rt: &impl Abort,
+    alloc: Global,
+    form: Form,
+    first: &str,
+    second: &str,
+    wanted: Answer,
+) -> Result<(), AllocError> {
+    let text = filled(alloc, form, first, second)?;
+    assert_eq!(rt; answer(alloc, text.as_str()), Some(wanted), "row {text}");
+    Ok(())
+}
+
 /// Asserts what the form answers behind this operand.
 fn assert_line(
     rt: &impl Abort,
     alloc: Global,
     form: Form,
     first: &str,
-    line: Line,
-) -> Result<(), Fail> {
-    let (front, middle, back) = form;
-    for (second, wanted) in OPERANDS.into_iter().zip(line) {
-        let text = format!(in alloc; "{front}{first}{middle}{second}{back}")?;
-        assert_eq!(rt; answer(alloc, text.as_str())?, wanted, "row {text}");
+    line: &Line,
+) -> Result<(), AllocError> {
+    for i in 0..7 {
+        assert_pair(rt, alloc, form, first, OPERANDS[i], line[i])?;
     }
     Ok(())
 }
 
 /// Asserts what the form answers to all pairs of operands.
-fn assert_grid(rt: &impl Abort, alloc: Global, form: Form, grid: Grid) -> Result<(), Fail> {
-    for (first, line) in OPERANDS.into_iter().zip(grid) {
-        assert_line(rt, alloc, form, first, line)?;
+fn assert_grid(rt: &impl Abort, alloc: Global, form: Form, grid: &Grid) -> Result<(), AllocError> {
+    for i in 0..7 {
+        assert_line(rt, alloc, form, OPERANDS[i], &grid[i])?;
     }
     Ok(())
 }
 
 /// Asserts what each of these forms answers to all pairs of operands.
-fn assert_grids(rt: &impl Abort, alloc: Global, forms: &[Form], grid: Grid) -> Result<(), Fail> {
+fn assert_grids(
+    rt: &impl Abort,
+    alloc: Global,
+    forms: &[Form],
+    grid: &Grid,
+) -> Result<(), AllocError> {
     for form in forms {
         assert_grid(rt, alloc, *form, grid)?;
     }
@@ -211,100 +284,53 @@ fn assert_grids(rt: &impl Abort, alloc: Global, forms: &[Form], grid: Grid) -> R
 
 #[test]
 fn types_of_single_operands(rt: HostRuntime) -> Result<(), Fail> {
-    for (front, back, line) in SINGLES {
-        assert_line(&rt, rt.alloc(), (front, "", back), "", line)?;
+    for (front, back, line) in &SINGLES {
+        assert_line(&rt, rt.alloc(), (*front, "", *back), "", line)?;
     }
     Ok(())
 }
 
 #[test]
 fn types_of_arithmetic(rt: HostRuntime) -> Result<(), Fail> {
-    let computing = [
-        ("", " - ", ""),
-        ("", " * ", ""),
-        ("", " / ", ""),
-        ("", " % ", ""),
-    ];
-    assert_grid(&rt, rt.alloc(), ("", " + ", ""), JOINED)?;
-    assert_grids(&rt, rt.alloc(), &computing, COMPUTED)
+    assert_grid(&rt, rt.alloc(), ("", " + ", ""), &JOINED)?;
+    Ok(assert_grids(&rt, rt.alloc(), &COMPUTING, &COMPUTED)?)
 }
 
 #[test]
 fn types_of_equality(rt: HostRuntime) -> Result<(), Fail> {
-    assert_grids(
-        &rt,
-        rt.alloc(),
-        &[("", " == ", ""), ("", " != ", "")],
-        EQUAL,
-    )
+    Ok(assert_grids(&rt, rt.alloc(), &EQUATING, &EQUAL)?)
 }
 
 #[test]
 fn types_of_order(rt: HostRuntime) -> Result<(), Fail> {
-    let orders = [
-        ("", " < ", ""),
-        ("", " <= ", ""),
-        ("", " > ", ""),
-        ("", " >= ", ""),
-    ];
-    assert_grids(&rt, rt.alloc(), &orders, ORDERED)
+    Ok(assert_grids(&rt, rt.alloc(), &ORDERING, &ORDERED)?)
 }
 
 #[test]
 fn types_of_parts(rt: HostRuntime) -> Result<(), Fail> {
-    assert_grid(&rt, rt.alloc(), ("", " in ", ""), MEMBERS)?;
-    assert_grid(&rt, rt.alloc(), ("", "[", "]"), INDEXED)?;
-    assert_grid(&rt, rt.alloc(), ("{", ": ", "}"), PAIRED)
+    assert_grid(&rt, rt.alloc(), ("", " in ", ""), &MEMBERS)?;
+    assert_grid(&rt, rt.alloc(), ("", "[", "]"), &INDEXED)?;
+    Ok(assert_grid(&rt, rt.alloc(), ("{", ": ", "}"), &PAIRED)?)
 }
 
 #[test]
 fn types_of_truths(rt: HostRuntime) -> Result<(), Fail> {
-    assert_grids(
-        &rt,
-        rt.alloc(),
-        &[("", " && ", ""), ("", " || ", "")],
-        JUDGED,
-    )?;
-    assert_grids(
-        &rt,
-        rt.alloc(),
-        &[("true ? ", " : ", ""), ("object ? ", " : ", "")],
-        BRANCHES,
-    )
+    assert_grids(&rt, rt.alloc(), &JUDGING, &JUDGED)?;
+    Ok(assert_grids(&rt, rt.alloc(), &BRANCHING, &BRANCHES)?)
 }
 
 #[test]
 fn types_of_text_tests(rt: HostRuntime) -> Result<(), Fail> {
-    let tests = [
-        ("", ".startsWith(", ")"),
-        ("", ".endsWith(", ")"),
-        ("", ".contains(", ")"),
-    ];
-    assert_grids(&rt, rt.alloc(), &tests, TESTED)
+    Ok(assert_grids(&rt, rt.alloc(), &TESTING, &TESTED)?)
 }
 
 #[test]
 fn types_of_quantifiers(rt: HostRuntime) -> Result<(), Fail> {
-    let tests = [
-        ("", ".all(x, ", ")"),
-        ("", ".exists(x, ", ")"),
-        ("", ".exists_one(x, ", ")"),
-    ];
-    assert_grids(&rt, rt.alloc(), &tests, QUANTIFIED)
+    Ok(assert_grids(&rt, rt.alloc(), &QUANTIFYING, &QUANTIFIED)?)
 }
 
 #[test]
 fn types_of_mapping(rt: HostRuntime) -> Result<(), Fail> {
-    assert_grids(
-        &rt,
-        rt.alloc(),
-        &[("", ".filter(x, ", ")"), ("", ".map(x, ", ", 1)")],
-        SELECTED,
-    )?;
-    assert_grids(
-        &rt,
-        rt.alloc(),
-        &[("", ".map(x, ", ")"), ("", ".map(x, true, ", ")")],
-        MAPPED,
-    )
+    assert_grids(&rt, rt.alloc(), &SELECTING, &SELECTED)?;
+    Ok(assert_grids(&rt, rt.alloc(), &MAPPING, &MAPPED)?)
 }

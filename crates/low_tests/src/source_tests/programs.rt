@@ -1,6 +1,7 @@
 //! Programs and their slots.
 use super::{around, slots_of};
 use assembler::{listing_is_source, one_answer, refused_by_cause, source_is_assembled};
+use std::alloc::Global;
 use std::test::Fail;
 
 /// Programs with the bytes of their slots, each in the order of storage.
@@ -103,16 +104,24 @@ fn programs_have_their_slots(rt: HostRuntime) -> Result<(), Fail> {
     Ok(())
 }
 
+/// The slot at this index in the code of lines, between which stand as many lines `exit`.
+fn slot_at(
+    alloc: Global,
+    first: &str,
+    exits: usize,
+    last: &str,
+    index: usize,
+) -> Result<Option<u64>, Fail> {
+    let text = around(alloc, first, exits, last)?;
+    let slots = slots_of(alloc, text.as_str())?;
+    Ok(slots.as_slice().get(index).copied())
+}
+
 #[test]
 fn jumps_reach_their_labels(rt: HostRuntime) -> Result<(), Fail> {
     for (first, exits, last, index, slot) in FAR.iter() {
-        let text = around(rt.alloc(), first, *exits, last)?;
-        let slots = slots_of(rt.alloc(), text.as_str())?;
-        assert_eq!(rt;
-            slots.as_slice().get(*index).copied(),
-            Some(*slot),
-            "{first}{last}"
-        );
+        let found = slot_at(rt.alloc(), first, *exits, last, *index)?;
+        assert_eq!(rt; found, Some(*slot), "{first}{last}");
     }
     Ok(())
 }
