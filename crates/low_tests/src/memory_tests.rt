@@ -290,15 +290,21 @@ fn bytes(guest: &Guest) -> [Option<u64>; 3] {
     ]
 }
 
-#[test]
-fn copies(rt: HostRuntime) -> Result<(), Fail> {
-    let mut guest = start(rt.alloc(), b"a")?;
+/// These bytes of a memory and of its copy, each of which has stored after the copy was made.
+fn bytes_apart(alloc: Global) -> Result<[[Option<u64>; 3]; 2], Fail> {
+    let mut guest = start(alloc, b"a")?;
     put(&mut guest, 0x1_0000_0000, Size::B, 1)?;
     let mut copy = copied(&guest)?;
     put(&mut copy, 0x1_0000_0000, Size::B, 2)?;
     put(&mut guest, 0x3_0000_0000, Size::B, 3)?;
-    assert!(rt; bytes(&guest) == [Some(1), Some(3), Some(0x61)]);
-    assert!(rt; bytes(&copy) == [Some(2), Some(0), Some(0x61)]);
+    Ok([bytes(&guest), bytes(&copy)])
+}
+
+#[test]
+fn copies(rt: HostRuntime) -> Result<(), Fail> {
+    let [first, second] = bytes_apart(rt.alloc())?;
+    assert!(rt; first == [Some(1), Some(3), Some(0x61)]);
+    assert!(rt; second == [Some(2), Some(0), Some(0x61)]);
     Ok(())
 }
 

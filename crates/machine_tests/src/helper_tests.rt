@@ -28,6 +28,16 @@ fn nulls(alloc: Global) -> Result<PlainTable, TableError> {
     )
 }
 
+/// A call.
+fn once(
+    id: i32,
+    args: [u64; 5],
+    table: &mut PlainTable,
+    memory: &Guest,
+) -> Result<HelperEnd, AllocError> {
+    call(id, args, table, memory)
+}
+
 /// A call with three arguments. Where the host refuses memory, the store has as many values and the
 /// charge that it had, and the call is made again.
 fn called(
@@ -38,13 +48,13 @@ fn called(
 ) -> Result<HelperEnd, AllocError> {
     let args = [a, b, c, 0, 0];
     let before = (table.len(), table.charge());
-    match call(id, args, table, memory) {
+    match once(id, args, table, memory) {
         Ok(end) => Ok(end),
         Err(error) => {
             if (table.len(), table.charge()) != before {
                 return Err(error);
             }
-            call(id, args, table, memory)
+            once(id, args, table, memory)
         }
     }
 }

@@ -160,21 +160,80 @@ const PAIRED: Grid = [
     [MAP, MAP, MAP, MAP, MAP, MAP, MAP],
 ];
 
+/// What stands before an operand and behind it, and what is answered.
+struct Single {
+    front: &'static str,
+    back: &'static str,
+    line: Line,
+}
+
 /// The forms of one operand.
-const SINGLES: [(&str, &str, Line); 13] = [
-    ("!", "", [BOOL, Y2, Y2, Y2, Y2, Y2, BOOL]),
-    ("-(", ")", [Y2, INT, Y2, Y2, Y2, Y2, INT]),
-    ("", ".f", [Y2, Y2, Y2, Y2, Y2, DYN, DYN]),
-    ("has(", ".f)", [Y2, Y2, Y2, Y2, Y2, BOOL, BOOL]),
-    ("size(", ")", [Y2, Y2, INT, Y2, INT, INT, INT]),
-    ("", ".size()", [Y2, Y2, INT, Y2, INT, INT, INT]),
-    ("string(", ")", [Y2, STRING, STRING, Y2, Y2, Y2, STRING]),
-    ("dyn(", ")", [DYN, DYN, DYN, DYN, DYN, DYN, DYN]),
-    ("", " ? 1 : 2", [INT, Y2, Y2, Y2, Y2, Y2, INT]),
-    ("", ".string()", [Y2, Y2, Y2, Y2, Y2, Y2, Y2]),
-    ("", ".dyn()", [Y2, Y2, Y2, Y2, Y2, Y2, Y2]),
-    ("contains(", ")", [Y2, Y2, Y2, Y2, Y2, Y2, Y2]),
-    ("f(", ")", [Y2, Y2, Y2, Y2, Y2, Y2, Y2]),
+const SINGLES: [Single; 13] = [
+    Single {
+        front: "!",
+        back: "",
+        line: [BOOL, Y2, Y2, Y2, Y2, Y2, BOOL],
+    },
+    Single {
+        front: "-(",
+        back: ")",
+        line: [Y2, INT, Y2, Y2, Y2, Y2, INT],
+    },
+    Single {
+        front: "",
+        back: ".f",
+        line: [Y2, Y2, Y2, Y2, Y2, DYN, DYN],
+    },
+    Single {
+        front: "has(",
+        back: ".f)",
+        line: [Y2, Y2, Y2, Y2, Y2, BOOL, BOOL],
+    },
+    Single {
+        front: "size(",
+        back: ")",
+        line: [Y2, Y2, INT, Y2, INT, INT, INT],
+    },
+    Single {
+        front: "",
+        back: ".size()",
+        line: [Y2, Y2, INT, Y2, INT, INT, INT],
+    },
+    Single {
+        front: "string(",
+        back: ")",
+        line: [Y2, STRING, STRING, Y2, Y2, Y2, STRING],
+    },
+    Single {
+        front: "dyn(",
+        back: ")",
+        line: [DYN, DYN, DYN, DYN, DYN, DYN, DYN],
+    },
+    Single {
+        front: "",
+        back: " ? 1 : 2",
+        line: [INT, Y2, Y2, Y2, Y2, Y2, INT],
+    },
+    Single {
+        front: "",
+        back: ".string()",
+        line: [Y2, Y2, Y2, Y2, Y2, Y2, Y2],
+    },
+    Single {
+        front: "",
+        back: ".dyn()",
+        line: [Y2, Y2, Y2, Y2, Y2, Y2, Y2],
+    },
+    Single {
+        front: "contains(",
+        back: ")",
+        line: [Y2, Y2, Y2, Y2, Y2, Y2, Y2],
+    },
+    Single {
+        front: "f(",
+        back: ")",
+        line: [Y2, Y2, Y2, Y2, Y2, Y2, Y2],
+    },
 ];
 
 /// Forms of differences, products, quotients and their rests.
@@ -261,6 +320,14 @@ fn assert_line(
     Ok(())
 }
 
+/// Asserts what these forms of one operand answer.
+fn assert_singles(rt: &impl Abort, alloc: Global, rows: &[Single]) -> Result<(), AllocError> {
+    for row in rows {
+        assert_line(rt, alloc, (row.front, "", row.back), "", &row.line)?;
+    }
+    Ok(())
+}
+
 /// Asserts what the form answers to all pairs of operands.
 fn assert_grid(rt: &impl Abort, alloc: Global, form: Form, grid: &Grid) -> Result<(), AllocError> {
     for i in 0..7 {
@@ -284,10 +351,7 @@ fn assert_grids(
 
 #[test]
 fn types_of_single_operands(rt: HostRuntime) -> Result<(), Fail> {
-    for (front, back, line) in &SINGLES {
-        assert_line(&rt, rt.alloc(), (*front, "", *back), "", line)?;
-    }
-    Ok(())
+    Ok(assert_singles(&rt, rt.alloc(), &SINGLES)?)
 }
 
 #[test]

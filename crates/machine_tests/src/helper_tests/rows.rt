@@ -298,8 +298,8 @@ const STOPS: [(i32, [u64; 3], Fault); 11] = [
 
 fn values(alloc: Global, memory: &Guest) -> Result<PlainTable, Fail> {
     let mut table = nulls(alloc)?;
-    for (id, args) in VALUES {
-        called(id, args, &mut table, memory)?;
+    for (id, args) in &VALUES {
+        called(*id, *args, &mut table, memory)?;
     }
     Ok(table)
 }

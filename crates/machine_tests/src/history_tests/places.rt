@@ -36,8 +36,8 @@ fn shown(history: &mut Past<Plain>, place: u64) -> Result<Shown, AllocError> {
 
 /// The first row that is shown otherwise.
 fn wrong_row(history: &mut Past<Plain>) -> Result<Option<usize>, AllocError> {
-    for (row, expected) in SHOWN.into_iter().enumerate() {
-        if shown(history, expected.0)? != expected {
+    for (row, expected) in SHOWN.iter().enumerate() {
+        if shown(history, expected.0)? != *expected {
             return Ok(Some(row));
         }
     }

@@ -4,6 +4,7 @@ ghost use Rattle.std.specs.Prelude.{◌<◌};
 use super::{Plain, begun};
 use history::{History, Past};
 use std::alloc::{AllocError, Global};
+use std::process::Abort;
 use std::test::Fail;
 
 /// `r0 = 5` and `exit`: slots 0, 1 and, stopped, 1.
@@ -102,14 +103,23 @@ fn first_in(alloc: Global, code: &[u8], now: u64, to: u64, stops: &[u64]) -> Res
     Ok(first_from(&mut history, now, to, stops)?)
 }
 
-#[test]
-fn finds_the_first(rt: HostRuntime) -> Result<(), Fail> {
-    for (code, now, to, stops, found) in FIRST {
-        assert!(rt; now < to);
-        let first = first_in(rt.alloc(), code, now, to, stops)?;
-        assert!(rt; first == (found, now), "from {now} to {to}");
+/// Asserts what searches on find.
+fn assert_first(
+    rt: &impl Abort,
+    alloc: Global,
+    rows: &[(&[u8], u64, u64, &[u64], u64)],
+) -> Result<(), Fail> {
+    for (code, now, to, stops, found) in rows {
+        assert!(rt; *now < *to);
+        let first = first_in(alloc, code, *now, *to, stops)?;
+        assert!(rt; first == (*found, *now), "from {now} to {to}");
     }
     Ok(())
+}
+
+#[test]
+fn finds_the_first(rt: HostRuntime) -> Result<(), Fail> {
+    assert_first(&rt, rt.alloc(), &FIRST)
 }
 
 /// What a search back from this place finds.
@@ -124,11 +134,20 @@ fn last_in(alloc: Global, code: &[u8], now: u64, stops: &[u64]) -> Result<Found,
     Ok(last_from(&mut history, now, stops)?)
 }
 
-#[test]
-fn finds_the_last(rt: HostRuntime) -> Result<(), Fail> {
-    for (code, now, stops, found) in LAST {
-        let last = last_in(rt.alloc(), code, now, stops)?;
-        assert!(rt; last == (found, now), "before {now}");
+/// Asserts what searches back find.
+fn assert_last(
+    rt: &impl Abort,
+    alloc: Global,
+    rows: &[(&[u8], u64, &[u64], u64)],
+) -> Result<(), Fail> {
+    for (code, now, stops, found) in rows {
+        let last = last_in(alloc, code, *now, stops)?;
+        assert!(rt; last == (*found, *now), "before {now}");
     }
     Ok(())
+}
+
+#[test]
+fn finds_the_last(rt: HostRuntime) -> Result<(), Fail> {
+    assert_last(&rt, rt.alloc(), &LAST)
 }

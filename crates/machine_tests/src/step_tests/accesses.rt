@@ -2,6 +2,7 @@ use super::{EXIT, answer, wide};
 use bpf_machine::Status;
 use guest_memory::Fault;
 use std::alloc::Global;
+use std::process::Abort;
 use std::test::Fail;
 
 /// R1 = 0x2_0000_0000, the base of scratch, and R2 = 0xf0e1_d2c3_b4a5_9687, by two wide loads.
@@ -118,11 +119,20 @@ fn expected_answer(fault: Option<Fault>) -> (u64, Status) {
     }
 }
 
-#[test]
-fn bounds(rt: HostRuntime) -> Result<(), Fail> {
-    for (row, (address, access, constants, fault)) in BOUNDS.into_iter().enumerate() {
-        let answer = access_answer(rt.alloc(), address, access, constants)?;
-        assert!(rt; answer == expected_answer(fault), "row {row}");
+/// Asserts what runs answer of these accesses.
+fn assert_bounds(
+    rt: &impl Abort,
+    alloc: Global,
+    rows: &[(u64, u64, &[u8], Option<Fault>)],
+) -> Result<(), Fail> {
+    for (row, (address, access, constants, fault)) in rows.iter().enumerate() {
+        let answer = access_answer(alloc, *address, *access, constants)?;
+        assert!(rt; answer == expected_answer(*fault), "row {row}");
     }
     Ok(())
+}
+
+#[test]
+fn bounds(rt: HostRuntime) -> Result<(), Fail> {
+    assert_bounds(&rt, rt.alloc(), &BOUNDS)
 }

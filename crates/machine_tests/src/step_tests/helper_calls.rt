@@ -3,6 +3,7 @@ use bpf_machine::Status;
 use guest_memory::Fault;
 use insn_codec::Register;
 use std::alloc::Global;
+use std::process::Abort;
 use std::test::Fail;
 use value_store::ValueStore;
 
@@ -69,13 +70,18 @@ fn end_of(alloc: Global, slots: &[u64], constants: &[u8]) -> Result<End, Fail> {
     Ok((steps, machine.pc(), status))
 }
 
-#[test]
-fn calls_of_helpers(rt: HostRuntime) -> Result<(), Fail> {
-    for (row, (slots, constants, end)) in CALLS.into_iter().enumerate() {
-        let stands = end_of(rt.alloc(), slots, constants)? == end;
+/// Asserts where these runs stand.
+fn assert_ends(rt: &impl Abort, alloc: Global, rows: &[(&[u64], &[u8], End)]) -> Result<(), Fail> {
+    for (row, (slots, constants, end)) in rows.iter().enumerate() {
+        let stands = end_of(alloc, slots, constants)? == *end;
         assert!(rt; stands, "row {row}");
     }
     Ok(())
+}
+
+#[test]
+fn calls_of_helpers(rt: HostRuntime) -> Result<(), Fail> {
+    assert_ends(&rt, rt.alloc(), &CALLS)
 }
 
 /// How many values there are, their charge and R1 after a run.
