@@ -2,6 +2,8 @@
 #![tactic(auto)]
 
 #[cfg(test)]
+mod error_tests;
+#[cfg(test)]
 mod macro_tests;
 #[cfg(test)]
 mod measure_tests;

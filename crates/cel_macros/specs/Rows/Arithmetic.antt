@@ -58,3 +58,7 @@ pub record ArithmeticRows : Type 0 where
   pub negation_of_text : Means (unary Negate (str "a")) error
   -- [1] + 'a'
   pub list_and_text_do_not_join : Means (binary Add (list_literal ((num 1) ∷ [])) (str "a")) error
+  -- 7 / -1
+  pub quotient_by_minus_one : Means (binary Divide (num 7) (neg 1)) (number (negsuc 6))
+  -- 7 % -1
+  pub remainder_by_minus_one : Means (binary Remainder (num 7) (neg 1)) (number (pos 0))

@@ -65,3 +65,17 @@ pub record ComparisonRows : Type 0 where
   pub error_in_list : Means (binary In (binary Divide (num 1) (num 0)) (list_literal ((num 1) ∷ []))) error
   -- 'a' in 'abc'
   pub text_is_no_container : Means (binary In (str "a") (str "abc")) error
+  -- 2 >= 2
+  pub greater_or_equal_to_itself : Means (binary GreaterEqual (num 2) (num 2)) is_true
+  -- 2 >= 3
+  pub not_greater_or_equal : Means (binary GreaterEqual (num 2) (num 3)) is_false
+  -- 2 < 2
+  pub not_less_than_itself : Means (binary Less (num 2) (num 2)) is_false
+  -- 3 > 2
+  pub greater_than_less : Means (binary Greater (num 3) (num 2)) is_true
+  -- 2 <= 1
+  pub not_less_or_equal : Means (binary LessEqual (num 2) (num 1)) is_false
+  -- 1 != 1
+  pub not_unequal_to_itself : Means (binary NotEqual (num 1) (num 1)) is_false
+  -- 2 > 3
+  pub not_greater_than_more : Means (binary Greater (num 2) (num 3)) is_false

@@ -71,3 +71,13 @@ pub record LiteralsRows : Type 0 where
   pub size_of_two : Means (call "size" ((num 1) ∷ (num 2) ∷ [])) error
   -- 'a'.string()
   pub string_is_no_method : Means (method (str "a") "string" []) error
+  -- 'abc'.startsWith('bc')
+  pub starts_with_its_end : Means (method (str "abc") "startsWith" ((str "bc") ∷ [])) is_false
+  -- 'a'.dyn()
+  pub dyn_is_no_method : Means (method (str "a") "dyn" []) error
+  -- 'a'.f()
+  pub method_unknown : Means (method (str "a") "f" []) error
+  -- object()
+  pub root_is_no_function : Means (call "object" []) error
+  -- 'a'.object(1, 2, 3, 4)
+  pub root_is_no_method : Means (method (str "a") "object" ((num 1) ∷ (num 2) ∷ (num 3) ∷ (num 4) ∷ [])) error

@@ -48,3 +48,21 @@ pub record LogicRows : Type 0 where
   pub ternary_leaves_other : Means (ternary yes (num 1) (binary Divide (num 1) (num 0))) (number (pos 1))
   -- false ? 1 : 1/0
   pub ternary_chosen_error : Means (ternary no (num 1) (binary Divide (num 1) (num 0))) error
+  -- true && false
+  pub and_false_right : Means (binary And yes no) is_false
+  -- false && true
+  pub and_false_left : Means (binary And no yes) is_false
+  -- false && false
+  pub and_false : Means (binary And no no) is_false
+  -- 1 && 1
+  pub and_of_ints : Means (binary And (num 1) (num 1)) error
+  -- true || true
+  pub or_true : Means (binary Or yes yes) is_true
+  -- true || false
+  pub or_true_left : Means (binary Or yes no) is_true
+  -- false || true
+  pub or_true_right : Means (binary Or no yes) is_true
+  -- 1 || 1
+  pub or_of_ints : Means (binary Or (num 1) (num 1)) error
+  -- !false
+  pub not_false : Means (unary Not no) is_true

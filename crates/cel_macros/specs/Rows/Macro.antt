@@ -69,3 +69,7 @@ pub record MacroRows : Type 0 where
   pub all_over_root : Means (method (dot (name "object") "spec") "all" ((name "k") ∷ (call "has" ((dot (dot (name "object") "spec") "on") ∷ [])) ∷ [])) is_true
   -- 'ab'.all(x, true)
   pub range_of_text : Means (method (str "ab") "all" ((name "x") ∷ yes ∷ [])) error
+  -- [1,2,3].exists_one(x, x == 1)
+  pub exists_one_of_three : Means (method (list_literal ((num 1) ∷ (num 2) ∷ (num 3) ∷ [])) "exists_one" ((name "x") ∷ (binary Equal (name "x") (num 1)) ∷ [])) is_true
+  -- [true, 1].filter(x, x)
+  pub filter_with_one_no_truth : Means (method (list_literal (yes ∷ (num 1) ∷ [])) "filter" ((name "x") ∷ (name "x") ∷ [])) error
