@@ -4,7 +4,7 @@ ghost use Rattle.std.specs.Prelude.{◌≡◌, IfErr, IfOk};
 ghost use Rattle.std.specs.Prelude as list;
 ghost use Rattle.std.specs.List.{list_all};
 ghost use Rattle.cel_reader.specs.Tree.{Tree};
-ghost use Rattle.cel_macros.specs.CoreTree.{expanded};
+ghost use Rattle.cel_macros.specs.CoreTree.{expanded, plain_tree};
 ghost use Rattle.cel_macros.specs.CoreView.{core_view, cores, core_entries};
 ghost use Rattle.cel_macros.specs.Environment.{Environment};
 ghost use Rattle.cel_macros.specs.Expanding.{core_pair};
@@ -179,17 +179,22 @@ fn outer_type(core: &Core, variables: &[Variable]) -> Result<CelType, TypeError>
 /// The type of the expression, as the table of types has it. Else the error says what is wrong with
 /// the first part without a row, parts from left to right before their node: Y1 for an unknown name,
 /// Y2 for operands that nothing takes, Y3 for `variables` before no variable of the scope. It takes
-/// no memory. What an accepted expression means in an environment that fits the scope has its type,
-/// or is the error.
+/// no memory.
+///
+/// An expression of any shape that has a type is what its plain tree expands to, and that tree has
+/// this type; what it means in an environment that fits the scope has the type too, or is the error.
+/// The error is said of the plain tree too where the expression is an expansion: written by hand it
+/// can be refused where its plain tree reads as a macro or a variable.
 ///
 /// The host's stack holds one frame for each level of the tree, as for the expansion of macros.
 /// (cel-spec, Gradual Type Checking)
 pub fn check(core: &Core, scope: &Scope) -> Result<CelType, TypeError>
     ensures core { typing_of result ≡ core_typing (core_view core.now) (scope_of scope.now) }
     ensures plain { (e : Tree) → core_view core.now ≡ expanded e → typing_of result ≡ typing e (scope_of scope.now) }
-    ensures has_type { (e : Tree) → core_view core.now ≡ expanded e → IfOk result (HasType (scope_of scope.now) e) }
+    ensures expansion { IfOk result (λ t. core_view core.now ≡ expanded (plain_tree (core_view core.now))) }
+    ensures has_type { IfOk result (HasType (scope_of scope.now) (plain_tree (core_view core.now))) }
     ensures has_fault { (e : Tree) → core_view core.now ≡ expanded e → IfErr result (λ y. HasFault (scope_of scope.now) e (fault_of y)) }
-    ensures sound { (e : Tree) (env : Environment) → core_view core.now ≡ expanded e → FitsScope (scope_of scope.now) env → Fits (typing_of result) (meaning e env) }
+    ensures sound { (env : Environment) → FitsScope (scope_of scope.now) env → Fits (typing_of result) (meaning (plain_tree (core_view core.now)) env) }
 {
     outer_type(core, scope.variables())
 }

@@ -1,7 +1,7 @@
 //! The laws of types, each the contract of an empty function.
 
 ghost use Rattle.cel_types.specs.Rows.{TypingRows};
-ghost use Rattle.cel_types.specs.Laws.{TypesStay};
+ghost use Rattle.cel_types.specs.Laws.{TypedIsExpanded, TypesStay};
 ghost use Rattle.cel_types.specs.Soundness.{IsSound};
 
 /// Expressions that were worked by hand have the types of the type table.
@@ -18,4 +18,9 @@ pub fn is_sound()
 /// An expression with its macros expanded has the type, or the fault, of the plain one.
 pub fn types_stay()
     ensures { TypesStay }
+{}
+
+/// An expression of the core that has a type is what its plain tree expands to.
+pub fn typed_is_expanded()
+    ensures { TypedIsExpanded }
 {}
