@@ -22,9 +22,9 @@ texts_front before after h =
     ∙ sym (texts_cut (length before) after)
     ∙ ap (map string_bytes) h
 
-pub behind : (old : Emitted) (code : List (Option Insn)) (nodes : ℕ) (slots later : List ℕ) (before after : List (String Global)) → emitted code before nodes slots ≡ old → take (length before) after ≡ before → take (length slots) later ≡ slots → IsBehind old (emitted code after nodes later)
-behind old code nodes slots later before after is texts routines =
-    subst (λ e. IsBehind e (emitted code after nodes later)) is (λ i. record { code = code; constants = texts_front before after texts i; nodes = nodes; routines = routines i })
+pub behind : (old : Emitted) (code : List (Option Insn)) (nodes counted : ℕ) (slots later : List ℕ) (before after : List (String Global)) → emitted code before nodes slots ≡ old → take (length before) after ≡ before → take (length slots) later ≡ slots → IsBehind old (emitted code after counted later)
+behind old code nodes counted slots later before after is texts routines =
+    subst (λ e. IsBehind e (emitted code after counted later)) is (λ i. record { code = code; constants = texts_front before after texts i; nodes = nodes; routines = routines i })
 
 pub kept : (slots : List ℕ) → take (length slots) slots ≡ slots
 kept slots = take_all (length slots) slots (omega arith)

@@ -1,5 +1,5 @@
 -- The code of an expression that an image has room for can be spelled: the numbers of its instructions are in range.
-use Rattle.std.proofs.Common.{◌≡◌, ℕ, ◌+◌, ◌*◌, ◌^◌, ◌<◌, ◌≤◌, List, [], ◌∷◌, ◌++◌, length, Option, Some, None, Bool, true, false, refl, ap, arith}
+use Rattle.std.proofs.Common.{◌≡◌, ℕ, ◌+◌, ◌*◌, ◌^◌, ◌<◌, ◌≤◌, List, [], ◌∷◌, ◌++◌, length, suc, Option, Some, None, Bool, true, false, refl, ap, subst, arith}
 use Rattle.std.proofs.lemmas.Int.{ints}
 use Rattle.std.specs.Prelude.{bytes_eq, if◌then◌else◌, unwrap_or, option_map, FitsSigned, pos, ◌-ℤ◌}
 use Rattle.std.specs.Int.{w32}
@@ -18,19 +18,27 @@ use Rattle.cel_macros.specs.Environment.{lookup}
 use Rattle.cel_macros.specs.Functions.{Function, Size, String, Dyn, function_named, TextTest, test_named}
 use Rattle.cel_measures.specs.Measures.{nodes, nodes_of, entries_nodes, need, needs, entries_need}
 use Rattle.cel_measures.specs.Saturated.{saturated}
+use Rattle.cel_types.specs.Declarations.{Declaration}
 use Rattle.codegen_base.specs.Code.Logic.{no_ref, yes_ref}
 use Rattle.codegen_base.specs.Pieces.{AreInsns, size}
 use Rattle.codegen_base.specs.Code.Selection.{index_tail, size_tail, string_tail, test_tail}
 use Rattle.codegen_base.proofs.Insns.{absorbing_insns, difference_insns, divided_insns, entry_insns, equal_insns, field_insns, greater_equal_insns, greater_insns, has_insns, index_insns, insns_append, int_insns, item_insns, less_equal_insns, less_insns, list_insns, macro_insns, map_insns, map_where_insns, member_insns, name_insns, negation_insns, not_insns, null_insns, product_insns, size_insns, string_insns, sum_insns, ternary_insns, test_insns, text_insns, truth_insns, two_insns, unequal_insns, use_insns}
 use Rattle.codegen.specs.Code.Expressions.{binary_code, binary_tail, code_of, entries_code, function_code, items_code, method_function_code, no_code, operands_apart, routine_named, test_code, texts_of, texts_of_each, texts_of_entries, unary_tail, variable_code}
 use Rattle.codegen.specs.Code.Literals.{address_of, literal_code}
+use Rattle.codegen.specs.Computes.{TextsStand}
 use Rattle.codegen.specs.Constants.{place_of}
 use Rattle.codegen.specs.HasLiterals.{EntriesHaveLiterals, HasLiterals, HaveLiterals}
+use Rattle.codegen.specs.Surroundings.{routines_of}
 use Rattle.codegen.proofs.Lengths.{short_code}
 
 -- texts whose lengths are words
 abbrev pub AreShort : List (List ℕ) → Type 0
 AreShort texts = AllByRecursion (λ t. length t < 2 ^ 64) texts
+
+-- texts that stand among the constants have lengths that are words
+pub stand_short : (constants : List ℕ) (texts used : List (List ℕ)) → TextsStand constants texts used → AreShort used
+stand_short constants texts [] h = tt
+stand_short constants texts (t ∷ used) h = (h.0.length_is_word, stand_short constants texts used h.1)
 
 -- iteration names stand in words of the frame
 abbrev pub AreWithin : List (List ℕ × ℕ) → Type 0
@@ -106,14 +114,32 @@ tested_insns None left right k low a b = no_insns
 
 -- ---- variables
 
--- each routine begins in an image, and each memo stands in the scratch region
+-- calls reach each routine, and each memo stands in the scratch region
 abbrev pub AreNear : List (List ℕ × ℕ) → Type 0
-AreNear routines = (n : List ℕ) (found : ℕ × ℕ) → routine_named n routines ≡ Some found → (found.0 < 512) × (found.1 ≤ 65536)
+AreNear routines = (n : List ℕ) (found : ℕ × ℕ) → routine_named n routines ≡ Some found → (found.0 < 512) × (found.1 ≤ 0x7fff_ff00)
 
-distance_fits : (a b : ℕ) → a ≤ 65536 → b ≤ 131072 → FitsSigned w32 (pos a -ℤ pos b)
+-- so many slots that calls reach what begins there
+abbrev pub AreLow : List ℕ → Type 0
+AreLow slots = AllByRecursion (λ slot. slot ≤ 0x7fff_ff00) slots
+
+near_by : (here : Bool) (slot m : ℕ) (o : Option (ℕ × ℕ)) (found : ℕ × ℕ) → slot ≤ 0x7fff_ff00 → ((at : ℕ × ℕ) → o ≡ Some at → (at.0 < m) × (at.1 ≤ 0x7fff_ff00)) → (if here then Some (0, slot) else option_map (λ at. (suc at.0, at.1)) o) ≡ Some found → (found.0 < suc m) × (found.1 ≤ 0x7fff_ff00)
+near_by true slot m o found low later e = let same : (0, slot) ≡ found = cc in subst (λ (at : ℕ × ℕ). (at.0 < suc m) × (at.1 ≤ 0x7fff_ff00)) same (omega arith, low)
+near_by false slot m (Some at) found low later e =
+    let same : (suc at.0, at.1) ≡ found = cc in
+    let is = later at refl in
+    let first = is.0 in
+    subst (λ (b : ℕ × ℕ). (b.0 < suc m) × (b.1 ≤ 0x7fff_ff00)) same (omega arith, is.1)
+near_by false slot m None found low later e = absurd (cc)
+
+pub near_named : (ds : List Declaration) (slots : List ℕ) → AreLow slots → (n : List ℕ) (found : ℕ × ℕ) → routine_named n (routines_of ds slots) ≡ Some found → (found.0 < length slots) × (found.1 ≤ 0x7fff_ff00)
+near_named [] slots low n found e = absurd (cc)
+near_named (d ∷ ds) [] low n found e = absurd (cc)
+near_named (d ∷ ds) (s ∷ slots) low n found e = near_by (bytes_eq d.name n) s (length slots) (routine_named n (routines_of ds slots)) found low.0 (near_named ds slots low.1 n) e
+
+distance_fits : (a b : ℕ) → a ≤ 0x7fff_ff00 → b ≤ 0x8000_0000 → FitsSigned w32 (pos a -ℤ pos b)
 distance_fits a b low high = grind (arith, ints)
 
-variable_insns : (found : Option (ℕ × ℕ)) (p : ℕ) → p + 6 ≤ 131072 → ((at : ℕ × ℕ) → found ≡ Some at → (at.0 < 512) × (at.1 ≤ 65536)) → AreInsns (variable_code found p)
+variable_insns : (found : Option (ℕ × ℕ)) (p : ℕ) → p + 6 ≤ 0x8000_0000 → ((at : ℕ × ℕ) → found ≡ Some at → (at.0 < 512) × (at.1 ≤ 0x7fff_ff00)) → AreInsns (variable_code found p)
 variable_insns (Some at) p low near = let is = near at refl in use_insns at.0 (pos at.1 -ℤ pos (p + 6)) is.0 (distance_fits at.1 (p + 6) is.1 low)
 variable_insns None p low near = no_insns
 
@@ -140,7 +166,7 @@ module _ (ts : List (List ℕ)) (rs : List (List ℕ × ℕ)) (near : AreNear rs
   mutual
     unfolding code_of need nodes texts_of plain_tree
 
-    pub code_insns : (e : CoreTree) (ws : List (List ℕ × ℕ)) (k p : ℕ) → AreWithin ws → k + need e ≤ 60 → nodes e ≤ 512 → p + 63 * nodes e ≤ 131072 → HasLiterals (plain_tree e) → AreShort (texts_of e) → AreInsns (code_of e ts rs ws k p)
+    pub code_insns : (e : CoreTree) (ws : List (List ℕ × ℕ)) (k p : ℕ) → AreWithin ws → k + need e ≤ 60 → nodes e ≤ 512 → p + 63 * nodes e ≤ 0x8000_0000 → HasLiterals (plain_tree e) → AreShort (texts_of e) → AreInsns (code_of e ts rs ws k p)
     code_insns (core.literal l) ws k p words room few inside h short = literal_insns ts l h short
     code_insns (core.name n) ws k p words room few inside h short = name_insns n ws (words n)
     code_insns (core.variable v) ws k p words room few inside h short = variable_insns (routine_named v rs) p (omega arith) (near v)
@@ -192,13 +218,13 @@ module _ (ts : List (List ℕ)) (rs : List (List ℕ × ℕ)) (near : AreNear rs
         let inner = within_more n (k + 4) ws (omega arith) words in
         map_where_insns k (code r ws k p) (code e ws1 (k + 5) q) (code t ws1 (k + 5) u) (omega arith) (omega arith) (code_insns r ws k p words (omega arith) (omega arith) (omega arith) h.0 (short_front (texts_of r) (texts_of e ++ texts_of t) short)) (code_insns e ws1 (k + 5) q inner (omega arith) (omega arith) (omega arith) h.1.1.0 (short_front (texts_of e) (texts_of t) rest)) (code_insns t ws1 (k + 5) u inner (omega arith) (omega arith) (omega arith) h.1.1.1.0 (short_back (texts_of e) (texts_of t) rest))
 
-    items_insns : (items : CoreTrees) (ws : List (List ℕ × ℕ)) (k p : ℕ) → AreWithin ws → k + 1 + needs items ≤ 60 → nodes_of items ≤ 512 → p + 63 * nodes_of items ≤ 131072 → HaveLiterals (plain_trees items) → AreShort (texts_of_each items) → AreInsns (items_code items ts rs ws k p)
+    items_insns : (items : CoreTrees) (ws : List (List ℕ × ℕ)) (k p : ℕ) → AreWithin ws → k + 1 + needs items ≤ 60 → nodes_of items ≤ 512 → p + 63 * nodes_of items ≤ 0x8000_0000 → HaveLiterals (plain_trees items) → AreShort (texts_of_each items) → AreInsns (items_code items ts rs ws k p)
     items_insns no_cores ws k p words room few inside h short = tt
     items_insns (more_cores a more) ws k p words room few inside h short =
         let long = short_code a ts rs ws (k + 1) p in
         insns_append _ (items_code more ts rs ws k _) (item_insns (code a ws (k + 1) p) k (omega arith) (code_insns a ws (k + 1) p words (omega arith) (omega arith) (omega arith) h.0 (short_front (texts_of a) (texts_of_each more) short))) (items_insns more ws k _ words (omega arith) (omega arith) (omega arith) h.1 (short_back (texts_of a) (texts_of_each more) short))
 
-    entries_insns : (es : CoreEntries) (ws : List (List ℕ × ℕ)) (k p : ℕ) → AreWithin ws → k + entries_need es ≤ 60 → entries_nodes es ≤ 512 → p + 63 * entries_nodes es ≤ 131072 → EntriesHaveLiterals (plain_entries es) → AreShort (texts_of_entries es) → AreInsns (entries_code es ts rs ws k p)
+    entries_insns : (es : CoreEntries) (ws : List (List ℕ × ℕ)) (k p : ℕ) → AreWithin ws → k + entries_need es ≤ 60 → entries_nodes es ≤ 512 → p + 63 * entries_nodes es ≤ 0x8000_0000 → EntriesHaveLiterals (plain_entries es) → AreShort (texts_of_entries es) → AreInsns (entries_code es ts rs ws k p)
     entries_insns no_core_entries ws k p words room few inside h short = tt
     entries_insns (more_core_entries key v more) ws k p words room few inside h short =
         let q = p + size (code key ws (k + 1) p) + 1 in

@@ -30,7 +30,7 @@ slots_first : (scope : List Variable) (more : List ℕ) → zip (names scope) (e
 slots_first [] more = refl
 slots_first (v ∷ scope) more = ap (λ (rs : List (List ℕ × ℕ)). (v.name, v.routine) ∷ rs) (slots_first scope more)
 
-routines_are : (slots : List ℕ) (ds : List Declaration) (scope later : List Variable) → AreTaken slots ds scope later → routines_of ds slots ≡ routines scope
+pub routines_are : (slots : List ℕ) (ds : List Declaration) (scope later : List Variable) → AreTaken slots ds scope later → routines_of ds slots ≡ routines scope
 routines_are slots ds scope later taken =
     ap (λ (ns : List (List ℕ)). zip ns slots) (sym (names_declared scope ds taken.depths_are))
     ∙ ap (zip (names scope)) (sym taken.slots_are ∙ map-append (λ (v : Variable). v.routine) scope later)
@@ -91,7 +91,7 @@ module _ (image : Contents) (deep : Bool) (roots : Roots) (constants : List ℕ)
       }
 
 -- the texts that were taken stand among the constants
-known_stand : (constants : List ℕ) (texts : List (List ℕ)) (e : CoreTree) → HasConstants constants texts e → TextsStand constants (with_texts texts (texts_of e)) (texts_of e)
+pub known_stand : (constants : List ℕ) (texts : List (List ℕ)) (e : CoreTree) → HasConstants constants texts e → TextsStand constants (with_texts texts (texts_of e)) (texts_of e)
 known_stand constants texts e holds = subst (λ (bytes : List ℕ). TextsStand bytes (with_texts texts (texts_of e)) (texts_of e)) (sym holds.constants_are) (texts_stand texts (texts_of e) holds.more (subst (λ (bytes : List ℕ). length bytes ≤ 1048576) holds.constants_are holds.few))
 
 pub frames_are_enough : FramesAreEnough

@@ -25,3 +25,4 @@ pub mod Layer
 pub mod CodeInsns
 pub mod Passed
 pub mod Finished
+pub mod Emitting

@@ -1,5 +1,5 @@
 -- What an emitter has taken once an expression or a variable is added to it.
-use Rattle.std.specs.Prelude.{◌≡◌, ℕ, ◌+◌, Bool, ◌&&◌, nat_le, nat_lt, if◌then◌else◌, List, [], ◌∷◌, ◌++◌, length, take}
+use Rattle.std.specs.Prelude.{◌≡◌, ℕ, ◌+◌, Bool, nat_le, if◌then◌else◌, List, [], ◌∷◌, ◌++◌, length, take}
 use Rattle.insn_codec.specs.declared.insn.Insn.{Insn}
 use Rattle.cel_macros.specs.CoreTree.{CoreTree}
 use Rattle.cel_measures.specs.Measures.{nodes}
@@ -12,9 +12,9 @@ use Rattle.codegen.specs.Constants.{with_texts}
 use Rattle.codegen.specs.Emitted.{Emitted, with_nodes, with_piece}
 use Rattle.codegen.specs.Surroundings.{routines_of}
 
--- there is room for code: an image has slots for 512 nodes, 128 for each, and it has at most 65,536, of which an exit takes one; its scratch region has memos for 512 variables
+-- there is room for code: an image has slots for 512 nodes, 128 for each
 abbrev pub has_room : Emitted → Bool
-has_room e = nat_le e.nodes 512 && (nat_lt (length e.code) 65536 && nat_lt (length e.routines) 512)
+has_room e = nat_le e.nodes 512
 
 -- an expression's code at a slot, from the start of a frame
 abbrev pub code_at : Emitted → List Declaration → CoreTree → ℕ → List Insn
@@ -45,6 +45,6 @@ with_routine e scope tree =
 abbrev pub with_variable : Emitted → List Declaration → CoreTree → Emitted
 with_variable e scope tree = with_routine (with_counted e tree (1 + nodes tree)) scope tree
 
--- the old emitter, with nothing but texts and slots of routines behind its own
+-- the old emitter, with nothing but texts and slots of routines behind its own, and its nodes counted otherwise
 abbrev pub IsBehind : Emitted → Emitted → Type 0
-IsBehind old new = record new { constants = take (length old.constants) new.constants; routines = take (length old.routines) new.routines } ≡ old
+IsBehind old new = record new { constants = take (length old.constants) new.constants; nodes = old.nodes; routines = take (length old.routines) new.routines } ≡ old

@@ -54,14 +54,18 @@ pub record Ready (s : Setting) (scope : List Variable) (texts : List (List ℕ))
 abbrev pub environment_in : Roots → List (List ℕ × Value) → List Variable → Environment
 environment_in roots items scope = record { roots = roots; items = items; variables = bindings scope }
 
--- the variable of this name and expression, which may use those of a scope, with its routine at slot p
-abbrev pub variable_of : Roots → List Variable → List (List ℕ) → List ℕ → CoreTree → ℕ → Variable
-variable_of roots scope texts name e p = record {
+-- the variable of this name and expression, which may use those of a scope; its routine, at slot p, has this code for its value
+abbrev pub variable_with : List Insn → Roots → List Variable → List ℕ → CoreTree → ℕ → Variable
+variable_with body roots scope name e p = record {
   name = name;
   value = meaning (plain_tree e) (environment_in roots [] scope);
   routine = p;
-  body = code_of e texts (routines scope) [] 0 p;
+  body = body;
   nesting = depth_of e (nestings scope);
   steps = 128 * (cost (plain_tree e) (environment_in roots [] scope)).visits - 8;
   charge = 16 * spent_by (cost (plain_tree e) (environment_in roots [] scope)) - 8;
 }
+
+-- the same with the expression's code
+abbrev pub variable_of : Roots → List Variable → List (List ℕ) → List ℕ → CoreTree → ℕ → Variable
+variable_of roots scope texts name e p = variable_with (code_of e texts (routines scope) [] 0 p) roots scope name e p

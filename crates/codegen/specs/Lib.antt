@@ -11,3 +11,4 @@ pub mod Computes
 pub mod Laws
 pub mod Added
 pub mod Layer
+pub mod Emission

@@ -30,4 +30,4 @@ pub record HasRoom (e : CoreTree) (words : FrameWords) (spot : Spot) : Type 0 wh
   pub held : AreWords (words_of words)
   pub room : spot.word + need e ≤ 60
   pub short : nodes e ≤ 512
-  pub near : spot.slot + 63 * nodes e ≤ 131000
+  pub near : spot.slot + 63 * nodes e ≤ 0x7fff_ff00

@@ -5,6 +5,7 @@ ghost use Rattle.cel_macros.specs.CoreView.{core_view};
 ghost use Rattle.cel_measures.specs.Measures as measures;
 ghost use Rattle.cel_types.specs.Declarations.{depths_of};
 ghost use Rattle.codegen.specs.Added.{with_expression, with_variable};
+ghost use Rattle.codegen.specs.Emission.{EmitsExpression, EmitsVariable};
 ghost use Rattle.codegen.specs.Layer.{EmitsMeaning, EmitsRoutine};
 
 use crate::code_error::CodeError;
@@ -22,8 +23,8 @@ const MOST_WORDS: u64 = 60;
 const GREATEST_DEPTH: u64 = 6;
 
 /// Adds the expression's code to the emitter, its texts and its nodes. The variables of the scope are
-/// the first that the emitter took, in their order. Beyond 512 nodes, 65,535 slots or 511 variables
-/// there is no room for code, and texts and nodes alone are added.
+/// the first that the emitter took, in their order. Beyond 512 nodes, where `finish` answers `G3`, texts
+/// and nodes alone are added.
 ///
 /// # Errors
 ///
@@ -37,6 +38,7 @@ pub fn expression(
     ensures added { OnOk result (emitter.new ≡ with_expression emitter.old scope.now (core_view core.now)) }
     ensures fits { OnOk result (measures.need (core_view core.now) ≤ 60) }
     ensures gives { OnOk result (EmitsMeaning emitter.old scope.now (core_view core.now)) }
+    ensures emits { OnOk result (EmitsExpression emitter.old emitter.new scope.now (core_view core.now)) }
     ensures refused { OnErr result (emitter.new ≡ emitter.old) }
     ensures g1 { IsErrOf result CodeError.G1 ↔ (60 < measures.need (core_view core.now)) }
     ensures g2 { result ≢ Err CodeError.G2 }
@@ -54,7 +56,7 @@ pub fn expression(
 
 /// Adds the next variable to the emitter: the routine of its expression with its memo, its texts, and 1
 /// more than its nodes. The variables of the scope are the first that the emitter took, in their order.
-/// Where there is no room for code, texts and nodes alone are added.
+/// Beyond 512 nodes, where `finish` answers `G3`, texts and nodes alone are added.
 ///
 /// # Errors
 ///
@@ -70,6 +72,7 @@ pub fn variable(
     ensures fits { OnOk result (measures.need (core_view core.now) ≤ 60) }
     ensures shallow { OnOk result (measures.depth (core_view core.now) (depths_of scope.now) ≤ 6) }
     ensures joins { OnOk result (EmitsRoutine emitter.old scope.now (core_view core.now)) }
+    ensures emits { OnOk result (EmitsVariable emitter.old emitter.new scope.now (core_view core.now)) }
     ensures refused { OnErr result (emitter.new ≡ emitter.old) }
     ensures g1 { IsErrOf result CodeError.G1 ↔ (60 < measures.need (core_view core.now)) }
     ensures g2 { IsErrOf result CodeError.G2 ↔ ((measures.need (core_view core.now) ≤ 60) × (6 < measures.depth (core_view core.now) (depths_of scope.now))) }

@@ -1,13 +1,13 @@
 //! Code as it grows.
 
-ghost use Rattle.std.specs.Prelude.{◌≡◌, ◌≢◌, ◌+◌, ◌<◌, ◌≤◌, ◌++◌, ◌∷◌, [], ◌↔◌, length, map, take, Some, slice_get, IfOk, OnOk, OnErr, IsErrOf};
+ghost use Rattle.std.specs.Prelude.{◌≡◌, ◌≢◌, ◌+◌, ◌*◌, ◌<◌, ◌≤◌, ◌++◌, ◌∷◌, [], ◌↔◌, length, map, take, Some, nat_le, slice_get, All, IfOk, OnOk, OnErr, IsErrOf};
 ghost use Rattle.insn_codec.specs.Spelling.{slot_count, spelling};
 ghost use Rattle.insn_codec.specs.declared.insn.Insn.{Insn};
 ghost use Rattle.insn_codec.specs.declared.insn.Insn.TheVariants.{Exit};
 ghost use Rattle.cel_macros.specs.CoreView.{core_view};
 ghost use Rattle.cel_measures.specs.Measures.{need, nodes};
 ghost use Rattle.cel_types.specs.Declarations.{declaration};
-ghost use Rattle.codegen.specs.Added.{code_at, has_room, with_expression, with_variable, IsBehind};
+ghost use Rattle.codegen.specs.Added.{code_at, with_expression, with_variable, IsBehind};
 ghost use Rattle.codegen.specs.Constants.{joined as joined_texts};
 ghost use Rattle.codegen.specs.Emitted.{no_code, with_piece, with_insn_at, with_nodes, slot_spellings, IsTooLong, HasTooManyTexts};
 ghost use Rattle.codegen_base.specs.Pieces.{slots, insn_slots, size};
@@ -30,11 +30,9 @@ use std::marker::Model;
 /// The most nodes for which an image has room.
 const MOST_NODES: u64 = 512;
 
-/// The slots that an image has.
-const MOST_SLOTS: usize = 65_536;
-
-/// The memos for which the scratch region has room.
-const MOST_VARIABLES: usize = 512;
+/// The most slots that code may have while it grows: a call in an expression behind them still reaches every
+/// routine by an offset of 32 bits.
+const MOST_SLOTS: usize = 0x7fff_0000;
 
 /// The most bytes of constants that an image has.
 const MOST_CONSTANTS: u64 = 1_048_576;
@@ -52,14 +50,14 @@ pub struct Emitter {
 }
 
 impl Model for Emitter {
-    ghost use Rattle.std.specs.Prelude.{◌≤◌, map, string_bytes, All};
+    ghost use Rattle.std.specs.Prelude.{◌≤◌, ◌*◌, length, map, string_bytes, All};
     ghost use Rattle.codegen.specs.Emitted.{Emitted};
 
     ghost Value = { Emitted };
 
     ghost view = { λ e. record { code = e.code.items; constants = map string_bytes e.constants.keys; nodes = e.nodes; routines = e.routines.items } };
 
-    ghost invariant = { λ e. All (λ slot. slot ≤ 65536) e.routines.items };
+    ghost invariant = { λ e. (length e.code.items ≤ 0x7fff_0000) × All (λ slot. slot ≤ 0x7fff_ff00) e.routines.items × (2 * length e.routines.items ≤ e.nodes) };
 }
 
 impl Emitter {
@@ -76,7 +74,7 @@ impl Emitter {
     }
 
     /// Puts the instruction behind the code and answers its slot. The error says that there is no
-    /// memory for it.
+    /// memory for it: code has at most 0x7fff_0000 slots.
     pub fn put(&mut self, insn: &Insn) -> Result<u64, AllocError>
         ensures ok { IfOk result (λ slot. slot ≡ length self.old.code) }
         ensures code { OnOk result (self.new ≡ with_piece self.old (insn.now ∷ [])) }
@@ -84,9 +82,9 @@ impl Emitter {
     {
         let slot = self.code.len() as u64;
         if insn.slots() == 2 {
-            self.code.extend_from_slice(&[Some(*insn), None])?;
+            self.extend(&[Some(*insn), None])?;
         } else {
-            self.code.push(Some(*insn))?;
+            self.extend(&[Some(*insn)])?;
         }
         Ok(slot)
     }
@@ -115,13 +113,16 @@ impl Emitter {
         scope: &[Variable],
     ) -> Result<(), AllocError>
         requires { need (core_view core.now) ≤ 60 }
+        ensures few { 2 * length self.old.routines ≤ self.old.nodes }
+        ensures low { All (λ slot. slot ≤ 0x7fff_ff00) self.old.routines }
+        ensures inside { length self.old.code ≤ 0x7fff_0000 }
         ensures ok { OnOk result (self.new ≡ with_expression self.old (map declaration scope.now) (core_view core.now)) }
         ensures err { OnErr result (self.new ≡ self.old) }
     {
-        let (texts, routines) = (self.constants.len(), self.routines.len());
+        let (texts, routines, nodes) = (self.constants.len(), self.routines.len(), self.nodes);
         let added = self.grow(alloc, core, scope);
         if added.is_err() {
-            self.cut(texts, routines);
+            self.cut(texts, routines, nodes);
         }
         added
     }
@@ -135,35 +136,38 @@ impl Emitter {
         scope: &[Variable],
     ) -> Result<(), AllocError>
         requires { need (core_view core.now) ≤ 60 }
+        ensures few { 2 * length self.old.routines ≤ self.old.nodes }
+        ensures low { All (λ slot. slot ≤ 0x7fff_ff00) self.old.routines }
+        ensures inside { length self.old.code ≤ 0x7fff_0000 }
         ensures ok { OnOk result (self.new ≡ with_variable self.old (map declaration scope.now) (core_view core.now)) }
         ensures err { OnErr result (self.new ≡ self.old) }
     {
-        let (texts, routines) = (self.constants.len(), self.routines.len());
+        let (texts, routines, nodes) = (self.constants.len(), self.routines.len(), self.nodes);
         let added = self.grow_routine(alloc, core, scope);
         if added.is_err() {
-            self.cut(texts, routines);
+            self.cut(texts, routines, nodes);
         }
         added
     }
 
-    /// Takes the expression. After an error texts may be left behind those that were there.
+    /// Takes the expression. After an error texts may be left behind those that were there, and the nodes
+    /// counted.
     fn grow(&mut self, alloc: Global, core: &Core, scope: &[Variable]) -> Result<(), AllocError>
         requires { need (core_view core.now) ≤ 60 }
         ensures ok { OnOk result (self.new ≡ with_expression self.old (map declaration scope.now) (core_view core.now)) }
         ensures err { OnErr result (IsBehind self.old self.new) }
     {
         take_texts(alloc, &mut self.constants, core)?;
-        let counted = self.nodes.saturating_add(nodes(core));
-        if self.has_room(counted) {
+        self.nodes = self.nodes.saturating_add(nodes(core));
+        if has_room(self.nodes) {
             let piece = self.code_at(alloc, core, scope, self.code.len())?;
             self.append(alloc, &piece)?;
         }
-        self.nodes = counted;
         Ok(())
     }
 
     /// Takes the variable. After an error texts, and the routine's slot, may be left behind those
-    /// that were there.
+    /// that were there, and the nodes counted.
     fn grow_routine(
         &mut self,
         alloc: Global,
@@ -175,23 +179,15 @@ impl Emitter {
         ensures err { OnErr result (IsBehind self.old self.new) }
     {
         take_texts(alloc, &mut self.constants, core)?;
-        let counted = self.nodes.saturating_add(nodes(core)).saturating_add(1);
-        if self.has_room(counted) {
+        self.nodes = self.nodes.saturating_add(nodes(core)).saturating_add(1);
+        if has_room(self.nodes) {
             let slot = self.code.len() + 1;
             let body = self.code_at(alloc, core, scope, slot)?;
             let routine = passed_routine(alloc, &body, self.routines.len())?;
             self.routines.push(slot as u32)?;
             self.append(alloc, &routine)?;
         }
-        self.nodes = counted;
         Ok(())
-    }
-
-    /// Whether there is room for code that makes the nodes so many.
-    fn has_room(&self, nodes: u64) -> bool
-        ensures { result ≡ has_room (record self.now { nodes = nodes }) }
-    {
-        nodes <= MOST_NODES && self.code.len() < MOST_SLOTS && self.routines.len() < MOST_VARIABLES
     }
 
     /// The expression's code at this slot. The error says that there is no memory for it.
@@ -205,10 +201,10 @@ impl Emitter {
     ) -> Result<Vec<Insn>, AllocError>
         requires need { need (core_view core.now) ≤ 60 }
         requires nodes { nodes (core_view core.now) ≤ 512 }
-        requires slot { slot ≤ 65536 }
+        requires slot { slot ≤ 0x7fff_0001 }
         requires routines { length self.now.routines ≤ 512 }
         ensures code { IfOk result (λ code. code.items ≡ code_at self.now (map declaration scope.now) (core_view core.now) slot) }
-        ensures short { IfOk result (λ code. size code.items ≤ 32300) }
+        ensures short { IfOk result (λ code. size code.items + 8 ≤ 63 * nodes (core_view core.now)) }
     {
         let around = Surroundings {
             texts: self.constants.as_slice(),
@@ -225,16 +221,29 @@ impl Emitter {
         ensures err { OnErr result (self.new ≡ self.old) }
     {
         let begins = slots_of(alloc, piece)?;
-        self.code.extend_from_slice(&begins)
+        self.extend(&begins)
     }
 
-    /// Keeps so many texts and routines.
+    /// Puts these slots behind the code. The error says that there is no memory for them.
+    fn extend(&mut self, slots: &[Option<Insn>]) -> Result<(), AllocError>
+        ensures ok { OnOk result (self.new ≡ record self.old { code = self.old.code ++ slots.now }) }
+        ensures err { OnErr result (self.new ≡ self.old) }
+    {
+        if slots.len() > MOST_SLOTS - self.code.len() {
+            return Err(AllocError);
+        }
+        self.code.extend_from_slice(slots)
+    }
+
+    /// Keeps so many texts, routines and nodes.
     #[tactic(auto, using(crate::proofs::AmongTexts::texts_cut))]
-    fn cut(&mut self, texts: usize, routines: usize)
-        ensures { self.new ≡ record self.old { constants = take texts self.old.constants; routines = take routines self.old.routines } }
+    fn cut(&mut self, texts: usize, routines: usize, nodes: u64)
+        requires { 2 * routines ≤ nodes }
+        ensures { self.new ≡ record self.old { constants = take texts self.old.constants; nodes = nodes; routines = take routines self.old.routines } }
     {
         self.constants.truncate(texts);
         self.routines.truncate(routines);
+        self.nodes = nodes;
     }
 
     /// The code, ended by an exit, and the constants that it names, in bytes. G3 where there are too many
@@ -260,6 +269,13 @@ impl Emitter {
         let constants = joined(alloc, texts)?;
         Ok((code, constants))
     }
+}
+
+/// Whether an image has room for the code of so many nodes.
+fn has_room(nodes: u64) -> bool
+    ensures { result ≡ nat_le nodes 512 }
+{
+    nodes <= MOST_NODES
 }
 
 /// What begins at each slot of the piece. The error says that there is no memory for it.

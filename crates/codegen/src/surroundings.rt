@@ -14,5 +14,5 @@ pub(crate) struct Surroundings<'a> {
     /// The first slot of each variable's routine.
     pub(crate) routines: &'a [u32],
     ghost few: { length routines.now ≤ 512 },
-    ghost near: { All (λ slot. slot ≤ 65536) routines.now },
+    ghost near: { All (λ slot. slot ≤ 0x7fff_ff00) routines.now },
 }

@@ -17,7 +17,7 @@ use Rattle.codegen_base.specs.Words.{memo_at}
 use Rattle.codegen_base.proofs.Frames.{memo_on}
 use Rattle.codegen_base.proofs.Pending.{pending-append, pending-same}
 use Rattle.codegen_base.proofs.Runs.{Pays, into, settle}
-use Rattle.codegen_base.proofs.Variables.{get_before, get_front}
+use Rattle.codegen_base.proofs.Returns.{get_before, get_front}
 
 module _ (image : Contents) (deep : Bool) (roots : Roots) (constants : List ℕ) (scope later : List Variable) (words : List (List ℕ × ℕ)) (items : List (List ℕ × Value)) (depth base : ℕ) where
   abbrev here : Context

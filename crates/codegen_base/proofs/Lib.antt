@@ -15,6 +15,7 @@ pub mod Meanings
 pub mod HelperAnswers
 pub mod Leaves
 pub mod Selection
+pub mod Returns
 pub mod Variables
 pub mod Programs
 pub mod Loops

@@ -1,14 +1,18 @@
 -- The variables of a scope, each with its routine; one may use those before it.
-use Rattle.std.specs.Prelude.{◌≡◌, ℕ, suc, ◌+◌, ◌≤◌, ℤ, pos, ◌+ℤ◌, Bool, List, [], ◌∷◌, ◌++◌, length, Option, Some, None, slice_get, bytes_eq, option_map, if◌then◌else◌}
+use Rattle.std.specs.Prelude.{◌≡◌, ℕ, suc, ◌+◌, ◌<◌, ◌≤◌, ℤ, pos, ◌+ℤ◌, Bool, List, [], ◌∷◌, ◌++◌, length, Option, Some, None, slice_get, bytes_eq, option_map, if◌then◌else◌}
 use Rattle.std.specs.Prelude.{map as each}
 use Rattle.insn_codec.specs.declared.insn.Insn.{Insn}
+use Rattle.insn_codec.specs.declared.register.Register.TheVariants.{R0}
 use Rattle.loader.specs.Contents.{Contents}
 use Rattle.value_store.specs.Value.{Value, ValueOrError}
 use Rattle.cel_macros.specs.Environment.{Roots, variable_value}
-use Rattle.codegen_base.specs.Contexts.{Gives}
-use Rattle.codegen_base.specs.Engine.{Setting}
+use Rattle.codegen_base.specs.Body.{Body}
+use Rattle.codegen_base.specs.Calls.{entered}
+use Rattle.codegen_base.specs.Contexts.{Context, Fits, Gives, Shows}
+use Rattle.codegen_base.specs.Engine.{Comes, Setting}
 use Rattle.codegen_base.specs.Pieces.{Stands}
 use Rattle.codegen_base.specs.Variables.{memo_tail, routine_context, use_code, used_context, with_variables}
+use Rattle.codegen_base.specs.Words.{memo_at}
 
 -- a variable: its name and its value or error; the slot and the code of its routine; how many frames a use of it opens at most, its own included; and what its value takes
 pub record Variable : Type 0 where
@@ -75,3 +79,18 @@ abbrev pub LaterGives : Type 0
 LaterGives = (image : Contents) (deep : Bool) (roots : Roots) (constants : List ℕ) (scope later : List Variable) (words : List (List ℕ × ℕ)) (items : List (List ℕ × Value)) (p : ℕ) (piece : List Insn) (depth base : ℕ) (x : ValueOrError) (steps charge : ℕ)
     → Gives (scope_setting image deep scope) p piece (used_context roots items words constants (bindings scope)) depth base x steps charge
     → Gives (scope_setting image deep (scope ++ later)) p piece (used_context roots items words constants (bindings (scope ++ later))) depth base x steps charge
+
+-- called from slot q with a fitting body, the routine of variable i at slot p comes back to the slot behind the call: the
+-- call's record is popped, R0 names the value or the error, the caller's body fits again and keeps what code for an
+-- expression keeps, and the memo is filled
+abbrev pub Returns : Setting → ℕ → ℕ → Context → ℕ → ℕ → ValueOrError → ℕ → ℕ → Type 0
+Returns s p i c depth base x steps charge = (q : ℕ) (b : Body) → Fits c depth base b
+    → Comes s steps charge p (entered q b) (q + 1) (λ new. Shows c depth base x b new × (memo_at i new ≡ new.registers R0 + 1))
+
+-- the routine of the variable behind a scope returns its value wherever enough frames are left, in 5 steps more than that takes
+abbrev pub RoutineReturns : Type 0
+RoutineReturns = (image : Contents) (deep : Bool) (roots : Roots) (constants : List ℕ) (scope : List Variable) (v : Variable)
+    (words : List (List ℕ × ℕ)) (items : List (List ℕ × Value)) (depth base : ℕ)
+    → HasRoutine image deep roots constants scope v → length scope < 512 → base ≤ 60 → depth + v.nesting ≤ 7
+    → let c = used_context roots items words constants (bindings scope ++ (v.name, v.value) ∷ []) in
+    Returns (scope_setting image deep scope) v.routine (length scope) c depth base v.value (v.steps + 5) v.charge

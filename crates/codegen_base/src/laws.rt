@@ -13,7 +13,7 @@ ghost use Rattle.codegen_base.specs.Operators.{OneGives, TwoGives, ConvertsThen,
 ghost use Rattle.codegen_base.specs.Pieces.{SpelledStands};
 ghost use Rattle.codegen_base.specs.Programs.{ProgramExits};
 ghost use Rattle.codegen_base.specs.Rows.{RowsStand};
-ghost use Rattle.codegen_base.specs.Scopes.{LaterGives, NoScope, ScopeBegins, ScopeGives, ScopeGrows};
+ghost use Rattle.codegen_base.specs.Scopes.{LaterGives, NoScope, RoutineReturns, ScopeBegins, ScopeGives, ScopeGrows};
 ghost use Rattle.codegen_base.specs.Variables.{VariableGives};
 
 use bpf_machine::laws::decodes_spelling;
@@ -108,14 +108,15 @@ pub fn variable_gives()
 {}
 
 /// The use of a variable of a scope, found by its name, gives what the name stands for; a scope is made
-/// one variable after another, each with a routine that may use those before it; and what is given in a
-/// scope is given where more variables stand behind it.
+/// one variable after another, each with a routine that may use those before it and that comes back to its
+/// caller; and what is given in a scope is given where more variables stand behind it.
 pub fn scopes_give()
     ensures uses { ScopeGives }
     ensures none { NoScope }
     ensures begins { ScopeBegins }
     ensures grows { ScopeGrows }
     ensures later { LaterGives }
+    ensures returns { RoutineReturns }
 {}
 
 /// Programs run by hand.

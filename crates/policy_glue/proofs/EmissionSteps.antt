@@ -1,6 +1,6 @@
 -- What is put into an emitter step by step.
 use Rattle.std.proofs.Common.{◌≡◌, ℕ, zero, suc, ◌+◌, ◌-◌, ◌<◌, ◌≤◌, Bool, true, false, List, [], ◌∷◌, ◌++◌, length, map, take, get_or, Option, Some, None, Result, Ok, Err, OnOk, IfOk, refl, sym, ap, ◌∙◌, subst, arith, append_assoc, length-append, append-nil}
-use Rattle.std.specs.Prelude.{nat_le, nat_lt, ◌&&◌, if◌then◌else◌, slice_get, slice_index_or, option_map, fold, replicate}
+use Rattle.std.specs.Prelude.{if◌then◌else◌, slice_get, slice_index_or, option_map, fold, replicate}
 use Rattle.std.proofs.lemmas.List.{length-map}
 use Rattle.std.proofs.lemmas.Bool.{leb-true}
 use Rattle.insn_codec.specs.Spelling.{slot_count}
@@ -69,15 +69,11 @@ few_where : (room : Bool) (e : Emitted) (piece : List Insn) → (room ≡ true �
 few_where true e piece few = let counted = length-append e.code (slots piece) in let within = few refl in omega arith
 few_where false e piece few = omega arith
 
-and_left : (a b : Bool) → (a && b) ≡ true → a ≡ true
-and_left true b e = refl
-and_left false b e = e
-
 pub few_slots : (e : Emitted) (scope : List Declaration) (tree : CoreTree) → length (with_expression e scope tree).code ≤ length e.code + 32256
 few_slots e scope tree =
     let counted = with_counted e tree (nodes tree) in
     few_where (has_room counted) counted (code_at counted scope tree (length e.code)) (λ room.
-    let within : counted.nodes ≤ 512 = leb-true counted.nodes 512 (and_left (nat_le counted.nodes 512) (nat_lt (length counted.code) 65536 && nat_lt (length counted.routines) 512) room) in
+    let within : counted.nodes ≤ 512 = leb-true counted.nodes 512 room in
     let short = short_code tree counted.constants (routines_of scope counted.routines) [] 0 (length e.code) in
     omega (arith, within, short))
 

@@ -1,8 +1,8 @@
 -- The code of a policy's program as it is emitted, where the program is within its limits.
-use Rattle.std.proofs.Common.{◌≡◌, ℕ, ◌+◌, ◌-◌, ◌*◌, ◌<◌, ◌≤◌, Bool, true, List, [], ◌∷◌, ◌++◌, length, length-append, map, take, append-nil, append_assoc, Option, Some, None, fold, refl, sym, ap, ◌∙◌, subst, arith, if◌then◌else◌}
+use Rattle.std.proofs.Common.{◌≡◌, ℕ, ◌+◌, ◌-◌, ◌≤◌, Bool, true, List, [], ◌∷◌, ◌++◌, length, length-append, map, take, append-nil, append_assoc, Option, Some, None, fold, refl, sym, ap, ◌∙◌, subst, arith, if◌then◌else◌}
 use Rattle.std.specs.Prelude.{option_map, pos, slice_set}
 use Rattle.std.specs.List.{sum_by}
-use Rattle.std.proofs.lemmas.Bool.{le-leb, lt-ltb}
+use Rattle.std.proofs.lemmas.Bool.{le-leb}
 use Rattle.std.proofs.lemmas.List.{set-append_right, take-append-le, take_all}
 use Rattle.std.proofs.lemmas.List.Sums.{sum_by-cons}
 use Rattle.insn_codec.specs.declared.comparison.Comparison.TheVariants.{Eq}
@@ -28,7 +28,7 @@ use Rattle.policy_glue.specs.Checking.{depth_in, scope_after, type_or_any}
 use Rattle.policy_glue.specs.Checking.{with_variable as with_declared}
 use Rattle.policy_glue.specs.Emission.{unless_denied, with_condition, with_conditions, with_denial, with_message, with_validation, with_validations, with_variables}
 use Rattle.policy_glue.specs.Limits.{message_nodes, part_nodes, policy_nodes, rule_nodes}
-use Rattle.policy_glue.specs.Program.{Validation, condition_tail, conditions_code, count_code, decided_tail, denial_code, message_code, message_tail, outcome_tail, policy_code, result_tail, routines_code, validation_code, validations_code}
+use Rattle.policy_glue.specs.Program.{condition_tail, conditions_code, count_code, decided_tail, denial_code, message_code, message_tail, outcome_tail, policy_code, result_tail, routines_code, validation_code, validations_code}
 use Rattle.policy_glue.specs.ProgramCode.{Laid, after_condition, after_conditions, after_variables, before_message, condition_codes, laid_conditions, laid_routines, message_codes, nothing_laid, texts_with, tree_code, validation_codes, variable_code, variable_codes, with_routine, with_slots, with_tree}
 use Rattle.policy_glue.specs.ProgramCode.{with_message as with_message_laid}
 use Rattle.policy_glue.specs.Trees.{PolicyTree, RuleTree, VariableTree}
@@ -36,7 +36,6 @@ use Rattle.policy_glue.specs.declared.failure_policy.FailurePolicy.{FailurePolic
 use Rattle.policy_glue.proofs.EmittedCounts.{emitted_before, emitted_of}
 use Rattle.policy_glue.proofs.ProgramRows.{tail_size}
 use Rattle.policy_glue.proofs.ProgramRules.{denial_size, message_tail_size, result_size}
-use Rattle.policy_glue.proofs.ProgramSizes.{message_short, routine_short, rule_size, tree_short}
 
 -- the emitter that has taken this code, these texts, nodes and routines
 abbrev pub emitter : List Insn → List (List ℕ) → ℕ → List ℕ → Emitted
@@ -47,18 +46,8 @@ pub record Same (e : Emitted) (l : Laid) (code : List Insn) (n : ℕ) : Type 0 w
   pub is : e ≡ emitter code l.texts n l.routines
   pub place : l.place ≡ size code
 
--- there is room for code
-pub record Room (l : Laid) (code : List Insn) (n : ℕ) : Type 0 where
-  pub slots_few : size code < 65536
-  pub nodes_few : n ≤ 512
-  pub routines_few : length l.routines < 512
-
-has_room_in : (code : List Insn) (texts : List (List ℕ)) (n : ℕ) (routines : List ℕ) → size code < 65536 → n ≤ 512 → length routines < 512 → has_room (emitter code texts n routines) ≡ true
-has_room_in code texts n routines few short less =
-    let first = le-leb (saturated n) 512 (omega arith) in
-    let second = lt-ltb (size code) 65536 few in
-    let third = lt-ltb (length routines) 512 less in
-    rw (first, second, third) refl
+has_room_in : (code : List Insn) (texts : List (List ℕ)) (n : ℕ) (routines : List ℕ) → n ≤ 512 → has_room (emitter code texts n routines) ≡ true
+has_room_in code texts n routines short = le-leb (saturated n) 512 (omega arith)
 
 -- ---- one step
 
@@ -77,8 +66,8 @@ same_piece e l code n piece k long s =
     let place = s.place in
     record { is = ap (λ (x : Emitted). with_piece x piece) s.is ∙ piece_put code piece l.texts n l.routines; place = omega arith }
 
-same_expression : (ds : List Declaration) (e : Emitted) (l : Laid) (code : List Insn) (n : ℕ) (a : Tree) → Same e l code n → Room l code (n + nodes (expanded a)) → Same (with_expression e ds (expanded a)) (with_tree ds l a) (code ++ tree_code ds l a) (n + nodes (expanded a))
-same_expression ds e l code n a s room =
+same_expression : (ds : List Declaration) (e : Emitted) (l : Laid) (code : List Insn) (n : ℕ) (a : Tree) → Same e l code n → n + nodes (expanded a) ≤ 512 → Same (with_expression e ds (expanded a)) (with_tree ds l a) (code ++ tree_code ds l a) (n + nodes (expanded a))
+same_expression ds e l code n a s few =
     let tree = expanded a in
     let k = nodes tree in
     let texts = texts_with l a in
@@ -88,7 +77,7 @@ same_expression ds e l code n a s room =
     record {
       is = ap (λ (x : Emitted). with_expression x ds tree) s.is
           ∙ ap (λ (m : ℕ). with_code (record { code = slots code; constants = texts; nodes = m; routines = l.routines }) ds tree) (nodes_more n k)
-          ∙ ap (λ (b : Bool). if b then with_piece counted (code_at counted ds tree (size code)) else counted) (has_room_in code texts (n + k) l.routines room.slots_few room.nodes_few room.routines_few)
+          ∙ ap (λ (b : Bool). if b then with_piece counted (code_at counted ds tree (size code)) else counted) (has_room_in code texts (n + k) l.routines few)
           ∙ ap (λ (p : ℕ). with_piece counted (code_of tree texts (routines_of ds l.routines) [] 0 p)) (sym s.place)
           ∙ piece_put code (tree_code ds l a) texts (n + k) l.routines;
       place = omega arith;
@@ -96,8 +85,8 @@ same_expression ds e l code n a s room =
 
 -- ---- variables
 
-same_variable : (ds : List Declaration) (e : Emitted) (l : Laid) (code : List Insn) (n : ℕ) (v : VariableTree) → Same e l code n → Room l code (n + part_nodes v.expression) → Same (with_variable e ds (expanded v.expression)) (with_routine ds l v) (code ++ skip (size (variable_code ds l v)) ∷ variable_code ds l v) (n + part_nodes v.expression)
-same_variable ds e l code n v s room =
+same_variable : (ds : List Declaration) (e : Emitted) (l : Laid) (code : List Insn) (n : ℕ) (v : VariableTree) → Same e l code n → n + part_nodes v.expression ≤ 512 → Same (with_variable e ds (expanded v.expression)) (with_routine ds l v) (code ++ skip (size (variable_code ds l v)) ∷ variable_code ds l v) (n + part_nodes v.expression)
+same_variable ds e l code n v s few =
     let tree = expanded v.expression in
     let k = part_nodes v.expression in
     let texts = texts_with l v.expression in
@@ -110,30 +99,14 @@ same_variable ds e l code n v s room =
     record {
       is = ap (λ (x : Emitted). with_variable x ds tree) s.is
           ∙ ap (λ (m : ℕ). with_emitted_routine (record { code = slots code; constants = texts; nodes = m; routines = l.routines }) ds tree) (nodes_more n k)
-          ∙ ap (λ (b : Bool). if b then record (with_piece counted (passed (code_at counted ds tree (size code + 1) ++ memo_tail (length l.routines)))) { routines = l.routines ++ (size code + 1) ∷ [] } else counted) (has_room_in code texts (n + k) l.routines room.slots_few room.nodes_few room.routines_few)
+          ∙ ap (λ (b : Bool). if b then record (with_piece counted (passed (code_at counted ds tree (size code + 1) ++ memo_tail (length l.routines)))) { routines = l.routines ++ (size code + 1) ∷ [] } else counted) (has_room_in code texts (n + k) l.routines few)
           ∙ ap (λ (p : ℕ). record (with_piece counted (passed (routine_code tree texts (routines_of ds l.routines) (length l.routines) (p + 1)))) { routines = l.routines ++ (p + 1) ∷ [] }) (sym s.place)
           ∙ ap (λ (os : List (Option Insn)). record { code = os; constants = texts; nodes = saturated (n + k); routines = l.routines ++ (l.place + 1) ∷ [] }) (sym (slots-append code piece));
       place = omega (arith, place, whole, first);
     }
 
--- code so far is short for its nodes, and routines are fewer than these
-pub record Short (l : Laid) (code : List Insn) (n slack : ℕ) : Type 0 where
-  pub slots_few : size code + slack ≤ 128 * n
-  pub routines_few : length l.routines < n
-
 same_at : (e : Emitted) (l : Laid) (code other : List Insn) (n m : ℕ) → code ≡ other → n ≡ m → Same e l code n → Same e l other m
 same_at e l code other n m same count s = subst (λ (c : List Insn). Same e l c m) same (subst (λ (k : ℕ). Same e l code k) count s)
-
-short_at : (l : Laid) (code other : List Insn) (n m slack : ℕ) → code ≡ other → n ≡ m → Short l code n slack → Short l other m slack
-short_at l code other n m slack same count s = subst (λ (c : List Insn). Short l c m slack) same (subst (λ (k : ℕ). Short l code k slack) count s)
-
--- what stands behind a part, or behind some
-pub record Done (e : Emitted) (l : Laid) (code : List Insn) (n slack : ℕ) : Type 0 where
-  pub same : Same e l code n
-  pub short : Short l code n slack
-
-done_at : (e : Emitted) (l : Laid) (code other : List Insn) (n m slack : ℕ) → code ≡ other → n ≡ m → Done e l code n slack → Done e l other m slack
-done_at e l code other n m slack same count d = record { same = same_at e l code other n m same count d.same; short = short_at l code other n m slack same count d.short }
 
 -- a variable with its declaration
 abbrev taken_declaration : List Declaration → VariableTree → Declaration
@@ -153,53 +126,36 @@ take_front ds rest i long = take-append-le i ds rest (omega arith) ∙ take_all 
 first_declared : (all ds : List Declaration) (i : ℕ) (vs : List VariableTree) → fold with_declared ds vs ≡ all → length ds ≡ i → take i all ≡ ds
 first_declared all ds i vs is long = let rest = begins ds vs in ap (take i) (sym is ∙ rest.1) ∙ take_front ds rest.0 i long
 
-done_variables : (all ds : List Declaration) (i : ℕ) (vs : List VariableTree) (e : Emitted) (l : Laid) (code : List Insn) (n slack : ℕ) → fold with_declared ds vs ≡ all → length ds ≡ i → n + sum_by (λ v. part_nodes v.expression) vs ≤ 512 → Done e l code n slack → Done (with_variables all i e (map (λ v. expanded v.expression) vs)) (after_variables ds l vs) (code ++ routines_code (variable_codes ds l vs)) (n + sum_by (λ v. part_nodes v.expression) vs) slack
-done_variables all ds i [] e l code n slack is long few d = done_at e l code (code ++ []) n (n + 0) slack (sym (append-nil code)) (omega arith) d
-done_variables all ds i (v ∷ more) e l code n slack is long few d =
+same_variables : (all ds : List Declaration) (i : ℕ) (vs : List VariableTree) (e : Emitted) (l : Laid) (code : List Insn) (n : ℕ) → fold with_declared ds vs ≡ all → length ds ≡ i → n + sum_by (λ v. part_nodes v.expression) vs ≤ 512 → Same e l code n → Same (with_variables all i e (map (λ v. expanded v.expression) vs)) (after_variables ds l vs) (code ++ routines_code (variable_codes ds l vs)) (n + sum_by (λ v. part_nodes v.expression) vs)
+same_variables all ds i [] e l code n is long few s = same_at e l code (code ++ []) n (n + 0) (sym (append-nil code)) (omega arith) s
+same_variables all ds i (v ∷ more) e l code n is long few s =
     let counted = sum_by-cons (λ u. part_nodes u.expression) v more in
     let routine = variable_code ds l v in
     let piece = skip (size routine) ∷ routine in
-    let short = routine_short ds l v in
-    let so_far = d.short.slots_few in
-    let less = d.short.routines_few in
-    let whole = size-append code piece in
-    let first = size-cons (skip (size routine)) routine in
-    let count = length-append l.routines ((l.place + 1) ∷ []) in
     let long_more = length-append ds (taken_declaration ds v ∷ []) in
-    let one = same_variable ds e l code n v d.same (record { slots_few = omega (arith, so_far, few, counted); nodes_few = omega (arith, few, counted); routines_few = omega (arith, few, counted, less) }) in
-    let here : Done (with_variable e (take i all) (expanded v.expression)) (with_routine ds l v) (code ++ piece) (n + part_nodes v.expression) slack = record {
-      same = subst (λ (xs : List Declaration). Same (with_variable e xs (expanded v.expression)) (with_routine ds l v) (code ++ piece) (n + part_nodes v.expression)) (sym (first_declared all ds i (v ∷ more) is long)) one;
-      short = record { slots_few = omega (arith, so_far, whole, first, short); routines_few = omega (arith, less, count) };
-    } in
-    done_at (with_variables all i e (map (λ u. expanded u.expression) (v ∷ more))) (after_variables ds l (v ∷ more)) _ _ _ _ slack (append_assoc code piece (routines_code (variable_codes (with_declared ds v) (with_routine ds l v) more))) (omega (arith, counted))
-    (done_variables all (with_declared ds v) (i + 1) more (with_variable e (take i all) (expanded v.expression)) (with_routine ds l v) (code ++ piece) (n + part_nodes v.expression) slack is (omega (arith, long, long_more)) (omega (arith, few, counted)) here)
+    let one = same_variable ds e l code n v s (omega (arith, few, counted)) in
+    let here : Same (with_variable e (take i all) (expanded v.expression)) (with_routine ds l v) (code ++ piece) (n + part_nodes v.expression) =
+    subst (λ (xs : List Declaration). Same (with_variable e xs (expanded v.expression)) (with_routine ds l v) (code ++ piece) (n + part_nodes v.expression)) (sym (first_declared all ds i (v ∷ more) is long)) one in
+    same_at (with_variables all i e (map (λ u. expanded u.expression) (v ∷ more))) (after_variables ds l (v ∷ more)) _ _ _ _ (append_assoc code piece (routines_code (variable_codes (with_declared ds v) (with_routine ds l v) more))) (omega (arith, counted))
+    (same_variables all (with_declared ds v) (i + 1) more (with_variable e (take i all) (expanded v.expression)) (with_routine ds l v) (code ++ piece) (n + part_nodes v.expression) is (omega (arith, long, long_more)) (omega (arith, few, counted)) here)
 
 -- ---- conditions
 
-done_condition : (f : FailurePolicy) (e : Emitted) (l : Laid) (code : List Insn) (n slack : ℕ) (a : Tree) → n + part_nodes a ≤ 512 → Done e l code n slack → Done (with_condition f e (expanded a)) (after_condition l a) (code ++ (tree_code [] l a ++ condition_tail f)) (n + part_nodes a) slack
-done_condition f e l code n slack a few d =
-    let so_far = d.short.slots_few in
-    let less = d.short.routines_few in
-    let short = tree_short [] l a in
-    let counted = same_expression [] (with_nodes e 1) l code (n + 1) a (same_nodes e l code n 1 d.same) (record { slots_few = omega (arith, so_far, few); nodes_few = omega (arith, few); routines_few = omega (arith, few, less) }) in
+same_condition : (f : FailurePolicy) (e : Emitted) (l : Laid) (code : List Insn) (n : ℕ) (a : Tree) → n + part_nodes a ≤ 512 → Same e l code n → Same (with_condition f e (expanded a)) (after_condition l a) (code ++ (tree_code [] l a ++ condition_tail f)) (n + part_nodes a)
+same_condition f e l code n a few s =
+    let counted = same_expression [] (with_nodes e 1) l code (n + 1) a (same_nodes e l code n 1 s) (omega (arith, few)) in
     let all = same_piece (with_expression (with_nodes e 1) [] (expanded a)) (with_tree [] l a) (code ++ tree_code [] l a) (n + 1 + nodes (expanded a)) (condition_tail f) 9 (tail_size f) counted in
-    let whole = size-append code (tree_code [] l a ++ condition_tail f) in
-    let part = size-append (tree_code [] l a) (condition_tail f) in
-    let tail = tail_size f in
-    record {
-      same = same_at (with_condition f e (expanded a)) (after_condition l a) _ _ _ _ (append_assoc code (tree_code [] l a) (condition_tail f)) (omega arith) all;
-      short = record { slots_few = omega (arith, so_far, whole, part, tail, short); routines_few = omega (arith, less) };
-    }
+    same_at (with_condition f e (expanded a)) (after_condition l a) _ _ _ _ (append_assoc code (tree_code [] l a) (condition_tail f)) (omega arith) all
 
-done_conditions : (f : FailurePolicy) (cs : List Tree) (e : Emitted) (l : Laid) (code : List Insn) (n slack : ℕ) → n + sum_by part_nodes cs ≤ 512 → Done e l code n slack → Done (with_conditions f e (map expanded cs)) (after_conditions l cs) (code ++ conditions_code f (condition_codes l cs)) (n + sum_by part_nodes cs) slack
+same_conditions : (f : FailurePolicy) (cs : List Tree) (e : Emitted) (l : Laid) (code : List Insn) (n : ℕ) → n + sum_by part_nodes cs ≤ 512 → Same e l code n → Same (with_conditions f e (map expanded cs)) (after_conditions l cs) (code ++ conditions_code f (condition_codes l cs)) (n + sum_by part_nodes cs)
 unfolding conditions_code
-done_conditions f [] e l code n slack few d = done_at e l code (code ++ []) n (n + 0) slack (sym (append-nil code)) (omega arith) d
-done_conditions f (a ∷ more) e l code n slack few d =
+same_conditions f [] e l code n few s = same_at e l code (code ++ []) n (n + 0) (sym (append-nil code)) (omega arith) s
+same_conditions f (a ∷ more) e l code n few s =
     let counted = sum_by-cons part_nodes a more in
     let piece = tree_code [] l a ++ condition_tail f in
     let rest = conditions_code f (condition_codes (after_condition l a) more) in
-    done_at (with_conditions f e (map expanded (a ∷ more))) (after_conditions l (a ∷ more)) _ _ _ _ slack (append_assoc code piece rest ∙ ap (λ (is : List Insn). code ++ is) (append_assoc (tree_code [] l a) (condition_tail f) rest)) (omega (arith, counted))
-    (done_conditions f more (with_condition f e (expanded a)) (after_condition l a) (code ++ piece) (n + part_nodes a) slack (omega (arith, few, counted)) (done_condition f e l code n slack a (omega (arith, few, counted)) d))
+    same_at (with_conditions f e (map expanded (a ∷ more))) (after_conditions l (a ∷ more)) _ _ _ _ (append_assoc code piece rest ∙ ap (λ (is : List Insn). code ++ is) (append_assoc (tree_code [] l a) (condition_tail f) rest)) (omega (arith, counted))
+    (same_conditions f more (with_condition f e (expanded a)) (after_condition l a) (code ++ piece) (n + part_nodes a) (omega (arith, few, counted)) (same_condition f e l code n a (omega (arith, few, counted)) s))
 
 -- ---- validations
 
@@ -219,17 +175,16 @@ jump_put code message texts n routines =
     ∙ ap (λ (m : ℕ). slots code ++ slice_set (Some old ∷ slots behind) m (Some new)) none
     ∙ sym (slots-append code (new ∷ behind)))
 
-same_denial : (i : ℕ) (ds : List Declaration) (e : Emitted) (l : Laid) (code : List Insn) (n : ℕ) (m : Option Tree) → Same e l code n → size code + 6 ≤ 128 * n → n + message_nodes m ≤ 512 → length l.routines < 512 → Same (with_denial i ds e (option_map expanded m)) (with_message_laid ds (with_slots 6 l) m) (code ++ denial_code (message_code i (message_codes ds (with_slots 6 l) m))) (n + message_nodes m)
-same_denial i ds e l code n None s low few less = same_at _ _ _ _ n (n + 0) refl (omega arith) (same_piece e l code n (denial_code []) 6 refl s)
-same_denial i ds e l code n (Some a) s low few less =
+same_denial : (i : ℕ) (ds : List Declaration) (e : Emitted) (l : Laid) (code : List Insn) (n : ℕ) (m : Option Tree) → Same e l code n → n + message_nodes m ≤ 512 → Same (with_denial i ds e (option_map expanded m)) (with_message_laid ds (with_slots 6 l) m) (code ++ denial_code (message_code i (message_codes ds (with_slots 6 l) m))) (n + message_nodes m)
+same_denial i ds e l code n None s few = same_at _ _ _ _ n (n + 0) refl (omega arith) (same_piece e l code n (denial_code []) 6 refl s)
+same_denial i ds e l code n (Some a) s few =
     let there = with_slots 6 l in
     let tree = expanded a in
     let behind = with_piece e (denial_code []) in
     let piece = tree_code ds there a in
     let message = piece ++ message_tail i in
     let first = same_piece e l code n (denial_code []) 6 refl s in
-    let whole = size-append code (denial_code []) in
-    let second = same_expression ds (with_nodes behind 1) there (code ++ denial_code []) (n + 1) a (same_nodes behind there (code ++ denial_code []) n 1 first) (record { slots_few = omega (arith, low, whole, few); nodes_few = omega (arith, few); routines_few = less }) in
+    let second = same_expression ds (with_nodes behind 1) there (code ++ denial_code []) (n + 1) a (same_nodes behind there (code ++ denial_code []) n 1 first) (omega (arith, few)) in
     let third = same_piece (with_expression (with_nodes behind 1) ds tree) (with_tree ds there a) ((code ++ denial_code []) ++ piece) (n + 1 + nodes tree) (message_tail i) 7 (message_tail_size i) second in
     let joined : ((code ++ denial_code []) ++ piece) ++ message_tail i ≡ code ++ (denial_code [] ++ message) = append_assoc (code ++ denial_code []) piece (message_tail i) ∙ append_assoc code (denial_code []) message in
     let all = same_at (with_message i ds behind tree) (with_message_laid ds there (Some a)) _ (code ++ (denial_code [] ++ message)) _ (n + message_nodes (Some a)) joined (omega arith) third in
@@ -246,53 +201,34 @@ same_denial i ds e l code n (Some a) s low few less =
       place = omega (arith, place, size_all, size_new, size_denial, size_old);
     }
 
--- a message leaves the routines
-routines_kept : (ds : List Declaration) (l : Laid) (m : Option Tree) → (with_message_laid ds l m).routines ≡ l.routines
-routines_kept ds l None = refl
-routines_kept ds l (Some a) = refl
-
-done_validation : (f : FailurePolicy) (i : ℕ) (ds : List Declaration) (e : Emitted) (l : Laid) (code : List Insn) (n slack : ℕ) (r : RuleTree) → n + rule_nodes r ≤ 512 → Done e l code n slack → Done (with_validation f i ds e (rule_expanded r)) (with_message_laid ds (before_message ds l r) r.message) (code ++ validation_code f i (tree_code ds l r.expression, message_codes ds (before_message ds l r) r.message)) (n + rule_nodes r) slack
-done_validation f i ds e l code n slack r few d =
-    let so_far = d.short.slots_few in
-    let less = d.short.routines_few in
+same_validation : (f : FailurePolicy) (i : ℕ) (ds : List Declaration) (e : Emitted) (l : Laid) (code : List Insn) (n : ℕ) (r : RuleTree) → n + rule_nodes r ≤ 512 → Same e l code n → Same (with_validation f i ds e (rule_expanded r)) (with_message_laid ds (before_message ds l r) r.message) (code ++ validation_code f i (tree_code ds l r.expression, message_codes ds (before_message ds l r) r.message)) (n + rule_nodes r)
+same_validation f i ds e l code n r few s =
     let piece = tree_code ds l r.expression in
     let tail = result_tail f i in
     let before = before_message ds l r in
     let message = message_code i (message_codes ds before r.message) in
-    let short = tree_short ds l r.expression in
-    let short_message = message_short ds before i r.message in
-    let eleven = result_size f i in
-    let first = same_expression ds (with_nodes e 1) l code (n + 1) r.expression (same_nodes e l code n 1 d.same) (record { slots_few = omega (arith, so_far, few); nodes_few = omega (arith, few); routines_few = omega (arith, few, less) }) in
-    let second = same_piece (with_expression (with_nodes e 1) ds (expanded r.expression)) (with_tree ds l r.expression) (code ++ piece) (n + 1 + nodes (expanded r.expression)) tail 11 eleven first in
-    let so_long = size-append (code ++ piece) tail in
-    let longer = size-append code piece in
-    let third = same_denial i ds (with_piece (with_expression (with_nodes e 1) ds (expanded r.expression)) tail) (with_slots 11 (with_tree ds l r.expression)) ((code ++ piece) ++ tail) (n + 1 + nodes (expanded r.expression)) r.message second (omega (arith, so_far, few, short, eleven, so_long, longer)) (omega (arith, few)) (omega (arith, few, less)) in
+    let first = same_expression ds (with_nodes e 1) l code (n + 1) r.expression (same_nodes e l code n 1 s) (omega (arith, few)) in
+    let second = same_piece (with_expression (with_nodes e 1) ds (expanded r.expression)) (with_tree ds l r.expression) (code ++ piece) (n + 1 + nodes (expanded r.expression)) tail 11 (result_size f i) first in
+    let third = same_denial i ds (with_piece (with_expression (with_nodes e 1) ds (expanded r.expression)) tail) (with_slots 11 (with_tree ds l r.expression)) ((code ++ piece) ++ tail) (n + 1 + nodes (expanded r.expression)) r.message second (omega (arith, few)) in
     let seventeen : with_slots 6 (with_slots 11 (with_tree ds l r.expression)) ≡ before = ap (λ (m : ℕ). record { place = m; texts = texts_with l r.expression; routines = l.routines }) (omega arith) in
     let moved = subst (λ (x : Laid). Same (with_validation f i ds e (rule_expanded r)) (with_message_laid ds x r.message) (((code ++ piece) ++ tail) ++ denial_code (message_code i (message_codes ds x r.message))) (n + 1 + nodes (expanded r.expression) + message_nodes r.message)) seventeen third in
-    let v : Validation = (piece, message_codes ds before r.message) in
-    let whole = size-append code (validation_code f i v) in
-    let part = rule_size f i v in
-    let kept = ap length (routines_kept ds before r.message) in
-    record {
-      same = same_at (with_validation f i ds e (rule_expanded r)) (with_message_laid ds before r.message) _ _ _ _ (append_assoc (code ++ piece) tail (denial_code message) ∙ append_assoc code piece (tail ++ denial_code message)) (omega arith) moved;
-      short = record { slots_few = omega (arith, so_far, whole, part, short, short_message); routines_few = omega (arith, less, kept) };
-    }
+    same_at (with_validation f i ds e (rule_expanded r)) (with_message_laid ds before r.message) _ _ _ _ (append_assoc (code ++ piece) tail (denial_code message) ∙ append_assoc code piece (tail ++ denial_code message)) (omega arith) moved
 
 -- what stands behind validations
 abbrev after_rules : List Declaration → Laid → List RuleTree → Laid
 after_rules ds l [] = l
 after_rules ds l (r ∷ more) = after_rules ds (with_message_laid ds (before_message ds l r) r.message) more
 
-done_validations : (f : FailurePolicy) (ds : List Declaration) (rs : List RuleTree) (i : ℕ) (e : Emitted) (l : Laid) (code : List Insn) (n slack : ℕ) → n + sum_by rule_nodes rs ≤ 512 → Done e l code n slack → Done (with_validations f i ds e (map rule_expanded rs)) (after_rules ds l rs) (code ++ validations_code f i (validation_codes ds l rs)) (n + sum_by rule_nodes rs) slack
+same_validations : (f : FailurePolicy) (ds : List Declaration) (rs : List RuleTree) (i : ℕ) (e : Emitted) (l : Laid) (code : List Insn) (n : ℕ) → n + sum_by rule_nodes rs ≤ 512 → Same e l code n → Same (with_validations f i ds e (map rule_expanded rs)) (after_rules ds l rs) (code ++ validations_code f i (validation_codes ds l rs)) (n + sum_by rule_nodes rs)
 unfolding validations_code
-done_validations f ds [] i e l code n slack few d = done_at e l code (code ++ []) n (n + 0) slack (sym (append-nil code)) (omega arith) d
-done_validations f ds (r ∷ more) i e l code n slack few d =
+same_validations f ds [] i e l code n few s = same_at e l code (code ++ []) n (n + 0) (sym (append-nil code)) (omega arith) s
+same_validations f ds (r ∷ more) i e l code n few s =
     let counted = sum_by-cons rule_nodes r more in
     let before = before_message ds l r in
     let next = with_message_laid ds before r.message in
     let piece = validation_code f i (tree_code ds l r.expression, message_codes ds before r.message) in
-    done_at (with_validations f i ds e (map rule_expanded (r ∷ more))) (after_rules ds l (r ∷ more)) _ _ _ _ slack (append_assoc code piece (validations_code f (i + 1) (validation_codes ds next more))) (omega (arith, counted))
-    (done_validations f ds more (i + 1) (with_validation f i ds e (rule_expanded r)) next (code ++ piece) (n + rule_nodes r) slack (omega (arith, few, counted)) (done_validation f i ds e l code n slack r (omega (arith, few, counted)) d))
+    same_at (with_validations f i ds e (map rule_expanded (r ∷ more))) (after_rules ds l (r ∷ more)) _ _ _ _ (append_assoc code piece (validations_code f (i + 1) (validation_codes ds next more))) (omega (arith, counted))
+    (same_validations f ds more (i + 1) (with_validation f i ds e (rule_expanded r)) next (code ++ piece) (n + rule_nodes r) (omega (arith, few, counted)) (same_validation f i ds e l code n r (omega (arith, few, counted)) s))
 
 -- ---- the whole
 
@@ -303,21 +239,18 @@ policy_emitted f t few =
     let routines = routines_code (variable_codes [] nothing_laid t.variables) in
     let conditions = conditions_code f (condition_codes (laid_routines t) t.conditions) in
     let rules = validations_code f 0 (validation_codes scope (laid_conditions t) t.validations) in
-    let start : Done (with_nodes no_code 1) nothing_laid [] 1 100 = record { same = record { is = refl; place = refl }; short = record { slots_few = omega arith; routines_few = omega arith } } in
+    let start : Same (with_nodes no_code 1) nothing_laid [] 1 = record { is = refl; place = refl } in
     let n1 = 1 + sum_by (λ v. part_nodes v.expression) t.variables in
     let n2 = n1 + sum_by part_nodes t.conditions in
-    let first = done_variables scope [] 0 t.variables (with_nodes no_code 1) nothing_laid [] 1 100 refl refl (omega (arith, few)) start in
+    let first = same_variables scope [] 0 t.variables (with_nodes no_code 1) nothing_laid [] 1 refl refl (omega (arith, few)) start in
     let e1 = with_variables scope 0 (with_nodes no_code 1) (map (λ v. expanded v.expression) t.variables) in
-    let second = done_conditions f t.conditions e1 (laid_routines t) routines n1 100 (omega (arith, few)) first in
+    let second = same_conditions f t.conditions e1 (laid_routines t) routines n1 (omega (arith, few)) first in
     let e2 = with_conditions f e1 (map expanded t.conditions) in
-    let decided = same_piece e2 (after_conditions (laid_routines t) t.conditions) (routines ++ conditions) n2 decided_tail 5 refl second.same in
-    let so_far = second.short.slots_few in
-    let less = second.short.routines_few in
-    let whole = size-append (routines ++ conditions) decided_tail in
-    let third = done_validations f scope t.validations 0 (emitted_before f t) (laid_conditions t) ((routines ++ conditions) ++ decided_tail) n2 95 (omega (arith, few)) (record { same = decided; short = record { slots_few = omega (arith, so_far, whole); routines_few = less } }) in
+    let decided = same_piece e2 (after_conditions (laid_routines t) t.conditions) (routines ++ conditions) n2 decided_tail 5 refl second in
+    let third = same_validations f scope t.validations 0 (emitted_before f t) (laid_conditions t) ((routines ++ conditions) ++ decided_tail) n2 (omega (arith, few)) decided in
     let all = ((routines ++ conditions) ++ decided_tail) ++ rules in
     let joined : all ++ outcome_tail ≡ routines ++ (conditions ++ (decided_tail ++ (rules ++ outcome_tail))) =
     append_assoc ((routines ++ conditions) ++ decided_tail) rules outcome_tail ∙ append_assoc (routines ++ conditions) decided_tail (rules ++ outcome_tail) ∙ append_assoc routines conditions (decided_tail ++ (rules ++ outcome_tail)) in
-    ap (λ (x : Emitted). x.code ++ slots outcome_tail) third.same.is
+    ap (λ (x : Emitted). x.code ++ slots outcome_tail) third.is
     ∙ sym (slots-append all outcome_tail)
     ∙ ap slots joined

@@ -1,7 +1,6 @@
 -- A policy's program can be spelled: the numbers of its instructions are in range.
-use Rattle.std.proofs.Common.{◌≡◌, ℕ, suc, ◌+◌, ◌*◌, ◌<◌, ◌≤◌, Bool, true, false, List, [], ◌∷◌, ◌++◌, length, length-append, Option, Some, None, refl, ap, subst, arith, if◌then◌else◌}
-use Rattle.std.specs.Prelude.{bytes_eq, option_map}
-use Rattle.std.specs.List.{AllByRecursion, sum_by}
+use Rattle.std.proofs.Common.{◌≡◌, ℕ, suc, ◌+◌, ◌*◌, ◌<◌, ◌≤◌, List, [], ◌∷◌, ◌++◌, length, length-append, Option, Some, None, refl, ap, subst, arith}
+use Rattle.std.specs.List.{sum_by}
 use Rattle.std.proofs.lemmas.List.Sums.{sum_by-cons}
 use Rattle.insn_codec.specs.declared.insn.Insn.{Insn}
 use Rattle.insn_codec.specs.declared.insn.Insn.TheVariants.{Exit}
@@ -11,12 +10,11 @@ use Rattle.cel_types.specs.Declarations.{Declaration}
 use Rattle.codegen_base.specs.Pieces.{AreInsns, size}
 use Rattle.codegen_base.specs.Variables.{memo_tail}
 use Rattle.codegen_base.proofs.Insns.{insns_append, memo_insns}
-use Rattle.codegen.specs.Code.Expressions.{code_of, routine_named}
-use Rattle.codegen.specs.Computes.{TextsStand}
+use Rattle.codegen.specs.Code.Expressions.{code_of}
 use Rattle.codegen.specs.Constants.{joined, with_texts}
 use Rattle.codegen.specs.Layer.{IsExpression}
 use Rattle.codegen.specs.Surroundings.{routines_of}
-use Rattle.codegen.proofs.CodeInsns.{AreNear, AreShort, code_insns, short_back, short_front}
+use Rattle.codegen.proofs.CodeInsns.{AreLow, AreNear, AreShort, code_insns, near_named, short_back, short_front, stand_short}
 use Rattle.codegen.proofs.Lent.{texts_stand}
 use Rattle.policy_glue.specs.Checking.{scope_after, with_variable}
 use Rattle.policy_glue.specs.Limits.{condition_texts, message_nodes, message_texts, part_nodes, policy_nodes, policy_texts, rule_nodes, tree_texts, validation_texts, variable_texts}
@@ -56,35 +54,14 @@ outcome_tail_insns = (omega arith, (omega arith, (omega arith, ((omega arith, om
 
 -- ---- texts
 
-stand_short : (constants : List ℕ) (texts used : List (List ℕ)) → TextsStand constants texts used → AreShort used
-stand_short constants texts [] h = tt
-stand_short constants texts (t ∷ used) h = (h.0.length_is_word, stand_short constants texts used h.1)
-
 used_short : (used : List (List ℕ)) → length (joined (with_texts [] used)) ≤ 1048576 → AreShort used
 used_short used few = stand_short (joined (with_texts [] used)) (with_texts [] used) used (texts_stand [] used [] few)
 
 -- ---- routines that stand so far
 
-abbrev AreLow : List ℕ → Type 0
-AreLow slots = AllByRecursion (λ slot. slot ≤ 65536) slots
-
-low_more : (slots : List ℕ) (slot : ℕ) → AreLow slots → slot ≤ 65536 → AreLow (slots ++ slot ∷ [])
+low_more : (slots : List ℕ) (slot : ℕ) → AreLow slots → slot ≤ 0x7fff_ff00 → AreLow (slots ++ slot ∷ [])
 low_more [] slot low h = (h, tt)
 low_more (s ∷ slots) slot low h = (low.0, low_more slots slot low.1 h)
-
-near_by : (here : Bool) (slot m : ℕ) (o : Option (ℕ × ℕ)) (found : ℕ × ℕ) → slot ≤ 65536 → ((at : ℕ × ℕ) → o ≡ Some at → (at.0 < m) × (at.1 ≤ 65536)) → (if here then Some (0, slot) else option_map (λ at. (suc at.0, at.1)) o) ≡ Some found → (found.0 < suc m) × (found.1 ≤ 65536)
-near_by true slot m o found low later e = let same : (0, slot) ≡ found = cc in subst (λ (at : ℕ × ℕ). (at.0 < suc m) × (at.1 ≤ 65536)) same (omega arith, low)
-near_by false slot m (Some at) found low later e =
-    let same : (suc at.0, at.1) ≡ found = cc in
-    let is = later at refl in
-    let first = is.0 in
-    subst (λ (b : ℕ × ℕ). (b.0 < suc m) × (b.1 ≤ 65536)) same (omega arith, is.1)
-near_by false slot m None found low later e = absurd (cc)
-
-near_named : (ds : List Declaration) (slots : List ℕ) → AreLow slots → (n : List ℕ) (found : ℕ × ℕ) → routine_named n (routines_of ds slots) ≡ Some found → (found.0 < length slots) × (found.1 ≤ 65536)
-near_named [] slots low n found e = absurd (cc)
-near_named (d ∷ ds) [] low n found e = absurd (cc)
-near_named (d ∷ ds) (s ∷ slots) low n found e = near_by (bytes_eq d.name n) s (length slots) (routine_named n (routines_of ds slots)) found low.0 (near_named ds slots low.1 n) e
 
 -- the routines that stand begin in an image, and with n more there are at most 64
 record Low (l : Laid) (n : ℕ) : Type 0 where
@@ -119,7 +96,7 @@ with_routine_low : (scope : List Declaration) (l : Laid) (v : VariableTree) (n :
 with_routine_low scope l v n low inside =
     let few = low.few in
     let long = length-append l.routines ((l.place + 1) ∷ []) in
-    record { slots = low_more l.routines (l.place + 1) low.slots inside; few = omega arith }
+    record { slots = low_more l.routines (l.place + 1) low.slots (omega arith); few = omega arith }
 
 routines_insns : (scope : List Declaration) (l : Laid) (vs : List VariableTree) → AreVariables scope vs → Low l (length vs) → l.place + 128 * sum_by (λ v. part_nodes v.expression) vs ≤ 65536 → AreShort (variable_texts vs) → AreInsns (routines_code (variable_codes scope l vs))
 routines_insns scope l [] are low inside short = tt

@@ -57,7 +57,7 @@ pub(crate) fn memo_tail(i: usize) -> [Insn; 5]
 fn routine_named(name: &str, around: &Surroundings) -> Option<(usize, u32)>
     ensures routine { result ≡ first_named name.now (routines_within around.now) }
     ensures few { IfSome result (λ found. found.0 < 512) }
-    ensures near { IfSome result (λ found. found.1 ≤ 65536) }
+    ensures near { IfSome result (λ found. found.1 ≤ 0x7fff_ff00) }
 {
     let count = around.variables.len().min(around.routines.len());
     for i in 0..count {
@@ -75,7 +75,7 @@ pub(crate) fn variable(
     around: &Surroundings,
     slot: usize,
 ) -> Result<Vec<Insn>, AllocError>
-    requires { slot ≤ 131000 }
+    requires { slot ≤ 0x7fff_ff00 }
     ensures { IfOk result (λ code. code.items ≡ variable_code (first_named name.now (routines_within around.now)) slot) }
 {
     match routine_named(name, around) {

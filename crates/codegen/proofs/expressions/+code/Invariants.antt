@@ -56,7 +56,7 @@ invariant-list-loop-item l =
       so_far : l.items.items ++ items_code rest ts rs ws l.spot.word l.slot ≡ items_code all ts rs ws l.spot.word (l.spot.slot + 2);
       room : l.spot.word + 1 + needs rest ≤ 60;
       fewer : nodes_of rest ≤ nodes_of all;
-      near : l.slot + 63 * nodes_of rest ≤ 131000;
+      near : l.slot + 63 * nodes_of rest ≤ 0x7fff_ff00;
     }
 
 abbrev pub invariant-map-loop-key : goal.invariant-map-loop-key
@@ -70,5 +70,5 @@ invariant-map-loop-key l =
       so_far : l.entries.items ++ entries_code rest ts rs ws l.spot.word l.slot ≡ entries_code all ts rs ws l.spot.word (l.spot.slot + 2);
       room : l.spot.word + entries_need rest ≤ 60;
       fewer : entries_nodes rest ≤ entries_nodes all;
-      near : l.slot + 63 * entries_nodes rest ≤ 131000;
+      near : l.slot + 63 * entries_nodes rest ≤ 0x7fff_ff00;
     }

@@ -1,0 +1,154 @@
+-- What an emitter's code does once an expression or a variable is added.
+use Rattle.std.proofs.Common.{◌≡◌, ℕ, ◌+◌, ◌*◌, ◌≤◌, Bool, true, false, List, [], ◌∷◌, ◌++◌, length, length-append, suc, refl, sym, ap, ◌∙◌, subst, arith, leb-false, leb-true, if◌then◌else◌}
+use Rattle.std.specs.Prelude.{All}
+use Rattle.std.proofs.lemmas.List.{length-map}
+use Rattle.insn_codec.specs.declared.insn.Insn.{Insn}
+use Rattle.value_store.specs.Value.{Value}
+use Rattle.cel_macros.specs.CoreTree.{CoreTree, plain_tree}
+use Rattle.cel_measures.specs.Measures.{depth, need, nodes}
+use Rattle.cel_types.specs.Declarations.{Declaration, declared, depths_of}
+use Rattle.codegen_base.specs.Instructions.{skip}
+use Rattle.codegen_base.specs.Pieces.{AreInsns, Stands, size, slots}
+use Rattle.codegen_base.specs.Scopes.{HasRoutine, Returns, Variable}
+use Rattle.codegen_base.specs.Variables.{memo_tail}
+use Rattle.codegen_base.proofs.Insns.{insns_append, memo_insns}
+use Rattle.codegen_base.proofs.Pieces.{size-append, size-cons, stands_rest}
+use Rattle.codegen_base.proofs.Returns.{routine_returns}
+use Rattle.codegen_base.proofs.Runs.{looser, to_place}
+use Rattle.codegen.specs.Added.{code_at, has_room, passed, with_counted, with_expression, with_variable}
+use Rattle.codegen.specs.Code.Expressions.{code_of, routine_code, texts_of}
+use Rattle.codegen.specs.Computes.{environment_in, nestings}
+use Rattle.codegen.specs.Constants.{with_texts}
+use Rattle.codegen.specs.Cost.{spent_by}
+use Rattle.codegen.specs.Emission.{AreConstants, EmitsExpression, EmitsVariable, HasRoutines, Running, Suits, caller_context, cost_in, meaning_in, next_routine, next_variable, setting}
+use Rattle.codegen.specs.Emitted.{Emitted, with_piece}
+use Rattle.codegen.specs.HasLiterals.{HasLiterals}
+use Rattle.codegen.specs.Layer.{AreTaken, HasConstants, IsExpression}
+use Rattle.codegen.specs.Surroundings.{routines_of}
+use Rattle.codegen.proofs.CodeInsns.{AreLow, AreNear, code_insns, near_named, stand_short}
+use Rattle.codegen.proofs.Computed.{visited}
+use Rattle.codegen.proofs.Layer.{expression_gives, known_stand, routines_are, variable_is_taken, variable_joins}
+use Rattle.codegen.proofs.Lengths.{short_code}
+use Rattle.codegen.proofs.Passed.{routine_is_passed}
+
+pub low_each : (slots : List ℕ) → All (λ slot. slot ≤ 0x7fff_ff00) slots → AreLow slots
+low_each [] h = tt
+low_each (s ∷ slots) h = (h 0 0 (omega arith), low_each slots (λ k d inside. h (suc k) d (omega arith)))
+
+module _ (old : Emitted) (ds : List Declaration) (e : CoreTree) (few : 2 * length old.routines ≤ old.nodes) (low : AreLow old.routines) (inside : length old.code ≤ 0x7fff_0000) (fits : need e ≤ 60) (literals : HasLiterals (plain_tree e)) where
+  abbrev known : List (List ℕ)
+  known = with_texts old.constants (texts_of e)
+
+  abbrev routines : List (List ℕ × ℕ)
+  routines = routines_of ds old.routines
+
+  module _ (r : Running) (suits : Suits old.routines known ds e r) where
+    is_expression : IsExpression ds e
+    is_expression = record { cel_type = suits.cel_type; has_type = suits.has_type; literals = literals; fits = fits }
+
+    has_constants : HasConstants r.constants old.constants e
+    has_constants = record { more = suits.texts_are.later; constants_are = suits.texts_are.are; few = suits.texts_are.few }
+
+    all_taken : length (r.scope ++ r.later) ≡ length old.routines
+    all_taken = sym (length-map (r.scope ++ r.later) (λ (v : Variable). v.routine)) ∙ ap length suits.taken.slots_are
+
+    scope_few : old.nodes ≤ 512 → length r.scope ≤ 512
+    scope_few most =
+        let all = all_taken in
+        let both = length-append r.scope r.later in
+        omega (arith, few, most, all, both)
+
+  -- ---- its instructions
+
+  near : old.nodes ≤ 512 → AreNear routines
+  near most name found is =
+      let here = near_named ds old.routines low name found is in
+      let first = here.0 in
+      (omega (arith, first, few, most), here.1)
+
+  piece_spells : (p : ℕ) → p + 63 * nodes e ≤ 0x8000_0000 → nodes e ≤ 512 → old.nodes ≤ 512 → (constants : List ℕ) → AreConstants constants known → AreInsns (code_of e known routines [] 0 p)
+  piece_spells p here short most constants are =
+      let texts : HasConstants constants old.constants e = record { more = are.later; constants_are = are.are; few = are.few } in
+      code_insns known routines (near most) e [] 0 p (λ n k is. absurd (cc)) (omega (arith, fits)) short here literals (stand_short constants known (texts_of e) (known_stand constants old.constants e texts))
+
+  -- ---- an expression
+
+  expression_by : (here : Bool) → has_room (with_counted old e (nodes e)) ≡ here
+      → EmitsExpression old (if here then with_piece (with_counted old e (nodes e)) (code_at (with_counted old e (nodes e)) ds e (length old.code)) else with_counted old e (nodes e)) ds e
+  expression_by true room short =
+      let within = leb-true _ _ room in
+      let long = short_code e known routines [] 0 (length old.code) in
+      record {
+        piece = code_of e known routines [] 0 (length old.code);
+        behind = refl;
+        short = omega (arith, long);
+        spells = piece_spells (length old.code) (omega (arith, within, inside)) (omega (arith, within)) (omega (arith, within));
+        gives = λ r frame suits scoped near.
+            expression_gives old.constants old.routines ds e (length old.code) (is_expression r suits) r.image r.is_deep r.roots r.constants r.scope r.later frame suits.taken near (scope_few r suits (omega (arith, within))) (has_constants r suits) scoped suits.may;
+      }
+  expression_by false room short = absurd (short (let above = leb-false _ _ room in omega (arith, above)))
+
+  pub emits_expression : EmitsExpression old (with_expression old ds e) ds e
+  emits_expression = expression_by (has_room (with_counted old e (nodes e))) refl
+
+  -- ---- a variable
+
+  module _ (shallow : depth e (depths_of ds) ≤ 6) where
+    abbrev slot : ℕ
+    slot = next_routine old
+
+    abbrev body : List Insn
+    body = code_of e known routines [] 0 slot
+
+    abbrev routine : List Insn
+    routine = routine_code e known routines (length old.routines) slot
+
+    joined_scope : (r : Running) (name : List ℕ) → old.nodes ≤ 512 → Suits old.routines known ds e r → HasRoutines r (r.scope ++ r.later)
+        → Stands r.image.code (length old.code) (passed routine) → HasRoutines r ((r.scope ++ r.later) ++ next_variable old body r.roots r.scope name e ∷ [])
+    joined_scope r name most suits scoped stands =
+        subst (λ (rs : List (List ℕ × ℕ)). HasRoutines r ((r.scope ++ r.later) ++ next_variable old (code_of e known rs [] 0 slot) r.roots r.scope name e ∷ [])) (sym (routines_are old.routines ds r.scope r.later suits.taken))
+        (variable_joins old.constants old.routines ds e slot (is_expression r suits) r.image r.is_deep r.roots r.constants r.scope r.later name suits.taken shallow (scope_few r suits most) (has_constants r suits) scoped suits.may (stands_rest r.image.code (length old.code) (skip (size routine)) routine stands))
+
+    -- the routine's steps are within 128 a visit
+    returned : (r : Running) (name : List ℕ) (items : List (List ℕ × Value)) (words : List (List ℕ × ℕ)) (frame base : ℕ) → old.nodes ≤ 512
+        → Suits old.routines known ds e r → HasRoutines r (r.scope ++ r.later) → frame + depth e (depths_of ds) ≤ 7 → base ≤ 60
+        → Stands r.image.code (length old.code) (passed routine)
+        → Returns (setting r) slot (length old.routines) (caller_context r items words name e) frame base (meaning_in r e) (128 * (cost_in r e).visits) (16 * spent_by (cost_in r e))
+    returned r name items words frame base most suits scoped near low stands =
+        let v = next_variable old body r.roots r.scope name e in
+        let has : HasRoutine r.image r.is_deep r.roots r.constants (r.scope ++ r.later) v = joined_scope r name most suits scoped stands (r.scope ++ r.later) [] v refl in
+        let all = all_taken r suits in
+        let nested : depth e (nestings r.scope) ≡ depth e (depths_of ds) = ap (depth e) suits.taken.depths_are in
+        let some = visited (plain_tree e) (environment_in r.roots [] r.scope) in
+        let steps = 128 * (cost_in r e).visits in
+        let charge = 16 * spent_by (cost_in r e) in
+        let back : Returns (setting r) slot (length (r.scope ++ r.later)) (caller_context r items words name e) frame base (meaning_in r e) steps charge =
+        λ q b ready. looser (setting r) steps charge (omega (arith, some)) (omega arith) (routine_returns r.image r.is_deep r.roots r.constants (r.scope ++ r.later) v words items frame base has (omega (arith, all, few, most)) low (omega (arith, near, nested)) q b ready) in
+        subst (λ (i : ℕ). Returns (setting r) slot i (caller_context r items words name e) frame base (meaning_in r e) steps charge) all back
+
+    variable_by : (here : Bool) → has_room (with_counted old e (1 + nodes e)) ≡ here
+        → EmitsVariable old (if here then record (with_piece (with_counted old e (1 + nodes e)) (passed (code_at (with_counted old e (1 + nodes e)) ds e slot ++ memo_tail (length old.routines)))) { routines = old.routines ++ slot ∷ [] } else with_counted old e (1 + nodes e)) ds e
+    variable_by true room short =
+        let within = leb-true _ _ room in
+        let most : old.nodes ≤ 512 = omega (arith, within) in
+        let long = short_code e known routines [] 0 slot in
+        let whole = size-append body (memo_tail (length old.routines)) in
+        let first = size-cons (skip (size routine)) routine in
+        let jump : size routine ≤ 32767 = omega (arith, long, whole, within) in
+        record {
+          piece = passed routine;
+          body = body;
+          behind = refl;
+          short = omega (arith, long, whole, first);
+          spells = λ constants are. (omega (arith, jump), insns_append body (memo_tail (length old.routines)) (piece_spells slot (omega (arith, within, inside)) (omega (arith, within)) most constants are) (memo_insns (length old.routines) (omega (arith, few, most))));
+          passes = λ s b stands. to_place s (length (old.code ++ slots (passed routine))) (sym (length-append old.code (slots (passed routine)))) (routine_is_passed s (length old.code) routine b stands);
+          returns = λ r name items words frame base suits scoped near low stands. returned r name items words frame base most suits scoped near low stands;
+          joins = λ r name suits scoped stands. joined_scope r name most suits scoped stands;
+          taken = λ roots scope name t taken.
+              subst (λ (rs : List (List ℕ × ℕ)). AreTaken (old.routines ++ slot ∷ []) (ds ++ declared name t (depth e (depths_of ds)) ∷ []) (scope ++ next_variable old (code_of e known rs [] 0 slot) roots scope name e ∷ []) []) (sym (routines_are old.routines ds scope [] taken))
+              (variable_is_taken old.constants old.routines ds e slot roots scope name t taken);
+        }
+    variable_by false room short = absurd (short (let above = leb-false _ _ room in omega (arith, above)))
+
+    pub emits_variable : EmitsVariable old (with_variable old ds e) ds e
+    emits_variable = variable_by (has_room (with_counted old e (1 + nodes e))) refl

@@ -1,0 +1,132 @@
+-- What the code does that an emitter has got for an expression or a variable. It is said of the piece that stands behind
+-- the emitter's old code, wherever that piece stands in an image, and whatever is taken later.
+use Rattle.std.specs.Prelude.{◌≡◌, ℕ, ◌+◌, ◌*◌, ◌≤◌, Bool, true, List, [], ◌∷◌, ◌++◌, length}
+use Rattle.insn_codec.specs.declared.insn.Insn.{Insn}
+use Rattle.loader.specs.Contents.{Contents}
+use Rattle.value_store.specs.Value.{Value, ValueOrError}
+use Rattle.cel_macros.specs.CoreTree.{CoreTree, plain_tree}
+use Rattle.cel_macros.specs.Environment.{Roots}
+use Rattle.cel_macros.specs.Meaning.{meaning}
+use Rattle.cel_measures.specs.Measures.{deepest, depth, nodes}
+use Rattle.cel_types.specs.CoreTyping.{core_typing}
+use Rattle.cel_types.specs.Declarations.{Declaration, declared, depths_of, scope_of}
+use Rattle.cel_types.specs.Types.{typed}
+use Rattle.cel_types.specs.declared.cel_type.CelType.{CelType}
+use Rattle.codegen_base.specs.Body.{Body}
+use Rattle.codegen_base.specs.Contexts.{Context}
+use Rattle.codegen_base.specs.Engine.{Comes, Setting}
+use Rattle.codegen_base.specs.Pieces.{AreInsns, Stands, size, slots}
+use Rattle.codegen_base.specs.Scopes.{IsScope, Returns, Variable, bindings, scope_setting}
+use Rattle.codegen_base.specs.Variables.{used_context}
+use Rattle.codegen.specs.Computes.{Computes, environment_in, scope_context, variable_with}
+use Rattle.codegen.specs.Constants.{joined, with_texts}
+use Rattle.codegen.specs.Cost.{Cost, IsDeep, cost, spent_by}
+use Rattle.codegen.specs.Emitted.{Emitted, IsTooLong}
+use Rattle.codegen.specs.Layer.{AreTaken}
+
+-- ---- what runs the code
+
+-- an image with its constants, whether a value may be too deep for it, the roots, and the variables: those that the
+-- expression may use, and later ones
+pub record Running : Type 0 where
+  pub image : Contents
+  pub constants : List ℕ
+  pub is_deep : Bool
+  pub roots : Roots
+  pub scope : List Variable
+  pub later : List Variable
+
+-- it runs in the setting of all the variables
+abbrev pub setting : Running → Setting
+setting r = scope_setting r.image r.is_deep (r.scope ++ r.later)
+
+-- outside of every macro no iteration name is in force
+abbrev pub context : Running → Context
+context r = scope_context r.roots [] [] r.constants (r.scope ++ r.later)
+
+-- what the expression means there, and what its evaluation costs
+abbrev pub meaning_in : Running → CoreTree → ValueOrError
+meaning_in r e = meaning (plain_tree e) (environment_in r.roots [] r.scope)
+
+abbrev pub cost_in : Running → CoreTree → Cost
+cost_in r e = cost (plain_tree e) (environment_in r.roots [] r.scope)
+
+-- the routines of these variables stand in the image
+abbrev pub HasRoutines : Running → List Variable → Type 0
+HasRoutines r variables = IsScope r.image r.is_deep r.roots r.constants variables
+
+-- the constants of an image are the texts that were taken, each once, and later ones
+pub record AreConstants (constants : List ℕ) (texts : List (List ℕ)) : Type 0 where
+  pub later : List (List ℕ)
+  pub are : constants ≡ joined (with_texts texts later)
+  pub few : length constants ≤ 1048576
+
+-- it suits an expression that the type checker takes with these declarations: its variables are those that were taken, its
+-- constants the texts that were taken, and where a value becomes too deep one may
+pub record Suits (slots : List ℕ) (texts : List (List ℕ)) (declarations : List Declaration) (e : CoreTree) (r : Running) : Type 0 where
+  pub cel_type : CelType
+  pub has_type : core_typing e (scope_of declarations) ≡ typed cel_type
+  pub taken : AreTaken slots declarations r.scope r.later
+  pub texts_are : AreConstants r.constants texts
+  pub may : IsDeep (plain_tree e) (environment_in r.roots [] r.scope) → r.is_deep ≡ true
+
+-- ---- an expression
+
+-- behind the old code stands a piece of at most 128 slots for each node, which can be spelled; from the start of each frame
+-- above which there are frames enough for its variables it gives what the expression means, within 128 steps a visit and 16
+-- times what is spent, beside what the first uses of variables take
+pub record EmitsPiece (old new : Emitted) (declarations : List Declaration) (e : CoreTree) : Type 0 where
+  pub piece : List Insn
+  pub behind : new.code ≡ old.code ++ slots piece
+  pub short : size piece ≤ 128 * nodes e
+  pub spells : (constants : List ℕ) → AreConstants constants new.constants → AreInsns piece
+  pub gives : (r : Running) (frame : ℕ) → Suits old.routines new.constants declarations e r → HasRoutines r r.scope
+      → frame + deepest e (depths_of declarations) ≤ 7
+      → Computes (setting r) (length old.code) piece (context r) frame 0 (meaning_in r e) (cost_in r e)
+
+-- as long as the code can be finished
+abbrev pub EmitsExpression : Emitted → Emitted → List Declaration → CoreTree → Type 0
+EmitsExpression old new declarations e = (IsTooLong new → ⊥) → EmitsPiece old new declarations e
+
+-- ---- a variable
+
+-- where the next routine begins: behind a jump over it
+abbrev pub next_routine : Emitted → ℕ
+next_routine e = length e.code + 1
+
+-- what a caller sees that may use the earlier variables and this one, whatever iteration names are in force
+abbrev pub caller_context : Running → List (List ℕ × Value) → List (List ℕ × ℕ) → List ℕ → CoreTree → Context
+caller_context r items words name e =
+    used_context r.roots items words r.constants (bindings (r.scope ++ r.later) ++ (name, meaning_in r e) ∷ [])
+
+-- the variable of this name, whose routine has this code for its value
+abbrev pub next_variable : Emitted → List Insn → Roots → List Variable → List ℕ → CoreTree → Variable
+next_variable old body roots scope name e = variable_with body roots scope name e (next_routine old)
+
+-- behind the old code stands a piece of at most 128 slots for each node of the expression, and for 1 more, which can be
+-- spelled, and which straight code passes in one step; from its second slot on it is the routine of the next variable:
+-- called where there are frames enough, it returns what the expression means, within 128 steps a visit and 16 times what is
+-- spent, beside what the first uses of earlier variables take; and with it the variables are a scope with this one more
+pub record EmitsPassedRoutine (old new : Emitted) (declarations : List Declaration) (e : CoreTree) : Type 0 where
+  pub piece : List Insn
+  pub body : List Insn
+  pub behind : new.code ≡ old.code ++ slots piece
+  pub short : size piece ≤ 128 * (1 + nodes e)
+  pub spells : (constants : List ℕ) → AreConstants constants new.constants → AreInsns piece
+  pub passes : (s : Setting) (b : Body) → Stands s.image.code (length old.code) piece
+      → Comes s 1 0 (length old.code) b (length new.code) (λ last. last ≡ b)
+  pub returns : (r : Running) (name : List ℕ) (items : List (List ℕ × Value)) (words : List (List ℕ × ℕ)) (frame base : ℕ)
+      → Suits old.routines new.constants declarations e r → HasRoutines r (r.scope ++ r.later)
+      → frame + depth e (depths_of declarations) ≤ 7 → base ≤ 60 → Stands r.image.code (length old.code) piece
+      → Returns (setting r) (next_routine old) (length old.routines) (caller_context r items words name e) frame base
+      (meaning_in r e) (128 * (cost_in r e).visits) (16 * spent_by (cost_in r e))
+  pub joins : (r : Running) (name : List ℕ) → Suits old.routines new.constants declarations e r → HasRoutines r (r.scope ++ r.later)
+      → Stands r.image.code (length old.code) piece
+      → HasRoutines r ((r.scope ++ r.later) ++ next_variable old body r.roots r.scope name e ∷ [])
+  pub taken : (roots : Roots) (scope : List Variable) (name : List ℕ) (t : CelType) → AreTaken old.routines declarations scope []
+      → AreTaken new.routines (declarations ++ declared name t (depth e (depths_of declarations)) ∷ [])
+      (scope ++ next_variable old body roots scope name e ∷ []) []
+
+-- as long as the code can be finished
+abbrev pub EmitsVariable : Emitted → Emitted → List Declaration → CoreTree → Type 0
+EmitsVariable old new declarations e = (IsTooLong new → ⊥) → EmitsPassedRoutine old new declarations e
