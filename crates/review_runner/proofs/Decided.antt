@@ -66,7 +66,7 @@ parts_length p end t (checking.taken vs cs rs v c r) e =
     let many = ends_length _ _ [] p.validations (Ok rs) rs r refl in
     omega (arith, ap (λ (u : PolicyTree). length u.validations) same, many)
 
-compiled_length : (p : Rules) (end : Result PolicyTree CompileError) (t : PolicyTree) → Compiles p end → end ≡ Ok t → length t.validations ≡ length p.validations
+pub compiled_length : (p : Rules) (end : Result PolicyTree CompileError) (t : PolicyTree) → Compiles p end → end ≡ Ok t → length t.validations ≡ length p.validations
 compiled_length p end t (limits.compiled u is fits) e = let same : u ≡ t = cc in ap (λ (w : PolicyTree). length w.validations) (sym same) ∙ parts_length p (Ok u) u is refl
 compiled_length p end t (limits.refused err is) e = absurd (cc)
 compiled_length p end t (limits.too_large u err is above) e = absurd (cc)
@@ -75,7 +75,7 @@ findings_by : (o : Option Outcome) (f : FailurePolicy) (xs : List Finding) → l
 findings_by None f xs = omega arith
 findings_by (Some outcome) f xs = omega arith
 
-few_findings : (f : FailurePolicy) (t : PolicyTree) (roots : Roots) → length (decision_of f t roots).findings ≤ length t.validations
+pub few_findings : (f : FailurePolicy) (t : PolicyTree) (roots : Roots) → length (decision_of f t roots).findings ≤ length t.validations
 unfolding decision_of verdict_of
 few_findings f t roots =
     let xs = rule_values roots t in
@@ -123,7 +123,7 @@ module _ (laws : Laws) (d : Documents) (rules : Rules) (image : loader.Contents)
   s = state_after n (start_state image (started roots))
 
   has : HasValues roots (started roots)
-  has = has_values laws.tables laws.canonical ready.documents roots (are_five d.review d.namespace d.params ready.documents ready.are_documents) ready.starts
+  has = has_values laws.tables laws.canonical ready.documents roots (are_five (Some d.review) d.namespace d.params ready.documents ready.are_documents) ready.starts
 
   decides : (m : ℕ) → 128 * policy_work f t roots ≤ m → Decides f t roots (started roots) (state_after m (start_state image (started roots)))
   decides m far = ready.compiled.program.decides roots (started roots) m has far
@@ -182,7 +182,7 @@ pub was_run : Laws → (d : Documents) (rules : Rules) (image : loader.Contents)
     → (ready : Ready d rules image values) → s ≡ state_after n (start_state image values) → uid ≡ uid_of request → (length ready.documents ≡ 5 → slice_get ready.documents 4 ≡ Some request)
     → AnswersFrom rules s uid result → Reviews d n result
 was_run laws d rules image values n s request uid result ready stands named at from =
-    let five = are_five d.review d.namespace d.params ready.documents ready.are_documents in
+    let five = are_five (Some d.review) d.namespace d.params ready.documents ready.are_documents in
     let own = are_started ready.documents values five.five ready.starts in
     let same : uid ≡ uid_in d.review = named ∙ uid_is d.review d.namespace d.params ready.documents request ready.are_documents (at five.five) in
     let ready : Ready d rules image (started own.roots) = record { is_said = ready.is_said; compiled = ready.compiled; documents = ready.documents; are_documents = ready.are_documents; starts = ready.starts ∙ ap Ok own.are } in

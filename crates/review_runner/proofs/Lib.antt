@@ -14,3 +14,6 @@ pub mod RootContents
 pub mod PolicyFiles
 pub mod Decided
 mod OneReview
+mod ImageKept
+mod ToldLines
+pub mod Telling

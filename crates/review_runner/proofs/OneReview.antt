@@ -42,7 +42,7 @@ value_same : (v w : Value) → Some (value v) ≡ Some (value w) → v ≡ w
 value_same v w is = cc
 
 -- the values at a start have one list of roots
-roots_once : (r s : Roots) → started r ≡ started s → r ≡ s
+pub roots_once : (r s : Roots) → started r ≡ started s → r ≡ s
 roots_once r s is =
     let object = value_same r.object s.object (ap (λ (c : Contents). slice_get c.values 4) is) in
     let old_object = value_same r.old_object s.old_object (ap (λ (c : Contents). slice_get c.values 5) is) in

@@ -13,7 +13,8 @@ use Rattle.cel_macros.specs.Environment.{Roots}
 use Rattle.bpf_machine.specs.Starts.{AreDocuments, HasNumbers, MembersHaveNumbers, StartsAreTables}
 use Rattle.codegen_base.specs.Contexts.{HasValues}
 use Rattle.review_runner.specs.Deciding.{started, values_of_roots}
-use Rattle.review_runner.specs.Reviews.{Parts, accepted, contents_from, contents_given, document_given, document_of, documents_from, documents_given, is_review, is_text, members_in, parts_given, parts_in, parts_of, request_of, root_refusal, roots_from, text_or_empty, uid_in, uid_of, without}
+use Rattle.review_runner.specs.Reviews.{Parts, accepted, contents_from, contents_given, document_given, document_of, documents_from, documents_given, is_review, is_text, members_in, null_parts, parts_given, parts_in, parts_of, request_of, root_refusal, roots_from, text_or_empty, uid_in, uid_of, without}
+use Rattle.review_runner.specs.RootValues.{AreOfRoots, DocumentsHaveValues, GivenHaveValues}
 use Rattle.review_runner.specs.declared.run_error.RunError.{RunError}
 use Rattle.review_runner.proofs.DocumentNumbers.{document_fits, get_fits, member_fits}
 use Rattle.review_runner.proofs.Reviewed.{member_kept}
@@ -98,9 +99,14 @@ five_by (Some p) (Some n) (Some q) ds first second third e =
     let parts = first p refl in
     subst AreFive same (record { five = refl; documents = (parts.object, (parts.old_object, (third q refl, (second n refl, (parts.request, tt))))) })
 
-pub are_five : (review : List ℕ) (namespace params : Option (List ℕ)) (ds : List json.Data) → documents_given (Some review) namespace params ≡ Ok ds → AreFive ds
+-- null roots, where no review is given, have no numbers
+given_fits : (review : Option (List ℕ)) (p : Parts) → parts_given review ≡ Some p → HaveNumbers p
+given_fits (Some review) p e = review_fits review p e
+given_fits None p e = let same : null_parts ≡ p = cc in subst HaveNumbers same (record { object = tt; old_object = tt; request = tt })
+
+pub are_five : (review namespace params : Option (List ℕ)) (ds : List json.Data) → documents_given review namespace params ≡ Ok ds → AreFive ds
 unfolding documents_given
-are_five review namespace params ds e = five_by (parts_given (Some review)) (document_given namespace) (document_given params) ds (review_fits review) (other_fits namespace) (other_fits params) e
+are_five review namespace params ds e = five_by (parts_given review) (document_given namespace) (document_given params) ds (given_fits review) (other_fits namespace) (other_fits params) e
 
 -- ---- the uid
 
@@ -182,6 +188,26 @@ has_values tables canonical ds r five e = record {
   canonical = canonical ds (started r) e;
   stand = record { object = refl; old_object = refl; params = refl; namespace_object = refl; request = refl };
 }
+
+was_accepted : (r : Result Contents TableError) (values : Contents) → accepted r ≡ Ok values → r ≡ Ok values
+was_accepted (Ok contents) values e = let same : contents ≡ values = cc in ap Ok same
+was_accepted (Err e) values is = absurd (cc)
+
+-- five documents that are not refused give the contents of roots
+pub roots_have_values : StartsAreTables → StartIsCanonical → DocumentsHaveValues
+roots_have_values tables canonical ds values five documents e =
+    let own = are_started ds values five e in
+    let has = has_values tables canonical ds own.roots (record { five = five; documents = documents }) (e ∙ ap Ok own.are) in
+    record { roots = own.roots; are = own.are; has = subst (HasValues own.roots) (sym own.are) has }
+
+values_of_documents : (r : Result (List json.Data) RunError) (values : Contents) → contents_from r ≡ Ok values → ((ds : List json.Data) → r ≡ Ok ds → start_contents ds ≡ Ok values → AreOfRoots values) → AreOfRoots values
+values_of_documents (Err e) values is then_have = absurd (cc)
+values_of_documents (Ok ds) values is then_have = then_have ds refl (was_accepted (start_contents ds) values is)
+
+pub given_have_values : StartsAreTables → StartIsCanonical → GivenHaveValues
+unfolding contents_given
+given_have_values tables canonical review namespace params values is =
+    values_of_documents (documents_given review namespace params) values is (λ ds documents starts. let own = are_five review namespace params ds documents in roots_have_values tables canonical ds values own.five own.documents starts)
 
 -- ---- refusals
 

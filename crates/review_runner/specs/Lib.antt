@@ -13,6 +13,8 @@ pub mod Rows
 pub mod Opening
 pub mod Debugging
 pub mod PolicyFiles
+pub mod RootValues
+pub mod Telling
 pub mod Making
 pub mod Performing
 pub mod Program

@@ -1,0 +1,135 @@
+-- What a session on the image of a policy tells of the policy's verdict.
+use Rattle.std.proofs.Common.{◌≡◌, ℕ, ◌*◌, ◌≤◌, ◌⊎◌, Bool, true, false, List, [], ◌∷◌, ◌++◌, length, Option, Some, None, Result, Ok, Err, refl, sym, ap, ◌∙◌, subst, arith, codes, inl, inr, ltb-false}
+use Rattle.std.specs.Prelude.{◌||◌, nat_lt, if◌then◌else◌}
+use Rattle.std.proofs.lemmas.List.Sums.{fold_push}
+use Rattle.serde_json.specs.Data as json
+use Rattle.loader.specs.Contents as loader
+use Rattle.loader.specs.Contents.{version_number}
+use Rattle.loader.specs.Format.{image_in}
+use Rattle.loader.specs.declared.load_error.LoadError.{LoadError}
+use Rattle.value_store.specs.Placing.{Contents}
+use Rattle.cel_macros.specs.Environment.{Roots}
+use Rattle.bpf_machine.specs.State.{State, start_state}
+use Rattle.bpf_machine.specs.Step.{is_running}
+use Rattle.bpf_machine.specs.Trace.{state_after}
+use Rattle.codegen_base.specs.Contexts.{HasValues}
+use Rattle.policy_glue.specs.Compiled.{IsCompiled}
+use Rattle.policy_glue.specs.Evaluation.{decision_of}
+use Rattle.policy_glue.specs.Policy.{Rules}
+use Rattle.policy_glue.specs.ProgramTrees.{Decides, Over, Left}
+use Rattle.policy_glue.specs.Reading.{has_broken_message, has_head, has_no_validation, has_too_many, judged, judged_form, most_parts, policy_in, policy_of, policy_said, rules_in}
+use Rattle.policy_glue.specs.Documents as policy
+use Rattle.policy_glue.specs.declared.policy_error.PolicyError.{PolicyError}
+use Rattle.policy_glue.specs.declared.policy_error.PolicyError.TheVariants.{K2, K4, K5, K8}
+use Rattle.debugger.specs.Answers.{Line, World, answer_of, answer_to}
+use Rattle.debugger.specs.Commands.{command_of, form_of}
+use Rattle.debugger.specs.Session.{Talk, first_talk, granted, hear, talk_of, with_answer}
+use Rattle.debugger.specs.Verdict.{verdict_lines, verdict_text}
+use Rattle.debugger.specs.declared.command.Command.TheVariants.{Verdict}
+use Rattle.review_runner.specs.Deciding.{Documents, Runs, decision, stands, started, work}
+use Rattle.review_runner.specs.Debugging.{start_of, started_on}
+use Rattle.review_runner.specs.Debugging as debugging
+use Rattle.review_runner.specs.Opening.{opened_by}
+use Rattle.review_runner.specs.RootValues.{AreOfRoots, GivenHaveValues}
+use Rattle.review_runner.specs.Telling.{IsDecided, TellsVerdict, VerdictIsTold, Writes, session_files, shown_after, start, told_text, world_after}
+use Rattle.review_runner.proofs.Decided.{compiled_length, few_findings}
+use Rattle.review_runner.proofs.ImageKept.{image_of_start}
+use Rattle.review_runner.proofs.OneReview.{roots_once}
+use Rattle.review_runner.proofs.ToldLines as lines
+
+-- ---- the number of findings
+
+or_right : (a b : Bool) → (a || b) ≡ false → b ≡ false
+or_right true b e = absurd (cc)
+or_right false b e = e
+
+few_by : (p : Rules) → has_too_many p ≡ false → length p.validations ≤ 64
+few_by p counts = ltb-false most_parts (length p.validations) (or_right (nat_lt most_parts (length p.variables)) _ (or_right (nat_lt most_parts (length p.conditions)) _ counts))
+
+few_judged : (a b c : Bool) (p q : Rules) → (b ≡ false → length p.validations ≤ 64) → (if a then Err K4 else (if b then Err K5 else (if c then Err K8 else Ok p))) ≡ Ok q → length q.validations ≤ 64
+few_judged true b c p q few e = absurd (cc)
+few_judged false true c p q few e = absurd (cc)
+few_judged false false true p q few e = absurd (cc)
+few_judged false false false p q few e = let same : p ≡ q = cc in subst (λ (r : Rules). length r.validations ≤ 64) same (few refl)
+
+few_formed : (o : Option Rules) (q : Rules) → judged_form o ≡ Ok q → length q.validations ≤ 64
+few_formed None q e = absurd (cc)
+few_formed (Some p) q e = few_judged (has_no_validation p) (has_too_many p) (has_broken_message p) p q (few_by p) e
+
+few_headed : (head : Bool) (o : Option Rules) (q : Rules) → (if head then judged_form o else Err K2) ≡ Ok q → length q.validations ≤ 64
+few_headed true o q e = few_formed o q e
+few_headed false o q e = absurd (cc)
+
+few_said : (o : Option json.Data) (q : Rules) → policy_said o ≡ Ok q → length q.validations ≤ 64
+unfolding policy_of
+few_said None q e = absurd (cc)
+few_said (Some d) q e = few_headed (has_head d) (rules_in d) q e
+
+few_validations : (document : List ℕ) (q : Rules) → policy_in document ≡ Ok q → length q.validations ≤ 64
+unfolding policy_in
+few_validations document q e = few_said (policy.document_of document) q e
+
+-- ---- the line `w`
+
+asks_verdict : command_of (codes "w") ≡ Verdict
+unfolding command_of form_of
+asks_verdict = refl
+
+answered : (s : State) (w : World) → (answer_to s w (granted (codes "w"))).text ≡ verdict_text (state_after w.place s)
+unfolding answer_to answer_of
+answered s w = rw asks_verdict refl
+
+heard : (s : State) (t : Talk) (l : Line) → t.world.ended ≡ false → hear s t l ≡ with_answer s t l
+unfolding hear
+heard s t l on = rw on refl
+
+-- what it writes behind these lines, where the session goes on
+written : (s : State) (lines : List Line) → (talk_of s lines).world.ended ≡ false
+    → (talk_of s (lines ++ granted (codes "w") ∷ [])).text ≡ (talk_of s lines).text ++ verdict_text (state_after (talk_of s lines).world.place s)
+written s lines on =
+    ap (λ (t : Talk). t.text) (fold_push (hear s) first_talk lines (granted (codes "w")) ∙ heard s (talk_of s lines) (granted (codes "w")) on)
+    ∙ ap (λ (text : List ℕ). (talk_of s lines).text ++ text) (answered s (talk_of s lines).world)
+
+-- ---- a policy's image
+
+-- the image has version 2, in every state
+version_is : (p : Rules) (image : loader.Contents) (values : Contents) (k : ℕ) → IsCompiled p image → version_number (state_after k (start_state image values)).image.version ≡ 2
+version_is p image values k c = ap (λ (i : loader.Contents). version_number i.version) (image_of_start image values k ∙ c.program.is)
+
+module _ (have : GivenHaveValues) (d : Documents) (run : Runs d) where
+  has : HasValues run.roots (started run.roots)
+  has =
+      let own = have (Some d.review) d.namespace d.params (started run.roots) run.are_given in
+      subst (λ (r : Roots). HasValues r (started run.roots)) (sym (roots_once run.roots own.roots own.are)) own.has
+
+  few : length (decision run).findings ≤ 64
+  few =
+      let trees = run.compiled.trees in
+      let many = compiled_length run.rules (Ok trees) trees run.compiled.compiles refl in
+      omega (arith, few_findings run.rules.failure_policy trees run.roots, many, few_validations d.policy run.rules run.is_said)
+
+  told : (seen : List Line) → (world_after run seen).ended ≡ false → Decides run.rules.failure_policy run.compiled.trees run.roots (started run.roots) (shown_after run seen) → TellsVerdict run seen
+  told seen on (Over is why) = TellsVerdict.over is why
+  told seen on (Left is layout) =
+      let s = shown_after run seen in
+      let f = run.rules.failure_policy in
+      let v = decision run in
+      TellsVerdict.told (lines.references f v s.values.values s.memory layout few) is (lines.are f v s.values.values s.memory layout few)
+      (written (start run) seen on
+      ∙ ap (λ (text : List ℕ). (talk_of (start run) seen).text ++ text) (ap (λ (n : ℕ). verdict_lines n s.memory) (version_is run.rules run.image (started run.roots) (world_after run seen).place run.compiled) ∙ lines.text_is f v s.values.values s.memory layout few))
+
+  decides : (seen : List Line) → IsDecided run seen → Decides run.rules.failure_policy run.compiled.trees run.roots (started run.roots) (shown_after run seen)
+  decides seen is =
+      elim is.is_there [
+        | inl stopped ↦ run.compiled.program.stops run.roots (started run.roots) (world_after run seen).place has stopped
+        | inr late ↦ run.compiled.program.decides run.roots (started run.roots) (world_after run seen).place has late
+      ]
+
+  tells : (seen : List Line) → IsDecided run seen → TellsVerdict run seen
+  tells seen is = told seen is.goes_on (decides seen is)
+
+starts : (d : Documents) (run : Runs d) (file : List ℕ) → image_in file ≡ Ok run.image → start_of (Ok (session_files file d)) ≡ Ok (start run)
+starts d run file holds = ap (λ (r : Result loader.Contents LoadError). started_on (opened_by r) (session_files file d)) holds ∙ ap (debugging.started run.image) run.are_given
+
+pub verdict_is_told : GivenHaveValues → VerdictIsTold
+verdict_is_told have = record { starts = starts; tells = tells have }

@@ -1,0 +1,80 @@
+-- What a session with the image of a policy, on the documents of a review, tells of the policy's verdict.
+use Rattle.std.specs.Prelude.{◌≡◌, ℕ, suc, ◌*◌, ◌≤◌, ◌⊎◌, false, List, [], ◌∷◌, ◌++◌, map, count_by, codes, decimal, Some, Ok}
+use Rattle.guest_memory.specs.declared.fault.Fault.TheVariants.{F8}
+use Rattle.loader.specs.Format.{image_in}
+use Rattle.value_store.specs.Value.{ValueOrError}
+use Rattle.bpf_machine.specs.State.{State, start_state}
+use Rattle.bpf_machine.specs.Step.{is_running}
+use Rattle.bpf_machine.specs.declared.status.Status.TheVariants.{Exited, Fault}
+use Rattle.policy_glue.specs.Layout.{IsMessageWord, outcome_word, truth_word}
+use Rattle.policy_glue.specs.Verdict.{Finding, Verdict, is_denial}
+use Rattle.policy_glue.specs.declared.failure_policy.FailurePolicy.{FailurePolicy}
+use Rattle.debugger.specs.Answers.{Line, World}
+use Rattle.debugger.specs.Session.{granted, talk_of}
+use Rattle.debugger.specs.Verdict.{word_line}
+use Rattle.review_runner.specs.Deciding.{Documents, Runs, IsBeyond, decision, stands, started, work}
+use Rattle.review_runner.specs.Debugging.{Held, start_of}
+
+-- ---- the answer to `w`
+
+-- a line for each of these words that is not 0, with its number, which for the first is this one
+abbrev pub numbered_lines : List ℕ → ℕ → List ℕ → List ℕ
+numbered_lines name i [] = []
+numbered_lines name i (w ∷ ws) = word_line name i w ++ numbered_lines name (suc i) ws
+
+-- the word of the outcome and the number of denials
+abbrev pub outcome_line : FailurePolicy → Verdict → List ℕ
+outcome_line f v = codes "verdict " ++ (decimal (outcome_word v.outcome) ++ (codes " " ++ (decimal (count_by (is_denial f) v.findings) ++ 10 ∷ [])))
+
+-- these, each validation that was false (1) or an error (2), and each message by its reference
+unfoldable pub told_text : FailurePolicy → Verdict → List ℕ → List ℕ
+told_text f v references =
+    outcome_line f v
+    ++ (numbered_lines (codes "validation") 0 (map (λ x. truth_word x.truth) v.findings)
+    ++ numbered_lines (codes "message") 0 references)
+
+-- for each finding the reference of a text that is its message, and 0 where it has none
+abbrev pub AreReferences : List ValueOrError → List Finding → List ℕ → Type 0
+AreReferences values [] [] = Unit {0}
+AreReferences values (x ∷ xs) (h ∷ hs) = IsMessageWord values h x.message × AreReferences values xs hs
+AreReferences values _ _ = ⊥
+
+-- ---- sessions
+
+-- the files of a session: that of an image, and those of a review's documents
+abbrev pub session_files : List ℕ → Documents → Held
+session_files file d = record { image = file; review = Some d.review; namespace = d.namespace; params = d.params }
+
+module _ {d : Documents} (run : Runs d) where
+  abbrev pub start : State
+  start = start_state run.image (started run.roots)
+
+  -- what the session knows after these lines
+  abbrev pub world_after : List Line → World
+  world_after lines = (talk_of start lines).world
+
+  -- the state that it shows then
+  abbrev pub shown_after : List Line → State
+  shown_after lines = stands run (world_after lines).place
+
+  -- it goes on, and shows a state that is stopped, or one behind 128 steps for each unit of the policy's work
+  pub record IsDecided (lines : List Line) : Type 0 where
+    pub goes_on : (world_after lines).ended ≡ false
+    pub is_there : (is_running (shown_after lines).status ≡ false) ⊎ (128 * work run ≤ (world_after lines).place)
+
+  -- one more line `w` writes this text
+  abbrev pub Writes : List Line → List ℕ → Type 0
+  Writes lines text = (talk_of start (lines ++ granted (codes "w") ∷ [])).text ≡ (talk_of start lines).text ++ text
+
+  -- the program has exited with the policy's outcome, and `w` writes its verdict; or it was stopped by F8, beyond the bound on its charge or at a value that is too deep
+  pub data TellsVerdict (lines : List Line) : Type 0 where
+    told : (references : List ℕ)
+        → (shown_after lines).status ≡ Exited (outcome_word (decision run).outcome)
+        → AreReferences (shown_after lines).values.values (decision run).findings references
+        → Writes lines (told_text run.rules.failure_policy (decision run) references) → TellsVerdict lines
+    over : (shown_after lines).status ≡ Fault F8 → IsBeyond run → TellsVerdict lines
+
+-- whatever lines were answered before, of whatever moves forward and back
+pub record VerdictIsTold : Type 0 where
+  pub starts : (d : Documents) (run : Runs d) (file : List ℕ) → image_in file ≡ Ok run.image → start_of (Ok (session_files file d)) ≡ Ok (start run)
+  pub tells : (d : Documents) (run : Runs d) (lines : List Line) → IsDecided run lines → TellsVerdict run lines
