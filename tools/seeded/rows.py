@@ -10,11 +10,12 @@ from .reviews import Documents
 SHORTEST, LONGEST = 200, 500
 
 
-def literal(text):
-    """A text as the crates spell it, or None where it has a character that they would not spell so."""
-    if any(ord(one) < 32 or ord(one) == 127 for one in text):
-        return None
-    return '"' + text.replace("\\", "\\\\").replace('"', '\\"') + '"'
+BAR = "¦"
+
+
+def is_part(text):
+    """Whether a text may stand in a row, between broken bars, within a raw literal."""
+    return BAR not in text and '"#' not in text and not any(ord(one) < 32 or ord(one) == 127 for one in text)
 
 
 def compact(value):
@@ -52,15 +53,13 @@ def row_of(numbers):
     if given is None or not given.is_within:
         return None
     inner = given.response.split('"response":', 1)[1].removesuffix("}")
-    texts = [literal(text) for text in (spec, thing, inner)]
-    if None in texts:
+    if not all(is_part(text) for text in (spec, thing, inner)):
         return None
-    status = "0" if given.allowed else "1"
-    return given.verdict.outcome, [*texts[:2], f"{given.costs.steps:_}", status, texts[2]]
+    return given.verdict.outcome, [spec, thing, str(given.costs.steps), "0" if given.allowed else "1", inner]
 
 
 def rows(numbers, count):
-    """So many rows, as text: specification, object, bound on steps, status and response. Two beside each
+    """So many rows, a line each: specification, object, bound on steps, status and response. Two beside each
     other have different outcomes."""
     before = None
     while count:
@@ -69,4 +68,4 @@ def rows(numbers, count):
             continue
         count -= 1
         before, parts = row
-        yield "    (\n" + "".join(f"        {part},\n" for part in parts) + "    ),"
+        yield BAR.join(parts)

@@ -2,6 +2,8 @@
 #![tactic(auto)]
 
 mod disk;
+#[cfg(test)]
+mod disk_tests;
 mod words;
 
 use debugger::Counting;

@@ -52,6 +52,35 @@ fn refuses_files(rt: HostRuntime) {
     }
 }
 
+/// The image of `r0 = 5` and `exit`, and one byte more.
+const LONGER: &[u8] = b"CELBPF01\x02\0\0\0\0\0\0\0\xb7\0\0\0\x05\0\0\0\x95\0\0\0\0\0\0\0\0";
+
+/// From the first of two lengths to before the second, what the beginnings of that file are refused for.
+const BEGINNINGS: [(usize, usize, Option<LoadError>); 4] = [
+    (0, 16, Some(LoadError::L1)),
+    (16, 32, Some(LoadError::L5)),
+    (32, 33, None),
+    (33, 34, Some(LoadError::L5)),
+];
+
+/// Whether the beginnings of these lengths are refused so.
+fn are_refused(alloc: Global, from: usize, to: usize, cause: Option<LoadError>) -> bool {
+    for length in from..to {
+        match LONGER.get(..length) {
+            Some(file) if refusal(alloc, file) == cause => {}
+            _ => return false,
+        }
+    }
+    true
+}
+
+#[test]
+fn refuses_beginnings(rt: HostRuntime) {
+    for (from, to, cause) in &BEGINNINGS {
+        assert!(rt; are_refused(rt.alloc(), *from, *to, *cause), "from {from}");
+    }
+}
+
 /// Whether the image has this version, these parts and this file.
 fn has_parts(
     image: &Image,
@@ -163,15 +192,5 @@ fn takes_the_longest_parts(rt: HostRuntime) -> Result<(), Fail> {
     let image = Image::read(rt.alloc(), file.as_slice())?;
     assert_eq!(rt; image.code().len(), 524_288);
     assert_eq!(rt; image.constants().len(), 1_048_576);
-    Ok(())
-}
-
-#[test]
-fn says_what_is_wrong(rt: HostRuntime) -> Result<(), Fail> {
-    let text = format!(in rt.alloc(); "{}, {}", LoadError::L2, LoadError::Memory)?;
-    assert_eq!(rt;
-        text.as_str(),
-        "the file begins with neither CELBPF01 nor CELBPF02, out of memory"
-    );
     Ok(())
 }

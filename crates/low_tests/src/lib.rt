@@ -2,6 +2,8 @@
 #![tactic(auto)]
 
 #[cfg(test)]
+mod error_tests;
+#[cfg(test)]
 mod image_tests;
 #[cfg(test)]
 mod instruction_tests;

@@ -4,6 +4,8 @@
 #[cfg(test)]
 mod doubles;
 #[cfg(test)]
+mod error_tests;
+#[cfg(test)]
 mod helper_tests;
 #[cfg(test)]
 mod history_tests;

@@ -2,12 +2,14 @@
 ghost use Rattle.std.specs.Prelude.{◌<◌};
 
 use crate::doubles::{Feed, Tape};
-use debugger::{SessionError, Sink, Source, session};
+use debugger::{SessionError, Source, session};
 use loader::Image;
 use serde_json::Value;
 use std::alloc::Global;
 use std::test::Fail;
 use value_table::Table;
+
+mod failures;
 
 /// `r0 = 5` and `exit`.
 const CODE: &[u8] = b"\xb7\0\0\0\x05\0\0\0\x95\0\0\0\0\0\0\0";
@@ -181,11 +183,6 @@ const TALKS: [(&[u8], &[u8]); 8] = [
     ),
 ];
 
-/// A short script, and its text.
-const SCRIPT: &[u8] = b"s 1\nx\n";
-
-const SAID: &[u8] = b"step 1 pc 1 running\n? what\n";
-
 #[test]
 fn answers_lines(rt: HostRuntime) -> Result<(), Fail> {
     for (input, said) in TALKS {
@@ -271,63 +268,6 @@ fn says_one_of(alloc: Global, input: &'static [u8], said: &[&[u8]]) -> Result<bo
 fn refuses_single_lines(rt: HostRuntime) -> Result<(), Fail> {
     for (input, said) in REFUSED {
         assert!(rt; says_one_of(rt.alloc(), input, &said)?);
-    }
-    Ok(())
-}
-
-/// Whether a session whose read with this number fails says this.
-fn stops_at_read(alloc: Global, fails_at: u64, said: &[u8]) -> Result<bool, Fail> {
-    let mut feed = Feed::new(SCRIPT, 1, fails_at);
-    let mut tape = Tape::new(Vec::new(alloc), 1000, 0, 0);
-    let answer = ended(alloc, CODE, &mut feed, &mut tape)?;
-    let counted = feed.failures() == 1 && tape.bytes() == said;
-    Ok(counted && answer == Err(SessionError::S1))
-}
-
-/// The reads that fail, and what was said.
-const FAILED_READS: [(u64, &[u8]); 7] = [
-    (1, b""),
-    (2, b""),
-    (3, b""),
-    (4, b""),
-    (5, b"step 1 pc 1 running\n"),
-    (6, b"step 1 pc 1 running\n"),
-    (7, SAID),
-];
-
-#[test]
-fn stops_where_a_read_fails(rt: HostRuntime) -> Result<(), Fail> {
-    for (fails_at, said) in FAILED_READS {
-        assert!(rt;
-            stops_at_read(rt.alloc(), fails_at, said)?,
-            "at read {fails_at}"
-        );
-    }
-    Ok(())
-}
-
-/// Whether a session whose write with one of these numbers fails, or takes no byte, says this.
-fn stops_at_write(alloc: Global, fails_at: u64, stalls_at: u64, said: &[u8]) -> Result<bool, Fail> {
-    let mut feed = Feed::new(SCRIPT, 1, 0);
-    let mut tape = Tape::new(Vec::new(alloc), 1, fails_at, stalls_at);
-    let answer = ended(alloc, CODE, &mut feed, &mut tape)?;
-    let counted = tape.failures() == 1 && tape.bytes() == said;
-    Ok(counted && answer == Err(SessionError::S2))
-}
-
-#[test]
-fn stops_where_a_write_fails(rt: HostRuntime) -> Result<(), Fail> {
-    for end in 0..27usize {
-        let number = end as u64 + 1;
-        let said = &SAID[..end];
-        assert!(rt;
-            stops_at_write(rt.alloc(), number, 0, said)?,
-            "at write {number}"
-        );
-        assert!(rt;
-            stops_at_write(rt.alloc(), 0, number, said)?,
-            "at write {number}"
-        );
     }
     Ok(())
 }

@@ -103,30 +103,52 @@ fn refusal_of(alloc: Global, texts: [&str; 5]) -> Result<Option<TableError>, Fai
     Ok(Table::of_roots(alloc, &roots).err())
 }
 
-fn json_of(table: &Table, h: u64) -> Result<String, Fail> {
+fn json_of<V: ValueStore>(table: &V, h: u64) -> Result<String, Fail> {
     if h < table.len() {
         return Ok(table.json(h)?);
     }
     Err("no such reference")?
 }
 
+/// Whether these values stand in the table.
+fn has_values<V: ValueStore>(table: &V, values: &[(u64, &str)]) -> Result<bool, Fail> {
+    for (h, json) in values {
+        if json_of(table, *h)?.as_str() != *json {
+            return Ok(false);
+        }
+    }
+    Ok(true)
+}
+
+/// Whether this is the review's table.
+fn is_review<V: ValueStore>(table: &V) -> Result<bool, Fail> {
+    Ok(table.charge() == 28 && table.len() == 9 && has_values(table, &REVIEW_VALUES)?)
+}
+
+fn reads_review(alloc: Global) -> Result<bool, Fail> {
+    let table = table_of(alloc, REVIEW)?;
+    is_review(&table)
+}
+
 #[test]
 fn a_review(rt: HostRuntime) -> Result<(), Fail> {
-    let table = table_of(rt.alloc(), REVIEW)?;
-    assert!(rt; table.charge() == 28 && table.len() == 9);
-    for (h, json) in REVIEW_VALUES {
-        let text = json_of(&table, h)?;
-        assert!(rt; text.as_str() == json, "value {h}");
-    }
+    assert!(rt; reads_review(rt.alloc())?);
     Ok(())
+}
+
+/// Whether this is the table of five nulls.
+fn is_nulls<V: ValueStore>(table: &V) -> bool {
+    table.charge() == 5 && matches!(table.at(8), Some(Shape::Null)) && table.at(9).is_none()
+}
+
+fn reads_nulls(alloc: Global) -> Result<bool, Fail> {
+    let table = table_of(alloc, NULLS)?;
+    Ok(is_nulls(&table))
 }
 
 #[test]
 fn five_nulls(rt: HostRuntime) -> Result<(), Fail> {
-    let table = table_of(rt.alloc(), NULLS)?;
-    assert_eq!(rt; table.charge(), 5);
-    assert_eq!(rt; table.at(8), Some(Shape::Null));
-    assert_eq!(rt; table.at(9), None);
+    assert!(rt; reads_nulls(rt.alloc())?);
     Ok(())
 }
 
@@ -170,21 +192,33 @@ fn a_root_too_large(rt: HostRuntime) -> Result<(), Fail> {
     Ok(())
 }
 
+/// Whether the text is kept as it is, and written so.
+fn is_written<V: ValueStore>(table: &mut V, text: &str, json: &str) -> Result<bool, Fail> {
+    let h = table.place_text(text)?;
+    let written = json_of(table, h)?;
+    Ok(table.text(h) == Some(text) && written.as_str() == json)
+}
+
 /// The first text that is kept, or written, as something else.
-fn first_written_wrong(table: &mut Table, rows: &[(&str, &str)]) -> Result<Option<usize>, Fail> {
+fn first_written_wrong<V: ValueStore>(
+    table: &mut V,
+    rows: &[(&str, &str)],
+) -> Result<Option<usize>, Fail> {
     for (row, (text, json)) in rows.iter().enumerate() {
-        let h = table.place_text(text)?;
-        let written = json_of(table, h)?;
-        if table.text(h) != Some(*text) || written.as_str() != *json {
+        if !is_written(table, text, json)? {
             return Ok(Some(row));
         }
     }
     Ok(None)
 }
 
+fn written_wrong(alloc: Global) -> Result<Option<usize>, Fail> {
+    let mut table = table_of(alloc, NULLS)?;
+    first_written_wrong(&mut table, &TEXTS)
+}
+
 #[test]
 fn texts_as_json(rt: HostRuntime) -> Result<(), Fail> {
-    let mut table = table_of(rt.alloc(), NULLS)?;
-    assert_eq!(rt; first_written_wrong(&mut table, &TEXTS)?, None);
+    assert_eq!(rt; written_wrong(rt.alloc())?, None);
     Ok(())
 }

@@ -8,6 +8,8 @@ mod compile_tests;
 #[cfg(test)]
 mod document_tests;
 #[cfg(test)]
+mod error_tests;
+#[cfg(test)]
 mod policy_texts;
 #[cfg(test)]
 mod verdict_tests;

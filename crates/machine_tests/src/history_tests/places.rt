@@ -24,14 +24,25 @@ const SHOWN: [Shown; 8] = [
     (1, 1, 5, Status::Running),
 ];
 
-/// Shows a place, also where the first way there is refused.
-fn shown(history: &mut Past<Plain>, place: u64) -> Result<Shown, AllocError> {
-    if history.go(place).is_err() {
-        history.go(place)?;
-    }
+/// What is shown.
+fn seen(history: &Past<Plain>) -> Shown {
     let machine = history.machine();
     let r0 = machine.register(Register::R0);
-    Ok((history.now(), machine.pc(), r0, machine.status()))
+    (history.now(), machine.pc(), r0, machine.status())
+}
+
+/// Goes to a place, also where the first way there is refused.
+fn go(history: &mut Past<Plain>, place: u64) -> Result<(), AllocError> {
+    match history.go(place) {
+        Ok(()) => Ok(()),
+        Err(_) => history.go(place),
+    }
+}
+
+/// Shows a place.
+fn shown(history: &mut Past<Plain>, place: u64) -> Result<Shown, AllocError> {
+    go(history, place)?;
+    Ok(seen(history))
 }
 
 /// The first row that is shown otherwise.

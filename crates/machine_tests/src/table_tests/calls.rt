@@ -4,7 +4,6 @@ use crate::table_tests::{NULLS, json_of, table_of};
 use std::alloc::{AllocError, Global};
 use std::test::Fail;
 use value_store::{Shape, ValueStore};
-use value_table::Table;
 
 /// A call that places a value.
 #[derive(Copy, Clone)]
@@ -230,8 +229,8 @@ fn place_of<V: ValueStore>(table: &V, m: u64, key: &[u8]) -> Option<u64> {
 }
 
 /// The reference at which the first step places something else.
-pub(crate) fn first_misplaced(
-    table: &mut Table,
+pub(crate) fn first_misplaced<V: ValueStore>(
+    table: &mut V,
     steps: &[(u64, Step, &str)],
 ) -> Result<Option<u64>, AllocError> {
     for (h, step, _) in steps {
@@ -243,8 +242,8 @@ pub(crate) fn first_misplaced(
 }
 
 /// The first reference at which something else stands.
-pub(crate) fn first_changed(
-    table: &Table,
+pub(crate) fn first_changed<V: ValueStore>(
+    table: &V,
     steps: &[(u64, Step, &str)],
 ) -> Result<Option<u64>, Fail> {
     for (h, _, json) in steps {
@@ -256,7 +255,7 @@ pub(crate) fn first_changed(
 }
 
 /// The first question with another answer.
-fn first_answered_wrong(table: &mut Table, rows: &[(Question, bool)]) -> Option<usize> {
+fn first_answered_wrong<V: ValueStore>(table: &mut V, rows: &[(Question, bool)]) -> Option<usize> {
     for (row, (question, answer)) in rows.iter().enumerate() {
         if answered(table, *question) != Some(*answer) {
             return Some(row);
@@ -266,7 +265,10 @@ fn first_answered_wrong(table: &mut Table, rows: &[(Question, bool)]) -> Option<
 }
 
 /// The first key that is found at another place.
-fn first_found_wrong(table: &Table, rows: &[(u64, &[u8], Option<u64>)]) -> Option<usize> {
+fn first_found_wrong<V: ValueStore>(
+    table: &V,
+    rows: &[(u64, &[u8], Option<u64>)],
+) -> Option<usize> {
     for (row, (m, key, place)) in rows.iter().enumerate() {
         if place_of(table, *m, key) != *place {
             return Some(row);
@@ -275,54 +277,93 @@ fn first_found_wrong(table: &Table, rows: &[(u64, &[u8], Option<u64>)]) -> Optio
     None
 }
 
-/// The table of five null roots, and then of all steps.
-fn after_the_steps(alloc: Global) -> Result<Table, Fail> {
-    let mut table = table_of(alloc, NULLS)?;
-    match first_misplaced(&mut table, &STEPS)? {
+/// Goes all steps.
+fn go_all_steps<V: ValueStore>(table: &mut V) -> Result<(), Fail> {
+    match first_misplaced(table, &STEPS)? {
         Some(_) => Err("a step places something else")?,
-        None => Ok(table),
+        None => Ok(()),
     }
-}
-
-/// Each value stands behind the last, and stays as it was.
-#[test]
-fn places(rt: HostRuntime) -> Result<(), Fail> {
-    let table = after_the_steps(rt.alloc())?;
-    assert_eq!(rt; first_changed(&table, &STEPS)?, None);
-    Ok(())
-}
-
-#[test]
-fn answers(rt: HostRuntime) -> Result<(), Fail> {
-    let mut table = after_the_steps(rt.alloc())?;
-    assert_eq!(rt; first_answered_wrong(&mut table, &ANSWERS), None);
-    Ok(())
-}
-
-#[test]
-fn finds_keys(rt: HostRuntime) -> Result<(), Fail> {
-    let table = after_the_steps(rt.alloc())?;
-    assert_eq!(rt; first_found_wrong(&table, &PLACES), None);
-    Ok(())
 }
 
 /// What only a copy places.
 const IN_A_COPY: [(u64, Step, &str); 1] = [(29, Push(16, 12), "[1,-2,1]")];
 
+/// Whether the copy places that, and has it.
+fn places_its_own<V: ValueStore>(copy: &mut V) -> Result<bool, Fail> {
+    let misplaced = first_misplaced(copy, &IN_A_COPY)?;
+    let changed = first_changed(copy, &IN_A_COPY)?;
+    Ok(misplaced.is_none() && changed.is_none() && copy.charge() == 5)
+}
+
+/// Whether a copy of the table places what the table does not have.
+fn copy_is_apart<V: ValueStore + Drop>(table: &V) -> Result<bool, Fail> {
+    let mut copy = table.copy()?;
+    let places = places_its_own(&mut copy)?;
+    Ok(places && table.len() == 29)
+}
+
+/// Whether each value stands in a copy of the table.
+fn copy_has_values<V: ValueStore + Drop>(table: &V) -> Result<bool, Fail> {
+    let copy = table.copy()?;
+    Ok(first_changed(&copy, &STEPS)?.is_none())
+}
+
+/// What is asked of a table after all steps.
+#[derive(Copy, Clone)]
+enum Case {
+    Values,
+    Answers,
+    Keys,
+    CopyApart,
+    CopyValues,
+}
+
+/// Whether the table stands so after all steps.
+fn stands<V: ValueStore + Drop>(table: &mut V, case: Case) -> Result<bool, Fail> {
+    go_all_steps(table)?;
+    match case {
+        Case::Values => Ok(first_changed(table, &STEPS)?.is_none()),
+        Case::Answers => Ok(first_answered_wrong(table, &ANSWERS).is_none()),
+        Case::Keys => Ok(first_found_wrong(table, &PLACES).is_none()),
+        Case::CopyApart => copy_is_apart(table),
+        Case::CopyValues => copy_has_values(table),
+    }
+}
+
+/// Whether the table of five null roots stands so after all steps.
+fn nulls_stand(alloc: Global, case: Case) -> Result<bool, Fail> {
+    let mut table = table_of(alloc, NULLS)?;
+    stands(&mut table, case)
+}
+
+/// Each value stands behind the last, and stays as it was.
+#[test]
+fn places(rt: HostRuntime) -> Result<(), Fail> {
+    assert!(rt; nulls_stand(rt.alloc(), Case::Values)?);
+    Ok(())
+}
+
+#[test]
+fn answers(rt: HostRuntime) -> Result<(), Fail> {
+    assert!(rt; nulls_stand(rt.alloc(), Case::Answers)?);
+    Ok(())
+}
+
+#[test]
+fn finds_keys(rt: HostRuntime) -> Result<(), Fail> {
+    assert!(rt; nulls_stand(rt.alloc(), Case::Keys)?);
+    Ok(())
+}
+
 /// A copy has the values and the charge, and what it places is its own.
 #[test]
 fn copies(rt: HostRuntime) -> Result<(), Fail> {
-    let table = after_the_steps(rt.alloc())?;
-    let mut copy = table.copy()?;
-    assert_eq!(rt; first_misplaced(&mut copy, &IN_A_COPY)?, None);
-    assert_eq!(rt; first_changed(&copy, &IN_A_COPY)?, None);
-    assert!(rt; table.len() == 29 && copy.charge() == 5);
+    assert!(rt; nulls_stand(rt.alloc(), Case::CopyApart)?);
     Ok(())
 }
 
 #[test]
 fn copies_keep_values(rt: HostRuntime) -> Result<(), Fail> {
-    let copy = after_the_steps(rt.alloc())?.copy()?;
-    assert_eq!(rt; first_changed(&copy, &STEPS)?, None);
+    assert!(rt; nulls_stand(rt.alloc(), Case::CopyValues)?);
     Ok(())
 }

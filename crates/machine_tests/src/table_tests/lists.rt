@@ -5,9 +5,9 @@ use crate::table_tests::calls::{
     Step, equal, first_changed, first_misplaced, joined, member, pushed,
 };
 use crate::table_tests::{NULLS, json_of, table_of};
+use std::alloc::Global;
 use std::test::Fail;
 use value_store::{Shape, ValueStore};
-use value_table::Table;
 
 /// What is placed behind the nine values of five null roots: one list with two others made from it.
 const VERSIONS: [(u64, Step, &str); 7] = [
@@ -20,17 +20,8 @@ const VERSIONS: [(u64, Step, &str); 7] = [
     (15, Push(11, 14), "[1,3]"),
 ];
 
-/// A list stays as it was, also where another has grown in its place.
-#[test]
-fn versions_of_a_list(rt: HostRuntime) -> Result<(), Fail> {
-    let mut table = table_of(rt.alloc(), NULLS)?;
-    assert_eq!(rt; first_misplaced(&mut table, &VERSIONS)?, None);
-    assert_eq!(rt; first_changed(&table, &VERSIONS)?, None);
-    Ok(())
-}
-
 /// The list with the value behind its items.
-fn with_item(table: &mut Table, l: u64, x: u64) -> Result<u64, Fail> {
+fn with_item<V: ValueStore>(table: &mut V, l: u64, x: u64) -> Result<u64, Fail> {
     match pushed(table, l, x)? {
         Some(list) => Ok(list),
         None => Err("no list and item")?,
@@ -38,14 +29,14 @@ fn with_item(table: &mut Table, l: u64, x: u64) -> Result<u64, Fail> {
 }
 
 /// The list that has a value twice.
-fn twice(table: &mut Table, x: u64) -> Result<u64, Fail> {
+fn twice<V: ValueStore>(table: &mut V, x: u64) -> Result<u64, Fail> {
     let empty = table.new_list()?;
     let one = with_item(table, empty, x)?;
     with_item(table, one, x)
 }
 
 /// A list of 250 levels, each twice in the next, and an int in the deepest: its text has 2^250 of them.
-fn shared(table: &mut Table, deepest: i64) -> Result<u64, Fail> {
+fn shared<V: ValueStore>(table: &mut V, deepest: i64) -> Result<u64, Fail> {
     let mut part = table.place_int(deepest)?;
     for _ in 0..250 {
         part = twice(table, part)?;
@@ -54,7 +45,7 @@ fn shared(table: &mut Table, deepest: i64) -> Result<u64, Fail> {
 }
 
 /// Ten of these lists, with the ints 1 to 10.
-fn ten_shared(table: &mut Table) -> Result<u64, Fail> {
+fn ten_shared<V: ValueStore>(table: &mut V) -> Result<u64, Fail> {
     let mut list = table.new_list()?;
     for deepest in 1..=10 {
         let item = shared(table, deepest)?;
@@ -64,38 +55,12 @@ fn ten_shared(table: &mut Table) -> Result<u64, Fail> {
 }
 
 /// A value whose text is refused.
-fn is_unwritable(table: &Table, h: u64) -> bool {
+fn is_unwritable<V: ValueStore>(table: &V, h: u64) -> bool {
     h < table.len() && table.json(h).is_err()
 }
 
-/// Lists that are built apart are compared in as many steps as they have lists, not as their texts have
-/// ints.
-#[test]
-fn equal_with_shared_parts(rt: HostRuntime) -> Result<(), Fail> {
-    let mut table = table_of(rt.alloc(), NULLS)?;
-    let first = shared(&mut table, 1)?;
-    let same = shared(&mut table, 1)?;
-    let other = shared(&mut table, 2)?;
-    assert_eq!(rt; equal(&mut table, first, other), Some(false));
-    assert_eq!(rt; equal(&mut table, first, same), Some(true));
-    assert_eq!(rt; equal(&mut table, same, other), Some(false));
-    assert!(rt; is_unwritable(&table, first));
-    Ok(())
-}
-
-#[test]
-fn members_with_shared_parts(rt: HostRuntime) -> Result<(), Fail> {
-    let mut table = table_of(rt.alloc(), NULLS)?;
-    let list = ten_shared(&mut table)?;
-    let last = shared(&mut table, 10)?;
-    let other = shared(&mut table, 11)?;
-    assert_eq!(rt; member(&mut table, last, list), Some(true));
-    assert_eq!(rt; member(&mut table, other, list), Some(false));
-    Ok(())
-}
-
 /// An empty list, and 10,000 times the newest list with true behind its items.
-fn often_pushed(table: &mut Table) -> Result<u64, Fail> {
+fn often_pushed<V: ValueStore>(table: &mut V) -> Result<u64, Fail> {
     let mut list = table.new_list()?;
     for _ in 0..10_000 {
         list = with_item(table, list, 3)?;
@@ -103,18 +68,8 @@ fn often_pushed(table: &mut Table) -> Result<u64, Fail> {
     Ok(list)
 }
 
-#[test]
-fn ten_thousand_items(rt: HostRuntime) -> Result<(), Fail> {
-    let mut table = table_of(rt.alloc(), NULLS)?;
-    assert_eq!(rt; often_pushed(&mut table)?, 10_009);
-    assert_eq!(rt; table.at(10_009), Some(Shape::List(10_000)));
-    assert_eq!(rt; table.at(5_009), Some(Shape::List(5_000)));
-    assert_eq!(rt; table.len(), 10_010);
-    Ok(())
-}
-
 /// The empty list, 70 times joined to itself.
-fn often_joined(table: &mut Table) -> Result<u64, Fail> {
+fn often_joined<V: ValueStore>(table: &mut V) -> Result<u64, Fail> {
     let mut list = table.new_list()?;
     for _ in 0..70 {
         match joined(table, list, list)? {
@@ -125,11 +80,102 @@ fn often_joined(table: &mut Table) -> Result<u64, Fail> {
     Ok(list)
 }
 
+/// Whether each of these lists stands where it is placed, and stays as it was.
+fn has_versions<V: ValueStore>(table: &mut V) -> Result<bool, Fail> {
+    let misplaced = first_misplaced(table, &VERSIONS)?;
+    let changed = first_changed(table, &VERSIONS)?;
+    Ok(misplaced.is_none() && changed.is_none())
+}
+
+/// Whether lists that are built apart are found equal by their parts, and have no text.
+fn compares_shared<V: ValueStore>(table: &mut V) -> Result<bool, Fail> {
+    let first = shared(table, 1)?;
+    let same = shared(table, 1)?;
+    let other = shared(table, 2)?;
+    let apart = equal(table, first, other) == Some(false);
+    let equals = equal(table, first, same) == Some(true);
+    let again = equal(table, same, other) == Some(false);
+    Ok(apart && equals && again && is_unwritable(table, first))
+}
+
+/// Whether a list of such lists has the one that is its last, and not another.
+fn finds_shared<V: ValueStore>(table: &mut V) -> Result<bool, Fail> {
+    let list = ten_shared(table)?;
+    let last = shared(table, 10)?;
+    let other = shared(table, 11)?;
+    Ok(member(table, last, list) == Some(true) && member(table, other, list) == Some(false))
+}
+
+/// Whether the newest list has all items, and one in the middle half of them.
+fn has_pushed<V: ValueStore>(table: &mut V) -> Result<bool, Fail> {
+    let last = often_pushed(table)?;
+    let lengths = matches!(table.at(10_009), Some(Shape::List(10_000)))
+        && matches!(table.at(5_009), Some(Shape::List(5_000)));
+    Ok(lengths && last == 10_009 && table.len() == 10_010)
+}
+
+/// Whether the joined list's text is that of the empty one.
+fn has_joined<V: ValueStore>(table: &mut V) -> Result<bool, Fail> {
+    let list = often_joined(table)?;
+    Ok(json_of(table, list)?.as_str() == "[]")
+}
+
+/// What is made in a table.
+#[derive(Copy, Clone)]
+enum Case {
+    Versions,
+    Equality,
+    Members,
+    Pushes,
+    Joins,
+}
+
+fn stands<V: ValueStore>(table: &mut V, case: Case) -> Result<bool, Fail> {
+    match case {
+        Case::Versions => has_versions(table),
+        Case::Equality => compares_shared(table),
+        Case::Members => finds_shared(table),
+        Case::Pushes => has_pushed(table),
+        Case::Joins => has_joined(table),
+    }
+}
+
+/// Whether it stands in the table of five null roots.
+fn nulls_stand(alloc: Global, case: Case) -> Result<bool, Fail> {
+    let mut table = table_of(alloc, NULLS)?;
+    stands(&mut table, case)
+}
+
+/// A list stays as it was, also where another has grown in its place.
+#[test]
+fn versions_of_a_list(rt: HostRuntime) -> Result<(), Fail> {
+    assert!(rt; nulls_stand(rt.alloc(), Case::Versions)?);
+    Ok(())
+}
+
+/// Lists that are built apart are compared in as many steps as they have lists, not as their texts have
+/// ints.
+#[test]
+fn equal_with_shared_parts(rt: HostRuntime) -> Result<(), Fail> {
+    assert!(rt; nulls_stand(rt.alloc(), Case::Equality)?);
+    Ok(())
+}
+
+#[test]
+fn members_with_shared_parts(rt: HostRuntime) -> Result<(), Fail> {
+    assert!(rt; nulls_stand(rt.alloc(), Case::Members)?);
+    Ok(())
+}
+
+#[test]
+fn ten_thousand_items(rt: HostRuntime) -> Result<(), Fail> {
+    assert!(rt; nulls_stand(rt.alloc(), Case::Pushes)?);
+    Ok(())
+}
+
 /// The length of a joined list's text is that of the text, and no more.
 #[test]
 fn empty_lists_joined(rt: HostRuntime) -> Result<(), Fail> {
-    let mut table = table_of(rt.alloc(), NULLS)?;
-    let list = often_joined(&mut table)?;
-    assert!(rt; json_of(&table, list)?.as_str() == "[]");
+    assert!(rt; nulls_stand(rt.alloc(), Case::Joins)?);
     Ok(())
 }

@@ -12,7 +12,7 @@ use std::alloc::Global;
 use std::process::Abort;
 
 /// Arithmetic, and joining.
-const ARITHMETIC: [(&str, u64); 25] = [
+const ARITHMETIC: [(&str, u64); 27] = [
     ("2 + 3 == 5", 3),
     ("9223372036854775807 + 1", 0),
     ("-9223372036854775808 - 1", 0),
@@ -38,10 +38,12 @@ const ARITHMETIC: [(&str, u64); 25] = [
     ("dyn('a') - dyn('a')", 0),
     ("-dyn('a')", 0),
     ("dyn([1]) + 'a'", 0),
+    ("7 / -1 == -7", 3),
+    ("7 % -1 == 0", 3),
 ];
 
 /// Comparison and membership.
-const COMPARISON: [(&str, u64); 29] = [
+const COMPARISON: [(&str, u64); 36] = [
     ("dyn(1) == 'a'", 2),
     ("dyn(true) == 1", 2),
     ("null == null", 3),
@@ -71,10 +73,17 @@ const COMPARISON: [(&str, u64); 29] = [
     ("'b' in {'a':1}", 2),
     ("1/0 in [1]", 0),
     ("'a' in dyn('abc')", 0),
+    ("2 >= 2", 3),
+    ("2 >= 3", 2),
+    ("2 < 2", 2),
+    ("3 > 2", 3),
+    ("2 <= 1", 2),
+    ("1 != 1", 2),
+    ("2 > 3", 2),
 ];
 
 /// Literals of lists and maps, functions and methods.
-const LITERALS: [(&str, u64); 28] = [
+const LITERALS: [(&str, u64); 29] = [
     ("[1, 1/0]", 0),
     ("{'a':1,'a':2} == {}", 0),
     ("{dyn(1):2} == {}", 0),
@@ -103,10 +112,11 @@ const LITERALS: [(&str, u64); 28] = [
     ("'a'.contains(dyn(1))", 0),
     ("string(-9223372036854775808) == '-9223372036854775808'", 3),
     ("dyn(1/0)", 0),
+    ("'abc'.startsWith('bc')", 2),
 ];
 
 /// Logic and conditionals.
-const LOGIC: [(&str, u64); 20] = [
+const LOGIC: [(&str, u64); 29] = [
     ("1/0 == 1 || true", 3),
     ("true || 1/0 == 1", 3),
     ("1/0 == 1 || false", 0),
@@ -127,10 +137,19 @@ const LOGIC: [(&str, u64); 20] = [
     ("!(1/0 == 1)", 0),
     ("(true ? 1 : 1/0) == 1", 3),
     ("false ? 1 : 1/0", 0),
+    ("true && false", 2),
+    ("false && true", 2),
+    ("false && false", 2),
+    ("dyn(1) && dyn(1)", 0),
+    ("true || true", 3),
+    ("true || false", 3),
+    ("false || true", 3),
+    ("dyn(1) || dyn(1)", 0),
+    ("!false", 3),
 ];
 
 /// Macros.
-const MACROS: [(&str, u64); 30] = [
+const MACROS: [(&str, u64); 32] = [
     ("[0,2].exists(x, 4/x == 2)", 3),
     ("[0,2].exists_one(x, 4/x == 2)", 0),
     ("[1,2].exists_one(x, x == 2)", 3),
@@ -161,6 +180,8 @@ const MACROS: [(&str, u64); 30] = [
     ("[1].all(x, [2].all(x, x == 2) && x == 1)", 3),
     ("object.spec.all(k, has(object.spec.on))", 3),
     ("dyn('ab').all(x, true)", 0),
+    ("[1,2,3].exists_one(x, x == 1)", 3),
+    ("dyn([true, 1]).filter(x, x)", 0),
 ];
 
 /// Selection, indices and names.
