@@ -5,6 +5,9 @@ use review_runner::{FileError, Files};
 use std::alloc::Global;
 use std::rt;
 
+/// More bytes than a buffer of the system's takes at once.
+const LONG: [u8; 70_000] = [b'x'; 70_000];
+
 /// Whether the file has these bytes once they were written to it.
 fn keeps<R: rt::Files + AllocGlobal>(rt: &R, alloc: Global, bytes: &[u8]) -> bool {
     let mut disk = Disk::new(rt);
@@ -20,6 +23,7 @@ fn keeps<R: rt::Files + AllocGlobal>(rt: &R, alloc: Global, bytes: &[u8]) -> boo
 #[test]
 fn files_keep_what_is_written(rt: HostRuntime) {
     assert!(rt; keeps(&rt, rt.alloc(), b"\0\xffCELBPF01"));
+    assert!(rt; keeps(&rt, rt.alloc(), &LONG));
     assert!(rt; keeps(&rt, rt.alloc(), b"a"));
     assert!(rt; keeps(&rt, rt.alloc(), b""));
 }
