@@ -1,14 +1,15 @@
 -- A heap with one more cell, and one whose backings have grown.
-use Rattle.std.proofs.Common.{◌≡◌, ℕ, zero, suc, ◌+◌, ◌<◌, ◌≤◌, List, [], ◌∷◌, ◌++◌, length, refl, sym, ◌∙◌, arith, length-append, slice_get}
-use Rattle.std.specs.Prelude.{slice_index_or, vec_capacity}
+use Rattle.std.proofs.Common.{◌≡◌, ℕ, zero, suc, ◌+◌, ◌<◌, ◌≤◌, List, [], ◌∷◌, ◌++◌, length, refl, sym, ap, ◌∙◌, arith, length-append, append-nil, slice_get, subst, Option, Some, Ok}
+use Rattle.std.specs.Prelude.{slice_index_or, vec_capacity, IfSome, option_map}
 use Rattle.value_store.specs.Value.{Value}
 use Rattle.value_table.specs.Meaning.{meaning, grown}
-use Rattle.value_table.specs.Heaps.{IsCell, AreSame, Extends}
-use Rattle.value_table.specs.Heap.{heap_values, IsHeap}
+use Rattle.value_table.specs.Heaps.{IsCell, AreSame, Extends, Adds}
+use Rattle.value_table.specs.Heap.{heap_values, content_at, IsHeap, IsAsBefore}
 use Rattle.value_table.specs.declared.heap.Heap.{Heap}
 use Rattle.value_table.specs.declared.cell.Cell.{Cell}
+use Rattle.value_table.specs.declared.content.Content.TheVariants as cell
 use Rattle.value_table.specs.declared.backings.Backings.{Backings}
-use Rattle.value_table.proofs.Growth.{grown_kept, cells_kept, grown_one, cells_one}
+use Rattle.value_table.proofs.Growth.{grown_kept, cells_kept, grown_one, cells_one, count_values}
 
 get_front : (vs ws : List Value) (r : ℕ) → r < length vs → slice_get (vs ++ ws) r ≡ slice_get vs r
 get_front [] ws r h = absurd (omega arith)
@@ -30,28 +31,59 @@ same_more vs ws same h =
 pub values_added : (bs : Backings) (xs ys : List Cell) (c : Cell) → ys ≡ xs ++ c ∷ [] → grown bs [] ys ≡ grown bs [] xs ++ meaning bs (grown bs [] xs) c.content ∷ []
 values_added bs xs ys c e = rw e (grown_one bs [] xs c)
 
-pub cell_moved : (bs cs : Backings) (xs ys : List Cell) (c : Cell) → cs ≡ bs → ys ≡ xs → IsCell bs (grown bs [] xs) c → IsCell cs (grown cs [] ys) c
-cell_moved bs cs xs ys c b e h = rw (b, e) h
+pub extends_same : (bs : Backings) → Extends bs bs
+extends_same bs = record { bytes = ([], sym (append-nil bs.bytes)); keys = ([], sym (append-nil bs.keys)); lists = omega arith; items = λ b h. ([], sym (append-nil (slice_index_or bs.lists b []))) }
 
-pub cell_added : (old : Heap) (ys : List Cell) (c : Cell) → IsHeap old → IsCell old.backings (heap_values old) c → length old.cells + 1 ≤ vec_capacity old.same → ys ≡ old.cells ++ c ∷ [] → IsHeap (record old { cells = ys })
-cell_added old ys c h k fits e =
-    let v : grown old.backings [] ys ≡ heap_values old ++ meaning old.backings (heap_values old) c.content ∷ [] = values_added old.backings old.cells ys c e in
-    let cells = cells_one old.backings [] old.cells c h.cells k in
+-- ---- a call that makes room first
+
+pub values_before : (old new : Heap) → IsAsBefore old new → heap_values new ≡ heap_values old
+values_before old new b = rw (b.backings, b.cells)
+
+-- where it is refused
+pub heap_before : (old new : Heap) → IsHeap old → IsAsBefore old new → vec_capacity old.same ≤ vec_capacity new.same → IsHeap new
+heap_before old new h b longer =
+    let v = values_before old new b in
+    let room = h.room in
+    let n = ap length b.cells in
+    record { cells = rw (b.backings, b.cells) h.cells; same = rw (v, b.words) h.same; room = omega (arith, room, n, longer) }
+
+-- and where it is not
+pub values_put : (old : Heap) (bs : Backings) (ys mid : List Cell) (c : Cell) → IsHeap old → Extends old.backings bs → mid ≡ old.cells → ys ≡ mid ++ c ∷ [] → grown bs [] ys ≡ heap_values old ++ meaning bs (heap_values old) c.content ∷ []
+values_put old bs ys mid c h e same cells =
+    let kept = grown_kept old.backings bs [] old.cells e h.cells in
+    values_added bs old.cells ys c (cells ∙ ap (λ xs. xs ++ c ∷ []) same) ∙ ap (λ vs. vs ++ meaning bs vs c.content ∷ []) kept
+
+pub heap_put : (old new : Heap) (mid : List Cell) (c : Cell) → IsHeap old → Extends old.backings new.backings → new.same.items ≡ old.same.items → length old.cells + 1 ≤ vec_capacity new.same → mid ≡ old.cells → new.cells ≡ mid ++ c ∷ [] → IsCell new.backings (heap_values old) c → IsHeap new
+heap_put old new mid c h e words fits same cells k =
+    let kept = grown_kept old.backings new.backings [] old.cells e h.cells in
+    let all : new.cells ≡ old.cells ++ c ∷ [] = cells ∙ ap (λ xs. xs ++ c ∷ []) same in
     let l = length-append old.cells (c ∷ []) in
+    let n = ap length all in
     record {
-      cells = rw e cells;
-      same = rw v (same_more (heap_values old) (meaning old.backings (heap_values old) c.content ∷ []) old.same.items h.same);
-      room = rw e (omega (arith, l, fits));
+      cells = rw all (cells_one new.backings [] old.cells c (cells_kept old.backings new.backings [] old.cells e h.cells) (rw kept k));
+      same = rw (values_put old new.backings new.cells mid c h e same cells, words) (same_more (heap_values old) (meaning new.backings (heap_values old) c.content ∷ []) old.same.items h.same);
+      room = omega (arith, l, n, fits);
     }
 
-pub backings_grown : (old : Heap) (cs : Backings) → IsHeap old → Extends old.backings cs → IsHeap (record old { backings = cs })
-backings_grown old cs h e =
-    let v : grown cs [] old.cells ≡ heap_values old = grown_kept old.backings cs [] old.cells e h.cells in
-    record { cells = cells_kept old.backings cs [] old.cells e h.cells; same = rw v h.same; room = h.room }
+pub put_adds : (old : Heap) (bs : Backings) (ys mid : List Cell) (c : Cell) (i : ℕ) → IsHeap old → Extends old.backings bs → mid ≡ old.cells → ys ≡ mid ++ c ∷ [] → i ≡ length mid → Adds (heap_values old) (meaning bs (heap_values old) c.content) (Ok i) (grown bs [] ys)
+put_adds old bs ys mid c i h e same cells at = (at ∙ ap length same ∙ sym (count_values old.backings old.cells), values_put old bs ys mid c h e same cells)
 
--- the same where they have grown twice, and the values
-pub heap_twice : (old : Heap) (cs ds : Backings) → IsHeap old → Extends old.backings cs → Extends cs ds
-    → IsHeap (record old { backings = ds }) × (heap_values (record old { backings = ds }) ≡ heap_values old)
-heap_twice old cs ds h e f =
-    let mid = backings_grown old cs h e in
-    (backings_grown (record old { backings = cs }) ds mid f, grown_kept cs ds [] old.cells f mid.cells ∙ grown_kept old.backings cs [] old.cells e h.cells)
+pub due_adds : (old : Heap) (bs : Backings) (ys mid : List Cell) (c : Cell) (i : ℕ) (due : Option Value) → due ≡ Some (meaning bs (heap_values old) c.content) → IsHeap old → Extends old.backings bs → mid ≡ old.cells → ys ≡ mid ++ c ∷ [] → i ≡ length mid
+    → IfSome due (λ v. Adds (heap_values old) v (Ok i) (grown bs [] ys))
+due_adds old bs ys mid c i due is h e same cells at = subst (λ (o : Option Value). IfSome o (λ v. Adds (heap_values old) v (Ok i) (grown bs [] ys))) (sym is) (put_adds old bs ys mid c i h e same cells at)
+
+-- the cell of a list in the backing of a shorter one
+get_last : (xs : List Cell) (c : Cell) → slice_get (xs ++ c ∷ []) (length xs) ≡ Some c
+get_last [] c = refl
+get_last (x ∷ xs) c = get_last xs c
+
+pub shared_put : (old : Heap) (bs : Backings) (ys mid : List Cell) (c lc : Cell) (l b n p i : ℕ) → slice_get old.cells l ≡ Some lc → lc.content ≡ cell.List b n → c.content ≡ cell.List p (n + 1) → ys ≡ mid ++ c ∷ [] → i ≡ length mid
+    → (n ≡ length (slice_index_or old.backings.lists b []) → (p ≡ b) × (length bs.lists ≡ length old.backings.lists))
+    → (b' n' : ℕ) → content_at old.cells l ≡ Some (cell.List b' n') → n' ≡ length (slice_index_or old.backings.lists b' []) → (content_at ys i ≡ Some (cell.List b' (n' + 1))) × (length bs.lists ≡ length old.backings.lists)
+shared_put old bs ys mid c lc l b n p i get is made cells at shared b' n' e end =
+    let one : Some (cell.List b n) ≡ Some (cell.List b' n') = ap Some (sym is) ∙ sym (ap (option_map (λ d. d.content)) get) ∙ e in
+    let same_b : b ≡ b' = cc in
+    let same_n : n ≡ n' = cc in
+    let s = shared (same_n ∙ end ∙ ap (λ k. length (slice_index_or old.backings.lists k [])) (sym same_b)) in
+    let last : slice_get ys i ≡ Some c = ap (λ xs. slice_get xs i) cells ∙ ap (slice_get (mid ++ c ∷ [])) at ∙ get_last mid c in
+    (ap (option_map (λ d. d.content)) last ∙ ap Some (made ∙ rw (s.0, same_b, same_n) refl), s.1)

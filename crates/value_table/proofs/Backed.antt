@@ -1,11 +1,12 @@
 -- Backings that grow.
-use Rattle.std.proofs.Common.{◌≡◌, ℕ, zero, suc, ◌-◌, ◌<◌, List, [], ◌∷◌, ◌++◌, length, get_or, refl, sym, ap, ◌∙◌, arith, length-append, append_assoc, append-nil}
+use Rattle.std.proofs.Common.{◌≡◌, ℕ, zero, suc, ◌+◌, ◌-◌, ◌<◌, ◌≤◌, List, [], ◌∷◌, ◌++◌, length, get_or, take, drop, refl, sym, ap, ◌∙◌, arith, length-append, length-drop, append_assoc, append-nil}
 use Rattle.std.specs.Prelude.{slice_range, slice_set}
 use Rattle.std.proofs.lemmas.Str.{IsUtf8-append}
-use Rattle.std.proofs.Math.Seq.{drop-append_seam}
-use Rattle.std.proofs.lemmas.List.{take_all, length-set}
+use Rattle.std.proofs.Math.Seq.{drop-append_seam, get_or-append_seam}
+use Rattle.std.proofs.lemmas.List.{take_all, length-set, length-take}
 use Rattle.value_table.specs.Meaning.{part_of}
-use Rattle.value_table.specs.Heaps.{IsText, Extends}
+use Rattle.value_table.specs.Heaps.{IsText, Extends, Holds}
+use Rattle.value_table.specs.Entries.{with_one}
 use Rattle.value_table.specs.declared.part.Part.{Part}
 use Rattle.value_table.specs.declared.backings.Backings.{Backings}
 use Rattle.value_table.proofs.Growth.{text_kept}
@@ -17,6 +18,10 @@ more_set (y ∷ bs) zero (suc c) ws h = ([], sym (append-nil _))
 more_set (y ∷ bs) (suc b) zero ws h = ([], sym (append-nil _))
 more_set (y ∷ bs) (suc b) (suc c) ws h = more_set bs b c ws (omega arith)
 
+-- the bytes have grown
+pub bytes_more : (old : Backings) (bytes rest : List ℕ) → bytes ≡ old.bytes ++ rest → Extends old (record old { bytes = bytes })
+bytes_more old bytes rest e = record { bytes = (rest, e); keys = ([], sym (append-nil old.keys)); lists = omega arith; items = λ b h. ([], sym (append-nil (get_or old.lists b []))) }
+
 -- one backing grows in place
 pub items_pushed : (old : Backings) (lists : List (List ℕ)) (b : ℕ) (ws : List ℕ) → lists ≡ slice_set old.lists b (get_or old.lists b [] ++ ws) → Extends old (record old { lists = lists })
 items_pushed old lists b ws e =
@@ -27,6 +32,23 @@ items_pushed old lists b ws e =
       lists = rw e (omega arith);
       items = λ c h. rw e (more_set old.lists b c ws h);
     }
+
+-- a backing behind the others
+pub items_behind : (old new : List (List ℕ)) (b n : ℕ) (xs : List ℕ) → b ≡ length old → length xs ≡ n → new ≡ old ++ xs ∷ [] → Holds new b n xs
+items_behind old new b n xs at long e =
+    let l = length-append old (xs ∷ []) in
+    let k = ap length e in
+    let here : get_or new b [] ≡ xs = rw (e, at) (get_or-append_seam old xs [] []) in
+    record { inside = omega (arith, l, k, at); long = rw here long; items = rw here (take_all n xs (omega (arith, long))) }
+
+pub length_one : (xs : List ℕ) (n place x : ℕ) → place ≤ n → n ≤ length xs → length (with_one place x (take n xs)) ≡ n + 1
+length_one xs n place x low long =
+    let ys = take n xs in
+    let t = length-take n xs in
+    let f = length-take place ys in
+    let d = length-drop place ys in
+    let l = length-append (take place ys) (x ∷ drop place ys) in
+    omega (arith, t, f, d, l, low, long)
 
 whole_behind : (bs ws : List ℕ) (a b : ℕ) → a ≡ length bs → b ≡ length (bs ++ ws) → slice_range (bs ++ ws) a b ≡ ws
 whole_behind bs ws a b p q =

@@ -1,7 +1,6 @@
 -- Lists made of others.
-use Rattle.std.proofs.Common.{◌≡◌, ℕ, suc, ◌+◌, ◌-◌, ◌<◌, ◌≤◌, List, [], ◌∷◌, ◌++◌, length, refl, sym, ap, ap₂, ◌∙◌, arith, subst, max, Option, Some, None, Result, Ok, Err}
-use Rattle.std.specs.Prelude.{IfSome, IsErr, slice_index_or}
-use Rattle.std.specs.declared.alloc.AllocError.{AllocError}
+use Rattle.std.proofs.Common.{◌≡◌, ℕ, suc, ◌+◌, ◌-◌, ◌<◌, ◌≤◌, List, [], ◌∷◌, ◌++◌, length, refl, sym, ap, ap₂, ◌∙◌, arith, subst, max, Option, Some}
+use Rattle.std.specs.Prelude.{IfSome, slice_index_or}
 use Rattle.value_store.specs.Value as kind
 use Rattle.value_store.specs.Value.{Value, Items, no_items, item, list_of, items_push, items_join}
 use Rattle.value_store.specs.Size.{depth_of, items_depth}
@@ -10,7 +9,7 @@ use Rattle.value_store.specs.Plain.{saturated}
 use Rattle.value_store.specs.Calls.{push_of, join_of}
 use Rattle.value_store.proofs.Keys.{push_ordered, join_ordered}
 use Rattle.value_table.specs.Meaning.{value_in, items_at, refs_at, meaning}
-use Rattle.value_table.specs.Heaps.{AreBelow, IsRange, IsContent, IsCell, Found, Holds, Adds}
+use Rattle.value_table.specs.Heaps.{AreBelow, IsRange, IsContent, IsCell, Found, Holds}
 use Rattle.value_table.specs.Lengths.{json_length, commas}
 use Rattle.value_table.proofs.Heads.{taken_long}
 use Rattle.value_table.proofs.TextLengths.{push_long, join_long, list_long}
@@ -23,32 +22,8 @@ pub record Made (bs : Backings) (vs : List Value) (c : Cell) (due : Option Value
   pub cell : IsCell bs vs c
   pub value : due ≡ Some (meaning bs vs c.content)
 
--- the answer of the call that places it
-pub made_added : (bs : Backings) (old mid new : List Value) (c : Cell) (due : Option Value) (r : Result ℕ AllocError) → mid ≡ old → Made bs mid c due → Adds mid (meaning bs mid c.content) r new → IfSome due (λ v. Adds old v r new)
-made_added bs old mid new c due r e m a =
-    subst (λ (vs : List Value). IfSome due (λ v. Adds vs v r new)) e (subst (λ (o : Option Value). IfSome o (λ v. Adds mid v r new)) (sym m.value) a)
-
-pub made_there : (bs : Backings) (vs ws : List Value) (c : Cell) (due : Option Value) → ws ≡ vs → Made bs vs c due → Made bs ws c due
-made_there bs vs ws c due e m = subst (λ (us : List Value). Made bs us c due) (sym e) m
-
--- a call that failed before has placed nothing
-pub nothing_added : (old new : List Value) (v : Value) (r : Result ℕ AllocError) → IsErr r → new ≡ old → Adds old v r new
-nothing_added old new v (Ok i) x s = absurd (cc)
-nothing_added old new v (Err x) y s = s
-
-pub not_added : (old new : List Value) (due : Option Value) (r : Result ℕ AllocError) → IsErr r → new ≡ old → IfSome due (λ v. Adds old v r new)
-not_added old new None r x s = tt
-not_added old new (Some v) r x s = nothing_added old new v r x s
-
--- what was placed behind values that had not changed
-pub added_there : (old mid new : List Value) (v : Value) (r : Result ℕ AllocError) → mid ≡ old → Adds mid v r new → Adds old v r new
-added_there old mid new v r e a = subst (λ (vs : List Value). Adds vs v r new) e a
-
-pub list_added : (bs : Backings) (old mid new : List Value) (b : ℕ) (r : Result ℕ AllocError) → mid ≡ old → Adds mid (meaning bs mid (cell.List b 0)) r new → Adds old (kind.list no_items) r new
-list_added bs old mid new b r e a = added_there old mid new (kind.list no_items) r e a
-
-pub text_added : (old mid new : List Value) (s t : List ℕ) (r : Result ℕ AllocError) → t ≡ s → mid ≡ old → Adds mid (kind.text t) r new → Adds old (kind.text s) r new
-text_added old mid new s t r same e a = added_there old mid new (kind.text s) r e (subst (λ u. Adds mid (kind.text u) r new) same a)
+pub list_new : (cs : Backings) (vs : List Value) (b n : ℕ) (rs : List ℕ) → Holds cs.lists b n rs → IsCell cs vs (record { content = cell.List b 0; depth = 1; json = 2 })
+list_new cs vs b n rs h = record { content = record { inside = h.inside; long = omega arith; below = tt }; depth = refl; shallow = omega arith; json = refl; ordered = tt }
 
 pub items_length : (vs : List Value) (rs : List ℕ) → length (list_of (items_at vs rs)) ≡ length rs
 items_length vs [] = refl

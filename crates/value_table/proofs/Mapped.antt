@@ -1,8 +1,7 @@
 -- Maps with one more entry.
-use Rattle.std.proofs.Common.{◌≡◌, ℕ, zero, suc, ◌+◌, ◌<◌, ◌≤◌, List, [], ◌∷◌, length, refl, sym, ap, ap₂, ◌∙◌, arith, subst, max, true≢false, true, Option, Some, None, Result}
+use Rattle.std.proofs.Common.{◌≡◌, ℕ, zero, suc, ◌+◌, ◌<◌, ◌≤◌, List, [], ◌∷◌, length, refl, sym, ap, ap₂, ◌∙◌, arith, subst, max, true≢false, true, Option, Some, None}
 use Rattle.std.specs.List.Sorted.{IsStrictlySortedBy}
 use Rattle.std.specs.Prelude.{is_some, not, IfSome, IsSome, option_map}
-use Rattle.std.specs.declared.alloc.AllocError.{AllocError}
 use Rattle.std.specs.declared.cmp.Ordering.{Ordering}
 use Rattle.std.specs.declared.cmp.Ordering.TheVariants.{Less, Greater}
 use Rattle.std.specs.Ordering.{nat_cmp}
@@ -18,7 +17,7 @@ use Rattle.value_store.specs.Lookup.{inserted, inserted_by}
 use Rattle.value_store.proofs.Keys.{put_ordered, inserted_once}
 use Rattle.value_store.proofs.Places.{has_key_place}
 use Rattle.value_table.specs.Meaning.{part_of, value_in, entries_at, refs_at, keys_at, meaning}
-use Rattle.value_table.specs.Heaps.{IsText, AreTexts, AreBelow, IsContent, IsCell, Found, Holds, Adds}
+use Rattle.value_table.specs.Heaps.{IsText, AreTexts, AreBelow, IsContent, IsCell, Found, Holds}
 use Rattle.value_table.specs.Lengths.{json_length, commas}
 use Rattle.value_table.specs.Heads.{texts_of}
 use Rattle.value_table.specs.Search.{IsAt, IsGap}
@@ -30,10 +29,7 @@ use Rattle.value_table.specs.declared.backings.Backings.{Backings}
 use Rattle.value_table.proofs.Lookups.{place_by_keys, found_place}
 use Rattle.value_table.proofs.Heads.{range_long}
 use Rattle.value_table.proofs.TextLengths.{put_long}
-use Rattle.value_table.proofs.Listed.{Made, below_le, added_there}
-
-pub map_added : (bs : Backings) (old mid new : List Value) (b : ℕ) (r : Result ℕ AllocError) → mid ≡ old → Adds mid (meaning bs mid (cell.Map 0 b 0)) r new → Adds old (kind.map no_entries) r new
-map_added bs old mid new b r e a = added_there old mid new (kind.map no_entries) r e a
+use Rattle.value_table.proofs.Listed.{Made, below_le}
 
 -- ---- an entry put at its gap
 

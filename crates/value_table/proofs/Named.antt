@@ -14,7 +14,7 @@ use Rattle.value_store.specs.Placing.{first_values, place, placed, is_appended}
 use Rattle.value_store.specs.Calls.{Places, value_at, text_at, key_at, pushed, push_of, joined, join_of, put_in, put_of, entries_part}
 use Rattle.value_table.specs.Meaning.{value_in, grown, key_in}
 use Rattle.value_table.specs.Heaps.{AreBelow, AreCells, Adds}
-use Rattle.value_table.specs.Heap.{heap_values, IsHeap}
+use Rattle.value_table.specs.Heap.{heap_values, IsHeap, IsAsBefore, SharesBacking}
 use Rattle.value_table.specs.References.{values_at, named, place_at, reference_values, AreReferences, IsPlace, Names}
 use Rattle.value_table.specs.declared.content.Content.TheVariants as cell
 use Rattle.value_table.specs.declared.cell.Cell.{Cell}
@@ -22,6 +22,7 @@ use Rattle.value_table.specs.declared.backings.Backings.{Backings}
 use Rattle.value_table.specs.declared.heap.Heap.{Heap}
 use Rattle.value_table.specs.declared.references.References.{References}
 use Rattle.value_table.proofs.Growth.{value_stable, count_values, found}
+use Rattle.value_table.proofs.Adding.{values_before}
 use Rattle.value_table.proofs.Listed.{below_le, below_append}
 
 values_stable : (vs ws : List Value) (rs : List ℕ) → AreBelow (length vs) rs → values_at (vs ++ ws) rs ≡ values_at vs rs
@@ -169,6 +170,43 @@ value_placed old mid new vs ws v i r a e added n =
 pub due_placed : (old mid new : List ValueOrError) (vs ws : List Value) (due : Option Value) (i : ℕ) (r : Result ℕ AllocError) → Appends due → mid ≡ old → IfSome due (λ v. Adds vs v (Ok i) ws) → Names mid (value_in ws i) r new → IfSome due (λ v. Places old v r new)
 due_placed old mid new vs ws None i r a e added n = tt
 due_placed old mid new vs ws (Some v) i r a e added n = value_placed old mid new vs ws v i r a e added n
+
+-- ---- a call that makes room first
+
+-- where it is refused
+pub refs_before : (t : References) (h : Heap) (ps : List ℕ) → IsAsBefore t.heap h → ps ≡ t.places → named (heap_values h) ps ≡ reference_values t
+refs_before t h ps b e = ap₂ named (values_before t.heap h b) e
+
+pub sound_before : (t : References) (h : Heap) (ps : List ℕ) → AreReferences t → IsHeap h → IsAsBefore t.heap h → ps ≡ t.places → AreReferences (record { heap = h; places = ps })
+sound_before t h ps a k b e =
+    let v = values_before t.heap h b in
+    record { heap = k; places = rw (v, e) a.places; first = record { more = a.first.more; is = refs_before t h ps b e ∙ a.first.is } }
+
+-- and where it is not
+pub sound_put : (t : References) (h : Heap) (ps mid : List ℕ) (due : Option Value) (i : ℕ) → AreReferences t → IsHeap h → IsSome due → IfSome due (λ v. Adds (heap_values t.heap) v (Ok i) (heap_values h)) → mid ≡ t.places → ps ≡ mid ++ i ∷ []
+    → AreReferences (record { heap = h; places = ps })
+sound_put t h ps mid due i a k s added same e =
+    name_sound (record t { heap = h }) ps i (grows_due t h due (Ok i) a k s added).sound (place_due (heap_values t.heap) (heap_values h) due i s added) (e ∙ ap (λ rs. rs ++ i ∷ []) same)
+
+pub placed_put : (t : References) (h : Heap) (ps mid : List ℕ) (due : Option Value) (i r : ℕ) → AreReferences t → IsHeap h → IsSome due → IfSome due (λ v. Adds (heap_values t.heap) v (Ok i) (heap_values h)) → mid ≡ t.places → ps ≡ mid ++ i ∷ [] → r ≡ length (reference_values t)
+    → Appends due → IfSome due (λ v. Places (reference_values t) v (Ok r) (named (heap_values h) ps))
+placed_put t h ps mid due i r a k s added same e at appends =
+    let grows = grows_due t h due (Ok i) a k s added in
+    let all : ps ≡ t.places ++ i ∷ [] = e ∙ ap (λ rs. rs ++ i ∷ []) same in
+    due_placed (reference_values t) (reference_values (record t { heap = h })) (named (heap_values h) ps) (heap_values t.heap) (heap_values h) due i (Ok r) appends grows.values added
+    (at ∙ ap length (sym grows.values), name_values (record t { heap = h }) ps i all)
+
+last_place : (rs : List ℕ) (i : ℕ) → slice_get (rs ++ i ∷ []) (length rs) ≡ Some i
+last_place [] i = refl
+last_place (r ∷ rs) i = last_place rs i
+
+pub shares_put : (t : References) (h : Heap) (ps mid : List ℕ) (l p i r : ℕ) → place_at t.places l ≡ Some p → SharesBacking t.heap p (Ok i) h → mid ≡ t.places → ps ≡ mid ++ i ∷ [] → r ≡ length (reference_values t)
+    → (q : ℕ) → place_at t.places l ≡ Some q → (j : ℕ) × (place_at ps r ≡ Some j) × SharesBacking t.heap q (Ok j) h
+shares_put t h ps mid l p i r is shares same e at q there =
+    let one : p ≡ q = cc in
+    let next : r ≡ suc (length t.places) = let n = count_named (heap_values t.heap) t.places in omega (arith, n, at) in
+    let all : ps ≡ t.places ++ i ∷ [] = e ∙ ap (λ rs. rs ++ i ∷ []) same in
+    (i, ap₂ place_at all next ∙ last_place t.places i, subst (λ k. SharesBacking t.heap k (Ok i) h) one shares)
 
 -- ---- the calls by reference are those by place
 

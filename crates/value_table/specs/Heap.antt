@@ -1,8 +1,12 @@
 -- The values of a heap.
-use Rattle.std.specs.Prelude.{◌≤◌, List, [], length, vec_capacity}
+use Rattle.std.specs.Prelude.{◌≡◌, ◌≤◌, ℕ, ◌+◌, List, [], length, vec_capacity, Option, Some, option_map, slice_get, slice_index_or, Result, IfOk}
+use Rattle.std.specs.declared.alloc.AllocError.{AllocError}
 use Rattle.value_store.specs.Value.{Value}
 use Rattle.value_table.specs.Meaning.{grown}
 use Rattle.value_table.specs.Heaps.{AreCells, AreSame}
+use Rattle.value_table.specs.declared.cell.Cell.{Cell}
+use Rattle.value_table.specs.declared.content.Content.{Content}
+use Rattle.value_table.specs.declared.content.Content.TheVariants as cell
 use Rattle.value_table.specs.declared.heap.Heap.{Heap}
 
 abbrev pub heap_values : Heap → List Value
@@ -13,3 +17,18 @@ pub record IsHeap (h : Heap) : Type 0 where
   pub same : AreSame (heap_values h) h.same.items
   -- a word of each cell has room, so that comparing takes no memory
   pub room : length h.cells ≤ vec_capacity h.same
+
+-- the same cells, parts and words
+pub record IsAsBefore (old new : Heap) : Type 0 where
+  pub cells : new.cells ≡ old.cells
+  pub backings : new.backings ≡ old.backings
+  pub words : new.same.items ≡ old.same.items
+
+abbrev pub content_at : List Cell → ℕ → Option Content
+content_at cs i = option_map (λ c. c.content) (slice_get cs i)
+
+-- where the list at l ends where its backing does, the longer list has the same backing, and there is no further one
+abbrev pub SharesBacking : Heap → ℕ → Result ℕ AllocError → Heap → Type 0
+SharesBacking old l r new =
+    (b n : ℕ) → content_at old.cells l ≡ Some (cell.List b n) → n ≡ length (slice_index_or old.backings.lists b [])
+    → IfOk r (λ i. (content_at new.cells i ≡ Some (cell.List b (n + 1))) × (length new.backings.lists ≡ length old.backings.lists))

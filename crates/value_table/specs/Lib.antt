@@ -11,3 +11,4 @@ pub mod Growing
 pub mod Held
 pub mod Start
 pub mod Tokens
+pub mod Lending

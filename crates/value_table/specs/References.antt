@@ -1,11 +1,11 @@
 -- Values by reference.
-use Rattle.std.specs.Prelude.{◌≡◌, ◌<◌, ℕ, suc, zero, List, [], ◌∷◌, ◌++◌, length, slice_get, Option, Some, None, Result, Ok, Err}
+use Rattle.std.specs.Prelude.{◌≡◌, ◌<◌, ℕ, suc, zero, List, [], ◌∷◌, ◌++◌, length, slice_get, Option, Some, None, Result, Ok, Err, IfOk}
 use Rattle.std.specs.declared.alloc.AllocError.{AllocError}
 use Rattle.value_store.specs.Value.{Value, ValueOrError, error, value}
 use Rattle.value_store.specs.Placing.{first_values}
 use Rattle.value_table.specs.Meaning.{value_in}
 use Rattle.value_table.specs.Heaps.{AreBelow}
-use Rattle.value_table.specs.Heap.{heap_values, IsHeap}
+use Rattle.value_table.specs.Heap.{heap_values, IsHeap, IsAsBefore, SharesBacking}
 use Rattle.value_table.specs.declared.references.References.{References}
 
 -- the values at these places
@@ -35,10 +35,19 @@ pub record AreReferences (t : References) : Type 0 where
   pub places : AreBelow (length (heap_values t.heap)) t.places
   pub first : Begins (reference_values t)
 
+-- the same places, and a heap as before
+pub record AreAsBefore (old new : References) : Type 0 where
+  pub heap : IsAsBefore old.heap new.heap
+  pub places : new.places ≡ old.places
+
 -- a reference's cell, and the value there
 pub record IsPlace (t : References) (h r : ℕ) : Type 0 where
   pub inside : r < length (heap_values t.heap)
   pub value_is : slice_get (reference_values t) h ≡ Some (value (value_in (heap_values t.heap) r))
+
+-- the longer list has its cell in the backing of the list at l, where that ends there
+abbrev pub SharesItems : References → ℕ → Result ℕ AllocError → References → Type 0
+SharesItems old l r new = (p : ℕ) → place_at old.places l ≡ Some p → IfOk r (λ h. (i : ℕ) × (place_at new.places h ≡ Some i) × SharesBacking old.heap p (Ok i) new.heap)
 
 -- one more reference, to this value; or the host had no memory for it
 abbrev pub Names : List ValueOrError → Value → Result ℕ AllocError → List ValueOrError → Type 0

@@ -1,8 +1,11 @@
 //! A vector that copies share.
 
-ghost use Rattle.std.specs.Prelude.{◌≡◌, ◌≤◌, ◌<◌, ◌^◌, [], ◌∷◌, ◌++◌, length, IfOk, OnOk, OnErr, slice_range, take};
+ghost use Rattle.std.specs.Prelude.{◌≡◌, ◌≤◌, ◌<◌, ◌+◌, ◌^◌, [], ◌∷◌, ◌++◌, length, vec_len, vec_capacity, IfOk, OnOk, OnErr, take};
+ghost use Rattle.std.specs.Borrow.{sem};
 ghost use Rattle.value_table.specs.Entries.{with_one};
+ghost use Rattle.value_table.specs.Lending.{LendsItems, LendsOwned};
 
+use crate::room::fill;
 use std::alloc::{AllocError, Global};
 use std::marker::Model;
 use std::rc::Rc;
@@ -50,7 +53,7 @@ impl<T: Copy> Backing<T> {
         self.items.len()
     }
 
-    // Makes this the sole owner of a vector with room for `more` items.
+    // Makes this the sole owner of its vector. One that it has to make has room for `more` items.
     fn own(&mut self, more: usize) -> Result<(), AllocError>
         ensures { self.new ≡ self.old }
     {
@@ -66,16 +69,14 @@ impl<T: Copy> Backing<T> {
         Ok(())
     }
 
-    /// Makes room for `more` items, so that as many can be pushed without memory.
-    pub(crate) fn reserve(&mut self, more: usize) -> Result<(), AllocError>
-        ensures { self.new ≡ self.old }
+    /// The vector, with room for `more` items: as many can be put behind the last without memory.
+    pub(crate) fn room(&mut self, more: usize) -> Result<&mut Vec<T>, AllocError>
+        ensures* lent { sem 𝓛 (LendsItems T.row self.entry result) }
+        ensures items { IfOk result (λ v. v.now.items ≡ self.old) }
+        ensures room { IfOk result (λ v. vec_len v.now + more ≤ vec_capacity v.now) }
     {
         self.own(more)?;
-        let Some(items) = Rc::get_mut(&mut self.items) else {
-            return Err(AllocError);
-        };
-        items.reserve(more)?;
-        Ok(())
+        owned(&mut self.items, more)
     }
 
     /// A vector of its own with the first `count` items, and room for `more`.
@@ -126,11 +127,8 @@ impl<T: Copy> Backing<T> {
         ensures ok { OnOk result (self.new ≡ self.old ++ item ∷ []) }
         ensures err { OnErr result (self.new ≡ self.old) }
     {
-        self.own(1)?;
-        let Some(items) = Rc::get_mut(&mut self.items) else {
-            return Err(AllocError);
-        };
-        items.push(item)?;
+        let items = self.room(1)?;
+        items.push_reserved(item);
         Ok(())
     }
 
@@ -138,27 +136,24 @@ impl<T: Copy> Backing<T> {
         ensures ok { OnOk result (self.new ≡ self.old ++ more.now) }
         ensures err { OnErr result (self.new ≡ self.old) }
     {
-        self.own(more.len())?;
-        let Some(items) = Rc::get_mut(&mut self.items) else {
-            return Err(AllocError);
-        };
-        items.extend_from_slice(more)?;
+        let items = self.room(more.len())?;
+        fill(items, more);
         Ok(())
     }
+}
 
-    /// Repeats the items of a part behind the last.
-    pub(crate) fn extend_within(&mut self, from: usize, to: usize) -> Result<(), AllocError>
-        requires order { from ≤ to }
-        requires inside { to ≤ length self.old }
-        ensures ok { OnOk result (self.new ≡ self.old ++ slice_range self.old from to) }
-        ensures err { OnErr result (self.new ≡ self.old) }
-    {
-        self.own(to - from)?;
-        let Some(items) = Rc::get_mut(&mut self.items) else {
-            return Err(AllocError);
-        };
-        items.extend_from_within(from..to)?;
-        Ok(())
+// The vector of a sole owner, with room for `more` items.
+fn owned<T>(items: &mut Rc<Vec<T>>, more: usize) -> Result<&mut Vec<T>, AllocError>
+    ensures* lent { sem 𝓛 (LendsOwned T.row items.entry result) }
+    ensures items { IfOk result (λ v. v.now.items ≡ items.old.value.items) }
+    ensures room { IfOk result (λ v. vec_len v.now + more ≤ vec_capacity v.now) }
+{
+    match Rc::get_mut(items) {
+        Some(items) => {
+            items.reserve(more)?;
+            Ok(items)
+        }
+        None => Err(AllocError),
     }
 }
 

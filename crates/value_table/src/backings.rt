@@ -1,11 +1,12 @@
 //! The parts of texts, lists and maps.
 
-ghost use Rattle.std.specs.Prelude.{◌≡◌, ◌≤◌, ◌<◌, ◌+◌, ◌^◌, ◌∷◌, ◌++◌, [], length, slice_index_or, IfOk, OnOk};
+ghost use Rattle.std.specs.Prelude.{◌≡◌, ◌≤◌, ◌<◌, ◌+◌, ◌^◌, ◌∷◌, ◌++◌, [], length, slice_index_or, IfOk, OnOk, OnErr};
 ghost use Rattle.std.specs.Str.{IsUtf8};
 
 use crate::backing::Backing;
 use crate::lists::Lists;
 use crate::part::Part;
+use crate::room::repeat;
 use std::alloc::{AllocError, Global};
 
 /// What the cells of texts, lists and maps name parts of.
@@ -19,7 +20,8 @@ pub(crate) struct Backings {
     pub(crate) lists: Lists,
 }
 
-// Each call lets the parts that stand stay as they are, whether it succeeds or not.
+// Each call lets the parts that stand stay as they are, and everything where memory is refused: room is
+// made for all that grows before anything does.
 impl Backings {
     ghost use Rattle.value_table.specs.Meaning.{part_of, refs_at};
     ghost use Rattle.value_table.specs.Heaps.{IsText, Extends, Holds};
@@ -48,6 +50,7 @@ impl Backings {
         requires { IsUtf8 text.now }
         ensures grown { Extends self.old self.new }
         ensures part { IfOk result (λ p. IsText self.new.bytes p × (part_of self.new.bytes p ≡ text.now)) }
+        ensures kept { OnErr result (self.new ≡ self.old) }
     {
         let from = self.bytes.len() as u64;
         self.bytes.extend(text)?;
@@ -61,14 +64,13 @@ impl Backings {
         requires second { IsText self.old.bytes second }
         ensures grown { Extends self.old self.new }
         ensures part { IfOk result (λ p. IsText self.new.bytes p × (part_of self.new.bytes p ≡ part_of self.old.bytes first ++ part_of self.old.bytes second)) }
+        ensures kept { OnErr result (self.new ≡ self.old) }
     {
         let from = self.bytes.len() as u64;
-        let more = (first.to - first.from).saturating_add(second.to - second.from);
-        self.bytes.reserve(more as usize)?;
-        self.bytes
-            .extend_within(first.from as usize, first.to as usize)?;
-        self.bytes
-            .extend_within(second.from as usize, second.to as usize)?;
+        let more = (first.to - first.from) + (second.to - second.from);
+        let bytes = self.bytes.room(more as usize)?;
+        repeat(bytes, first.from as usize, first.to as usize);
+        repeat(bytes, second.from as usize, second.to as usize);
         let to = self.bytes.len() as u64;
         Ok(Part { from, to })
     }
@@ -77,6 +79,7 @@ impl Backings {
     pub(crate) fn add_items(&mut self, items: Backing<u64>) -> Result<u64, AllocError>
         ensures grown { Extends self.old self.new }
         ensures items { IfOk result (λ b. Holds self.new.lists b (length items) items) }
+        ensures kept { OnErr result (self.new ≡ self.old) }
     {
         let place = self.lists.backings().len() as u64;
         self.lists.push(items)?;
@@ -96,6 +99,8 @@ impl Backings {
         ensures grown { Extends self.old self.new }
         ensures short { count < 2 ^ 63 }
         ensures items { IfOk result (λ b. Holds self.new.lists b (count + 1) (refs_at self.old.lists backing count ++ item ∷ [])) }
+        ensures shared { count ≡ length (slice_index_or self.old.lists backing []) → IfOk result (λ b. (b ≡ backing) × (length self.new.lists ≡ length self.old.lists)) }
+        ensures kept { OnErr result (self.new ≡ self.old) }
     {
         let items = &self.lists.backings()[backing as usize];
         if items.len() == count as usize {
@@ -121,6 +126,7 @@ impl Backings {
         ensures grown { Extends self.old self.new }
         ensures short { OnOk result (first.1 + second.1 < 2 ^ 64) }
         ensures items { IfOk result (λ b. Holds self.new.lists b (first.1 + second.1) (refs_at self.old.lists first.0 first.1 ++ refs_at self.old.lists second.0 second.1)) }
+        ensures kept { OnErr result (self.new ≡ self.old) }
     {
         let (backing, count) = first;
         let (other, more) = second;

@@ -1,11 +1,11 @@
 //! Maps in a heap.
 
-ghost use Rattle.std.specs.Prelude.{◌≡◌, ◌≤◌, ◌<◌, ◌+◌, ◌^◌, length, [], slice_index_or, IsSome, IfSome, IfOk};
+ghost use Rattle.std.specs.Prelude.{◌≡◌, ◌≤◌, ◌<◌, ◌+◌, ◌^◌, length, [], slice_index_or, IsSome, IfSome, IfOk, OnErr};
 ghost use Rattle.value_store.specs.Value.{map, no_entries};
 ghost use Rattle.value_store.specs.Keys.{Ascend};
 ghost use Rattle.value_table.specs.Meaning.{value_in, part_of, refs_at, keys_at};
 ghost use Rattle.value_table.specs.Heaps.{AreTexts, IsText, Extends, Holds, Adds};
-ghost use Rattle.value_table.specs.Heap.{heap_values, IsHeap};
+ghost use Rattle.value_table.specs.Heap.{heap_values, IsHeap, IsAsBefore};
 ghost use Rattle.value_table.specs.Heads.{texts_of};
 ghost use Rattle.value_table.specs.Entries.{put_values, with_one, HoldsKeys};
 
@@ -13,9 +13,10 @@ use crate::backing::Backing;
 use crate::backings::Backings;
 use crate::cell::Cell;
 use crate::content::Content;
-use crate::heap::Heap;
+use crate::heap::{Heap, room_for_cell};
 use crate::lengths::put_length;
 use crate::part::Part;
+use crate::room::{append, fill};
 use crate::search::search;
 use crate::text::{keys, text};
 use std::alloc::AllocError;
@@ -26,14 +27,17 @@ impl Heap {
         requires { IsHeap self.old }
         ensures heap { IsHeap self.new }
         ensures added { Adds (heap_values self.old) (map no_entries) result (heap_values self.new) }
+        ensures kept { OnErr result (IsAsBefore self.old self.new) }
     {
         let items = Backing::new(self.cells.alloc())?;
+        let cells = room_for_cell(&mut self.cells, &mut self.same)?;
         let backing = self.backings.add_items(items)?;
-        self.add(Cell {
+        let cell = Cell {
             content: Content::Map(0, backing, 0),
             depth: 1,
             json: 2,
-        })
+        };
+        Ok(append(cells, cell))
     }
 
     /// The map at `m` with the text at `k`, which is none of its keys, at the value at `x`.
@@ -45,6 +49,7 @@ impl Heap {
         requires kinds { IsSome (put_values (value_in (heap_values self.old) m) (value_in (heap_values self.old) k) (value_in (heap_values self.old) x)) }
         ensures heap { IsHeap self.new }
         ensures added { IfSome (put_values (value_in (heap_values self.old) m) (value_in (heap_values self.old) k) (value_in (heap_values self.old) x)) (λ v. Adds (heap_values self.old) v result (heap_values self.new)) }
+        ensures kept { OnErr result (IsAsBefore self.old self.new) }
     {
         let map = self.cell(m);
         let value = self.cell(x);
@@ -65,69 +70,51 @@ impl Heap {
         };
         let json = put_length(map.json, count, name.json, value.json);
         let depth = map.depth.max(value.depth.saturating_add(1));
-        let items = self.backings.put_item(backing, count, gap, x)?;
-        let keys = self.backings.put_key(row, count, gap, key)?;
-        self.add(Cell {
-            content: Content::Map(keys, items, count + 1),
+        let cells = room_for_cell(&mut self.cells, &mut self.same)?;
+        let entry = self.backings.put_entry((row, backing, count), gap, key, x)?;
+        let cell = Cell {
+            content: Content::Map(entry.0, entry.1, count + 1),
             depth,
             json,
-        })
+        };
+        Ok(append(cells, cell))
     }
 }
 
 impl Backings {
-    // A backing that has the first items of another, and one more at a place: the same one where
-    // it ends there, and else a new one.
-    fn put_item(
+    // The keys in a row and the backing of a map with one more entry at a place: the same row where the
+    // key comes last and no other row follows, and else a new one behind all others.
+    fn put_entry(
         &mut self,
-        backing: u64,
-        count: u64,
+        map: (u64, u64, u64),
         place: usize,
+        key: Part,
         item: u64,
-    ) -> Result<u64, AllocError>
-        requires inside { backing < length self.old.lists }
-        requires long { count ≤ length (slice_index_or self.old.lists backing []) }
-        requires place { place ≤ count }
+    ) -> Result<(u64, u64), AllocError>
+        requires row { map.0 + map.2 ≤ length self.old.keys }
+        requires inside { map.1 < length self.old.lists }
+        requires long { map.2 ≤ length (slice_index_or self.old.lists map.1 []) }
+        requires place { place ≤ map.2 }
         ensures grown { Extends self.old self.new }
         ensures bytes { self.new.bytes ≡ self.old.bytes }
-        ensures keys { self.new.keys ≡ self.old.keys }
-        ensures short { count < 2 ^ 63 }
-        ensures items { IfOk result (λ b. Holds self.new.lists b (count + 1) (with_one place item (refs_at self.old.lists backing count))) }
+        ensures short { map.2 < 2 ^ 63 }
+        ensures keys { IfOk result (λ r. HoldsKeys self.new.keys r.0 (map.2 + 1) (with_one place key (keys_at self.old.keys map.0 map.2))) }
+        ensures items { IfOk result (λ r. Holds self.new.lists r.1 (map.2 + 1) (with_one place item (refs_at self.old.lists map.1 map.2))) }
+        ensures kept { OnErr result (self.new ≡ self.old) }
     {
-        let items = self.lists.backings()[backing as usize].items();
-        if place == count as usize && items.len() == place {
-            self.lists.push_item(backing as usize, item)?;
-            return Ok(backing);
-        }
-        let items = &items[..count as usize];
-        let more = Backing::with_item(self.keys.alloc(), items, place, item)?;
-        let new = self.lists.backings().len() as u64;
-        self.lists.push(more)?;
-        Ok(new)
-    }
-
-    // The keys in a row with one more at a place: the same row where the key comes last and no
-    // other row follows, and else a new one behind all others.
-    fn put_key(&mut self, row: u64, count: u64, place: usize, key: Part) -> Result<u64, AllocError>
-        requires inside { row + count ≤ length self.old.keys }
-        requires place { place ≤ count }
-        ensures grown { Extends self.old self.new }
-        ensures bytes { self.new.bytes ≡ self.old.bytes }
-        ensures lists { self.new.lists ≡ self.old.lists }
-        ensures keys { IfOk result (λ k. HoldsKeys self.new.keys k (count + 1) (with_one place key (keys_at self.old.keys row count))) }
-    {
+        let (row, backing, count) = map;
         let end = self.keys.len() as u64;
         if place as u64 == count && row + count == end {
-            self.keys.push(key)?;
-            return Ok(row);
+            let keys = self.keys.room(1)?;
+            let items = self.lists.put_item(backing, count, place, item)?;
+            keys.push_reserved(key);
+            return Ok((row, items));
         }
-        let more = Backing::with_item(
-            self.keys.alloc(),
-            keys(self.keys.items(), row, count),
-            place,
-            key,
-        )?;
-        self.keys.extend(more.items())?;
-        Ok(end)
+        let here = keys(self.keys.items(), row, count);
+        let more = Backing::with_item(self.keys.alloc(), here, place, key)?;
+        let keys = self.keys.room(more.len())?;
+        let items = self.lists.put_item(backing, count, place, item)?;
+        fill(keys, more.items());
+        Ok((end, items))
     }
 }

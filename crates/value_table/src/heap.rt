@@ -1,15 +1,18 @@
 //! Values as cells.
 
-ghost use Rattle.std.specs.Prelude.{◌≡◌, ◌<◌, ◌≤◌, ◌+◌, ◌^◌, [], length, vec_capacity, IfOk, OnOk};
+ghost use Rattle.std.specs.Prelude.{◌≡◌, ◌<◌, ◌≤◌, ◌+◌, ◌^◌, [], length, vec_len, vec_capacity, slice_get, Some, IfOk, OnErr};
+ghost use Rattle.std.specs.Borrow.{sem};
 ghost use Rattle.value_store.specs.Value.{int};
 ghost use Rattle.value_table.specs.Meaning.{meaning};
 ghost use Rattle.value_table.specs.Heaps.{IsCell, Adds, Found};
+ghost use Rattle.value_table.specs.Lending.{LendsCells};
 
 use crate::backing::Backing;
 use crate::backings::Backings;
 use crate::cell::Cell;
 use crate::content::Content;
 use crate::lengths::int_length;
+use crate::room::append;
 use std::alloc::{AllocError, Global};
 
 /// Values, each named by its cell's place. None ever changes.
@@ -23,7 +26,7 @@ pub(crate) struct Heap {
 }
 
 impl Heap {
-    ghost use Rattle.value_table.specs.Heap.{heap_values, IsHeap};
+    ghost use Rattle.value_table.specs.Heap.{heap_values, IsHeap, IsAsBefore};
 
     /// A heap without values.
     pub(crate) fn new(alloc: Global) -> Result<Heap, AllocError>
@@ -53,23 +56,10 @@ impl Heap {
         requires heap { IsHeap self.now }
         requires inside { place < length (heap_values self.now) }
         ensures found { Found self.now.backings (heap_values self.now) place result }
+        ensures is { slice_get self.now.cells place ≡ Some result }
         ensures short { place < 2 ^ 63 }
     {
         self.cells.items()[place as usize]
-    }
-
-    /// Makes room for one more cell.
-    pub(crate) fn reserve_cell(&mut self) -> Result<(), AllocError>
-        requires { IsHeap self.old }
-        ensures heap { IsHeap self.new }
-        ensures backings { self.new.backings ≡ self.old.backings }
-        ensures cells { self.new.cells ≡ self.old.cells }
-        ensures room { OnOk result (length self.new.cells + 1 ≤ vec_capacity self.new.same) }
-    {
-        let count = self.cells.len() + 1;
-        self.same.reserve(count.saturating_sub(self.same.len()))?;
-        self.cells.reserve(1)?;
-        Ok(())
     }
 
     /// One more cell.
@@ -79,11 +69,10 @@ impl Heap {
         ensures heap { IsHeap self.new }
         ensures backings { self.new.backings ≡ self.old.backings }
         ensures added { Adds (heap_values self.old) (meaning self.old.backings (heap_values self.old) cell.content) result (heap_values self.new) }
+        ensures kept { OnErr result (IsAsBefore self.old self.new) }
     {
-        self.reserve_cell()?;
-        let place = self.cells.len() as u64;
-        self.cells.push(cell)?;
-        Ok(place)
+        let cells = room_for_cell(&mut self.cells, &mut self.same)?;
+        Ok(append(cells, cell))
     }
 
     /// One more int.
@@ -91,6 +80,7 @@ impl Heap {
         requires { IsHeap self.old }
         ensures heap { IsHeap self.new }
         ensures added { Adds (heap_values self.old) (int n) result (heap_values self.new) }
+        ensures kept { OnErr result (IsAsBefore self.old self.new) }
     {
         self.add(Cell {
             content: Content::Int(n),
@@ -98,4 +88,21 @@ impl Heap {
             json: int_length(n),
         })
     }
+}
+
+/// The cells, with room for one more, and for its word.
+pub(crate) fn room_for_cell<'a>(
+    cells: &'a mut Backing<Cell>,
+    words: &mut Vec<u64>,
+) -> Result<&'a mut Vec<Cell>, AllocError>
+    ensures* lent { sem 𝓛 (LendsCells cells.entry result) }
+    ensures cells { IfOk result (λ v. v.now.items ≡ cells.old) }
+    ensures room { IfOk result (λ v. vec_len v.now + 1 ≤ vec_capacity v.now) }
+    ensures words { words.new.items ≡ words.old.items }
+    ensures longer { vec_capacity words.old ≤ vec_capacity words.new }
+    ensures word { IfOk result (λ _. length cells.old + 1 ≤ vec_capacity words.new) }
+{
+    let count = cells.len() + 1;
+    words.reserve(count.saturating_sub(words.len()))?;
+    cells.room(1)
 }

@@ -1,17 +1,18 @@
 //! Lists in a heap.
 
-ghost use Rattle.std.specs.Prelude.{◌≡◌, ◌<◌, length, IsSome, IfSome};
+ghost use Rattle.std.specs.Prelude.{◌≡◌, ◌<◌, length, IsSome, IfSome, OnErr};
 ghost use Rattle.value_store.specs.Value.{list, no_items};
 ghost use Rattle.value_store.specs.Calls.{push_of, join_of};
 ghost use Rattle.value_table.specs.Meaning.{value_in, list_part};
 ghost use Rattle.value_table.specs.Heaps.{Adds};
-ghost use Rattle.value_table.specs.Heap.{heap_values, IsHeap};
+ghost use Rattle.value_table.specs.Heap.{heap_values, IsHeap, IsAsBefore, SharesBacking};
 
 use crate::backing::Backing;
 use crate::cell::Cell;
 use crate::content::Content;
-use crate::heap::Heap;
+use crate::heap::{Heap, room_for_cell};
 use crate::lengths::{joined_length, pushed_length};
+use crate::room::append;
 use std::alloc::AllocError;
 
 impl Heap {
@@ -20,14 +21,17 @@ impl Heap {
         requires { IsHeap self.old }
         ensures heap { IsHeap self.new }
         ensures added { Adds (heap_values self.old) (list no_items) result (heap_values self.new) }
+        ensures kept { OnErr result (IsAsBefore self.old self.new) }
     {
         let items = Backing::new(self.cells.alloc())?;
+        let cells = room_for_cell(&mut self.cells, &mut self.same)?;
         let backing = self.backings.add_items(items)?;
-        self.add(Cell {
+        let cell = Cell {
             content: Content::List(backing, 0),
             depth: 1,
             json: 2,
-        })
+        };
+        Ok(append(cells, cell))
     }
 
     /// The list at `l` with the value at `x` behind its last item.
@@ -38,6 +42,8 @@ impl Heap {
         requires kinds { IsSome (push_of (value_in (heap_values self.old) l) (value_in (heap_values self.old) x)) }
         ensures heap { IsHeap self.new }
         ensures added { IfSome (push_of (value_in (heap_values self.old) l) (value_in (heap_values self.old) x)) (λ v. Adds (heap_values self.old) v result (heap_values self.new)) }
+        ensures shared { SharesBacking self.old l result self.new }
+        ensures kept { OnErr result (IsAsBefore self.old self.new) }
     {
         let list = self.cell(l);
         let item = self.cell(x);
@@ -46,12 +52,14 @@ impl Heap {
         };
         let depth = list.depth.max(item.depth.saturating_add(1));
         let json = pushed_length(list.json, count, item.json);
+        let cells = room_for_cell(&mut self.cells, &mut self.same)?;
         let pushed = self.backings.push_item(backing, count, x)?;
-        self.add(Cell {
+        let cell = Cell {
             content: Content::List(pushed, count + 1),
             depth,
             json,
-        })
+        };
+        Ok(append(cells, cell))
     }
 
     /// The items of the list at `a` and then those of the list at `b`.
@@ -62,6 +70,7 @@ impl Heap {
         requires lists { IsSome (list_part (value_in (heap_values self.old) a)) × IsSome (list_part (value_in (heap_values self.old) b)) }
         ensures heap { IsHeap self.new }
         ensures added { IfSome (join_of (value_in (heap_values self.old) a) (value_in (heap_values self.old) b)) (λ v. Adds (heap_values self.old) v result (heap_values self.new)) }
+        ensures kept { OnErr result (IsAsBefore self.old self.new) }
     {
         let first = self.cell(a);
         let second = self.cell(b);
@@ -72,11 +81,13 @@ impl Heap {
             unreachable!();
         };
         let json = joined_length(first.json, count, second.json, more);
+        let cells = room_for_cell(&mut self.cells, &mut self.same)?;
         let joined = self.backings.join_items((backing, count), (other, more))?;
-        self.add(Cell {
+        let cell = Cell {
             content: Content::List(joined, count + more),
             depth: first.depth.max(second.depth),
             json,
-        })
+        };
+        Ok(append(cells, cell))
     }
 }

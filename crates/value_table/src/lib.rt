@@ -17,6 +17,7 @@ mod lookup;
 mod order;
 mod part;
 mod references;
+mod room;
 mod roots;
 mod search;
 mod seeing;

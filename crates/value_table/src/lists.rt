@@ -1,6 +1,10 @@
 //! Backings of lists.
 
-ghost use Rattle.std.specs.Prelude.{◌≡◌, ◌<◌, [], ◌∷◌, ◌++◌, length, IfOk, OnOk, OnErr, slice_index_or, slice_set};
+ghost use Rattle.std.specs.Prelude.{◌≡◌, ◌<◌, ◌≤◌, ◌+◌, [], ◌∷◌, ◌++◌, length, IfOk, OnOk, OnErr, slice_index_or, slice_set};
+ghost use Rattle.value_table.specs.Meaning.{refs_at};
+ghost use Rattle.value_table.specs.Heaps.{Extends, Holds};
+ghost use Rattle.value_table.specs.Entries.{with_one};
+ghost use Rattle.value_table.specs.declared.backings.Backings.{Backings};
 
 use crate::backing::Backing;
 use std::alloc::{AllocError, Global};
@@ -66,6 +70,34 @@ impl Lists {
         let backings = Rc::make_mut(&mut self.backings)?;
         extend_at(backings, backing, items)?;
         Ok(())
+    }
+
+    /// A backing that has the first items of another, and one more at a place: the same one where
+    /// it ends there, and else a new one.
+    pub(crate) fn put_item(
+        &mut self,
+        backing: u64,
+        count: u64,
+        place: usize,
+        item: u64,
+    ) -> Result<u64, AllocError>
+        requires inside { backing < length self.old }
+        requires long { count ≤ length (slice_index_or self.old backing []) }
+        requires place { place ≤ count }
+        ensures grown { (bs : Backings) → bs.lists ≡ self.old → Extends bs (record bs { lists = self.new }) }
+        ensures items { IfOk result (λ b. Holds self.new b (count + 1) (with_one place item (refs_at self.old backing count))) }
+        ensures kept { OnErr result (self.new ≡ self.old) }
+    {
+        let items = self.backings()[backing as usize].items();
+        if place == count as usize && items.len() == place {
+            self.push_item(backing as usize, item)?;
+            return Ok(backing);
+        }
+        let items = &items[..count as usize];
+        let more = Backing::with_item(*self.backings.allocator(), items, place, item)?;
+        let new = self.backings().len() as u64;
+        self.push(more)?;
+        Ok(new)
     }
 }
 

@@ -1,6 +1,6 @@
 //! Values by reference.
 
-ghost use Rattle.std.specs.Prelude.{◌≡◌, ◌<◌, ◌^◌, length, slice_get, option_map, Option, Some, IsSome, IfSome, IfOk, string_bytes};
+ghost use Rattle.std.specs.Prelude.{◌≡◌, ◌<◌, ◌^◌, length, slice_get, option_map, Option, Some, IsSome, IfSome, IfOk, OnErr, string_bytes};
 ghost use Rattle.value_store.specs.Value.{int, text, list, map, no_items, no_entries};
 ghost use Rattle.value_store.specs.Json.{shown_text};
 ghost use Rattle.value_store.specs.Seen.{seen, shown, seen_size};
@@ -26,7 +26,7 @@ pub(crate) struct References {
 }
 
 impl References {
-    ghost use Rattle.value_table.specs.References.{reference_values, place_at, AreReferences, IsPlace, Names};
+    ghost use Rattle.value_table.specs.References.{reference_values, place_at, AreReferences, AreAsBefore, IsPlace, Names, SharesItems};
 
     /// How many there are.
     pub(crate) fn count(&self) -> u64
@@ -54,20 +54,10 @@ impl References {
     pub(crate) fn place(&self, h: u64) -> u64
         requires sound { AreReferences self.now }
         requires value { IsSome (value_at (slice_get (reference_values self.now) h)) }
-        ensures { IsPlace self.now h result }
+        ensures found { IsPlace self.now h result }
+        ensures is { place_at self.now.places h ≡ Some result }
     {
         self.place_of(h).unwrap()
-    }
-
-    /// Makes room for one more reference and one more cell.
-    pub(crate) fn reserve(&mut self) -> Result<(), AllocError>
-        requires { AreReferences self.old }
-        ensures sound { AreReferences self.new }
-        ensures values { reference_values self.new ≡ reference_values self.old }
-    {
-        self.heap.reserve_cell()?;
-        self.places.reserve(1)?;
-        Ok(())
     }
 
     /// One more reference, to the cell at a place.
@@ -76,6 +66,7 @@ impl References {
         requires inside { place < length (heap_values self.old.heap) }
         ensures sound { AreReferences self.new }
         ensures named { Names (reference_values self.old) (value_in (heap_values self.old.heap) place) result (reference_values self.new) }
+        ensures kept { OnErr result (AreAsBefore self.old self.new) }
     {
         let reference = self.places.len() as u64 + 1;
         self.places.push(place)?;
@@ -87,10 +78,13 @@ impl References {
         requires { AreReferences self.old }
         ensures sound { AreReferences self.new }
         ensures placed { Places (reference_values self.old) (text s.now) result (reference_values self.new) }
+        ensures kept { OnErr result (AreAsBefore self.old self.new) }
     {
-        self.reserve()?;
+        let reference = self.count();
+        let places = self.places.room(1)?;
         let place = self.heap.add_text(s)?;
-        self.name(place)
+        places.push_reserved(place);
+        Ok(reference)
     }
 
     /// Equal references of its own.
@@ -109,10 +103,13 @@ impl References {
         requires { AreReferences self.old }
         ensures sound { AreReferences self.new }
         ensures placed { Places (reference_values self.old) (map no_entries) result (reference_values self.new) }
+        ensures kept { OnErr result (AreAsBefore self.old self.new) }
     {
-        self.reserve()?;
+        let reference = self.count();
+        let places = self.places.room(1)?;
         let place = self.heap.new_map()?;
-        self.name(place)
+        places.push_reserved(place);
+        Ok(reference)
     }
 
     /// Places the map `m` with the text `k`, which is not yet one of its keys, at the value `x`.
@@ -121,13 +118,16 @@ impl References {
         requires kinds { IsSome (put_in (slice_get (reference_values self.old) m) (slice_get (reference_values self.old) k) (slice_get (reference_values self.old) x)) }
         ensures sound { AreReferences self.new }
         ensures placed { IfSome (put_in (slice_get (reference_values self.old) m) (slice_get (reference_values self.old) k) (slice_get (reference_values self.old) x)) (λ v. Places (reference_values self.old) v result (reference_values self.new)) }
+        ensures kept { OnErr result (AreAsBefore self.old self.new) }
     {
-        self.reserve()?;
         let map = self.place(m);
         let key = self.place(k);
         let value = self.place(x);
+        let reference = self.count();
+        let places = self.places.room(1)?;
         let place = self.heap.put(map, key, value)?;
-        self.name(place)
+        places.push_reserved(place);
+        Ok(reference)
     }
 
     /// Places the list at `l` with the value at `x` behind its last item.
@@ -136,12 +136,16 @@ impl References {
         requires kinds { IsSome (pushed (slice_get (reference_values self.old) l) (slice_get (reference_values self.old) x)) }
         ensures sound { AreReferences self.new }
         ensures placed { IfSome (pushed (slice_get (reference_values self.old) l) (slice_get (reference_values self.old) x)) (λ v. Places (reference_values self.old) v result (reference_values self.new)) }
+        ensures shared { SharesItems self.old l result self.new }
+        ensures kept { OnErr result (AreAsBefore self.old self.new) }
     {
-        self.reserve()?;
         let list = self.place(l);
         let item = self.place(x);
+        let reference = self.count();
+        let places = self.places.room(1)?;
         let place = self.heap.push(list, item)?;
-        self.name(place)
+        places.push_reserved(place);
+        Ok(reference)
     }
 
     /// Places the int.
@@ -149,10 +153,13 @@ impl References {
         requires { AreReferences self.old }
         ensures sound { AreReferences self.new }
         ensures placed { Places (reference_values self.old) (int n) result (reference_values self.new) }
+        ensures kept { OnErr result (AreAsBefore self.old self.new) }
     {
-        self.reserve()?;
+        let reference = self.count();
+        let places = self.places.room(1)?;
         let place = self.heap.add_int(n)?;
-        self.name(place)
+        places.push_reserved(place);
+        Ok(reference)
     }
 
     /// Places an empty list.
@@ -160,10 +167,13 @@ impl References {
         requires { AreReferences self.old }
         ensures sound { AreReferences self.new }
         ensures placed { Places (reference_values self.old) (list no_items) result (reference_values self.new) }
+        ensures kept { OnErr result (AreAsBefore self.old self.new) }
     {
-        self.reserve()?;
+        let reference = self.count();
+        let places = self.places.room(1)?;
         let place = self.heap.new_list()?;
-        self.name(place)
+        places.push_reserved(place);
+        Ok(reference)
     }
 
     /// Places the text, or the list, that is `a` followed by `b`.
@@ -172,12 +182,15 @@ impl References {
         requires kinds { IsSome (joined (slice_get (reference_values self.old) a) (slice_get (reference_values self.old) b)) }
         ensures sound { AreReferences self.new }
         ensures placed { IfSome (joined (slice_get (reference_values self.old) a) (slice_get (reference_values self.old) b)) (λ v. Places (reference_values self.old) v result (reference_values self.new)) }
+        ensures kept { OnErr result (AreAsBefore self.old self.new) }
     {
-        self.reserve()?;
         let first = self.place(a);
         let second = self.place(b);
+        let reference = self.count();
+        let places = self.places.room(1)?;
         let place = self.heap.join(first, second)?;
-        self.name(place)
+        places.push_reserved(place);
+        Ok(reference)
     }
 
     /// Places the key of a map's i-th entry.
@@ -186,12 +199,15 @@ impl References {
         requires key { IsSome (key_at (slice_get (reference_values self.old) h) i) }
         ensures sound { AreReferences self.new }
         ensures placed { IfSome (key_at (slice_get (reference_values self.old) h) i) (λ v. Places (reference_values self.old) v result (reference_values self.new)) }
+        ensures kept { OnErr result (AreAsBefore self.old self.new) }
     {
-        self.reserve()?;
         let map = self.place(h);
         let key = self.heap.key(map, i);
+        let reference = self.count();
+        let places = self.places.room(1)?;
         let place = self.heap.add_part(key)?;
-        self.name(place)
+        places.push_reserved(place);
+        Ok(reference)
     }
 
     /// What is seen at a reference, if it is one.
@@ -295,6 +311,7 @@ impl References {
         requires part { IsSome (part_at (slice_get (reference_values self.old) h) i) }
         ensures sound { AreReferences self.new }
         ensures placed { IfSome (part_at (slice_get (reference_values self.old) h) i) (λ v. Places (reference_values self.old) v result (reference_values self.new)) }
+        ensures kept { OnErr result (AreAsBefore self.old self.new) }
     {
         let whole = self.place(h);
         let part = self.heap.part(whole, i);

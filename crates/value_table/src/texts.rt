@@ -1,17 +1,21 @@
 //! Texts in a heap.
 
-ghost use Rattle.std.specs.Prelude.{◌<◌, ◌++◌, length, IsSome, IfSome};
-ghost use Rattle.value_store.specs.Value.{text};
+ghost use Rattle.std.specs.Prelude.{◌≡◌, ◌<◌, ◌++◌, List, length, IsSome, IfSome, OnErr};
+ghost use Rattle.value_store.specs.Value.{Value, text};
 ghost use Rattle.value_store.specs.Calls.{join_of};
 ghost use Rattle.value_table.specs.Meaning.{part_of, value_in};
-ghost use Rattle.value_table.specs.Heaps.{Adds, IsText};
-ghost use Rattle.value_table.specs.Heap.{heap_values, IsHeap};
+ghost use Rattle.value_table.specs.Heaps.{Adds, IsCell, IsText};
+ghost use Rattle.value_table.specs.Heap.{heap_values, IsHeap, IsAsBefore};
+ghost use Rattle.value_table.specs.declared.content.Content.TheVariants as cell;
 
+use crate::backings::Backings;
 use crate::cell::Cell;
 use crate::content::Content;
-use crate::heap::Heap;
+use crate::heap::{Heap, room_for_cell};
 use crate::lengths::quoted_length;
 use crate::part::Part;
+use crate::room::append;
+use crate::text::text;
 use std::alloc::AllocError;
 
 impl Heap {
@@ -20,9 +24,11 @@ impl Heap {
         requires { IsHeap self.old }
         ensures heap { IsHeap self.new }
         ensures added { Adds (heap_values self.old) (text s.now) result (heap_values self.new) }
+        ensures kept { OnErr result (IsAsBefore self.old self.new) }
     {
+        let cells = room_for_cell(&mut self.cells, &mut self.same)?;
         let part = self.backings.add_text(s.as_bytes())?;
-        self.add_part(part)
+        Ok(append(cells, text_cell(&self.backings, part)))
     }
 
     /// One more text, which is one behind another.
@@ -32,9 +38,11 @@ impl Heap {
         requires second { IsText self.old.backings.bytes second }
         ensures heap { IsHeap self.new }
         ensures added { Adds (heap_values self.old) (text (part_of self.old.backings.bytes first ++ part_of self.old.backings.bytes second)) result (heap_values self.new) }
+        ensures kept { OnErr result (IsAsBefore self.old self.new) }
     {
+        let cells = room_for_cell(&mut self.cells, &mut self.same)?;
         let part = self.backings.join_texts(first, second)?;
-        self.add_part(part)
+        Ok(append(cells, text_cell(&self.backings, part)))
     }
 
     /// The text at `a`, or the list, and that at `b` behind it.
@@ -45,6 +53,7 @@ impl Heap {
         requires kinds { IsSome (join_of (value_in (heap_values self.old) a) (value_in (heap_values self.old) b)) }
         ensures heap { IsHeap self.new }
         ensures added { IfSome (join_of (value_in (heap_values self.old) a) (value_in (heap_values self.old) b)) (λ v. Adds (heap_values self.old) v result (heap_values self.new)) }
+        ensures kept { OnErr result (IsAsBefore self.old self.new) }
     {
         let first = self.cell(a);
         let second = self.cell(b);
@@ -63,13 +72,23 @@ impl Heap {
         requires part { IsText self.old.backings.bytes part }
         ensures heap { IsHeap self.new }
         ensures added { Adds (heap_values self.old) (text (part_of self.old.backings.bytes part)) result (heap_values self.new) }
+        ensures kept { OnErr result (IsAsBefore self.old self.new) }
     {
-        let bytes = &self.backings.bytes.items()[part.from as usize..part.to as usize];
-        let json = quoted_length(bytes);
-        self.add(Cell {
-            content: Content::Text(part),
-            depth: 0,
-            json,
-        })
+        let cell = text_cell(&self.backings, part);
+        self.add(cell)
+    }
+}
+
+// The cell of a text.
+fn text_cell(backings: &Backings, part: Part) -> Cell
+    requires { IsText backings.now.bytes part }
+    ensures cell { (vs : List Value) → IsCell backings.now vs result }
+    ensures content { result.content ≡ cell.Text part }
+{
+    let json = quoted_length(text(backings.bytes.items(), part));
+    Cell {
+        content: Content::Text(part),
+        depth: 0,
+        json,
     }
 }

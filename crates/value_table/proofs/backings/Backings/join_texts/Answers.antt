@@ -1,9 +1,16 @@
-use Rattle.std.proofs.Common.{◌∙◌, ◌++◌, ap}
+use Rattle.std.proofs.Common.{◌∙◌, ◌++◌, ap, append_assoc}
 use Rattle.value_table.specs.Meaning.{part_of}
-use Rattle.value_table.proofs.Backed.{texts_joined}
+use Rattle.value_table.proofs.Backed.{bytes_more, texts_joined}
 use Rattle.value_table.proofs.backings.Backings.join_texts.Goals as goal
+
+pub returns-clause-grown : goal.returns-clause-grown
+returns-clause-grown c =
+    let bs = c.args.self.now.bytes in
+    let ms = c.repeat.new.items.items in
+    let first = c.repeat.ensures.items ∙ ap (λ bytes. bytes ++ part_of bytes c.args.first) c.in_ok-bytes.ensures.items in
+    bytes_more c.args.self.now _ _ (c.repeat-2.ensures.items ∙ ap (λ bytes. bytes ++ part_of ms c.args.second) first ∙ append_assoc bs (part_of bs c.args.first) (part_of ms c.args.second))
 
 pub returns-clause-part : goal.returns-clause-part
 returns-clause-part c =
-    let first = c.in_ok-extend_within.ensures.ok ∙ ap (λ bytes. bytes ++ part_of bytes c.args.first) c.reserve.ensures in
-    texts_joined _ _ _ c.args.first c.args.second _ _ c.requires.first c.requires.second first c.in_ok-extend_within-2.ensures.ok c.len-from.ensures.count c.len-to.ensures.count
+    let first = c.repeat.ensures.items ∙ ap (λ bytes. bytes ++ part_of bytes c.args.first) c.in_ok-bytes.ensures.items in
+    texts_joined _ _ _ c.args.first c.args.second _ _ c.requires.first c.requires.second first c.repeat-2.ensures.items c.len-from.ensures.count c.len-to.ensures.count

@@ -32,3 +32,10 @@ returns-clause-short c =
     let h = c.requires.inside in
     let s = c.items.ensures.short in
     omega (arith, n, l, h, s)
+
+pub returns-clause-is : goal.returns-clause-is
+returns-clause-is c =
+    let n = count_values c.args.self.now.backings c.args.self.now.cells in
+    let h = c.requires.inside in
+    let l = ap length c.items.ensures.value in
+    ap (λ xs. slice_get xs c.args.place) (sym c.items.ensures.value) ∙ slice_get-get_or c.items.result.now c.args.place _ (omega (arith, n, l, h))

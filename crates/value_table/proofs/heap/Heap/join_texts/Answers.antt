@@ -1,19 +1,16 @@
-use Rattle.std.proofs.Common.{[]}
-use Rattle.value_table.proofs.Growth.{grown_kept}
-use Rattle.value_table.proofs.Adding.{backings_grown}
-use Rattle.value_table.proofs.Listed.{nothing_added, text_added}
+use Rattle.std.proofs.Common.{◌∙◌, ap, [], ◌∷◌, ◌++◌}
+use Rattle.value_store.specs.Value.{text}
+use Rattle.value_table.specs.Meaning.{meaning}
+use Rattle.value_table.specs.Heap.{heap_values}
+use Rattle.value_table.proofs.Adding.{heap_put, put_adds}
 use Rattle.value_table.proofs.heap.Heap.join_texts.Goals as goal
 
-pub returns-in_err-part-clause-heap : goal.returns-in_err-part-clause-heap
-returns-in_err-part-clause-heap c = backings_grown c.args.self.now c.join_texts.new.self c.requires.heap c.join_texts.ensures.grown
-
-pub returns-in_err-part-clause-added : goal.returns-in_err-part-clause-added
-returns-in_err-part-clause-added c =
-    nothing_added _ _ _ c.from_residual.result c.from_residual.ensures.0 (grown_kept _ c.join_texts.new.self [] c.args.self.now.cells c.join_texts.ensures.grown c.requires.heap.cells)
-
-pub add_part-requires-clause-heap : goal.add_part-requires-clause-heap
-add_part-requires-clause-heap c = backings_grown c.args.self.now c.join_texts.new.self c.requires.heap c.join_texts.ensures.grown
+pub returns-clause-heap : goal.returns-clause-heap
+returns-clause-heap c =
+    heap_put c.args.self.now _ _ _ c.requires.heap c.join_texts.ensures.grown c.room_for_cell.ensures.words c.in_ok-cells.ensures.word c.in_ok-cells.ensures.cells c.append.ensures.items (c.text_cell.ensures.cell _)
 
 pub returns-clause-added : goal.returns-clause-added
 returns-clause-added c =
-    text_added _ _ _ _ _ c.add_part.result c.in_ok-part.ensures.part.1 (grown_kept _ c.join_texts.new.self [] c.args.self.now.cells c.join_texts.ensures.grown c.requires.heap.cells) c.add_part.ensures.added
+    let a = put_adds c.args.self.now _ _ _ _ c.append.result c.requires.heap c.join_texts.ensures.grown c.in_ok-cells.ensures.cells c.append.ensures.items c.append.ensures.place in
+    let e = ap (meaning c.join_texts.new.self (heap_values c.args.self.now)) c.text_cell.ensures.content ∙ ap text (c.in_ok-part.ensures.part.1) in
+    (a.0, a.1 ∙ ap (λ v. heap_values c.args.self.now ++ v ∷ []) e)

@@ -1,19 +1,10 @@
-use Rattle.std.proofs.Common.{[]}
-use Rattle.value_table.proofs.Growth.{grown_kept}
-use Rattle.value_table.proofs.Adding.{backings_grown}
-use Rattle.value_table.proofs.Listed.{nothing_added, list_added}
+use Rattle.value_table.proofs.Adding.{heap_put, put_adds}
+use Rattle.value_table.proofs.Listed.{list_new}
 use Rattle.value_table.proofs.heap.Heap.new_list.Goals as goal
 
-pub returns-in_err-backing-clause-heap : goal.returns-in_err-backing-clause-heap
-returns-in_err-backing-clause-heap c = backings_grown c.args.self.now c.add_items.new.self c.requires c.add_items.ensures.grown
-
-pub returns-in_err-backing-clause-added : goal.returns-in_err-backing-clause-added
-returns-in_err-backing-clause-added c =
-    nothing_added _ _ _ c.from_residual-in_err-backing.result c.from_residual-in_err-backing.ensures.0 (grown_kept _ c.add_items.new.self [] c.args.self.now.cells c.add_items.ensures.grown c.requires.cells)
-
-pub add-requires-clause-heap : goal.add-requires-clause-heap
-add-requires-clause-heap c = backings_grown c.args.self.now c.add_items.new.self c.requires c.add_items.ensures.grown
+pub returns-clause-heap : goal.returns-clause-heap
+returns-clause-heap c =
+    heap_put c.args.self.now _ _ _ c.requires c.add_items.ensures.grown c.room_for_cell.ensures.words c.in_ok-cells.ensures.word c.in_ok-cells.ensures.cells c.append.ensures.items (list_new c.add_items.new.self _ c.in_ok-backing.backing _ _ c.in_ok-backing.ensures.items)
 
 pub returns-clause-added : goal.returns-clause-added
-returns-clause-added c =
-    list_added c.add_items.new.self _ _ _ c.in_ok-backing.backing c.add.result (grown_kept _ c.add_items.new.self [] c.args.self.now.cells c.add_items.ensures.grown c.requires.cells) c.add.ensures.added
+returns-clause-added c = put_adds c.args.self.now _ _ _ _ c.append.result c.requires c.add_items.ensures.grown c.in_ok-cells.ensures.cells c.append.ensures.items c.append.ensures.place

@@ -1,17 +1,22 @@
-use Rattle.std.proofs.Common.{◌∙◌}
+use Rattle.std.proofs.Common.{refl, Ok}
+use Rattle.value_table.specs.Meaning.{value_in}
 use Rattle.value_table.specs.Heap.{heap_values}
-use Rattle.value_table.specs.References.{reference_values}
-use Rattle.value_table.proofs.Named.{grows_due, due_placed, joined_is, join_appends, placed_as, is_due}
+use Rattle.value_table.specs.References.{named, reference_values}
+use Rattle.value_store.specs.Calls.{join_of}
+use Rattle.value_table.proofs.Named.{sound_put, placed_put, joined_is, join_appends, placed_as, is_due}
 use Rattle.value_table.proofs.references.References.join.Goals as goal
 
-pub name-requires-clause-sound : goal.name-requires-clause-sound
-name-requires-clause-sound c =
-    let same = joined_is c.reserve.new.self _ c.args.a c.args.b _ _ c.reserve.ensures.values c.place-first.ensures c.place-second.ensures in
-    (grows_due c.reserve.new.self c.join.new.self _ c.join.result c.reserve.ensures.sound c.join.ensures.heap (is_due _ _ same c.requires.kinds) c.join.ensures.added).sound
+pub returns-clause-sound : goal.returns-clause-sound
+returns-clause-sound c =
+    let vs = heap_values c.args.self.now.heap in
+    let due = join_of (value_in vs c.place-first.result) (value_in vs c.place-second.result) in
+    let same = joined_is c.args.self.now _ c.args.a c.args.b _ _ refl c.place-first.ensures.found c.place-second.ensures.found in
+    sound_put c.args.self.now c.join.new.self _ _ due c.in_ok-place.place c.requires.sound c.join.ensures.heap (is_due _ due same c.requires.kinds) c.in_ok-place.ensures.added c.in_ok-places.ensures.items c.push_reserved.ensures.items
 
 pub returns-clause-placed : goal.returns-clause-placed
 returns-clause-placed c =
-    let same = joined_is c.reserve.new.self _ c.args.a c.args.b _ _ c.reserve.ensures.values c.place-first.ensures c.place-second.ensures in
-    let grows = grows_due c.reserve.new.self c.join.new.self _ c.join.result c.reserve.ensures.sound c.join.ensures.heap (is_due _ _ same c.requires.kinds) c.join.ensures.added in
-    placed_as _ _ (reference_values c.args.self.now) (reference_values c.name.new.self) c.name.result same
-    (due_placed _ _ _ (heap_values c.reserve.new.self.heap) (heap_values c.join.new.self) _ c.in_ok-place.place c.name.result (join_appends _ _) (grows.values ∙ c.reserve.ensures.values) c.in_ok-place.ensures.added c.name.ensures.named)
+    let vs = heap_values c.args.self.now.heap in
+    let due = join_of (value_in vs c.place-first.result) (value_in vs c.place-second.result) in
+    let same = joined_is c.args.self.now _ c.args.a c.args.b _ _ refl c.place-first.ensures.found c.place-second.ensures.found in
+    placed_as _ due (reference_values c.args.self.now) (named (heap_values c.join.new.self) c.push_reserved.new.self.items) (Ok c.count-reference.result) same
+    (placed_put c.args.self.now c.join.new.self _ _ due c.in_ok-place.place c.count-reference.result c.requires.sound c.join.ensures.heap (is_due _ due same c.requires.kinds) c.in_ok-place.ensures.added c.in_ok-places.ensures.items c.push_reserved.ensures.items c.count-reference.ensures.count (join_appends (value_in vs c.place-first.result) (value_in vs c.place-second.result)))

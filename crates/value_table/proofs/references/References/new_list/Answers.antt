@@ -1,13 +1,10 @@
-use Rattle.std.proofs.Common.{◌∙◌, refl}
+use Rattle.std.proofs.Common.{refl, Some}
 use Rattle.value_store.specs.Value.{list, no_items}
-use Rattle.value_table.specs.Heap.{heap_values}
-use Rattle.value_table.proofs.Named.{grows_added, value_placed}
+use Rattle.value_table.proofs.Named.{sound_put, placed_put}
 use Rattle.value_table.proofs.references.References.new_list.Goals as goal
 
-pub name-requires-clause-sound : goal.name-requires-clause-sound
-name-requires-clause-sound c = (grows_added c.reserve.new.self c.new_list.new.self (list no_items) c.new_list.result c.reserve.ensures.sound c.new_list.ensures.heap c.new_list.ensures.added).sound
+pub returns-clause-sound : goal.returns-clause-sound
+returns-clause-sound c = sound_put c.args.self.now c.new_list.new.self _ _ (Some (list no_items)) c.in_ok-place.place c.requires c.new_list.ensures.heap refl c.in_ok-place.ensures.added c.in_ok-places.ensures.items c.push_reserved.ensures.items
 
 pub returns-clause-placed : goal.returns-clause-placed
-returns-clause-placed c =
-    let grows = grows_added c.reserve.new.self c.new_list.new.self (list no_items) c.new_list.result c.reserve.ensures.sound c.new_list.ensures.heap c.new_list.ensures.added in
-    value_placed _ _ _ (heap_values c.reserve.new.self.heap) (heap_values c.new_list.new.self) (list no_items) c.in_ok-place.place c.name.result refl (grows.values ∙ c.reserve.ensures.values) c.in_ok-place.ensures.added c.name.ensures.named
+returns-clause-placed c = placed_put c.args.self.now c.new_list.new.self _ _ (Some (list no_items)) c.in_ok-place.place c.count-reference.result c.requires c.new_list.ensures.heap refl c.in_ok-place.ensures.added c.in_ok-places.ensures.items c.push_reserved.ensures.items c.count-reference.ensures.count refl

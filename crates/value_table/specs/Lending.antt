@@ -1,0 +1,32 @@
+-- What a vector that is lent leaves behind.
+use Rattle.std.specs.Prelude.{◌≡◌, List, Result}
+use Rattle.std.specs.Borrow.{Fml, RattleType, MutBor, LendsIfOk, LendsSoOk}
+use Rattle.std.specs.contracts.alloc.Global as global
+use Rattle.std.specs.contracts.vec.Vec as vec
+use Rattle.std.specs.contracts.rc.Rc as rc
+use Rattle.std.specs.contracts.impls.GlobalAllocator.TheImpl.{ghosts}
+use Rattle.value_table.specs.contracts.backing.Backing.{the_row}
+use Rattle.value_table.specs.contracts.cell.Cell as cell
+use Rattle.value_table.specs.declared.cell.Cell.{Cell}
+
+module _ (T : RattleType) where
+  abbrev pub vec_row : RattleType
+  vec_row = vec.the_row T global.the_row ghosts
+
+  abbrev pub rc_row : RattleType
+  rc_row = rc.the_row vec_row global.the_row ghosts
+
+  -- the backing ends with the last items of the vector, and after an error it is as it was
+  abbrev pub LendsItems : {E : Type 0} → MutBor (List T.Denot) → Result (MutBor vec_row.Denot) E → Fml
+  LendsItems b r = LendsIfOk (the_row T) vec_row b r (λ v. v.items) b.now
+
+  -- the same of an `Rc`
+  abbrev pub LendsOwned : {E : Type 0} → MutBor rc_row.Denot → Result (MutBor vec_row.Denot) E → Fml
+  LendsOwned b r = LendsSoOk rc_row vec_row b r (λ n v. n.value ≡ v) (λ n. n.value.items ≡ b.now.value.items)
+
+abbrev pub cells_row : RattleType
+cells_row = vec_row cell.the_row
+
+-- the same of the cells of a heap
+abbrev pub LendsCells : {E : Type 0} → MutBor (List Cell) → Result (MutBor cells_row.Denot) E → Fml
+LendsCells b r = LendsItems cell.the_row b r

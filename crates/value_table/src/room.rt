@@ -1,0 +1,39 @@
+//! Growing in room that is there.
+
+ghost use Rattle.std.specs.Prelude.{◌≡◌, ◌≤◌, ◌<◌, ◌+◌, ◌-◌, [], ◌∷◌, ◌++◌, length, vec_len, vec_capacity, slice_range};
+
+/// Puts an item behind the last, and answers its place.
+pub(crate) fn append<T: Copy>(items: &mut Vec<T>, item: T) -> u64
+    requires { vec_len items.old < vec_capacity items.old }
+    ensures items { items.new.items ≡ items.old.items ++ item ∷ [] }
+    ensures place { result ≡ length items.old.items }
+{
+    let place = items.len() as u64;
+    items.push_reserved(item);
+    place
+}
+
+/// Puts items behind the last.
+pub(crate) fn fill<T: Copy>(items: &mut Vec<T>, more: &[T])
+    requires { vec_len items.old + length more.now ≤ vec_capacity items.old }
+    ensures { items.new.items ≡ items.old.items ++ more.now }
+{
+    let Ok(()) = items.extend_from_slice(more) else {
+        unreachable!();
+    };
+}
+
+/// Repeats the items of a part behind the last.
+pub(crate) fn repeat<T: Copy>(items: &mut Vec<T>, from: usize, to: usize)
+    requires order { from ≤ to }
+    requires inside { to ≤ length items.old.items }
+    requires room { vec_len items.old + (to - from) ≤ vec_capacity items.old }
+    ensures items { items.new.items ≡ items.old.items ++ slice_range items.old.items from to }
+    ensures len { vec_len items.new ≡ vec_len items.old + (to - from) }
+    ensures capacity { vec_capacity items.new ≡ vec_capacity items.old }
+{
+    for place in from..to {
+        let item = items[place];
+        items.push_reserved(item);
+    }
+}
