@@ -1,15 +1,16 @@
 -- What an emitter's code does once an expression or a variable is added.
 use Rattle.std.proofs.Common.{◌≡◌, ℕ, ◌+◌, ◌*◌, ◌≤◌, Bool, true, false, List, [], ◌∷◌, ◌++◌, length, length-append, suc, refl, sym, ap, ◌∙◌, subst, arith, leb-false, leb-true, if◌then◌else◌}
 use Rattle.std.specs.Prelude.{All}
+use Rattle.std.specs.Prelude.{map as each}
 use Rattle.std.proofs.lemmas.List.{length-map}
 use Rattle.insn_codec.specs.declared.insn.Insn.{Insn}
 use Rattle.value_store.specs.Value.{Value}
 use Rattle.cel_macros.specs.CoreTree.{CoreTree, plain_tree}
-use Rattle.cel_measures.specs.Measures.{depth, need, nodes}
+use Rattle.cel_measures.specs.Measures.{deepest, depth, need, nodes}
 use Rattle.cel_types.specs.Declarations.{Declaration, declared, depths_of}
 use Rattle.codegen_base.specs.Instructions.{skip}
 use Rattle.codegen_base.specs.Pieces.{AreInsns, Stands, size, slots}
-use Rattle.codegen_base.specs.Scopes.{HasRoutine, Returns, Variable}
+use Rattle.codegen_base.specs.Scopes.{Returns, Variable, first_use}
 use Rattle.codegen_base.specs.Variables.{memo_tail}
 use Rattle.codegen_base.proofs.Insns.{insns_append, memo_insns}
 use Rattle.codegen_base.proofs.Pieces.{size-append, size-cons, stands_rest}
@@ -17,14 +18,15 @@ use Rattle.codegen_base.proofs.Returns.{routine_returns}
 use Rattle.codegen_base.proofs.Runs.{looser, to_place}
 use Rattle.codegen.specs.Added.{code_at, has_room, passed, with_counted, with_expression, with_variable}
 use Rattle.codegen.specs.Code.Expressions.{code_of, routine_code, texts_of}
-use Rattle.codegen.specs.Computes.{environment_in, nestings}
+use Rattle.codegen.specs.Computes.{Computes, environment_in}
 use Rattle.codegen.specs.Constants.{with_texts}
 use Rattle.codegen.specs.Cost.{spent_by}
-use Rattle.codegen.specs.Emission.{AreConstants, EmitsExpression, EmitsVariable, HasRoutines, Running, Suits, caller_context, cost_in, meaning_in, next_routine, next_variable, setting}
+use Rattle.codegen.specs.Emission.{AreConstants, EmitsExpression, EmitsVariable, HasRoutines, Running, Suits, caller_context, context, cost_in, meaning_in, next_routine, next_variable, setting}
 use Rattle.codegen.specs.Emitted.{Emitted, with_piece}
 use Rattle.codegen.specs.HasLiterals.{HasLiterals}
 use Rattle.codegen.specs.Layer.{AreTaken, HasConstants, IsExpression}
 use Rattle.codegen.specs.Surroundings.{routines_of}
+use Rattle.codegen.proofs.Before.{code_before}
 use Rattle.codegen.proofs.CodeInsns.{AreLow, AreNear, code_insns, near_named, stand_short}
 use Rattle.codegen.proofs.Computed.{visited}
 use Rattle.codegen.proofs.Layer.{expression_gives, known_stand, routines_are, variable_is_taken, variable_joins}
@@ -42,8 +44,8 @@ module _ (old : Emitted) (ds : List Declaration) (e : CoreTree) (few : 2 * lengt
   abbrev routines : List (List ℕ × ℕ)
   routines = routines_of ds old.routines
 
-  module _ (r : Running) (suits : Suits old.routines known ds e r) where
-    is_expression : IsExpression ds e
+  module _ (first : List Declaration) (r : Running) (suits : Suits old.routines known first e r) where
+    is_expression : IsExpression first e
     is_expression = record { cel_type = suits.cel_type; has_type = suits.has_type; literals = literals; fits = fits }
 
     has_constants : HasConstants r.constants old.constants e
@@ -71,6 +73,15 @@ module _ (old : Emitted) (ds : List Declaration) (e : CoreTree) (few : 2 * lengt
       let texts : HasConstants constants old.constants e = record { more = are.later; constants_are = are.are; few = are.few } in
       code_insns known routines (near most) e [] 0 p (λ n k is. absurd (cc)) (omega (arith, fits)) short here literals (stand_short constants known (texts_of e) (known_stand constants old.constants e texts))
 
+  -- the code with all declarations, where the type checker takes the expression with the first of them
+  computed : (first rest : List Declaration) (r : Running) (p frame : ℕ) → old.nodes ≤ 512 → ds ≡ first ++ rest → Suits old.routines known first e r → HasRoutines r r.scope → frame + deepest e (depths_of first) ≤ 7
+      → Computes (setting r) p (code_of e known routines [] 0 p) (context r) frame 0 (meaning_in r e) (cost_in r e)
+  computed first rest r p frame most whole suits scoped near =
+      let is = is_expression first r suits in
+      let same = code_before known old.routines ds first rest r.scope r.later e p whole suits.taken is in
+      subst (λ (piece : List Insn). Computes (setting r) p piece (context r) frame 0 (meaning_in r e) (cost_in r e)) (sym same)
+      (expression_gives old.constants old.routines first e p is r.image r.is_deep r.roots r.constants r.scope r.later frame suits.taken near (scope_few first r suits most) (has_constants first r suits) scoped suits.may)
+
   -- ---- an expression
 
   expression_by : (here : Bool) → has_room (with_counted old e (nodes e)) ≡ here
@@ -83,8 +94,7 @@ module _ (old : Emitted) (ds : List Declaration) (e : CoreTree) (few : 2 * lengt
         behind = refl;
         short = omega (arith, long);
         spells = piece_spells (length old.code) (omega (arith, within, inside)) (omega (arith, within)) (omega (arith, within));
-        gives = λ r frame suits scoped near.
-            expression_gives old.constants old.routines ds e (length old.code) (is_expression r suits) r.image r.is_deep r.roots r.constants r.scope r.later frame suits.taken near (scope_few r suits (omega (arith, within))) (has_constants r suits) scoped suits.may;
+        gives = λ first rest r frame whole suits scoped near. computed first rest r (length old.code) frame (omega (arith, within)) whole suits scoped near;
       }
   expression_by false room short = absurd (short (let above = leb-false _ _ room in omega (arith, above)))
 
@@ -107,23 +117,24 @@ module _ (old : Emitted) (ds : List Declaration) (e : CoreTree) (few : 2 * lengt
         → Stands r.image.code (length old.code) (passed routine) → HasRoutines r ((r.scope ++ r.later) ++ next_variable old body r.roots r.scope name e ∷ [])
     joined_scope r name most suits scoped stands =
         subst (λ (rs : List (List ℕ × ℕ)). HasRoutines r ((r.scope ++ r.later) ++ next_variable old (code_of e known rs [] 0 slot) r.roots r.scope name e ∷ [])) (sym (routines_are old.routines ds r.scope r.later suits.taken))
-        (variable_joins old.constants old.routines ds e slot (is_expression r suits) r.image r.is_deep r.roots r.constants r.scope r.later name suits.taken shallow (scope_few r suits most) (has_constants r suits) scoped suits.may (stands_rest r.image.code (length old.code) (skip (size routine)) routine stands))
+        (variable_joins old.constants old.routines ds e slot (is_expression ds r suits) r.image r.is_deep r.roots r.constants r.scope r.later name suits.taken shallow (scope_few ds r suits most) (has_constants ds r suits) scoped suits.may (stands_rest r.image.code (length old.code) (skip (size routine)) routine stands))
 
     -- the routine's steps are within 128 a visit
-    returned : (r : Running) (name : List ℕ) (items : List (List ℕ × Value)) (words : List (List ℕ × ℕ)) (frame base : ℕ) → old.nodes ≤ 512
-        → Suits old.routines known ds e r → HasRoutines r (r.scope ++ r.later) → frame + depth e (depths_of ds) ≤ 7 → base ≤ 60
+    returned : (first rest : List Declaration) (r : Running) (name : List ℕ) (items : List (List ℕ × Value)) (words : List (List ℕ × ℕ)) (frame base : ℕ) → old.nodes ≤ 512
+        → ds ≡ first ++ rest → Suits old.routines known first e r → HasRoutines r r.scope → frame + depth e (depths_of first) ≤ 7 → base ≤ 60
         → Stands r.image.code (length old.code) (passed routine)
         → Returns (setting r) slot (length old.routines) (caller_context r items words name e) frame base (meaning_in r e) (128 * (cost_in r e).visits) (16 * spent_by (cost_in r e))
-    returned r name items words frame base most suits scoped near low stands =
+    returned first rest r name items words frame base most whole suits scoped near low stands =
         let v = next_variable old body r.roots r.scope name e in
-        let has : HasRoutine r.image r.is_deep r.roots r.constants (r.scope ++ r.later) v = joined_scope r name most suits scoped stands (r.scope ++ r.later) [] v refl in
-        let all = all_taken r suits in
-        let nested : depth e (nestings r.scope) ≡ depth e (depths_of ds) = ap (depth e) suits.taken.depths_are in
+        let all = all_taken first r suits in
+        let behind = stands_rest r.image.code (length old.code) (skip (size routine)) routine stands in
+        let here = subst (λ (i : ℕ). Stands r.image.code slot (body ++ memo_tail i)) (sym all) behind in
+        let gives = computed first rest r slot (frame + 1) most whole suits scoped (omega (arith, near)) in
         let some = visited (plain_tree e) (environment_in r.roots [] r.scope) in
         let steps = 128 * (cost_in r e).visits in
         let charge = 16 * spent_by (cost_in r e) in
         let back : Returns (setting r) slot (length (r.scope ++ r.later)) (caller_context r items words name e) frame base (meaning_in r e) steps charge =
-        λ q b ready. looser (setting r) steps charge (omega (arith, some)) (omega arith) (routine_returns r.image r.is_deep r.roots r.constants (r.scope ++ r.later) v words items frame base has (omega (arith, all, few, most)) low (omega (arith, near, nested)) q b ready) in
+        λ q b ready. looser (setting r) steps charge (omega (arith, some)) (omega arith) (routine_returns r.image r.is_deep (each first_use r.scope) r.roots r.constants (r.scope ++ r.later) v words items frame base here gives (omega (arith, all, few, most)) low (omega (arith, near)) q b ready) in
         subst (λ (i : ℕ). Returns (setting r) slot i (caller_context r items words name e) frame base (meaning_in r e) steps charge) all back
 
     variable_by : (here : Bool) → has_room (with_counted old e (1 + nodes e)) ≡ here
@@ -142,7 +153,7 @@ module _ (old : Emitted) (ds : List Declaration) (e : CoreTree) (few : 2 * lengt
           short = omega (arith, long, whole, first);
           spells = λ constants are. (omega (arith, jump), insns_append body (memo_tail (length old.routines)) (piece_spells slot (omega (arith, within, inside)) (omega (arith, within)) most constants are) (memo_insns (length old.routines) (omega (arith, few, most))));
           passes = λ s b stands. to_place s (length (old.code ++ slots (passed routine))) (sym (length-append old.code (slots (passed routine)))) (routine_is_passed s (length old.code) routine b stands);
-          returns = λ r name items words frame base suits scoped near low stands. returned r name items words frame base most suits scoped near low stands;
+          returns = λ first rest r name items words frame base whole suits scoped near low stands. returned first rest r name items words frame base most whole suits scoped near low stands;
           joins = λ r name suits scoped stands. joined_scope r name most suits scoped stands;
           taken = λ roots scope name t taken.
               subst (λ (rs : List (List ℕ × ℕ)). AreTaken (old.routines ++ slot ∷ []) (ds ++ declared name t (depth e (depths_of ds)) ∷ []) (scope ++ next_variable old (code_of e known rs [] 0 slot) roots scope name e ∷ []) []) (sym (routines_are old.routines ds scope [] taken))

@@ -77,8 +77,8 @@ module _ (ds : List Declaration) (shallow : AreShallow ds) where
 
 -- ---- what is ready
 
-module _ (image : Contents) (deep : Bool) (roots : Roots) (constants : List ℕ) (ds : List Declaration) (scope later : List Variable) (e : CoreTree) (is : IsExpression ds e) (depths : nestings scope ≡ depths_of ds) (may : IsDeep (plain_tree e) (environment_in roots [] scope) → deep ≡ true) where
-  pub ready : (known : List (List ℕ)) → TextsStand constants known (texts_of e) → (frame : ℕ) → frame + deepest e (depths_of ds) ≤ 7 → Ready (scope_setting image deep (scope ++ later)) scope known (scope_context roots [] [] constants (scope ++ later)) frame 0 e (cost (plain_tree e) (environment_in roots [] scope)).is_deep
+module _ (image : Contents) (deep : Bool) (roots : Roots) (constants : List ℕ) (ds : List Declaration) (scope later : List Variable) (e : CoreTree) (is : IsExpression ds e) (depths : nestings scope ≡ depths_of ds) (may : IsDeep (plain_tree e) (environment_in roots [] scope) → deep ≡ true) (paid : List Variable) where
+  pub ready : (known : List (List ℕ)) → TextsStand constants known (texts_of e) → (frame : ℕ) → frame + deepest e (depths_of ds) ≤ 7 → Ready (scope_setting image deep paid) scope known (scope_context roots [] [] constants (scope ++ later)) frame 0 e (cost (plain_tree e) (environment_in roots [] scope)).is_deep
   ready known stand frame near =
       let same : deepest e (nestings scope) ≡ deepest e (depths_of ds) = ap (deepest e) depths in
       let fits = is.fits in
@@ -100,15 +100,15 @@ frames_are_enough ds e shallow = deepest_within ds shallow e
 pub expression_gives : ExpressionGives
 expression_gives texts slots ds e p is image deep roots constants scope later frame taken near few holds scoped may =
     let known = with_texts texts (texts_of e) in
-    let given = code_gives image deep roots constants scope later known [] [] frame 0 p e scoped few is.literals (ready image deep roots constants ds scope later e is taken.depths_are may known (known_stand constants texts e holds) frame near) in
-    subst (λ (rs : List (List ℕ × ℕ)). Computes (scope_setting image deep (scope ++ later)) p (code_of e known rs [] 0 p) (scope_context roots [] [] constants (scope ++ later)) frame 0 (meaning (plain_tree e) (environment_in roots [] scope)) (cost (plain_tree e) (environment_in roots [] scope))) (sym (routines_are slots ds scope later taken)) given
+    let given = code_gives image deep roots constants scope later known [] [] frame 0 p e scoped few is.literals (ready image deep roots constants ds scope later e is taken.depths_are may scope known (known_stand constants texts e holds) frame near) in
+    subst (λ (rs : List (List ℕ × ℕ)). Computes (scope_setting image deep scope) p (code_of e known rs [] 0 p) (scope_context roots [] [] constants (scope ++ later)) frame 0 (meaning (plain_tree e) (environment_in roots [] scope)) (cost (plain_tree e) (environment_in roots [] scope))) (sym (routines_are slots ds scope later taken)) given
 
 pub variable_joins : VariableJoins
 variable_joins texts slots ds e p is image deep roots constants scope later n taken shallow few holds scoped may stands =
     let known = with_texts texts (texts_of e) in
     let count : length slots ≡ length (scope ++ later) = ap length (sym taken.slots_are) ∙ length-map (scope ++ later) (λ (v : Variable). v.routine) in
     let here = subst (λ (i : ℕ). Stands image.code p (routine_code e known (routines_of ds slots) i p)) count stands in
-    routine_gives image deep roots constants scope later known n p e scoped few is.literals (ready image deep roots constants ds scope later e is taken.depths_are may known (known_stand constants texts e holds) 1 (omega arith))
+    routine_gives image deep roots constants scope later known n p e scoped few is.literals (ready image deep roots constants ds scope later e is taken.depths_are may (scope ++ later) known (known_stand constants texts e holds) 1 (omega arith))
     (subst (λ (rs : List (List ℕ × ℕ)). Stands image.code p (routine_code e known rs (length (scope ++ later)) p)) (routines_are slots ds scope later taken) here)
 
 pub variable_is_taken : VariableIsTaken

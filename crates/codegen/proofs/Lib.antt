@@ -22,6 +22,7 @@ pub mod Uses
 pub mod Computed
 pub mod Routines
 pub mod Layer
+pub mod Before
 pub mod CodeInsns
 pub mod Passed
 pub mod Finished

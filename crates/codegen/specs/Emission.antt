@@ -36,9 +36,9 @@ pub record Running : Type 0 where
   pub scope : List Variable
   pub later : List Variable
 
--- it runs in the setting of all the variables
+-- it runs in the setting of the variables that the expression may use: the first uses of no others count
 abbrev pub setting : Running → Setting
-setting r = scope_setting r.image r.is_deep (r.scope ++ r.later)
+setting r = scope_setting r.image r.is_deep r.scope
 
 -- outside of every macro no iteration name is in force
 abbrev pub context : Running → Context
@@ -74,14 +74,15 @@ pub record Suits (slots : List ℕ) (texts : List (List ℕ)) (declarations : Li
 
 -- behind the old code stands a piece of at most 128 slots for each node, which can be spelled; from the start of each frame
 -- above which there are frames enough for its variables it gives what the expression means, within 128 steps a visit and 16
--- times what is spent, beside what the first uses of variables take
+-- times what is spent, beside what those variables take that are first used in it, of the first ones with which the type
+-- checker takes it
 pub record EmitsPiece (old new : Emitted) (declarations : List Declaration) (e : CoreTree) : Type 0 where
   pub piece : List Insn
   pub behind : new.code ≡ old.code ++ slots piece
   pub short : size piece ≤ 128 * nodes e
   pub spells : (constants : List ℕ) → AreConstants constants new.constants → AreInsns piece
-  pub gives : (r : Running) (frame : ℕ) → Suits old.routines new.constants declarations e r → HasRoutines r r.scope
-      → frame + deepest e (depths_of declarations) ≤ 7
+  pub gives : (first rest : List Declaration) (r : Running) (frame : ℕ) → declarations ≡ first ++ rest
+      → Suits old.routines new.constants first e r → HasRoutines r r.scope → frame + deepest e (depths_of first) ≤ 7
       → Computes (setting r) (length old.code) piece (context r) frame 0 (meaning_in r e) (cost_in r e)
 
 -- as long as the code can be finished
@@ -106,7 +107,8 @@ next_variable old body roots scope name e = variable_with body roots scope name 
 -- behind the old code stands a piece of at most 128 slots for each node of the expression, and for 1 more, which can be
 -- spelled, and which straight code passes in one step; from its second slot on it is the routine of the next variable:
 -- called where there are frames enough, it returns what the expression means, within 128 steps a visit and 16 times what is
--- spent, beside what the first uses of earlier variables take; and with it the variables are a scope with this one more
+-- spent, beside what those variables take that are first used in it, of the first ones with which the type checker takes it;
+-- and with it the variables are a scope with this one more
 pub record EmitsPassedRoutine (old new : Emitted) (declarations : List Declaration) (e : CoreTree) : Type 0 where
   pub piece : List Insn
   pub body : List Insn
@@ -115,9 +117,10 @@ pub record EmitsPassedRoutine (old new : Emitted) (declarations : List Declarati
   pub spells : (constants : List ℕ) → AreConstants constants new.constants → AreInsns piece
   pub passes : (s : Setting) (b : Body) → Stands s.image.code (length old.code) piece
       → Comes s 1 0 (length old.code) b (length new.code) (λ last. last ≡ b)
-  pub returns : (r : Running) (name : List ℕ) (items : List (List ℕ × Value)) (words : List (List ℕ × ℕ)) (frame base : ℕ)
-      → Suits old.routines new.constants declarations e r → HasRoutines r (r.scope ++ r.later)
-      → frame + depth e (depths_of declarations) ≤ 7 → base ≤ 60 → Stands r.image.code (length old.code) piece
+  pub returns : (first rest : List Declaration) (r : Running) (name : List ℕ) (items : List (List ℕ × Value))
+      (words : List (List ℕ × ℕ)) (frame base : ℕ) → declarations ≡ first ++ rest
+      → Suits old.routines new.constants first e r → HasRoutines r r.scope
+      → frame + depth e (depths_of first) ≤ 7 → base ≤ 60 → Stands r.image.code (length old.code) piece
       → Returns (setting r) (next_routine old) (length old.routines) (caller_context r items words name e) frame base
       (meaning_in r e) (128 * (cost_in r e).visits) (16 * spent_by (cost_in r e))
   pub joins : (r : Running) (name : List ℕ) → Suits old.routines new.constants declarations e r → HasRoutines r (r.scope ++ r.later)

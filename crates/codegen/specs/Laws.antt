@@ -32,11 +32,11 @@ CodeIsShort = (e : CoreTree) (texts : List (List ℕ)) (routines words : List (L
 abbrev pub TypedIsAccepted : Type 0
 TypedIsAccepted = (e : CoreTree) (declared : List Declaration) (t : CelType) → core_typing e (scope_of declared) ≡ typed t → IsAccepted e (each (λ d. d.name) declared)
 
--- wherever it stands, the code of an expression, which may use the variables of a scope, leaves what the expression means, within 128 steps a visit and 16 times what is spent, beside what the first uses of variables take, or is stopped where its charge would pass the limit or a value may be too deep; later variables may stand behind the scope
+-- wherever it stands, the code of an expression, which may use the variables of a scope, leaves what the expression means, within 128 steps a visit and 16 times what is spent, beside what the first uses of variables take, or is stopped where its charge would pass the limit or a value may be too deep; later variables may stand behind the scope, whose first uses do not count
 abbrev pub CodeGives : Type 0
 CodeGives = (image : Contents) (deep : Bool) (roots : Roots) (constants : List ℕ) (scope later : List Variable) (texts : List (List ℕ)) (items : List (List ℕ × Value)) (words : List (List ℕ × ℕ)) (depth k p : ℕ) (e : CoreTree)
     → IsScope image deep roots constants scope → length scope ≤ 512 → HasLiterals (plain_tree e)
-    → let s = scope_setting image deep (scope ++ later) in let c = scope_context roots items words constants (scope ++ later) in let env = environment_in roots items scope in
+    → let s = scope_setting image deep scope in let c = scope_context roots items words constants (scope ++ later) in let env = environment_in roots items scope in
     Ready s scope texts c depth k e (cost (plain_tree e) env).is_deep
     → Computes s p (code_of e texts (routines scope) words k p) c depth k (meaning (plain_tree e) env) (cost (plain_tree e) env)
 

@@ -43,13 +43,13 @@ pub record HasConstants (constants : List ℕ) (texts : List (List ℕ)) (e : Co
   pub constants_are : constants ≡ joined (with_texts (with_texts texts (texts_of e)) more)
   pub few : length constants ≤ 1048576
 
--- in each image in which it stands at slot p, and in each frame above which there are frames enough for its variables, the code of the expression gives what the expression means, within 128 steps a visit and 16 times what is spent, beside what the first uses of variables take
+-- in each image in which it stands at slot p, and in each frame above which there are frames enough for its variables, the code of the expression gives what the expression means, within 128 steps a visit and 16 times what is spent, beside what those variables of its scope take that are first used in it
 abbrev pub GivesMeaning : List (List ℕ) → List ℕ → List Declaration → CoreTree → ℕ → Type 0
 GivesMeaning texts slots declarations e p = (image : Contents) (deep : Bool) (roots : Roots) (constants : List ℕ) (scope later : List Variable) (frame : ℕ)
     → AreTaken slots declarations scope later → frame + deepest e (depths_of declarations) ≤ 7 → length scope ≤ 512 → HasConstants constants texts e
     → IsScope image deep roots constants scope
     → let tree = plain_tree e in let env = environment_in roots [] scope in (IsDeep tree env → deep ≡ true)
-    → Computes (scope_setting image deep (scope ++ later)) p (code_of e (with_texts texts (texts_of e)) (routines_of declarations slots) [] 0 p) (scope_context roots [] [] constants (scope ++ later)) frame 0 (meaning tree env) (cost tree env)
+    → Computes (scope_setting image deep scope) p (code_of e (with_texts texts (texts_of e)) (routines_of declarations slots) [] 0 p) (scope_context roots [] [] constants (scope ++ later)) frame 0 (meaning tree env) (cost tree env)
 
 -- in each image in which the expression's routine stands at slot p, as that of a variable that is no deeper than 6, the variables that were taken are a scope with this one more
 abbrev pub JoinsScope : List (List ℕ) → List ℕ → List Declaration → CoreTree → ℕ → Type 0

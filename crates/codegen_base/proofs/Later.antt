@@ -1,22 +1,22 @@
 -- What a piece gives in a scope it gives where more variables stand behind it.
 use Rattle.std.proofs.Common.{◌≡◌, ℕ, ◌+◌, List, ◌++◌, length, length-append, Some, Bool, sym, ap, ◌∙◌, subst, arith, inl, inr}
 use Rattle.std.specs.Prelude.{slice_get}
+use Rattle.std.specs.Prelude.{map as each}
 use Rattle.std.proofs.lemmas.Bool.{cases_lt}
-use Rattle.std.proofs.lemmas.List.{length-map, map-append}
+use Rattle.std.proofs.lemmas.List.{map-append}
 use Rattle.insn_codec.specs.declared.insn.Insn.{Insn}
 use Rattle.loader.specs.Contents.{Contents}
 use Rattle.value_store.specs.Value.{Value, ValueOrError}
 use Rattle.cel_macros.specs.Environment.{Roots}
 use Rattle.codegen_base.specs.Body.{Body}
 use Rattle.codegen_base.specs.Contexts.{Context, Fits, Gives, IsMemo, Shows}
-use Rattle.codegen_base.specs.Engine.{Comes}
-use Rattle.codegen_base.specs.Pieces.{Stands, size}
-use Rattle.codegen_base.specs.Scopes.{LaterGives, Variable, bindings, first_charges, first_steps, scope_setting}
-use Rattle.codegen_base.specs.Variables.{pending, used_context}
+use Rattle.codegen_base.specs.Engine.{Setting}
+use Rattle.codegen_base.specs.FirstUses.{FirstUse}
+use Rattle.codegen_base.specs.Scopes.{LaterGives, Variable, WiderGives, bindings, first_use, scope_setting}
+use Rattle.codegen_base.specs.Variables.{used_context, with_variables}
 use Rattle.codegen_base.specs.Words.{memo_at}
 use Rattle.codegen_base.proofs.Frames.{memo_on}
-use Rattle.codegen_base.proofs.Pending.{pending-append, pending-same}
-use Rattle.codegen_base.proofs.Runs.{Pays, into, settle}
+use Rattle.codegen_base.proofs.Runs.{into, wider}
 use Rattle.codegen_base.proofs.Returns.{get_before, get_front}
 
 module _ (image : Contents) (deep : Bool) (roots : Roots) (constants : List ℕ) (scope later : List Variable) (words : List (List ℕ × ℕ)) (items : List (List ℕ × Value)) (depth base : ℕ) where
@@ -66,47 +66,12 @@ module _ (image : Contents) (deep : Bool) (roots : Roots) (constants : List ℕ)
       };
     }
 
-    -- what the later ones may still take is as before
-    same_later : (costs more : List ℕ) → length costs ≡ length scope → pending (0 + length costs) more new.memory.scratch ≡ pending (0 + length costs) more old.memory.scratch
-    same_later costs more long =
-        let count : length (bindings scope) ≡ length scope = length-map scope (λ (v : Variable). (v.name, v.value)) in
-        pending-same (0 + length costs) more old.memory.scratch new.memory.scratch (λ j least most. shown.keeps.memos j (omega arith))
-
-  long_steps : length (first_steps scope) ≡ length scope
-  long_steps = length-map scope _
-
-  long_charges : length (first_charges scope) ≡ length scope
-  long_charges = length-map scope _
-
-  steps_split : (b : Body) → pending 0 (first_steps (scope ++ later)) b.memory.scratch ≡ pending 0 (first_steps scope) b.memory.scratch + pending (0 + length (first_steps scope)) (first_steps later) b.memory.scratch
-  steps_split b = ap (λ (ns : List ℕ). pending 0 ns b.memory.scratch) (map-append _ scope later) ∙ pending-append 0 (first_steps scope) (first_steps later) b.memory.scratch
-
-  charges_split : (b : Body) → pending 0 (first_charges (scope ++ later)) b.memory.scratch ≡ pending 0 (first_charges scope) b.memory.scratch + pending (0 + length (first_charges scope)) (first_charges later) b.memory.scratch
-  charges_split b = ap (λ (ns : List ℕ). pending 0 ns b.memory.scratch) (map-append _ scope later) ∙ pending-append 0 (first_charges scope) (first_charges later) b.memory.scratch
-
-  module _ (p : ℕ) (piece : List Insn) (x : ValueOrError) (n m : ℕ) where
-    paid : (b b1 : Body) → Fits all depth base b → Shows here depth base x b b1 → Pays image deep (pending 0 (first_steps scope)) (pending 0 (first_charges scope)) (pending 0 (first_steps (scope ++ later))) (pending 0 (first_charges (scope ++ later))) n m n m b b1
-    paid b b1 fits shown = record {
-      steps =
-          let old = steps_split b in
-          let new = steps_split b1 in
-          let same = same_later x b b1 fits shown (first_steps scope) (first_steps later) long_steps in
-          omega arith;
-      charge =
-          let old = charges_split b in
-          let new = charges_split b1 in
-          let same = same_later x b b1 fits shown (first_charges scope) (first_charges later) long_charges in
-          omega arith;
-    }
-
-    runs : Gives (scope_setting image deep scope) p piece here depth base x n m → (b : Body) → Stands image.code p piece → Fits all depth base b → Comes (scope_setting image deep (scope ++ later)) n m p b (p + size piece) (Shows all depth base x b)
-    runs g b has fits =
-        into (scope_setting image deep (scope ++ later)) (Shows all depth base x b) (λ b1 shown. shows_all x b b1 fits shown)
-        (settle image deep (pending 0 (first_steps scope)) (pending 0 (first_charges scope)) (pending 0 (first_steps (scope ++ later))) (pending 0 (first_charges (scope ++ later))) n m
-        (let split = steps_split b in omega arith)
-        (let split = charges_split b in omega arith)
-        (λ b1 shown. paid b b1 fits shown)
-        (g.runs b has (fits_before b fits)))
+  runs : (s : Setting) (p : ℕ) (piece : List Insn) (x : ValueOrError) (n m : ℕ) → Gives s p piece here depth base x n m → Gives s p piece all depth base x n m
+  runs s p piece x n m g = record { runs = λ b has fits. into s (Shows all depth base x b) (λ b1 shown. shows_all x b b1 fits shown) (g.runs b has (fits_before b fits)) }
 
 pub later_gives : LaterGives
-later_gives image deep roots constants scope later words items p piece depth base x n m g = record { runs = runs image deep roots constants scope later words items depth base p piece x n m g }
+later_gives image deep roots constants scope later words items p piece depth base x n m g = runs image deep roots constants scope later words items depth base (scope_setting image deep scope) p piece x n m g
+
+pub wider_gives : WiderGives
+wider_gives image deep scope more p piece c depth base x n m g =
+    subst (λ (vs : List FirstUse). Gives (with_variables image deep vs) p piece c depth base x n m) (sym (map-append first_use scope more)) (record { runs = λ b has fits. wider image deep (each first_use scope) (each first_use more) (g.runs b has fits) })

@@ -5,7 +5,7 @@ pub mod Calls
 pub mod Pieces
 pub mod Spelled
 pub mod Exits
-pub mod Pending
+pub mod FirstUses
 pub mod Steps
 pub mod Listings
 pub mod Values
@@ -16,6 +16,7 @@ pub mod HelperAnswers
 pub mod Leaves
 pub mod Selection
 pub mod Returns
+pub mod FirstCalls
 pub mod Variables
 pub mod Programs
 pub mod Loops

@@ -47,7 +47,7 @@ neg_does image p b width dst free =
 neg : {s : Setting} {o : ℕ} {piece : List Insn} {n x p' : ℕ} {b : Body} {Q : Body → Type 0} (has : Stands s.image.code o piece) {width : Width} {dst : Register} (k : ℕ) → slice_get (slots piece) k ≡ Some (Some (Neg width dst)) → is_frame_pointer dst ≡ false → Comes s n x (o + (k + 1)) (set_register b dst (negated width (b.registers dst))) p' Q → Comes s (suc n) x (o + k) b p' Q
 neg {s} {o} {piece} {n} {x} {p'} {b} {Q} has {width} {dst} k h free c =
     let place : o + k + 1 ≡ o + (k + 1) = omega arith in
-    one s (o + k) b (does s.image (o + k) b _ (has.here k _ h) ∙ neg_does s.image (o + k) b width dst free ∙ ap (λ (q : ℕ). at s.image q (set_register b dst (negated width (b.registers dst)))) place) refl refl c
+    one s (o + k) b (does s.image (o + k) b _ (has.here k _ h) ∙ neg_does s.image (o + k) b width dst free ∙ ap (λ (q : ℕ). at s.image q (set_register b dst (negated width (b.registers dst)))) place) refl refl refl c
 
 -- ---- the piece
 

@@ -1,6 +1,6 @@
 -- A program from its start to its exit.
-use Rattle.std.proofs.Common.{◌≡◌, ℕ, suc, ◌+◌, ◌*◌, ◌<◌, ◌≤◌, List, [], ◌∷◌, ◌++◌, replicate, Bool, true, false, refl, sym, subst, arith, inl}
-use Rattle.std.specs.Prelude.{All, nat_eq, pos, Some, if◌then◌else◌}
+use Rattle.std.proofs.Common.{◌≡◌, ℕ, suc, ◌+◌, ◌*◌, ◌<◌, ◌≤◌, List, [], ◌∷◌, ◌++◌, replicate, Bool, true, false, refl, sym, ap, subst, arith, inl}
+use Rattle.std.specs.Prelude.{All, map, pos, Some}
 use Rattle.std.proofs.lemmas.List.Elements.{All-take, All-drop, All-head, All-replicate, All-tail}
 use Rattle.guest_memory.specs.Memory.{start_memory}
 use Rattle.guest_memory.specs.RegionWords.{word_in}
@@ -16,20 +16,24 @@ use Rattle.cel_macros.specs.Environment.{Roots}
 use Rattle.bpf_machine.specs.Decoding.{DecodesSpelling, fetched}
 use Rattle.bpf_machine.specs.State.{State, start_state}
 use Rattle.bpf_machine.specs.Trace.{state_after}
+use Rattle.bpf_machine.specs.declared.frame.Frame.{Frame}
 use Rattle.codegen_base.specs.Body.{Body, at}
 use Rattle.codegen_base.specs.Engine.{Setting, Halts, Over, Left}
 use Rattle.codegen_base.specs.Pieces.{Stands, size}
 use Rattle.codegen_base.specs.Programs.{ProgramExits, start_body, total}
 use Rattle.codegen_base.specs.Contexts.{Fits, HasValues}
-use Rattle.codegen_base.specs.Variables.{pending, routine_context, with_variables}
+use Rattle.codegen_base.specs.FirstUses.{first_uses, pending}
+use Rattle.codegen_base.specs.Scopes.{Variable, first_charges, first_steps, first_use}
+use Rattle.codegen_base.specs.Variables.{routine_context, with_variables}
 use Rattle.codegen_base.proofs.Exits.{comes_to_exit}
+use Rattle.codegen_base.proofs.FirstUses.{pending-most, uses-most}
 use Rattle.codegen_base.proofs.Pieces.{stands_back, stands_first, stands_front}
 use Rattle.codegen_base.proofs.Runs.{into}
 use Rattle.codegen_base.proofs.Spelled.{spelled_stands}
 
 pub halts_into : (s : Setting) (x : ℕ) (b0 : Body) (P Q : Body → Type 0) {t : State} → ((b : Body) → P b → Q b) → Halts s x b0 P t → Halts s x b0 Q t
-halts_into s x b0 P Q f (Over e o) = Over e o
-halts_into s x b0 P Q f (Left p b e l q) = Left p b e l (f b q)
+halts_into s x b0 P Q f (Over calls e frames filled o) = Over calls e frames filled o
+halts_into s x b0 P Q f (Left p b e filled l q) = Left p b e filled l (f b q)
 
 zeros_word : (bytes : List ℕ) → All (λ b. b ≡ 0) bytes → word_of bytes ≡ 0
 zeros_word [] zeros = refl
@@ -42,17 +46,20 @@ pub word_in-zeros : (n i : ℕ) → word_in (replicate n 0) i ≡ 0
 unfolding word_in
 word_in-zeros n i = zeros_word (part (replicate n 0) (8 * i) 8) (All-take (λ b. b ≡ 0) 8 _ (All-drop (λ b. b ≡ 0) (8 * i) _ (All-replicate (λ b. b ≡ 0) n 0 refl)))
 
-at_most : (b : Bool) (cost : ℕ) → (if b then cost else 0) ≤ cost
-at_most true cost = omega arith
-at_most false cost = omega arith
+-- what the first uses of a scope's variables take at most
+scope_steps : (scope : List Variable) → map (λ v. v.steps) (map first_use scope) ≡ first_steps scope
+scope_steps [] = refl
+scope_steps (v ∷ scope) = ap (λ (ns : List ℕ). (v.steps + 9) ∷ ns) (scope_steps scope)
 
-pub pending-most : (i : ℕ) (costs m : List ℕ) → pending i costs m ≤ total costs
-unfolding pending
-pending-most i [] m = omega arith
-pending-most i (cost ∷ costs) m =
-    let rest = pending-most (suc i) costs m in
-    let first = at_most (nat_eq (word_in m i) 0) cost in
-    omega arith
+scope_charges : (scope : List Variable) → map (λ v. v.charge) (map first_use scope) ≡ first_charges scope
+scope_charges [] = refl
+scope_charges (v ∷ scope) = ap (λ (ns : List ℕ). v.charge ∷ ns) (scope_charges scope)
+
+pub steps-most : (image : loader.Contents) (scope : List Variable) (scratch : List ℕ) → pending (map first_use scope) (λ v. v.steps) scratch ≤ total (first_steps scope)
+steps-most image scope scratch = subst (λ (ns : List ℕ). pending (map first_use scope) (λ v. v.steps) scratch ≤ total ns) (scope_steps scope) (pending-most image (map first_use scope) (λ v. v.steps) scratch)
+
+pub charges-most : (image : loader.Contents) (scope : List Variable) (old new : List ℕ) (calls : List Frame) → first_uses image (map first_use scope) (λ v. v.charge) old new calls ≤ total (first_charges scope)
+charges-most image scope old new calls = subst (λ (ns : List ℕ). first_uses image (map first_use scope) (λ v. v.charge) old new calls ≤ total ns) (scope_charges scope) (uses-most image (map first_use scope) (λ v. v.charge) old new calls)
 
 pub start_is : (image : loader.Contents) (values : Contents) → start_state image values ≡ at image 0 (start_body image values)
 unfolding start_state
@@ -69,8 +76,8 @@ start_fits image values roots variables bytes has = record {
 }
 
 pub program_exits : DecodesSpelling → ProgramExits
-program_exits law image deep values roots piece routines steps charges variables v n x m code bytes constants insns table g more =
-    let s = with_variables image deep steps charges in
+program_exits law image deep values roots piece routines firsts variables v n x m code bytes constants insns table g more =
+    let s = with_variables image deep firsts in
     let start = start_body image values in
     let whole = piece ++ Exit ∷ [] in
     let stands : Stands image.code 0 whole = subst (λ (bs : List ℕ). Stands bs 0 whole) (sym code) (spelled_stands law [] routines whole 0 refl (subst (λ (bs : List ℕ). All (λ b. b < 256) bs) code bytes) insns) in
@@ -78,6 +85,6 @@ program_exits law image deep values roots piece routines steps charges variables
     let runs = g.runs start (stands_front image.code 0 piece (Exit ∷ []) stands) (start_fits image values roots variables constants table) in
     let Named : Body → Type 0 = λ b. Names b.values.values (b.registers R0) v × (b.records ≡ []) in
     let named = into s Named (λ b shown. (shown.shows, shown.keeps.records)) runs in
-    let most = pending-most 0 steps start.memory.scratch in
+    let most = pending-most image firsts (λ u. u.steps) start.memory.scratch in
     let halts = comes_to_exit s n x 0 (0 + size piece) m start Named named exit (λ b q. q.1) (omega arith) in
     subst (λ (t : State). Halts s x start (λ b. Names b.values.values (b.registers R0) v) (state_after m t)) (sym (start_is image values)) (halts_into s x start Named _ (λ b q. q.0) halts)

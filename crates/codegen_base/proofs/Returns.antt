@@ -1,30 +1,28 @@
 -- The routine of a variable comes back to its caller with the value, and with the memo filled.
 use Rattle.std.proofs.Common.{◌≡◌, ℕ, zero, suc, ◌+◌, ◌*◌, ◌^◌, ◌<◌, ◌≤◌, List, [], ◌∷◌, ◌++◌, length, length-append, Option, Some, None, Bool, refl, sym, ap, ◌∙◌, subst, arith, inl, inr}
 use Rattle.std.specs.Prelude.{slice_get}
-use Rattle.std.proofs.lemmas.Bool.{cases_lt}
+use Rattle.std.proofs.lemmas.Bool.{cases_eq, cases_lt}
 use Rattle.std.proofs.lemmas.List.{length-map}
 use Rattle.insn_codec.specs.declared.insn.Insn.{Insn}
 use Rattle.insn_codec.specs.declared.register.Register.TheVariants.{R0, R1, R2}
 use Rattle.loader.specs.Contents.{Contents}
 use Rattle.value_store.specs.Value.{Value, ValueOrError, value}
 use Rattle.cel_macros.specs.Environment.{Roots, lookup}
-use Rattle.guest_memory.specs.RegionWords.{put_word}
-use Rattle.guest_memory.proofs.RegionWords.{put_word-other}
 use Rattle.helper_table.specs.Laws.{Names}
 use Rattle.codegen_base.specs.Body.{Body, set_register}
 use Rattle.codegen_base.specs.Calls.{entered, resumed}
 use Rattle.codegen_base.specs.Contexts.{Context, Fits, Gives, IsMemo, Shows}
-use Rattle.codegen_base.specs.Engine.{Comes, Setting}
+use Rattle.codegen_base.specs.Engine.{Reaches, Setting}
+use Rattle.codegen_base.specs.FirstUses.{FirstUse, StayFilled}
 use Rattle.codegen_base.specs.Pieces.{Stands, size}
-use Rattle.codegen_base.specs.Scopes.{RoutineReturns, Variable, bindings, first_charges, first_steps, scope_setting}
-use Rattle.codegen_base.specs.Variables.{memo_tail, pending, routine_context, used_context, with_variables}
+use Rattle.codegen_base.specs.Scopes.{RoutineReturns, Variable, bindings}
+use Rattle.codegen_base.specs.Variables.{memo_tail, routine_context, used_context, with_variables}
 use Rattle.codegen_base.specs.Words.{memo_address, memo_at, set_memo}
 use Rattle.codegen_base.proofs.Effects.{add_is}
 use Rattle.codegen_base.proofs.Frames.{frame_entered, frame_memo, held_on, memo_kept, memo_on, memo_stored}
 use Rattle.codegen_base.proofs.Listings.{alu, begins, load_wide, mov, store_memo}
-use Rattle.codegen_base.proofs.Pending.{pending-same}
 use Rattle.codegen_base.proofs.Pieces.{stands_back, stands_front}
-use Rattle.codegen_base.proofs.Runs.{and_then, done, into}
+use Rattle.codegen_base.proofs.Runs.{and_back, into}
 use Rattle.codegen_base.proofs.Steps as step
 use Rattle.codegen_base.proofs.Values.{short_reference}
 
@@ -46,7 +44,7 @@ abbrev variable_in : Option (List ℕ × ValueOrError) → ValueOrError → Valu
 variable_in (Some y) other = y.1
 variable_in None other = other
 
-module _ (image : Contents) (deep : Bool) (steps charges constants : List ℕ) (words : List (List ℕ × ℕ)) (roots : Roots) (items : List (List ℕ × Value)) (variables later : List (List ℕ × ValueOrError)) (name : List ℕ) (v : ValueOrError) (body : List Insn) (routine depth base n x : ℕ) (steps_are : length steps ≡ length variables) (charges_are : length charges ≡ length variables) (below : length variables < 512) (low : base ≤ 60) (room : depth < 7) (there : Stands image.code routine (body ++ memo_tail (length variables))) where
+module _ (image : Contents) (deep : Bool) (paid : List FirstUse) (constants : List ℕ) (words : List (List ℕ × ℕ)) (roots : Roots) (items : List (List ℕ × Value)) (variables later : List (List ℕ × ValueOrError)) (name : List ℕ) (v : ValueOrError) (body : List Insn) (routine depth base n x : ℕ) (below : length variables < 512) (low : base ≤ 60) (room : depth < 7) (there : Stands image.code routine (body ++ memo_tail (length variables))) where
   abbrev index : ℕ
   index = length variables
 
@@ -60,10 +58,7 @@ module _ (image : Contents) (deep : Bool) (steps charges constants : List ℕ) (
   before = routine_context roots variables constants
 
   abbrev inner_setting : Setting
-  inner_setting = with_variables image deep steps charges
-
-  same_pending : (costs m : List ℕ) (w : ℕ) → length costs ≡ index → 8 * index + 8 ≤ length m → pending 0 costs (put_word m index w) ≡ pending 0 costs m
-  same_pending costs m w long room_for = pending-same 0 costs m (put_word m index w) (λ j least most. put_word-other m index w room_for j (λ e. omega arith))
+  inner_setting = with_variables image deep paid
 
   -- back in the caller's frame the memo is filled, and the later ones are as before
   pub record Back (caller last : Body) : Type 0 where
@@ -146,13 +141,21 @@ module _ (image : Contents) (deep : Bool) (steps charges constants : List ℕ) (
         others = later_memo;
       }
 
-    pub comes_back : Gives inner_setting routine body before (depth + 1) 0 v n x → Comes inner_setting (n + 5) (x + 0) routine (entered q caller) (q + 1) (Back caller)
+    -- no memo is emptied by it
+    stays : (b3 : Body) (g3 : Shows before (depth + 1) 0 v (entered q caller) b3) → StayFilled b3.memory.scratch (filled_body b3 g3).memory.scratch
+    stays b3 g3 j none =
+        elim (cases_eq j index) [
+          | inl same ↦ (let word = this_memo b3 g3 in let there : memo_at j (last b3 g3) ≡ memo_at index (last b3 g3) = ap (λ (i : ℕ). memo_at i (last b3 g3)) same in omega arith)
+          | inr other ↦ sym (other_memo b3 g3 j other) ∙ none
+        ]
+
+    pub comes_back : Gives inner_setting routine body before (depth + 1) 0 v n x → Reaches inner_setting (n + 5) (x + 0) routine (entered q caller) caller.records (q + 1) (Back caller)
     comes_back g =
         let s = inner_setting in
         let pointer = fits.frame.pointer_is in
         let shallow = fits.frame.shallow in
         let has_tail = stands_back image.code routine body (memo_tail index) there in
-        and_then s 5 0 (q + 1) (Back caller) (g.runs (entered q caller) (stands_front image.code routine body (memo_tail index) there) fits_entered) (λ b3 g3.
+        and_back s 5 0 (q + 1) (Back caller) (g.runs (entered q caller) (stands_front image.code routine body (memo_tail index) there) fits_entered) (λ b3 g3.
         let f3 = g3.fits.frame in
         let r = b3.registers R0 in
         let long = f3.memory.scratch in
@@ -161,20 +164,17 @@ module _ (image : Contents) (deep : Bool) (steps charges constants : List ℕ) (
         (mov has_tail 0 refl refl
         (alu has_tail 1 (r + 1) refl refl (add_is r 1 ∙ omega arith)
         (load_wide has_tail 2 refl refl
-        (store_memo has_tail 4 index refl f3 below refl (same_pending steps b3.memory.scratch (r + 1) steps_are (omega arith)) (same_pending charges b3.memory.scratch (r + 1) charges_are (omega arith))
+        (store_memo has_tail 4 index refl f3 below refl (stays b3 g3)
         (step.exit s (routine + size body + 5) (q + 1) (filled_body b3 g3) caller q (has_tail.here 5 _ refl) g3.keeps.records g3.keeps.pointer (omega arith) refl
-        (done s (q + 1) _ (Back caller) (back b3 g3))))))))
+        (back b3 g3)))))))
 
 pub routine_returns : RoutineReturns
-routine_returns image deep roots constants scope v words items frame base has near low room q b fits =
-    let opens = has.opens in
+routine_returns image deep paid roots constants scope v words items frame base stands gives near low room q b fits =
     let count : length (bindings scope) ≡ length scope = length-map scope (λ (u : Variable). (u.name, u.value)) in
-    let steps = length-map scope (λ (u : Variable). u.steps + 9) ∙ sym count in
-    let charges = length-map scope (λ (u : Variable). u.charge) ∙ sym count in
-    let there = subst (λ (i : ℕ). Stands image.code v.routine (v.body ++ memo_tail i)) (sym count) has.stands in
-    let s = scope_setting image deep scope in
+    let there = subst (λ (i : ℕ). Stands image.code v.routine (v.body ++ memo_tail i)) (sym count) stands in
+    let s = with_variables image deep paid in
     let c = used_context roots items words constants (bindings scope ++ (v.name, v.value) ∷ []) in
     let even : v.charge + 0 ≡ v.charge = omega arith in
-    subst (λ (m : ℕ). Comes s (v.steps + 5) m v.routine (entered q b) (q + 1) (λ new. Shows c frame base v.value b new × (memo_at (length scope) new ≡ new.registers R0 + 1))) even
+    subst (λ (m : ℕ). Reaches s (v.steps + 5) m v.routine (entered q b) b.records (q + 1) (λ new. Shows c frame base v.value b new × (memo_at (length scope) new ≡ new.registers R0 + 1))) even
     (into s (λ new. Shows c frame base v.value b new × (memo_at (length scope) new ≡ new.registers R0 + 1)) (λ new last. (last.shown, ap (λ (i : ℕ). memo_at i new) (sym count) ∙ last.filled))
-    (comes_back image deep (first_steps scope) (first_charges scope) constants words roots items (bindings scope) [] v.name v.value v.body v.routine frame base v.steps v.charge steps charges (omega arith) low (omega arith) there b fits q (has.gives frame room)))
+    (comes_back image deep paid constants words roots items (bindings scope) [] v.name v.value v.body v.routine frame base v.steps v.charge (omega arith) low room there b fits q gives))

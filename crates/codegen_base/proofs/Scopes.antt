@@ -1,6 +1,7 @@
 -- Variables of a scope, found by their names.
 use Rattle.std.proofs.Common.{◌≡◌, ℕ, zero, suc, ◌+◌, ◌<◌, ◌≤◌, List, [], ◌∷◌, ◌++◌, length, Option, Some, None, Bool, true, false, refl, sym, ap, ◌∙◌, subst, arith, if◌then◌else◌, append_assoc}
 use Rattle.std.specs.Prelude.{ℤ, pos, ◌+ℤ◌, slice_get, bytes_eq, option_map}
+use Rattle.std.specs.Prelude.{map as each}
 use Rattle.std.proofs.lemmas.List.{length-map, map-append}
 use Rattle.std.proofs.lemmas.Option.{slice_get_within}
 use Rattle.loader.specs.Contents.{Contents}
@@ -8,7 +9,7 @@ use Rattle.value_store.specs.Value.{Value, ValueOrError}
 use Rattle.cel_macros.specs.Environment.{Roots, lookup, variable_value}
 use Rattle.codegen_base.specs.Contexts.{Gives}
 use Rattle.codegen_base.specs.Pieces.{Stands}
-use Rattle.codegen_base.specs.Scopes.{HasRoutine, IsScope, NoScope, ScopeBegins, ScopeGives, ScopeGrows, Variable, bindings, first_charges, first_steps, place_named, scope_setting}
+use Rattle.codegen_base.specs.Scopes.{HasRoutine, IsScope, NoScope, ScopeBegins, ScopeGives, ScopeGrows, Variable, bindings, first_use, place_named, scope_setting}
 use Rattle.codegen_base.specs.Variables.{memo_tail, use_code, used_context, with_variables}
 use Rattle.codegen_base.proofs.Variables.{variable_gives}
 
@@ -51,21 +52,17 @@ module _ (image : Contents) (deep : Bool) (roots : Roots) (constants : List ℕ)
   bindings_are : bindings all ≡ bindings before ++ (v.name, v.value) ∷ bindings later
   bindings_are = map-append (λ (u : Variable). (u.name, u.value)) before (v ∷ later)
 
-  steps_are : first_steps all ≡ first_steps before ++ (v.steps + 9) ∷ first_steps later
-  steps_are = map-append (λ (u : Variable). u.steps + 9) before (v ∷ later)
-
-  charges_are : first_charges all ≡ first_charges before ++ v.charge ∷ first_charges later
-  charges_are = map-append (λ (u : Variable). u.charge) before (v ∷ later)
+  firsts_are : each first_use all ≡ each first_use before ++ first_use v ∷ each first_use later
+  firsts_are = map-append first_use before (v ∷ later)
 
   pub used : HasRoutine image deep roots constants before v → length before < 512 → base ≤ 60 → depth + v.nesting ≤ 7 → pos (p + 5) +ℤ pos 1 +ℤ offset ≡ pos v.routine → Gives (scope_setting image deep all) p (use_code (length before) offset) (used_context roots items words constants (bindings all)) depth base v.value 5 0
   used routine few low room place =
       let opens = routine.opens in
-      let long_steps : length (first_steps before) ≡ length before = length-map before (λ (u : Variable). u.steps + 9) in
-      let long_charges : length (first_charges before) ≡ length before = length-map before (λ (u : Variable). u.charge) in
+      let as_many : length (each first_use before) ≡ length before = length-map before first_use in
       let long : length (bindings before) ≡ length before = length-map before (λ (u : Variable). (u.name, u.value)) in
       let stands = subst (λ (n : ℕ). Stands image.code v.routine (v.body ++ memo_tail n)) (sym long) routine.stands in
-      let given = variable_gives image deep (first_steps before) (first_charges before) (first_steps later) (first_charges later) constants words roots items (bindings before) (bindings later) v.name v.value v.body v.routine p depth base v.steps v.charge offset (long_steps ∙ sym long) (long_charges ∙ sym long) (omega arith) low (omega arith) place stands (routine.gives depth room) in
-      rw (bindings_are, steps_are, charges_are) (subst (λ (n : ℕ). Gives (with_variables image deep (first_steps before ++ (v.steps + 9) ∷ first_steps later) (first_charges before ++ v.charge ∷ first_charges later)) p (use_code n offset) (used_context roots items words constants (bindings before ++ (v.name, v.value) ∷ bindings later)) depth base v.value 5 0) long given)
+      let given = variable_gives image deep (each first_use before) (each first_use later) constants words roots items (bindings before) (bindings later) v.name v.value v.body v.routine p depth base v.steps v.charge offset (as_many ∙ sym long) (omega arith) low (omega arith) place stands (routine.gives depth room) in
+      rw (bindings_are, firsts_are) (subst (λ (n : ℕ). Gives (with_variables image deep (each first_use before ++ first_use v ∷ each first_use later)) p (use_code n offset) (used_context roots items words constants (bindings before ++ (v.name, v.value) ∷ bindings later)) depth base v.value 5 0) long given)
 
 scope_uses : (image : Contents) (deep : Bool) (roots : Roots) (constants : List ℕ) (scope : List Variable) (words : List (List ℕ × ℕ)) (items : List (List ℕ × Value)) (i : ℕ) (v : Variable) (p depth base : ℕ) (offset : ℤ) → IsScope image deep roots constants scope → length scope ≤ 512 → base ≤ 60 → slice_get scope i ≡ Some v → depth + v.nesting ≤ 7 → pos (p + 5) +ℤ pos 1 +ℤ offset ≡ pos v.routine → Gives (scope_setting image deep scope) p (use_code i offset) (used_context roots items words constants (bindings scope)) depth base v.value 5 0
 scope_uses image deep roots constants scope words items i v p depth base offset is few low at room place =

@@ -1,5 +1,5 @@
 -- From one slot the machine comes to another, within a budget of steps and one of charge.
-use Rattle.std.specs.Prelude.{◌≡◌, ℕ, ◌+◌, ◌<◌, ◌≤◌, ◌⊎◌, List, [], Some, pos, Bool, true}
+use Rattle.std.specs.Prelude.{◌≡◌, ℕ, ◌+◌, ◌<◌, ◌≤◌, ◌⊎◌, List, [], ◌++◌, Some, pos, Bool, true}
 use Rattle.guest_memory.specs.declared.fault.Fault.TheVariants.{F8}
 use Rattle.insn_codec.specs.declared.insn.Insn.TheVariants.{Exit}
 use Rattle.insn_codec.specs.declared.register.Register.TheVariants.{R0}
@@ -8,43 +8,74 @@ use Rattle.value_store.specs.Placing.{charge_limit}
 use Rattle.bpf_machine.specs.Decoding.{fetched}
 use Rattle.bpf_machine.specs.State.{State}
 use Rattle.bpf_machine.specs.Trace.{state_after}
+use Rattle.bpf_machine.specs.declared.frame.Frame.{Frame}
 use Rattle.bpf_machine.specs.declared.status.Status.TheVariants.{Exited, Fault}
 use Rattle.codegen_base.specs.Body.{Body, at}
+use Rattle.codegen_base.specs.FirstUses.{FirstUse, StayFilled, first_uses, pending}
 
--- the image that runs; the potentials that pay for the first uses of variables, which are told by the bytes of the scratch region; and whether a value may become too deep
+-- the image that runs; the variables whose first uses are paid beside the budgets; and whether a value may become too deep
 pub record Setting : Type 0 where
   pub image : Contents
-  pub steps_for : List ℕ → ℕ
-  pub charge_for : List ℕ → ℕ
+  pub variables : List FirstUse
   pub is_deep : Bool
 
--- the steps that may still be taken
-abbrev pub steps_left : Setting → ℕ → Body → ℕ
-steps_left s n b = n + s.steps_for b.memory.scratch
+-- the steps that may be taken from b on, and the charge that may be reached, with what first uses take: those since then, where
+-- the scratch region is `scratch` now and these calls have been opened and are open
+abbrev pub steps_to : Setting → ℕ → Body → List ℕ → List Frame → ℕ
+steps_to s n b scratch calls = n + first_uses s.image s.variables (λ v. v.steps) b.memory.scratch scratch calls
 
--- the charge that may still be reached
-abbrev pub charge_left : Setting → ℕ → Body → ℕ
-charge_left s x b = b.values.charge + x + s.charge_for b.memory.scratch
+abbrev pub charge_to : Setting → ℕ → Body → List ℕ → List Frame → ℕ
+charge_to s x b scratch calls =
+    b.values.charge + x + first_uses s.image s.variables (λ v. v.charge) b.memory.scratch scratch calls
+
+-- a run that uses no variable first, and one where the first uses of none are paid, has its own budgets alone
+pub record OwnBudgets : Type 0 where
+  pub unused_steps : (s : Setting) (n : ℕ) (b : Body) → steps_to s n b b.memory.scratch [] ≡ n
+  pub unused_charge : (s : Setting) (x : ℕ) (b : Body) → charge_to s x b b.memory.scratch [] ≡ b.values.charge + x
+  pub steps : (image : Contents) (deep : Bool) (n : ℕ) (b : Body) (scratch : List ℕ) (calls : List Frame)
+      → steps_to (record { image = image; variables = []; is_deep = deep }) n b scratch calls ≡ n
+  pub charge : (image : Contents) (deep : Bool) (x : ℕ) (b : Body) (scratch : List ℕ) (calls : List Frame)
+      → charge_to (record { image = image; variables = []; is_deep = deep }) x b scratch calls ≡ b.values.charge + x
 
 -- a reason to stop: this charge is above the limit, or a value may be too deep
 abbrev pub IsSpent : Setting → ℕ → Type 0
 IsSpent s charge = (charge_limit < charge) ⊎ (s.is_deep ≡ true)
 
--- t, which the machine reaches from b0 in k steps, is at slot p with the fact Q and within the budgets, or has stopped for its charge or a depth
-pub data Ends (s : Setting) (n x : ℕ) (b0 : Body) (p : ℕ) (Q : Body → Type 0) (k : ℕ) (t : State) : Type 0 where
-  Stopped : t.status ≡ Fault F8 → k ≤ steps_left s n b0 → IsSpent s (charge_left s x b0) → Ends s n x b0 p Q k t
-  Came : (b : Body) → t ≡ at s.image p b → k + s.steps_for b.memory.scratch ≤ steps_left s n b0 → charge_left s 0 b ≤ charge_left s x b0 → Q b → Ends s n x b0 p Q k t
+-- t, which the machine reaches from b0 in k steps, has stopped for its charge or a depth, the calls that were opened since b0 and
+-- are open standing behind b0's records; or it is at slot p with these records and the fact Q: both within the budgets and what
+-- first uses since b0 take
+pub data Ends (s : Setting) (n x : ℕ) (b0 : Body) (records : List Frame) (p : ℕ) (Q : Body → Type 0) (k : ℕ) (t : State) : Type 0 where
+  Stopped : (calls : List Frame) → t.status ≡ Fault F8 → t.records ≡ b0.records ++ calls
+      → StayFilled b0.memory.scratch t.memory.scratch
+      → k ≤ steps_to s n b0 t.memory.scratch calls → IsSpent s (charge_to s x b0 t.memory.scratch calls)
+      → Ends s n x b0 records p Q k t
+  Came : (b : Body) → t ≡ at s.image p b → b.records ≡ records
+      → StayFilled b0.memory.scratch b.memory.scratch
+      → k ≤ steps_to s n b0 b.memory.scratch [] → b.values.charge ≤ charge_to s x b0 b.memory.scratch []
+      → Q b → Ends s n x b0 records p Q k t
 
--- from slot p with body b the machine comes to slot p1 with the fact Q, within n steps and x of charge, or stops for its charge or a depth
-pub record Comes (s : Setting) (n x p : ℕ) (b : Body) (p1 : ℕ) (Q : Body → Type 0) : Type 0 where
+-- from slot p with body b the machine comes to slot p1 with these records and the fact Q, within n steps and x of charge, or stops
+-- for its charge or a depth
+pub record Reaches (s : Setting) (n x p : ℕ) (b : Body) (records : List Frame) (p1 : ℕ) (Q : Body → Type 0) : Type 0 where
   pub steps : ℕ
-  pub ends : Ends s n x b p1 Q steps (state_after steps (at s.image p b))
+  pub ends : Ends s n x b records p1 Q steps (state_after steps (at s.image p b))
+
+-- with the records that it had
+abbrev pub Comes : Setting → (n x p : ℕ) → Body → ℕ → (Body → Type 0) → Type 0
+Comes s n x p b p1 Q = Reaches s n x p b b.records p1 Q
 
 -- t has exited with the fact Q and with R0's word, or has stopped for its charge or a depth
 pub data Halts (s : Setting) (x : ℕ) (b0 : Body) (Q : Body → Type 0) (t : State) : Type 0 where
-  Over : t.status ≡ Fault F8 → IsSpent s (charge_left s x b0) → Halts s x b0 Q t
-  Left : (p : ℕ) (b : Body) → t ≡ record (at s.image p b) { status = Exited (b.registers R0) } → charge_left s 0 b ≤ charge_left s x b0 → Q b → Halts s x b0 Q t
+  Over : (calls : List Frame) → t.status ≡ Fault F8 → t.records ≡ b0.records ++ calls
+      → StayFilled b0.memory.scratch t.memory.scratch
+      → IsSpent s (charge_to s x b0 t.memory.scratch calls) → Halts s x b0 Q t
+  Left : (p : ℕ) (b : Body) → t ≡ record (at s.image p b) { status = Exited (b.registers R0) }
+      → StayFilled b0.memory.scratch b.memory.scratch
+      → b.values.charge ≤ charge_to s x b0 b.memory.scratch [] → Q b → Halts s x b0 Q t
 
--- code that comes to an exit has stopped there, from the step after its budget on
+-- code that comes to an exit has stopped there, from the step after its budget and what all variables with an empty memo take
 abbrev pub ComesToExit : Type 1
-ComesToExit = (s : Setting) (n x p q m : ℕ) (b : Body) (Q : Body → Type 0) → Comes s n x p b q Q → fetched s.image.code (pos q) ≡ Some (Some Exit) → ((b1 : Body) → Q b1 → b1.records ≡ []) → steps_left s n b < m → Halts s x b Q (state_after m (at s.image p b))
+ComesToExit = (s : Setting) (n x p q m : ℕ) (b : Body) (Q : Body → Type 0)
+    → Comes s n x p b q Q → fetched s.image.code (pos q) ≡ Some (Some Exit) → ((b1 : Body) → Q b1 → b1.records ≡ [])
+    → n + pending s.variables (λ v. v.steps) b.memory.scratch < m
+    → Halts s x b Q (state_after m (at s.image p b))

@@ -1,6 +1,7 @@
 pub mod Body
 pub mod Words
 pub mod Calls
+pub mod FirstUses
 pub mod Engine
 pub mod Pieces
 pub mod Contexts

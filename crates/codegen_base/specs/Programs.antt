@@ -1,5 +1,6 @@
 -- A program from its start to its exit.
 use Rattle.std.specs.Prelude.{◌≡◌, ℕ, ◌+◌, ◌<◌, Bool, All, List, [], ◌∷◌, ◌++◌, nat_eq, if◌then◌else◌}
+use Rattle.std.specs.Prelude.{map as each}
 use Rattle.guest_memory.specs.Memory.{start_memory}
 use Rattle.helper_table.specs.Laws.{Names}
 use Rattle.insn_codec.specs.Codes.{register_number}
@@ -16,6 +17,7 @@ use Rattle.bpf_machine.specs.Trace.{state_after}
 use Rattle.codegen_base.specs.Body.{Body}
 use Rattle.codegen_base.specs.Contexts.{Gives, HasValues}
 use Rattle.codegen_base.specs.Engine.{Halts}
+use Rattle.codegen_base.specs.FirstUses.{FirstUse}
 use Rattle.codegen_base.specs.Pieces.{AreInsns, spellings}
 use Rattle.codegen_base.specs.Variables.{routine_context, with_variables}
 
@@ -32,9 +34,9 @@ total (n ∷ ns) = n + total ns
 
 -- an image whose code begins with a piece for a value and an exit, run from the start, has exited with a reference of the value or of the error, or stopped for its charge or a depth, after its steps and those of its variables
 abbrev pub ProgramExits : Type 0
-ProgramExits = (image : loader.Contents) (deep : Bool) (values : Contents) (roots : Roots) (piece : List Insn) (routines steps charges : List ℕ) (variables : List (List ℕ × ValueOrError)) (v : ValueOrError) (n x m : ℕ)
+ProgramExits = (image : loader.Contents) (deep : Bool) (values : Contents) (roots : Roots) (piece : List Insn) (routines : List ℕ) (firsts : List FirstUse) (variables : List (List ℕ × ValueOrError)) (v : ValueOrError) (n x m : ℕ)
     → image.code ≡ spellings (piece ++ Exit ∷ []) ++ routines → All (λ b. b < 256) image.code → All (λ b. b < 256) image.constants → AreInsns (piece ++ Exit ∷ [])
     → HasValues roots values
-    → Gives (with_variables image deep steps charges) 0 piece (routine_context roots variables image.constants) 0 0 v n x
-    → n + total steps < m
-    → Halts (with_variables image deep steps charges) x (start_body image values) (λ b. Names b.values.values (b.registers R0) v) (state_after m (start_state image values))
+    → Gives (with_variables image deep firsts) 0 piece (routine_context roots variables image.constants) 0 0 v n x
+    → n + total (each (λ u. u.steps) firsts) < m
+    → Halts (with_variables image deep firsts) x (start_body image values) (λ b. Names b.values.values (b.registers R0) v) (state_after m (start_state image values))

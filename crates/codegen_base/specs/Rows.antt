@@ -1,15 +1,17 @@
 -- Programs run by hand, step by step.
-use Rattle.std.specs.Prelude.{◌≡◌, pos, true, List, [], ◌∷◌, ◌++◌}
+use Rattle.std.specs.Prelude.{◌≡◌, ℕ, pos, true, List, [], ◌∷◌, ◌++◌, replicate}
 use Rattle.insn_codec.specs.declared.insn.Insn.{Insn}
 use Rattle.insn_codec.specs.declared.insn.Insn.TheVariants.{Exit}
 use Rattle.loader.specs.declared.version.Version.TheVariants.{Second}
 use Rattle.bpf_machine.specs.State.{State, null_values, start_state}
 use Rattle.bpf_machine.specs.Trace.{state_after}
+use Rattle.bpf_machine.specs.declared.frame.Frame.{Frame}
 use Rattle.bpf_machine.specs.declared.status.Status.TheVariants.{Exited}
 use Rattle.codegen_base.specs.Code.Comparison.{unequal_tail}
 use Rattle.codegen_base.specs.Code.Calls.{two_code}
 use Rattle.codegen_base.specs.Code.Literals.{null_code, truth_code}
 use Rattle.codegen_base.specs.Code.Logic.{and_code}
+use Rattle.codegen_base.specs.FirstUses.{FirstUse, first_uses}
 use Rattle.codegen_base.specs.Pieces.{spellings}
 use Rattle.codegen_base.specs.Variables.{memo_tail, use_code}
 
@@ -24,6 +26,30 @@ variable_and_true = and_code (use_code 0 (pos 9)) (truth_code true) 0 ++ Exit �
 abbrev pub null_is_not_true : List Insn
 null_is_not_true = two_code null_code (truth_code true) 0 (unequal_tail 0) ++ Exit ∷ []
 
+-- the first use of that variable, and that of another one whose routine stands at slot 30
+abbrev pub two_variables : List FirstUse
+two_variables = record { routine = 15; steps = 10; charge = 3 } ∷ record { routine = 30; steps = 20; charge = 4 } ∷ []
+
+-- two memos that are empty, and the first of them filled
+abbrev pub both_empty : List ℕ
+both_empty = replicate 16 0
+
+abbrev pub one_filled : List ℕ
+one_filled = 4 ∷ replicate 15 0
+
+-- the record of the program's call, which stands at slot 5
+abbrev pub its_call : Frame
+its_call = record { return_pc = pos 6; r6 = 0; r7 = 0; r8 = 0; r9 = 0 }
+
+abbrev pub used_in : List ℕ → List ℕ → List Frame → ℕ
+used_in old new calls = first_uses (runs variable_and_true).image two_variables (λ v. v.steps) old new calls
+
 pub record RowsStand : Type 0 where
+  -- the first variable counts where its memo is filled and where its routine is open, and once; the other one never
+  pub filled_counts : used_in both_empty one_filled [] ≡ 10
+  pub open_counts : used_in both_empty both_empty (its_call ∷ []) ≡ 10
+  pub filled_and_open_counts_once : used_in both_empty one_filled (its_call ∷ []) ≡ 10
+  pub filled_before_is_none : used_in one_filled one_filled [] ≡ 0
+  pub unused_is_none : used_in both_empty both_empty [] ≡ 0
   pub variable_and_true_exits : (state_after 19 (runs variable_and_true)).status ≡ Exited 3
   pub null_is_not_true_exits : (state_after 9 (runs null_is_not_true)).status ≡ Exited 3

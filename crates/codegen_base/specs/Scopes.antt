@@ -9,7 +9,8 @@ use Rattle.cel_macros.specs.Environment.{Roots, variable_value}
 use Rattle.codegen_base.specs.Body.{Body}
 use Rattle.codegen_base.specs.Calls.{entered}
 use Rattle.codegen_base.specs.Contexts.{Context, Fits, Gives, Shows}
-use Rattle.codegen_base.specs.Engine.{Comes, Setting}
+use Rattle.codegen_base.specs.Engine.{Reaches, Setting}
+use Rattle.codegen_base.specs.FirstUses.{FirstUse}
 use Rattle.codegen_base.specs.Pieces.{Stands}
 use Rattle.codegen_base.specs.Variables.{memo_tail, routine_context, use_code, used_context, with_variables}
 use Rattle.codegen_base.specs.Words.{memo_at}
@@ -35,9 +36,12 @@ first_steps = each (λ v. v.steps + 9)
 abbrev pub first_charges : List Variable → List ℕ
 first_charges = each (λ v. v.charge)
 
+abbrev pub first_use : Variable → FirstUse
+first_use v = record { routine = v.routine; steps = v.steps + 9; charge = v.charge }
+
 -- the setting in which the variables may be used
 abbrev pub scope_setting : Contents → Bool → List Variable → Setting
-scope_setting image deep scope = with_variables image deep (first_steps scope) (first_charges scope)
+scope_setting image deep scope = with_variables image deep (each first_use scope)
 
 -- the routine of the variable behind these stands in the image, and gives its value in the setting of these wherever enough frames are left
 pub record HasRoutine (image : Contents) (deep : Bool) (roots : Roots) (constants : List ℕ) (before : List Variable) (v : Variable) : Type 0 where
@@ -78,19 +82,31 @@ ScopeGrows = (image : Contents) (deep : Bool) (roots : Roots) (constants : List 
 abbrev pub LaterGives : Type 0
 LaterGives = (image : Contents) (deep : Bool) (roots : Roots) (constants : List ℕ) (scope later : List Variable) (words : List (List ℕ × ℕ)) (items : List (List ℕ × Value)) (p : ℕ) (piece : List Insn) (depth base : ℕ) (x : ValueOrError) (steps charge : ℕ)
     → Gives (scope_setting image deep scope) p piece (used_context roots items words constants (bindings scope)) depth base x steps charge
-    → Gives (scope_setting image deep (scope ++ later)) p piece (used_context roots items words constants (bindings (scope ++ later))) depth base x steps charge
+    → Gives (scope_setting image deep scope) p piece (used_context roots items words constants (bindings (scope ++ later))) depth base x steps charge
+
+-- and where first uses of more variables are paid
+abbrev pub WiderGives : Type 0
+WiderGives = (image : Contents) (deep : Bool) (scope more : List Variable) (p : ℕ) (piece : List Insn) (c : Context) (depth base : ℕ)
+    (x : ValueOrError) (steps charge : ℕ)
+    → Gives (scope_setting image deep scope) p piece c depth base x steps charge
+    → Gives (scope_setting image deep (scope ++ more)) p piece c depth base x steps charge
 
 -- called from slot q with a fitting body, the routine of variable i at slot p comes back to the slot behind the call: the
 -- call's record is popped, R0 names the value or the error, the caller's body fits again and keeps what code for an
 -- expression keeps, and the memo is filled
 abbrev pub Returns : Setting → ℕ → ℕ → Context → ℕ → ℕ → ValueOrError → ℕ → ℕ → Type 0
 Returns s p i c depth base x steps charge = (q : ℕ) (b : Body) → Fits c depth base b
-    → Comes s steps charge p (entered q b) (q + 1) (λ new. Shows c depth base x b new × (memo_at i new ≡ new.registers R0 + 1))
+    → Reaches s steps charge p (entered q b) b.records (q + 1)
+    (λ new. Shows c depth base x b new × (memo_at i new ≡ new.registers R0 + 1))
 
--- the routine of the variable behind a scope returns its value wherever enough frames are left, in 5 steps more than that takes
+-- the routine of a variable behind a scope, whose code gives its value where these first uses are paid, returns it so, in 5 steps
+-- more than that takes
 abbrev pub RoutineReturns : Type 0
-RoutineReturns = (image : Contents) (deep : Bool) (roots : Roots) (constants : List ℕ) (scope : List Variable) (v : Variable)
-    (words : List (List ℕ × ℕ)) (items : List (List ℕ × Value)) (depth base : ℕ)
-    → HasRoutine image deep roots constants scope v → length scope < 512 → base ≤ 60 → depth + v.nesting ≤ 7
+RoutineReturns = (image : Contents) (deep : Bool) (paid : List FirstUse) (roots : Roots) (constants : List ℕ) (scope : List Variable)
+    (v : Variable) (words : List (List ℕ × ℕ)) (items : List (List ℕ × Value)) (depth base : ℕ)
+    → Stands image.code v.routine (v.body ++ memo_tail (length scope))
+    → Gives (with_variables image deep paid) v.routine v.body (routine_context roots (bindings scope) constants) (depth + 1) 0
+    v.value v.steps v.charge
+    → length scope < 512 → base ≤ 60 → depth < 7
     → let c = used_context roots items words constants (bindings scope ++ (v.name, v.value) ∷ []) in
-    Returns (scope_setting image deep scope) v.routine (length scope) c depth base v.value (v.steps + 5) v.charge
+    Returns (with_variables image deep paid) v.routine (length scope) c depth base v.value (v.steps + 5) v.charge

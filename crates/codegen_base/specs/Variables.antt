@@ -1,6 +1,5 @@
 -- Variables: each has a memo, a word of the scratch region, and a routine that fills it on first use.
-use Rattle.std.specs.Prelude.{◌≡◌, ℕ, suc, ◌+◌, ◌<◌, ◌≤◌, ℤ, pos, negsuc, ◌+ℤ◌, List, [], ◌∷◌, ◌++◌, length, nat_eq, Bool, if◌then◌else◌}
-use Rattle.guest_memory.specs.RegionWords.{word_in}
+use Rattle.std.specs.Prelude.{◌≡◌, ℕ, ◌+◌, ◌<◌, ◌≤◌, ℤ, pos, negsuc, ◌+ℤ◌, List, [], ◌∷◌, ◌++◌, length, Bool}
 use Rattle.insn_codec.specs.declared.alu_op.AluOp.TheVariants.{Add}
 use Rattle.insn_codec.specs.declared.comparison.Comparison.TheVariants.{Ne}
 use Rattle.insn_codec.specs.declared.insn.Insn.{Insn}
@@ -14,6 +13,7 @@ use Rattle.value_store.specs.Value.{Value, ValueOrError}
 use Rattle.cel_macros.specs.Environment.{Roots}
 use Rattle.codegen_base.specs.Contexts.{Context, Gives}
 use Rattle.codegen_base.specs.Engine.{Setting}
+use Rattle.codegen_base.specs.FirstUses.{FirstUse}
 use Rattle.codegen_base.specs.Instructions.{copy}
 use Rattle.codegen_base.specs.Pieces.{Stands}
 use Rattle.codegen_base.specs.Words.{memo_address}
@@ -38,14 +38,9 @@ memo_tail i =
     ∷ Exit
     ∷ []
 
--- what the first uses still to come may take: the cost of each variable, from i on, whose memo is empty
-unfoldable pub pending : ℕ → List ℕ → List ℕ → ℕ
-pending i [] scratch = 0
-pending i (cost ∷ costs) scratch = (if nat_eq (word_in scratch i) 0 then cost else 0) + pending (suc i) costs scratch
-
--- the setting of variables that cost these steps and charges
-abbrev pub with_variables : Contents → Bool → List ℕ → List ℕ → Setting
-with_variables image deep steps charges = record { image = image; steps_for = pending 0 steps; charge_for = pending 0 charges; is_deep = deep }
+-- the setting of these variables
+abbrev pub with_variables : Contents → Bool → List FirstUse → Setting
+with_variables image deep variables = record { image = image; variables = variables; is_deep = deep }
 
 -- in a routine, as at the start of a program, no iteration name is in force; the variables before its own can be used
 abbrev pub routine_context : Roots → List (List ℕ × ValueOrError) → List ℕ → Context
@@ -55,11 +50,16 @@ routine_context roots variables constants = record { environment = record { root
 abbrev pub used_context : Roots → List (List ℕ × Value) → List (List ℕ × ℕ) → List ℕ → List (List ℕ × ValueOrError) → Context
 used_context roots items words constants variables = record { environment = record { roots = roots; items = items; variables = variables }; words = words; constants = constants }
 
--- code for a variable's value, with those before it, makes a routine; its use gives the value, with 5 steps of its own
+-- code for a variable's value, with those before it, makes a routine; its use gives the value, with 5 steps of its own, and with
+-- at most 9 more than that code takes where it is the first
 abbrev pub VariableGives : Type 0
-VariableGives = (image : Contents) (deep : Bool) (steps charges later_steps later_charges constants : List ℕ) (words : List (List ℕ × ℕ)) (roots : Roots) (items : List (List ℕ × Value)) (variables later : List (List ℕ × ValueOrError)) (name : List ℕ) (v : ValueOrError) (body : List Insn) (routine p depth base n x : ℕ) (offset : ℤ)
-    → length steps ≡ length variables → length charges ≡ length variables → length variables < 512 → base ≤ 60 → depth < 7
+VariableGives = (image : Contents) (deep : Bool) (before behind : List FirstUse) (constants : List ℕ) (words : List (List ℕ × ℕ))
+    (roots : Roots) (items : List (List ℕ × Value)) (variables later : List (List ℕ × ValueOrError)) (name : List ℕ)
+    (v : ValueOrError) (body : List Insn) (routine p depth base n x : ℕ) (offset : ℤ)
+    → length before ≡ length variables → length variables < 512 → base ≤ 60 → depth < 7
     → pos (p + 5) +ℤ pos 1 +ℤ offset ≡ pos routine
     → Stands image.code routine (body ++ memo_tail (length variables))
-    → Gives (with_variables image deep steps charges) routine body (routine_context roots variables constants) (depth + 1) 0 v n x
-    → Gives (with_variables image deep (steps ++ (n + 9) ∷ later_steps) (charges ++ x ∷ later_charges)) p (use_code (length variables) offset) (used_context roots items words constants (variables ++ (name, v) ∷ later)) depth base v 5 0
+    → Gives (with_variables image deep before) routine body (routine_context roots variables constants) (depth + 1) 0 v n x
+    → let first : FirstUse = record { routine = routine; steps = n + 9; charge = x } in
+    Gives (with_variables image deep (before ++ first ∷ behind)) p (use_code (length variables) offset)
+    (used_context roots items words constants (variables ++ (name, v) ∷ later)) depth base v 5 0

@@ -1,4 +1,5 @@
 //! Laws of code, each the clause of a function that does nothing.
+ghost use Rattle.codegen_base.specs.Engine.{OwnBudgets};
 ghost use Rattle.codegen_base.specs.Gives.Aggregates.{ListGives, MapGives};
 ghost use Rattle.codegen_base.specs.Gives.Arithmetic.{AdditionsGive, NegationGives, ProductsGive};
 ghost use Rattle.codegen_base.specs.Gives.Comparison.{ComparisonGives};
@@ -13,7 +14,7 @@ ghost use Rattle.codegen_base.specs.Operators.{OneGives, TwoGives, ConvertsThen,
 ghost use Rattle.codegen_base.specs.Pieces.{SpelledStands};
 ghost use Rattle.codegen_base.specs.Programs.{ProgramExits};
 ghost use Rattle.codegen_base.specs.Rows.{RowsStand};
-ghost use Rattle.codegen_base.specs.Scopes.{LaterGives, NoScope, RoutineReturns, ScopeBegins, ScopeGives, ScopeGrows};
+ghost use Rattle.codegen_base.specs.Scopes.{LaterGives, NoScope, RoutineReturns, ScopeBegins, ScopeGives, ScopeGrows, WiderGives};
 ghost use Rattle.codegen_base.specs.Variables.{VariableGives};
 
 use bpf_machine::laws::decodes_spelling;
@@ -102,7 +103,7 @@ pub fn macros_give()
     ensures map_where { MapWhereGives }
 {}
 
-/// The use of a variable gives its value, and the potentials pay for its first use.
+/// The use of a variable gives its value, and what its routine takes counts as the variable's first use.
 pub fn variable_gives()
     ensures { VariableGives }
 {}
@@ -116,10 +117,17 @@ pub fn scopes_give()
     ensures begins { ScopeBegins }
     ensures grows { ScopeGrows }
     ensures later { LaterGives }
+    ensures wider { WiderGives }
     ensures returns { RoutineReturns }
 {}
 
-/// Programs run by hand.
+/// The budgets of a run are its own alone where no variable is first used in it, and where the first uses of
+/// none are paid.
+pub fn budgets_are_own()
+    ensures { OwnBudgets }
+{}
+
+/// Programs run by hand, and which variables runs use first.
 pub fn rows_stand()
     ensures { RowsStand }
 {}

@@ -23,7 +23,7 @@ use Rattle.codegen_base.specs.Programs.{start_body, total}
 use Rattle.codegen_base.specs.Scopes.{Variable, bindings, first_charges, first_steps, scope_setting}
 use Rattle.codegen_base.specs.Variables.{routine_context}
 use Rattle.codegen_base.proofs.Pieces.{size-append, size-cons, stands_front}
-use Rattle.codegen_base.proofs.Programs.{pending-most}
+use Rattle.codegen_base.proofs.Programs.{charges-most}
 use Rattle.codegen_base.proofs.Scopes.{no_scope}
 use Rattle.codegen_base.proofs.Spelled.{spelled_stands}
 use Rattle.codegen.specs.Constants.{joined, with_texts}
@@ -264,12 +264,12 @@ module _ (law : DecodesSpelling) (f : FailurePolicy) (p : PolicyTree) (roots : R
   rules_few = let few = has.few_validations in let long = rules_length ds (laid_conditions p) env p.validations in omega arith
 
   decided : {t : State} → Halts (scope_setting image deep scope) (program_charge f conditions rules) start (LeavesVerdict f (decision_of f p roots)) t → Decides f p roots values t
-  decided (Over e (inl above)) =
-      let most = pending-most 0 (first_charges scope) start.memory.scratch in
+  decided {t} (Over calls e frames filled (inl above)) =
+      let most = charges-most image scope start.memory.scratch t.memory.scratch calls in
       let enough = charge_enough in
       trees.Over e (inl (omega arith))
-  decided (Over e (inr is_deep)) = trees.Over e (inr is_deep)
-  decided {t} (Left q b e within leaves) =
+  decided (Over calls e frames filled (inr is_deep)) = trees.Over e (inr is_deep)
+  decided {t} (Left q b e filled within leaves) =
       trees.Left (ap (λ (u : State). u.status) e ∙ ap Exited leaves.answers) (subst (λ (u : State). IsLayout f (decision_of f p roots) u.values.values u.memory.verdict) (sym e) leaves.layout)
 
   pub decides : (m : ℕ) → 128 * policy_work f p roots ≤ m → Decides f p roots values (state_after m (start_state image values))

@@ -14,6 +14,7 @@ use Rattle.codegen_base.specs.Contexts.{Context}
 use Rattle.codegen_base.specs.Engine.{Setting}
 use Rattle.codegen_base.specs.Scopes.{IsScope, Variable, bindings, scope_setting}
 use Rattle.codegen_base.specs.Variables.{routine_context}
+use Rattle.codegen_base.proofs.Later.{wider_gives}
 use Rattle.codegen_base.proofs.Scopes.{no_scope}
 use Rattle.codegen.specs.Computes.{Computes}
 use Rattle.codegen.specs.Constants.{joined, with_texts}
@@ -94,11 +95,12 @@ module _ (image : Contents) (deep : Bool) (roots : Roots) (everything : List (Li
   tree_gives scope later all ds l a rest whole taken shallow is short expression used may =
       let plain = expansion_plain a in
       let env = environment_with roots (bindings scope) in
-      let s = scope_setting image deep (scope ++ later) in
+      let s = scope_setting image deep scope in
       let c = routine_context roots (bindings (scope ++ later)) image.constants in
       let given : Computes s l.place (tree_code ds l a) c 0 0 (meaning (plain_tree (expanded a)) env) (cost (plain_tree (expanded a)) env) = expression_gives l.texts l.routines ds (expanded a) l.place expression image deep roots image.constants scope later 0 taken (let within = frames_are_enough ds (expanded a) shallow in omega arith) short (has_constants image.constants everything l.texts a rest are few used) is (λ e. may (subst (λ (t : Tree). IsDeep t env) plain e)) in
       let meant : Computes s l.place (tree_code ds l a) c 0 0 (meaning a env) (cost a env) = subst (λ (t : Tree). Computes s l.place (tree_code ds l a) c 0 0 (meaning t env) (cost t env)) plain given in
-      subst (λ (vs : List Variable). Computes (scope_setting image deep vs) l.place (tree_code ds l a) (routine_context roots (bindings vs) image.constants) 0 0 (meaning a env) (cost a env)) whole meant
+      let among_all = wider_gives image deep scope later l.place (tree_code ds l a) c 0 0 (meaning a env) _ _ meant in
+      subst (λ (vs : List Variable). Computes (scope_setting image deep vs) l.place (tree_code ds l a) (routine_context roots (bindings vs) image.constants) 0 0 (meaning a env) (cost a env)) whole among_all
 
   -- ---- conditions
 

@@ -20,11 +20,11 @@ use Rattle.codegen_base.specs.Engine.{Setting, Comes, Halts}
 use Rattle.codegen_base.specs.Instructions.{skip}
 use Rattle.codegen_base.specs.Pieces.{Stands, size}
 use Rattle.codegen_base.specs.Programs.{start_body}
-use Rattle.codegen_base.specs.Scopes.{bindings, first_steps, scope_setting}
+use Rattle.codegen_base.specs.Scopes.{bindings, scope_setting}
 use Rattle.codegen_base.specs.Variables.{routine_context}
 use Rattle.codegen_base.proofs.Exits.{comes_to_exit}
 use Rattle.codegen_base.proofs.Pieces.{size-append, size-cons, stands_back, stands_first, stands_front, stands_rest}
-use Rattle.codegen_base.proofs.Programs.{halts_into, pending-most, start_fits, start_is, word_in-zeros}
+use Rattle.codegen_base.proofs.Programs.{halts_into, start_fits, start_is, steps-most, word_in-zeros}
 use Rattle.codegen_base.proofs.Runs.{and_then, done, looser, to_place}
 use Rattle.codegen_base.proofs.Spelled.{spelled_stands}
 use Rattle.codegen_base.proofs.Steps as step
@@ -203,7 +203,7 @@ policy_decides law image deep values roots scope f routines conditions rules aft
     let x = program_charge f conditions rules in
     let stands : Stands image.code 0 whole = subst (λ (bs : List ℕ). Stands bs 0 whole) (sym code) (spelled_stands law [] after whole 0 refl (subst (λ (bs : List ℕ). All (λ b. b < 256) bs) code bytes) insns) in
     let ends = policy_ends s c f routines conditions rules few start (start_marked image values roots (bindings scope) f constants table) stands gives_conditions (λ e. gives_rules (ap (λ ts. is_running (decided_before f ts)) (truths_are conditions) ∙ e)) in
-    let most = pending-most 0 (first_steps scope) start.memory.scratch in
+    let most = steps-most image scope start.memory.scratch in
     let halts = comes_to_exit s n x 0 ends.place m start (Ends c f v.outcome v.findings) ends.comes ends.here (λ b q. no_records b.records q.marked.fits.frame.records_are) (omega arith) in
     let told = halts_into s x start (Ends c f v.outcome v.findings) (LeavesVerdict f v) (λ b q. record { answers = q.answers; layout = is_layout f v b.values.values b.memory.verdict q.marked.words }) halts in
     subst (λ (t : State). Halts s x start (LeavesVerdict f v) (state_after m t)) (sym (start_is image values)) told
