@@ -57,6 +57,11 @@ class Runs:
         return self.document(name, document)
 
 
+def left(seconds, without, form):
+    """The figure of the seconds of a run that are left without those of another; none where none are left."""
+    return form(seconds - without) if seconds > without else "too short to be told"
+
+
 def row(name, figure, memory):
     """Prints a row."""
     print(f"{name:38} {figure:>24} {memory:8.1f} MB", flush=True)

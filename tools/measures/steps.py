@@ -1,6 +1,6 @@
 """How long steps take, in runs and in sessions."""
 
-from measures.runs import row
+from measures.runs import left, row
 
 STEPS = 10_000_000
 
@@ -33,7 +33,8 @@ def after(runs, name, path, before, lines):
     """What each of `lines` adds to a session that begins with `before`."""
     without = min(runs.run(["debug", path], before) for _ in range(3))
     whole, memory = runs.best(["debug", path], before + lines)
-    row(name, f"{(whole - without) * 1000 / lines.count(chr(10)):.2f} ms a line", memory)
+    count = lines.count("\n")
+    row(name, left(whole, without, lambda seconds: f"{seconds * 1000 / count:.2f} ms a line"), memory)
 
 
 def measure(runs):

@@ -1,6 +1,6 @@
 """How long calls on values take, and a checkpoint's copy of them."""
 
-from measures.runs import row
+from measures.runs import left, row
 from measures.steps import COUNTING
 
 # each turn appends to the newest list
@@ -69,15 +69,16 @@ def lists(runs):
     path = runs.image("lists", LISTS)
     built, _ = runs.best(["run-image", path, "--steps", str(BUILDING)])
     whole, memory = runs.best(["run-image", path, "--steps", str(BUILDING + 1)])
-    row("equal, two lists of 100,000 ints", f"{(whole - built) * 1000:.1f} ms", memory)
+    figure = left(whole, built, lambda seconds: f"{seconds * 1000:.1f} ms")
+    row("equal, two lists of 100,000 ints", figure, memory)
 
 
 def on_object(runs, image, name, thing):
-    """The seconds of so many steps in a session on this object beyond the session's start, and the memory."""
+    """The seconds of a session of so many steps on this object, those of its start, and the memory."""
     session = ["debug", image, "--review", runs.review(name, thing)]
     begun, _ = runs.best(session, "s 1\n")
     whole, memory = runs.best(session, f"s {STEPS}\n")
-    return whole - begun, memory
+    return whole, begun, memory
 
 
 def keys(runs):
@@ -85,17 +86,18 @@ def keys(runs):
     image = runs.image("keys", KEYS)
     for count in (10_000, 100_000):
         thing = {f"k{key:06}": key for key in range(count)}
-        seconds, memory = on_object(runs, image, "keys", thing)
-        row(f"find, a map of {count:,} keys", f"{STEPS / 4 / seconds:,.0f} calls/s", memory)
+        whole, begun, memory = on_object(runs, image, "keys", thing)
+        figure = left(whole, begun, lambda seconds: f"{STEPS / 4 / seconds:,.0f} calls/s")
+        row(f"find, a map of {count:,} keys", figure, memory)
 
 
 def checkpoints(runs):
     """What a checkpoint adds to a session for a table of many cells."""
     image = runs.image("counting", COUNTING)
     without, _ = runs.best(["debug", image], f"s {STEPS}\n")
-    seconds, memory = on_object(runs, image, "items", {"items": list(range(100_000))})
-    copy = (seconds - without) / (STEPS / 1024)
-    row("a checkpoint over 100,000 cells", f"{copy * 1_000_000:.1f} us", memory)
+    whole, begun, memory = on_object(runs, image, "items", {"items": list(range(100_000))})
+    figure = left(whole - begun, without, lambda seconds: f"{seconds / (STEPS / 1024) * 1_000_000:.1f} us")
+    row("a checkpoint over 100,000 cells", figure, memory)
 
 
 def measure(runs):

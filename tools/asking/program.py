@@ -1,0 +1,163 @@
+"""Runs of the built program."""
+
+import json
+import os
+import subprocess
+import sys
+import tempfile
+from pathlib import Path
+
+ROOT = Path(__file__).resolve().parent.parent.parent
+BUILT = ROOT / "crates" / "celbpf" / "out" / "celbpf"
+# the image of `exit`
+EXIT = b"CELBPF01\1" + bytes(7) + b"\x95" + bytes(7)
+# the most steps of one line of a session, and how many such lines are as many as a review may take
+LINE_STEPS = 1_000_000
+LINES = 10
+# where a compiled policy puts what its validation 0 came to
+RESULT = "lddw r1, 0x0000000300000010"
+# the most characters of a value that are read
+MOST_SHOWN = 100_000
+
+
+class NotAnswered(Exception):
+    """The program refused what it was asked; `line` is what it said, without `celbpf: `."""
+
+    def __init__(self, ran):
+        self.line = ran.stderr.removeprefix("celbpf: ").rstrip("\n")
+        self.status = ran.returncode
+        super().__init__(self.line)
+
+
+def located(given):
+    """The program that was given, or the repository's, which is built first where it is not up to date."""
+    if given:
+        return Path(given).resolve()
+    with tempfile.NamedTemporaryFile() as image:
+        image.write(EXIT)
+        image.flush()
+        ended = subprocess.run([ROOT / "celbpf", "list", image.name], stdout=subprocess.DEVNULL).returncode
+    if ended:
+        sys.exit(ended)
+    return BUILT
+
+
+class Program:
+    """The program, and a folder for the files that it is run on; `documents` are words such as `--review F`."""
+
+    def __init__(self, path, folder, documents=()):
+        self.path = path
+        self.folder = folder
+        self.documents = [str(word) for word in documents]
+
+    def run(self, *words):
+        """A run whose status was one that the program has."""
+        ran = subprocess.run([self.path, *words], capture_output=True, text=True)
+        if ran.returncode not in range(5):
+            sys.exit(f"the program ended with status {ran.returncode} on {' '.join(map(str, words))}")
+        return ran
+
+    def file(self, policy):
+        """The file of a policy, which is a path or what the document says."""
+        if not isinstance(policy, dict):
+            return policy
+        path = os.path.join(self.folder, "policy.json")
+        with open(path, "w") as file:
+            json.dump(policy, file)
+        return path
+
+    def refusal(self, policy):
+        """What `compile` says to a policy, as `K6 validation 0 Y2`; empty where it is accepted."""
+        ran = self.run("compile", self.file(policy), self.image())
+        return NotAnswered(ran).line if ran.returncode else ""
+
+    def image(self):
+        return os.path.join(self.folder, "policy.img")
+
+    def compiled(self, policy):
+        """The image of a policy that is accepted."""
+        ran = self.run("compile", self.file(policy), self.image())
+        if ran.returncode:
+            raise NotAnswered(ran)
+        return self.image()
+
+    def response(self, policy):
+        """The response to the review under a policy."""
+        ran = self.run("review", "--policy", self.file(policy), *self.documents)
+        if ran.returncode > 1:
+            raise NotAnswered(ran)
+        return json.loads(ran.stdout)["response"]
+
+    def session(self, image):
+        return Session([self.path, "debug", image, *self.documents])
+
+    def verdict(self, policy):
+        """The lines of `w` at the end of a policy's program."""
+        with self.session(self.compiled(policy)) as session:
+            session.go()
+            return session.ask("w", until="q").splitlines()
+
+    def value(self, policy):
+        """What the first validation of a policy with one validation and no message came to, as `v` shows it."""
+        image = self.compiled(policy)
+        slot = behind_expression(self.run("list", image).stdout)
+        with self.session(image) as session:
+            session.ask(f"b {slot}")
+            move = session.go()
+            if f" pc {slot} running" not in move:
+                raise NotAnswered(subprocess.CompletedProcess([], 4, "", f"the session answered {move}"))
+            named = int(session.ask("r").split()[1], 16)
+            for _ in range(10):
+                session.line()
+            shown = session.ask(f"v {named}")
+            return shown.split(" ", 2)[2] if shown.startswith("value ") else "error"
+
+
+def behind_expression(listing):
+    """The slot behind the expression of the one validation."""
+    slot, found = 0, 0
+    for line in listing.splitlines():
+        if line == RESULT:
+            found = slot
+        slot += 2 if line.startswith("lddw") else 1
+    return found
+
+
+class Session:
+    """A session of the debugger, asked line by line."""
+
+    def __init__(self, words):
+        pipe = subprocess.PIPE
+        self.process = subprocess.Popen(words, stdin=pipe, stdout=pipe, stderr=pipe, text=True, bufsize=1)
+
+    def __enter__(self):
+        return self
+
+    def __exit__(self, *_):
+        self.process.kill()
+        self.process.communicate()
+
+    def line(self):
+        """The next line, or as much of it as is read."""
+        said = self.process.stdout.readline(MOST_SHOWN)
+        if not said:
+            _, err = self.process.communicate()
+            raise NotAnswered(subprocess.CompletedProcess([], self.process.returncode, "", err))
+        return said.rstrip("\n")
+
+    def ask(self, asked, until=""):
+        """The first line of the answer, or the whole of it where `until` ends the session."""
+        try:
+            self.process.stdin.write(f"{asked}\n{until}\n" if until else f"{asked}\n")
+            self.process.stdin.flush()
+        except BrokenPipeError:
+            pass
+        return self.process.stdout.read() if until else self.line()
+
+    def go(self):
+        """Goes on to a breakpoint or to the end; the line of the move."""
+        for _ in range(LINES):
+            before = self.ask(f"c {LINE_STEPS}")
+            if not before.endswith(" running") or int(before.split()[1]) % LINE_STEPS:
+                break
+        return before

@@ -1,0 +1,201 @@
+"""An expression's text in pieces: for each operand, argument, item and branch its place in the text.
+
+It goes by the grammar of docs/CEL.md and asks no meaning; a text that it cannot cut has no pieces.
+"""
+
+import re
+from dataclasses import dataclass, field
+
+TOKEN = re.compile(
+    r"(?P<gap>(?:[ \t\n\f\r]|//[^\n]*)+)"
+    r"|(?P<text>[rR]\"[^\"\n\r]*\"|[rR]'[^'\n\r]*'|\"(?:\\.|[^\"\\\n\r])*\"|'(?:\\.|[^'\\\n\r])*')"
+    r"|(?P<int>0x[0-9a-fA-F]+|[0-9]+)"
+    r"|(?P<name>[_a-zA-Z][_a-zA-Z0-9]*)"
+    r"|(?P<mark>\|\||&&|<=|>=|==|!=|[?:<>+\-*/%!.,()\[\]{}])"
+)
+# operators between two operands, from the loosest on
+LEVELS = [("||",), ("&&",), ("<", "<=", ">", ">=", "==", "!=", "in"), ("+", "-"), ("*", "/", "%")]
+MACROS = {"all": (2,), "exists": (2,), "exists_one": (2,), "filter": (2,), "map": (2, 3)}
+CLOSING = {"(": ")", "[": "]", "{": "}"}
+
+
+class NotCut(Exception):
+    """A text that is not cut."""
+
+
+@dataclass
+class Piece:
+    """A piece with its place in the text; its parts in the order in which they are evaluated.
+
+    `kind` is `leaf`, `ternary`, `macro` or `other`. A macro's first part is its range, and `name` stands for an
+    item in those behind it; `word` is which macro it is.
+    """
+
+    begin: int
+    end: int
+    kind: str = "other"
+    parts: list = field(default_factory=list)
+    word: str = ""
+    name: str = ""
+
+
+class Reader:
+    """Tokens that are read into pieces."""
+
+    def __init__(self, text):
+        self.tokens = list(tokens(text))
+        self.at = 0
+
+    def token(self, ahead=0):
+        """The kind and the text of a token, or empty ones behind the last."""
+        at = self.at + ahead
+        return self.tokens[at][:2] if at < len(self.tokens) else ("", "")
+
+    def is_next(self, *words, ahead=0):
+        kind, text = self.token(ahead)
+        return kind in ("mark", "name") and text in words
+
+    def begin(self):
+        return self.tokens[self.at][2] if self.at < len(self.tokens) else self.end()
+
+    def end(self):
+        """Where the last token that was taken ends."""
+        return self.tokens[self.at - 1][3] if self.at else 0
+
+    def take(self, *words):
+        """Takes the next token, which has to be one of these."""
+        if not self.is_next(*words):
+            raise NotCut
+        self.at += 1
+        return self.tokens[self.at - 1][1]
+
+    def expression(self):
+        condition = self.level(0)
+        if not self.is_next("?"):
+            return condition
+        self.take("?")
+        chosen = self.level(0)
+        self.take(":")
+        return self.made(condition.begin, "ternary", [condition, chosen, self.expression()])
+
+    def made(self, begin, kind, parts, **named):
+        return Piece(begin, self.end(), kind, parts, **named)
+
+    def level(self, number):
+        if number == len(LEVELS):
+            return self.unary()
+        left = self.level(number + 1)
+        while self.is_next(*LEVELS[number]):
+            self.take(*LEVELS[number])
+            left = self.made(left.begin, "other", [left, self.level(number + 1)])
+        return left
+
+    def unary(self):
+        begins, sign = [], next((mark for mark in "!-" if self.is_next(mark)), None)
+        while sign and self.is_next(sign) and not self.is_signed_int():
+            begins.append(self.begin())
+            self.take(sign)
+        piece = self.member()
+        for begin in reversed(begins):
+            piece = self.made(begin, "other", [piece])
+        return piece
+
+    def is_signed_int(self):
+        return self.is_next("-") and self.token(1)[0] == "int"
+
+    def member(self):
+        piece = self.primary()
+        while self.is_next(".", "["):
+            if self.take(".", "[") == "[":
+                inner = self.expression()
+                self.take("]")
+                piece = self.made(piece.begin, "other", [piece, inner])
+            else:
+                piece = self.behind_dot(piece)
+        return piece
+
+    def behind_dot(self, target):
+        kind, name = self.token()
+        if kind != "name":
+            raise NotCut
+        self.at += 1
+        if self.is_next("("):
+            return self.method(target, name)
+        is_variable = target.kind == "leaf" and target.word == "variables"
+        return self.made(target.begin, "leaf" if is_variable else "other", [] if is_variable else [target])
+
+    def method(self, target, word):
+        names = self.token(1)
+        given = self.series("(", self.expression)
+        if word in MACROS and len(given) in MACROS[word] and names[0] == "name" and given[0].kind == "leaf":
+            return self.made(target.begin, "macro", [target, *given[1:]], word=word, name=names[1])
+        if word in MACROS:
+            return self.made(target.begin, "other", [target])
+        return self.made(target.begin, "other", [target, *given])
+
+    def primary(self):
+        begin, (kind, text) = self.begin(), self.token()
+        if self.is_next("("):
+            self.take("(")
+            piece = self.expression()
+            self.take(")")
+            piece.begin, piece.end = begin, self.end()
+            return piece
+        if self.is_next("["):
+            return self.made(begin, "other", self.series("[", self.expression))
+        if self.is_next("{"):
+            return self.map_literal(begin)
+        self.at += 2 if self.is_signed_int() else 1
+        if kind not in ("int", "text", "name") and text != "-":
+            raise NotCut
+        if kind == "name" and self.is_next("("):
+            return self.call(begin, text)
+        return self.made(begin, "leaf", [], word=text)
+
+    def map_literal(self, begin):
+        entries = self.series("{", self.entry)
+        return self.made(begin, "other", [part for entry in entries for part in entry])
+
+    def call(self, begin, function):
+        given = self.series("(", self.expression)
+        # what `has` selects from is evaluated, the selection is not
+        parts = given[0].parts if function == "has" and given else given
+        return self.made(begin, "other", parts)
+
+    def entry(self):
+        key = self.expression()
+        self.take(":")
+        return key, self.expression()
+
+    def series(self, opening, part):
+        """Parts between brackets, with commas between them and perhaps one behind them."""
+        closing, found = CLOSING[self.take(opening)], []
+        while not self.is_next(closing):
+            if found or self.is_next(","):
+                self.take(",")
+                if self.is_next(closing):
+                    break
+            found.append(part())
+        self.take(closing)
+        return found
+
+
+def tokens(text):
+    """The tokens of a text: kind, text, begin and end."""
+    at = 0
+    while at < len(text):
+        found = TOKEN.match(text, at)
+        if not found:
+            raise NotCut
+        if found.lastgroup != "gap":
+            yield found.lastgroup, found.group(), at, found.end()
+        at = found.end()
+
+
+def cut(text):
+    """The piece that is the whole expression, with its parts."""
+    reader = Reader(text)
+    piece = reader.expression()
+    if reader.at < len(reader.tokens):
+        raise NotCut
+    return piece
