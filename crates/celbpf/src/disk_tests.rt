@@ -2,11 +2,16 @@
 
 use crate::disk::Disk;
 use review_runner::{FileError, Files};
-use std::alloc::Global;
+use std::alloc::{AllocError, Global};
 use std::rt;
+use std::test::Fail;
 
 /// More bytes than a buffer of the system's takes at once.
-const LONG: [u8; 70_000] = [b'x'; 70_000];
+fn long(alloc: Global) -> Result<Vec<u8>, AllocError> {
+    let mut bytes = Vec::new(alloc);
+    bytes.resize(70_000, b'x')?;
+    Ok(bytes)
+}
 
 /// Whether the file has these bytes once they were written to it.
 fn keeps<R: rt::Files + AllocGlobal>(rt: &R, alloc: Global, bytes: &[u8]) -> bool {
@@ -21,11 +26,12 @@ fn keeps<R: rt::Files + AllocGlobal>(rt: &R, alloc: Global, bytes: &[u8]) -> boo
 }
 
 #[test]
-fn files_keep_what_is_written(rt: HostRuntime) {
+fn files_keep_what_is_written(rt: HostRuntime) -> Result<(), Fail> {
     assert!(rt; keeps(&rt, rt.alloc(), b"\0\xffCELBPF01"));
-    assert!(rt; keeps(&rt, rt.alloc(), &LONG));
+    assert!(rt; keeps(&rt, rt.alloc(), &long(rt.alloc())?));
     assert!(rt; keeps(&rt, rt.alloc(), b"a"));
     assert!(rt; keeps(&rt, rt.alloc(), b""));
+    Ok(())
 }
 
 #[test]
