@@ -95,8 +95,10 @@ module _ (old : Emitted) (ds : List Declaration) (e : CoreTree) (few : 2 * lengt
         short = omega (arith, long);
         spells = piece_spells (length old.code) (omega (arith, within, inside)) (omega (arith, within)) (omega (arith, within));
         gives = λ first rest r frame whole suits scoped near. computed first rest r (length old.code) frame (omega (arith, within)) whole suits scoped near;
+        counted = omega (arith, short);
+        kept = refl;
       }
-  expression_by false room short = absurd (short (let above = leb-false _ _ room in omega (arith, above)))
+  expression_by false room short = let above = leb-false _ _ room in absurd (omega (arith, above, short))
 
   pub emits_expression : EmitsExpression old (with_expression old ds e) ds e
   emits_expression = expression_by (has_room (with_counted old e (nodes e))) refl
@@ -158,8 +160,9 @@ module _ (old : Emitted) (ds : List Declaration) (e : CoreTree) (few : 2 * lengt
           taken = λ roots scope name t taken.
               subst (λ (rs : List (List ℕ × ℕ)). AreTaken (old.routines ++ slot ∷ []) (ds ++ declared name t (depth e (depths_of ds)) ∷ []) (scope ++ next_variable old (code_of e known rs [] 0 slot) roots scope name e ∷ []) []) (sym (routines_are old.routines ds scope [] taken))
               (variable_is_taken old.constants old.routines ds e slot roots scope name t taken);
+          counted = omega (arith, short);
         }
-    variable_by false room short = absurd (short (let above = leb-false _ _ room in omega (arith, above)))
+    variable_by false room short = let above = leb-false _ _ room in absurd (omega (arith, above, short))
 
     pub emits_variable : EmitsVariable old (with_variable old ds e) ds e
     emits_variable = variable_by (has_room (with_counted old e (1 + nodes e))) refl

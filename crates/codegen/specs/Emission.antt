@@ -1,5 +1,5 @@
 -- What the code does that an emitter has got for an expression or a variable. It is said of the piece that stands behind
--- the emitter's old code, wherever that piece stands in an image, and whatever is taken later.
+-- the emitter's old code, in every image in which that piece stands at its slot, and whatever is taken later.
 use Rattle.std.specs.Prelude.{◌≡◌, ℕ, ◌+◌, ◌*◌, ◌≤◌, Bool, true, List, [], ◌∷◌, ◌++◌, length}
 use Rattle.insn_codec.specs.declared.insn.Insn.{Insn}
 use Rattle.loader.specs.Contents.{Contents}
@@ -21,7 +21,7 @@ use Rattle.codegen_base.specs.Variables.{used_context}
 use Rattle.codegen.specs.Computes.{Computes, environment_in, scope_context, variable_with}
 use Rattle.codegen.specs.Constants.{joined, with_texts}
 use Rattle.codegen.specs.Cost.{Cost, IsDeep, cost, spent_by}
-use Rattle.codegen.specs.Emitted.{Emitted, IsTooLong}
+use Rattle.codegen.specs.Emitted.{Emitted}
 use Rattle.codegen.specs.Layer.{AreTaken}
 
 -- ---- what runs the code
@@ -75,7 +75,7 @@ pub record Suits (slots : List ℕ) (texts : List (List ℕ)) (declarations : Li
 -- behind the old code stands a piece of at most 128 slots for each node, which can be spelled; from the start of each frame
 -- above which there are frames enough for its variables it gives what the expression means, within 128 steps a visit and 16
 -- times what is spent, beside what those variables take that are first used in it, of the first ones with which the type
--- checker takes it
+-- checker takes it; the nodes are counted, and no routine is added
 pub record EmitsPiece (old new : Emitted) (declarations : List Declaration) (e : CoreTree) : Type 0 where
   pub piece : List Insn
   pub behind : new.code ≡ old.code ++ slots piece
@@ -84,10 +84,12 @@ pub record EmitsPiece (old new : Emitted) (declarations : List Declaration) (e :
   pub gives : (first rest : List Declaration) (r : Running) (frame : ℕ) → declarations ≡ first ++ rest
       → Suits old.routines new.constants first e r → HasRoutines r r.scope → frame + deepest e (depths_of first) ≤ 7
       → Computes (setting r) (length old.code) piece (context r) frame 0 (meaning_in r e) (cost_in r e)
+  pub counted : new.nodes ≡ old.nodes + nodes e
+  pub kept : new.routines ≡ old.routines
 
--- as long as the code can be finished
+-- of at most 512 nodes in all
 abbrev pub EmitsExpression : Emitted → Emitted → List Declaration → CoreTree → Type 0
-EmitsExpression old new declarations e = (IsTooLong new → ⊥) → EmitsPiece old new declarations e
+EmitsExpression old new declarations e = old.nodes + nodes e ≤ 512 → EmitsPiece old new declarations e
 
 -- ---- a variable
 
@@ -108,7 +110,7 @@ next_variable old body roots scope name e = variable_with body roots scope name 
 -- spelled, and which straight code passes in one step; from its second slot on it is the routine of the next variable:
 -- called where there are frames enough, it returns what the expression means, within 128 steps a visit and 16 times what is
 -- spent, beside what those variables take that are first used in it, of the first ones with which the type checker takes it;
--- and with it the variables are a scope with this one more
+-- and with it the variables are a scope with this one more; the nodes are counted, and 1 more
 pub record EmitsPassedRoutine (old new : Emitted) (declarations : List Declaration) (e : CoreTree) : Type 0 where
   pub piece : List Insn
   pub body : List Insn
@@ -129,7 +131,8 @@ pub record EmitsPassedRoutine (old new : Emitted) (declarations : List Declarati
   pub taken : (roots : Roots) (scope : List Variable) (name : List ℕ) (t : CelType) → AreTaken old.routines declarations scope []
       → AreTaken new.routines (declarations ++ declared name t (depth e (depths_of declarations)) ∷ [])
       (scope ++ next_variable old body roots scope name e ∷ []) []
+  pub counted : new.nodes ≡ old.nodes + (1 + nodes e)
 
--- as long as the code can be finished
+-- of at most 512 nodes in all
 abbrev pub EmitsVariable : Emitted → Emitted → List Declaration → CoreTree → Type 0
-EmitsVariable old new declarations e = (IsTooLong new → ⊥) → EmitsPassedRoutine old new declarations e
+EmitsVariable old new declarations e = old.nodes + (1 + nodes e) ≤ 512 → EmitsPassedRoutine old new declarations e

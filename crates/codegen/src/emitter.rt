@@ -74,7 +74,7 @@ impl Emitter {
     }
 
     /// Puts the instruction behind the code and answers its slot. The error says that there is no
-    /// memory for it: code has at most 0x7fff_0000 slots.
+    /// memory for it, or that the code would pass 0x7fff_0000 slots.
     pub fn put(&mut self, insn: &Insn) -> Result<u64, AllocError>
         ensures ok { IfOk result (λ slot. slot ≡ length self.old.code) }
         ensures code { OnOk result (self.new ≡ with_piece self.old (insn.now ∷ [])) }
