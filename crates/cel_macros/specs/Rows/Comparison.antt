@@ -79,3 +79,9 @@ pub record ComparisonRows : Type 0 where
   pub not_unequal_to_itself : Means (binary NotEqual (num 1) (num 1)) is_false
   -- 2 > 3
   pub not_greater_than_more : Means (binary Greater (num 2) (num 3)) is_false
+  -- 3 < 2
+  pub not_less_than_less : Means (binary Less (num 3) (num 2)) is_false
+  -- 'b' < 'a'
+  pub text_not_below_smaller : Means (binary Less (str "b") (str "a")) is_false
+  -- true < false
+  pub truth_not_below_smaller : Means (binary Less yes no) is_false

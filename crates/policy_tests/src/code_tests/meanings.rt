@@ -43,7 +43,7 @@ const ARITHMETIC: [(&str, u64); 27] = [
 ];
 
 /// Comparison and membership.
-const COMPARISON: [(&str, u64); 36] = [
+const COMPARISON: [(&str, u64); 39] = [
     ("dyn(1) == 'a'", 2),
     ("dyn(true) == 1", 2),
     ("null == null", 3),
@@ -80,6 +80,9 @@ const COMPARISON: [(&str, u64); 36] = [
     ("2 <= 1", 2),
     ("1 != 1", 2),
     ("2 > 3", 2),
+    ("3 < 2", 2),
+    ("'b' < 'a'", 2),
+    ("true < false", 2),
 ];
 
 /// Literals of lists and maps, functions and methods.
