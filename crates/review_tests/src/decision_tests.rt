@@ -1,6 +1,6 @@
 //! Sessions with the programs of policies.
 
-use crate::doubles::Documents;
+use crate::documents::Documents;
 use crate::review_fixtures::{FIVE, MOST, THREE, compiled, policy_of, review_of};
 use debugger::Counting;
 use review_runner::{DocumentNames, debug};

@@ -1,6 +1,6 @@
 //! Reviews with a namespace and params, and the order in which documents are refused.
 
-use crate::doubles::Documents;
+use crate::documents::Documents;
 use crate::review_fixtures::{
     ALLOWED, DEFAULT_STEPS, MOST, answered, answers, is_refused, policy_of, printed,
     printed_denial, review_of,

@@ -35,7 +35,7 @@ const KIND_HEAD: &str = "{\"validations\":[{\"expression\":\"true\"}],\"paramKin
 
 /// A policy's specification, and why it is refused. Its first list in `paramKind` is four levels
 /// deep in the document, of which 127 are read.
-const POLICIES: [(Pieces<'static>, Option<&str>); 9] = [
+const POLICIES: [(Pieces<'static>, Option<&str>); 10] = [
     (
         (HEAD, "(", 101, "true", ")", TAIL),
         Some("K6 validation 0 P5 at 100"),
@@ -47,6 +47,7 @@ const POLICIES: [(Pieces<'static>, Option<&str>); 9] = [
     ),
     ((HEAD, "true && ", 254, "true", "", TAIL), None),
     ((HEAD, "true && ", 255, "true", "", TAIL), Some("G3")),
+    ((HEAD, "1*", 250, "1", "", SUM_TAIL), None),
     (
         (
             "{\"validations\":[",

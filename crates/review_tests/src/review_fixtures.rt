@@ -1,6 +1,6 @@
 //! Documents of policies and reviews for tests, and what the program leaves of them.
 
-use crate::doubles::Documents;
+use crate::documents::Documents;
 use review_runner::{Done, Order, ReviewNames, perform};
 use std::alloc::{AllocError, Global};
 use std::test::Fail;
