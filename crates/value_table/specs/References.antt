@@ -45,7 +45,7 @@ pub record IsPlace (t : References) (h r : ℕ) : Type 0 where
   pub inside : r < length (heap_values t.heap)
   pub value_is : slice_get (reference_values t) h ≡ Some (value (value_in (heap_values t.heap) r))
 
--- the longer list has its cell in the backing of the list at l, where that ends there
+-- the longer list has its items in the backing of the list at l, where that list ends where its backing does
 abbrev pub SharesItems : References → ℕ → Result ℕ AllocError → References → Type 0
 SharesItems old l r new = (p : ℕ) → place_at old.places l ≡ Some p → IfOk r (λ h. (i : ℕ) × (place_at new.places h ≡ Some i) × SharesBacking old.heap p (Ok i) new.heap)
 
