@@ -29,7 +29,7 @@ fn keeps<R: rt::Files + AllocGlobal>(rt: &R, alloc: Global, bytes: &[u8]) -> boo
 fn files_keep_what_is_written(rt: HostRuntime) -> Result<(), Fail> {
     assert!(rt; keeps(&rt, rt.alloc(), b"\0\xffCELBPF01"));
     assert!(rt; keeps(&rt, rt.alloc(), &long(rt.alloc())?));
-    assert!(rt; keeps(&rt, rt.alloc(), b"a"));
+    assert!(rt; keeps(&rt, rt.alloc(), b"a\n"));
     assert!(rt; keeps(&rt, rt.alloc(), b""));
     Ok(())
 }
@@ -38,4 +38,10 @@ fn files_keep_what_is_written(rt: HostRuntime) -> Result<(), Fail> {
 fn a_missing_file_fails(rt: HostRuntime) {
     let read = Disk::new(&rt).read(rt.alloc(), "missing").err();
     assert!(rt; read == Some(FileError::Failed));
+}
+
+#[test]
+fn a_file_in_a_missing_folder_is_not_written(rt: HostRuntime) {
+    let written = Disk::new(&rt).write("missing/kept", b"a").err();
+    assert!(rt; written == Some(FileError::Failed));
 }
