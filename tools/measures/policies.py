@@ -2,18 +2,22 @@
 
 from measures.runs import row
 
-ALLOWED, DENIED = 0, 1
+ALLOWED, DENIED, REFUSED = 0, 1, 3
 
 # short runs, of which the best of many is the same again
 COUNT = 20
 
 
-def policy(runs, name, expressions):
-    """A policy whose validations have these expressions."""
+def policy(runs, name, expressions, variables=()):
+    """A policy whose validations have these expressions, with variables of these names."""
+    spec = {
+        "variables": [{"name": variable, "expression": "1"} for variable in variables],
+        "validations": [{"expression": expression} for expression in expressions],
+    }
     document = {
         "apiVersion": "admissionregistration.k8s.io/v1",
         "kind": "ValidatingAdmissionPolicy",
-        "spec": {"validations": [{"expression": expression} for expression in expressions]},
+        "spec": spec,
     }
     return runs.document(name, document)
 
@@ -56,8 +60,27 @@ def many_items(runs):
         reviewed(runs, f"review, a macro over {count:,} items", path, review, ALLOWED)
 
 
+def many_variables(runs):
+    """More variables than a policy may have, which are refused once all their names are found distinct."""
+    for count in (1_000, 10_000, 100_000):
+        path = policy(runs, "variables", ["true"], (f"v{place}" for place in range(count)))
+        words = ["compile", path, f"{runs.folder}/variables.img"]
+        timed(runs, f"compile, {count:,} variables, refused", words, REFUSED)
+
+
+def members(runs):
+    """A list in which each of its own items is searched: ints, and then texts."""
+    path = policy(runs, "members", ["object.items.all(x, x in object.items)"])
+    for count in (1_000, 10_000, 100_000):
+        for kind, items in (("ints", list(range(count))), ("texts", [f"item{item:06}" for item in range(count)])):
+            review = runs.review("members", {"items": items})
+            reviewed(runs, f"review, {count:,} searches among {kind}", path, review, ALLOWED)
+
+
 def measure(runs, example):
     """Reviews and compilations; `example` is the folder of the first example."""
     first_example(runs, example)
     many_validations(runs, example)
     many_items(runs)
+    many_variables(runs)
+    members(runs)

@@ -22,6 +22,9 @@ ja again
 
 MILLION = "s 1000000\n"
 
+# the slots that code can have behind the loop's four, none of which it reaches
+SLOTS = range(4, 65_536)
+
 
 def long_run(runs, name, steps, words, lines=""):
     """How many steps a second a run of so many takes."""
@@ -35,6 +38,22 @@ def after(runs, name, path, before, lines):
     whole, memory = runs.best(["debug", path], before + lines)
     count = lines.count("\n")
     row(name, left(whole, without, lambda seconds: f"{seconds * 1000 / count:.2f} ms a line"), memory)
+
+
+def breakpoints_set(slots):
+    """The lines that set breakpoints at these slots."""
+    return "".join(f"b {slot}\n" for slot in slots)
+
+
+def breakpoints(runs, path):
+    """Searches without breakpoints, and among as many as there can be where the loop does not come."""
+    after(runs, "rc without breakpoints, at 100,000,000", path, "g 100000000\n", "rc\n")
+    rising, falling = breakpoints_set(SLOTS), breakpoints_set(reversed(SLOTS))
+    for name, lines in (("b, 65,532 slots that rise", rising), ("b, 65,532 slots that fall", falling)):
+        seconds, memory = runs.best(["debug", path], lines)
+        row(name, f"{seconds * 1000:.0f} ms", memory)
+    after(runs, "c 1000000 with 65,532 breakpoints", path, rising, "c 1000000\n")
+    after(runs, "rc with 65,532 breakpoints", path, MILLION + rising, "rc\n")
 
 
 def measure(runs):
@@ -51,3 +70,4 @@ def measure(runs):
     after(runs, "rc, a hundred times", counting, MILLION + "b 1\n", "rc\n" * 100)
     again = MILLION + "g 3\ns 100000\n"
     after(runs, "rs 1, after g 3 and s 100000", counting, again, "rs 1\n" * 100)
+    breakpoints(runs, counting)

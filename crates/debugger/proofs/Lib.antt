@@ -9,8 +9,10 @@ mod Going
 mod Whole
 mod Marks
 mod Slots
+mod Halving
 mod Lines
 mod Order
+mod Parts
 mod Shown
 mod MemoryLines
 mod Sizes

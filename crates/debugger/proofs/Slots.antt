@@ -74,7 +74,7 @@ insert_more slot s slots n false e other front later more =
     let kept : in_order (s ∷ slots) ≡ true = rw (front, later) refl in
     rw (all, kept) refl
 
-insert_in_order : (slot : ℕ) (slots : List ℕ) → has_breakpoint slot slots ≡ false → in_order slots ≡ true → in_order (insert slots (place_of slot slots) slot) ≡ true
+pub insert_in_order : (slot : ℕ) (slots : List ℕ) → has_breakpoint slot slots ≡ false → in_order slots ≡ true → in_order (insert slots (place_of slot slots) slot) ≡ true
 insert_in_order slot [] new ordered = refl
 insert_in_order slot (s ∷ slots) new ordered =
     let front : list_all (nat_lt s) slots ≡ true = grind arith in
@@ -91,7 +91,7 @@ all-filter : (test keep : ℕ → Bool) (slots : List ℕ) → list_all test slo
 all-filter test keep [] all = refl
 all-filter test keep (s ∷ slots) all = grind (arith, all-filter test keep slots)
 
-filter_in_order : (keep : ℕ → Bool) (slots : List ℕ) → in_order slots ≡ true → in_order (filter keep slots) ≡ true
+pub filter_in_order : (keep : ℕ → Bool) (slots : List ℕ) → in_order slots ≡ true → in_order (filter keep slots) ≡ true
 filter_in_order keep [] ordered = refl
 filter_in_order keep (s ∷ slots) ordered = grind (arith, filter_in_order keep slots, all-filter (nat_lt s) keep slots)
 

@@ -1,16 +1,17 @@
 -- What a reply writes.
-use Rattle.std.specs.Prelude.{◌≡◌, ℕ, Bool, true, List, Result, codes, string_bytes, IfOk, OnErr, OnOk, if◌then◌else◌}
+use Rattle.std.specs.Prelude.{◌≡◌, ℕ, Bool, true, List, [], ◌∷◌, ◌++◌, Result, codes, string_bytes, IfOk, OnErr, OnOk, if◌then◌else◌}
 use Rattle.std.specs.declared.alloc.AllocError.{AllocError}
 use Rattle.bpf_machine.specs.State.{State}
 use Rattle.bpf_machine.specs.Text.{move_text}
 use Rattle.bpf_machine.specs.Trace.{state_after}
 use Rattle.debugger.specs.declared.reply.Reply.{Reply}
-use Rattle.debugger.specs.declared.reply.Reply.TheVariants.{Fixed, Text, Lines}
+use Rattle.debugger.specs.declared.reply.Reply.TheVariants.{Fixed, Text, Lines, Value}
 
 abbrev pub reply_text : Reply → List ℕ
 reply_text (Fixed text) = text.now
 reply_text (Text text) = text
 reply_text (Lines lines) = string_bytes lines
+reply_text (Value head json) = head ++ (string_bytes json ++ 10 ∷ [])
 
 -- a move from one step of the run from s to another, where it is in its range: refused memory leaves the step
 pub record Moves (s : State) (in_range : Bool) (from to new : ℕ) (result : Result Reply AllocError) : Type 0 where

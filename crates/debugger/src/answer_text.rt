@@ -1,5 +1,5 @@
 //! The text of an answer.
-ghost use Rattle.std.specs.Prelude.{◌≡◌, ◌≤◌, ◌<◌, ◌+◌, [], ◌++◌, ◌∷◌, ℕ, length, decimal};
+ghost use Rattle.std.specs.Prelude.{◌≡◌, ◌≤◌, ◌<◌, ◌+◌, [], ◌++◌, ◌∷◌, ℕ, codes, length, decimal};
 ghost use Rattle.std.specs.Fmt.{signed_decimal};
 ghost use Rattle.guest_memory.specs.Text.{fault_text};
 ghost use Rattle.insn_codec.specs.Codes.{register_number};
@@ -176,6 +176,16 @@ impl AnswerText {
         self.push_bytes(b"clear ");
         self.push_number(slot);
         self.push_byte(b'\n');
+    }
+
+    /// Appends what stands before the text of a value.
+    pub fn push_value(&mut self, h: u64)
+        requires { length self.old ≤ 200 }
+        ensures { self.new ≡ self.old ++ (codes "value " ++ (decimal h ++ codes " ")) }
+    {
+        self.push_bytes(b"value ");
+        self.push_number(h);
+        self.push_byte(b' ');
     }
 
     /// Appends the line that tells that `pc` is outside the code.

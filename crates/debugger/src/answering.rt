@@ -19,7 +19,7 @@ use crate::listing::list;
 use crate::moves::{back, continue_back, continue_on, forward, go_to};
 use crate::reply::{Answer, Reply};
 use crate::sink::Sink;
-use crate::transfer::write_all;
+use crate::transfer::write_reply;
 use crate::verdict::show_verdict;
 use history::{Emulator, History};
 use std::alloc::{AllocError, Global};
@@ -40,7 +40,7 @@ pub fn hear_line<H: History, W: Sink>(
     ensures err { OnErr result (W.failed w.new ≡ one_more (W.failed w.old)) }
 {
     let answer = answer_line(alloc, h, breakpoints, line);
-    write_all(w, answer.reply.as_bytes())?;
+    write_reply(w, &answer.reply)?;
     Ok(answer.ended)
 }
 

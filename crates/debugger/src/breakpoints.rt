@@ -1,6 +1,6 @@
 //! The slots at which a run is to stop.
-ghost use Rattle.std.specs.Prelude.{◌≡◌, ◌≤◌, false, length, IfOk, OnErr, OnOk, []};
-ghost use Rattle.debugger.specs.Breakpoints.{has_breakpoint, place_of, with_breakpoint, without_breakpoint};
+ghost use Rattle.std.specs.Prelude.{◌≡◌, false, OnErr, OnOk, []};
+ghost use Rattle.debugger.specs.Breakpoints.{has_breakpoint, with_breakpoint, without_breakpoint};
 
 use smallvec::SmallVec;
 use std::alloc::{AllocError, Global};
@@ -13,12 +13,15 @@ pub struct Breakpoints {
 }
 
 impl Model for Breakpoints {
-    ghost use Rattle.std.specs.Prelude.{ℕ, List};
+    ghost use Rattle.std.specs.Prelude.{◌≡◌, ℕ, List, true};
     ghost use Rattle.std.specs.Coded.{codes};
+    ghost use Rattle.debugger.specs.Breakpoints.{in_order};
 
     ghost Value = { List ℕ };
 
     ghost view = { λ b. b.slots.items };
+
+    ghost invariant = { λ b. in_order b.slots.items ≡ true };
 }
 
 impl Breakpoints {
@@ -43,10 +46,10 @@ impl Breakpoints {
         ensures err { OnErr result (self.new ≡ self.old) }
         ensures refused { OnErr result (has_breakpoint slot self.old ≡ false) }
     {
-        if has(self.slots.as_slice(), slot) {
+        // The search answers the place of the slot where it is not found.
+        let Err(place) = self.slots.as_slice().binary_search(&slot) else {
             return Ok(());
-        }
-        let place = place(self.slots.as_slice(), slot);
+        };
         self.slots.insert(place, slot)?;
         Ok(())
     }
@@ -57,22 +60,4 @@ impl Breakpoints {
     {
         self.slots.retain(|s| *s != slot);
     }
-}
-
-fn has(slots: &[u64], slot: u64) -> bool
-    ensures { result ≡ has_breakpoint slot slots.now }
-{
-    slots.contains(&slot)
-}
-
-/// How many of the slots stand before the place of this one.
-fn place(slots: &[u64], slot: u64) -> usize
-    ensures place { result ≡ place_of slot slots.now }
-    ensures within { result ≤ length slots.now }
-{
-    let mut place = 0;
-    while place < slots.len() && slots[place] < slot {
-        place += 1;
-    }
-    place
 }

@@ -12,7 +12,6 @@ use guest_memory::{Regions, Size};
 use history::Emulator;
 use smallvec::SmallVec;
 use std::alloc::{AllocError, Global};
-use std::fmt::Write;
 use value_store::ValueStore;
 
 /// What stands at a reference, if it is one.
@@ -26,17 +25,17 @@ pub fn show_value<E: Emulator>(alloc: Global, machine: &E, h: u64) -> Result<Rep
         return Ok(Reply::Fixed(b"? range\n"));
     }
     let json = values.json(h)?;
-    Ok(Reply::Lines(value_line(alloc, h, json.as_str())?))
+    Ok(value_line(alloc, h, json))
 }
 
 /// The line of a reference at which this text stands.
 #[tactic(auto, unfolding(crate::specs::Inspection::value_line))]
-fn value_line(alloc: Global, h: u64, json: &str) -> Result<String, AllocError>
-    ensures { IfOk result (λ line. string_bytes line ≡ value_line h json.now) }
+fn value_line(alloc: Global, h: u64, json: String) -> Reply
+    ensures { reply_text result ≡ value_line h (string_bytes json) }
 {
-    let mut line = String::new(alloc);
-    writeln!(line, "value {h} {json}")?;
-    Ok(line)
+    let mut head = AnswerText::new(alloc);
+    head.push_value(h);
+    Reply::Value(head, json)
 }
 
 /// From an address on, 1 to 256 bytes, if all of them stand in one region.

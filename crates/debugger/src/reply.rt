@@ -1,7 +1,4 @@
 //! Answers.
-ghost use Rattle.std.specs.Prelude.{◌≡◌};
-ghost use Rattle.debugger.specs.Replies.{reply_text};
-
 use crate::answer_text::AnswerText;
 
 /// What a line is answered with.
@@ -11,8 +8,10 @@ pub enum Reply {
     Fixed(&'static [u8]),
     /// A text that takes no memory.
     Text(AnswerText),
-    /// Lines of code or of a verdict, or the line of a value.
+    /// Lines of code or of a verdict.
     Lines(String),
+    /// The line of a value: what stands before its text, and its text, which is never copied.
+    Value(AnswerText, String),
 }
 
 /// The answer to a line.
@@ -21,16 +20,4 @@ pub struct Answer {
     pub reply: Reply,
     /// Whether the session has ended.
     pub ended: bool,
-}
-
-impl Reply {
-    pub fn as_bytes(&self) -> &[u8]
-        ensures { result.now ≡ reply_text self.now }
-    {
-        match self {
-            Reply::Fixed(text) => text,
-            Reply::Text(text) => text.as_slice(),
-            Reply::Lines(lines) => lines.as_bytes(),
-        }
-    }
 }

@@ -1,2 +1,3 @@
+mod Halving
 mod Places
 mod Searches

@@ -1,6 +1,8 @@
 -- Searches of a run for a place to stop.
-use Rattle.std.proofs.Common.{◌≡◌, ◌≢◌, ℕ, zero, suc, add-one, ◌+◌, ◌-◌, ◌<◌, ◌≤◌, Bool, true, false, List, refl, sym, ap, ◌∙◌, arith, subst, inl, inr, ◌⊎◌, if◌then◌else◌}
+use Rattle.std.proofs.Common.{◌≡◌, ◌≢◌, ℕ, zero, suc, add-one, ◌+◌, ◌-◌, ◌<◌, ◌≤◌, Bool, true, false, List, [], ◌∷◌, length, refl, sym, ap, ◌∙◌, arith, subst, inl, inr, ◌⊎◌, if◌then◌else◌}
+use Rattle.std.specs.Prelude.{◌==◌, ℤ, pos, negsuc}
 use Rattle.std.proofs.lemmas.Bool.{cases_lt}
+use Rattle.std.proofs.lemmas.Bool.Decides.{nat_tests}
 use Rattle.bpf_machine.specs.State.{State}
 use Rattle.bpf_machine.specs.Step.{is_running}
 use Rattle.bpf_machine.specs.Trace.{state_after}
@@ -190,6 +192,25 @@ found_first stops s j k none start =
       none_after = λ i after before. none i (omega (arith, start)) before;
       stops_there = λ some. absurd (some refl);
     })
+
+-- no slot, no breakpoint
+at_none : (pc : ℤ) → is_at [] pc ≡ false
+unfolding is_at
+at_none (pos slot) = refl
+at_none (negsuc n) = refl
+
+last_of_none : (s : State) (k : ℕ) → 0 ≡ last_stop [] s k
+unfolding last_stop
+last_of_none s zero = refl
+last_of_none s (suc k) = rw (at_none (state_after k s).pc) (last_of_none s k)
+
+no_slots : (stops : List ℕ) → (length stops == 0) ≡ true → stops ≡ []
+no_slots [] none = refl
+no_slots (slot ∷ stops) none = absurd (grind (arith, nat_tests))
+
+-- without slots the last place is place 0
+pub found_empty : (stops : List ℕ) (s : State) (k : ℕ) → (length stops == 0) ≡ true → 0 ≡ last_stop stops s k
+found_empty stops s k none = last_of_none s k ∙ ap (λ (slots : List ℕ). last_stop slots s k) (sym (no_slots stops none))
 
 is_stop-stopped : (stops : List ℕ) (t : State) → is_running t.status ≡ false → is_stop stops t ≡ true
 unfolding is_stop

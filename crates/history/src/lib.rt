@@ -10,6 +10,7 @@ mod past;
 mod replay;
 mod search;
 mod stop;
+mod stops;
 
 pub use emulator::Emulator;
 pub use history::History;

@@ -10,6 +10,7 @@ use crate::emulator::Emulator;
 use crate::history::History;
 use crate::replay::replay;
 use crate::search::{first_after, last_before};
+use crate::stops::Stops;
 use std::alloc::{AllocError, Global};
 use std::marker::Model;
 
@@ -115,14 +116,15 @@ impl<E: Emulator> History for Past<E> {
         // No memory is taken to look one place on, nor behind a stopped state.
         ensures no_memory { Reaches self.old.origin self.old.place (to - 1) → IsOk result }
     {
-        first_after(&mut self.checkpoints, &self.shown, to, stops)
+        first_after(&mut self.checkpoints, &self.shown, to, &Stops::of(stops))
     }
 
     fn last(&mut self, stops: &[u64]) -> Result<u64, AllocError>
         ensures found { IfOk result (λ j. j ≡ last_stop stops.now self.old.origin self.old.place) }
         ensures same { self.new ≡ self.old }
         ensures no_memory { self.old.place ≡ 0 → IsOk result }
+        ensures no_stops { stops.now ≡ [] → IsOk result }
     {
-        last_before(&self.checkpoints, self.shown.place, stops)
+        last_before(&self.checkpoints, self.shown.place, &Stops::of(stops))
     }
 }

@@ -1,5 +1,5 @@
 //! Searches of a run both ways.
-ghost use Rattle.std.specs.Prelude.{◌≡◌, ◌-◌, ◌<◌, IfOk, IsOk};
+ghost use Rattle.std.specs.Prelude.{◌≡◌, ◌-◌, ◌<◌, [], IfOk, IsOk};
 ghost use Rattle.history.specs.Search.{first_stop, last_stop};
 ghost use Rattle.history.specs.Trail.{IsCheckpoint, Keeps, Reaches};
 
@@ -7,6 +7,7 @@ use crate::checkpoint::Checkpoint;
 use crate::checkpoints::Checkpoints;
 use crate::emulator::Emulator;
 use crate::stop::{is_stop, is_stopped, stands_at};
+use crate::stops::Stops;
 use std::alloc::AllocError;
 
 /// The least place after the one shown and up to `to` at which the run is to stop, else `to`.
@@ -16,7 +17,7 @@ pub(crate) fn first_after<E: Emulator>(
     checkpoints: &mut Checkpoints<E>,
     shown: &Checkpoint<E>,
     to: u64,
-    stops: &[u64],
+    stops: &Stops<'_>,
 ) -> Result<u64, AllocError>
     requires here { IsCheckpoint E.state checkpoints.old.origin shown.now }
     requires order { shown.now.place < to }
@@ -42,15 +43,19 @@ pub(crate) fn first_after<E: Emulator>(
 }
 
 /// The greatest place before `place` whose `pc` is one of the slots in `stops`, else 0. Goes back
-/// from checkpoint to checkpoint.
+/// from checkpoint to checkpoint, and nowhere where there is no slot.
 pub(crate) fn last_before<E: Emulator>(
     checkpoints: &Checkpoints<E>,
     place: u64,
-    stops: &[u64],
+    stops: &Stops<'_>,
 ) -> Result<u64, AllocError>
     ensures found { IfOk result (λ j. j ≡ last_stop stops.now checkpoints.now.origin place) }
     ensures no_memory { place ≡ 0 → IsOk result }
+    ensures no_stops { stops.now ≡ [] → IsOk result }
 {
+    if stops.is_empty() {
+        return Ok(0);
+    }
     let mut end = place;
     while end > 0 {
         let from = checkpoints.nearest(end - 1);
@@ -64,7 +69,7 @@ pub(crate) fn last_before<E: Emulator>(
 }
 
 /// The same of the run that begins with this machine, before its place `n`.
-fn last_of_stretch<E: Emulator>(first: &E, n: u64, stops: &[u64]) -> Result<u64, AllocError>
+fn last_of_stretch<E: Emulator>(first: &E, n: u64, stops: &Stops<'_>) -> Result<u64, AllocError>
     requires { 0 < n }
     ensures { IfOk result (λ j. j ≡ last_stop stops.now (E.state first.now) n) }
 {

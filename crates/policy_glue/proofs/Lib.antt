@@ -1,5 +1,6 @@
 mod Accepted
 mod Compiles
+mod Distinct
 mod Each
 mod EmissionEnds
 mod EmissionSteps

@@ -1,8 +1,6 @@
 //! Match conditions and variables in a document.
 
-ghost use Rattle.std.specs.Prelude.{◌≡◌, map, option_map, string_bytes};
-ghost use Rattle.std.specs.List.{list_any};
-ghost use Rattle.std.specs.Str.{bytes_eq};
+ghost use Rattle.std.specs.Prelude.{◌≡◌, map, option_map, IfOk};
 ghost use Rattle.serde_json.specs.View.{view, items_view};
 ghost use Rattle.policy_glue.specs.Documents.{each, has_only, optional_list_in};
 ghost use Rattle.policy_glue.specs.Policy.{named_view};
@@ -13,7 +11,8 @@ use crate::name_rule::NameRule;
 use crate::named_expression::NamedExpression;
 use crate::policy_error::PolicyError;
 use serde_json::Value;
-use std::alloc::Global;
+use std::alloc::{AllocError, Global};
+use std::collections::BTreeSet;
 
 /// The conditions or variables that may stand there, of which no two have one name.
 pub fn named_list(
@@ -24,7 +23,7 @@ pub fn named_list(
     ensures { Forms (λ v. map named_view v.items) (named_list_in rule (option_map (λ v. view v.now) value.entry)) result }
 {
     let list = optional_list(alloc, value, rule)?;
-    if !are_distinct(list.as_slice()) {
+    if !are_distinct(alloc, list.as_slice())? {
         return Err(PolicyError::K3);
     }
     Ok(list)
@@ -88,20 +87,14 @@ fn named_parts(alloc: Global, value: &Value) -> Result<NamedExpression, PolicyEr
 }
 
 /// Whether no two have one name.
-fn are_distinct(list: &[NamedExpression]) -> bool
-    ensures { result ≡ are_distinct (map named_view list.now) }
+fn are_distinct(alloc: Global, list: &[NamedExpression]) -> Result<bool, AllocError>
+    ensures { IfOk result (λ distinct. distinct ≡ are_distinct (map named_view list.now)) }
 {
-    for (i, named) in list.iter().enumerate() {
-        if has_name(&list[i + 1..], named.name.as_str()) {
-            return false;
+    let mut names = BTreeSet::new(alloc);
+    for named in list {
+        if !names.insert(named.name.as_str())? {
+            return Ok(false);
         }
     }
-    true
-}
-
-/// Whether one has this name.
-fn has_name(list: &[NamedExpression], name: &str) -> bool
-    ensures { result ≡ list_any (λ n. bytes_eq name.now (string_bytes n.name)) list.now }
-{
-    list.iter().any(|named| name == named.name.as_str())
+    Ok(true)
 }

@@ -278,23 +278,23 @@ map_plain (x ∷ xs) = ap (λ vs. value (plain_value (view x)) ∷ vs) (map_plai
 
 pub record Opened (xs : List document.Value) (charge : ℕ) (vs : List ValueOrError) : Type 0 where
   pub stands : Stands vs
-  pub charged : charge ≤ charge_limit
   pub is : start_contents (map view xs) ≡ Ok (record { values = vs; charge = charge })
 
 charge_known : (r : Result Contents TableError) (c : Contents) (n : ℕ) → r ≡ Ok c → Ok n ≡ charge_in r → n ≡ c.charge
 charge_known (Ok d) c n e f = let same : d ≡ c = cc in let g = ap (λ (x : Contents). x.charge) same in cc
 charge_known (Err x) c n e f = absurd (cc)
 
+-- these values and this charge are due
+pub due : (ds : List json.Data) (charge : ℕ) (vs : List ValueOrError) → Ok charge ≡ charge_in (start_contents ds) → vs ≡ first_values ++ map value (map plain_value ds) → start_contents ds ≡ Ok (record { values = vs; charge = charge })
+due ds charge vs e f =
+    let start = started ds (charged_ok (start_contents ds) charge e) in
+    start.is ∙ ap₂ (λ ws n. Ok (record { values = ws; charge = n })) (sym f) (sym (charge_known (start_contents ds) _ charge start.is e))
+
 pub opened : (xs : List document.Value) (charge : ℕ) (vs : List ValueOrError) → Ok charge ≡ charge_in (start_contents (map view xs)) → vs ≡ first_values ++ map (λ root. value (plain_value (view root))) xs → Opened xs charge vs
 opened xs charge vs e f =
     let start = started (map view xs) (charged_ok (start_contents (map view xs)) charge e) in
     let values_are : vs ≡ first_values ++ map value (map plain_value (map view xs)) = f ∙ ap (λ ws. first_values ++ ws) (map_plain xs) in
-    let charge_is : charge ≡ sizes (map plain_value (map view xs)) = charge_known (start_contents (map view xs)) _ charge start.is e in
-    record {
-      stands = start_stands vs (map plain_value (map view xs)) values_are start.welcome.small;
-      charged = let small = start.welcome.small in omega arith;
-      is = start.is ∙ ap₂ (λ ws n. Ok (record { values = ws; charge = n })) (sym values_are) (sym charge_is);
-    }
+    record { stands = start_stands vs (map plain_value (map view xs)) values_are start.welcome.small; is = due (map view xs) charge vs e values_are }
 
 store_of : List Value → Contents
 store_of vs = record { values = first_values ++ map value vs; charge = sizes vs }

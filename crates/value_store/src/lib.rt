@@ -18,6 +18,7 @@ mod table_error;
 mod tree;
 
 pub use plain_table::PlainTable;
+pub use roots::start_charge;
 pub use shape::Shape;
 pub use store::ValueStore;
 pub use table_error::TableError;

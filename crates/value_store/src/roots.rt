@@ -1,8 +1,10 @@
 //! The roots of a review as values.
 
-ghost use Rattle.std.specs.Prelude.{◌≡◌, map, ◌++◌, IsOk, IfOk};
+ghost use Rattle.std.specs.Prelude.{◌≡◌, ◌≤◌, map, ◌++◌, IsOk, IfOk, OnOk};
+ghost use Rattle.std.specs.List.{AllByRecursion};
 ghost use Rattle.serde_json.specs.View.{view};
 ghost use Rattle.value_store.specs.Value.{value};
+ghost use Rattle.value_store.specs.Keys.{IsDocumentOrdered};
 ghost use Rattle.value_store.specs.Placing.{first_values, charge_limit};
 ghost use Rattle.value_store.specs.Roots.{root_of, start_contents, is_root as may_be_root};
 ghost use Rattle.value_store.specs.Plain.{plain_value, size_in, charge_in};
@@ -17,9 +19,13 @@ use std::alloc::{AllocError, Global};
 
 const CHARGE_LIMIT: u64 = 16_777_216;
 
-/// What a table of these roots is charged at first, or why there is none. Takes no memory.
-pub(crate) fn start_charge(roots: &[Value; 5]) -> Result<u64, TableError>
-    ensures { result ≡ charge_in (start_contents (map view roots.now)) }
+/// What a store of a review's five roots, in the order of `PlainTable::of_roots`, is charged at first,
+/// or the refusal that is due there. It takes no memory, and goes as deep as the documents. The keys
+/// of each object in roots that are not refused stand in byte order, each once.
+pub fn start_charge(roots: &[Value; 5]) -> Result<u64, TableError>
+    ensures charge { result ≡ charge_in (start_contents (map view roots.now)) }
+    ensures limit { IfOk result (λ charge. charge ≤ charge_limit) }
+    ensures ordered { OnOk result (AllByRecursion IsDocumentOrdered (map view roots.now)) }
 {
     let mut charge = 0u64;
     let mut place = 4u64;
@@ -36,7 +42,8 @@ pub(crate) fn start_charge(roots: &[Value; 5]) -> Result<u64, TableError>
 
 // The size of the root at a reference.
 fn root_size(place: u64, root: &Value) -> Result<u64, TableError>
-    ensures { result ≡ size_in (root_of place (view root.now)) }
+    ensures size { result ≡ size_in (root_of place (view root.now)) }
+    ensures ordered { OnOk result (IsDocumentOrdered (view root.now)) }
 {
     if !is_root(root) {
         return Err(TableError::V1(place));

@@ -10,6 +10,7 @@ use Rattle.value_table.specs.declared.cell.Cell.{Cell}
 use Rattle.value_table.specs.declared.content.Content.TheVariants as cell
 use Rattle.value_table.specs.declared.backings.Backings.{Backings}
 use Rattle.value_table.proofs.Growth.{grown_kept, cells_kept, grown_one, cells_one, count_values}
+use Rattle.value_table.proofs.Indexed.{indexes_kept}
 
 get_front : (vs ws : List Value) (r : ℕ) → r < length vs → slice_get (vs ++ ws) r ≡ slice_get vs r
 get_front [] ws r h = absurd (omega arith)
@@ -40,12 +41,12 @@ pub values_before : (old new : Heap) → IsAsBefore old new → heap_values new 
 values_before old new b = rw (b.backings, b.cells)
 
 -- where it is refused
-pub heap_before : (old new : Heap) → IsHeap old → IsAsBefore old new → vec_capacity old.same ≤ vec_capacity new.same → IsHeap new
-heap_before old new h b longer =
+pub heap_before : (old new : Heap) → IsHeap old → IsAsBefore old new → vec_capacity old.same ≤ vec_capacity new.same → new.indexes ≡ old.indexes → IsHeap new
+heap_before old new h b longer indexes =
     let v = values_before old new b in
     let room = h.room in
     let n = ap length b.cells in
-    record { cells = rw (b.backings, b.cells) h.cells; same = rw (v, b.words) h.same; room = omega (arith, room, n, longer) }
+    record { cells = rw (b.backings, b.cells) h.cells; same = rw (v, b.words) h.same; room = omega (arith, room, n, longer); indexes = rw (b.backings, b.cells, indexes) h.indexes }
 
 -- and where it is not
 pub values_put : (old : Heap) (bs : Backings) (ys mid : List Cell) (c : Cell) → IsHeap old → Extends old.backings bs → mid ≡ old.cells → ys ≡ mid ++ c ∷ [] → grown bs [] ys ≡ heap_values old ++ meaning bs (heap_values old) c.content ∷ []
@@ -53,8 +54,8 @@ values_put old bs ys mid c h e same cells =
     let kept = grown_kept old.backings bs [] old.cells e h.cells in
     values_added bs old.cells ys c (cells ∙ ap (λ xs. xs ++ c ∷ []) same) ∙ ap (λ vs. vs ++ meaning bs vs c.content ∷ []) kept
 
-pub heap_put : (old new : Heap) (mid : List Cell) (c : Cell) → IsHeap old → Extends old.backings new.backings → new.same.items ≡ old.same.items → length old.cells + 1 ≤ vec_capacity new.same → mid ≡ old.cells → new.cells ≡ mid ++ c ∷ [] → IsCell new.backings (heap_values old) c → IsHeap new
-heap_put old new mid c h e words fits same cells k =
+pub heap_put : (old new : Heap) (mid : List Cell) (c : Cell) → IsHeap old → Extends old.backings new.backings → new.same.items ≡ old.same.items → length old.cells + 1 ≤ vec_capacity new.same → mid ≡ old.cells → new.cells ≡ mid ++ c ∷ [] → IsCell new.backings (heap_values old) c → new.indexes ≡ old.indexes → IsHeap new
+heap_put old new mid c h e words fits same cells k indexes =
     let kept = grown_kept old.backings new.backings [] old.cells e h.cells in
     let all : new.cells ≡ old.cells ++ c ∷ [] = cells ∙ ap (λ xs. xs ++ c ∷ []) same in
     let l = length-append old.cells (c ∷ []) in
@@ -63,6 +64,7 @@ heap_put old new mid c h e words fits same cells k =
       cells = rw all (cells_one new.backings [] old.cells c (cells_kept old.backings new.backings [] old.cells e h.cells) (rw kept k));
       same = rw (values_put old new.backings new.cells mid c h e same cells, words) (same_more (heap_values old) (meaning new.backings (heap_values old) c.content ∷ []) old.same.items h.same);
       room = omega (arith, l, n, fits);
+      indexes = rw (values_put old new.backings new.cells mid c h e same cells, indexes) (indexes_kept old.backings new.backings (heap_values old) (meaning new.backings (heap_values old) c.content ∷ []) old.indexes.all.items e h.indexes);
     }
 
 pub put_adds : (old : Heap) (bs : Backings) (ys mid : List Cell) (c : Cell) (i : ℕ) → IsHeap old → Extends old.backings bs → mid ≡ old.cells → ys ≡ mid ++ c ∷ [] → i ≡ length mid → Adds (heap_values old) (meaning bs (heap_values old) c.content) (Ok i) (grown bs [] ys)

@@ -57,7 +57,7 @@ word_added vs same more n h e l is =
 
 -- ---- members
 
-below_more : (i m : ℕ) (rs : List ℕ) → i ≤ m → AreBelow i rs → AreBelow m rs
+pub below_more : (i m : ℕ) (rs : List ℕ) → i ≤ m → AreBelow i rs → AreBelow m rs
 below_more i m [] h b = tt
 below_more i m (r ∷ rs) h b = (let l = b.0 in omega arith, below_more i m rs h b.1)
 

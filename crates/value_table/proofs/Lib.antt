@@ -13,6 +13,7 @@ pub mod Walks
 pub mod Rows
 pub mod Classes
 pub mod Comparisons
+pub mod Indexed
 pub mod Searches
 pub mod Lookups
 pub mod Mapped

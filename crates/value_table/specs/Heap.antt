@@ -4,6 +4,7 @@ use Rattle.std.specs.declared.alloc.AllocError.{AllocError}
 use Rattle.value_store.specs.Value.{Value}
 use Rattle.value_table.specs.Meaning.{grown}
 use Rattle.value_table.specs.Heaps.{AreCells, AreSame}
+use Rattle.value_table.specs.Index.{AreIndexes}
 use Rattle.value_table.specs.declared.cell.Cell.{Cell}
 use Rattle.value_table.specs.declared.content.Content.{Content}
 use Rattle.value_table.specs.declared.content.Content.TheVariants as cell
@@ -17,6 +18,7 @@ pub record IsHeap (h : Heap) : Type 0 where
   pub same : AreSame (heap_values h) h.same.items
   -- a word of each cell has room, so that comparing takes no memory
   pub room : length h.cells ≤ vec_capacity h.same
+  pub indexes : AreIndexes h.backings (heap_values h) h.indexes.all.items
 
 -- the same cells, parts and words
 pub record IsAsBefore (old new : Heap) : Type 0 where

@@ -6,6 +6,7 @@ pub mod References
 pub mod Heads
 pub mod Equality
 pub mod Search
+pub mod Index
 pub mod Entries
 pub mod Growing
 pub mod Held

@@ -1,6 +1,6 @@
 //! Deep equality that remembers what it found equal.
 
-ghost use Rattle.std.specs.Prelude.{◌≡◌, ◌<◌, ◌≤◌, length, true, Some, IsSome};
+ghost use Rattle.std.specs.Prelude.{◌≡◌, ◌<◌, ◌≤◌, length, drop, true, Some, IsSome};
 ghost use Rattle.value_store.specs.Equality.{equal};
 ghost use Rattle.value_store.specs.Lookup.{has_item, member};
 ghost use Rattle.value_store.specs.Calls.{entries_part};
@@ -12,16 +12,21 @@ ghost use Rattle.value_table.specs.Heap.{heap_values, IsHeap};
 mod alike;
 mod classes;
 mod member;
+mod start;
 mod walk;
 
 use crate::content::Content;
 use crate::equality::member::is_among;
+use crate::equality::start::start_at;
 use crate::equality::walk::first;
 pub(crate) use crate::equality::walk::parts_of;
 use crate::heap::Heap;
 use crate::text::text;
 
-// No call takes memory: there is room for a word of each cell.
+/// How many items are searched without an index.
+const FEW: u64 = 16;
+
+// No comparison takes memory: there is room for a word of each cell.
 impl Heap {
     /// Whether the values of two cells are equal in depth. Those that are found equal are of one class
     /// from then on, so that they are not compared again.
@@ -81,8 +86,43 @@ impl Heap {
         ensures values { heap_values self.new ≡ heap_values self.old }
         ensures answer { result ≡ has_item (value_in (heap_values self.old) x) (items_at (heap_values self.old) (refs_at self.old.backings.lists backing count)) }
     {
-        let items = first(&self.backings, backing, count);
+        let start = self.start(x, backing, count);
+        let items = &first(&self.backings, backing, count)[start as usize..];
         is_among(self.cells.items(), &self.backings, &mut self.same, x, items)
+    }
+
+    // A place among the first items of a backing before which none is equal to the value at `x`. An index
+    // is made where more than a few items are searched a second time, and where there is memory for it.
+    fn start(&mut self, x: u64, backing: u64, count: u64) -> u64
+        requires heap { IsHeap self.old }
+        requires value { x < length (heap_values self.old) }
+        requires items { IsRange self.old.backings.lists (length (heap_values self.old)) backing count }
+        ensures heap { IsHeap self.new }
+        ensures cells { self.new.cells ≡ self.old.cells }
+        ensures backings { self.new.backings ≡ self.old.backings }
+        ensures words { self.new.same.items ≡ self.old.same.items }
+        ensures inside { result ≤ count }
+        ensures skips { has_item (value_in (heap_values self.old) x) (items_at (heap_values self.old) (refs_at self.old.backings.lists backing count)) ≡ has_item (value_in (heap_values self.old) x) (items_at (heap_values self.old) (drop result (refs_at self.old.backings.lists backing count))) }
+    {
+        if count < FEW {
+            return 0;
+        }
+        let Some(slot) = self.indexes.slot(self.cells.alloc(), backing) else {
+            return 0;
+        };
+        let cells = self.cells.items();
+        match start_at(
+            &mut self.indexes.all,
+            slot,
+            cells,
+            &self.backings,
+            backing,
+            x,
+            count,
+        ) {
+            Ok(start) => start,
+            Err(_) => 0,
+        }
     }
 
     // Whether the map at `map` has the text at `x` as a key.

@@ -11,6 +11,7 @@ use crate::backing::Backing;
 use crate::backings::Backings;
 use crate::cell::Cell;
 use crate::content::Content;
+use crate::indexes::Indexes;
 use crate::lengths::int_length;
 use crate::room::append;
 use std::alloc::{AllocError, Global};
@@ -23,6 +24,8 @@ pub(crate) struct Heap {
     /// For each cell one with an equal value, as far as was found: itself, or one before it. A cell
     /// whose word is missing has itself. There is room for a word of each cell.
     pub(crate) same: Vec<u64>,
+    /// What is known of the items of lists. A copy has to find it anew.
+    pub(crate) indexes: Indexes,
 }
 
 impl Heap {
@@ -36,6 +39,7 @@ impl Heap {
             cells: Backing::new(alloc)?,
             backings: Backings::new(alloc)?,
             same: Vec::new(alloc),
+            indexes: Indexes::new(alloc),
         })
     }
 
@@ -48,6 +52,7 @@ impl Heap {
             cells: self.cells.clone()?,
             backings: self.backings.copy()?,
             same: Vec::with_capacity(self.cells.alloc(), self.cells.len())?,
+            indexes: Indexes::new(self.cells.alloc()),
         })
     }
 

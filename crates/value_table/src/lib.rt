@@ -10,6 +10,8 @@ mod documents;
 mod entries;
 mod equality;
 mod heap;
+mod index;
+mod indexes;
 mod items;
 mod lengths;
 mod lists;

@@ -1,8 +1,7 @@
 //! The table of values.
 
-ghost use Rattle.std.specs.Prelude.{◌≡◌, ◌≤◌, map};
+ghost use Rattle.std.specs.Prelude.{◌≡◌, map};
 ghost use Rattle.serde_json.specs.View.{view};
-ghost use Rattle.value_store.specs.Keys.{AreOrdered};
 ghost use Rattle.value_store.specs.Roots.{start_contents, Starts};
 
 use crate::references::References;
@@ -10,7 +9,7 @@ use crate::roots::start_references;
 use serde_json::Value;
 use std::alloc::{AllocError, Global};
 use std::marker::Model;
-use value_store::{PlainTable, Shape, TableError, ValueStore};
+use value_store::{Shape, TableError, ValueStore, start_charge};
 
 /// The values of a program, by reference. Copies of a table share its cells, texts, lists and maps
 /// until one of them grows.
@@ -48,23 +47,10 @@ impl Table {
     pub fn of_roots(alloc: Global, roots: &[Value; 5]) -> Result<Table, TableError>
         ensures { Starts (λ t. record { values = ⟦<Table as ValueStore>⟧.values t; charge = ⟦<Table as ValueStore>⟧.charge t }) (start_contents (map view roots.now)) result }
     {
-        let charge = match PlainTable::of_roots(alloc, roots) {
-            Ok(judged) => judged_charge(&judged),
-            Err(refusal) => return Err(refusal),
-        };
+        let charge = start_charge(roots)?;
         let references = start_references(alloc, roots)?;
         Ok(Table { references, charge })
     }
-}
-
-// What the plain table of the same roots is charged. Its keys stand in order.
-fn judged_charge(table: &PlainTable) -> u64
-    ensures charge { result ≡ ⟦<PlainTable as ValueStore>⟧.charge table.now }
-    ensures limit { result ≤ 16777216 }
-    ensures ordered { AreOrdered (⟦<PlainTable as ValueStore>⟧.values table.now) }
-{
-    let _ = table.len();
-    table.charge()
 }
 
 impl ValueStore for Table {

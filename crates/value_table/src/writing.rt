@@ -29,14 +29,28 @@ impl Heap {
         requires inside { place < length (heap_values self.now) }
         ensures { IfOk result (λ s. string_bytes s ≡ json_text (value_in (heap_values self.now) place)) }
     {
-        let room = Vec::with_capacity(alloc, self.cell(place).json as usize)?;
-        let mut writer = Writer::new(room);
-        write(self.cells.items(), &self.backings, &mut writer, place)?;
-        let Ok(text) = String::from_utf8(writer.into_inner()) else {
-            unreachable!();
-        };
-        Ok(text)
+        json_at(alloc, self.cells.items(), &self.backings, place)
     }
+}
+
+/// What stands at a place as JSON.
+pub(crate) fn json_at(
+    alloc: Global,
+    cells: &[Cell],
+    backings: &Backings,
+    place: u64,
+) -> Result<String, AllocError>
+    requires contents { AreContents backings.now cells.now }
+    requires inside { place < length cells.now }
+    ensures { (vs : List Value) → AreMeanings backings.now vs cells.now → IfOk result (λ s. string_bytes s ≡ json_text (value_in vs place)) }
+{
+    let room = Vec::with_capacity(alloc, cells[place as usize].json as usize)?;
+    let mut writer = Writer::new(room);
+    write(cells, backings, &mut writer, place)?;
+    let Ok(text) = String::from_utf8(writer.into_inner()) else {
+        unreachable!();
+    };
+    Ok(text)
 }
 
 // Writes what stands at a place. It goes as deep as the value.

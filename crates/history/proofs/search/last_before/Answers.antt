@@ -1,7 +1,10 @@
 use Rattle.std.proofs.Common.{◌-◌, ◌<◌, ◌∙◌, inl, inr, arith, sym}
-use Rattle.history.proofs.Searches.{found_first, found_in_stretch, last_low, none_in_stretch}
+use Rattle.history.proofs.Searches.{found_empty, found_first, found_in_stretch, last_low, none_in_stretch}
 use Rattle.history.proofs.search.last_before.Goals as goal
 use Rattle.history.proofs.search.last_before.Goals.{then-last-gt0-via-then-last-gt0, then-last-gt0-via-else-last-gt0+then-stands_at}
+
+pub returns-then-is_empty-clause-found : goal.returns-then-is_empty-clause-found
+returns-then-is_empty-clause-found g c = found_empty _ _ _ (sym c.is_empty.ensures ∙ c.if-is_empty.true)
 
 pub overflow_add-result : goal.overflow_add-result
 overflow_add-result g c =

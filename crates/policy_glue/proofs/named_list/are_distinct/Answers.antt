@@ -1,10 +1,22 @@
-use Rattle.std.proofs.Common.{arith, ◌∷◌, drop, ◌+◌, ◌∙◌, ap, sym}
-use Rattle.std.proofs.lemmas.List.{drop_more}
-use Rattle.policy_glue.proofs.Lists.{distinct_stop, distinct_step, tail_is}
+use Rattle.std.proofs.Common.{◌+◌, ◌∙◌, refl}
+use Rattle.policy_glue.proofs.Distinct.{distinct_more, distinct_stop, names_more, names_none}
 use Rattle.policy_glue.proofs.named_list.are_distinct.Goals as goal
 
-pub returns-then-has_name : goal.returns-then-has_name
-returns-then-has_name c = distinct_stop c.args.list.now (drop c.loop-i.i c.args.list.now) (drop (c.loop-i.i + 1) c.args.list.now) _ c.index-list-i.result _ _ c.loop-i.invariant (drop_more c.args.list.now c.loop-i.i c.index-list-i.result (omega arith) ∙ ap (λ x. x ∷ drop (c.loop-i.i + 1) c.args.list.now) (sym c.index-list-i.is)) c.as_str.ensures.value c.has_name.ensures (tail_is c.args.list.now (c.loop-i.i + 1)) c.if-has_name.true
+pub loop-named-init : goal.loop-named-init
+loop-named-init c = record { distinct = refl; names = names_none _ c.new-names.ensures.empty }
 
-pub loop-i-preserved : goal.loop-i-preserved
-loop-i-preserved c = distinct_step c.args.list.now (drop c.loop-i.i c.args.list.now) (drop (c.loop-i.i + 1) c.args.list.now) _ c.index-list-i.result _ _ c.loop-i.invariant (drop_more c.args.list.now c.loop-i.i c.index-list-i.result (omega arith) ∙ ap (λ x. x ∷ drop (c.loop-i.i + 1) c.args.list.now) (sym c.index-list-i.is)) c.as_str.ensures.value c.has_name.ensures (tail_is c.args.list.now (c.loop-i.i + 1)) c.if-has_name.false
+pub returns-then-not-branch : goal.returns-then-not-branch
+returns-then-not-branch c =
+    distinct_stop c.args.list.now (c.loop-named.named-index + 1)
+    (distinct_more c.args.list.now c.loop-named.named-index c.named-item.result c.as_str.result c.loop-named.names c.in_ok-insert.field-0 c.loop-named-test.true c.named-item.is c.as_str.ensures.value c.loop-named.invariant.names c.loop-named.invariant.distinct
+    c.in_ok-insert.ensures.added
+    ∙ c.if-not-branch.true)
+
+pub loop-named-preserved : goal.loop-named-preserved
+loop-named-preserved c = record {
+  distinct =
+      distinct_more c.args.list.now c.loop-named.named-index c.named-item.result c.as_str.result c.loop-named.names c.in_ok-insert.field-0 c.loop-named-test.true c.named-item.is c.as_str.ensures.value c.loop-named.invariant.names c.loop-named.invariant.distinct
+      c.in_ok-insert.ensures.added
+      ∙ c.if-not-branch.false;
+  names = names_more c.args.list.now c.loop-named.named-index c.named-item.result c.as_str.result c.loop-named.names c.insert.new.self c.loop-named-test.true c.named-item.is c.as_str.ensures.value c.loop-named.invariant.names c.in_ok-insert.ensures.updates;
+}

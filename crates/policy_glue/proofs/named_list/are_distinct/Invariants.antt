@@ -1,6 +1,11 @@
-use Rattle.std.proofs.Common.{drop}
-use Rattle.policy_glue.proofs.Lists.{DistinctGo}
+use Rattle.std.proofs.Common.{◌≡◌, true, map, take}
+use Rattle.policy_glue.specs.Policy.{named_view}
+use Rattle.policy_glue.specs.Reading.{are_distinct}
+use Rattle.policy_glue.proofs.Distinct.{HasNames}
 use Rattle.policy_glue.proofs.named_list.are_distinct.Given as goal
 
-abbrev pub invariant-loop-i : goal.invariant-loop-i
-invariant-loop-i l = DistinctGo l.list (drop l.i l.list)
+abbrev pub invariant-loop-named : goal.invariant-loop-named
+invariant-loop-named l = record {
+  distinct : are_distinct (map named_view (take l.named-index l.list)) ≡ true;
+  names : HasNames l.names (take l.named-index l.list);
+}

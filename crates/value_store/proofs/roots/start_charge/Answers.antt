@@ -1,6 +1,8 @@
-use Rattle.std.proofs.Common.{◌+◌, suc, drop, map, sym, subst, add-one, arith}
-use Rattle.std.proofs.lemmas.List.{drop_more}
+use Rattle.std.proofs.Common.{◌≡◌, ◌+◌, [], suc, drop, map, sym, subst, add-one, arith}
+use Rattle.std.specs.List.{AllByRecursion}
+use Rattle.std.proofs.lemmas.List.{drop_more, drop_all}
 use Rattle.serde_json.specs.View.{view}
+use Rattle.value_store.specs.Keys.{IsDocumentOrdered}
 use Rattle.value_store.proofs.Starting.{Judging, judging_step}
 use Rattle.value_store.proofs.roots.start_charge.Goals as goal
 
@@ -11,9 +13,18 @@ loop-root-preserved c =
     let here = drop_more xs l.root-index c.root-item.result (omega arith) in
     let go = subst (λ ys. Judging (map view xs) (map view ys) l.place l.charge) here l.invariant.go in
     let rest = map view (drop (l.root-index + 1) xs) in
-    let step = judging_step _ _ _ _ _ _ go c.in_ok-size.ensures in
+    let step = judging_step _ _ _ _ _ _ go c.in_ok-size.ensures.size in
     let charged = subst (λ n. Judging (map view xs) rest (suc l.place) n) (sym c.saturating_add-charge.ensures) step in
+    let ordered = subst (λ ys. AllByRecursion IsDocumentOrdered (map view ys) → AllByRecursion IsDocumentOrdered (map view xs)) here l.invariant.ordered in
     record {
       at = omega (arith, l.invariant.at);
       go = subst (λ p. Judging (map view xs) rest p c.saturating_add-charge.result) (sym (add-one l.place)) charged;
+      ordered = λ more. ordered (c.in_ok-size.ensures.ordered, more);
     }
+
+pub returns-clause-ordered : goal.returns-clause-ordered
+returns-clause-ordered c =
+    let l = c.loop-root in
+    let xs = c.args.roots.now in
+    let none : drop l.root-index xs ≡ [] = drop_all l.root-index xs (omega arith) in
+    subst (λ ys. AllByRecursion IsDocumentOrdered (map view ys) → AllByRecursion IsDocumentOrdered (map view xs)) none l.invariant.ordered tt

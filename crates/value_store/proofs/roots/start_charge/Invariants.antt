@@ -1,5 +1,7 @@
 use Rattle.std.proofs.Common.{◌≡◌, ◌+◌, drop, map}
+use Rattle.std.specs.List.{AllByRecursion}
 use Rattle.serde_json.specs.View.{view}
+use Rattle.value_store.specs.Keys.{IsDocumentOrdered}
 use Rattle.value_store.proofs.Starting.{Judging}
 use Rattle.value_store.proofs.roots.start_charge.Given as goal
 
@@ -7,4 +9,5 @@ abbrev pub invariant-loop-root : goal.invariant-loop-root
 invariant-loop-root l = record {
   at : l.place ≡ 4 + l.root-index;
   go : Judging (map view l.roots) (map view (drop l.root-index l.roots)) l.place l.charge;
+  ordered : AllByRecursion IsDocumentOrdered (map view (drop l.root-index l.roots)) → AllByRecursion IsDocumentOrdered (map view l.roots);
 }

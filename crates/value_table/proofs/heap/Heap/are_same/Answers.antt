@@ -29,7 +29,7 @@ returns-clause-heap c =
     let m : AreMeanings heap.backings (heap_values heap) c.items.result.now = rw items (meanings_of heap.backings heap.cells c.requires.heap.cells) in
     let s : AreSame (heap_values heap) c.deref_mut.result.now = rw c.deref_mut.ensures.value c.requires.heap.same in
     let after = c.equal.ensures (heap_values heap) m s in
-    record { cells = c.requires.heap.cells; same = rw (with_items_is heap.same c.equal.new.same (c.equal.auto.same ∙ c.deref_mut.ensures.len)) after.known; room = c.requires.heap.room }
+    record { cells = c.requires.heap.cells; same = rw (with_items_is heap.same c.equal.new.same (c.equal.auto.same ∙ c.deref_mut.ensures.len)) after.known; room = c.requires.heap.room; indexes = c.requires.heap.indexes }
 
 pub returns-clause-answer : goal.returns-clause-answer
 returns-clause-answer c =

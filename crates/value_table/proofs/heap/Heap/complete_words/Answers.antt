@@ -17,7 +17,7 @@ loop-place-preserved c =
     let held = c.push.ensures.capacity in
     let room = inv.heap.room in
     record {
-      heap = record { cells = inv.heap.cells; same = word_added _ c.loop-place.self.same.items c.push.new.self.items c.loop-place.place inv.heap.same inv.next (omega arith) more; room = omega (arith, held, room) };
+      heap = record { cells = inv.heap.cells; same = word_added _ c.loop-place.self.same.items c.push.new.self.items c.loop-place.place inv.heap.same inv.next (omega arith) more; room = omega (arith, held, room); indexes = inv.heap.indexes };
       cells = inv.cells;
       backings = inv.backings;
       next = let n = inv.next in omega arith;

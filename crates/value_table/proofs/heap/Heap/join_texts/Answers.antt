@@ -1,4 +1,4 @@
-use Rattle.std.proofs.Common.{◌∙◌, ap, [], ◌∷◌, ◌++◌}
+use Rattle.std.proofs.Common.{refl, ◌∙◌, ap, [], ◌∷◌, ◌++◌}
 use Rattle.value_store.specs.Value.{text}
 use Rattle.value_table.specs.Meaning.{meaning}
 use Rattle.value_table.specs.Heap.{heap_values}
@@ -7,7 +7,7 @@ use Rattle.value_table.proofs.heap.Heap.join_texts.Goals as goal
 
 pub returns-clause-heap : goal.returns-clause-heap
 returns-clause-heap c =
-    heap_put c.args.self.now _ _ _ c.requires.heap c.join_texts.ensures.grown c.room_for_cell.ensures.words c.in_ok-cells.ensures.word c.in_ok-cells.ensures.cells c.append.ensures.items (c.text_cell.ensures.cell _)
+    heap_put c.args.self.now _ _ _ c.requires.heap c.join_texts.ensures.grown c.room_for_cell.ensures.words c.in_ok-cells.ensures.word c.in_ok-cells.ensures.cells c.append.ensures.items (c.text_cell.ensures.cell _) refl
 
 pub returns-clause-added : goal.returns-clause-added
 returns-clause-added c =

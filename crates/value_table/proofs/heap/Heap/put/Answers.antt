@@ -1,4 +1,4 @@
-use Rattle.std.proofs.Common.{◌≡◌, ◌+◌, ◌∙◌, sym, ap, ap₂, subst, arith, max}
+use Rattle.std.proofs.Common.{rules, refl, ◌≡◌, ◌+◌, ◌∙◌, sym, ap, ap₂, subst, arith, max}
 use Rattle.std.specs.Prelude.{IsSome}
 use Rattle.value_store.specs.Value as kind
 use Rattle.value_store.specs.Value.{keys_of}
@@ -10,7 +10,7 @@ use Rattle.value_table.specs.Heads.{texts_of}
 use Rattle.value_table.specs.Search.{IsAt, IsGap}
 use Rattle.value_table.specs.Entries.{put_values}
 use Rattle.value_table.specs.declared.content.Content.TheVariants as cell
-use Rattle.value_table.proofs.Adding.{heap_put, due_adds}
+use Rattle.value_table.proofs.Adding.{heap_before, heap_put, due_adds}
 use Rattle.value_table.proofs.Heads.{map_long}
 use Rattle.value_table.proofs.Listed.{Made}
 use Rattle.value_table.proofs.Lookups.{map_here}
@@ -69,10 +69,13 @@ pub returns-clause-heap : goal.returns-clause-heap
 returns-clause-heap c =
     let at = goal.at.returns-clause-heap c in
     let m = made at.In_ok-entry (keys_searched at.After-keys) (key_searched at.After-text) in
-    heap_put c.args.self.now _ _ _ c.requires.heap c.put_entry.ensures.grown c.room_for_cell.ensures.words c.in_ok-cells.ensures.word c.in_ok-cells.ensures.cells c.append.ensures.items m.cell
+    heap_put c.args.self.now _ _ _ c.requires.heap c.put_entry.ensures.grown c.room_for_cell.ensures.words c.in_ok-cells.ensures.word c.in_ok-cells.ensures.cells c.append.ensures.items m.cell refl
 
 pub returns-clause-added : goal.returns-clause-added
 returns-clause-added c =
     let at = goal.at.returns-clause-added c in
     let m = made at.In_ok-entry (keys_searched at.After-keys) (key_searched at.After-text) in
     due_adds c.args.self.now _ _ _ _ c.append.result _ m.value c.requires.heap c.put_entry.ensures.grown c.in_ok-cells.ensures.cells c.append.ensures.items c.append.ensures.place
+
+pub returns-in_err-entry-clause-heap : goal.returns-in_err-entry-clause-heap
+returns-in_err-entry-clause-heap c = heap_before c.args.self.now _ c.requires.heap (search rules) c.room_for_cell.ensures.longer refl

@@ -1,0 +1,94 @@
+-- A breakpoint's slot, or its place, found by halving.
+use Rattle.std.proofs.Common.{◌≡◌, ℕ, zero, suc, ◌<◌, ◌≤◌, true, false, List, [], ◌∷◌, length, get_or, Result, Ok, Err, refl, subst, arith, inl, inr}
+use Rattle.std.specs.Prelude.{insert, nat_eq, nat_lt, OnErr}
+use Rattle.std.specs.Ordering.{nat_cmp}
+use Rattle.std.specs.List.{list_all}
+use Rattle.std.specs.List.Sorted.{IsBinarySearchResult}
+use Rattle.std.proofs.lemmas.Bool.{cases_lt}
+use Rattle.std.proofs.lemmas.Bool.Decides.{nat_tests}
+use Rattle.std.proofs.lemmas.List.Elements.{All-from_get_or}
+use Rattle.std.proofs.lemmas.List.Folds.{list_any_at, list_any_none}
+use Rattle.std.proofs.lemmas.List.Sorted.{searched}
+use Rattle.std.proofs.lemmas.List.Sums.{prefix_len_is}
+use Rattle.debugger.specs.Breakpoints.{has_breakpoint, in_order, place_of, with_breakpoint}
+use Rattle.debugger.proofs.Slots.{insert_in_order}
+
+below_each : (s : ℕ) (slots : List ℕ) (k : ℕ) → list_all (nat_lt s) slots ≡ true → k < length slots → s < get_or slots k 0
+below_each s [] k all within = absurd (omega (arith, within))
+below_each s (t ∷ slots) zero all within = grind (arith, nat_tests)
+below_each s (t ∷ slots) (suc k) all within =
+    let rest : list_all (nat_lt s) slots ≡ true = grind arith in
+    below_each s slots k rest (omega (arith, within))
+
+-- slots in order rise
+rises : (slots : List ℕ) → in_order slots ≡ true → (i j : ℕ) → i ≤ j → j < length slots → get_or slots i 0 ≤ get_or slots j 0
+rises [] ordered i j low within = absurd (omega (arith, within))
+rises (s ∷ slots) ordered zero zero low within = omega arith
+rises (s ∷ slots) ordered zero (suc j) low within =
+    let front : list_all (nat_lt s) slots ≡ true = grind arith in
+    let less = below_each s slots j front (omega (arith, within)) in
+    omega (arith, less)
+rises (s ∷ slots) ordered (suc i) zero low within = absurd (omega (arith, low))
+rises (s ∷ slots) ordered (suc i) (suc j) low within =
+    let later : in_order slots ≡ true = grind arith in
+    rises slots later i j (omega (arith, low)) (omega (arith, within))
+
+-- what is found has a breakpoint
+pub has_found : (slot : ℕ) (slots : List ℕ) (i : ℕ) → in_order slots ≡ true → IsBinarySearchResult (λ s. nat_cmp s slot) slots (Ok i) → has_breakpoint slot slots ≡ true
+has_found slot slots i ordered is =
+    let said = searched slots slot (Ok i) is (rises slots ordered) in
+    let same : nat_eq (get_or slots i 0) slot ≡ true = grind (arith, nat_tests, said.1) in
+    list_any_at (λ s. nat_eq s slot) slots i 0 said.0 same
+
+-- the place at which nothing is found: below it each slot is less, and from it on each is greater
+pub has_none : (slot : ℕ) (slots : List ℕ) (i : ℕ) → in_order slots ≡ true → IsBinarySearchResult (λ s. nat_cmp s slot) slots (Err i) → has_breakpoint slot slots ≡ false
+has_none slot slots i ordered is =
+    let said = searched slots slot (Err i) is (rises slots ordered) in
+    let other : (k : ℕ) → k < length slots → nat_eq (get_or slots k 0) slot ≡ false = λ k within.
+    elim (cases_lt k i) [
+      | inl low ↦
+          let less = said.1 k low in
+          grind (arith, nat_tests, less)
+      | inr high ↦
+          let less = said.2 k high within in
+          grind (arith, nat_tests, less)
+    ] in
+    list_any_none (λ s. nat_eq s slot) slots (All-from_get_or (λ s. nat_eq s slot ≡ false) slots 0 other)
+
+pub place_found : (slot : ℕ) (slots : List ℕ) (i : ℕ) → in_order slots ≡ true → IsBinarySearchResult (λ s. nat_cmp s slot) slots (Err i) → place_of slot slots ≡ i
+place_found slot slots i ordered is =
+    let said = searched slots slot (Err i) is (rises slots ordered) in
+    let below : (k : ℕ) → k < i → nat_lt (get_or slots k 0) slot ≡ true = λ k low.
+    let less = said.1 k low in
+    grind (arith, nat_tests, less) in
+    let beyond : i < length slots → nat_lt (get_or slots i 0) slot ≡ false = λ within.
+    let less = said.2 i (omega arith) within in
+    grind (arith, nat_tests, less) in
+    prefix_len_is (λ s. nat_lt s slot) slots i 0 said.0 below beyond
+
+-- where the slot is found, nothing is to be set
+pub set_found : (slot : ℕ) (slots : List ℕ) (i : ℕ) → in_order slots ≡ true → IsBinarySearchResult (λ s. nat_cmp s slot) slots (Ok i) → slots ≡ with_breakpoint slot slots
+set_found slot slots i ordered is =
+    let has = has_found slot slots i ordered is in
+    rw has refl
+
+-- where it is not found, it goes where the search says
+pub set_none : (slot : ℕ) (slots : List ℕ) (i : ℕ) → in_order slots ≡ true → IsBinarySearchResult (λ s. nat_cmp s slot) slots (Err i) → insert slots i slot ≡ with_breakpoint slot slots
+set_none slot slots i ordered is =
+    let none = has_none slot slots i ordered is in
+    let place = place_found slot slots i ordered is in
+    rw (none, place) refl
+
+pub stays_ordered : (slot : ℕ) (slots : List ℕ) (i : ℕ) → in_order slots ≡ true → IsBinarySearchResult (λ s. nat_cmp s slot) slots (Err i) → in_order (insert slots i slot) ≡ true
+stays_ordered slot slots i ordered is =
+    let none = has_none slot slots i ordered is in
+    let place = place_found slot slots i ordered is in
+    subst (λ (n : ℕ). in_order (insert slots n slot) ≡ true) place (insert_in_order slot slots none ordered)
+
+-- the same of the slots that were lent to the search
+pub in_slots : (slot : ℕ) (lent slots : List ℕ) (r : Result ℕ ℕ) → lent ≡ slots → IsBinarySearchResult (λ s. nat_cmp s slot) lent r → IsBinarySearchResult (λ s. nat_cmp s slot) slots r
+in_slots slot lent slots r same is = subst (λ (l : List ℕ). IsBinarySearchResult (λ s. nat_cmp s slot) l r) same is
+
+pub none_refused : {T E : Type 0} (r : Result T E) (slot : ℕ) (slots : List ℕ) → has_breakpoint slot slots ≡ false → OnErr r (has_breakpoint slot slots ≡ false)
+none_refused (Ok x) slot slots none = tt
+none_refused (Err e) slot slots none = none

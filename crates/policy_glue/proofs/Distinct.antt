@@ -1,0 +1,110 @@
+-- Names that are put into a set, one after another.
+use Rattle.std.proofs.Common.{◌≡◌, ℕ, ◌+◌, ◌<◌, Bool, true, false, not, cond, List, [], ◌∷◌, ◌++◌, map, take, drop, length, get_or, string_bytes, refl, sym, ap, ◌∙◌}
+use Rattle.std.specs.Prelude.{◌||◌, ◌&&◌}
+use Rattle.std.specs.Borrow.{Bor}
+use Rattle.std.specs.BTreeSet.{BTreeSet, contains, IsEmpty, Updates}
+use Rattle.std.specs.Cmp.Lexicographic.{slice_cmp}
+use Rattle.std.specs.List.{list_any}
+use Rattle.std.specs.Ordering.{is_eq, nat_cmp}
+use Rattle.std.specs.Str.{bytes_eq}
+use Rattle.std.proofs.lemmas.Cmp.{nat_list_eq_equiv}
+use Rattle.std.proofs.lemmas.List.{map-append, take-append-drop, take_more}
+use Rattle.std.proofs.lemmas.List.Folds.{list_any-append}
+use Rattle.std.proofs.lemmas.Map.Text.{is_eq-slice_cmp}
+use Rattle.policy_glue.specs.declared.named_expression.NamedExpression.{NamedExpression}
+use Rattle.policy_glue.specs.Policy.{Named, named_view}
+use Rattle.policy_glue.specs.Reading.{are_distinct}
+use Rattle.policy_glue.proofs.Lists.{name_in_views}
+
+-- names lent to a set
+abbrev pub Names : Type 0
+Names = BTreeSet (Bor (List ℕ))
+
+abbrev pub has_key : Names → Bor (List ℕ) → Bool
+has_key names key = contains (λ x y. slice_cmp nat_cmp x.now y.now) names key
+
+-- the set has the names of these, and no others
+abbrev pub HasNames : Names → List NamedExpression → Type 0
+HasNames names ns = (key : Bor (List ℕ)) → has_key names key ≡ list_any (λ n. bytes_eq key.now (string_bytes n.name)) ns
+
+and_none : (b : Bool) → b && false ≡ false
+and_none true = refl
+and_none false = refl
+
+and_all : (b : Bool) → b && true ≡ b
+and_all true = refl
+and_all false = refl
+
+one_more : (here there : Bool) → cond here true there ≡ there || (here || false)
+one_more true true = refl
+one_more true false = refl
+one_more false true = refl
+one_more false false = refl
+
+shuffle : (a b c d : Bool) → not (a || (b || false)) && (not c && d) ≡ not (b || c) && (not a && d)
+shuffle true true c d = refl
+shuffle true false true d = refl
+shuffle true false false d = refl
+shuffle false true c d = refl
+shuffle false false true d = refl
+shuffle false false false d = refl
+
+-- one more name behind others
+distinct-push : (ns : List Named) (n : Named) → are_distinct (ns ++ n ∷ []) ≡ not (list_any (λ m. bytes_eq n.name m.name) ns) && are_distinct ns
+distinct-push [] n = refl
+distinct-push (m ∷ ns) n =
+    let behind : list_any (λ k. bytes_eq m.name k.name) (ns ++ n ∷ []) ≡ list_any (λ k. bytes_eq m.name k.name) ns || (bytes_eq m.name n.name || false) = list_any-append (λ k. bytes_eq m.name k.name) ns (n ∷ []) in
+    let later : are_distinct (ns ++ n ∷ []) ≡ not (list_any (λ k. bytes_eq n.name k.name) ns) && are_distinct ns = distinct-push ns n in
+    let back : bytes_eq m.name n.name ≡ bytes_eq n.name m.name = nat_list_eq_equiv.symm m.name n.name in
+    (λ i. not (behind i) && later i)
+    ∙ shuffle (list_any (λ k. bytes_eq m.name k.name) ns) (bytes_eq m.name n.name) (list_any (λ k. bytes_eq n.name k.name) ns) (are_distinct ns)
+    ∙ ap (λ b. not (b || list_any (λ k. bytes_eq n.name k.name) ns) && (not (list_any (λ k. bytes_eq m.name k.name) ns) && are_distinct ns)) back
+
+twice_by : (n : Named) (ns rest : List Named) (hit : Bool) → list_any (λ m. bytes_eq n.name m.name) ns ≡ hit → not hit && are_distinct ns ≡ false → (are_distinct ns ≡ false → are_distinct (ns ++ rest) ≡ false)
+    → not (list_any (λ m. bytes_eq n.name m.name) (ns ++ rest)) && are_distinct (ns ++ rest) ≡ false
+twice_by n ns rest true is twice later =
+    let here : list_any (λ m. bytes_eq n.name m.name) (ns ++ rest) ≡ true = list_any-append (λ m. bytes_eq n.name m.name) ns rest ∙ ap (λ b. b || list_any (λ m. bytes_eq n.name m.name) rest) is in
+    ap (λ b. not b && are_distinct (ns ++ rest)) here
+twice_by n ns rest false is twice later = ap (λ b. not (list_any (λ m. bytes_eq n.name m.name) (ns ++ rest)) && b) (later twice) ∙ and_none _
+
+-- a name that stands twice in front stands twice
+twice_in_front : (ns rest : List Named) → are_distinct ns ≡ false → are_distinct (ns ++ rest) ≡ false
+twice_in_front [] rest twice = cc
+twice_in_front (n ∷ ns) rest twice = twice_by n ns rest (list_any (λ m. bytes_eq n.name m.name) ns) refl twice (twice_in_front ns rest)
+
+pub names_none : (names : Names) → IsEmpty names → HasNames names []
+names_none names none key = ap (λ ks. list_any (λ k. is_eq (slice_cmp nat_cmp key.now k.now)) ks) none
+
+-- the elements before the next place
+front_next : (all : List NamedExpression) (i : ℕ) (x : NamedExpression) → i < length all → x ≡ get_or all i x → take (i + 1) all ≡ take i all ++ x ∷ []
+front_next all i x within is = take_more all i x within ∙ ap (λ y. take i all ++ y ∷ []) (sym is)
+
+pub names_more : (all : List NamedExpression) (i : ℕ) (x : NamedExpression) (key : Bor (List ℕ)) (names more : Names) → i < length all → x ≡ get_or all i x → key.now ≡ string_bytes x.name
+    → HasNames names (take i all) → Updates (λ x y. slice_cmp nat_cmp x.now y.now) names more key true → HasNames more (take (i + 1) all)
+names_more all i x key names more within is named has updates other =
+    let same : is_eq (slice_cmp nat_cmp key.now other.now) ≡ bytes_eq other.now (string_bytes x.name) = is_eq-slice_cmp key.now other.now ∙ nat_list_eq_equiv.symm key.now other.now ∙ ap (bytes_eq other.now) named in
+    updates.0 other
+    ∙ (λ j. cond (same j) true (has other j))
+    ∙ one_more (bytes_eq other.now (string_bytes x.name)) (list_any (λ n. bytes_eq other.now (string_bytes n.name)) (take i all))
+    ∙ sym (list_any-append (λ n. bytes_eq other.now (string_bytes n.name)) (take i all) (x ∷ []))
+    ∙ ap (λ ns. list_any (λ n. bytes_eq other.now (string_bytes n.name)) ns) (sym (front_next all i x within is))
+
+-- whether the names stay distinct with the next one
+pub distinct_more : (all : List NamedExpression) (i : ℕ) (x : NamedExpression) (key : Bor (List ℕ)) (names : Names) (added : Bool) → i < length all → x ≡ get_or all i x → key.now ≡ string_bytes x.name
+    → HasNames names (take i all) → are_distinct (map named_view (take i all)) ≡ true → added ≡ not (has_key names key) → are_distinct (map named_view (take (i + 1) all)) ≡ added
+distinct_more all i x key names added within is named has distinct says =
+    let behind : list_any (λ m. bytes_eq (string_bytes x.name) m.name) (map named_view (take i all)) ≡ has_key names key =
+    sym (name_in_views (string_bytes x.name) (take i all)) ∙ ap (λ bs. list_any (λ n. bytes_eq bs (string_bytes n.name)) (take i all)) (sym named) ∙ sym (has key) in
+    ap (λ ns. are_distinct (map named_view ns)) (front_next all i x within is)
+    ∙ ap are_distinct (map-append named_view (take i all) (x ∷ []))
+    ∙ distinct-push (map named_view (take i all)) (named_view x)
+    ∙ (λ j. not (behind j) && distinct j)
+    ∙ and_all (not (has_key names key))
+    ∙ sym says
+
+-- a name that stood before
+pub distinct_stop : (all : List NamedExpression) (i : ℕ) → are_distinct (map named_view (take i all)) ≡ false → false ≡ are_distinct (map named_view all)
+distinct_stop all i twice =
+    sym (twice_in_front (map named_view (take i all)) (map named_view (drop i all)) twice)
+    ∙ ap are_distinct (sym (map-append named_view (take i all) (drop i all)))
+    ∙ ap (λ ns. are_distinct (map named_view ns)) (take-append-drop i all)

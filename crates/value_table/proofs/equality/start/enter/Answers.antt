@@ -1,0 +1,19 @@
+use Rattle.std.proofs.Common.{length, get_or, ap, ◌∙◌, arith}
+use Rattle.value_table.specs.Meaning.{value_in}
+use Rattle.value_table.specs.Index.{looked_up_by}
+use Rattle.value_table.proofs.Indexed.{entered, ref_below}
+use Rattle.value_table.proofs.equality.start.enter.Goals as goal
+
+pub text_of-requires-clause-inside : goal.text_of-requires-clause-inside
+text_of-requires-clause-inside c =
+    rw c.first-items.ensures (ref_below c.args.backings.now.lists (length c.args.cells.now) c.args.backing c.args.count c.loop-index.index.count 0 c.requires.range (omega arith))
+
+pub loop-index-preserved : goal.loop-index-preserved
+loop-index-preserved c =
+    let inv = c.loop-index.invariant in
+    record {
+      backing = c.add.ensures.backing ∙ inv.backing;
+      indexed = λ vs k h.
+          let is = c.in_ok-text.ensures vs k ∙ ap (λ rs. looked_up_by (value_in vs (get_or rs c.loop-index.index.count 0))) c.first-items.ensures in
+          entered c.args.backings.now vs c.loop-index.index c.add.new.self (length c.args.cells.now) c.args.backing c.args.count _ (inv.indexed vs k h) c.requires.range k.count inv.backing (omega arith) c.add.ensures.backing c.in_ok-add.ensures.count is c.in_ok-add.ensures.ok;
+    }

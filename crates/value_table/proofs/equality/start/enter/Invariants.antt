@@ -1,0 +1,13 @@
+use Rattle.std.proofs.Common.{◌≡◌, ◌-◌, List}
+use Rattle.value_store.specs.Value.{Value}
+use Rattle.value_table.specs.Index.{AreKnown, IsIndexed}
+use Rattle.value_table.proofs.equality.start.enter.Given as goal
+
+abbrev pub invariant-loop-index : goal.invariant-loop-index
+invariant-loop-index l = record {
+  backing : l.index.backing ≡ l.backing;
+  indexed : (vs : List Value) → AreKnown l.backings vs l.cells → IsIndexed l.backings vs l.fn.index → IsIndexed l.backings vs l.index;
+}
+
+abbrev pub decreases-loop-index : goal.decreases-loop-index
+decreases-loop-index l = l.count - l.index.count

@@ -1,0 +1,45 @@
+-- What the index of a backing knows.
+use Rattle.std.specs.Prelude.{◌≡◌, ℕ, ◌≤◌, ◌<◌, List, [], map, length, take, Some, slice_get, slice_index_or, if◌then◌else◌, nat_le}
+use Rattle.std.specs.BTreeMap.{get_by_text}
+use Rattle.value_store.specs.Value.{Value}
+use Rattle.value_store.specs.Json.{json_text}
+use Rattle.value_table.specs.Meaning.{value_in}
+use Rattle.value_table.specs.Lengths.{json_length}
+use Rattle.value_table.specs.Heaps.{AreBelow}
+use Rattle.value_table.specs.Equality.{AreMeanings}
+use Rattle.value_table.specs.Search.{place_among}
+use Rattle.value_table.specs.declared.cell.Cell.{Cell}
+use Rattle.value_table.specs.declared.backings.Backings.{Backings}
+use Rattle.value_table.specs.declared.index.Index.{Index}
+
+-- what a value is looked up by: its JSON text, where that has at most 4,096 bytes
+unfoldable pub looked_up_by : Value → List ℕ
+looked_up_by v = if nat_le (json_length v) 4096 then json_text v else []
+
+abbrev pub texts_at : List Value → List ℕ → List (List ℕ)
+texts_at vs rs = map (λ r. looked_up_by (value_in vs r)) rs
+
+-- of each text the least place at which it stands among these, and nothing else
+pub record IsIndex (x : Index) (ts : List (List ℕ)) : Type 0 where
+  pub count : x.count ≡ length ts
+  pub least : (t : List ℕ) → get_by_text x.places t ≡ place_among t ts
+
+-- an index of the first ones of these items
+pub record Covers (vs : List Value) (rs : List ℕ) (x : Index) : Type 0 where
+  pub long : x.count ≤ length rs
+  pub below : AreBelow (length vs) (take x.count rs)
+  pub index : IsIndex x (texts_at vs (take x.count rs))
+
+-- an index of the first items of its backing
+pub record IsIndexed (bs : Backings) (vs : List Value) (x : Index) : Type 0 where
+  pub inside : x.backing < length bs.lists
+  pub covers : Covers vs (slice_index_or bs.lists x.backing []) x
+
+pub record AreIndexes (bs : Backings) (vs : List Value) (xs : List Index) : Type 0 where
+  pub each : (i : ℕ) (x : Index) → slice_get xs i ≡ Some x → IsIndexed bs vs x
+
+-- cells with what is known of their values
+pub record AreKnown (bs : Backings) (vs : List Value) (cs : List Cell) : Type 0 where
+  pub meanings : AreMeanings bs vs cs
+  pub lengths : (r : ℕ) (c : Cell) → slice_get cs r ≡ Some c → c.json ≡ json_length (value_in vs r)
+  pub count : length vs ≡ length cs

@@ -1,0 +1,107 @@
+//! Where a search among the items of a list begins.
+
+ghost use Rattle.std.specs.Prelude.{◌≡◌, ◌≤◌, ◌<◌, List, length, drop, slice_get, Some, option_map, IfOk, OnOk, string_bytes};
+ghost use Rattle.value_store.specs.Value.{Value};
+ghost use Rattle.value_store.specs.Lookup.{has_item};
+ghost use Rattle.value_table.specs.Meaning.{value_in, items_at, refs_at};
+ghost use Rattle.value_table.specs.Heaps.{IsRange};
+ghost use Rattle.value_table.specs.Equality.{AreContents};
+ghost use Rattle.value_table.specs.Index.{AreKnown, IsIndexed, AreIndexes, looked_up_by};
+
+use crate::backings::Backings;
+use crate::cell::Cell;
+use crate::equality::walk::first;
+use crate::index::Index;
+use crate::writing::json_at;
+use std::alloc::{AllocError, Global};
+
+/// How many bytes the JSON text may have by which a value is looked up.
+const LONGEST: u64 = 4_096;
+
+// What a value is looked up by: its JSON text. A long one is not written.
+fn text_of(
+    alloc: Global,
+    cells: &[Cell],
+    backings: &Backings,
+    place: u64,
+) -> Result<String, AllocError>
+    requires contents { AreContents backings.now cells.now }
+    requires inside { place < length cells.now }
+    ensures { (vs : List Value) → AreKnown backings.now vs cells.now → IfOk result (λ s. string_bytes s ≡ looked_up_by (value_in vs place)) }
+{
+    if cells[place as usize].json > LONGEST {
+        return Ok(String::new(alloc));
+    }
+    json_at(alloc, cells, backings, place)
+}
+
+// Enters the first `count` items of a backing in its index.
+fn enter(
+    index: &mut Index,
+    cells: &[Cell],
+    backings: &Backings,
+    backing: u64,
+    count: u64,
+) -> Result<(), AllocError>
+    requires contents { AreContents backings.now cells.now }
+    requires backing { index.old.backing ≡ backing }
+    requires range { IsRange backings.now.lists (length cells.now) backing count }
+    ensures backing { index.new.backing ≡ backing }
+    ensures count { OnOk result (count ≤ index.new.count) }
+    ensures indexed { (vs : List Value) → AreKnown backings.now vs cells.now → IsIndexed backings.now vs index.old → IsIndexed backings.now vs index.new }
+{
+    let alloc = backings.keys.alloc();
+    let items = first(backings, backing, count);
+    while index.count < count {
+        let text = text_of(alloc, cells, backings, items[index.count as usize])?;
+        index.add(text)?;
+    }
+    Ok(())
+}
+
+// A place among the first `count` items of a backing before which none is equal to the value at `x`: the
+// first one that has its JSON text, or the end.
+fn start_in(
+    index: &mut Index,
+    cells: &[Cell],
+    backings: &Backings,
+    backing: u64,
+    x: u64,
+    count: u64,
+) -> Result<u64, AllocError>
+    requires contents { AreContents backings.now cells.now }
+    requires value { x < length cells.now }
+    requires backing { index.old.backing ≡ backing }
+    requires range { IsRange backings.now.lists (length cells.now) backing count }
+    ensures inside { IfOk result (λ s. s ≤ count) }
+    ensures indexed { (vs : List Value) → AreKnown backings.now vs cells.now → IsIndexed backings.now vs index.old → IsIndexed backings.now vs index.new }
+    ensures skips { (vs : List Value) → AreKnown backings.now vs cells.now → IsIndexed backings.now vs index.old → IfOk result (λ s. has_item (value_in vs x) (items_at vs (refs_at backings.now.lists backing count)) ≡ has_item (value_in vs x) (items_at vs (drop s (refs_at backings.now.lists backing count)))) }
+{
+    let text = text_of(backings.keys.alloc(), cells, backings, x)?;
+    enter(index, cells, backings, backing, count)?;
+    match index.place(text.as_str()) {
+        Some(place) => Ok(place.min(count)),
+        None => Ok(count),
+    }
+}
+
+/// The same by the index that stands at a slot.
+pub(crate) fn start_at(
+    indexes: &mut Vec<Index>,
+    slot: usize,
+    cells: &[Cell],
+    backings: &Backings,
+    backing: u64,
+    x: u64,
+    count: u64,
+) -> Result<u64, AllocError>
+    requires contents { AreContents backings.now cells.now }
+    requires value { x < length cells.now }
+    requires slot { option_map (λ i. i.backing) (slice_get indexes.old.items slot) ≡ Some backing }
+    requires range { IsRange backings.now.lists (length cells.now) backing count }
+    ensures inside { IfOk result (λ s. s ≤ count) }
+    ensures indexed { (vs : List Value) → AreKnown backings.now vs cells.now → AreIndexes backings.now vs indexes.old.items → AreIndexes backings.now vs indexes.new.items }
+    ensures skips { (vs : List Value) → AreKnown backings.now vs cells.now → AreIndexes backings.now vs indexes.old.items → IfOk result (λ s. has_item (value_in vs x) (items_at vs (refs_at backings.now.lists backing count)) ≡ has_item (value_in vs x) (items_at vs (drop s (refs_at backings.now.lists backing count)))) }
+{
+    start_in(&mut indexes[slot], cells, backings, backing, x, count)
+}

@@ -1,0 +1,63 @@
+//! The indexes of backings.
+
+ghost use Rattle.std.specs.Prelude.{◌≡◌, ◌<◌, [], List, length, slice_get, Some, IfSome, option_map};
+ghost use Rattle.value_store.specs.Value.{Value};
+ghost use Rattle.value_table.specs.declared.backings.Backings.{Backings};
+
+use crate::index::Index;
+use std::alloc::{AllocError, Global};
+use std::collections::BTreeMap;
+
+/// The indexes of the backings in which an item has been searched.
+#[derive(Drop)]
+pub(crate) struct Indexes {
+    /// Where a backing's index stands.
+    slots: BTreeMap<u64, u64>,
+    pub(crate) all: Vec<Index>,
+}
+
+impl Indexes {
+    ghost use Rattle.value_table.specs.Index.{AreIndexes};
+
+    pub(crate) fn new(alloc: Global) -> Indexes
+        ensures { result.all.items ≡ [] }
+    {
+        Indexes {
+            slots: BTreeMap::new(alloc),
+            all: Vec::new(alloc),
+        }
+    }
+
+    /// Where the index of a backing stands, if it has one. Else it has one from then on, without items,
+    /// where there is memory.
+    pub(crate) fn slot(&mut self, alloc: Global, backing: u64) -> Option<usize>
+        ensures found { IfSome result (λ s. option_map (λ x. x.backing) (slice_get self.new.all.items s) ≡ Some backing) }
+        ensures kept { (bs : Backings) (vs : List Value) → backing < length bs.lists → AreIndexes bs vs self.old.all.items → AreIndexes bs vs self.new.all.items }
+    {
+        match self.slots.get(&backing).copied() {
+            Some(slot) => self.checked(slot as usize, backing),
+            None => {
+                let _ = self.make(alloc, backing);
+                None
+            }
+        }
+    }
+
+    fn checked(&self, slot: usize, backing: u64) -> Option<usize>
+        ensures { IfSome result (λ s. option_map (λ x. x.backing) (slice_get self.now.all.items s) ≡ Some backing) }
+    {
+        match self.all.get(slot) {
+            Some(index) if index.backing == backing => Some(slot),
+            _ => None,
+        }
+    }
+
+    fn make(&mut self, alloc: Global, backing: u64) -> Result<(), AllocError>
+        ensures { (bs : Backings) (vs : List Value) → backing < length bs.lists → AreIndexes bs vs self.old.all.items → AreIndexes bs vs self.new.all.items }
+    {
+        self.all.reserve(1)?;
+        self.slots.insert(backing, self.all.len() as u64)?;
+        self.all.push_reserved(Index::new(alloc, backing));
+        Ok(())
+    }
+}
