@@ -5,6 +5,7 @@ use Rattle.value_store.specs.Value.{Value}
 use Rattle.value_table.specs.Meaning.{meaning, grown}
 use Rattle.value_table.specs.Heaps.{IsCell, AreSame, Extends, Adds}
 use Rattle.value_table.specs.Heap.{heap_values, content_at, IsHeap, IsAsBefore}
+use Rattle.value_table.specs.Index.{AreIndexes}
 use Rattle.value_table.specs.declared.heap.Heap.{Heap}
 use Rattle.value_table.specs.declared.cell.Cell.{Cell}
 use Rattle.value_table.specs.declared.content.Content.TheVariants as cell
@@ -47,6 +48,16 @@ heap_before old new h b longer indexes =
     let room = h.room in
     let n = ap length b.cells in
     record { cells = rw (b.backings, b.cells) h.cells; same = rw (v, b.words) h.same; room = omega (arith, room, n, longer); indexes = rw (b.backings, b.cells, indexes) h.indexes }
+
+-- backings that have grown alone
+pub values_grown : (old : Heap) (bs : Backings) (cells : List Cell) → IsHeap old → Extends old.backings bs → cells ≡ old.cells → grown bs [] cells ≡ heap_values old
+values_grown old bs cells h e same = ap (grown bs []) same ∙ grown_kept old.backings bs [] old.cells e h.cells
+
+pub heap_grown : (old new : Heap) → IsHeap old → Extends old.backings new.backings → new.cells ≡ old.cells → new.same ≡ old.same → new.indexes ≡ old.indexes → IsHeap new
+heap_grown old new h e cells same indexes =
+    let kept = values_grown old new.backings new.cells h e cells in
+    let all = subst (λ vs. AreIndexes new.backings vs old.indexes.all.items) (append-nil (heap_values old)) (indexes_kept old.backings new.backings (heap_values old) [] old.indexes.all.items e h.indexes) in
+    record { cells = rw cells (cells_kept old.backings new.backings [] old.cells e h.cells); same = rw (kept, same) h.same; room = rw (cells, same) h.room; indexes = rw (kept, indexes) all }
 
 -- and where it is not
 pub values_put : (old : Heap) (bs : Backings) (ys mid : List Cell) (c : Cell) → IsHeap old → Extends old.backings bs → mid ≡ old.cells → ys ≡ mid ++ c ∷ [] → grown bs [] ys ≡ heap_values old ++ meaning bs (heap_values old) c.content ∷ []

@@ -1,28 +1,22 @@
 -- Documents become values one by one.
-use Rattle.std.proofs.Common.{◌≡◌, ℕ, zero, suc, ◌+◌, ◌<◌, false, List, [], ◌∷◌, ◌++◌, length, get_or, drop, refl, sym, ap, ap₂, ◌∙◌, arith, length-append, append_assoc, append-nil, subst, Option, Some, None, Result, Ok, Err}
-use Rattle.std.specs.Prelude.{IfSome, IsSome, IfOk, option_map}
-use Rattle.std.specs.List.{AllByRecursion}
-use Rattle.std.specs.List.Sorted.{IsStrictlySortedBy}
-use Rattle.std.specs.Ordering.{nat_cmp}
-use Rattle.std.specs.Cmp.Lexicographic.{slice_cmp}
+use Rattle.std.proofs.Common.{◌≡◌, ℕ, suc, false, List, [], ◌∷◌, ◌++◌, length, refl, sym, ap, ap₂, ◌∙◌, arith, length-append, append_assoc, append-nil, subst, Option, Some, None, Result, Ok, Err}
+use Rattle.std.specs.Prelude.{IfSome, IsSome, IfOk}
 use Rattle.std.specs.declared.alloc.AllocError.{AllocError}
-use Rattle.std.specs.declared.cmp.Ordering.TheVariants.{Less, Greater}
 use Rattle.serde_json.specs.Data as json
-use Rattle.std.proofs.lemmas.Cmp.{nat_list_cmp_total}
-use Rattle.std.specs.Ordering.{ordering_reverse}
 use Rattle.value_store.specs.Value as kind
 use Rattle.value_store.specs.Value.{Value, Items, no_items, item, items_push, items_join, Entries, no_entries, entry, keys_of}
-use Rattle.value_store.specs.Keys.{Ascend, IsOrdered, AreItemsOrdered, AreEntriesOrdered}
-use Rattle.value_store.specs.Calls.{push_of}
+use Rattle.value_store.specs.Keys.{IsOrdered, AreItemsOrdered, AreEntriesOrdered}
 use Rattle.value_store.specs.Roots.{has_other, items_have_other, members_have_other}
 use Rattle.value_store.specs.Plain.{plain_value, plain_items, plain_entries}
 use Rattle.value_store.proofs.Trees.{second_no}
-use Rattle.value_table.specs.Meaning.{value_in}
-use Rattle.value_table.specs.Heaps.{Adds}
-use Rattle.value_store.specs.Lookup.{inserted, inserted_by}
-use Rattle.value_table.specs.Entries.{put_values}
+use Rattle.value_table.specs.Meaning.{part_of, value_in, items_at, entries_at}
+use Rattle.value_table.specs.Heaps.{Adds, IsText, AreTexts, AreBelow, Extends}
+use Rattle.value_table.specs.Heads.{texts_of}
+use Rattle.value_table.specs.declared.part.Part.{Part}
+use Rattle.value_table.specs.declared.backings.Backings.{Backings}
 use Rattle.value_table.specs.Growing.{HasGrown, Stands, MembersStand}
-use Rattle.value_table.proofs.Growth.{value_stable}
+use Rattle.value_table.proofs.Growth.{value_stable, items_stable, text_kept, texts_kept}
+use Rattle.value_table.proofs.Listed.{below_le, below_append, items_more}
 use Rattle.value_table.proofs.Named.{place_added}
 
 pub grown_same : (vs : List Value) → HasGrown vs vs
@@ -53,124 +47,99 @@ stands_on vs ws r v g s =
     let n = ap length g.1 in
     record { inside = omega (arith, low, l, n); is = ap (λ xs. value_in xs r) g.1 ∙ value_stable vs g.0 r s.inside ∙ s.is }
 
-pub stands_due : (vs ws : List Value) (due : Option Value) (v : Value) (i : ℕ) → due ≡ Some v → IfSome due (λ w. Adds vs w (Ok i) ws) → Stands ws i v
-stands_due vs ws due v i e a = stands_added vs ws v i (subst (λ (o : Option Value). IfSome o (λ w. Adds vs w (Ok i) ws)) e a)
-
 -- ---- lists
-
-pub record ItemsStand (all : Items) (vs : List Value) (list : ℕ) (rest : json.Items) : Type 0 where
-  pub done : Items
-  pub is : items_join done (plain_items rest) ≡ all
-  pub stands : Stands vs list (kind.list done)
-  pub whole : items_have_other rest ≡ false
-  pub ordered : AreItemsOrdered (plain_items rest)
 
 join_pushed : (is : Items) (v : Value) (js : Items) → items_join (items_push is v) js ≡ items_join is (item v js)
 join_pushed no_items v js = refl
 join_pushed (item w is) v js = ap (item w) (join_pushed is v js)
 
-pub join_none : (is : Items) → items_join is no_items ≡ is
+join_none : (is : Items) → items_join is no_items ≡ is
 join_none no_items = refl
 join_none (item w is) = ap (item w) (join_none is)
 
-pub items_start : (ds : json.Items) (vs : List Value) (list : ℕ) → items_have_other ds ≡ false → AreItemsOrdered (plain_items ds) → Stands vs list (kind.list no_items) → ItemsStand (plain_items ds) vs list ds
-items_start ds vs list w o s = record { done = no_items; is = refl; stands = s; whole = w; ordered = o }
+-- the values of an array's items stand at these places, but for those that are left
+pub record ItemsStand (all : Items) (vs : List Value) (places : List ℕ) (rest : json.Items) : Type 0 where
+  pub is : items_join (items_at vs places) (plain_items rest) ≡ all
+  pub below : AreBelow (length vs) places
+  pub whole : items_have_other rest ≡ false
+  pub ordered : AreItemsOrdered (plain_items rest)
 
-pub item_due : (all : Items) (vs : List Value) (list place : ℕ) (v : Value) (rest : json.Items) → (g : ItemsStand all vs list rest) → Stands vs place v → push_of (value_in vs list) (value_in vs place) ≡ Some (kind.list (items_push g.done v))
-item_due all vs list place v rest g s = ap₂ push_of g.stands.is s.is
+pub items_start : (ds : json.Items) (vs : List Value) → items_have_other ds ≡ false → AreItemsOrdered (plain_items ds) → ItemsStand (plain_items ds) vs [] ds
+items_start ds vs w o = record { is = refl; below = tt; whole = w; ordered = o }
 
-pub items_on : (all : Items) (vs ws : List Value) (list : ℕ) (rest : json.Items) → HasGrown vs ws → ItemsStand all vs list rest → ItemsStand all ws list rest
-items_on all vs ws list rest g s = record { done = s.done; is = s.is; stands = stands_on vs ws list (kind.list s.done) g s.stands; whole = s.whole; ordered = s.ordered }
-
-pub items_step : (all : Items) (vs ws : List Value) (list place list' : ℕ) (d : json.Data) (rest : json.Items) → ItemsStand all vs list (json.item d rest) → Stands vs place (plain_value d) → IfSome (push_of (value_in vs list) (value_in vs place)) (λ v. Adds vs v (Ok list') ws) → ItemsStand all ws list' rest
-items_step all vs ws list place list' d rest g s a =
+pub items_step : (all : Items) (us vs : List Value) (places places' : List ℕ) (r : ℕ) (d : json.Data) (rest : json.Items) → places' ≡ places ++ r ∷ [] → HasGrown us vs → Stands vs r (plain_value d) → ItemsStand all us places (json.item d rest) → ItemsStand all vs places' rest
+items_step all us vs places places' r d rest e up s g =
+    let kept : items_at vs places ≡ items_at us places = ap (λ ws. items_at ws places) up.1 ∙ items_stable us up.0 places g.below in
+    let more : items_at vs (places ++ r ∷ []) ≡ items_push (items_at us places) (plain_value d) = items_more vs places r ∙ ap₂ items_push kept s.is in
+    let l = length-append us up.0 in
+    let n = ap length up.1 in
     record {
-      done = items_push g.done (plain_value d);
-      is = join_pushed g.done (plain_value d) (plain_items rest) ∙ g.is;
-      stands = stands_due vs ws _ (kind.list (items_push g.done (plain_value d))) list' (item_due all vs list place (plain_value d) (json.item d rest) g s) a;
+      is = ap (λ ps. items_join (items_at vs ps) (plain_items rest)) e ∙ ap (λ is. items_join is (plain_items rest)) more ∙ join_pushed (items_at us places) (plain_value d) (plain_items rest) ∙ g.is;
+      below = subst (AreBelow (length vs)) (sym e) (below_append (length vs) places (r ∷ []) (below_le (length us) (length vs) places (omega (arith, l, n)) g.below) (s.inside, tt));
       whole = second_no (has_other d) _ g.whole;
       ordered = g.ordered.1;
     }
 
-pub items_end : (all : Items) (vs : List Value) (list : ℕ) → ItemsStand all vs list json.no_items → Stands vs list (kind.list all)
-items_end all vs list g = subst (λ is. Stands vs list (kind.list is)) (sym (join_none g.done) ∙ g.is) g.stands
+pub items_end : (all : Items) (vs : List Value) (places : List ℕ) → ItemsStand all vs places json.no_items → items_at vs places ≡ all
+items_end all vs places g = sym (join_none (items_at vs places)) ∙ g.is
 
 -- ---- maps
 
-abbrev entries_join : Entries → Entries → Entries
-entries_join no_entries fs = fs
-entries_join (entry k v es) fs = entry k v (entries_join es fs)
+-- the keys of an object's members are these texts, but for those that are left
+pub record KeysStand (all : List (List ℕ)) (bytes : List ℕ) (keys : List Part) (rest : json.Members) : Type 0 where
+  pub is : texts_of bytes keys ++ keys_of (plain_entries rest) ≡ all
+  pub texts : AreTexts bytes keys
 
-pub record EntriesStand (all : Entries) (vs : List Value) (map : ℕ) (rest : json.Members) : Type 0 where
-  pub done : Entries
-  pub is : entries_join done (plain_entries rest) ≡ all
-  pub stands : Stands vs map (kind.map done)
-  pub ascend : Ascend (keys_of all)
+pub keys_start : (ds : json.Members) (bytes : List ℕ) → KeysStand (keys_of (plain_entries ds)) bytes [] ds
+keys_start ds bytes = record { is = refl; texts = tt }
 
-join_entry : (es : Entries) (k : List ℕ) (v : Value) (fs : Entries) → entries_join (entries_join es (entry k v no_entries)) fs ≡ entries_join es (entry k v fs)
-join_entry no_entries k v fs = refl
-join_entry (entry l w es) k v fs = ap (entry l w) (join_entry es k v fs)
+texts_more : (bytes : List ℕ) (ks : List Part) (k : Part) (rest : List (List ℕ)) → texts_of bytes (ks ++ k ∷ []) ++ rest ≡ texts_of bytes ks ++ part_of bytes k ∷ rest
+texts_more bytes [] k rest = refl
+texts_more bytes (j ∷ ks) k rest = ap (λ ts. part_of bytes j ∷ ts) (texts_more bytes ks k rest)
 
-join_no_entries : (es : Entries) → entries_join es no_entries ≡ es
-join_no_entries no_entries = refl
-join_no_entries (entry k v es) = ap (entry k v) (join_no_entries es)
+texts_same : (bytes more : List ℕ) (ks : List Part) → AreTexts bytes ks → texts_of (bytes ++ more) ks ≡ texts_of bytes ks
+texts_same bytes more [] h = refl
+texts_same bytes more (k ∷ ks) h = ap₂ (λ t ts. t ∷ ts) (text_kept bytes more k h.0).0 (texts_same bytes more ks h.1)
 
-pub entries_start : (ds : json.Members) (vs : List Value) (map : ℕ) → IsOrdered (kind.map (plain_entries ds)) → Stands vs map (kind.map no_entries) → EntriesStand (plain_entries ds) vs map ds
-entries_start ds vs map o s = record { done = no_entries; is = refl; stands = s; ascend = o.0 }
+texts_append : (bytes : List ℕ) (ks : List Part) (k : Part) → AreTexts bytes ks → IsText bytes k → AreTexts bytes (ks ++ k ∷ [])
+texts_append bytes [] k h t = (t, tt)
+texts_append bytes (j ∷ ks) k h t = (h.0, texts_append bytes ks k h.1 t)
 
-after_by : (key : List ℕ) (k l : List ℕ) (more : List (List ℕ)) (es : Entries) (x : Value) (fs : Entries) → more ≡ keys_of (entries_join es (entry key x fs)) → AllByRecursion (λ m. slice_cmp nat_cmp l m ≡ Less) more → slice_cmp nat_cmp l key ≡ Less
-after_by key k l more no_entries x fs e a = (subst (AllByRecursion (λ m. slice_cmp nat_cmp l m ≡ Less)) e a).0
-after_by key k l more (entry j w es) x fs e a = after_by key k l _ es x fs refl (subst (AllByRecursion (λ m. slice_cmp nat_cmp l m ≡ Less)) e a).1
-
-greater : (a b : List ℕ) → slice_cmp nat_cmp b a ≡ Less → slice_cmp nat_cmp a b ≡ Greater
-greater a b e = nat_list_cmp_total.antisymm a b ∙ ap ordering_reverse e
-
--- a key above all is put behind them
-inserted_last : (es : Entries) (key : List ℕ) (x : Value) (fs : Entries) → Ascend (keys_of (entries_join es (entry key x fs))) → inserted key x es ≡ Some (entries_join es (entry key x no_entries))
-unfolding IsStrictlySortedBy
-inserted_last no_entries key x fs up = refl
-inserted_last (entry l w es) key x fs up =
-    let below : slice_cmp nat_cmp l key ≡ Less = after_by key key l _ es x fs refl up.0 in
-    ap (λ o. inserted_by o key x l w es (inserted key x es)) (greater key l below) ∙ ap (option_map (entry l w)) (inserted_last es key x fs up.1)
-
-pub entries_on : (all : Entries) (vs ws : List Value) (map : ℕ) (rest : json.Members) → HasGrown vs ws → EntriesStand all vs map rest → EntriesStand all ws map rest
-entries_on all vs ws map rest g s = record { done = s.done; is = s.is; stands = stands_on vs ws map (kind.map s.done) g s.stands; ascend = s.ascend }
-
-pub entry_due : (all : Entries) (vs : List Value) (map name place : ℕ) (key : List ℕ) (d : json.Data) (rest : json.Members) → (g : EntriesStand all vs map (json.member key d rest)) → Stands vs name (kind.text key) → Stands vs place (plain_value d)
-    → put_values (value_in vs map) (value_in vs name) (value_in vs place) ≡ Some (kind.map (entries_join g.done (entry key (plain_value d) no_entries)))
-entry_due all vs map name place key d rest g n p =
-    let last = inserted_last g.done key (plain_value d) (plain_entries rest) (subst (λ es. Ascend (keys_of es)) (sym g.is) g.ascend) in
-    ap (λ m. put_values m (value_in vs name) (value_in vs place)) g.stands.is ∙ ap (λ k. put_values (kind.map g.done) k (value_in vs place)) n.is ∙ ap (λ x. put_values (kind.map g.done) (kind.text key) x) p.is ∙ ap (option_map kind.map) last
-
-pub entries_step : (all : Entries) (vs ws : List Value) (map name place map' : ℕ) (key : List ℕ) (d : json.Data) (rest : json.Members) → EntriesStand all vs map (json.member key d rest) → Stands vs name (kind.text key) → Stands vs place (plain_value d)
-    → IfSome (put_values (value_in vs map) (value_in vs name) (value_in vs place)) (λ v. Adds vs v (Ok map') ws) → EntriesStand all ws map' rest
-entries_step all vs ws map name place map' key d rest g n p a =
+pub keys_step : (all : List (List ℕ)) (bs cs : Backings) (keys keys' : List Part) (k : Part) (key : List ℕ) (d : json.Data) (rest : json.Members) → keys' ≡ keys ++ k ∷ [] → Extends bs cs → IsText cs.bytes k → part_of cs.bytes k ≡ key → KeysStand all bs.bytes keys (json.member key d rest)
+    → KeysStand all cs.bytes keys' rest
+keys_step all bs cs keys keys' k key d rest e up t is g =
+    let left = keys_of (plain_entries rest) in
+    let same : texts_of cs.bytes keys ≡ texts_of bs.bytes keys = ap (λ xs. texts_of xs keys) up.bytes.1 ∙ texts_same bs.bytes up.bytes.0 keys g.texts in
+    let whole : texts_of cs.bytes (keys ++ k ∷ []) ++ left ≡ texts_of bs.bytes keys ++ key ∷ left = texts_more cs.bytes keys k left ∙ ap₂ (λ ts x. ts ++ x ∷ left) same is in
     record {
-      done = entries_join g.done (entry key (plain_value d) no_entries);
-      is = join_entry g.done key (plain_value d) (plain_entries rest) ∙ g.is;
-      stands = stands_due vs ws _ (kind.map (entries_join g.done (entry key (plain_value d) no_entries))) map' (entry_due all vs map name place key d rest g n p) a;
-      ascend = g.ascend;
+      is = ap (λ ks. texts_of cs.bytes ks ++ left) e ∙ whole ∙ g.is;
+      texts = subst (AreTexts cs.bytes) (sym e) (texts_append cs.bytes keys k (subst (λ xs. AreTexts xs keys) (sym up.bytes.1) (texts_kept bs.bytes up.bytes.0 keys g.texts)) t);
     }
 
-pub entries_end : (all : Entries) (vs : List Value) (map : ℕ) → EntriesStand all vs map json.no_members → Stands vs map (kind.map all)
-entries_end all vs map g = subst (λ es. Stands vs map (kind.map es)) (sym (join_no_entries g.done) ∙ g.is) g.stands
+pub keys_end : (all : List (List ℕ)) (bytes : List ℕ) (keys : List Part) → KeysStand all bytes keys json.no_members → texts_of bytes keys ≡ all
+keys_end all bytes keys g = sym (append-nil (texts_of bytes keys)) ∙ g.is
 
--- a member whose key is placed
-pub record MemberStands (all : Entries) (us vs : List Value) (map name place : ℕ) (key : List ℕ) (d : json.Data) (rest : json.Members) : Type 0 where
-  pub entries : EntriesStand all vs map (json.member key d rest)
-  pub name_is : Stands vs name (kind.text key)
-  pub place_is : Stands vs place (plain_value d)
-  pub fits : IsSome (put_values (value_in vs map) (value_in vs name) (value_in vs place))
-  pub grown : HasGrown us vs
+pub members_below : (vs : List Value) (rs : List ℕ) (ms : json.Members) → MembersStand vs rs ms → AreBelow (length vs) rs
+members_below vs [] ms h = tt
+members_below vs (r ∷ rs) json.no_members h = absurd h
+members_below vs (r ∷ rs) (json.member k d ms) h = (h.0.inside, members_below vs rs ms h.1)
 
-pub member_stands : (all : Entries) (us vs : List Value) (map name place : ℕ) (key s : List ℕ) (d : json.Data) (rest : json.Members) → EntriesStand all us map (json.member key d rest) → s ≡ key → Adds us (kind.text s) (Ok name) vs
-    → Stands us place (plain_value d) → MemberStands all us vs map name place key d rest
-member_stands all us vs map name place key s d rest g e a p =
-    let up : HasGrown us vs = grown_added us vs (kind.text s) (Ok name) a in
-    let n : Stands vs name (kind.text key) = subst (λ t. Stands vs name (kind.text t)) e (stands_added us vs (kind.text s) name a) in
-    let x = stands_on us vs place (plain_value d) up p in
-    let go = entries_on all us vs map (json.member key d rest) up g in
-    record { entries = go; name_is = n; place_is = x; fits = subst (λ (o : Option Value). IsSome o) (sym (entry_due all vs map name place key d rest go n x)) refl; grown = up }
+-- keys and values that stand are the entries of a map
+pub record EntriesStand (bytes : List ℕ) (vs : List Value) (keys : List Part) (places : List ℕ) (all : Entries) : Type 0 where
+  pub pairs : length keys ≡ length places
+  pub are : entries_at bytes vs keys places ≡ all
+
+pub entries_stand : (bytes : List ℕ) (vs : List Value) (ks : List Part) (rs : List ℕ) (ms : json.Members) → texts_of bytes ks ≡ keys_of (plain_entries ms) → MembersStand vs rs ms → EntriesStand bytes vs ks rs (plain_entries ms)
+entries_stand bytes vs [] [] json.no_members e h = record { pairs = refl; are = refl }
+entries_stand bytes vs (k ∷ ks) [] json.no_members e h = absurd (cc)
+entries_stand bytes vs ks [] (json.member l d ms) e h = absurd h
+entries_stand bytes vs ks (r ∷ rs) json.no_members e h = absurd h
+entries_stand bytes vs [] (r ∷ rs) (json.member l d ms) e h = absurd (cc)
+entries_stand bytes vs (k ∷ ks) (r ∷ rs) (json.member l d ms) e h =
+    let key : part_of bytes k ≡ l = cc in
+    let more : texts_of bytes ks ≡ keys_of (plain_entries ms) = cc in
+    let rest = entries_stand bytes vs ks rs ms more h.1 in
+    record { pairs = ap suc rest.pairs; are = rw (key, h.0.is) (ap (entry l (plain_value d)) rest.are) }
 
 -- ---- the values of members
 
@@ -201,14 +170,6 @@ members_step all us vs places places' r key d rest e up s m =
 pub members_end : (all : json.Members) (vs : List Value) (places : List ℕ) → MembersLeft all vs places json.no_members → MembersStand vs places all
 members_end all vs places m = subst (λ ps. MembersStand vs ps all) (append-nil places) (m.all_stand [] vs (grown_same vs) tt)
 
--- the first value of those from a place on
-pub record NextStands (vs : List Value) (places : List ℕ) (i : ℕ) (d : json.Data) (rest : json.Members) : Type 0 where
-  pub inside : i < length places
-  pub stands : Stands vs (get_or places i 0) (plain_value d)
-  pub more : MembersStand vs (drop (i + 1) places) rest
-
-pub next_stands : (vs : List Value) (places : List ℕ) (i : ℕ) (key : List ℕ) (d : json.Data) (rest : json.Members) → MembersStand vs (drop i places) (json.member key d rest) → NextStands vs places i d rest
-next_stands vs [] zero key d rest h = absurd h
-next_stands vs [] (suc i) key d rest h = absurd h
-next_stands vs (p ∷ ps) zero key d rest h = record { inside = omega arith; stands = h.0; more = h.1 }
-next_stands vs (p ∷ ps) (suc i) key d rest h = let n = next_stands vs ps i key d rest h in let l = n.inside in let e : suc (i + 1) ≡ suc i + 1 = omega arith in record { inside = omega (arith, l); stands = n.stands; more = subst (λ j. MembersStand vs (drop j (p ∷ ps)) rest) e n.more }
+pub entries_end : (bytes : List ℕ) (us vs : List Value) (ks : List Part) (rs : List ℕ) (ms all : json.Members) → ms ≡ all → KeysStand (keys_of (plain_entries ms)) bytes ks json.no_members → vs ≡ us → MembersStand us rs all → EntriesStand bytes vs ks rs (plain_entries all)
+entries_end bytes us vs ks rs ms all e g same h =
+    entries_stand bytes vs ks rs all (keys_end _ bytes ks g ∙ ap (λ xs. keys_of (plain_entries xs)) e) (subst (λ ws. MembersStand ws rs all) (sym same) h)

@@ -30,7 +30,7 @@ text_kept bytes rest p h =
     let inside = h.1 in
     (e, (order, omega (arith, l, inside), rw e h.2))
 
-texts_kept : (bytes rest : List ℕ) (ks : List Part) → AreTexts bytes ks → AreTexts (bytes ++ rest) ks
+pub texts_kept : (bytes rest : List ℕ) (ks : List Part) → AreTexts bytes ks → AreTexts (bytes ++ rest) ks
 texts_kept bytes rest [] h = tt
 texts_kept bytes rest (k ∷ ks) h = ((text_kept bytes rest k h.0).1, texts_kept bytes rest ks h.1)
 

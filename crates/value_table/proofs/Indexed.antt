@@ -1,5 +1,5 @@
 -- What an index knows of items, and what a search passes by it.
-use Rattle.std.proofs.Common.{◌≡◌, ℕ, zero, suc, ◌+◌, ◌-◌, ◌<◌, ◌≤◌, min, List, [], ◌∷◌, ◌++◌, length, get_or, take, drop, set, map, Bool, true, false, cond, bytes_eq, Option, Some, None, slice_get, refl, sym, ap, ◌∙◌, subst, arith, true≢false, length-append, length-drop}
+use Rattle.std.proofs.Common.{◌≡◌, ℕ, zero, suc, ◌+◌, ◌-◌, ◌<◌, ◌≤◌, min, List, [], ◌∷◌, ◌++◌, length, get_or, take, drop, set, Bool, true, false, cond, bytes_eq, Option, Some, None, slice_get, refl, sym, ap, ◌∙◌, subst, arith, true≢false, length-append, length-drop}
 use Rattle.std.specs.Prelude.{if◌then◌else◌, option_map, is_some, nat_le, ◌||◌, slice_index_or}
 use Rattle.std.specs.BTreeMap.{get_by_text}
 use Rattle.std.specs.Map.{update}
@@ -253,10 +253,10 @@ at_slot bs vs xs s d h l = h.each s (get_or xs s d) (slice_get-get_or xs s d l)
 pub known_of : (bs : Backings) (cs : List Cell) → AreCells bs [] cs → AreKnown bs (grown bs [] cs) cs
 known_of bs cs h = record { meanings = meanings_of bs cs h; lengths = λ r c e. let f = found bs cs r c e h in f.json ∙ ap json_length (sym f.is); count = count_values bs cs }
 
-pub by_text : (v : Value) (n : ℕ) → n ≡ json_length v → n ≤ 4096 → json_text v ≡ looked_up_by v
+pub by_text : (v : Value) (n : ℕ) → n ≡ json_length v → n ≤ 512 → json_text v ≡ looked_up_by v
 unfolding looked_up_by
-by_text v n e h = let b : nat_le (json_length v) 4096 ≡ true = grind (arith, nat_tests, e, h) in rw b refl
+by_text v n e h = let b : nat_le (json_length v) 512 ≡ true = grind (arith, nat_tests, e, h) in rw b refl
 
-pub by_none : (v : Value) (n : ℕ) → n ≡ json_length v → 4096 < n → [] ≡ looked_up_by v
+pub by_none : (v : Value) (n : ℕ) → n ≡ json_length v → 512 < n → [] ≡ looked_up_by v
 unfolding looked_up_by
-by_none v n e h = let b : nat_le (json_length v) 4096 ≡ false = grind (arith, nat_tests, e, h) in rw b refl
+by_none v n e h = let b : nat_le (json_length v) 512 ≡ false = grind (arith, nat_tests, e, h) in rw b refl

@@ -4,6 +4,7 @@ pub mod Backed
 pub mod Adding
 pub mod Listed
 pub mod Named
+pub mod Gathered
 pub mod Growing
 pub mod Starting
 pub mod Looked

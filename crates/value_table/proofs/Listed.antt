@@ -37,7 +37,7 @@ pub below_append : (i : ℕ) (rs ss : List ℕ) → AreBelow i rs → AreBelow i
 below_append i [] ss b d = d
 below_append i (r ∷ rs) ss b d = (b.0, below_append i rs ss b.1 d)
 
-items_more : (vs : List Value) (rs : List ℕ) (x : ℕ) → items_at vs (rs ++ x ∷ []) ≡ items_push (items_at vs rs) (value_in vs x)
+pub items_more : (vs : List Value) (rs : List ℕ) (x : ℕ) → items_at vs (rs ++ x ∷ []) ≡ items_push (items_at vs rs) (value_in vs x)
 items_more vs [] x = refl
 items_more vs (r ∷ rs) x = ap (item (value_in vs r)) (items_more vs rs x)
 
@@ -45,7 +45,7 @@ items_both : (vs : List Value) (rs ss : List ℕ) → items_at vs (rs ++ ss) ≡
 items_both vs [] ss = refl
 items_both vs (r ∷ rs) ss = ap (item (value_in vs r)) (items_both vs rs ss)
 
-push_depth : (is : Items) (v : Value) → items_depth (items_push is v) ≡ max (items_depth is) (depth_of v)
+pub push_depth : (is : Items) (v : Value) → items_depth (items_push is v) ≡ max (items_depth is) (depth_of v)
 push_depth no_items v = omega arith
 push_depth (item w is) v = let e = push_depth is v in omega (arith, e)
 

@@ -84,7 +84,7 @@ part_inside bs vs p i c f s =
     mapped_some vs (parts bs c.content) i
     (subst (λ o. IsSome o) (ap (λ v. slice_get (parts_of v) i) f.is ∙ ap (λ ws. slice_get ws i) (meaning_parts bs vs p c.content f.content) ∙ get_mapped vs (parts bs c.content) i) s)
 
-get_below : (n : ℕ) (rs : List ℕ) (i d : ℕ) → AreBelow n rs → i < length rs → get_or rs i d < n
+pub get_below : (n : ℕ) (rs : List ℕ) (i d : ℕ) → AreBelow n rs → i < length rs → get_or rs i d < n
 get_below n [] i d b h = absurd (omega arith)
 get_below n (r ∷ rs) zero d b h = b.0
 get_below n (r ∷ rs) (suc i) d b h = get_below n rs i d b.1 (omega arith)

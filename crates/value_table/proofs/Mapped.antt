@@ -65,7 +65,7 @@ texts_one bytes [] k (suc p) b h = (h, tt)
 texts_one bytes (j ∷ ks) k zero b h = (h, b)
 texts_one bytes (j ∷ ks) k (suc p) b h = (b.0, texts_one bytes ks k p b.1 h)
 
-depth_one : (bytes : List ℕ) (vs : List Value) (ks : List Part) (rs : List ℕ) (k : Part) (x p : ℕ) → length ks ≡ length rs → p ≤ length ks
+pub depth_one : (bytes : List ℕ) (vs : List Value) (ks : List Part) (rs : List ℕ) (k : Part) (x p : ℕ) → length ks ≡ length rs → p ≤ length ks
     → entries_depth (entries_at bytes vs (with_one p k ks) (with_one p x rs)) ≡ max (entries_depth (entries_at bytes vs ks rs)) (depth_of (value_in vs x))
 depth_one bytes vs [] [] k x zero e l = omega arith
 depth_one bytes vs [] [] k x (suc p) e l = absurd (omega arith)

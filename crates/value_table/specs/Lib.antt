@@ -1,4 +1,5 @@
 pub mod Meaning
+pub mod Measures
 pub mod Lengths
 pub mod Heaps
 pub mod Heap

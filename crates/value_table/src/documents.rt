@@ -91,12 +91,11 @@ fn add_items(heap: &mut Heap, items: &Vec<Value>) -> Result<u64, AllocError>
     ensures grown { HasGrown (heap_values heap.old) (heap_values heap.new) }
     ensures value { IfOk result (λ r. Stands (heap_values heap.new) r (kind.list (plain_items (items_view items.now.items)))) }
 {
-    let mut list = heap.new_list()?;
+    let mut places = Vec::with_capacity(heap.cells.alloc(), items.len())?;
     for item in items {
-        let place = add_document(heap, item)?;
-        list = heap.push(list, place)?;
+        places.push(add_document(heap, item)?)?;
     }
-    Ok(list)
+    heap.add_list(&places)
 }
 
 #[cycle(add_document)]
@@ -115,8 +114,7 @@ fn add_members(heap: &mut Heap, members: &Map<String, Value>) -> Result<u64, All
     add_entries(heap, members, &places)
 }
 
-// Puts the map of the members behind all others. Their values stand, so that nothing else comes
-// between its keys and it grows in place.
+// Puts the map of the members behind all others. Their values stand already.
 fn add_entries(
     heap: &mut Heap,
     members: &Map<String, Value>,
@@ -129,12 +127,9 @@ fn add_entries(
     ensures grown { HasGrown (heap_values heap.old) (heap_values heap.new) }
     ensures value { IfOk result (λ r. Stands (heap_values heap.new) r (kind.map (plain_entries (members_view members.now.entries)))) }
 {
-    let mut map = heap.new_map()?;
-    let mut count = 0;
+    let mut keys = Vec::with_capacity(heap.cells.alloc(), places.len())?;
     for (key, _) in members.iter() {
-        let name = heap.add_text(key.as_str())?;
-        map = heap.put(map, name, places[count])?;
-        count += 1;
+        keys.push(heap.add_key(key.as_str())?)?;
     }
-    Ok(map)
+    heap.add_map(&keys, places)
 }

@@ -82,6 +82,26 @@ impl Heap {
 }
 
 impl Backings {
+    /// A new row of these keys, and a new backing with these values.
+    pub(crate) fn add_entries(
+        &mut self,
+        keys: &[Part],
+        values: Backing<u64>,
+    ) -> Result<(u64, u64), AllocError>
+        ensures grown { Extends self.old self.new }
+        ensures bytes { self.new.bytes ≡ self.old.bytes }
+        ensures keys { IfOk result (λ r. HoldsKeys self.new.keys r.0 (length keys.now) keys.now) }
+        ensures values { IfOk result (λ r. Holds self.new.lists r.1 (length values) values) }
+        ensures kept { OnErr result (self.new ≡ self.old) }
+    {
+        let row = self.keys.len() as u64;
+        let room = self.keys.room(keys.len())?;
+        let backing = self.lists.backings().len() as u64;
+        self.lists.push(values)?;
+        fill(room, keys);
+        Ok((row, backing))
+    }
+
     // The keys in a row and the backing of a map with one more entry at a place: the same row where the
     // key comes last and no other row follows, and else a new one behind all others.
     fn put_entry(

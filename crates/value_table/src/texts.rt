@@ -1,10 +1,10 @@
 //! Texts in a heap.
 
-ghost use Rattle.std.specs.Prelude.{◌≡◌, ◌<◌, ◌++◌, List, length, IsSome, IfSome, OnErr};
+ghost use Rattle.std.specs.Prelude.{◌≡◌, ◌<◌, ◌++◌, List, length, IsSome, IfSome, IfOk, OnErr};
 ghost use Rattle.value_store.specs.Value.{Value, text};
 ghost use Rattle.value_store.specs.Calls.{join_of};
 ghost use Rattle.value_table.specs.Meaning.{part_of, value_in};
-ghost use Rattle.value_table.specs.Heaps.{Adds, IsCell, IsText};
+ghost use Rattle.value_table.specs.Heaps.{Adds, Extends, IsCell, IsText};
 ghost use Rattle.value_table.specs.Heap.{heap_values, IsHeap, IsAsBefore};
 ghost use Rattle.value_table.specs.declared.content.Content.TheVariants as cell;
 
@@ -29,6 +29,17 @@ impl Heap {
         let cells = room_for_cell(&mut self.cells, &mut self.same)?;
         let part = self.backings.add_text(s.as_bytes())?;
         Ok(append(cells, text_cell(&self.backings, part)))
+    }
+
+    /// Puts the text of a key behind all others. It is no value.
+    pub(crate) fn add_key(&mut self, key: &str) -> Result<Part, AllocError>
+        requires { IsHeap self.old }
+        ensures heap { IsHeap self.new }
+        ensures values { heap_values self.new ≡ heap_values self.old }
+        ensures grown { Extends self.old.backings self.new.backings }
+        ensures part { IfOk result (λ p. IsText self.new.backings.bytes p × (part_of self.new.backings.bytes p ≡ key.now)) }
+    {
+        self.backings.add_text(key.as_bytes())
     }
 
     /// One more text, which is one behind another.

@@ -16,7 +16,7 @@ use crate::writing::json_at;
 use std::alloc::{AllocError, Global};
 
 /// How many bytes the JSON text may have by which a value is looked up.
-const LONGEST: u64 = 4_096;
+const LONGEST: u64 = 512;
 
 // What a value is looked up by: its JSON text. A long one is not written.
 fn text_of(

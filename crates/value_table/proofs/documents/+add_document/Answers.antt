@@ -1,24 +1,21 @@
-use Rattle.std.proofs.Common.{◌≡◌, ◌+◌, [], ◌∷◌, ◌++◌, Ok, drop, string_bytes, refl, sym, ap, ◌∙◌, subst, arith, rules, Option}
-use Rattle.std.specs.Prelude.{IsSome}
+use Rattle.std.proofs.Common.{◌≡◌, ◌+◌, [], ◌∷◌, ◌++◌, drop, string_bytes, sym, ap, ◌∙◌, subst, arith, rules}
+use Rattle.std.specs.Prelude.{IfOk}
 use Rattle.std.proofs.lemmas.List.{drop_more, drop_all}
 use Rattle.serde_json.specs.View.{view, items_view, members_view}
 use Rattle.value_store.specs.Value as kind
 use Rattle.value_store.specs.Value.{Value}
-use Rattle.value_store.specs.Plain.{plain_value, plain_items}
+use Rattle.value_store.specs.Plain.{plain_items}
+use Rattle.value_table.specs.Meaning.{items_at}
 use Rattle.value_table.specs.Heap.{heap_values}
 use Rattle.value_table.specs.Growing.{Stands, MembersStand}
-use Rattle.value_table.proofs.Growing.{ItemsStand, MembersLeft, grown_more, grown_added, grown_due, stands_added, items_start, items_on, items_step, items_end, item_due, members_step, members_end}
+use Rattle.value_table.proofs.Growing.{ItemsStand, MembersLeft, grown_same, grown_more, grown_added, stands_if, items_start, items_step, items_end, members_step, members_end}
 use Rattle.value_table.proofs.documents.+add_document.Goals as goal
 
 pub add_items-loop-item-init : goal.add_items-loop-item-init
 add_items-loop-item-init t c =
     let xs = c.deref-item-items.result.now in
     let e = c.deref-item-items.ensures.value in
-    record {
-      heap = c.new_list.ensures.heap;
-      grown = grown_added _ _ _ c.new_list.result c.new_list.ensures.added;
-      items = items_start (items_view xs) _ c.in_ok-list.list (rw e c.requires.whole) (rw e c.requires.ordered) (stands_added _ _ _ c.in_ok-list.list c.in_ok-list.ensures.added);
-    }
+    record { heap = c.requires.heap; grown = grown_same _; items = rw c.in_ok-places.ensures.items (items_start (items_view xs) _ (rw e c.requires.whole) (rw e c.requires.ordered)) }
 
 pub add_items-loop-item-preserved : goal.add_items-loop-item-preserved
 add_items-loop-item-preserved t c =
@@ -26,23 +23,36 @@ add_items-loop-item-preserved t c =
     let xs = c.deref-item-items.result.now in
     let x = c.item-item.result in
     let here : drop l.item-index xs ≡ x ∷ drop (l.item-index + 1) xs = drop_more xs l.item-index x (omega arith) ∙ ap (λ y. y ∷ drop (l.item-index + 1) xs) (sym c.item-item.is) in
-    let go = subst (λ ys. ItemsStand (plain_items (items_view xs)) (heap_values l.heap) l.list (items_view ys)) here l.invariant.items in
-    let next = items_on _ _ _ _ _ c.add_document.ensures.grown go in
-    let due = item_due _ _ l.list c.in_ok-place.place (plain_value (view x)) _ next c.in_ok-place.ensures.value in
-    let some = subst (λ (o : Option Value). IsSome o) (sym due) refl in
+    let go = subst (λ ys. ItemsStand (plain_items (items_view xs)) (heap_values l.heap) l.places.items (items_view ys)) here l.invariant.items in
+    let pushed : c.push.new.self.items ≡ l.places.items ++ c.in_ok-add_document.field-0 ∷ [] = search rules in
     record {
-      heap = c.push.ensures.heap;
-      grown = grown_more _ _ _ (grown_more _ _ _ l.invariant.grown c.add_document.ensures.grown) (grown_due _ _ _ (Ok c.in_ok-list-2.list) some c.in_ok-list-2.ensures.added);
-      items = items_step _ _ _ l.list c.in_ok-place.place c.in_ok-list-2.list (view x) (items_view (drop (l.item-index + 1) xs)) next c.in_ok-place.ensures.value c.in_ok-list-2.ensures.added;
+      heap = c.add_document.ensures.heap;
+      grown = grown_more _ _ _ l.invariant.grown c.add_document.ensures.grown;
+      items = items_step _ _ _ l.places.items c.push.new.self.items c.in_ok-add_document.field-0 (view x) (items_view (drop (l.item-index + 1) xs)) pushed c.add_document.ensures.grown c.in_ok-add_document.ensures.value go;
     }
+
+pub add_items-add_list-requires-clause-ordered : goal.add_items-add_list-requires-clause-ordered
+add_items-add_list-requires-clause-ordered t c =
+    let l = c.loop-item in
+    let xs = c.deref-item-items.result.now in
+    let none : drop l.item-index xs ≡ [] = drop_all l.item-index xs (omega arith) in
+    let go = subst (λ ys. ItemsStand (plain_items (items_view xs)) (heap_values l.heap) l.places.items (items_view ys)) none l.invariant.items in
+    let is : items_at (heap_values l.heap) l.places.items ≡ plain_items (items_view c.args.items.now.items) = items_end _ (heap_values l.heap) l.places.items go ∙ ap (λ ys. plain_items (items_view ys)) c.deref-item-items.ensures.value in
+    rw c.deref.ensures.value (rw is c.requires.ordered)
+
+pub add_items-returns-clause-grown : goal.add_items-returns-clause-grown
+add_items-returns-clause-grown t c = grown_more _ _ _ c.loop-item.invariant.grown (grown_added _ _ _ c.add_list.result c.add_list.ensures.added)
 
 pub add_items-returns-clause-value : goal.add_items-returns-clause-value
 add_items-returns-clause-value t c =
     let l = c.loop-item in
+    let vs = heap_values l.heap in
     let xs = c.deref-item-items.result.now in
     let none : drop l.item-index xs ≡ [] = drop_all l.item-index xs (omega arith) in
-    let go = subst (λ ys. ItemsStand (plain_items (items_view xs)) (heap_values l.heap) l.list (items_view ys)) none l.invariant.items in
-    subst (λ ys. Stands (heap_values l.heap) l.list (kind.list (plain_items (items_view ys)))) c.deref-item-items.ensures.value (items_end _ _ l.list go)
+    let go = subst (λ ys. ItemsStand (plain_items (items_view xs)) vs l.places.items (items_view ys)) none l.invariant.items in
+    let is : items_at vs l.places.items ≡ plain_items (items_view c.args.items.now.items) = items_end _ vs l.places.items go ∙ ap (λ ys. plain_items (items_view ys)) c.deref-item-items.ensures.value in
+    let all : items_at vs c.deref.result.now ≡ plain_items (items_view c.args.items.now.items) = ap (items_at vs) c.deref.ensures.value ∙ is in
+    subst (λ is. IfOk c.add_list.result (λ r. Stands (heap_values c.add_list.new.self) r (kind.list is))) all (stands_if _ _ _ c.add_list.result c.add_list.ensures.added)
 
 pub add_members-loop-member-preserved : goal.add_members-loop-member-preserved
 add_members-loop-member-preserved t c =

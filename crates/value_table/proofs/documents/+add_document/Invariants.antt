@@ -10,7 +10,7 @@ abbrev pub invariant-add_items-loop-item : goal.invariant-add_items-loop-item
 invariant-add_items-loop-item l = record {
   heap : IsHeap l.heap;
   grown : HasGrown (heap_values l.fn.heap) (heap_values l.heap);
-  items : ItemsStand (plain_items (items_view l.item-items)) (heap_values l.heap) l.list (items_view (drop l.item-index l.item-items));
+  items : ItemsStand (plain_items (items_view l.item-items)) (heap_values l.heap) l.places.items (items_view (drop l.item-index l.item-items));
 }
 
 abbrev pub invariant-add_members-loop-member : goal.invariant-add_members-loop-member

@@ -1,0 +1,107 @@
+-- Lists and maps of parts that stand.
+use Rattle.std.proofs.Common.{◌≡◌, ℕ, zero, suc, ◌+◌, ◌<◌, List, [], ◌∷◌, ◌++◌, length, get_or, refl, sym, ap, ap₂, ◌∙◌, arith, subst, max, Some}
+use Rattle.value_store.specs.Value as kind
+use Rattle.value_store.specs.Value.{Value}
+use Rattle.value_store.specs.Size.{depth_of}
+use Rattle.value_store.specs.Plain.{saturated}
+use Rattle.json.specs.Print.{quoted}
+use Rattle.value_store.specs.Keys.{IsOrdered}
+use Rattle.value_table.specs.Meaning.{part_of, value_in, items_at, entries_at, refs_at, keys_at}
+use Rattle.value_table.specs.Heaps.{IsText, AreTexts, AreBelow, Found, Holds}
+use Rattle.value_table.specs.Lengths.{json_length, commas}
+use Rattle.value_table.specs.Measures.{IsMeasure}
+use Rattle.value_table.specs.Entries.{with_one, HoldsKeys}
+use Rattle.value_table.specs.declared.part.Part.{Part}
+use Rattle.value_table.specs.declared.content.Content.TheVariants as cell
+use Rattle.value_table.specs.declared.cell.Cell.{Cell}
+use Rattle.value_table.specs.declared.measure.Measure.{Measure}
+use Rattle.value_table.specs.declared.backings.Backings.{Backings}
+use Rattle.value_table.proofs.Listed.{Made, items_length, items_more, push_depth}
+use Rattle.value_table.proofs.Mapped.{depth_one}
+use Rattle.value_table.proofs.TextLengths.{push_long, put_long}
+
+-- the measure of a list with one more item
+pub list_measured : (bs : Backings) (vs : List Value) (rs : List ℕ) (x n : ℕ) (m m' : Measure) (xc : Cell) → length rs ≡ n → IsMeasure (length vs) (kind.list (items_at vs rs)) m → Found bs vs x xc
+    → m'.depth ≡ max m.depth (xc.depth + 1) → m'.json ≡ saturated (m.json + commas n 1 + xc.json) → IsMeasure (length vs) (kind.list (items_at vs (rs ++ x ∷ []))) m'
+list_measured bs vs rs x n m m' xc count h fx deep long =
+    let more = items_more vs rs x in
+    let xd : xc.depth ≡ depth_of (value_in vs x) = fx.depth ∙ ap depth_of (sym fx.is) in
+    let xj : xc.json ≡ json_length (value_in vs x) = fx.json ∙ ap json_length (sym fx.is) in
+    let pd = push_depth (items_at vs rs) (value_in vs x) in
+    let text = push_long (items_at vs rs) (value_in vs x) n (items_length vs rs ∙ count) in
+    let md = h.depth in
+    let ms = h.shallow in
+    let mj = h.json in
+    let s = fx.shallow in
+    let i = fx.inside in
+    record {
+      depth = rw more (omega (arith, deep, xd, md, pd));
+      shallow = omega (arith, deep, ms, s, i);
+      json = rw more (omega (arith, long, mj, xj, text));
+    }
+
+with_last : {A : Type 0} (x : A) (xs : List A) → with_one (length xs) x xs ≡ xs ++ x ∷ []
+with_last x [] = refl
+with_last x (y ∷ ys) = ap (λ zs. y ∷ zs) (with_last x ys)
+
+-- the measure of a map with one more entry behind the others
+pub map_measured : (bs : Backings) (bytes : List ℕ) (vs : List Value) (ks : List Part) (rs : List ℕ) (k : Part) (x n kj : ℕ) (m m' : Measure) (xc : Cell) → length ks ≡ n → length rs ≡ n → IsMeasure (length vs) (kind.map (entries_at bytes vs ks rs)) m → Found bs vs x xc
+    → kj ≡ saturated (length (quoted (part_of bytes k))) → m'.depth ≡ max m.depth (xc.depth + 1) → m'.json ≡ saturated (m.json + (1 + commas n 1) + kj + xc.json) → IsMeasure (length vs) (kind.map (entries_at bytes vs (ks ++ k ∷ []) (rs ++ x ∷ []))) m'
+map_measured bs bytes vs ks rs k x n kj m m' xc kc rc h fx key deep long =
+    let same : length ks ≡ length rs = kc ∙ sym rc in
+    let more : entries_at bytes vs (ks ++ k ∷ []) (rs ++ x ∷ []) ≡ entries_at bytes vs (with_one (length ks) k ks) (with_one (length ks) x rs) = ap₂ (entries_at bytes vs) (sym (with_last k ks)) (sym (ap (λ i. with_one i x rs) same ∙ with_last x rs)) in
+    let xd : xc.depth ≡ depth_of (value_in vs x) = fx.depth ∙ ap depth_of (sym fx.is) in
+    let xj : xc.json ≡ json_length (value_in vs x) = fx.json ∙ ap json_length (sym fx.is) in
+    let pd = depth_one bytes vs ks rs k x (length ks) same (omega arith) in
+    let text = put_long bytes vs ks rs k x (length ks) n same kc (omega arith) in
+    let md = h.depth in
+    let ms = h.shallow in
+    let mj = h.json in
+    let s = fx.shallow in
+    let i = fx.inside in
+    record {
+      depth = rw more (omega (arith, deep, xd, md, pd));
+      shallow = omega (arith, deep, ms, s, i);
+      json = rw more (omega (arith, long, mj, key, xj, text));
+    }
+
+pub text_in : (bytes : List ℕ) (ks : List Part) (i : ℕ) (d : Part) → AreTexts bytes ks → i < length ks → IsText bytes (get_or ks i d)
+text_in bytes [] i d h lt = absurd (omega arith)
+text_in bytes (k ∷ ks) zero d h lt = h.0
+text_in bytes (k ∷ ks) (suc i) d h lt = text_in bytes ks i d h.1 (omega arith)
+
+-- the cells of wholes
+pub list_gathered : (cs : Backings) (vs : List Value) (rs : List ℕ) (b : ℕ) (m : Measure) → Holds cs.lists b (length rs) rs → AreBelow (length vs) rs → IsMeasure (length vs) (kind.list (items_at vs rs)) m → IsOrdered (kind.list (items_at vs rs))
+    → Made cs vs (record { content = cell.List b (length rs); depth = m.depth; json = m.json }) (Some (kind.list (items_at vs rs)))
+list_gathered cs vs rs b m h below measure ordered =
+    let whole = h.long in
+    record {
+      cell = record {
+        content = record { inside = h.inside; long = omega (arith, whole); below = subst (AreBelow (length vs)) (sym h.items) below };
+        depth = rw h.items measure.depth;
+        shallow = measure.shallow;
+        json = rw h.items measure.json;
+        ordered = rw h.items ordered;
+      };
+      value = ap (λ xs. Some (kind.list (items_at vs xs))) (sym h.items);
+    }
+
+pub map_gathered : (bs cs : Backings) (vs : List Value) (ks : List Part) (rs : List ℕ) (row b : ℕ) (m : Measure) → cs.bytes ≡ bs.bytes → HoldsKeys cs.keys row (length rs) ks → Holds cs.lists b (length rs) rs → AreTexts bs.bytes ks → AreBelow (length vs) rs
+    → IsMeasure (length vs) (kind.map (entries_at bs.bytes vs ks rs)) m → IsOrdered (kind.map (entries_at bs.bytes vs ks rs)) → Made cs vs (record { content = cell.Map row b (length rs); depth = m.depth; json = m.json }) (Some (kind.map (entries_at bs.bytes vs ks rs)))
+map_gathered bs cs vs ks rs row b m same hk hr texts below measure ordered =
+    let whole = hr.long in
+    let row_end = hk.inside in
+    let here : entries_at cs.bytes vs (keys_at cs.keys row (length rs)) (refs_at cs.lists b (length rs)) ≡ entries_at bs.bytes vs ks rs = rw (same, hk.are, hr.items) refl in
+    record {
+      cell = record {
+        content = (
+          record { inside = hr.inside; long = omega (arith, whole); below = subst (AreBelow (length vs)) (sym hr.items) below },
+          record { inside = omega (arith, row_end); texts = rw (same, hk.are) texts },
+        );
+        depth = rw here measure.depth;
+        shallow = measure.shallow;
+        json = rw here measure.json;
+        ordered = rw here ordered;
+      };
+      value = ap (λ es. Some (kind.map es)) (sym here);
+    }

@@ -1,0 +1,66 @@
+use Rattle.std.proofs.Common.{◌≡◌, ◌+◌, ◌<◌, ◌≤◌, [], ◌∷◌, ◌++◌, length, get_or, max, take, sym, ap, subst, ◌∙◌, refl, arith}
+use Rattle.std.proofs.lemmas.List.{take_more, take_all, length-take-le}
+use Rattle.json.specs.Print.{quoted}
+use Rattle.value_store.specs.Value.{map}
+use Rattle.value_store.specs.Plain.{saturated}
+use Rattle.value_table.specs.Meaning.{part_of, entries_at}
+use Rattle.value_table.specs.Heaps.{IsText}
+use Rattle.value_table.specs.Heap.{heap_values}
+use Rattle.value_table.specs.Measures.{IsMeasure}
+use Rattle.value_table.specs.declared.part.Part.{Part}
+use Rattle.value_table.specs.declared.measure.Measure.{Measure}
+use Rattle.value_table.proofs.Looked.{get_below}
+use Rattle.value_table.proofs.Gathered.{map_measured, text_in}
+use Rattle.value_table.proofs.heap.Heap.map_measure.Goals as goal
+
+-- what an index past the end would give
+abbrev none : Part
+none = record { from = 0; to = 0 }
+
+pub loop-i-init : goal.loop-i-init
+loop-i-init c = record { measure = record { depth = refl; shallow = omega arith; json = refl } }
+
+pub text-requires : goal.text-requires
+text-requires c = subst (λ bs. IsText bs (get_or c.args.keys.now c.loop-i.i none)) (sym c.items.ensures.value) (text_in _ c.args.keys.now c.loop-i.i none c.requires.texts (omega arith))
+
+pub cell-value-requires-clause-inside : goal.cell-value-requires-clause-inside
+cell-value-requires-clause-inside c = let pairs = c.requires.pairs in get_below _ c.args.places.now c.loop-i.i 0 c.requires.values (omega (arith, pairs))
+
+pub loop-i-preserved : goal.loop-i-preserved
+loop-i-preserved c =
+    let l = c.loop-i in
+    let heap = c.args.self.now in
+    let bytes = heap.backings.bytes in
+    let vs = heap_values heap in
+    let ks = c.args.keys.now in
+    let ps = c.args.places.now in
+    let i = l.i in
+    let pairs = c.requires.pairs in
+    let inside : i < length ks = omega arith in
+    let below : i < length ps = omega (arith, pairs, inside) in
+    let k = get_or ks i none in
+    let value = c.cell-value.result in
+    let a = c.saturating_add.ensures in
+    let b = c.max.ensures in
+    let s = c.cell-value.ensures.found.shallow in
+    let n = c.cell-value.ensures.short in
+    let deep : c.max.result ≡ max l.measure.depth (value.depth + 1) = omega (arith, a, b, s, n) in
+    let name : c.text.result.now ≡ part_of bytes k = c.text.ensures ∙ ap (λ xs. part_of xs k) c.items.ensures.value in
+    let key : c.quoted_length-key.result ≡ saturated (length (quoted (part_of bytes k))) = c.quoted_length-key.ensures ∙ ap (λ t. saturated (length (quoted t))) name in
+    let made : Measure = record { depth = c.max.result; json = c.put_length.result } in
+    let next = map_measured heap.backings bytes vs (take i ks) (take i ps) k (get_or ps i 0) i c.quoted_length-key.result l.measure made value (length-take-le i ks (omega arith)) (length-take-le i ps (omega (arith, below))) l.invariant.measure c.cell-value.ensures.found key deep c.put_length.ensures in
+    record {
+      measure = subst (λ rs. IsMeasure (length vs) (map (entries_at bytes vs (take (i + 1) ks) rs)) made) (sym (take_more ps i 0 below))
+          (subst (λ xs. IsMeasure (length vs) (map (entries_at bytes vs xs (take i ps ++ get_or ps i 0 ∷ []))) made) (sym (take_more ks i none inside)) next);
+    }
+
+pub returns : goal.returns
+returns c =
+    let l = c.loop-i in
+    let ks = c.args.keys.now in
+    let ps = c.args.places.now in
+    let pairs = c.requires.pairs in
+    let end : length ks ≤ l.i = omega arith in
+    let heap = c.args.self.now in
+    subst (λ rs. IsMeasure (length (heap_values heap)) (map (entries_at heap.backings.bytes (heap_values heap) ks rs)) l.measure) (take_all l.i ps (omega (arith, pairs, end)))
+    (subst (λ xs. IsMeasure (length (heap_values heap)) (map (entries_at heap.backings.bytes (heap_values heap) xs (take l.i ps))) l.measure) (take_all l.i ks end) l.invariant.measure)

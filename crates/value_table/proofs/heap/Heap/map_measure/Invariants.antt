@@ -1,0 +1,11 @@
+use Rattle.std.proofs.Common.{length, take}
+use Rattle.value_store.specs.Value.{map}
+use Rattle.value_table.specs.Meaning.{entries_at}
+use Rattle.value_table.specs.Heap.{heap_values}
+use Rattle.value_table.specs.Measures.{IsMeasure}
+use Rattle.value_table.proofs.heap.Heap.map_measure.Given as goal
+
+abbrev pub invariant-loop-i : goal.invariant-loop-i
+invariant-loop-i l = record {
+  measure : IsMeasure (length (heap_values l.self)) (map (entries_at l.self.backings.bytes (heap_values l.self) (take l.i l.keys) (take l.i l.places))) l.measure;
+}

@@ -1,0 +1,106 @@
+//! Lists and maps of parts that stand.
+
+ghost use Rattle.std.specs.Prelude.{◌≡◌, length, OnErr};
+ghost use Rattle.value_store.specs.Value.{list, map};
+ghost use Rattle.value_store.specs.Keys.{IsOrdered};
+ghost use Rattle.value_table.specs.Meaning.{items_at, entries_at};
+ghost use Rattle.value_table.specs.Heap.{heap_values, IsHeap, IsAsBefore};
+ghost use Rattle.value_table.specs.Heaps.{Adds, AreBelow, AreTexts};
+ghost use Rattle.value_table.specs.Measures.{IsMeasure};
+
+use crate::backing::Backing;
+use crate::cell::Cell;
+use crate::content::Content;
+use crate::heap::{Heap, room_for_cell};
+use crate::lengths::{pushed_length, put_length, quoted_length};
+use crate::measure::Measure;
+use crate::part::Part;
+use crate::room::append;
+use crate::text::text;
+use std::alloc::AllocError;
+
+// A whole has one cell, and its parts are measured once.
+impl Heap {
+    /// One more list, whose items stand at these places.
+    pub(crate) fn add_list(&mut self, places: &[u64]) -> Result<u64, AllocError>
+        requires heap { IsHeap self.old }
+        requires items { AreBelow (length (heap_values self.old)) places.now }
+        requires ordered { IsOrdered (list (items_at (heap_values self.old) places.now)) }
+        ensures heap { IsHeap self.new }
+        ensures added { Adds (heap_values self.old) (list (items_at (heap_values self.old) places.now)) result (heap_values self.new) }
+        ensures kept { OnErr result (IsAsBefore self.old self.new) }
+    {
+        let measure = self.list_measure(places);
+        let items = Backing::joined(self.cells.alloc(), places, &[])?;
+        let cells = room_for_cell(&mut self.cells, &mut self.same)?;
+        let backing = self.backings.add_items(items)?;
+        let cell = Cell {
+            content: Content::List(backing, places.len() as u64),
+            depth: measure.depth,
+            json: measure.json,
+        };
+        Ok(append(cells, cell))
+    }
+
+    /// One more map, with these texts as its keys, and with the values that stand at these places.
+    pub(crate) fn add_map(&mut self, keys: &[Part], places: &[u64]) -> Result<u64, AllocError>
+        requires heap { IsHeap self.old }
+        requires texts { AreTexts self.old.backings.bytes keys.now }
+        requires values { AreBelow (length (heap_values self.old)) places.now }
+        requires pairs { length keys.now ≡ length places.now }
+        requires ordered { IsOrdered (map (entries_at self.old.backings.bytes (heap_values self.old) keys.now places.now)) }
+        ensures heap { IsHeap self.new }
+        ensures added { Adds (heap_values self.old) (map (entries_at self.old.backings.bytes (heap_values self.old) keys.now places.now)) result (heap_values self.new) }
+        ensures kept { OnErr result (IsAsBefore self.old self.new) }
+    {
+        let measure = self.map_measure(keys, places);
+        let items = Backing::joined(self.cells.alloc(), places, &[])?;
+        let cells = room_for_cell(&mut self.cells, &mut self.same)?;
+        let (row, backing) = self.backings.add_entries(keys, items)?;
+        let cell = Cell {
+            content: Content::Map(row, backing, places.len() as u64),
+            depth: measure.depth,
+            json: measure.json,
+        };
+        Ok(append(cells, cell))
+    }
+
+    // The measure of the list of the values at these places.
+    fn list_measure(&self, places: &[u64]) -> Measure
+        requires heap { IsHeap self.now }
+        requires items { AreBelow (length (heap_values self.now)) places.now }
+        ensures { IsMeasure (length (heap_values self.now)) (list (items_at (heap_values self.now) places.now)) result }
+    {
+        let mut measure = Measure { depth: 1, json: 2 };
+        let mut count = 0u64;
+        for place in places {
+            let item = self.cell(*place);
+            measure = Measure {
+                depth: measure.depth.max(item.depth.saturating_add(1)),
+                json: pushed_length(measure.json, count, item.json),
+            };
+            count = count.saturating_add(1);
+        }
+        measure
+    }
+
+    // The measure of the map with these keys and the values at these places.
+    fn map_measure(&self, keys: &[Part], places: &[u64]) -> Measure
+        requires heap { IsHeap self.now }
+        requires texts { AreTexts self.now.backings.bytes keys.now }
+        requires values { AreBelow (length (heap_values self.now)) places.now }
+        requires pairs { length keys.now ≡ length places.now }
+        ensures { IsMeasure (length (heap_values self.now)) (map (entries_at self.now.backings.bytes (heap_values self.now) keys.now places.now)) result }
+    {
+        let mut measure = Measure { depth: 1, json: 2 };
+        for i in 0..keys.len() {
+            let key = quoted_length(text(self.backings.bytes.items(), keys[i]));
+            let value = self.cell(places[i]);
+            measure = Measure {
+                depth: measure.depth.max(value.depth.saturating_add(1)),
+                json: put_length(measure.json, i as u64, key, value.json),
+            };
+        }
+        measure
+    }
+}
