@@ -1,6 +1,6 @@
 -- Words that begin in the same way, before different ends.
-use Rattle.std.proofs.Common.{◌≡◌, ℕ, List, [], ◌∷◌, true, false, Bool, ◌⊎◌, inl, inr, None, refl, sym, ◌∙◌, ap, subst}
-use Rattle.cel_tokens.specs.Token.{Word, name, mark}
+use Rattle.std.proofs.Common.{◌≡◌, List, [], ◌∷◌, true, false, inl, inr, None, refl, sym, ◌∙◌, ap, subst}
+use Rattle.cel_tokens.specs.Token.{Word, mark}
 use Rattle.cel_tokens.specs.declared.mark.Mark.{Mark}
 use Rattle.cel_tokens.specs.declared.mark.Mark.TheVariants.{Comma}
 use Rattle.cel_reader.specs.Words.{literal_of}
@@ -8,7 +8,6 @@ use Rattle.cel_reader.specs.Look.{NotAt, NoOperator, NoLiteral, NoSelector, NoId
 use Rattle.cel_reader.specs.declared.level.Level.{Level}
 use Rattle.cel_reader.specs.declared.closing.Closing.{Closing}
 use Rattle.cel_reader.specs.declared.closing.Closing.TheVariants.{Call, List as ListLiteral, Map}
-use Rattle.std.specs.Prelude.{if◌then◌else◌}
 
 -- ws ends with x and us with y, and before these they are the same
 pub data Alike : List Word → List Word → List Word → List Word → Type 0 where

@@ -1,7 +1,7 @@
 -- A phrase is one before any words.
-use Rattle.std.proofs.Common.{◌≡◌, ℕ, List, [], ◌∷◌, inl, inr, refl}
+use Rattle.std.proofs.Common.{ℕ, List, ◌∷◌, inl, inr, refl}
 use Rattle.cel_tokens.specs.Token.{Word, name, mark}
-use Rattle.cel_tokens.specs.declared.mark.Mark.TheVariants.{Question, Colon, Dot, Comma, OpenParen, CloseParen, OpenBracket, CloseBracket, OpenBrace, CloseBrace}
+use Rattle.cel_tokens.specs.declared.mark.Mark.TheVariants.{Question, Colon, Dot, Comma, OpenParen, CloseParen, OpenBracket, CloseBracket, CloseBrace}
 use Rattle.cel_reader.specs.Grammar.{Class, Phrase, OptionalComma, Derives}
 use Rattle.cel_reader.specs.Grammar as derives
 use Rattle.cel_reader.proofs.Alike.{Alike, over, down, same}

@@ -6,16 +6,15 @@ use Rattle.cel_tokens.specs.Token.{Word, name, int, mark}
 use Rattle.cel_tokens.specs.declared.mark.Mark.TheVariants.{Question, Colon, Dot, Comma, OpenParen, CloseParen, OpenBracket, CloseBracket, OpenBrace, CloseBrace}
 use Rattle.cel_reader.specs.Tree as tree
 use Rattle.cel_reader.specs.Tree.{Tree, trees, entries}
-use Rattle.cel_reader.specs.Words.{is_identifier, is_selector, is_reserved, role_of}
-use Rattle.cel_reader.specs.Look.{Closes, closing_mark, takes_comma}
+use Rattle.cel_reader.specs.Words.{is_selector, is_reserved, role_of}
+use Rattle.cel_reader.specs.Look.{closing_mark, takes_comma}
 use Rattle.cel_reader.specs.Grammar.{Class, Expression, Infix, Unary, Prefixed, Member, Primary, Phrase, One, Many, Keyed, below, Derives}
 use Rattle.cel_reader.specs.Grammar as derives
 use Rattle.cel_reader.specs.Reading.{Cause, Misfit, Deep, Outcome, Got, Refused, Step, Row, Tail, Suffix, Selection, Enclosed, Listed, Item, Behind, Mapped, Entry, BehindEntry, Reads}
 use Rattle.cel_reader.specs.Reading as reads
-use Rattle.cel_reader.specs.declared.level.Level.{Level}
 use Rattle.cel_reader.specs.declared.level.Level.TheVariants.{Or, And, Relation, Sum, Product}
 use Rattle.cel_reader.specs.declared.closing.Closing.{Closing}
-use Rattle.cel_reader.specs.declared.closing.Closing.TheVariants.{Call, List as ListLiteral, Map}
+use Rattle.cel_reader.specs.declared.closing.Closing.TheVariants.{Call}
 use Rattle.cel_reader.proofs.Sound.{SoundOne, SoundMany, SoundKeyed, moved, roomy, fitted, ends_call, item_added, pair_added, method_sound, function_sound, list_sound, map_sound, sound}
 use Rattle.cel_reader.proofs.Rooms.{wider}
 use Rattle.cel_reader.proofs.Alike.{Alike, over, down, same}
@@ -39,7 +38,7 @@ wide : {c : Class} {room : ℕ} {ws rest : List Word} {p : Phrase} (e : Cause) �
 wide {room = room} e d = wider d (extra e room) (enough e room)
 
 -- the words are what the step wants, up to these
-abbrev Fits : Step → ℕ → List Word → List Word → Type 0
+abbrev pub Fits : Step → ℕ → List Word → List Word → Type 0
 Fits (Row c) room ws end = (a : Tree) × SoundOne (Row c) room ws a end
 Fits (Tail l a) room ws end = (b : Tree) × SoundOne (Tail l a) room ws b end
 Fits (Suffix a) room ws end = (b : Tree) × SoundOne (Suffix a) room ws b end
@@ -60,7 +59,7 @@ moved_end : (rest more tail end ws us : List Word) → Alike rest (more ++ (tail
 moved_end rest more tail end ws us a = subst (λ (x : List Word). Alike rest x ws us) (sym (append_assoc more tail end)) a
 
 -- a step inside another, which wants these words behind it
-inside : {s t : Step} {room other : ℕ} {us ws rest : List Word} (tail : List Word) → Finishes s room us rest → ((vs end : List Word) → Fits s room vs (tail ++ end) → (xs : List Word) × Alike us vs ws xs × Fits t other xs end) → Finishes t other ws rest
+pub inside : {s t : Step} {room other : ℕ} {us ws rest : List Word} (tail : List Word) → Finishes s room us rest → ((vs end : List Word) → Fits s room vs (tail ++ end) → (xs : List Word) × Alike us vs ws xs × Fits t other xs end) → Finishes t other ws rest
 inside {ws = ws} {rest = rest} tail (finishes more f) g = finishes (more ++ tail) (λ end. let x = f (tail ++ end) in let y = g x.0 end x.2 in (y.0, moved_end rest more tail end ws y.0 (over x.1 y.1), y.2))
 
 abbrev pub Ended : Step → ℕ → List Word → Outcome → Type 0
@@ -75,13 +74,13 @@ lift s t room other us ws (Refused e) f x = f e x
 abbrev pub nil : Tree
 nil = tree.literal (tree.int (pos 0))
 
-nought_primary : (room : ℕ) (end : List Word) → Derives Primary room (int (pos 0) ∷ end) (One nil) end
+pub nought_primary : (room : ℕ) (end : List Word) → Derives Primary room (int (pos 0) ∷ end) (One nil) end
 nought_primary room end = derives.constant refl
 
 nought_unary : (room : ℕ) (end : List Word) → Derives Unary room (int (pos 0) ∷ end) (One nil) end
 nought_unary room end = derives.unprefixed (derives.whole (nought_primary room end))
 
-nought_or : (room : ℕ) (end : List Word) → Derives (Infix Or) room (int (pos 0) ∷ end) (One nil) end
+pub nought_or : (room : ℕ) (end : List Word) → Derives (Infix Or) room (int (pos 0) ∷ end) (One nil) end
 nought_or room end = derives.operand Or (derives.operand And (derives.operand Relation (derives.operand Sum (derives.operand Product (nought_unary room end)))))
 
 pub nought_whole : (room : ℕ) (end : List Word) → Derives Expression room (int (pos 0) ∷ end) (One nil) end
@@ -99,7 +98,7 @@ selected_call room (suc m) ws vs ends a n items x h s us fs q f =
     let d = carried (wider (moved s.3 (ends_call s.1 vs s.4)) m (less room s.0 m s.2 h)) (mark CloseParen ∷ ends) in
     (name n ∷ mark OpenParen ∷ d.0, down q (down f (over (down refl same) d.1)), λ start k. derives.method_call x k d.2)
 
-selected : {room big : ℕ} {us vs : List Word} {a b : Tree} → Reads (Selection a) room us (Got (One b) vs) → room ≤ big → (ends : List Word) → (xs : List Word) × Alike vs ends us xs × SoundOne (Selection a) big xs b ends
+pub selected : {room big : ℕ} {us vs : List Word} {a b : Tree} → Reads (Selection a) room us (Got (One b) vs) → room ≤ big → (ends : List Word) → (xs : List Word) × Alike vs ends us xs × SoundOne (Selection a) big xs b ends
 selected (reads.selection {n = n} q x g) h ends = (name n ∷ ends, down q same, λ start d. derives.selection x d)
 selected {room = room} {big = big} {vs = vs} {a = a} (reads.method_call {vs = ws} {n = n} {items = items} q x f r) h ends = selected_call room big ws vs ends a n items x h (sound r) _ _ q f
 

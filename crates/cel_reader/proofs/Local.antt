@@ -1,17 +1,15 @@
 -- The reader looks at no word behind the first that it leaves: it goes the same way before other words.
-use Rattle.std.proofs.Common.{◌≡◌, ℕ, suc, List, [], ◌∷◌, true, false, Bool, inl, inr, refl, sym, ◌∙◌, ap, subst}
+use Rattle.std.proofs.Common.{◌≡◌, ℕ, suc, List, [], ◌∷◌, true, false, Bool, refl, sym, subst}
 use Rattle.std.specs.Prelude.{if◌then◌else◌}
-use Rattle.cel_tokens.specs.Token.{Word, name, mark}
-use Rattle.cel_tokens.specs.declared.mark.Mark.{Mark}
-use Rattle.cel_tokens.specs.declared.mark.Mark.TheVariants.{Question, Colon, Dot, Comma, Not, Minus, OpenParen, CloseParen, OpenBracket, CloseBracket, OpenBrace}
+use Rattle.cel_tokens.specs.Token.{Word, mark}
+use Rattle.cel_tokens.specs.declared.mark.Mark.TheVariants.{Question, Colon, Dot, Comma, Not, Minus, OpenParen, OpenBracket, OpenBrace}
 use Rattle.cel_reader.specs.Words.{unary_mark}
-use Rattle.cel_reader.specs.Look.{NotAt, GoesOn, takes_comma}
-use Rattle.cel_reader.specs.Grammar.{Class}
+use Rattle.cel_reader.specs.Look.{GoesOn, takes_comma}
 use Rattle.cel_reader.specs.Reading.{Cause, Misfit, Deep, Outcome, Got, Refused, Step, Row, Tail, Suffix, Selection, Enclosed, Listed, Item, Behind, Mapped, Entry, BehindEntry, Reads}
 use Rattle.cel_reader.specs.Reading as reads
 use Rattle.cel_reader.specs.declared.closing.Closing.{Closing}
 use Rattle.cel_reader.specs.declared.closing.Closing.TheVariants.{Map}
-use Rattle.cel_reader.proofs.Alike.{Alike, here, over, down, same, SameHead, head_same, not_at_too, no_operator_too, no_literal_too, no_selector_too, no_identifier_too, goes_too, goes_comma, goes_alone, closes_too}
+use Rattle.cel_reader.proofs.Alike.{Alike, over, down, same, SameHead, head_same, not_at_too, no_operator_too, no_literal_too, no_selector_too, no_identifier_too, goes_too, goes_comma, goes_alone, closes_too}
 
 -- the words that a refusal leaves, and the same refusal with other words
 abbrev pub left_by : Cause → List Word

@@ -1,6 +1,6 @@
 -- Where the reader's runs go wrong.
-use Rattle.std.proofs.Common.{◌≡◌, ◌≢◌, ℕ, suc, ◌+◌, ◌-◌, ◌<◌, ◌≤◌, List, [], ◌∷◌, ◌++◌, pos, map, length, take, drop, Ok, Err, Result, refl, sym, ◌∙◌, ap, subst, arith}
-use Rattle.std.proofs.lemmas.List.{append_assoc, append-nil, length-append, drop-map}
+use Rattle.std.proofs.Common.{◌≡◌, ℕ, suc, ◌+◌, ◌-◌, ◌<◌, List, [], ◌∷◌, ◌++◌, pos, map, length, take, drop, Ok, Err, Result, refl, sym, ◌∙◌, ap, subst, arith}
+use Rattle.std.proofs.lemmas.List.{append_assoc, length-append, drop-map}
 use Rattle.std.proofs.Math.Seq.{take-append_seam, take-append-add}
 use Rattle.cel_tokens.specs.Token.{Word, Lexeme, seen, int}
 use Rattle.cel_tokens.specs.declared.token.Token.{Token}
@@ -9,7 +9,7 @@ use Rattle.cel_tokens.specs.Lexis as tokens
 use Rattle.cel_tokens.specs.declared.read_error.ReadError.{ReadError}
 use Rattle.cel_tokens.specs.declared.read_error.ReadError.TheVariants.{P1, P2, P3, P4, P5, P6, Memory}
 use Rattle.cel_reader.specs.Tree.{Tree}
-use Rattle.cel_reader.specs.Look.{words, openings}
+use Rattle.cel_reader.specs.Look.{words}
 use Rattle.cel_reader.specs.Grammar.{Expression, One, Derives}
 use Rattle.cel_reader.specs.Reading.{Misfit, Deep, Got, Refused, Row, Reads}
 use Rattle.cel_reader.specs.Place.{place_of, place_left, refused_at}
@@ -22,7 +22,8 @@ use Rattle.cel_reader.proofs.Alike.{Alike, here, there}
 use Rattle.cel_reader.proofs.Local.{local}
 use Rattle.cel_reader.proofs.Carried.{carried}
 use Rattle.cel_reader.proofs.Completed.{Finishes, finishes, completed, nil, nought_whole}
-use Rattle.cel_reader.proofs.Theorems.{whole_sound, misfit_never, rest_never, deep_never, deep_openings}
+use Rattle.cel_reader.proofs.Opened.{opened, in_row}
+use Rattle.cel_reader.proofs.Theorems.{whole_sound, misfit_never, rest_never, deep_never}
 
 -- what both begin with
 front_of : {x y ws us : List Word} → Alike x y ws us → (front : List Word) × (ws ≡ front ++ x) × (us ≡ front ++ y)
@@ -99,14 +100,6 @@ pub none_at : (ws : List Word) → ws ≡ [] → MisfitAt (length ws - length ws
 none_at [] e = (omega arith, (int (pos 0) ∷ [], nil, nought_whole 100 []), λ h. absurd (omega (arith, h)))
 none_at (w ∷ ws) e = absurd cc
 
-some_opened : (ws : List Word) → ws ≡ [] → Reads (Row Expression) 100 ws (Refused (Deep [])) → ⊥
-some_opened [] e r = let h = deep_openings 100 [] [] r in absurd (omega (arith, h))
-some_opened (w ∷ ws) e r = absurd cc
-
-deep_front : (front ws rest : List Word) → ws ≡ front ++ rest → Reads (Row Expression) 100 ws (Refused (Deep rest)) → 0 < length front
-deep_front [] ws rest e r = let t = local r [] tt in absurd (some_opened t.0 (before [] e t.1) t.3)
-deep_front (w ∷ front) ws rest e r = omega arith
-
 deep_next : (front ws rest : List Word) → ws ≡ front ++ rest → Reads (Row Expression) 100 ws (Refused (Deep rest)) → Viable 100 front → ⊥
 deep_next front ws rest e r v =
     let t = local r v.0 tt in
@@ -115,11 +108,14 @@ deep_next front ws rest e r v =
 pub deep_at : (ws rest : List Word) → Reads (Row Expression) 100 ws (Refused (Deep rest)) → DeepAt (length ws - suc (length rest)) ws
 deep_at ws rest r =
     let t = goes_on 101 ws rest (completed r) in
-    let h = deep_front t.0 ws rest t.1 r in
-    let n = parts t.0 rest ws t.1 in
-    let k : suc (length ws - suc (length rest)) ≡ length t.0 = omega (arith, h, n) in
+    let x = in_row (opened r) in
+    let u = goes_on 100 ws (x.0 ∷ rest) x.2 in
+    let n = counted u.0 (x.0 ∷ rest) ws u.1 in
+    let k : suc (length ws - suc (length rest)) ≡ length t.0 = omega (arith, parts t.0 rest ws t.1, parts u.0 (x.0 ∷ rest) ws u.1) in
     let f = front_is (suc (length ws - suc (length rest))) t.0 rest ws t.1 k in
-    (omega (arith, h, n), λ v. deep_next t.0 ws rest t.1 r (viable_as 100 t.0 (take (suc (length ws - suc (length rest))) ws) (sym f) v), viable_as 101 (take (suc (length ws - suc (length rest))) ws) t.0 f t.2)
+    let g = front_is (length ws - suc (length rest)) u.0 (x.0 ∷ rest) ws u.1 n in
+    let h = front_next (length ws - suc (length rest)) x.0 u.0 rest ws u.1 n in
+    (x.0, h ∙ ap (λ (y : List Word). y ++ x.0 ∷ []) (sym g), x.1, viable_as 100 (take (length ws - suc (length rest)) ws) u.0 g u.2, λ v. deep_next t.0 ws rest t.1 r (viable_as 100 t.0 (take (suc (length ws - suc (length rest))) ws) (sym f) v), viable_as 101 (take (suc (length ws - suc (length rest))) ws) t.0 f t.2)
 
 place_seen : (source : List ℕ) (len : ℕ) (ts : List Token) → place_of len ts ≡ place_at len (map (seen source) ts)
 place_seen source len [] = refl

@@ -6,7 +6,7 @@ use Rattle.cel_tokens.specs.declared.read_error.ReadError.{ReadError}
 use Rattle.cel_tokens.specs.declared.read_error.ReadError.TheVariants.{P1, P2, P3, P4, P5, P6, Memory}
 use Rattle.cel_reader.specs.Tree.{Tree, view}
 use Rattle.cel_reader.specs.Grammar.{Expression, One, Derives}
-use Rattle.cel_reader.specs.Look.{spoken, openings}
+use Rattle.cel_reader.specs.Look.{spoken, openings, opens}
 use Rattle.cel_reader.specs.declared.expr.Expr.{Expr}
 
 -- all of the words are this expression, with at most `room` brackets and conditionals open at one word
@@ -30,9 +30,10 @@ Viable room ws = (more : List Word) × (a : Tree) × IsExpression room (ws ++ mo
 abbrev pub MisfitAt : ℕ → List Word → Type 0
 MisfitAt count ws = (count ≤ length ws) × Viable 100 (take count ws) × (count < length ws → (room : ℕ) → Viable room (take (suc count) ws) → ⊥)
 
--- behind so many words the next one fits, and opens one more than 100
+-- So many words go on to an expression. The next is an opening bracket or question mark, and with it they go on to one
+-- only where one more than 100 may be open.
 abbrev pub DeepAt : ℕ → List Word → Type 0
-DeepAt count ws = (count < length ws) × (Viable 100 (take (suc count) ws) → ⊥) × Viable 101 (take (suc count) ws)
+DeepAt count ws = (w : Word) × (take (suc count) ws ≡ take count ws ++ w ∷ []) × (opens w ≡ true) × Viable 100 (take count ws) × (Viable 100 (take (suc count) ws) → ⊥) × Viable 101 (take (suc count) ws)
 
 -- the text has its tokens, and of their words this holds
 abbrev pub HasTokens : List ℕ → (List Word → Type 0) → Type 0
