@@ -14,6 +14,12 @@ pub mod CompleteLists
 pub mod Complete
 pub mod Built
 pub mod Theorems
+pub mod Alike
+pub mod Local
+pub mod Carried
+pub mod Completed
+pub mod Opened
+pub mod Places
 pub mod Told
 pub mod WellFormedTrees
 pub mod TreeLists

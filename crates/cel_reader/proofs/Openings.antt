@@ -14,8 +14,8 @@ use Rattle.cel_reader.specs.declared.closing.Closing.TheVariants.{Map}
 -- of at most so many openings: what is left has no more of them, and what is too deep more than the room
 abbrev Within : ℕ → ℕ → Outcome → Type 0
 Within room most (Got p rest) = openings rest ≤ most
-Within room most (Refused Deep) = room < most
-Within room most (Refused Misfit) = Unit {0}
+Within room most (Refused (Deep us)) = room < most
+Within room most (Refused (Misfit us)) = Unit {0}
 
 -- a bracket stands before these words
 abbrev Counted : Step → ℕ → List Word → Outcome → Type 0
@@ -34,14 +34,14 @@ Counted (BehindEntry pairs) room ws o = Within room (openings ws) o
 -- fewer openings, then more
 within : (room few most : ℕ) (o : Outcome) → few ≤ most → Within room few o → Within room most o
 within room few most (Got p rest) h x = omega arith
-within room few most (Refused Deep) h x = omega arith
-within room few most (Refused Misfit) h x = tt
+within room few most (Refused (Deep us)) h x = omega arith
+within room few most (Refused (Misfit us)) h x = tt
 
 -- behind one more bracket
 within_one : (room inner few most : ℕ) (o : Outcome) → room ≡ suc inner → suc few ≤ most → Within inner few o → Within room most o
 within_one room inner few most (Got p rest) z h x = omega arith
-within_one room inner few most (Refused Deep) z h x = omega arith
-within_one room inner few most (Refused Misfit) z h x = tt
+within_one room inner few most (Refused (Deep us)) z h x = omega arith
+within_one room inner few most (Refused (Misfit us)) z h x = tt
 
 count_word : (b : Bool) (few most : ℕ) → most ≡ (if b then 1 else 0) + few → few ≤ most
 count_word true few most e = omega arith

@@ -6,8 +6,8 @@ use Rattle.cel_reader.specs.Grammar as derives
 use Rattle.cel_reader.specs.Reading.{Outcome, Got, Refused, Deep, Step, Reads}
 use Rattle.cel_reader.specs.Reading as reads
 
-got_not_deep : (p : Phrase) (rest : List Word) → Got p rest ≡ Refused Deep → ⊥
-got_not_deep p rest e = cc
+got_not_deep : (p : Phrase) (rest us : List Word) → Got p rest ≡ Refused (Deep us) → ⊥
+got_not_deep p rest us e = cc
 
 -- where one bracket may be opened, it may be with more room
 opened : (room inner more : ℕ) → room ≡ suc inner → room ≤ more → (m : ℕ) × (more ≡ suc m) × (inner ≤ m)
@@ -15,10 +15,10 @@ opened room inner zero z h = absurd (omega arith)
 opened room inner (suc m) z h = (m, refl, omega arith)
 
 -- the reader goes the same way with more room, unless it was too deep
-pub roomier : {s : Step} {room : ℕ} {ws : List Word} {o : Outcome} → Reads s room ws o → (more : ℕ) → room ≤ more → (o ≡ Refused Deep → ⊥) → Reads s more ws o
+pub roomier : {s : Step} {room : ℕ} {ws : List Word} {o : Outcome} → Reads s room ws o → (more : ℕ) → room ≤ more → ((us : List Word) → o ≡ Refused (Deep us) → ⊥) → Reads s more ws o
 roomier (reads.expression_fails r) more h fits = reads.expression_fails (roomier r more h fits)
 roomier (reads.expression_plain r e) more h fits = reads.expression_plain (roomier r more h fits) e
-roomier (reads.expression_deep r e f) more h fits = absurd (fits refl)
+roomier (reads.expression_deep r e f) more h fits = absurd (fits _ refl)
 roomier (reads.then_fails {room = room} {inner = inner} r e f s) more h fits =
     let deeper = opened room inner more f h in
     reads.then_fails (roomier r more h (got_not_deep _ _)) e deeper.1 (roomier s deeper.0 deeper.2 fits)
@@ -63,7 +63,7 @@ roomier (reads.constant e f) more h fits = reads.constant e f
 roomier (reads.identifier e f g) more h fits = reads.identifier e f g
 roomier (reads.function_fails e f g r) more h fits = reads.function_fails e f g (roomier r more h fits)
 roomier (reads.function_call e f g r) more h fits = reads.function_call e f g (roomier r more h (got_not_deep _ _))
-roomier (reads.enclosed_deep e) more h fits = absurd (fits refl)
+roomier (reads.enclosed_deep e) more h fits = absurd (fits _ refl)
 roomier (reads.enclosed_fails {room = room} {inner = inner} e r) more h fits =
     let deeper = opened room inner more e h in
     reads.enclosed_fails deeper.1 (roomier r deeper.0 deeper.2 fits)
@@ -73,7 +73,7 @@ roomier (reads.enclosed_open {room = room} {inner = inner} e r f) more h fits =
 roomier (reads.enclosed_closed {room = room} {inner = inner} e r f) more h fits =
     let deeper = opened room inner more e h in
     reads.enclosed_closed deeper.1 (roomier r deeper.0 deeper.2 (got_not_deep _ _)) f
-roomier (reads.list_deep e) more h fits = absurd (fits refl)
+roomier (reads.list_deep e) more h fits = absurd (fits _ refl)
 roomier (reads.list_empty {room = room} {inner = inner} e f) more h fits =
     let deeper = opened room inner more e h in
     reads.list_empty deeper.1 f
@@ -88,7 +88,7 @@ roomier (reads.item_goes r s) more h fits = reads.item_goes (roomier r more h (g
 roomier (reads.items_end e) more h fits = reads.items_end e
 roomier (reads.items_misfit e f) more h fits = reads.items_misfit e f
 roomier (reads.items_go_on e f r) more h fits = reads.items_go_on e f (roomier r more h fits)
-roomier (reads.map_deep e) more h fits = absurd (fits refl)
+roomier (reads.map_deep e) more h fits = absurd (fits _ refl)
 roomier (reads.map_empty {room = room} {inner = inner} e f) more h fits =
     let deeper = opened room inner more e h in
     reads.map_empty deeper.1 f

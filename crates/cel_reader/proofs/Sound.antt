@@ -14,15 +14,15 @@ use Rattle.cel_reader.specs.declared.closing.Closing.{Closing}
 use Rattle.cel_reader.specs.declared.closing.Closing.TheVariants.{Call, List as ListLiteral, Map}
 
 -- the items from `start` on, so far, where the next one begins at `ws`
-abbrev ItemsBefore : ℕ → List Word → List Tree → List Word → Type 0
+abbrev pub ItemsBefore : ℕ → List Word → List Tree → List Word → Type 0
 ItemsBefore room start items ws = ((items ≡ []) × (start ≡ ws)) ⊎ Derives Items room start (Many items) (mark Comma ∷ ws)
 
 -- the entries so far
-abbrev PairsBefore : ℕ → List Word → List (Tree × Tree) → List Word → Type 0
+abbrev pub PairsBefore : ℕ → List Word → List (Tree × Tree) → List Word → Type 0
 PairsBefore room start pairs ws = ((pairs ≡ []) × (start ≡ ws)) ⊎ Derives Pairs room start (Keyed pairs) (mark Comma ∷ ws)
 
 -- what a tree stands for, in the grammar's words: behind the first part of a phrase, what was derived goes on so
-abbrev SoundOne : Step → ℕ → List Word → Tree → List Word → Type 0
+abbrev pub SoundOne : Step → ℕ → List Word → Tree → List Word → Type 0
 SoundOne (Row c) room ws a rest = Derives c room ws (One a) rest
 SoundOne (Tail l left) room ws a rest = (start : List Word) → Derives (Infix l) room start (One left) ws → Derives (Infix l) room start (One a) rest
 SoundOne (Suffix left) room ws a rest = (start : List Word) → Derives Member room start (One left) ws → Derives Member room start (One a) rest
@@ -31,20 +31,20 @@ SoundOne (Enclosed m) room ws a rest = (inner : ℕ) × (room ≡ suc inner) × 
 SoundOne other room ws a rest = ⊥
 
 -- the items up to an end, which the closing mark follows
-abbrev ItemsEnd : Closing → ℕ → List Word → List Tree → List Word → Type 0
+abbrev pub ItemsEnd : Closing → ℕ → List Word → List Tree → List Word → Type 0
 ItemsEnd c room start items rest = (end : List Word) × Derives Items room start (Many items) end × Closes c end rest
 
 -- the entries up to an end
-abbrev PairsEnd : ℕ → List Word → List (Tree × Tree) → List Word → Type 0
+abbrev pub PairsEnd : ℕ → List Word → List (Tree × Tree) → List Word → Type 0
 PairsEnd room start pairs rest = (end : List Word) × Derives Pairs room start (Keyed pairs) end × Closes Map end rest
 
-abbrev SoundMany : Step → ℕ → List Word → List Tree → List Word → Type 0
+abbrev pub SoundMany : Step → ℕ → List Word → List Tree → List Word → Type 0
 SoundMany (Listed c) room ws items rest = (inner : ℕ) × (end : List Word) × (room ≡ suc inner) × Derives OptionalItems inner ws (Many items) end × Closes c end rest
 SoundMany (Item c before) room ws items rest = (start : List Word) → ItemsBefore room start before ws → ItemsEnd c room start items rest
 SoundMany (Behind c before) room ws items rest = (start : List Word) → Derives Items room start (Many before) ws → ItemsEnd c room start items rest
 SoundMany other room ws items rest = ⊥
 
-abbrev SoundKeyed : Step → ℕ → List Word → List (Tree × Tree) → List Word → Type 0
+abbrev pub SoundKeyed : Step → ℕ → List Word → List (Tree × Tree) → List Word → Type 0
 SoundKeyed Mapped room ws pairs rest = (inner : ℕ) × (end : List Word) × (room ≡ suc inner) × Derives OptionalPairs inner ws (Keyed pairs) end × Closes Map end rest
 SoundKeyed (Entry before) room ws pairs rest = (start : List Word) → PairsBefore room start before ws → PairsEnd room start pairs rest
 SoundKeyed (BehindEntry before) room ws pairs rest = (start : List Word) → Derives Pairs room start (Keyed before) ws → PairsEnd room start pairs rest
@@ -65,20 +65,20 @@ over s t room other ws us (Got (Keyed pairs) rest) f g h x = h pairs rest x
 over s t room other ws us (Refused e) f g h x = tt
 
 -- the same phrase, with the words behind it, its words or its room written in another way
-moved : {c : Class} {room : ℕ} {ws rest end : List Word} {p : Phrase} → Derives c room ws p rest → rest ≡ end → Derives c room ws p end
+pub moved : {c : Class} {room : ℕ} {ws rest end : List Word} {p : Phrase} → Derives c room ws p rest → rest ≡ end → Derives c room ws p end
 moved {c} {room} {ws} {rest} {end} {p} d e = subst (λ (x : List Word). Derives c room ws p x) e d
 
 begun : {c : Class} {room : ℕ} {ws start rest : List Word} {p : Phrase} → Derives c room start p rest → ws ≡ start → Derives c room ws p rest
 begun {c} {room} {ws} {start} {rest} {p} d e = subst (λ (x : List Word). Derives c room x p rest) (sym e) d
 
-roomy : {c : Class} {room inner : ℕ} {ws rest : List Word} {p : Phrase} → Derives c inner ws p rest → room ≡ inner → Derives c room ws p rest
+pub roomy : {c : Class} {room inner : ℕ} {ws rest : List Word} {p : Phrase} → Derives c inner ws p rest → room ≡ inner → Derives c room ws p rest
 roomy {c} {room} {inner} {ws} {rest} {p} d e = subst (λ (x : ℕ). Derives c x ws p rest) (sym e) d
 
-fitted : {c : Class} {room inner : ℕ} {ws rest : List Word} {p : Phrase} → Derives c room ws p rest → room ≡ inner → Derives c inner ws p rest
+pub fitted : {c : Class} {room inner : ℕ} {ws rest : List Word} {p : Phrase} → Derives c room ws p rest → room ≡ inner → Derives c inner ws p rest
 fitted {c} {room} {inner} {ws} {rest} {p} d e = subst (λ (x : ℕ). Derives c x ws p rest) e d
 
 -- arguments end without a comma
-ends_call : (ws rest : List Word) → Closes Call ws rest → ws ≡ mark CloseParen ∷ rest
+pub ends_call : (ws rest : List Word) → Closes Call ws rest → ws ≡ mark CloseParen ∷ rest
 ends_call ws rest (inl e) = e
 ends_call ws rest (inr p) = absurd (let e : false ≡ true = p.0 in cc)
 
@@ -91,30 +91,30 @@ ends_map ws rest (inl e) = inl e
 ends_map ws rest (inr p) = inr p.1
 
 -- one more item
-item_added : (room : ℕ) (start ws us : List Word) (items : List Tree) (a : Tree) → ItemsBefore room start items ws → Derives Expression room ws (One a) us → Derives Items room start (Many (items ++ a ∷ [])) us
+pub item_added : (room : ℕ) (start ws us : List Word) (items : List Tree) (a : Tree) → ItemsBefore room start items ws → Derives Expression room ws (One a) us → Derives Items room start (Many (items ++ a ∷ [])) us
 item_added room start ws us items a (inl p) d = rw p.0 (begun (derives.first_item d) p.1)
 item_added room start ws us items a (inr before) d = derives.next_item before d
 
 -- one more entry
-pair_added : (room : ℕ) (start ws us vs : List Word) (pairs : List (Tree × Tree)) (a b : Tree) → PairsBefore room start pairs ws → Derives Expression room ws (One a) (mark Colon ∷ us) → Derives Expression room us (One b) vs → Derives Pairs room start (Keyed (pairs ++ (a, b) ∷ [])) vs
+pub pair_added : (room : ℕ) (start ws us vs : List Word) (pairs : List (Tree × Tree)) (a b : Tree) → PairsBefore room start pairs ws → Derives Expression room ws (One a) (mark Colon ∷ us) → Derives Expression room us (One b) vs → Derives Pairs room start (Keyed (pairs ++ (a, b) ∷ [])) vs
 pair_added room start ws us vs pairs a b (inl p) d e = rw p.0 (begun (derives.first_pair d e) p.1)
 pair_added room start ws us vs pairs a b (inr before) d e = derives.next_pair before d e
 
 -- a list of expressions behind a word of its own
-method_sound : (room : ℕ) (start ws us vs rest : List Word) (a : Tree) (n : List ℕ) (items : List Tree) → ws ≡ name n ∷ us → is_selector n ≡ true → us ≡ mark OpenParen ∷ vs → Derives Member room start (One a) (mark Dot ∷ ws) → SoundMany (Listed Call) room vs items rest → Derives Member room start (One (tree.method a n (trees items))) rest
+pub method_sound : (room : ℕ) (start ws us vs rest : List Word) (a : Tree) (n : List ℕ) (items : List Tree) → ws ≡ name n ∷ us → is_selector n ≡ true → us ≡ mark OpenParen ∷ vs → Derives Member room start (One a) (mark Dot ∷ ws) → SoundMany (Listed Call) room vs items rest → Derives Member room start (One (tree.method a n (trees items))) rest
 method_sound room start ws us vs rest a n items e is f d x =
     let front : mark Dot ∷ ws ≡ mark Dot ∷ name n ∷ mark OpenParen ∷ vs = cc in
     roomy (derives.method_call is (fitted (moved d front) x.2) (moved x.3 (ends_call x.1 rest x.4))) x.2
 
-function_sound : (room : ℕ) (ws us vs rest : List Word) (n : List ℕ) (items : List Tree) → ws ≡ name n ∷ us → is_identifier n ≡ true → us ≡ mark OpenParen ∷ vs → SoundMany (Listed Call) room vs items rest → Derives Primary room ws (One (tree.call n (trees items))) rest
+pub function_sound : (room : ℕ) (ws us vs rest : List Word) (n : List ℕ) (items : List Tree) → ws ≡ name n ∷ us → is_identifier n ≡ true → us ≡ mark OpenParen ∷ vs → SoundMany (Listed Call) room vs items rest → Derives Primary room ws (One (tree.call n (trees items))) rest
 function_sound room ws us vs rest n items e is f x =
     let front : ws ≡ name n ∷ mark OpenParen ∷ vs = cc in
     begun (roomy (derives.function_call is (moved x.3 (ends_call x.1 rest x.4))) x.2) front
 
-list_sound : (room : ℕ) (ws us rest : List Word) (items : List Tree) → ws ≡ mark OpenBracket ∷ us → SoundMany (Listed ListLiteral) room us items rest → Derives Primary room ws (One (tree.list (trees items))) rest
+pub list_sound : (room : ℕ) (ws us rest : List Word) (items : List Tree) → ws ≡ mark OpenBracket ∷ us → SoundMany (Listed ListLiteral) room us items rest → Derives Primary room ws (One (tree.list (trees items))) rest
 list_sound room ws us rest items e x = begun (roomy (derives.list_literal x.3 (ends_list x.1 rest x.4)) x.2) e
 
-map_sound : (room : ℕ) (ws us rest : List Word) (pairs : List (Tree × Tree)) → ws ≡ mark OpenBrace ∷ us → SoundKeyed Mapped room us pairs rest → Derives Primary room ws (One (tree.map (entries pairs))) rest
+pub map_sound : (room : ℕ) (ws us rest : List Word) (pairs : List (Tree × Tree)) → ws ≡ mark OpenBrace ∷ us → SoundKeyed Mapped room us pairs rest → Derives Primary room ws (One (tree.map (entries pairs))) rest
 map_sound room ws us rest pairs e x = begun (roomy (derives.map_literal x.3 (ends_map x.1 rest x.4)) x.2) e
 
 -- what is read is derived

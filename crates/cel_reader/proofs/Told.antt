@@ -15,6 +15,9 @@ use Rattle.cel_reader.specs.Reading.{Got, Row, Reads}
 use Rattle.cel_reader.specs.Answers.{IsExpression, IsNoExpression, Answers, Told}
 use Rattle.cel_reader.specs.declared.expr.Expr.{Expr}
 use Rattle.cel_reader.proofs.FirstWords.{first}
+use Rattle.cel_reader.specs.Place.{refused_at}
+use Rattle.cel_reader.specs.declared.refusal.Refusal.{Refusal}
+use Rattle.cel_reader.specs.declared.refusal.Refusal.TheVariants as refusal
 use Rattle.cel_reader.proofs.Steps.{Fails}
 use Rattle.cel_reader.proofs.Theorems.{whole_sound, whole_unique, misfit_never, rest_never, deep_never, deep_openings}
 
@@ -27,14 +30,10 @@ pub told_rest : (ws rest us : List Word) (w : Word) (a : Tree) → Reads (Row Ex
 told_rest ws rest us w a r e = λ room b d. rest_never 100 room ws us w a b (subst (λ (x : List Word). Reads (Row Expression) 100 ws (Got (One a) x)) e r) d
 
 -- the reading is refused
-pub told_fails : (ws : List Word) (e : ReadError) → ws ≢ [] → Fails e (Reads (Row Expression) 100 ws) → Told ws (Err e)
-told_fails ws (P1 place) n g = g
-told_fails ws (P2 place) n g = g
-told_fails ws (P3 place) n g = g
-told_fails ws (P4 place) n g = λ room a d. misfit_never 100 room ws a g d
-told_fails ws (P5 place) n g = (λ a d. deep_never 100 ws a g d, deep_openings 100 ws g)
-told_fails ws (P6 place) n g = g
-told_fails ws Memory n g = n
+pub told_fails : (len : ℕ) (tokens : List Token) (ws : List Word) (e : Refusal) → ws ≢ [] → Fails e (Reads (Row Expression) 100 ws) → Told ws (Err (refused_at len tokens e))
+told_fails len tokens ws (refusal.Misfit left) n g = λ room a d. misfit_never 100 room ws g.0 a g.2 d
+told_fails len tokens ws (refusal.Deep left) n g = (λ a d. deep_never 100 ws g.0 a g.2 d, deep_openings 100 ws g.0 g.2)
+told_fails len tokens ws refusal.Memory n g = n
 
 -- a text of no words is no expression
 pub told_none : (ws : List Word) → ws ≡ [] → IsNoExpression ws

@@ -13,6 +13,7 @@ mod name;
 mod operator;
 mod place;
 mod reader;
+mod refusal;
 mod role;
 mod source;
 mod word;

@@ -16,8 +16,8 @@ use crate::look::{
     after, end_at, identifier_at, literal_at, operator_at, prefix_at, prefixes, selector_at,
 };
 use crate::name::name_of;
-use crate::place::{lone_comma, misfit, place_of};
-use cel_tokens::{Mark, ReadError, Token};
+use crate::refusal::{Refusal, lone_comma, misfit, too_deep};
+use cel_tokens::{Mark, Token};
 use std::alloc::Global;
 
 /// The expression that is first, with this many brackets and conditionals to open, and the tokens
@@ -28,7 +28,7 @@ pub fn expression<'a>(
     text: &'a [u8],
     tokens: &'a [Token],
     room: u8,
-) -> Result<(Expr, &'a [Token]), ReadError>
+) -> Result<(Expr, &'a [Token]), Refusal>
     ensures reads { Gives (λ x. Got (One (view x.0)) (words text.now x.1.now)) result (Reads (Row row.Expression) room (words text.now tokens.now)) }
     ensures shorter { IfOk result (λ x. length x.1.now < length tokens.now) }
 {
@@ -37,11 +37,11 @@ pub fn expression<'a>(
         return Ok((condition, rest));
     };
     if room == 0 {
-        return Err(ReadError::P5(place_of(text, rest)));
+        return Err(too_deep(yes_tokens));
     }
     let (yes, yes_end) = infix(alloc, text, yes_tokens, Level::Or, room - 1)?;
     let Some(no_tokens) = after(text, yes_end, Mark::Colon) else {
-        return Err(misfit(text, yes_end));
+        return Err(misfit(yes_end));
     };
     let (no, end) = expression(alloc, text, no_tokens, room - 1)?;
     Ok((build::ternary(alloc, condition, yes, no)?, end))
@@ -55,7 +55,7 @@ fn infix<'a>(
     tokens: &'a [Token],
     level: Level,
     room: u8,
-) -> Result<(Expr, &'a [Token]), ReadError>
+) -> Result<(Expr, &'a [Token]), Refusal>
     ensures reads { Gives (λ x. Got (One (view x.0)) (words text.now x.1.now)) result (Reads (Row (row.Infix level)) room (words text.now tokens.now)) }
     ensures shorter { IfOk result (λ x. length x.1.now < length tokens.now) }
 {
@@ -76,7 +76,7 @@ fn operand<'a>(
     tokens: &'a [Token],
     level: Level,
     room: u8,
-) -> Result<(Expr, &'a [Token]), ReadError>
+) -> Result<(Expr, &'a [Token]), Refusal>
     ensures reads { Gives (λ x. Got (One (view x.0)) (words text.now x.1.now)) result (Reads (Row (below level)) room (words text.now tokens.now)) }
     ensures shorter { IfOk result (λ x. length x.1.now < length tokens.now) }
 {
@@ -96,7 +96,7 @@ fn unary<'a>(
     text: &'a [u8],
     tokens: &'a [Token],
     room: u8,
-) -> Result<(Expr, &'a [Token]), ReadError>
+) -> Result<(Expr, &'a [Token]), Refusal>
     ensures reads { Gives (λ x. Got (One (view x.0)) (words text.now x.1.now)) result (Reads (Row row.Unary) room (words text.now tokens.now)) }
     ensures shorter { IfOk result (λ x. length x.1.now < length tokens.now) }
 {
@@ -116,7 +116,7 @@ fn member<'a>(
     text: &'a [u8],
     tokens: &'a [Token],
     room: u8,
-) -> Result<(Expr, &'a [Token]), ReadError>
+) -> Result<(Expr, &'a [Token]), Refusal>
     ensures reads { Gives (λ x. Got (One (view x.0)) (words text.now x.1.now)) result (Reads (Row row.Member) room (words text.now tokens.now)) }
     ensures shorter { IfOk result (λ x. length x.1.now < length tokens.now) }
 {
@@ -127,8 +127,7 @@ fn member<'a>(
             tree = selected;
             rest = end;
         } else if let Some(behind) = after(text, rest, Mark::OpenBracket) {
-            let place = place_of(text, rest);
-            let (at, end) = enclosed(alloc, text, behind, place, Mark::CloseBracket, room)?;
+            let (at, end) = enclosed(alloc, text, behind, Mark::CloseBracket, room)?;
             tree = build::index(alloc, tree, at)?;
             rest = end;
         } else {
@@ -145,19 +144,18 @@ fn selection<'a>(
     tokens: &'a [Token],
     of: Expr,
     room: u8,
-) -> Result<(Expr, &'a [Token]), ReadError>
+) -> Result<(Expr, &'a [Token]), Refusal>
     ensures reads { Gives (λ x. Got (One (view x.0)) (words text.now x.1.now)) result (Reads (Selection (view of)) room (words text.now tokens.now)) }
     ensures shorter { IfOk result (λ x. length x.1.now < length tokens.now) }
 {
     let Some((name, rest)) = selector_at(text, tokens) else {
-        return Err(misfit(text, tokens));
+        return Err(misfit(tokens));
     };
     let name = name_of(alloc, name)?;
     let Some(behind) = after(text, rest, Mark::OpenParen) else {
         return Ok((build::select(alloc, of, name)?, rest));
     };
-    let place = place_of(text, rest);
-    let (arguments, end) = items(alloc, text, behind, place, Closing::Call, room)?;
+    let (arguments, end) = items(alloc, text, behind, Closing::Call, room)?;
     Ok((build::method(alloc, of, name, arguments)?, end))
 }
 
@@ -168,82 +166,78 @@ fn primary<'a>(
     text: &'a [u8],
     tokens: &'a [Token],
     room: u8,
-) -> Result<(Expr, &'a [Token]), ReadError>
+) -> Result<(Expr, &'a [Token]), Refusal>
     ensures reads { Gives (λ x. Got (One (view x.0)) (words text.now x.1.now)) result (Reads (Row row.Primary) room (words text.now tokens.now)) }
     ensures shorter { IfOk result (λ x. length x.1.now < length tokens.now) }
 {
-    let place = place_of(text, tokens);
     if let Some(inside) = after(text, tokens, Mark::OpenParen) {
-        return enclosed(alloc, text, inside, place, Mark::CloseParen, room);
+        return enclosed(alloc, text, inside, Mark::CloseParen, room);
     }
     if let Some(inside) = after(text, tokens, Mark::OpenBracket) {
-        let (list, end) = items(alloc, text, inside, place, Closing::List, room)?;
+        let (list, end) = items(alloc, text, inside, Closing::List, room)?;
         return Ok((build::list(list), end));
     }
     if let Some(inside) = after(text, tokens, Mark::OpenBrace) {
-        let (map, end) = entries(alloc, text, inside, place, room)?;
+        let (map, end) = entries(alloc, text, inside, room)?;
         return Ok((build::map(map), end));
     }
     if let Some((literal, rest)) = literal_at(alloc, text, tokens)? {
         return Ok((build::literal(literal), rest));
     }
     let Some((name, rest)) = identifier_at(text, tokens) else {
-        return Err(misfit(text, tokens));
+        return Err(misfit(tokens));
     };
     let name = name_of(alloc, name)?;
     let Some(behind) = after(text, rest, Mark::OpenParen) else {
         return Ok((build::name(name), rest));
     };
-    let place = place_of(text, rest);
-    let (arguments, end) = items(alloc, text, behind, place, Closing::Call, room)?;
+    let (arguments, end) = items(alloc, text, behind, Closing::Call, room)?;
     Ok((build::call(name, arguments), end))
 }
 
-/// The expression behind a bracket, which stands at this place, up to the bracket's end.
+/// The expression behind a bracket, up to the bracket's end.
 #[cycle(reader)]
 fn enclosed<'a>(
     alloc: Global,
     text: &'a [u8],
     tokens: &'a [Token],
-    place: usize,
     close: Mark,
     room: u8,
-) -> Result<(Expr, &'a [Token]), ReadError>
+) -> Result<(Expr, &'a [Token]), Refusal>
     ensures reads { Gives (λ x. Got (One (view x.0)) (words text.now x.1.now)) result (Reads (Enclosed close) room (words text.now tokens.now)) }
     ensures shorter { IfOk result (λ x. length x.1.now < length tokens.now) }
 {
     if room == 0 {
-        return Err(ReadError::P5(place));
+        return Err(too_deep(tokens));
     }
     let (inner, inner_end) = expression(alloc, text, tokens, room - 1)?;
     let Some(end) = after(text, inner_end, close) else {
-        return Err(misfit(text, inner_end));
+        return Err(misfit(inner_end));
     };
     Ok((inner, end))
 }
 
-/// The expressions behind a bracket, which stands at this place, up to the list's end.
+/// The expressions behind a bracket, up to the list's end.
 #[cycle(reader)]
 fn items<'a>(
     alloc: Global,
     text: &'a [u8],
     tokens: &'a [Token],
-    place: usize,
     closing: Closing,
     room: u8,
-) -> Result<(Vec<Expr>, &'a [Token]), ReadError>
+) -> Result<(Vec<Expr>, &'a [Token]), Refusal>
     ensures reads { Gives (λ x. Got (Many (list.map view x.0.items)) (words text.now x.1.now)) result (Reads (Listed closing) room (words text.now tokens.now)) }
     ensures shorter { IfOk result (λ x. length x.1.now < length tokens.now) }
 {
     if room == 0 {
-        return Err(ReadError::P5(place));
+        return Err(too_deep(tokens));
     }
     let mut items = Vec::new(alloc);
     if let Some(end) = end_at(text, tokens, closing) {
         return Ok((items, end));
     }
     if let Some(behind) = after(text, tokens, Mark::Comma) {
-        return Err(lone_comma(text, tokens, behind, closing));
+        return Err(lone_comma(tokens, behind, closing));
     }
     let mut rest = tokens;
     loop {
@@ -253,39 +247,38 @@ fn items<'a>(
             return Ok((items, end));
         }
         let Some(behind) = after(text, item_end, Mark::Comma) else {
-            return Err(misfit(text, item_end));
+            return Err(misfit(item_end));
         };
         rest = behind;
     }
 }
 
-/// The entries behind a brace, which stands at this place, up to the map's end.
+/// The entries behind a brace, up to the map's end.
 #[cycle(reader)]
 fn entries<'a>(
     alloc: Global,
     text: &'a [u8],
     tokens: &'a [Token],
-    place: usize,
     room: u8,
-) -> Result<(Vec<(Expr, Expr)>, &'a [Token]), ReadError>
+) -> Result<(Vec<(Expr, Expr)>, &'a [Token]), Refusal>
     ensures reads { Gives (λ x. Got (Keyed (list.map entry_view x.0.items)) (words text.now x.1.now)) result (Reads Mapped room (words text.now tokens.now)) }
     ensures shorter { IfOk result (λ x. length x.1.now < length tokens.now) }
 {
     if room == 0 {
-        return Err(ReadError::P5(place));
+        return Err(too_deep(tokens));
     }
     let mut entries = Vec::new(alloc);
     if let Some(end) = end_at(text, tokens, Closing::Map) {
         return Ok((entries, end));
     }
     if let Some(behind) = after(text, tokens, Mark::Comma) {
-        return Err(misfit(text, behind));
+        return Err(misfit(behind));
     }
     let mut rest = tokens;
     loop {
         let (key, key_end) = expression(alloc, text, rest, room - 1)?;
         let Some(value_tokens) = after(text, key_end, Mark::Colon) else {
-            return Err(misfit(text, key_end));
+            return Err(misfit(key_end));
         };
         let (value, value_end) = expression(alloc, text, value_tokens, room - 1)?;
         entries.push((key, value))?;
@@ -293,7 +286,7 @@ fn entries<'a>(
             return Ok((entries, end));
         }
         let Some(behind) = after(text, value_end, Mark::Comma) else {
-            return Err(misfit(text, value_end));
+            return Err(misfit(value_end));
         };
         rest = behind;
     }

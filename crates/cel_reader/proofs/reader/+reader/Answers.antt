@@ -1,37 +1,37 @@
-use Rattle.std.proofs.Common.{◌-◌, arith}
+use Rattle.std.proofs.Common.{◌-◌, suc, ap, arith}
 use Rattle.std.proofs.lemmas.Result.{err_from_is_err_and}
 use Rattle.cel_tokens.specs.declared.mark.Mark.TheVariants.{CloseParen, CloseBracket}
 use Rattle.cel_reader.specs.Tree.{view, entry_view}
-use Rattle.cel_reader.specs.Look.{words}
+use Rattle.cel_reader.specs.Look.{words, takes_comma}
 use Rattle.cel_reader.specs.Grammar.{Expression, Infix, Unary, Member, Primary, below}
 use Rattle.cel_reader.specs.Reading.{Refused, Misfit, Reads, Row, Selection, Enclosed, Listed, Mapped}
 use Rattle.cel_reader.specs.Reading.Reads.{expression_fails, expression_plain, expression_deep, then_fails, no_colon, else_fails, conditional, infix_fails, infix_goes, tail_stops, tail_fails, tail_goes, unary_member, unary_fails, unary_goes, member_fails, member_goes, suffix_stops, dot_fails, dot_goes, index_fails, index_goes, no_selector, selection, method_fails, method_call, no_primary, bracket, list_fails, list_literal, map_fails, map_literal, constant, identifier, function_fails, function_call, enclosed_deep, enclosed_fails, enclosed_open, enclosed_closed, list_deep, list_empty, list_comma, list_items, item_fails, item_goes, items_end, items_misfit, items_go_on, map_deep, map_empty, map_comma, map_entries, key_fails, key_alone, value_fails, entry_goes, entries_end, entries_misfit, entries_go_on}
 use Rattle.cel_reader.specs.declared.level.Level.TheVariants.{Or}
 use Rattle.cel_reader.specs.declared.closing.Closing.TheVariants.{Call, List as ListLiteral}
-use Rattle.cel_reader.proofs.Steps.{has_room, pushed, pass, hand}
+use Rattle.cel_reader.proofs.Steps.{has_room, pushed, words_length, either, pass, hand}
 use Rattle.cel_reader.proofs.Prefixed.{prefixed_refused, prefixed_read}
 use Rattle.cel_reader.proofs.reader.+reader.Goals as goal
 
 pub enclosed-returns-then-room-eq0-clause-reads : goal.enclosed-returns-then-room-eq0-clause-reads
-enclosed-returns-then-room-eq0-clause-reads t c = enclosed_deep c.if-room-eq0.true
+enclosed-returns-then-room-eq0-clause-reads t c = rw c.too_deep.ensures (_, ap suc (words_length _ _), enclosed_deep c.if-room-eq0.true)
 
 pub enclosed-returns-in_err-inner-clause-reads : goal.enclosed-returns-in_err-inner-clause-reads
 enclosed-returns-in_err-inner-clause-reads t c = let p = err_from_is_err_and c.from_residual.result c.from_residual.ensures.1 in rw (p.1, p.2) (pass _ (Reads (Row Expression) (c.args.room - 1) (words c.args.text.now c.args.tokens.now)) (Reads (Enclosed c.args.close) c.args.room (words c.args.text.now c.args.tokens.now)) (λ k y. enclosed_fails (has_room c.args.room c.if-room-eq0.false) y) c.in_err-inner.ensures.reads)
 
 pub enclosed-returns-in_default-clause-reads : goal.enclosed-returns-in_default-clause-reads
-enclosed-returns-in_default-clause-reads t c = rw c.misfit.ensures (enclosed_open (has_room c.args.room c.if-room-eq0.false) c.in_ok-inner.ensures.reads c.in_default.ensures.at)
+enclosed-returns-in_default-clause-reads t c = rw c.misfit.ensures (_, words_length _ _, enclosed_open (has_room c.args.room c.if-room-eq0.false) c.in_ok-inner.ensures.reads c.in_default.ensures.at)
 
 pub enclosed-returns-clause-reads : goal.enclosed-returns-clause-reads
 enclosed-returns-clause-reads t c = enclosed_closed (has_room c.args.room c.if-room-eq0.false) c.in_ok-inner.ensures.reads c.in-Some.ensures.at
 
 pub entries-returns-then-room-eq0-clause-reads : goal.entries-returns-then-room-eq0-clause-reads
-entries-returns-then-room-eq0-clause-reads t c = map_deep c.if-room-eq0.true
+entries-returns-then-room-eq0-clause-reads t c = rw c.too_deep.ensures (_, ap suc (words_length _ _), map_deep c.if-room-eq0.true)
 
 pub entries-returns-in-Some-clause-reads : goal.entries-returns-in-Some-clause-reads
 entries-returns-in-Some-clause-reads t c = rw c.new-entries.ensures.items (map_empty (has_room c.args.room c.if-room-eq0.false) c.in-Some.ensures.at)
 
 pub entries-returns-in-Some-after-clause-reads : goal.entries-returns-in-Some-after-clause-reads
-entries-returns-in-Some-after-clause-reads t c = rw c.misfit.ensures (map_comma (has_room c.args.room c.if-room-eq0.false) c.in_default.ensures.at c.in-Some-after.ensures.at)
+entries-returns-in-Some-after-clause-reads t c = rw c.misfit.ensures (_, words_length _ _, map_comma (has_room c.args.room c.if-room-eq0.false) c.in_default.ensures.at c.in-Some-after.ensures.at)
 
 pub entries-loop-entries-init : goal.entries-loop-entries-init
 entries-loop-entries-init t c = rw c.new-entries.ensures.items (record { goes = λ o x. map_entries (has_room c.args.room c.if-room-eq0.false) c.in_default.ensures.at c.in_default-after.ensures.at x; within = omega arith })
@@ -40,7 +40,7 @@ pub entries-returns-in_err-key-clause-reads : goal.entries-returns-in_err-key-cl
 entries-returns-in_err-key-clause-reads t c = let p = err_from_is_err_and c.from_residual.result c.from_residual.ensures.1 in rw (p.1, p.2) (pass _ (Reads (Row Expression) (c.args.room - 1) (words c.args.text.now c.loop-entries.rest.now)) (Reads Mapped c.args.room (words c.args.text.now c.args.tokens.now)) (λ k y. c.loop-entries.invariant.goes (Refused k) (key_fails y)) c.in_err-key.ensures.reads)
 
 pub entries-returns-in_default-after-2-clause-reads : goal.entries-returns-in_default-after-2-clause-reads
-entries-returns-in_default-after-2-clause-reads t c = rw c.misfit-in_default-after-2.ensures (c.loop-entries.invariant.goes (Refused Misfit) (key_alone c.in_ok-key.ensures.reads c.in_default-after-2.ensures.at))
+entries-returns-in_default-after-2-clause-reads t c = rw c.misfit-in_default-after-2.ensures (_, words_length _ _, c.loop-entries.invariant.goes _ (key_alone c.in_ok-key.ensures.reads c.in_default-after-2.ensures.at))
 
 pub entries-returns-in_err-value-clause-reads : goal.entries-returns-in_err-value-clause-reads
 entries-returns-in_err-value-clause-reads t c = let p = err_from_is_err_and c.from_residual-in_err-value.result c.from_residual-in_err-value.ensures.1 in rw (p.1, p.2) (pass _ (Reads (Row Expression) (c.args.room - 1) (words c.args.text.now c.in-Some-after-2.value_tokens.now)) (Reads Mapped c.args.room (words c.args.text.now c.args.tokens.now)) (λ k y. c.loop-entries.invariant.goes (Refused k) (value_fails c.in_ok-key.ensures.reads c.in-Some-after-2.ensures.at y)) c.in_err-value.ensures.reads)
@@ -49,7 +49,7 @@ pub entries-returns-in-Some-end_at-clause-reads : goal.entries-returns-in-Some-e
 entries-returns-in-Some-end_at-clause-reads t c = rw (pushed entry_view _ _ _ c.in_ok-push.ensures.items) (c.loop-entries.invariant.goes _ (entry_goes c.in_ok-key.ensures.reads c.in-Some-after-2.ensures.at c.in_ok-value.ensures.reads (entries_end c.in-Some-end_at.ensures.at)))
 
 pub entries-returns-in_default-after-3-clause-reads : goal.entries-returns-in_default-after-3-clause-reads
-entries-returns-in_default-after-3-clause-reads t c = rw c.misfit-in_default-after-3.ensures (c.loop-entries.invariant.goes (Refused Misfit) (entry_goes c.in_ok-key.ensures.reads c.in-Some-after-2.ensures.at c.in_ok-value.ensures.reads (entries_misfit c.in_default-end_at.ensures.at c.in_default-after-3.ensures.at)))
+entries-returns-in_default-after-3-clause-reads t c = rw c.misfit-in_default-after-3.ensures (_, words_length _ _, c.loop-entries.invariant.goes _ (entry_goes c.in_ok-key.ensures.reads c.in-Some-after-2.ensures.at c.in_ok-value.ensures.reads (entries_misfit c.in_default-end_at.ensures.at c.in_default-after-3.ensures.at)))
 
 pub entries-loop-entries-preserved : goal.entries-loop-entries-preserved
 entries-loop-entries-preserved t c = rw (pushed entry_view _ _ _ c.in_ok-push.ensures.items) (record { goes = λ o x. c.loop-entries.invariant.goes o (entry_goes c.in_ok-key.ensures.reads c.in-Some-after-2.ensures.at c.in_ok-value.ensures.reads (entries_go_on c.in_default-end_at.ensures.at c.in-Some-after-3.ensures.at x)); within = omega (arith, c.in_ok-key.ensures.shorter, c.in-Some-after-2.ensures.shorter, c.in_ok-value.ensures.shorter, c.in-Some-after-3.ensures.shorter, c.loop-entries.invariant.within) })
@@ -61,13 +61,13 @@ pub expression-returns-in_default-clause-reads : goal.expression-returns-in_defa
 expression-returns-in_default-clause-reads t c = expression_plain c.in_ok-condition.ensures.reads c.in_default.ensures.at
 
 pub expression-returns-then-room-eq0-clause-reads : goal.expression-returns-then-room-eq0-clause-reads
-expression-returns-then-room-eq0-clause-reads t c = expression_deep c.in_ok-condition.ensures.reads c.in-Some.ensures.at c.if-room-eq0.true
+expression-returns-then-room-eq0-clause-reads t c = rw c.too_deep.ensures (_, ap suc (words_length _ _), expression_deep c.in_ok-condition.ensures.reads c.in-Some.ensures.at c.if-room-eq0.true)
 
 pub expression-returns-in_err-yes-clause-reads : goal.expression-returns-in_err-yes-clause-reads
 expression-returns-in_err-yes-clause-reads t c = let p = err_from_is_err_and c.from_residual-in_err-yes.result c.from_residual-in_err-yes.ensures.1 in rw (p.1, p.2) (pass _ (Reads (Row (Infix Or)) (c.args.room - 1) (words c.args.text.now c.in-Some.yes_tokens.now)) (Reads (Row Expression) c.args.room (words c.args.text.now c.args.tokens.now)) (λ k y. then_fails c.in_ok-condition.ensures.reads c.in-Some.ensures.at (has_room c.args.room c.if-room-eq0.false) y) c.in_err-yes.ensures.reads)
 
 pub expression-returns-in_default-after-clause-reads : goal.expression-returns-in_default-after-clause-reads
-expression-returns-in_default-after-clause-reads t c = rw c.misfit.ensures (no_colon c.in_ok-condition.ensures.reads c.in-Some.ensures.at (has_room c.args.room c.if-room-eq0.false) c.in_ok-yes.ensures.reads c.in_default-after.ensures.at)
+expression-returns-in_default-after-clause-reads t c = rw c.misfit.ensures (_, words_length _ _, no_colon c.in_ok-condition.ensures.reads c.in-Some.ensures.at (has_room c.args.room c.if-room-eq0.false) c.in_ok-yes.ensures.reads c.in_default-after.ensures.at)
 
 pub expression-returns-in_err-no-clause-reads : goal.expression-returns-in_err-no-clause-reads
 expression-returns-in_err-no-clause-reads t c = let p = err_from_is_err_and c.from_residual-in_err-no.result c.from_residual-in_err-no.ensures.1 in rw (p.1, p.2) (pass _ (Reads (Row Expression) (c.args.room - 1) (words c.args.text.now c.in-Some-after.no_tokens.now)) (Reads (Row Expression) c.args.room (words c.args.text.now c.args.tokens.now)) (λ k y. else_fails c.in_ok-condition.ensures.reads c.in-Some.ensures.at (has_room c.args.room c.if-room-eq0.false) c.in_ok-yes.ensures.reads c.in-Some-after.ensures.at y) c.in_err-no.ensures.reads)
@@ -91,13 +91,13 @@ pub infix-returns-clause-reads : goal.infix-returns-clause-reads
 infix-returns-clause-reads t c = c.loop-operator.invariant.goes _ (tail_stops c.in_default.ensures.at)
 
 pub items-returns-then-room-eq0-clause-reads : goal.items-returns-then-room-eq0-clause-reads
-items-returns-then-room-eq0-clause-reads t c = list_deep c.if-room-eq0.true
+items-returns-then-room-eq0-clause-reads t c = rw c.too_deep.ensures (_, ap suc (words_length _ _), list_deep c.if-room-eq0.true)
 
 pub items-returns-in-Some-clause-reads : goal.items-returns-in-Some-clause-reads
 items-returns-in-Some-clause-reads t c = rw c.new-items.ensures.items (list_empty (has_room c.args.room c.if-room-eq0.false) c.in-Some.ensures.at)
 
 pub items-returns-in-Some-after-clause-reads : goal.items-returns-in-Some-after-clause-reads
-items-returns-in-Some-after-clause-reads t c = rw c.lone_comma.ensures (list_comma (has_room c.args.room c.if-room-eq0.false) c.in_default.ensures.at c.in-Some-after.ensures.at)
+items-returns-in-Some-after-clause-reads t c = rw c.lone_comma.ensures (either (takes_comma c.args.closing) c.args.text.now c.in-Some-after.behind.now c.args.tokens.now (λ rest. Reads (Listed c.args.closing) c.args.room (words c.args.text.now c.args.tokens.now) (Refused (Misfit rest))) (list_comma (has_room c.args.room c.if-room-eq0.false) c.in_default.ensures.at c.in-Some-after.ensures.at))
 
 pub items-loop-items-init : goal.items-loop-items-init
 items-loop-items-init t c = rw c.new-items.ensures.items (record { goes = λ o x. list_items (has_room c.args.room c.if-room-eq0.false) c.in_default.ensures.at c.in_default-after.ensures.at x; within = omega arith })
@@ -109,7 +109,7 @@ pub items-returns-in-Some-end_at-clause-reads : goal.items-returns-in-Some-end_a
 items-returns-in-Some-end_at-clause-reads t c = rw (pushed view _ _ _ c.in_ok-push.ensures.items) (c.loop-items.invariant.goes _ (item_goes c.in_ok-item.ensures.reads (items_end c.in-Some-end_at.ensures.at)))
 
 pub items-returns-in_default-after-2-clause-reads : goal.items-returns-in_default-after-2-clause-reads
-items-returns-in_default-after-2-clause-reads t c = rw c.misfit.ensures (c.loop-items.invariant.goes (Refused Misfit) (item_goes c.in_ok-item.ensures.reads (items_misfit c.in_default-end_at.ensures.at c.in_default-after-2.ensures.at)))
+items-returns-in_default-after-2-clause-reads t c = rw c.misfit.ensures (_, words_length _ _, c.loop-items.invariant.goes _ (item_goes c.in_ok-item.ensures.reads (items_misfit c.in_default-end_at.ensures.at c.in_default-after-2.ensures.at)))
 
 pub items-loop-items-preserved : goal.items-loop-items-preserved
 items-loop-items-preserved t c = rw (pushed view _ _ _ c.in_ok-push.ensures.items) (record { goes = λ o x. c.loop-items.invariant.goes o (item_goes c.in_ok-item.ensures.reads (items_go_on c.in_default-end_at.ensures.at c.in-Some-after-2.ensures.at x)); within = omega (arith, c.in_ok-item.ensures.shorter, c.in-Some-after-2.ensures.shorter, c.loop-items.invariant.within) })
@@ -154,7 +154,7 @@ pub primary-returns-in-Some-2-clause-reads : goal.primary-returns-in-Some-2-clau
 primary-returns-in-Some-2-clause-reads t c = let s = rw c.in-Some-2.is at c.in_ok-literal.ensures.at in rw c.literal.ensures (constant s.1 s.2)
 
 pub primary-returns-in_default-identifier_at-clause-reads : goal.primary-returns-in_default-identifier_at-clause-reads
-primary-returns-in_default-identifier_at-clause-reads t c = let s = rw c.in_default-2.is at c.in_ok-literal.ensures.at in rw c.misfit.ensures (no_primary c.in_default.ensures.at c.in_default-after.ensures.at c.in_default-after-2.ensures.at s c.in_default-identifier_at.ensures.at)
+primary-returns-in_default-identifier_at-clause-reads t c = let s = rw c.in_default-2.is at c.in_ok-literal.ensures.at in rw c.misfit.ensures (_, words_length _ _, no_primary c.in_default.ensures.at c.in_default-after.ensures.at c.in_default-after-2.ensures.at s c.in_default-identifier_at.ensures.at)
 
 pub primary-returns-in_default-after-3-clause-reads : goal.primary-returns-in_default-after-3-clause-reads
 primary-returns-in_default-after-3-clause-reads t c = rw (c.name.ensures, c.in_ok-name.ensures) (identifier c.in-Some-identifier_at.ensures.at.0 c.in-Some-identifier_at.ensures.at.1 c.in_default-after-3.ensures.at)
@@ -166,7 +166,7 @@ pub primary-returns-clause-reads : goal.primary-returns-clause-reads
 primary-returns-clause-reads t c = rw (c.call.ensures, c.in_ok-name.ensures) (function_call c.in-Some-identifier_at.ensures.at.0 c.in-Some-identifier_at.ensures.at.1 c.in-Some-after-3.ensures.at c.in_ok-arguments.ensures.reads)
 
 pub selection-returns-in_default-clause-reads : goal.selection-returns-in_default-clause-reads
-selection-returns-in_default-clause-reads t c = rw c.misfit.ensures (no_selector c.in_default.ensures.at)
+selection-returns-in_default-clause-reads t c = rw c.misfit.ensures (_, words_length _ _, no_selector c.in_default.ensures.at)
 
 pub selection-returns-in_default-after-clause-reads : goal.selection-returns-in_default-after-clause-reads
 selection-returns-in_default-after-clause-reads t c = rw (c.in_ok-select.ensures, c.in_ok-name.ensures) (selection c.in-Some.ensures.at.0 c.in-Some.ensures.at.1 c.in_default-after.ensures.at)

@@ -1,0 +1,216 @@
+-- Where the reader refuses, some words go on from there to the end of its step.
+use Rattle.std.proofs.Common.{◌≡◌, ℕ, zero, suc, ◌≤◌, List, [], ◌∷◌, ◌++◌, pos, true, false, Bool, inl, inr, refl, sym, ap, subst, arith, codes}
+use Rattle.std.proofs.lemmas.List.{append_assoc}
+use Rattle.std.specs.Prelude.{if◌then◌else◌}
+use Rattle.cel_tokens.specs.Token.{Word, name, int, mark}
+use Rattle.cel_tokens.specs.declared.mark.Mark.TheVariants.{Question, Colon, Dot, Comma, OpenParen, CloseParen, OpenBracket, CloseBracket, OpenBrace, CloseBrace}
+use Rattle.cel_reader.specs.Tree as tree
+use Rattle.cel_reader.specs.Tree.{Tree, trees, entries}
+use Rattle.cel_reader.specs.Words.{is_selector, is_reserved, role_of}
+use Rattle.cel_reader.specs.Look.{closing_mark, takes_comma}
+use Rattle.cel_reader.specs.Grammar.{Class, Expression, Infix, Unary, Prefixed, Member, Primary, Phrase, One, Many, Keyed, below, Derives}
+use Rattle.cel_reader.specs.Grammar as derives
+use Rattle.cel_reader.specs.Reading.{Cause, Misfit, Deep, Outcome, Got, Refused, Step, Row, Tail, Suffix, Selection, Enclosed, Listed, Item, Behind, Mapped, Entry, BehindEntry, Reads}
+use Rattle.cel_reader.specs.Reading as reads
+use Rattle.cel_reader.specs.declared.level.Level.TheVariants.{Or, And, Relation, Sum, Product}
+use Rattle.cel_reader.specs.declared.closing.Closing.{Closing}
+use Rattle.cel_reader.specs.declared.closing.Closing.TheVariants.{Call}
+use Rattle.cel_reader.proofs.Sound.{SoundOne, SoundMany, SoundKeyed, moved, roomy, fitted, ends_call, item_added, pair_added, method_sound, function_sound, list_sound, map_sound, sound}
+use Rattle.cel_reader.proofs.Rooms.{wider}
+use Rattle.cel_reader.proofs.Alike.{Alike, over, down, same}
+use Rattle.cel_reader.proofs.Local.{left_by}
+use Rattle.cel_reader.proofs.Carried.{carried}
+
+-- one more than there is room for, behind a bracket too many
+abbrev pub extra : Cause → ℕ → ℕ
+extra (Misfit rest) room = room
+extra (Deep rest) room = suc room
+
+extra_inner : (e : Cause) (room inner : ℕ) → room ≡ suc inner → extra e room ≡ suc (extra e inner)
+extra_inner (Misfit rest) room inner z = z
+extra_inner (Deep rest) room inner z = ap suc z
+
+enough : (e : Cause) (room : ℕ) → room ≤ extra e room
+enough (Misfit rest) room = omega arith
+enough (Deep rest) room = omega arith
+
+wide : {c : Class} {room : ℕ} {ws rest : List Word} {p : Phrase} (e : Cause) → Derives c room ws p rest → Derives c (extra e room) ws p rest
+wide {room = room} e d = wider d (extra e room) (enough e room)
+
+-- the words are what the step wants, up to these
+abbrev pub Fits : Step → ℕ → List Word → List Word → Type 0
+Fits (Row c) room ws end = (a : Tree) × SoundOne (Row c) room ws a end
+Fits (Tail l a) room ws end = (b : Tree) × SoundOne (Tail l a) room ws b end
+Fits (Suffix a) room ws end = (b : Tree) × SoundOne (Suffix a) room ws b end
+Fits (Selection a) room ws end = (b : Tree) × SoundOne (Selection a) room ws b end
+Fits (Enclosed m) room ws end = (a : Tree) × SoundOne (Enclosed m) room ws a end
+Fits (Listed c) room ws end = (items : List Tree) × SoundMany (Listed c) room ws items end
+Fits (Item c before) room ws end = (items : List Tree) × SoundMany (Item c before) room ws items end
+Fits (Behind c before) room ws end = (items : List Tree) × SoundMany (Behind c before) room ws items end
+Fits Mapped room ws end = (pairs : List (Tree × Tree)) × SoundKeyed Mapped room ws pairs end
+Fits (Entry before) room ws end = (pairs : List (Tree × Tree)) × SoundKeyed (Entry before) room ws pairs end
+Fits (BehindEntry before) room ws end = (pairs : List (Tree × Tree)) × SoundKeyed (BehindEntry before) room ws pairs end
+
+-- with some words in place of those left, the step is at its end, whatever is behind
+pub data Finishes : Step → ℕ → List Word → List Word → Type 0 where
+  finishes : {s : Step} {room : ℕ} {ws rest : List Word} (more : List Word) → ((end : List Word) → (us : List Word) × Alike rest (more ++ end) ws us × Fits s room us end) → Finishes s room ws rest
+
+moved_end : (rest more tail end ws us : List Word) → Alike rest (more ++ (tail ++ end)) ws us → Alike rest ((more ++ tail) ++ end) ws us
+moved_end rest more tail end ws us a = subst (λ (x : List Word). Alike rest x ws us) (sym (append_assoc more tail end)) a
+
+-- a step inside another, which wants these words behind it
+pub inside : {s t : Step} {room other : ℕ} {us ws rest : List Word} (tail : List Word) → Finishes s room us rest → ((vs end : List Word) → Fits s room vs (tail ++ end) → (xs : List Word) × Alike us vs ws xs × Fits t other xs end) → Finishes t other ws rest
+inside {ws = ws} {rest = rest} tail (finishes more f) g = finishes (more ++ tail) (λ end. let x = f (tail ++ end) in let y = g x.0 end x.2 in (y.0, moved_end rest more tail end ws y.0 (over x.1 y.1), y.2))
+
+abbrev pub Ended : Step → ℕ → List Word → Outcome → Type 0
+Ended s room ws (Got p rest) = Unit {0}
+Ended s room ws (Refused e) = Finishes s (extra e room) ws (left_by e)
+
+lift : (s t : Step) (room other : ℕ) (us ws : List Word) (o : Outcome) → ((e : Cause) → Finishes s (extra e room) us (left_by e) → Finishes t (extra e other) ws (left_by e)) → Ended s room us o → Ended t other ws o
+lift s t room other us ws (Got p rest) f x = tt
+lift s t room other us ws (Refused e) f x = f e x
+
+-- a literal fits in each row
+abbrev pub nil : Tree
+nil = tree.literal (tree.int (pos 0))
+
+pub nought_primary : (room : ℕ) (end : List Word) → Derives Primary room (int (pos 0) ∷ end) (One nil) end
+nought_primary room end = derives.constant refl
+
+nought_unary : (room : ℕ) (end : List Word) → Derives Unary room (int (pos 0) ∷ end) (One nil) end
+nought_unary room end = derives.unprefixed (derives.whole (nought_primary room end))
+
+pub nought_or : (room : ℕ) (end : List Word) → Derives (Infix Or) room (int (pos 0) ∷ end) (One nil) end
+nought_or room end = derives.operand Or (derives.operand And (derives.operand Relation (derives.operand Sum (derives.operand Product (nought_unary room end)))))
+
+pub nought_whole : (room : ℕ) (end : List Word) → Derives Expression room (int (pos 0) ∷ end) (One nil) end
+nought_whole room end = derives.plain (nought_or room end)
+
+no_room : (room inner : ℕ) → room ≡ suc inner → room ≤ 0 → ⊥
+no_room room inner z h = absurd (omega arith)
+
+less : (room inner m : ℕ) → room ≡ suc inner → room ≤ suc m → inner ≤ m
+less room inner m z h = omega arith
+
+selected_call : (room big : ℕ) (ws vs ends : List Word) (a : Tree) (n : List ℕ) (items : List Tree) → is_selector n ≡ true → room ≤ big → SoundMany (Listed Call) room ws items vs → (us fs : List Word) → fs ≡ name n ∷ us → us ≡ mark OpenParen ∷ ws → (xs : List Word) × Alike vs ends fs xs × SoundOne (Selection a) big xs (tree.method a n (trees items)) ends
+selected_call room zero ws vs ends a n items x h s us fs q f = absurd (no_room room s.0 s.2 h)
+selected_call room (suc m) ws vs ends a n items x h s us fs q f =
+    let d = carried (wider (moved s.3 (ends_call s.1 vs s.4)) m (less room s.0 m s.2 h)) (mark CloseParen ∷ ends) in
+    (name n ∷ mark OpenParen ∷ d.0, down q (down f (over (down refl same) d.1)), λ start k. derives.method_call x k d.2)
+
+pub selected : {room big : ℕ} {us vs : List Word} {a b : Tree} → Reads (Selection a) room us (Got (One b) vs) → room ≤ big → (ends : List Word) → (xs : List Word) × Alike vs ends us xs × SoundOne (Selection a) big xs b ends
+selected (reads.selection {n = n} q x g) h ends = (name n ∷ ends, down q same, λ start d. derives.selection x d)
+selected {room = room} {big = big} {vs = vs} {a = a} (reads.method_call {vs = ws} {n = n} {items = items} q x f r) h ends = selected_call room big ws vs ends a n items x h (sound r) _ _ q f
+
+selects : is_selector (codes "x") ≡ true
+unfolding role_of is_reserved
+selects = refl
+
+-- a comma alone in a list
+lone : (b : Bool) (c : Closing) (room inner : ℕ) (ws us : List Word) → takes_comma c ≡ b → room ≡ suc inner → ws ≡ mark Comma ∷ us → Finishes (Listed c) room ws (if b then us else ws)
+lone true c room inner ws us t z q = finishes (mark (closing_mark c) ∷ []) (λ end. (mark Comma ∷ mark (closing_mark c) ∷ end, down q same, ([], (inner, mark Comma ∷ mark (closing_mark c) ∷ end, z, derives.no_items, inr (t, refl)))))
+lone false c room inner ws us t z q = finishes (mark (closing_mark c) ∷ []) (λ end. (mark (closing_mark c) ∷ end, same, ([], (inner, mark (closing_mark c) ∷ end, z, derives.no_items, inl refl))))
+
+pub completed : {s : Step} {room : ℕ} {ws : List Word} {o : Outcome} → Reads s room ws o → Ended s room ws o
+completed (reads.expression_fails r) = inside [] (completed r) (λ vs end f. (vs, same, (f.0, derives.plain f.1)))
+completed (reads.expression_plain r x) = tt
+completed (reads.expression_deep {room = room} {us = us} {a = a} r q z) = finishes (int (pos 0) ∷ mark Colon ∷ int (pos 0) ∷ []) (λ end.
+    let d = carried (wide (Deep us) (sound r)) (mark Question ∷ int (pos 0) ∷ mark Colon ∷ int (pos 0) ∷ end) in
+    (d.0, over (down q same) d.1, (tree.ternary a nil nil, derives.conditional d.2 (nought_or room (mark Colon ∷ int (pos 0) ∷ end)) (nought_whole room end))))
+completed (reads.then_fails {room = room} {inner = inner} {a = a} {e = e} r q z f) = inside (mark Colon ∷ int (pos 0) ∷ []) (completed f) (λ vs end g.
+    let i = extra_inner e room inner z in
+    let d = carried (wide e (sound r)) (mark Question ∷ vs) in
+    (d.0, over (down q same) d.1, (tree.ternary a g.0 nil, roomy (derives.conditional (fitted d.2 i) g.1 (nought_whole (extra e inner) end)) i)))
+completed (reads.no_colon {room = room} {inner = inner} {a = a} {b = b} r q z f g) = finishes (mark Colon ∷ int (pos 0) ∷ []) (λ end.
+    let u = carried (sound f) (mark Colon ∷ int (pos 0) ∷ end) in
+    let d = carried (sound r) (mark Question ∷ u.0) in
+    (d.0, over (down q u.1) d.1, (tree.ternary a b nil, roomy (derives.conditional (fitted d.2 z) u.2 (nought_whole inner end)) z)))
+completed (reads.else_fails {room = room} {inner = inner} {a = a} {b = b} {e = e} r q z f g h) = inside [] (completed h) (λ vs end k.
+    let i = extra_inner e room inner z in
+    let u = carried (wide e (sound f)) (mark Colon ∷ vs) in
+    let d = carried (wide e (sound r)) (mark Question ∷ u.0) in
+    (d.0, over (down q (over (down g same) u.1)) d.1, (tree.ternary a b k.0, roomy (derives.conditional (fitted d.2 i) u.2 k.1) i)))
+completed (reads.conditional r q z f g h) = tt
+completed (reads.infix_fails {l = l} r) = inside [] (completed r) (λ vs end f. (vs, same, (f.0, derives.operand l f.1)))
+completed (reads.infix_goes {room = room} {ws = ws} {us = us} {l = l} {a = a} {o = o} r g) = lift (Tail l a) (Row (Infix l)) room room us ws o (λ e x. inside [] x (λ vs end f.
+    let d = carried (wide e (sound r)) vs in
+    (d.0, d.1, (f.0, f.1 d.0 (derives.operand l d.2))))) (completed g)
+completed (reads.tail_stops x) = tt
+completed (reads.tail_fails {a = a} {w = w} op x y q r) = inside [] (completed r) (λ vs end f. (w ∷ vs, down q same, (tree.binary op a f.0, λ start d. derives.operation op x y d f.1)))
+completed (reads.tail_goes {room = room} {ws = ws} {vs = us} {l = l} {a = a} {b = b} {w = w} {o = o} op x y q r g) = lift (Tail l (tree.binary op a b)) (Tail l a) room room us ws o (λ e k. inside [] k (λ vs end f.
+    let d = carried (wide e (sound r)) vs in
+    (w ∷ d.0, down q d.1, (f.0, λ start h. f.1 start (derives.operation op x y h d.2))))) (completed g)
+completed (reads.unary_member {room = room} {ws = ws} {o = o} x y r) = lift (Row Member) (Row Unary) room room ws ws o (λ e k. inside [] k (λ vs end f. (vs, same, (f.0, derives.unprefixed f.1)))) (completed r)
+completed (reads.unary_fails op q r) = inside [] (completed r) (λ vs end f. (_, down q same, (tree.unary op f.0, derives.prefixed op f.1)))
+completed (reads.unary_goes op q r) = tt
+completed (reads.prefixed_member {room = room} {ws = ws} {o = o} op x r) = lift (Row Member) (Row (Prefixed op)) room room ws ws o (λ e k. inside [] k (λ vs end f. (vs, same, (f.0, derives.last_prefix op f.1)))) (completed r)
+completed (reads.prefixed_fails op q r) = inside [] (completed r) (λ vs end f. (_, down q same, (tree.unary op f.0, derives.next_prefix op f.1)))
+completed (reads.prefixed_goes op q r) = tt
+completed (reads.member_fails r) = inside [] (completed r) (λ vs end f. (vs, same, (f.0, derives.whole f.1)))
+completed (reads.member_goes {room = room} {ws = ws} {us = us} {a = a} {o = o} r g) = lift (Suffix a) (Row Member) room room us ws o (λ e k. inside [] k (λ vs end f.
+    let d = carried (wide e (sound r)) vs in
+    (d.0, d.1, (f.0, f.1 d.0 (derives.whole d.2))))) (completed g)
+completed (reads.suffix_stops x y) = tt
+completed (reads.dot_fails q r) = inside [] (completed r) (λ vs end f. (mark Dot ∷ vs, down q same, (f.0, f.1)))
+completed (reads.dot_goes {room = room} {ws = ws} {vs = us} {a = a} {b = b} {o = o} q r g) = lift (Suffix b) (Suffix a) room room us ws o (λ e k. inside [] k (λ vs end f.
+    let d = selected r (enough e room) vs in
+    (mark Dot ∷ d.0, down q d.1, (f.0, λ start h. f.1 start (d.2 start h))))) (completed g)
+completed (reads.index_fails {a = a} q r) = inside [] (completed r) (λ vs end f. (mark OpenBracket ∷ vs, down q same, (tree.index a f.0, λ start d. roomy (derives.indexing (fitted d f.1.1) f.1.2) f.1.1)))
+completed (reads.index_goes {room = room} {ws = ws} {vs = us} {a = a} {b = b} {o = o} q r g) = lift (Suffix (tree.index a b)) (Suffix a) room room us ws o (λ e k. inside [] k (λ vs end f.
+    let x = sound r in
+    let i = extra_inner e room x.0 x.1 in
+    let d = carried (wide e x.2) (mark CloseBracket ∷ vs) in
+    (mark OpenBracket ∷ d.0, down q (over (down refl same) d.1), (f.0, λ start h. f.1 start (roomy (derives.indexing (fitted h i) d.2) i))))) (completed g)
+completed (reads.no_selector {a = a} x) = finishes (name (codes "x") ∷ []) (λ end. (name (codes "x") ∷ end, same, (tree.select a (codes "x"), λ start d. derives.selection selects d)))
+completed (reads.selection q x g) = tt
+completed (reads.method_fails {a = a} {n = n} q x g r) = inside [] (completed r) (λ vs end f. (name n ∷ mark OpenParen ∷ vs, down q (down g same), (tree.method a n (trees f.0), λ start d. method_sound _ start _ _ vs end a n f.0 refl x refl d f.1)))
+completed (reads.method_call q x g r) = tt
+completed (reads.no_primary {room = room} a b c d e) = finishes (int (pos 0) ∷ []) (λ end. (int (pos 0) ∷ end, same, (nil, nought_primary room end)))
+completed (reads.bracket {room = room} {ws = ws} {us = us} {o = o} q r) = lift (Enclosed CloseParen) (Row Primary) room room us ws o (λ e k. inside [] k (λ vs end f. (mark OpenParen ∷ vs, down q same, (f.0, roomy (derives.bracket f.1.2) f.1.1)))) (completed r)
+completed (reads.list_fails q r) = inside [] (completed r) (λ vs end f. (mark OpenBracket ∷ vs, down q same, (tree.list (trees f.0), list_sound _ _ vs end f.0 refl f.1)))
+completed (reads.list_literal q r) = tt
+completed (reads.map_fails q r) = inside [] (completed r) (λ vs end f. (mark OpenBrace ∷ vs, down q same, (tree.map (entries f.0), map_sound _ _ vs end f.0 refl f.1)))
+completed (reads.map_literal q r) = tt
+completed (reads.constant q l) = tt
+completed (reads.identifier q x g) = tt
+completed (reads.function_fails {n = n} q x g r) = inside [] (completed r) (λ vs end f. (name n ∷ mark OpenParen ∷ vs, down q (down g same), (tree.call n (trees f.0), function_sound _ _ _ vs end n f.0 refl x refl f.1)))
+completed (reads.function_call q x g r) = tt
+completed (reads.enclosed_deep {room = room} {m = m} z) = finishes (int (pos 0) ∷ mark m ∷ []) (λ end. (int (pos 0) ∷ mark m ∷ end, same, (nil, (room, refl, nought_whole room (mark m ∷ end)))))
+completed (reads.enclosed_fails {room = room} {inner = inner} {m = m} {e = e} z r) = inside (mark m ∷ []) (completed r) (λ vs end f. (vs, same, (f.0, (extra e inner, extra_inner e room inner z, f.1))))
+completed (reads.enclosed_open {inner = inner} {m = m} {a = a} z r x) = finishes (mark m ∷ []) (λ end.
+    let d = carried (sound r) (mark m ∷ end) in
+    (d.0, d.1, (a, (inner, z, d.2))))
+completed (reads.enclosed_closed z r q) = tt
+completed (reads.list_deep {room = room} {c = c} z) = finishes (mark (closing_mark c) ∷ []) (λ end. (mark (closing_mark c) ∷ end, same, ([], (room, mark (closing_mark c) ∷ end, refl, derives.no_items, inl refl))))
+completed (reads.list_empty z x) = tt
+completed (reads.list_comma {room = room} {inner = inner} {ws = ws} {us = us} {c = c} z g q) = lone (takes_comma c) c room inner ws us refl z q
+completed (reads.list_items {room = room} {inner = inner} {ws = ws} {c = c} {o = o} z g x r) = lift (Item c []) (Listed c) inner room ws ws o (λ e k. inside [] k (λ vs end f.
+    let y = f.1 vs (inl (refl, refl)) in
+    (vs, same, (f.0, (extra e inner, y.0, extra_inner e room inner z, derives.some_items y.1, y.2))))) (completed r)
+completed (reads.item_fails {c = c} {items = items} r) = inside (mark (closing_mark c) ∷ []) (completed r) (λ vs end f. (vs, same, (items ++ f.0 ∷ [], λ start before. (mark (closing_mark c) ∷ end, item_added _ start vs _ items f.0 before f.1, inl refl))))
+completed (reads.item_goes {room = room} {ws = ws} {us = us} {c = c} {items = items} {a = a} {o = o} r g) = lift (Behind c (items ++ a ∷ [])) (Item c items) room room us ws o (λ e k. inside [] k (λ vs end f.
+    let d = carried (wide e (sound r)) vs in
+    (d.0, d.1, (f.0, λ start before. f.1 start (item_added _ start d.0 vs items a before d.2))))) (completed g)
+completed (reads.items_end x) = tt
+completed (reads.items_misfit {c = c} {items = items} g x) = finishes (mark (closing_mark c) ∷ []) (λ end. (mark (closing_mark c) ∷ end, same, (items, λ start d. (mark (closing_mark c) ∷ end, d, inl refl))))
+completed (reads.items_go_on {room = room} {ws = ws} {us = us} {c = c} {items = items} {o = o} g q r) = lift (Item c items) (Behind c items) room room us ws o (λ e k. inside [] k (λ vs end f. (mark Comma ∷ vs, down q same, (f.0, λ start d. f.1 start (inr d))))) (completed r)
+completed (reads.map_deep {room = room} z) = finishes (mark CloseBrace ∷ []) (λ end. (mark CloseBrace ∷ end, same, ([], (room, mark CloseBrace ∷ end, refl, derives.no_pairs, inl refl))))
+completed (reads.map_empty z x) = tt
+completed (reads.map_comma {inner = inner} z g q) = finishes (mark CloseBrace ∷ []) (λ end. (mark Comma ∷ mark CloseBrace ∷ end, down q same, ([], (inner, mark Comma ∷ mark CloseBrace ∷ end, z, derives.no_pairs, inr (refl, refl)))))
+completed (reads.map_entries {room = room} {inner = inner} {ws = ws} {o = o} z g x r) = lift (Entry []) Mapped inner room ws ws o (λ e k. inside [] k (λ vs end f.
+    let y = f.1 vs (inl (refl, refl)) in
+    (vs, same, (f.0, (extra e inner, y.0, extra_inner e room inner z, derives.some_pairs y.1, y.2))))) (completed r)
+completed (reads.key_fails {room = room} {pairs = pairs} {e = e} r) = inside (mark Colon ∷ int (pos 0) ∷ mark CloseBrace ∷ []) (completed r) (λ vs end f. (vs, same, (pairs ++ (f.0, nil) ∷ [], λ start before. (mark CloseBrace ∷ end, pair_added _ start vs _ _ pairs f.0 nil before f.1 (nought_whole (extra e room) (mark CloseBrace ∷ end)), inl refl))))
+completed (reads.key_alone {room = room} {pairs = pairs} {a = a} r x) = finishes (mark Colon ∷ int (pos 0) ∷ mark CloseBrace ∷ []) (λ end.
+    let d = carried (sound r) (mark Colon ∷ int (pos 0) ∷ mark CloseBrace ∷ end) in
+    (d.0, d.1, (pairs ++ (a, nil) ∷ [], λ start before. (mark CloseBrace ∷ end, pair_added room start d.0 _ _ pairs a nil before d.2 (nought_whole room (mark CloseBrace ∷ end)), inl refl))))
+completed (reads.value_fails {pairs = pairs} {a = a} {e = e} r q g) = inside (mark CloseBrace ∷ []) (completed g) (λ vs end f.
+    let d = carried (wide e (sound r)) (mark Colon ∷ vs) in
+    (d.0, over (down q same) d.1, (pairs ++ (a, f.0) ∷ [], λ start before. (mark CloseBrace ∷ end, pair_added _ start d.0 vs _ pairs a f.0 before d.2 f.1, inl refl))))
+completed (reads.entry_goes {room = room} {ws = ws} {xs = us} {pairs = pairs} {a = a} {b = b} {o = o} r q g h) = lift (BehindEntry (pairs ++ (a, b) ∷ [])) (Entry pairs) room room us ws o (λ e k. inside [] k (λ vs end f.
+    let u = carried (wide e (sound g)) vs in
+    let d = carried (wide e (sound r)) (mark Colon ∷ u.0) in
+    (d.0, over (down q u.1) d.1, (f.0, λ start before. f.1 start (pair_added _ start d.0 u.0 vs pairs a b before d.2 u.2))))) (completed h)
+completed (reads.entries_end x) = tt
+completed (reads.entries_misfit {pairs = pairs} g x) = finishes (mark CloseBrace ∷ []) (λ end. (mark CloseBrace ∷ end, same, (pairs, λ start d. (mark CloseBrace ∷ end, d, inl refl))))
+completed (reads.entries_go_on {room = room} {ws = ws} {us = us} {pairs = pairs} {o = o} g q r) = lift (Entry pairs) (BehindEntry pairs) room room us ws o (λ e k. inside [] k (λ vs end f. (mark Comma ∷ vs, down q same, (f.0, λ start d. f.1 start (inr d))))) (completed r)
