@@ -66,9 +66,13 @@ IsRefused document (Unread e) = policy_in document ≡ Err e
 IsRefused document (Uncompiled e) = (p : Rules) × (policy_in document ≡ Ok p) × Compiles p (Err e)
 IsRefused document policy_refusal.Memory = ⊥
 
+-- a document says this policy, and this is its image
+abbrev pub IsPolicyOf : List ℕ → CompiledPolicy → Type 0
+IsPolicyOf document c = (policy_in document ≡ Ok c.policy) × IsCompiled c.policy c.image
+
 -- the policy and its image, or why there is none; or the host has no memory for it
 abbrev pub CompilesDocument : List ℕ → Result CompiledPolicy PolicyRefusal → Type 0
-CompilesDocument document (Ok c) = (policy_in document ≡ Ok c.policy) × IsCompiled c.policy c.image
+CompilesDocument document (Ok c) = IsPolicyOf document c
 CompilesDocument document (Err (Unread e)) = IsRefused document (Unread e)
 CompilesDocument document (Err (Uncompiled e)) = IsRefused document (Uncompiled e)
 CompilesDocument document (Err policy_refusal.Memory) = Unit {0}

@@ -1,0 +1,159 @@
+//! Policies that are compiled once and decide many reviews.
+ghost use Rattle.std.specs.Prelude.{◌≡◌, ℕ, List, option_map, IfOk};
+ghost use Rattle.serde_json.specs.View.{view};
+ghost use Rattle.bpf_machine.specs.State.{start_state};
+ghost use Rattle.bpf_machine.specs.Starts.{StartsAreTables};
+ghost use Rattle.bpf_machine.specs.States.{StatesAreKept};
+ghost use Rattle.bpf_machine.specs.Trace.{state_after};
+ghost use Rattle.value_store.specs.Laws.{StartIsCanonical};
+ghost use Rattle.review_runner.specs.Deciding.{answer_view, is_allowing, AnswersFrom, CompilesDocument, IsPolicyOf, IsToldBy, Reviews};
+ghost use Rattle.review_runner.specs.Reviews.{uid_of};
+
+use crate::compiled_policy::{CompiledPolicy, compiled};
+use crate::policy_refusal::PolicyRefusal;
+use crate::reply::Reply;
+use crate::root_values::root_documents;
+use crate::run_error::RunError;
+use bpf_machine::laws::{starts_are_tables, states_are_kept};
+use bpf_machine::{Machine, Status};
+use guest_memory::Guest;
+use loader::Image;
+use policy_glue::{Policy, Verdict, respond};
+use serde_json::Value;
+use std::alloc::{AllocError, Global};
+use std::marker::Model;
+use value_store::ValueStore;
+use value_store::laws::values_are_as_said;
+use value_table::Table;
+
+/// A policy that is compiled once and decides any number of reviews. No decision changes it, nor one
+/// that fails for want of memory.
+#[derive(Drop)]
+pub struct Gate {
+    alloc: Global,
+    compiled: CompiledPolicy,
+}
+
+impl Model for Gate {
+    ghost use Rattle.review_runner.specs.declared.compiled_policy.CompiledPolicy.{CompiledPolicy};
+
+    ghost Value = { CompiledPolicy };
+
+    ghost view = { λ g. g.compiled };
+}
+
+impl Gate {
+    /// The gate of the policy (ValidatingAdmissionPolicy, `admissionregistration.k8s.io/v1`) in a
+    /// document.
+    ///
+    /// # Errors
+    ///
+    /// Why the policy gives no image. `Memory` where memory runs out, which says nothing of the policy.
+    pub fn new(alloc: Global, policy: &[u8]) -> Result<Gate, PolicyRefusal>
+        ensures { CompilesDocument policy.now result }
+    {
+        let compiled = compiled(alloc, policy)?;
+        Ok(Gate { alloc, compiled })
+    }
+
+    /// The response to a review (AdmissionReview, `admission.k8s.io/v1`) under the policy, whose program
+    /// may take at most `n` steps. Roots whose documents are not given are null.
+    ///
+    /// # Errors
+    ///
+    /// The first refusal: of the documents `N2` and `N3` as `roots` has them; `N4` exactly where the
+    /// program still runs after `n` steps, `N5` exactly where it was stopped before. `Memory` where
+    /// memory runs out, which says nothing of the rest.
+    pub fn decide(
+        &self,
+        review: &[u8],
+        namespace: Option<&[u8]>,
+        params: Option<&[u8]>,
+        n: u64,
+    ) -> Result<Reply, RunError>
+        // It answers as `review` does under each policy document that gives this gate.
+        ensures { (policy : List ℕ) → IsPolicyOf policy self.now → Reviews (record { policy = policy; review = review.now; namespace = option_map (λ b. b.now) namespace.entry; params = option_map (λ b. b.now) params.entry }) n (answer_view result) }
+    {
+        starts_stand();
+        let documents = root_documents(self.alloc, Some(review), namespace, params)?;
+        let table = Table::of_roots(self.alloc, &documents)?;
+        let machine = ran(self.alloc, &self.compiled.image, table, n)?;
+        let uid = uid_of(&documents[4]);
+        answer(self.alloc, &self.compiled.policy, &machine, uid)
+    }
+}
+
+/// What is known of every start on roots, and of every state behind it.
+fn starts_stand()
+    ensures tables { StartsAreTables }
+    ensures canonical { StartIsCanonical }
+    ensures states { StatesAreKept }
+{
+    starts_are_tables();
+    values_are_as_said();
+    states_are_kept();
+}
+
+/// The machine where a run of at most `n` steps stands.
+fn ran(
+    alloc: Global,
+    image: &Image,
+    table: Table,
+    n: u64,
+) -> Result<Machine<Table, Guest>, AllocError>
+    ensures { IfOk result (λ m. m ≡ state_after n (start_state image.now (record { values = ⟦<Table as ValueStore>⟧.values table; charge = ⟦<Table as ValueStore>⟧.charge table }))) }
+{
+    let mut machine = Machine::<Table, Guest>::start(alloc, image.copy()?, table)?;
+    machine.run(n)?;
+    Ok(machine)
+}
+
+/// The uid of a request, which has one.
+fn uid_of(request: &Value) -> &str
+    ensures { result.now ≡ uid_of (view request.now) }
+{
+    match request.get("uid") {
+        Some(Value::String(uid)) => uid.as_str(),
+        _ => "",
+    }
+}
+
+/// The answer to the request with this uid, by the state in which the policy's program stands.
+fn answer(
+    alloc: Global,
+    policy: &Policy,
+    machine: &Machine<Table, Guest>,
+    uid: &str,
+) -> Result<Reply, RunError>
+    ensures { AnswersFrom policy.now machine.now uid.now (answer_view result) }
+{
+    match machine.status() {
+        Status::Exited(_) => Ok(reply(alloc, policy, machine, uid)?),
+        Status::Fault(_) => Err(RunError::N5),
+        Status::Running => Err(RunError::N4),
+    }
+}
+
+/// The reply by the verdict that the policy's program has left.
+fn reply(
+    alloc: Global,
+    policy: &Policy,
+    machine: &Machine<Table, Guest>,
+    uid: &str,
+) -> Result<Reply, AllocError>
+    ensures { IfOk result (λ r. IsToldBy policy.now machine.now uid.now (record { response = r.response.items; allowed = r.allowed })) }
+{
+    let verdict = Verdict::of(machine.memory(), machine.values(), policy);
+    let response = respond(alloc, policy, &verdict, uid)?;
+    Ok(Reply {
+        response,
+        allowed: allows(verdict.outcome),
+    })
+}
+
+/// Whether the word of an outcome is one that allows the request.
+fn allows(outcome: u64) -> bool
+    ensures { result ≡ is_allowing outcome }
+{
+    outcome == 1 || outcome == 4
+}
