@@ -1,6 +1,6 @@
 //! Memory in pages, which copies share.
-ghost use Rattle.std.specs.Prelude.{◌≡◌, replicate, IfOk};
-ghost use Rattle.guest_memory.specs.Access.{place_of};
+ghost use Rattle.std.specs.Prelude.{◌≡◌, length, replicate, IfOk, None};
+ghost use Rattle.guest_memory.specs.Access.{place_of, read_of, size_bytes, write_of, Writes};
 
 use crate::fault::Fault;
 use crate::region::Region;
@@ -44,6 +44,7 @@ pub struct Guest {
 
 /// Where `n` bytes from `addr` on begin in a region of `len` bytes from `base` on, if all of them
 /// stand there.
+#[inline(always)]
 fn place(base: u64, len: usize, addr: u64, n: u64) -> Option<usize>
     ensures { result ≡ place_of base len addr n }
 {
@@ -69,6 +70,55 @@ fn shared(alloc: Global, constants: &[u8]) -> Result<Rc<Vec<u8>>, AllocError>
     Ok(block)
 }
 
+/// Loads and stores beyond the stack, which are rare: out of the way of those on it.
+impl Guest {
+    /// What a load answers whose bytes do not all stand on the stack.
+    #[tactic(auto, unfolding(crate::specs::Access::read_of))]
+    #[inline(never)]
+    fn read_above(&self, addr: u64, size: Size) -> Result<u64, Fault>
+        requires { place_of 0x100000000 (length self.now.stack) addr (size_bytes size) ≡ None }
+        ensures { result ≡ read_of (record { stack = self.now.stack; scratch = self.now.scratch; verdict = self.now.verdict; constants = self.now.constants.value.items }) addr size }
+    {
+        let n = size.bytes() as u64;
+        if let Some(at) = place(SCRATCH, self.scratch.len(), addr, n) {
+            return Ok(self.scratch.word_at(at, size));
+        }
+        if let Some(at) = place(VERDICT, self.verdict.len(), addr, n) {
+            return Ok(self.verdict.word_at(at, size));
+        }
+        if let Some(at) = place(CONSTANTS, self.constants.len(), addr, n) {
+            return Ok(word_at(&self.constants, at, size));
+        }
+        Err(Fault::F3)
+    }
+
+    /// A store whose bytes would not all stand on the stack.
+    #[tactic(auto, unfolding(crate::specs::Access::write_of))]
+    #[inline(never)]
+    fn write_above(&mut self, addr: u64, size: Size, word: u64) -> Result<(), WriteError>
+        requires { place_of 0x100000000 (length self.old.stack) addr (size_bytes size) ≡ None }
+        ensures { Writes (write_of (record { stack = self.old.stack; scratch = self.old.scratch; verdict = self.old.verdict; constants = self.old.constants.value.items }) addr size word) result (record { stack = self.old.stack; scratch = self.old.scratch; verdict = self.old.verdict; constants = self.old.constants.value.items }) (record { stack = self.new.stack; scratch = self.new.scratch; verdict = self.new.verdict; constants = self.new.constants.value.items }) }
+    {
+        let n = size.bytes() as u64;
+        if let Some(at) = place(SCRATCH, self.scratch.len(), addr, n) {
+            let Ok(()) = self.scratch.put_word(at, size, word) else {
+                return Err(WriteError::Memory);
+            };
+            return Ok(());
+        }
+        if let Some(at) = place(VERDICT, self.verdict.len(), addr, n) {
+            let Ok(()) = self.verdict.put_word(at, size, word) else {
+                return Err(WriteError::Memory);
+            };
+            return Ok(());
+        }
+        if let Some(_at) = place(CONSTANTS, self.constants.len(), addr, n) {
+            return Err(WriteError::Fault(Fault::F4));
+        }
+        Err(WriteError::Fault(Fault::F3))
+    }
+}
+
 impl Regions for Guest {
     ghost bytes = { λ g. record { stack = g.stack; scratch = g.scratch; verdict = g.verdict; constants = g.constants.value.items } };
 
@@ -91,24 +141,17 @@ impl Regions for Guest {
     }
 
     #[tactic(auto, unfolding(crate::specs::Access::read_of))]
+    #[inline(always)]
     fn read(&self, addr: u64, size: Size) -> Result<u64, Fault> {
         let n = size.bytes() as u64;
         if let Some(at) = place(STACK, self.stack.len(), addr, n) {
             return Ok(self.stack.word_at(at, size));
         }
-        if let Some(at) = place(SCRATCH, self.scratch.len(), addr, n) {
-            return Ok(self.scratch.word_at(at, size));
-        }
-        if let Some(at) = place(VERDICT, self.verdict.len(), addr, n) {
-            return Ok(self.verdict.word_at(at, size));
-        }
-        if let Some(at) = place(CONSTANTS, self.constants.len(), addr, n) {
-            return Ok(word_at(&self.constants, at, size));
-        }
-        Err(Fault::F3)
+        self.read_above(addr, size)
     }
 
     #[tactic(auto, unfolding(crate::specs::Access::write_of))]
+    #[inline(always)]
     fn write(&mut self, addr: u64, size: Size, word: u64) -> Result<(), WriteError> {
         let n = size.bytes() as u64;
         if let Some(at) = place(STACK, self.stack.len(), addr, n) {
@@ -117,22 +160,7 @@ impl Regions for Guest {
             };
             return Ok(());
         }
-        if let Some(at) = place(SCRATCH, self.scratch.len(), addr, n) {
-            let Ok(()) = self.scratch.put_word(at, size, word) else {
-                return Err(WriteError::Memory);
-            };
-            return Ok(());
-        }
-        if let Some(at) = place(VERDICT, self.verdict.len(), addr, n) {
-            let Ok(()) = self.verdict.put_word(at, size, word) else {
-                return Err(WriteError::Memory);
-            };
-            return Ok(());
-        }
-        if let Some(_at) = place(CONSTANTS, self.constants.len(), addr, n) {
-            return Err(WriteError::Fault(Fault::F4));
-        }
-        Err(WriteError::Fault(Fault::F3))
+        self.write_above(addr, size, word)
     }
 
     #[tactic(auto, unfolding(crate::specs::Access::stores_of, crate::specs::Access::write_of))]
