@@ -1,6 +1,7 @@
 pub mod TextLengths
 pub mod Growth
 pub mod Backed
+pub mod Chunked
 pub mod Adding
 pub mod Listed
 pub mod Named

@@ -37,9 +37,6 @@ text_here bytes [] k d h l = absurd (omega arith)
 text_here bytes (p ∷ ps) zero d h l = h.0
 text_here bytes (p ∷ ps) (suc k) d h l = text_here bytes ps k d h.1 (omega arith)
 
-pub content_here : (bs : Backings) (cs : List Cell) (r : ℕ) (d : Cell) → AreContents bs cs → r < length cs → IsContent bs r (get_or cs r d).content
-content_here bs cs r d h l = h r (get_or cs r d) (slice_get-get_or cs r d l)
-
 pub value_here : (bs : Backings) (vs : List Value) (cs : List Cell) (r : ℕ) (d : Cell) → AreMeanings bs vs cs → r < length cs → slice_get vs r ≡ Some (meaning bs vs (get_or cs r d).content)
 value_here bs vs cs r d h l = h r (get_or cs r d) (slice_get-get_or cs r d l)
 
@@ -64,40 +61,40 @@ same_place bs vs cs r s m h k same =
 some_same : {v w : Value} → Some v ≡ Some w → v ≡ w
 some_same e = cc
 
-met : (bs : Backings) (vs : List Value) (cs : List Cell) (x y : ℕ) (c d : Cell) → AreContents bs cs → AreMeanings bs vs cs → x < length cs → y < length cs → slice_get vs x ≡ slice_get vs y
-    → Alike bs vs (get_or cs x c).content (get_or cs y d).content
+met : (bs : Backings) (vs : List Value) (cs : List Cell) (x y : ℕ) (c d : Cell) → AreContents bs cs → AreMeanings bs vs cs → slice_get cs x ≡ Some c → slice_get cs y ≡ Some d → slice_get vs x ≡ slice_get vs y
+    → Alike bs vs c.content d.content
 met bs vs cs x y c d s m h k e =
-    let v = value_here bs vs cs x c m h in
-    let w = value_here bs vs cs y d m k in
-    let same : meaning bs vs (get_or cs x c).content ≡ meaning bs vs (get_or cs y d).content = some_same (sym v ∙ e ∙ w) in
-    meaning_apart bs vs x y (get_or cs x c).content (get_or cs y d).content (content_here bs cs x c s h) (content_here bs cs y d s k) same
+    let v = m x c h in
+    let w = m y d k in
+    let same : meaning bs vs c.content ≡ meaning bs vs d.content = some_same (sym v ∙ e ∙ w) in
+    meaning_apart bs vs x y c.content d.content (s x c h) (s y d k) same
 
 -- equal values have one head
-pub same_heads : (bs : Backings) (vs : List Value) (cs : List Cell) (x y : ℕ) (c d : Cell) → AreContents bs cs → AreMeanings bs vs cs → x < length cs → y < length cs → slice_get vs x ≡ slice_get vs y
-    → head bs (get_or cs x c).content ≡ head bs (get_or cs y d).content
+pub same_heads : (bs : Backings) (vs : List Value) (cs : List Cell) (x y : ℕ) (c d : Cell) → AreContents bs cs → AreMeanings bs vs cs → slice_get cs x ≡ Some c → slice_get cs y ≡ Some d → slice_get vs x ≡ slice_get vs y
+    → head bs c.content ≡ head bs d.content
 same_heads bs vs cs x y c d s m h k e = (met bs vs cs x y c d s m h k e).heads
 
 -- and their parts have equal values
-pub same_parts : (bs : Backings) (vs : List Value) (cs : List Cell) (x y : ℕ) (c d : Cell) (xs ys : List ℕ) → xs ≡ parts bs (get_or cs x c).content → ys ≡ parts bs (get_or cs y d).content
-    → AreContents bs cs → AreMeanings bs vs cs → x < length cs → y < length cs → slice_get vs x ≡ slice_get vs y → values_at vs xs ≡ values_at vs ys
+pub same_parts : (bs : Backings) (vs : List Value) (cs : List Cell) (x y : ℕ) (c d : Cell) (xs ys : List ℕ) → xs ≡ parts bs c.content → ys ≡ parts bs d.content
+    → AreContents bs cs → AreMeanings bs vs cs → slice_get cs x ≡ Some c → slice_get cs y ≡ Some d → slice_get vs x ≡ slice_get vs y → values_at vs xs ≡ values_at vs ys
 same_parts bs vs cs x y c d xs ys p q s m h k e = ap (values_at vs) p ∙ (met bs vs cs x y c d s m h k e).values ∙ sym (ap (values_at vs) q)
 
 -- with one head and equal parts two values are equal
-pub same_cells : (bs : Backings) (vs : List Value) (cs : List Cell) (x y : ℕ) (c d : Cell) (xs ys : List ℕ) → xs ≡ parts bs (get_or cs x c).content → ys ≡ parts bs (get_or cs y d).content
-    → AreMeanings bs vs cs → x < length cs → y < length cs → head bs (get_or cs x c).content ≡ head bs (get_or cs y d).content → values_at vs xs ≡ values_at vs ys → slice_get vs x ≡ slice_get vs y
+pub same_cells : (bs : Backings) (vs : List Value) (cs : List Cell) (x y : ℕ) (c d : Cell) (xs ys : List ℕ) → xs ≡ parts bs c.content → ys ≡ parts bs d.content
+    → AreMeanings bs vs cs → slice_get cs x ≡ Some c → slice_get cs y ≡ Some d → head bs c.content ≡ head bs d.content → values_at vs xs ≡ values_at vs ys → slice_get vs x ≡ slice_get vs y
 same_cells bs vs cs x y c d xs ys p q m h k e f =
-    let v = value_here bs vs cs x c m h in
-    let w = value_here bs vs cs y d m k in
-    v ∙ ap (λ u. Some u) (same_meaning bs vs (get_or cs x c).content (get_or cs y d).content e (sym (ap (values_at vs) p) ∙ f ∙ ap (values_at vs) q)) ∙ sym w
+    let v = m x c h in
+    let w = m y d k in
+    v ∙ ap (λ u. Some u) (same_meaning bs vs c.content d.content e (sym (ap (values_at vs) p) ∙ f ∙ ap (values_at vs) q)) ∙ sym w
 
 -- one head has as many parts
-pub same_long : (bs : Backings) (cs : List Cell) (x y : ℕ) (c d : Cell) (xs ys : List ℕ) → xs ≡ parts bs (get_or cs x c).content → ys ≡ parts bs (get_or cs y d).content
-    → AreContents bs cs → x < length cs → y < length cs → head bs (get_or cs x c).content ≡ head bs (get_or cs y d).content → length xs ≡ length ys
+pub same_long : (bs : Backings) (cs : List Cell) (x y : ℕ) (c d : Cell) (xs ys : List ℕ) → xs ≡ parts bs c.content → ys ≡ parts bs d.content
+    → AreContents bs cs → slice_get cs x ≡ Some c → slice_get cs y ≡ Some d → head bs c.content ≡ head bs d.content → length xs ≡ length ys
 same_long bs cs x y c d xs ys p q s h k e =
-    ap length p ∙ parts_long bs x y (get_or cs x c).content (get_or cs y d).content (content_here bs cs x c s h) (content_here bs cs y d s k) e ∙ sym (ap length q)
+    ap length p ∙ parts_long bs x y c.content d.content (s x c h) (s y d k) e ∙ sym (ap length q)
 
 -- a part stands before its cell
-pub part_before : (bs : Backings) (cs : List Cell) (x : ℕ) (c : Cell) (xs : List ℕ) (k d : ℕ) → xs ≡ parts bs (get_or cs x c).content → AreContents bs cs → x < length cs → k < length xs → get_or xs k d < x
+pub part_before : (bs : Backings) (cs : List Cell) (x : ℕ) (c : Cell) (xs : List ℕ) (k d : ℕ) → xs ≡ parts bs c.content → AreContents bs cs → slice_get cs x ≡ Some c → k < length xs → get_or xs k d < x
 part_before bs cs x c xs k d p s h l =
-    let t : k < length (parts bs (get_or cs x c).content) = subst (λ zs. k < length zs) p l in
-    subst (λ zs. get_or zs k d < x) (sym p) (part_below bs x (get_or cs x c).content k d (content_here bs cs x c s h) t)
+    let t : k < length (parts bs c.content) = subst (λ zs. k < length zs) p l in
+    subst (λ zs. get_or zs k d < x) (sym p) (part_below bs x c.content k d (s x c h) t)

@@ -1,11 +1,13 @@
 -- What a vector that is lent leaves behind.
-use Rattle.std.specs.Prelude.{◌≡◌, List, Result}
+use Rattle.std.specs.Prelude.{◌≡◌, ℕ, List, Result}
 use Rattle.std.specs.Borrow.{Fml, RattleType, MutBor, LendsIfOk, LendsSoOk}
 use Rattle.std.specs.contracts.alloc.Global as global
 use Rattle.std.specs.contracts.vec.Vec as vec
 use Rattle.std.specs.contracts.rc.Rc as rc
 use Rattle.std.specs.contracts.impls.GlobalAllocator.TheImpl.{ghosts}
 use Rattle.value_table.specs.contracts.backing.Backing.{the_row}
+use Rattle.value_table.specs.contracts.chunks.Chunks as chunks
+use Rattle.value_table.specs.contracts.sequence.Sequence as sequence
 use Rattle.value_table.specs.contracts.cell.Cell as cell
 use Rattle.value_table.specs.declared.cell.Cell.{Cell}
 
@@ -24,9 +26,10 @@ module _ (T : RattleType) where
   abbrev pub LendsOwned : {E : Type 0} → MutBor rc_row.Denot → Result (MutBor vec_row.Denot) E → Fml
   LendsOwned b r = LendsSoOk rc_row vec_row b r (λ n v. n.value ≡ v) (λ n. n.value.items ≡ b.now.value.items)
 
-abbrev pub cells_row : RattleType
-cells_row = vec_row cell.the_row
+  -- a sequence ends with the last items of its chunks, and after an error it is as it was
+  abbrev pub LendsChunks : {E : Type 0} → MutBor (List T.Denot) → Result (MutBor (List T.Denot × ℕ)) E → Fml
+  LendsChunks b r = LendsIfOk (sequence.the_row T) (chunks.the_row T) b r (λ v. v.0) b.now
 
 -- the same of the cells of a heap
-abbrev pub LendsCells : {E : Type 0} → MutBor (List Cell) → Result (MutBor cells_row.Denot) E → Fml
-LendsCells b r = LendsItems cell.the_row b r
+abbrev pub LendsCells : {E : Type 0} → MutBor (List Cell) → Result (MutBor (List Cell × ℕ)) E → Fml
+LendsCells b r = LendsChunks cell.the_row b r

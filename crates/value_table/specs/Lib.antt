@@ -13,4 +13,5 @@ pub mod Growing
 pub mod Held
 pub mod Start
 pub mod Tokens
+pub mod Chunks
 pub mod Lending

@@ -92,6 +92,17 @@ impl<T: Copy> Backing<T> {
         Ok(Backing { items })
     }
 
+    /// A vector of its own with the items of a slice.
+    pub(crate) fn of(alloc: Global, items: &[T]) -> Result<Backing<T>, AllocError>
+        ensures { IfOk result (λ b. b ≡ items.now) }
+    {
+        let copy = copied(alloc, items, 0)?;
+        let Ok(items) = Rc::new(alloc, copy) else {
+            return Err(AllocError);
+        };
+        Ok(Backing { items })
+    }
+
     /// A vector of its own with the items of one slice and then those of another.
     pub(crate) fn joined(alloc: Global, first: &[T], second: &[T]) -> Result<Backing<T>, AllocError>
         ensures { IfOk result (λ b. b ≡ first.now ++ second.now) }

@@ -16,7 +16,7 @@ use crate::content::Content;
 use crate::heap::{Heap, room_for_cell};
 use crate::lengths::put_length;
 use crate::part::Part;
-use crate::room::{append, fill};
+use crate::room::fill;
 use crate::search::search;
 use crate::text::{keys, text};
 use std::alloc::AllocError;
@@ -37,7 +37,7 @@ impl Heap {
             depth: 1,
             json: 2,
         };
-        Ok(append(cells, cell))
+        Ok(cells.append(cell))
     }
 
     /// The map at `m` with the text at `k`, which is none of its keys, at the value at `x`.
@@ -77,7 +77,7 @@ impl Heap {
             depth,
             json,
         };
-        Ok(append(cells, cell))
+        Ok(cells.append(cell))
     }
 }
 

@@ -56,7 +56,7 @@ impl Heap {
         ensures stay { ClassesStay self.old.same.items self.new.same.items }
         ensures one { result ≡ true → AreOneClass self.new.same.items a b }
     {
-        walk::equal(self.cells.items(), &self.backings, &mut self.same, a, b)
+        walk::equal(&self.cells, &self.backings, &mut self.same, a, b)
     }
 
     /// Whether an item of the list at `c` is equal to the value at `x`, or the map at `c` has the text
@@ -88,7 +88,7 @@ impl Heap {
     {
         let start = self.start(x, backing, count);
         let items = &first(&self.backings, backing, count)[start as usize..];
-        is_among(self.cells.items(), &self.backings, &mut self.same, x, items)
+        is_among(&self.cells, &self.backings, &mut self.same, x, items)
     }
 
     // A place among the first items of a backing before which none is equal to the value at `x`. An index
@@ -110,11 +110,10 @@ impl Heap {
         let Some(slot) = self.indexes.slot(self.cells.alloc(), backing) else {
             return 0;
         };
-        let cells = self.cells.items();
         match start_at(
             &mut self.indexes.all,
             slot,
-            cells,
+            &self.cells,
             &self.backings,
             backing,
             x,

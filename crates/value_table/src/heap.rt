@@ -1,25 +1,25 @@
 //! Values as cells.
 
-ghost use Rattle.std.specs.Prelude.{◌≡◌, ◌<◌, ◌≤◌, ◌+◌, ◌^◌, [], length, vec_len, vec_capacity, slice_get, Some, IfOk, OnErr};
+ghost use Rattle.std.specs.Prelude.{◌≡◌, ◌<◌, ◌≤◌, ◌+◌, ◌^◌, [], length, vec_capacity, slice_get, Some, IfOk, OnErr};
 ghost use Rattle.std.specs.Borrow.{sem};
 ghost use Rattle.value_store.specs.Value.{int};
 ghost use Rattle.value_table.specs.Meaning.{meaning};
 ghost use Rattle.value_table.specs.Heaps.{IsCell, Adds, Found};
 ghost use Rattle.value_table.specs.Lending.{LendsCells};
 
-use crate::backing::Backing;
 use crate::backings::Backings;
 use crate::cell::Cell;
+use crate::chunks::Chunks;
 use crate::content::Content;
 use crate::indexes::Indexes;
 use crate::lengths::int_length;
-use crate::room::append;
+use crate::sequence::Sequence;
 use std::alloc::{AllocError, Global};
 
 /// Values, each named by its cell's place. None ever changes.
 #[derive(Drop)]
 pub(crate) struct Heap {
-    pub(crate) cells: Backing<Cell>,
+    pub(crate) cells: Sequence<Cell>,
     pub(crate) backings: Backings,
     /// For each cell one with an equal value, as far as was found: itself, or one before it. A cell
     /// whose word is missing has itself. There is room for a word of each cell.
@@ -36,7 +36,7 @@ impl Heap {
         ensures { IfOk result (λ h. IsHeap h × (heap_values h ≡ [])) }
     {
         Ok(Heap {
-            cells: Backing::new(alloc)?,
+            cells: Sequence::new(alloc)?,
             backings: Backings::new(alloc)?,
             same: Vec::new(alloc),
             indexes: Indexes::new(alloc),
@@ -64,7 +64,7 @@ impl Heap {
         ensures is { slice_get self.now.cells place ≡ Some result }
         ensures short { place < 2 ^ 63 }
     {
-        self.cells.items()[place as usize]
+        self.cells.at(place as usize)
     }
 
     /// One more cell.
@@ -77,7 +77,7 @@ impl Heap {
         ensures kept { OnErr result (IsAsBefore self.old self.new) }
     {
         let cells = room_for_cell(&mut self.cells, &mut self.same)?;
-        Ok(append(cells, cell))
+        Ok(cells.append(cell))
     }
 
     /// One more int.
@@ -97,17 +97,17 @@ impl Heap {
 
 /// The cells, with room for one more, and for its word.
 pub(crate) fn room_for_cell<'a>(
-    cells: &'a mut Backing<Cell>,
+    cells: &'a mut Sequence<Cell>,
     words: &mut Vec<u64>,
-) -> Result<&'a mut Vec<Cell>, AllocError>
+) -> Result<&'a mut Chunks<Cell>, AllocError>
     ensures* lent { sem 𝓛 (LendsCells cells.entry result) }
-    ensures cells { IfOk result (λ v. v.now.items ≡ cells.old) }
-    ensures room { IfOk result (λ v. vec_len v.now + 1 ≤ vec_capacity v.now) }
+    ensures cells { IfOk result (λ c. c.now.0 ≡ cells.old) }
+    ensures room { IfOk result (λ c. 0 < c.now.1) }
     ensures words { words.new.items ≡ words.old.items }
     ensures longer { vec_capacity words.old ≤ vec_capacity words.new }
     ensures word { IfOk result (λ _. length cells.old + 1 ≤ vec_capacity words.new) }
 {
     let count = cells.len() + 1;
     words.reserve(count.saturating_sub(words.len()))?;
-    cells.room(1)
+    cells.room()
 }

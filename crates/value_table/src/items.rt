@@ -12,7 +12,6 @@ use crate::cell::Cell;
 use crate::content::Content;
 use crate::heap::{Heap, room_for_cell};
 use crate::lengths::{joined_length, pushed_length};
-use crate::room::append;
 use std::alloc::AllocError;
 
 impl Heap {
@@ -31,7 +30,7 @@ impl Heap {
             depth: 1,
             json: 2,
         };
-        Ok(append(cells, cell))
+        Ok(cells.append(cell))
     }
 
     /// The list at `l` with the value at `x` behind its last item.
@@ -59,7 +58,7 @@ impl Heap {
             depth,
             json,
         };
-        Ok(append(cells, cell))
+        Ok(cells.append(cell))
     }
 
     /// The items of the list at `a` and then those of the list at `b`.
@@ -88,6 +87,6 @@ impl Heap {
             depth: first.depth.max(second.depth),
             json,
         };
-        Ok(append(cells, cell))
+        Ok(cells.append(cell))
     }
 }

@@ -5,6 +5,7 @@
 mod backing;
 mod backings;
 mod cell;
+mod chunks;
 mod content;
 mod documents;
 mod entries;
@@ -24,6 +25,7 @@ mod references;
 mod room;
 mod roots;
 mod search;
+mod sequence;
 mod seeing;
 mod table;
 mod text;

@@ -12,9 +12,9 @@ ghost use Rattle.value_store.specs.Keys.{AreOrdered};
 ghost use Rattle.value_table.specs.Meaning.{value_in};
 ghost use Rattle.value_table.specs.Heap.{heap_values};
 
-use crate::backing::Backing;
 use crate::content::Content;
 use crate::heap::Heap;
+use crate::sequence::Sequence;
 use std::alloc::AllocError;
 use value_store::Shape;
 
@@ -22,7 +22,7 @@ use value_store::Shape;
 #[derive(Drop)]
 pub(crate) struct References {
     pub(crate) heap: Heap,
-    pub(crate) places: Backing<u64>,
+    pub(crate) places: Sequence<u64>,
 }
 
 impl References {
@@ -44,10 +44,7 @@ impl References {
         if h == 0 {
             return None;
         }
-        match self.places.items().get((h - 1) as usize) {
-            Some(place) => Some(*place),
-            None => None,
-        }
+        self.places.get((h - 1) as usize)
     }
 
     /// The place of a value's cell.
@@ -81,7 +78,7 @@ impl References {
         ensures kept { OnErr result (AreAsBefore self.old self.new) }
     {
         let reference = self.count();
-        let places = self.places.room(1)?;
+        let places = self.places.room()?;
         let place = self.heap.add_text(s)?;
         places.push_reserved(place);
         Ok(reference)
@@ -106,7 +103,7 @@ impl References {
         ensures kept { OnErr result (AreAsBefore self.old self.new) }
     {
         let reference = self.count();
-        let places = self.places.room(1)?;
+        let places = self.places.room()?;
         let place = self.heap.new_map()?;
         places.push_reserved(place);
         Ok(reference)
@@ -124,7 +121,7 @@ impl References {
         let key = self.place(k);
         let value = self.place(x);
         let reference = self.count();
-        let places = self.places.room(1)?;
+        let places = self.places.room()?;
         let place = self.heap.put(map, key, value)?;
         places.push_reserved(place);
         Ok(reference)
@@ -142,7 +139,7 @@ impl References {
         let list = self.place(l);
         let item = self.place(x);
         let reference = self.count();
-        let places = self.places.room(1)?;
+        let places = self.places.room()?;
         let place = self.heap.push(list, item)?;
         places.push_reserved(place);
         Ok(reference)
@@ -156,7 +153,7 @@ impl References {
         ensures kept { OnErr result (AreAsBefore self.old self.new) }
     {
         let reference = self.count();
-        let places = self.places.room(1)?;
+        let places = self.places.room()?;
         let place = self.heap.add_int(n)?;
         places.push_reserved(place);
         Ok(reference)
@@ -170,7 +167,7 @@ impl References {
         ensures kept { OnErr result (AreAsBefore self.old self.new) }
     {
         let reference = self.count();
-        let places = self.places.room(1)?;
+        let places = self.places.room()?;
         let place = self.heap.new_list()?;
         places.push_reserved(place);
         Ok(reference)
@@ -187,7 +184,7 @@ impl References {
         let first = self.place(a);
         let second = self.place(b);
         let reference = self.count();
-        let places = self.places.room(1)?;
+        let places = self.places.room()?;
         let place = self.heap.join(first, second)?;
         places.push_reserved(place);
         Ok(reference)
@@ -204,7 +201,7 @@ impl References {
         let map = self.place(h);
         let key = self.heap.key(map, i);
         let reference = self.count();
-        let places = self.places.room(1)?;
+        let places = self.places.room()?;
         let place = self.heap.add_part(key)?;
         places.push_reserved(place);
         Ok(reference)

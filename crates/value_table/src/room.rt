@@ -1,17 +1,6 @@
 //! Growing in room that is there.
 
-ghost use Rattle.std.specs.Prelude.{◌≡◌, ◌≤◌, ◌<◌, ◌+◌, ◌-◌, [], ◌∷◌, ◌++◌, length, vec_len, vec_capacity, slice_range};
-
-/// Puts an item behind the last, and answers its place.
-pub(crate) fn append<T: Copy>(items: &mut Vec<T>, item: T) -> u64
-    requires { vec_len items.old < vec_capacity items.old }
-    ensures items { items.new.items ≡ items.old.items ++ item ∷ [] }
-    ensures place { result ≡ length items.old.items }
-{
-    let place = items.len() as u64;
-    items.push_reserved(item);
-    place
-}
+ghost use Rattle.std.specs.Prelude.{◌≡◌, ◌≤◌, ◌+◌, ◌-◌, ◌++◌, length, vec_len, vec_capacity, slice_range};
 
 /// Puts items behind the last.
 pub(crate) fn fill<T: Copy>(items: &mut Vec<T>, more: &[T])

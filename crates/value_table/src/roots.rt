@@ -10,10 +10,10 @@ ghost use Rattle.value_store.specs.Placing.{first_values};
 ghost use Rattle.value_store.specs.Plain.{plain_value};
 ghost use Rattle.value_table.specs.Start.{StartsWith, IsWelcome};
 
-use crate::backing::Backing;
 use crate::documents::{add_bool, add_document, add_null};
 use crate::heap::Heap;
 use crate::references::References;
+use crate::sequence::Sequence;
 use serde_json::Value;
 use std::alloc::{AllocError, Global};
 
@@ -35,7 +35,7 @@ fn first_references(alloc: Global) -> Result<References, AllocError>
     ensures { IfOk result (λ t. StartsWith t first_values) }
 {
     let mut heap = Heap::new(alloc)?;
-    let mut places = Backing::new(alloc)?;
+    let mut places = Sequence::new(alloc)?;
     places.push(add_null(&mut heap)?)?;
     places.push(add_bool(&mut heap, false)?)?;
     places.push(add_bool(&mut heap, true)?)?;

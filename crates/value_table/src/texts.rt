@@ -14,7 +14,6 @@ use crate::content::Content;
 use crate::heap::{Heap, room_for_cell};
 use crate::lengths::quoted_length;
 use crate::part::Part;
-use crate::room::append;
 use crate::text::text;
 use std::alloc::AllocError;
 
@@ -28,7 +27,7 @@ impl Heap {
     {
         let cells = room_for_cell(&mut self.cells, &mut self.same)?;
         let part = self.backings.add_text(s.as_bytes())?;
-        Ok(append(cells, text_cell(&self.backings, part)))
+        Ok(cells.append(text_cell(&self.backings, part)))
     }
 
     /// Puts the text of a key behind all others. It is no value.
@@ -53,7 +52,7 @@ impl Heap {
     {
         let cells = room_for_cell(&mut self.cells, &mut self.same)?;
         let part = self.backings.join_texts(first, second)?;
-        Ok(append(cells, text_cell(&self.backings, part)))
+        Ok(cells.append(text_cell(&self.backings, part)))
     }
 
     /// The text at `a`, or the list, and that at `b` behind it.

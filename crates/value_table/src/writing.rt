@@ -13,6 +13,7 @@ ghost use Rattle.value_table.specs.Heaps.{AreTexts};
 
 use crate::backings::Backings;
 use crate::cell::Cell;
+use crate::sequence::Sequence;
 use crate::content::Content;
 use crate::equality::parts_of;
 use crate::heap::Heap;
@@ -29,14 +30,14 @@ impl Heap {
         requires inside { place < length (heap_values self.now) }
         ensures { IfOk result (λ s. string_bytes s ≡ json_text (value_in (heap_values self.now) place)) }
     {
-        json_at(alloc, self.cells.items(), &self.backings, place)
+        json_at(alloc, &self.cells, &self.backings, place)
     }
 }
 
 /// What stands at a place as JSON.
 pub(crate) fn json_at(
     alloc: Global,
-    cells: &[Cell],
+    cells: &Sequence<Cell>,
     backings: &Backings,
     place: u64,
 ) -> Result<String, AllocError>
@@ -44,7 +45,8 @@ pub(crate) fn json_at(
     requires inside { place < length cells.now }
     ensures { (vs : List Value) → AreMeanings backings.now vs cells.now → IfOk result (λ s. string_bytes s ≡ json_text (value_in vs place)) }
 {
-    let room = Vec::with_capacity(alloc, cells[place as usize].json as usize)?;
+    let cell = cells.at(place as usize);
+    let room = Vec::with_capacity(alloc, cell.json as usize)?;
     let mut writer = Writer::new(room);
     write(cells, backings, &mut writer, place)?;
     let Ok(text) = String::from_utf8(writer.into_inner()) else {
@@ -55,7 +57,7 @@ pub(crate) fn json_at(
 
 // Writes what stands at a place. It goes as deep as the value.
 fn write(
-    cells: &[Cell],
+    cells: &Sequence<Cell>,
     backings: &Backings,
     writer: &mut Writer,
     place: u64,
@@ -65,7 +67,8 @@ fn write(
     ensures before { writer.new.before ≡ writer.old.before }
     ensures tokens { (vs : List Value) → AreMeanings backings.now vs cells.now → OnOk result (writer.new.tokens ≡ writer.old.tokens ++ value_tokens (value_in vs place)) }
 {
-    let content = cells[place as usize].content;
+    let cell = cells.at(place as usize);
+    let content = cell.content;
     open(backings, writer, content)?;
     let names = names(backings, content);
     let parts = parts_of(backings, content);

@@ -9,11 +9,12 @@ ghost use Rattle.value_table.specs.Equality.{AreContents, AreMeanings};
 
 use crate::backings::Backings;
 use crate::cell::Cell;
+use crate::sequence::Sequence;
 use crate::equality::walk::equal;
 
 /// Whether one of the cells at `places` has the value of the cell `x`.
 pub(crate) fn is_among(
-    cells: &[Cell],
+    cells: &Sequence<Cell>,
     backings: &Backings,
     same: &mut [u64],
     x: u64,

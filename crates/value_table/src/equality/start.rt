@@ -10,6 +10,7 @@ ghost use Rattle.value_table.specs.Index.{AreKnown, IsIndexed, AreIndexes, looke
 
 use crate::backings::Backings;
 use crate::cell::Cell;
+use crate::sequence::Sequence;
 use crate::equality::walk::first;
 use crate::index::Index;
 use crate::writing::json_at;
@@ -21,7 +22,7 @@ const LONGEST: u64 = 512;
 // What a value is looked up by: its JSON text. A long one is not written.
 fn text_of(
     alloc: Global,
-    cells: &[Cell],
+    cells: &Sequence<Cell>,
     backings: &Backings,
     place: u64,
 ) -> Result<String, AllocError>
@@ -29,7 +30,8 @@ fn text_of(
     requires inside { place < length cells.now }
     ensures { (vs : List Value) → AreKnown backings.now vs cells.now → IfOk result (λ s. string_bytes s ≡ looked_up_by (value_in vs place)) }
 {
-    if cells[place as usize].json > LONGEST {
+    let cell = cells.at(place as usize);
+    if cell.json > LONGEST {
         return Ok(String::new(alloc));
     }
     json_at(alloc, cells, backings, place)
@@ -38,7 +40,7 @@ fn text_of(
 // Enters the first `count` items of a backing in its index.
 fn enter(
     index: &mut Index,
-    cells: &[Cell],
+    cells: &Sequence<Cell>,
     backings: &Backings,
     backing: u64,
     count: u64,
@@ -63,7 +65,7 @@ fn enter(
 // first one that has its JSON text, or the end.
 fn start_in(
     index: &mut Index,
-    cells: &[Cell],
+    cells: &Sequence<Cell>,
     backings: &Backings,
     backing: u64,
     x: u64,
@@ -89,7 +91,7 @@ fn start_in(
 pub(crate) fn start_at(
     indexes: &mut Vec<Index>,
     slot: usize,
-    cells: &[Cell],
+    cells: &Sequence<Cell>,
     backings: &Backings,
     backing: u64,
     x: u64,

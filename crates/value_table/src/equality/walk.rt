@@ -9,13 +9,14 @@ ghost use Rattle.value_table.specs.Equality.{AreContents, AreMeanings, Compares}
 
 use crate::backings::Backings;
 use crate::cell::Cell;
+use crate::sequence::Sequence;
 use crate::content::Content;
 use crate::equality::alike::alike;
 use crate::equality::classes::{representative, unite};
 
 /// Whether the values of two cells are equal. Each two that are found equal are remembered, so that
 /// values with shared parts take about as many steps as they have cells. It goes as deep as the values.
-pub(crate) fn equal(cells: &[Cell], backings: &Backings, same: &mut [u64], a: u64, b: u64) -> bool
+pub(crate) fn equal(cells: &Sequence<Cell>, backings: &Backings, same: &mut [u64], a: u64, b: u64) -> bool
     requires contents { AreContents backings.now cells.now }
     requires left { a < length cells.now }
     requires right { b < length cells.now }
@@ -26,13 +27,13 @@ pub(crate) fn equal(cells: &[Cell], backings: &Backings, same: &mut [u64], a: u6
     if x == y {
         return true;
     }
-    let left = cells[x as usize].content;
-    let right = cells[y as usize].content;
-    if !alike(backings, left, right) {
+    let left = cells.at(x as usize);
+    let right = cells.at(y as usize);
+    if !alike(backings, left.content, right.content) {
         return false;
     }
-    let xs = parts_of(backings, left);
-    let ys = parts_of(backings, right);
+    let xs = parts_of(backings, left.content);
+    let ys = parts_of(backings, right.content);
     for i in 0..xs.len() {
         if !equal(cells, backings, same, xs[i], ys[i]) {
             return false;

@@ -1,15 +1,15 @@
-use Rattle.std.proofs.Common.{◌≡◌, ◌++◌, get_or, add-one, sym, ap, ap₂, ◌∙◌, arith}
+use Rattle.std.proofs.Common.{◌≡◌, ◌++◌, add-one, sym, ap, ap₂, ◌∙◌, arith}
 use Rattle.std.proofs.lemmas.Option.{get_or_from_slice_get}
 use Rattle.value_store.specs.Value as kind
 use Rattle.value_table.specs.Heads.{head, parts, texts_of, values_at}
 use Rattle.value_table.specs.Tokens.{value_tokens, opening, closing, row_tokens, head_keys}
-use Rattle.value_table.proofs.Walks.{part_before, content_here, value_here, some_cell}
+use Rattle.value_table.proofs.Walks.{part_before}
 use Rattle.value_table.proofs.Rows.{row_step, meaning_tokens, step_tokens, end_tokens, drop_end}
 use Rattle.value_table.proofs.writing.+write.Goals as goal
 
 pub write-requires : goal.write-requires
 write-requires t c =
-    let p = part_before _ c.args.cells.now _ _ _ c.loop-i.i 0 c.parts_of-parts.ensures c.requires.contents c.requires.inside (omega arith) in
+    let p = part_before _ c.args.cells.now _ _ _ c.loop-i.i 0 c.parts_of-parts.ensures c.requires.contents c.at-cell.ensures.value (omega arith) in
     (omega arith, (c.requires.contents, omega arith))
 
 pub loop-i-preserved : goal.loop-i-preserved
@@ -26,14 +26,13 @@ loop-i-preserved t c =
 pub returns-clause-tokens : goal.returns-clause-tokens
 returns-clause-tokens t c = λ vs m.
     let bs = c.args.backings.now in
-    let cells = c.args.cells.now in
     let names = c.names-names.result.now in
     let ps = c.parts_of-parts.result.now in
     let inv = c.loop-i.invariant.tokens vs m in
     let gone = drop_end ps c.loop-i.i (omega arith) in
     let here = rw gone at inv in
-    let content = (get_or cells c.args.place some_cell).content in
-    let meant = meaning_tokens bs vs c.args.place content (content_here bs cells c.args.place some_cell c.requires.contents c.requires.inside) in
+    let content = c.at-cell.result.content in
+    let meant = meaning_tokens bs vs c.args.place content (c.requires.contents c.args.place c.at-cell.result c.at-cell.ensures.value) in
     let rows : row_tokens (texts_of bs.bytes names) (values_at vs ps) ≡ row_tokens (head_keys (head bs content)) (values_at vs (parts bs content)) = ap₂ row_tokens c.names-names.ensures.keys (ap (values_at vs) c.parts_of-parts.ensures) in
-    let is = get_or_from_slice_get vs c.args.place _ kind.null (value_here bs vs cells c.args.place some_cell m c.requires.inside) in
+    let is = get_or_from_slice_get vs c.args.place _ kind.null (m c.args.place c.at-cell.result c.at-cell.ensures.value) in
     end_tokens _ _ _ _ _ _ _ here c.in_ok-close.ensures.tokens (ap value_tokens is ∙ meant ∙ ap (λ r. opening (head bs content) ++ (r ++ closing (head bs content))) (sym rows))

@@ -11,8 +11,8 @@ pub returns-then-not-alike : goal.returns-then-not-alike
 returns-then-not-alike t c = λ vs m s.
     let x = c.representative-x.ensures.value vs s in
     let y = c.representative-y.ensures.value vs x.0 in
-    let lx : c.representative-x.result < length c.args.cells.now = omega arith in
-    let ly : c.representative-y.result < length c.args.cells.now = omega arith in
+    let lx = c.at-left.ensures.value in
+    let ly = c.at-right.ensures.value in
     let first = c.representative-x.ensures.classes s.below in
     let found = both_found c.args.same.now c.representative-x.new.same c.representative-y.new.same c.args.a c.args.b c.representative-x.result c.representative-y.result first (c.representative-y.ensures.classes first.shorter.down) in
     record {
@@ -25,15 +25,15 @@ returns-then-not-alike t c = λ vs m s.
 
 pub bounds-ys-i : goal.bounds-ys-i
 bounds-ys-i t c =
-    let lx : c.representative-x.result < length c.args.cells.now = omega arith in
-    let ly : c.representative-y.result < length c.args.cells.now = omega arith in
+    let lx = c.at-left.ensures.value in
+    let ly = c.at-right.ensures.value in
     let l = same_long _ c.args.cells.now _ _ _ _ _ _ c.parts_of-xs.ensures c.parts_of-ys.ensures c.requires.contents lx ly (c.alike.ensures.0 c.if-not-alike.false) in
     omega arith
 
 pub equal-requires : goal.equal-requires
 equal-requires t c =
-    let lx : c.representative-x.result < length c.args.cells.now = omega arith in
-    let ly : c.representative-y.result < length c.args.cells.now = omega arith in
+    let lx = c.at-left.ensures.value in
+    let ly = c.at-right.ensures.value in
     let l = same_long _ c.args.cells.now _ _ _ _ _ _ c.parts_of-xs.ensures c.parts_of-ys.ensures c.requires.contents lx ly (c.alike.ensures.0 c.if-not-alike.false) in
     let p = part_before _ c.args.cells.now _ _ _ c.loop-i.i 0 c.parts_of-xs.ensures c.requires.contents lx (omega arith) in
     let q = part_before _ c.args.cells.now _ _ _ c.loop-i.i 0 c.parts_of-ys.ensures c.requires.contents ly (omega arith) in
@@ -45,8 +45,8 @@ returns-then-not-equal t c = λ vs m s.
     let y = c.representative-y.ensures.value vs x.0 in
     let inv = c.loop-i.invariant vs m s in
     let sub = c.equal.ensures vs m inv.known in
-    let lx : c.representative-x.result < length c.args.cells.now = omega arith in
-    let ly : c.representative-y.result < length c.args.cells.now = omega arith in
+    let lx = c.at-left.ensures.value in
+    let ly = c.at-right.ensures.value in
     let l = same_long _ c.args.cells.now _ _ _ _ _ _ c.parts_of-xs.ensures c.parts_of-ys.ensures c.requires.contents lx ly (c.alike.ensures.0 c.if-not-alike.false) in
     let p = part_before _ c.args.cells.now _ _ _ c.loop-i.i 0 c.parts_of-xs.ensures c.requires.contents lx (omega arith) in
     let q = part_before _ c.args.cells.now _ _ _ c.loop-i.i 0 c.parts_of-ys.ensures c.requires.contents ly (omega arith) in
@@ -64,8 +64,8 @@ pub loop-i-preserved : goal.loop-i-preserved
 loop-i-preserved t c = λ vs m s.
     let inv = c.loop-i.invariant vs m s in
     let sub = c.equal.ensures vs m inv.known in
-    let lx : c.representative-x.result < length c.args.cells.now = omega arith in
-    let ly : c.representative-y.result < length c.args.cells.now = omega arith in
+    let lx = c.at-left.ensures.value in
+    let ly = c.at-right.ensures.value in
     let l = same_long _ c.args.cells.now _ _ _ _ _ _ c.parts_of-xs.ensures c.parts_of-ys.ensures c.requires.contents lx ly (c.alike.ensures.0 c.if-not-alike.false) in
     let xs = c.parts_of-xs.result.now in
     let ys = c.parts_of-ys.result.now in
@@ -86,8 +86,8 @@ returns t c = λ vs m s.
     let x = c.representative-x.ensures.value vs s in
     let y = c.representative-y.ensures.value vs x.0 in
     let inv = c.loop-i.invariant vs m s in
-    let lx : c.representative-x.result < length c.args.cells.now = omega arith in
-    let ly : c.representative-y.result < length c.args.cells.now = omega arith in
+    let lx = c.at-left.ensures.value in
+    let ly = c.at-right.ensures.value in
     let l = same_long _ c.args.cells.now _ _ _ _ _ _ c.parts_of-xs.ensures c.parts_of-ys.ensures c.requires.contents lx ly (c.alike.ensures.0 c.if-not-alike.false) in
     let xs = c.parts_of-xs.result.now in
     let ys = c.parts_of-ys.result.now in

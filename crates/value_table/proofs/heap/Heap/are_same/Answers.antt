@@ -9,56 +9,47 @@ use Rattle.value_table.proofs.heap.Heap.are_same.Goals as goal
 
 pub equal-requires-clause-contents : goal.equal-requires-clause-contents
 equal-requires-clause-contents c =
-    let items : c.items.result.now ≡ c.args.self.now.cells = cc in
-    rw items (contents_of c.args.self.now.backings c.args.self.now.cells c.requires.heap.cells)
+    (contents_of c.args.self.now.backings c.args.self.now.cells c.requires.heap.cells)
 
 pub equal-requires-clause-left : goal.equal-requires-clause-left
 equal-requires-clause-left c =
-    let items : c.items.result.now ≡ c.args.self.now.cells = cc in
-    rw items (omega (arith, count_values c.args.self.now.backings c.args.self.now.cells))
+    (omega (arith, count_values c.args.self.now.backings c.args.self.now.cells))
 
 pub equal-requires-clause-right : goal.equal-requires-clause-right
 equal-requires-clause-right c =
-    let items : c.items.result.now ≡ c.args.self.now.cells = cc in
-    rw items (omega (arith, count_values c.args.self.now.backings c.args.self.now.cells))
+    (omega (arith, count_values c.args.self.now.backings c.args.self.now.cells))
 
 pub returns-clause-heap : goal.returns-clause-heap
 returns-clause-heap c =
-    let items : c.items.result.now ≡ c.args.self.now.cells = cc in
     let heap = c.args.self.now in
-    let m : AreMeanings heap.backings (heap_values heap) c.items.result.now = rw items (meanings_of heap.backings heap.cells c.requires.heap.cells) in
+    let m : AreMeanings heap.backings (heap_values heap) heap.cells = (meanings_of heap.backings heap.cells c.requires.heap.cells) in
     let s : AreSame (heap_values heap) c.deref_mut.result.now = rw c.deref_mut.ensures.value c.requires.heap.same in
     let after = c.equal.ensures (heap_values heap) m s in
     record { cells = c.requires.heap.cells; same = rw (with_items_is heap.same c.equal.new.same (c.equal.auto.same ∙ c.deref_mut.ensures.len)) after.known; room = c.requires.heap.room; indexes = c.requires.heap.indexes }
 
 pub returns-clause-answer : goal.returns-clause-answer
 returns-clause-answer c =
-    let items : c.items.result.now ≡ c.args.self.now.cells = cc in
     let heap = c.args.self.now in
-    let m : AreMeanings heap.backings (heap_values heap) c.items.result.now = rw items (meanings_of heap.backings heap.cells c.requires.heap.cells) in
+    let m : AreMeanings heap.backings (heap_values heap) heap.cells = (meanings_of heap.backings heap.cells c.requires.heap.cells) in
     let s : AreSame (heap_values heap) c.deref_mut.result.now = rw c.deref_mut.ensures.value c.requires.heap.same in
     let after = c.equal.ensures (heap_values heap) m s in
     let n = count_values heap.backings heap.cells in
-    let l = ap length items in
-    answer_is heap.backings (heap_values heap) c.items.result.now c.args.a c.args.b c.equal.result m (omega arith) (omega arith) after.right
+    answer_is heap.backings (heap_values heap) heap.cells c.args.a c.args.b c.equal.result m (omega arith) (omega arith) after.right
 
 pub returns-clause-stay : goal.returns-clause-stay
 returns-clause-stay c =
-    let items : c.items.result.now ≡ c.args.self.now.cells = cc in
     let heap = c.args.self.now in
-    let m : AreMeanings heap.backings (heap_values heap) c.items.result.now = rw items (meanings_of heap.backings heap.cells c.requires.heap.cells) in
+    let m : AreMeanings heap.backings (heap_values heap) heap.cells = (meanings_of heap.backings heap.cells c.requires.heap.cells) in
     let s : AreSame (heap_values heap) c.deref_mut.result.now = rw c.deref_mut.ensures.value c.requires.heap.same in
     let after = c.equal.ensures (heap_values heap) m s in
     rw (with_items_is heap.same c.equal.new.same (c.equal.auto.same ∙ c.deref_mut.ensures.len)) (subst (λ (old : List ℕ). ClassesStay old c.equal.new.same) c.deref_mut.ensures.value after.stay)
 
 pub returns-clause-one : goal.returns-clause-one
 returns-clause-one c = λ found.
-    let items : c.items.result.now ≡ c.args.self.now.cells = cc in
     let heap = c.args.self.now in
-    let m : AreMeanings heap.backings (heap_values heap) c.items.result.now = rw items (meanings_of heap.backings heap.cells c.requires.heap.cells) in
+    let m : AreMeanings heap.backings (heap_values heap) heap.cells = (meanings_of heap.backings heap.cells c.requires.heap.cells) in
     let s : AreSame (heap_values heap) c.deref_mut.result.now = rw c.deref_mut.ensures.value c.requires.heap.same in
     let after = c.equal.ensures (heap_values heap) m s in
     let words = c.requires.words in
-    let same_items = ap length items in
     let same_words = ap length c.deref_mut.ensures.value in
     rw (with_items_is heap.same c.equal.new.same (c.equal.auto.same ∙ c.deref_mut.ensures.len)) (after.one found (omega arith))

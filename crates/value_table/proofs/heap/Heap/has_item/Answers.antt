@@ -13,26 +13,26 @@ use Rattle.value_table.proofs.heap.Heap.has_item.Goals as goal
 pub is_among-requires-clause-contents : goal.is_among-requires-clause-contents
 is_among-requires-clause-contents c =
     let heap = c.start-start.new.self in
-    rw c.items.ensures.value (contents_of heap.backings heap.cells c.start-start.ensures.heap.cells)
+    (contents_of heap.backings heap.cells c.start-start.ensures.heap.cells)
 
 pub is_among-requires-clause-value : goal.is_among-requires-clause-value
 is_among-requires-clause-value c =
     let n = count_values c.args.self.now.backings c.args.self.now.cells in
     let m = ap length c.start-start.ensures.cells in
-    rw c.items.ensures.value (omega (arith, n, m))
+    (omega (arith, n, m))
 
 pub is_among-requires-clause-places : goal.is_among-requires-clause-places
 is_among-requires-clause-places c =
     let n = count_values c.args.self.now.backings c.args.self.now.cells in
     let rs = refs_at c.args.self.now.backings.lists c.args.backing c.args.count in
-    rw (c.items.ensures.value, c.start-start.ensures.cells, c.first.ensures, c.start-start.ensures.backings, ← n)
+    rw (c.start-start.ensures.cells, c.first.ensures, c.start-start.ensures.backings, ← n)
     (subst (AreBelow (length (heap_values c.args.self.now))) (sym (rest_is c.start-start.result rs)) (below_drop _ c.start-start.result rs c.requires.items.below))
 
 pub returns-clause-heap : goal.returns-clause-heap
 returns-clause-heap c =
     let heap = c.start-start.new.self in
     let h = c.start-start.ensures.heap in
-    let m : AreMeanings heap.backings (heap_values heap) c.items.result.now = rw c.items.ensures.value (meanings_of heap.backings heap.cells h.cells) in
+    let m : AreMeanings heap.backings (heap_values heap) heap.cells = (meanings_of heap.backings heap.cells h.cells) in
     let s : AreSame (heap_values heap) c.deref_mut.result.now = rw c.deref_mut.ensures.value h.same in
     let after = c.is_among.ensures (heap_values heap) m s in
     record { cells = h.cells; same = rw (with_items_is heap.same c.is_among.new.same (c.is_among.auto.same ∙ c.deref_mut.ensures.len)) after.0; room = h.room; indexes = h.indexes }
@@ -43,7 +43,7 @@ returns-clause-answer c =
     let old = c.args.self.now in
     let h = c.start-start.ensures.heap in
     let v : heap_values heap ≡ heap_values old = rw (c.start-start.ensures.backings, c.start-start.ensures.cells) refl in
-    let m : AreMeanings heap.backings (heap_values heap) c.items.result.now = rw c.items.ensures.value (meanings_of heap.backings heap.cells h.cells) in
+    let m : AreMeanings heap.backings (heap_values heap) heap.cells = (meanings_of heap.backings heap.cells h.cells) in
     let s : AreSame (heap_values heap) c.deref_mut.result.now = rw c.deref_mut.ensures.value h.same in
     let after = c.is_among.ensures (heap_values heap) m s in
     let there = ap (λ vs. has_item (value_in vs c.args.x) (items_at vs (drop c.start-start.result c.first.result.now))) v in

@@ -12,33 +12,33 @@ returns-in_default-clause-heap c =
     record { cells = h.cells; same = h.same; room = h.room; indexes = c.slot.ensures.kept c.args.self.now.backings (heap_values c.args.self.now) c.requires.items.inside h.indexes }
 
 pub start_at-requires-clause-contents : goal.start_at-requires-clause-contents
-start_at-requires-clause-contents c = rw c.items-cells.ensures.value (contents_of c.args.self.now.backings c.args.self.now.cells c.requires.heap.cells)
+start_at-requires-clause-contents c = (contents_of c.args.self.now.backings c.args.self.now.cells c.requires.heap.cells)
 
 pub start_at-requires-clause-value : goal.start_at-requires-clause-value
-start_at-requires-clause-value c = rw c.items-cells.ensures.value (omega (arith, count_values c.args.self.now.backings c.args.self.now.cells))
+start_at-requires-clause-value c = (omega (arith, count_values c.args.self.now.backings c.args.self.now.cells))
 
 pub start_at-requires-clause-range : goal.start_at-requires-clause-range
 start_at-requires-clause-range c =
     let n = count_values c.args.self.now.backings c.args.self.now.cells in
-    rw (c.items-cells.ensures.value, ← n) c.requires.items
+    rw (← n) c.requires.items
 
 pub returns-in-Ok-clause-heap : goal.returns-in-Ok-clause-heap
 returns-in-Ok-clause-heap c =
     let h = c.requires.heap in
     let heap = c.args.self.now in
-    let k : AreKnown heap.backings (heap_values heap) c.items-cells.result.now = rw c.items-cells.ensures.value (known_of heap.backings heap.cells h.cells) in
+    let k : AreKnown heap.backings (heap_values heap) heap.cells = (known_of heap.backings heap.cells h.cells) in
     record { cells = h.cells; same = h.same; room = h.room; indexes = c.start_at.ensures.indexed (heap_values heap) k (c.slot.ensures.kept heap.backings (heap_values heap) c.requires.items.inside h.indexes) }
 
 pub returns-in-Ok-clause-skips : goal.returns-in-Ok-clause-skips
 returns-in-Ok-clause-skips c =
     let h = c.requires.heap in
     let heap = c.args.self.now in
-    let k : AreKnown heap.backings (heap_values heap) c.items-cells.result.now = rw c.items-cells.ensures.value (known_of heap.backings heap.cells h.cells) in
+    let k : AreKnown heap.backings (heap_values heap) heap.cells = (known_of heap.backings heap.cells h.cells) in
     c.in-Ok.ensures.skips (heap_values heap) k (c.slot.ensures.kept heap.backings (heap_values heap) c.requires.items.inside h.indexes)
 
 pub returns-in-Err-clause-heap : goal.returns-in-Err-clause-heap
 returns-in-Err-clause-heap c =
     let h = c.requires.heap in
     let heap = c.args.self.now in
-    let k : AreKnown heap.backings (heap_values heap) c.items-cells.result.now = rw c.items-cells.ensures.value (known_of heap.backings heap.cells h.cells) in
+    let k : AreKnown heap.backings (heap_values heap) heap.cells = (known_of heap.backings heap.cells h.cells) in
     record { cells = h.cells; same = h.same; room = h.room; indexes = c.start_at.ensures.indexed (heap_values heap) k (c.slot.ensures.kept heap.backings (heap_values heap) c.requires.items.inside h.indexes) }

@@ -18,5 +18,5 @@ returns-clause-placed c =
     let vs = heap_values c.args.self.now.heap in
     let due = join_of (value_in vs c.place-first.result) (value_in vs c.place-second.result) in
     let same = joined_is c.args.self.now _ c.args.a c.args.b _ _ refl c.place-first.ensures.found c.place-second.ensures.found in
-    placed_as _ due (reference_values c.args.self.now) (named (heap_values c.join.new.self) c.push_reserved.new.self.items) (Ok c.count-reference.result) same
+    placed_as _ due (reference_values c.args.self.now) (named (heap_values c.join.new.self) c.push_reserved.new.self.0) (Ok c.count-reference.result) same
     (placed_put c.args.self.now c.join.new.self _ _ due c.in_ok-place.place c.count-reference.result c.requires.sound c.join.ensures.heap (is_due _ due same c.requires.kinds) c.in_ok-place.ensures.added c.in_ok-places.ensures.items c.push_reserved.ensures.items c.count-reference.ensures.count (join_appends (value_in vs c.place-first.result) (value_in vs c.place-second.result)))

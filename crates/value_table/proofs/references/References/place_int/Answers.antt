@@ -12,5 +12,5 @@ returns-clause-sound c = sound_put c.args.self.now c.add_int.new.self _ _ (Some 
 
 pub returns-clause-placed : goal.returns-clause-placed
 returns-clause-placed c =
-    subst (λ (z : ℤ). Places (reference_values c.args.self.now) (int z) (Ok c.count-reference.result) (named (heap_values c.add_int.new.self) c.push_reserved.new.self.items)) (to_z-of_z w64 c.args.n c.ranges.n)
+    subst (λ (z : ℤ). Places (reference_values c.args.self.now) (int z) (Ok c.count-reference.result) (named (heap_values c.add_int.new.self) c.push_reserved.new.self.0)) (to_z-of_z w64 c.args.n c.ranges.n)
     (placed_put c.args.self.now c.add_int.new.self _ _ (Some _) c.in_ok-place.place c.count-reference.result c.requires c.add_int.ensures.heap refl c.in_ok-place.ensures.added c.in_ok-places.ensures.items c.push_reserved.ensures.items c.count-reference.ensures.count refl)

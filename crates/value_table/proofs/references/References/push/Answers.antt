@@ -18,7 +18,7 @@ returns-clause-placed c =
     let vs = heap_values c.args.self.now.heap in
     let due = push_of (value_in vs c.place-list.result) (value_in vs c.place-item.result) in
     let same = pushed_is c.args.self.now _ c.args.l c.args.x _ _ refl c.place-list.ensures.found c.place-item.ensures.found in
-    placed_as _ due (reference_values c.args.self.now) (named (heap_values c.push.new.self) c.push_reserved.new.self.items) (Ok c.count-reference.result) same
+    placed_as _ due (reference_values c.args.self.now) (named (heap_values c.push.new.self) c.push_reserved.new.self.0) (Ok c.count-reference.result) same
     (placed_put c.args.self.now c.push.new.self _ _ due c.in_ok-place.place c.count-reference.result c.requires.sound c.push.ensures.heap (is_due _ due same c.requires.kinds) c.in_ok-place.ensures.added c.in_ok-places.ensures.items c.push_reserved.ensures.items c.count-reference.ensures.count (push_appends (value_in vs c.place-list.result) (value_in vs c.place-item.result)))
 
 pub returns-clause-shared : goal.returns-clause-shared

@@ -18,5 +18,5 @@ returns-clause-placed c =
     let vs = heap_values c.args.self.now.heap in
     let due = put_values (value_in vs c.place-map.result) (value_in vs c.place-key.result) (value_in vs c.place-value.result) in
     let same = put_is c.args.self.now _ c.args.m c.args.k c.args.x _ _ _ refl c.place-map.ensures.found c.place-key.ensures.found c.place-value.ensures.found in
-    placed_as _ due (reference_values c.args.self.now) (named (heap_values c.put.new.self) c.push_reserved.new.self.items) (Ok c.count-reference.result) same
+    placed_as _ due (reference_values c.args.self.now) (named (heap_values c.put.new.self) c.push_reserved.new.self.0) (Ok c.count-reference.result) same
     (placed_put c.args.self.now c.put.new.self _ _ due c.in_ok-place.place c.count-reference.result c.requires.sound c.put.ensures.heap (is_due _ due same c.requires.kinds) c.in_ok-place.ensures.added c.in_ok-places.ensures.items c.push_reserved.ensures.items c.count-reference.ensures.count (put_appends (value_in vs c.place-map.result) (value_in vs c.place-key.result) (value_in vs c.place-value.result)))

@@ -1,0 +1,46 @@
+-- Items in chunks.
+use Rattle.std.proofs.Common.{◌≡◌, ℕ, zero, suc, ◌+◌, ◌-◌, ◌*◌, ◌<◌, ◌≤◌, List, [], ◌∷◌, ◌++◌, length, get_or, refl, sym, ap, ◌∙◌, arith, length-append, append_assoc, append-nil}
+use Rattle.std.proofs.lemmas.List.{get_or_append_left, get_or-append_right}
+use Rattle.value_table.specs.Chunks.{joined, AreFull, AreChunks}
+
+pub length_joined : {A : Type 0} (xss : List (List A)) → AreFull xss → length (joined xss) ≡ 256 * length xss
+length_joined [] h = refl
+length_joined (xs ∷ xss) h = let e = length_joined xss h.1 in let f = h.0 in let g = length-append xs (joined xss) in omega (arith, e, f, g)
+
+pub joined_one : {A : Type 0} (xss : List (List A)) (xs : List A) → joined (xss ++ xs ∷ []) ≡ joined xss ++ xs
+joined_one [] xs = append-nil xs
+joined_one (ys ∷ xss) xs = ap (λ zs. ys ++ zs) (joined_one xss xs) ∙ sym (append_assoc ys (joined xss) xs)
+
+pub full_one : {A : Type 0} (xss : List (List A)) (xs : List A) → AreFull xss → length xs ≡ 256 → AreFull (xss ++ xs ∷ [])
+full_one [] xs h e = (e, tt)
+full_one (ys ∷ xss) xs h e = (h.0, full_one xss xs h.1 e)
+
+-- an item of a full chunk
+pub item_at : {A : Type 0} (xss : List (List A)) (ys : List A) (i j k : ℕ) (e : List A) (d : A) → AreFull xss → i < length xss → j < 256 → k ≡ 256 * i + j
+    → get_or (joined xss ++ ys) k d ≡ get_or (get_or xss i e) j d
+item_at [] ys i j k e d h low less is = absurd (omega arith)
+item_at {A} (xs ∷ xss) ys zero j k e d h low less is =
+    let f = h.0 in
+    let same : k ≡ j = omega arith in
+    ap (λ zs. get_or zs k d) (append_assoc xs (joined xss) ys) ∙ get_or_append_left xs (joined xss ++ ys) d k (omega (arith, f, same, less))
+    ∙ ap (λ n. get_or xs n d) same
+item_at {A} (xs ∷ xss) ys (suc i) j k e d h low less is =
+    ap (λ zs. get_or zs k d) (append_assoc xs (joined xss) ys) ∙ get_or-append_right xs (joined xss ++ ys) 256 k d h.0 (omega (arith, is))
+    ∙ item_at xss ys i j (k - 256) e d h.1 (omega (arith, low)) less (omega (arith, is))
+
+-- each full chunk has its number of items
+pub chunk_long : {A : Type 0} (xss : List (List A)) (i : ℕ) (e : List A) → AreFull xss → i < length xss → length (get_or xss i e) ≡ 256
+chunk_long [] i e h low = absurd (omega arith)
+chunk_long (xs ∷ xss) zero e h low = h.0
+chunk_long (xs ∷ xss) (suc i) e h low = chunk_long xss i e h.1 (omega (arith, low))
+
+-- the last items become a chunk
+pub closed : {A : Type 0} (xss yss : List (List A)) (xs : List A) → yss ≡ xss ++ xs ∷ [] → joined yss ++ [] ≡ joined xss ++ xs
+closed xss yss xs e = append-nil (joined yss) ∙ ap joined e ∙ joined_one xss xs
+
+pub chunks_closed : {A : Type 0} (xss yss : List (List A)) (xs : List A) → yss ≡ xss ++ xs ∷ [] → length xs ≡ 256 → length xss < 1125899906842624 → AreChunks xss xs
+    → AreChunks yss []
+chunks_closed xss yss xs e long few h =
+    let n = length-append xss (xs ∷ []) in
+    let m = ap length e in
+    record { full = rw e (full_one xss xs h.full long); few = omega (arith, n, m, few); short = omega arith }

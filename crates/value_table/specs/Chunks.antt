@@ -1,0 +1,18 @@
+-- Items in chunks.
+use Rattle.std.specs.Prelude.{◌≡◌, ◌≤◌, ℕ, List, [], ◌∷◌, ◌++◌, length}
+use Rattle.std.specs.List.{AllByRecursion}
+
+-- the items of all chunks, one chunk after the other
+abbrev pub joined : {A : Type 0} → List (List A) → List A
+joined [] = []
+joined (xs ∷ xss) = xs ++ joined xss
+
+-- each has 256 items
+abbrev pub AreFull : {A : Type 0} → List (List A) → Type 0
+AreFull xss = AllByRecursion (λ xs. length xs ≡ 256) xss
+
+-- full chunks, and the items behind them
+pub record AreChunks {A : Type 0} (xss : List (List A)) (last : List A) : Type 0 where
+  pub full : AreFull xss
+  pub few : length xss ≤ 1125899906842624
+  pub short : length last ≤ 256

@@ -1,0 +1,158 @@
+//! Items in chunks that copies share.
+
+ghost use Rattle.std.specs.Prelude.{◌≡◌, ◌≤◌, ◌<◌, ◌+◌, ◌^◌, [], ◌∷◌, ◌++◌, length, slice_index_or, slice_get, Some, IfOk, OnOk, OnErr};
+ghost use Rattle.value_table.specs.Chunks.{joined, AreChunks};
+
+use crate::backing::Backing;
+use std::alloc::{AllocError, Global};
+use std::marker::Model;
+use std::rc::Rc;
+
+/// How many items a chunk has.
+const CHUNK: usize = 256;
+/// How many full chunks there are at most, so that a count of items never wraps.
+const MOST: usize = 1 << 50;
+
+/// Items, and for how many more there is room.
+#[derive(Drop)]
+pub(crate) struct Chunks<T: Copy> {
+    /// Chunks of 256 items, which copies share. They never change.
+    full: Rc<Vec<Backing<T>>>,
+    /// The items behind them.
+    last: Vec<T>,
+}
+
+impl<T: Copy> Model for Chunks<T> {
+    ghost use Rattle.std.specs.Prelude.{List, ℕ, ◌++◌, ◌-◌, min, vec_len, vec_capacity};
+    ghost use Rattle.value_table.specs.Chunks.{joined, AreChunks};
+
+    ghost Value = { List T × ℕ };
+
+    ghost view = { λ c. (joined c.full.value.items ++ c.last.items, min 256 (vec_capacity c.last) - vec_len c.last) };
+
+    ghost invariant = { λ c. AreChunks c.full.value.items c.last.items };
+}
+
+impl<T: Copy> Chunks<T> {
+    pub(crate) fn new(alloc: Global) -> Result<Chunks<T>, AllocError>
+        ensures { IfOk result (λ c. c.0 ≡ []) }
+    {
+        let Ok(full) = Rc::new(alloc, Vec::new(alloc)) else {
+            return Err(AllocError);
+        };
+        Ok(Chunks {
+            full,
+            last: Vec::new(alloc),
+        })
+    }
+
+    pub(crate) fn alloc(&self) -> Global {
+        *self.full.allocator()
+    }
+
+    pub(crate) fn len(&self) -> usize
+        ensures count { result ≡ length self.now.0 }
+        ensures short { result < 2 ^ 63 }
+    {
+        count(&self.full[..], &self.last[..])
+    }
+
+    #[inline(always)]
+    pub(crate) fn at(&self, place: usize) -> T
+        requires { place < length self.now.0 }
+        ensures value { slice_get self.now.0 place ≡ Some result }
+        ensures short { place < 2 ^ 63 }
+    {
+        item(&self.full[..], &self.last[..], place)
+    }
+
+    /// The same items, with the full chunks shared.
+    pub(crate) fn copy(&self) -> Result<Chunks<T>, AllocError>
+        ensures { IfOk result (λ c. c.0 ≡ self.now.0) }
+    {
+        let full = self.full.clone()?;
+        let mut last = Vec::with_capacity(self.alloc(), self.last.len())?;
+        last.extend_from_slice(&self.last)?;
+        Ok(Chunks { full, last })
+    }
+
+    /// Makes room for one more item.
+    pub(crate) fn reserve(&mut self) -> Result<(), AllocError>
+        ensures items { self.new.0 ≡ self.old.0 }
+        ensures room { OnOk result (0 < self.new.1) }
+    {
+        if self.last.len() == CHUNK {
+            close(&mut self.full, &mut self.last)?;
+        }
+        self.last.reserve(1)?;
+        Ok(())
+    }
+
+    /// Puts an item behind the last, in room that is there.
+    pub(crate) fn push_reserved(&mut self, item: T)
+        requires { 0 < self.old.1 }
+        ensures items { self.new.0 ≡ self.old.0 ++ item ∷ [] }
+    {
+        self.last.push_reserved(item);
+    }
+
+    /// Puts an item behind the last, in room that is there, and answers its place.
+    pub(crate) fn append(&mut self, item: T) -> u64
+        requires { 0 < self.old.1 }
+        ensures items { self.new.0 ≡ self.old.0 ++ item ∷ [] }
+        ensures place { result ≡ length self.old.0 }
+    {
+        let place = self.len() as u64;
+        self.last.push_reserved(item);
+        place
+    }
+}
+
+// Puts the last items, as many as a chunk has, among the full chunks.
+fn close<T: Copy>(full: &mut Rc<Vec<Backing<T>>>, last: &mut Vec<T>) -> Result<(), AllocError>
+    requires { length last.old.items ≡ 256 }
+    ensures items { joined full.new.value.items ++ last.new.items ≡ joined full.old.value.items ++ last.old.items }
+    ensures chunks { AreChunks full.old.value.items last.old.items → AreChunks full.new.value.items last.new.items }
+    ensures ok { OnOk result (last.new.items ≡ []) }
+{
+    if full.len() >= MOST {
+        return Err(AllocError);
+    }
+    let chunk = Backing::of(*full.allocator(), last)?;
+    add(full, chunk)?;
+    last.clear();
+    Ok(())
+}
+
+fn add<T: Copy>(full: &mut Rc<Vec<Backing<T>>>, chunk: Backing<T>) -> Result<(), AllocError>
+    ensures ok { OnOk result (full.new.value.items ≡ full.old.value.items ++ chunk ∷ []) }
+    ensures err { OnErr result (full.new.value.items ≡ full.old.value.items) }
+{
+    let chunks = Rc::make_mut(full)?;
+    chunks.push(chunk)?;
+    Ok(())
+}
+
+fn count<T: Copy>(full: &[Backing<T>], last: &[T]) -> usize
+    requires { AreChunks full.now last.now }
+    ensures count { result ≡ length (joined full.now ++ last.now) }
+    ensures short { result < 2 ^ 63 }
+{
+    full.len() * CHUNK + last.len()
+}
+
+#[inline(always)]
+fn item<T: Copy>(full: &[Backing<T>], last: &[T], place: usize) -> T
+    requires chunks { AreChunks full.now last.now }
+    requires inside { place < length (joined full.now ++ last.now) }
+    ensures value { slice_get (joined full.now ++ last.now) place ≡ Some result }
+    ensures short { place < 2 ^ 63 }
+{
+    let chunk = place / CHUNK;
+    if chunk < full.len() {
+        let items = full[chunk].items();
+        return items[place % CHUNK];
+    }
+    let behind = place - full.len() * CHUNK;
+    last[behind]
+}
