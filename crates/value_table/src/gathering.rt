@@ -15,7 +15,6 @@ use crate::heap::{Heap, room_for_cell};
 use crate::lengths::{pushed_length, put_length, quoted_length};
 use crate::measure::Measure;
 use crate::part::Part;
-use crate::room::append;
 use crate::text::text;
 use std::alloc::AllocError;
 
@@ -31,7 +30,7 @@ impl Heap {
         ensures kept { OnErr result (IsAsBefore self.old self.new) }
     {
         let measure = self.list_measure(places);
-        let items = Backing::joined(self.cells.alloc(), places, &[])?;
+        let items = Backing::of(self.cells.alloc(), places)?;
         let cells = room_for_cell(&mut self.cells, &mut self.same)?;
         let backing = self.backings.add_items(items)?;
         let cell = Cell {
@@ -39,7 +38,7 @@ impl Heap {
             depth: measure.depth,
             json: measure.json,
         };
-        Ok(append(cells, cell))
+        Ok(cells.append(cell))
     }
 
     /// One more map, with these texts as its keys, and with the values that stand at these places.
@@ -54,7 +53,7 @@ impl Heap {
         ensures kept { OnErr result (IsAsBefore self.old self.new) }
     {
         let measure = self.map_measure(keys, places);
-        let items = Backing::joined(self.cells.alloc(), places, &[])?;
+        let items = Backing::of(self.cells.alloc(), places)?;
         let cells = room_for_cell(&mut self.cells, &mut self.same)?;
         let (row, backing) = self.backings.add_entries(keys, items)?;
         let cell = Cell {
@@ -62,7 +61,7 @@ impl Heap {
             depth: measure.depth,
             json: measure.json,
         };
-        Ok(append(cells, cell))
+        Ok(cells.append(cell))
     }
 
     // The measure of the list of the values at these places.
