@@ -13,11 +13,11 @@ ghost use Rattle.value_table.specs.Heaps.{AreTexts};
 
 use crate::backings::Backings;
 use crate::cell::Cell;
-use crate::sequence::Sequence;
 use crate::content::Content;
 use crate::equality::parts_of;
 use crate::heap::Heap;
 use crate::part::Part;
+use crate::sequence::Sequence;
 use crate::text::{keys, text};
 use json::Writer;
 use std::alloc::{AllocError, Global};

@@ -9,8 +9,8 @@ ghost use Rattle.value_table.specs.Equality.{AreContents, AreMeanings};
 
 use crate::backings::Backings;
 use crate::cell::Cell;
-use crate::sequence::Sequence;
 use crate::equality::walk::equal;
+use crate::sequence::Sequence;
 
 /// Whether one of the cells at `places` has the value of the cell `x`.
 pub(crate) fn is_among(

@@ -10,9 +10,9 @@ ghost use Rattle.value_table.specs.Index.{AreKnown, IsIndexed, AreIndexes, looke
 
 use crate::backings::Backings;
 use crate::cell::Cell;
-use crate::sequence::Sequence;
 use crate::equality::walk::first;
 use crate::index::Index;
+use crate::sequence::Sequence;
 use crate::writing::json_at;
 use std::alloc::{AllocError, Global};
 

@@ -9,14 +9,20 @@ ghost use Rattle.value_table.specs.Equality.{AreContents, AreMeanings, Compares}
 
 use crate::backings::Backings;
 use crate::cell::Cell;
-use crate::sequence::Sequence;
 use crate::content::Content;
 use crate::equality::alike::alike;
 use crate::equality::classes::{representative, unite};
+use crate::sequence::Sequence;
 
 /// Whether the values of two cells are equal. Each two that are found equal are remembered, so that
 /// values with shared parts take about as many steps as they have cells. It goes as deep as the values.
-pub(crate) fn equal(cells: &Sequence<Cell>, backings: &Backings, same: &mut [u64], a: u64, b: u64) -> bool
+pub(crate) fn equal(
+    cells: &Sequence<Cell>,
+    backings: &Backings,
+    same: &mut [u64],
+    a: u64,
+    b: u64,
+) -> bool
     requires contents { AreContents backings.now cells.now }
     requires left { a < length cells.now }
     requires right { b < length cells.now }

@@ -1,4 +1,4 @@
-use Rattle.std.proofs.Common.{◌≡◌, ◌+◌, ◌-◌, ◌*◌, ◌/◌, ◌%◌, ◌++◌, ◌∙◌, Some, length, length-append, get_or, sym, ap, arith}
+use Rattle.std.proofs.Common.{◌≡◌, ◌-◌, ◌*◌, ◌/◌, ◌%◌, ◌++◌, ◌∙◌, Some, length, length-append, get_or, sym, ap, arith}
 use Rattle.std.proofs.lemmas.List.{get_or-append_right}
 use Rattle.std.proofs.lemmas.Option.{slice_get-get_or}
 use Rattle.value_table.specs.Chunks.{joined}
@@ -17,7 +17,7 @@ returns-then-chunk-full-clause-value g c =
     let last = c.args.last.now in
     let r = c.index-items-place.result in
     let there = item_at full last (c.args.place / 256) (c.args.place % 256) c.args.place c.index-full-chunk.result r
-        c.requires.chunks.full (omega arith) (omega arith) (omega arith) in
+    c.requires.chunks.full (omega arith) (omega arith) (omega arith) in
     let here = ap (λ xs. get_or xs (c.args.place % 256) r) (c.items-items.ensures.value ∙ c.index-full-chunk.is) in
     slice_get-get_or (joined full ++ last) c.args.place r c.requires.inside ∙ ap (λ x. Some x) (there ∙ sym here ∙ sym c.index-items-place.is)
 
