@@ -2,9 +2,11 @@
 #![tactic(auto)]
 
 mod decoding;
+mod flattening;
 mod frame;
 pub mod laws;
 mod machine;
+mod slot;
 mod status;
 mod targets;
 mod word_text;
