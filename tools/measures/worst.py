@@ -1,0 +1,136 @@
+"""Reviews and sessions of the shapes that cost most, each at three sizes, ten times apart."""
+
+import os
+
+from measures.policies import ALLOWED, DENIED, policy
+from measures.runs import row
+
+# one run each, since some take seconds
+COUNT = 1
+
+SIZES = (1, 10, 100)
+
+# a container as clusters have them, of some 300 bytes
+CONTAINER = {
+    "name": "c",
+    "image": "registry.example.com/team/service:1.27.3",
+    "ports": [{"containerPort": 8080, "protocol": "TCP"}],
+    "resources": {"limits": {"cpu": "500m", "memory": "256Mi"}, "requests": {"cpu": "100m", "memory": "128Mi"}},
+    "env": [{"name": "LOG_LEVEL", "value": "info"}, {"name": "REGION", "value": "eu-west-1"}],
+}
+
+# places an int in each turn
+PLACING = """again:
+mov64 r1, 7
+call 3
+ja again
+"""
+
+# a list of the text at `object.t`, joined with itself so often as is asked for, and shown
+DOUBLING = """mov64 r1, 4
+mov64 r2, 0
+call 20
+mov64 r2, r0
+mov64 r1, 4
+call 7
+mov64 r7, r0
+call 16
+mov64 r1, r0
+mov64 r2, r7
+call 17
+mov64 r6, r0
+mov64 r8, {turns}
+again:
+mov64 r1, r6
+mov64 r2, r6
+call 11
+mov64 r6, r0
+add64 r8, -1
+jne64 r8, 0, again
+exit
+"""
+
+
+def timed(runs, name, given, words, lines="", statuses=(ALLOWED,)):
+    """A row of one run on files of so many bytes."""
+    seconds, memory = runs.best(words, lines, statuses, COUNT)
+    row(name, f"{given / 1_000_000:.2f} MB in {seconds:.2f} s", memory)
+
+
+def on_request(runs, name, expression, request, status=ALLOWED):
+    """A review of this request under a policy with this validation."""
+    path = policy(runs, "worst", [expression])
+    whole = {"apiVersion": "admission.k8s.io/v1", "kind": "AdmissionReview", "request": {"uid": "u", **request}}
+    review = runs.document("worst-review", whole)
+    words = ["review", "--policy", path, "--review", review, "--steps", "1000000000"]
+    timed(runs, name, os.path.getsize(review), words, statuses=(status,))
+
+
+def searches(runs):
+    """Each item of one list is searched in another: ints that are there, and texts that are not."""
+    expression = "oldObject.h.all(h, h in object.h)"
+    for size in SIZES:
+        count = 850 * size
+        ints = list(range(count))
+        on_request(runs, f"in, {count:,} ints", expression, {"object": {"h": ints}, "oldObject": {"h": ints}})
+    for size in SIZES:
+        count = 320 * size
+        old, new = ([f"{head}{place:08}" for place in range(count)] for head in "ab")
+        request = {"object": {"h": new}, "oldObject": {"h": old}}
+        on_request(runs, f"! in, {count:,} texts", expression.replace("h in", "!(h in").replace(".h)", ".h))"), request)
+
+
+def long_keys(runs):
+    """A long key that is named in each turn of a loop, and one whose beginning is compared."""
+    for size in SIZES:
+        length = 10_000 * size
+        thing = {"l": list(range(1_000)), "m": {"k" * length: 1}}
+        on_request(runs, f"a key of {length:,} bytes, 1,000 times", "object.l.all(x, object.m.all(k, true))", {"object": thing})
+    for size in SIZES:
+        expression = "object.containers.all(c, object.annotations.all(k, !k.startsWith('x/')))"
+        thing = {"containers": [CONTAINER] * (10 * size), "annotations": {"k" * (7_000 * size): "v"}}
+        on_request(runs, f"annotations in {10 * size:,} containers", expression, {"object": thing})
+
+
+def shapes(runs):
+    """Documents of many small maps, and of containers."""
+    for count in (1_900, 19_000, 190_000, 2_600_000):
+        on_request(runs, f"{count:,} maps of one key", "true", {"object": {"l": [{"": 0}] * count}})
+    for count in (36, 360, 3_600):
+        expression = "object.spec.containers.all(c, c.image.startsWith('registry.example.com/'))"
+        on_request(runs, f"{count:,} containers", expression, {"object": {"spec": {"containers": [CONTAINER] * count}}})
+
+
+def session(runs, name, image, lines, thing=None):
+    """A row of a session on these lines."""
+    words = ["debug", image]
+    given = len(lines)
+    if thing is not None:
+        review = runs.review("session", thing)
+        given += os.path.getsize(review)
+        words += ["--review", review]
+    timed(runs, name, given, words, lines)
+
+
+def sessions(runs):
+    """Sessions on programs that place values, on a compiled policy, and on long lines."""
+    image = runs.image("placing", PLACING)
+    for size in SIZES:
+        session(runs, f"{10_000 * size:,} steps that place", image, f"s {10_000 * size}\n")
+    path = policy(runs, "none", ["!object.items.exists(x, x == 1)"])
+    image = f"{runs.folder}/none.img"
+    runs.run(["compile", path, image])
+    for size in SIZES:
+        session(runs, f"c 1000000 over {1_000 * size:,} items", image, "c 1000000\n", {"items": list(range(2, 1_000 * size + 2))})
+    image = runs.image("doubling", DOUBLING.format(turns=14))
+    session(runs, "v of 268 MB", image, "c 1000\nv 25\n", {"t": "x" * 16_384})
+    for size in SIZES:
+        session(runs, f"a line of {500_000 * size:,} bytes", image, "x" * (500_000 * size) + "\n", {"t": "x"})
+
+
+def measure(runs):
+    """Each of them."""
+    searches(runs)
+    long_keys(runs)
+    shapes(runs)
+    sessions(runs)
