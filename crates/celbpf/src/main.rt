@@ -9,9 +9,8 @@ mod words;
 use debugger::Counting;
 use disk::Disk;
 use review_runner::exit_code;
-use std::io::{self, BufReader};
+use std::io;
 use std::process::ExitCode;
-use std::rt::Input;
 use words::words;
 
 fn main(rt: HostRuntime) -> ExitCode {
@@ -19,16 +18,8 @@ fn main(rt: HostRuntime) -> ExitCode {
         rt.alloc(),
         words(&rt),
         &mut Disk::new(&rt),
-        &mut Counting::new(buffered(&rt)),
+        &mut Counting::new(rt.reader()),
         &mut Counting::new(io::writer(&rt)),
         &mut Counting::new(rt.stderr()),
     )
-}
-
-/// Standard input behind a buffer, or read byte by byte where memory refuses one.
-fn buffered<R: AllocGlobal + Input>(rt: &R) -> BufReader<R::Reader> {
-    match BufReader::new(rt.alloc(), rt.reader()) {
-        Ok(input) => input,
-        Err(_) => BufReader::with_capacity(rt.alloc(), 0, rt.reader()).unwrap(),
-    }
 }
