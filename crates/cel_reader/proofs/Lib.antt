@@ -21,6 +21,7 @@ pub mod Completed
 pub mod Opened
 pub mod Places
 pub mod Told
+pub mod OneAnswer
 pub mod WellFormedTrees
 pub mod TreeLists
 pub mod Equal

@@ -61,13 +61,13 @@ unlexed e = Err e
 same_lexemes : (xs ys : List Lexeme) → lexed xs ≡ lexed ys → xs ≡ ys
 same_lexemes xs ys e = cc
 
-one_list : (source : List ℕ) (xs ys : List Lexeme) → Lexes source (Ok xs) → Lexes source (Ok ys) → xs ≡ ys
+pub one_list : (source : List ℕ) (xs ys : List Lexeme) → Lexes source (Ok xs) → Lexes source (Ok ys) → xs ≡ ys
 one_list source xs ys x y = same_lexemes xs ys (one_end source (Ok xs) (Ok ys) x y)
 
 not_both : (xs : List Lexeme) (e : ReadError) → lexed xs ≡ unlexed e → ⊥
 not_both xs e k = cc
 
-not_refused : {P : Type 0} (source : List ℕ) (xs : List Lexeme) (e : ReadError) → Lexes source (Ok xs) → Lexes source (Err e) → P
+pub not_refused : {P : Type 0} (source : List ℕ) (xs : List Lexeme) (e : ReadError) → Lexes source (Ok xs) → Lexes source (Err e) → P
 not_refused source xs e x y = absurd (not_both xs e (one_end source (Ok xs) (Err e) x y))
 
 moved : (xs ys : List Lexeme) (a : Tree) → xs ≡ ys → IsExpression 100 (spoken xs) a → IsExpression 100 (spoken ys) a

@@ -92,3 +92,9 @@ Placed source (Err (P4 place)) = (lexemes : List Lexeme) × Lexes source (Ok lex
 Placed source (Err (P5 place)) = (lexemes : List Lexeme) × Lexes source (Ok lexemes) × ToldAt (length source) lexemes (Err (P5 place))
 Placed source (Err (P6 place)) = Unit {0}
 Placed source (Err Memory) = Unit {0}
+
+-- what is answered where there is memory: it says of the text what is so, and where
+pub record IsAnswer (source : List ℕ) (r : Result Expr ReadError) : Type 0 where
+  pub some : r ≢ Err Memory
+  pub answers : Answers source r
+  pub placed : Placed source r

@@ -1,9 +1,11 @@
 -- The laws of the grammar.
-use Rattle.std.specs.Prelude.{◌≡◌, ◌≤◌, ◌↔◌, ℕ, List, length, true}
+use Rattle.std.specs.Prelude.{◌≡◌, ◌≤◌, ◌↔◌, ℕ, List, length, true, Result, Ok, Err}
 use Rattle.cel_tokens.specs.Token.{Word}
-use Rattle.cel_reader.specs.Tree.{Tree, Trees, Entries, trees, entries, tree_list, entry_list, tree_count, entry_count}
+use Rattle.cel_tokens.specs.declared.read_error.ReadError.{ReadError}
+use Rattle.cel_reader.specs.Tree.{Tree, Trees, Entries, view, trees, entries, tree_list, entry_list, tree_count, entry_count}
 use Rattle.cel_reader.specs.Equality.{same_tree}
-use Rattle.cel_reader.specs.Answers.{IsExpression}
+use Rattle.cel_reader.specs.Answers.{IsExpression, MisfitAt, DeepAt, IsAnswer}
+use Rattle.cel_reader.specs.declared.expr.Expr.{Expr}
 
 -- words are one expression at most, however many brackets and conditionals may be open
 abbrev pub HasOneTree : Type 0
@@ -12,6 +14,21 @@ HasOneTree = (room other : ℕ) (ws : List Word) (a b : Tree) → IsExpression r
 -- words that are an expression are the same one where more may be open
 abbrev pub KeepsWithMoreRoom : Type 0
 KeepsWithMoreRoom = (room more : ℕ) (ws : List Word) (a : Tree) → room ≤ more → IsExpression room ws a → IsExpression more ws a
+
+-- words go wrong behind one number of them, and in one way
+pub record GoesWrongOnce (ws : List Word) : Type 0 where
+  pub misfit : (count other : ℕ) → MisfitAt count ws → MisfitAt other ws → count ≡ other
+  pub deep : (count other : ℕ) → DeepAt count ws → DeepAt other ws → count ≡ other
+  pub not_both : (count other : ℕ) → MisfitAt count ws → DeepAt other ws → ⊥
+
+-- the tree of an answer, or its refusal
+abbrev pub tree_of : Result Expr ReadError → Result Tree ReadError
+tree_of (Ok e) = Ok (view e)
+tree_of (Err e) = Err e
+
+-- two answers to a text are one tree or one refusal, with its place
+abbrev pub HasOneAnswer : Type 0
+HasOneAnswer = (source : List ℕ) (a b : Result Expr ReadError) → IsAnswer source a → IsAnswer source b → tree_of a ≡ tree_of b
 
 -- trees are the list of them, and as many
 pub record TreesAreLists : Type 0 where

@@ -1,12 +1,21 @@
 //! The laws of the grammar, each proved as the contract of an empty function.
 
-ghost use Rattle.cel_reader.specs.Laws.{HasOneTree, KeepsWithMoreRoom, TreesAreLists, EntriesAreLists, TellsEqualTrees};
+ghost use Rattle.std.specs.Prelude.{List};
+ghost use Rattle.cel_tokens.specs.Token.{Word};
+ghost use Rattle.cel_reader.specs.Laws.{GoesWrongOnce, HasOneAnswer, HasOneTree, KeepsWithMoreRoom, TreesAreLists, EntriesAreLists, TellsEqualTrees};
 
 /// Words are one expression at most, and the same one where more brackets and conditionals may be
 /// open.
 pub fn one_tree()
     ensures one { HasOneTree }
     ensures kept { KeepsWithMoreRoom }
+{}
+
+/// But for want of memory a text has one answer, its tree or one refusal with its place. For words go
+/// wrong behind one number of them, and in one way.
+pub fn one_answer()
+    ensures place { (ws : List Word) → GoesWrongOnce ws }
+    ensures answer { HasOneAnswer }
 {}
 
 /// The parts of a list and of a map stand in a list, of the same number.

@@ -1,0 +1,111 @@
+-- A text has one answer.
+use Rattle.std.proofs.Common.{◌≡◌, ℕ, suc, ◌+◌, ◌<◌, ◌≤◌, List, [], ◌∷◌, ◌++◌, length, take, drop, Ok, Err, refl, sym, ◌∙◌, ap, subst, inl, inr, arith}
+use Rattle.std.proofs.lemmas.Bool.{cases_order}
+use Rattle.std.proofs.lemmas.List.{append_assoc, length-append, length-take, length-take-le, take-append-drop, take-append-le}
+use Rattle.cel_tokens.specs.Token.{Word, Lexeme}
+use Rattle.cel_tokens.specs.Lexis.{Lexes}
+use Rattle.cel_tokens.specs.declared.read_error.ReadError.{ReadError}
+use Rattle.cel_tokens.specs.declared.read_error.ReadError.TheVariants.{P1, P2, P3, P4, P5, P6, Memory}
+use Rattle.cel_tokens.proofs.OneReading.{one_end}
+use Rattle.cel_reader.specs.Tree.{view}
+use Rattle.cel_reader.specs.Look.{spoken}
+use Rattle.cel_reader.specs.Grammar.{Expression, One, Derives}
+use Rattle.cel_reader.specs.Answers.{place_at, Viable, MisfitAt, DeepAt, IsAnswer}
+use Rattle.cel_reader.specs.Laws.{GoesWrongOnce, HasOneAnswer}
+use Rattle.cel_reader.proofs.Told.{one_list, not_refused, only_of, same_error}
+
+-- ---- words
+
+-- of words that go on to an expression the first ones do
+fewer : (room few many : ℕ) (ws : List Word) → few ≤ many → many ≤ length ws → Viable room (take many ws) → Viable room (take few ws)
+fewer room few many ws h within v =
+    let rest = drop few (take many ws) in
+    let front : take few (take many ws) ≡ take few ws = sym (take-append-le few (take many ws) (drop many ws) (omega (arith, h, length-take-le many ws within))) ∙ ap (take few) (take-append-drop many ws) in
+    let both : take many ws ≡ take few ws ++ rest = sym (take-append-drop few (take many ws)) ∙ ap (λ (x : List Word). x ++ rest) front in
+    let all : take many ws ++ v.0 ≡ take few ws ++ (rest ++ v.0) = ap (λ (x : List Word). x ++ v.0) both ∙ append_assoc (take few ws) rest v.0 in
+    (rest ++ v.0, v.1, subst (λ (x : List Word). Derives Expression room x (One v.1) []) all v.2)
+
+-- more words than those before a misfit do not
+behind_misfit : (count many : ℕ) (ws : List Word) → count < many → many ≤ length ws → MisfitAt count ws → (room : ℕ) → Viable room (take many ws) → ⊥
+behind_misfit count many ws h within wrong room v = wrong.2 (omega (arith, h, within)) room (fewer room (suc count) many ws h within v)
+
+-- nor, with 100 open, more than those before one bracket too many
+behind_deep : (count many : ℕ) (ws : List Word) → count < many → many ≤ length ws → DeepAt count ws → Viable 100 (take many ws) → ⊥
+behind_deep count many ws h within wrong v = wrong.4 (fewer 100 (suc count) many ws h within v)
+
+-- that bracket is one of the words
+deep_within : (count : ℕ) (ws : List Word) → DeepAt count ws → count < length ws
+deep_within count ws wrong =
+    let more : length (take (suc count) ws) ≡ length (take count ws) + 1 = ap length wrong.1 ∙ length-append (take count ws) (wrong.0 ∷ []) in
+    omega (arith, more, length-take (suc count) ws, length-take count ws)
+
+module _ (ws : List Word) (count other : ℕ) where
+  misfit_once : MisfitAt count ws → MisfitAt other ws → count ≡ other
+  misfit_once a b = elim (cases_order count other) [
+    | inl e ↦ e
+    | inr (inl h) ↦ absurd (behind_misfit count other ws h b.0 a 100 b.1)
+    | inr (inr h) ↦ absurd (behind_misfit other count ws h a.0 b 100 a.1)
+  ]
+
+  deep_once : DeepAt count ws → DeepAt other ws → count ≡ other
+  deep_once a b = elim (cases_order count other) [
+    | inl e ↦ e
+    | inr (inl h) ↦ absurd (behind_deep count other ws h (omega (arith, deep_within other ws b)) a b.3)
+    | inr (inr h) ↦ absurd (behind_deep other count ws h (omega (arith, deep_within count ws a)) b a.3)
+  ]
+
+  misfit_not_deep : MisfitAt count ws → DeepAt other ws → ⊥
+  misfit_not_deep a b = elim (cases_order other count) [
+    | inl e ↦ behind_misfit count (suc other) ws (omega (arith, e)) (deep_within other ws b) a 101 b.5
+    | inr (inl h) ↦ behind_deep other count ws h a.0 b a.1
+    | inr (inr h) ↦ behind_misfit count (suc other) ws (omega (arith, h)) (deep_within other ws b) a 101 b.5
+  ]
+
+pub wrong_once : (ws : List Word) → GoesWrongOnce ws
+wrong_once ws = record { misfit = misfit_once ws; deep = deep_once ws; not_both = misfit_not_deep ws }
+
+-- ---- texts
+
+-- a text that is refused has no tokens, or they go wrong behind so many
+data IsWrong (source : List ℕ) : ReadError → Type 0 where
+  cut_off : {e : ReadError} → Lexes source (Err e) → IsWrong source e
+  misfit : (lexemes : List Lexeme) (count : ℕ) → Lexes source (Ok lexemes) → MisfitAt count (spoken lexemes) → IsWrong source (P4 (place_at (length source) (drop count lexemes)))
+  deep : (lexemes : List Lexeme) (count : ℕ) → Lexes source (Ok lexemes) → DeepAt count (spoken lexemes) → IsWrong source (P5 (place_at (length source) (drop count lexemes)))
+
+wrong : (source : List ℕ) (e : ReadError) → IsAnswer source (Err e) → IsWrong source e
+wrong source (P1 place) is = cut_off is.answers
+wrong source (P2 place) is = cut_off is.answers
+wrong source (P3 place) is = cut_off is.answers
+wrong source (P4 place) is = let at = is.placed.2 in subst (λ (n : ℕ). IsWrong source (P4 n)) (sym at.1) (misfit is.placed.0 at.0 is.placed.1 at.2)
+wrong source (P5 place) is = let at = is.placed.2 in subst (λ (n : ℕ). IsWrong source (P5 n)) (sym at.1) (deep is.placed.0 at.0 is.placed.1 at.2)
+wrong source (P6 place) is = cut_off is.answers
+wrong source Memory is = absurd (is.some refl)
+
+same_place : (source : List ℕ) (xs ys : List Lexeme) (count other : ℕ) → xs ≡ ys → count ≡ other → place_at (length source) (drop count xs) ≡ place_at (length source) (drop other ys)
+same_place source xs ys count other e f = ap (λ (n : ℕ). place_at (length source) (drop n xs)) f ∙ ap (λ (zs : List Lexeme). place_at (length source) (drop other zs)) e
+
+refused_once : (source : List ℕ) (e f : ReadError) → IsWrong source e → IsWrong source f → e ≡ f
+refused_once source e f (cut_off l) (cut_off m) = same_error e f (one_end source (Err e) (Err f) l m)
+refused_once source e f (cut_off l) (misfit ys m k b) = not_refused source ys e k l
+refused_once source e f (cut_off l) (deep ys m k b) = not_refused source ys e k l
+refused_once source e f (misfit xs n k a) (cut_off m) = not_refused source xs f k m
+refused_once source e f (misfit xs n k a) (misfit ys m l b) =
+    let is = one_list source xs ys k l in
+    ap P4 (same_place source xs ys n m is (misfit_once (spoken ys) n m (subst (λ (zs : List Lexeme). MisfitAt n (spoken zs)) is a) b))
+refused_once source e f (misfit xs n k a) (deep ys m l b) = absurd (misfit_not_deep (spoken ys) n m (subst (λ (zs : List Lexeme). MisfitAt n (spoken zs)) (one_list source xs ys k l) a) b)
+refused_once source e f (deep xs n k a) (cut_off m) = not_refused source xs f k m
+refused_once source e f (deep xs n k a) (misfit ys m l b) = absurd (misfit_not_deep (spoken xs) m n (subst (λ (zs : List Lexeme). MisfitAt m (spoken zs)) (one_list source ys xs l k) b) a)
+refused_once source e f (deep xs n k a) (deep ys m l b) =
+    let is = one_list source xs ys k l in
+    ap P5 (same_place source xs ys n m is (deep_once (spoken ys) n m (subst (λ (zs : List Lexeme). DeepAt n (spoken zs)) is a) b))
+
+pub one_refusal : (source : List ℕ) (e f : ReadError) → IsAnswer source (Err e) → IsAnswer source (Err f) → e ≡ f
+one_refusal source e f is also = refused_once source e f (wrong source e is) (wrong source f also)
+
+-- ---- answers
+
+pub one_answer : HasOneAnswer
+one_answer source (Ok x) (Ok y) is also = ap Ok (sym (only_of source (Ok y) also.answers is.answers.0 (view x) is.answers.1 is.answers.2))
+one_answer source (Ok x) (Err f) is also = absurd (also.some (ap Err (only_of source (Err f) also.answers is.answers.0 (view x) is.answers.1 is.answers.2)))
+one_answer source (Err e) (Ok y) is also = absurd (is.some (ap Err (only_of source (Err e) is.answers also.answers.0 (view y) also.answers.1 also.answers.2)))
+one_answer source (Err e) (Err f) is also = ap Err (one_refusal source e f is also)
