@@ -8,7 +8,7 @@ use Rattle.cel_tokens.specs.declared.read_error.ReadError.{ReadError}
 use Rattle.cel_tokens.specs.declared.read_error.ReadError.TheVariants.{P1, P2, P3, P4, P5, P6}
 use Rattle.cel_tokens.specs.declared.read_error.ReadError.TheVariants as read_error
 use Rattle.cel_reader.specs.Tree.{Tree}
-use Rattle.cel_reader.specs.Answers.{Answers}
+use Rattle.cel_reader.specs.Answers.{Answers, Placed}
 use Rattle.cel_macros.specs.CoreTree.{CoreTree, expanded}
 use Rattle.cel_macros.specs.CoreView.{core_view}
 use Rattle.cel_macros.specs.MacroFault.{MacroFault, ArgumentCount, IterationName, NoSelection, macro_fault, fault_error}
@@ -37,19 +37,19 @@ use Rattle.policy_glue.specs.declared.expression_error.ExpressionError.{Expressi
 use Rattle.policy_glue.specs.declared.expression_error.ExpressionError.TheVariants.{G1, G2, Unread, Unexpanded, Untyped}
 use Rattle.policy_glue.specs.declared.expression_error.ExpressionError.TheVariants as expression_error
 
-unread_by : (text : List ℕ) (e : ReadError) → Answers text (Err e) → Expands text (Err (from_reader e))
-unread_by text (P1 place) said = λ some scope. unread (P1 place) (λ no. cc) said
-unread_by text (P2 place) said = λ some scope. unread (P2 place) (λ no. cc) said
-unread_by text (P3 place) said = λ some scope. unread (P3 place) (λ no. cc) said
-unread_by text (P4 place) said = λ some scope. unread (P4 place) (λ no. cc) said
-unread_by text (P5 place) said = λ some scope. unread (P5 place) (λ no. cc) said
-unread_by text (P6 place) said = λ some scope. unread (P6 place) (λ no. cc) said
-unread_by text read_error.Memory said = λ some. absurd (some refl)
+unread_by : (text : List ℕ) (e : ReadError) → Answers text (Err e) → Placed text (Err e) → Expands text (Err (from_reader e))
+unread_by text (P1 place) said at = λ some scope. unread (P1 place) (record { some = λ no. cc; answers = said; placed = at })
+unread_by text (P2 place) said at = λ some scope. unread (P2 place) (record { some = λ no. cc; answers = said; placed = at })
+unread_by text (P3 place) said at = λ some scope. unread (P3 place) (record { some = λ no. cc; answers = said; placed = at })
+unread_by text (P4 place) said at = λ some scope. unread (P4 place) (record { some = λ no. cc; answers = said; placed = at })
+unread_by text (P5 place) said at = λ some scope. unread (P5 place) (record { some = λ no. cc; answers = said; placed = at })
+unread_by text (P6 place) said at = λ some scope. unread (P6 place) (record { some = λ no. cc; answers = said; placed = at })
+unread_by text read_error.Memory said at = λ some. absurd (some refl)
 
 -- the text is no expression
-pub unread_is : (text : List ℕ) (e : ReadError) (r : Result Core ExpressionError) → Answers text (Err e) → IsErr r → IsErrAnd r (λ x. x ≡ from_reader e) → Expands text r
-unread_is text e (Ok core) said err is = absurd (false≢true err)
-unread_is text e (Err x) said err is = subst (λ y. Expands text (Err y)) (sym is) (unread_by text e said)
+pub unread_is : (text : List ℕ) (e : ReadError) (r : Result Core ExpressionError) → Answers text (Err e) → Placed text (Err e) → IsErr r → IsErrAnd r (λ x. x ≡ from_reader e) → Expands text r
+unread_is text e (Ok core) said at err is = absurd (false≢true err)
+unread_is text e (Err x) said at err is = subst (λ y. Expands text (Err y)) (sym is) (unread_by text e said at)
 
 -- a macro is not well formed
 macros_judged : (scope : List Declaration) (a : Tree) (fault : MacroFault) → macro_fault a ≡ Some fault → expression_judged scope a ≡ Err (Unexpanded (fault_error fault))
@@ -111,7 +111,7 @@ mistyped_is scope text core e expands types = λ some. judged expands.0 e expand
 -- ---- a variable's expression
 
 refused_too : (scope : List Declaration) (text : List ℕ) (e : ExpressionError) → IsRefused (expression_judged scope) text e → IsRefused (variable_judged scope) text e
-refused_too scope text e (unread why some said) = unread why some said
+refused_too scope text e (unread why is) = unread why is
 refused_too scope text e (judged a why reads is) = judged a why reads (ap (with_depth (depth_in scope a)) is)
 
 pub variable_refused : (scope : List Declaration) (text : List ℕ) (e : ExpressionError) (r : Result (Core × CelType) ExpressionError) → Judges (expression_judged scope) text (Err e) → IsErr r → IsErrAnd r (λ x. x ≡ e) → Judges (variable_judged scope) text r

@@ -2,7 +2,7 @@
 use Rattle.std.proofs.Common.{◌≡◌, ℕ, List, [], ◌∷◌, ◌++◌, length, Option, Some, None, Result, Ok, Err, refl, sym, ap, ◌∙◌, subst}
 use Rattle.cel_reader.specs.Tree.{Tree}
 use Rattle.cel_types.specs.Declarations.{Declaration}
-use Rattle.policy_glue.specs.Causes.{HasOneAnswer, HasOneImage, compile_cause, settled}
+use Rattle.policy_glue.specs.OneAnswer.{HasOneAnswer, HasOneImage}
 use Rattle.policy_glue.specs.Checking.{ConditionsEnd, Ends, IsMessage, IsNoneOf, IsOneOf, IsNoRule, IsNoVariable, IsRule, IsVariable, PartsEnd, RefusesCondition, RefusesRule, RefusesVariable, TakesCondition, TakesRule, TakesVariable, ValidationsEnd, VariablesEnd, scope_after, texts, truths, variable_judged}
 use Rattle.policy_glue.specs.Checking as checking
 use Rattle.policy_glue.specs.Compiled.{program_image}
@@ -17,22 +17,22 @@ use Rattle.policy_glue.proofs.OneExpression.{none_once, not_none, not_refused, o
 
 -- ---- answers
 
-taken_is : {A : Type 0} (x y : A) → settled (Ok x) ≡ settled (Ok y) → x ≡ y
+taken_is : {A : Type 0} (x y : A) → ◌≡◌ {A = Result A CompileError} (Ok x) (Ok y) → x ≡ y
 taken_is x y is = cc
 
-not_both : {A : Type 0} (x : A) (e : CompileError) → settled (Ok x) ≡ settled (Err e) → ⊥
+not_both : {A : Type 0} (x : A) (e : CompileError) → ◌≡◌ {A = Result A CompileError} (Ok x) (Err e) → ⊥
 not_both x e is = cc
 
-cause_is : {A B : Type 0} (e f : CompileError) → settled {A = A} (Err e) ≡ settled (Err f) → settled {A = B} (Err e) ≡ settled (Err f)
-cause_is e f is = let same : compile_cause e ≡ compile_cause f = cc in ap Err same
+refusal_is : {A B : Type 0} (e f : CompileError) → ◌≡◌ {A = Result A CompileError} (Err e) (Err f) → ◌≡◌ {A = Result B CompileError} (Err e) (Err f)
+refusal_is e f is = let same : e ≡ f = cc in ap Err same
 
 -- ---- lists of parts
 
 module _ {A B : Type 0} (Takes : List B → A → B → Type 0) (Refuses : List B → A → CompileError → Type 0)
     (takes_once : (taken : List B) (part : A) (x y : B) → Takes taken part x → Takes taken part y → x ≡ y)
     (takes_or_refuses : (taken : List B) (part : A) (x : B) (e : CompileError) → Takes taken part x → Refuses taken part e → ⊥)
-    (refuses_once : (taken : List B) (part : A) (e f : CompileError) → Refuses taken part e → Refuses taken part f → compile_cause e ≡ compile_cause f) where
-  ends_once : (taken : List B) (parts : List A) (r s : Result (List B) CompileError) → Ends Takes Refuses taken parts r → Ends Takes Refuses taken parts s → settled r ≡ settled s
+    (refuses_once : (taken : List B) (part : A) (e f : CompileError) → Refuses taken part e → Refuses taken part f → e ≡ f) where
+  ends_once : (taken : List B) (parts : List A) (r s : Result (List B) CompileError) → Ends Takes Refuses taken parts r → Ends Takes Refuses taken parts s → r ≡ s
   ends_once taken [] r s checking.over checking.over = refl
   ends_once taken (part ∷ more) r s (checking.refused e because) (checking.refused f also) = ap Err (refuses_once taken part e f because also)
   ends_once taken (part ∷ more) r s (checking.refused e because) (checking.next y takes ends) = absurd (takes_or_refuses taken part y e takes because)
@@ -49,11 +49,11 @@ variable_once scope n x y is also =
     let tree : x.expression ≡ y.expression = reads_once n.expression x.expression y.expression is.tree.reads also.tree.reads in
     λ i. record { name = name i; expression = tree i }
 
-no_variable_once : (scope : List Declaration) (place : ℕ) (text : List ℕ) (e f : CompileError) → IsNoVariable scope place text e → IsNoVariable scope place text f → compile_cause e ≡ compile_cause f
+no_variable_once : (scope : List Declaration) (place : ℕ) (text : List ℕ) (e f : CompileError) → IsNoVariable scope place text e → IsNoVariable scope place text f → e ≡ f
 no_variable_once scope place text e f refused also =
-    ap compile_cause refused.is ∙ ap (K6 Variable place) (refused_once (variable_judged scope) text refused.cause also.cause refused.because also.because) ∙ sym (ap compile_cause also.is)
+    refused.is ∙ ap (K6 Variable place) (refused_once (variable_judged scope) text refused.cause also.cause refused.because also.because) ∙ sym also.is
 
-variables_once : (ns : List Named) (r s : Result (List VariableTree) CompileError) → VariablesEnd ns r → VariablesEnd ns s → settled r ≡ settled s
+variables_once : (ns : List Named) (r s : Result (List VariableTree) CompileError) → VariablesEnd ns r → VariablesEnd ns s → r ≡ s
 variables_once ns r s ends also =
     ends_once TakesVariable RefusesVariable
     (λ taken n x y. variable_once (scope_after taken) n x y)
@@ -63,7 +63,7 @@ variables_once ns r s ends also =
 
 -- ---- conditions
 
-conditions_once : (ns : List Named) (r s : Result (List Tree) CompileError) → ConditionsEnd ns r → ConditionsEnd ns s → settled r ≡ settled s
+conditions_once : (ns : List Named) (r s : Result (List Tree) CompileError) → ConditionsEnd ns r → ConditionsEnd ns s → r ≡ s
 conditions_once ns r s ends also =
     ends_once TakesCondition RefusesCondition
     (λ taken n x y. one_of_once truths [] n.expression x y)
@@ -100,14 +100,14 @@ module _ (scope : List Declaration) where
   some_same : (s t : List ℕ) (o : Option (List ℕ)) → o ≡ Some s → o ≡ Some t → s ≡ t
   some_same s t o is also = cc
 
-  no_rule_once : (place : ℕ) (n : Rule) (e f : CompileError) → IsNoRule scope place n e → IsNoRule scope place n f → compile_cause e ≡ compile_cause f
+  no_rule_once : (place : ℕ) (n : Rule) (e f : CompileError) → IsNoRule scope place n e → IsNoRule scope place n f → e ≡ f
   no_rule_once place n e f (checking.expression x none) (checking.expression y other) = none_once truths scope n.expression K7 Validation place x y none other
   no_rule_once place n e f (checking.expression x none) (checking.message b text y one is other) = absurd (not_none truths scope n.expression K7 Validation place b x one none)
   no_rule_once place n e f (checking.message a text x one is none) (checking.expression y other) = absurd (not_none truths scope n.expression K7 Validation place a y one other)
   no_rule_once place n e f (checking.message a text x one is none) (checking.message b source y two also other) =
       none_once texts scope source K9 Message place x y (subst (λ (t : List ℕ). IsNoneOf texts K9 Message place scope t x) (some_same text source n.message_expression is also) none) other
 
-  validations_once : (ns : List Rule) (r s : Result (List RuleTree) CompileError) → ValidationsEnd scope ns r → ValidationsEnd scope ns s → settled r ≡ settled s
+  validations_once : (ns : List Rule) (r s : Result (List RuleTree) CompileError) → ValidationsEnd scope ns r → ValidationsEnd scope ns s → r ≡ s
   validations_once ns r s ends also =
       ends_once (TakesRule scope) (RefusesRule scope)
       (λ taken n x y. rule_once n x y)
@@ -122,7 +122,7 @@ module _ (p : Rules) where
   scoped vs ws r v w ends = subst (λ (us : List VariableTree). ValidationsEnd (scope_after us) p.validations r) (taken_is vs ws (variables_once p.variables (Ok vs) (Ok ws) v w)) ends
 
   rules_once : (vs ws : List VariableTree) (r s : Result (List RuleTree) CompileError) → VariablesEnd p.variables (Ok vs) → VariablesEnd p.variables (Ok ws)
-      → ValidationsEnd (scope_after vs) p.validations r → ValidationsEnd (scope_after ws) p.validations s → settled r ≡ settled s
+      → ValidationsEnd (scope_after vs) p.validations r → ValidationsEnd (scope_after ws) p.validations s → r ≡ s
   rules_once vs ws r s v w ends also = validations_once (scope_after ws) p.validations r s (scoped vs ws r v w ends) also
 
   no_variables : (vs : List VariableTree) (e : CompileError) → VariablesEnd p.variables (Ok vs) → VariablesEnd p.variables (Err e) → ⊥
@@ -134,18 +134,18 @@ module _ (p : Rules) where
   tree_of : List VariableTree → List Tree → List RuleTree → PolicyTree
   tree_of vs cs rs = record { variables = vs; conditions = cs; validations = rs }
 
-  parts_once : (r s : Result PolicyTree CompileError) → PartsEnd p r → PartsEnd p s → settled r ≡ settled s
-  parts_once r s (checking.in_variables e v) (checking.in_variables f w) = cause_is e f (variables_once p.variables (Err e) (Err f) v w)
+  parts_once : (r s : Result PolicyTree CompileError) → PartsEnd p r → PartsEnd p s → r ≡ s
+  parts_once r s (checking.in_variables e v) (checking.in_variables f w) = refusal_is e f (variables_once p.variables (Err e) (Err f) v w)
   parts_once r s (checking.in_variables e v) (checking.in_conditions ws f w d) = absurd (no_variables ws e w v)
   parts_once r s (checking.in_variables e v) (checking.in_validations ws ds f w d y) = absurd (no_variables ws e w v)
   parts_once r s (checking.in_variables e v) (checking.taken ws ds ys w d y) = absurd (no_variables ws e w v)
   parts_once r s (checking.in_conditions vs e v c) (checking.in_variables f w) = absurd (no_variables vs f v w)
-  parts_once r s (checking.in_conditions vs e v c) (checking.in_conditions ws f w d) = cause_is e f (conditions_once p.conditions (Err e) (Err f) c d)
+  parts_once r s (checking.in_conditions vs e v c) (checking.in_conditions ws f w d) = refusal_is e f (conditions_once p.conditions (Err e) (Err f) c d)
   parts_once r s (checking.in_conditions vs e v c) (checking.in_validations ws ds f w d y) = absurd (no_conditions ds e d c)
   parts_once r s (checking.in_conditions vs e v c) (checking.taken ws ds ys w d y) = absurd (no_conditions ds e d c)
   parts_once r s (checking.in_validations vs cs e v c x) (checking.in_variables f w) = absurd (no_variables vs f v w)
   parts_once r s (checking.in_validations vs cs e v c x) (checking.in_conditions ws f w d) = absurd (no_conditions cs f c d)
-  parts_once r s (checking.in_validations vs cs e v c x) (checking.in_validations ws ds f w d y) = cause_is e f (rules_once vs ws (Err e) (Err f) v w x y)
+  parts_once r s (checking.in_validations vs cs e v c x) (checking.in_validations ws ds f w d y) = refusal_is e f (rules_once vs ws (Err e) (Err f) v w x y)
   parts_once r s (checking.in_validations vs cs e v c x) (checking.taken ws ds ys w d y) = absurd (not_both ys e (sym (rules_once vs ws (Err e) (Ok ys) v w x y)))
   parts_once r s (checking.taken vs cs xs v c x) (checking.in_variables f w) = absurd (no_variables vs f v w)
   parts_once r s (checking.taken vs cs xs v c x) (checking.in_conditions ws f w d) = absurd (no_conditions cs f c d)
@@ -162,12 +162,12 @@ module _ (p : Rules) where
   not_taken : (t : PolicyTree) (e : CompileError) → PartsEnd p (Ok t) → PartsEnd p (Err e) → ⊥
   not_taken t e parts also = not_both t e (parts_once (Ok t) (Err e) parts also)
 
-  compiled_once : (r s : Result PolicyTree CompileError) → Compiles p r → Compiles p s → settled r ≡ settled s
+  compiled_once : (r s : Result PolicyTree CompileError) → Compiles p r → Compiles p s → r ≡ s
   compiled_once r s (limits.refused e parts) (limits.refused f also) = parts_once (Err e) (Err f) parts also
   compiled_once r s (limits.refused e parts) (limits.too_large u f also above) = absurd (not_taken u e also parts)
   compiled_once r s (limits.refused e parts) (limits.compiled u also fits) = absurd (not_taken u e also parts)
   compiled_once r s (limits.too_large t e parts above) (limits.refused f also) = absurd (not_taken t f parts also)
-  compiled_once r s (limits.too_large t e parts above) (limits.too_large u f also beyond) = let same = ap excess (trees_once t u parts also) in let cause : e ≡ f = cc in ap (λ (x : CompileError). settled (Err x)) cause
+  compiled_once r s (limits.too_large t e parts above) (limits.too_large u f also beyond) = let same = ap excess (trees_once t u parts also) in let cause : e ≡ f = cc in ap Err cause
   compiled_once r s (limits.too_large t e parts above) (limits.compiled u also fits) = let same = ap excess (trees_once t u parts also) in absurd (cc)
   compiled_once r s (limits.compiled t parts fits) (limits.refused f also) = absurd (not_taken t f parts also)
   compiled_once r s (limits.compiled t parts fits) (limits.too_large u f also above) = let same = ap excess (trees_once t u parts also) in absurd (cc)

@@ -1,10 +1,9 @@
 -- Which expressions a policy may have, and the first that is refused: variables, conditions and validations, each in its
 -- order, a message expression behind its validation, and each judged whole before the next.
-use Rattle.std.specs.Prelude.{◌≡◌, ◌≢◌, ℕ, true, false, List, [], ◌∷◌, ◌++◌, length, fold, nat_lt, Option, Some, None, Result, Ok, Err, if◌then◌else◌}
+use Rattle.std.specs.Prelude.{◌≡◌, ℕ, true, false, List, [], ◌∷◌, ◌++◌, length, fold, nat_lt, Option, Some, None, Result, Ok, Err, if◌then◌else◌}
 use Rattle.cel_tokens.specs.declared.read_error.ReadError.{ReadError}
-use Rattle.cel_tokens.specs.declared.read_error.ReadError.TheVariants as read_error
 use Rattle.cel_reader.specs.Tree.{Tree}
-use Rattle.cel_reader.specs.Answers.{Answers, HasTokens, IsExpression}
+use Rattle.cel_reader.specs.Answers.{HasTokens, IsAnswer, IsExpression}
 use Rattle.cel_macros.specs.CoreTree.{expanded}
 use Rattle.cel_macros.specs.MacroFault.{MacroFault, macro_fault, fault_error}
 use Rattle.cel_types.specs.Declarations.{Declaration, declared, depths_of, scope_of}
@@ -78,7 +77,7 @@ pub record IsTaken (judge : Tree → Result CelType ExpressionError) (text : Lis
 
 -- the text is no expression, or is refused as the tree that it is
 pub data IsRefused (judge : Tree → Result CelType ExpressionError) (text : List ℕ) : ExpressionError → Type 0 where
-  unread : (e : ReadError) → e ≢ read_error.Memory → Answers text (Err e) → IsRefused judge text (Unread e)
+  unread : (e : ReadError) → IsAnswer text (Err e) → IsRefused judge text (Unread e)
   judged : (a : Tree) (e : ExpressionError) → Reads text a → judge a ≡ Err e → IsRefused judge text e
 
 -- conditions and validations are bools, message expressions texts, each as far as is known

@@ -1,6 +1,5 @@
 pub mod Budget
 pub mod BudgetRows
-pub mod Causes
 pub mod Checked
 pub mod Checking
 pub mod CompileErrors
@@ -12,6 +11,7 @@ pub mod Emission
 pub mod Evaluation
 pub mod Layout
 pub mod Limits
+pub mod OneAnswer
 pub mod Policy
 pub mod Program
 pub mod ProgramCode

@@ -1,8 +1,8 @@
 //! Policies, verdicts and responses worked by hand, and what is proved of policies and of their code, each
 //! the clause of a function that does nothing.
 ghost use Rattle.policy_glue.specs.BudgetRows.{BudgetRowsStand};
-ghost use Rattle.policy_glue.specs.Causes.{HasOneAnswer, HasOneImage};
 ghost use Rattle.policy_glue.specs.DecisionRows.{CheckingRowsStand, DecisionRowsStand};
+ghost use Rattle.policy_glue.specs.OneAnswer.{HasOneAnswer, HasOneImage};
 ghost use Rattle.policy_glue.specs.ProgramLaws.{PolicyDecides};
 ghost use Rattle.policy_glue.specs.ProgramTrees.{ProgramDecides, ProgramIsCode, ProgramIsShort, ProgramStops};
 ghost use Rattle.policy_glue.specs.RunRows.{RunRowsStand};
@@ -69,8 +69,7 @@ pub fn program_decides()
     decodes_spelling();
 }
 
-/// A policy has one answer, its trees or the first cause for which it is refused, and one image. P4 and P5
-/// are one cause, at whatever byte.
+/// A policy has one answer, its trees or its first refusal, and one image.
 pub fn compiles_once()
     ensures answer { HasOneAnswer }
     ensures image { HasOneImage }

@@ -1,13 +1,13 @@
 -- No step changes the image.
 use Rattle.std.proofs.Common.{◌≡◌, ℕ, zero, suc, Bool, true, false, Option, Some, None, Result, Ok, Err, refl, ◌∙◌}
-use Rattle.std.specs.Prelude.{ℤ, nat_lt, length, if◌then◌else◌}
+use Rattle.std.specs.Prelude.{nat_lt, length, if◌then◌else◌}
 use Rattle.bpf_machine.specs.Access.{load_row, load_signed_row, load_wide_row, loaded, loaded_signed, store_row, stored}
 use Rattle.bpf_machine.specs.Arithmetic.{alu_row, byte_swap_row, neg_row, sign_extend_row}
 use Rattle.bpf_machine.specs.Atomics.{atomic_row, exchanged, is_read_only, is_stored, taken_and_stored, taken_by, taker, where_stores}
 use Rattle.bpf_machine.specs.Decoding.{fetched}
 use Rattle.bpf_machine.specs.HelperCalls.{answered, call_row}
 use Rattle.bpf_machine.specs.Jumps.{branch_row, call_local_row, exit_row, jump_row, newest, returned}
-use Rattle.bpf_machine.specs.Operands.{is_frame_pointer, next_slot, register_in, result_in}
+use Rattle.bpf_machine.specs.Operands.{is_frame_pointer, next_slot, result_in}
 use Rattle.bpf_machine.specs.State.{State, start_state}
 use Rattle.bpf_machine.specs.Step.{by_status, executed, next_state, stepped}
 use Rattle.bpf_machine.specs.Trace.{state_after}
@@ -18,13 +18,10 @@ use Rattle.guest_memory.specs.Memory.{Memory}
 use Rattle.guest_memory.specs.declared.fault.Fault as fault
 use Rattle.helper_table.specs.Outcome.{CallEnd, Leaves, Halts}
 use Rattle.insn_codec.specs.declared.atomic_op.AtomicOp.{AtomicOp}
-use Rattle.insn_codec.specs.declared.comparison.Comparison.{Comparison}
 use Rattle.insn_codec.specs.declared.insn.Insn.{Insn}
 use Rattle.insn_codec.specs.declared.insn.Insn.TheVariants.{Alu, Neg, SignExtend, ByteSwap, Jump, JumpLong, Branch, Call, CallLocal, Exit, Load, LoadSigned, StoreImm, Store, Atomic, LoadWide}
-use Rattle.insn_codec.specs.declared.operand.Operand.{Operand}
 use Rattle.insn_codec.specs.declared.register.Register.{Register}
 use Rattle.insn_codec.specs.declared.signed_size.SignedSize.{SignedSize}
-use Rattle.insn_codec.specs.declared.size.Size.{Size}
 use Rattle.insn_codec.specs.declared.width.Width.{Width}
 use Rattle.loader.specs.Contents.{Contents}
 use Rattle.value_store.specs.Placing as store

@@ -9,17 +9,17 @@ use Rattle.bpf_machine.specs.State.{start_state}
 use Rattle.bpf_machine.specs.Trace.{state_after}
 use Rattle.bpf_machine.specs.declared.status.Status.{Status}
 use Rattle.bpf_machine.specs.declared.status.Status.TheVariants.{Exited, Fault, Running}
-use Rattle.policy_glue.specs.Causes.{HasOneImage, compile_cause}
-use Rattle.policy_glue.specs.Causes as policy
 use Rattle.policy_glue.specs.Compiled.{IsCompiled}
 use Rattle.policy_glue.specs.Evaluation.{decision_of}
 use Rattle.policy_glue.specs.Limits.{Compiles}
+use Rattle.policy_glue.specs.OneAnswer.{HasOneImage}
+use Rattle.policy_glue.specs.OneAnswer as policy
 use Rattle.policy_glue.specs.Policy.{Rules}
 use Rattle.policy_glue.specs.Reading.{policy_in}
 use Rattle.policy_glue.specs.Trees.{PolicyTree}
 use Rattle.policy_glue.specs.declared.compile_error.CompileError.{CompileError}
-use Rattle.review_runner.specs.Causes.{HasOneAnswer, policy_cause, settled}
 use Rattle.review_runner.specs.Deciding.{Answer, Documents, IsPolicy, IsRefused, Reviews, Runs, answer_of, decision, stands, started, values_given}
+use Rattle.review_runner.specs.OneAnswer.{HasOneAnswer}
 use Rattle.review_runner.specs.Reviews.{uid_in}
 use Rattle.review_runner.specs.declared.policy_refusal.PolicyRefusal.{PolicyRefusal}
 use Rattle.review_runner.specs.declared.policy_refusal.PolicyRefusal.TheVariants.{Unread, Uncompiled}
@@ -57,14 +57,14 @@ module _ (compiles_once : policy.HasOneAnswer) (images_once : HasOneImage) where
   trees_once : (p : Rules) (t u : PolicyTree) → Compiles p (Ok t) → Compiles p (Ok u) → t ≡ u
   trees_once p t u is also = let same = compiles_once p (Ok t) (Ok u) is also in cc
 
-  cause_once : (p : Rules) (e f : CompileError) → Compiles p (Err e) → Compiles p (Err f) → compile_cause e ≡ compile_cause f
+  cause_once : (p : Rules) (e f : CompileError) → Compiles p (Err e) → Compiles p (Err f) → e ≡ f
   cause_once p e f is also = let same = compiles_once p (Err e) (Err f) is also in cc
 
   not_refused : (p : Rules) (t : PolicyTree) (e : CompileError) → Compiles p (Ok t) → Compiles p (Err e) → ⊥
   not_refused p t e is also = let same = compiles_once p (Ok t) (Err e) is also in cc
 
   -- a document is refused for one cause
-  refusal_once : (document : List ℕ) (e f : PolicyRefusal) → IsRefused document e → IsRefused document f → policy_cause e ≡ policy_cause f
+  refusal_once : (document : List ℕ) (e f : PolicyRefusal) → IsRefused document e → IsRefused document f → e ≡ f
   refusal_once document (Unread e) (Unread f) is also = ap Unread (err_same (policy_in document) e f is also)
   refusal_once document (Unread e) (Uncompiled f) is also = absurd (not_both (policy_in document) also.0 e also.1 is)
   refusal_once document (Unread e) policy_refusal.Memory is also = absurd also
@@ -127,16 +127,16 @@ module _ (compiles_once : policy.HasOneAnswer) (images_once : HasOneImage) where
         let roots = roots_once run.roots other.roots (ok_same (values_given d) (started run.roots) (started other.roots) run.are_given other.are_given) in
         λ i. answer_from (rules i) (trees i) (image i) (roots i)
 
-    due_once : (r s : Result Answer RunError) → IsDue r → IsDue s → settled r ≡ settled s
-    due_once r s (by_policy e why is) (by_policy f also so) = ap settled is ∙ ap (λ (x : PolicyRefusal). Err (N1 x)) (refusal_once d.policy e f why also) ∙ sym (ap settled so)
+    due_once : (r s : Result Answer RunError) → IsDue r → IsDue s → r ≡ s
+    due_once r s (by_policy e why is) (by_policy f also so) = is ∙ ap (λ (x : PolicyRefusal). Err (N1 x)) (refusal_once d.policy e f why also) ∙ sym so
     due_once r s (by_policy e why is) (by_documents f policy given so) = absurd (said_once d.policy e why policy)
     due_once r s (by_policy e why is) (by_run run so) = absurd (said_once d.policy e why (said run))
     due_once r s (by_documents e policy given is) (by_policy f why so) = absurd (said_once d.policy f why policy)
-    due_once r s (by_documents e policy given is) (by_documents f also other so) = ap settled (is ∙ ap Err (err_same (values_given d) e f given other) ∙ sym so)
+    due_once r s (by_documents e policy given is) (by_documents f also other so) = is ∙ ap Err (err_same (values_given d) e f given other) ∙ sym so
     due_once r s (by_documents e policy given is) (by_run run so) = absurd (not_both (values_given d) (started run.roots) e run.are_given given)
     due_once r s (by_run run is) (by_policy f why so) = absurd (said_once d.policy f why (said run))
     due_once r s (by_run run is) (by_documents f policy given so) = absurd (not_both (values_given d) (started run.roots) f run.are_given given)
-    due_once r s (by_run run is) (by_run other so) = ap settled (is ∙ runs_once run other ∙ sym so)
+    due_once r s (by_run run is) (by_run other so) = is ∙ runs_once run other ∙ sym so
 
 pub one_review : policy.HasOneAnswer → HasOneImage → HasOneAnswer
 one_review compiles images d n a b some other is also = due_once compiles images d n a b (due compiles images d n a some is) (due compiles images d n b other also)

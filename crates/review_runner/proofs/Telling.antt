@@ -1,5 +1,5 @@
 -- What a session on the image of a policy tells of the policy's verdict.
-use Rattle.std.proofs.Common.{◌≡◌, ℕ, ◌*◌, ◌≤◌, ◌⊎◌, Bool, true, false, List, [], ◌∷◌, ◌++◌, length, Option, Some, None, Result, Ok, Err, refl, sym, ap, ◌∙◌, subst, arith, codes, inl, inr, ltb-false}
+use Rattle.std.proofs.Common.{◌≡◌, ℕ, ◌≤◌, Bool, true, false, List, [], ◌∷◌, ◌++◌, length, Option, Some, None, Result, Ok, Err, refl, sym, ap, ◌∙◌, subst, arith, codes, inl, inr, ltb-false}
 use Rattle.std.specs.Prelude.{◌||◌, nat_lt, if◌then◌else◌}
 use Rattle.std.proofs.lemmas.List.Sums.{fold_push}
 use Rattle.serde_json.specs.Data as json
@@ -10,28 +10,25 @@ use Rattle.loader.specs.declared.load_error.LoadError.{LoadError}
 use Rattle.value_store.specs.Placing.{Contents}
 use Rattle.cel_macros.specs.Environment.{Roots}
 use Rattle.bpf_machine.specs.State.{State, start_state}
-use Rattle.bpf_machine.specs.Step.{is_running}
 use Rattle.bpf_machine.specs.Trace.{state_after}
 use Rattle.codegen_base.specs.Contexts.{HasValues}
 use Rattle.policy_glue.specs.Compiled.{IsCompiled}
-use Rattle.policy_glue.specs.Evaluation.{decision_of}
 use Rattle.policy_glue.specs.Policy.{Rules}
 use Rattle.policy_glue.specs.ProgramTrees.{Decides, Over, Left}
-use Rattle.policy_glue.specs.Reading.{has_broken_message, has_head, has_no_validation, has_too_many, judged, judged_form, most_parts, policy_in, policy_of, policy_said, rules_in}
+use Rattle.policy_glue.specs.Reading.{has_broken_message, has_head, has_no_validation, has_too_many, judged_form, most_parts, policy_in, policy_of, policy_said, rules_in}
 use Rattle.policy_glue.specs.Documents as policy
-use Rattle.policy_glue.specs.declared.policy_error.PolicyError.{PolicyError}
 use Rattle.policy_glue.specs.declared.policy_error.PolicyError.TheVariants.{K2, K4, K5, K8}
 use Rattle.debugger.specs.Answers.{Line, World, answer_of, answer_to}
 use Rattle.debugger.specs.Commands.{command_of, form_of}
 use Rattle.debugger.specs.Session.{Talk, first_talk, granted, hear, talk_of, with_answer}
 use Rattle.debugger.specs.Verdict.{verdict_lines, verdict_text}
 use Rattle.debugger.specs.declared.command.Command.TheVariants.{Verdict}
-use Rattle.review_runner.specs.Deciding.{Documents, Runs, decision, stands, started, work}
+use Rattle.review_runner.specs.Deciding.{Documents, Runs, decision, started}
 use Rattle.review_runner.specs.Debugging.{start_of, started_on}
 use Rattle.review_runner.specs.Debugging as debugging
 use Rattle.review_runner.specs.Opening.{opened_by}
-use Rattle.review_runner.specs.RootValues.{AreOfRoots, GivenHaveValues}
-use Rattle.review_runner.specs.Telling.{IsDecided, TellsVerdict, VerdictIsTold, Writes, session_files, shown_after, start, told_text, world_after}
+use Rattle.review_runner.specs.RootValues.{GivenHaveValues}
+use Rattle.review_runner.specs.Telling.{IsDecided, TellsVerdict, VerdictIsTold, session_files, shown_after, start, world_after}
 use Rattle.review_runner.proofs.Decided.{compiled_length, few_findings}
 use Rattle.review_runner.proofs.ImageKept.{image_of_start}
 use Rattle.review_runner.proofs.OneReview.{roots_once}

@@ -7,7 +7,7 @@ pub mod Number
 pub mod Order
 pub mod Reviews
 pub mod Deciding
-pub mod Causes
+pub mod OneAnswer
 pub mod RootRows
 pub mod Rows
 pub mod Opening

@@ -1,6 +1,6 @@
 //! What is proved of reviews and of sessions beside their answers, each the clause of a function that does
 //! nothing.
-ghost use Rattle.review_runner.specs.Causes.{HasOneAnswer};
+ghost use Rattle.review_runner.specs.OneAnswer.{HasOneAnswer};
 ghost use Rattle.review_runner.specs.RootValues.{DocumentsHaveValues, GivenHaveValues};
 ghost use Rattle.review_runner.specs.Telling.{VerdictIsTold};
 
@@ -8,8 +8,7 @@ use bpf_machine::laws::starts_are_tables;
 use policy_glue::laws::compiles_once;
 use value_store::laws::values_are_as_said;
 
-/// Within the same steps a review has one answer, or one cause for which it is refused, but for want of
-/// memory.
+/// Within the same steps a review has one answer, its response or its refusal, but for want of memory.
 pub fn reviews_once()
     ensures { HasOneAnswer }
 {
