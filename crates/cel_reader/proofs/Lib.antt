@@ -18,7 +18,6 @@ pub mod Alike
 pub mod Local
 pub mod Carried
 pub mod Completed
-pub mod Opened
 pub mod Places
 pub mod Told
 pub mod OneAnswer

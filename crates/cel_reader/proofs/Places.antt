@@ -21,8 +21,7 @@ use Rattle.cel_reader.proofs.Steps.{Fails, words_length}
 use Rattle.cel_reader.proofs.Alike.{Alike, here, there}
 use Rattle.cel_reader.proofs.Local.{local}
 use Rattle.cel_reader.proofs.Carried.{carried}
-use Rattle.cel_reader.proofs.Completed.{Finishes, finishes, completed, nil, nought_whole}
-use Rattle.cel_reader.proofs.Opened.{opened, in_row}
+use Rattle.cel_reader.proofs.Completed.{Finishes, finishes, ended, at_misfit, with_one_more, in_row, nil, nought_whole}
 use Rattle.cel_reader.proofs.Theorems.{whole_sound, misfit_never, rest_never, deep_never}
 
 -- what both begin with
@@ -79,7 +78,7 @@ misfit_next front (w ∷ us) ws e r h room v =
 
 pub misfit_at : (ws rest : List Word) → Reads (Row Expression) 100 ws (Refused (Misfit rest)) → MisfitAt (length ws - length rest) ws
 misfit_at ws rest r =
-    let t = goes_on 100 ws rest (completed r) in
+    let t = goes_on 100 ws rest (at_misfit (ended r)) in
     let m : MisfitAt (length t.0) ws = (omega (arith, parts t.0 rest ws t.1), viable_as 100 (take (length t.0) ws) t.0 (front_is (length t.0) t.0 rest ws t.1 refl) t.2, misfit_next t.0 rest ws t.1 r) in
     subst (λ (n : ℕ). MisfitAt n ws) (sym (counted t.0 rest ws t.1)) m
 
@@ -107,8 +106,8 @@ deep_next front ws rest e r v =
 
 pub deep_at : (ws rest : List Word) → Reads (Row Expression) 100 ws (Refused (Deep rest)) → DeepAt (length ws - suc (length rest)) ws
 deep_at ws rest r =
-    let t = goes_on 101 ws rest (completed r) in
-    let x = in_row (opened r) in
+    let t = goes_on 101 ws rest (with_one_more (ended r)) in
+    let x = in_row (ended r) in
     let u = goes_on 100 ws (x.0 ∷ rest) x.2 in
     let n = counted u.0 (x.0 ∷ rest) ws u.1 in
     let k : suc (length ws - suc (length rest)) ≡ length t.0 = omega (arith, parts t.0 rest ws t.1, parts u.0 (x.0 ∷ rest) ws u.1) in
