@@ -21,6 +21,7 @@ pub mod Completed
 pub mod Places
 pub mod Told
 pub mod OneAnswer
+pub mod Runs
 pub mod WellFormedTrees
 pub mod TreeLists
 pub mod Equal

@@ -12,3 +12,4 @@ pub mod Place
 pub mod Prefixes
 pub mod Answers
 pub mod Laws
+pub mod RefusalRows

@@ -3,6 +3,7 @@
 ghost use Rattle.std.specs.Prelude.{List};
 ghost use Rattle.cel_tokens.specs.Token.{Word};
 ghost use Rattle.cel_reader.specs.Laws.{GoesWrongOnce, HasOneAnswer, HasOneTree, KeepsWithMoreRoom, TreesAreLists, EntriesAreLists, TellsEqualTrees};
+ghost use Rattle.cel_reader.specs.RefusalRows.{RefusalRowsStand};
 
 /// Words are one expression at most, and the same one where more brackets and conditionals may be
 /// open.
@@ -16,6 +17,11 @@ pub fn one_tree()
 pub fn one_answer()
     ensures place { (ws : List Word) → GoesWrongOnce ws }
     ensures answer { HasOneAnswer }
+{}
+
+/// Texts that are no expression, and how each is refused, worked by hand.
+pub fn refusal_rows_stand()
+    ensures { RefusalRowsStand }
 {}
 
 /// The parts of a list and of a map stand in a list, of the same number.

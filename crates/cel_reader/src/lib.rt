@@ -20,7 +20,7 @@ mod word;
 
 pub use cel_tokens::ReadError;
 pub use expr::Expr;
-pub use laws::{equality_of_trees, one_answer, one_tree, parts_in_lists};
+pub use laws::{equality_of_trees, one_answer, one_tree, parts_in_lists, refusal_rows_stand};
 pub use literal::Literal;
 pub use name::is_identifier;
 pub use operator::{BinaryOperator, UnaryOperator};

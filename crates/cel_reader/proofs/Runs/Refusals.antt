@@ -1,0 +1,138 @@
+-- How texts are refused, computed.
+use Rattle.std.proofs.Common.{◌≡◌, ℕ, zero, suc, ◌+◌, ◌-◌, ◌<◌, ◌≤◌, Bool, true, false, nat_lt, List, [], ◌∷◌, ◌++◌, length, drop, map, Option, Some, None, Result, Ok, Err, refl, subst}
+use Rattle.std.proofs.lemmas.Bool.{ltb-true, ltb-false}
+use Rattle.cel_tokens.specs.Token.{Lexeme}
+use Rattle.cel_tokens.specs.Bytes.{run as run_of, between}
+use Rattle.cel_tokens.specs.Ints.{number_from}
+use Rattle.cel_tokens.specs.Texts.{escape, content}
+use Rattle.cel_tokens.specs.Front as front
+use Rattle.cel_tokens.specs.Front.{Front, sign_may_follow}
+use Rattle.cel_tokens.specs.Lexis as tokens
+use Rattle.cel_tokens.specs.Lexis.{Cuts, Lexes, lexeme}
+use Rattle.cel_tokens.specs.declared.read_error.ReadError.{ReadError}
+use Rattle.cel_tokens.specs.declared.read_error.ReadError.TheVariants.{P1, P2, P3, P4, P5, P6, Memory}
+use Rattle.cel_reader.specs.Words.{is_reserved, role_of}
+use Rattle.cel_reader.specs.Look.{spoken}
+use Rattle.cel_reader.specs.Grammar.{Expression, One, Many, Keyed}
+use Rattle.cel_reader.specs.Reading.{Misfit, Deep, Outcome, Got, Refused, Row, Reads}
+use Rattle.cel_reader.specs.Answers.{place_at, IsAnswer}
+use Rattle.cel_reader.specs.RefusalRows.{RefusalRowsStand, Stand, refused_texts}
+use Rattle.cel_reader.proofs.Places.{misfit_at, rest_at, deep_at}
+use Rattle.cel_reader.proofs.Theorems.{misfit_never, rest_never, deep_never, deep_openings}
+use Rattle.cel_reader.proofs.Runs.{Run, ran, none, run, step, number, at, at_mark, one_level, operator_by, operator_at, named_by, named_at, comma_by, ending, branches, expression, operations, tail, behind_prefix, maybe_prefixed, prefixed, member, suffix, selection, free_name, plain_by, plain, primary, enclosed, listed, item, behind_item, mapped, entry, behind_entry}
+
+-- ---- tokens
+
+data Cut (signed : Bool) (so_far : List Lexeme) (place : ℕ) (rest : List ℕ) : Type 0 where
+  cut : (r : Result (List Lexeme) ReadError) → Cuts signed so_far place rest r → Cut signed so_far place rest
+  uncut : Cut signed so_far place rest
+
+few_by : (so_far : List Lexeme) (b : Bool) → nat_lt (length so_far) 4096 ≡ b → Option (length so_far < 4096)
+few_by so_far true e = Some (ltb-true (length so_far) 4096 e)
+few_by so_far false e = None
+
+few : (so_far : List Lexeme) → Option (length so_far < 4096)
+few so_far = few_by so_far (nat_lt (length so_far) 4096) refl
+
+cut_by : ((signed : Bool) (so_far : List Lexeme) (place : ℕ) (rest : List ℕ) → Cut signed so_far place rest) → (signed : Bool) (so_far : List Lexeme) (place : ℕ) (rest : List ℕ) (f : Front) → front.front signed rest ≡ f → Cut signed so_far place rest
+cut_by go signed so_far place rest front.over e = cut (Ok so_far) (tokens.over e)
+cut_by go signed so_far place rest (front.space n) e = elim (go signed so_far (place + n) (drop n rest)) [ cut r c ↦ cut r (tokens.space n e c) | uncut ↦ uncut ]
+cut_by go signed so_far place rest (front.word n w) e = elim (few so_far) [
+  | Some h ↦ elim (go (sign_may_follow w) (so_far ++ (lexeme place n w ∷ [])) (place + n) (drop n rest)) [ cut r c ↦ cut r (tokens.token n w e h c) | uncut ↦ uncut ]
+  | None ↦ uncut
+]
+cut_by go signed so_far place rest front.wrong_text e = elim (few so_far) [ Some h ↦ cut (Err (P2 place)) (tokens.wrong_text e h) | None ↦ uncut ]
+cut_by go signed so_far place rest (front.wide_int n) e = elim (few so_far) [ Some h ↦ cut (Err (P3 (place + n))) (tokens.wide_int n e h) | None ↦ uncut ]
+cut_by go signed so_far place rest front.nothing e = cut (Err (P1 place)) (tokens.nothing e)
+
+-- with at most so many tokens and gaps
+cuts : ℕ → (signed : Bool) (so_far : List Lexeme) (place : ℕ) (rest : List ℕ) → Cut signed so_far place rest
+cuts zero signed so_far place rest = uncut
+cuts (suc fuel) signed so_far place rest = cut_by (λ (s : Bool) (xs : List Lexeme) (n : ℕ) (bytes : List ℕ). cuts fuel s xs n bytes) signed so_far place rest (front.front signed rest) refl
+
+-- ---- refusals
+
+same_refusal : (source : List ℕ) (e f : ReadError) → Some e ≡ Some f → IsAnswer source (Err e) → IsAnswer source (Err f)
+same_refusal source e f is a = let same : e ≡ f = cc in subst (λ (x : ReadError). IsAnswer source (Err x)) same a
+
+refusal_of : ℕ → List Lexeme → Outcome → Option ReadError
+refusal_of len lexemes (Refused (Misfit rest)) = Some (P4 (place_at len (drop (length (spoken lexemes) - length rest) lexemes)))
+refusal_of len lexemes (Refused (Deep rest)) = Some (P5 (place_at len (drop (length (spoken lexemes) - suc (length rest)) lexemes)))
+refusal_of len lexemes (Got (One a) (w ∷ us)) = Some (P4 (place_at len (drop (length (spoken lexemes) - suc (length us)) lexemes)))
+refusal_of len lexemes o = None
+
+misread : (source : List ℕ) (lexemes : List Lexeme) (o : Outcome) (e : ReadError) → Lexes source (Ok lexemes) → Reads (Row Expression) 100 (spoken lexemes) o → refusal_of (length source) lexemes o ≡ Some e → IsAnswer source (Err e)
+unfolding refusal_of
+misread source lexemes (Refused (Misfit rest)) e l r is = same_refusal source _ e is (record {
+  some = λ no. cc;
+  answers = (lexemes, l, λ room a d. misfit_never 100 room (spoken lexemes) rest a r d);
+  placed = (lexemes, l, (length (spoken lexemes) - length rest, refl, misfit_at (spoken lexemes) rest r));
+})
+misread source lexemes (Refused (Deep rest)) e l r is = same_refusal source _ e is (record {
+  some = λ no. cc;
+  answers = (lexemes, l, (λ a d. deep_never 100 (spoken lexemes) rest a r d, deep_openings 100 (spoken lexemes) rest r));
+  placed = (lexemes, l, (length (spoken lexemes) - suc (length rest), refl, deep_at (spoken lexemes) rest r));
+})
+misread source lexemes (Got (One a) (w ∷ us)) e l r is = same_refusal source _ e is (record {
+  some = λ no. cc;
+  answers = (lexemes, l, λ room b d. rest_never 100 room (spoken lexemes) us w a b r d);
+  placed = (lexemes, l, (length (spoken lexemes) - suc (length us), refl, rest_at (spoken lexemes) us w a r));
+})
+misread source lexemes (Got (One a) []) e l r is = cc
+misread source lexemes (Got (Many items) rest) e l r is = cc
+misread source lexemes (Got (Keyed pairs) rest) e l r is = cc
+
+refusal_from : ℕ → (lexemes : List Lexeme) → Run (Row Expression) 100 (spoken lexemes) → Option ReadError
+refusal_from len lexemes (ran o r) = refusal_of len lexemes o
+refusal_from len lexemes none = None
+
+from_run : (source : List ℕ) (lexemes : List Lexeme) (x : Run (Row Expression) 100 (spoken lexemes)) (e : ReadError) → Lexes source (Ok lexemes) → refusal_from (length source) lexemes x ≡ Some e → IsAnswer source (Err e)
+unfolding refusal_from
+from_run source lexemes (ran o r) e l is = misread source lexemes o e l r is
+from_run source lexemes none e l is = cc
+
+-- steps call at most so deep in the rows
+refusal : (source : List ℕ) → Cut true [] 0 source → Option ReadError
+refusal source (cut (Ok lexemes) c) = refusal_from (length source) lexemes (run 2000 (Row Expression) 100 (spoken lexemes))
+refusal source (cut (Err (P1 place)) c) = Some (P1 place)
+refusal source (cut (Err (P2 place)) c) = Some (P2 place)
+refusal source (cut (Err (P3 place)) c) = Some (P3 place)
+refusal source x = None
+
+from_cut : (source : List ℕ) (x : Cut true [] 0 source) (e : ReadError) → length source ≤ 65536 → refusal source x ≡ Some e → IsAnswer source (Err e)
+unfolding refusal
+from_cut source (cut (Ok lexemes) c) e h is = from_run source lexemes (run 2000 (Row Expression) 100 (spoken lexemes)) e (tokens.read h c) is
+from_cut source (cut (Err (P1 place)) c) e h is = same_refusal source (P1 place) e is (record { some = λ no. cc; answers = tokens.read h c; placed = tt })
+from_cut source (cut (Err (P2 place)) c) e h is = same_refusal source (P2 place) e is (record { some = λ no. cc; answers = tokens.read h c; placed = tt })
+from_cut source (cut (Err (P3 place)) c) e h is = same_refusal source (P3 place) e is (record { some = λ no. cc; answers = tokens.read h c; placed = tt })
+from_cut source (cut (Err (P4 place)) c) e h is = cc
+from_cut source (cut (Err (P5 place)) c) e h is = cc
+from_cut source (cut (Err (P6 place)) c) e h is = cc
+from_cut source (cut (Err Memory) c) e h is = cc
+from_cut source uncut e h is = cc
+
+-- ---- rows
+
+told_by : (source : List ℕ) → Bool → Option ReadError
+told_by source true = None
+told_by source false = refusal source (cuts 5000 true [] 0 source)
+
+told : List ℕ → Option ReadError
+told source = told_by source (nat_lt 65536 (length source))
+
+answered_by : (source : List ℕ) (b : Bool) (e : ReadError) → nat_lt 65536 (length source) ≡ b → told_by source b ≡ Some e → IsAnswer source (Err e)
+unfolding told_by
+answered_by source true e h is = cc
+answered_by source false e h is = from_cut source (cuts 5000 true [] 0 source) e (ltb-false 65536 (length source) h) is
+
+answered : (source : List ℕ) (e : ReadError) → told source ≡ Some e → IsAnswer source (Err e)
+unfolding told
+answered source e is = answered_by source (nat_lt 65536 (length source)) e refl is
+
+all : (rows : List (List ℕ × ReadError)) → map (λ (row : List ℕ × ReadError). told row.0) rows ≡ map (λ (row : List ℕ × ReadError). Some row.1) rows → Stand rows
+all [] is = tt
+all (row ∷ rows) is = (answered row.0 row.1 cc, all rows cc)
+
+pub rows_stand : RefusalRowsStand
+unfolding told told_by refusal refusal_from refusal_of cuts cut_by few few_by front.front run_of between number_from escape content role_of is_reserved run step number at at_mark one_level operator_by operator_at named_by named_at comma_by ending branches expression operations tail behind_prefix maybe_prefixed prefixed member suffix selection free_name plain_by plain primary enclosed listed item behind_item mapped entry behind_entry
+rows_stand = all refused_texts refl

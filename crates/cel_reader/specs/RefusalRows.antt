@@ -1,0 +1,64 @@
+-- Texts that are no expression, and how each is refused, worked by hand.
+use Rattle.std.specs.Prelude.{ℕ, zero, suc, List, [], ◌∷◌, ◌++◌, Err, codes}
+use Rattle.cel_tokens.specs.declared.read_error.ReadError.{ReadError}
+use Rattle.cel_tokens.specs.declared.read_error.ReadError.TheVariants.{P1, P2, P3, P4, P5}
+use Rattle.cel_reader.specs.Answers.{IsAnswer}
+
+-- the text so many times
+abbrev pub times : ℕ → List ℕ → List ℕ
+times zero text = []
+times (suc n) text = text ++ times n text
+
+abbrev pub refused_texts : List (List ℕ × ReadError)
+refused_texts =
+    (codes "namespace", P4 0) ∷
+    (codes "f(1,)", P4 4) ∷
+    (codes "!-x", P4 1) ∷
+    (codes "-!x", P4 1) ∷
+    (codes "a.b.", P4 4) ∷
+    (codes "a.  ", P4 4) ∷
+    (codes "object.spec. <= 3", P4 13) ∷
+    (codes "a.in", P4 2) ∷
+    (codes "while(1)", P4 0) ∷
+    (codes "true(1)", P4 4) ∷
+    (codes "in", P4 0) ∷
+    (codes "", P4 0) ∷
+    (codes "  ", P4 2) ∷
+    (codes "1 2", P4 2) ∷
+    (codes "(1", P4 2) ∷
+    (codes "(1]", P4 2) ∷
+    (codes "a[1", P4 3) ∷
+    (codes "a[", P4 2) ∷
+    (codes "a[]", P4 2) ∷
+    (codes "f(,)", P4 2) ∷
+    (codes "f(1 2)", P4 4) ∷
+    (codes "[,1]", P4 2) ∷
+    (codes "[1,,]", P4 3) ∷
+    (codes "[1 2]", P4 3) ∷
+    (codes "{,1}", P4 2) ∷
+    (codes "{'a'}", P4 4) ∷
+    (codes "{'a': 1 2}", P4 8) ∷
+    (codes "a ? b", P4 5) ∷
+    (codes "a ? b ? c : d : e", P4 6) ∷
+    (codes "a ? b :", P4 7) ∷
+    (codes "-(9223372036854775808)", P3 2) ∷
+    (codes "9223372036854775808", P3 0) ∷
+    (codes "a # b", P1 2) ∷
+    (codes "'ab", P2 0) ∷
+    (times 101 (codes "("), P5 100) ∷
+    (times 101 (codes "["), P5 100) ∷
+    (times 101 (codes "{1:"), P5 300) ∷
+    (times 101 (codes "f("), P5 201) ∷
+    (times 101 (codes "a.f("), P5 403) ∷
+    (times 101 (codes "a["), P5 201) ∷
+    (times 101 (codes "a?a:") ++ codes "a", P5 401) ∷
+    (times 100 (codes "["), P4 100) ∷
+    (times 100 (codes "(") ++ codes "1(", P4 101) ∷ []
+
+abbrev pub Stand : List (List ℕ × ReadError) → Type 0
+Stand [] = Unit {0}
+Stand (row ∷ rows) = IsAnswer row.0 (Err row.1) × Stand rows
+
+-- each is answered so
+abbrev pub RefusalRowsStand : Type 0
+RefusalRowsStand = Stand refused_texts
