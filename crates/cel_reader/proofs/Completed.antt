@@ -9,9 +9,9 @@ use Rattle.cel_reader.specs.Tree as tree
 use Rattle.cel_reader.specs.Tree.{Tree, trees, entries}
 use Rattle.cel_reader.specs.Words.{is_selector, is_reserved, role_of}
 use Rattle.cel_reader.specs.Look.{closing_mark, opens, takes_comma}
-use Rattle.cel_reader.specs.Grammar.{Class, Expression, Infix, Unary, Prefixed, Member, Primary, Phrase, One, Many, Keyed, below, Derives}
+use Rattle.cel_reader.specs.Grammar.{Class, Expression, Infix, Unary, Prefixed, Member, Primary, Phrase, One, Many, Keyed, Derives}
 use Rattle.cel_reader.specs.Grammar as derives
-use Rattle.cel_reader.specs.Reading.{Cause, Misfit, Deep, Outcome, Got, Refused, Step, Row, Tail, Suffix, Selection, Enclosed, Listed, Item, Behind, Mapped, Entry, BehindEntry, Reads}
+use Rattle.cel_reader.specs.Reading.{Misfit, Deep, Outcome, Got, Refused, Step, Row, Tail, Suffix, Selection, Enclosed, Listed, Item, Behind, Mapped, Entry, BehindEntry, Reads}
 use Rattle.cel_reader.specs.Reading as reads
 use Rattle.cel_reader.specs.declared.level.Level.TheVariants.{Or, And, Relation, Sum, Product}
 use Rattle.cel_reader.specs.declared.closing.Closing.{Closing}
