@@ -4,6 +4,8 @@ use Rattle.std.specs.Prelude.{slice_range, slice_set}
 use Rattle.std.proofs.lemmas.Str.{IsUtf8-append}
 use Rattle.std.proofs.Math.Seq.{drop-append_seam, get_or-append_seam}
 use Rattle.std.proofs.lemmas.List.{take_all, length-set, length-take}
+use Rattle.json.specs.Print.{quoted}
+use Rattle.value_store.specs.Plain.{saturated}
 use Rattle.value_table.specs.Meaning.{part_of}
 use Rattle.value_table.specs.Heaps.{IsText, Extends, Holds}
 use Rattle.value_table.specs.Entries.{with_one}
@@ -56,13 +58,14 @@ whole_behind bs ws a b p q =
     rw (p, drop-append_seam bs ws) (take_all (b - length bs) ws (omega arith))
 
 -- two texts behind all others, as one
-pub texts_joined : (bs ms ns : List ℕ) (p q : Part) (from to : ℕ) → IsText bs p → IsText bs q → ms ≡ bs ++ part_of bs p → ns ≡ ms ++ part_of ms q → from ≡ length bs → to ≡ length ns
-    → IsText ns (record { from = from; to = to }) × (part_of ns (record { from = from; to = to }) ≡ part_of bs p ++ part_of bs q)
-texts_joined bs ms ns p q from to hp hq em en ef et =
+pub texts_joined : (bs ms ns : List ℕ) (p q : Part) (from to json : ℕ) → IsText bs p → IsText bs q → ms ≡ bs ++ part_of bs p → ns ≡ ms ++ part_of ms q → from ≡ length bs → to ≡ length ns
+    → json ≡ saturated (length (quoted (slice_range ns from to)))
+    → IsText ns (record { from = from; to = to; json = json }) × (part_of ns (record { from = from; to = to; json = json }) ≡ part_of bs p ++ part_of bs q)
+texts_joined bs ms ns p q from to json hp hq em en ef et ej =
     let kept = text_kept bs (part_of bs p) q hq in
     let same : part_of ms q ≡ part_of bs q = rw em kept.0 in
     let all : ns ≡ bs ++ (part_of bs p ++ part_of bs q) = en ∙ rw (same, em) (append_assoc bs (part_of bs p) (part_of bs q)) in
     let l = length-append bs (part_of bs p ++ part_of bs q) in
     let is : slice_range ns from to ≡ part_of bs p ++ part_of bs q = rw all (whole_behind bs (part_of bs p ++ part_of bs q) from to ef (et ∙ ap length all)) in
     let n : length ns ≡ length (bs ++ (part_of bs p ++ part_of bs q)) = ap length all in
-    ((omega arith, omega arith, rw is (IsUtf8-append _ _ hp.2 hq.2)), is)
+    ((omega arith, omega arith, rw is (IsUtf8-append _ _ hp.2 hq.2), ej), is)

@@ -28,7 +28,7 @@ text_kept bytes rest p h =
     let l = length-append bytes rest in
     let order = h.0 in
     let inside = h.1 in
-    (e, (order, omega (arith, l, inside), rw e h.2))
+    (e, (order, omega (arith, l, inside), rw e h.2, rw e h.3))
 
 pub texts_kept : (bytes rest : List ℕ) (ks : List Part) → AreTexts bytes ks → AreTexts (bytes ++ rest) ks
 texts_kept bytes rest [] h = tt

@@ -2,9 +2,11 @@
 use Rattle.std.specs.Prelude.{◌≡◌, ◌≤◌, ◌<◌, ℕ, ◌+◌, List, [], ◌∷◌, ◌++◌, length, slice_index_or, slice_get, Result, Ok, Err, ⊤}
 use Rattle.std.specs.Str.{IsUtf8}
 use Rattle.std.specs.declared.alloc.AllocError.{AllocError}
+use Rattle.json.specs.Print.{quoted}
 use Rattle.value_store.specs.Value.{Value}
 use Rattle.value_store.specs.Size.{depth_of}
 use Rattle.value_store.specs.Keys.{IsOrdered}
+use Rattle.value_store.specs.Plain.{saturated}
 use Rattle.value_table.specs.Meaning.{part_of, value_in, refs_at, keys_at, meaning}
 use Rattle.value_table.specs.Lengths.{json_length}
 use Rattle.value_table.specs.declared.part.Part.{Part}
@@ -13,9 +15,9 @@ use Rattle.value_table.specs.declared.content.Content.TheVariants as cell
 use Rattle.value_table.specs.declared.cell.Cell.{Cell}
 use Rattle.value_table.specs.declared.backings.Backings.{Backings}
 
--- a part of the bytes, and a text
+-- a part of the bytes, and a text, with the length of its JSON
 abbrev pub IsText : List ℕ → Part → Type 0
-IsText bytes p = (p.from ≤ p.to) × (p.to ≤ length bytes) × IsUtf8 (part_of bytes p)
+IsText bytes p = (p.from ≤ p.to) × (p.to ≤ length bytes) × IsUtf8 (part_of bytes p) × (p.json ≡ saturated (length (quoted (part_of bytes p))))
 
 abbrev pub AreTexts : List ℕ → List Part → Type 0
 AreTexts bytes [] = ⊤

@@ -4,6 +4,7 @@ ghost use Rattle.std.specs.Prelude.{◌≡◌, ◌≤◌, ◌<◌, ◌+◌, ◌^
 ghost use Rattle.std.specs.Str.{IsUtf8};
 
 use crate::backing::Backing;
+use crate::lengths::quoted_length;
 use crate::lists::Lists;
 use crate::part::Part;
 use crate::room::repeat;
@@ -52,10 +53,11 @@ impl Backings {
         ensures part { IfOk result (λ p. IsText self.new.bytes p × (part_of self.new.bytes p ≡ text.now)) }
         ensures kept { OnErr result (self.new ≡ self.old) }
     {
+        let json = quoted_length(text);
         let from = self.bytes.len() as u64;
         self.bytes.extend(text)?;
         let to = self.bytes.len() as u64;
-        Ok(Part { from, to })
+        Ok(Part { from, to, json })
     }
 
     /// Puts two texts behind all others, as one.
@@ -72,7 +74,8 @@ impl Backings {
         repeat(bytes, first.from as usize, first.to as usize);
         repeat(bytes, second.from as usize, second.to as usize);
         let to = self.bytes.len() as u64;
-        Ok(Part { from, to })
+        let json = quoted_length(&self.bytes.items()[from as usize..to as usize]);
+        Ok(Part { from, to, json })
     }
 
     /// A new backing with these items.

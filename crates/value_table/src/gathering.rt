@@ -12,10 +12,9 @@ use crate::backing::Backing;
 use crate::cell::Cell;
 use crate::content::Content;
 use crate::heap::{Heap, room_for_cell};
-use crate::lengths::{pushed_length, put_length, quoted_length};
+use crate::lengths::{pushed_length, put_length};
 use crate::measure::Measure;
 use crate::part::Part;
-use crate::text::text;
 use std::alloc::AllocError;
 
 // A whole has one cell, and its parts are measured once.
@@ -93,7 +92,7 @@ impl Heap {
     {
         let mut measure = Measure { depth: 1, json: 2 };
         for i in 0..keys.len() {
-            let key = quoted_length(text(self.backings.bytes.items(), keys[i]));
+            let key = keys[i].json;
             let value = self.cell(places[i]);
             measure = Measure {
                 depth: measure.depth.max(value.depth.saturating_add(1)),

@@ -7,14 +7,12 @@ ghost use Rattle.value_table.specs.Meaning.{part_of, value_in};
 ghost use Rattle.value_table.specs.Heaps.{Adds, Extends, IsCell, IsText};
 ghost use Rattle.value_table.specs.Heap.{heap_values, IsHeap, IsAsBefore};
 ghost use Rattle.value_table.specs.declared.content.Content.TheVariants as cell;
+ghost use Rattle.value_table.specs.declared.backings.Backings.{Backings};
 
-use crate::backings::Backings;
 use crate::cell::Cell;
 use crate::content::Content;
 use crate::heap::{Heap, room_for_cell};
-use crate::lengths::quoted_length;
 use crate::part::Part;
-use crate::text::text;
 use std::alloc::AllocError;
 
 impl Heap {
@@ -27,7 +25,7 @@ impl Heap {
     {
         let cells = room_for_cell(&mut self.cells, &mut self.same)?;
         let part = self.backings.add_text(s.as_bytes())?;
-        Ok(cells.append(text_cell(&self.backings, part)))
+        Ok(cells.append(text_cell(part)))
     }
 
     /// Puts the text of a key behind all others. It is no value.
@@ -52,7 +50,7 @@ impl Heap {
     {
         let cells = room_for_cell(&mut self.cells, &mut self.same)?;
         let part = self.backings.join_texts(first, second)?;
-        Ok(cells.append(text_cell(&self.backings, part)))
+        Ok(cells.append(text_cell(part)))
     }
 
     /// The text at `a`, or the list, and that at `b` behind it.
@@ -84,21 +82,19 @@ impl Heap {
         ensures added { Adds (heap_values self.old) (text (part_of self.old.backings.bytes part)) result (heap_values self.new) }
         ensures kept { OnErr result (IsAsBefore self.old self.new) }
     {
-        let cell = text_cell(&self.backings, part);
+        let cell = text_cell(part);
         self.add(cell)
     }
 }
 
 // The cell of a text.
-fn text_cell(backings: &Backings, part: Part) -> Cell
-    requires { IsText backings.now.bytes part }
-    ensures cell { (vs : List Value) → IsCell backings.now vs result }
+fn text_cell(part: Part) -> Cell
+    ensures cell { (bs : Backings) (vs : List Value) → IsText bs.bytes part → IsCell bs vs result }
     ensures content { result.content ≡ cell.Text part }
 {
-    let json = quoted_length(text(backings.bytes.items(), part));
     Cell {
         content: Content::Text(part),
         depth: 0,
-        json,
+        json: part.json,
     }
 }

@@ -1,4 +1,7 @@
 use Rattle.std.proofs.Common.{◌∙◌, ◌++◌, ap, append_assoc}
+use Rattle.std.specs.Prelude.{slice_range, length}
+use Rattle.json.specs.Print.{quoted}
+use Rattle.value_store.specs.Plain.{saturated}
 use Rattle.value_table.specs.Meaning.{part_of}
 use Rattle.value_table.proofs.Backed.{bytes_more, texts_joined}
 use Rattle.value_table.proofs.backings.Backings.join_texts.Goals as goal
@@ -13,4 +16,4 @@ returns-clause-grown c =
 pub returns-clause-part : goal.returns-clause-part
 returns-clause-part c =
     let first = c.repeat.ensures.items ∙ ap (λ bytes. bytes ++ part_of bytes c.args.first) c.in_ok-bytes.ensures.items in
-    texts_joined _ _ _ c.args.first c.args.second _ _ c.requires.first c.requires.second first c.repeat-2.ensures.items c.len-from.ensures.count c.len-to.ensures.count
+    texts_joined _ _ _ c.args.first c.args.second _ _ _ c.requires.first c.requires.second first c.repeat-2.ensures.items c.len-from.ensures.count c.len-to.ensures.count (c.quoted_length-json.ensures ∙ ap (λ bytes. saturated (length (quoted (slice_range bytes c.len-from.result c.len-to.result)))) c.items.ensures.value)

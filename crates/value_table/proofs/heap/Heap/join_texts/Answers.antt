@@ -7,7 +7,7 @@ use Rattle.value_table.proofs.heap.Heap.join_texts.Goals as goal
 
 pub returns-clause-heap : goal.returns-clause-heap
 returns-clause-heap c =
-    heap_put c.args.self.now _ _ _ c.requires.heap c.join_texts.ensures.grown c.room_for_cell.ensures.words c.in_ok-cells.ensures.word c.in_ok-cells.ensures.cells c.append.ensures.items (c.text_cell.ensures.cell _) refl
+    heap_put c.args.self.now _ _ _ c.requires.heap c.join_texts.ensures.grown c.room_for_cell.ensures.words c.in_ok-cells.ensures.word c.in_ok-cells.ensures.cells c.append.ensures.items (c.text_cell.ensures.cell _ _ c.in_ok-part.ensures.part.0) refl
 
 pub returns-clause-added : goal.returns-clause-added
 returns-clause-added c =

@@ -15,13 +15,10 @@ use Rattle.value_table.proofs.heap.Heap.map_measure.Goals as goal
 
 -- what an index past the end would give
 abbrev none : Part
-none = record { from = 0; to = 0 }
+none = record { from = 0; to = 0; json = 0 }
 
 pub loop-i-init : goal.loop-i-init
 loop-i-init c = record { measure = record { depth = refl; shallow = omega arith; json = refl } }
-
-pub text-requires : goal.text-requires
-text-requires c = subst (λ bs. IsText bs (get_or c.args.keys.now c.loop-i.i none)) (sym c.items.ensures.value) (text_in _ c.args.keys.now c.loop-i.i none c.requires.texts (omega arith))
 
 pub cell-value-requires-clause-inside : goal.cell-value-requires-clause-inside
 cell-value-requires-clause-inside c = let pairs = c.requires.pairs in get_below _ c.args.places.now c.loop-i.i 0 c.requires.values (omega (arith, pairs))
@@ -45,10 +42,9 @@ loop-i-preserved c =
     let s = c.cell-value.ensures.found.shallow in
     let n = c.cell-value.ensures.short in
     let deep : c.max.result ≡ max l.measure.depth (value.depth + 1) = omega (arith, a, b, s, n) in
-    let name : c.text.result.now ≡ part_of bytes k = c.text.ensures ∙ ap (λ xs. part_of xs k) c.items.ensures.value in
-    let key : c.quoted_length-key.result ≡ saturated (length (quoted (part_of bytes k))) = c.quoted_length-key.ensures ∙ ap (λ t. saturated (length (quoted t))) name in
+    let key : k.json ≡ saturated (length (quoted (part_of bytes k))) = (text_in bytes ks i none c.requires.texts inside).3 in
     let made : Measure = record { depth = c.max.result; json = c.put_length.result } in
-    let next = map_measured heap.backings bytes vs (take i ks) (take i ps) k (get_or ps i 0) i c.quoted_length-key.result l.measure made value (length-take-le i ks (omega arith)) (length-take-le i ps (omega (arith, below))) l.invariant.measure c.cell-value.ensures.found key deep c.put_length.ensures in
+    let next = map_measured heap.backings bytes vs (take i ks) (take i ps) k (get_or ps i 0) i k.json l.measure made value (length-take-le i ks (omega arith)) (length-take-le i ps (omega (arith, below))) l.invariant.measure c.cell-value.ensures.found key deep c.put_length.ensures in
     record {
       measure = subst (λ rs. IsMeasure (length vs) (map (entries_at bytes vs (take (i + 1) ks) rs)) made) (sym (take_more ps i 0 below))
           (subst (λ xs. IsMeasure (length vs) (map (entries_at bytes vs xs (take i ps ++ get_or ps i 0 ∷ []))) made) (sym (take_more ks i none inside)) next);
