@@ -9,7 +9,7 @@ mod words;
 use debugger::Counting;
 use disk::Disk;
 use review_runner::exit_code;
-use std::io;
+use std::io::{self, BufReader, Input};
 use std::process::ExitCode;
 use words::words;
 
@@ -18,8 +18,16 @@ fn main(rt: HostRuntime) -> ExitCode {
         rt.alloc(),
         words(&rt),
         &mut Disk::new(&rt),
-        &mut Counting::new(rt.reader()),
+        &mut Counting::new(buffered(&rt)),
         &mut Counting::new(io::writer(&rt)),
         &mut Counting::new(rt.stderr()),
     )
+}
+
+/// Standard input behind a buffer, or read byte by byte where memory refuses one.
+fn buffered<R: AllocGlobal + Input>(rt: &R) -> BufReader<R::Reader> {
+    match BufReader::new(rt.alloc(), rt.reader()) {
+        Ok(input) => input,
+        Err(_) => BufReader::with_capacity(rt.alloc(), 0, rt.reader()).unwrap(),
+    }
 }
