@@ -30,7 +30,7 @@ has_name = codes "has"
 abbrev pub variables_name : List ℕ
 variables_name = codes "variables"
 
--- `map` with two parts
+-- the name `map`; its macro has a transform, with or without a predicate before it
 unfoldable pub is_map : List ℕ → Bool
 is_map n = bytes_eq (macro_name Map) n
 

@@ -6,11 +6,11 @@ use Rattle.bpf_machine.specs.State.{State}
 use Rattle.debugger.specs.Answers.{World, Line, world_at, answer_to}
 use Rattle.debugger.specs.Commands.{command_of, is_quit}
 
--- the lines that have ended, and the bytes after them
+-- a byte behind the lines that have ended and the bytes after them: a line feed ends those as a line
 abbrev pub cut_byte : List (List ℕ) × List ℕ → ℕ → List (List ℕ) × List ℕ
 cut_byte p b = if nat_eq b 10 then (p.0 ++ p.1 ∷ [], []) else (p.0, p.1 ++ b ∷ [])
 
--- an input cut at its line feeds
+-- an input cut at its line feeds: the lines that have ended, and the bytes after them
 unfoldable pub cut : List ℕ → List (List ℕ) × List ℕ
 cut input = fold cut_byte ([], []) input
 

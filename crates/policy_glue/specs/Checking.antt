@@ -113,11 +113,12 @@ pub data Ends {A B : Type 0} (Takes : List B → A → B → Type 0) (Refuses : 
   refused : {taken : List B} {part : A} {more : List A} (e : CompileError) → Refuses taken part e → Ends Takes Refuses taken (part ∷ more) (Err e)
   next : {taken : List B} {part : A} {more : List A} {end : Result (List B) CompileError} (tree : B) → Takes taken part tree → Ends Takes Refuses (taken ++ tree ∷ []) more end → Ends Takes Refuses taken (part ∷ more) end
 
--- with one more variable in scope, of the type that it has there
+-- the type that was found, or `dyn` where there is none
 abbrev pub type_or_any : Typing → CelType
 type_or_any (typing.typed t) = t
 type_or_any (typing.refused y) = type.Dyn
 
+-- with one more variable in scope, of the type that it has there
 abbrev pub with_variable : List Declaration → VariableTree → List Declaration
 with_variable scope v = scope ++ declared v.name (type_or_any (type_of v.expression (scope_of scope))) (depth_in scope v.expression) ∷ []
 

@@ -20,7 +20,7 @@ first_result = 2
 abbrev pub first_message : ℕ
 first_message = 66
 
--- the words of a region that a verdict may use
+-- how many validations a verdict has words for
 abbrev pub most_validations : ℕ
 most_validations = 64
 

@@ -19,7 +19,7 @@ use Rattle.policy_glue.specs.declared.policy_error.PolicyError.TheVariants.{K1, 
 -- ---- the form of a document: nothing where a key is unknown, missing or ill-typed, or a name, a failure
 -- policy or a reason is not allowed
 
--- a match condition or a variable
+-- the fields of a match condition or of a variable
 unfoldable pub named_keys : List (List ℕ)
 named_keys = codes "name" ∷ codes "expression" ∷ []
 
@@ -44,6 +44,7 @@ abbrev pub kept_if : NameRule → Option Named → Option Named
 kept_if rule (Some n) = if allows rule n.name then Some n else None
 kept_if rule None = None
 
+-- a match condition or a variable
 abbrev pub named_in : NameRule → json.Data → Option Named
 named_in rule d = if has_only named_keys d then kept_if rule (named_parts d) else None
 
@@ -60,7 +61,7 @@ distinct None = None
 abbrev pub named_list_in : NameRule → Option json.Data → Option (List Named)
 named_list_in rule o = distinct (optional_list_in (named_in rule) o)
 
--- the reason of a denial: Invalid where none is set
+-- the reasons that a validation may set
 abbrev pub reason_named : List ℕ → Option Reason
 reason_named s =
     if bytes_eq s (codes "Unauthorized") then Some Unauthorized
@@ -68,12 +69,13 @@ reason_named s =
     else (if bytes_eq s (codes "Invalid") then Some Invalid
     else (if bytes_eq s (codes "RequestEntityTooLarge") then Some RequestEntityTooLarge else None)))
 
+-- the reason of a denial: Invalid where none is set
 unfoldable pub reason_in : Option json.Data → Option Reason
 reason_in None = Some Invalid
 reason_in (Some (json.string s)) = reason_named s
 reason_in (Some _) = None
 
--- a validation
+-- the fields of a validation
 unfoldable pub rule_keys : List (List ℕ)
 rule_keys = codes "expression" ∷ codes "message" ∷ codes "messageExpression" ∷ codes "reason" ∷ []
 
@@ -87,19 +89,21 @@ rule_from None m r x = None
 unfoldable pub rule_parts : json.Data → Option Rule
 rule_parts d = rule_from (text_of (get (codes "expression") d)) (text_or_empty_of (get (codes "message") d)) (reason_in (get (codes "reason") d)) (optional_text_of (get (codes "messageExpression") d))
 
+-- a validation
 abbrev pub rule_in : json.Data → Option Rule
 rule_in d = if has_only rule_keys d then rule_parts d else None
 
--- what is done where an expression cannot be decided: Fail where nothing is said
+-- the two failure policies
 abbrev pub failure_named : List ℕ → Option FailurePolicy
 failure_named s = if bytes_eq s (codes "Fail") then Some Fail else (if bytes_eq s (codes "Ignore") then Some Ignore else None)
 
+-- what is done where an expression cannot be decided: Fail where nothing is said
 abbrev pub failure_in : Option json.Data → Option FailurePolicy
 failure_in None = Some Fail
 failure_in (Some (json.string s)) = failure_named s
 failure_in (Some _) = None
 
--- the specification; what its `matchConstraints` and its `paramKind` say is not looked at
+-- the fields of the specification; what its `matchConstraints` and its `paramKind` say is not looked at
 unfoldable pub spec_keys : List (List ℕ)
 spec_keys = codes "failurePolicy" ∷ codes "matchConditions" ∷ codes "matchConstraints" ∷ codes "paramKind" ∷ codes "validations" ∷ codes "variables" ∷ []
 
@@ -119,11 +123,12 @@ has_spec_form d = has_only spec_keys d && (is_object_or_absent (get (codes "matc
 abbrev pub spec_value_in : json.Data → Option Rules
 spec_value_in d = if has_spec_form d then spec_parts d else None
 
+-- the specification
 abbrev pub spec_in : Option json.Data → Option Rules
 spec_in (Some d) = spec_value_in d
 spec_in None = None
 
--- the document; what its `metadata` says is not looked at
+-- the fields of the document; what its `metadata` says is not looked at
 unfoldable pub top_keys : List (List ℕ)
 top_keys = codes "apiVersion" ∷ codes "kind" ∷ codes "metadata" ∷ codes "spec" ∷ []
 
