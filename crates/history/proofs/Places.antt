@@ -2,7 +2,7 @@
 use Rattle.std.proofs.Common.{◌≡◌, ◌≢◌, ◌%◌, ◌++◌, append-nil, drop, ℕ, zero, suc, ◌+◌, ◌-◌, ◌<◌, ◌≤◌, Bool, true, false, not, List, [], ◌∷◌, length, refl, sym, ap, ◌∙◌, arith, subst, map, Option, Some, None, option_map, get_or, inl, inr, ◌⊎◌}
 use Rattle.std.proofs.lemmas.Bool.{cases_lt}
 use Rattle.std.proofs.lemmas.List.{drop-append-le, drop-drop, drop-map, get_or-map, get_or_default, length-append, length-drop, length-map, map-append, append_assoc}
-use Rattle.std.proofs.lemmas.List.Elements.{All-append, All-cons, All-nil}
+use Rattle.std.proofs.lemmas.List.Elements.{All-append, All-cons, All-drop, All-nil, All-push, All-same}
 use Rattle.circular_buffer.specs.Buffer.{keep_last}
 use Rattle.std.proofs.lemmas.Option.{get_or_from_slice_get, slice_get_within}
 use Rattle.std.specs.List.{All, Contains, slice_get}
@@ -10,7 +10,7 @@ use Rattle.bpf_machine.specs.State.{State}
 use Rattle.bpf_machine.specs.Step.{is_running, next_state}
 use Rattle.bpf_machine.specs.Trace.{state_after}
 use Rattle.bpf_machine.specs.Laws.{state_after-add, state_after-more, state_after-zero, stays_stopped}
-use Rattle.history.specs.Trail.{IsDue, IsNearest, IsReplay, Keeps, Reaches, Trail, with_place}
+use Rattle.history.specs.Trail.{GivesUp, IsDue, IsKept, IsNearest, IsReplay, IsSpared, Keeps, Kept, Reaches, Trail, places_of, with_place}
 
 -- of the first n of these places, none at or before k is greater than p
 abbrev pub NoneNearer : List ℕ → ℕ → ℕ → ℕ → Type 0
@@ -146,16 +146,14 @@ replay_none h k low reaches =
       reaches = reaches_more h.origin h.place (some.0 + 0) k (omega (arith, behind)) reaches;
     }
 
--- a replay from the nearest of the shown place and the one of the checkpoints
-pub replay_from : (h : Trail) (k p r n at : ℕ) → IsNearest (0 ∷ h.checkpoints) k p → (r ≡ p) ⊎ (r ≡ h.place) → r ≤ k → p ≤ r → (h.place ≤ k → h.place ≤ r) → r ≤ at → at ≤ k → Reaches h.origin at k → n ≡ at - r → IsReplay h k n
-replay_from h k p r n at nearest one low more next on within reaches is =
-    let whole : at ≡ r + n = omega (arith, on, is) in
-    record {
-      from = r;
-      nearest = nearest_with h.checkpoints k p h.place r nearest one low more next;
-      at_most = omega (arith, whole, within);
-      reaches = subst (λ (i : ℕ). Reaches h.origin i k) whole reaches;
-    }
+-- a replay from the nearest place at hand
+pub replay_from : (h : Trail) (k r n at : ℕ) → IsNearest (places_of h) k r → at ≤ k → Reaches h.origin at k → n ≡ at - r → IsReplay h k n
+replay_from h k r n at nearest within reaches is = record {
+  from = r;
+  nearest = nearest;
+  at_most = omega (arith, is, within, nearest.at_most);
+  reaches = reaches_more h.origin at (r + n) k (omega (arith, is)) reaches;
+}
 
 -- one step on from the place before k
 pub next_place : (s t u : State) (k : ℕ) → t ≡ state_after (k - 1) s → 1 ≤ k → u ≡ next_state t → u ≡ state_after k s
@@ -241,18 +239,65 @@ pub not_due : (ps : List ℕ) (k p : ℕ) → IsNearest (0 ∷ ps) k p → p ≡
 not_due ps k p nearest same due = due.1 (subst (λ (q : ℕ). Contains (0 ∷ ps) q) same nearest.among)
 
 -- nothing was added, and nothing is gone
-pub keeps_all : (ps qs : List ℕ) → qs ≡ ps → Keeps ps qs
-keeps_all ps qs same = record { added = []; rounds = All-nil (λ (k : ℕ). k % 1024 ≡ 0); gone = 0; rest = same ∙ sym (append-nil ps); room = omega arith }
+gives_none : (gave_up : Bool) (ps qs : List ℕ) → qs ≡ ps → GivesUp gave_up ps qs
+gives_none gave_up ps qs same = record { gone = 0; rest = same; within = omega arith; none = λ told. refl }
 
-pub keeps_one : (ps qs : List ℕ) (k : ℕ) → k % 1024 ≡ 0 → qs ≡ with_place ps k → Keeps ps qs
-keeps_one ps qs k round is = record { added = k ∷ []; rounds = All-cons (λ (i : ℕ). i % 1024 ≡ 0) k [] round (All-nil (λ (i : ℕ). i % 1024 ≡ 0)); gone = length (ps ++ k ∷ []) - 64; rest = is; room = omega arith }
+pub spared_all : (a b : Kept) → b ≡ a → IsSpared a b
+spared_all a b same = record {
+  origin = ap (λ (k : Kept). k.origin) same;
+  gives_up = gives_none b.gave_up a.places b.places (ap (λ (k : Kept). k.places) same);
+  told = λ none. ap (λ (k : Kept). k.gave_up) (sym same) ∙ none;
+}
+
+-- what was only given up is kept
+spared_keeps : (gave_up : Bool) (ps qs : List ℕ) → GivesUp gave_up ps qs → Keeps gave_up ps qs
+spared_keeps gave_up ps qs g = record {
+  added = [];
+  rounds = All-nil (λ (k : ℕ). k % 1024 ≡ 0);
+  gone = g.gone;
+  rest = g.rest ∙ ap (λ (xs : List ℕ). drop g.gone xs) (sym (append-nil ps));
+  within = omega (arith, g.within, ap (λ (xs : List ℕ). length xs) (append-nil ps));
+  room = λ told. omega (arith, g.none told);
+}
+
+pub kept_spared : (a b : Kept) → IsSpared a b → IsKept a b
+kept_spared a b s = record { origin = s.origin; keeps = spared_keeps b.gave_up a.places b.places s.gives_up; told = s.told }
+
+pub kept_all : (a b : Kept) → b ≡ a → IsKept a b
+kept_all a b same = kept_spared a b (spared_all a b same)
+
+keeps_one : (gave_up : Bool) (ps qs : List ℕ) (k : ℕ) → k % 1024 ≡ 0 → qs ≡ with_place ps k → Keeps gave_up ps qs
+keeps_one gave_up ps qs k round is = record {
+  added = k ∷ [];
+  rounds = All-cons (λ (i : ℕ). i % 1024 ≡ 0) k [] round (All-nil (λ (i : ℕ). i % 1024 ≡ 0));
+  gone = length (ps ++ k ∷ []) - 64;
+  rest = is;
+  within = omega arith;
+  room = λ told. omega arith;
+}
 
 -- one after another
-pub keeps_on : (ps qs rs : List ℕ) → Keeps ps qs → Keeps qs rs → Keeps ps rs
-keeps_on ps qs rs a b =
-    let within : a.gone ≤ length (ps ++ a.added) = omega (arith, a.room) in
+spared_gives : (f g : Bool) (ps qs rs : List ℕ) → (g ≡ false → f ≡ false) → GivesUp f ps qs → GivesUp g qs rs → GivesUp g ps rs
+spared_gives f g ps qs rs told a b =
+    let long : length qs ≡ length ps - a.gone = ap (λ (xs : List ℕ). length xs) a.rest ∙ length-drop a.gone ps in
+    record {
+      gone = a.gone + b.gone;
+      rest = b.rest ∙ ap (λ (xs : List ℕ). drop b.gone xs) a.rest ∙ drop-drop b.gone a.gone ps;
+      within = omega (arith, a.within, b.within, long);
+      none = λ none. omega (arith, a.none (told none), b.none none);
+    }
+
+pub spared_on : (a b c : Kept) → IsSpared a b → IsSpared b c → IsSpared a c
+spared_on a b c first second = record {
+  origin = second.origin ∙ first.origin;
+  gives_up = spared_gives b.gave_up c.gave_up a.places b.places c.places second.told first.gives_up second.gives_up;
+  told = λ none. first.told (second.told none);
+}
+
+keeps_on : (f g : Bool) (ps qs rs : List ℕ) → (g ≡ false → f ≡ false) → Keeps f ps qs → Keeps g qs rs → Keeps g ps rs
+keeps_on f g ps qs rs told a b =
     let all : qs ++ b.added ≡ drop a.gone (ps ++ (a.added ++ b.added)) =
-    ap (λ (xs : List ℕ). xs ++ b.added) a.rest ∙ sym (drop-append-le a.gone (ps ++ a.added) b.added within) ∙ ap (λ (xs : List ℕ). drop a.gone xs) (append_assoc ps a.added b.added) in
+    ap (λ (xs : List ℕ). xs ++ b.added) a.rest ∙ sym (drop-append-le a.gone (ps ++ a.added) b.added a.within) ∙ ap (λ (xs : List ℕ). drop a.gone xs) (append_assoc ps a.added b.added) in
     let long : length (qs ++ b.added) ≡ length (ps ++ (a.added ++ b.added)) - a.gone = ap (λ (xs : List ℕ). length xs) all ∙ length-drop a.gone (ps ++ (a.added ++ b.added)) in
     let longer : length (ps ++ a.added) ≤ length (ps ++ (a.added ++ b.added)) = omega (arith, length-append ps a.added, length-append ps (a.added ++ b.added), length-append a.added b.added) in
     record {
@@ -260,5 +305,79 @@ keeps_on ps qs rs a b =
       rounds = All-append (λ (k : ℕ). k % 1024 ≡ 0) a.added b.added a.rounds b.rounds;
       gone = a.gone + b.gone;
       rest = b.rest ∙ ap (λ (xs : List ℕ). drop b.gone xs) all ∙ drop-drop b.gone a.gone (ps ++ (a.added ++ b.added));
-      room = omega (arith, a.room, b.room, long, longer);
+      within = omega (arith, a.within, b.within, long, longer);
+      room = λ none. omega (arith, a.room (told none), b.room none, long, longer);
     }
+
+pub kept_on : (a b c : Kept) → IsKept a b → IsKept b c → IsKept a c
+kept_on a b c first second = record {
+  origin = second.origin ∙ first.origin;
+  keeps = keeps_on b.gave_up c.gave_up a.places b.places c.places second.told first.keeps second.keeps;
+  told = λ none. first.told (second.told none);
+}
+
+-- since these places were those of that run
+pub keeps_since : (ps : List ℕ) (a b : Kept) → a.places ≡ ps → IsKept a b → Keeps b.gave_up ps b.places
+keeps_since ps a b same kept = subst (λ (xs : List ℕ). Keeps b.gave_up xs b.places) same kept.keeps
+
+-- one place more
+pub kept_one : (a b c : Kept) (k : ℕ) → k % 1024 ≡ 0 → IsSpared a b → c.origin ≡ b.origin → c.places ≡ with_place b.places k → c.gave_up ≡ b.gave_up → IsKept a c
+kept_one a b c k round spared origin places told =
+    kept_on a b c (kept_spared a b spared) (record {
+      origin = origin;
+      keeps = keeps_one c.gave_up b.places c.places k round places;
+      told = λ none. sym told ∙ none;
+    })
+
+-- a machine's own place is the nearest to itself
+pub own_place : (ps : List ℕ) (t p : ℕ) → IsNearest (0 ∷ t ∷ ps) t p → p ≡ t
+own_place ps t p nearest = omega (arith, nearest.at_most, nearest.greatest t (contains_tail (t ∷ ps) 0 t (contains_head ps t)) (omega arith))
+
+-- one step on from place k
+pub step_on : (s t u : State) (k m : ℕ) → t ≡ state_after k s → u ≡ next_state t → m ≡ k + 1 → u ≡ state_after m s
+step_on s t u k m here step is = step ∙ ap next_state here ∙ sym (state_after-more k s) ∙ ap (λ (i : ℕ). state_after i s) (sym is)
+
+-- a place that is not the nearest may be given up
+nearest_without_split : (ps : List ℕ) (k t x r p : ℕ) → IsNearest (0 ∷ t ∷ x ∷ ps) k r → r ≢ x → IsNearest (0 ∷ t ∷ ps) k p → r ≡ p
+nearest_without_split ps k t x r p nearest other is =
+    let there : Contains (0 ∷ t ∷ ps) r =
+    elim (contains_cases (t ∷ x ∷ ps) 0 r nearest.among) [
+      | inl start ↦ subst (λ (q : ℕ). Contains (0 ∷ t ∷ ps) q) start (contains_head (t ∷ ps) 0)
+      | inr behind ↦
+          elim (contains_cases (x ∷ ps) t r behind) [
+            | inl same ↦ subst (λ (q : ℕ). Contains (0 ∷ t ∷ ps) q) same (contains_tail (t ∷ ps) 0 t (contains_head ps t))
+            | inr kept ↦
+                elim (contains_cases ps x r kept) [
+                  | inl same ↦ absurd (other (sym same))
+                  | inr rest ↦ contains_tail (t ∷ ps) 0 r (contains_tail ps t r rest)
+                ]
+          ]
+    ] in
+    let here : Contains (0 ∷ t ∷ x ∷ ps) p =
+    elim (contains_cases (t ∷ ps) 0 p is.among) [
+      | inl start ↦ subst (λ (q : ℕ). Contains (0 ∷ t ∷ x ∷ ps) q) start (contains_head (t ∷ x ∷ ps) 0)
+      | inr behind ↦
+          elim (contains_cases ps t p behind) [
+            | inl same ↦ subst (λ (q : ℕ). Contains (0 ∷ t ∷ x ∷ ps) q) same (contains_tail (t ∷ x ∷ ps) 0 t (contains_head (x ∷ ps) t))
+            | inr kept ↦ contains_tail (t ∷ x ∷ ps) 0 p (contains_tail (x ∷ ps) t p (contains_tail ps x p kept))
+          ]
+    ] in
+    omega (arith, is.greatest r there nearest.at_most, nearest.greatest p here is.at_most)
+
+-- the nearest of these places is that of those
+abbrev pub SameNearest : List ℕ → List ℕ → ℕ → ℕ → Type 0
+SameNearest old new t k = (p : ℕ) → IsNearest (0 ∷ t ∷ new) k p → IsNearest (0 ∷ t ∷ old) k p
+
+pub nearest_without : (old qs rs : List ℕ) (t k x r : ℕ) → SameNearest old qs t k → qs ≡ x ∷ rs → IsNearest (0 ∷ t ∷ qs) k r → r ≢ x → SameNearest old rs t k
+nearest_without old qs rs t k x r same is nearest other p found =
+    let wide : IsNearest (0 ∷ t ∷ x ∷ rs) k r = subst (λ (ps : List ℕ). IsNearest (0 ∷ t ∷ ps) k r) is nearest in
+    let one : r ≡ p = nearest_without_split rs k t x r p wide other found in
+    same p (subst (λ (q : ℕ). IsNearest (0 ∷ t ∷ qs) k q) one nearest)
+
+-- the rest of the machines that are kept, each at its place
+pub rest_all : {C : Type 0} (P : C → Type 0) (bs cs : List C) → bs ≡ drop 1 cs → All P cs → All P bs
+rest_all P bs cs is all = All-same P bs (drop 1 cs) is (All-drop P 1 cs all)
+
+-- one more is kept, and the newest of them are
+pub newest_all : {C : Type 0} (P : C → Type 0) (bs cs : List C) (c : C) (room : ℕ) → bs ≡ keep_last room (cs ++ c ∷ []) → All P cs → P c → All P bs
+newest_all P bs cs c room is all one = All-same P bs (keep_last room (cs ++ c ∷ [])) is (All-drop P (length (cs ++ c ∷ []) - room) (cs ++ c ∷ []) (All-push P cs c all one))

@@ -1,22 +1,25 @@
 -- A run that is shown at one of its places, with machines kept at some of them.
-use Rattle.std.specs.Prelude.{◌≡◌, ℕ, ◌+◌, ◌-◌, ◌%◌, ◌<◌, ◌≤◌, false, List, [], ◌∷◌, ◌++◌, length, drop, All, Contains}
+use Rattle.std.specs.Prelude.{◌≡◌, ℕ, ◌+◌, ◌-◌, ◌%◌, ◌<◌, ◌≤◌, Bool, false, List, [], ◌∷◌, ◌++◌, length, drop, All, Contains}
 use Rattle.circular_buffer.specs.Buffer.{keep_last}
 use Rattle.bpf_machine.specs.State.{State}
 use Rattle.bpf_machine.specs.Step.{is_running}
 use Rattle.bpf_machine.specs.Trace.{state_after}
 use Rattle.history.specs.declared.checkpoint.Checkpoint.{Checkpoint}
 
--- the state at place 0, and the places of the checkpoints
+-- the state at place 0, the places of the checkpoints, the oldest first, and whether one was given up for want of memory
 pub record Kept : Type 0 where
   pub origin : State
   pub places : List ℕ
+  pub gave_up : Bool
 
--- the same with the place that is shown, and the steps that were made to show it
+-- the state at place 0, the place that is shown, the checkpoints' places, the steps that were made to show it, and whether the last
+-- call gave up a checkpoint for want of memory
 pub record Trail : Type 0 where
   pub origin : State
   pub place : ℕ
   pub checkpoints : List ℕ
   pub replayed : ℕ
+  pub gave_up : Bool
 
 -- a checkpoint's machine is in the state of the run at its place
 abbrev pub IsCheckpoint : {E : Type 0} → (E → State) → State → Checkpoint E → Type 0
@@ -30,13 +33,40 @@ IsDue places k = (k % 1024 ≡ 0) × (Contains (0 ∷ places) k → ⊥)
 abbrev pub with_place : List ℕ → ℕ → List ℕ
 with_place places k = keep_last 64 (places ++ k ∷ [])
 
--- places behind the old ones were added, multiples of 1,024, and none is gone but the oldest of all, which make room for the newest 64
-pub record Keeps (old new : List ℕ) : Type 0 where
+-- places behind the old ones were added, multiples of 1,024, and none is gone but the oldest of all: those that make room for the
+-- newest 64, and where some were given up, those
+pub record Keeps (gave_up : Bool) (old new : List ℕ) : Type 0 where
   pub added : List ℕ
   pub rounds : All (λ k. k % 1024 ≡ 0) added
   pub gone : ℕ
   pub rest : new ≡ drop gone (old ++ added)
-  pub room : gone ≤ length (old ++ added) - 64
+  pub within : gone ≤ length (old ++ added)
+  pub room : gave_up ≡ false → gone ≤ length (old ++ added) - 64
+
+-- none was added, and none is gone but the oldest, where some were given up
+pub record GivesUp (gave_up : Bool) (old new : List ℕ) : Type 0 where
+  pub gone : ℕ
+  pub rest : new ≡ drop gone old
+  pub within : gone ≤ length old
+  pub none : gave_up ≡ false → gone ≡ 0
+
+-- one run, whose places were kept or given up since
+pub record IsKept (old new : Kept) : Type 0 where
+  pub origin : new.origin ≡ old.origin
+  pub keeps : Keeps new.gave_up old.places new.places
+  pub told : new.gave_up ≡ false → old.gave_up ≡ false
+
+-- one run, whose places were at most given up since
+pub record IsSpared (old new : Kept) : Type 0 where
+  pub origin : new.origin ≡ old.origin
+  pub gives_up : GivesUp new.gave_up old.places new.places
+  pub told : new.gave_up ≡ false → old.gave_up ≡ false
+
+-- place k was added where some may have been given up before
+pub record HasPlace (old new : Kept) (k : ℕ) : Type 0 where
+  pub between : List ℕ
+  pub gives_up : GivesUp new.gave_up old.places between
+  pub added : new.places ≡ with_place between k
 
 -- the run stands at place k in the state of place n, or has not passed it
 abbrev pub Reaches : State → ℕ → ℕ → Type 0

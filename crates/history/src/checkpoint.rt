@@ -1,6 +1,6 @@
 //! A machine and its place in a run.
-ghost use Rattle.std.specs.Prelude.{◌≡◌, ◌≤◌, ◌<◌, ◌+◌, ◌^◌, ◌⊎◌, ◌↔◌, false, IfOk, IsTrue, OnOk};
-ghost use Rattle.bpf_machine.specs.Step.{is_running};
+ghost use Rattle.std.specs.Prelude.{◌≡◌, ◌≤◌, ◌<◌, ◌+◌, ◌^◌, ◌⊎◌, ◌↔◌, false, IfOk, IsTrue, OnErr, OnOk};
+ghost use Rattle.bpf_machine.specs.Step.{is_running, next_state};
 ghost use Rattle.bpf_machine.specs.Trace.{state_after};
 
 use crate::emulator::Emulator;
@@ -34,6 +34,17 @@ impl<E: Emulator> Checkpoint<E> {
     {
         self.machine.run(n)?;
         self.place += n;
+        Ok(())
+    }
+
+    /// One step on. A refused growth leaves it.
+    pub(crate) fn step(&mut self) -> Result<(), AllocError>
+        requires { self.old.place + 1 < 2 ^ 64 }
+        ensures ok { OnOk result ((self.new.place ≡ self.old.place + 1) × (E.state self.new.machine ≡ next_state (E.state self.old.machine))) }
+        ensures err { OnErr result ((self.new.place ≡ self.old.place) × (E.state self.new.machine ≡ E.state self.old.machine)) }
+    {
+        self.machine.step()?;
+        self.place += 1;
         Ok(())
     }
 

@@ -1,6 +1,7 @@
 //! The machines that are kept of a run.
-ghost use Rattle.std.specs.Prelude.{◌≡◌, ◌∷◌, [], IfOk, IsOk, OnErr, OnOk};
-ghost use Rattle.history.specs.Trail.{IsCheckpoint, IsDue, IsNearest, Keeps, with_place};
+ghost use Rattle.std.specs.Prelude.{◌≡◌, ◌∷◌, ◌+◌, ◌^◌, ◌<◌, [], false, IfNone, IfOk, IfSome, IsOk, OnErr, OnOk};
+ghost use Rattle.history.specs.Trail.{HasPlace, IsCheckpoint, IsDue, IsKept, IsNearest, IsSpared};
+ghost use Rattle.bpf_machine.specs.Step.{next_state};
 
 use crate::checkpoint::{Checkpoint, nearer};
 use crate::emulator::Emulator;
@@ -19,6 +20,8 @@ pub(crate) const STRETCH: u64 = 1024;
 pub(crate) struct Checkpoints<E: Emulator> {
     start: Checkpoint<E>,
     ring: HeapCircularBuffer<Checkpoint<E>>,
+    /// Whether one was given up for want of memory.
+    gave_up: bool,
 }
 
 impl<E: Emulator> Model for Checkpoints<E> {
@@ -31,7 +34,7 @@ impl<E: Emulator> Model for Checkpoints<E> {
 
     ghost coded = { Prim.hlevel (codes, coded_stored) };
 
-    ghost view = { λ c. record { origin = E.state c.start.machine; places = map (λ p. p.place) c.ring.items } };
+    ghost view = { λ c. record { origin = E.state c.start.machine; places = map (λ p. p.place) c.ring.items; gave_up = c.gave_up } };
 
     ghost invariant = { λ c. (c.start.place ≡ 0) × (c.ring.capacity ≡ 64) × All (IsCheckpoint E.state (E.state c.start.machine)) c.ring.items };
 }
@@ -41,10 +44,15 @@ impl<E: Emulator> Checkpoints<E> {
     pub(crate) fn new(alloc: Global, machine: E) -> Result<Checkpoints<E>, AllocError>
         ensures origin { IfOk result (λ c. c.origin ≡ E.state machine) }
         ensures places { IfOk result (λ c. c.places ≡ []) }
+        ensures gave_up { IfOk result (λ c. c.gave_up ≡ false) }
     {
         let ring = HeapCircularBuffer::with_capacity(alloc, ROOM)?;
         let start = Checkpoint { place: 0, machine };
-        Ok(Checkpoints { start, ring })
+        Ok(Checkpoints {
+            start,
+            ring,
+            gave_up: false,
+        })
     }
 
     /// The greatest checkpoint at or before place `k`, or the start where there is none.
@@ -61,22 +69,90 @@ impl<E: Emulator> Checkpoints<E> {
         nearest
     }
 
+    /// Begins to tell anew whether a checkpoint is given up.
+    pub(crate) fn tell_anew(&mut self)
+        ensures { self.new ≡ record { origin = self.old.origin; places = self.old.places; gave_up = false } }
+    {
+        self.gave_up = false;
+    }
+
+    /// Whether a checkpoint was given up since that was told anew.
+    pub(crate) fn gave_up(&self) -> bool
+        ensures { result ≡ self.now.gave_up }
+    {
+        self.gave_up
+    }
+
+    /// Gives up the oldest checkpoint, for want of memory.
+    fn take_oldest(&mut self) -> Option<Checkpoint<E>>
+        ensures spared { IsSpared self.old self.new }
+        ensures some { IfSome result (λ c. IsCheckpoint E.state self.old.origin c × (self.old.places ≡ c.place ∷ self.new.places)) }
+        ensures none { IfNone result (self.new.places ≡ []) }
+    {
+        let oldest = self.ring.pop_front()?;
+        self.gave_up = true;
+        Some(oldest)
+    }
+
+    /// A machine of one's own at the greatest place at or before `k` of the start, the checkpoints
+    /// and the machine that is shown. Where memory is refused, the oldest checkpoints are given up
+    /// for it, and the one that is looked for is taken itself.
+    pub(crate) fn aside(
+        &mut self,
+        shown: &Checkpoint<E>,
+        k: u64,
+    ) -> Result<Checkpoint<E>, AllocError>
+        requires { IsCheckpoint E.state self.old.origin shown.now }
+        ensures spared { IsSpared self.old self.new }
+        ensures here { IfOk result (λ c. IsCheckpoint E.state self.old.origin c) }
+        ensures nearest { IfOk result (λ c. IsNearest (0 ∷ shown.now.place ∷ self.old.places) k c.place) }
+        ensures memory { OnErr result (self.new.places ≡ []) }
+    {
+        loop {
+            let nearest = nearer(self.nearest(k), shown, k);
+            let place = nearest.place;
+            if let Ok(copy) = nearest.copy() {
+                return Ok(copy);
+            }
+            let Some(oldest) = self.take_oldest() else {
+                return Err(AllocError);
+            };
+            if oldest.place == place {
+                return Ok(oldest);
+            }
+        }
+    }
+
+    /// One step on of a machine aside. Where memory is refused, the oldest checkpoints are given up
+    /// for it.
+    pub(crate) fn step(&mut self, machine: &mut Checkpoint<E>) -> Result<(), AllocError>
+        requires { machine.old.place + 1 < 2 ^ 64 }
+        ensures spared { IsSpared self.old self.new }
+        ensures ok { OnOk result ((machine.new.place ≡ machine.old.place + 1) × (E.state machine.new.machine ≡ next_state (E.state machine.old.machine))) }
+        ensures memory { OnErr result (self.new.places ≡ []) }
+    {
+        while machine.step().is_err() {
+            if self.take_oldest().is_none() {
+                return Err(AllocError);
+            }
+        }
+        Ok(())
+    }
+
     /// Keeps a copy of this machine, if its place is one for checkpoints and no machine is kept
-    /// there. A refused growth leaves what was kept.
-    #[tactic(auto, using(crate::proofs::Places::keeps_all))]
+    /// there. Where memory is refused, the oldest are given up for it.
     pub(crate) fn keep(&mut self, machine: &Checkpoint<E>) -> Result<(), AllocError>
         requires { IsCheckpoint E.state self.old.origin machine.now }
-        ensures origin { self.new.origin ≡ self.old.origin }
-        ensures due { IsDue self.old.places machine.now.place → OnOk result (self.new.places ≡ with_place self.old.places machine.now.place) }
+        ensures kept { IsKept self.old self.new }
+        ensures due { IsDue self.old.places machine.now.place → OnOk result (HasPlace self.old self.new machine.now.place) }
         ensures not_due { (IsDue self.old.places machine.now.place → ⊥) → IsOk result × (self.new ≡ self.old) }
-        ensures err { OnErr result (self.new ≡ self.old) }
-        ensures keeps { Keeps self.old.places self.new.places }
+        ensures memory { OnErr result (self.new.places ≡ []) }
     {
         let place = machine.place;
         if place % STRETCH != 0 || self.nearest(place).place == place {
             return Ok(());
         }
-        let checkpoint = machine.copy()?;
+        let checkpoint = self.aside(machine, place)?;
         let _oldest = self.ring.push_back(checkpoint);
         Ok(())
     }

@@ -1,14 +1,14 @@
 //! A history that keeps checkpoints of its run and replays what lies between them.
-ghost use Rattle.std.specs.Prelude.{◌≡◌, ◌-◌, ◌<◌, ◌≤◌, [], ◌∷◌, IfOk, IsOk, OnErr, OnOk};
+ghost use Rattle.std.specs.Prelude.{◌≡◌, ◌-◌, ◌<◌, ◌≤◌, [], false, IfOk, IsOk, OnErr, OnOk};
 ghost use Rattle.bpf_machine.specs.Trace.{state_after};
 ghost use Rattle.history.specs.Search.{first_stop, last_stop};
-ghost use Rattle.history.specs.Trail.{IsCheckpoint, IsNearest, IsReplay, Keeps, Reaches, places_of};
+ghost use Rattle.history.specs.Trail.{GivesUp, IsCheckpoint, IsReplay, Keeps, Reaches};
 
-use crate::checkpoint::{Checkpoint, nearer};
+use crate::checkpoint::Checkpoint;
 use crate::checkpoints::Checkpoints;
 use crate::emulator::Emulator;
 use crate::history::History;
-use crate::replay::replay;
+use crate::replay::reach;
 use crate::search::{first_after, last_before};
 use crate::stops::Stops;
 use std::alloc::{AllocError, Global};
@@ -34,18 +34,25 @@ impl<E: Emulator> Model for Past<E> {
 
     ghost coded = { Prim.hlevel (codes, coded_stored) };
 
-    ghost view = { λ h. record { origin = h.checkpoints.origin; place = h.shown.place; checkpoints = h.checkpoints.places; replayed = h.replayed } };
+    ghost view = { λ h. record { origin = h.checkpoints.origin; place = h.shown.place; checkpoints = h.checkpoints.places; replayed = h.replayed; gave_up = h.checkpoints.gave_up } };
 
     ghost invariant = { λ h. IsCheckpoint E.state h.checkpoints.origin h.shown };
 }
 
 impl<E: Emulator> Past<E> {
-    /// The steps of the last `go`: from the nearest machine at hand to the place that it showed, or
-    /// to the end of the stretch in which the run stops before it.
+    /// The steps of the last `go`: from the machine that was nearest at hand to the place that it
+    /// showed, or to the end of the stretch in which the run stops before it.
     pub fn replayed(&self) -> u64
         ensures { result ≡ self.now.replayed }
     {
         self.replayed
+    }
+
+    /// Whether the last `go`, `first` or `last` gave up a checkpoint since memory was refused.
+    pub fn gave_up(&self) -> bool
+        ensures { result ≡ self.now.gave_up }
+    {
+        self.checkpoints.gave_up()
     }
 }
 
@@ -61,6 +68,7 @@ impl<E: Emulator> History for Past<E> {
         ensures place { IfOk result (λ h. h.place ≡ 0) }
         ensures checkpoints { IfOk result (λ h. h.checkpoints ≡ []) }
         ensures replayed { IfOk result (λ h. h.replayed ≡ 0) }
+        ensures gave_up { IfOk result (λ h. h.gave_up ≡ false) }
     {
         let start = machine.copy()?;
         let checkpoints = Checkpoints::new(alloc, start)?;
@@ -79,26 +87,27 @@ impl<E: Emulator> History for Past<E> {
         &self.shown.machine
     }
 
-    #[tactic(auto, using(crate::proofs::Places::keeps_all))]
     fn go(&mut self, k: u64) -> Result<(), AllocError>
         ensures ok { OnOk result (self.new.place ≡ k) }
         ensures err { OnErr result (self.new.place ≡ self.old.place) }
         ensures origin { self.new.origin ≡ self.old.origin }
         ensures replayed { OnOk result (IsReplay self.old k self.new.replayed) }
         ensures unmoved { OnErr result (self.new.replayed ≡ self.old.replayed) }
-        ensures keeps { Keeps self.old.checkpoints self.new.checkpoints }
+        ensures keeps { Keeps self.new.gave_up self.old.checkpoints self.new.checkpoints }
+        ensures memory { OnErr result (self.new.checkpoints ≡ []) }
         // No memory is taken to stay, nor to go on behind a stopped state.
-        ensures no_memory { self.old.place ≤ k → Reaches self.old.origin self.old.place k → IsOk result }
+        ensures no_memory { self.old.place ≤ k → Reaches self.old.origin self.old.place k → IsOk result × (self.new.gave_up ≡ false) }
     {
+        self.checkpoints.tell_anew();
         if self.shown.reaches(k) {
             self.shown.place = k;
             self.replayed = 0;
             return Ok(());
         }
-        let from = nearer(self.checkpoints.nearest(k), &self.shown, k).copy()?;
+        let from = self.checkpoints.aside(&self.shown, k)?;
         let begin = from.place;
-        let reached = replay(&mut self.checkpoints, from, k)?;
-        self.replayed = reached.place - begin;
+        let reached = reach(&mut self.checkpoints, from, &self.shown, k)?;
+        self.replayed = reached.place.saturating_sub(begin);
         self.shown = Checkpoint {
             place: k,
             machine: reached.machine,
@@ -112,19 +121,26 @@ impl<E: Emulator> History for Past<E> {
         ensures place { self.new.place ≡ self.old.place }
         ensures origin { self.new.origin ≡ self.old.origin }
         ensures replayed { self.new.replayed ≡ self.old.replayed }
-        ensures keeps { Keeps self.old.checkpoints self.new.checkpoints }
+        ensures keeps { Keeps self.new.gave_up self.old.checkpoints self.new.checkpoints }
+        ensures memory { OnErr result (self.new.checkpoints ≡ []) }
         // No memory is taken to look one place on, nor behind a stopped state.
-        ensures no_memory { Reaches self.old.origin self.old.place (to - 1) → IsOk result }
+        ensures no_memory { Reaches self.old.origin self.old.place (to - 1) → IsOk result × (self.new.gave_up ≡ false) }
     {
+        self.checkpoints.tell_anew();
         first_after(&mut self.checkpoints, &self.shown, to, &Stops::of(stops))
     }
 
     fn last(&mut self, stops: &[u64]) -> Result<u64, AllocError>
         ensures found { IfOk result (λ j. j ≡ last_stop stops.now self.old.origin self.old.place) }
-        ensures same { self.new ≡ self.old }
-        ensures no_memory { self.old.place ≡ 0 → IsOk result }
-        ensures no_stops { stops.now ≡ [] → IsOk result }
+        ensures place { self.new.place ≡ self.old.place }
+        ensures origin { self.new.origin ≡ self.old.origin }
+        ensures replayed { self.new.replayed ≡ self.old.replayed }
+        ensures gives_up { GivesUp self.new.gave_up self.old.checkpoints self.new.checkpoints }
+        ensures memory { OnErr result (self.new.checkpoints ≡ []) }
+        ensures no_memory { self.old.place ≡ 0 → IsOk result × (self.new.gave_up ≡ false) }
+        ensures no_stops { stops.now ≡ [] → IsOk result × (self.new.gave_up ≡ false) }
     {
-        last_before(&self.checkpoints, self.shown.place, &Stops::of(stops))
+        self.checkpoints.tell_anew();
+        last_before(&mut self.checkpoints, &self.shown, &Stops::of(stops))
     }
 }

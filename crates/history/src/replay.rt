@@ -1,6 +1,6 @@
 //! The way from one place of a run to a later one.
-ghost use Rattle.std.specs.Prelude.{◌≡◌, ◌≤◌, IfOk};
-ghost use Rattle.history.specs.Trail.{IsCheckpoint, Keeps, Reaches};
+ghost use Rattle.std.specs.Prelude.{◌≡◌, ◌≤◌, [], IfOk, OnErr};
+ghost use Rattle.history.specs.Trail.{IsCheckpoint, IsKept, Reaches};
 
 use crate::checkpoint::Checkpoint;
 use crate::checkpoints::{Checkpoints, STRETCH};
@@ -8,8 +8,8 @@ use crate::emulator::Emulator;
 use std::alloc::AllocError;
 
 /// Runs a machine on to place `to`, or to the end of the stretch in which it stops, and keeps
-/// checkpoints on the way.
-#[tactic(auto, using(crate::proofs::Places::keeps_all))]
+/// checkpoints on the way. Where memory is refused, the place that it reached is not known.
+#[tactic(auto, using(crate::proofs::Places::kept_all))]
 pub(crate) fn replay<E: Emulator>(
     checkpoints: &mut Checkpoints<E>,
     from: Checkpoint<E>,
@@ -17,8 +17,7 @@ pub(crate) fn replay<E: Emulator>(
 ) -> Result<Checkpoint<E>, AllocError>
     requires here { IsCheckpoint E.state checkpoints.old.origin from }
     requires order { from.place ≤ to }
-    ensures origin { checkpoints.new.origin ≡ checkpoints.old.origin }
-    ensures keeps { Keeps checkpoints.old.places checkpoints.new.places }
+    ensures kept { IsKept checkpoints.old checkpoints.new }
     ensures here { IfOk result (λ c. IsCheckpoint E.state checkpoints.old.origin c) }
     ensures order { IfOk result (λ c. (from.place ≤ c.place) × (c.place ≤ to)) }
     ensures reaches { IfOk result (λ c. Reaches checkpoints.old.origin c.place to) }
@@ -32,4 +31,52 @@ pub(crate) fn replay<E: Emulator>(
         let _left_out = checkpoints.keep(&at);
     }
     Ok(at)
+}
+
+/// The same step by step, from the nearest machine at hand. Where memory is refused, the oldest
+/// checkpoints are given up for it.
+#[tactic(auto, using(crate::proofs::Places::kept_all))]
+pub(crate) fn replay_sparing<E: Emulator>(
+    checkpoints: &mut Checkpoints<E>,
+    shown: &Checkpoint<E>,
+    to: u64,
+) -> Result<Checkpoint<E>, AllocError>
+    requires here { IsCheckpoint E.state checkpoints.old.origin shown.now }
+    ensures kept { IsKept checkpoints.old checkpoints.new }
+    ensures here { IfOk result (λ c. IsCheckpoint E.state checkpoints.old.origin c) }
+    ensures order { IfOk result (λ c. c.place ≤ to) }
+    ensures reaches { IfOk result (λ c. Reaches checkpoints.old.origin c.place to) }
+    ensures memory { OnErr result (checkpoints.new.places ≡ []) }
+{
+    let mut at = checkpoints.aside(shown, to)?;
+    while !at.reaches(to) {
+        checkpoints.step(&mut at)?;
+        // A checkpoint that memory refuses is left out.
+        let _left_out = checkpoints.keep(&at);
+    }
+    Ok(at)
+}
+
+/// The machine at place `to`, or at the end of the stretch in which it stops before it: by
+/// stretches, and where memory is refused, step by step.
+#[tactic(auto, using(crate::proofs::Places::kept_on))]
+pub(crate) fn reach<E: Emulator>(
+    checkpoints: &mut Checkpoints<E>,
+    from: Checkpoint<E>,
+    shown: &Checkpoint<E>,
+    to: u64,
+) -> Result<Checkpoint<E>, AllocError>
+    requires here { IsCheckpoint E.state checkpoints.old.origin from }
+    requires order { from.place ≤ to }
+    requires shown { IsCheckpoint E.state checkpoints.old.origin shown.now }
+    ensures kept { IsKept checkpoints.old checkpoints.new }
+    ensures here { IfOk result (λ c. IsCheckpoint E.state checkpoints.old.origin c) }
+    ensures order { IfOk result (λ c. c.place ≤ to) }
+    ensures reaches { IfOk result (λ c. Reaches checkpoints.old.origin c.place to) }
+    ensures memory { OnErr result (checkpoints.new.places ≡ []) }
+{
+    match replay(checkpoints, from, to) {
+        Ok(reached) => Ok(reached),
+        Err(_) => replay_sparing(checkpoints, shown, to),
+    }
 }

@@ -1,7 +1,7 @@
 //! Searches of a run both ways.
-ghost use Rattle.std.specs.Prelude.{◌≡◌, ◌-◌, ◌<◌, [], IfOk, IsOk};
+ghost use Rattle.std.specs.Prelude.{◌≡◌, ◌-◌, ◌<◌, ◌+◌, ◌^◌, [], IfOk, IsOk, OnErr};
 ghost use Rattle.history.specs.Search.{first_stop, last_stop};
-ghost use Rattle.history.specs.Trail.{IsCheckpoint, Keeps, Reaches};
+ghost use Rattle.history.specs.Trail.{IsCheckpoint, IsKept, IsSpared, Reaches};
 
 use crate::checkpoint::Checkpoint;
 use crate::checkpoints::Checkpoints;
@@ -12,7 +12,7 @@ use std::alloc::AllocError;
 
 /// The least place after the one shown and up to `to` at which the run is to stop, else `to`.
 /// Keeps checkpoints on the way.
-#[tactic(auto, using(crate::proofs::Places::keeps_all))]
+#[tactic(auto, using(crate::proofs::Places::kept_all))]
 pub(crate) fn first_after<E: Emulator>(
     checkpoints: &mut Checkpoints<E>,
     shown: &Checkpoint<E>,
@@ -21,18 +21,18 @@ pub(crate) fn first_after<E: Emulator>(
 ) -> Result<u64, AllocError>
     requires here { IsCheckpoint E.state checkpoints.old.origin shown.now }
     requires order { shown.now.place < to }
-    ensures origin { checkpoints.new.origin ≡ checkpoints.old.origin }
-    ensures keeps { Keeps checkpoints.old.places checkpoints.new.places }
+    ensures kept { IsKept checkpoints.old checkpoints.new }
     ensures found { IfOk result (λ j. j ≡ first_stop stops.now checkpoints.old.origin shown.now.place (to - shown.now.place)) }
-    ensures no_memory { Reaches checkpoints.old.origin shown.now.place (to - 1) → IsOk result }
+    ensures no_memory { Reaches checkpoints.old.origin shown.now.place (to - 1) → IsOk result × (checkpoints.new ≡ checkpoints.old) }
+    ensures memory { OnErr result (checkpoints.new.places ≡ []) }
 {
     let next = shown.place + 1;
     if shown.reaches(to - 1) {
         return Ok(next);
     }
-    let mut at = shown.copy()?;
+    let mut at = checkpoints.aside(shown, shown.place)?;
     for place in next..to {
-        at.run(1)?;
+        checkpoints.step(&mut at)?;
         if is_stop(&at.machine, stops) {
             return Ok(place);
         }
@@ -42,50 +42,65 @@ pub(crate) fn first_after<E: Emulator>(
     Ok(to)
 }
 
-/// The greatest place before `place` whose `pc` is one of the slots in `stops`, else 0. Goes back
-/// from checkpoint to checkpoint, and nowhere where there is no slot.
+/// The greatest place before the one shown whose `pc` is one of the slots in `stops`, else 0. Goes
+/// back from checkpoint to checkpoint, and nowhere where there is no slot.
+#[tactic(auto, using(crate::proofs::Places::spared_all))]
 pub(crate) fn last_before<E: Emulator>(
-    checkpoints: &Checkpoints<E>,
-    place: u64,
+    checkpoints: &mut Checkpoints<E>,
+    shown: &Checkpoint<E>,
     stops: &Stops<'_>,
 ) -> Result<u64, AllocError>
-    ensures found { IfOk result (λ j. j ≡ last_stop stops.now checkpoints.now.origin place) }
-    ensures no_memory { place ≡ 0 → IsOk result }
-    ensures no_stops { stops.now ≡ [] → IsOk result }
+    requires { IsCheckpoint E.state checkpoints.old.origin shown.now }
+    ensures spared { IsSpared checkpoints.old checkpoints.new }
+    ensures found { IfOk result (λ j. j ≡ last_stop stops.now checkpoints.old.origin shown.now.place) }
+    ensures no_memory { shown.now.place ≡ 0 → IsOk result × (checkpoints.new ≡ checkpoints.old) }
+    ensures no_stops { stops.now ≡ [] → IsOk result × (checkpoints.new ≡ checkpoints.old) }
+    ensures memory { OnErr result (checkpoints.new.places ≡ []) }
 {
     if stops.is_empty() {
         return Ok(0);
     }
-    let mut end = place;
+    let mut end = shown.place;
     while end > 0 {
-        let from = checkpoints.nearest(end - 1);
-        let last = last_of_stretch(&from.machine, end - from.place, stops)?;
-        if last > 0 || stands_at(&from.machine, stops) {
-            return Ok(from.place + last);
+        let from = checkpoints.aside(shown, end - 1)?;
+        let begin = from.place;
+        let is_there = stands_at(&from.machine, stops);
+        let last = last_of_stretch(checkpoints, from, end - begin, stops)?;
+        if last > 0 || is_there {
+            return Ok(begin + last);
         }
-        end = from.place;
+        end = begin;
     }
     Ok(0)
 }
 
 /// The same of the run that begins with this machine, before its place `n`.
-fn last_of_stretch<E: Emulator>(first: &E, n: u64, stops: &Stops<'_>) -> Result<u64, AllocError>
-    requires { 0 < n }
-    ensures { IfOk result (λ j. j ≡ last_stop stops.now (E.state first.now) n) }
+#[tactic(auto, using(crate::proofs::Places::spared_all))]
+fn last_of_stretch<E: Emulator>(
+    checkpoints: &mut Checkpoints<E>,
+    first: Checkpoint<E>,
+    n: u64,
+    stops: &Stops<'_>,
+) -> Result<u64, AllocError>
+    requires some { 0 < n }
+    requires fits { first.place + n < 2 ^ 64 }
+    ensures spared { IsSpared checkpoints.old checkpoints.new }
+    ensures found { IfOk result (λ j. j ≡ last_stop stops.now (E.state first.machine) n) }
+    ensures memory { OnErr result (checkpoints.new.places ≡ []) }
 {
-    let mut machine = first.copy()?;
+    let mut at = first;
     let mut last = 0;
     for place in 1..n {
-        if is_stopped(&machine) {
+        if is_stopped(&at.machine) {
             // The run stands here up to its end.
-            return Ok(if stands_at(&machine, stops) {
+            return Ok(if stands_at(&at.machine, stops) {
                 n - 1
             } else {
                 last
             });
         }
-        machine.step()?;
-        if stands_at(&machine, stops) {
+        checkpoints.step(&mut at)?;
+        if stands_at(&at.machine, stops) {
             last = place;
         }
     }

@@ -1,11 +1,10 @@
-use Rattle.std.proofs.Common.{◌≡◌, ◌≤◌, ◌-◌}
-use Rattle.history.specs.Trail.{IsCheckpoint, Keeps}
+use Rattle.std.proofs.Common.{◌≤◌, ◌-◌}
+use Rattle.history.specs.Trail.{IsCheckpoint, IsKept}
 use Rattle.history.proofs.replay.replay.Given as goal
 
 abbrev pub invariant-loop-place : goal.invariant-loop-place
 invariant-loop-place g l = record {
-  origin : l.checkpoints.origin ≡ l.fn.checkpoints.origin;
-  keeps : Keeps l.fn.checkpoints.places l.checkpoints.places;
+  kept : IsKept l.fn.checkpoints l.checkpoints;
   here : IsCheckpoint g.E.Emulator.state l.fn.checkpoints.origin l.at;
   order : (l.fn.from.place ≤ l.at.place) × (l.at.place ≤ l.to);
 }

@@ -1,7 +1,7 @@
-use Rattle.std.proofs.Common.{◌<◌, ◌∙◌, arith, sym, ap}
+use Rattle.std.proofs.Common.{◌+◌, ◌<◌, ◌∙◌, ap, arith, sym}
 use Rattle.bpf_machine.specs.Trace.{state_after}
-use Rattle.history.proofs.Places.{keeps_on, places_on, reaches_is}
-use Rattle.history.proofs.Searches.{found_here, found_next, found_none, none_further}
+use Rattle.history.proofs.Places.{kept_on, kept_spared, own_place, reaches_is, step_on}
+use Rattle.history.proofs.Searches.{found_here, found_next, found_none, none_first, none_further}
 use Rattle.history.proofs.search.first_after.Goals as goal
 
 pub returns-then-reaches-clause-found : goal.returns-then-reaches-clause-found
@@ -9,23 +9,35 @@ returns-then-reaches-clause-found g c =
     let reached = c.reaches.ensures.0 c.if-reaches.true in
     found_next _ _ _ _ c.requires.order (reaches_is _ _ _ _ c.requires.here reached.1)
 
+pub returns-in_err-at-clause-kept : goal.returns-in_err-at-clause-kept
+returns-in_err-at-clause-kept g c = kept_spared _ _ c.in_err-at.ensures.spared
+
+pub loop-place-init : goal.loop-place-init
+loop-place-init g c = record {
+  kept = kept_spared _ _ c.in_ok-at.ensures.spared;
+  here = c.in_ok-at.ensures.here;
+  place = ap (λ k. k + 1) (own_place _ _ _ c.in_ok-at.ensures.nearest);
+  none = none_first _ _ _ _ (omega arith);
+}
+
 pub returns-then-is_stop-clause-found : goal.returns-then-is_stop-clause-found
 returns-then-is_stop-clause-found g c =
     let after : c.args.shown.now.place < c.loop-place.place = omega (arith, c.loop-place.auto.place) in
-    let here = places_on _ _ _ _ _ _ c.loop-place.invariant.here c.in_ok-run.ensures.1 (sym c.loop-place.invariant.place) in
+    let here = step_on _ _ _ _ _ c.loop-place.invariant.here c.in_ok-step.ensures.ok.1 (sym c.loop-place.invariant.place) in
     found_here _ _ _ _ _ _ _ c.loop-place.invariant.none after c.loop-place-test.true here c.is_stop.ensures c.if-is_stop.true
 
 pub keep-left_out-requires : goal.keep-left_out-requires
-keep-left_out-requires g c = places_on _ _ _ _ _ _ c.loop-place.invariant.here c.in_ok-run.ensures.1 c.in_ok-run.ensures.0 ∙ ap (state_after _) (sym c.loop-place.invariant.origin)
+keep-left_out-requires g c =
+    step_on _ _ _ _ _ c.loop-place.invariant.here c.in_ok-step.ensures.ok.1 c.in_ok-step.ensures.ok.0
+    ∙ ap (state_after _) (sym (c.in_ok-step.ensures.spared.origin ∙ c.loop-place.invariant.kept.origin))
 
 pub loop-place-preserved : goal.loop-place-preserved
 loop-place-preserved g c =
-    let here = places_on _ _ _ _ _ _ c.loop-place.invariant.here c.in_ok-run.ensures.1 (sym c.loop-place.invariant.place) in
+    let here = step_on _ _ _ _ _ c.loop-place.invariant.here c.in_ok-step.ensures.ok.1 (sym c.loop-place.invariant.place) in
     record {
-      origin = c.keep-left_out.ensures.origin ∙ c.loop-place.invariant.origin;
-      keeps = keeps_on _ _ _ c.loop-place.invariant.keeps c.keep-left_out.ensures.keeps;
-      here = places_on _ _ _ _ _ _ c.loop-place.invariant.here c.in_ok-run.ensures.1 c.in_ok-run.ensures.0;
-      place = omega (arith, c.in_ok-run.ensures.0, c.loop-place.invariant.place);
+      kept = kept_on _ _ _ (kept_on _ _ _ c.loop-place.invariant.kept (kept_spared _ _ c.in_ok-step.ensures.spared)) c.keep-left_out.ensures.kept;
+      here = step_on _ _ _ _ _ c.loop-place.invariant.here c.in_ok-step.ensures.ok.1 c.in_ok-step.ensures.ok.0;
+      place = omega (arith, c.in_ok-step.ensures.ok.0, c.loop-place.invariant.place);
       none = none_further _ _ _ _ _ _ c.loop-place.invariant.none here c.is_stop.ensures c.if-is_stop.false;
     }
 

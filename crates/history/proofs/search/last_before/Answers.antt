@@ -1,30 +1,34 @@
-use Rattle.std.proofs.Common.{◌-◌, ◌<◌, ◌∙◌, inl, inr, arith, sym}
+use Rattle.std.proofs.Common.{◌-◌, ◌<◌, ◌∙◌, ap, inl, inr, arith, sym}
+use Rattle.bpf_machine.specs.Trace.{state_after}
+use Rattle.history.proofs.Places.{spared_on}
 use Rattle.history.proofs.Searches.{found_empty, found_first, found_in_stretch, last_low, none_in_stretch}
 use Rattle.history.proofs.search.last_before.Goals as goal
-use Rattle.history.proofs.search.last_before.Goals.{then-last-gt0-via-then-last-gt0, then-last-gt0-via-else-last-gt0+then-stands_at}
+use Rattle.history.proofs.search.last_before.Goals.{then-last-gt0-via-then-last-gt0, then-last-gt0-via-else-last-gt0+then-is_there}
 
 pub returns-then-is_empty-clause-found : goal.returns-then-is_empty-clause-found
 returns-then-is_empty-clause-found g c = found_empty _ _ _ (sym c.is_empty.ensures ∙ c.if-is_empty.true)
 
 pub overflow_add-result : goal.overflow_add-result
 overflow_add-result g c =
-    let before : c.nearest-from.result.now.place < c.loop-end.end = omega (arith, c.nearest-from.ensures.nearest.at_most, c.loop-end-test.true) in
-    let low : c.in_ok-last.last < c.loop-end.end - c.nearest-from.result.now.place = last_low c.args.stops.now (g.E.Emulator.state c.nearest-from.result.now.machine) (c.loop-end.end - c.nearest-from.result.now.place) c.in_ok-last.last (omega (arith, before)) c.in_ok-last.ensures in
+    let before : c.in_ok-from.from.place < c.loop-end.end = omega (arith, c.in_ok-from.ensures.nearest.at_most, c.loop-end-test.true) in
+    let low : c.in_ok-last.last < c.loop-end.end - c.in_ok-from.from.place = last_low c.args.stops.now (g.E.Emulator.state c.in_ok-from.from.machine) (c.loop-end.end - c.in_ok-from.from.place) c.in_ok-last.last (omega (arith, before)) c.in_ok-last.ensures.found in
     omega (arith, before, low, c.loop-end.auto.end-fits)
 
 pub returns-then-last-gt0-clause-found : goal.returns-then-last-gt0-clause-found
 returns-then-last-gt0-clause-found g c =
-    let before : c.nearest-from.result.now.place < c.loop-end.end = omega (arith, c.nearest-from.ensures.nearest.at_most, c.loop-end-test.true) in
-    found_in_stretch _ _ _ _ _ _ _ c.nearest-from.ensures.here before c.loop-end.invariant.order c.loop-end.invariant.none c.in_ok-last.ensures
+    let before : c.in_ok-from.from.place < c.loop-end.end = omega (arith, c.in_ok-from.ensures.nearest.at_most, c.loop-end-test.true) in
+    found_in_stretch _ _ _ _ _ _ _ (c.in_ok-from.ensures.here ∙ ap (state_after _) c.loop-end.invariant.spared.origin) before c.loop-end.invariant.order c.loop-end.invariant.none c.in_ok-last.ensures.found
     (elim c.then-last-gt0.branch [
       | then-last-gt0-via-then-last-gt0 w ↦ inl w.if-last-gt0.true
-      | then-last-gt0-via-else-last-gt0+then-stands_at w ↦ inr (sym w.stands_at.ensures ∙ w.if-stands_at.true)
+      | then-last-gt0-via-else-last-gt0+then-is_there w ↦ inr (sym c.stands_at-is_there.ensures ∙ w.if-is_there.true)
     ])
 
 pub loop-end-preserved : goal.loop-end-preserved
 loop-end-preserved g c = record {
-  order = omega (arith, c.nearest-from.ensures.nearest.at_most, c.loop-end.invariant.order);
-  none = none_in_stretch _ _ _ _ _ _ _ _ c.nearest-from.ensures.here c.loop-end.invariant.none c.in_ok-last.ensures (omega (arith, c.if-last-gt0.false)) c.stands_at.ensures c.if-stands_at.false;
+  spared = spared_on _ _ _ (spared_on _ _ _ c.loop-end.invariant.spared c.in_ok-from.ensures.spared) c.in_ok-last.ensures.spared;
+  same = λ start. absurd (omega (arith, start, c.loop-end-test.true, c.loop-end.invariant.order));
+  order = omega (arith, c.in_ok-from.ensures.nearest.at_most, c.loop-end.invariant.order);
+  none = none_in_stretch _ _ _ _ _ _ _ _ (c.in_ok-from.ensures.here ∙ ap (state_after _) c.loop-end.invariant.spared.origin) c.loop-end.invariant.none c.in_ok-last.ensures.found (omega (arith, c.if-last-gt0.false)) c.stands_at-is_there.ensures c.if-is_there.false;
 }
 
 pub returns-clause-found : goal.returns-clause-found

@@ -1,18 +1,20 @@
-use Rattle.std.proofs.Common.{◌∙◌, arith, sym}
+use Rattle.std.proofs.Common.{◌∙◌, arith, refl, sym}
 use Rattle.bpf_machine.specs.Laws.{state_after-zero}
 use Rattle.history.proofs.Searches.{last_here_is, last_none, last_stands, last_stands_not, last_stays}
-use Rattle.history.proofs.Places.{before_next, next_place, not_running}
+use Rattle.history.proofs.Places.{before_next, next_place, not_running, spared_all, spared_on}
 use Rattle.history.proofs.search.last_of_stretch.Goals as goal
 use Rattle.history.proofs.search.last_of_stretch.Goals.{then-stands_at, else-stands_at, then-stands_at-2, else-stands_at-2}
 
 pub loop-place-init : goal.loop-place-init
 loop-place-init g c = record {
-  here = c.in_ok-machine.ensures ∙ sym (state_after-zero _);
+  spared = spared_all _ _ refl;
+  at = refl;
+  here = sym (state_after-zero _);
   last = last_none _ _;
 }
 
-pub returns-then-is_stopped : goal.returns-then-is_stopped
-returns-then-is_stopped g c =
+pub returns-then-is_stopped-clause-found : goal.returns-then-is_stopped-clause-found
+returns-then-is_stopped-clause-found g c =
     let stopped = not_running _ _ c.is_stopped.ensures c.if-is_stopped.true in
     elim c.if-stands_at.branch [
       | then-stands_at w ↦ w.result-is ∙ last_stands _ _ _ c.loop-place.place _ _ c.loop-place.invariant.here stopped (omega (arith, c.loop-place-test.true)) (omega (arith, c.loop-place-test.true)) c.stands_at.ensures w.if-stands_at.true
@@ -21,8 +23,10 @@ returns-then-is_stopped g c =
 
 pub loop-place-preserved : goal.loop-place-preserved
 loop-place-preserved g c =
-    let here = next_place _ _ _ c.loop-place.place c.loop-place.invariant.here c.loop-place.auto.place c.in_ok-step.ensures.ok in
+    let here = next_place _ _ _ c.loop-place.place c.loop-place.invariant.here c.loop-place.auto.place c.in_ok-step.ensures.ok.1 in
     record {
+      spared = spared_on _ _ _ c.loop-place.invariant.spared c.in_ok-step.ensures.spared;
+      at = omega (arith, c.in_ok-step.ensures.ok.0, c.loop-place.invariant.at);
       here = before_next _ _ _ here;
       last =
           elim c.if-stands_at-2.branch [

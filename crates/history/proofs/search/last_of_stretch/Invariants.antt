@@ -1,10 +1,13 @@
-use Rattle.std.proofs.Common.{◌≡◌, ◌-◌}
+use Rattle.std.proofs.Common.{◌≡◌, ◌-◌, ◌+◌}
 use Rattle.bpf_machine.specs.Trace.{state_after}
 use Rattle.history.specs.Search.{last_stop}
+use Rattle.history.specs.Trail.{IsSpared}
 use Rattle.history.proofs.search.last_of_stretch.Given as goal
 
 abbrev pub invariant-loop-place : goal.invariant-loop-place
 invariant-loop-place g l = record {
-  here : g.E.Emulator.state l.machine ≡ state_after (l.place - 1) (g.E.Emulator.state l.first);
-  last : l.last ≡ last_stop l.stops (g.E.Emulator.state l.first) l.place;
+  spared : IsSpared l.fn.checkpoints l.checkpoints;
+  at : l.at.place + 1 ≡ l.fn.first.place + l.place;
+  here : g.E.Emulator.state l.at.machine ≡ state_after (l.place - 1) (g.E.Emulator.state l.fn.first.machine);
+  last : l.last ≡ last_stop l.stops (g.E.Emulator.state l.fn.first.machine) l.place;
 }

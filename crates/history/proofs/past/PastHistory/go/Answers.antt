@@ -1,22 +1,41 @@
-use Rattle.std.proofs.Common.{◌≡◌, ◌-◌, ◌≤◌, arith, ap, inl, inr}
-use Rattle.history.proofs.Places.{reaches_is, replay_from, replay_none, shown_again, stands}
+use Rattle.std.proofs.Common.{◌∙◌, ◌∷◌, List, ℕ, ap, refl, subst, sym}
+use Rattle.bpf_machine.specs.State.{State}
+use Rattle.bpf_machine.specs.Trace.{state_after}
+use Rattle.history.specs.Trail.{IsNearest, Reaches}
+use Rattle.history.proofs.Places.{keeps_since, kept_all, kept_on, kept_spared, reaches_is, replay_from, replay_none, shown_again, stands}
 use Rattle.history.proofs.past.PastHistory.go.Goals as goal
 
 pub invariant_of-self : goal.invariant_of-self
-invariant_of-self g c = stands _ _ _ _ c.self.invariant (c.reaches.ensures.0 c.if-reaches.true)
+invariant_of-self g c = stands _ _ _ _ c.self.invariant (c.reaches.ensures.0 c.if-reaches.true) ∙ ap (state_after _) (sym (ap (λ k. k.origin) c.tell_anew.ensures))
 
 pub returns-then-reaches-clause-replayed : goal.returns-then-reaches-clause-replayed
 returns-then-reaches-clause-replayed g c =
     let reached = c.reaches.ensures.0 c.if-reaches.true in
     rw (← c.self.view_is) (replay_none _ _ reached.0 (reaches_is _ _ _ _ c.self.invariant reached.1))
 
+pub returns-then-reaches-clause-keeps : goal.returns-then-reaches-clause-keeps
+returns-then-reaches-clause-keeps g c =
+    keeps_since _ c.tell_anew.new.self c.tell_anew.new.self (ap (λ k. k.places) c.tell_anew.ensures ∙ ap (λ h. h.checkpoints) c.self.view_is) (kept_all _ _ refl)
+
+pub returns-in_err-from-clause-keeps : goal.returns-in_err-from-clause-keeps
+returns-in_err-from-clause-keeps g c =
+    keeps_since _ _ _ (ap (λ k. k.places) c.tell_anew.ensures ∙ ap (λ h. h.checkpoints) c.self.view_is) (kept_spared _ _ c.in_err-from.ensures.spared)
+
+pub returns-in_err-reached-clause-keeps : goal.returns-in_err-reached-clause-keeps
+returns-in_err-reached-clause-keeps g c =
+    keeps_since _ _ _ (ap (λ k. k.places) c.tell_anew.ensures ∙ ap (λ h. h.checkpoints) c.self.view_is) (kept_on _ _ _ (kept_spared _ _ c.in_ok-from.ensures.spared) c.in_err-reached.ensures.kept)
+
 pub invariant_of-self-2 : goal.invariant_of-self-2
-invariant_of-self-2 g c = shown_again _ _ _ _ _ c.replay.ensures.origin c.in_ok-reached.ensures.here c.in_ok-reached.ensures.order.1 c.in_ok-reached.ensures.reaches
+invariant_of-self-2 g c = shown_again _ _ _ _ _ c.in_ok-reached.ensures.kept.origin c.in_ok-reached.ensures.here c.in_ok-reached.ensures.order c.in_ok-reached.ensures.reaches
 
 pub returns-clause-replayed : goal.returns-clause-replayed
 returns-clause-replayed g c =
-    let on : c.nearer.result.now.place ≤ c.in_ok-reached.reached.place = omega (arith, c.in_ok-from.ensures.0, c.in_ok-reached.ensures.order.0) in
-    let steps : c.in_ok-reached.reached.place - c.in_ok-from.from.place ≡ c.in_ok-reached.reached.place - c.nearer.result.now.place = omega (arith, c.in_ok-from.ensures.0) in
-    rw (← c.self.view_is) (replay_from _ _ c.nearest.result.now.place c.nearer.result.now.place _ c.in_ok-reached.reached.place c.nearest.ensures.nearest
-    (elim c.nearer.ensures.one [ inl same ↦ inl (ap (λ p. p.place) same) | inr same ↦ inr (ap (λ p. p.place) same) ])
-    c.nearer.ensures.at_most c.nearer.ensures.greatest.0 c.nearer.ensures.greatest.1 on c.in_ok-reached.ensures.order.1 c.in_ok-reached.ensures.reaches steps)
+    let near : IsNearest (0 ∷ c.self.inside.shown.place ∷ c.self.inside.checkpoints.places) c.args.k c.in_ok-from.from.place =
+    subst (λ (ps : List ℕ). IsNearest (0 ∷ c.self.inside.shown.place ∷ ps) c.args.k c.in_ok-from.from.place) (ap (λ k. k.places) c.tell_anew.ensures) c.in_ok-from.ensures.nearest in
+    let reaches : Reaches c.self.inside.checkpoints.origin c.in_ok-reached.reached.place c.args.k =
+    subst (λ (s : State). Reaches s c.in_ok-reached.reached.place c.args.k) (c.in_ok-from.ensures.spared.origin ∙ ap (λ k. k.origin) c.tell_anew.ensures) c.in_ok-reached.ensures.reaches in
+    rw (← c.self.view_is) (replay_from _ _ c.in_ok-from.from.place _ c.in_ok-reached.reached.place near c.in_ok-reached.ensures.order reaches c.saturating_sub-self-inside.ensures)
+
+pub returns-clause-keeps : goal.returns-clause-keeps
+returns-clause-keeps g c =
+    keeps_since _ _ _ (ap (λ k. k.places) c.tell_anew.ensures ∙ ap (λ h. h.checkpoints) c.self.view_is) (kept_on _ _ _ (kept_spared _ _ c.in_ok-from.ensures.spared) c.in_ok-reached.ensures.kept)
