@@ -1,7 +1,7 @@
 mod Bytes
 mod Texts
 mod Asked
-mod Cut
+pub mod Cut
 mod Quit
 mod Addresses
 mod Words

@@ -28,4 +28,4 @@ pub use sessions::session;
 pub use sink::Sink;
 pub use source::Source;
 pub use state_text::registers_and_move;
-pub use transfer::write_all;
+pub use transfer::{next_byte, write_all};

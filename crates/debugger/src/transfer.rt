@@ -10,7 +10,7 @@ use crate::sink::Sink;
 use crate::source::Source;
 
 /// The next byte, or none at the end.
-pub(crate) fn next_byte<R: Source>(r: &mut R) -> Result<Option<u8>, Failed>
+pub fn next_byte<R: Source>(r: &mut R) -> Result<Option<u8>, Failed>
     ensures bytes { IfOk result (λ b. (input : List ℕ) → R.left r.old ≡ Some input → GivesByte input (R.left r.new) b) }
     ensures ok { OnOk result (R.failed r.new ≡ R.failed r.old) }
     ensures kept { OnErr result (KeepsBytes (R.left r.old) (R.left r.new)) }

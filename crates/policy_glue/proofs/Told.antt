@@ -10,7 +10,8 @@ use Rattle.std.specs.Prelude.{slice_get, slice_index, if◌then◌else◌}
 use Rattle.policy_glue.specs.Denials.{denial_told, denials_told, lent, told_in}
 use Rattle.policy_glue.specs.Layout.{Words, Tell, finding_word, message_in, most_validations, outcome_word, truth_word}
 use Rattle.policy_glue.specs.Policy.{Rule, Rules, rule_view, rules_view}
-use Rattle.policy_glue.specs.Response.{Denial, denials_of, response_of, review_tree, tree_of, tree_told}
+use Rattle.policy_glue.specs.Objections.{Objection, objected_tree, objection_by, objection_of, objection_told, response_text}
+use Rattle.policy_glue.specs.Response.{Denial, denials_of, response_of, review_tree, tree_of}
 use Rattle.policy_glue.specs.Verdict.{Finding, Verdict, Truth, Holds, Fails, Errs, Outcome, Skipped, Rejected, Denied, Admitted, denies}
 use Rattle.policy_glue.specs.declared.failure_policy.FailurePolicy.{FailurePolicy}
 use Rattle.policy_glue.specs.declared.failure_policy.FailurePolicy.TheVariants.{Fail, Ignore}
@@ -87,11 +88,11 @@ denials_from f (r ∷ rs) (x ∷ xs) words i (suc n) short told =
     ∙ ap (λ ds. told_in (denial_told f r (truth_word x.truth) x.message) ++ ds) (denials_from f rs xs words (i + 1) n (omega arith) (rest_told x xs words i n told))
     ∙ one_told f r x.truth x.message (denials_of f rs xs)
 
-tree_by : (o : Outcome) (ds : List Denial) (uid : List ℕ) → tree_told (outcome_word o) ds uid ≡ tree_of o ds uid
-tree_by Skipped ds uid = refl
-tree_by Rejected ds uid = refl
-tree_by Denied ds uid = refl
-tree_by Admitted ds uid = refl
+said_by : (o : Outcome) (ds : List Denial) → objection_told (outcome_word o) ds ≡ objection_by o ds
+said_by Skipped ds = refl
+said_by Rejected ds = refl
+said_by Denied ds = refl
+said_by Admitted ds = refl
 
 zero_plus : (k : ℕ) → 0 + k ≡ k
 zero_plus k = omega arith
@@ -102,11 +103,11 @@ from_zero f v words told = record {
   messages = λ k below. ap (slice_get words.messages) (zero_plus k) ∙ told.messages k below;
 }
 
-pub tree_is : (f : FailurePolicy) (rs : List Rule) (v : Verdict) (words : Words) (uid : List ℕ) → length rs ≤ most_validations → Tell f v words → tree_told words.outcome (denials_told f rs words 0) uid ≡ tree_of v.outcome (denials_of f rs v.findings) uid
-tree_is f rs v words uid short told =
-    ap (λ o. tree_told o (denials_told f rs words 0) uid) told.outcome
-    ∙ tree_by v.outcome (denials_told f rs words 0) uid
-    ∙ ap (λ ds. tree_of v.outcome ds uid) (denials_from f rs v.findings words 0 most_validations short (from_zero f v words told))
+objection_is : (f : FailurePolicy) (rs : List Rule) (v : Verdict) (words : Words) → length rs ≤ most_validations → Tell f v words → objection_told words.outcome (denials_told f rs words 0) ≡ objection_by v.outcome (denials_of f rs v.findings)
+objection_is f rs v words short told =
+    ap (λ o. objection_told o (denials_told f rs words 0)) told.outcome
+    ∙ said_by v.outcome (denials_told f rs words 0)
+    ∙ ap (objection_by v.outcome) (denials_from f rs v.findings words 0 most_validations short (from_zero f v words told))
 
 or_right : (a b : Bool) → (a || b) ≡ false → b ≡ false
 or_right true b e = absurd (true≢false e)
@@ -118,11 +119,22 @@ short_by n m e = ltb-false m n e
 few_validations : (p : Rules) → IsAccepted p → length p.validations ≤ most_validations
 few_validations p accepted = short_by (length p.validations) most_validations (or_right (nat_lt most_parts (length p.variables)) _ (or_right (nat_lt most_parts (length p.conditions)) _ accepted.counts))
 
--- the response that is written is the one to the verdict that the words tell
-pub responded : (parts : Parts) (p : Rules) (v : Verdict) (words : Words) (uid bytes : List ℕ) → p ≡ rules_view parts → IsAccepted (rules_view parts) → Tell p.failure_policy v words
-    → bytes ≡ compact_text (review_tree (tree_told words.outcome (denials_told parts.failure_policy (map rule_view parts.validations.items) words 0) uid)) → bytes ≡ response_of p v uid
-unfolding response_of
-responded parts p v words uid bytes is accepted told written =
-    written
-    ∙ ap (λ t. compact_text (review_tree t)) (tree_is parts.failure_policy (map rule_view parts.validations.items) v words uid (few_validations (rules_view parts) accepted) (subst (λ q. Tell q.failure_policy v words) is told))
-    ∙ ap (λ q. compact_text (review_tree (tree_of v.outcome (denials_of q.failure_policy q.validations v.findings) uid))) (sym is)
+-- what is said is what the verdict that the words tell says
+pub objected : (parts : Parts) (p : Rules) (v : Verdict) (words : Words) (said : Option Objection) → p ≡ rules_view parts → IsAccepted (rules_view parts) → Tell p.failure_policy v words
+    → said ≡ objection_told words.outcome (denials_told parts.failure_policy (map rule_view parts.validations.items) words 0) → said ≡ objection_of p v
+objected parts p v words said is accepted told here =
+    here
+    ∙ objection_is parts.failure_policy (map rule_view parts.validations.items) v words (few_validations (rules_view parts) accepted) (subst (λ q. Tell q.failure_policy v words) is told)
+    ∙ ap (λ q. objection_of q v) (sym is)
+
+tree_by : (o : Outcome) (ds : List Denial) (uid : List ℕ) → objected_tree (objection_by o ds) uid ≡ tree_of o ds uid
+tree_by Skipped ds uid = refl
+tree_by Rejected ds uid = refl
+tree_by Denied ds uid = refl
+tree_by Admitted ds uid = refl
+
+-- the response by what a verdict says is the one to the verdict
+pub responded : (p : Rules) (v : Verdict) (uid bytes : List ℕ) (said : Option Objection) → said ≡ objection_of p v → bytes ≡ response_text said uid → bytes ≡ response_of p v uid
+unfolding response_of response_text
+responded p v uid bytes said here written =
+    written ∙ ap (λ o. compact_text (review_tree (objected_tree o uid))) here ∙ ap (λ t. compact_text (review_tree t)) (tree_by v.outcome (denials_of p.failure_policy p.validations v.findings) uid)

@@ -11,6 +11,7 @@ pub mod Emission
 pub mod Evaluation
 pub mod Layout
 pub mod Limits
+pub mod Objections
 pub mod OneAnswer
 pub mod Policy
 pub mod Program

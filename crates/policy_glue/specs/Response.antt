@@ -102,10 +102,3 @@ response_of p verdict uid =
 
 abbrev pub separator_of : Bool → List ℕ
 separator_of later = if later then codes "; " else []
-
--- the tree that the word of an outcome names
-abbrev pub tree_told : ℕ → List Denial → List ℕ → json.Data
-tree_told outcome ds uid =
-    if nat_eq outcome 2 then rejected_tree uid
-    else (if nat_eq outcome 3 then denials_tree ds uid
-    else allowed_tree uid)

@@ -1,15 +1,14 @@
 //! Responses.
 
-ghost use Rattle.std.specs.Prelude.{◌≡◌, ◌≤◌, vec_len, IfOk};
+ghost use Rattle.std.specs.Prelude.{◌≡◌, option_map, IfOk};
 ghost use Rattle.serde_json.specs.View.{view};
-ghost use Rattle.serde_json.specs.Written.{compact_text};
 ghost use Rattle.policy_glue.specs.Verdict as decided;
-ghost use Rattle.policy_glue.specs.Denials.{denials_in};
-ghost use Rattle.policy_glue.specs.Layout.{most_validations, words_view, Tell};
-ghost use Rattle.policy_glue.specs.Response.{allowed_tree, denials_tree, denied_tree, rejected_tree, response_of, review_tree, status_tree, tree_told};
+ghost use Rattle.policy_glue.specs.Layout.{words_view, Tell};
+ghost use Rattle.policy_glue.specs.Objections.{objected_tree, objection_view, response_text};
+ghost use Rattle.policy_glue.specs.Response.{allowed_tree, denied_tree, response_of, review_tree, status_tree};
 
-use crate::denials::{denials, first_reason, joined};
-use crate::parts::Parts;
+use crate::objecting::objection_of;
+use crate::objection::Objection;
 use crate::policy::Policy;
 use crate::reason::Reason;
 use crate::verdict::Verdict;
@@ -26,32 +25,32 @@ pub fn respond(
 ) -> Result<Vec<u8>, AllocError>
     ensures { (v : decided.Verdict) → Tell policy.now.failure_policy v (words_view verdict.now) → IfOk result (λ bytes. bytes.items ≡ response_of policy.now v uid.now) }
 {
-    written(alloc, &policy.parts, verdict, uid)
+    let said = objection_of(alloc, policy, verdict)?;
+    response_text(alloc, &said, uid)
 }
 
-#[tactic(auto, unfolding(crate::specs::Response::review_tree))]
-fn written(
+/// The text of the response by what is said against the request with this uid, and the one that allows
+/// it where nothing is (AdmissionReview, `admission.k8s.io/v1`). The error says that there is no memory
+/// for it.
+#[tactic(auto, unfolding(crate::specs::Objections::response_text, crate::specs::Response::review_tree))]
+pub fn response_text(
     alloc: Global,
-    parts: &Parts,
-    verdict: &Verdict,
+    said: &Option<Objection>,
     uid: &str,
 ) -> Result<Vec<u8>, AllocError>
-    requires { vec_len parts.now.validations ≤ most_validations }
-    ensures { IfOk result (λ bytes. bytes.items ≡ compact_text (review_tree (tree_told verdict.now.outcome (denials_in parts.now verdict.now) uid.now))) }
+    ensures { IfOk result (λ bytes. bytes.items ≡ response_text (option_map objection_view said.now) uid.now) }
 {
-    let response = response(alloc, parts, verdict, uid)?;
+    let response = response(alloc, said, uid)?;
     let review = review(alloc, response)?;
     review.to_vec(alloc)
 }
 
-fn response(alloc: Global, parts: &Parts, verdict: &Verdict, uid: &str) -> Result<Value, AllocError>
-    requires { vec_len parts.now.validations ≤ most_validations }
-    ensures { IfOk result (λ v. view v ≡ tree_told verdict.now.outcome (denials_in parts.now verdict.now) uid.now) }
+fn response(alloc: Global, said: &Option<Objection>, uid: &str) -> Result<Value, AllocError>
+    ensures { IfOk result (λ v. view v ≡ objected_tree (option_map objection_view said.now) uid.now) }
 {
-    match verdict.outcome {
-        2 => rejected(alloc, uid),
-        3 => denied_by(alloc, parts, verdict, uid),
-        _ => allowed(alloc, uid),
+    match said {
+        Some(objection) => denied(alloc, uid, objection.message.as_str(), objection.reason),
+        None => allowed(alloc, uid),
     }
 }
 
@@ -59,32 +58,6 @@ fn allowed(alloc: Global, uid: &str) -> Result<Value, AllocError>
     ensures { IfOk result (λ v. view v ≡ allowed_tree uid.now) }
 {
     json!(in alloc; {"allowed": true, "uid": uid})
-}
-
-fn rejected(alloc: Global, uid: &str) -> Result<Value, AllocError>
-    ensures { IfOk result (λ v. view v ≡ rejected_tree uid.now) }
-{
-    denied(alloc, uid, "match conditions not decided", Reason::Invalid)
-}
-
-/// The response to the denials of a verdict.
-fn denied_by(
-    alloc: Global,
-    parts: &Parts,
-    verdict: &Verdict,
-    uid: &str,
-) -> Result<Value, AllocError>
-    requires { vec_len parts.now.validations ≤ most_validations }
-    ensures { IfOk result (λ v. view v ≡ denials_tree (denials_in parts.now verdict.now) uid.now) }
-{
-    let denials = denials(
-        alloc,
-        parts.failure_policy,
-        parts.validations.as_slice(),
-        verdict,
-    )?;
-    let text = joined(alloc, denials.as_slice())?;
-    denied(alloc, uid, text.as_str(), first_reason(denials.as_slice()))
 }
 
 fn denied(alloc: Global, uid: &str, text: &str, reason: Reason) -> Result<Value, AllocError>

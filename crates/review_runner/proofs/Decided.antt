@@ -31,6 +31,10 @@ use Rattle.policy_glue.specs.Budget.{policy_work}
 use Rattle.policy_glue.specs.Compiled.{IsCompiled}
 use Rattle.policy_glue.specs.Evaluation.{condition_values, decision_of, environment_with, rule_value, rule_values, values_of}
 use Rattle.policy_glue.specs.Limits.{Compiles}
+use Rattle.serde_json.specs.Written.{compact_text}
+use Rattle.policy_glue.specs.Objections.{objected_tree, objection_by, objection_of, response_text}
+use Rattle.policy_glue.specs.Response.{Denial, denials_of, response_of, review_tree, tree_of}
+use Rattle.policy_glue.specs.Verdict.{Skipped, Rejected, Denied, Admitted, Verdict}
 use Rattle.policy_glue.specs.Limits as limits
 use Rattle.policy_glue.specs.Policy.{Rules}
 use Rattle.policy_glue.specs.ProgramTrees.{Decides, Over, Left}
@@ -39,7 +43,9 @@ use Rattle.policy_glue.specs.Trees.{PolicyTree}
 use Rattle.policy_glue.specs.Verdict.{Finding, Outcome, decided, decided_before, finding_of, judged_by, truth_of, verdict_of}
 use Rattle.policy_glue.specs.declared.compile_error.CompileError.{CompileError}
 use Rattle.policy_glue.specs.declared.failure_policy.FailurePolicy.{FailurePolicy}
-use Rattle.review_runner.specs.Deciding.{Answer, AnswersFrom, Documents, IsAnswered, IsPolicy, IsStopped, IsToldBy, IsUnended, Reviews, Runs, answer_view, started, values_given}
+use Rattle.review_runner.specs.Deciding.{Answer, Documents, IsAnswered, IsPolicy, IsStopped, IsUnended, Reviews, Runs, answer_of, answer_view, is_allowed, decision, started, values_given}
+use Rattle.review_runner.specs.Saying.{IsSaid, IsSaidBy, Said, Says, SaysFrom, answer_by, is_silent, said_of, said_view}
+use Rattle.review_runner.specs.declared.said.Said.{Said as CodeSaid}
 use Rattle.review_runner.specs.Reviews.{Gives, Parts, document_given, documents_from, documents_given, parts_given, root_refusal, uid_in, uid_of}
 use Rattle.review_runner.specs.declared.reply.Reply.{Reply}
 use Rattle.review_runner.specs.declared.run_error.RunError.{RunError}
@@ -155,18 +161,18 @@ module _ (laws : Laws) (d : Documents) (rules : Rules) (image : loader.Contents)
   few : length (decision_of f t roots).findings ≤ length rules.validations
   few = let many = compiled_length rules (Ok t) t ready.compiled.compiles refl in omega (arith, few_findings f t roots, many)
 
-  answered_by : (w : ℕ) (answer : Answer) → s.status ≡ Exited w → IsToldBy rules s (uid_in d.review) answer → Decides f t roots (started roots) s → IsAnswered d n answer
-  answered_by w answer is told (Over by why) = cc
-  answered_by w answer is told (Left by layout) = record { run = run_of d rules image roots ready; exits = by; answer_is = told (decision_of f t roots) memory few layout }
+  said_by : (w : ℕ) (said : Said) → s.status ≡ Exited w → IsSaidBy rules s (uid_in d.review) said → Decides f t roots (started roots) s → IsSaid d n said
+  said_by w said is told (Over by why) = cc
+  said_by w said is told (Left by layout) = record { run = run_of d rules image roots ready; exits = by; said_is = told (decision_of f t roots) memory few layout }
 
-  pub reviewed : (result : Result Answer RunError) → AnswersFrom rules s (uid_in d.review) result → Reviews d n result
-  reviewed (Ok answer) from = answered_by from.0.0 answer from.0.1 from.1 (stopped (stopped_status s (Exited from.0.0) from.0.1 refl))
-  reviewed (Err (N1 e)) from = absurd from
-  reviewed (Err N2) from = absurd from
-  reviewed (Err N3) from = absurd from
-  reviewed (Err N4) from = unended from
-  reviewed (Err N5) from = stopped_by from.0 from.1 (stopped (stopped_status s (Fault from.0) from.1 refl))
-  reviewed (Err Memory) from = tt
+  pub said_from : (result : Result Said RunError) → SaysFrom rules s (uid_in d.review) result → Says d n result
+  said_from (Ok said) from = said_by from.0.0 said from.0.1 from.1 (stopped (stopped_status s (Exited from.0.0) from.0.1 refl))
+  said_from (Err (N1 e)) from = absurd from
+  said_from (Err N2) from = absurd from
+  said_from (Err N3) from = absurd from
+  said_from (Err N4) from = unended from
+  said_from (Err N5) from = stopped_by from.0 from.1 (stopped (stopped_status s (Fault from.0) from.1 refl))
+  said_from (Err Memory) from = tt
 
 -- the fifth document
 pub at_four : (ds : List Value) (x : Value) → length (map view ds) ≡ 5 → slice_get (map view ds) 4 ≡ Some (view (get_or ds 4 x))
@@ -178,18 +184,18 @@ at_four (a ∷ b ∷ c ∷ e ∷ []) x five = absurd (omega (arith, five))
 at_four (a ∷ b ∷ c ∷ e ∷ g ∷ more) x five = refl
 
 -- a review whose program has run
-pub was_run : Laws → (d : Documents) (rules : Rules) (image : loader.Contents) (values : Contents) (n : ℕ) (s : State) (request : json.Data) (uid : List ℕ) (result : Result Answer RunError)
+pub was_run : Laws → (d : Documents) (rules : Rules) (image : loader.Contents) (values : Contents) (n : ℕ) (s : State) (request : json.Data) (uid : List ℕ) (result : Result Said RunError)
     → (ready : Ready d rules image values) → s ≡ state_after n (start_state image values) → uid ≡ uid_of request → (length ready.documents ≡ 5 → slice_get ready.documents 4 ≡ Some request)
-    → AnswersFrom rules s uid result → Reviews d n result
+    → SaysFrom rules s uid result → Says d n result
 was_run laws d rules image values n s request uid result ready stands named at from =
     let five = are_five (Some d.review) d.namespace d.params ready.documents ready.are_documents in
     let own = are_started ready.documents values five.five ready.starts in
     let same : uid ≡ uid_in d.review = named ∙ uid_is d.review d.namespace d.params ready.documents request ready.are_documents (at five.five) in
     let ready : Ready d rules image (started own.roots) = record { is_said = ready.is_said; compiled = ready.compiled; documents = ready.documents; are_documents = ready.are_documents; starts = ready.starts ∙ ap Ok own.are } in
     let stands : s ≡ state_after n (start_state image (started own.roots)) = stands ∙ ap (λ (c : Contents). state_after n (start_state image c)) own.are in
-    let from : AnswersFrom rules (state_after n (start_state image (started own.roots))) (uid_in d.review) result =
-    subst (λ (z : State). AnswersFrom rules z (uid_in d.review) result) stands (subst (λ (u : List ℕ). AnswersFrom rules s u result) same from) in
-    reviewed laws d rules image own.roots ready n result from
+    let from : SaysFrom rules (state_after n (start_state image (started own.roots))) (uid_in d.review) result =
+    subst (λ (z : State). SaysFrom rules z (uid_in d.review) result) stands (subst (λ (u : List ℕ). SaysFrom rules s u result) same from) in
+    said_from laws d rules image own.roots ready n result from
 
 -- ---- refusals before it
 
@@ -210,14 +216,14 @@ given_refusal : (review : List ℕ) (namespace params : Option (List ℕ)) (e : 
 unfolding documents_given
 given_refusal review namespace params e is = of_documents (parts_given (Some review)) (document_given namespace) (document_given params) e is
 
-by_documents : (d : Documents) (n : ℕ) (e : RunError) → IsPolicy d.policy → values_given d ≡ Err e → IsOfDocuments e → Reviews d n (Err e)
-by_documents d n e policy is (inl two) = subst (λ (q : RunError). Reviews d n (Err q)) (sym two) (policy, is ∙ ap Err two)
-by_documents d n e policy is (inr three) = subst (λ (q : RunError). Reviews d n (Err q)) (sym three) (policy, is ∙ ap Err three)
+by_documents : (d : Documents) (n : ℕ) (e : RunError) → IsPolicy d.policy → values_given d ≡ Err e → IsOfDocuments e → Says d n (Err e)
+by_documents d n e policy is (inl two) = subst (λ (q : RunError). Says d n (Err q)) (sym two) (policy, is ∙ ap Err two)
+by_documents d n e policy is (inr three) = subst (λ (q : RunError). Says d n (Err q)) (sym three) (policy, is ∙ ap Err three)
 
-no_documents : (d : Documents) (n : ℕ) (e : RunError) → IsPolicy d.policy → documents_given (Some d.review) d.namespace d.params ≡ Err e → Reviews d n (Err e)
+no_documents : (d : Documents) (n : ℕ) (e : RunError) → IsPolicy d.policy → documents_given (Some d.review) d.namespace d.params ≡ Err e → Says d n (Err e)
 no_documents d n e policy is = by_documents d n e policy (refused_documents d.review d.namespace d.params e is) (given_refusal d.review d.namespace d.params e is)
 
-not_given : (d : Documents) (n : ℕ) (e : RunError) → IsPolicy d.policy → Gives {B = List Value} (λ ds. map view ds) (documents_given (Some d.review) d.namespace d.params) (Err e) → Reviews d n (Err e)
+not_given : (d : Documents) (n : ℕ) (e : RunError) → IsPolicy d.policy → Gives {B = List Value} (λ ds. map view ds) (documents_given (Some d.review) d.namespace d.params) (Err e) → Says d n (Err e)
 not_given d n (N1 x) policy due = no_documents d n (N1 x) policy due
 not_given d n N2 policy due = no_documents d n N2 policy due
 not_given d n N3 policy due = no_documents d n N3 policy due
@@ -230,26 +236,70 @@ refusal_by true = inr refl
 refusal_by false = inl refl
 
 no_roots : (d : Documents) (n : ℕ) (ds : List json.Data) (e : TableError) → IsPolicy d.policy → documents_given (Some d.review) d.namespace d.params ≡ Ok ds → start_contents ds ≡ Err e → IsOfDocuments (root_refusal e)
-    → Reviews d n (Err (root_refusal e))
+    → Says d n (Err (root_refusal e))
 no_roots d n ds e policy documents is of = by_documents d n (root_refusal e) policy (refused_roots d.review d.namespace d.params ds e documents is) of
 
 not_started : (d : Documents) (n : ℕ) (ds : List json.Data) (e : TableError) → IsPolicy d.policy → documents_given (Some d.review) d.namespace d.params ≡ Ok ds → Starts {S = Contents} (λ c. c) (start_contents ds) (Err e)
-    → Reviews d n (Err (root_refusal e))
+    → Says d n (Err (root_refusal e))
 not_started d n ds (V1 place) policy documents due = no_roots d n ds (V1 place) policy documents due (refusal_by (nat_eq place 6 || nat_eq place 7))
 not_started d n ds (V2 place) policy documents due = no_roots d n ds (V2 place) policy documents due (refusal_by (nat_eq place 6 || nat_eq place 7))
 not_started d n ds V3 policy documents due = no_roots d n ds V3 policy documents due (inl refl)
 not_started d n ds table_error.Memory policy documents due = tt
 
-handed_on : (d : Documents) (n : ℕ) (e : RunError) (result : Result Reply RunError) → IsErrAnd result (λ q. q ≡ e) → Reviews d n (Err e) → Reviews d n (answer_view result)
-handed_on d n e (Ok reply) is reviews = absurd is
-handed_on d n e (Err q) is reviews = subst (λ (x : RunError). Reviews d n (Err x)) (sym is) reviews
+handed_on : (d : Documents) (n : ℕ) (e : RunError) (result : Result CodeSaid RunError) → IsErrAnd result (λ q. q ≡ e) → Says d n (Err e) → Says d n (said_view result)
+handed_on d n e (Ok x) is reviews = absurd is
+handed_on d n e (Err q) is reviews = subst (λ (x : RunError). Says d n (Err x)) (sym is) reviews
 
 -- a refusal of the documents is handed on
-pub documents_refused : (d : Documents) (n : ℕ) (rules : Rules) (image : loader.Contents) (e : RunError) (result : Result Reply RunError) → policy_in d.policy ≡ Ok rules → IsCompiled rules image
-    → IsErrAnd result (λ q. q ≡ e) → Gives {B = List Value} (λ ds. map view ds) (documents_given (Some d.review) d.namespace d.params) (Err e) → Reviews d n (answer_view result)
+pub documents_refused : (d : Documents) (n : ℕ) (rules : Rules) (image : loader.Contents) (e : RunError) (result : Result CodeSaid RunError) → policy_in d.policy ≡ Ok rules → IsCompiled rules image
+    → IsErrAnd result (λ q. q ≡ e) → Gives {B = List Value} (λ ds. map view ds) (documents_given (Some d.review) d.namespace d.params) (Err e) → Says d n (said_view result)
 documents_refused d n rules image e result said c is due = handed_on d n e result is (not_given d n e (has_policy d.policy rules image said c) due)
 
 -- and one of the roots
-pub roots_refused : (d : Documents) (n : ℕ) (rules : Rules) (image : loader.Contents) (ds : List json.Data) (e : TableError) (result : Result Reply RunError) → policy_in d.policy ≡ Ok rules → IsCompiled rules image
-    → documents_given (Some d.review) d.namespace d.params ≡ Ok ds → IsErrAnd result (λ q. q ≡ root_refusal e) → Starts {S = Contents} (λ c. c) (start_contents ds) (Err e) → Reviews d n (answer_view result)
+pub roots_refused : (d : Documents) (n : ℕ) (rules : Rules) (image : loader.Contents) (ds : List json.Data) (e : TableError) (result : Result CodeSaid RunError) → policy_in d.policy ≡ Ok rules → IsCompiled rules image
+    → documents_given (Some d.review) d.namespace d.params ≡ Ok ds → IsErrAnd result (λ q. q ≡ root_refusal e) → Starts {S = Contents} (λ c. c) (start_contents ds) (Err e) → Says d n (said_view result)
 roots_refused d n rules image ds e result said c documents is due = handed_on d n (root_refusal e) result is (not_started d n ds e (has_policy d.policy rules image said c) documents due)
+
+-- ---- answers by what is said
+
+allowed_by : (o : Outcome) (ds : List Denial) → is_silent (objection_by o ds) ≡ is_allowed o
+allowed_by Skipped ds = refl
+allowed_by Rejected ds = refl
+allowed_by Denied ds = refl
+allowed_by Admitted ds = refl
+
+tree_by : (o : Outcome) (ds : List Denial) (uid : List ℕ) → objected_tree (objection_by o ds) uid ≡ tree_of o ds uid
+tree_by Skipped ds uid = refl
+tree_by Rejected ds uid = refl
+tree_by Denied ds uid = refl
+tree_by Admitted ds uid = refl
+
+text_is : (p : Rules) (v : Verdict) (uid : List ℕ) → response_text (objection_of p v) uid ≡ response_of p v uid
+unfolding response_of response_text
+text_is p v uid = ap (λ t. compact_text (review_tree t)) (tree_by v.outcome (denials_of p.failure_policy p.validations v.findings) uid)
+
+answer_is : (p : Rules) (v : Verdict) (uid : List ℕ) → answer_by (said_of p v uid) ≡ answer_of p v uid
+answer_is p v uid =
+    let text = text_is p v uid in
+    let allowed = allowed_by v.outcome (denials_of p.failure_policy p.validations v.findings) in
+    λ i. record { response = text i; allowed = allowed i }
+
+-- the reply that says it
+pub answered : (d : Documents) (n : ℕ) (said : Said) (answer : Answer) → IsSaid d n said → answer ≡ answer_by said → Reviews d n (Ok answer)
+answered d n said answer is by = record {
+  run = is.run;
+  exits = is.exits;
+  answer_is = by ∙ ap answer_by is.said_is ∙ answer_is is.run.rules (decision is.run) (uid_in d.review);
+}
+
+same_refusal : (d : Documents) (n : ℕ) (e : RunError) → Says d n (Err e) → Reviews d n (Err e)
+same_refusal d n (N1 e) says = says
+same_refusal d n N2 says = says
+same_refusal d n N3 says = says
+same_refusal d n N4 says = says
+same_refusal d n N5 says = says
+same_refusal d n Memory says = says
+
+pub review_refused : (d : Documents) (n : ℕ) (e : RunError) (result : Result Reply RunError) → IsErrAnd result (λ q. q ≡ e) → Says d n (Err e) → Reviews d n (answer_view result)
+review_refused d n e (Ok reply) is says = absurd is
+review_refused d n e (Err q) is says = subst (λ (x : RunError). Reviews d n (Err x)) (sym is) (same_refusal d n e says)

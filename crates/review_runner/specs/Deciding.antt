@@ -1,8 +1,6 @@
 -- The answer to a review under a policy.
-use Rattle.std.specs.Prelude.{◌≡◌, ℕ, ◌+◌, ◌*◌, ◌<◌, ◌≤◌, ◌⊎◌, Bool, true, false, ◌||◌, nat_eq, List, [], ◌∷◌, ◌++◌, length, map, Option, Some, Result, Ok, Err}
-use Rattle.guest_memory.specs.Memory.{IsMemory}
+use Rattle.std.specs.Prelude.{◌≡◌, ℕ, ◌+◌, ◌*◌, ◌<◌, ◌⊎◌, Bool, true, false, List, [], ◌∷◌, ◌++◌, map, Option, Some, Result, Ok, Err}
 use Rattle.guest_memory.specs.declared.fault.Fault.TheVariants.{F8}
-use Rattle.guest_memory.specs.declared.fault.Fault as guest
 use Rattle.loader.specs.Contents as loader
 use Rattle.value_store.specs.Placing.{Contents, charge_limit, first_values}
 use Rattle.value_store.specs.Roots.{sizes}
@@ -14,7 +12,7 @@ use Rattle.bpf_machine.specs.declared.status.Status.TheVariants.{Exited, Fault, 
 use Rattle.policy_glue.specs.Budget.{IsDeepPolicy, policy_spent, policy_work}
 use Rattle.policy_glue.specs.Compiled.{IsCompiled}
 use Rattle.policy_glue.specs.Evaluation.{decision_of}
-use Rattle.policy_glue.specs.Layout.{IsLayout, outcome_word}
+use Rattle.policy_glue.specs.Layout.{outcome_word}
 use Rattle.policy_glue.specs.Limits.{Compiles}
 use Rattle.policy_glue.specs.Policy.{Rules}
 use Rattle.policy_glue.specs.Reading.{policy_in}
@@ -149,23 +147,3 @@ Reviews d n (Err N3) = IsPolicy d.policy × (values_given d ≡ Err N3)
 Reviews d n (Err N4) = IsUnended d n
 Reviews d n (Err N5) = IsStopped d n
 Reviews d n (Err Memory) = Unit {0}
-
--- ---- parts
-
--- whether the word of an outcome is one that allows the request
-abbrev pub is_allowing : ℕ → Bool
-is_allowing outcome = nat_eq outcome 1 || nat_eq outcome 4
-
--- the answer by a state that has exited with a verdict in its verdict region
-abbrev pub IsToldBy : Rules → State → List ℕ → Answer → Type 0
-IsToldBy p s uid answer = (v : Verdict) → IsMemory s.memory → length v.findings ≤ length p.validations → IsLayout p.failure_policy v s.values.values s.memory.verdict → answer ≡ answer_of p v uid
-
--- the answer by the state in which a program stands
-abbrev pub AnswersFrom : Rules → State → List ℕ → Result Answer RunError → Type 0
-AnswersFrom p s uid (Ok answer) = ((w : ℕ) × (s.status ≡ Exited w)) × IsToldBy p s uid answer
-AnswersFrom p s uid (Err (N1 e)) = ⊥
-AnswersFrom p s uid (Err N2) = ⊥
-AnswersFrom p s uid (Err N3) = ⊥
-AnswersFrom p s uid (Err N4) = s.status ≡ Running
-AnswersFrom p s uid (Err N5) = (f : guest.Fault) × (s.status ≡ Fault f)
-AnswersFrom p s uid (Err Memory) = Unit {0}

@@ -8,6 +8,7 @@ pub mod Order
 pub mod Reviews
 pub mod Deciding
 pub mod OneAnswer
+pub mod Saying
 pub mod RootRows
 pub mod Rows
 pub mod Opening

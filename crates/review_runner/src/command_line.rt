@@ -28,7 +28,7 @@ fn option_argument<'a>(alloc: Global, name: &'a str) -> Arg<'a>
 
 // one that has to be there
 #[tactic(auto, unfolding(crate::specs::Commands::required_option_rule))]
-fn required_option_argument<'a>(alloc: Global, name: &'a str) -> Arg<'a>
+pub fn required_option_argument<'a>(alloc: Global, name: &'a str) -> Arg<'a>
     ensures rule { rule_of result ≡ required_option_rule name.entry.now }
     ensures local { result.global ≡ false }
 {
@@ -37,7 +37,7 @@ fn required_option_argument<'a>(alloc: Global, name: &'a str) -> Arg<'a>
 
 // --steps N, the most instructions that may run
 #[tactic(auto, unfolding(crate::specs::Commands::steps_rule))]
-fn steps_argument<'a>(alloc: Global) -> Arg<'a>
+pub fn steps_argument<'a>(alloc: Global) -> Arg<'a>
     ensures rule { rule_of result ≡ steps_rule }
     ensures local { result.global ≡ false }
 {
@@ -80,7 +80,7 @@ fn list_command<'a>(alloc: Global) -> Result<Command<'a>, AllocError>
 
 // the command, and the options for a namespace and for parameters
 #[tactic(auto, unfolding(crate::specs::Commands::with_documents))]
-fn with_documents<'a>(alloc: Global, command: Command<'a>) -> Result<Command<'a>, AllocError>
+pub fn with_documents<'a>(alloc: Global, command: Command<'a>) -> Result<Command<'a>, AllocError>
     ensures shape { IfOk result (λ c. app_of c ≡ with_documents (app_of command.entry)) }
     ensures local { (fields_of command.entry).has_globals ≡ false → IfOk result (λ c. (fields_of c).has_globals ≡ false) }
 {

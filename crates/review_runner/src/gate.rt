@@ -6,19 +6,21 @@ ghost use Rattle.bpf_machine.specs.Starts.{StartsAreTables};
 ghost use Rattle.bpf_machine.specs.States.{StatesAreKept};
 ghost use Rattle.bpf_machine.specs.Trace.{state_after};
 ghost use Rattle.value_store.specs.Laws.{StartIsCanonical};
-ghost use Rattle.review_runner.specs.Deciding.{answer_view, is_allowing, AnswersFrom, CompilesDocument, IsPolicyOf, IsToldBy, Reviews};
+ghost use Rattle.review_runner.specs.Deciding.{answer_view, CompilesDocument, IsPolicyOf, Reviews};
 ghost use Rattle.review_runner.specs.Reviews.{uid_of};
+ghost use Rattle.review_runner.specs.Saying.{said_value, said_view, IsSaidBy, Says, SaysFrom};
 
 use crate::compiled_policy::{CompiledPolicy, compiled};
 use crate::policy_refusal::PolicyRefusal;
 use crate::reply::Reply;
 use crate::root_values::root_documents;
 use crate::run_error::RunError;
+use crate::said::Said;
 use bpf_machine::laws::{starts_are_tables, states_are_kept};
 use bpf_machine::{Machine, Status};
 use guest_memory::Guest;
 use loader::Image;
-use policy_glue::{Policy, Verdict, respond};
+use policy_glue::{Policy, Verdict, objection_of};
 use serde_json::Value;
 use std::alloc::{AllocError, Global};
 use std::marker::Model;
@@ -74,12 +76,30 @@ impl Gate {
         // It answers as `review` does under each policy document that gives this gate.
         ensures { (policy : List ℕ) → IsPolicyOf policy self.now → Reviews (record { policy = policy; review = review.now; namespace = option_map (λ b. b.now) namespace.entry; params = option_map (λ b. b.now) params.entry }) n (answer_view result) }
     {
+        let said = self.say(review, namespace, params, n)?;
+        Ok(said.reply(self.alloc)?)
+    }
+
+    /// What the policy says of a review, in the terms of `decide`.
+    ///
+    /// # Errors
+    ///
+    /// The first refusal, as `decide` has them.
+    pub fn say(
+        &self,
+        review: &[u8],
+        namespace: Option<&[u8]>,
+        params: Option<&[u8]>,
+        n: u64,
+    ) -> Result<Said, RunError>
+        ensures { (policy : List ℕ) → IsPolicyOf policy self.now → Says (record { policy = policy; review = review.now; namespace = option_map (λ b. b.now) namespace.entry; params = option_map (λ b. b.now) params.entry }) n (said_view result) }
+    {
         starts_stand();
         let documents = root_documents(self.alloc, Some(review), namespace, params)?;
         let table = Table::of_roots(self.alloc, &documents)?;
         let machine = ran(self.alloc, &self.compiled.image, table, n)?;
         let uid = uid_of(&documents[4]);
-        answer(self.alloc, &self.compiled.policy, &machine, uid)
+        said(self.alloc, &self.compiled.policy, &machine, uid)
     }
 }
 
@@ -118,42 +138,33 @@ fn uid_of(request: &Value) -> &str
     }
 }
 
-/// The answer to the request with this uid, by the state in which the policy's program stands.
-fn answer(
+/// What is said to the request with this uid, by the state in which the policy's program stands.
+fn said(
     alloc: Global,
     policy: &Policy,
     machine: &Machine<Table, Guest>,
     uid: &str,
-) -> Result<Reply, RunError>
-    ensures { AnswersFrom policy.now machine.now uid.now (answer_view result) }
+) -> Result<Said, RunError>
+    ensures { SaysFrom policy.now machine.now uid.now (said_view result) }
 {
     match machine.status() {
-        Status::Exited(_) => Ok(reply(alloc, policy, machine, uid)?),
+        Status::Exited(_) => Ok(said_by(alloc, policy, machine, uid)?),
         Status::Fault(_) => Err(RunError::N5),
         Status::Running => Err(RunError::N4),
     }
 }
 
-/// The reply by the verdict that the policy's program has left.
-fn reply(
+/// What is said by the verdict that the policy's program has left.
+fn said_by(
     alloc: Global,
     policy: &Policy,
     machine: &Machine<Table, Guest>,
     uid: &str,
-) -> Result<Reply, AllocError>
-    ensures { IfOk result (λ r. IsToldBy policy.now machine.now uid.now (record { response = r.response.items; allowed = r.allowed })) }
+) -> Result<Said, AllocError>
+    ensures { IfOk result (λ x. IsSaidBy policy.now machine.now uid.now (said_value x)) }
 {
     let verdict = Verdict::of(machine.memory(), machine.values(), policy);
-    let response = respond(alloc, policy, &verdict, uid)?;
-    Ok(Reply {
-        response,
-        allowed: allows(verdict.outcome),
-    })
-}
-
-/// Whether the word of an outcome is one that allows the request.
-fn allows(outcome: u64) -> bool
-    ensures { result ≡ is_allowing outcome }
-{
-    outcome == 1 || outcome == 4
+    let objection = objection_of(alloc, policy, &verdict)?;
+    let uid = String::from_str(alloc, uid)?;
+    Ok(Said { objection, uid })
 }

@@ -40,7 +40,7 @@ pub fn read_files<F: Files>(
 }
 
 /// What the file of this name holds, where there is a name.
-pub(crate) fn read_given<F: Files>(
+pub fn read_given<F: Files>(
     alloc: Global,
     name: &Option<String>,
     files: &mut F,

@@ -41,7 +41,7 @@ pub fn exit_code<F: Files, R: Source, W: Sink, E: Sink>(
 }
 
 /// Writes the refusal's line. There is nowhere to tell of a write that fails.
-fn say<E: Sink>(alloc: Global, refusal: Refusal, errors: &mut E)
+pub fn say<E: Sink>(alloc: Global, refusal: Refusal, errors: &mut E)
     ensures { Says (stream (E.taken errors.old) (E.failed errors.old)) (stream (E.taken errors.new) (E.failed errors.new)) (Err refusal) }
 {
     let line = refusal_line(alloc, refusal);
@@ -112,7 +112,7 @@ fn asked_order(alloc: Global, words: &[String]) -> Result<Order, OrderError>
 }
 
 /// The texts of the words.
-fn texts_of<'a>(alloc: Global, words: &'a [String]) -> Result<Vec<&'a str>, AllocError>
+pub fn texts_of<'a>(alloc: Global, words: &'a [String]) -> Result<Vec<&'a str>, AllocError>
     ensures { IfOk result (λ texts. map (λ s. s.now) texts.items ≡ map string_bytes words.entry.now) }
 {
     let mut texts = Vec::new(alloc);
