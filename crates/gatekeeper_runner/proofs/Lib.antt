@@ -1,0 +1,4 @@
+mod OneLine
+mod Going
+mod Kept
+mod Saying

@@ -1,0 +1,52 @@
+-- The answer to one line.
+use Rattle.std.proofs.Common.{◌≡◌, ℕ, ◌<◌, ◌≤◌, Bool, true, false, List, [], length, take, Option, Some, None, sym, ap, ◌∙◌, subst, append-nil, Result, Ok, Err, true≢false}
+use Rattle.std.specs.Prelude.{IfOk, IsErr, nat_lt}
+use Rattle.std.proofs.lemmas.Bool.{ltb-false, ltb-true}
+use Rattle.debugger.specs.Streams.{AddsBytes}
+use Rattle.policy_glue.specs.Objections.{response_text}
+use Rattle.review_runner.specs.Reviews.{document_of}
+use Rattle.review_runner.specs.Saying.{Said}
+use Rattle.review_runner.specs.declared.run_error.RunError.{RunError}
+use Rattle.review_runner.specs.declared.run_error.RunError.TheVariants.{N2, Memory}
+use Rattle.gatekeeper_runner.specs.Lines.{Answers, IsKept, decided, line_of, longest_line, passed_over, refusal_text, too_long, uid_shown}
+use Rattle.gatekeeper_runner.specs.Together.{SayTogether, Terms}
+use Rattle.gatekeeper_runner.specs.Told.{Answered, AnsweredPart}
+use Rattle.gatekeeper_runner.proofs.Kept.{kept_long, kept_whole}
+
+module _ (t : Terms) where
+  pub all_said : (line text : List ℕ) (said : Said) → 0 < length line → length line ≤ longest_line → SayTogether t line (Ok said) → text ≡ response_text said.objection said.uid → Answers t line (line_of text)
+  all_said line text said some short says is = subst (λ (x : List ℕ). Answers t line (line_of x)) (sym is) (decided {result = Ok said} some short (λ e. cc) says)
+
+  pub one_refused : (line text : List ℕ) (e : RunError) → 0 < length line → length line ≤ longest_line → SayTogether t line (Err e) → (e ≡ Memory → ⊥) → text ≡ refusal_text e (uid_shown (document_of line)) → Answers t line (line_of text)
+  one_refused line text e some short says why is = subst (λ (x : List ℕ). Answers t line (line_of x)) (sym is) (decided {result = Err e} some short (λ same. why (cc)) says)
+
+  pub was_long : (lacks : Bool) (kept line text : List ℕ) → lacks ≡ false → IsKept lacks kept line → true ≡ nat_lt longest_line (length kept) → text ≡ line_of (refusal_text N2 None) → Answers t line text
+  was_long true kept line text held keeps long is = absurd (cc)
+  was_long false kept line text held keeps long is = subst (Answers t line) (sym is) (too_long (kept_long longest_line kept line keeps (ltb-true _ _ (sym long))))
+
+  pub was_short : (lacks : Bool) (kept line text : List ℕ) → lacks ≡ false → IsKept lacks kept line → false ≡ nat_lt longest_line (length kept) → (0 < length kept → length kept ≤ longest_line → Answers t kept text) → 0 < length line → Answers t line text
+  was_short true kept line text held keeps short answers some = absurd (cc)
+  was_short false kept line text held keeps short answers some =
+      let few = ltb-false _ _ (sym short) in
+      let same = kept_whole longest_line kept line keeps few in
+      subst (λ (l : List ℕ). Answers t l text) same (answers (subst (λ (l : List ℕ). 0 < length l) (sym same) some) few)
+
+  pub nothing_written : (line : List ℕ) (old : Option (List ℕ)) → line ≡ [] → Answered t line old old
+  nothing_written line old none = record { text = []; answers = passed_over none; written = λ before is. is ∙ ap Some (sym (append-nil before)) }
+
+  pub written_whole : (line text given : List ℕ) (old new : Option (List ℕ)) → Answers t line text → given ≡ text → AddsBytes old new given → Answered t line old new
+  written_whole line text given old new answers is adds = record { text = text; answers = answers; written = subst (AddsBytes old new) is adds }
+
+  pub written_part : (line text given : List ℕ) (old new : Option (List ℕ)) → Answers t line text → given ≡ text → (n : ℕ) × (n < length given) × AddsBytes old new (take n given) → AnsweredPart t line old new
+  written_part line text given old new answers is part = record {
+    text = text;
+    answers = answers;
+    many = part.0;
+    is_cut = subst (λ (x : List ℕ). part.0 < length x) is part.1;
+    written = subst (λ (x : List ℕ). AddsBytes old new (take part.0 x)) is part.2;
+  }
+
+-- where there is a text, memory was not wanted
+pub refuses : {X E : Type 0} (r : Result X E) (P Q : X → Type 0) (e : RunError) → (e ≡ Memory → IsErr r) → ((x : X) → (e ≡ Memory → ⊥) → P x → Q x) → IfOk r P → IfOk r Q
+refuses (Ok x) P Q e memory so is = so x (λ same. true≢false (sym (memory same))) is
+refuses (Err q) P Q e memory so is = tt

@@ -1,0 +1,66 @@
+//! The line that is read.
+ghost use Rattle.std.specs.Prelude.{◌≡◌, ◌++◌, ◌∷◌, [], ◌<◌, ℕ, List, length, nat_lt, true, false};
+ghost use Rattle.gatekeeper_runner.specs.Lines.{longest_line, Keeps};
+
+use std::alloc::Global;
+
+/// The most bytes of a line that is read; a longer one is refused.
+const LONGEST: usize = 16_777_216;
+
+/// What is kept of a line while it is read.
+#[derive(Drop)]
+pub struct Line {
+    /// Its bytes, up to one more than the longest line that is read.
+    pub bytes: Vec<u8>,
+    /// Whether there was no memory for one of them.
+    pub lacks: bool,
+}
+
+impl Line {
+    /// No byte so far. It takes no memory.
+    pub fn new(alloc: Global) -> Line
+        ensures { Keeps result [] }
+    {
+        Line {
+            bytes: Vec::new(alloc),
+            lacks: false,
+        }
+    }
+
+    /// The line's next byte.
+    pub fn push(&mut self, byte: u8)
+        ensures { (line : List ℕ) → Keeps self.old line → Keeps self.new (line ++ byte ∷ []) }
+    {
+        if self.lacks || self.is_too_long() {
+            return;
+        }
+        match self.bytes.push(byte) {
+            Ok(()) => {}
+            Err(_) => self.lacks = true,
+        }
+    }
+
+    /// The next line begins.
+    pub fn clear(&mut self)
+        ensures { Keeps self.new [] }
+    {
+        self.bytes.clear();
+        self.lacks = false;
+    }
+
+    /// Whether no byte was read.
+    pub fn is_empty(&self) -> bool
+        ensures empty { (line : List ℕ) → Keeps self.now line → result ≡ true → line ≡ [] }
+        ensures some { (line : List ℕ) → Keeps self.now line → result ≡ false → 0 < length line }
+    {
+        !self.lacks && self.bytes.is_empty()
+    }
+
+    /// Whether it has more bytes than the longest line that is read.
+    #[tactic(auto, unfolding(crate::specs::Lines::longest_line))]
+    pub fn is_too_long(&self) -> bool
+        ensures { result ≡ nat_lt longest_line (length self.now.bytes.items) }
+    {
+        self.bytes.len() > LONGEST
+    }
+}
