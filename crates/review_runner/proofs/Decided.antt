@@ -43,7 +43,7 @@ use Rattle.policy_glue.specs.Trees.{PolicyTree}
 use Rattle.policy_glue.specs.Verdict.{Finding, Outcome, decided, decided_before, finding_of, judged_by, truth_of, verdict_of}
 use Rattle.policy_glue.specs.declared.compile_error.CompileError.{CompileError}
 use Rattle.policy_glue.specs.declared.failure_policy.FailurePolicy.{FailurePolicy}
-use Rattle.review_runner.specs.Deciding.{Answer, Documents, IsAnswered, IsPolicy, IsStopped, IsUnended, Reviews, Runs, answer_of, answer_view, is_allowed, decision, started, values_given}
+use Rattle.review_runner.specs.Deciding.{Answer, Documents, IsPolicy, IsStopped, IsUnended, Reviews, Runs, answer_of, answer_view, is_allowed, decision, started, values_given}
 use Rattle.review_runner.specs.Saying.{IsSaid, IsSaidBy, Said, Says, SaysFrom, answer_by, is_silent, said_of, said_view}
 use Rattle.review_runner.specs.declared.said.Said.{Said as CodeSaid}
 use Rattle.review_runner.specs.Reviews.{Gives, Parts, document_given, documents_from, documents_given, parts_given, root_refusal, uid_in, uid_of}
