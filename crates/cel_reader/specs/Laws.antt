@@ -15,7 +15,7 @@ HasOneTree = (room other : ℕ) (ws : List Word) (a b : Tree) → IsExpression r
 abbrev pub KeepsWithMoreRoom : Type 0
 KeepsWithMoreRoom = (room more : ℕ) (ws : List Word) (a : Tree) → room ≤ more → IsExpression room ws a → IsExpression more ws a
 
--- words go wrong behind one number of them, and in one way
+-- words that are no expression go wrong behind one number of them at most, and in one way
 pub record GoesWrongOnce (ws : List Word) : Type 0 where
   pub misfit : (count other : ℕ) → MisfitAt count ws → MisfitAt other ws → count ≡ other
   pub deep : (count other : ℕ) → DeepAt count ws → DeepAt other ws → count ≡ other

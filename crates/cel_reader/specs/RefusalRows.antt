@@ -9,6 +9,7 @@ abbrev pub times : ℕ → List ℕ → List ℕ
 times zero text = []
 times (suc n) text = text ++ times n text
 
+-- each text with its refusal
 abbrev pub refused_texts : List (List ℕ × ReadError)
 refused_texts =
     (codes "namespace", P4 0) ∷
@@ -44,6 +45,13 @@ refused_texts =
     (codes "-(9223372036854775808)", P3 2) ∷
     (codes "9223372036854775808", P3 0) ∷
     (codes "a # b", P1 2) ∷
+    (codes ") #", P1 2) ∷
+    (codes "1.5", P4 2) ∷
+    (codes "1u", P4 1) ∷
+    (codes ".a", P4 0) ∷
+    (codes "a.?b", P4 2) ∷
+    (codes "a in in b", P4 5) ∷
+    (codes "a. // b", P4 7) ∷
     (codes "'ab", P2 0) ∷
     (times 101 (codes "("), P5 100) ∷
     (times 101 (codes "["), P5 100) ∷
@@ -52,13 +60,16 @@ refused_texts =
     (times 101 (codes "a.f("), P5 403) ∷
     (times 101 (codes "a["), P5 201) ∷
     (times 101 (codes "a?a:") ++ codes "a", P5 401) ∷
+    (times 101 (codes "(") ++ codes ")", P5 100) ∷
+    (codes "1 1" ++ times 101 (codes "("), P4 2) ∷
     (times 100 (codes "["), P4 100) ∷
     (times 100 (codes "(") ++ codes "1(", P4 101) ∷ []
 
+-- each of these is what is answered
 abbrev pub Stand : List (List ℕ × ReadError) → Type 0
 Stand [] = Unit {0}
 Stand (row ∷ rows) = IsAnswer row.0 (Err row.1) × Stand rows
 
--- each is answered so
+-- all of them are
 abbrev pub RefusalRowsStand : Type 0
 RefusalRowsStand = Stand refused_texts

@@ -12,8 +12,8 @@ pub fn one_tree()
     ensures kept { KeepsWithMoreRoom }
 {}
 
-/// But for want of memory a text has one answer, its tree or one refusal with its place. For words go
-/// wrong behind one number of them, and in one way.
+/// But for want of memory a text has one answer at most, its tree or one refusal with its place. For
+/// words that are no expression go wrong behind one number of them at most, and in one way.
 pub fn one_answer()
     ensures place { (ws : List Word) → GoesWrongOnce ws }
     ensures answer { HasOneAnswer }

@@ -69,7 +69,7 @@ pub fn program_decides()
     decodes_spelling();
 }
 
-/// A policy has one answer, its trees or its first refusal, and one image.
+/// A policy has one answer at most, its trees or its first refusal, and one image.
 pub fn compiles_once()
     ensures answer { HasOneAnswer }
     ensures image { HasOneImage }

@@ -6,4 +6,6 @@ use Rattle.review_runner.specs.declared.run_error.RunError.TheVariants.{Memory}
 
 -- two answers to one review, within the same steps and neither for want of memory, are the same response or refusal
 abbrev pub HasOneAnswer : Type 0
-HasOneAnswer = (d : Documents) (n : ℕ) (a b : Result Answer RunError) → a ≢ Err Memory → b ≢ Err Memory → Reviews d n a → Reviews d n b → a ≡ b
+HasOneAnswer =
+    (d : Documents) (n : ℕ) (a b : Result Answer RunError) → a ≢ Err Memory → b ≢ Err Memory
+    → Reviews d n a → Reviews d n b → a ≡ b

@@ -8,7 +8,8 @@ use bpf_machine::laws::starts_are_tables;
 use policy_glue::laws::compiles_once;
 use value_store::laws::values_are_as_said;
 
-/// Within the same steps a review has one answer, its response or its refusal, but for want of memory.
+/// Within the same steps a review has one answer at most, its response or its refusal, but for want of
+/// memory.
 pub fn reviews_once()
     ensures { HasOneAnswer }
 {
