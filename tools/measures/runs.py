@@ -17,17 +17,17 @@ class Runs:
     def run(self, words, lines="", statuses=(0, 4)):
         """The seconds of one run, whose output is dropped and whose status is one of these."""
         began = time.perf_counter()
-        ended = subprocess.run([self.program, *words], input=lines.encode(), stdout=subprocess.DEVNULL)
+        ended = subprocess.run([self.program, *words], input=lines.encode(), stdout=subprocess.DEVNULL, stderr=subprocess.PIPE)
         seconds = time.perf_counter() - began
         if ended.returncode not in statuses:
-            sys.exit(f"measure: {' '.join(words)} ended with status {ended.returncode}")
+            sys.exit(f"measure: {' '.join(words)} ended with status {ended.returncode}: {ended.stderr.decode()}")
         return seconds
 
     def memory(self, words, lines=""):
         """The greatest resident memory of one run, in megabytes."""
         with tempfile.NamedTemporaryFile("r") as report:
             watched = ["env", "time", "-q", "-f", "%M", "-o", report.name, self.program, *words]
-            subprocess.run(watched, input=lines.encode(), stdout=subprocess.DEVNULL)
+            subprocess.run(watched, input=lines.encode(), stdout=subprocess.DEVNULL, stderr=subprocess.DEVNULL)
             return int(report.read()) / 1024
 
     def best(self, words, lines="", statuses=(0, 4), count=3):

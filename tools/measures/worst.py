@@ -26,7 +26,7 @@ call 3
 ja again
 """
 
-# a list of the text at `object.t`, joined with itself so often as is asked for, and shown
+# a list of the text at `object.t`, joined with itself as often as is asked for
 DOUBLING = """mov64 r1, 4
 mov64 r2, 0
 call 20
@@ -80,6 +80,15 @@ def searches(runs):
         on_request(runs, f"! in, {count:,} texts", expression.replace("h in", "!(h in").replace(".h)", ".h))"), request)
 
 
+def comparisons(runs):
+    """Two lists that differ in their last item, compared in each turn of a loop."""
+    for size in SIZES:
+        count = 1_000 * size
+        first = list(range(count))
+        thing = {"l": list(range(1_000)), "a": first, "b": [*first[:-1], -1]}
+        on_request(runs, f"!=, {count:,} ints, 1,000 times", "object.l.all(x, object.a != object.b)", {"object": thing})
+
+
 def long_keys(runs):
     """A long key that is named in each turn of a loop, and one whose beginning is compared."""
     for size in SIZES:
@@ -123,7 +132,7 @@ def sessions(runs):
     for size in SIZES:
         session(runs, f"c 1000000 over {1_000 * size:,} items", image, "c 1000000\n", {"items": list(range(2, 1_000 * size + 2))})
     image = runs.image("doubling", DOUBLING.format(turns=14))
-    session(runs, "v of 268 MB", image, "c 1000\nv 25\n", {"t": "x" * 16_384})
+    session(runs, "v of 134 MB", image, "c 1000\nv 25\n", {"t": "x" * 16_384})
     for size in SIZES:
         session(runs, f"a line of {500_000 * size:,} bytes", image, "x" * (500_000 * size) + "\n", {"t": "x"})
 
@@ -131,6 +140,7 @@ def sessions(runs):
 def measure(runs):
     """Each of them."""
     searches(runs)
+    comparisons(runs)
     long_keys(runs)
     shapes(runs)
     sessions(runs)
