@@ -1,10 +1,9 @@
-use Rattle.std.proofs.Common.{◌≡◌, ◌+◌, ◌<◌, ◌≤◌, [], ◌∷◌, ◌++◌, length, get_or, max, take, sym, ap, subst, ◌∙◌, refl, arith}
+use Rattle.std.proofs.Common.{◌≡◌, ◌+◌, ◌<◌, ◌≤◌, [], ◌∷◌, ◌++◌, length, get_or, max, take, sym, subst, refl, arith}
 use Rattle.std.proofs.lemmas.List.{take_more, take_all, length-take-le}
 use Rattle.json.specs.Print.{quoted}
 use Rattle.value_store.specs.Value.{map}
 use Rattle.value_store.specs.Plain.{saturated}
 use Rattle.value_table.specs.Meaning.{part_of, entries_at}
-use Rattle.value_table.specs.Heaps.{IsText}
 use Rattle.value_table.specs.Heap.{heap_values}
 use Rattle.value_table.specs.Measures.{IsMeasure}
 use Rattle.value_table.specs.declared.part.Part.{Part}
