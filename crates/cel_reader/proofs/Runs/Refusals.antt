@@ -19,7 +19,8 @@ use Rattle.cel_reader.specs.Answers.{place_at, IsAnswer}
 use Rattle.cel_reader.specs.RefusalRows.{RefusalRowsStand, Stand, refused_texts}
 use Rattle.cel_reader.proofs.Places.{misfit_at, rest_at, deep_at}
 use Rattle.cel_reader.proofs.Theorems.{misfit_never, rest_never, deep_never, deep_openings}
-use Rattle.cel_reader.proofs.Runs.{Run, ran, none, run, step, number, at, at_mark, one_level, operator_by, operator_at, named_by, named_at, comma_by, ending, branches, expression, operations, tail, behind_prefix, maybe_prefixed, prefixed, member, suffix, selection, free_name, plain_by, plain, primary, enclosed, listed, item, behind_item, mapped, entry, behind_entry}
+use Rattle.cel_reader.proofs.Runs.First.{number, at, at_mark, one_level, operator_by, operator_at, named_by, named_at}
+use Rattle.cel_reader.proofs.Runs.{Run, ran, none, run, step, comma_by, ending, branches, expression, operations, tail, behind_prefix, maybe_prefixed, prefixed, member, suffix, selection, free_name, plain_by, plain, primary, enclosed, listed, item, behind_item, mapped, entry, behind_entry}
 
 -- ---- tokens
 
