@@ -1,7 +1,9 @@
 -- What the calls of a store answer, from what stands at their references: nothing where a reference
 -- is none, or what stands there is of another kind.
-use Rattle.std.specs.Prelude.{◌≡◌, ℕ, Bool, true, List, [], ◌++◌, Option, Some, None, Result, Ok, Err, slice_get, option_map, option_and_then}
-use Rattle.value_store.specs.Value.{Value, null, boolean, int, text, list, map, Entries, ValueOrError, error, value, list_of, keys_of, values_of, items_push, items_join}
+use Rattle.std.specs.Prelude.{◌≡◌, ℕ, Bool, true, List, [], ◌++◌, Option, Some, None, Result, Ok, Err, slice_get, option_map}
+use Rattle.std.specs.Prelude.{option_and_then}
+use Rattle.value_store.specs.Value.{Value, null, boolean, int, text, list, map, Entries, ValueOrError, error, value, list_of, keys_of}
+use Rattle.value_store.specs.Value.{values_of, items_push, items_join}
 use Rattle.std.specs.declared.alloc.AllocError.{AllocError}
 use Rattle.value_store.specs.Equality.{equal}
 use Rattle.value_store.specs.Order.{less}
@@ -14,10 +16,12 @@ abbrev pub Places : List ValueOrError → Value → Result ℕ AllocError → Li
 Places old v (Ok h) new = (h ≡ place old v) × (new ≡ placed old v)
 Places old v (Err e) new = (is_appended v ≡ true) × (new ≡ old)
 
+-- the value, where what stands there is one
 abbrev pub value_part : ValueOrError → Option Value
 value_part error = None
 value_part (value v) = Some v
 
+-- the entries, where the value is a map
 abbrev pub entries_part : Value → Option Entries
 entries_part (map es) = Some es
 entries_part null = None
@@ -26,35 +30,41 @@ entries_part (int n) = None
 entries_part (text s) = None
 entries_part (list is) = None
 
--- the value, and the text, at a reference
+-- the value at a reference
 abbrev pub value_at : Option ValueOrError → Option Value
 value_at o = option_and_then value_part o
 
+-- the bytes of the text at a reference
 abbrev pub text_at : Option ValueOrError → Option (List ℕ)
 text_at o = option_and_then text_part (value_at o)
 
+-- the entries of the map at a reference
 abbrev pub entries_at : Option ValueOrError → Option Entries
 entries_at o = option_and_then entries_part (value_at o)
 
+-- what f makes of two values; nothing where one is missing
 abbrev pub on_values : {A : Type 0} → (Value → Value → Option A) → Option Value → Option Value → Option A
 on_values f (Some a) (Some b) = f a b
 on_values f None b = None
 on_values f (Some a) None = None
 
--- whether two values are equal, whether one is below another, and whether one is among another's
+-- whether the values at two references are equal
 abbrev pub equal_at : Option ValueOrError → Option ValueOrError → Option Bool
 equal_at a b = on_values (λ v w. Some (equal v w)) (value_at a) (value_at b)
 
+-- whether the value at one reference is below that at another
 abbrev pub less_at : Option ValueOrError → Option ValueOrError → Option Bool
 less_at a b = on_values less (value_at a) (value_at b)
 
+-- whether the value at x is an item of the list at c, or a key of the map there
 abbrev pub member_at : Option ValueOrError → Option ValueOrError → Option Bool
 member_at x c = on_values member (value_at x) (value_at c)
 
--- whether a map has a key, and at which place
+-- whether the map at a reference has a key, and at which place, the first being 0
 abbrev pub find_at : Option ValueOrError → List ℕ → Option (Option ℕ)
 find_at m key = option_map (place_of_key key) (entries_at m)
 
+-- the items of a list, or the values of a map in the order of its keys; of all else none
 abbrev pub parts_of : Value → List Value
 parts_of (list is) = list_of is
 parts_of (map es) = values_of es
@@ -63,14 +73,15 @@ parts_of (boolean b) = []
 parts_of (int n) = []
 parts_of (text s) = []
 
--- the i-th item of a list, or value of a map
+-- the i-th item of the list at a reference, or the i-th value of the map there, the first being 0
 abbrev pub part_at : Option ValueOrError → ℕ → Option Value
 part_at h i = option_and_then (λ v. slice_get (parts_of v) i) (value_at h)
 
--- the i-th key of a map
+-- the i-th key of the map at a reference, the first being 0
 abbrev pub key_at : Option ValueOrError → ℕ → Option Value
 key_at h i = option_map text (option_and_then (λ es. slice_get (keys_of es) i) (entries_at h))
 
+-- two texts or two lists, one behind the other; nothing for other values
 abbrev pub join_of : Value → Value → Option Value
 join_of (text s) (text t) = Some (text (s ++ t))
 join_of (list is) (list js) = Some (list (items_join is js))
@@ -80,6 +91,7 @@ join_of _ _ = None
 abbrev pub joined : Option ValueOrError → Option ValueOrError → Option Value
 joined a b = on_values join_of (value_at a) (value_at b)
 
+-- the list with the value behind its last item; nothing where it is no list
 abbrev pub push_of : Value → Value → Option Value
 push_of (list is) x = Some (list (items_push is x))
 push_of _ x = None
@@ -88,6 +100,7 @@ push_of _ x = None
 abbrev pub pushed : Option ValueOrError → Option ValueOrError → Option Value
 pushed l x = on_values push_of (value_at l) (value_at x)
 
+-- the map with one more entry; nothing where it has the key
 abbrev pub put_of : Entries → List ℕ → Value → Option Value
 put_of es key x = option_map map (inserted key x es)
 

@@ -4,17 +4,21 @@ use Rattle.std.specs.Coded.{Coded, code_by}
 use Rattle.std.proofs.Common.{ap}
 use base.Stored.{Gv, gnil, gnum, gcons}
 use denote.Struct.Codes.{itself}
-use Rattle.value_store.specs.Value.{Value, null, boolean, int, text, list, map, Items, no_items, item, Entries, no_entries, entry, ValueOrError, error, value}
+use Rattle.value_store.specs.Value.{Value, null, boolean, int, text, list, map, Items, no_items, item, Entries, no_entries, entry}
+use Rattle.value_store.specs.Value.{ValueOrError, error, value}
 
+-- an int as a code
 abbrev z_tree : ℤ → Gv
 z_tree (pos n) = gcons gnil (gnum n)
 z_tree (negsuc n) = gcons (gnum 0) (gnum n)
 
+-- the number that a code is, 0 where it is none
 abbrev number : Gv → ℕ
 number gnil = 0
 number (gnum n) = n
 number (gcons a b) = 0
 
+-- the int of a code
 abbrev tree_z : Gv → ℤ
 tree_z gnil = pos 0
 tree_z (gnum n) = pos 0
@@ -22,36 +26,44 @@ tree_z (gcons gnil b) = pos (number b)
 tree_z (gcons (gnum n) b) = negsuc (number b)
 tree_z (gcons (gcons a c) b) = pos 0
 
+-- the code of an int is of that int
 z_back : (z : ℤ) → tree_z (z_tree z) ≡ z
 z_back (pos n) = refl
 z_back (negsuc n) = refl
 
+-- bytes as a code
 abbrev text_tree : List ℕ → Gv
 text_tree [] = gnil
 text_tree (x ∷ xs) = gcons (gnum x) (text_tree xs)
 
+-- the bytes of a code
 abbrev tree_text : Gv → List ℕ
 tree_text gnil = []
 tree_text (gnum n) = []
 tree_text (gcons a b) = number a ∷ tree_text b
 
+-- the code of bytes is of those bytes
 text_back : (s : List ℕ) → tree_text (text_tree s) ≡ s
 text_back [] = refl
 text_back (x ∷ xs) = ap (λ r. x ∷ r) (text_back xs)
 
+-- a bool from its number
 abbrev flag_of : ℕ → Bool
 flag_of zero = false
 flag_of (suc n) = true
 
+-- a bool as a number
 abbrev of_flag : Bool → ℕ
 of_flag false = 0
 of_flag true = 1
 
+-- the number of a bool is of that bool
 flag_back : (b : Bool) → flag_of (of_flag b) ≡ b
 flag_back false = refl
 flag_back true = refl
 
 abbrev mutual
+  -- a value as a code
   value_tree : Value → Gv
   value_tree null = gnil
   value_tree (boolean b) = gnum (of_flag b)
@@ -60,15 +72,18 @@ abbrev mutual
   value_tree (list is) = gcons (gnum 1) (items_tree is)
   value_tree (map es) = gcons (gnum 2) (entries_tree es)
 
+  -- items as a code
   items_tree : Items → Gv
   items_tree no_items = gnil
   items_tree (item v is) = gcons (value_tree v) (items_tree is)
 
+  -- entries as a code
   entries_tree : Entries → Gv
   entries_tree no_entries = gnil
   entries_tree (entry k v es) = gcons (text_tree k) (gcons (value_tree v) (entries_tree es))
 
 abbrev mutual
+  -- the value of a code
   tree_value : Gv → Value
   tree_value gnil = null
   tree_value (gnum n) = boolean (flag_of n)
@@ -78,11 +93,13 @@ abbrev mutual
   tree_value (gcons (gnum (suc (suc n))) es) = map (tree_entries es)
   tree_value (gcons (gcons a b) c) = null
 
+  -- the items of a code
   tree_items : Gv → Items
   tree_items gnil = no_items
   tree_items (gnum n) = no_items
   tree_items (gcons a b) = item (tree_value a) (tree_items b)
 
+  -- the entries of a code
   tree_entries : Gv → Entries
   tree_entries gnil = no_entries
   tree_entries (gnum n) = no_entries
@@ -91,6 +108,7 @@ abbrev mutual
   tree_entries (gcons k (gcons v es)) = entry (tree_text k) (tree_value v) (tree_entries es)
 
 mutual
+  -- the code of a value is of that value
   value_back : (v : Value) → tree_value (value_tree v) ≡ v
   value_back null = refl
   value_back (boolean b) = ap boolean (flag_back b)
@@ -99,26 +117,32 @@ mutual
   value_back (list is) = ap list (items_back is)
   value_back (map es) = ap map (entries_back es)
 
+  -- and so with items
   items_back : (is : Items) → tree_items (items_tree is) ≡ is
   items_back no_items = refl
   items_back (item v is) = λ i. item (value_back v i) (items_back is i)
 
+  -- and with entries
   entries_back : (es : Entries) → tree_entries (entries_tree es) ≡ es
   entries_back no_entries = refl
   entries_back (entry k v es) = λ i. entry (text_back k i) (value_back v i) (entries_back es i)
 
+-- what stands at a reference as a code
 abbrev stored_tree : ValueOrError → Gv
 stored_tree error = gnil
 stored_tree (value v) = gcons (value_tree v) gnil
 
+-- what stands at a reference, of a code
 abbrev tree_stored : Gv → ValueOrError
 tree_stored gnil = error
 tree_stored (gnum n) = error
 tree_stored (gcons v b) = value (tree_value v)
 
+-- the code of what stands at a reference is of that
 pub stored_back : (s : ValueOrError) → tree_stored (stored_tree s) ≡ s
 stored_back error = refl
 stored_back (value v) = ap value (value_back v)
 
+-- what stands at a reference has such a code
 abbrev pub coded_stored : Coded ValueOrError
 coded_stored = code_by Gv itself stored_tree tree_stored stored_back

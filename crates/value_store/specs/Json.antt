@@ -3,8 +3,10 @@
 use Rattle.std.specs.Prelude.{ℕ, List, [], ◌++◌, Bool, true, false, if◌then◌else◌, codes}
 use Rattle.std.specs.Fmt.{signed_decimal}
 use Rattle.json.specs.Print.{quoted}
-use Rattle.value_store.specs.Value.{Value, null, boolean, int, text, list, map, Items, no_items, item, Entries, no_entries, entry, ValueOrError, error, value}
+use Rattle.value_store.specs.Value.{Value, null, boolean, int, text, list, map, Items, no_items, item, Entries, no_entries, entry}
+use Rattle.value_store.specs.Value.{ValueOrError, error, value}
 
+-- the text of a bool (RFC 8259, section 3)
 abbrev pub truth_text : Bool → List ℕ
 truth_text true = codes "true"
 truth_text false = codes "false"
@@ -14,6 +16,7 @@ abbrev pub comma_after : Bool → List ℕ
 comma_after later = if later then codes "," else []
 
 abbrev mutual
+  -- the text of a value: a literal name, a number, a string, an array or an object (RFC 8259, section 3)
   pub json_text : Value → List ℕ
   json_text null = codes "null"
   json_text (boolean b) = truth_text b
@@ -22,11 +25,12 @@ abbrev mutual
   json_text (list is) = codes "[" ++ items_text false is
   json_text (map es) = codes "{" ++ entries_text false es
 
-  -- the items and the closing bracket
+  -- the items and the closing bracket; later: another item stands before (RFC 8259, section 5)
   pub items_text : Bool → Items → List ℕ
   items_text later no_items = codes "]"
   items_text later (item v is) = comma_after later ++ (json_text v ++ items_text true is)
 
+  -- the entries and the closing brace; later: another entry stands before (RFC 8259, section 4)
   pub entries_text : Bool → Entries → List ℕ
   entries_text later no_entries = codes "}"
   entries_text later (entry k v es) = comma_after later ++ (quoted k ++ (codes ":" ++ (json_text v ++ entries_text true es)))

@@ -5,14 +5,15 @@ use Rattle.std.specs.Cmp.Lexicographic.{slice_cmp}
 use Rattle.std.specs.List.{AllByRecursion}
 use Rattle.std.specs.List.Sorted.{IsStrictlySortedBy}
 use Rattle.serde_json.specs.Data as json
-use Rattle.value_store.specs.Value.{Value, null, boolean, int, text, list, map, Items, no_items, item, Entries, no_entries, entry, ValueOrError, error, value, keys_of}
+use Rattle.value_store.specs.Value.{Value, null, boolean, int, text, list, map, Items, no_items, item, Entries, no_entries, entry}
+use Rattle.value_store.specs.Value.{ValueOrError, error, value, keys_of}
 
 -- each key is below those after it, byte by byte
 abbrev pub Ascend : List (List ℕ) → Type 0
 Ascend keys = IsStrictlySortedBy (slice_cmp nat_cmp) keys
 
--- the keys of the value's own entries, and of every map inside it
 abbrev mutual
+  -- the keys of the value's own entries ascend, and those of every map inside it
   pub IsOrdered : Value → Type 0
   IsOrdered null = ⊤
   IsOrdered (boolean b) = ⊤
@@ -21,10 +22,12 @@ abbrev mutual
   IsOrdered (list is) = AreItemsOrdered is
   IsOrdered (map es) = Ascend (keys_of es) × AreEntriesOrdered es
 
+  -- so it is inside each of the items
   pub AreItemsOrdered : Items → Type 0
   AreItemsOrdered no_items = ⊤
   AreItemsOrdered (item v more) = IsOrdered v × AreItemsOrdered more
 
+  -- and inside each value of the entries
   pub AreEntriesOrdered : Entries → Type 0
   AreEntriesOrdered no_entries = ⊤
   AreEntriesOrdered (entry k v more) = IsOrdered v × AreEntriesOrdered more
@@ -34,15 +37,17 @@ abbrev pub IsResultOrdered : ValueOrError → Type 0
 IsResultOrdered error = ⊤
 IsResultOrdered (value v) = IsOrdered v
 
+-- so it is with each of these
 abbrev pub AreOrdered : List ValueOrError → Type 0
 AreOrdered vs = AllByRecursion IsResultOrdered vs
 
+-- the keys of an object's members (RFC 8259, section 4)
 abbrev pub member_keys : json.Members → List (List ℕ)
 member_keys json.no_members = []
 member_keys (json.member k d more) = k ∷ member_keys more
 
--- the same of a JSON document and its objects
 abbrev mutual
+  -- the keys of a JSON object's own members ascend, and those of every object inside a document
   pub IsDocumentOrdered : json.Data → Type 0
   IsDocumentOrdered json.null = ⊤
   IsDocumentOrdered (json.boolean b) = ⊤
@@ -51,10 +56,12 @@ abbrev mutual
   IsDocumentOrdered (json.array ds) = AreElementsOrdered ds
   IsDocumentOrdered (json.object ms) = Ascend (member_keys ms) × AreMembersOrdered ms
 
+  -- so it is inside each element of an array
   pub AreElementsOrdered : json.Items → Type 0
   AreElementsOrdered json.no_items = ⊤
   AreElementsOrdered (json.item d more) = IsDocumentOrdered d × AreElementsOrdered more
 
+  -- and inside each value of the members
   pub AreMembersOrdered : json.Members → Type 0
   AreMembersOrdered json.no_members = ⊤
   AreMembersOrdered (json.member k d more) = IsDocumentOrdered d × AreMembersOrdered more

@@ -36,8 +36,10 @@ StartIsCanonical = (roots : List json.Data) (contents : Contents) → start_cont
 
 -- a key is put in its place in byte order, and none twice
 abbrev pub InsertedInOrder : Type 0
-InsertedInOrder = (key : List ℕ) (x : Value) (es : Entries) → Ascend (keys_of es) → IfSome (inserted key x es) (λ more. Ascend (keys_of more))
+InsertedInOrder = (key : List ℕ) (x : Value) (es : Entries) → Ascend (keys_of es)
+    → IfSome (inserted key x es) (λ more. Ascend (keys_of more))
 
+-- a key can be put into a map exactly where the map does not have it
 abbrev pub InsertedOnce : Type 0
 InsertedOnce = (key : List ℕ) (x : Value) (es : Entries) → Ascend (keys_of es) → is_some (inserted key x es) ≡ not (has_key key es)
 
@@ -56,4 +58,5 @@ pub record KeepsOrder : Type 0 where
 
 -- the values of ordered documents are ordered
 abbrev pub StartIsOrdered : Type 0
-StartIsOrdered = (roots : List json.Data) (contents : Contents) → AllByRecursion IsDocumentOrdered roots → start_contents roots ≡ Ok contents → AreOrdered contents.values
+StartIsOrdered = (roots : List json.Data) (contents : Contents) → AllByRecursion IsDocumentOrdered roots
+    → start_contents roots ≡ Ok contents → AreOrdered contents.values

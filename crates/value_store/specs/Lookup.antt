@@ -7,7 +7,7 @@ use Rattle.std.specs.Cmp.Lexicographic.{slice_cmp}
 use Rattle.value_store.specs.Value.{Value, null, boolean, int, text, list, map, Items, no_items, item, Entries, no_entries, entry}
 use Rattle.value_store.specs.Equality.{equal}
 
--- the value at a key
+-- the value at a key, where the key is there
 abbrev pub find : List ℕ → Entries → Option Value
 find key no_entries = None
 find key (entry k v more) = if bytes_eq k key then Some v else find key more
@@ -17,9 +17,11 @@ abbrev pub place_of_key : List ℕ → Entries → Option ℕ
 place_of_key key no_entries = None
 place_of_key key (entry k v more) = if bytes_eq k key then Some 0 else option_map suc (place_of_key key more)
 
+-- whether the key is there
 abbrev pub has_key : List ℕ → Entries → Bool
 has_key key es = is_some (find key es)
 
+-- whether an item is equal to x
 abbrev pub has_item : Value → Items → Bool
 has_item x no_items = false
 has_item x (item v more) = equal x v || has_item x more
@@ -33,17 +35,19 @@ text_part (int n) = None
 text_part (list is) = None
 text_part (map es) = None
 
+-- whether the text is a key; nothing where there is no text
 abbrev pub key_among : Option (List ℕ) → Entries → Option Bool
 key_among (Some key) es = Some (has_key key es)
 key_among None es = None
 
--- a list has an equal item, a map has the text as a key; nothing elsewhere
+-- whether x is in a value: a list has an equal item, a map has the text x as a key; nothing elsewhere
 abbrev pub member : Value → Value → Option Bool
 member x (list is) = Some (has_item x is)
 member x (map es) = key_among (text_part x) es
 member x _ = None
 
--- entries with a new one before the first, in its place, or behind the first
+-- entries with a new one, by how its key compares with the first one's, k: before the first; not at all, where the keys
+-- are equal; or in the rest
 abbrev pub inserted_by : Ordering → List ℕ → Value → List ℕ → Value → Entries → Option Entries → Option Entries
 inserted_by Less key x k v more rest = Some (entry key x (entry k v more))
 inserted_by Equal key x k v more rest = None

@@ -7,9 +7,11 @@ use Rattle.value_store.specs.declared.tree.Tree.{Tree}
 use Rattle.value_store.specs.declared.node.Node.{Node}
 use Rattle.value_store.specs.declared.node.Node.TheVariants as node
 
+-- the value that a tree of the plain table stands for: that of its document
 abbrev pub tree_value : Tree → Value
 tree_value t = plain_value (view t.document)
 
+-- what a node stands for: the error, or the value of its tree
 abbrev pub stored : Node → ValueOrError
 stored node.Error = error
 stored (node.Value t) = value (tree_value t)

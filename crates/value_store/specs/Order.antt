@@ -11,6 +11,7 @@ pub data Ordered : Type 0 where
   Text : List ℕ → Ordered
   Unordered : Ordered
 
+-- what an order sees of a value
 abbrev pub ordered : Value → Ordered
 ordered (boolean b) = Truth b
 ordered (int n) = Number n
@@ -23,12 +24,13 @@ ordered (map es) = Unordered
 abbrev pub text_less : List ℕ → List ℕ → Bool
 text_less a b = is_lt (slice_cmp nat_cmp a b)
 
--- whether a is below b; nothing where the two have no order
+-- whether the first is below the second; nothing where the two have no order
 abbrev pub parts_less : Ordered → Ordered → Option Bool
 parts_less (Truth a) (Truth b) = Some (not a && b)
 parts_less (Number a) (Number b) = Some (int_lt a b)
 parts_less (Text a) (Text b) = Some (text_less a b)
 parts_less _ _ = None
 
+-- whether the value a is below b; nothing where the two have no order
 abbrev pub less : Value → Value → Option Bool
 less a b = parts_less (ordered a) (ordered b)

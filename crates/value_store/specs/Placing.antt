@@ -2,7 +2,7 @@
 use Rattle.std.specs.Prelude.{◌≡◌, ◌≤◌, ℕ, Bool, true, false, List, [], ◌∷◌, ◌++◌, length, Some, slice_get, ⊤}
 use Rattle.value_store.specs.Value.{Value, null, boolean, int, text, list, map, ValueOrError, error, value}
 
--- the most that a store is charged
+-- the most that a store is charged, for its roots at the start and for every call together: 2 ^ 24
 abbrev pub charge_limit : ℕ
 charge_limit = 16777216
 
@@ -30,7 +30,7 @@ is_appended (text s) = true
 is_appended (list is) = true
 is_appended (map es) = true
 
--- the values after it
+-- the values after a value is placed: null, false and true stand there already, any other comes behind the last
 abbrev pub placed : List ValueOrError → Value → List ValueOrError
 placed vs null = vs
 placed vs (boolean b) = vs
@@ -46,6 +46,7 @@ IsCanonicalAt (value (boolean false)) h = h ≡ 2
 IsCanonicalAt (value (boolean true)) h = h ≡ 3
 IsCanonicalAt _ h = ⊤
 
+-- so they do among these values
 abbrev pub AreCanonical : List ValueOrError → Type 0
 AreCanonical vs = (h : ℕ) (x : ValueOrError) → slice_get vs h ≡ Some x → IsCanonicalAt x h
 

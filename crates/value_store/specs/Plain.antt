@@ -1,5 +1,6 @@
 -- The values of documents, one after another: what the plain table holds for each value.
-use Rattle.std.specs.Prelude.{ℕ, zero, suc, pos, true, false, option_map, ◌-◌, ◌^◌, min, max, Bool, List, [], ◌∷◌, Option, Some, None, Result, Ok, Err, unwrap_or, if◌then◌else◌}
+use Rattle.std.specs.Prelude.{ℕ, zero, suc, pos, true, false, option_map, ◌-◌, ◌^◌, min, max, Bool, List, [], ◌∷◌, Option, Some, None}
+use Rattle.std.specs.Prelude.{Result, Ok, Err, unwrap_or, if◌then◌else◌}
 use Rattle.serde_json.specs.Data as json
 use Rattle.serde_json.specs.Find.{as_i64, get_item}
 use Rattle.value_store.specs.Value as kind
@@ -10,8 +11,8 @@ use Rattle.value_store.specs.declared.table_error.TableError.{TableError}
 use Rattle.value_store.specs.Roots.{has_other}
 use Rattle.value_store.specs.declared.measure.Measure.{Measure}
 
--- the value of a document whose numbers are integers of 64 bits signed
 abbrev mutual
+  -- the value of a document whose numbers are integers of 64 bits signed
   pub plain_value : json.Data → Value
   plain_value json.null = kind.null
   plain_value (json.boolean b) = kind.boolean b
@@ -20,10 +21,12 @@ abbrev mutual
   plain_value (json.array ds) = kind.list (plain_items ds)
   plain_value (json.object ms) = kind.map (plain_entries ms)
 
+  -- the items of an array's elements
   pub plain_items : json.Items → kind.Items
   plain_items json.no_items = kind.no_items
   plain_items (json.item d ds) = kind.item (plain_value d) (plain_items ds)
 
+  -- the entries of an object's members
   pub plain_entries : json.Members → kind.Entries
   plain_entries json.no_members = kind.no_entries
   plain_entries (json.member k d ms) = kind.entry k (plain_value d) (plain_entries ms)

@@ -1,5 +1,6 @@
 -- The values of a review's five roots: object, oldObject, params, namespaceObject and request.
-use Rattle.std.specs.Prelude.{◌≡◌, ℕ, suc, ◌+◌, ◌||◌, Bool, true, false, List, [], ◌∷◌, ◌++◌, map, Option, Some, None, Result, Ok, Err, IsOk, if◌then◌else◌, nat_le, ◌^◌, option_map, option_and_then}
+use Rattle.std.specs.Prelude.{◌≡◌, ℕ, suc, ◌+◌, ◌||◌, Bool, true, false, List, [], ◌∷◌, ◌++◌, map, Option, Some, None, Result, Ok, Err}
+use Rattle.std.specs.Prelude.{IsOk, if◌then◌else◌, nat_le, ◌^◌, option_map, option_and_then}
 use Rattle.serde_json.specs.Data as json
 use Rattle.serde_json.specs.Find.{as_i64}
 use Rattle.value_store.specs.Value as kind
@@ -9,9 +10,8 @@ use Rattle.value_store.specs.Placing.{Contents, first_values, charge_limit}
 use Rattle.value_store.specs.declared.table_error.TableError.{TableError}
 use Rattle.value_store.specs.declared.table_error.TableError.TheVariants.{V1, V2, V3, Memory}
 
--- the value of a JSON document, whose objects have their keys in byte order and each once; none
--- where a number is no integer of 64 bits signed
 abbrev mutual
+  -- the value of a JSON document, the members of its objects as they stand; none where a number is no integer of 64 bits signed
   pub value_of : json.Data → Option Value
   value_of json.null = Some kind.null
   value_of (json.boolean b) = Some (kind.boolean b)
@@ -20,10 +20,12 @@ abbrev mutual
   value_of (json.array ds) = option_map kind.list (items_value ds)
   value_of (json.object ms) = option_map kind.map (members_value ms)
 
+  -- the items of an array's elements, where each has a value
   pub items_value : json.Items → Option kind.Items
   items_value json.no_items = Some kind.no_items
   items_value (json.item d ds) = option_and_then (λ v. option_map (kind.item v) (items_value ds)) (value_of d)
 
+  -- the entries of an object's members, where each has a value
   pub members_value : json.Members → Option kind.Entries
   members_value json.no_members = Some kind.no_entries
   members_value (json.member k d ms) = option_and_then (λ v. option_map (kind.entry k v) (members_value ms)) (value_of d)
@@ -37,18 +39,21 @@ is_root (json.string s) = false
 is_root (json.array ds) = false
 is_root (json.object ms) = true
 
+-- the value of the root at a reference; where it has none, it is refused for a number
 abbrev pub root_value : ℕ → Option Value → Result Value TableError
 root_value place (Some v) = Ok v
 root_value place None = Err (V2 place)
 
--- the value of the root at a reference, or its refusal
+-- the value of the root at a reference; it is refused where it is no object and not null, or for a number
 abbrev pub root_of : ℕ → json.Data → Result Value TableError
 root_of place d = if is_root d then root_value place (value_of d) else Err (V1 place)
 
+-- a value before those behind it, or their refusal
 abbrev pub before : Value → Result (List Value) TableError → Result (List Value) TableError
 before v (Ok vs) = Ok (v ∷ vs)
 before v (Err e) = Err e
 
+-- a root's value before those behind it, or the first refusal
 abbrev pub root_then : Result Value TableError → Result (List Value) TableError → Result (List Value) TableError
 root_then (Ok v) rest = before v rest
 root_then (Err e) rest = Err e
@@ -58,13 +63,18 @@ abbrev pub roots_of : ℕ → List json.Data → Result (List Value) TableError
 roots_of place [] = Ok []
 roots_of place (d ∷ ds) = root_then (root_of place d) (roots_of (suc place) ds)
 
+-- the sizes of the values, added
 abbrev pub sizes : List Value → ℕ
 sizes [] = 0
 sizes (v ∷ vs) = size_of v + sizes vs
 
+-- the contents of a store with the values behind its first four, charged with their sizes, or refused where these exceed the limit
 abbrev pub within_limit : List Value → Result Contents TableError
-within_limit vs = if nat_le (sizes vs) charge_limit then Ok (record { values = first_values ++ map value vs; charge = sizes vs }) else Err V3
+within_limit vs =
+    if nat_le (sizes vs) charge_limit then Ok (record { values = first_values ++ map value vs; charge = sizes vs })
+    else Err V3
 
+-- the same where each root has a value, and else the refusal
 abbrev pub contents_of : Result (List Value) TableError → Result Contents TableError
 contents_of (Ok vs) = within_limit vs
 contents_of (Err e) = Err e
@@ -80,6 +90,7 @@ is_other (json.negative z) = false
 is_other (json.float x) = true
 
 abbrev mutual
+  -- whether such a number stands in a document
   pub has_other : json.Data → Bool
   has_other json.null = false
   has_other (json.boolean b) = false
@@ -88,10 +99,12 @@ abbrev mutual
   has_other (json.array ds) = items_have_other ds
   has_other (json.object ms) = members_have_other ms
 
+  -- or in an array's elements
   pub items_have_other : json.Items → Bool
   items_have_other json.no_items = false
   items_have_other (json.item d ds) = has_other d || items_have_other ds
 
+  -- or in the values of an object's members
   pub members_have_other : json.Members → Bool
   members_have_other json.no_members = false
   members_have_other (json.member k d ms) = has_other d || members_have_other ms

@@ -2,7 +2,8 @@
 use Rattle.std.specs.Prelude.{◌≡◌, ℕ, ◌++◌, pos, negsuc, List, [], ◌∷◌, true, false, Some, None, Ok, Err, Float, codes, map}
 use Rattle.serde_json.specs.Data as json
 use Rattle.value_store.specs.Value as kind
-use Rattle.value_store.specs.Value.{Value, null, boolean, int, text, list, Items, no_items, item, Entries, no_entries, entry, ValueOrError, error, value}
+use Rattle.value_store.specs.Value.{Value, null, boolean, int, text, list, Items, no_items, item, Entries, no_entries, entry, ValueOrError}
+use Rattle.value_store.specs.Value.{error, value}
 use Rattle.value_store.specs.Size.{size_of, depth_of}
 use Rattle.value_store.specs.Equality.{equal}
 use Rattle.value_store.specs.Order.{less}
@@ -21,19 +22,23 @@ replicas = kind.map (entry (codes "spec") (kind.map (entry (codes "replicas") (i
 abbrev pub uid : Value
 uid = kind.map (entry (codes "uid") (text (codes "u1")) no_entries)
 
--- é, U+FFFF, U+10000 and U+1F600 in UTF-8
+-- é in UTF-8, as are the next three
 abbrev pub e_acute : List ℕ
 e_acute = 195 ∷ 169 ∷ []
 
+-- U+FFFF
 abbrev pub last_of_plane : List ℕ
 last_of_plane = 239 ∷ 191 ∷ 191 ∷ []
 
+-- U+10000
 abbrev pub linear_b : List ℕ
 linear_b = 240 ∷ 144 ∷ 128 ∷ 128 ∷ []
 
+-- U+1F600
 abbrev pub grinning : List ℕ
 grinning = 240 ∷ 159 ∷ 152 ∷ 128 ∷ []
 
+-- "a":1 and "b":null
 abbrev pub a_and_b : Entries
 a_and_b = entry (codes "a") (int (pos 1)) (entry (codes "b") null no_entries)
 
@@ -41,9 +46,11 @@ a_and_b = entry (codes "a") (int (pos 1)) (entry (codes "b") null no_entries)
 abbrev pub nested : Value
 nested = list (item (list no_items) (item (list (item (int (pos 1)) no_items)) no_items))
 
+-- the least int
 abbrev pub least : Value
 least = int (negsuc 9223372036854775807)
 
+-- the greatest int
 abbrev pub greatest : Value
 greatest = int (pos 9223372036854775807)
 
@@ -55,23 +62,30 @@ behind vs = first_values ++ vs
 abbrev pub with_a : json.Data → json.Data
 with_a d = json.object (json.member (codes "a") d json.no_members)
 
--- {"b":null,"a":1}, and {"a":null} twice over, as no map stands
+-- {"b":null,"a":1}, as no map stands
 abbrev pub b_before_a : Value
 b_before_a = kind.map (entry (codes "b") null (entry (codes "a") (int (pos 1)) no_entries))
 
+-- {"a":null,"a":null}, as no map stands
 abbrev pub a_twice : Value
 a_twice = kind.map (entry (codes "a") null (entry (codes "a") null no_entries))
 
--- a review's object, and the rest of its request
+-- {"spec":{"replicas":5}}
 abbrev pub replicas_document : json.Data
-replicas_document = json.object (json.member (codes "spec") (json.object (json.member (codes "replicas") (json.number (json.unsigned 5)) json.no_members)) json.no_members)
+replicas_document =
+    json.object
+    (json.member (codes "spec") (json.object (json.member (codes "replicas") (json.number (json.unsigned 5)) json.no_members))
+    json.no_members)
 
+-- {"uid":"u1"}
 abbrev pub uid_document : json.Data
 uid_document = json.object (json.member (codes "uid") (json.string (codes "u1")) json.no_members)
 
+-- three roots that are null
 abbrev pub nulls : List json.Data
 nulls = json.null ∷ json.null ∷ json.null ∷ []
 
+-- values, calls and documents, each with what is worked out
 pub record RowsStand : Type 0 where
   pub size_null : size_of null ≡ 1
   pub size_least : size_of least ≡ 1
@@ -109,7 +123,8 @@ pub record RowsStand : Type 0 where
   pub member_text : member (text (codes "a")) (text (codes "a")) ≡ None
   pub inserted_before : inserted (codes "a") (int (pos 1)) (entry (codes "b") null no_entries) ≡ Some a_and_b
   pub inserted_behind : inserted (codes "b") null (entry (codes "a") (int (pos 1)) no_entries) ≡ Some a_and_b
-  pub inserted_upper_case : inserted (codes "Z") null (entry (codes "a") null no_entries) ≡ Some (entry (codes "Z") null (entry (codes "a") null no_entries))
+  pub inserted_upper_case : inserted (codes "Z") null (entry (codes "a") null no_entries)
+      ≡ Some (entry (codes "Z") null (entry (codes "a") null no_entries))
   pub inserted_twice : inserted (codes "b") null a_and_b ≡ None
   pub ordered_two : IsOrdered (kind.map a_and_b)
   -- Z stands before a, U+FFFF before U+10000, a before ab
@@ -120,12 +135,16 @@ pub record RowsStand : Type 0 where
   pub unordered_inside : IsOrdered (list (item null (item (kind.map (entry (codes "a") b_before_a no_entries)) no_items))) → ⊥
   pub unordered_far : IsOrdered (kind.map (entry (codes "b") null (entry (codes "c") null (entry (codes "a") null no_entries)))) → ⊥
   pub ordered_document : IsDocumentOrdered replicas_document
-  pub unordered_document : IsDocumentOrdered (json.object (json.member (codes "b") json.null (json.member (codes "a") json.null json.no_members))) → ⊥
-  pub appended : (is_appended null ≡ false) × (is_appended (boolean true) ≡ false) × (is_appended (boolean false) ≡ false) × (is_appended (int (pos 0)) ≡ true) × (is_appended (list no_items) ≡ true)
+  pub unordered_document : IsDocumentOrdered
+      (json.object (json.member (codes "b") json.null (json.member (codes "a") json.null json.no_members)))
+      → ⊥
+  pub appended : (is_appended null ≡ false) × (is_appended (boolean true) ≡ false) × (is_appended (boolean false) ≡ false)
+      × (is_appended (int (pos 0)) ≡ true) × (is_appended (list no_items) ≡ true)
   pub placed_null : (place first_values null ≡ 1) × (placed first_values null ≡ first_values)
   pub placed_false : (place first_values (boolean false) ≡ 2) × (placed first_values (boolean false) ≡ first_values)
   pub placed_true : (place first_values (boolean true) ≡ 3) × (placed first_values (boolean true) ≡ first_values)
-  pub placed_text : (place first_values (text (codes "a")) ≡ 4) × (placed first_values (text (codes "a")) ≡ behind (value (text (codes "a")) ∷ []))
+  pub placed_text : (place first_values (text (codes "a")) ≡ 4)
+      × (placed first_values (text (codes "a")) ≡ behind (value (text (codes "a")) ∷ []))
   pub placed_again : place (behind (value (text (codes "a")) ∷ [])) (text (codes "a")) ≡ 5
   pub json_map : json_text replicas ≡ codes "{\"spec\":{\"replicas\":5}}"
   pub json_null : json_text null ≡ codes "null"
@@ -149,10 +168,15 @@ pub record RowsStand : Type 0 where
   -- 1.5 and -0 are floats
   pub root_float : (x : Float) → root_of 4 (with_a (json.number (json.float x))) ≡ Err (V2 4)
   pub root_large : root_of 8 (with_a (json.number (json.unsigned 9223372036854775808))) ≡ Err (V2 8)
-  pub root_greatest : root_of 8 (with_a (json.number (json.unsigned 9223372036854775807))) ≡ Ok (kind.map (entry (codes "a") greatest no_entries))
+  pub root_greatest : root_of 8 (with_a (json.number (json.unsigned 9223372036854775807)))
+      ≡ Ok (kind.map (entry (codes "a") greatest no_entries))
   pub root_deep : root_of 6 (with_a (json.array (json.item (json.number (json.unsigned 9223372036854775808)) json.no_items))) ≡ Err (V2 6)
-  pub start_nulls : start_contents (json.null ∷ json.null ∷ nulls) ≡ Ok (record { values = behind (map value (null ∷ null ∷ null ∷ null ∷ null ∷ [])); charge = 5 })
-  pub start_review : start_contents (replicas_document ∷ nulls ++ uid_document ∷ []) ≡ Ok (record { values = behind (map value (replicas ∷ null ∷ null ∷ null ∷ uid ∷ [])); charge = 28 })
+  pub start_nulls : start_contents (json.null ∷ json.null ∷ nulls)
+      ≡ Ok (record { values = behind (map value (null ∷ null ∷ null ∷ null ∷ null ∷ [])); charge = 5 })
+  pub start_review : start_contents (replicas_document ∷ nulls ++ uid_document ∷ [])
+      ≡ Ok (record { values = behind (map value (replicas ∷ null ∷ null ∷ null ∷ uid ∷ [])); charge = 28 })
   -- the first root with a refusal counts, whichever it is
-  pub start_first : (x : Float) → start_contents (json.null ∷ with_a (json.number (json.float x)) ∷ json.boolean true ∷ json.null ∷ json.null ∷ []) ≡ Err (V2 5)
-  pub start_second : (x : Float) → start_contents (json.null ∷ json.boolean true ∷ with_a (json.number (json.float x)) ∷ json.null ∷ json.null ∷ []) ≡ Err (V1 5)
+  pub start_first : (x : Float)
+      → start_contents (json.null ∷ with_a (json.number (json.float x)) ∷ json.boolean true ∷ json.null ∷ json.null ∷ []) ≡ Err (V2 5)
+  pub start_second : (x : Float)
+      → start_contents (json.null ∷ json.boolean true ∷ with_a (json.number (json.float x)) ∷ json.null ∷ json.null ∷ []) ≡ Err (V1 5)

@@ -4,6 +4,7 @@ use Rattle.value_store.specs.Value.{null, boolean, int, text, list, map, ValueOr
 use Rattle.value_store.specs.declared.shape.Shape.{Shape}
 use Rattle.value_store.specs.declared.shape.Shape.TheVariants as shape
 
+-- a bool and an int by what they are, a text by its bytes, a list and a map by the number of their parts
 pub data Seen : Type 0 where
   sees_error : Seen
   sees_null : Seen
@@ -13,6 +14,7 @@ pub data Seen : Type 0 where
   sees_list : ℕ → Seen
   sees_map : ℕ → Seen
 
+-- what is seen of what stands at a reference
 abbrev pub seen : ValueOrError → Seen
 seen error = sees_error
 seen (value null) = sees_null
@@ -32,7 +34,7 @@ shown (shape.Text s) = sees_text s.now
 shown (shape.List n) = sees_list n
 shown (shape.Map n) = sees_map n
 
--- the bytes of a text, or the parts of a list or map
+-- how many bytes a text has, how many items a list, and how many entries a map; 0 of all else
 abbrev pub seen_size : Seen → ℕ
 seen_size sees_error = 0
 seen_size sees_null = 0

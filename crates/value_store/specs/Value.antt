@@ -1,8 +1,9 @@
--- The values of CEL (cel-spec, Values). An int fits 64 bits signed, a text is its bytes in UTF-8.
+-- The values of CEL (cel-spec, Values), and what an evaluation gives.
 use Rattle.std.specs.Prelude.{ℕ, ℤ, Bool, List, [], ◌∷◌}
 
--- the entries of a map stand in byte order of their keys, no key twice (`IsOrdered`)
 mutual
+  -- null, a bool, an int, a text by its bytes, a list, or a map. The type does not bound an int, ask for UTF-8, or
+  -- order keys: that the keys of a map stand in byte order, each once, is `IsOrdered`
   pub data Value : Type 0 where
     null : Value
     boolean : Bool → Value
@@ -11,10 +12,12 @@ mutual
     list : Items → Value
     map : Entries → Value
 
+  -- the items of a list, the first one first
   pub data Items : Type 0 where
     no_items : Items
     item : Value → Items → Items
 
+  -- the entries of a map, each a key by its bytes and its value
   pub data Entries : Type 0 where
     no_entries : Entries
     entry : List ℕ → Value → Entries → Entries
@@ -25,18 +28,22 @@ pub data ValueOrError : Type 0 where
   error : ValueOrError
   value : Value → ValueOrError
 
+-- the items, in a list
 abbrev pub list_of : Items → List Value
 list_of no_items = []
 list_of (item v more) = v ∷ list_of more
 
+-- the same items, from a list
 abbrev pub items_of : List Value → Items
 items_of [] = no_items
 items_of (v ∷ more) = item v (items_of more)
 
+-- the keys of the entries, in their order
 abbrev pub keys_of : Entries → List (List ℕ)
 keys_of no_entries = []
 keys_of (entry k v more) = k ∷ keys_of more
 
+-- the values of the entries, in the order of their keys
 abbrev pub values_of : Entries → List Value
 values_of no_entries = []
 values_of (entry k v more) = v ∷ values_of more

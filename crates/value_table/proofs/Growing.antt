@@ -1,22 +1,24 @@
 -- Documents become values one by one.
-use Rattle.std.proofs.Common.{◌≡◌, ℕ, suc, false, List, [], ◌∷◌, ◌++◌, length, refl, sym, ap, ap₂, ◌∙◌, arith, length-append, append_assoc, append-nil, subst, Option, Some, None, Result, Ok, Err}
+use Rattle.std.proofs.Common.{◌≡◌, ℕ, false, List, [], ◌∷◌, ◌++◌, length, refl, sym, ap, ap₂, ◌∙◌, arith, length-append, append_assoc, append-nil, subst, Option, Some, None, Result, Ok, Err}
 use Rattle.std.specs.Prelude.{IfSome, IsSome, IfOk}
+use Rattle.std.proofs.lemmas.List.{map-append}
 use Rattle.std.specs.declared.alloc.AllocError.{AllocError}
 use Rattle.serde_json.specs.Data as json
 use Rattle.value_store.specs.Value as kind
-use Rattle.value_store.specs.Value.{Value, Items, no_items, item, items_push, items_join, Entries, no_entries, entry, keys_of}
+use Rattle.value_store.specs.Value.{Value, Items, no_items, item, items_push, items_join, Entries, no_entries, entry, keys_of, values_of}
 use Rattle.value_store.specs.Keys.{IsOrdered, AreItemsOrdered, AreEntriesOrdered}
 use Rattle.value_store.specs.Roots.{has_other, items_have_other, members_have_other}
 use Rattle.value_store.specs.Plain.{plain_value, plain_items, plain_entries}
 use Rattle.value_store.proofs.Trees.{second_no}
 use Rattle.value_table.specs.Meaning.{part_of, value_in, items_at, entries_at}
 use Rattle.value_table.specs.Heaps.{Adds, IsText, AreTexts, AreBelow, Extends}
-use Rattle.value_table.specs.Heads.{texts_of}
+use Rattle.value_table.specs.Heads.{texts_of, values_at, entries_of}
 use Rattle.value_table.specs.declared.part.Part.{Part}
 use Rattle.value_table.specs.declared.backings.Backings.{Backings}
-use Rattle.value_table.specs.Growing.{HasGrown, Stands, MembersStand}
+use Rattle.value_table.specs.Growing.{HasGrown, Stands}
 use Rattle.value_table.proofs.Growth.{value_stable, items_stable, text_kept, texts_kept}
 use Rattle.value_table.proofs.Listed.{below_le, below_append, items_more}
+use Rattle.value_table.proofs.Heads.{entries_built}
 use Rattle.value_table.proofs.Named.{place_added}
 
 pub grown_same : (vs : List Value) → HasGrown vs vs
@@ -83,19 +85,12 @@ items_step all us vs places places' r d rest e up s g =
 pub items_end : (all : Items) (vs : List Value) (places : List ℕ) → ItemsStand all vs places json.no_items → items_at vs places ≡ all
 items_end all vs places g = sym (join_none (items_at vs places)) ∙ g.is
 
--- ---- maps
+-- ---- the keys of a map
 
--- the keys of an object's members are these texts, but for those that are left
-pub record KeysStand (all : List (List ℕ)) (bytes : List ℕ) (keys : List Part) (rest : json.Members) : Type 0 where
-  pub is : texts_of bytes keys ++ keys_of (plain_entries rest) ≡ all
-  pub texts : AreTexts bytes keys
-
-pub keys_start : (ds : json.Members) (bytes : List ℕ) → KeysStand (keys_of (plain_entries ds)) bytes [] ds
-keys_start ds bytes = record { is = refl; texts = tt }
-
-texts_more : (bytes : List ℕ) (ks : List Part) (k : Part) (rest : List (List ℕ)) → texts_of bytes (ks ++ k ∷ []) ++ rest ≡ texts_of bytes ks ++ part_of bytes k ∷ rest
-texts_more bytes [] k rest = refl
-texts_more bytes (j ∷ ks) k rest = ap (λ ts. part_of bytes j ∷ ts) (texts_more bytes ks k rest)
+-- these texts are keys
+pub record KeysStand (keys : List (List ℕ)) (bytes : List ℕ) (parts : List Part) : Type 0 where
+  pub are : texts_of bytes parts ≡ keys
+  pub texts : AreTexts bytes parts
 
 texts_same : (bytes more : List ℕ) (ks : List Part) → AreTexts bytes ks → texts_of (bytes ++ more) ks ≡ texts_of bytes ks
 texts_same bytes more [] h = refl
@@ -105,71 +100,60 @@ texts_append : (bytes : List ℕ) (ks : List Part) (k : Part) → AreTexts bytes
 texts_append bytes [] k h t = (t, tt)
 texts_append bytes (j ∷ ks) k h t = (h.0, texts_append bytes ks k h.1 t)
 
-pub keys_step : (all : List (List ℕ)) (bs cs : Backings) (keys keys' : List Part) (k : Part) (key : List ℕ) (d : json.Data) (rest : json.Members) → keys' ≡ keys ++ k ∷ [] → Extends bs cs → IsText cs.bytes k → part_of cs.bytes k ≡ key → KeysStand all bs.bytes keys (json.member key d rest)
-    → KeysStand all cs.bytes keys' rest
-keys_step all bs cs keys keys' k key d rest e up t is g =
-    let left = keys_of (plain_entries rest) in
-    let same : texts_of cs.bytes keys ≡ texts_of bs.bytes keys = ap (λ xs. texts_of xs keys) up.bytes.1 ∙ texts_same bs.bytes up.bytes.0 keys g.texts in
-    let whole : texts_of cs.bytes (keys ++ k ∷ []) ++ left ≡ texts_of bs.bytes keys ++ key ∷ left = texts_more cs.bytes keys k left ∙ ap₂ (λ ts x. ts ++ x ∷ left) same is in
+pub keys_step : (bs cs : Backings) (keys keys' : List (List ℕ)) (parts parts' : List Part) (k : Part) (key : List ℕ) → keys' ≡ keys ++ key ∷ [] → parts' ≡ parts ++ k ∷ [] → Extends bs cs → IsText cs.bytes k → part_of cs.bytes k ≡ key → KeysStand keys bs.bytes parts
+    → KeysStand keys' cs.bytes parts'
+keys_step bs cs keys keys' parts parts' k key d e up t is g =
+    let same : texts_of cs.bytes parts ≡ texts_of bs.bytes parts = ap (λ xs. texts_of xs parts) up.bytes.1 ∙ texts_same bs.bytes up.bytes.0 parts g.texts in
     record {
-      is = ap (λ ks. texts_of cs.bytes ks ++ left) e ∙ whole ∙ g.is;
-      texts = subst (AreTexts cs.bytes) (sym e) (texts_append cs.bytes keys k (subst (λ xs. AreTexts xs keys) (sym up.bytes.1) (texts_kept bs.bytes up.bytes.0 keys g.texts)) t);
+      are = ap (texts_of cs.bytes) e ∙ map-append (part_of cs.bytes) parts (k ∷ []) ∙ ap₂ (λ ts x. ts ++ x ∷ []) (same ∙ g.are) is ∙ sym d;
+      texts = subst (AreTexts cs.bytes) (sym e) (texts_append cs.bytes parts k (subst (λ xs. AreTexts xs parts) (sym up.bytes.1) (texts_kept bs.bytes up.bytes.0 parts g.texts)) t);
     }
 
-pub keys_end : (all : List (List ℕ)) (bytes : List ℕ) (keys : List Part) → KeysStand all bytes keys json.no_members → texts_of bytes keys ≡ all
-keys_end all bytes keys g = sym (append-nil (texts_of bytes keys)) ∙ g.is
+-- the entries with these keys
+pub entries_stand : (bytes : List ℕ) (us vs : List Value) (keys all : List (List ℕ)) (parts : List Part) (places : List ℕ) → keys ≡ all → KeysStand keys bytes parts → vs ≡ us → entries_at bytes vs parts places ≡ entries_of all (values_at us places)
+entries_stand bytes us vs keys all parts places k g e = entries_built bytes vs parts places ∙ ap₂ (λ ks ws. entries_of ks (values_at ws places)) (g.are ∙ k) e
 
-pub members_below : (vs : List Value) (rs : List ℕ) (ms : json.Members) → MembersStand vs rs ms → AreBelow (length vs) rs
-members_below vs [] ms h = tt
-members_below vs (r ∷ rs) json.no_members h = absurd h
-members_below vs (r ∷ rs) (json.member k d ms) h = (h.0.inside, members_below vs rs ms h.1)
+-- ---- the members of an object
 
--- keys and values that stand are the entries of a map
-pub record EntriesStand (bytes : List ℕ) (vs : List Value) (keys : List Part) (places : List ℕ) (all : Entries) : Type 0 where
+-- the keys and the values of an object's members, but for those that are left
+pub record MembersStand (all : Entries) (vs : List Value) (keys : List (List ℕ)) (places : List ℕ) (rest : json.Members) : Type 0 where
+  pub keys_are : keys ++ keys_of (plain_entries rest) ≡ keys_of all
+  pub values_are : values_at vs places ++ values_of (plain_entries rest) ≡ values_of all
   pub pairs : length keys ≡ length places
-  pub are : entries_at bytes vs keys places ≡ all
-
-pub entries_stand : (bytes : List ℕ) (vs : List Value) (ks : List Part) (rs : List ℕ) (ms : json.Members) → texts_of bytes ks ≡ keys_of (plain_entries ms) → MembersStand vs rs ms → EntriesStand bytes vs ks rs (plain_entries ms)
-entries_stand bytes vs [] [] json.no_members e h = record { pairs = refl; are = refl }
-entries_stand bytes vs (k ∷ ks) [] json.no_members e h = absurd (cc)
-entries_stand bytes vs ks [] (json.member l d ms) e h = absurd h
-entries_stand bytes vs ks (r ∷ rs) json.no_members e h = absurd h
-entries_stand bytes vs [] (r ∷ rs) (json.member l d ms) e h = absurd (cc)
-entries_stand bytes vs (k ∷ ks) (r ∷ rs) (json.member l d ms) e h =
-    let key : part_of bytes k ≡ l = cc in
-    let more : texts_of bytes ks ≡ keys_of (plain_entries ms) = cc in
-    let rest = entries_stand bytes vs ks rs ms more h.1 in
-    record { pairs = ap suc rest.pairs; are = rw (key, h.0.is) (ap (entry l (plain_value d)) rest.are) }
-
--- ---- the values of members
-
-pub members_on : (vs ws : List Value) (rs : List ℕ) (ms : json.Members) → HasGrown vs ws → MembersStand vs rs ms → MembersStand ws rs ms
-members_on vs ws [] json.no_members g h = tt
-members_on vs ws [] (json.member k d ms) g h = absurd h
-members_on vs ws (r ∷ rs) json.no_members g h = absurd h
-members_on vs ws (r ∷ rs) (json.member k d ms) g h = (stands_on vs ws r (plain_value d) g h.0, members_on vs ws rs ms g h.1)
-
--- what is left once values stand at these places
-pub record MembersLeft (all : json.Members) (vs : List Value) (places : List ℕ) (rest : json.Members) : Type 0 where
-  pub all_stand : (rs : List ℕ) (ws : List Value) → HasGrown vs ws → MembersStand ws rs rest → MembersStand ws (places ++ rs) all
+  pub below : AreBelow (length vs) places
   pub whole : members_have_other rest ≡ false
   pub ordered : AreEntriesOrdered (plain_entries rest)
 
-pub members_start : (ms : json.Members) (vs : List Value) → members_have_other ms ≡ false → IsOrdered (kind.map (plain_entries ms)) → MembersLeft ms vs [] ms
-members_start ms vs w o = record { all_stand = λ rs ws g h. h; whole = w; ordered = o.1 }
+pub members_start : (ms : json.Members) (vs : List Value) → members_have_other ms ≡ false → IsOrdered (kind.map (plain_entries ms)) → MembersStand (plain_entries ms) vs [] [] ms
+members_start ms vs w o = record { keys_are = refl; values_are = refl; pairs = refl; below = tt; whole = w; ordered = o.1 }
 
-pub members_step : (all : json.Members) (us vs : List Value) (places places' : List ℕ) (r : ℕ) (key : List ℕ) (d : json.Data) (rest : json.Members) → places' ≡ places ++ r ∷ [] → HasGrown us vs → Stands vs r (plain_value d) → MembersLeft all us places (json.member key d rest)
-    → MembersLeft all vs places' rest
-members_step all us vs places places' r key d rest e up s m =
+values_on : (us more : List Value) (rs : List ℕ) → AreBelow (length us) rs → values_at (us ++ more) rs ≡ values_at us rs
+values_on us more [] b = refl
+values_on us more (r ∷ rs) b = ap₂ (λ v vs. v ∷ vs) (value_stable us more r b.0) (values_on us more rs b.1)
+
+pub members_step : (all : Entries) (us vs : List Value) (keys keys' : List (List ℕ)) (places places' : List ℕ) (r : ℕ) (key : List ℕ) (d : json.Data) (rest : json.Members) → keys' ≡ keys ++ key ∷ [] → places' ≡ places ++ r ∷ [] → HasGrown us vs → Stands vs r (plain_value d)
+    → MembersStand all us keys places (json.member key d rest) → MembersStand all vs keys' places' rest
+members_step all us vs keys keys' places places' r key d rest k e up s m =
+    let left = values_of (plain_entries rest) in
+    let kept : values_at vs places ≡ values_at us places = ap (λ ws. values_at ws places) up.1 ∙ values_on us up.0 places m.below in
+    let more : values_at vs places' ≡ values_at us places ++ plain_value d ∷ [] = ap (values_at vs) e ∙ map-append (value_in vs) places (r ∷ []) ∙ ap₂ (λ ws v. ws ++ v ∷ []) kept s.is in
+    let l = length-append us up.0 in
+    let n = ap length up.1 in
+    let one = ap length k ∙ length-append keys (key ∷ []) in
+    let two = ap length e ∙ length-append places (r ∷ []) in
+    let same = m.pairs in
     record {
-      all_stand = λ rs ws g h. subst (λ ps. MembersStand ws ps all) (sym (ap (λ ps. ps ++ rs) e ∙ append_assoc places (r ∷ []) rs)) (m.all_stand (r ∷ rs) ws (grown_more us vs ws up g) (stands_on vs ws r (plain_value d) g s, h));
+      keys_are = ap (λ ks. ks ++ keys_of (plain_entries rest)) k ∙ append_assoc keys (key ∷ []) (keys_of (plain_entries rest)) ∙ m.keys_are;
+      values_are = ap (λ ws. ws ++ left) more ∙ append_assoc (values_at us places) (plain_value d ∷ []) left ∙ m.values_are;
+      pairs = omega (arith, one, two, same);
+      below = subst (AreBelow (length vs)) (sym e) (below_append (length vs) places (r ∷ []) (below_le (length us) (length vs) places (omega (arith, l, n)) m.below) (s.inside, tt));
       whole = second_no (has_other d) _ m.whole;
       ordered = m.ordered.1;
     }
 
-pub members_end : (all : json.Members) (vs : List Value) (places : List ℕ) → MembersLeft all vs places json.no_members → MembersStand vs places all
-members_end all vs places m = subst (λ ps. MembersStand vs ps all) (append-nil places) (m.all_stand [] vs (grown_same vs) tt)
+entries_back : (es : Entries) → entries_of (keys_of es) (values_of es) ≡ es
+entries_back no_entries = refl
+entries_back (entry k v es) = ap (entry k v) (entries_back es)
 
-pub entries_end : (bytes : List ℕ) (us vs : List Value) (ks : List Part) (rs : List ℕ) (ms all : json.Members) → ms ≡ all → KeysStand (keys_of (plain_entries ms)) bytes ks json.no_members → vs ≡ us → MembersStand us rs all → EntriesStand bytes vs ks rs (plain_entries all)
-entries_end bytes us vs ks rs ms all e g same h =
-    entries_stand bytes vs ks rs all (keys_end _ bytes ks g ∙ ap (λ xs. keys_of (plain_entries xs)) e) (subst (λ ws. MembersStand ws rs all) (sym same) h)
+pub members_end : (all : Entries) (vs : List Value) (keys : List (List ℕ)) (places : List ℕ) → MembersStand all vs keys places json.no_members → entries_of keys (values_at vs places) ≡ all
+members_end all vs keys places m = ap₂ entries_of (sym (append-nil keys) ∙ m.keys_are) (sym (append-nil (values_at vs places)) ∙ m.values_are) ∙ entries_back all

@@ -18,7 +18,7 @@ items_built : (vs : List Value) (rs : List ℕ) → items_at vs rs ≡ items_of 
 items_built vs [] = refl
 items_built vs (r ∷ rs) = ap (kind.item (value_in vs r)) (items_built vs rs)
 
-entries_built : (bytes : List ℕ) (vs : List Value) (ks : List Part) (rs : List ℕ) → entries_at bytes vs ks rs ≡ entries_of (texts_of bytes ks) (values_at vs rs)
+pub entries_built : (bytes : List ℕ) (vs : List Value) (ks : List Part) (rs : List ℕ) → entries_at bytes vs ks rs ≡ entries_of (texts_of bytes ks) (values_at vs rs)
 entries_built bytes vs [] rs = refl
 entries_built bytes vs (k ∷ ks) [] = refl
 entries_built bytes vs (k ∷ ks) (r ∷ rs) = ap (kind.entry (part_of bytes k) (value_in vs r)) (entries_built bytes vs ks rs)

@@ -1,5 +1,6 @@
 -- The values of a heap.
-use Rattle.std.specs.Prelude.{◌≡◌, ◌≤◌, ℕ, ◌+◌, List, [], length, vec_capacity, Option, Some, option_map, slice_get, slice_index_or, Result, IfOk}
+use Rattle.std.specs.Prelude.{◌≡◌, ◌≤◌, ℕ, ◌+◌, List, [], length, vec_capacity, Option, Some, option_map, slice_get, slice_index_or, Result}
+use Rattle.std.specs.Prelude.{IfOk}
 use Rattle.std.specs.declared.alloc.AllocError.{AllocError}
 use Rattle.value_store.specs.Value.{Value}
 use Rattle.value_table.specs.Meaning.{grown}

@@ -17,7 +17,8 @@ use Rattle.value_table.specs.declared.backings.Backings.{Backings}
 
 -- a part of the bytes, and a text, with the length of its JSON
 abbrev pub IsText : List ℕ → Part → Type 0
-IsText bytes p = (p.from ≤ p.to) × (p.to ≤ length bytes) × IsUtf8 (part_of bytes p) × (p.json ≡ saturated (length (quoted (part_of bytes p))))
+IsText bytes p = (p.from ≤ p.to) × (p.to ≤ length bytes) × IsUtf8 (part_of bytes p)
+    × (p.json ≡ saturated (length (quoted (part_of bytes p))))
 
 abbrev pub AreTexts : List ℕ → List Part → Type 0
 AreTexts bytes [] = ⊤

@@ -47,7 +47,8 @@ pub record IsPlace (t : References) (h r : ℕ) : Type 0 where
 
 -- the longer list has its items in the backing of the list at l, where that list ends where its backing does
 abbrev pub SharesItems : References → ℕ → Result ℕ AllocError → References → Type 0
-SharesItems old l r new = (p : ℕ) → place_at old.places l ≡ Some p → IfOk r (λ h. (i : ℕ) × (place_at new.places h ≡ Some i) × SharesBacking old.heap p (Ok i) new.heap)
+SharesItems old l r new = (p : ℕ) → place_at old.places l ≡ Some p
+    → IfOk r (λ h. (i : ℕ) × (place_at new.places h ≡ Some i) × SharesBacking old.heap p (Ok i) new.heap)
 
 -- one more reference, to this value; or the host had no memory for it
 abbrev pub Names : List ValueOrError → Value → Result ℕ AllocError → List ValueOrError → Type 0

@@ -1,14 +1,16 @@
 //! Documents as values of a heap.
 
-ghost use Rattle.std.specs.Prelude.{◌≡◌, false, pos, unwrap_or, IfOk};
+ghost use Rattle.std.specs.Prelude.{◌≡◌, false, pos, unwrap_or, length, map, IfOk, string_bytes};
 ghost use Rattle.serde_json.specs.Find.{as_i64};
 ghost use Rattle.serde_json.specs.View.{view, items_view, members_view, number_view};
 ghost use Rattle.value_store.specs.Value as kind;
 ghost use Rattle.value_store.specs.Keys.{IsOrdered};
 ghost use Rattle.value_store.specs.Roots.{has_other, items_have_other, members_have_other};
 ghost use Rattle.value_store.specs.Plain.{plain_value, plain_items, plain_entries};
-ghost use Rattle.value_table.specs.Growing.{HasGrown, Stands, MembersStand};
+ghost use Rattle.value_table.specs.Growing.{HasGrown, Stands};
+ghost use Rattle.value_table.specs.Heads.{entries_of, values_at};
 ghost use Rattle.value_table.specs.Heap.{heap_values, IsHeap};
+ghost use Rattle.value_table.specs.Heaps.{AreBelow};
 
 use crate::cell::Cell;
 use crate::content::Content;
@@ -17,19 +19,19 @@ use serde_json::{Map, Number, Value};
 use std::alloc::AllocError;
 
 /// Puts the value of a document, whose numbers are integers of 64 bits signed, behind all others.
-/// It goes as deep as the document.
+/// The document is dropped as its values are made. It goes as deep as the document.
 #[cycle(add_document)]
-pub(crate) fn add_document(heap: &mut Heap, document: &Value) -> Result<u64, AllocError>
+pub(crate) fn add_document(heap: &mut Heap, document: Value) -> Result<u64, AllocError>
     requires heap { IsHeap heap.old }
-    requires whole { has_other (view document.now) ≡ false }
-    requires ordered { IsOrdered (plain_value (view document.now)) }
+    requires whole { has_other (view document) ≡ false }
+    requires ordered { IsOrdered (plain_value (view document)) }
     ensures heap { IsHeap heap.new }
     ensures grown { HasGrown (heap_values heap.old) (heap_values heap.new) }
-    ensures value { IfOk result (λ r. Stands (heap_values heap.new) r (plain_value (view document.now))) }
+    ensures value { IfOk result (λ r. Stands (heap_values heap.new) r (plain_value (view document))) }
 {
     match document {
         Value::Null => add_null(heap),
-        Value::Bool(truth) => add_bool(heap, *truth),
+        Value::Bool(truth) => add_bool(heap, truth),
         Value::Number(n) => add_number(heap, n),
         Value::String(text) => add_string(heap, text.as_str()),
         Value::Array(items) => add_items(heap, items),
@@ -64,11 +66,11 @@ pub(crate) fn add_bool(heap: &mut Heap, truth: bool) -> Result<u64, AllocError>
 }
 
 // The number is an integer of 64 bits signed.
-fn add_number(heap: &mut Heap, number: &Number) -> Result<u64, AllocError>
+fn add_number(heap: &mut Heap, number: Number) -> Result<u64, AllocError>
     requires { IsHeap heap.old }
     ensures heap { IsHeap heap.new }
     ensures grown { HasGrown (heap_values heap.old) (heap_values heap.new) }
-    ensures value { IfOk result (λ r. Stands (heap_values heap.new) r (kind.int (unwrap_or (as_i64 (number_view number.now)) (pos 0)))) }
+    ensures value { IfOk result (λ r. Stands (heap_values heap.new) r (kind.int (unwrap_or (as_i64 (number_view number)) (pos 0)))) }
 {
     heap.add_int(number.as_i64().unwrap_or(0))
 }
@@ -83,13 +85,13 @@ fn add_string(heap: &mut Heap, text: &str) -> Result<u64, AllocError>
 }
 
 #[cycle(add_document)]
-fn add_items(heap: &mut Heap, items: &Vec<Value>) -> Result<u64, AllocError>
+fn add_items(heap: &mut Heap, items: Vec<Value>) -> Result<u64, AllocError>
     requires heap { IsHeap heap.old }
-    requires whole { items_have_other (items_view items.now.items) ≡ false }
-    requires ordered { IsOrdered (kind.list (plain_items (items_view items.now.items))) }
+    requires whole { items_have_other (items_view items.items) ≡ false }
+    requires ordered { IsOrdered (kind.list (plain_items (items_view items.items))) }
     ensures heap { IsHeap heap.new }
     ensures grown { HasGrown (heap_values heap.old) (heap_values heap.new) }
-    ensures value { IfOk result (λ r. Stands (heap_values heap.new) r (kind.list (plain_items (items_view items.now.items)))) }
+    ensures value { IfOk result (λ r. Stands (heap_values heap.new) r (kind.list (plain_items (items_view items.items)))) }
 {
     let mut places = Vec::with_capacity(heap.cells.alloc(), items.len())?;
     for item in items {
@@ -99,37 +101,36 @@ fn add_items(heap: &mut Heap, items: &Vec<Value>) -> Result<u64, AllocError>
 }
 
 #[cycle(add_document)]
-fn add_members(heap: &mut Heap, members: &Map<String, Value>) -> Result<u64, AllocError>
+fn add_members(heap: &mut Heap, members: Map<String, Value>) -> Result<u64, AllocError>
     requires heap { IsHeap heap.old }
-    requires whole { members_have_other (members_view members.now.entries) ≡ false }
-    requires ordered { IsOrdered (kind.map (plain_entries (members_view members.now.entries))) }
+    requires whole { members_have_other (members_view members.entries) ≡ false }
+    requires ordered { IsOrdered (kind.map (plain_entries (members_view members.entries))) }
     ensures heap { IsHeap heap.new }
     ensures grown { HasGrown (heap_values heap.old) (heap_values heap.new) }
-    ensures value { IfOk result (λ r. Stands (heap_values heap.new) r (kind.map (plain_entries (members_view members.now.entries)))) }
+    ensures value { IfOk result (λ r. Stands (heap_values heap.new) r (kind.map (plain_entries (members_view members.entries)))) }
 {
-    let mut places = Vec::new(heap.cells.alloc());
-    for (_, member) in members.iter() {
+    let mut keys = Vec::with_capacity(heap.cells.alloc(), members.len())?;
+    let mut places = Vec::with_capacity(heap.cells.alloc(), members.len())?;
+    for (key, member) in members {
         places.push(add_document(heap, member)?)?;
+        keys.push(key)?;
     }
-    add_entries(heap, members, &places)
+    add_entries(heap, &keys, &places)
 }
 
-// Puts the map of the members behind all others. Their values stand already.
-fn add_entries(
-    heap: &mut Heap,
-    members: &Map<String, Value>,
-    places: &[u64],
-) -> Result<u64, AllocError>
+// Puts the map with these keys, and with the values at these places, behind all others.
+fn add_entries(heap: &mut Heap, keys: &[String], places: &[u64]) -> Result<u64, AllocError>
     requires heap { IsHeap heap.old }
-    requires ordered { IsOrdered (kind.map (plain_entries (members_view members.now.entries))) }
-    requires places { MembersStand (heap_values heap.old) places.now (members_view members.now.entries) }
+    requires values { AreBelow (length (heap_values heap.old)) places.now }
+    requires pairs { length keys.now ≡ length places.now }
+    requires ordered { IsOrdered (kind.map (entries_of (map string_bytes keys.now) (values_at (heap_values heap.old) places.now))) }
     ensures heap { IsHeap heap.new }
     ensures grown { HasGrown (heap_values heap.old) (heap_values heap.new) }
-    ensures value { IfOk result (λ r. Stands (heap_values heap.new) r (kind.map (plain_entries (members_view members.now.entries)))) }
+    ensures value { IfOk result (λ r. Stands (heap_values heap.new) r (kind.map (entries_of (map string_bytes keys.now) (values_at (heap_values heap.old) places.now)))) }
 {
-    let mut keys = Vec::with_capacity(heap.cells.alloc(), places.len())?;
-    for (key, _) in members.iter() {
-        keys.push(heap.add_key(key.as_str())?)?;
+    let mut parts = Vec::with_capacity(heap.cells.alloc(), places.len())?;
+    for key in keys {
+        parts.push(heap.add_key(key.as_str())?)?;
     }
-    heap.add_map(&keys, places)
+    heap.add_map(&parts, places)
 }

@@ -26,7 +26,7 @@ use crate::text::text;
 /// How many items are searched without an index.
 const FEW: u64 = 16;
 
-// No comparison takes memory: there is room for a word of each cell.
+// No comparison wants memory: there is room for a word of each cell, and hints go without.
 impl Heap {
     /// Whether the values of two cells are equal in depth. Those that are found equal are of one class
     /// from then on, so that they are not compared again.
@@ -56,7 +56,14 @@ impl Heap {
         ensures stay { ClassesStay self.old.same.items self.new.same.items }
         ensures one { result ≡ true → AreOneClass self.new.same.items a b }
     {
-        walk::equal(&self.cells, &self.backings, &mut self.same, a, b)
+        walk::equal(
+            &self.cells,
+            &self.backings,
+            &mut self.same,
+            &mut self.hints,
+            a,
+            b,
+        )
     }
 
     /// Whether an item of the list at `c` is equal to the value at `x`, or the map at `c` has the text
@@ -88,7 +95,14 @@ impl Heap {
     {
         let start = self.start(x, backing, count);
         let items = &first(&self.backings, backing, count)[start as usize..];
-        is_among(&self.cells, &self.backings, &mut self.same, x, items)
+        is_among(
+            &self.cells,
+            &self.backings,
+            &mut self.same,
+            &mut self.hints,
+            x,
+            items,
+        )
     }
 
     // A place among the first items of a backing before which none is equal to the value at `x`. An index

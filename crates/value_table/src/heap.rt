@@ -11,6 +11,7 @@ use crate::backings::Backings;
 use crate::cell::Cell;
 use crate::chunks::Chunks;
 use crate::content::Content;
+use crate::hints::Hints;
 use crate::indexes::Indexes;
 use crate::lengths::int_length;
 use crate::sequence::Sequence;
@@ -26,6 +27,8 @@ pub(crate) struct Heap {
     pub(crate) same: Vec<u64>,
     /// What is known of the items of lists. A copy has to find it anew.
     pub(crate) indexes: Indexes,
+    /// Where values differ, as was found. A copy has to find it anew.
+    pub(crate) hints: Hints,
 }
 
 impl Heap {
@@ -40,6 +43,7 @@ impl Heap {
             backings: Backings::new(alloc)?,
             same: Vec::new(alloc),
             indexes: Indexes::new(alloc),
+            hints: Hints::new(alloc),
         })
     }
 
@@ -53,6 +57,7 @@ impl Heap {
             backings: self.backings.copy()?,
             same: Vec::with_capacity(self.cells.alloc(), self.cells.len())?,
             indexes: Indexes::new(self.cells.alloc()),
+            hints: Hints::new(self.cells.alloc()),
         })
     }
 

@@ -12,6 +12,7 @@ mod entries;
 mod equality;
 mod gathering;
 mod heap;
+mod hints;
 mod index;
 mod indexes;
 mod items;

@@ -17,10 +17,10 @@ use crate::sequence::Sequence;
 use serde_json::Value;
 use std::alloc::{AllocError, Global};
 
-/// The references of the error, null, false, true and the roots.
-pub(crate) fn start_references(alloc: Global, roots: &[Value; 5]) -> Result<References, AllocError>
-    requires { AllByRecursion IsWelcome (map view roots.now) }
-    ensures { IfOk result (λ t. StartsWith t (first_values ++ map value (map plain_value (map view roots.now)))) }
+/// The references of the error, null, false, true and the roots, which are dropped as their values are made.
+pub(crate) fn start_references(alloc: Global, roots: [Value; 5]) -> Result<References, AllocError>
+    requires { AllByRecursion IsWelcome (map view roots) }
+    ensures { IfOk result (λ t. StartsWith t (first_values ++ map value (map plain_value (map view roots)))) }
 {
     let mut references = first_references(alloc)?;
     for root in roots {
@@ -28,6 +28,20 @@ pub(crate) fn start_references(alloc: Global, roots: &[Value; 5]) -> Result<Refe
         references.name(place)?;
     }
     Ok(references)
+}
+
+/// Equal documents.
+pub(crate) fn copies(roots: &[Value; 5]) -> Result<[Value; 5], AllocError>
+    ensures { IfOk result (λ copies. map view copies ≡ map view roots.now) }
+{
+    let [object, old_object, params, namespace, request] = roots;
+    Ok([
+        object.clone()?,
+        old_object.clone()?,
+        params.clone()?,
+        namespace.clone()?,
+        request.clone()?,
+    ])
 }
 
 // The references of the error, null, false and true.

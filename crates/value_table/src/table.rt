@@ -5,7 +5,7 @@ ghost use Rattle.serde_json.specs.View.{view};
 ghost use Rattle.value_store.specs.Roots.{start_contents, Starts};
 
 use crate::references::References;
-use crate::roots::start_references;
+use crate::roots::{copies, start_references};
 use serde_json::Value;
 use std::alloc::{AllocError, Global};
 use std::marker::Model;
@@ -48,6 +48,16 @@ impl Table {
         ensures { Starts (λ t. record { values = ⟦<Table as ValueStore>⟧.values t; charge = ⟦<Table as ValueStore>⟧.charge t }) (start_contents (map view roots.now)) result }
     {
         let charge = start_charge(roots)?;
+        let references = start_references(alloc, copies(roots)?)?;
+        Ok(Table { references, charge })
+    }
+
+    /// The table of roots that are given, as `of_roots` makes it. They are dropped as their values are
+    /// made, so that no document is held twice.
+    pub fn of_documents(alloc: Global, roots: [Value; 5]) -> Result<Table, TableError>
+        ensures { Starts (λ t. record { values = ⟦<Table as ValueStore>⟧.values t; charge = ⟦<Table as ValueStore>⟧.charge t }) (start_contents (map view roots)) result }
+    {
+        let charge = start_charge(&roots)?;
         let references = start_references(alloc, roots)?;
         Ok(Table { references, charge })
     }

@@ -10,6 +10,7 @@ ghost use Rattle.value_table.specs.Equality.{AreContents, AreMeanings};
 use crate::backings::Backings;
 use crate::cell::Cell;
 use crate::equality::walk::equal;
+use crate::hints::Hints;
 use crate::sequence::Sequence;
 
 /// Whether one of the cells at `places` has the value of the cell `x`.
@@ -17,6 +18,7 @@ pub(crate) fn is_among(
     cells: &Sequence<Cell>,
     backings: &Backings,
     same: &mut [u64],
+    hints: &mut Hints,
     x: u64,
     places: &[u64],
 ) -> bool
@@ -26,7 +28,7 @@ pub(crate) fn is_among(
     ensures { (vs : List Value) → AreMeanings backings.now vs cells.now → AreSame vs same.old → AreSame vs same.new × (result ≡ has_item (value_in vs x) (items_at vs places.now)) }
 {
     for i in 0..places.len() {
-        if equal(cells, backings, same, x, places[i]) {
+        if equal(cells, backings, same, hints, x, places[i]) {
             return true;
         }
     }

@@ -12,14 +12,17 @@ use crate::cell::Cell;
 use crate::content::Content;
 use crate::equality::alike::alike;
 use crate::equality::classes::{representative, unite};
+use crate::hints::Hints;
 use crate::sequence::Sequence;
 
 /// Whether the values of two cells are equal. Each two that are found equal are remembered, so that
-/// values with shared parts take about as many steps as they have cells. It goes as deep as the values.
+/// values with shared parts take about as many steps as they have cells; of those that differ the place
+/// is kept, where the next comparison begins. It goes as deep as the values.
 pub(crate) fn equal(
     cells: &Sequence<Cell>,
     backings: &Backings,
     same: &mut [u64],
+    hints: &mut Hints,
     a: u64,
     b: u64,
 ) -> bool
@@ -40,8 +43,13 @@ pub(crate) fn equal(
     }
     let xs = parts_of(backings, left.content);
     let ys = parts_of(backings, right.content);
+    let start = hints.start(x, y);
+    if start < xs.len() && !equal(cells, backings, same, hints, xs[start], ys[start]) {
+        return false;
+    }
     for i in 0..xs.len() {
-        if !equal(cells, backings, same, xs[i], ys[i]) {
+        if !equal(cells, backings, same, hints, xs[i], ys[i]) {
+            hints.note(x, y, i);
             return false;
         }
     }

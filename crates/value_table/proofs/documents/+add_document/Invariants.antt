@@ -1,21 +1,23 @@
-use Rattle.std.proofs.Common.{drop}
+use Rattle.std.proofs.Common.{◌≡◌, length, map, string_bytes}
+use Rattle.std.specs.Vec.Iter.{into_iter_items, into_iter_len}
 use Rattle.serde_json.specs.View.{items_view, members_view}
-use Rattle.value_store.specs.Plain.{plain_items}
+use Rattle.value_store.specs.Plain.{plain_items, plain_entries}
 use Rattle.value_table.specs.Heap.{heap_values, IsHeap}
 use Rattle.value_table.specs.Growing.{HasGrown}
-use Rattle.value_table.proofs.Growing.{ItemsStand, MembersLeft}
+use Rattle.value_table.proofs.Growing.{ItemsStand, MembersStand}
 use Rattle.value_table.proofs.documents.+add_document.Given as goal
 
 abbrev pub invariant-add_items-loop-item : goal.invariant-add_items-loop-item
 invariant-add_items-loop-item l = record {
   heap : IsHeap l.heap;
   grown : HasGrown (heap_values l.fn.heap) (heap_values l.heap);
-  items : ItemsStand (plain_items (items_view l.item-items)) (heap_values l.heap) l.places.items (items_view (drop l.item-index l.item-items));
+  items : ItemsStand (plain_items (items_view (into_iter_items l.initial.item-iterator))) (heap_values l.heap) l.places.items (items_view (into_iter_items l.item-iterator));
+  long : into_iter_len l.item-iterator ≡ length (into_iter_items l.item-iterator);
 }
 
-abbrev pub invariant-add_members-loop-member : goal.invariant-add_members-loop-member
-invariant-add_members-loop-member l = record {
+abbrev pub invariant-add_members-loop-key : goal.invariant-add_members-loop-key
+invariant-add_members-loop-key l = record {
   heap : IsHeap l.heap;
   grown : HasGrown (heap_values l.fn.heap) (heap_values l.heap);
-  members : MembersLeft (members_view l.initial.member-iterator) (heap_values l.heap) l.places.items (members_view l.member-iterator);
+  members : MembersStand (plain_entries (members_view l.initial.key-iterator)) (heap_values l.heap) (map string_bytes l.keys.items) l.places.items (members_view l.key-iterator);
 }

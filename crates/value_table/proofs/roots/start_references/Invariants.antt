@@ -1,4 +1,5 @@
-use Rattle.std.proofs.Common.{◌++◌, drop, take, map}
+use Rattle.std.proofs.Common.{◌≡◌, ◌++◌, map}
+use Rattle.std.specs.Array.Iter.{array_into_iter_items}
 use Rattle.std.specs.List.{AllByRecursion}
 use Rattle.serde_json.specs.View.{view}
 use Rattle.value_store.specs.Value.{value}
@@ -9,6 +10,7 @@ use Rattle.value_table.proofs.roots.start_references.Given as goal
 
 abbrev pub invariant-loop-root : goal.invariant-loop-root
 invariant-loop-root l = record {
-  starts : StartsWith l.references (first_values ++ map value (map plain_value (map view (take l.root-index l.roots))));
-  welcome : AllByRecursion IsWelcome (map view (drop l.root-index l.roots));
+  starts : StartsWith l.references (first_values ++ map value (map plain_value (map view l.yielded)));
+  welcome : AllByRecursion IsWelcome (map view (array_into_iter_items l.root-iterator));
+  all : l.yielded ++ array_into_iter_items l.root-iterator ≡ array_into_iter_items l.initial.root-iterator;
 }

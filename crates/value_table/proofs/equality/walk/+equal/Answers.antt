@@ -6,6 +6,7 @@ use Rattle.value_table.proofs.Maps.{map_more, map_part}
 use Rattle.value_table.proofs.Classes.{Unites, both_found, root_stays, unites}
 use Rattle.value_table.proofs.Walks.{same_value, same_place, same_heads, same_parts, same_cells, same_long, part_before}
 use Rattle.value_table.proofs.equality.walk.+equal.Goals as goal
+use Rattle.value_table.proofs.equality.walk.+equal.Goals.{else-start-xs-via-then-start-xs+else-not-equal, else-start-xs-via-else-start-xs}
 
 pub returns-then-not-alike : goal.returns-then-not-alike
 returns-then-not-alike t c = λ vs m s.
@@ -23,6 +24,13 @@ returns-then-not-alike t c = λ vs m s.
       one = λ h. absurd (true≢false (sym h));
     }
 
+pub bounds-ys-start : goal.bounds-ys-start
+bounds-ys-start t c =
+    let lx = c.at-left.ensures.value in
+    let ly = c.at-right.ensures.value in
+    let l = same_long _ c.args.cells.now _ _ _ _ _ _ c.parts_of-xs.ensures c.parts_of-ys.ensures c.requires.contents lx ly (c.alike.ensures.0 c.if-not-alike.false) in
+    omega arith
+
 pub bounds-ys-i : goal.bounds-ys-i
 bounds-ys-i t c =
     let lx = c.at-left.ensures.value in
@@ -35,6 +43,15 @@ equal-requires t c =
     let lx = c.at-left.ensures.value in
     let ly = c.at-right.ensures.value in
     let l = same_long _ c.args.cells.now _ _ _ _ _ _ c.parts_of-xs.ensures c.parts_of-ys.ensures c.requires.contents lx ly (c.alike.ensures.0 c.if-not-alike.false) in
+    let p = part_before _ c.args.cells.now _ _ _ c.start-start.result 0 c.parts_of-xs.ensures c.requires.contents lx (omega arith) in
+    let q = part_before _ c.args.cells.now _ _ _ c.start-start.result 0 c.parts_of-ys.ensures c.requires.contents ly (omega arith) in
+    (omega arith, (c.requires.contents, (omega arith, omega arith)))
+
+pub equal-requires-in-loop-i : goal.equal-requires-in-loop-i
+equal-requires-in-loop-i t c =
+    let lx = c.at-left.ensures.value in
+    let ly = c.at-right.ensures.value in
+    let l = same_long _ c.args.cells.now _ _ _ _ _ _ c.parts_of-xs.ensures c.parts_of-ys.ensures c.requires.contents lx ly (c.alike.ensures.0 c.if-not-alike.false) in
     let p = part_before _ c.args.cells.now _ _ _ c.loop-i.i 0 c.parts_of-xs.ensures c.requires.contents lx (omega arith) in
     let q = part_before _ c.args.cells.now _ _ _ c.loop-i.i 0 c.parts_of-ys.ensures c.requires.contents ly (omega arith) in
     (omega arith, (c.requires.contents, (omega arith, omega arith)))
@@ -43,8 +60,62 @@ pub returns-then-not-equal : goal.returns-then-not-equal
 returns-then-not-equal t c = λ vs m s.
     let x = c.representative-x.ensures.value vs s in
     let y = c.representative-y.ensures.value vs x.0 in
+    let first = c.representative-x.ensures.classes s.below in
+    let found = both_found c.args.same.now c.representative-x.new.same c.representative-y.new.same c.args.a c.args.b c.representative-x.result c.representative-y.result first (c.representative-y.ensures.classes first.shorter.down) in
+    let sub = c.equal.ensures vs m y.0 in
+    let lx = c.at-left.ensures.value in
+    let ly = c.at-right.ensures.value in
+    let l = same_long _ c.args.cells.now _ _ _ _ _ _ c.parts_of-xs.ensures c.parts_of-ys.ensures c.requires.contents lx ly (c.alike.ensures.0 c.if-not-alike.false) in
+    let p = part_before _ c.args.cells.now _ _ _ c.start-start.result 0 c.parts_of-xs.ensures c.requires.contents lx (omega arith) in
+    let q = part_before _ c.args.cells.now _ _ _ c.start-start.result 0 c.parts_of-ys.ensures c.requires.contents ly (omega arith) in
+    let xs = c.parts_of-xs.result.now in
+    let ys = c.parts_of-ys.result.now in
+    record {
+      known = sub.known;
+      right = (λ h. absurd (true≢false (sym h)), λ e. sym c.if-not-equal.true ∙ sub.right.1 (same_place _ vs c.args.cells.now _ _ m (omega arith) (omega arith) (map_part (value_in vs) xs ys c.start-start.result 0 0 (omega arith) (same_parts _ vs c.args.cells.now _ _ _ _ _ _ c.parts_of-xs.ensures c.parts_of-ys.ensures c.requires.contents m lx ly (x.1 ∙ e ∙ sym y.1)))));
+      stay = λ ws t. found.stay ws (sub.stay ws t);
+      others = λ i d above behind. sub.others i d (omega arith) (omega arith) ∙ found.others i d above behind;
+      one = λ h. absurd (true≢false (sym h));
+    }
+
+pub loop-i-init : goal.loop-i-init
+loop-i-init t c = λ vs m s.
+    let x = c.representative-x.ensures.value vs s in
+    let y = c.representative-y.ensures.value vs x.0 in
+    let first = c.representative-x.ensures.classes s.below in
+    let found = both_found c.args.same.now c.representative-x.new.same c.representative-y.new.same c.args.a c.args.b c.representative-x.result c.representative-y.result first (c.representative-y.ensures.classes first.shorter.down) in
+    let long = c.representative-y.auto.same ∙ c.representative-x.auto.same in
+    let lx = c.at-left.ensures.value in
+    let ly = c.at-right.ensures.value in
+    let l = same_long _ c.args.cells.now _ _ _ _ _ _ c.parts_of-xs.ensures c.parts_of-ys.ensures c.requires.contents lx ly (c.alike.ensures.0 c.if-not-alike.false) in
+    let low_x = c.representative-x.ensures.not_above in
+    let low_y = c.representative-y.ensures.not_above in
+    elim c.else-start-xs.branch [
+      | else-start-xs-via-then-start-xs+else-not-equal w ↦
+          let inside = w.if-start-xs.true in
+          let p = part_before _ c.args.cells.now _ _ _ c.start-start.result 0 c.parts_of-xs.ensures c.requires.contents lx (omega (arith, inside)) in
+          let q = part_before _ c.args.cells.now _ _ _ c.start-start.result 0 c.parts_of-ys.ensures c.requires.contents ly (omega (arith, inside, l)) in
+          let sub = w.equal.ensures vs m y.0 in
+          let is : c.else-start-xs.same ≡ w.equal.new.same = w.same-is in
+          rw is (record {
+            known = sub.known;
+            values = refl;
+            stay = λ ws t. found.stay ws (sub.stay ws t);
+            others = λ i d above behind. sub.others i d (omega (arith, above, behind, p, q, low_x, low_y)) (omega (arith, above, behind, p, q, low_x, low_y)) ∙ found.others i d above behind;
+            root = root_stays c.representative-y.new.same w.equal.new.same _ w.equal.auto.same (λ d. sub.others _ d (omega (arith, p, q)) (omega (arith, p, q))) found.root;
+            long = w.equal.auto.same ∙ long;
+          })
+      | else-start-xs-via-else-start-xs w ↦
+          let is : c.else-start-xs.same ≡ c.representative-y.new.same = w.same-is in
+          rw is (record { known = y.0; values = refl; stay = found.stay; others = found.others; root = found.root; long = long })
+    ]
+
+pub returns-then-not-equal-2 : goal.returns-then-not-equal-2
+returns-then-not-equal-2 t c = λ vs m s.
+    let x = c.representative-x.ensures.value vs s in
+    let y = c.representative-y.ensures.value vs x.0 in
     let inv = c.loop-i.invariant vs m s in
-    let sub = c.equal.ensures vs m inv.known in
+    let sub = c.equal-in-loop-i.ensures vs m inv.known in
     let lx = c.at-left.ensures.value in
     let ly = c.at-right.ensures.value in
     let l = same_long _ c.args.cells.now _ _ _ _ _ _ c.parts_of-xs.ensures c.parts_of-ys.ensures c.requires.contents lx ly (c.alike.ensures.0 c.if-not-alike.false) in
@@ -54,7 +125,7 @@ returns-then-not-equal t c = λ vs m s.
     let ys = c.parts_of-ys.result.now in
     record {
       known = sub.known;
-      right = (λ h. absurd (true≢false (sym h)), λ e. sym c.if-not-equal.true ∙ sub.right.1 (same_place _ vs c.args.cells.now _ _ m (omega arith) (omega arith) (map_part (value_in vs) xs ys c.loop-i.i 0 0 (omega arith) (same_parts _ vs c.args.cells.now _ _ _ _ _ _ c.parts_of-xs.ensures c.parts_of-ys.ensures c.requires.contents m lx ly (x.1 ∙ e ∙ sym y.1)))));
+      right = (λ h. absurd (true≢false (sym h)), λ e. sym c.if-not-equal-2.true ∙ sub.right.1 (same_place _ vs c.args.cells.now _ _ m (omega arith) (omega arith) (map_part (value_in vs) xs ys c.loop-i.i 0 0 (omega arith) (same_parts _ vs c.args.cells.now _ _ _ _ _ _ c.parts_of-xs.ensures c.parts_of-ys.ensures c.requires.contents m lx ly (x.1 ∙ e ∙ sym y.1)))));
       stay = λ ws t. inv.stay ws (sub.stay ws t);
       others = λ i d above behind. sub.others i d (omega arith) (omega arith) ∙ inv.others i d above behind;
       one = λ h. absurd (true≢false (sym h));
@@ -63,7 +134,7 @@ returns-then-not-equal t c = λ vs m s.
 pub loop-i-preserved : goal.loop-i-preserved
 loop-i-preserved t c = λ vs m s.
     let inv = c.loop-i.invariant vs m s in
-    let sub = c.equal.ensures vs m inv.known in
+    let sub = c.equal-in-loop-i.ensures vs m inv.known in
     let lx = c.at-left.ensures.value in
     let ly = c.at-right.ensures.value in
     let l = same_long _ c.args.cells.now _ _ _ _ _ _ c.parts_of-xs.ensures c.parts_of-ys.ensures c.requires.contents lx ly (c.alike.ensures.0 c.if-not-alike.false) in
@@ -74,11 +145,11 @@ loop-i-preserved t c = λ vs m s.
     let long = inv.long in
     record {
       known = sub.known;
-      values = map_more (value_in vs) xs ys c.loop-i.i 0 0 (omega arith) (omega arith) (same_value vs _ _ (sub.right.0 c.if-not-equal.false)) inv.values;
+      values = map_more (value_in vs) xs ys c.loop-i.i 0 0 (omega arith) (omega arith) (same_value vs _ _ (sub.right.0 c.if-not-equal-2.false)) inv.values;
       stay = λ ws t. inv.stay ws (sub.stay ws t);
       others = λ i d above behind. sub.others i d (omega arith) (omega arith) ∙ inv.others i d above behind;
-      root = root_stays c.loop-i.same c.equal.new.same _ c.equal.auto.same (λ d. sub.others _ d (omega arith) (omega arith)) inv.root;
-      long = c.equal.auto.same ∙ long;
+      root = root_stays c.loop-i.same c.equal-in-loop-i.new.same _ c.equal-in-loop-i.auto.same (λ d. sub.others _ d (omega arith) (omega arith)) inv.root;
+      long = c.equal-in-loop-i.auto.same ∙ long;
     }
 
 pub returns : goal.returns

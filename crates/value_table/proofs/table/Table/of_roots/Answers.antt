@@ -1,10 +1,14 @@
-use Rattle.std.proofs.Common.{◌≡◌, map, Err, sym, subst, rules}
+use Rattle.std.proofs.Common.{◌≡◌, ◌++◌, ◌∙◌, map, Err, sym, ap, subst, rules}
+use Rattle.std.specs.List.{AllByRecursion}
 use Rattle.serde_json.specs.View.{view}
-use Rattle.value_store.specs.Placing.{Contents}
+use Rattle.value_store.specs.Value.{value}
+use Rattle.value_store.specs.Placing.{Contents, first_values}
+use Rattle.value_store.specs.Plain.{plain_value}
 use Rattle.value_store.specs.Roots.{start_contents, Starts}
 use Rattle.value_store.specs.declared.table_error.TableError.TheVariants.{Memory}
 use Rattle.value_store.proofs.Starting.{refused, charged_ok, due}
 use Rattle.value_table.specs.Held.{Held}
+use Rattle.value_table.specs.Start.{IsWelcome}
 use Rattle.value_table.proofs.Starting.{judged}
 use Rattle.value_table.proofs.table.Table.of_roots.Goals as goal
 
@@ -21,8 +25,15 @@ returns-in_err-references c =
     let is : c.from_residual-in_err-references.result ≡ Err Memory = search rules in
     subst (λ r. Starts held (start_contents (map view c.args.roots.now)) r) (sym is) (charged_ok (start_contents (map view c.args.roots.now)) _ c.in_ok-charge.ensures.charge)
 
+pub returns-in_err-copies : goal.returns-in_err-copies
+returns-in_err-copies c =
+    let is : c.from_residual-in_err-copies.result ≡ Err Memory = search rules in
+    subst (λ r. Starts held (start_contents (map view c.args.roots.now)) r) (sym is) (charged_ok (start_contents (map view c.args.roots.now)) _ c.in_ok-charge.ensures.charge)
+
 pub start_references-requires : goal.start_references-requires
-start_references-requires c = judged (map view c.args.roots.now) _ c.in_ok-charge.ensures.charge c.in_ok-charge.ensures.ordered
+start_references-requires c = subst (AllByRecursion IsWelcome) (sym c.in_ok-copies.ensures) (judged (map view c.args.roots.now) _ c.in_ok-charge.ensures.charge c.in_ok-charge.ensures.ordered)
 
 pub returns : goal.returns
-returns c = due (map view c.args.roots.now) _ _ c.in_ok-charge.ensures.charge c.in_ok-references.ensures.values
+returns c =
+    let values = c.in_ok-references.ensures.values ∙ ap (λ ds. first_values ++ map value (map plain_value ds)) c.in_ok-copies.ensures in
+    due (map view c.args.roots.now) _ _ c.in_ok-charge.ensures.charge values
