@@ -4,3 +4,4 @@ pub mod Registers
 pub mod Spellings
 pub mod Starts
 pub mod States
+pub mod Stopping

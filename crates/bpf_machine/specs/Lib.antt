@@ -8,6 +8,7 @@ pub mod HelperCalls
 pub mod Access
 pub mod Atomics
 pub mod Step
+pub mod Going
 pub mod Trace
 pub mod States
 pub mod Starts

@@ -12,6 +12,7 @@ use Rattle.bpf_machine.specs.declared.status.Status.TheVariants.{Running, Exited
 abbrev pub word_text : ℕ → List ℕ
 word_text w = wide_text w
 
+-- a status in print: with the word in R0 at the exit, or the name of the fault
 abbrev pub status_text : Status → List ℕ
 status_text Running = codes "running"
 status_text (Exited w) = codes "exited " ++ word_text w
@@ -19,8 +20,10 @@ status_text (Fault f) = codes "fault " ++ fault_text f
 
 -- the line of a move to step k, at this `pc` and with this status
 unfoldable pub move_line : ℕ → ℤ → Status → List ℕ
-move_line k pc status = codes "step " ++ (decimal k ++ (codes " pc " ++ (signed_decimal pc ++ (codes " " ++ (status_text status ++ 10 ∷ [])))))
+move_line k pc status = codes "step " ++
+    (decimal k ++ (codes " pc " ++ (signed_decimal pc ++ (codes " " ++ (status_text status ++ 10 ∷ [])))))
 
+-- the line of a move to step k, where the run stands in this state
 abbrev pub move_text : ℕ → State → List ℕ
 move_text k s = move_line k s.pc s.status
 

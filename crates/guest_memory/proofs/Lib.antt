@@ -9,4 +9,3 @@ pub mod Overlays
 pub mod Writing
 pub mod Lending
 pub mod RegionWords
-pub mod PagedBytes

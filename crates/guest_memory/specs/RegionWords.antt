@@ -27,8 +27,11 @@ pub record WordsArePut : Type 0 where
 
 -- loads and stores of eight bytes where a word of a region begins
 pub record WordsAreAccessed : Type 0 where
-  pub read : (m : Memory) (r : Region) (i address : ℕ) → IsMemory m → HasWord (bytes_in r m) i → address ≡ base_of r + 8 * i → read_of m address Dw ≡ Ok (word_in (bytes_in r m) i)
-  pub write : (m : Memory) (r : Region) (i address word : ℕ) → IsMemory m → (r ≡ Constants → ⊥) → HasWord (bytes_in r m) i → address ≡ base_of r + 8 * i → write_of m address Dw word ≡ Ok (with_bytes r (put_word (bytes_in r m) i word) m)
+  pub read : (m : Memory) (r : Region) (i address : ℕ) → IsMemory m → HasWord (bytes_in r m) i → address ≡ base_of r + 8 * i
+      → read_of m address Dw ≡ Ok (word_in (bytes_in r m) i)
+  pub write : (m : Memory) (r : Region) (i address word : ℕ) → IsMemory m → (r ≡ Constants → ⊥) → HasWord (bytes_in r m) i → address
+      ≡ base_of r + 8 * i → write_of m address Dw word ≡ Ok (with_bytes r (put_word (bytes_in r m) i word) m)
   -- the memory after such a store is one, and the bytes of its other regions are as before
-  pub memory : (m : Memory) (r : Region) (i word : ℕ) → IsMemory m → HasWord (bytes_in r m) i → IsMemory (with_bytes r (put_word (bytes_in r m) i word) m)
+  pub memory : (m : Memory) (r : Region) (i word : ℕ) → IsMemory m → HasWord (bytes_in r m) i
+      → IsMemory (with_bytes r (put_word (bytes_in r m) i word) m)
   pub kept : (m : Memory) (r other : Region) (bytes : List ℕ) → (other ≡ r → ⊥) → bytes_in other (with_bytes r bytes m) ≡ bytes_in other m

@@ -3,6 +3,7 @@ use Rattle.std.specs.Prelude.{ℕ, List, codes}
 use Rattle.guest_memory.specs.declared.fault.Fault.{Fault}
 use Rattle.guest_memory.specs.declared.fault.Fault.TheVariants.{F1, F2, F3, F4, F5, F6, F7, F8, F9}
 
+-- a fault prints as its number
 abbrev pub fault_text : Fault → List ℕ
 fault_text F1 = codes "F1"
 fault_text F2 = codes "F2"

@@ -1,7 +1,9 @@
-//! Memory in pages, which copies share.
+//! Memory in blocks, which copies share.
 ghost use Rattle.std.specs.Prelude.{◌≡◌, length, replicate, IfOk, None};
+ghost use Rattle.guest_memory.specs.Answers.{answer_of, word_or_outside};
 ghost use Rattle.guest_memory.specs.Access.{place_of, read_of, size_bytes, write_of, Writes};
 
+use crate::answer::Answer;
 use crate::fault::Fault;
 use crate::region::Region;
 use crate::regions::Regions;
@@ -23,22 +25,12 @@ const VERDICT: u64 = 0x3_0000_0000;
 /// The first address of the constants.
 const CONSTANTS: u64 = 0x4_0000_0000;
 
-/// How many pages the stack has.
-const STACK_PAGES: usize = 16;
-
-/// How many pages the scratch has.
-const SCRATCH_PAGES: usize = 16;
-
-/// How many pages the verdict has.
-const VERDICT_PAGES: usize = 8;
-
-/// Memory that shares its pages and its constants with its copies. A store copies a page of 256 bytes
-/// that others share.
+/// Memory that shares the blocks of its regions with its copies. A store copies a block that others share.
 #[derive(Drop)]
 pub struct Guest {
-    stack: Region,
-    scratch: Region,
-    verdict: Region,
+    stack: Region<4096>,
+    scratch: Region<4096>,
+    verdict: Region<2048>,
     constants: Rc<Vec<u8>>,
 }
 
@@ -72,50 +64,50 @@ fn shared(alloc: Global, constants: &[u8]) -> Result<Rc<Vec<u8>>, AllocError>
 
 /// Loads and stores beyond the stack, which are rare: out of the way of those on it.
 impl Guest {
-    /// What a load answers whose bytes do not all stand on the stack.
+    /// The word of a load whose bytes do not all stand on the stack, if one region has them.
     #[tactic(auto, unfolding(crate::specs::Access::read_of))]
     #[inline(never)]
-    fn read_above(&self, addr: u64, size: Size) -> Result<u64, Fault>
+    fn read_above(&self, addr: u64, size: Size) -> Option<u64>
         requires { place_of 0x100000000 (length self.now.stack) addr (size_bytes size) ≡ None }
-        ensures { result ≡ read_of (record { stack = self.now.stack; scratch = self.now.scratch; verdict = self.now.verdict; constants = self.now.constants.value.items }) addr size }
+        ensures { word_or_outside result ≡ read_of (record { stack = self.now.stack; scratch = self.now.scratch; verdict = self.now.verdict; constants = self.now.constants.value.items }) addr size }
     {
         let n = size.bytes() as u64;
         if let Some(at) = place(SCRATCH, self.scratch.len(), addr, n) {
-            return Ok(self.scratch.word_at(at, size));
+            return Some(self.scratch.word_at(at, size));
         }
         if let Some(at) = place(VERDICT, self.verdict.len(), addr, n) {
-            return Ok(self.verdict.word_at(at, size));
+            return Some(self.verdict.word_at(at, size));
         }
         if let Some(at) = place(CONSTANTS, self.constants.len(), addr, n) {
-            return Ok(word_at(&self.constants, at, size));
+            return Some(word_at(&self.constants, at, size));
         }
-        Err(Fault::F3)
+        None
     }
 
     /// A store whose bytes would not all stand on the stack.
     #[tactic(auto, unfolding(crate::specs::Access::write_of))]
     #[inline(never)]
-    fn write_above(&mut self, addr: u64, size: Size, word: u64) -> Result<(), WriteError>
+    fn write_above(&mut self, addr: u64, size: Size, word: u64) -> Answer
         requires { place_of 0x100000000 (length self.old.stack) addr (size_bytes size) ≡ None }
-        ensures { Writes (write_of (record { stack = self.old.stack; scratch = self.old.scratch; verdict = self.old.verdict; constants = self.old.constants.value.items }) addr size word) result (record { stack = self.old.stack; scratch = self.old.scratch; verdict = self.old.verdict; constants = self.old.constants.value.items }) (record { stack = self.new.stack; scratch = self.new.scratch; verdict = self.new.verdict; constants = self.new.constants.value.items }) }
+        ensures { Writes (write_of (record { stack = self.old.stack; scratch = self.old.scratch; verdict = self.old.verdict; constants = self.old.constants.value.items }) addr size word) (answer_of result) (record { stack = self.old.stack; scratch = self.old.scratch; verdict = self.old.verdict; constants = self.old.constants.value.items }) (record { stack = self.new.stack; scratch = self.new.scratch; verdict = self.new.verdict; constants = self.new.constants.value.items }) }
     {
         let n = size.bytes() as u64;
         if let Some(at) = place(SCRATCH, self.scratch.len(), addr, n) {
             let Ok(()) = self.scratch.put_word(at, size, word) else {
-                return Err(WriteError::Memory);
+                return Answer::NoMemory;
             };
-            return Ok(());
+            return Answer::Made;
         }
         if let Some(at) = place(VERDICT, self.verdict.len(), addr, n) {
             let Ok(()) = self.verdict.put_word(at, size, word) else {
-                return Err(WriteError::Memory);
+                return Answer::NoMemory;
             };
-            return Ok(());
+            return Answer::Made;
         }
         if let Some(_at) = place(CONSTANTS, self.constants.len(), addr, n) {
-            return Err(WriteError::Fault(Fault::F4));
+            return Answer::Constant;
         }
-        Err(WriteError::Fault(Fault::F3))
+        Answer::Outside
     }
 }
 
@@ -124,9 +116,9 @@ impl Regions for Guest {
 
     fn of_constants(alloc: Global, constants: &[u8]) -> Result<Self, AllocError> {
         Ok(Guest {
-            stack: Region::zeroed(alloc, STACK_PAGES)?,
-            scratch: Region::zeroed(alloc, SCRATCH_PAGES)?,
-            verdict: Region::zeroed(alloc, VERDICT_PAGES)?,
+            stack: Region::zeroed(alloc)?,
+            scratch: Region::zeroed(alloc)?,
+            verdict: Region::zeroed(alloc)?,
             constants: shared(alloc, constants)?,
         })
     }
@@ -147,7 +139,10 @@ impl Regions for Guest {
         if let Some(at) = place(STACK, self.stack.len(), addr, n) {
             return Ok(self.stack.word_at(at, size));
         }
-        self.read_above(addr, size)
+        match self.read_above(addr, size) {
+            Some(word) => Ok(word),
+            None => Err(Fault::F3),
+        }
     }
 
     #[tactic(auto, unfolding(crate::specs::Access::write_of))]
@@ -160,7 +155,7 @@ impl Regions for Guest {
             };
             return Ok(());
         }
-        self.write_above(addr, size, word)
+        self.write_above(addr, size, word).result()
     }
 
     #[tactic(auto, unfolding(crate::specs::Access::stores_of, crate::specs::Access::write_of))]

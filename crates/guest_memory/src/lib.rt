@@ -2,11 +2,10 @@
 //! the machine.
 #![tactic(auto)]
 
+mod answer;
 mod fault;
 mod guest;
 pub mod laws;
-mod page;
-mod pages;
 mod region;
 mod regions;
 mod size;

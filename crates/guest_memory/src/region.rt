@@ -1,47 +1,48 @@
 //! A region of bytes that can be written.
-ghost use Rattle.std.specs.Prelude.{◌≡◌, ◌+◌, ◌*◌, ◌≤◌, length, replicate, IfOk, OnOk, OnErr};
+ghost use Rattle.std.specs.Prelude.{◌≡◌, ◌+◌, ◌≤◌, length, replicate, IfOk, OnOk, OnErr};
 ghost use Rattle.guest_memory.specs.Access.{size_bytes};
 ghost use Rattle.guest_memory.specs.Word.{low_bytes, overlay, part, word_of};
 
-use crate::page::{PAGE_LENGTH, Page};
-use crate::pages::{put_word, shared, word_at, zeroed};
 use crate::size::Size;
+use crate::words::{put_word, word_at};
 use std::alloc::{AllocError, Global};
 use std::marker::Model;
+use std::rc::Rc;
 
-/// The bytes of a region, in pages that its copies share.
+/// `N` bytes in one block, which copies share until one of them is written.
 #[derive(Drop)]
-pub struct Region {
-    pages: Vec<Page>,
+pub struct Region<const N: usize> {
+    block: Rc<[u8; N]>,
 }
 
-impl Model for Region {
-    ghost use Rattle.std.specs.Prelude.{◌≤◌, ℕ, List, length};
-    ghost use Rattle.guest_memory.specs.Pages.{joined};
+impl<const N: usize> Model for Region<N> {
+    ghost use Rattle.std.specs.Prelude.{◌≡◌, ◌≤◌, ℕ, List, length};
 
     ghost Value = { List ℕ };
 
-    ghost view = { λ r. joined r.pages.items };
+    ghost view = { λ r. r.block.value };
 
-    ghost invariant = { λ r. length (joined r.pages.items) ≤ 65536 };
+    ghost invariant = { λ r. (length r.block.value ≡ N) × (N ≤ 65536) };
 }
 
-impl Region {
-    /// So many pages of zeros. The error says that there is no memory for them.
-    pub fn zeroed(alloc: Global, pages: usize) -> Result<Region, AllocError>
-        requires { pages ≤ 256 }
-        ensures { IfOk result (λ region. region ≡ replicate (256 * pages) 0) }
+impl<const N: usize> Region<N> {
+    /// Zeros. The error says that there is no memory for them.
+    pub fn zeroed(alloc: Global) -> Result<Region<N>, AllocError>
+        requires { N ≤ 65536 }
+        ensures { IfOk result (λ region. region ≡ replicate N 0) }
     {
-        let pages = zeroed(alloc, pages)?;
-        Ok(Region { pages })
+        let Ok(block) = Rc::new(alloc, [0; N]) else {
+            return Err(AllocError);
+        };
+        Ok(Region { block })
     }
 
-    /// The same bytes. The error says that there is no memory for the references to their pages.
-    pub fn copy(&self) -> Result<Region, AllocError>
+    /// The same bytes, in the same block.
+    pub fn copy(&self) -> Result<Region<N>, AllocError>
         ensures { IfOk result (λ copy. copy ≡ self.now) }
     {
-        let pages = shared(&self.pages)?;
-        Ok(Region { pages })
+        let block = self.block.clone()?;
+        Ok(Region { block })
     }
 
     /// How many bytes it has.
@@ -49,7 +50,7 @@ impl Region {
     pub fn len(&self) -> usize
         ensures { result ≡ length self.now }
     {
-        self.pages.len() * PAGE_LENGTH
+        self.block[..].len()
     }
 
     /// The number whose bytes stand from `at` on, the lowest first.
@@ -58,7 +59,7 @@ impl Region {
         requires { at + size_bytes size ≤ length self.now }
         ensures { result ≡ word_of (part self.now at (size_bytes size)) }
     {
-        word_at(&self.pages, at, size)
+        word_at(&self.block[..], at, size)
     }
 
     /// Puts the low bytes of a word from `at` on. A refused growth leaves all as it was.
@@ -68,7 +69,24 @@ impl Region {
         ensures ok { OnOk result (self.new ≡ overlay self.old at (low_bytes (size_bytes size) word)) }
         ensures err { OnErr result (self.new ≡ self.old) }
     {
-        put_word(&mut self.pages, at, size, word)?;
+        match Rc::get_mut(&mut self.block) {
+            Some(own) => {
+                put_word(own, at, size, word);
+                Ok(())
+            }
+            None => self.put_in_copy(at, size, word),
+        }
+    }
+
+    /// The same in a copy of the block, which others share.
+    #[inline(never)]
+    fn put_in_copy(&mut self, at: usize, size: Size, word: u64) -> Result<(), AllocError>
+        requires { at + size_bytes size ≤ length self.old }
+        ensures ok { OnOk result (self.new ≡ overlay self.old at (low_bytes (size_bytes size) word)) }
+        ensures err { OnErr result (self.new ≡ self.old) }
+    {
+        let own = Rc::make_mut(&mut self.block)?;
+        put_word(own, at, size, word);
         Ok(())
     }
 }

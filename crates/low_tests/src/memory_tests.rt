@@ -176,8 +176,8 @@ fn stores_nothing_around(rt: HostRuntime) -> Result<(), Fail> {
     Ok(())
 }
 
-/// Where 0x8877_6655_4433_2211 is stored near the border of two pages, the border, and the eight bytes
-/// before and behind it.
+/// Where 0x8877_6655_4433_2211 is stored near the border of two double words, the border, and the eight
+/// bytes before and behind it.
 const BORDERS: [(u64, Size, u64, u64, u64); 6] = [
     (
         0x1_0000_00f8,
