@@ -49,8 +49,11 @@ abbrev pub FirstLineSays : List (List ℕ) → Type 0
 FirstLineSays [] = ⊥
 FirstLineSays (line ∷ lines) = (i : Item) × Reads line (says i)
 
+-- the first pass's answer: what the lines say, with the slots of their labels, or the refusal of a line
 abbrev pub FirstPass : List (List ℕ) → Result Scanned AsmError → Type 0
-FirstPass lines (Ok s) = ScansOnlyTo lines (Ok (map item_of s.lines.items)) × (slots_of (map item_of s.lines.items) ≤ 65536) × HasSlots (λ q. get_by_text s.labels q) (map item_of s.lines.items)
+FirstPass lines (Ok s) =
+    ScansOnlyTo lines (Ok (map item_of s.lines.items)) × (slots_of (map item_of s.lines.items) ≤ 65536)
+    × HasSlots (λ q. get_by_text s.labels q) (map item_of s.lines.items)
 FirstPass lines (Err Memory) = FirstLineSays lines
 FirstPass lines (Err error) = ScansOnlyTo lines (Err error)
 
@@ -66,7 +69,8 @@ IsAnswer r (Ok code) = r ≡ Ok code.items
 IsAnswer r (Err Memory) = Unit {0}
 IsAnswer r (Err error) = r ≡ Err error
 
--- the code that the text is the source of, or the refusal of the first line that keeps it from being one; a first line that says nothing is refused as that
+-- the code that the text is the source of, or the refusal of the first line that keeps it from being one; a first line
+-- that says nothing is refused as that
 abbrev pub Answers : List ℕ → Result (Vec ℕ Global) AsmError → Type 0
 Answers text (Ok code) = Source text code.items
 Answers text (Err Memory) = FirstLineSays (lines_of text)

@@ -18,6 +18,7 @@ Lacks c (x ∷ xs) = (x ≡ c → ⊥) × Lacks c xs
 abbrev pub operand_list : List ℕ → List ℕ → List ℕ
 operand_list x y = operands_text (x ∷ y ∷ [])
 
+-- the mnemonic, where there are operands
 abbrev pub before_operands : List (List ℕ) → Mnemonic → Option Mnemonic
 before_operands [] m = None
 before_operands (x ∷ xs) m = Some m
@@ -36,6 +37,7 @@ item_operands (jump j name) = operands_text (jump_operands j name)
 
 -- what is read of the operands that stand behind a mnemonic
 abbrev pub ReadsOperands : Mnemonic → List ℕ → Result Line LineError → Type 0
-ReadsOperands m text (Ok l) = (item_mnemonic (item_of l) ≡ Some m) × (text ≡ item_operands (item_of l)) × HasLine (item_of l) × InRange (item_of l)
+ReadsOperands m text (Ok l) =
+    (item_mnemonic (item_of l) ≡ Some m) × (text ≡ item_operands (item_of l)) × HasLine (item_of l) × InRange (item_of l)
 ReadsOperands m text (Err NoForm) = (i : Item) → HasLine i → item_mnemonic i ≡ Some m → text ≡ item_operands i → ⊥
 ReadsOperands m text (Err OutOfRange) = (i : Item) × HasLine i × (item_mnemonic i ≡ Some m) × (text ≡ item_operands i) × (InRange i → ⊥)

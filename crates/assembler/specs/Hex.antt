@@ -5,6 +5,7 @@ use Rattle.std.specs.Prelude.{ℕ, Bool, true, ◌&&◌, ◌||◌, List, [], ◌
 abbrev pub is_hex_digit : ℕ → Bool
 is_hex_digit b = (nat_le 48 b && nat_le b 57) || (nat_le 97 b && nat_le b 102)
 
+-- each byte is a hex digit
 abbrev pub all_hex_digits : List ℕ → Bool
 all_hex_digits [] = true
 all_hex_digits (b ∷ bs) = is_hex_digit b && all_hex_digits bs

@@ -36,6 +36,7 @@ begins_name b = (nat_le 97 b && nat_le b 122) || ((nat_le 65 b && nat_le b 90) |
 abbrev pub goes_on_name : ℕ → Bool
 goes_on_name b = begins_name b || (nat_le 48 b && nat_le b 57)
 
+-- each byte is a letter, an underscore or a digit
 abbrev pub all_go_on : List ℕ → Bool
 all_go_on [] = true
 all_go_on (b ∷ bs) = goes_on_name b && all_go_on bs
@@ -69,6 +70,7 @@ item_slots (statement x) = statement_slots x
 item_slots (label name) = 0
 item_slots (jump j name) = 1
 
+-- how many slots all of them take
 abbrev pub slots_of : List Item → ℕ
 slots_of [] = 0
 slots_of (i ∷ is) = item_slots i + slots_of is

@@ -41,12 +41,14 @@ abbrev pub fits_16 : ℤ → Bool
 fits_16 (pos n) = nat_lt n 32768
 fits_16 (negsuc n) = nat_lt n 32768
 
--- the jump has room for an offset of 32 bits
+-- the jump has room for the offset: `ja` and branches have 16 bits signed, `ja32` and `call_local` 32, which hold every
+-- offset between two slots of a program (RFC 9669, section 4.3)
 abbrev pub reaches : Jump → ℤ → Bool
 reaches Near offset = fits_16 offset
 reaches Long offset = true
 reaches CallLocal offset = true
 reaches (Branch comparison width dst operand) offset = fits_16 offset
 
+-- the jump with its offset, where it has room for it
 abbrev pub with_offset : Jump → ℤ → Option Statement
 with_offset j offset = if reaches j offset then Some (jump_by j offset) else None

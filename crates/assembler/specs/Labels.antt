@@ -8,6 +8,7 @@ names (label name) q = bytes_eq name q
 names (statement x) q = false
 names (jump j name) q = false
 
+-- the slot of the first line that names the label q, where the first of these lines begins at this slot
 abbrev pub label_slot_from : ℕ → List Item → List ℕ → Option ℕ
 label_slot_from slot [] q = None
 label_slot_from slot (i ∷ is) q = if names i q then Some slot else label_slot_from (slot + item_slots i) is q

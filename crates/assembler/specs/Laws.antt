@@ -17,7 +17,8 @@ OneAnswer = (lines : List (List ℕ)) (r s : Result (List ℕ) AsmError) → Ass
 
 -- the listing of code, of at most 65,536 whole slots, is its source
 abbrev pub ListingIsSource : Type 0
-ListingIsSource = (code text : List ℕ) → All (λ b. b < 256) code → length code % 8 ≡ 0 → length code / 8 ≤ 65536 → Listing code text → Source text code
+ListingIsSource = (code text : List ℕ) → All (λ b. b < 256) code → length code % 8 ≡ 0 → length code / 8 ≤ 65536 → Listing code text
+    → Source text code
 
 -- a text is refused by exactly its refusal's cause
 abbrev pub RefusedByCause : Type 0

@@ -1,6 +1,7 @@
 -- Mnemonics by what they are made of.
 use Rattle.insn_codec.specs.declared.mnemonic.Mnemonic.{Mnemonic}
-use Rattle.insn_codec.specs.declared.mnemonic.Mnemonic.TheVariants.{Alu, Neg, SignExtend, ByteSwap, Ja, JaLong, Branch, Call, CallLocal, Exit, Load, LoadSigned, StoreImm, Store, Atomic, LoadWide, Slot}
+use Rattle.insn_codec.specs.declared.mnemonic.Mnemonic.TheVariants.{Alu, Neg, SignExtend, ByteSwap, Ja, JaLong, Branch, Call, CallLocal}
+use Rattle.insn_codec.specs.declared.mnemonic.Mnemonic.TheVariants.{Exit, Load, LoadSigned, StoreImm, Store, Atomic, LoadWide, Slot}
 
 -- one fixed word
 abbrev pub IsFixed : Mnemonic → Type 0

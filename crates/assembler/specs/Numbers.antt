@@ -7,6 +7,7 @@ abbrev pub is_positive : List ℕ → Bool
 is_positive [] = false
 is_positive (d ∷ ds) = not (nat_eq d 48) && all_ascii_digits (d ∷ ds)
 
+-- decimal digits: 0 by itself, or with no 0 before the others
 abbrev pub is_decimal : List ℕ → Bool
 is_decimal digits = bytes_eq digits (codes "0") || is_positive digits
 

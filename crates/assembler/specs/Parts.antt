@@ -13,6 +13,7 @@ abbrev pub NumeralIs : Numeral → ℤ → Type 0
 NumeralIs (Small n) z = z ≡ n
 NumeralIs Wide z = FitsSigned w32 z → ⊥
 
+-- an operand that was read is this one: a register, or an immediate
 abbrev pub ValueIs : Value → Operand → Type 0
 ValueIs (Register r) o = o ≡ Reg r
 ValueIs (Number n) o = (z : ℤ) × NumeralIs n z × (o ≡ Imm z)

@@ -8,6 +8,7 @@ pub data Reading : Type 0 where
   out_of_range : Reading
   no_form : Reading
 
+-- the text is the line of what it says, whose numbers are in range; or of something with a number out of range; or of nothing
 abbrev pub Reads : List ℕ → Reading → Type 0
 Reads text (says i) = (text ≡ item_text i) × HasLine i × InRange i
 Reads text out_of_range = (i : Item) × (text ≡ item_text i) × HasLine i × (InRange i → ⊥)

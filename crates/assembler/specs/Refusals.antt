@@ -34,7 +34,8 @@ pub data IsRefused (items before : List Item) : Item → AsmError → Type 0 whe
 
 -- none of these lines is refused so
 abbrev pub NoneRefused : List Item → List Item → Type 0
-NoneRefused items before = (front : List Item) (i : Item) (rest : List Item) (e : AsmError) → before ≡ front ++ i ∷ rest → IsRefused items front i e → ⊥
+NoneRefused items before = (front : List Item) (i : Item) (rest : List Item) (e : AsmError) → before ≡ front ++ i ∷ rest
+    → IsRefused items front i e → ⊥
 
 -- the first line that is
 pub record FirstRefused (items : List Item) (error : AsmError) : Type 0 where

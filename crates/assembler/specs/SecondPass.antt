@@ -12,6 +12,7 @@ use Rattle.assembler.specs.declared.asm_error.AsmError.TheVariants.{A3, A5}
 abbrev pub offset_to : ℕ → ℕ → ℤ
 offset_to slot target = pos target -ℤ pos (suc slot)
 
+-- the jump, or the refusal of its line, whose label is too far
 abbrev pub in_reach : ℕ → Option Statement → Result (Option Statement) AsmError
 in_reach number None = Err (A5 number)
 in_reach number (Some x) = Ok (Some x)
@@ -27,6 +28,7 @@ line_statement labels number slot (statement x) = Ok (Some x)
 line_statement labels number slot (label name) = Ok None
 line_statement labels number slot (jump j name) = jump_at number slot j (labels name)
 
+-- the bytes of a statement; a label's line has none
 abbrev pub bytes_of : Option Statement → List ℕ
 bytes_of None = []
 bytes_of (Some x) = statement_bytes x
@@ -36,6 +38,7 @@ abbrev pub after : List ℕ → Result (List ℕ) AsmError → Result (List ℕ)
 after bytes (Ok more) = Ok (bytes ++ more)
 after bytes (Err error) = Err error
 
+-- a line's bytes before those of the rest, or the first refusal
 abbrev pub and_then : Result (Option Statement) AsmError → Result (List ℕ) AsmError → Result (List ℕ) AsmError
 and_then (Ok x) rest = after (bytes_of x) rest
 and_then (Err error) rest = Err error
@@ -43,4 +46,5 @@ and_then (Err error) rest = Err error
 -- the bytes of the lines from this one on, or the first line whose label is unknown or too far
 abbrev pub code_bytes : (List ℕ → Option ℕ) → ℕ → ℕ → List Item → Result (List ℕ) AsmError
 code_bytes labels number slot [] = Ok []
-code_bytes labels number slot (i ∷ is) = and_then (line_statement labels number slot i) (code_bytes labels (suc number) (slot + item_slots i) is)
+code_bytes labels number slot (i ∷ is) =
+    and_then (line_statement labels number slot i) (code_bytes labels (suc number) (slot + item_slots i) is)

@@ -29,12 +29,14 @@ pub record GivesSlots (labels : List ℕ → Option ℕ) (items : List Item) : T
 pub data StandsFor (labels : List ℕ → Option ℕ) (slot : ℕ) : Item → List ℕ → Type 0 where
   stated : (x : Statement) → StandsFor labels slot (statement x) (statement_bytes x)
   named : (name : List ℕ) → StandsFor labels slot (label name) []
-  jumped : (j : Jump) (name : List ℕ) (target : ℕ) → labels name ≡ Some target → IsStatement (jump_by j (pos target -ℤ pos (suc slot))) → StandsFor labels slot (jump j name) (statement_bytes (jump_by j (pos target -ℤ pos (suc slot))))
+  jumped : (j : Jump) (name : List ℕ) (target : ℕ) → labels name ≡ Some target → IsStatement (jump_by j (pos target -ℤ pos (suc slot)))
+      → StandsFor labels slot (jump j name) (statement_bytes (jump_by j (pos target -ℤ pos (suc slot))))
 
 -- the bytes that the lines from this slot on stand for, in order
 pub data StandFor (labels : List ℕ → Option ℕ) : ℕ → List Item → List ℕ → Type 0 where
   none : {slot : ℕ} → StandFor labels slot [] []
-  line : {slot : ℕ} {i : Item} {is : List Item} {bytes more : List ℕ} → StandsFor labels slot i bytes → StandFor labels (slot + item_slots i) is more → StandFor labels slot (i ∷ is) (bytes ++ more)
+  line : {slot : ℕ} {i : Item} {is : List Item} {bytes more : List ℕ} → StandsFor labels slot i bytes
+      → StandFor labels (slot + item_slots i) is more → StandFor labels slot (i ∷ is) (bytes ++ more)
 
 -- The lines say something each. Some map gives each label, named by exactly one line, the number of slots before that
 -- line, and the bytes are, in order, the at most 65,536 slots that the lines stand for.

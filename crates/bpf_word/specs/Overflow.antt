@@ -16,10 +16,15 @@ wrapped_sum a b = (a + b) % 2 ^ 64
 abbrev pub exact_sum : ℕ → ℕ → ℤ
 exact_sum a b = signed_of 64 a +ℤ signed_of 64 b
 
+-- whether b is negative and how the wrapped sum compares with a tell whether the sum is exact
 pub record SumsOverflow : Type 0 where
   -- where b is not negative: the sum is exact if it is not below a, and else no signed number of 64 bits is
-  pub rises : (a b : ℕ) → a < 2 ^ 64 → b < 2 ^ 64 → holds_of Slt b 0 ≡ false → holds_of Slt (wrapped_sum a b) a ≡ false → signed_of 64 (wrapped_sum a b) ≡ exact_sum a b
-  pub rises_over : (a b : ℕ) → a < 2 ^ 64 → b < 2 ^ 64 → holds_of Slt b 0 ≡ false → holds_of Slt (wrapped_sum a b) a ≡ true → ¬ IsSigned (exact_sum a b)
+  pub rises : (a b : ℕ) → a < 2 ^ 64 → b < 2 ^ 64 → holds_of Slt b 0 ≡ false → holds_of Slt (wrapped_sum a b) a ≡ false
+      → signed_of 64 (wrapped_sum a b) ≡ exact_sum a b
+  pub rises_over : (a b : ℕ) → a < 2 ^ 64 → b < 2 ^ 64 → holds_of Slt b 0 ≡ false → holds_of Slt (wrapped_sum a b) a ≡ true
+      → ¬ IsSigned (exact_sum a b)
   -- where b is negative: the sum is exact if it is below a, and else no signed number of 64 bits is
-  pub falls : (a b : ℕ) → a < 2 ^ 64 → b < 2 ^ 64 → holds_of Slt b 0 ≡ true → holds_of Sge (wrapped_sum a b) a ≡ false → signed_of 64 (wrapped_sum a b) ≡ exact_sum a b
-  pub falls_over : (a b : ℕ) → a < 2 ^ 64 → b < 2 ^ 64 → holds_of Slt b 0 ≡ true → holds_of Sge (wrapped_sum a b) a ≡ true → ¬ IsSigned (exact_sum a b)
+  pub falls : (a b : ℕ) → a < 2 ^ 64 → b < 2 ^ 64 → holds_of Slt b 0 ≡ true → holds_of Sge (wrapped_sum a b) a ≡ false
+      → signed_of 64 (wrapped_sum a b) ≡ exact_sum a b
+  pub falls_over : (a b : ℕ) → a < 2 ^ 64 → b < 2 ^ 64 → holds_of Slt b 0 ≡ true → holds_of Sge (wrapped_sum a b) a ≡ true
+      → ¬ IsSigned (exact_sum a b)

@@ -9,6 +9,7 @@ use Rattle.bpf_word.specs.declared.operation.Operation.TheVariants.{Add, Sub, Di
 use Rattle.bpf_word.specs.declared.sign_bits.SignBits.TheVariants.{B8, B32}
 use Rattle.bpf_word.specs.declared.swap_width.SwapWidth.TheVariants.{Bits16, Bits32, Bits64}
 
+-- an operation with its operands in each row, and its result
 pub record RowsStand : Type 0 where
   pub add_wraps : alu64_of Add 0xffff_ffff_ffff_ffff 1 ≡ 0
   pub sub_wraps : alu32_of Sub 2 5 ≡ 0xffff_fffd

@@ -7,3 +7,5 @@ pub mod Settled
 pub mod Arguments
 pub mod Views
 pub mod PartsExpanded
+pub mod ValueParts
+pub mod StaysValue

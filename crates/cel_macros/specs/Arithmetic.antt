@@ -1,5 +1,6 @@
 -- Arithmetic on ints of 64 bits, and joining (cel-spec, Arithmetic Operators, Overflow).
-use Rattle.std.specs.Prelude.{ℕ, ℤ, pos, negsuc, ◌+ℤ◌, ◌-ℤ◌, ◌*ℤ◌, neg_ℤ, int_div, int_rem, ◌^◌, nat_lt, Bool, false, List, ◌++◌, Option, Some, None, if◌then◌else◌}
+use Rattle.std.specs.Prelude.{ℕ, ℤ, pos, negsuc, ◌+ℤ◌, ◌-ℤ◌, ◌*ℤ◌, neg_ℤ, int_div, int_rem, ◌^◌, nat_lt, Bool, false, List, ◌++◌, Option}
+use Rattle.std.specs.Prelude.{Some, None, if◌then◌else◌}
 use Rattle.value_store.specs.Value.{ValueOrError, error, value, int, text, list, Items, items_join}
 
 -- the whole number is an int of 64 bits
@@ -11,29 +12,34 @@ fits (negsuc n) = nat_lt n (2 ^ 63)
 abbrev pub int_or_error : ℤ → ValueOrError
 int_or_error z = if fits z then value (int z) else error
 
+-- the int, where the result is one
 abbrev pub int_part : ValueOrError → Option ℤ
 int_part (value (int z)) = Some z
 int_part _ = None
 
+-- what f makes of the two ints; the error where an operand is no int
 abbrev pub on_ints : (ℤ → ℤ → ValueOrError) → Option ℤ → Option ℤ → ValueOrError
 on_ints f (Some a) (Some b) = f a b
 on_ints f _ _ = error
 
+-- whether the int is 0
 abbrev pub is_zero : ℤ → Bool
 is_zero (pos n) = nat_lt n 1
 is_zero (negsuc n) = false
 
+-- a - b; overflow is the error
 abbrev pub difference : ℤ → ℤ → ValueOrError
 difference a b = int_or_error (a -ℤ b)
 
+-- a * b; overflow is the error
 abbrev pub product : ℤ → ℤ → ValueOrError
 product a b = int_or_error (a *ℤ b)
 
--- rounded toward zero; the least int by -1 overflows
+-- a / b, rounded toward zero; the error where b is 0, and for the least int by -1, which overflows
 abbrev pub quotient : ℤ → ℤ → ValueOrError
 quotient a b = if is_zero b then error else int_or_error (int_div a b)
 
--- with the dividend's sign; an error wherever the quotient is one
+-- a % b, with the sign of a; the error wherever a / b is the error
 abbrev pub remainder : ℤ → ℤ → ValueOrError
 remainder a b = if is_zero b then error else (if fits (int_div a b) then value (int (int_rem a b)) else error)
 
@@ -44,36 +50,45 @@ pub data Addend : Type 0 where
   Listed : Items → Addend
   NoAddend : Addend
 
+-- what `+` sees of a result: an int, a text, a list, or none of them
 abbrev pub addend : ValueOrError → Addend
 addend (value (int z)) = Number z
 addend (value (text s)) = Text s
 addend (value (list is)) = Listed is
 addend _ = NoAddend
 
+-- two ints added, overflow being the error; two texts or two lists, one behind the other; the error for all else
 abbrev pub sum_of_parts : Addend → Addend → ValueOrError
 sum_of_parts (Number a) (Number b) = int_or_error (a +ℤ b)
 sum_of_parts (Text a) (Text b) = value (text (a ++ b))
 sum_of_parts (Listed a) (Listed b) = value (list (items_join a b))
 sum_of_parts _ _ = error
 
+-- x + y: two ints added, or two texts or two lists joined (cel-spec, Arithmetic Operators, Overflow)
 abbrev pub sum_of : ValueOrError → ValueOrError → ValueOrError
 sum_of x y = sum_of_parts (addend x) (addend y)
 
+-- x - y of two ints; the error where an operand is no int, or on overflow (cel-spec, Overflow)
 abbrev pub difference_of : ValueOrError → ValueOrError → ValueOrError
 difference_of x y = on_ints difference (int_part x) (int_part y)
 
+-- x * y of two ints; the error where an operand is no int, or on overflow (cel-spec, Overflow)
 abbrev pub product_of : ValueOrError → ValueOrError → ValueOrError
 product_of x y = on_ints product (int_part x) (int_part y)
 
+-- x / y of two ints; the error where an operand is no int, for a zero y, or on overflow (cel-spec, Overflow)
 abbrev pub quotient_of : ValueOrError → ValueOrError → ValueOrError
 quotient_of x y = on_ints quotient (int_part x) (int_part y)
 
+-- x % y of two ints; the error where an operand is no int, and wherever x / y is the error (cel-spec, Overflow)
 abbrev pub remainder_of : ValueOrError → ValueOrError → ValueOrError
 remainder_of x y = on_ints remainder (int_part x) (int_part y)
 
+-- the int negated; the error where there is none, and for the least int, which overflows
 abbrev pub negation : Option ℤ → ValueOrError
 negation (Some a) = int_or_error (neg_ℤ a)
 negation None = error
 
+-- -x of an int; the error where x is no int, or on overflow (cel-spec, Overflow)
 abbrev pub negation_of : ValueOrError → ValueOrError
 negation_of x = negation (int_part x)

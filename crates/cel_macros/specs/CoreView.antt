@@ -1,16 +1,19 @@
 -- Expanded expressions as plain data, without where they lie in memory.
 use Rattle.std.specs.Prelude.{List, [], ◌∷◌, string_bytes, box_value}
 use Rattle.cel_reader.specs.Tree.{literal_view}
-use Rattle.cel_macros.specs.CoreTree.{CoreTree, CoreTrees, CoreEntries, no_cores, more_cores, no_core_entries, more_core_entries, literal, name, variable, select, has, index, call, method, unary, binary, ternary, list, map, fold, fold_map}
+use Rattle.cel_macros.specs.CoreTree.{CoreTree, CoreTrees, CoreEntries, no_cores, more_cores, no_core_entries, more_core_entries, literal}
+use Rattle.cel_macros.specs.CoreTree.{name, variable, select, has, index, call, method, unary, binary, ternary, list, map, fold, fold_map}
 use Rattle.cel_macros.specs.declared.core_tree.Core.{Core}
 use Rattle.cel_macros.specs.declared.core_tree.Core.TheOpen.{Core-F}
 use Rattle.cel_macros.specs.declared.core_tree.Core.TheOpen as layer
 use Rattle.cel_macros.specs.declared.core_tree.Core.TheFolds.{fold-Core}
 
+-- the same expressions from a list of them
 abbrev pub cores : List CoreTree → CoreTrees
 cores [] = no_cores
 cores (a ∷ more) = more_cores a (cores more)
 
+-- the same entries from a list of keys and values
 abbrev pub core_entries : List (CoreTree × CoreTree) → CoreEntries
 core_entries [] = no_core_entries
 core_entries (e ∷ es) = more_core_entries e.0 e.1 (core_entries es)

@@ -3,11 +3,12 @@ use Rattle.std.specs.Prelude.{ℕ, Bool, List, [], ◌∷◌, Option, Some, None
 use Rattle.cel_reader.specs.Words.{is_one_of}
 use Rattle.value_store.specs.Value.{Value, ValueOrError, error, value}
 
--- what the first binding of a name gives
+-- what the first binding of a name gives, where there is one
 abbrev pub lookup : {A : Type 0} → List ℕ → List (List ℕ × A) → Option A
 lookup n [] = None
 lookup n (b ∷ more) = if bytes_eq b.0 n then Some b.1 else lookup n more
 
+-- the value, and the error where there is none
 abbrev pub value_or_error : Option Value → ValueOrError
 value_or_error (Some v) = value v
 value_or_error None = error
@@ -24,9 +25,11 @@ pub record Roots : Type 0 where
 abbrev pub root_names : List (List ℕ)
 root_names = codes "object" ∷ codes "oldObject" ∷ codes "params" ∷ codes "namespaceObject" ∷ codes "request" ∷ []
 
+-- whether a name is one of them
 unfoldable pub is_root : List ℕ → Bool
 is_root n = is_one_of root_names n
 
+-- these names, each with the document that it stands for
 abbrev pub root_bindings : Roots → List (List ℕ × Value)
 root_bindings r =
     (codes "object", r.object) ∷ (codes "oldObject", r.old_object) ∷ (codes "params", r.params) ∷
@@ -43,9 +46,11 @@ abbrev pub item_or_root : Option Value → Option Value → ValueOrError
 item_or_root (Some v) root = value v
 item_or_root None root = value_or_error root
 
+-- what a name stands for: an item, else a root, else the error (cel-spec, Name Resolution)
 unfoldable pub name_value : List ℕ → Environment → ValueOrError
 name_value n env = item_or_root (lookup n env.items) (lookup n (root_bindings env.roots))
 
+-- the result, and the error where there is none
 abbrev pub result_or_error : Option ValueOrError → ValueOrError
 result_or_error (Some x) = x
 result_or_error None = error

@@ -7,7 +7,8 @@ use Rattle.cel_macros.specs.declared.core_tree.Core.{Core}
 use Rattle.cel_reader.specs.declared.expr.Expr.{Expr}
 use Rattle.cel_reader.specs.Tree.{view}
 use Rattle.cel_macros.specs.CoreView.{cores, core_view}
-use Rattle.cel_macros.specs.CoreTree.{CoreTree, CoreTrees, no_cores, more_cores, name, variable, select, has, call, method, fold_map, one_core, expanded, method_or_fold, method_or_fold_map}
+use Rattle.cel_macros.specs.CoreTree.{CoreTree, CoreTrees, no_cores, more_cores, name, variable, select, has, call, method, fold_map}
+use Rattle.cel_macros.specs.CoreTree.{one_core, expanded, method_or_fold, method_or_fold_map}
 
 -- the name that an iteration name is
 abbrev pub core_name : CoreTree → Option (List ℕ)
@@ -20,34 +21,41 @@ core_selection (select a f) = Some (a, f)
 core_selection (variable f) = Some (name variables_name, f)
 core_selection _ = None
 
+-- a call of n with one argument a: `has` where n is that name and a selects a field, and else a call
 abbrev pub has_or_call : Bool → Option (CoreTree × List ℕ) → List ℕ → CoreTree → CoreTree
 has_or_call true (Some s) n a = has s.0 s.1
 has_or_call true None n a = call n (one_core a)
 has_or_call false s n a = call n (one_core a)
 
+-- a call of n with these arguments; b: n is the name `has`
 abbrev pub call_with : Bool → List ℕ → CoreTrees → CoreTree
 call_with b n no_cores = call n no_cores
 call_with b n (more_cores a no_cores) = has_or_call b (core_selection a) n a
 call_with b n (more_cores a (more_cores d more)) = call n (more_cores a (more_cores d more))
 
+-- what a call of n becomes, once its arguments are expanded
 abbrev pub call_of : List ℕ → CoreTrees → CoreTree
 call_of n arguments = call_with (is_has n) n arguments
 
+-- what a method n of a becomes, once its arguments are expanded
 abbrev pub method_of : CoreTree → List ℕ → CoreTrees → CoreTree
 method_of a n (more_cores x (more_cores p no_cores)) = method_or_fold (macro_named n) (core_name x) n a x p
 method_of a n (more_cores x (more_cores p (more_cores t no_cores))) = method_or_fold_map (is_map n) (core_name x) n a x p t
 method_of a n arguments = method a n arguments
 
--- arguments by their number and first one: a name and one more, a name and two more, or others
+-- two arguments, the first a name
 abbrev pub IsPair : List CoreTree → Type 0
 IsPair items = (i : List ℕ) × (p : CoreTree) × (items ≡ name i ∷ p ∷ [])
 
+-- three arguments, the first a name
 abbrev pub IsTriple : List CoreTree → Type 0
 IsTriple items = (i : List ℕ) × (p : CoreTree) × (t : CoreTree) × (items ≡ name i ∷ p ∷ t ∷ [])
 
+-- arguments with which every method stays a call
 abbrev pub IsOther : List CoreTree → Type 0
 IsOther items = (a : CoreTree) (n : List ℕ) → method_of a n (cores items) ≡ method a n (cores items)
 
+-- the arguments have this shape
 abbrev pub HasShape : Shape → List CoreTree → Type 0
 HasShape Pair items = IsPair items
 HasShape Triple items = IsTriple items
@@ -57,9 +65,10 @@ HasShape Other items = IsOther items
 abbrev pub IsFoldMap : CoreTree → CoreTree → List CoreTree → Type 0
 IsFoldMap c a items = (i : List ℕ) × (p : CoreTree) × (t : CoreTree) × (items ≡ name i ∷ p ∷ t ∷ []) × (c ≡ fold_map i a p t)
 
--- a key and its value, and what they become
+-- what a key and its value stand for, once they are expanded
 abbrev pub core_pair : Core × Core → CoreTree × CoreTree
 core_pair e = (core_view e.0, core_view e.1)
 
+-- what a key and its value become
 abbrev pub expanded_pair : Expr × Expr → CoreTree × CoreTree
 expanded_pair e = (expanded (view e.0), expanded (view e.1))

@@ -13,13 +13,16 @@ use Rattle.cel_macros.specs.declared.macros.Macro.{Macro}
 use Rattle.cel_macros.specs.declared.macros.Macro.TheVariants.{All, Exists, ExistsOne, Filter, Map}
 use Rattle.cel_macros.specs.Macros.{is_yes, is_no, range_of}
 use Rattle.cel_macros.specs.Meaning.{unary_of, binary_of}
-use Rattle.cel_macros.specs.CoreTree.{CoreTree, literal, name, variable, select, has, index, call, method, unary, binary, ternary, map, fold, fold_map, CoreTrees, no_cores, more_cores, CoreEntries, no_core_entries, more_core_entries}
+use Rattle.cel_macros.specs.CoreTree.{CoreTree, literal, name, variable, select, has, index, call, method, unary, binary, ternary, map}
+use Rattle.cel_macros.specs.CoreTree.{fold, fold_map, CoreTrees, no_cores, more_cores, CoreEntries, no_core_entries, more_core_entries}
 use Rattle.cel_macros.specs.CoreTree as core
 
+-- the items, where the result is a list
 abbrev pub items_part : ValueOrError → Option Items
 items_part (value (list is)) = Some is
 items_part _ = None
 
+-- the list with the value behind its last item; the error where there is no list or no value
 abbrev pub push_parts : Option Items → ValueOrError → ValueOrError
 push_parts (Some is) (value v) = value (list (items_push is v))
 push_parts _ _ = error
@@ -28,16 +31,18 @@ push_parts _ _ = error
 abbrev pub pushed : ValueOrError → ValueOrError → ValueOrError
 pushed acc x = push_parts (items_part acc) x
 
+-- the count, one higher; the error where there is none
 abbrev pub one_more : Option ℤ → ValueOrError
 one_more (Some z) = value (int (z +ℤ pos 1))
 one_more None = error
 
--- the answer so far, once a predicate has given this
+-- the next answer where the predicate is true, the answer so far where it is false, and else the error
 abbrev pub when_true : Truth → ValueOrError → ValueOrError → ValueOrError
 when_true Yes next acc = next
 when_true No next acc = acc
 when_true Other next acc = error
 
+-- the answer before the first item
 abbrev pub start_of : Macro → ValueOrError
 start_of All = value (boolean true)
 start_of Exists = value (boolean false)
@@ -61,11 +66,12 @@ end_of ExistsOne acc = equal_of acc (value (int (pos 1)))
 end_of Filter acc = acc
 end_of Map acc = acc
 
--- the answers that no further item changes: false of `all`, true of `exists`, and the error of the others
+-- whether the result is the error
 abbrev pub is_error : ValueOrError → Bool
 is_error error = true
 is_error (value v) = false
 
+-- the answers that no further item changes: false of `all`, true of `exists`, and the error of the others
 abbrev pub is_settled : Macro → ValueOrError → Bool
 is_settled All acc = is_no (truth acc)
 is_settled Exists acc = is_yes (truth acc)
@@ -73,18 +79,22 @@ is_settled ExistsOne acc = is_error acc
 is_settled Filter acc = is_error acc
 is_settled Map acc = is_error acc
 
+-- a macro over a range from the left, where f gives its part at an item; the error where there is no range
 abbrev pub folded : Macro → (Value → ValueOrError) → Option (List Value) → ValueOrError
 folded m f (Some items) = end_of m (fold_left (step_of m f) (start_of m) items)
 folded m f None = error
 
+-- the answer of `map` after one more item, where p is its predicate and f gives its transform
 abbrev pub map_step : (Value → Truth) → (Value → ValueOrError) → ValueOrError → Value → ValueOrError
 map_step p f acc v = when_true (p v) (pushed acc (f v)) acc
 
+-- such a `map` over a range from the left; the error where there is no range
 abbrev pub folded_map : (Value → Truth) → (Value → ValueOrError) → Option (List Value) → ValueOrError
 folded_map p f (Some items) = fold_left (map_step p f) (value (list no_items)) items
 folded_map p f None = error
 
 unfoldable mutual
+  -- what an expanded expression means in an environment: a value or the error
   pub fold_meaning : CoreTree → Environment → ValueOrError
   fold_meaning (literal l) env = literal_of l
   fold_meaning (name n) env = name_value n env
@@ -103,12 +113,15 @@ unfoldable mutual
   fold_meaning (method a n (more_cores b no_cores)) env = text_test_of (test_named n) (fold_meaning a env) (fold_meaning b env)
   fold_meaning (method a n _) env = error
   fold_meaning (fold m n r p) env = folded m (λ v. fold_meaning p (bind n v env)) (range_of (fold_meaning r env))
-  fold_meaning (fold_map n r p t) env = folded_map (λ v. truth (fold_meaning p (bind n v env))) (λ v. fold_meaning t (bind n v env)) (range_of (fold_meaning r env))
+  fold_meaning (fold_map n r p t) env =
+      folded_map (λ v. truth (fold_meaning p (bind n v env))) (λ v. fold_meaning t (bind n v env)) (range_of (fold_meaning r env))
 
+  -- what each of the expressions means
   pub fold_meanings : CoreTrees → Environment → List ValueOrError
   fold_meanings no_cores env = []
   fold_meanings (more_cores a more) env = fold_meaning a env ∷ fold_meanings more env
 
+  -- what each key and each value means
   pub fold_entries : CoreEntries → Environment → List (ValueOrError × ValueOrError)
   fold_entries no_core_entries env = []
   fold_entries (more_core_entries k v more) env = (fold_meaning k env, fold_meaning v env) ∷ fold_entries more env

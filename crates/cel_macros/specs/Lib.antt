@@ -7,6 +7,7 @@ pub mod Literals
 pub mod Functions
 pub mod Macros
 pub mod Meaning
+pub mod Values
 pub mod CoreTree
 pub mod CoreView
 pub mod Expanding

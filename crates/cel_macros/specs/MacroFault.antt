@@ -9,33 +9,38 @@ use Rattle.cel_macros.specs.declared.macros.Macro.{Macro}
 use Rattle.cel_macros.specs.declared.macros.Macro.TheVariants.{All, Exists, ExistsOne, Filter, Map}
 use Rattle.cel_macros.specs.Macros.{macro_named, is_has, variables_name, name_of, field_name}
 
+-- what is wrong with a macro: how many arguments it has, its iteration name, or that the argument of `has` selects no field
 pub data MacroFault : Type 0 where
   ArgumentCount : MacroFault
   IterationName : MacroFault
   NoSelection : MacroFault
 
+-- the first fault, where there is one, and else a later one
 abbrev pub before : Option MacroFault → Option MacroFault → Option MacroFault
 before (Some y) later = Some y
 before None later = later
 
--- an iteration name is no root's name and not `variables`
+-- whether a name must not be an iteration name: it is a root's, or `variables`
 abbrev pub is_taken : List ℕ → Bool
 is_taken n = is_root n || bytes_eq variables_name n
 
+-- an iteration name has to be a name that is not taken
 abbrev pub name_fault : Option (List ℕ) → Option MacroFault
 name_fault (Some n) = if is_taken n then Some IterationName else None
 name_fault None = Some IterationName
 
+-- the argument of `has` has to select a field
 abbrev pub selection_fault : Option (List ℕ) → Option MacroFault
 selection_fault (Some f) = None
 selection_fault None = Some NoSelection
 
+-- what is wrong with a call, which has a fault only where its name is `has`: that takes one argument, which selects a field
 abbrev pub has_fault : Bool → Trees → Option MacroFault
 has_fault false arguments = None
 has_fault true (more_trees a no_trees) = selection_fault (field_name a)
 has_fault true _ = Some ArgumentCount
 
--- a third argument is of `map` alone
+-- what is wrong with a macro of three arguments: `map` alone takes a third, and its first is an iteration name
 abbrev pub three_fault : Macro → Option (List ℕ) → Option MacroFault
 three_fault Map n = name_fault n
 three_fault All n = Some ArgumentCount
@@ -43,7 +48,8 @@ three_fault Exists n = Some ArgumentCount
 three_fault ExistsOne n = Some ArgumentCount
 three_fault Filter n = Some ArgumentCount
 
--- two arguments, or three
+-- what is wrong with a method, which has a fault only where its name is a macro's: that takes two arguments, or three,
+-- the first of them an iteration name
 abbrev pub fold_fault : Option Macro → Trees → Option MacroFault
 fold_fault None arguments = None
 fold_fault (Some m) (more_trees x (more_trees p no_trees)) = name_fault (name_of x)
@@ -51,6 +57,7 @@ fold_fault (Some m) (more_trees x (more_trees p (more_trees t no_trees))) = thre
 fold_fault (Some m) _ = Some ArgumentCount
 
 unfoldable mutual
+  -- the fault of the first macro that is not well formed, a node before its parts, parts from left to right
   pub macro_fault : Tree → Option MacroFault
   macro_fault (tree.literal l) = None
   macro_fault (tree.name n) = None
@@ -64,10 +71,12 @@ unfoldable mutual
   macro_fault (tree.call n arguments) = before (has_fault (is_has n) arguments) (trees_fault arguments)
   macro_fault (tree.method a n arguments) = before (fold_fault (macro_named n) arguments) (before (macro_fault a) (trees_fault arguments))
 
+  -- the first fault in the expressions, from left to right
   pub trees_fault : Trees → Option MacroFault
   trees_fault no_trees = None
   trees_fault (more_trees a more) = before (macro_fault a) (trees_fault more)
 
+  -- the first fault in the entries, a key before its value
   pub entries_fault : Entries → Option MacroFault
   entries_fault no_entries = None
   entries_fault (more_entries k v more) = before (macro_fault k) (before (macro_fault v) (entries_fault more))

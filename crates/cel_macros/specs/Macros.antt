@@ -1,5 +1,6 @@
 -- Macros over the items of a list or the keys of a map (cel-spec, Macros).
-use Rattle.std.specs.Prelude.{ℕ, Bool, true, false, List, [], ◌∷◌, Option, Some, None, if◌then◌else◌, nat_eq, bytes_eq, codes, filter, count_by, find}
+use Rattle.std.specs.Prelude.{ℕ, Bool, true, false, List, [], ◌∷◌, Option, Some, None, if◌then◌else◌, nat_eq, bytes_eq, codes, filter}
+use Rattle.std.specs.Prelude.{count_by, find}
 use Rattle.std.specs.Prelude.{map as each}
 use Rattle.std.specs.List.{list_any, list_all}
 use Rattle.cel_reader.specs.Tree as tree
@@ -10,7 +11,7 @@ use Rattle.cel_macros.specs.declared.macros.Macro.TheVariants.{All, Exists, Exis
 use Rattle.cel_macros.specs.Logic.{Truth, Yes, No, Other, truth}
 use Rattle.cel_macros.specs.Literals.{list_literal, list_or_error}
 
--- how a macro is written
+-- how a macro over a range is written
 abbrev pub macro_name : Macro → List ℕ
 macro_name All = codes "all"
 macro_name Exists = codes "exists"
@@ -18,53 +19,64 @@ macro_name ExistsOne = codes "exists_one"
 macro_name Filter = codes "filter"
 macro_name Map = codes "map"
 
+-- the macros over a range
 abbrev pub macros : List Macro
 macros = All ∷ Exists ∷ ExistsOne ∷ Filter ∷ Map ∷ []
 
+-- the macro over a range of this name, where there is one
 unfoldable pub macro_named : List ℕ → Option Macro
 macro_named n = find (λ m. bytes_eq (macro_name m) n) macros
 
+-- how the macro is written that asks for a field
 abbrev pub has_name : List ℕ
 has_name = codes "has"
 
+-- the name before the dot of a policy's variables (ValidatingAdmissionPolicy v1)
 abbrev pub variables_name : List ℕ
 variables_name = codes "variables"
 
--- the name `map`; its macro has a transform, with or without a predicate before it
+-- whether a name is `map`; its macro has a transform, with or without a predicate before it
 unfoldable pub is_map : List ℕ → Bool
 is_map n = bytes_eq (macro_name Map) n
 
+-- whether a name is `has`
 unfoldable pub is_has : List ℕ → Bool
 is_has n = bytes_eq has_name n
 
+-- the name, where the expression is one
 abbrev pub name_of : Tree → Option (List ℕ)
 name_of (tree.name n) = Some n
 name_of _ = None
 
+-- the field that the expression selects, where it selects one
 abbrev pub field_name : Tree → Option (List ℕ)
 field_name (tree.select a f) = Some f
 field_name _ = None
 
+-- whether the expression is the name `variables`
 unfoldable pub is_variables : Tree → Bool
 is_variables (tree.name n) = bytes_eq variables_name n
 is_variables _ = false
 
--- the items of a list, the keys of a map in byte order
+-- what a macro goes over: the items of a list, the keys of a map in byte order; nothing for all else
 abbrev pub range_of : ValueOrError → Option (List Value)
 range_of (value (list is)) = Some (list_of is)
 range_of (value (map es)) = Some (each text (keys_of es))
 range_of _ = None
 
+-- whether a truth is true
 abbrev pub is_yes : Truth → Bool
 is_yes Yes = true
 is_yes No = false
 is_yes Other = false
 
+-- whether it is false
 abbrev pub is_no : Truth → Bool
 is_no Yes = false
 is_no No = true
 is_no Other = false
 
+-- whether it is neither
 abbrev pub is_other : Truth → Bool
 is_other Yes = false
 is_other No = false
@@ -78,7 +90,7 @@ all_of ts = if list_any is_no ts then value (boolean false) else (if list_all is
 abbrev pub exists_of : List Truth → ValueOrError
 exists_of ts = if list_any is_yes ts then value (boolean true) else (if list_all is_no ts then value (boolean false) else error)
 
--- nothing is absorbed
+-- whether exactly one is true; the error where one is neither true nor false: nothing is absorbed
 abbrev pub exists_one_of : List Truth → ValueOrError
 exists_one_of ts = if list_any is_other ts then error else value (boolean (nat_eq (count_by is_yes ts) 1))
 
@@ -86,12 +98,15 @@ exists_one_of ts = if list_any is_other ts then error else value (boolean (nat_e
 abbrev pub where_true : (Value → Truth) → (List Value → ValueOrError) → List Value → ValueOrError
 where_true p result items = if list_any (λ x. is_other (p x)) items then error else result (filter (λ x. is_yes (p x)) items)
 
+-- the list of the items for which the predicate is true; the error where it is neither true nor false for one
 abbrev pub filter_of : (Value → Truth) → List Value → ValueOrError
 filter_of p items = where_true p (λ kept. list_or_error (Some kept)) items
 
+-- the list of what f makes of each item; the error where that is the error for one
 abbrev pub map_of : (Value → ValueOrError) → List Value → ValueOrError
 map_of f items = list_literal (each f items)
 
+-- the list of what f makes of each item for which the predicate is true; the error where either is wrong for one
 abbrev pub map_where_of : (Value → Truth) → (Value → ValueOrError) → List Value → ValueOrError
 map_where_of p f items = where_true p (map_of f) items
 
@@ -109,6 +124,7 @@ over_range (Some m) (Some n) f (Some items) = macro_of m (f n) items
 over_range _ _ f _ = error
 
 -- `map` with a predicate and a transform
-abbrev pub map_over_range : Bool → Option (List ℕ) → (List ℕ → Value → ValueOrError) → (List ℕ → Value → ValueOrError) → Option (List Value) → ValueOrError
+abbrev pub map_over_range : Bool → Option (List ℕ) → (List ℕ → Value → ValueOrError) → (List ℕ → Value → ValueOrError) → Option (List Value)
+    → ValueOrError
 map_over_range true (Some n) p f (Some items) = map_where_of (λ x. truth (p n x)) (f n) items
 map_over_range _ _ p f _ = error

@@ -16,10 +16,12 @@ use Rattle.cel_macros.specs.Literals.{literal_of, list_literal, map_literal}
 use Rattle.cel_macros.specs.Functions.{Function, function_named, function_of, method_of, test_named, text_test_of}
 use Rattle.cel_macros.specs.Macros.{macro_named, is_map, is_has, is_variables, name_of, field_name, range_of, over_range, map_over_range}
 
+-- an operator before its operand
 abbrev pub unary_of : UnaryOperator → ValueOrError → ValueOrError
 unary_of unary.Not x = not_of x
 unary_of unary.Negate x = negation_of x
 
+-- an operator between its operands
 abbrev pub binary_of : BinaryOperator → ValueOrError → ValueOrError → ValueOrError
 binary_of binary.Or x y = or_of x y
 binary_of binary.And x y = and_of x y
@@ -48,6 +50,7 @@ called true None g x y = function_of g y
 called false f g x y = function_of g y
 
 unfoldable mutual
+  -- what an expression means in an environment: a value or the error
   pub meaning : Tree → Environment → ValueOrError
   meaning (tree.literal l) env = literal_of l
   meaning (tree.name n) env = name_value n env
@@ -58,23 +61,28 @@ unfoldable mutual
   meaning (tree.ternary c a b) env = ternary_of (meaning c env) (meaning a env) (meaning b env)
   meaning (tree.list items) env = list_literal (meanings items env)
   meaning (tree.map entries) env = map_literal (entry_meanings entries env)
-  meaning (tree.call n (more_trees a no_trees)) env = called (is_has n) (field_name a) (function_named n) (operand_meaning a env) (meaning a env)
+  meaning (tree.call n (more_trees a no_trees)) env =
+      called (is_has n) (field_name a) (function_named n) (operand_meaning a env) (meaning a env)
   meaning (tree.call n _) env = error
   meaning (tree.method a n no_trees) env = method_of (function_named n) (meaning a env)
   meaning (tree.method a n (more_trees b no_trees)) env = text_test_of (test_named n) (meaning a env) (meaning b env)
-  meaning (tree.method a n (more_trees x (more_trees p no_trees))) env = over_range (macro_named n) (name_of x) (λ i v. meaning p (bind i v env)) (range_of (meaning a env))
-  meaning (tree.method a n (more_trees x (more_trees p (more_trees t no_trees)))) env = map_over_range (is_map n) (name_of x) (λ i v. meaning p (bind i v env)) (λ i v. meaning t (bind i v env)) (range_of (meaning a env))
+  meaning (tree.method a n (more_trees x (more_trees p no_trees))) env =
+      over_range (macro_named n) (name_of x) (λ i v. meaning p (bind i v env)) (range_of (meaning a env))
+  meaning (tree.method a n (more_trees x (more_trees p (more_trees t no_trees)))) env =
+      map_over_range (is_map n) (name_of x) (λ i v. meaning p (bind i v env)) (λ i v. meaning t (bind i v env)) (range_of (meaning a env))
   meaning (tree.method a n _) env = error
 
-  -- of `e.f` what e means
+  -- of `e.f` what e means; of all else the error, which nothing uses
   pub operand_meaning : Tree → Environment → ValueOrError
   operand_meaning (tree.select a f) env = meaning a env
   operand_meaning _ env = error
 
+  -- what each of the expressions means
   pub meanings : Trees → Environment → List ValueOrError
   meanings no_trees env = []
   meanings (more_trees a more) env = meaning a env ∷ meanings more env
 
+  -- what each key and each value means
   pub entry_meanings : Entries → Environment → List (ValueOrError × ValueOrError)
   entry_meanings no_entries env = []
   entry_meanings (more_entries k v more) env = (meaning k env, meaning v env) ∷ entry_meanings more env

@@ -3,25 +3,32 @@ use Rattle.std.specs.Prelude.{◌≡◌, ℕ, ℤ, pos, List, [], ◌∷◌, tru
 use Prim.Native.String.{String}
 use Rattle.cel_reader.specs.Tree.{Tree}
 use Rattle.cel_reader.specs.Written.{name, dot}
-use Rattle.value_store.specs.Value.{Value, null, boolean, int, text, list, map, items_of, Entries, no_entries, entry, ValueOrError, error, value}
+use Rattle.value_store.specs.Value.{Value, null, boolean, int, text, list, map, items_of, Entries, no_entries, entry, ValueOrError, error}
+use Rattle.value_store.specs.Value.{value}
 use Rattle.cel_macros.specs.Environment.{Environment}
 use Rattle.cel_macros.specs.Meaning.{meaning}
 
+-- `variables.v`
 abbrev pub variable : String → Tree
 variable v = dot (name "variables") v
 
+-- the result true
 abbrev pub is_true : ValueOrError
 is_true = value (boolean true)
 
+-- the result false
 abbrev pub is_false : ValueOrError
 is_false = value (boolean false)
 
+-- the result that is this int
 abbrev pub number : ℤ → ValueOrError
 number z = value (int z)
 
+-- the result that is this text
 abbrev pub word : String → ValueOrError
 word s = value (text (codes s))
 
+-- the result that is the list of these values
 abbrev pub list_value : List Value → ValueOrError
 list_value vs = value (list (items_of vs))
 
@@ -54,5 +61,6 @@ review = record {
   variables = (codes "one", value (int (pos 1))) ∷ (codes "wrong", error) ∷ [];
 }
 
+-- what the expression means in that review
 abbrev pub Means : Tree → ValueOrError → Type 0
 Means e v = meaning e review ≡ v

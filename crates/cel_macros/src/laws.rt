@@ -2,6 +2,7 @@
 
 ghost use Rattle.cel_macros.specs.Rows.{RowsStand};
 ghost use Rattle.cel_macros.specs.Laws.{Expands, SettledStays};
+ghost use Rattle.cel_macros.specs.Values.{IntsStay, TextsAndKeysStay};
 
 /// Expressions that were worked by hand from cel-spec have the meanings that it gives them.
 pub fn rows_stand()
@@ -16,4 +17,11 @@ pub fn expands()
 /// A fold's answer that is settled stays, so that a loop may end there.
 pub fn settled_stays()
     ensures { SettledStays }
+{}
+
+/// In an environment of values a well-formed expression means a value or the error: its texts are
+/// in UTF-8, its keys in order, each once, and without `size` its ints have 64 bits.
+pub fn values_stay()
+    ensures texts { TextsAndKeysStay }
+    ensures ints { IntsStay }
 {}

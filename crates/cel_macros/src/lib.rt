@@ -14,6 +14,6 @@ mod shape;
 
 pub use core_tree::Core;
 pub use expanding::expand;
-pub use laws::{expands, rows_stand, settled_stays};
+pub use laws::{expands, rows_stand, settled_stays, values_stay};
 pub use macro_error::MacroError;
 pub use macros::Macro;

@@ -1,3 +1,5 @@
 pub mod Measures
 pub mod Saturated
 pub mod Rows
+pub mod Parts
+pub mod SourceMeasures

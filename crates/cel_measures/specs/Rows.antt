@@ -8,9 +8,11 @@ use Rattle.cel_macros.specs.CoreTree.{expanded}
 use Rattle.cel_macros.specs.Written.{variable}
 use Rattle.cel_measures.specs.Measures.{nodes, need, depth}
 
+-- the expression has so many nodes
 abbrev pub Nodes : Tree → ℕ → Type 0
 Nodes e n = nodes (expanded e) ≡ n
 
+-- the expression takes so many words of the stack
 abbrev pub Needs : Tree → ℕ → Type 0
 Needs e n = need (expanded e) ≡ n
 
@@ -36,6 +38,7 @@ positive = method (list_literal (num 1 ∷ [])) "map" (name "x" ∷ binary Great
 abbrev pub all_true : Tree
 all_true = method (list_literal (num 1 ∷ [])) "all" (name "x" ∷ yes ∷ [])
 
+-- expressions, each with a measure
 pub record RowsStand : Type 0 where
   -- 1 + (1 + (.. + 1)) == 1
   pub need_of_59 : Needs (binary Equal (to_the_right 59) (num 1)) 60
@@ -49,9 +52,11 @@ pub record RowsStand : Type 0 where
   pub all_nodes : Nodes all_true 4
   pub all_need : Needs all_true 6
   -- [1].map(x, x) == [1]
-  pub macro_on_the_left : Needs (binary Equal (method (list_literal (num 1 ∷ [])) "map" (name "x" ∷ name "x" ∷ [])) (list_literal (num 1 ∷ []))) 6
+  pub macro_on_the_left : Needs
+      (binary Equal (method (list_literal (num 1 ∷ [])) "map" (name "x" ∷ name "x" ∷ [])) (list_literal (num 1 ∷ []))) 6
   -- [1] == [1].map(x, x)
-  pub macro_on_the_right : Needs (binary Equal (list_literal (num 1 ∷ [])) (method (list_literal (num 1 ∷ [])) "map" (name "x" ∷ name "x" ∷ []))) 7
+  pub macro_on_the_right : Needs
+      (binary Equal (list_literal (num 1 ∷ [])) (method (list_literal (num 1 ∷ [])) "map" (name "x" ∷ name "x" ∷ []))) 7
   -- has(object.x)
   pub has_nodes : Nodes (call "has" (dot (name "object") "x" ∷ [])) 2
   pub has_need : Needs (call "has" (dot (name "object") "x" ∷ [])) 1

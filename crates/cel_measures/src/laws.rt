@@ -1,8 +1,17 @@
-//! The worked rows of the measures, as the contract of an empty function.
+//! The laws of the measures, each the contract of an empty function.
 
 ghost use Rattle.cel_measures.specs.Rows.{RowsStand};
+ghost use Rattle.cel_measures.specs.SourceMeasures.{SameNodes, SameNeed, SameDepth};
 
 /// Expressions that were worked by hand have these measures.
 pub fn rows_stand()
     ensures { RowsStand }
+{}
+
+/// The nodes of an expression as it is written, its need of stack words and the depth of a variable
+/// with it are those of its expansion.
+pub fn source_measures()
+    ensures nodes { SameNodes }
+    ensures need { SameNeed }
+    ensures depth { SameDepth }
 {}

@@ -24,4 +24,3 @@ pub mod OneAnswer
 pub mod Runs
 pub mod WellFormedTrees
 pub mod TreeLists
-pub mod Equal

@@ -28,12 +28,15 @@ Viable room ws = (more : List Word) × (a : Tree) × IsExpression room (ws ++ mo
 -- So many words go on to an expression, and with the next one to none, however many brackets and conditionals may be
 -- open; or there is no next one.
 abbrev pub MisfitAt : ℕ → List Word → Type 0
-MisfitAt count ws = (count ≤ length ws) × Viable 100 (take count ws) × (count < length ws → (room : ℕ) → Viable room (take (suc count) ws) → ⊥)
+MisfitAt count ws =
+    (count ≤ length ws) × Viable 100 (take count ws) × (count < length ws → (room : ℕ) → Viable room (take (suc count) ws) → ⊥)
 
 -- So many words go on to an expression. The next is an opening bracket or question mark, and with it they go on to one
 -- only where one more than 100 may be open.
 abbrev pub DeepAt : ℕ → List Word → Type 0
-DeepAt count ws = (w : Word) × (take (suc count) ws ≡ take count ws ++ w ∷ []) × (opens w ≡ true) × Viable 100 (take count ws) × (Viable 100 (take (suc count) ws) → ⊥) × Viable 101 (take (suc count) ws)
+DeepAt count ws =
+    (w : Word) × (take (suc count) ws ≡ take count ws ++ w ∷ []) × (opens w ≡ true) × Viable 100 (take count ws)
+    × (Viable 100 (take (suc count) ws) → ⊥) × Viable 101 (take (suc count) ws)
 
 -- the text has its tokens, and of their words this holds
 abbrev pub HasTokens : List ℕ → (List Word → Type 0) → Type 0

@@ -1,9 +1,8 @@
 -- The laws of the grammar.
-use Rattle.std.specs.Prelude.{◌≡◌, ◌≤◌, ◌↔◌, ℕ, List, length, true, Result, Ok, Err}
+use Rattle.std.specs.Prelude.{◌≡◌, ◌≤◌, ℕ, List, length, Result, Ok, Err}
 use Rattle.cel_tokens.specs.Token.{Word}
 use Rattle.cel_tokens.specs.declared.read_error.ReadError.{ReadError}
 use Rattle.cel_reader.specs.Tree.{Tree, Trees, Entries, view, trees, entries, tree_list, entry_list, tree_count, entry_count}
-use Rattle.cel_reader.specs.Equality.{same_tree}
 use Rattle.cel_reader.specs.Answers.{IsExpression, MisfitAt, DeepAt, IsAnswer}
 use Rattle.cel_reader.specs.declared.expr.Expr.{Expr}
 
@@ -41,7 +40,3 @@ pub record EntriesAreLists : Type 0 where
   pub list : (pairs : List (Tree × Tree)) → entry_list (entries pairs) ≡ pairs
   pub entries_again : (es : Entries) → entries (entry_list es) ≡ es
   pub count : (es : Entries) → entry_count es ≡ length (entry_list es)
-
--- the test of `==` is true exactly of equal trees
-abbrev pub TellsEqualTrees : Type 0
-TellsEqualTrees = (a b : Tree) → (same_tree a b ≡ true) ↔ (a ≡ b)

@@ -2,8 +2,6 @@ pub mod Tree
 pub mod Words
 pub mod WellFormed
 pub mod Written
-pub mod Equality
-pub mod EqualityLaws
 pub mod Look
 pub mod Grammar
 pub mod Reading

@@ -71,6 +71,7 @@ opens_mark marks.OpenBrace = true
 opens_mark marks.Question = true
 opens_mark other = false
 
+-- whether the word is one of these marks: behind it one bracket or conditional more is open
 abbrev pub opens : Word → Bool
 opens (mark m) = opens_mark m
 opens (name n) = false

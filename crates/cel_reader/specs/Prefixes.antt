@@ -10,7 +10,8 @@ use Rattle.cel_reader.specs.declared.operator.UnaryOperator.{UnaryOperator}
 -- the words begin with the operator so many times, and go on with `rest`, which does not
 pub data Prefixes : UnaryOperator → ℕ → List Word → List Word → Type 0 where
   none : {op : UnaryOperator} {ws : List Word} → NotAt (unary_mark op) ws → Prefixes op 0 ws ws
-  one_more : {op : UnaryOperator} {n : ℕ} {ws us rest : List Word} → ws ≡ mark (unary_mark op) ∷ us → Prefixes op n us rest → Prefixes op (suc n) ws rest
+  one_more : {op : UnaryOperator} {n : ℕ} {ws us rest : List Word} → ws ≡ mark (unary_mark op) ∷ us → Prefixes op n us rest
+      → Prefixes op (suc n) ws rest
 
 -- the operand behind so many operators
 abbrev pub wrapped : UnaryOperator → ℕ → Tree → Tree

@@ -3,6 +3,7 @@ use Rattle.cel_tokens.specs.Token as word
 use Rattle.cel_reader.specs.declared.word.Word.{Word}
 use Rattle.cel_reader.specs.declared.word.Word.TheVariants.{Name, Int, Text, Mark}
 
+-- the word that the code's one stands for
 abbrev pub shown : Word → word.Word
 shown (Name bytes) = word.name bytes.now
 shown (Int z) = word.int z

@@ -16,8 +16,9 @@ pub data Literal : Type 0 where
   truth : Bool → Literal
   null : Literal
 
--- an expression; names by their bytes
 mutual
+  -- an expression, with names by their bytes (cel-spec, syntax): select is a field of an operand, method a call on one,
+  -- and the parts of ternary are its condition, what it is where that is true, and what it is where that is false
   pub data Tree : Type 0 where
     literal : Literal → Tree
     name : List ℕ → Tree
@@ -31,37 +32,42 @@ mutual
     list : Trees → Tree
     map : Entries → Tree
 
+  -- expressions one after another: the arguments of a call, or the elements of a list
   pub data Trees : Type 0 where
     no_trees : Trees
     more_trees : Tree → Trees → Trees
 
+  -- the entries of a map one after another, each an expression for its key and one for its value
   pub data Entries : Type 0 where
     no_entries : Entries
     more_entries : Tree → Tree → Entries → Entries
 
--- trees and entries from lists of them
+-- the same expressions from a list of them
 abbrev pub trees : List Tree → Trees
 trees [] = no_trees
 trees (a ∷ more) = more_trees a (trees more)
 
+-- the same entries from a list of keys and values
 abbrev pub entries : List (Tree × Tree) → Entries
 entries [] = no_entries
 entries (e ∷ es) = more_entries e.0 e.1 (entries es)
 
--- the list of the trees, and of the entries, each a key and its value
+-- the list of the expressions
 abbrev pub tree_list : Trees → List Tree
 tree_list no_trees = []
 tree_list (more_trees a more) = a ∷ tree_list more
 
+-- the list of the entries, each a key and its value
 abbrev pub entry_list : Entries → List (Tree × Tree)
 entry_list no_entries = []
 entry_list (more_entries k v more) = (k, v) ∷ entry_list more
 
--- how many they are
+-- how many expressions they are
 abbrev pub tree_count : Trees → ℕ
 tree_count no_trees = 0
 tree_count (more_trees a more) = tree_count more + 1
 
+-- how many entries they are
 abbrev pub entry_count : Entries → ℕ
 entry_count no_entries = 0
 entry_count (more_entries k v more) = entry_count more + 1

@@ -7,6 +7,7 @@ use Rattle.cel_reader.specs.Tree as tree
 use Rattle.cel_reader.specs.Tree.{Literal, Tree, Trees, Entries, no_trees, more_trees, no_entries, more_entries}
 use Rattle.cel_reader.specs.Words.{is_identifier, is_selector}
 
+-- an int is of 64 bits signed, and a text is in UTF-8
 abbrev pub IsWellFormedLiteral : Literal → Type 0
 IsWellFormedLiteral (tree.int z) = FitsSigned w64 z
 IsWellFormedLiteral (tree.text bytes) = IsUtf8 bytes
@@ -14,6 +15,7 @@ IsWellFormedLiteral (tree.truth b) = Unit {0}
 IsWellFormedLiteral tree.null = Unit {0}
 
 abbrev mutual
+  -- an expression is so: its literals, its names and its parts are; a field's or a method's name may be a reserved word
   pub IsWellFormed : Tree → Type 0
   IsWellFormed (tree.literal l) = IsWellFormedLiteral l
   IsWellFormed (tree.name n) = is_identifier n ≡ true
@@ -27,10 +29,12 @@ abbrev mutual
   IsWellFormed (tree.list items) = AreWellFormed items
   IsWellFormed (tree.map pairs) = HasWellFormedEntries pairs
 
+  -- each of the expressions is
   pub AreWellFormed : Trees → Type 0
   AreWellFormed no_trees = Unit {0}
   AreWellFormed (more_trees a more) = IsWellFormed a × AreWellFormed more
 
+  -- each key and each value is
   pub HasWellFormedEntries : Entries → Type 0
   HasWellFormedEntries no_entries = Unit {0}
   HasWellFormedEntries (more_entries k v more) = IsWellFormed k × IsWellFormed v × HasWellFormedEntries more

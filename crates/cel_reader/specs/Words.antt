@@ -9,7 +9,8 @@ use Rattle.cel_reader.specs.Tree.{Literal}
 use Rattle.cel_reader.specs.declared.level.Level.{Level}
 use Rattle.cel_reader.specs.declared.level.Level.TheVariants as level
 use Rattle.cel_reader.specs.declared.operator.BinaryOperator.{BinaryOperator}
-use Rattle.cel_reader.specs.declared.operator.BinaryOperator.TheVariants.{Or, And, Less, LessEqual, GreaterEqual, Greater, Equal, NotEqual, In, Add, Subtract, Multiply, Divide, Remainder}
+use Rattle.cel_reader.specs.declared.operator.BinaryOperator.TheVariants.{Or, And, Less, LessEqual, GreaterEqual, Greater, Equal, NotEqual}
+use Rattle.cel_reader.specs.declared.operator.BinaryOperator.TheVariants.{In, Add, Subtract, Multiply, Divide, Remainder}
 use Rattle.cel_reader.specs.declared.operator.UnaryOperator.{UnaryOperator}
 use Rattle.cel_reader.specs.declared.operator.UnaryOperator.TheVariants.{Not, Negate}
 use Rattle.cel_reader.specs.declared.role.Role.{Role}
@@ -28,6 +29,7 @@ reserved_words =
     codes "function" ∷ codes "if" ∷ codes "import" ∷ codes "let" ∷ codes "loop" ∷ codes "package" ∷
     codes "namespace" ∷ codes "return" ∷ codes "var" ∷ codes "void" ∷ codes "while" ∷ []
 
+-- whether a name is one of these words
 unfoldable pub is_reserved : List ℕ → Bool
 is_reserved n = is_one_of reserved_words n
 
@@ -41,11 +43,13 @@ role_of n =
     else (if is_reserved n then role.Reserved
     else role.Plain))))
 
+-- whether a name of this role may stand behind a dot (cel-spec, SELECTOR)
 abbrev pub may_select : Role → Bool
 may_select role.Reserved = true
 may_select role.Plain = true
 may_select other = false
 
+-- whether a name of this role may stand where none is before it (cel-spec, IDENT)
 abbrev pub may_stand_free : Role → Bool
 may_stand_free role.Plain = true
 may_stand_free other = false
@@ -58,6 +62,7 @@ is_selector n = is_name n && may_select (role_of n)
 abbrev pub is_identifier : List ℕ → Bool
 is_identifier n = is_name n && may_stand_free (role_of n)
 
+-- the literal that a name of this role is, where it is one: true, false or null (cel-spec, LITERAL)
 abbrev pub literal_role : Role → Option Literal
 literal_role role.True = Some (tree.truth true)
 literal_role role.False = Some (tree.truth false)
@@ -71,6 +76,7 @@ literal_of (int z) = Some (tree.int z)
 literal_of (text bytes) = Some (tree.text bytes)
 literal_of (mark m) = None
 
+-- the operator that a mark is between two operands, where it is one
 abbrev pub operator_mark : Mark → Option BinaryOperator
 operator_mark marks.Or = Some Or
 operator_mark marks.And = Some And
@@ -87,18 +93,19 @@ operator_mark marks.Slash = Some Divide
 operator_mark marks.Percent = Some Remainder
 operator_mark other = None
 
+-- the operator that a name of this role is between two operands, where it is one: in
 abbrev pub operator_role : Role → Option BinaryOperator
 operator_role role.In = Some In
 operator_role other = None
 
--- the operator that a word is between two operands
+-- the operator that a word is between two operands, where it is one
 abbrev pub operator_of : Word → Option BinaryOperator
 operator_of (name n) = operator_role (role_of n)
 operator_of (int z) = None
 operator_of (text bytes) = None
 operator_of (mark m) = operator_mark m
 
--- the row of the operator: || && relations sums products
+-- the row of the grammar that the operator belongs to: || && relations sums products (cel-spec, syntax)
 abbrev pub level_of : BinaryOperator → Level
 level_of Or = level.Or
 level_of And = level.And

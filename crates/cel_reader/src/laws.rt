@@ -2,7 +2,7 @@
 
 ghost use Rattle.std.specs.Prelude.{List};
 ghost use Rattle.cel_tokens.specs.Token.{Word};
-ghost use Rattle.cel_reader.specs.Laws.{GoesWrongOnce, HasOneAnswer, HasOneTree, KeepsWithMoreRoom, TreesAreLists, EntriesAreLists, TellsEqualTrees};
+ghost use Rattle.cel_reader.specs.Laws.{GoesWrongOnce, HasOneAnswer, HasOneTree, KeepsWithMoreRoom, TreesAreLists, EntriesAreLists};
 ghost use Rattle.cel_reader.specs.RefusalRows.{RefusalRowsStand};
 
 /// Words are one expression at most, and the same one where more brackets and conditionals may be
@@ -28,9 +28,4 @@ pub fn refusal_rows_stand()
 pub fn parts_in_lists()
     ensures trees { TreesAreLists }
     ensures entries { EntriesAreLists }
-{}
-
-/// `==` of expressions is true exactly where they are the same tree.
-pub fn equality_of_trees()
-    ensures { TellsEqualTrees }
 {}

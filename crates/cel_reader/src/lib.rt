@@ -3,7 +3,6 @@
 
 mod build;
 mod closing;
-mod equality;
 mod expr;
 mod laws;
 mod level;
@@ -20,7 +19,7 @@ mod word;
 
 pub use cel_tokens::ReadError;
 pub use expr::Expr;
-pub use laws::{equality_of_trees, one_answer, one_tree, parts_in_lists, refusal_rows_stand};
+pub use laws::{one_answer, one_tree, parts_in_lists, refusal_rows_stand};
 pub use literal::Literal;
 pub use name::is_identifier;
 pub use operator::{BinaryOperator, UnaryOperator};

@@ -64,7 +64,7 @@ unfolding front
 front_fits signed [] = tt
 front_fits signed (b ∷ bs) = either (nat_lt 0 (between false (b ∷ bs))) _ _ tt (word_fits signed b (b ∷ bs) (opening (b ∷ bs)))
 
-found_fits : (signed : Bool) (bytes : List ℕ) (n : ℕ) (w : Word) → front signed bytes ≡ front.word n w → IntFits w
+pub found_fits : (signed : Bool) (bytes : List ℕ) (n : ℕ) (w : Word) → front signed bytes ≡ front.word n w → IntFits w
 found_fits signed bytes n w e = subst Fits e (front_fits signed bytes)
 
 abbrev pub AllFit : List Lexeme → Type 0

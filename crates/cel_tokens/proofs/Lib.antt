@@ -15,3 +15,10 @@ pub mod NamedEscapes
 pub mod LongestGap
 pub mod NegatedInts
 pub mod PrefixPositions
+pub mod OwnBytes
+pub mod FrontCases
+pub mod FoundTokens
+pub mod LongestToken
+pub mod Standing
+pub mod OneWord
+pub mod OneStanding

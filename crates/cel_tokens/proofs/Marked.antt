@@ -7,19 +7,19 @@ use Rattle.cel_tokens.specs.Marks.{mark_at, mark_of, of_one, of_two, one_byte, t
 use Rattle.cel_tokens.specs.Token.{mark, mark_word}
 use Rattle.cel_tokens.specs.declared.mark.Mark.{Mark}
 
-of_one_is : (o : Option Mark) (m : Mark) (n : ℕ) → of_one o ≡ Some (m, n) → (o ≡ Some m) × (n ≡ 1)
+pub of_one_is : (o : Option Mark) (m : Mark) (n : ℕ) → of_one o ≡ Some (m, n) → (o ≡ Some m) × (n ≡ 1)
 of_one_is None m n e = absurd (cc)
 of_one_is (Some x) m n e =
     let p : (m, n) ≡ (x, 1) = cc in
     (ap (λ (q : Mark × ℕ). Some q.0) (sym p), ap (λ (q : Mark × ℕ). q.1) p)
 
-of_two_is : (two one : Option Mark) (m : Mark) (n : ℕ) → of_two two one ≡ Some (m, n) → ((two ≡ Some m) × (n ≡ 2)) ⊎ ((one ≡ Some m) × (n ≡ 1))
+pub of_two_is : (two one : Option Mark) (m : Mark) (n : ℕ) → of_two two one ≡ Some (m, n) → ((two ≡ Some m) × (n ≡ 2)) ⊎ ((one ≡ Some m) × (n ≡ 1))
 of_two_is None one m n e = inr (of_one_is one m n e)
 of_two_is (Some x) one m n e =
     let p : (m, n) ≡ (x, 2) = cc in
     inl (ap (λ (q : Mark × ℕ). Some q.0) (sym p), ap (λ (q : Mark × ℕ). q.1) p)
 
-taken : (bytes : List ℕ) (m : Mark) (n : ℕ) → mark_at bytes ≡ Some (m, n) → mark_word (mark_of (take n bytes)) ≡ mark m
+pub taken : (bytes : List ℕ) (m : Mark) (n : ℕ) → mark_at bytes ≡ Some (m, n) → mark_word (mark_of (take n bytes)) ≡ mark m
 taken [] m n e = absurd (cc)
 taken (a ∷ []) m n e =
     let p = of_one_is (one_byte a) m n e in

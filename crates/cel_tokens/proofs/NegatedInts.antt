@@ -28,12 +28,12 @@ passes_by p x xs a true t =
 passes_by p x xs a false t = tt
 
 -- as many bytes as pass, pass
-front_passes : (p : ℕ → Bool) (xs : List ℕ) → AllPass p (take (run p xs) xs)
+pub front_passes : (p : ℕ → Bool) (xs : List ℕ) → AllPass p (take (run p xs) xs)
 unfolding run
 front_passes p [] = tt
 front_passes p (x ∷ xs) = passes_by p x xs (front_passes p xs) (p x) refl
 
-taken : (p : ℕ → Bool) (x : ℕ) (xs : List ℕ) → p x ≡ true → take (run p (x ∷ xs)) (x ∷ xs) ≡ x ∷ take (run p xs) xs
+pub taken : (p : ℕ → Bool) (x : ℕ) (xs : List ℕ) → p x ≡ true → take (run p (x ∷ xs)) (x ∷ xs) ≡ x ∷ take (run p xs) xs
 taken p x xs h =
     let q : run p xs + 1 ≡ suc (run p xs) = omega arith in
     ap (λ n. take n (x ∷ xs)) (run_on p x xs h ∙ q)
@@ -86,7 +86,7 @@ within_by : (bytes : List ℕ) (t : Bool) → hex_begins bytes ≡ t → (if t t
 within_by bytes true t = hex_within bytes t
 within_by bytes false t = run_within (is_digit_of 10) bytes
 
-no_longer : {first : List ℕ} {value : ℕ} → Spells first value → (rest : List ℕ) → length first ≤ (int_at (first ++ rest)).0
+pub no_longer : {first : List ℕ} {value : ℕ} → Spells first value → (rest : List ℕ) → length first ≤ (int_at (first ++ rest)).0
 no_longer (decimal [] a) rest = absurd a
 no_longer (decimal (b ∷ bs) a) rest = int_len b bs rest a.0 a.1
 no_longer (hex d ds a) rest = hex_len d ds rest a
@@ -97,7 +97,7 @@ none_longer bytes m other h s =
     let l = length-take-le m bytes h in
     omega (arith, n, l)
 
-int_is : (bytes : List ℕ) → digit_begins bytes ≡ true → IsInt bytes (int_at bytes).0 (int_at bytes).1
+pub int_is : (bytes : List ℕ) → digit_begins bytes ≡ true → IsInt bytes (int_at bytes).0 (int_at bytes).1
 int_is bytes d = (within_by bytes (hex_begins bytes) refl, spells_by bytes d (hex_begins bytes) refl, none_longer bytes)
 
 -- ---- there is one
@@ -110,7 +110,7 @@ from_hex : {xs : List ℕ} {n : ℕ} → Spells xs n → (d : ℕ) (ds : List �
 from_hex (decimal xs b) d ds e = let w : false ≡ true = (subst IsDecimal e b).1.0 in absurd cc
 from_hex (hex c cs b) d ds e = ap (λ (xs : List ℕ). number 16 (drop 2 xs)) (sym e)
 
-same_value : {xs : List ℕ} {m n : ℕ} → Spells xs m → Spells xs n → m ≡ n
+pub same_value : {xs : List ℕ} {m n : ℕ} → Spells xs m → Spells xs n → m ≡ n
 same_value (decimal ds a) s = from_decimal s a
 same_value (hex d ds a) s = from_hex s d ds refl
 
@@ -121,21 +121,21 @@ one_int bytes m n v w i j =
     let e : m ≡ n = omega (arith, a, b) in
     (e, same_value (subst (λ k. Spells (take k bytes) v) e i.1) j.1)
 
-first_digit : {first : List ℕ} {value : ℕ} → Spells first value → (rest : List ℕ) → digit_begins (first ++ rest) ≡ true
+pub first_digit : {first : List ℕ} {value : ℕ} → Spells first value → (rest : List ℕ) → digit_begins (first ++ rest) ≡ true
 first_digit (decimal [] a) rest = absurd a
 first_digit (decimal (b ∷ bs) a) rest = a.0
 first_digit (hex d ds a) rest = refl
 
-int_digit : (bytes : List ℕ) (n v : ℕ) → IsInt bytes n v → digit_begins bytes ≡ true
+pub int_digit : (bytes : List ℕ) (n v : ℕ) → IsInt bytes n v → digit_begins bytes ≡ true
 int_digit bytes n v i = subst (λ (xs : List ℕ). digit_begins xs ≡ true) (take-append-drop n bytes) (first_digit i.1 (drop n bytes))
 
 -- ---- where the digits are
 
-stops_at_digit : (bytes : List ℕ) → digit_begins bytes ≡ true → between false bytes ≡ 0
+pub stops_at_digit : (bytes : List ℕ) → digit_begins bytes ≡ true → between false bytes ≡ 0
 stops_at_digit [] d = absurd cc
 stops_at_digit (b ∷ bs) d = begins_here b bs (digit_is_no_blank b d) (digit_is_no_slash b d)
 
-gap_is : (bytes : List ℕ) (gap n v : ℕ) → FollowsSign bytes gap n v → between false bytes ≡ gap
+pub gap_is : (bytes : List ℕ) (gap n v : ℕ) → FollowsSign bytes gap n v → between false bytes ≡ gap
 gap_is bytes gap n v f =
     let g = goes_on f.1 in
     let z = stops_at_digit (drop gap bytes) (int_digit (drop gap bytes) n v f.2) in
@@ -168,7 +168,7 @@ plain_minus bytes = front_minus false bytes
 signed_at : (bytes rest : List ℕ) (gap : ℕ) → between false bytes ≡ gap → drop gap bytes ≡ rest → digit_begins rest ≡ true → front true (45 ∷ bytes) ≡ signed_front gap rest
 signed_at bytes rest gap g r d = front_minus true bytes ∙ (rw (g, r, d) refl)
 
-sign_front : (bytes : List ℕ) (gap n v : ℕ) → FollowsSign bytes gap n v → front true (45 ∷ bytes) ≡ int_front (gap + 1) n (int_of true v)
+pub sign_front : (bytes : List ℕ) (gap n v : ℕ) → FollowsSign bytes gap n v → front true (45 ∷ bytes) ≡ int_front (gap + 1) n (int_of true v)
 sign_front bytes gap n v f =
     let rest = drop gap bytes in
     let d = int_digit rest n v f.2 in

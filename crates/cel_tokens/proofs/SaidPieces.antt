@@ -25,7 +25,7 @@ takes_some : (raw : Bool) (b : ℕ) (bs : List ℕ) → IfSome (piece raw (b ∷
 takes_some raw b bs =
     some_if (λ x. 1 ≤ x.0) (is_line_end b) _ _ tt (some_if (λ x. 1 ≤ x.0) (not raw && (b == 92)) _ _ (some_escaped (escape bs)) (omega arith))
 
-low : (raw : Bool) (b : ℕ) (bs : List ℕ) (x : ℕ × List ℕ) → piece raw (b ∷ bs) ≡ Some x → 1 ≤ x.0
+pub low : (raw : Bool) (b : ℕ) (bs : List ℕ) (x : ℕ × List ℕ) → piece raw (b ∷ bs) ≡ Some x → 1 ≤ x.0
 low raw b bs x e = subst (λ (o : Option (ℕ × List ℕ)). IfSome o (λ x. 1 ≤ x.0)) e (takes_some raw b bs)
 
 -- ---- what the pieces say is computed

@@ -31,4 +31,5 @@ pub data Names : List ℕ → ℕ → Type 0 where
 
 -- what is computed of an escape is what its bytes name
 abbrev pub NamesItsCodePoint : Type 0
-NamesItsCodePoint = (bytes : List ℕ) (code len : ℕ) → (escape bytes ≡ Some (code, len)) ↔ ((len ≤ length bytes) × Names (take len bytes) code)
+NamesItsCodePoint = (bytes : List ℕ) (code len : ℕ)
+    → (escape bytes ≡ Some (code, len)) ↔ ((len ≤ length bytes) × Names (take len bytes) code)

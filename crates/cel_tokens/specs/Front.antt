@@ -1,5 +1,6 @@
 -- What stands at the front of a text: its first token, or why there is none.
-use Rattle.std.specs.Prelude.{ℕ, ◌+◌, ℤ, List, [], ◌∷◌, take, drop, Bool, true, false, if◌then◌else◌, ◌==◌, ◌&&◌, nat_lt, Option, Some, None, codes, bytes_eq}
+use Rattle.std.specs.Prelude.{ℕ, ◌+◌, ℤ, List, [], ◌∷◌, take, drop, Bool, true, false, if◌then◌else◌, ◌==◌, ◌&&◌, nat_lt, Option, Some}
+use Rattle.std.specs.Prelude.{None, codes, bytes_eq}
 use Rattle.cel_tokens.specs.declared.mark.Mark.{Mark}
 use Rattle.cel_tokens.specs.declared.mark.Mark.TheVariants.{CloseParen, CloseBracket, CloseBrace}
 use Rattle.cel_tokens.specs.Token.{Word, name, int, text, mark}
@@ -8,6 +9,7 @@ use Rattle.cel_tokens.specs.Marks.{mark_at}
 use Rattle.cel_tokens.specs.Ints.{digit_begins, int_at, int_of}
 use Rattle.cel_tokens.specs.Texts.{opening, opening_len, content}
 
+-- what is found at the front of a text
 pub data Front : Type 0 where
   over : Front  -- the text is at its end
   space : ℕ → Front  -- so many bytes of blanks and comments
@@ -16,14 +18,16 @@ pub data Front : Type 0 where
   wide_int : ℕ → Front  -- so many bytes on, the digits of an int outside 64 bits
   nothing : Front  -- no token
 
--- the int whose digits are so many bytes on
+-- the int, of `len` bytes behind the `before` bytes of its sign and a gap; where 64 bits do not hold it, its digits stand there
 abbrev pub int_front : ℕ → ℕ → Option ℤ → Front
 int_front before len None = wide_int before
 int_front before len (Some z) = word (before + len) (int z)
 
+-- the int at the front of the digits, `before` bytes on; minus: a sign stands before it, and it is negated
 abbrev pub front_int : Bool → ℕ → List ℕ → Front
 front_int minus before digits = int_front before (int_at digits).0 (int_of minus (int_at digits).1)
 
+-- the operator or bracket that stands there, with its length in bytes; where there is none, no token begins
 abbrev pub front_mark : Option (Mark × ℕ) → Front
 front_mark None = nothing
 front_mark (Some x) = word x.1 (mark x.0)
@@ -36,7 +40,7 @@ before_digits bytes = between false (drop 1 bytes) + 1
 abbrev pub signed_int_begins : ℕ → List ℕ → Bool
 signed_int_begins b bytes = (b == 45) && digit_begins (drop (before_digits bytes) bytes)
 
--- a name, an int or a mark
+-- a name, an int or a mark; signed: a minus here may be the sign of an int; b: the first of the bytes
 abbrev pub front_plain : Bool → ℕ → List ℕ → Front
 front_plain signed b bytes =
     if is_letter b then word (run is_name_byte bytes) (name (take (run is_name_byte bytes) bytes))
@@ -44,11 +48,12 @@ front_plain signed b bytes =
     else (if signed && signed_int_begins b bytes then front_int true (before_digits bytes) (drop (before_digits bytes) bytes)
     else front_mark (mark_at bytes)))
 
+-- the text literal, where it is one, with its length in bytes behind the `before` that open it, and what it says
 abbrev pub front_text : ℕ → Option (ℕ × List ℕ) → Front
 front_text before None = wrong_text
 front_text before (Some x) = word (before + x.0) (text x.1)
 
--- a text literal, else a name, an int or a mark
+-- a text literal, where one opens here, else a name, an int or a mark
 abbrev pub front_word : Bool → ℕ → List ℕ → Option (Bool × ℕ) → Front
 front_word signed b bytes None = front_plain signed b bytes
 front_word signed b bytes (Some x) =

@@ -12,7 +12,8 @@ IsLineOver (b ∷ bs) = is_line_end b ≡ true
 pub data Skips : List ℕ → List ℕ → Type 0 where
   none : {rest : List ℕ} → Skips rest rest
   blank : {b : ℕ} {bs rest : List ℕ} → is_blank b ≡ true → Skips bs rest → Skips (b ∷ bs) rest
-  comment : (inside after : List ℕ) {rest : List ℕ} → AllPass (λ b. not (is_line_end b)) inside → IsLineOver after → Skips after rest → Skips (47 ∷ 47 ∷ (inside ++ after)) rest
+  comment : (inside after : List ℕ) {rest : List ℕ} → AllPass (λ b. not (is_line_end b)) inside → IsLineOver after → Skips after rest
+      → Skips (47 ∷ 47 ∷ (inside ++ after)) rest
 
 -- so many bytes at the front of this text stand between tokens, and no more of them do
 abbrev pub IsGap : List ℕ → ℕ → Type 0

@@ -1,5 +1,6 @@
 -- Ints, in decimal digits or in hex digits after 0x.
-use Rattle.std.specs.Prelude.{ℕ, ◌+◌, ◌*◌, ◌^◌, ℤ, pos, negsuc, neg_ℤ, List, [], ◌∷◌, take, drop, Bool, false, if◌then◌else◌, ◌==◌, ◌&&◌, nat_lt, Option, Some, None}
+use Rattle.std.specs.Prelude.{ℕ, ◌+◌, ◌*◌, ◌^◌, ℤ, pos, negsuc, neg_ℤ, List, [], ◌∷◌, take, drop, Bool, false, if◌then◌else◌, ◌==◌, ◌&&◌}
+use Rattle.std.specs.Prelude.{nat_lt, Option, Some, None}
 use Rattle.std.specs.Char.{digit_value}
 use Rattle.cel_tokens.specs.Bytes.{is_digit_of, run}
 
@@ -8,14 +9,16 @@ unfoldable pub number_from : ℕ → ℕ → List ℕ → ℕ
 number_from base n [] = n
 number_from base n (d ∷ ds) = number_from base (n * base + digit_value d) ds
 
+-- the number that digits spell in this base, the highest first
 abbrev pub number : ℕ → List ℕ → ℕ
 number base digits = number_from base 0 digits
 
--- a digit in this base is at the front; a decimal one is
+-- a digit in this base is at the front
 abbrev pub digit_begins_in : ℕ → List ℕ → Bool
 digit_begins_in base [] = false
 digit_begins_in base (b ∷ bs) = is_digit_of base b
 
+-- a decimal digit is at the front
 abbrev pub digit_begins : List ℕ → Bool
 digit_begins bytes = digit_begins_in 10 bytes
 
@@ -40,9 +43,10 @@ abbrev pub fits64 : ℤ → Bool
 fits64 (pos n) = nat_lt n (2 ^ 63)
 fits64 (negsuc n) = nat_lt n (2 ^ 63)
 
+-- the int of these digits: their number, negated where a minus stands before them
 abbrev pub with_sign : Bool → ℕ → ℤ
 with_sign minus n = if minus then neg_ℤ (pos n) else pos n
 
--- the int, if 64 bits hold it
+-- the int of these digits with its sign, if 64 bits hold it
 abbrev pub int_of : Bool → ℕ → Option ℤ
 int_of minus n = if fits64 (with_sign minus n) then Some (with_sign minus n) else None

@@ -11,7 +11,8 @@ HasOneEnd = (source : List ℕ) (r s : Result (List Lexeme) ReadError) → Lexes
 
 -- it ends in tokens exactly where it has these tokens and both are within the limits
 abbrev pub EndsInItsTokens : Type 0
-EndsInItsTokens = (source : List ℕ) (lexemes : List Lexeme) → Lexes source (Ok lexemes) ↔ (IsTokens source lexemes × (length source ≤ 65536) × (length lexemes ≤ 4096))
+EndsInItsTokens = (source : List ℕ) (lexemes : List Lexeme)
+    → Lexes source (Ok lexemes) ↔ (IsTokens source lexemes × (length source ≤ 65536) × (length lexemes ≤ 4096))
 
 -- a text has one list of tokens
 abbrev pub HasOneReading : Type 0

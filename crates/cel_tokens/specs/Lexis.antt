@@ -15,8 +15,10 @@ lexeme place n w = record { place = place; end = place + n; word = w }
 -- the text from this place on is these tokens, the longest at each place, with blanks and comments between them
 pub data Tokens : Bool → ℕ → List ℕ → List Lexeme → Type 0 where
   over : {signed : Bool} {place : ℕ} {rest : List ℕ} → front signed rest ≡ front.over → Tokens signed place rest []
-  space : {signed : Bool} {place : ℕ} {rest : List ℕ} {more : List Lexeme} (n : ℕ) → front signed rest ≡ front.space n → Tokens signed (place + n) (drop n rest) more → Tokens signed place rest more
-  token : {signed : Bool} {place : ℕ} {rest : List ℕ} {more : List Lexeme} (n : ℕ) (w : Word) → front signed rest ≡ front.word n w → Tokens (sign_may_follow w) (place + n) (drop n rest) more → Tokens signed place rest (lexeme place n w ∷ more)
+  space : {signed : Bool} {place : ℕ} {rest : List ℕ} {more : List Lexeme} (n : ℕ) → front signed rest ≡ front.space n
+      → Tokens signed (place + n) (drop n rest) more → Tokens signed place rest more
+  token : {signed : Bool} {place : ℕ} {rest : List ℕ} {more : List Lexeme} (n : ℕ) (w : Word) → front signed rest ≡ front.word n w
+      → Tokens (sign_may_follow w) (place + n) (drop n rest) more → Tokens signed place rest (lexeme place n w ∷ more)
 
 -- the whole text is these tokens
 abbrev pub IsTokens : List ℕ → List Lexeme → Type 0
@@ -30,13 +32,21 @@ pub data Begins : front.Front → Type 0 where
 
 -- after the tokens so far, the text from this place on ends as this outcome, the first cause from the left
 pub data Cuts : Bool → List Lexeme → ℕ → List ℕ → Result (List Lexeme) ReadError → Type 0 where
-  over : {signed : Bool} {so_far : List Lexeme} {place : ℕ} {rest : List ℕ} → front signed rest ≡ front.over → Cuts signed so_far place rest (Ok so_far)
-  space : {signed : Bool} {so_far : List Lexeme} {place : ℕ} {rest : List ℕ} {r : Result (List Lexeme) ReadError} (n : ℕ) → front signed rest ≡ front.space n → Cuts signed so_far (place + n) (drop n rest) r → Cuts signed so_far place rest r
-  token : {signed : Bool} {so_far : List Lexeme} {place : ℕ} {rest : List ℕ} {r : Result (List Lexeme) ReadError} (n : ℕ) (w : Word) → front signed rest ≡ front.word n w → length so_far < 4096 → Cuts (sign_may_follow w) (so_far ++ (lexeme place n w ∷ [])) (place + n) (drop n rest) r → Cuts signed so_far place rest r
-  nothing : {signed : Bool} {so_far : List Lexeme} {place : ℕ} {rest : List ℕ} → front signed rest ≡ front.nothing → Cuts signed so_far place rest (Err (P1 place))
-  wrong_text : {signed : Bool} {so_far : List Lexeme} {place : ℕ} {rest : List ℕ} → front signed rest ≡ front.wrong_text → length so_far < 4096 → Cuts signed so_far place rest (Err (P2 place))
-  wide_int : {signed : Bool} {so_far : List Lexeme} {place : ℕ} {rest : List ℕ} (n : ℕ) → front signed rest ≡ front.wide_int n → length so_far < 4096 → Cuts signed so_far place rest (Err (P3 (place + n)))
-  too_many : {signed : Bool} {so_far : List Lexeme} {place : ℕ} {rest : List ℕ} → Begins (front signed rest) → 4096 ≤ length so_far → Cuts signed so_far place rest (Err (P6 place))
+  over : {signed : Bool} {so_far : List Lexeme} {place : ℕ} {rest : List ℕ} → front signed rest ≡ front.over
+      → Cuts signed so_far place rest (Ok so_far)
+  space : {signed : Bool} {so_far : List Lexeme} {place : ℕ} {rest : List ℕ} {r : Result (List Lexeme) ReadError} (n : ℕ)
+      → front signed rest ≡ front.space n → Cuts signed so_far (place + n) (drop n rest) r → Cuts signed so_far place rest r
+  token : {signed : Bool} {so_far : List Lexeme} {place : ℕ} {rest : List ℕ} {r : Result (List Lexeme) ReadError} (n : ℕ) (w : Word)
+      → front signed rest ≡ front.word n w → length so_far < 4096
+      → Cuts (sign_may_follow w) (so_far ++ (lexeme place n w ∷ [])) (place + n) (drop n rest) r → Cuts signed so_far place rest r
+  nothing : {signed : Bool} {so_far : List Lexeme} {place : ℕ} {rest : List ℕ} → front signed rest ≡ front.nothing
+      → Cuts signed so_far place rest (Err (P1 place))
+  wrong_text : {signed : Bool} {so_far : List Lexeme} {place : ℕ} {rest : List ℕ} → front signed rest ≡ front.wrong_text
+      → length so_far < 4096 → Cuts signed so_far place rest (Err (P2 place))
+  wide_int : {signed : Bool} {so_far : List Lexeme} {place : ℕ} {rest : List ℕ} (n : ℕ) → front signed rest ≡ front.wide_int n
+      → length so_far < 4096 → Cuts signed so_far place rest (Err (P3 (place + n)))
+  too_many : {signed : Bool} {so_far : List Lexeme} {place : ℕ} {rest : List ℕ} → Begins (front signed rest) → 4096 ≤ length so_far
+      → Cuts signed so_far place rest (Err (P6 place))
 
 -- the whole text ends as this outcome; a text above 65,536 bytes is refused before it is read
 pub data Lexes : List ℕ → Result (List Lexeme) ReadError → Type 0 where
@@ -47,7 +57,8 @@ pub data Lexes : List ℕ → Result (List Lexeme) ReadError → Type 0 where
 pub data TakesMemory : Bool → List ℕ → Type 0 where
   for_word : {signed : Bool} {rest : List ℕ} (n : ℕ) (w : Word) → front signed rest ≡ front.word n w → TakesMemory signed rest
   for_text : {signed : Bool} {rest : List ℕ} → front signed rest ≡ front.wrong_text → TakesMemory signed rest
-  behind_space : {signed : Bool} {rest : List ℕ} (n : ℕ) → front signed rest ≡ front.space n → TakesMemory signed (drop n rest) → TakesMemory signed rest
+  behind_space : {signed : Bool} {rest : List ℕ} (n : ℕ) → front signed rest ≡ front.space n → TakesMemory signed (drop n rest)
+      → TakesMemory signed rest
 
 -- what an answer of the code says. That there was no memory may be answered beside, but for a text that is refused
 -- before any is taken: for its length, or at its first byte that is no blank and in no comment

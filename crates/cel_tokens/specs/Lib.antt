@@ -14,3 +14,4 @@ pub mod Longest
 pub mod Escapes
 pub mod Gaps
 pub mod SignedInts
+pub mod AsWritten

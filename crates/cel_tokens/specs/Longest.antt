@@ -11,7 +11,7 @@ abbrev pub AllPass : (ℕ → Bool) → List ℕ → Type 0
 AllPass p [] = Unit {0}
 AllPass p (b ∷ bs) = (p b ≡ true) × AllPass p bs
 
--- these bytes are a name: a letter, then letters and digits
+-- these bytes are a name: a letter or _, then letters, digits and _
 abbrev pub IsName : List ℕ → Type 0
 IsName [] = ⊥
 IsName (b ∷ bs) = (is_letter b ≡ true) × AllPass is_name_byte bs
@@ -31,8 +31,10 @@ NoLongerName = (signed : Bool) (first rest : List ℕ) → IsName first → open
 
 -- nor than any decimal digits, unless the int is outside 64 bits
 abbrev pub NoLongerInt : Type 0
-NoLongerInt = (signed : Bool) (first rest : List ℕ) → IsDecimal first → (front signed (first ++ rest) ≡ front.wide_int 0) ⊎ Takes signed first rest
+NoLongerInt = (signed : Bool) (first rest : List ℕ) → IsDecimal first
+    → (front signed (first ++ rest) ≡ front.wide_int 0) ⊎ Takes signed first rest
 
 -- nor than 0x (48, 120) and any hex digits
 abbrev pub NoLongerHex : Type 0
-NoLongerHex = (signed : Bool) (d : ℕ) (ds rest : List ℕ) → AllPass (is_digit_of 16) (d ∷ ds) → (front signed (48 ∷ 120 ∷ d ∷ (ds ++ rest)) ≡ front.wide_int 0) ⊎ Takes signed (48 ∷ 120 ∷ d ∷ ds) rest
+NoLongerHex = (signed : Bool) (d : ℕ) (ds rest : List ℕ) → AllPass (is_digit_of 16) (d ∷ ds)
+    → (front signed (48 ∷ 120 ∷ d ∷ (ds ++ rest)) ≡ front.wide_int 0) ⊎ Takes signed (48 ∷ 120 ∷ d ∷ ds) rest

@@ -7,6 +7,7 @@ use Rattle.cel_tokens.specs.Front as front
 use Rattle.cel_tokens.specs.declared.front.Front.{Front}
 use Rattle.cel_tokens.specs.declared.front.Front.TheVariants.{Over, Space, Word, WrongText, WideInt, Nothing}
 
+-- what the code finds at the front of these bytes: its words as plain data, its lengths in bytes as they are
 abbrev pub shown : List ℕ → Front → front.Front
 shown bytes Over = front.over
 shown bytes (Space n) = front.space n

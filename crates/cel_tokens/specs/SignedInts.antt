@@ -16,7 +16,8 @@ pub data Spells : List ℕ → ℕ → Type 0 where
 
 -- the first n of these bytes are an int of this number, and no more of them are an int
 abbrev pub IsInt : List ℕ → ℕ → ℕ → Type 0
-IsInt bytes n value = (n ≤ length bytes) × Spells (take n bytes) value × ((m other : ℕ) → m ≤ length bytes → Spells (take m bytes) other → m ≤ n)
+IsInt bytes n value =
+    (n ≤ length bytes) × Spells (take n bytes) value × ((m other : ℕ) → m ≤ length bytes → Spells (take m bytes) other → m ≤ n)
 
 -- behind a minus: so many bytes of blanks and comments, and an int of n bytes and this number
 abbrev pub FollowsSign : List ℕ → ℕ → ℕ → ℕ → Type 0
@@ -41,8 +42,12 @@ HasPlainMinus = (bytes : List ℕ) → front false (45 ∷ bytes) ≡ front.word
 
 -- where it may, the token is an int exactly where an int follows the minus, and it is that number, negated
 abbrev pub HasNegatedInt : Type 0
-HasNegatedInt = (bytes : List ℕ) (len : ℕ) (z : ℤ) → (front true (45 ∷ bytes) ≡ front.word len (int z)) ↔ ((gap n value : ℕ) × FollowsSign bytes gap n value × (len ≡ 1 + gap + n) × (z ≡ neg_ℤ (pos value)) × (value ≤ 2 ^ 63))
+HasNegatedInt = (bytes : List ℕ) (len : ℕ) (z : ℤ)
+    → (front true (45 ∷ bytes) ≡ front.word len (int z))
+    ↔ ((gap n value : ℕ) × FollowsSign bytes gap n value × (len ≡ 1 + gap + n) × (z ≡ neg_ℤ (pos value)) × (value ≤ 2 ^ 63))
 
 -- and it is refused at the digits exactly where 64 bits do not hold that number
 abbrev pub HasWideInt : Type 0
-HasWideInt = (bytes : List ℕ) (before : ℕ) → (front true (45 ∷ bytes) ≡ front.wide_int before) ↔ ((gap n value : ℕ) × FollowsSign bytes gap n value × (before ≡ 1 + gap) × (2 ^ 63 < value))
+HasWideInt = (bytes : List ℕ) (before : ℕ)
+    → (front true (45 ∷ bytes) ≡ front.wide_int before)
+    ↔ ((gap n value : ℕ) × FollowsSign bytes gap n value × (before ≡ 1 + gap) × (2 ^ 63 < value))

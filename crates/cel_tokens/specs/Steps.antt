@@ -1,5 +1,6 @@
 -- One step of the code over a text, as the definitions say it.
-use Rattle.std.specs.Prelude.{ℕ, ◌<◌, ◌≤◌, List, [], length, drop, map, Bool, true, Result, Ok, Err, Option, Some, None, Vec, if◌then◌else◌, nat_le}
+use Rattle.std.specs.Prelude.{ℕ, ◌<◌, ◌≤◌, List, [], length, drop, map, Bool, true, Result, Ok, Err, Option, Some, None, Vec, if◌then◌else◌}
+use Rattle.std.specs.Prelude.{nat_le}
 use Rattle.std.specs.Global.{Global}
 use Rattle.cel_tokens.specs.Token.{Lexeme, seen}
 use Rattle.cel_tokens.specs.Lexis.{Cuts, TakesMemory}
@@ -24,7 +25,8 @@ Refused ends Takes (P6 place) = ends (Err (P6 place))
 -- a step leads to where the text ends as it did before; the last one is the text's end
 abbrev pub Steps : List ℕ → Bool → ℕ → List Token → List Token → Result (Option (ℕ × Bool)) ReadError → Type 0
 Steps source signed at old new (Ok (Some x)) =
-    (at < x.0) × (x.0 ≤ length source) × ((r : Result (List Lexeme) ReadError) → Ends source x.1 x.0 new r → Ends source signed at old r) × (TakesMemory x.1 (drop x.0 source) → TakesMemory signed (drop at source))
+    (at < x.0) × (x.0 ≤ length source) × ((r : Result (List Lexeme) ReadError) → Ends source x.1 x.0 new r → Ends source signed at old r)
+    × (TakesMemory x.1 (drop x.0 source) → TakesMemory signed (drop at source))
 Steps source signed at old new (Ok None) = Ends source signed at old (Ok (map (seen source) new))
 Steps source signed at old new (Err e) = Refused (Ends source signed at old) (TakesMemory signed (drop at source)) e
 

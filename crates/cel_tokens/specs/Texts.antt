@@ -1,5 +1,6 @@
 -- Text literals and their escapes.
-use Rattle.std.specs.Prelude.{ℕ, zero, suc, ◌+◌, ◌-◌, List, [], ◌∷◌, ◌++◌, take, Bool, true, false, not, if◌then◌else◌, ◌==◌, ◌&&◌, ◌||◌, nat_lt, Option, Some, None, option_and_then, option_map, encode_utf8}
+use Rattle.std.specs.Prelude.{ℕ, zero, suc, ◌+◌, ◌-◌, List, [], ◌∷◌, ◌++◌, take, Bool, true, false, not, if◌then◌else◌, ◌==◌, ◌&&◌, ◌||◌}
+use Rattle.std.specs.Prelude.{nat_lt, Option, Some, None, option_and_then, option_map, encode_utf8}
 use Rattle.cel_tokens.specs.Bytes.{is_digit_of, is_line_end, run}
 use Rattle.cel_tokens.specs.Ints.{number}
 
@@ -18,6 +19,7 @@ opening (a ∷ []) = if is_quote a then Some (false, a) else None
 opening (a ∷ b ∷ bs) =
     if is_quote a then Some (false, a) else (if is_raw_prefix a && is_quote b then Some (true, b) else None)
 
+-- how many bytes open a text literal: its quote, and before the quote of a raw one the r or R
 abbrev pub opening_len : Bool → ℕ
 opening_len raw = if raw then 2 else 1
 
@@ -30,10 +32,11 @@ abbrev pub digits : ℕ → ℕ → List ℕ → Option ℕ
 digits base count bytes =
     if run (is_digit_of base) (take count bytes) == count then Some (number base (take count bytes)) else None
 
--- the code point that this many digits at the front spell, and the length of the escape with them
+-- the number, where it is a code point
 abbrev pub code_point : ℕ → Option ℕ
 code_point n = if is_code_point n then Some n else None
 
+-- the code point that `count` digits at the front spell in this base, where they do; len: how many bytes the escape takes with them
 abbrev pub numeric : ℕ → ℕ → ℕ → List ℕ → Option (ℕ × ℕ)
 numeric base count len bytes = option_map (λ n. (n, len)) (option_and_then code_point (digits base count bytes))
 
@@ -61,6 +64,7 @@ escape (b ∷ bs) =
     else (if nat_lt 47 b && nat_lt b 52 then numeric 8 3 3 (b ∷ bs)
     else simple b)))
 
+-- an escape, where it is one: how many bytes it takes with its backslash, and its code point in UTF-8 (RFC 3629, section 3)
 abbrev pub escaped : Option (ℕ × ℕ) → Option (ℕ × List ℕ)
 escaped None = None
 escaped (Some x) = Some (x.1 + 1, encode_utf8 x.0)

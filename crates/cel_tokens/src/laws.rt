@@ -6,6 +6,7 @@ ghost use Rattle.cel_tokens.specs.Longest.{NoLongerName, NoLongerInt, NoLongerHe
 ghost use Rattle.cel_tokens.specs.Escapes.{NamesItsCodePoint};
 ghost use Rattle.cel_tokens.specs.Gaps.{IsLongestGap};
 ghost use Rattle.cel_tokens.specs.SignedInts.{HasPrefixPosition, HasPlainMinus, HasNegatedInt, HasWideInt};
+ghost use Rattle.cel_tokens.specs.AsWritten.{FindsWhatStands, NothingElseStands};
 
 /// A text ends in one way, its tokens or one refusal; it ends in tokens exactly where it has these
 /// tokens and both are within the limits; and it has one list of tokens.
@@ -53,4 +54,12 @@ pub fn signed_ints()
     ensures plain { HasPlainMinus }
     ensures negated { HasNegatedInt }
     ensures wide { HasWideInt }
+{}
+
+/// What is found at the front of a text stands there: its end, blanks and comments, the longest
+/// token as it is written, a text literal that is none, an int that 64 bits do not hold, or no
+/// token; and nothing else does. (cel-spec, IDENT, INT_LIT and STRING_LIT)
+pub fn tokens_as_written()
+    ensures found { FindsWhatStands }
+    ensures only { NothingElseStands }
 {}

@@ -17,7 +17,10 @@ mod token;
 pub use bytes::is_name;
 pub use cut::tokens;
 pub use kind::Kind;
-pub use laws::{escapes, gaps, ints_that_fit, longest, one_reading, pieces_of_a_text, signed_ints};
+pub use laws::{
+    escapes, gaps, ints_that_fit, longest, one_reading, pieces_of_a_text, signed_ints,
+    tokens_as_written,
+};
 pub use mark::{Mark, mark_of};
 pub use read_error::ReadError;
 pub use token::Token;

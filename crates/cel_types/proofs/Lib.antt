@@ -3,3 +3,6 @@ pub mod Sound
 pub mod CoreTypes
 pub mod TypedCores
 pub mod Arguments
+pub mod RowTyped
+pub mod NodeRows
+pub mod Related

@@ -58,7 +58,7 @@ pub dyn_fits : (x : ValueOrError) → Fits (typed type.Dyn) x
 dyn_fits error = tt
 dyn_fits (value v) = refl
 
-same_is : (a b : CelType) → same_type a b ≡ true → a ≡ b
+pub same_is : (a b : CelType) → same_type a b ≡ true → a ≡ b
 same_is type.Bool type.Bool e = refl
 same_is type.Int type.Int e = refl
 same_is type.String type.String e = refl

@@ -10,16 +10,19 @@ pub record Declaration : Type 0 where
   pub cel_type : CelType
   pub depth : ℕ
 
+-- the variable of this name, this type and this depth
 abbrev pub declared : List ℕ → CelType → ℕ → Declaration
 declared n t d = record { name = n; cel_type = t; depth = d }
 
+-- what the code's variable declares
 abbrev pub declaration : Variable → Declaration
 declaration v = declared (string_bytes v.name) v.cel_type v.depth
 
--- the variables with their types, and with their depths
+-- the names of the variables, each with its type
 abbrev pub types_of : List Declaration → List (List ℕ × CelType)
 types_of ds = map (λ d. (d.name, d.cel_type)) ds
 
+-- the names of the variables, each with its depth
 abbrev pub depths_of : List Declaration → List (List ℕ × ℕ)
 depths_of ds = map (λ d. (d.name, d.depth)) ds
 

@@ -17,5 +17,6 @@ names_step (layer.Within n outer) = n.now ∷ outer.now
 abbrev pub names_of : Iterations → List (List ℕ)
 names_of = fold-Iterations (List (List ℕ)) names_step
 
+-- the scope inside the macros that declare these names, with these variables
 abbrev pub scope_within : Iterations → List Variable → Scope
 scope_within names variables = record { items = names_of names; variables = types_of (map declaration variables) }

@@ -6,5 +6,7 @@ pub mod CoreTyping
 pub mod Declarations
 pub mod Iterations
 pub mod Soundness
+pub mod TypeRows
+pub mod Relation
 pub mod Laws
 pub mod Rows

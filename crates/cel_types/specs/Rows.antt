@@ -14,9 +14,11 @@ use Rattle.std.specs.Prelude.{codes}
 abbrev pub scope : Scope
 scope = record { items = []; variables = (codes "v", type.Int) ∷ [] }
 
+-- the expression has this type, or this fault, in that scope
 abbrev pub Types : Tree → Typing → Type 0
 Types e t = typing e scope ≡ t
 
+-- expressions, each with its type or its first fault
 pub record TypingRows : Type 0 where
   -- 1 < 2 < 3
   pub order_of_truth_and_int : Types (binary Less (binary Less (num 1) (num 2)) (num 3)) (refused NoOverload)

@@ -12,18 +12,26 @@ pub record Scope : Type 0 where
   pub items : List (List ℕ)
   pub variables : List (List ℕ × CelType)
 
+-- whether a name stands for anything: a root, or one of the iteration names
 abbrev pub is_known : List ℕ → List (List ℕ) → Bool
 is_known n items = is_root n || list_any (bytes_eq n) items
 
+-- the type of a name: Dyn where it is known; faults are `variables` by itself, and a name that is not known
 unfoldable pub name_type : List ℕ → List (List ℕ) → Typing
-name_type n items = if bytes_eq variables_name n then refused MisplacedVariables else (if is_known n items then typed type.Dyn else refused UnknownName)
+name_type n items =
+    if bytes_eq variables_name n then refused MisplacedVariables
+    else (if is_known n items then typed type.Dyn
+    else refused UnknownName)
 
+-- the type, and a fault of `variables` where there is none
 abbrev pub type_or_fault : Option CelType → Typing
 type_or_fault (Some t) = typed t
 type_or_fault None = refused MisplacedVariables
 
+-- the type of `variables.n`: that of the variable n, where it may be used
 unfoldable pub variable_type : List ℕ → List (List ℕ × CelType) → Typing
 variable_type n variables = type_or_fault (lookup n variables)
 
+-- the scope inside a macro with the iteration name n
 abbrev pub within : List ℕ → Scope → Scope
 within n s = record s { items = n ∷ s.items }

@@ -10,6 +10,7 @@ use Rattle.cel_types.specs.Types.{Typing, typed, refused, same_type}
 use Rattle.cel_types.specs.Scope.{Scope, variable_type}
 use Rattle.cel_types.specs.Typing.{typing}
 
+-- the type of a value
 abbrev pub type_of : Value → CelType
 type_of null = type.Null
 type_of (boolean b) = type.Bool
@@ -22,6 +23,7 @@ type_of (map es) = type.Map
 abbrev pub fits_type : CelType → Value → Bool
 fits_type t v = same_type t type.Dyn || same_type t (type_of v)
 
+-- the error fits every type, and a value one that it has; of what is refused nothing is said
 abbrev pub Fits : Typing → ValueOrError → Type 0
 Fits (typed t) error = ⊤
 Fits (typed t) (value v) = fits_type t v ≡ true
@@ -31,5 +33,6 @@ Fits (refused y) x = ⊤
 abbrev pub FitsScope : Scope → Environment → Type 0
 FitsScope s env = (v : List ℕ) → Fits (variable_type v s.variables) (variable_value v env.variables)
 
+-- where the variables have their types, what an expression means has its type, or is the error
 abbrev pub IsSound : Type 0
 IsSound = (e : Tree) (s : Scope) (env : Environment) → FitsScope s env → Fits (typing e s) (meaning e env)

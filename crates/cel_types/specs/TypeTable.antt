@@ -12,49 +12,61 @@ use Rattle.cel_types.specs.declared.cel_type.CelType.{CelType}
 use Rattle.cel_types.specs.declared.cel_type.CelType.TheVariants as type
 use Rattle.cel_types.specs.Types.{Typing, typed, refused, NoOverload, same_type, allowed, agree, known_of, both_allowed, row}
 
+-- the type of a literal
 abbrev pub literal_type : tree.Literal → CelType
 literal_type (tree.int z) = type.Int
 literal_type (tree.text s) = type.String
 literal_type (tree.truth b) = type.Bool
 literal_type tree.null = type.Null
 
+-- a.f of a map is Dyn
 abbrev pub field_row : CelType → Typing
 field_row t = row (allowed (type.Map ∷ []) t) type.Dyn
 
+-- has(a.f) of a map is a bool
 abbrev pub has_row : CelType → Typing
 has_row t = row (allowed (type.Map ∷ []) t) type.Bool
 
+-- a[k] is Dyn: a list by an int, a map by a string, and what is Dyn by either
 abbrev pub index_row : CelType → CelType → Typing
 index_row type.List k = row (allowed (type.Int ∷ []) k) type.Dyn
 index_row type.Map k = row (allowed (type.String ∷ []) k) type.Dyn
 index_row type.Dyn k = row (allowed (type.Int ∷ type.String ∷ []) k) type.Dyn
 index_row _ k = refused NoOverload
 
+-- !a of a bool is a bool, -a of an int is an int
 abbrev pub unary_row : UnaryOperator → CelType → Typing
 unary_row unary.Not t = row (allowed (type.Bool ∷ []) t) type.Bool
 unary_row unary.Negate t = row (allowed (type.Int ∷ []) t) type.Int
 
+-- || and && of two bools are a bool
 abbrev pub logic_row : CelType → CelType → Typing
 logic_row a b = row (both_allowed (type.Bool ∷ []) a b) type.Bool
 
+-- < <= >= > of two ints, two strings or two bools are a bool
 abbrev pub order_row : CelType → CelType → Typing
 order_row a b = row (both_allowed (type.Int ∷ type.String ∷ type.Bool ∷ []) a b && agree a b) type.Bool
 
+-- == and != of one type are a bool
 abbrev pub equality_row : CelType → CelType → Typing
 equality_row a b = row (agree a b) type.Bool
 
+-- x in y is a bool: any x in a list, or in what is Dyn, and a string in a map
 abbrev pub member_row : CelType → CelType → Typing
 member_row x type.List = typed type.Bool
 member_row x type.Dyn = typed type.Bool
 member_row x type.Map = row (allowed (type.String ∷ []) x) type.Bool
 member_row x _ = refused NoOverload
 
+-- + of two ints, two strings or two lists is of their type
 abbrev pub sum_row : CelType → CelType → Typing
 sum_row a b = row (both_allowed (type.Int ∷ type.String ∷ type.List ∷ []) a b && agree a b) (known_of a b)
 
+-- - * / % of two ints are an int
 abbrev pub arithmetic_row : CelType → CelType → Typing
 arithmetic_row a b = row (both_allowed (type.Int ∷ []) a b) type.Int
 
+-- the row of an operator between operands of these types
 abbrev pub binary_row : BinaryOperator → CelType → CelType → Typing
 binary_row binary.Or a b = logic_row a b
 binary_row binary.And a b = logic_row a b
@@ -75,26 +87,30 @@ binary_row binary.Remainder a b = arithmetic_row a b
 abbrev pub ternary_row : CelType → CelType → CelType → Typing
 ternary_row c a b = row (allowed (type.Bool ∷ []) c && agree a b) (if same_type a b then a else type.Dyn)
 
+-- size of a string, a list or a map is an int
 abbrev pub size_row : CelType → Typing
 size_row t = row (allowed (type.String ∷ type.List ∷ type.Map ∷ []) t) type.Int
 
+-- the row of a function: size is an int; string of an int or a string is a string; dyn of anything is Dyn
 abbrev pub function_row : Option Function → CelType → Typing
 function_row (Some Size) t = size_row t
 function_row (Some String) t = row (allowed (type.Int ∷ type.String ∷ []) t) type.String
 function_row (Some Dyn) t = typed type.Dyn
 function_row None t = refused NoOverload
 
+-- the row of a method without arguments: size
 abbrev pub method_row : Option Function → CelType → Typing
 method_row (Some Size) t = size_row t
 method_row (Some String) t = refused NoOverload
 method_row (Some Dyn) t = refused NoOverload
 method_row None t = refused NoOverload
 
+-- startsWith, endsWith and contains of two strings are a bool
 abbrev pub test_row : Option TextTest → CelType → CelType → Typing
 test_row (Some f) a b = row (both_allowed (type.String ∷ []) a b) type.Bool
 test_row None a b = refused NoOverload
 
--- what a macro asks of its part, and what it gives
+-- what a macro asks of its part: a bool, and nothing where it is `map`
 abbrev pub part_allowed : Macro → CelType → Bool
 part_allowed All t = allowed (type.Bool ∷ []) t
 part_allowed Exists t = allowed (type.Bool ∷ []) t
@@ -102,6 +118,7 @@ part_allowed ExistsOne t = allowed (type.Bool ∷ []) t
 part_allowed Filter t = allowed (type.Bool ∷ []) t
 part_allowed Map t = true
 
+-- what a macro gives: a bool, or a list
 abbrev pub macro_type : Macro → CelType
 macro_type All = type.Bool
 macro_type Exists = type.Bool
@@ -109,15 +126,19 @@ macro_type ExistsOne = type.Bool
 macro_type Filter = type.List
 macro_type Map = type.List
 
+-- a macro goes over a list or a map
 abbrev pub is_range : CelType → Bool
 is_range t = allowed (type.List ∷ type.Map ∷ []) t
 
+-- the row of a macro, by the types of its range and of its part
 abbrev pub macro_row : Macro → CelType → CelType → Typing
 macro_row m r p = row (is_range r && part_allowed m p) (macro_type m)
 
+-- the row of `map` with a predicate and a transform, by the types of its range and of both
 abbrev pub map_row : CelType → CelType → CelType → Typing
 map_row r p t = row (is_range r && allowed (type.Bool ∷ []) p) type.List
 
+-- a key may be a text: it is a string or Dyn, and has no fault
 abbrev pub is_text_key : Typing → Bool
 is_text_key (typed t) = allowed (type.String ∷ []) t
 is_text_key (refused y) = false

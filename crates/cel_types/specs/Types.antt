@@ -6,15 +6,18 @@ use Rattle.cel_types.specs.declared.cel_type.CelType.TheVariants as type
 use Rattle.cel_types.specs.declared.type_error.TypeError.{TypeError}
 use Rattle.cel_types.specs.declared.type_error.TypeError.TheVariants.{Y1, Y2, Y3}
 
+-- what can be wrong: a name that is not known, operands that no row of the table takes, or a wrong use of `variables`
 pub data TypeFault : Type 0 where
   UnknownName : TypeFault
   NoOverload : TypeFault
   MisplacedVariables : TypeFault
 
+-- the type of an expression, or its first fault
 pub data Typing : Type 0 where
   typed : CelType → Typing
   refused : TypeFault → Typing
 
+-- whether two types are the same
 abbrev pub same_type : CelType → CelType → Bool
 same_type type.Bool type.Bool = true
 same_type type.Int type.Int = true
@@ -46,6 +49,7 @@ abbrev pub with_type : Typing → (CelType → Typing) → Typing
 with_type (typed t) then_type = then_type t
 with_type (refused y) then_type = refused y
 
+-- both are one of these types, or Dyn
 abbrev pub both_allowed : List CelType → CelType → CelType → Bool
 both_allowed ts a b = allowed ts a && allowed ts b
 
@@ -54,12 +58,13 @@ abbrev pub with_types : List Typing → Typing → Typing
 with_types [] last = last
 with_types (x ∷ xs) last = with_type x (λ t. with_types xs last)
 
--- an answer of the code as a type or a fault
+-- the fault that each refusal of the code stands for
 abbrev pub fault_of : TypeError → TypeFault
 fault_of Y1 = UnknownName
 fault_of Y2 = NoOverload
 fault_of Y3 = MisplacedVariables
 
+-- an answer of the code as a type or a fault
 abbrev pub typing_of : Result CelType TypeError → Typing
 typing_of (Ok t) = typed t
 typing_of (Err y) = refused (fault_of y)

@@ -10,8 +10,10 @@ use Rattle.cel_types.specs.declared.cel_type.CelType.{CelType}
 use Rattle.cel_types.specs.declared.cel_type.CelType.TheVariants as type
 use Rattle.cel_types.specs.Types.{TypeFault, Typing, typed, refused, NoOverload, with_type, with_types}
 use Rattle.cel_types.specs.Scope.{Scope, name_type, variable_type, within}
-use Rattle.cel_types.specs.TypeTable.{literal_type, field_row, has_row, index_row, unary_row, binary_row, ternary_row, function_row, method_row, test_row, macro_row, map_row, is_text_key, map_literal_row}
+use Rattle.cel_types.specs.TypeTable.{literal_type, field_row, has_row, index_row, unary_row, binary_row, ternary_row, function_row}
+use Rattle.cel_types.specs.TypeTable.{method_row, test_row, macro_row, map_row, is_text_key, map_literal_row}
 
+-- the type of a selection: that of the variable f where it is of `variables`, and else that of a field
 abbrev pub selected_type : Bool → List ℕ → Typing → Scope → Typing
 selected_type true f a s = variable_type f s.variables
 selected_type false f a s = with_type a field_row
@@ -28,12 +30,14 @@ fold_type (Some m) (Some n) r p parts = with_type r (λ a. with_type (p n) (λ b
 fold_type (Some m) None r p parts = with_types parts (refused NoOverload)
 fold_type None n r p parts = with_types parts (refused NoOverload)
 
+-- the same of `map` with a predicate and a transform, each at a name
 abbrev pub fold_map_type : Bool → Option (List ℕ) → Typing → (List ℕ → Typing) → (List ℕ → Typing) → List Typing → Typing
 fold_map_type true (Some n) r p t parts = with_type r (λ a. with_type (p n) (λ b. with_type (t n) (λ c. map_row a b c)))
 fold_map_type true None r p t parts = with_types parts (refused NoOverload)
 fold_map_type false n r p t parts = with_types parts (refused NoOverload)
 
 unfoldable mutual
+  -- the type of an expression in a scope, or its first fault, parts from left to right before their node
   pub typing : Tree → Scope → Typing
   typing (tree.literal l) s = typed (literal_type l)
   typing (tree.name n) s = name_type n s.items
@@ -41,22 +45,28 @@ unfoldable mutual
   typing (tree.index a k) s = with_type (typing a s) (λ x. with_type (typing k s) (λ y. index_row x y))
   typing (tree.unary op a) s = with_type (typing a s) (unary_row op)
   typing (tree.binary op a b) s = with_type (typing a s) (λ x. with_type (typing b s) (λ y. binary_row op x y))
-  typing (tree.ternary c a b) s = with_type (typing c s) (λ x. with_type (typing a s) (λ y. with_type (typing b s) (λ z. ternary_row x y z)))
+  typing (tree.ternary c a b) s =
+      with_type (typing c s) (λ x. with_type (typing a s) (λ y. with_type (typing b s) (λ z. ternary_row x y z)))
   typing (tree.list items) s = with_types (typings items s) (typed type.List)
   typing (tree.map es) s = with_types (entry_typings es s) (map_literal_row (list_all is_text_key (key_typings es s)))
   typing (tree.call n (more_trees a no_trees)) s = call_type (is_has n) (field_name a) (function_named n) (operand_typing a s) (typing a s)
   typing (tree.call n arguments) s = with_types (typings arguments s) (refused NoOverload)
   typing (tree.method a n no_trees) s = with_type (typing a s) (method_row (function_named n))
-  typing (tree.method a n (more_trees b no_trees)) s = with_type (typing a s) (λ x. with_type (typing b s) (λ y. test_row (test_named n) x y))
-  typing (tree.method a n (more_trees x (more_trees p no_trees))) s = fold_type (macro_named n) (name_of x) (typing a s) (λ i. typing p (within i s)) (typing a s ∷ typing x s ∷ typing p s ∷ [])
-  typing (tree.method a n (more_trees x (more_trees p (more_trees t no_trees)))) s = fold_map_type (is_map n) (name_of x) (typing a s) (λ i. typing p (within i s)) (λ i. typing t (within i s)) (typing a s ∷ typing x s ∷ typing p s ∷ typing t s ∷ [])
+  typing (tree.method a n (more_trees b no_trees)) s =
+      with_type (typing a s) (λ x. with_type (typing b s) (λ y. test_row (test_named n) x y))
+  typing (tree.method a n (more_trees x (more_trees p no_trees))) s =
+      fold_type (macro_named n) (name_of x) (typing a s) (λ i. typing p (within i s)) (typing a s ∷ typing x s ∷ typing p s ∷ [])
+  typing (tree.method a n (more_trees x (more_trees p (more_trees t no_trees)))) s =
+      fold_map_type (is_map n) (name_of x) (typing a s) (λ i. typing p (within i s)) (λ i. typing t (within i s))
+      (typing a s ∷ typing x s ∷ typing p s ∷ typing t s ∷ [])
   typing (tree.method a n arguments) s = with_types (typing a s ∷ typings arguments s) (refused NoOverload)
 
-  -- of `e.f` the type of e
+  -- of `e.f` the type of e; of all else a fault, which nothing uses
   pub operand_typing : Tree → Scope → Typing
   operand_typing (tree.select a f) s = typing a s
   operand_typing _ s = refused NoOverload
 
+  -- each of the expressions so
   pub typings : Trees → Scope → List Typing
   typings no_trees s = []
   typings (more_trees a more) s = typing a s ∷ typings more s
@@ -66,6 +76,7 @@ unfoldable mutual
   entry_typings no_entries s = []
   entry_typings (more_entries k v more) s = typing k s ∷ typing v s ∷ entry_typings more s
 
+  -- each key so
   pub key_typings : Entries → Scope → List Typing
   key_typings no_entries s = []
   key_typings (more_entries k v more) s = typing k s ∷ key_typings more s

@@ -13,7 +13,7 @@ mod variable;
 
 pub use cel_type::CelType;
 pub use checking::check;
-pub use laws::{is_sound, rows_stand, types_stay};
+pub use laws::{is_sound, rows_stand, typed_is_expanded, types_are_rows, types_stay};
 pub use scope::Scope;
 pub use type_error::TypeError;
 pub use variable::Variable;

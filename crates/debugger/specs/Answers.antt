@@ -1,5 +1,6 @@
 -- What a command answers.
-use Rattle.std.specs.Prelude.{ℕ, ◌+◌, ◌-◌, Bool, true, false, not, ◌&&◌, List, [], ◌∷◌, ◌++◌, codes, decimal, nat_le, is_some, if◌then◌else◌}
+use Rattle.std.specs.Prelude.{ℕ, ◌+◌, ◌-◌, Bool, true, false, not, ◌&&◌, List, [], ◌∷◌, ◌++◌, codes, decimal, nat_le, is_some}
+use Rattle.std.specs.Prelude.{if◌then◌else◌}
 use Rattle.bpf_machine.specs.State.{State}
 use Rattle.bpf_machine.specs.Trace.{state_after}
 use Rattle.bpf_machine.specs.Text.{move_text, registers_text}
@@ -10,7 +11,9 @@ use Rattle.debugger.specs.Inspection.{frames_text, memory_text, shown_bytes, val
 use Rattle.debugger.specs.Listing.{is_inside, listing_text}
 use Rattle.debugger.specs.Verdict.{verdict_text}
 use Rattle.debugger.specs.declared.command.Command.{Command}
-use Rattle.debugger.specs.declared.command.Command.TheVariants.{SetBreakpoint, ClearBreakpoint, Forward, Back, Go, Continue, ReverseContinue, Registers, ValueAt, MemoryAt, Frames, Listing, Verdict, Quit, Unknown}
+use Rattle.debugger.specs.declared.command.Command.TheVariants.{SetBreakpoint, ClearBreakpoint, Forward, Back, Go, Continue}
+use Rattle.debugger.specs.declared.command.Command.TheVariants.{ReverseContinue, Registers, ValueAt, MemoryAt, Frames, Listing, Verdict}
+use Rattle.debugger.specs.declared.command.Command.TheVariants.{Quit, Unknown}
 
 -- what a session knows between two lines: the step that is shown, the slots with a breakpoint, and whether it has ended
 pub record World : Type 0 where
@@ -23,21 +26,27 @@ pub record Answer : Type 0 where
   pub next : World
   pub text : List ℕ
 
+-- the world at step k, with these breakpoints
 abbrev pub world_at : List ℕ → ℕ → Bool → World
 world_at slots k ended = record { place = k; breakpoints = slots; ended = ended }
 
+-- whether a program can have a slot with this number: at most 65,535
 abbrev pub is_slot : ℕ → Bool
 is_slot n = nat_le n 65535
 
+-- whether a command takes so many steps: from 1 to 1,000,000
 abbrev pub in_range : ℕ → Bool
 in_range n = nat_le 1 n && nat_le n 1000000
 
+-- whether a command may go n steps on from step k: n is in range, and step 1,000,000,000 is not passed
 abbrev pub can_go_on : ℕ → ℕ → Bool
 can_go_on k n = in_range n && nat_le (k + n) 1000000000
 
+-- whether it may go n steps back from step k: n is in range, and step 0 is not passed
 abbrev pub can_go_back : ℕ → ℕ → Bool
 can_go_back k n = in_range n && nat_le n k
 
+-- whether step k may be shown: it is at most 1,000,000,000
 abbrev pub can_go_to : ℕ → Bool
 can_go_to k = nat_le k 1000000000
 
@@ -45,6 +54,7 @@ can_go_to k = nat_le k 1000000000
 abbrev pub says : World → List ℕ → Answer
 says w text = record { next = w; text = text }
 
+-- an answer that leaves the world but for its breakpoints, which are these
 abbrev pub sets_breakpoints : World → List ℕ → List ℕ → Answer
 sets_breakpoints w slots text = record { next = record w { breakpoints = slots }; text = text }
 
@@ -52,19 +62,24 @@ sets_breakpoints w slots text = record { next = record w { breakpoints = slots }
 abbrev pub moves_to : State → World → ℕ → Answer
 moves_to s w k = record { next = record w { place = k }; text = move_text k (state_after k s) }
 
+-- the answer to a number that is out of range
 abbrev pub out_of_range : World → Answer
 out_of_range w = says w (codes "? range\n")
 
+-- the answer to a breakpoint that was set
 unfoldable pub break_text : ℕ → List ℕ
 break_text slot = codes "break " ++ (decimal slot ++ 10 ∷ [])
 
+-- the answer to a breakpoint that was cleared
 unfoldable pub clear_text : ℕ → List ℕ
 clear_text slot = codes "clear " ++ (decimal slot ++ 10 ∷ [])
 
 -- the world after a command, and its answer, in a session with the run from s
 unfoldable pub answer_of : State → World → Command → Answer
 answer_of s w (SetBreakpoint n) = if is_slot n then sets_breakpoints w (with_breakpoint n w.breakpoints) (break_text n) else out_of_range w
-answer_of s w (ClearBreakpoint n) = if is_slot n then sets_breakpoints w (without_breakpoint n w.breakpoints) (clear_text n) else out_of_range w
+answer_of s w (ClearBreakpoint n) =
+    if is_slot n then sets_breakpoints w (without_breakpoint n w.breakpoints) (clear_text n)
+    else out_of_range w
 answer_of s w (Forward n) = if can_go_on w.place n then moves_to s w (w.place + n) else out_of_range w
 answer_of s w (Back n) = if can_go_back w.place n then moves_to s w (w.place - n) else out_of_range w
 answer_of s w (Go k) = if can_go_to k then moves_to s w k else out_of_range w
@@ -79,7 +94,8 @@ answer_of s w Verdict = says w (verdict_text (state_after w.place s))
 answer_of s w Quit = record { next = record w { ended = true }; text = [] }
 answer_of s w Unknown = says w (codes "? what\n")
 
--- whether a command may need memory that is refused: a breakpoint that is new, a move that is in range, a value, a listing of code, and a verdict
+-- whether a command may need memory that is refused: a breakpoint that is new, a move that is in range, a value, a
+-- listing of code, and a verdict
 unfoldable pub may_be_refused : State → World → Command → Bool
 may_be_refused s w (SetBreakpoint n) = is_slot n && not (has_breakpoint n w.breakpoints)
 may_be_refused s w (ClearBreakpoint n) = false

@@ -2,6 +2,7 @@
 use Rattle.std.specs.Prelude.{◌≡◌, ℕ, Bool, true, not, ◌||◌, ◌&&◌, List, [], ◌∷◌, filter, insert, nat_eq, nat_lt, if◌then◌else◌}
 use Rattle.std.specs.List.{list_all, list_any, prefix_len}
 
+-- whether the slot has a breakpoint
 abbrev pub has_breakpoint : ℕ → List ℕ → Bool
 has_breakpoint slot slots = list_any (λ s. nat_eq s slot) slots
 
@@ -9,9 +10,11 @@ has_breakpoint slot slots = list_any (λ s. nat_eq s slot) slots
 abbrev pub place_of : ℕ → List ℕ → ℕ
 place_of slot slots = prefix_len (λ s. nat_lt s slot) slots
 
+-- the same with one at this slot
 abbrev pub with_breakpoint : ℕ → List ℕ → List ℕ
 with_breakpoint slot slots = if has_breakpoint slot slots then slots else insert slots (place_of slot slots) slot
 
+-- the same without one at this slot
 abbrev pub without_breakpoint : ℕ → List ℕ → List ℕ
 without_breakpoint slot slots = filter (λ s. not (nat_eq s slot)) slots
 
@@ -22,7 +25,9 @@ in_order (s ∷ slots) = list_all (nat_lt s) slots && in_order slots
 
 -- setting and clearing a breakpoint change whether this slot has one and nothing else, and keep the order
 pub record SetsAndClears : Type 0 where
-  pub set : (slot other : ℕ) (slots : List ℕ) → has_breakpoint other (with_breakpoint slot slots) ≡ nat_eq slot other || has_breakpoint other slots
-  pub cleared : (slot other : ℕ) (slots : List ℕ) → has_breakpoint other (without_breakpoint slot slots) ≡ not (nat_eq slot other) && has_breakpoint other slots
+  pub set : (slot other : ℕ) (slots : List ℕ)
+      → has_breakpoint other (with_breakpoint slot slots) ≡ nat_eq slot other || has_breakpoint other slots
+  pub cleared : (slot other : ℕ) (slots : List ℕ)
+      → has_breakpoint other (without_breakpoint slot slots) ≡ not (nat_eq slot other) && has_breakpoint other slots
   pub set_in_order : (slot : ℕ) (slots : List ℕ) → in_order slots ≡ true → in_order (with_breakpoint slot slots) ≡ true
   pub cleared_in_order : (slot : ℕ) (slots : List ℕ) → in_order slots ≡ true → in_order (without_breakpoint slot slots) ≡ true

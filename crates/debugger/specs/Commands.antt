@@ -1,10 +1,14 @@
 -- What a line asks for.
-use Rattle.std.specs.Prelude.{ℕ, suc, ◌+◌, ◌-◌, ◌*◌, ◌^◌, ◌<◌, Bool, true, false, ◌&&◌, ◌||◌, List, [], ◌∷◌, length, take, drop, min, Option, Some, None, codes, nat_eq, nat_le, nat_lt, slice_index, if◌then◌else◌}
+use Rattle.std.specs.Prelude.{ℕ, suc, ◌+◌, ◌-◌, ◌*◌, ◌^◌, ◌<◌, Bool, true, false, ◌&&◌, ◌||◌, List, [], ◌∷◌, length, take, drop, min}
+use Rattle.std.specs.Prelude.{Option, Some, None, codes, nat_eq, nat_le, nat_lt, slice_index, if◌then◌else◌}
 use Rattle.std.specs.Str.{bytes_eq}
 use Rattle.bpf_machine.specs.State.{State}
 use Rattle.debugger.specs.declared.command.Command.{Command}
-use Rattle.debugger.specs.declared.command.Command.TheVariants.{SetBreakpoint, ClearBreakpoint, Forward, Back, Go, Continue, ReverseContinue, Registers, ValueAt, MemoryAt, Frames, Listing, Verdict, Quit, Unknown}
+use Rattle.debugger.specs.declared.command.Command.TheVariants.{SetBreakpoint, ClearBreakpoint, Forward, Back, Go, Continue}
+use Rattle.debugger.specs.declared.command.Command.TheVariants.{ReverseContinue, Registers, ValueAt, MemoryAt, Frames, Listing, Verdict}
+use Rattle.debugger.specs.declared.command.Command.TheVariants.{Quit, Unknown}
 
+-- a decimal digit
 abbrev pub is_digit : ℕ → Bool
 is_digit c = nat_le 48 c && nat_le c 57
 
@@ -13,6 +17,7 @@ abbrev pub read_digits : ℕ → List ℕ → Option ℕ
 read_digits n [] = Some n
 read_digits n (c ∷ cs) = if is_digit c then read_digits (n * 10 + (c - 48)) cs else None
 
+-- the first of several digits is 0
 abbrev pub leads_with_zero : List ℕ → Bool
 leads_with_zero digits = nat_lt 1 (length digits) && nat_eq (slice_index digits 0) 48
 
@@ -23,6 +28,7 @@ number_of digits =
     else (if leads_with_zero digits then None
     else read_digits 0 digits)
 
+-- the line begins with these bytes
 abbrev pub begins_with : List ℕ → List ℕ → Bool
 begins_with front line = bytes_eq front (take (length front) line)
 
@@ -31,6 +37,7 @@ abbrev pub numbered : (ℕ → Command) → Option ℕ → Command
 numbered command None = Unknown
 numbered command (Some n) = command n
 
+-- a hex digit, in small letters
 abbrev pub is_hex_digit : ℕ → Bool
 is_hex_digit c = is_digit c || (nat_le 97 c && nat_le c 102)
 
@@ -85,6 +92,7 @@ form_of line =
 unfoldable pub command_of : List ℕ → Command
 command_of line = if nat_le (length line) 64 then form_of line else Unknown
 
+-- the command ends the session
 abbrev pub is_quit : Command → Bool
 is_quit Quit = true
 is_quit other = false
@@ -93,10 +101,12 @@ is_quit other = false
 abbrev pub capped : ℕ → ℕ
 capped n = min n 18446744073709551615
 
+-- the same of a number that was read
 abbrev pub capped_number : Option ℕ → Option ℕ
 capped_number None = None
 capped_number (Some n) = Some (capped n)
 
+-- the same of a command's number; an address has 64 bits at most
 abbrev pub capped_command : Command → Command
 capped_command (SetBreakpoint n) = SetBreakpoint (capped n)
 capped_command (ClearBreakpoint n) = ClearBreakpoint (capped n)

@@ -1,5 +1,6 @@
 -- What a session shows of a state: a value, bytes of memory, and frames.
-use Rattle.std.specs.Prelude.{◌≡◌, ℕ, zero, suc, ◌+◌, ◌≤◌, Bool, ◌&&◌, List, [], ◌∷◌, ◌++◌, take, drop, length, codes, decimal, Option, Some, None, nat_le, slice_get, if◌then◌else◌}
+use Rattle.std.specs.Prelude.{◌≡◌, ℕ, zero, suc, ◌+◌, ◌≤◌, Bool, ◌&&◌, List, [], ◌∷◌, ◌++◌, take, drop, length, codes, decimal, Option}
+use Rattle.std.specs.Prelude.{Some, None, nat_le, slice_get, if◌then◌else◌}
 use Rattle.std.specs.Fmt.{signed_decimal}
 use Rattle.bpf_machine.specs.State.{State}
 use Rattle.bpf_machine.specs.Text.{hex_digits, word_text}
@@ -22,6 +23,7 @@ pub record HasSizes (m : Memory) (records : List Frame) : Type 0 where
   pub regions : HasRegions m
   pub few : length records ≤ 7
 
+-- the memory and the records of a state have these sizes
 abbrev pub IsSized : State → Type 0
 IsSized s = HasSizes s.memory s.records
 
@@ -35,6 +37,7 @@ StaysSized s = (k : ℕ) → IsSized (state_after k s)
 unfoldable pub value_line : ℕ → List ℕ → List ℕ
 value_line h text = codes "value " ++ (decimal h ++ (codes " " ++ (text ++ 10 ∷ [])))
 
+-- what stands at a reference of the state's store
 abbrev pub value_at : State → ℕ → Option ValueOrError
 value_at s h = slice_get s.values.values h
 
@@ -45,6 +48,7 @@ value_text h None = codes "? range\n"
 
 -- ---- memory
 
+-- the n bytes of a region from a place in it on
 abbrev pub bytes_at : Memory → ℕ → Option (Region × ℕ) → Option (List ℕ)
 bytes_at m n (Some (r, at)) = Some (part (bytes_in r m) at n)
 bytes_at m n None = None
@@ -53,6 +57,7 @@ bytes_at m n None = None
 unfoldable pub bytes_from : Memory → ℕ → ℕ → Option (List ℕ)
 bytes_from m address n = bytes_at m n (region_of m address n)
 
+-- so many bytes can be shown
 abbrev pub is_count : ℕ → Bool
 is_count n = nat_le 1 n && nat_le n 256
 
@@ -75,6 +80,7 @@ memory_lines zero address bytes = []
 memory_lines (suc count) address [] = []
 memory_lines (suc count) address (b ∷ bs) = memory_line address (take 16 (b ∷ bs)) ++ memory_lines count (address + 16) (drop 16 (b ∷ bs))
 
+-- these bytes in lines of 16, or that they cannot be shown
 abbrev pub memory_text : ℕ → Option (List ℕ) → List ℕ
 memory_text address (Some bytes) = memory_lines 16 address bytes
 memory_text address None = codes "? range\n"
@@ -83,7 +89,9 @@ memory_text address None = codes "? range\n"
 
 -- the registers that the call saved
 unfoldable pub saved_text : Frame → List ℕ
-saved_text f = codes " r6 " ++ (word_text f.r6 ++ (codes " r7 " ++ (word_text f.r7 ++ (codes " r8 " ++ (word_text f.r8 ++ (codes " r9 " ++ word_text f.r9))))))
+saved_text f =
+    codes " r6 "
+    ++ (word_text f.r6 ++ (codes " r7 " ++ (word_text f.r7 ++ (codes " r8 " ++ (word_text f.r8 ++ (codes " r9 " ++ word_text f.r9))))))
 
 -- where the caller goes on, and its registers
 unfoldable pub frame_line : Frame → List ℕ

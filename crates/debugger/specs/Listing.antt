@@ -1,5 +1,6 @@
 -- The lines of code that a session lists.
-use Rattle.std.specs.Prelude.{◌≡◌, ℕ, zero, suc, ◌+◌, ◌*◌, ◌<◌, Option, Some, None, Bool, false, ℤ, pos, negsuc, List, [], ◌∷◌, ◌++◌, codes, decimal, drop, nat_lt, if◌then◌else◌}
+use Rattle.std.specs.Prelude.{◌≡◌, ℕ, zero, suc, ◌+◌, ◌*◌, ◌<◌, Option, Some, None, Bool, false, ℤ, pos, negsuc, List, [], ◌∷◌, ◌++◌, codes}
+use Rattle.std.specs.Prelude.{decimal, drop, nat_lt, if◌then◌else◌}
 use Rattle.std.specs.Fmt.{signed_decimal}
 use Rattle.insn_codec.specs.declared.statement.Statement.{Statement}
 use Rattle.insn_codec.specs.Statements.{statement_of, statement_slots, statement_text}
@@ -10,6 +11,7 @@ use Rattle.bpf_machine.specs.State.{State}
 abbrev pub statement_at : List ℕ → ℕ → Statement
 statement_at code slot = statement_of (drop (8 * slot) code)
 
+-- the number of a slot, and the line of the statement that stands there
 unfoldable pub listing_line : List ℕ → ℕ → List ℕ
 listing_line code slot = decimal slot ++ (codes " " ++ (statement_text (statement_at code slot) ++ 10 ∷ []))
 
@@ -17,9 +19,11 @@ listing_line code slot = decimal slot ++ (codes " " ++ (statement_text (statemen
 unfoldable pub listing_lines : ℕ → List ℕ → ℕ → List ℕ
 listing_lines zero code slot = []
 listing_lines (suc count) code slot =
-    if nat_lt slot (slot_count code) then listing_line code slot ++ listing_lines count code (slot + statement_slots (statement_at code slot))
+    if nat_lt slot (slot_count code)
+    then listing_line code slot ++ listing_lines count code (slot + statement_slots (statement_at code slot))
     else []
 
+-- `pc` names a slot of the code
 abbrev pub is_inside : List ℕ → ℤ → Bool
 is_inside code (pos slot) = nat_lt slot (slot_count code)
 is_inside code (negsuc n) = false
@@ -29,6 +33,7 @@ abbrev pub IsPlaced : List ℕ → ℤ → Option ℕ → Type 0
 IsPlaced code pc (Some slot) = (pc ≡ pos slot) × (slot < slot_count code)
 IsPlaced code pc None = is_inside code pc ≡ false
 
+-- the line for a `pc` outside the code
 unfoldable pub outside_line : ℤ → List ℕ
 outside_line pc = signed_decimal pc ++ codes " outside\n"
 
@@ -37,5 +42,6 @@ abbrev pub listing_at : List ℕ → ℤ → List ℕ
 listing_at code (pos slot) = if is_inside code (pos slot) then listing_lines 8 code slot else outside_line (pos slot)
 listing_at code (negsuc n) = outside_line (negsuc n)
 
+-- the lines that a session lists in a state
 abbrev pub listing_text : State → List ℕ
 listing_text s = listing_at s.image.code s.pc

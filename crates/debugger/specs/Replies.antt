@@ -7,6 +7,7 @@ use Rattle.bpf_machine.specs.Trace.{state_after}
 use Rattle.debugger.specs.declared.reply.Reply.{Reply}
 use Rattle.debugger.specs.declared.reply.Reply.TheVariants.{Fixed, Text, Lines, Value}
 
+-- the bytes that a reply writes
 abbrev pub reply_text : Reply → List ℕ
 reply_text (Fixed text) = text.now
 reply_text (Text text) = text

@@ -14,6 +14,7 @@ cut_byte p b = if nat_eq b 10 then (p.0 ++ p.1 ∷ [], []) else (p.0, p.1 ++ b �
 unfoldable pub cut : List ℕ → List (List ℕ) × List ℕ
 cut input = fold cut_byte ([], []) input
 
+-- the lines, and behind them what stands after the last line feed, where something does
 abbrev pub with_rest : List (List ℕ) → List ℕ → List (List ℕ)
 with_rest lines [] = lines
 with_rest lines (b ∷ bs) = lines ++ (b ∷ bs) ∷ []
@@ -35,9 +36,11 @@ pub record Talk : Type 0 where
   pub world : World
   pub text : List ℕ
 
+-- a session before its first line: at step 0, without breakpoints
 abbrev pub first_talk : Talk
 first_talk = record { world = world_at [] 0 false; text = [] }
 
+-- the answer to one more line, behind the text so far
 abbrev pub with_answer : State → Talk → Line → Talk
 with_answer s t l = record {
   world = (answer_to s t.world l).next;
@@ -52,6 +55,7 @@ hear s t l = if t.world.ended then t else with_answer s t l
 abbrev pub talk_of : State → List Line → Talk
 talk_of s lines = fold (hear s) first_talk lines
 
+-- a line at which memory is not refused
 abbrev pub granted : List ℕ → Line
 granted line = (line, false)
 

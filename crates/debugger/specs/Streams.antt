@@ -6,6 +6,7 @@ pub record Stream : Type 0 where
   pub bytes : Option (List ℕ)
   pub failed : ℕ
 
+-- a reader or a writer with these bytes and so many failed calls
 abbrev pub stream : Option (List ℕ) → ℕ → Stream
 stream bytes failed = record { bytes = bytes; failed = failed }
 
@@ -13,7 +14,8 @@ stream bytes failed = record { bytes = bytes; failed = failed }
 abbrev pub one_more : ℕ → ℕ
 one_more failures = (failures + 1) % 2 ^ 64
 
--- a read puts the first n bytes that are left into the front of the buffer; it gives none only where none are left or the buffer has no room
+-- a read puts the first n bytes that are left into the front of the buffer; it gives none only where none are left or
+-- the buffer has no room
 pub record GivesBytes (left : List ℕ) (after : Option (List ℕ)) (room n : ℕ) (buffer : List ℕ) : Type 0 where
   pub within : n ≤ length left
   pub rest : after ≡ Some (drop n left)

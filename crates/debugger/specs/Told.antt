@@ -1,5 +1,6 @@
 -- What a session has read and written.
-use Rattle.std.specs.Prelude.{◌≡◌, ℕ, ◌<◌, ◌≤◌, ◌⊎◌, Bool, true, false, List, [], ◌∷◌, ◌++◌, length, take, drop, map, Option, Some, Result, Ok, Err, OnOk}
+use Rattle.std.specs.Prelude.{◌≡◌, ℕ, ◌<◌, ◌≤◌, ◌⊎◌, Bool, true, false, List, [], ◌∷◌, ◌++◌, length, take, drop, map, Option, Some, Result}
+use Rattle.std.specs.Prelude.{Ok, Err, OnOk}
 use Rattle.bpf_machine.specs.State.{State}
 use Rattle.debugger.specs.Streams.{AddsBytes, Stream, one_more}
 use Rattle.debugger.specs.Answers.{Line, World, world_at, answer_to}
@@ -78,9 +79,11 @@ FailsByResult reads reads_after writes writes_after (Err Memory) = (reads_after 
 
 -- what a session in the run from s does to a reader and a writer, by its result
 pub record IsSession (s : State) (r r_after w w_after : Stream) (result : Result (Unit {0}) SessionError) : Type 0 where
-  pub told : (input before : List ℕ) → r.bytes ≡ Some input → w.bytes ≡ Some before → ByResult s input before r_after.bytes w_after.bytes result
+  pub told : (input before : List ℕ) → r.bytes ≡ Some input → w.bytes ≡ Some before
+      → ByResult s input before r_after.bytes w_after.bytes result
   -- where no line that it wrote is `? memory`, it wrote the session's text
-  pub text : (input before written : List ℕ) → r.bytes ≡ Some input → w.bytes ≡ Some before → w_after.bytes ≡ Some (before ++ written) → says_memory written ≡ false → OnOk result (written ≡ session_text s input)
+  pub text : (input before written : List ℕ) → r.bytes ≡ Some input → w.bytes ≡ Some before → w_after.bytes ≡ Some (before ++ written)
+      → says_memory written ≡ false → OnOk result (written ≡ session_text s input)
   pub fails : FailsByResult r.failed r_after.failed w.failed w_after.failed result
 
 -- a line's answer in a world, and the world after it: where memory was refused is told by a mark
@@ -104,8 +107,10 @@ pub record HeardPart (s : State) (w : World) (line : List ℕ) (written new : Op
   pub is_cut : many < length text
   pub line_written : AddsBytes written new (take many text)
 
--- so many bytes were read, and the lines that ended among them were answered, of which none ends a session; the line after them is kept up to its 65th byte, and the world has these breakpoints and this step
-pub record Going (s : State) (input before : List ℕ) (read : ℕ) (left written : Option (List ℕ)) (line slots : List ℕ) (k : ℕ) : Type 0 where
+-- so many bytes were read, and the lines that ended among them were answered, of which none ends a session; the line
+-- after them is kept up to its 65th byte, and the world has these breakpoints and this step
+pub record Going (s : State) (input before : List ℕ) (read : ℕ) (left written : Option (List ℕ))
+    (line slots : List ℕ) (k : ℕ) : Type 0 where
   pub talk : Talk
   pub lines : Heard s (cut (take read input)).0 talk
   pub goes_on : (n : ℕ) → n ≤ read → has_quit (cut (take n input)).0 ≡ false

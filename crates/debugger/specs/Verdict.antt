@@ -28,6 +28,7 @@ word_lines name m from (suc i) = word_lines name m from i ++ word_line name i (v
 abbrev pub message_lines : ℕ → Memory → List ℕ
 message_lines version m = if nat_eq version 2 then word_lines (codes "message") m 528 64 else []
 
+-- the lines of a verdict: outcome and denials, the validations, and the messages
 unfoldable pub verdict_lines : ℕ → Memory → List ℕ
 verdict_lines version m = verdict_line m ++ (word_lines (codes "validation") m 16 64 ++ message_lines version m)
 

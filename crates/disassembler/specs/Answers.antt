@@ -1,4 +1,5 @@
-use Rattle.std.specs.Prelude.{◌≡◌, ℕ, ◌*◌, ◌/◌, ◌%◌, List, length, drop, Option, Some, None, Result, Ok, Err, String, string_bytes, if◌then◌else◌, ◌==◌, nat_lt, not}
+use Rattle.std.specs.Prelude.{◌≡◌, ℕ, ◌*◌, ◌/◌, ◌%◌, List, length, drop, Option, Some, None, Result, Ok, Err, String, string_bytes}
+use Rattle.std.specs.Prelude.{if◌then◌else◌, ◌==◌, nat_lt, not}
 use Rattle.std.specs.Global.{Global}
 use Rattle.disassembler.specs.declared.dis_error.DisError.{DisError}
 use Rattle.disassembler.specs.declared.dis_error.DisError.TheVariants.{D1, D2, Memory}

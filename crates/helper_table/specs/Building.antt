@@ -17,9 +17,11 @@ sequence _ = Plain 0 0
 unfoldable pub join_row : ValueOrError → ValueOrError → Outcome
 join_row a b = sequence (joined (Some a) (Some b))
 
+-- an empty list
 unfoldable pub list_new_row : Outcome
 list_new_row = Named (list no_items) 0
 
+-- an empty map
 unfoldable pub map_new_row : Outcome
 map_new_row = Named (map no_entries) 0
 
@@ -51,5 +53,6 @@ is_key None key = false
 abbrev pub entered : Option ValueOrError → Option ValueOrError → Option ValueOrError → Option Value
 entered m k x = if is_key (entries_at m) (text_at k) then None else put_in m k x
 
+-- a map with one more entry, its key a text that the map does not have
 unfoldable pub put_row : ValueOrError → ValueOrError → ValueOrError → Outcome
 put_row m k x = grown (entered (Some m) (Some k) (Some x))

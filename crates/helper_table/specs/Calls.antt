@@ -14,35 +14,41 @@ use Rattle.helper_table.specs.Outcome.{Outcome, Refused, HelperAnswer, answer_am
 use Rattle.helper_table.specs.declared.helper.Helper.{Helper}
 use Rattle.helper_table.specs.declared.helper.Helper.TheVariants as helper
 
--- the arguments are the words of the registers R1 to R5
+-- the first argument of a call: the word of the register R1; the arguments are those of R1 to R5
 abbrev pub r1 : List ℕ → ℕ
 r1 args = slice_index args 0
 
+-- the second argument
 abbrev pub r2 : List ℕ → ℕ
 r2 args = slice_index args 1
 
+-- the third argument
 abbrev pub r3 : List ℕ → ℕ
 r3 args = slice_index args 2
 
+-- a row on an operand; where a reference is none, that is the fault
 abbrev pub on_operand : Option ValueOrError → (ValueOrError → Outcome) → Outcome
 on_operand (Some x) row = row x
 on_operand None row = Refused F6
 
--- a reference is a place in the list of values
+-- a row on what stands at a reference: a place in the list of values, the first being 0
 abbrev pub on_value : List ValueOrError → ℕ → (ValueOrError → Outcome) → Outcome
 on_value vs h row = on_operand (slice_get vs h) row
 
+-- a row on what stands at two references, of which the first is tested first
 abbrev pub on_values : List ValueOrError → ℕ → ℕ → (ValueOrError → ValueOrError → Outcome) → Outcome
 on_values vs a b row = on_value vs a (λ x. on_value vs b (row x))
 
--- the bytes of a range of constants, if none lies outside
+-- the n bytes of the constants from an address on, if none lies outside
 abbrev pub bytes_at : List ℕ → ℕ → ℕ → Option (List ℕ)
 bytes_at constants address n = constants_of (start_memory constants) address n
 
+-- a row on bytes; where some lie outside, that is the fault
 abbrev pub on_lent : Option (List ℕ) → (List ℕ → Outcome) → Outcome
 on_lent (Some bytes) row = row bytes
 on_lent None row = Refused F3
 
+-- a row on the n bytes of the constants from an address on
 abbrev pub on_range : List ℕ → ℕ → ℕ → (List ℕ → Outcome) → Outcome
 on_range constants address n row = on_lent (bytes_at constants address n) row
 
@@ -72,6 +78,7 @@ row_of helper.Count args vs constants = on_value vs (r1 args) count_row
 row_of helper.TextOfInt args vs constants = on_value vs (r1 args) text_of_int_row
 row_of helper.Not args vs constants = on_value vs (r1 args) not_row
 
+-- a helper's row; where no helper has the number, that is the fault
 abbrev pub row_numbered : Option Helper → List ℕ → List ValueOrError → List ℕ → Outcome
 row_numbered (Some h) args vs constants = row_of h args vs constants
 row_numbered None args vs constants = Refused F5

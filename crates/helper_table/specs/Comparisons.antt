@@ -25,12 +25,15 @@ on_texts test (Some s) (Some t) = Some (test s t)
 on_texts test (Some s) None = None
 on_texts test None t = None
 
+-- whether a test holds of two texts; the error where one is none
 abbrev pub text_row : (List ℕ → List ℕ → Bool) → ValueOrError → ValueOrError → Outcome
 text_row test a b = truth (on_texts test (text_part (seen a)) (text_part (seen b)))
 
+-- whether the first of two texts starts with the second
 unfoldable pub starts_row : ValueOrError → ValueOrError → Outcome
 starts_row = text_row (starts_with nat_eq)
 
+-- whether the first of two texts ends with the second
 unfoldable pub ends_row : ValueOrError → ValueOrError → Outcome
 ends_row = text_row (ends_with nat_eq)
 
@@ -39,5 +42,6 @@ abbrev pub contains : List ℕ → List ℕ → Bool
 contains [] part = starts_with nat_eq [] part
 contains (b ∷ bs) part = starts_with nat_eq (b ∷ bs) part || contains bs part
 
+-- whether the first of two texts contains the second
 unfoldable pub contains_row : ValueOrError → ValueOrError → Outcome
 contains_row = text_row contains

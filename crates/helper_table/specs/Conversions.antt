@@ -8,6 +8,7 @@ use Rattle.value_store.specs.Value.{int, text, ValueOrError}
 use Rattle.helper_table.specs.Operands.{int_part, truth_part}
 use Rattle.helper_table.specs.Outcome.{Outcome, Plain, Named, truth}
 
+-- the number of a kind
 abbrev pub kind_number : Seen → ℕ
 kind_number sees_error = 0
 kind_number sees_null = 1
@@ -17,9 +18,11 @@ kind_number (sees_text s) = 4
 kind_number (sees_list n) = 5
 kind_number (sees_map n) = 6
 
+-- the kind of what stands at a reference, by its number
 unfoldable pub kind_row : ValueOrError → Outcome
 kind_row x = Plain (kind_number (seen x)) 0
 
+-- an int as a word, a negative one modulo 2 ^ 64; 0 where there is none
 abbrev pub int_word : Option ℤ → ℕ
 int_word (Some z) = cast_unsigned w64 z
 int_word None = 0
@@ -36,6 +39,7 @@ int_new_row word = Named (int (cast_signed w64 word)) 0
 unfoldable pub text_const_row : List ℕ → Outcome
 text_const_row bytes = if is_utf8 bytes then Named (text bytes) (length bytes) else Plain 0 0
 
+-- an int's decimal text, each byte charged; the error where there is no int
 abbrev pub decimal_of : Option ℤ → Outcome
 decimal_of (Some z) = Named (text (signed_decimal z)) (length (signed_decimal z))
 decimal_of None = Plain 0 0
@@ -44,5 +48,6 @@ decimal_of None = Plain 0 0
 unfoldable pub text_of_int_row : ValueOrError → Outcome
 text_of_int_row x = decimal_of (int_part (seen x))
 
+-- the opposite of a truth
 unfoldable pub not_row : ValueOrError → Outcome
 not_row x = truth (option_map not (truth_part (seen x)))

@@ -21,12 +21,14 @@ pub record Extends (old new : List ValueOrError) : Type 0 where
 abbrev pub PlacedIsNamed : Type 0
 PlacedIsNamed = (old : Contents) (v : Value) → IsStore old → Names (placed old.values v) (place old.values v) (value v)
 
+-- placing a value keeps what references name
 abbrev pub PlacedExtends : Type 0
 PlacedExtends = (vs : List ValueOrError) (v : Value) → Extends vs (placed vs v)
 
 -- a row that names a value answers its reference
 abbrev pub RowPlaces : Type 0
-RowPlaces = (id : ℤ) (args : List ℕ) (vs : List ValueOrError) (constants : List ℕ) (v : Value) (added : ℕ) → outcome_of id args vs constants ≡ Named v added → helper_row id args vs constants ≡ Gives (place vs v) (placed vs v) (1 + added)
+RowPlaces = (id : ℤ) (args : List ℕ) (vs : List ValueOrError) (constants : List ℕ) (v : Value) (added : ℕ)
+    → outcome_of id args vs constants ≡ Named v added → helper_row id args vs constants ≡ Gives (place vs v) (placed vs v) (1 + added)
 
 -- what a call leaves is a store again, with the old values and at least 1 more charged
 pub record Follows (old new : Contents) : Type 0 where
@@ -34,8 +36,10 @@ pub record Follows (old new : Contents) : Type 0 where
   pub paid : old.charge + 1 ≤ new.charge
   pub store : IsStore old → IsStore new
 
+-- so it is with what each call leaves that is not stopped
 abbrev pub CallsFollow : Type 0
-CallsFollow = (id : ℤ) (args : List ℕ) (old new : Contents) (constants : List ℕ) (word : ℕ) → call_end id args old constants ≡ Leaves word new → Follows old new
+CallsFollow = (id : ℤ) (args : List ℕ) (old new : Contents) (constants : List ℕ) (word : ℕ)
+    → call_end id args old constants ≡ Leaves word new → Follows old new
 
 -- the helpers that may place a value
 abbrev pub may_place : Helper → Bool
@@ -53,5 +57,7 @@ may_place helper.Item = true
 may_place helper.TextOfInt = true
 may_place _ = false
 
+-- the other helpers' rows name no value
 abbrev pub OthersPlaceNothing : Type 0
-OthersPlaceNothing = (h : Helper) (args : List ℕ) (vs : List ValueOrError) (constants : List ℕ) → may_place h ≡ false → is_named (row_of h args vs constants) ≡ false
+OthersPlaceNothing = (h : Helper) (args : List ℕ) (vs : List ValueOrError) (constants : List ℕ) → may_place h ≡ false
+    → is_named (row_of h args vs constants) ≡ false

@@ -12,6 +12,7 @@ use Rattle.helper_table.specs.Outcome.{Outcome, Plain, found, truth}
 abbrev pub value_under : Option ValueOrError → List ℕ → Option Value
 value_under m key = option_and_then (find key) (entries_at m)
 
+-- a map's value at a key; the error where it has none, or is no map
 unfoldable pub field_row : ValueOrError → List ℕ → Outcome
 field_row m key = found (value_under (Some m) key)
 
@@ -19,6 +20,7 @@ field_row m key = found (value_under (Some m) key)
 abbrev pub has_under : Option ValueOrError → List ℕ → Outcome
 has_under m key = truth (option_map (has_key key) (entries_at m))
 
+-- whether a map has a key
 unfoldable pub has_row : ValueOrError → List ℕ → Outcome
 has_row m key = has_under (Some m) key
 
@@ -28,6 +30,7 @@ part_by (sees_list n) k x = option_and_then (part_at x) (place_part k)
 part_by (sees_map n) k x = option_and_then (value_under x) (text_part k)
 part_by _ k x = None
 
+-- a list's item at an int, the first being 0, or a map's value at a text; the error where there is none
 unfoldable pub index_row : ValueOrError → ValueOrError → Outcome
 index_row x k = found (part_by (seen x) (seen k) (Some x))
 
@@ -38,9 +41,11 @@ size_part (sees_list n) = Some n
 size_part (sees_map n) = Some n
 size_part _ = None
 
+-- a size as an int; the error where there is none
 abbrev pub size_found : Option ℕ → Outcome
 size_found n = found (option_map (λ size. int (pos size)) n)
 
+-- how many code points a text has, items a list, or entries a map
 unfoldable pub size_row : ValueOrError → Outcome
 size_row x = size_found (size_part (seen x))
 
@@ -50,6 +55,7 @@ item_or_key (sees_list n) i x = part_at x i
 item_or_key (sees_map n) i x = key_at x i
 item_or_key _ i x = None
 
+-- a list's i-th item, a map's i-th key in byte order, counted from 0; the error where there is none
 unfoldable pub item_row : ValueOrError → ℕ → Outcome
 item_row x i = found (item_or_key (seen x) i (Some x))
 
@@ -58,5 +64,6 @@ abbrev pub count_word : Option ℕ → ℕ
 count_word (Some n) = n
 count_word None = 0xffff_ffff_ffff_ffff
 
+-- how many items a list has, or entries a map
 unfoldable pub count_row : ValueOrError → Outcome
 count_row x = Plain (count_word (count_part (seen x))) 0

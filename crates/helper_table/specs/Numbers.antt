@@ -2,11 +2,17 @@
 use Rattle.std.specs.Prelude.{ℕ, zero, suc, ℤ, List, [], ◌∷◌, Option, None, option_and_then, slice_get}
 use Rattle.helper_table.specs.Operands.{place_of}
 use Rattle.helper_table.specs.declared.helper.Helper.{Helper}
-use Rattle.helper_table.specs.declared.helper.Helper.TheVariants.{Kind, IntOf, IntNew, TextConst, Field, Has, Index, Size, Equal, Less, Join, Starts, Ends, Contains, Member, ListNew, Push, MapNew, Put, Item, Count, TextOfInt, Not}
+use Rattle.helper_table.specs.declared.helper.Helper.TheVariants.{Kind, IntOf, IntNew, TextConst, Field, Has, Index, Size, Equal, Less}
+use Rattle.helper_table.specs.declared.helper.Helper.TheVariants.{Join, Starts, Ends, Contains, Member, ListNew, Push, MapNew, Put, Item}
+use Rattle.helper_table.specs.declared.helper.Helper.TheVariants.{Count, TextOfInt, Not}
 
+-- all helpers
 abbrev pub helpers : List Helper
-helpers = Kind ∷ IntOf ∷ IntNew ∷ TextConst ∷ Field ∷ Has ∷ Index ∷ Size ∷ Equal ∷ Less ∷ Join ∷ Starts ∷ Ends ∷ Contains ∷ Member ∷ ListNew ∷ Push ∷ MapNew ∷ Put ∷ Item ∷ Count ∷ TextOfInt ∷ Not ∷ []
+helpers =
+    Kind ∷ IntOf ∷ IntNew ∷ TextConst ∷ Field ∷ Has ∷ Index ∷ Size ∷ Equal ∷ Less ∷ Join ∷ Starts ∷ Ends ∷ Contains ∷ Member ∷ ListNew
+    ∷ Push ∷ MapNew ∷ Put ∷ Item ∷ Count ∷ TextOfInt ∷ Not ∷ []
 
+-- the helper with a number; 0 is none
 abbrev pub numbered : ℕ → Option Helper
 numbered zero = None
 numbered (suc place) = slice_get helpers place

@@ -3,10 +3,12 @@
 use Rattle.std.specs.Prelude.{ℕ, ℤ, pos, negsuc, Bool, List, Option, Some, None}
 use Rattle.value_store.specs.Seen.{Seen, sees_bool, sees_int, sees_text, sees_list, sees_map}
 
+-- the truth, where it is one
 abbrev pub truth_part : Seen → Option Bool
 truth_part (sees_bool b) = Some b
 truth_part _ = None
 
+-- the int, where it is one
 abbrev pub int_part : Seen → Option ℤ
 int_part (sees_int z) = Some z
 int_part _ = None
@@ -22,10 +24,12 @@ abbrev pub place_of : ℤ → Option ℕ
 place_of (pos i) = Some i
 place_of (negsuc i) = None
 
+-- the place that an int names
 abbrev pub place_part : Seen → Option ℕ
 place_part (sees_int z) = place_of z
 place_part _ = None
 
+-- the bytes, where it is a text
 abbrev pub text_part : Seen → Option (List ℕ)
 text_part (sees_text s) = Some s
 text_part _ = None

@@ -18,6 +18,7 @@ truth_word (Some false) = 2
 truth_word (Some true) = 3
 truth_word None = 0
 
+-- a truth, or the error, with nothing added to the charge
 abbrev pub truth : Option Bool → Outcome
 truth b = Plain (truth_word b) 0
 
@@ -26,6 +27,7 @@ abbrev pub named : Option Value → ℕ → Outcome
 named (Some v) added = Named v added
 named None added = Plain 0 added
 
+-- a value that was looked up, or the error, with nothing added to the charge
 abbrev pub found : Option Value → Outcome
 found v = named v 0
 
@@ -34,6 +36,7 @@ pub data HelperAnswer : Type 0 where
   Gives : (word : ℕ) (values : List ValueOrError) (cost : ℕ) → HelperAnswer
   Stops : fault.Fault → HelperAnswer
 
+-- the answer of a row among the values of a store, at a cost of 1 and what it adds; a named value is placed there
 abbrev pub answer_among : List ValueOrError → Outcome → HelperAnswer
 answer_among vs (Plain word added) = Gives word vs (1 + added)
 answer_among vs (Named v added) = Gives (place vs v) (placed vs v) (1 + added)
@@ -46,7 +49,9 @@ pub data CallEnd : Type 0 where
 
 -- the cost is charged, within the limit
 abbrev pub charged : HelperAnswer → ℕ → CallEnd
-charged (Gives word vs cost) charge = if nat_le (charge + cost) charge_limit then Leaves word (record { values = vs; charge = charge + cost }) else Halts F8
+charged (Gives word vs cost) charge =
+    if nat_le (charge + cost) charge_limit then Leaves word (record { values = vs; charge = charge + cost })
+    else Halts F8
 charged (Stops f) charge = Halts f
 
 -- the row asks for a value that is placed
@@ -61,6 +66,7 @@ needs_room (Named v added) = is_appended v
 needs_room (Plain word added) = false
 needs_room (Refused f) = false
 
+-- the call was not stopped
 abbrev pub is_left : CallEnd → Bool
 is_left (Leaves word contents) = true
 is_left (Halts f) = false

@@ -37,6 +37,7 @@ abbrev pub outcome_by : List ValueOrError → Action → ℕ → Outcome
 outcome_by vs (action.Word w) added = Plain w added
 outcome_by vs a added = named (value_by vs a) added
 
+-- what a row says where it is planned so, or is the fault
 abbrev pub means : List ValueOrError → Result Plan Fault → Outcome
 means vs (Ok plan) = outcome_by vs plan.action plan.added
 means vs (Err f) = Refused f
@@ -46,6 +47,7 @@ abbrev pub CanDo : List ValueOrError → Action → Type 0
 CanDo vs (action.Word w) = Unit {0}
 CanDo vs a = IsSome (value_by vs a)
 
+-- what a plan places is there
 abbrev pub CanFollow : List ValueOrError → Result Plan Fault → Type 0
 CanFollow vs (Ok plan) = CanDo vs plan.action
 CanFollow vs (Err f) = Unit {0}

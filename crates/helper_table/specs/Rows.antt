@@ -53,6 +53,7 @@ base = 0x4_0000_0000
 abbrev pub says : ℕ → List ℕ → Outcome
 says number args = outcome_of (pos number) args values constants
 
+-- what the helpers say that ask for a kind, or turn words, texts and truths into others
 pub record ConversionRows : Type 0 where
   -- 1, kind
   pub kind_error : says 1 (0 ∷ []) ≡ Plain 0 0
@@ -83,6 +84,7 @@ pub record ConversionRows : Type 0 where
   pub not_true : says 23 (3 ∷ []) ≡ Plain 2 0
   pub not_null : says 23 (1 ∷ []) ≡ Plain 0 0
 
+-- what the helpers say that look something up
 pub record LookupRows : Type 0 where
   -- 5, field
   pub field_there : says 5 (7 ∷ base ∷ 1 ∷ []) ≡ Named (int (pos 9)) 0
@@ -120,6 +122,7 @@ pub record LookupRows : Type 0 where
   pub count_map : says 21 (7 ∷ []) ≡ Plain 2 0
   pub count_text : says 21 (5 ∷ []) ≡ Plain 0xffff_ffff_ffff_ffff 0
 
+-- what the helpers say that compare
 pub record ComparisonRows : Type 0 where
   -- 9, equal
   pub equal_same : says 9 (6 ∷ 6 ∷ []) ≡ Plain 3 0
@@ -157,6 +160,7 @@ pub record ComparisonRows : Type 0 where
   pub member_int_key : says 15 (4 ∷ 7 ∷ []) ≡ Plain 0 0
   pub member_of_text : says 15 (10 ∷ 5 ∷ []) ≡ Plain 0 0
 
+-- what the helpers say that make texts, lists and maps
 pub record BuildingRows : Type 0 where
   -- 11, join
   pub join_texts : says 11 (10 ∷ 9 ∷ []) ≡ Named (text (codes "ak")) 2
@@ -173,13 +177,15 @@ pub record BuildingRows : Type 0 where
   pub push_deepest : says 17 (13 ∷ 14 ∷ []) ≡ Named (nested 254) 1
   pub push_too_deep : says 17 (13 ∷ 15 ∷ []) ≡ Refused F8
   -- 19, put
-  pub put_first : says 19 (7 ∷ 10 ∷ 4 ∷ []) ≡ Named (map (entry (codes "a") (int (pos 5)) (entry (codes "k") (int (pos 9)) (entry (codes "t") (boolean true) no_entries)))) 1
+  pub put_first : says 19 (7 ∷ 10 ∷ 4 ∷ [])
+      ≡ Named (map (entry (codes "a") (int (pos 5)) (entry (codes "k") (int (pos 9)) (entry (codes "t") (boolean true) no_entries)))) 1
   pub put_twice : says 19 (7 ∷ 9 ∷ 4 ∷ []) ≡ Plain 0 1
   pub put_int_key : says 19 (7 ∷ 4 ∷ 4 ∷ []) ≡ Plain 0 1
   pub put_error : says 19 (7 ∷ 10 ∷ 0 ∷ []) ≡ Plain 0 1
   pub put_in_list : says 19 (6 ∷ 10 ∷ 4 ∷ []) ≡ Plain 0 1
   pub put_too_deep : says 19 (7 ∷ 10 ∷ 15 ∷ []) ≡ Refused F8
 
+-- what calls are charged, and which are stopped
 pub record CallRows : Type 0 where
   pub number_zero : says 0 [] ≡ Refused F5
   pub number_24 : says 24 (99 ∷ []) ≡ Refused F5
@@ -197,6 +203,7 @@ pub record CallRows : Type 0 where
   pub charge_reached : charged (Gives 7 [] 1) 16777215 ≡ Leaves 7 (record { values = []; charge = 16777216 })
   pub charge_passed : charged (Gives 7 [] 2) 16777215 ≡ Halts F8
 
+-- the rows of each kind stand
 pub record RowsStand : Type 0 where
   pub conversions : ConversionRows
   pub lookups : LookupRows

@@ -2,12 +2,13 @@
 use Rattle.std.specs.Prelude.{◌≡◌, ℕ, ℤ, ◌+◌, ◌^◌, ◌<◌, ◌≤◌, All, FitsSigned, List, length}
 use Rattle.std.specs.Int.{w64}
 use Rattle.value_store.specs.Placing.{Contents, IsStore}
-use Rattle.value_store.specs.Value.{Value, null, boolean, int, text, list, map, Items, no_items, item, Entries, no_entries, entry, ValueOrError, error, value, list_of, keys_of}
+use Rattle.value_store.specs.Value.{Value, null, boolean, int, text, list, map, Items, no_items, item, Entries, no_entries, entry}
+use Rattle.value_store.specs.Value.{ValueOrError, error, value, list_of, keys_of}
 use Rattle.helper_table.specs.Calls.{call_end}
 use Rattle.helper_table.specs.Outcome.{Leaves}
 
--- no text, key, list or map in a value is longer than n, and its ints are of 64 bits signed
 abbrev mutual
+  -- no text, key, list or map in a value is longer than n bytes, items or entries, and its ints are of 64 bits signed
   pub IsBounded : ℕ → Value → Type 0
   IsBounded n null = Unit {0}
   IsBounded n (boolean b) = Unit {0}
@@ -16,19 +17,23 @@ abbrev mutual
   IsBounded n (list is) = (length (list_of is) ≤ n) × AreItemsBounded n is
   IsBounded n (map es) = (length (keys_of es) ≤ n) × AreEntriesBounded n es
 
+  -- so it is in each of the items
   pub AreItemsBounded : ℕ → Items → Type 0
   AreItemsBounded n no_items = Unit {0}
   AreItemsBounded n (item v is) = IsBounded n v × AreItemsBounded n is
 
+  -- and in each key and value of the entries
   pub AreEntriesBounded : ℕ → Entries → Type 0
   AreEntriesBounded n no_entries = Unit {0}
   AreEntriesBounded n (entry k v es) = (length k ≤ n) × IsBounded n v × AreEntriesBounded n es
 
+-- so it is in a value; the error has no parts
 abbrev pub IsResultBounded : ℕ → ValueOrError → Type 0
 IsResultBounded n error = Unit {0}
 IsResultBounded n (value v) = IsBounded n v
 
--- a store that has no more values than the first nine and one for each unit of its charge, and none with a part that is longer than its charge
+-- a store that has no more values than the first nine and one for each unit of its charge, and none with a part that is
+-- longer than its charge
 pub record IsTable (contents : Contents) : Type 0 where
   pub store : IsStore contents
   pub few : length contents.values ≤ 9 + contents.charge
@@ -36,4 +41,5 @@ pub record IsTable (contents : Contents) : Type 0 where
 
 -- among the values of a table a call that is not stopped answers a word, and leaves a table
 abbrev pub TablesAreKept : Type 0
-TablesAreKept = (id : ℤ) (args : List ℕ) (old new : Contents) (constants : List ℕ) (word : ℕ) → All (λ w. w < 2 ^ 64) args → IsTable old → call_end id args old constants ≡ Leaves word new → (word < 2 ^ 64) × IsTable new
+TablesAreKept = (id : ℤ) (args : List ℕ) (old new : Contents) (constants : List ℕ) (word : ℕ) → All (λ w. w < 2 ^ 64) args → IsTable old
+    → call_end id args old constants ≡ Leaves word new → (word < 2 ^ 64) × IsTable new

@@ -1,5 +1,6 @@
 -- Places of a run at which it is to stop.
-use Rattle.std.specs.Prelude.{◌≡◌, ◌≢◌, ℕ, zero, suc, ◌+◌, ◌<◌, ◌≤◌, ◌⊎◌, Bool, true, false, not, ◌||◌, ℤ, pos, negsuc, List, nat_eq, if◌then◌else◌}
+use Rattle.std.specs.Prelude.{◌≡◌, ◌≢◌, ℕ, zero, suc, ◌+◌, ◌<◌, ◌≤◌, ◌⊎◌, Bool, true, false, not, ◌||◌, ℤ, pos, negsuc, List, nat_eq}
+use Rattle.std.specs.Prelude.{if◌then◌else◌}
 use Rattle.std.specs.List.{list_any}
 use Rattle.bpf_machine.specs.State.{State}
 use Rattle.bpf_machine.specs.Step.{is_running}
@@ -37,8 +38,12 @@ pub record IsLast (stops : List ℕ) (s : State) (k j : ℕ) : Type 0 where
   pub none_after : (i : ℕ) → j < i → i < k → is_at stops (state_after i s).pc ≡ false
   pub stops_there : j ≢ 0 → is_at stops (state_after j s).pc ≡ true
 
+-- the first stop that is computed is the least place
 abbrev pub FirstIsLeast : Type 0
-FirstIsLeast = (stops : List ℕ) (s : State) (k n j : ℕ) → 0 < n → (IsFirst stops s k n j → j ≡ first_stop stops s k n) × (j ≡ first_stop stops s k n → IsFirst stops s k n j)
+FirstIsLeast = (stops : List ℕ) (s : State) (k n j : ℕ) → 0 < n
+    → (IsFirst stops s k n j → j ≡ first_stop stops s k n) × (j ≡ first_stop stops s k n → IsFirst stops s k n j)
 
+-- the last stop that is computed is the greatest place
 abbrev pub LastIsGreatest : Type 0
-LastIsGreatest = (stops : List ℕ) (s : State) (k j : ℕ) → (IsLast stops s k j → j ≡ last_stop stops s k) × (j ≡ last_stop stops s k → IsLast stops s k j)
+LastIsGreatest = (stops : List ℕ) (s : State) (k j : ℕ)
+    → (IsLast stops s k j → j ≡ last_stop stops s k) × (j ≡ last_stop stops s k → IsLast stops s k j)

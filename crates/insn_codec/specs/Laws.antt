@@ -20,7 +20,8 @@ pub record SlotsAreFilled : Type 0 where
   pub by_insn : (i : Instruction) → FillsSlots (spelling i) (slot_count i)
   pub by_statement : (x : Statement) → FillsSlots (statement_bytes x) (statement_slots x)
 
--- the statement at the front of code stands there with its bytes, and where the code begins with an instruction's spelling it is that instruction
+-- the statement at the front of code stands there with its bytes, and where the code begins with an instruction's
+-- spelling it is that instruction
 pub record StandsFirst (code : List ℕ) : Type 0 where
   pub in_range : IsStatement (statement_of code)
   pub bytes : code ≡ statement_bytes (statement_of code) ++ after_statement code

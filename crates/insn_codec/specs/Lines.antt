@@ -3,7 +3,8 @@ use Rattle.std.specs.Prelude.{ℕ, zero, suc, ◌+◌, ◌/◌, ◌%◌, ℤ, po
 use Rattle.std.specs.Int.Digits.{digits_of}
 use Rattle.insn_codec.specs.Mnemonics.{mnemonic_text}
 use Rattle.insn_codec.specs.declared.insn.Insn.{Insn}
-use Rattle.insn_codec.specs.declared.insn.Insn.TheVariants.{Alu, Neg, SignExtend, ByteSwap, Jump, JumpLong, Branch, Call, CallLocal, Exit, Load, LoadSigned, StoreImm, Store, Atomic, LoadWide}
+use Rattle.insn_codec.specs.declared.insn.Insn.TheVariants.{Alu, Neg, SignExtend, ByteSwap, Jump, JumpLong, Branch, Call, CallLocal, Exit}
+use Rattle.insn_codec.specs.declared.insn.Insn.TheVariants.{Load, LoadSigned, StoreImm, Store, Atomic, LoadWide}
 use Rattle.insn_codec.specs.declared.operand.Operand.{Operand}
 use Rattle.insn_codec.specs.declared.operand.Operand.TheVariants.{Imm, Reg}
 use Rattle.insn_codec.specs.declared.register.Register.{Register}
@@ -11,6 +12,7 @@ use Rattle.insn_codec.specs.declared.register.Register.TheVariants as register
 use Rattle.insn_codec.specs.declared.mnemonic.Mnemonic.{Mnemonic}
 use Rattle.insn_codec.specs.declared.mnemonic.Mnemonic.TheVariants as mnemonic
 
+-- the name of a register: `r` and its number (RFC 9669, section 3)
 abbrev pub register_text : Register → List ℕ
 register_text register.R0 = codes "r0"
 register_text register.R1 = codes "r1"
@@ -28,12 +30,12 @@ register_text register.R10 = codes "r10"
 unfoldable pub decimal : ℕ → List ℕ
 decimal n = if nat_eq n 0 then codes "0" else map (λ d. 48 + d) (digits_of 10 n)
 
--- with `-` where it is negative
+-- a number in decimal digits, with `-` before them where it is negative
 abbrev pub signed_decimal : ℤ → List ℕ
 signed_decimal (pos n) = decimal n
 signed_decimal (negsuc n) = 45 ∷ decimal (suc n)
 
--- an immediate is a decimal number, with `-` where it is negative
+-- a second operand: the register's name, or the immediate in decimal digits, with `-` where it is negative
 abbrev pub operand_text : Operand → List ℕ
 operand_text (Imm n) = signed_decimal n
 operand_text (Reg r) = register_text r
@@ -56,11 +58,11 @@ hex_digits (suc count) n = hex_digits count (n / 16) ++ hex_digit (n % 16) ∷ [
 abbrev pub wide_text : ℕ → List ℕ
 wide_text n = codes "0x" ++ hex_digits 16 n
 
--- a place in memory: a register and an offset
+-- the address of an access, register + offset, the offset in bytes (RFC 9669, section 5.1)
 abbrev pub address_text : Register → ℤ → List ℕ
 address_text base offset = register_text base ++ offset_text offset
 
--- between square brackets
+-- the same between square brackets: what a load or a store goes to
 abbrev pub place_text : Register → ℤ → List ℕ
 place_text base offset = codes "[" ++ (address_text base offset ++ codes "]")
 
@@ -94,7 +96,7 @@ mnemonic_of (Store size dst offset src) = mnemonic.Store size
 mnemonic_of (Atomic op width dst offset src) = mnemonic.Atomic op width
 mnemonic_of (LoadWide dst value) = mnemonic.LoadWide
 
--- and its operands
+-- the operands of each instruction, in the order of its line
 abbrev pub operands_of : Insn → List (List ℕ)
 operands_of (Alu op width dst operand) = register_text dst ∷ operand_text operand ∷ []
 operands_of (Neg width dst) = register_text dst ∷ []

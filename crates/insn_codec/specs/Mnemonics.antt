@@ -21,10 +21,12 @@ use Rattle.insn_codec.specs.declared.width.Width.TheVariants.{W32, W64}
 use Rattle.insn_codec.specs.declared.mnemonic.Mnemonic.{Mnemonic}
 use Rattle.insn_codec.specs.declared.mnemonic.Mnemonic.TheVariants as mnemonic
 
+-- the width of arithmetic, of a comparison or of an atomic operation, in bits
 abbrev pub width_text : Width → List ℕ
 width_text W32 = codes "32"
 width_text W64 = codes "64"
 
+-- the names of the arithmetic operations in small letters (RFC 9669, section 4.1)
 abbrev pub alu_text : AluOp → List ℕ
 alu_text Add = codes "add"
 alu_text Sub = codes "sub"
@@ -41,6 +43,7 @@ alu_text Xor = codes "xor"
 alu_text Mov = codes "mov"
 alu_text Arsh = codes "arsh"
 
+-- the names of the atomic operations; an addition, or, and or xor that also fetches has `fetch_` before it (RFC 9669, section 5.3)
 abbrev pub atomic_text : AtomicOp → List ℕ
 atomic_text atomic.Add = codes "add"
 atomic_text atomic.Or = codes "or"
@@ -53,6 +56,7 @@ atomic_text atomic.FetchXor = codes "fetch_xor"
 atomic_text atomic.Exchange = codes "xchg"
 atomic_text atomic.CompareExchange = codes "cmpxchg"
 
+-- the names of the conditional jumps in small letters (RFC 9669, section 4.3)
 abbrev pub comparison_text : Comparison → List ℕ
 comparison_text Eq = codes "jeq"
 comparison_text Gt = codes "jgt"
@@ -66,17 +70,20 @@ comparison_text Le = codes "jle"
 comparison_text Slt = codes "jslt"
 comparison_text Sle = codes "jsle"
 
+-- the size of a load or a store: one byte, two, four or eight (RFC 9669, section 5)
 abbrev pub size_text : Size → List ℕ
 size_text size.B = codes "b"
 size_text size.H = codes "h"
 size_text size.W = codes "w"
 size_text size.Dw = codes "dw"
 
+-- the size of a sign-extending load: one byte, two or four (RFC 9669, section 5.2)
 abbrev pub signed_size_text : SignedSize → List ℕ
 signed_size_text signed.B = codes "b"
 signed_size_text signed.H = codes "h"
 signed_size_text signed.W = codes "w"
 
+-- how many bits a move with sign extension takes, and how many it fills (RFC 9669, section 4.1)
 abbrev pub extension_text : Extension → List ℕ
 extension_text From8To32 = codes "8to32"
 extension_text From16To32 = codes "16to32"
@@ -84,16 +91,19 @@ extension_text From8To64 = codes "8to64"
 extension_text From16To64 = codes "16to64"
 extension_text From32To64 = codes "32to64"
 
+-- what a byte swap converts to: little endian, big endian, or the reverse of what was there (RFC 9669, section 4.2)
 abbrev pub order_text : ByteOrder → List ℕ
 order_text Little = codes "le"
 order_text Big = codes "be"
 order_text Swap = codes "swap"
 
+-- how many bits a byte swap takes (RFC 9669, section 4.2)
 abbrev pub swap_text : SwapWidth → List ℕ
 swap_text swap.Bits16 = codes "16"
 swap_text swap.Bits32 = codes "32"
 swap_text swap.Bits64 = codes "64"
 
+-- a mnemonic: the operation, and behind it the width, the size or the bits where it has them; `.slot` is not the standard's
 abbrev pub mnemonic_text : Mnemonic → List ℕ
 mnemonic_text (mnemonic.Alu op width) = alu_text op ++ width_text width
 mnemonic_text (mnemonic.Neg width) = codes "neg" ++ width_text width

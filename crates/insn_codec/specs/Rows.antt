@@ -5,7 +5,8 @@ use Rattle.insn_codec.specs.declared.atomic_op.AtomicOp.TheVariants as atomic
 use Rattle.insn_codec.specs.declared.byte_order.ByteOrder.TheVariants.{Big}
 use Rattle.insn_codec.specs.declared.comparison.Comparison.TheVariants.{Slt}
 use Rattle.insn_codec.specs.declared.extension.Extension.TheVariants.{From8To32}
-use Rattle.insn_codec.specs.declared.insn.Insn.TheVariants.{Alu, Neg, SignExtend, ByteSwap, Jump, JumpLong, Branch, Call, CallLocal, Exit, Load, LoadSigned, StoreImm, Store, Atomic, LoadWide}
+use Rattle.insn_codec.specs.declared.insn.Insn.TheVariants.{Alu, Neg, SignExtend, ByteSwap, Jump, JumpLong, Branch, Call, CallLocal, Exit}
+use Rattle.insn_codec.specs.declared.insn.Insn.TheVariants.{Load, LoadSigned, StoreImm, Store, Atomic, LoadWide}
 use Rattle.insn_codec.specs.declared.operand.Operand.TheVariants.{Imm, Reg}
 use Rattle.insn_codec.specs.declared.register.Register.TheVariants.{R0, R1, R2, R3, R10}
 use Rattle.insn_codec.specs.declared.signed_size.SignedSize.TheVariants as signed
@@ -35,11 +36,17 @@ pub record RowsStand : Type 0 where
   pub store_immediate : spelled (0x72 ∷ 0x0a ∷ 0xff ∷ 0xff ∷ 0x07 ∷ 0x00 ∷ 0x00 ∷ 0x00 ∷ []) ≡ Some (StoreImm size.B R10 (negsuc 0) (pos 7))
   pub store : spelled (0x6b ∷ 0x21 ∷ 0x02 ∷ 0x00 ∷ 0x00 ∷ 0x00 ∷ 0x00 ∷ 0x00 ∷ []) ≡ Some (Store size.H R1 (pos 2) R2)
   pub atomic_add : spelled (0xdb ∷ 0x21 ∷ 0x00 ∷ 0x00 ∷ 0x00 ∷ 0x00 ∷ 0x00 ∷ 0x00 ∷ []) ≡ Some (Atomic atomic.Add W64 R1 (pos 0) R2)
-  pub atomic_fetch_add : spelled (0xdb ∷ 0x1a ∷ 0xf8 ∷ 0xff ∷ 0x01 ∷ 0x00 ∷ 0x00 ∷ 0x00 ∷ []) ≡ Some (Atomic atomic.FetchAdd W64 R10 (negsuc 7) R1)
-  pub atomic_compare_exchange : spelled (0xc3 ∷ 0x1a ∷ 0xf8 ∷ 0xff ∷ 0xf1 ∷ 0x00 ∷ 0x00 ∷ 0x00 ∷ []) ≡ Some (Atomic atomic.CompareExchange W32 R10 (negsuc 7) R1)
-  pub wide_load : spelled (0x18 ∷ 0x01 ∷ 0x00 ∷ 0x00 ∷ 0x88 ∷ 0x77 ∷ 0x66 ∷ 0x55 ∷ 0x00 ∷ 0x00 ∷ 0x00 ∷ 0x00 ∷ 0x44 ∷ 0x33 ∷ 0x22 ∷ 0x91 ∷ []) ≡ Some (LoadWide R1 0x9122334455667788)
+  pub atomic_fetch_add : spelled (0xdb ∷ 0x1a ∷ 0xf8 ∷ 0xff ∷ 0x01 ∷ 0x00 ∷ 0x00 ∷ 0x00 ∷ [])
+      ≡ Some (Atomic atomic.FetchAdd W64 R10 (negsuc 7) R1)
+  pub atomic_compare_exchange : spelled (0xc3 ∷ 0x1a ∷ 0xf8 ∷ 0xff ∷ 0xf1 ∷ 0x00 ∷ 0x00 ∷ 0x00 ∷ [])
+      ≡ Some (Atomic atomic.CompareExchange W32 R10 (negsuc 7) R1)
+  pub wide_load : spelled
+      (0x18 ∷ 0x01 ∷ 0x00 ∷ 0x00 ∷ 0x88 ∷ 0x77 ∷ 0x66 ∷ 0x55 ∷ 0x00 ∷ 0x00 ∷ 0x00 ∷ 0x00 ∷ 0x44 ∷ 0x33 ∷ 0x22 ∷ 0x91 ∷ [])
+      ≡ Some (LoadWide R1 0x9122334455667788)
   pub wide_load_cut : spelled (0x18 ∷ 0x01 ∷ 0x00 ∷ 0x00 ∷ 0x88 ∷ 0x77 ∷ 0x66 ∷ 0x55 ∷ []) ≡ None
-  pub wide_load_with_register : spelled (0x18 ∷ 0x01 ∷ 0x00 ∷ 0x00 ∷ 0x88 ∷ 0x77 ∷ 0x66 ∷ 0x55 ∷ 0x00 ∷ 0x01 ∷ 0x00 ∷ 0x00 ∷ 0x44 ∷ 0x33 ∷ 0x22 ∷ 0x91 ∷ []) ≡ None
+  pub wide_load_with_register : spelled
+      (0x18 ∷ 0x01 ∷ 0x00 ∷ 0x00 ∷ 0x88 ∷ 0x77 ∷ 0x66 ∷ 0x55 ∷ 0x00 ∷ 0x01 ∷ 0x00 ∷ 0x00 ∷ 0x44 ∷ 0x33 ∷ 0x22 ∷ 0x91 ∷ [])
+      ≡ None
   pub exit_with_register : spelled (0x95 ∷ 0x01 ∷ 0x00 ∷ 0x00 ∷ 0x00 ∷ 0x00 ∷ 0x00 ∷ 0x00 ∷ []) ≡ None
   pub no_such_register : spelled (0xb7 ∷ 0x0b ∷ 0x00 ∷ 0x00 ∷ 0x00 ∷ 0x00 ∷ 0x00 ∷ 0x00 ∷ []) ≡ None
   pub add_with_offset : spelled (0x0f ∷ 0x21 ∷ 0x01 ∷ 0x00 ∷ 0x00 ∷ 0x00 ∷ 0x00 ∷ 0x00 ∷ []) ≡ None

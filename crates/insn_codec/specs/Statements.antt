@@ -10,15 +10,17 @@ use Rattle.insn_codec.specs.declared.mnemonic.Mnemonic.TheVariants as mnemonic
 use Rattle.insn_codec.specs.declared.statement.Statement.{Statement}
 use Rattle.insn_codec.specs.declared.statement.Statement.TheVariants.{Insn, Slot}
 
--- a statement's line is that of the instruction, or `.slot` and the slot's bytes as 16 digits
+-- what the line of a statement begins with: its instruction's mnemonic, or `.slot`
 abbrev pub statement_mnemonic : Statement → Mnemonic
 statement_mnemonic (Insn i) = mnemonic_of i
 statement_mnemonic (Slot word) = mnemonic.Slot
 
+-- what follows it: the instruction's operands, or the slot's eight bytes as 16 hex digits, the first byte first
 abbrev pub statement_operands : Statement → List (List ℕ)
 statement_operands (Insn i) = operands_of i
 statement_operands (Slot word) = wide_text word ∷ []
 
+-- the line of a statement, without the line feed at its end
 abbrev pub statement_text : Statement → List ℕ
 statement_text x = line_with (statement_mnemonic x) (statement_operands x)
 
@@ -37,6 +39,7 @@ abbrev pub IsStatement : Statement → Type 0
 IsStatement (Insn i) = IsInsn i
 IsStatement (Slot word) = word < 2 ^ 64
 
+-- the instruction, where there is one, and else the first eight bytes of the code as a slot
 abbrev pub insn_or_slot : Option Instruction → List ℕ → Statement
 insn_or_slot (Some i) code = Insn i
 insn_or_slot None code = Slot (from_be_bytes w64 (take 8 code))
@@ -52,7 +55,8 @@ after_statement code = drop (8 * statement_slots (statement_of code)) code
 -- the statements of code, one at each place from its front on
 pub data Lists : List ℕ → List Statement → Type 0 where
   ended : Lists [] []
-  place : {byte : ℕ} {bytes : List ℕ} {later : List Statement} → Lists (after_statement (byte ∷ bytes)) later → Lists (byte ∷ bytes) (statement_of (byte ∷ bytes) ∷ later)
+  place : {byte : ℕ} {bytes : List ℕ} {later : List Statement} → Lists (after_statement (byte ∷ bytes)) later
+      → Lists (byte ∷ bytes) (statement_of (byte ∷ bytes) ∷ later)
 
 -- their lines, each ended by a line feed
 abbrev pub lines_text : List Statement → List ℕ

@@ -1,7 +1,8 @@
 -- The file of an image. It has the eight bytes CELBPF01 or, where the image has version 2, CELBPF02,
 -- the number of slots of the code, the number of bytes of the constants, the code at 8 bytes a slot,
 -- and the constants, with nothing after them. Each number has four bytes, the lowest first.
-use Rattle.std.specs.Prelude.{ℕ, ◌+◌, ◌*◌, ◌/◌, ◌%◌, Bool, not, ◌||◌, nat_eq, nat_lt, if◌then◌else◌, List, [], ◌∷◌, ◌++◌, length, take, drop, Result, Ok, Err, codes}
+use Rattle.std.specs.Prelude.{ℕ, ◌+◌, ◌*◌, ◌/◌, ◌%◌, Bool, not, ◌||◌, nat_eq, nat_lt, if◌then◌else◌, List, [], ◌∷◌, ◌++◌, length, take}
+use Rattle.std.specs.Prelude.{drop, Result, Ok, Err, codes}
 use Rattle.std.specs.Str.{bytes_eq}
 use Rattle.byteorder.specs.Endian.{little_number, little_bytes}
 use Rattle.loader.specs.Contents.{Contents, version_number}
@@ -20,6 +21,7 @@ file_of c =
     magic c.version
     ++ (little_bytes 4 (length c.code / 8) ++ (little_bytes 4 (length c.constants) ++ (c.code ++ c.constants)))
 
+-- whether a file begins as the files of a version do
 abbrev pub has_magic : Version → List ℕ → Bool
 has_magic version file = bytes_eq (take 8 file) (magic version)
 
@@ -45,18 +47,23 @@ is_too_long constants = nat_lt 1048576 constants
 
 -- the causes for which a file holds no image, in the order in which they count
 
+-- it has fewer than the 16 bytes before the code
 abbrev pub is_too_short : List ℕ → Bool
 is_too_short file = nat_lt (length file) 16
 
+-- it begins as no version's files do
 abbrev pub has_other_magic : List ℕ → Bool
 has_other_magic file = not (has_magic First file || has_magic Second file)
 
+-- no image has as many slots as it states
 abbrev pub has_bad_slots : List ℕ → Bool
 has_bad_slots file = is_bad_count (slots_in file)
 
+-- no image has as many bytes of constants as it states
 abbrev pub has_long_constants : List ℕ → Bool
 has_long_constants file = is_too_long (constants_in file)
 
+-- it has more or fewer bytes than it states
 abbrev pub has_other_length : List ℕ → Bool
 has_other_length file = not (nat_eq (length file) (16 + 8 * slots_in file + constants_in file))
 

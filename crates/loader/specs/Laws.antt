@@ -25,12 +25,15 @@ three_slots =
 
 -- files that were read by hand
 pub record RowsStand : Type 0 where
-  pub program : image_in (codes "CELBPF01" ++ (3 ∷ 0 ∷ 0 ∷ 0 ∷ 0 ∷ 0 ∷ 0 ∷ 0 ∷ three_slots)) ≡ Ok (record { version = First; code = three_slots; constants = [] })
-  pub second_version : image_in (codes "CELBPF02" ++ (3 ∷ 0 ∷ 0 ∷ 0 ∷ 0 ∷ 0 ∷ 0 ∷ 0 ∷ three_slots)) ≡ Ok (record { version = Second; code = three_slots; constants = [] })
+  pub program : image_in (codes "CELBPF01" ++ (3 ∷ 0 ∷ 0 ∷ 0 ∷ 0 ∷ 0 ∷ 0 ∷ 0 ∷ three_slots))
+      ≡ Ok (record { version = First; code = three_slots; constants = [] })
+  pub second_version : image_in (codes "CELBPF02" ++ (3 ∷ 0 ∷ 0 ∷ 0 ∷ 0 ∷ 0 ∷ 0 ∷ 0 ∷ three_slots))
+      ≡ Ok (record { version = Second; code = three_slots; constants = [] })
   pub one_byte_short : image_in (codes "CELBPF01" ++ (3 ∷ 0 ∷ 0 ∷ 0 ∷ 0 ∷ 0 ∷ 0 ∷ 0 ∷ take 23 three_slots)) ≡ Err L5
   pub empty : image_in [] ≡ Err L1
   pub other_magic : image_in (codes "CELBPF03" ++ (3 ∷ 0 ∷ 0 ∷ 0 ∷ 0 ∷ 0 ∷ 0 ∷ 0 ∷ three_slots)) ≡ Err L2
   pub no_slots : image_in (codes "CELBPF01" ++ (0 ∷ 0 ∷ 0 ∷ 0 ∷ 0 ∷ 0 ∷ 0 ∷ 0 ∷ [])) ≡ Err L3
   pub many_slots : image_in (codes "CELBPF01" ++ (1 ∷ 0 ∷ 1 ∷ 0 ∷ 0 ∷ 0 ∷ 0 ∷ 0 ∷ [])) ≡ Err L3
   pub long_constants : image_in (codes "CELBPF01" ++ (1 ∷ 0 ∷ 0 ∷ 0 ∷ 1 ∷ 0 ∷ 0x10 ∷ 0 ∷ [])) ≡ Err L4
-  pub second_file : file_of (record { version = Second; code = three_slots; constants = [] }) ≡ codes "CELBPF02" ++ (3 ∷ 0 ∷ 0 ∷ 0 ∷ 0 ∷ 0 ∷ 0 ∷ 0 ∷ three_slots)
+  pub second_file : file_of (record { version = Second; code = three_slots; constants = [] })
+      ≡ codes "CELBPF02" ++ (3 ∷ 0 ∷ 0 ∷ 0 ∷ 0 ∷ 0 ∷ 0 ∷ 0 ∷ three_slots)

@@ -1,3 +1,4 @@
 pub mod Masks
 pub mod Pairs
 pub mod Runs
+pub mod Scalars

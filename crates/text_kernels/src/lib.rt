@@ -3,8 +3,10 @@
 
 mod comparing;
 mod counting;
+mod laws;
 mod skipping;
 
 pub use comparing::first_difference;
 pub use counting::code_points;
+pub use laws::characters;
 pub use skipping::skip_plain;

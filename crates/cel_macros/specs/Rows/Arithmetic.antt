@@ -7,6 +7,7 @@ use Rattle.value_store.specs.Value.{int, error}
 use Rattle.cel_reader.specs.Written.{num, neg, str, list_literal}
 use Rattle.cel_macros.specs.Written.{number, word, list_value, Means}
 
+-- what expressions with operators on ints, and joining ones, mean in the review of the rows
 pub record ArithmeticRows : Type 0 where
   -- 2 + 3
   pub sum : Means (binary Add (num 2) (num 3)) (number (pos 5))
@@ -39,7 +40,8 @@ pub record ArithmeticRows : Type 0 where
   -- 'a' + 'b'
   pub texts_join : Means (binary Add (str "a") (str "b")) (word "ab")
   -- [1] + [2]
-  pub lists_join : Means (binary Add (list_literal ((num 1) ∷ [])) (list_literal ((num 2) ∷ []))) (list_value (int (pos 1) ∷ int (pos 2) ∷ []))
+  pub lists_join : Means (binary Add (list_literal ((num 1) ∷ [])) (list_literal ((num 2) ∷ [])))
+      (list_value (int (pos 1) ∷ int (pos 2) ∷ []))
   -- 'a' + 1
   pub kinds_do_not_join : Means (binary Add (str "a") (num 1)) error
   -- 1/0 + 1

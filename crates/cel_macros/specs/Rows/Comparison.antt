@@ -1,11 +1,13 @@
 -- Equality, order and membership, worked by hand.
 use Rattle.std.specs.Prelude.{[], ◌∷◌}
 use Rattle.cel_reader.specs.Tree.{binary}
-use Rattle.cel_reader.specs.declared.operator.BinaryOperator.TheVariants.{Less, LessEqual, GreaterEqual, Greater, Equal, NotEqual, In, Divide}
+use Rattle.cel_reader.specs.declared.operator.BinaryOperator.TheVariants.{Less, LessEqual, GreaterEqual, Greater, Equal, NotEqual, In}
+use Rattle.cel_reader.specs.declared.operator.BinaryOperator.TheVariants.{Divide}
 use Rattle.value_store.specs.Value.{error}
 use Rattle.cel_reader.specs.Written.{num, neg, str, bytes, yes, no, nothing, list_literal, map_literal}
 use Rattle.cel_macros.specs.Written.{is_true, is_false, Means}
 
+-- what comparisons and tests for membership mean in the review of the rows
 pub record ComparisonRows : Type 0 where
   -- 1 == 'a'
   pub kinds_unequal : Means (binary Equal (num 1) (str "a")) is_false
@@ -14,7 +16,10 @@ pub record ComparisonRows : Type 0 where
   -- null == null
   pub nulls_equal : Means (binary Equal nothing nothing) is_true
   -- {'a':[1]} == {'a':[1]}
-  pub deep_equality : Means (binary Equal (map_literal (((str "a"), (list_literal ((num 1) ∷ []))) ∷ [])) (map_literal (((str "a"), (list_literal ((num 1) ∷ []))) ∷ []))) is_true
+  pub deep_equality : Means
+      (binary Equal (map_literal (((str "a"), (list_literal ((num 1) ∷ []))) ∷ []))
+      (map_literal (((str "a"), (list_literal ((num 1) ∷ []))) ∷ [])))
+      is_true
   -- 1/0 == 1
   pub equal_to_error : Means (binary Equal (binary Divide (num 1) (num 0)) (num 1)) error
   -- 1 != 2

@@ -6,6 +6,7 @@ use Rattle.value_store.specs.Value.{int, list, no_items, item, error}
 use Rattle.cel_reader.specs.Written.{num, neg, str, bytes, yes, nothing, dot, call, method, list_literal, map_literal}
 use Rattle.cel_macros.specs.Written.{is_true, is_false, number, word, list_value, Means}
 
+-- what literals, functions and methods mean in the review of the rows
 pub record LiteralsRows : Type 0 where
   -- [1, 1/0]
   pub list_with_error : Means (list_literal ((num 1) ∷ (binary Divide (num 1) (num 0)) ∷ [])) error
@@ -18,7 +19,10 @@ pub record LiteralsRows : Type 0 where
   -- {'b':true}.b && true
   pub map_entry : Means (binary And (dot (map_literal (((str "b"), yes) ∷ [])) "b") yes) is_true
   -- {'b':1,'a':2} == {'a':2,'b':1}
-  pub map_in_any_order : Means (binary Equal (map_literal (((str "b"), (num 1)) ∷ ((str "a"), (num 2)) ∷ [])) (map_literal (((str "a"), (num 2)) ∷ ((str "b"), (num 1)) ∷ []))) is_true
+  pub map_in_any_order : Means
+      (binary Equal (map_literal (((str "b"), (num 1)) ∷ ((str "a"), (num 2)) ∷ []))
+      (map_literal (((str "a"), (num 2)) ∷ ((str "b"), (num 1)) ∷ [])))
+      is_true
   -- size('é') == 1
   pub size_in_code_points : Means (binary Equal (call "size" ((bytes (195 ∷ 169 ∷ [])) ∷ [])) (num 1)) is_true
   -- [1, 2].size()
@@ -52,7 +56,8 @@ pub record LiteralsRows : Type 0 where
   -- f(1)
   pub function_unknown : Means (call "f" ((num 1) ∷ [])) error
   -- [1, [2]]
-  pub list_of_values : Means (list_literal ((num 1) ∷ (list_literal ((num 2) ∷ [])) ∷ [])) (list_value (int (pos 1) ∷ list (item (int (pos 2)) no_items) ∷ []))
+  pub list_of_values : Means (list_literal ((num 1) ∷ (list_literal ((num 2) ∷ [])) ∷ []))
+      (list_value (int (pos 1) ∷ list (item (int (pos 2)) no_items) ∷ []))
   -- {1/0: 1}
   pub map_with_error_key : Means (map_literal (((binary Divide (num 1) (num 0)), (num 1)) ∷ [])) error
   -- size(null)

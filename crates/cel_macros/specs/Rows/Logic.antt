@@ -7,6 +7,7 @@ use Rattle.std.specs.Prelude.{pos}
 use Rattle.cel_reader.specs.Written.{num, yes, no}
 use Rattle.cel_macros.specs.Written.{is_true, is_false, number, Means}
 
+-- what logical operators and conditionals mean in the review of the rows
 pub record LogicRows : Type 0 where
   -- 1/0 == 1 || true
   pub or_absorbs_left : Means (binary Or (binary Equal (binary Divide (num 1) (num 0)) (num 1)) yes) is_true

@@ -6,6 +6,7 @@ use Rattle.cel_reader.specs.declared.operator.UnaryOperator.TheVariants.{Not}
 use Rattle.cel_macros.specs.MacroFault.{ArgumentCount, IterationName, NoSelection, macro_fault}
 use Rattle.cel_reader.specs.Written.{num, str, yes, name, dot, call, method, list_literal, map_literal}
 
+-- [1]
 abbrev pub one : Tree
 one = list_literal (num 1 ∷ [])
 
@@ -17,6 +18,7 @@ of_none = call "has" []
 abbrev pub of_root : Tree
 of_root = call "has" (name "object" ∷ [])
 
+-- what is wrong with each of these macros, or that nothing is
 pub record MacroFaultRows : Type 0 where
   -- [1].all(x)
   pub one_argument : macro_fault (method one "all" (name "x" ∷ [])) ≡ Some ArgumentCount

@@ -6,6 +6,7 @@ use Rattle.value_store.specs.Value.{error}
 use Rattle.cel_reader.specs.Written.{num, neg, str, yes, nothing, name, dot, call, list_literal, map_literal}
 use Rattle.cel_macros.specs.Written.{variable, is_true, is_false, number, word, Means}
 
+-- what names, fields and indices mean in the review of the rows
 pub record SelectionRows : Type 0 where
   -- object.spec.on && true
   pub stored_true : Means (binary And (dot (dot (name "object") "spec") "on") yes) is_true

@@ -1,0 +1,129 @@
+-- Each measure of the source is that of the expansion: the tables give the measures of each form.
+use Rattle.std.proofs.Common.{◌≡◌, ℕ, ◌+◌, max, List, refl, ap}
+use Rattle.std.specs.Prelude.{map as each}
+use Rattle.cel_macros.specs.CoreTree.{CoreTree, CoreTrees, CoreEntries, no_cores, more_cores, no_core_entries, more_core_entries}
+use Rattle.cel_measures.specs.Measures.{nodes, nodes_of, entries_nodes, need, call_need, needs, needs_behind}
+use Rattle.cel_measures.specs.Measures.{entries_need, deepest, deepest_of, entries_deepest}
+use Rattle.cel_measures.specs.SourceMeasures as source
+use Rattle.cel_measures.specs.SourceMeasures.{total, greatest, nodes_by, need_by, deepest_by, SameNodes, SameNeed, SameDepth}
+use Rattle.cel_measures.proofs.SourceParts.{IsBy, each_core, core_pairs, source_same}
+
+-- ---- nodes
+
+total_nodes : (cs : CoreTrees) → total (each_core nodes cs) ≡ nodes_of cs
+unfolding nodes
+total_nodes no_cores = refl
+total_nodes (more_cores a more) = ap (λ k. nodes a + k) (total_nodes more)
+
+entry_nodes : (es : CoreEntries) → total (each (λ e. e.0 + e.1) (core_pairs nodes es)) ≡ entries_nodes es
+unfolding nodes
+entry_nodes no_core_entries = refl
+entry_nodes (more_core_entries k v more) = ap (λ n. nodes k + nodes v + n) (entry_nodes more)
+
+nodes_table : IsBy nodes_by nodes
+unfolding nodes
+nodes_table = record {
+  literal = λ l. refl;
+  name = λ n. refl;
+  variable = λ v. refl;
+  select = λ a f. refl;
+  has = λ a f. refl;
+  index = λ a k. refl;
+  call = λ n arguments. ap (λ k. 1 + k) (total_nodes arguments);
+  method = λ a n arguments. ap (λ k. 1 + nodes a + k) (total_nodes arguments);
+  unary = λ op a. refl;
+  binary = λ op a b. refl;
+  ternary = λ c a b. refl;
+  list = λ items. ap (λ k. 1 + k) (total_nodes items);
+  map = λ es. ap (λ k. 1 + k) (entry_nodes es);
+  fold = λ w n r p. refl;
+  fold_map = λ n r p t. refl;
+}
+
+pub same_nodes : SameNodes
+same_nodes e = source_same nodes_by nodes nodes_table e
+
+-- ---- need
+
+greatest_need : (cs : CoreTrees) → greatest (each_core need cs) ≡ needs cs
+unfolding need
+greatest_need no_cores = refl
+greatest_need (more_cores a more) = ap (λ k. max (need a) k) (greatest_need more)
+
+greatest_behind : (cs : CoreTrees) → greatest (each (λ b. 1 + b) (each_core need cs)) ≡ needs_behind cs
+unfolding need
+greatest_behind no_cores = refl
+greatest_behind (more_cores a more) = ap (λ k. max (1 + need a) k) (greatest_behind more)
+
+entry_need : (es : CoreEntries) → greatest (each (λ e. max (1 + e.0) (2 + e.1)) (core_pairs need es)) ≡ entries_need es
+unfolding need
+entry_need no_core_entries = refl
+entry_need (more_core_entries k v more) = ap (λ n. max (max (1 + need k) (2 + need v)) n) (entry_need more)
+
+a_call : (cs : CoreTrees) → source.call_need (each_core need cs) ≡ call_need cs
+unfolding need
+a_call no_cores = refl
+a_call (more_cores a no_cores) = refl
+a_call (more_cores a (more_cores b more)) = ap (λ k. 1 + max (need a) (max (need b) k)) (greatest_need more)
+
+need_table : IsBy need_by need
+unfolding need
+need_table = record {
+  literal = λ l. refl;
+  name = λ n. refl;
+  variable = λ v. refl;
+  select = λ a f. refl;
+  has = λ a f. refl;
+  index = λ a k. refl;
+  call = λ n arguments. a_call arguments;
+  method = λ a n arguments. ap (λ k. max (need a) k) (greatest_behind arguments);
+  unary = λ op a. refl;
+  binary = λ op a b. refl;
+  ternary = λ c a b. refl;
+  list = λ items. ap (λ k. 1 + k) (greatest_need items);
+  map = λ es. ap (λ k. max 1 k) (entry_need es);
+  fold = λ w n r p. refl;
+  fold_map = λ n r p t. refl;
+}
+
+pub same_need : SameNeed
+same_need e = source_same need_by need need_table e
+
+-- ---- depth
+
+module _ (s : List (List ℕ × ℕ)) where
+  abbrev deep : CoreTree → ℕ
+  deep a = deepest a s
+
+  greatest_deep : (cs : CoreTrees) → greatest (each_core deep cs) ≡ deepest_of cs s
+  unfolding deepest
+  greatest_deep no_cores = refl
+  greatest_deep (more_cores a more) = ap (λ k. max (deepest a s) k) (greatest_deep more)
+
+  entry_deep : (es : CoreEntries) → greatest (each (λ e. max e.0 e.1) (core_pairs deep es)) ≡ entries_deepest es s
+  unfolding deepest
+  entry_deep no_core_entries = refl
+  entry_deep (more_core_entries k v more) = ap (λ n. max (max (deepest k s) (deepest v s)) n) (entry_deep more)
+
+  depth_table : IsBy (deepest_by s) deep
+  unfolding deepest
+  depth_table = record {
+    literal = λ l. refl;
+    name = λ n. refl;
+    variable = λ v. refl;
+    select = λ a f. refl;
+    has = λ a f. refl;
+    index = λ a k. refl;
+    call = λ n arguments. greatest_deep arguments;
+    method = λ a n arguments. ap (λ k. max (deepest a s) k) (greatest_deep arguments);
+    unary = λ op a. refl;
+    binary = λ op a b. refl;
+    ternary = λ c a b. refl;
+    list = λ items. greatest_deep items;
+    map = λ es. entry_deep es;
+    fold = λ w n r p. refl;
+    fold_map = λ n r p t. refl;
+  }
+
+pub same_depth : SameDepth
+same_depth e s = ap (λ k. 1 + k) (source_same (deepest_by s) (deep s) (depth_table s) e)

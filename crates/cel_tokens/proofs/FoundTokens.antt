@@ -1,0 +1,136 @@
+-- The tokens of what is found at the front.
+use Rattle.std.proofs.Common.{◌≡◌, ℕ, suc, ◌+◌, ◌≤◌, List, [], ◌∷◌, ◌++◌, length, take, drop, refl, sym, ◌∙◌, ap, subst, arith}
+use Rattle.std.proofs.Common.{Bool, true, false, Option, Some, None}
+use Rattle.std.specs.Prelude.{◌&&◌, if◌then◌else◌, pos, neg_ℤ}
+use mathlib.Core.Logic.{inl, inr}
+use Rattle.std.proofs.lemmas.List.{length-take-le, length-drop, length-append, append_assoc, take-take, take-append-drop}
+use Rattle.std.proofs.Math.Seq.{take-append_seam}
+use Rattle.cel_tokens.specs.declared.mark.Mark.{Mark}
+use Rattle.cel_tokens.specs.Token.{name, int, text, mark, mark_word}
+use Rattle.cel_tokens.specs.Bytes.{is_letter, is_name_byte, run}
+use Rattle.cel_tokens.specs.Marks.{mark_at, mark_of, one_byte, two_bytes}
+use Rattle.cel_tokens.specs.Texts.{opening, opening_len, is_quote, is_raw_prefix}
+use Rattle.cel_tokens.specs.TextLiterals.{Says}
+use Rattle.cel_tokens.specs.Gaps.{Skips, IsLineOver}
+use Rattle.cel_tokens.specs.Gaps.Skips.{none, blank, comment}
+use Rattle.cel_tokens.specs.AsWritten.{IsToken, HasToken}
+use Rattle.cel_tokens.specs.AsWritten.IsToken.{a_name, a_signed_int, a_mark, a_text, a_raw_text}
+use Rattle.cel_tokens.proofs.Runs.{run_within}
+use Rattle.cel_tokens.proofs.Marked as marked
+use Rattle.cel_tokens.proofs.NegatedInts.{front_passes, taken}
+use Rattle.cel_tokens.proofs.OwnBytes.{says_within, says_alike}
+use Rattle.cel_tokens.specs.SignedInts.{FollowsSign}
+
+-- ---- text literals
+
+-- a literal alone
+own : (raw : Bool) (quote n : ℕ) (bytes said : List ℕ) → Says raw quote bytes n said → (n ≤ length bytes)
+    × Says raw quote (take n bytes) (length (take n bytes)) said
+own raw quote n bytes said s =
+    let h = says_within s in
+    let l = length-take-le n bytes h in
+    (h, subst (λ k. Says raw quote (take n bytes) k said) (sym l) (says_alike s (take n bytes) (omega (arith, l), take-take n n bytes (omega arith))))
+
+-- the first byte of a literal, or the first two of a raw one
+abbrev pub Opens : Bool → ℕ → ℕ → List ℕ → Type 0
+Opens false quote b bs = (b ≡ quote) × (is_quote quote ≡ true)
+Opens true quote b [] = ⊥
+Opens true quote b (c ∷ cs) = (c ≡ quote) × (is_raw_prefix b ≡ true) × (is_quote quote ≡ true)
+
+both : (x y : Bool) → (x && y) ≡ true → (x ≡ true) × (y ≡ true)
+both true y h = (refl, h)
+both false y h = absurd cc
+
+-- a literal that is raw or not, with its quote
+abbrev opened : Bool → ℕ → Option (Bool × ℕ)
+opened raw quote = Some (raw, quote)
+
+some_same : (x y : Bool × ℕ) → Some x ≡ Some y → x ≡ y
+some_same x y e = cc
+
+same_opening : (s t : Bool) (b c : ℕ) → opened s b ≡ opened t c → (s ≡ t) × (b ≡ c)
+same_opening s t b c e =
+    let p = some_same (s, b) (t, c) e in
+    (ap (λ (x : Bool × ℕ). x.0) p, ap (λ (x : Bool × ℕ). x.1) p)
+
+pub opens : (raw : Bool) (quote b : ℕ) (bs : List ℕ) → opening (b ∷ bs) ≡ Some (raw, quote) → Opens raw quote b bs
+opens raw quote b [] e = by (is_quote b) refl e
+  where
+    by : (t : Bool) → is_quote b ≡ t → (if t then opened false b else None) ≡ opened raw quote → Opens raw quote b []
+    by true q e = let p = same_opening false raw b quote e in subst (λ r. Opens r quote b []) p.0 (p.1, subst (λ k. is_quote k ≡ true) p.1 q)
+    by false q e = absurd cc
+opens raw quote b (c ∷ cs) e = by (is_quote b) (is_raw_prefix b && is_quote c) refl refl e
+  where
+    by : (t u : Bool) → is_quote b ≡ t → (is_raw_prefix b && is_quote c) ≡ u
+        → (if t then opened false b else (if u then opened true c else None)) ≡ opened raw quote → Opens raw quote b (c ∷ cs)
+    by true u q r e = let p = same_opening false raw b quote e in subst (λ z. Opens z quote b (c ∷ cs)) p.0 (p.1, subst (λ k. is_quote k ≡ true) p.1 q)
+    by false true q r e =
+        let p = same_opening true raw c quote e in
+        let h = both (is_raw_prefix b) (is_quote c) r in
+        subst (λ z. Opens z quote b (c ∷ cs)) p.0 (p.1, h.0, subst (λ k. is_quote k ≡ true) p.1 h.1)
+    by false false q r e = absurd cc
+
+pub text_token : (signed raw : Bool) (quote b n : ℕ) (bs said : List ℕ) → Opens raw quote b bs → Says raw quote (drop (opening_len raw) (b ∷ bs)) n said
+    → HasToken signed (b ∷ bs) (opening_len raw + n) (text said)
+text_token signed false quote b n bs said o s =
+    let w = own false quote n bs said s in
+    let h = w.0 in
+    let q : 1 + n ≡ suc n = omega arith in
+    (omega (arith, h), rw q (subst (λ k. IsToken signed (k ∷ take n bs) (text said)) (sym o.0) (a_text o.1 w.1)))
+text_token signed true quote b n [] said o s = absurd o
+text_token signed true quote b n (c ∷ cs) said o s =
+    let w = own true quote n cs said s in
+    let h = w.0 in
+    let q : 2 + n ≡ suc (suc n) = omega arith in
+    (omega (arith, h), rw q (subst (λ k. IsToken signed (b ∷ k ∷ take n cs) (text said)) (sym o.0) (a_raw_text o.1 o.2 w.1)))
+
+-- ---- names and marks
+
+pub name_token : (signed : Bool) (b : ℕ) (bs : List ℕ) → is_letter b ≡ true
+    → HasToken signed (b ∷ bs) (run is_name_byte (b ∷ bs)) (name (take (run is_name_byte (b ∷ bs)) (b ∷ bs)))
+name_token signed b bs l =
+    let e = taken is_name_byte b bs (rw l refl) in
+    (run_within is_name_byte (b ∷ bs), rw e (a_name {bytes = b ∷ take (run is_name_byte bs) bs} (l, front_passes is_name_byte bs)))
+
+mark_within : (bytes : List ℕ) (m : Mark) (n : ℕ) → mark_at bytes ≡ Some (m, n) → n ≤ length bytes
+mark_within [] m n e = absurd cc
+mark_within (a ∷ []) m n e = let p = marked.of_one_is (one_byte a) m n e in let q = p.1 in omega (arith, q)
+mark_within (a ∷ b ∷ bs) m n e =
+    elim (marked.of_two_is (two_bytes a b) (one_byte a) m n e) [ inl p ↦ (let q = p.1 in omega (arith, q)) | inr p ↦ (let q = p.1 in omega (arith, q)) ]
+
+no_word : (o : Option Mark) (m : Mark) → mark_word o ≡ mark m → o ≡ Some m
+no_word None m e = absurd cc
+no_word (Some k) m e = cc
+
+pub mark_token : (signed : Bool) (bytes : List ℕ) (m : Mark) (n : ℕ) → mark_at bytes ≡ Some (m, n) → HasToken signed bytes n (mark m)
+mark_token signed bytes m n e = (mark_within bytes m n e, a_mark (no_word (mark_of (take n bytes)) m (marked.taken bytes m n e)))
+
+-- ---- ints with a sign
+
+line_front : (xs more : List ℕ) → IsLineOver (xs ++ more) → IsLineOver xs
+line_front [] more h = tt
+line_front (x ∷ xs) more h = h
+
+-- without what stands behind
+cut : {bytes rest : List ℕ} → Skips bytes rest → (digits more : List ℕ) → rest ≡ digits ++ more → (first : List ℕ) × (bytes ≡ first ++ more)
+    × Skips first digits
+cut none digits more e = (digits, e, none)
+cut (blank {b = b} h s) digits more e = let c = cut s digits more e in (b ∷ c.0, ap (λ (xs : List ℕ). b ∷ xs) c.1, blank h c.2)
+cut (comment inside after a h s) digits more e =
+    let c = cut s digits more e in (
+      47 ∷ 47 ∷ (inside ++ c.0),
+      ap (λ (xs : List ℕ). 47 ∷ 47 ∷ xs) (ap (λ (xs : List ℕ). inside ++ xs) c.1 ∙ sym (append_assoc inside c.0 more)),
+      comment inside c.0 a (line_front c.0 more (subst IsLineOver c.1 h)) c.2,
+    )
+
+pub signed_token : (bytes : List ℕ) (gap n value : ℕ) → FollowsSign bytes gap n value
+    → HasToken true (45 ∷ bytes) (1 + gap + n) (int (neg_ℤ (pos value)))
+signed_token bytes gap n value f =
+    let digits = drop gap bytes in
+    let c = cut f.1 (take n digits) (drop n digits) (sym (take-append-drop n digits)) in
+    let within = f.0 in
+    let some = f.2.0 in
+    let l : length c.0 ≡ gap + n = omega (arith, within, some, ap length c.1, length-append c.0 (drop n digits), length-drop n digits, length-drop gap bytes) in
+    let q : 1 + gap + n ≡ suc (length c.0) = omega (arith, l) in
+    let t : take (length c.0) bytes ≡ c.0 = ap (take (length c.0)) c.1 ∙ take-append_seam c.0 (drop n digits) in
+    (omega (arith, within, some, length-drop gap bytes), rw (q, t) (a_signed_int c.2 f.2.1))

@@ -1,0 +1,79 @@
+-- What a text literal says depends on its own bytes alone.
+use Rattle.std.proofs.Common.{◌≡◌, ℕ, ◌+◌, ◌≤◌, List, [], ◌∷◌, ◌++◌, length, take, drop, refl, sym, ◌∙◌, ap, subst, arith, Bool, true, false, Option, Some}
+use Rattle.std.proofs.Common.{None}
+use Rattle.std.specs.Prelude.{◌==◌, ◌&&◌, if◌then◌else◌, not, encode_utf8}
+use Rattle.std.proofs.lemmas.List.{length-drop, take-take, drop-take}
+use Rattle.cel_tokens.specs.Bytes.{is_line_end}
+use Rattle.cel_tokens.specs.Texts.{escape, escaped, piece}
+use Rattle.cel_tokens.specs.TextLiterals.{Says}
+use Rattle.cel_tokens.specs.TextLiterals.Says.{closing, one_piece}
+use Rattle.cel_tokens.specs.Escapes.{Names}
+use Rattle.cel_tokens.proofs.NamedEscapes.{names_its_code_point}
+
+-- the first n bytes are the same
+abbrev Alike : ℕ → List ℕ → List ℕ → Type 0
+Alike n xs ys = (n ≤ length ys) × (take n ys ≡ take n xs)
+
+-- the same behind some of them
+pub alike_behind : (m n : ℕ) (xs ys : List ℕ) → Alike (m + n) xs ys → Alike n (drop m xs) (drop m ys)
+alike_behind m n xs ys a =
+    let l = a.0 in
+    (omega (arith, l, length-drop m ys), sym (drop-take m n ys) ∙ ap (drop m) a.1 ∙ drop-take m n xs)
+
+-- fewer of them are the same
+pub alike_fewer : (m n : ℕ) (xs ys : List ℕ) → m ≤ n → Alike n xs ys → Alike m xs ys
+alike_fewer m n xs ys h a =
+    let l = a.0 in
+    (omega (arith, l, h), sym (take-take m n ys h) ∙ ap (take m) a.1 ∙ take-take m n xs h)
+
+escape_alike : (xs ys : List ℕ) (code len : ℕ) → escape xs ≡ Some (code, len) → Alike len xs ys → escape ys ≡ Some (code, len)
+escape_alike xs ys code len e a =
+    (names_its_code_point ys code len).1 (a.0, subst (λ (zs : List ℕ). Names zs code) (sym a.1) ((names_its_code_point xs code len).0 e).1)
+
+escaped_alike : (b : ℕ) (xs ys : List ℕ) (x : ℕ × List ℕ) (o : Option (ℕ × ℕ)) → escape xs ≡ o → escaped o ≡ Some x → Alike x.0 (b ∷ xs) (b ∷ ys)
+    → escaped (escape ys) ≡ Some x
+escaped_alike b xs ys x None e f a = absurd cc
+escaped_alike b xs ys x (Some (code, len)) e f a =
+    let p : x ≡ (len + 1, encode_utf8 code) = cc in
+    let q : x.0 ≡ 1 + len = omega (arith, ap (λ (y : ℕ × List ℕ). y.0) p) in
+    ap escaped (escape_alike xs ys code len e (alike_behind 1 len (b ∷ xs) (b ∷ ys) (subst (λ k. Alike k (b ∷ xs) (b ∷ ys)) q a))) ∙ f
+
+piece_alike : (raw : Bool) (b : ℕ) (xs ys : List ℕ) (x : ℕ × List ℕ) → piece raw (b ∷ xs) ≡ Some x → Alike x.0 (b ∷ xs) (b ∷ ys) → piece raw (b ∷ ys) ≡ Some x
+piece_alike raw b xs ys x e a = by (is_line_end b) (not raw && (b == 92)) e
+  where
+    by : (s t : Bool) → (if s then None else (if t then escaped (escape xs) else Some (1, b ∷ []))) ≡ Some x
+        → (if s then None else (if t then escaped (escape ys) else Some (1, b ∷ []))) ≡ Some x
+    by true t e = absurd cc
+    by false true e = escaped_alike b xs ys x (escape xs) refl e a
+    by false false e = e
+
+-- a literal takes a byte at least
+says_some : {raw : Bool} {quote n : ℕ} {xs said : List ℕ} → Says raw quote xs n said → 1 ≤ n
+says_some closing = omega arith
+says_some (one_piece x d e s) = let l = says_some s in omega (arith, l)
+
+-- and no more than there are
+pub says_within : {raw : Bool} {quote n : ℕ} {xs said : List ℕ} → Says raw quote xs n said → n ≤ length xs
+says_within closing = omega arith
+says_within (one_piece {b = b} {bs = bs} x d e s) =
+    let h = says_within s in
+    let k = says_some s in
+    omega (arith, h, k, length-drop x.0 (b ∷ bs))
+
+first_alike : (n b c : ℕ) (xs ys : List ℕ) → 1 ≤ n → Alike n (b ∷ xs) (c ∷ ys) → c ≡ b
+first_alike n b c xs ys h a =
+    let e = (alike_fewer 1 n (b ∷ xs) (c ∷ ys) h a).1 in
+    cc
+
+pub says_alike : {raw : Bool} {quote n : ℕ} {xs said : List ℕ} → Says raw quote xs n said → (ys : List ℕ) → Alike n xs ys → Says raw quote ys n said
+says_alike {raw} {quote} (closing {rest = rest}) [] a = let l = a.0 in absurd (omega (arith, l))
+says_alike {raw} {quote} (closing {rest = rest}) (c ∷ ys) a =
+    subst (λ k. Says raw quote (k ∷ ys) 1 []) (sym (first_alike 1 quote c rest ys (omega arith) a)) closing
+says_alike {raw} {quote} (one_piece x d e s) [] a = let l = a.0 in let k = says_some s in absurd (omega (arith, l, k))
+says_alike {raw} {quote} (one_piece {b = b} {n = n} {bs = bs} {said = said} x d e s) (c ∷ ys) a =
+    let k = says_some s in
+    let f = first_alike (x.0 + n) b c bs ys (omega (arith, k)) a in
+    let g = subst (λ z. Alike (x.0 + n) (b ∷ bs) (z ∷ ys)) f a in
+    subst (λ z. Says raw quote (z ∷ ys) (x.0 + n) (x.1 ++ said)) (sym f)
+    (one_piece x d (piece_alike raw b bs ys x e (alike_fewer x.0 (x.0 + n) (b ∷ bs) (b ∷ ys) (omega arith) g)) (says_alike s (drop x.0 (b ∷ ys))
+    (alike_behind x.0 n (b ∷ bs) (b ∷ ys) g)))

@@ -1,0 +1,258 @@
+-- The type of an expression, or its fault, is the one that the rows of the table give it.
+use Rattle.std.proofs.Common.{◌≡◌, ◌⊎◌, inl, inr, ℕ, Bool, true, false, ◌&&◌, List, [], ◌∷◌, Option, Some, None, is_some, map, refl, sym, ap, ◌∙◌, subst}
+use Rattle.std.proofs.Common.{if◌then◌else◌, arith}
+use Rattle.std.specs.Bool.{⊤}
+use Rattle.std.specs.List.{list_all}
+use Rattle.cel_reader.specs.Tree as tree
+use Rattle.cel_reader.specs.Tree.{Tree, Trees, Entries, no_trees, more_trees, no_entries, more_entries, tree_list}
+use Rattle.cel_macros.specs.declared.macros.Macro.{Macro}
+use Rattle.cel_macros.specs.Functions.{Function, function_named}
+use Rattle.cel_macros.specs.Macros.{macro_named, is_map, is_has, is_variables}
+use Rattle.cel_types.specs.declared.cel_type.CelType.{CelType}
+use Rattle.cel_types.specs.declared.cel_type.CelType.TheVariants as type
+use Rattle.cel_types.specs.Types.{TypeFault, NoOverload, Typing, typed, refused, allowed, with_type, with_types}
+use Rattle.cel_types.specs.Scope.{Scope, within}
+use Rattle.cel_types.specs.TypeTable.{is_text_key, map_literal_row}
+use Rattle.cel_types.specs.Typing.{selected_type, call_type, fold_type, fold_map_type, typing, typings, operand_typing, entry_typings, key_typings}
+use Rattle.cel_types.specs.TypeRows.{IsRow}
+use Rattle.cel_types.specs.Relation.{keys_and_values, in_scope, parts_of, Has, by_row, Have, no_parts, next_part, cause, Fault, in_part, at_node, FirstFault}
+use Rattle.cel_types.specs.Relation.{here, behind, TypesAreRows, FaultsAreFirst, OneTypeOrFault}
+use Rattle.cel_types.proofs.RowTyped.{on_one, select_node, fold_node, fold_map_node, text_keys, node, row_typed}
+use Rattle.cel_types.proofs.NodeRows.{Answered, node_rows}
+
+-- ---- the typing of a tree by those of its parts
+
+abbrev part_typing : Scope × Tree → Typing
+part_typing p = typing p.1 p.0
+
+-- the first fault of some parts, and then what stands for their types
+abbrev over_types : List Typing → (List CelType → Typing) → Typing
+over_types [] f = f []
+over_types (x ∷ xs) f = with_type x (λ t. over_types xs (λ ts. f (t ∷ ts)))
+
+abbrev over_parts : List (Scope × Tree) → (List CelType → Typing) → Typing
+over_parts ps f = over_types (map part_typing ps) f
+
+over_trees : (items : Trees) (s : Scope) (last : Typing) → with_types (typings items s) last ≡ over_parts (in_scope s (tree_list items)) (λ ts. last)
+unfolding typing
+over_trees no_trees s last = refl
+over_trees (more_trees a more) s last = λ j. with_type (typing a s) (λ t. over_trees more s last j)
+
+over_entries : (es : Entries) (s : Scope) (f : Bool → Typing)
+    → with_types (entry_typings es s) (f (list_all is_text_key (key_typings es s))) ≡ over_parts (in_scope s (keys_and_values es)) (λ ts. f (text_keys ts))
+unfolding typing
+over_entries no_entries s f = refl
+over_entries (more_entries k v more) s f = by (typing k s) (λ t. over_entries more s (λ b. f (allowed (type.String ∷ []) t && b)))
+  where
+    rest : (Bool → Typing) → Typing
+    rest g = with_types (entry_typings more s) (g (list_all is_text_key (key_typings more s)))
+
+    over : (Bool → Typing) → Typing
+    over g = over_parts (in_scope s (keys_and_values more)) (λ ts. g (text_keys ts))
+
+    by : (x : Typing) → ((t : CelType) → rest (λ b. f (allowed (type.String ∷ []) t && b)) ≡ over (λ b. f (allowed (type.String ∷ []) t && b)))
+        → with_type x (λ t. with_type (typing v s) (λ u. rest (λ b. f (is_text_key x && b))))
+        ≡ with_type x (λ t. with_type (typing v s) (λ u. over (λ b. f (allowed (type.String ∷ []) t && b))))
+    by (typed t) step = λ j. with_type (typing v s) (λ u. step t j)
+    by (refused y) step = refl
+
+selection_over : (b : Bool) (a : Tree) (f : List ℕ) (s : Scope)
+    → selected_type b f (typing a s) s ≡ over_parts (if b then [] else in_scope s (a ∷ [])) (select_node b f s)
+selection_over true a f s = refl
+selection_over false a f s = refl
+
+has_over : (b : Bool) (a : Tree) (f : List ℕ) (g : Option Function) (s : Scope)
+    → call_type b (Some f) g (typing a s) (typing (tree.select a f) s)
+    ≡ over_parts (in_scope s ((if b then a else tree.select a f) ∷ [])) (on_one (λ x. call_type b (Some f) g (typed x) (typed x)))
+has_over true a f g s = refl
+has_over false a f g s = refl
+
+call_over : (b : Bool) (g : Option Function) (x y : Typing) → call_type b None g x y ≡ with_type y (λ t. call_type b None g (typed t) (typed t))
+call_over true g x y = refl
+call_over false g x y = refl
+
+fold_over : (m : Option Macro) (a p : Tree) (i : List ℕ) (s : Scope)
+    → fold_type m (Some i) (typing a s) (λ n. typing p (within n s)) (typing a s ∷ typing (tree.name i) s ∷ typing p s ∷ [])
+    ≡ over_parts ((s, a) ∷ (if is_some m then in_scope (within i s) (p ∷ []) else in_scope s (tree.name i ∷ p ∷ []))) (fold_node m (Some i))
+fold_over (Some m) a p i s = refl
+fold_over None a p i s = refl
+
+no_fold : (m : Option Macro) (a x p : Tree) (s : Scope)
+    → fold_type m None (typing a s) (λ n. typing p (within n s)) (typing a s ∷ typing x s ∷ typing p s ∷ [])
+    ≡ over_parts (in_scope s (a ∷ x ∷ p ∷ [])) (fold_node m None)
+no_fold (Some m) a x p s = refl
+no_fold None a x p s = refl
+
+fold_map_over : (b : Bool) (a p t : Tree) (i : List ℕ) (s : Scope)
+    → fold_map_type b (Some i) (typing a s) (λ n. typing p (within n s)) (λ n. typing t (within n s))
+    (typing a s ∷ typing (tree.name i) s ∷ typing p s ∷ typing t s ∷ [])
+    ≡ over_parts ((s, a) ∷ (if b then in_scope (within i s) (p ∷ t ∷ []) else in_scope s (tree.name i ∷ p ∷ t ∷ []))) (fold_map_node b (Some i))
+fold_map_over true a p t i s = refl
+fold_map_over false a p t i s = refl
+
+no_fold_map : (b : Bool) (a x p t : Tree) (s : Scope)
+    → fold_map_type b None (typing a s) (λ n. typing p (within n s)) (λ n. typing t (within n s))
+    (typing a s ∷ typing x s ∷ typing p s ∷ typing t s ∷ [])
+    ≡ over_parts (in_scope s (a ∷ x ∷ p ∷ t ∷ [])) (fold_map_node b None)
+no_fold_map true a x p t s = refl
+no_fold_map false a x p t s = refl
+
+no_method : (a : Tree) (items : Trees) (s : Scope)
+    → with_types (typing a s ∷ typings items s) (refused NoOverload) ≡ over_parts (in_scope s (a ∷ tree_list items)) (λ ts. refused NoOverload)
+no_method a items s = λ j. with_type (typing a s) (λ t. over_trees items s (refused NoOverload) j)
+
+by_parts : (e : Tree) (s : Scope) → typing e s ≡ over_parts (parts_of s e) (node s e)
+unfolding typing
+by_parts (tree.literal l) s = refl
+by_parts (tree.name n) s = refl
+by_parts (tree.select a f) s = selection_over (is_variables a) a f s
+by_parts (tree.index a k) s = refl
+by_parts (tree.unary o a) s = refl
+by_parts (tree.binary o a b) s = refl
+by_parts (tree.ternary c a b) s = refl
+by_parts (tree.list items) s = over_trees items s (typed type.List)
+by_parts (tree.map es) s = over_entries es s map_literal_row
+by_parts (tree.call n (more_trees (tree.select a f) no_trees)) s = has_over (is_has n) a f (function_named n) s
+by_parts (tree.call n (more_trees a no_trees)) s = call_over (is_has n) (function_named n) (operand_typing a s) (typing a s)
+by_parts (tree.call n arguments) s = over_trees arguments s (refused NoOverload)
+by_parts (tree.method a n no_trees) s = refl
+by_parts (tree.method a n (more_trees (tree.name i) no_trees)) s = refl
+by_parts (tree.method a n (more_trees (tree.name i) (more_trees p no_trees))) s = fold_over (macro_named n) a p i s
+by_parts (tree.method a n (more_trees (tree.name i) (more_trees p (more_trees t no_trees)))) s = fold_map_over (is_map n) a p t i s
+by_parts (tree.method a n (more_trees b no_trees)) s = refl
+by_parts (tree.method a n (more_trees x (more_trees p no_trees))) s = no_fold (macro_named n) a x p s
+by_parts (tree.method a n (more_trees x (more_trees p (more_trees t no_trees)))) s = no_fold_map (is_map n) a x p t s
+by_parts (tree.method a n arguments) s = no_method a arguments s
+
+-- ---- what the rows give is the typing
+
+abbrev Gives : Scope → Tree → Typing → Type 0
+Gives s e (typed t) = Has s e t
+Gives s e (refused y) = Fault s e y
+
+mutual
+  has_typed : {s : Scope} {e : Tree} {t : CelType} → Has s e t → typing e s ≡ typed t
+  has_typed (by_row {s} {e} {ts} {t} h r) = by_parts e s ∙ have_typed h (node s e) ∙ row_typed s r
+
+  have_typed : {ps : List (Scope × Tree)} {ts : List CelType} → Have ps ts → (f : List CelType → Typing) → over_parts ps f ≡ f ts
+  have_typed no_parts f = refl
+  have_typed (next_part {s} {e} {t} {more} {ts} h rest) f =
+      ap (λ x. with_type x (λ u. over_parts more (λ us. f (u ∷ us)))) (has_typed h) ∙ have_typed rest (λ us. f (t ∷ us))
+
+typed_only : {t : CelType} {y : TypeFault} → typed t ≡ refused y → ⊥
+typed_only e = grind arith
+
+-- a node that no row takes has its cause
+no_row : (s : Scope) (e : Tree) (ts : List CelType) → ((t : CelType) → IsRow s e ts t → ⊥) → (r : Typing) → Answered s e ts r → r ≡ refused (cause e)
+no_row s e ts none (typed t) h = absurd (none t h)
+no_row s e ts none (refused y) h = ap refused h
+
+mutual
+  fault_refused : {s : Scope} {e : Tree} {y : TypeFault} → Fault s e y → typing e s ≡ refused y
+  fault_refused (in_part {s} {e} h) = by_parts e s ∙ among_refused h (node s e)
+  fault_refused (at_node {s} {e} {ts} h none) = by_parts e s ∙ have_typed h (node s e) ∙ no_row s e ts none (node s e ts) (node_rows s e ts)
+
+  among_refused : {ps : List (Scope × Tree)} {y : TypeFault} → FirstFault ps y → (f : List CelType → Typing) → over_parts ps f ≡ refused y
+  among_refused (here {s} {e} {more} h) f = ap (λ x. with_type x (λ u. over_parts more (λ us. f (u ∷ us)))) (fault_refused h)
+  among_refused (behind {s} {e} {t} {more} h rest) f =
+      ap (λ x. with_type x (λ u. over_parts more (λ us. f (u ∷ us)))) (has_typed h) ∙ among_refused rest (λ us. f (t ∷ us))
+
+-- ---- each tree has a type or a fault
+
+abbrev AllGiven : List (Scope × Tree) → Type 0
+AllGiven [] = ⊤
+AllGiven (p ∷ ps) = Gives p.0 p.1 (part_typing p) × AllGiven ps
+
+abbrev Walked : List (Scope × Tree) → Type 0
+Walked ps = ((ts : List CelType) × Have ps ts) ⊎ ((y : TypeFault) × FirstFault ps y)
+
+walked : (ps : List (Scope × Tree)) → AllGiven ps → Walked ps
+walked [] h = inl ([], no_parts)
+walked (p ∷ ps) h = by (part_typing p) h.0 (walked ps h.1)
+  where
+    by : (r : Typing) → Gives p.0 p.1 r → Walked ps → Walked (p ∷ ps)
+    by (typed t) g (inl m) = inl (t ∷ m.0, next_part g m.1)
+    by (typed t) g (inr m) = inr (m.0, behind g m.1)
+    by (refused y) g m = inr (y, here g)
+
+from_parts : (s : Scope) (e : Tree) → AllGiven (parts_of s e) → Gives s e (typing e s)
+from_parts s e h = by (walked (parts_of s e) h)
+  where
+    at : (ts : List CelType) → Have (parts_of s e) ts → (r : Typing) → node s e ts ≡ r → Answered s e ts r → Gives s e r
+    at ts m (typed t) is row = by_row m row
+    at ts m (refused y) is due = subst (λ (z : TypeFault). Fault s e z) (sym due) (at_node m (λ t row. typed_only (sym (row_typed s row) ∙ is)))
+
+    by : Walked (parts_of s e) → Gives s e (typing e s)
+    by (inl m) = subst (λ (r : Typing). Gives s e r) (sym (by_parts e s ∙ have_typed m.1 (node s e))) (at m.0 m.1 (node s e m.0) refl (node_rows s e m.0))
+    by (inr m) = subst (λ (r : Typing). Gives s e r) (sym (by_parts e s ∙ among_refused m.1 (node s e))) (in_part m.1)
+
+chosen : (b : Bool) (ps qs : List (Scope × Tree)) → AllGiven ps → AllGiven qs → AllGiven (if b then ps else qs)
+chosen true ps qs h k = h
+chosen false ps qs h k = k
+
+operand : (b : Bool) (a : Tree) (f : List ℕ) (s : Scope) → Gives s a (typing a s) → Gives s (tree.select a f) (typing (tree.select a f) s)
+    → AllGiven (in_scope s ((if b then a else tree.select a f) ∷ []))
+operand true a f s h k = (h, tt)
+operand false a f s h k = (k, tt)
+
+mutual
+  given : (e : Tree) (s : Scope) → Gives s e (typing e s)
+  given (tree.literal l) s = from_parts s (tree.literal l) tt
+  given (tree.name n) s = from_parts s (tree.name n) tt
+  given (tree.select a f) s = from_parts s (tree.select a f) (chosen (is_variables a) [] (in_scope s (a ∷ [])) tt (given a s, tt))
+  given (tree.index a k) s = from_parts s (tree.index a k) (given a s, (given k s, tt))
+  given (tree.unary o a) s = from_parts s (tree.unary o a) (given a s, tt)
+  given (tree.binary o a b) s = from_parts s (tree.binary o a b) (given a s, (given b s, tt))
+  given (tree.ternary c a b) s = from_parts s (tree.ternary c a b) (given c s, (given a s, (given b s, tt)))
+  given (tree.list items) s = from_parts s (tree.list items) (all_given items s)
+  given (tree.map es) s = from_parts s (tree.map es) (entries_given es s)
+  given (tree.call n (more_trees (tree.select a f) no_trees)) s =
+      from_parts s (tree.call n (more_trees (tree.select a f) no_trees)) (operand (is_has n) a f s (given a s) (given (tree.select a f) s))
+  given (tree.call n (more_trees a no_trees)) s = from_parts s (tree.call n (more_trees a no_trees)) (given a s, tt)
+  given (tree.call n arguments) s = from_parts s (tree.call n arguments) (all_given arguments s)
+  given (tree.method a n no_trees) s = from_parts s (tree.method a n no_trees) (given a s, tt)
+  given (tree.method a n (more_trees (tree.name i) (more_trees p no_trees))) s =
+      from_parts s (tree.method a n (more_trees (tree.name i) (more_trees p no_trees))) (
+        given a s,
+        chosen (is_some (macro_named n)) (in_scope (within i s) (p ∷ [])) (in_scope s (tree.name i ∷ p ∷ []))
+            (given p (within i s), tt) (given (tree.name i) s, (given p s, tt)),
+      )
+  given (tree.method a n (more_trees (tree.name i) (more_trees p (more_trees t no_trees)))) s =
+      from_parts s (tree.method a n (more_trees (tree.name i) (more_trees p (more_trees t no_trees)))) (
+        given a s,
+        chosen (is_map n) (in_scope (within i s) (p ∷ t ∷ [])) (in_scope s (tree.name i ∷ p ∷ t ∷ []))
+            (given p (within i s), (given t (within i s), tt)) (given (tree.name i) s, (given p s, (given t s, tt))),
+      )
+  given (tree.method a n arguments) s = from_parts s (tree.method a n arguments) (given a s, all_given arguments s)
+
+  all_given : (items : Trees) (s : Scope) → AllGiven (in_scope s (tree_list items))
+  all_given no_trees s = tt
+  all_given (more_trees a more) s = (given a s, all_given more s)
+
+  entries_given : (es : Entries) (s : Scope) → AllGiven (in_scope s (keys_and_values es))
+  entries_given no_entries s = tt
+  entries_given (more_entries k v more) s = (given k s, (given v s, entries_given more s))
+
+pub types_are_rows : TypesAreRows
+types_are_rows e s t = (λ is. subst (λ (r : Typing). Gives s e r) is (given e s), has_typed)
+
+pub faults_are_first : FaultsAreFirst
+faults_are_first e s y = (λ is. subst (λ (r : Typing). Gives s e r) is (given e s), fault_refused)
+
+same_typed : {t u : CelType} → typed t ≡ typed u → t ≡ u
+same_typed e = grind arith
+
+same_refused : {y z : TypeFault} → refused y ≡ refused z → y ≡ z
+same_refused e = grind arith
+
+either_given : (s : Scope) (e : Tree) (r : Typing) → Gives s e r → ((t : CelType) × Has s e t) ⊎ ((y : TypeFault) × Fault s e y)
+either_given s e (typed t) h = inl (t, h)
+either_given s e (refused y) h = inr (y, h)
+
+pub one_type_or_fault : OneTypeOrFault
+one_type_or_fault = record {
+  one = λ s e. either_given s e (typing e s) (given e s);
+  one_type = λ s e t u h k. same_typed (sym (has_typed h) ∙ has_typed k);
+  one_fault = λ s e y z h k. same_refused (sym (fault_refused h) ∙ fault_refused k);
+  never_both = λ s e t y h k. typed_only (sym (has_typed h) ∙ fault_refused k);
+}

@@ -1,0 +1,217 @@
+-- The type of a node, or its fault, by the types of its parts; and that it is the type of each row that takes them.
+use Rattle.std.proofs.Common.{◌≡◌, ℕ, Bool, true, false, ◌&&◌, ◌||◌, List, [], ◌∷◌, Option, Some, None, refl, sym, ap, ◌∙◌, subst}
+use Rattle.std.proofs.Common.{if◌then◌else◌, Contains, arith}
+use lib.Pointwise.{bytes_decides}
+use Rattle.std.specs.List.{list_any, AllByRecursion}
+use Rattle.cel_reader.specs.Tree as tree
+use Rattle.cel_reader.specs.Tree.{Tree, Trees, no_trees, more_trees}
+use Rattle.cel_reader.specs.declared.operator.BinaryOperator.{BinaryOperator}
+use Rattle.cel_reader.specs.declared.operator.BinaryOperator.TheVariants as binary
+use Rattle.cel_macros.specs.Functions.{Function, Size, String, Dyn, function_named, test_named}
+use Rattle.cel_macros.specs.declared.macros.Macro.{Macro}
+use Rattle.cel_macros.specs.declared.macros.Macro.TheVariants.{All, Exists, ExistsOne}
+use Rattle.cel_macros.specs.Macros.{macro_named, is_map, is_has, has_name, is_variables, name_of, field_name}
+use Rattle.cel_types.specs.declared.cel_type.CelType.{CelType}
+use Rattle.cel_types.specs.declared.cel_type.CelType.TheVariants as type
+use Rattle.cel_types.specs.Types.{TypeFault, UnknownName, NoOverload, MisplacedVariables, Typing, typed, refused, same_type, allowed, agree, known_of}
+use Rattle.cel_types.specs.Types.{both_allowed, row}
+use Rattle.cel_types.specs.Scope.{Scope, name_type, type_or_fault, variable_type}
+use Rattle.cel_types.specs.TypeTable.{literal_type, field_row, index_row, unary_row, binary_row, logic_row, order_row, equality_row, member_row}
+use Rattle.cel_types.specs.TypeTable.{arithmetic_row, ternary_row, function_row, method_row, test_row, is_range, macro_row, map_row}
+use Rattle.cel_types.specs.TypeTable.{map_literal_row}
+use Rattle.cel_types.specs.Typing.{call_type}
+use Rattle.cel_types.specs.TypeRows.{MayBe, known, dynamic, MayBeOne, MayBothBeOne, MayAgree, HasTextKeys, no_keys, next_key, IsRow, a_literal, a_name}
+use Rattle.cel_types.specs.TypeRows.{a_variable, a_field, a_has, an_item, an_entry, a_not, a_negation, a_sum, an_arithmetic, an_equality, an_order, a_member}
+use Rattle.cel_types.specs.TypeRows.{a_key, a_logic, a_choice, a_list, a_map, a_size, a_size_method, a_string, a_dyn, a_test, a_quantifier, a_filter}
+use Rattle.cel_types.specs.TypeRows.{a_transform, a_filtered_transform}
+use Rattle.std.proofs.lemmas.List.Elements.{All-contains, All-from_recursion}
+use Rattle.std.proofs.lemmas.List.Folds.{list_any_at}
+use Rattle.cel_types.specs.Relation.{cause}
+
+-- ---- the type of a node, or its fault, by the types of its parts
+
+abbrev pub on_none : Typing → TypeFault → List CelType → Typing
+on_none r y [] = r
+on_none r y _ = refused y
+
+abbrev pub on_one : (CelType → Typing) → List CelType → Typing
+on_one f (x ∷ []) = f x
+on_one f _ = refused NoOverload
+
+abbrev pub on_two : (CelType → CelType → Typing) → List CelType → Typing
+on_two f (x ∷ y ∷ []) = f x y
+on_two f _ = refused NoOverload
+
+abbrev pub on_three : (CelType → CelType → CelType → Typing) → List CelType → Typing
+on_three f (x ∷ y ∷ z ∷ []) = f x y z
+on_three f _ = refused NoOverload
+
+abbrev pub select_node : Bool → List ℕ → Scope → List CelType → Typing
+select_node true f s ts = on_none (variable_type f s.variables) MisplacedVariables ts
+select_node false f s ts = on_one field_row ts
+
+abbrev pub fold_node : Option Macro → Option (List ℕ) → List CelType → Typing
+fold_node (Some m) (Some i) ts = on_two (macro_row m) ts
+fold_node _ _ ts = refused NoOverload
+
+abbrev pub fold_map_node : Bool → Option (List ℕ) → List CelType → Typing
+fold_map_node true (Some i) ts = on_three map_row ts
+fold_map_node _ _ ts = refused NoOverload
+
+abbrev pub text_keys : List CelType → Bool
+text_keys [] = true
+text_keys (k ∷ []) = false
+text_keys (k ∷ v ∷ more) = allowed (type.String ∷ []) k && text_keys more
+
+abbrev pub node : Scope → Tree → List CelType → Typing
+node s (tree.literal l) ts = on_none (typed (literal_type l)) NoOverload ts
+node s (tree.name n) ts = on_none (name_type n s.items) (cause (tree.name n)) ts
+node s (tree.select a f) ts = select_node (is_variables a) f s ts
+node s (tree.index a k) ts = on_two index_row ts
+node s (tree.unary o a) ts = on_one (unary_row o) ts
+node s (tree.binary o a b) ts = on_two (binary_row o) ts
+node s (tree.ternary c a b) ts = on_three ternary_row ts
+node s (tree.list items) ts = typed type.List
+node s (tree.map es) ts = map_literal_row (text_keys ts)
+node s (tree.call n (more_trees a no_trees)) ts = on_one (λ x. call_type (is_has n) (field_name a) (function_named n) (typed x) (typed x)) ts
+node s (tree.call n _) ts = refused NoOverload
+node s (tree.method a n no_trees) ts = on_one (method_row (function_named n)) ts
+node s (tree.method a n (more_trees b no_trees)) ts = on_two (test_row (test_named n)) ts
+node s (tree.method a n (more_trees x (more_trees p no_trees))) ts = fold_node (macro_named n) (name_of x) ts
+node s (tree.method a n (more_trees x (more_trees p (more_trees t no_trees)))) ts = fold_map_node (is_map n) (name_of x) ts
+node s (tree.method a n _) ts = refused NoOverload
+
+-- ---- what a row asks for, as a test
+
+or_right : (a b : Bool) → b ≡ true → (a || b) ≡ true
+or_right true b h = refl
+or_right false b h = h
+
+same_self : (k : CelType) → same_type k k ≡ true
+same_self type.Bool = refl
+same_self type.Int = refl
+same_self type.String = refl
+same_self type.Null = refl
+same_self type.List = refl
+same_self type.Map = refl
+same_self type.Dyn = refl
+
+allowed_of : (ks : List CelType) {x : CelType} → MayBeOne ks x → allowed ks x ≡ true
+allowed_of ks {x} m = by m.2 (list_any_at (same_type m.0) ks m.1.0 m.0 m.1.1 (ap (same_type m.0) m.1.2 ∙ same_self m.0))
+  where
+    by : {k y : CelType} → MayBe k y → list_any (same_type k) ks ≡ true → allowed ks y ≡ true
+    by (known {k}) listed = or_right (same_type k type.Dyn) (list_any (same_type k) ks) listed
+    by dynamic listed = refl
+
+may : {k x : CelType} → MayBe k x → allowed (k ∷ []) x ≡ true
+may {k} m = allowed_of (k ∷ []) (k, (0, omega arith, refl), m)
+
+agree_of : {x y : CelType} → MayAgree x y → agree x y ≡ true
+agree_of m = by m.1 m.2
+  where
+    by : {k x y : CelType} → MayBe k x → MayBe k y → agree x y ≡ true
+    by (known {k}) known = λ j. same_self k j || (same_type k type.Dyn || same_type k type.Dyn)
+    by (known {k}) dynamic = or_right (same_type k type.Dyn) _ (or_right (same_type k type.Dyn) true refl)
+    by dynamic (known {k}) = or_right (same_type type.Dyn k) true refl
+    by dynamic dynamic = refl
+
+both_of : (ks : List CelType) {x y : CelType} → MayBothBeOne ks x y → (both_allowed ks x y && agree x y) ≡ true
+both_of ks m = λ j. (allowed_of ks (m.0, m.1, m.2) j && allowed_of ks (m.0, m.1, m.3) j) && agree_of (m.0, m.2, m.3) j
+
+both : {k x y : CelType} → MayBe k x → MayBe k y → both_allowed (k ∷ []) x y ≡ true
+both l m = λ j. may l j && may m j
+
+one_typed : {b : Bool} (t : CelType) → b ≡ true → row b t ≡ typed t
+one_typed t h = ap (λ b. row b t) h
+
+two_typed : {a b : Bool} (t : CelType) → a ≡ true → b ≡ true → row (a && b) t ≡ typed t
+two_typed t h k = λ j. row (h j && k j) t
+
+keys_of : {ts : List CelType} → HasTextKeys ts → text_keys ts ≡ true
+keys_of no_keys = refl
+keys_of (next_key m more) = λ j. may m j && keys_of more j
+
+-- `has` is no function
+no_has : (n : List ℕ) (f : Function) (b : Bool) → is_has n ≡ b → function_named n ≡ Some f → b ≡ false
+unfolding is_has function_named
+no_has n f true e h = absurd (told (subst (λ m. function_named m ≡ Some f) (sym ((bytes_decides has_name n).0 e)) h))
+  where
+    told : None ≡ Some f → ⊥
+    told e = grind arith
+no_has n f false e h = refl
+
+item_typed : {x y : CelType} → MayBe type.List x → MayBe type.Int y → index_row x y ≡ typed type.Dyn
+item_typed known m = one_typed type.Dyn (may m)
+item_typed dynamic known = refl
+item_typed dynamic dynamic = refl
+
+entry_typed : {x y : CelType} → MayBe type.Map x → MayBe type.String y → index_row x y ≡ typed type.Dyn
+entry_typed known m = one_typed type.Dyn (may m)
+entry_typed dynamic known = refl
+entry_typed dynamic dynamic = refl
+
+member_typed : {y : CelType} (x : CelType) → MayBe type.List y → member_row x y ≡ typed type.Bool
+member_typed x known = refl
+member_typed x dynamic = refl
+
+key_typed : {x y : CelType} → MayBe type.String x → MayBe type.Map y → member_row x y ≡ typed type.Bool
+key_typed m known = one_typed type.Bool (may m)
+key_typed m dynamic = refl
+
+called : (n : List ℕ) (f : Function) (a : Tree) (x : CelType) → function_named n ≡ Some f
+    → call_type (is_has n) (field_name a) (function_named n) (typed x) (typed x) ≡ function_row (Some f) x
+called n f a x h = λ j. call_type (no_has n f (is_has n) refl h j) (field_name a) (h j) (typed x) (typed x)
+
+-- an operator of a group has the row of the group
+grouped : (os : List BinaryOperator) (x y : CelType) (r : Typing) → AllByRecursion (λ o. binary_row o x y ≡ r) os → {o : BinaryOperator} → Contains os o
+    → binary_row o x y ≡ r
+grouped os x y r h {o} c = All-contains (λ p. binary_row p x y ≡ r) os o (All-from_recursion (λ p. binary_row p x y ≡ r) os h) c
+
+quantified : (r x : CelType) (m : Macro) → Contains (All ∷ Exists ∷ ExistsOne ∷ []) m
+    → macro_row m r x ≡ row (is_range r && allowed (type.Bool ∷ []) x) type.Bool
+quantified r x m c = All-contains P (All ∷ Exists ∷ ExistsOne ∷ []) m (All-from_recursion P (All ∷ Exists ∷ ExistsOne ∷ []) (refl, (refl, (refl, tt)))) c
+  where
+    P : Macro → Type 0
+    P m = macro_row m r x ≡ row (is_range r && allowed (type.Bool ∷ []) x) type.Bool
+
+-- the type of a row is that of its node
+pub row_typed : (s : Scope) {e : Tree} {ts : List CelType} {t : CelType} → IsRow s e ts t → node s e ts ≡ typed t
+unfolding is_variables name_type variable_type
+row_typed s (a_literal l) = refl
+row_typed s (a_name {n} v k) = λ j. if v j then refused MisplacedVariables else (if k j then typed type.Dyn else refused UnknownName)
+row_typed s (a_variable {a} {v = f} {t} v h) = (λ j. select_node (v j) f s []) ∙ ap type_or_fault h
+row_typed s (a_field {a} {f} {x} v m) = (λ j. select_node (v j) f s (x ∷ [])) ∙ one_typed type.Dyn (may m)
+row_typed s (a_has {n} {a} {f} {x} h m) = (λ j. call_type (h j) (Some f) (function_named n) (typed x) (typed x)) ∙ one_typed type.Bool (may m)
+row_typed s (an_item l m) = item_typed l m
+row_typed s (an_entry l m) = entry_typed l m
+row_typed s (a_not m) = one_typed type.Bool (may m)
+row_typed s (a_negation m) = one_typed type.Int (may m)
+row_typed s (a_sum {a} {b} {x} {y} m) = one_typed (known_of x y) (both_of (type.Int ∷ type.String ∷ type.List ∷ []) m)
+row_typed s (an_arithmetic {o} {a} {b} {x} {y} c l m) =
+    grouped (binary.Subtract ∷ binary.Multiply ∷ binary.Divide ∷ binary.Remainder ∷ []) x y (arithmetic_row x y) (refl, (refl, (refl, (refl, tt)))) c
+    ∙ one_typed type.Int (both l m)
+row_typed s (an_equality {o} {a} {b} {x} {y} c m) =
+    grouped (binary.Equal ∷ binary.NotEqual ∷ []) x y (equality_row x y) (refl, (refl, tt)) c ∙ one_typed type.Bool (agree_of m)
+row_typed s (an_order {o} {a} {b} {x} {y} c m) =
+    grouped (binary.Less ∷ binary.LessEqual ∷ binary.GreaterEqual ∷ binary.Greater ∷ []) x y (order_row x y) (refl, (refl, (refl, (refl, tt)))) c
+    ∙ one_typed type.Bool (both_of (type.Int ∷ type.String ∷ type.Bool ∷ []) m)
+row_typed s (a_member {a} {b} {x} m) = member_typed x m
+row_typed s (a_key l m) = key_typed l m
+row_typed s (a_logic {o} {a} {b} {x} {y} c l m) =
+    grouped (binary.And ∷ binary.Or ∷ []) x y (logic_row x y) (refl, (refl, tt)) c ∙ one_typed type.Bool (both l m)
+row_typed s (a_choice c m) = two_typed _ (may c) (agree_of m)
+row_typed s a_list = refl
+row_typed s (a_map h) = one_typed type.Map (keys_of h)
+row_typed s (a_size {n} {a} {x} h m) = called n Size a x h ∙ one_typed type.Int (allowed_of (type.String ∷ type.List ∷ type.Map ∷ []) m)
+row_typed s (a_size_method {n} {a} {x} h m) = (λ j. method_row (h j) x) ∙ one_typed type.Int (allowed_of (type.String ∷ type.List ∷ type.Map ∷ []) m)
+row_typed s (a_string {n} {a} {x} h m) = called n String a x h ∙ one_typed type.String (allowed_of (type.Int ∷ type.String ∷ []) m)
+row_typed s (a_dyn {n} {a} {x} h) = called n Dyn a x h
+row_typed s (a_test {n} {f} {a} {b} {x} {y} h l m) = (λ j. test_row (h j) x y) ∙ one_typed type.Bool (both l m)
+row_typed s (a_quantifier {n} {i} {m} {a} {p} {r} {x} h c o q) =
+    (λ j. fold_node (h j) (Some i) (r ∷ x ∷ [])) ∙ quantified r x m c ∙ two_typed type.Bool (allowed_of (type.List ∷ type.Map ∷ []) o) (may q)
+row_typed s (a_filter {n} {i} {a} {p} {r} {x} h o q) =
+    (λ j. fold_node (h j) (Some i) (r ∷ x ∷ [])) ∙ two_typed type.List (allowed_of (type.List ∷ type.Map ∷ []) o) (may q)
+row_typed s (a_transform {n} {i} {a} {t} {r} {x} h o) =
+    (λ j. fold_node (h j) (Some i) (r ∷ x ∷ [])) ∙ two_typed type.List (allowed_of (type.List ∷ type.Map ∷ []) o) refl
+row_typed s (a_filtered_transform {n} {i} {a} {p} {t} {r} {x} {y} h o q) =
+    (λ j. fold_map_node (h j) (Some i) (r ∷ x ∷ y ∷ [])) ∙ two_typed type.List (allowed_of (type.List ∷ type.Map ∷ []) o) (may q)
