@@ -15,7 +15,9 @@ EXIT = b"CELBPF01\1" + bytes(7) + b"\x95" + bytes(7)
 LINE_STEPS = 1_000_000
 LINES = 10
 # where a compiled policy puts what its validation 0 came to
-RESULT = "lddw r1, 0x0000000300000010"
+RESULT = "stdw [r1+8], 2"
+# how many slots behind the expression it stands
+BEHIND = 4
 # the most characters of a value that are read
 MOST_SHOWN = 100_000
 
@@ -118,7 +120,7 @@ def behind_expression(listing):
     slot, found = 0, 0
     for line in listing.splitlines():
         if line == RESULT:
-            found = slot
+            found = slot - BEHIND
         slot += 2 if line.startswith("lddw") else 1
     return found
 

@@ -22,7 +22,7 @@ use Rattle.codegen.proofs.Budgets.{gives_within, result_size_least}
 use Rattle.codegen.proofs.Parts.{Part, or_left, or_right, texts_back, texts_front}
 
 builds_within : (s : Setting) (p : ℕ) (piece : List Insn) (c : Context) (depth k : ℕ) (f : ValueOrError → ValueOrError) (n m n1 m1 : ℕ) → n ≤ n1 → m ≤ m1 → Builds s p piece c depth k f n m → Builds s p piece c depth k f n1 m1
-builds_within s p piece c depth k f n m n1 m1 hn hm g = record { runs = λ b x has made. looser s n1 m1 hn hm (g.runs b x has made) }
+builds_within s p piece c depth k f n m n1 m1 hn hm g = record { runs = λ b x has made named. looser s n1 m1 hn hm (g.runs b x has made named) }
 
 -- what is ready for the items of a list, and for the entries of a map
 pub record ItemsReady (s : Setting) (scope : List Variable) (texts : List (List ℕ)) (c : Context) (depth k : ℕ) (es : CoreTrees) (deep : Bool) : Type 0 where

@@ -16,7 +16,7 @@ use Rattle.cel_macros.specs.declared.macros.Macro.TheVariants.{All, Exists, Exis
 use Rattle.cel_macros.specs.Environment.{lookup}
 use Rattle.cel_macros.specs.Functions.{Function, Size, String, Dyn, function_named, TextTest, test_named}
 use Rattle.cel_measures.specs.Measures.{nodes, nodes_of, entries_nodes}
-use Rattle.codegen_base.specs.Instructions.{load, put, skip, skip_if, store}
+use Rattle.codegen_base.specs.Instructions.{put, skip, skip_if, store}
 use Rattle.codegen_base.specs.Pieces.{size}
 use Rattle.codegen_base.specs.Code.Arithmetic.{product_tail, negation_tail}
 use Rattle.codegen_base.specs.Code.Calls.{two_code}
@@ -165,15 +165,13 @@ literal_short ts tree.null = omega arith
 
 list_short : (items : List Insn) (k n : ℕ) → size items ≤ 63 * n → size (list_code items k) + 8 ≤ 63 * (1 + n)
 list_short items k n h =
-    let e = size_append items (load R0 k ∷ []) in
-    let whole : size (list_code items k) ≡ 2 + size (items ++ load R0 k ∷ []) = size_append (list_head k) (items ++ load R0 k ∷ []) in
-    omega (arith, e, whole, h)
+    let whole : size (list_code items k) ≡ 2 + size items = size_append (list_head k) items in
+    omega (arith, whole, h)
 
 map_literal_short : (entries : List Insn) (k n : ℕ) → size entries ≤ 63 * n → size (map_code entries k) + 8 ≤ 63 * (1 + n)
 map_literal_short entries k n h =
-    let e = size_append entries (load R0 k ∷ []) in
-    let whole : size (map_code entries k) ≡ 2 + size (entries ++ load R0 k ∷ []) = size_append (map_head k) (entries ++ load R0 k ∷ []) in
-    omega (arith, e, whole, h)
+    let whole : size (map_code entries k) ≡ 2 + size entries = size_append (map_head k) entries in
+    omega (arith, whole, h)
 
 item_short : (item rest : List Insn) (k n m : ℕ) → size item + 8 ≤ 63 * n → size rest ≤ 63 * m → size (item_code item k ++ rest) ≤ 63 * (n + m)
 item_short item rest k n m hi hr =

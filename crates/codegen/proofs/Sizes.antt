@@ -7,7 +7,7 @@ use Rattle.insn_codec.specs.declared.insn.Insn.{Insn}
 use Rattle.insn_codec.specs.declared.insn.Insn.TheVariants.{Call, LoadWide}
 use Rattle.insn_codec.specs.declared.register.Register.TheVariants.{R0, R1, R2}
 use Rattle.codegen_base.specs.Code.Logic.{no_ref, yes_ref}
-use Rattle.codegen_base.specs.Instructions.{copy, load, put, skip, skip_if}
+use Rattle.codegen_base.specs.Instructions.{copy, load, put, skip, skip_if, store}
 use Rattle.codegen_base.specs.Pieces.{size}
 use Rattle.codegen_base.proofs.Pieces.{size-append, size-cons}
 use Rattle.codegen_base.specs.Code.Folds.{map_where_turn}
@@ -30,11 +30,11 @@ size_by_length (i ∷ piece) = let e = size-cons i piece in let h = two_at_most 
 pub turn_near : (part tail : List Insn) → size part + size tail ≤ 32300 → size (part ++ tail) ≤ 32300
 turn_near part tail h = let e = size-append part tail in omega (arith, e, h)
 
-pub size_map_where : (transform : List Insn) (k : ℕ) → size (map_where_turn transform k) ≡ size transform + 9
+pub size_map_where : (transform : List Insn) (k : ℕ) → size (map_where_turn transform k) ≡ size transform + 8
 size_map_where t k =
-    let last = copy R2 R0 ∷ load R1 (k + 3) ∷ Call (pos 17) ∷ skip 3 ∷ load R0 (k + 3) ∷ skip 1 ∷ put R0 (pos 0) ∷ [] in
-    let test = skip_if Ne R0 yes_ref (size t + 6) in
-    let a = size-cons (skip_if Eq R0 no_ref (size t + 5)) (test ∷ (t ++ last)) in
+    let last = copy R2 R0 ∷ load R1 (k + 3) ∷ Call (pos 17) ∷ skip 1 ∷ put R0 (pos 0) ∷ store (k + 3) R0 ∷ [] in
+    let test = skip_if Ne R0 yes_ref (size t + 4) in
+    let a = size-cons (skip_if Eq R0 no_ref (size t + 7)) (test ∷ (t ++ last)) in
     let b = size-cons test (t ++ last) in
     let c = size-append t last in
     omega (arith, a, b, c)

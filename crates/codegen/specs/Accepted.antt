@@ -1,12 +1,14 @@
 -- The forms of the expressions that have code: those that the type checker takes.
 use Rattle.std.specs.Prelude.{◌≡◌, ℕ, true, false, List, Some, IsSome, bytes_eq}
 use Rattle.std.specs.List.{list_any}
-use Rattle.cel_macros.specs.CoreTree.{CoreTree, CoreTrees, CoreEntries, no_cores, more_cores, no_core_entries, more_core_entries, plain_tree, literal, name, variable, select, has, index, call, method, unary, binary, ternary, list, map, fold, fold_map}
+use Rattle.cel_macros.specs.CoreTree.{CoreTree, CoreTrees, CoreEntries, no_cores, more_cores, no_core_entries, more_core_entries}
+use Rattle.cel_macros.specs.CoreTree.{plain_tree, literal, name, variable, select, has, index, call, method, unary, binary, ternary, list}
+use Rattle.cel_macros.specs.CoreTree.{map, fold, fold_map}
 use Rattle.cel_macros.specs.Functions.{Size, function_named, test_named}
 use Rattle.cel_macros.specs.Macros.{is_variables}
 
--- calls are of the functions, methods are sizes and tests of texts, variables have these names, and nothing is selected from `variables`
 unfoldable mutual
+  -- calls are of the functions, methods are sizes and tests of texts, variables have these names, and nothing is selected from `variables`
   pub IsAccepted : CoreTree → List (List ℕ) → Type 0
   IsAccepted (literal l) vs = Unit {0}
   IsAccepted (name n) vs = Unit {0}
@@ -28,10 +30,12 @@ unfoldable mutual
   IsAccepted (fold m n r p) vs = IsAccepted r vs × IsAccepted p vs
   IsAccepted (fold_map n r p t) vs = IsAccepted r vs × IsAccepted p vs × IsAccepted t vs
 
+  -- each of the expressions is so
   pub AreAccepted : CoreTrees → List (List ℕ) → Type 0
   AreAccepted no_cores vs = Unit {0}
   AreAccepted (more_cores a more) vs = IsAccepted a vs × AreAccepted more vs
 
+  -- each key and each value is so
   pub AreEntriesAccepted : CoreEntries → List (List ℕ) → Type 0
   AreEntriesAccepted no_core_entries vs = Unit {0}
   AreEntriesAccepted (more_core_entries k v more) vs = IsAccepted k vs × IsAccepted v vs × AreEntriesAccepted more vs

@@ -32,6 +32,7 @@ with_counted e tree n = record (with_nodes e n) { constants = with_texts e.const
 abbrev pub with_code : Emitted → List Declaration → CoreTree → Emitted
 with_code e scope tree = if has_room e then with_piece e (code_at e scope tree (length e.code)) else e
 
+-- the same with the expression's texts and nodes counted first
 abbrev pub with_expression : Emitted → List Declaration → CoreTree → Emitted
 with_expression e scope tree = with_code (with_counted e tree (nodes tree)) scope tree
 
@@ -39,12 +40,17 @@ with_expression e scope tree = with_code (with_counted e tree (nodes tree)) scop
 abbrev pub with_routine : Emitted → List Declaration → CoreTree → Emitted
 with_routine e scope tree =
     if has_room e
-    then record (with_piece e (passed (code_at e scope tree (length e.code + 1) ++ memo_tail (length e.routines)))) { routines = e.routines ++ (length e.code + 1) ∷ [] }
+    then record (with_piece e (passed (code_at e scope tree (length e.code + 1) ++ memo_tail (length e.routines))))
+    { routines = e.routines ++ (length e.code + 1) ∷ [] }
     else e
 
+-- the same with the expression's texts, its nodes and one more counted first
 abbrev pub with_variable : Emitted → List Declaration → CoreTree → Emitted
 with_variable e scope tree = with_routine (with_counted e tree (1 + nodes tree)) scope tree
 
 -- the old emitter, with nothing but texts and slots of routines behind its own, and its nodes counted otherwise
 abbrev pub IsBehind : Emitted → Emitted → Type 0
-IsBehind old new = record new { constants = take (length old.constants) new.constants; nodes = old.nodes; routines = take (length old.routines) new.routines } ≡ old
+IsBehind old new =
+    record new
+    { constants = take (length old.constants) new.constants; nodes = old.nodes; routines = take (length old.routines) new.routines }
+    ≡ old

@@ -22,7 +22,8 @@ use Rattle.codegen_base.specs.Variables.{used_context}
 abbrev pub TextsStand : List ℕ → List (List ℕ) → List (List ℕ) → Type 0
 TextsStand constants texts used = AllByRecursion (λ t. HasText constants (address_of texts t) t) used
 
--- the piece gives the value or the error within 128 steps a visit and 16 times what is spent, less 8 of each: out of these 8 a list or a map pays for keeping the value
+-- the piece gives the value or the error within 128 steps a visit and 16 times what is spent, less 8 of each: out of
+-- these 8 a list or a map pays for keeping the value
 abbrev pub Computes : Setting → ℕ → List Insn → Context → ℕ → ℕ → ValueOrError → Cost → Type 0
 Computes s p piece c depth k x t = Gives s p piece c depth k x (128 * t.visits - 8) (16 * spent_by t - 8)
 
@@ -42,8 +43,11 @@ routines = each (λ v. (v.name, v.routine))
 abbrev pub nestings : List Variable → List (List ℕ × ℕ)
 nestings = each (λ v. (v.name, v.nesting))
 
--- the machine and the frame are ready for the code: its variables are among those of the scope, and enough frames are left for them, there is room for its words, its texts stand among the constants, and where a list or map is to hold a value that is too deep the machine may stop for it
-pub record Ready (s : Setting) (scope : List Variable) (texts : List (List ℕ)) (c : Context) (depth k : ℕ) (e : CoreTree) (deep : Bool) : Type 0 where
+-- the machine and the frame are ready for the code: its variables are among those of the scope, and enough frames are
+-- left for them, there is room for its words, its texts stand among the constants, and where a list or map is to hold a
+-- value that is too deep the machine may stop for it
+pub record Ready (s : Setting) (scope : List Variable) (texts : List (List ℕ)) (c : Context)
+    (depth k : ℕ) (e : CoreTree) (deep : Bool) : Type 0 where
   pub accepted : IsAccepted e (names scope)
   pub frames : depth + deepest e (nestings scope) ≤ 7
   pub room : k + need e ≤ 60

@@ -20,9 +20,11 @@ pub record Cost : Type 0 where
   pub is_deep : Bool
 
 infixl 30 ◌and◌
+-- both costs, added
 abbrev pub ◌and◌ : Cost → Cost → Cost
 a and b = record { visits = a.visits + b.visits; sizes = a.sizes + b.sizes; is_deep = a.is_deep || b.is_deep }
 
+-- no cost
 abbrev pub nothing : Cost
 nothing = record { visits = 0; sizes = 0; is_deep = false }
 
@@ -42,6 +44,7 @@ one_item = record { visits = 1; sizes = 0; is_deep = false }
 abbrev pub kept : ValueOrError → Cost
 kept x = record { visits = 0; sizes = 0; is_deep = nat_le 255 (result_depth x) }
 
+-- what a literal costs beside its node: a text its text
 abbrev pub literal_cost : tree.Literal → Cost
 literal_cost (tree.text s) = name_or_text s
 literal_cost _ = nothing
@@ -57,6 +60,7 @@ call_cost true (Some f) x y = x and name_or_text f
 call_cost true None x y = y
 call_cost false f x y = y
 
+-- the items, one after another, each with what it costs
 abbrev pub each_item : (Value → Cost) → List Value → Cost
 each_item f [] = nothing
 each_item f (v ∷ vs) = one_item and f v and each_item f vs
@@ -75,12 +79,14 @@ kept_by Filter v x = chosen (truth x) (kept (value v)) nothing nothing
 kept_by Map v x = kept x
 
 -- the items of a macro, whose part costs c and gives x for an item under a name
-abbrev pub macro_cost : Option Macro → Option (List ℕ) → (List ℕ → Value → Cost) → (List ℕ → Value → ValueOrError) → Option (List Value) → Cost
+abbrev pub macro_cost : Option Macro → Option (List ℕ) → (List ℕ → Value → Cost) → (List ℕ → Value → ValueOrError) → Option (List Value)
+    → Cost
 macro_cost (Some m) (Some n) c x items = items_cost (λ v. c n v and kept_by m v (x n v)) items
 macro_cost _ _ c x items = nothing
 
 -- the items of a `map` with a predicate, whose transform is visited where that is true
-abbrev pub map_cost : Bool → Option (List ℕ) → (List ℕ → Value → Cost) → (List ℕ → Value → Truth) → (List ℕ → Value → Cost) → Option (List Value) → Cost
+abbrev pub map_cost : Bool → Option (List ℕ) → (List ℕ → Value → Cost) → (List ℕ → Value → Truth) → (List ℕ → Value → Cost)
+    → Option (List Value) → Cost
 map_cost true (Some n) c p t items = items_cost (λ v. c n v and chosen (p n v) (t n v) nothing nothing) items
 map_cost _ _ c p t items = nothing
 
@@ -93,15 +99,23 @@ unfoldable mutual
   cost (tree.index a k) env = node (meaning (tree.index a k) env) and cost a env and cost k env
   cost (tree.unary op a) env = node (meaning (tree.unary op a) env) and cost a env
   cost (tree.binary op a b) env = node (meaning (tree.binary op a b) env) and cost a env and cost b env
-  cost (tree.ternary c a b) env = node (meaning (tree.ternary c a b) env) and cost c env and chosen (truth (meaning c env)) (cost a env) (cost b env) nothing
+  cost (tree.ternary c a b) env =
+      node (meaning (tree.ternary c a b) env) and cost c env and chosen (truth (meaning c env)) (cost a env) (cost b env) nothing
   cost (tree.list items) env = node (meaning (tree.list items) env) and costs items env
   cost (tree.map es) env = node (meaning (tree.map es) env) and entry_costs es env
-  cost (tree.call n (more_trees a no_trees)) env = node (meaning (tree.call n (more_trees a no_trees)) env) and call_cost (is_has n) (field_name a) (operand_cost a env) (cost a env)
+  cost (tree.call n (more_trees a no_trees)) env =
+      node (meaning (tree.call n (more_trees a no_trees)) env) and call_cost (is_has n) (field_name a) (operand_cost a env) (cost a env)
   cost (tree.call n _) env = node error
   cost (tree.method a n no_trees) env = node (meaning (tree.method a n no_trees) env) and cost a env
-  cost (tree.method a n (more_trees b no_trees)) env = node (meaning (tree.method a n (more_trees b no_trees)) env) and cost a env and cost b env
-  cost (tree.method a n (more_trees x (more_trees p no_trees))) env = node (meaning (tree.method a n (more_trees x (more_trees p no_trees))) env) and cost a env and macro_cost (macro_named n) (name_of x) (λ i v. cost p (bind i v env)) (λ i v. meaning p (bind i v env)) (range_of (meaning a env))
-  cost (tree.method a n (more_trees x (more_trees p (more_trees t no_trees)))) env = node (meaning (tree.method a n (more_trees x (more_trees p (more_trees t no_trees)))) env) and cost a env and map_cost (is_map n) (name_of x) (λ i v. cost p (bind i v env)) (λ i v. truth (meaning p (bind i v env))) (λ i v. cost t (bind i v env) and kept (meaning t (bind i v env))) (range_of (meaning a env))
+  cost (tree.method a n (more_trees b no_trees)) env =
+      node (meaning (tree.method a n (more_trees b no_trees)) env) and cost a env and cost b env
+  cost (tree.method a n (more_trees x (more_trees p no_trees))) env =
+      node (meaning (tree.method a n (more_trees x (more_trees p no_trees))) env) and cost a env
+      and macro_cost (macro_named n) (name_of x) (λ i v. cost p (bind i v env)) (λ i v. meaning p (bind i v env)) (range_of (meaning a env))
+  cost (tree.method a n (more_trees x (more_trees p (more_trees t no_trees)))) env =
+      node (meaning (tree.method a n (more_trees x (more_trees p (more_trees t no_trees)))) env) and cost a env
+      and map_cost (is_map n) (name_of x) (λ i v. cost p (bind i v env)) (λ i v. truth (meaning p (bind i v env)))
+      (λ i v. cost t (bind i v env) and kept (meaning t (bind i v env))) (range_of (meaning a env))
   cost (tree.method a n _) env = node error
 
   -- of `e.f` what e costs
@@ -123,6 +137,7 @@ unfoldable mutual
 abbrev pub work_of : Tree → Environment → ℕ
 work_of e env = (cost e env).visits
 
+-- eight for each visit, and the sizes
 abbrev pub spent_by : Cost → ℕ
 spent_by c = 8 * c.visits + c.sizes
 

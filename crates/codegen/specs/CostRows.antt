@@ -10,7 +10,11 @@ use Rattle.codegen.specs.Cost.{cost, work_of, spent_of}
 
 -- where object is {"spec":{"replicas":5}}
 abbrev pub five : Environment
-five = record review { roots = record review.roots { object = map (entries_of ((codes "spec", map (entries_of ((codes "replicas", int (pos 5)) ∷ []))) ∷ [])) } }
+five =
+    record review {
+      roots = record review.roots
+          { object = map (entries_of ((codes "spec", map (entries_of ((codes "replicas", int (pos 5)) ∷ []))) ∷ [])) };
+    }
 
 -- object.spec.replicas <= 3
 abbrev pub at_most_three : Tree
@@ -29,12 +33,15 @@ nested (suc n) = list (item (nested n) no_items)
 abbrev pub with_nested : ℕ → Environment
 with_nested n = bind (codes "x") (nested n) review
 
+-- a list or map of the expression is to hold a value that is too deep, where x is such a value
 abbrev pub IsDeepAt : Tree → ℕ → Type 0
 IsDeepAt e n = (cost e (with_nested n)).is_deep ≡ true
 
+-- none is
 abbrev pub IsShallowAt : Tree → ℕ → Type 0
 IsShallowAt e n = (cost e (with_nested n)).is_deep ≡ false
 
+-- expressions, each with what it visits, spends or holds
 pub record CostRows : Type 0 where
   -- an operator, two selections, a name and a literal
   pub policy_work : work_of at_most_three five ≡ 5
@@ -55,7 +62,9 @@ pub record CostRows : Type 0 where
   -- {'a': 1}.exists(k, true): the macro, the literal, its key and value, and one and the predicate
   pub every_key : work_of (method (map_literal ((str "a", num 1) ∷ [])) "exists" (name "k" ∷ yes ∷ [])) review ≡ 6
   -- [1, 2].map(x, x == 2, x): the transform is visited for one item
-  pub chosen_items : work_of (method (list_literal (num 1 ∷ num 2 ∷ [])) "map" (name "x" ∷ binary Equal (name "x") (num 2) ∷ name "x" ∷ [])) review ≡ 13
+  pub chosen_items : work_of (method (list_literal (num 1 ∷ num 2 ∷ [])) "map" (name "x" ∷ binary Equal (name "x") (num 2) ∷ name "x" ∷ []))
+      review
+      ≡ 13
   -- [1, 2].map(x, x)
   pub every_transform : work_of (method (list_literal (num 1 ∷ num 2 ∷ [])) "map" (name "x" ∷ name "x" ∷ [])) review ≡ 8
   -- dyn(1).all(x, true): the macro, the call and its literal, and no item
@@ -72,8 +81,11 @@ pub record CostRows : Type 0 where
   pub error_spent : spent_of (binary Divide (num 1) (num 0)) review ≡ 27
   -- [1, 2].all(x, false): eight visits, of which the two items have no size of their own; results of 1, 3, 1, 1, 1 and 1
   pub items_spent : spent_of (method (list_literal (num 1 ∷ num 2 ∷ [])) "all" (name "x" ∷ no ∷ [])) review ≡ 72
-  -- [1, 2].map(x, x == 2, 'ab'): thirteen visits; results of 4, 3, 1 and 1, three of 1 for each item, and 3 for the one transform, with its text of 3
-  pub transform_spent : spent_of (method (list_literal (num 1 ∷ num 2 ∷ [])) "map" (name "x" ∷ binary Equal (name "x") (num 2) ∷ str "ab" ∷ [])) review ≡ 125
+  -- [1, 2].map(x, x == 2, 'ab'): thirteen visits; results of 4, 3, 1 and 1, three of 1 for each item, and 3 for the one
+  -- transform, with its text of 3
+  pub transform_spent : spent_of
+      (method (list_literal (num 1 ∷ num 2 ∷ [])) "map" (name "x" ∷ binary Equal (name "x") (num 2) ∷ str "ab" ∷ [])) review
+      ≡ 125
   -- 'ab'.size(): two nodes, results of 1 and 3, and a text of 3
   pub method_spent : spent_of (method (str "ab") "size" []) review ≡ 23
   -- [x] where x has depth 254, and where it has depth 255
@@ -87,7 +99,8 @@ pub record CostRows : Type 0 where
   pub deep_in_error : IsDeepAt (list_literal (binary Divide (num 1) (num 0) ∷ name "x" ∷ [])) 254
   -- [1].map(i, x), and with the predicate i > 1
   pub deep_transform : IsDeepAt (method (list_literal (num 1 ∷ [])) "map" (name "i" ∷ name "x" ∷ [])) 254
-  pub deep_transform_not_kept : IsShallowAt (method (list_literal (num 1 ∷ [])) "map" (name "i" ∷ binary Greater (name "i") (num 1) ∷ name "x" ∷ [])) 254
+  pub deep_transform_not_kept : IsShallowAt
+      (method (list_literal (num 1 ∷ [])) "map" (name "i" ∷ binary Greater (name "i") (num 1) ∷ name "x" ∷ [])) 254
   -- x.filter(i, true), whose item has depth 255, and where it is not kept
   pub deep_item : IsDeepAt (method (name "x") "filter" (name "i" ∷ yes ∷ [])) 255
   pub deep_item_not_kept : IsShallowAt (method (name "x") "filter" (name "i" ∷ no ∷ [])) 255

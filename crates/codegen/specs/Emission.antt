@@ -44,10 +44,11 @@ setting r = scope_setting r.image r.is_deep r.scope
 abbrev pub context : Running → Context
 context r = scope_context r.roots [] [] r.constants (r.scope ++ r.later)
 
--- what the expression means there, and what its evaluation costs
+-- what the expression means there
 abbrev pub meaning_in : Running → CoreTree → ValueOrError
 meaning_in r e = meaning (plain_tree e) (environment_in r.roots [] r.scope)
 
+-- what its evaluation costs there
 abbrev pub cost_in : Running → CoreTree → Cost
 cost_in r e = cost (plain_tree e) (environment_in r.roots [] r.scope)
 

@@ -6,16 +6,19 @@ use Rattle.cel_measures.specs.Saturated.{saturated}
 use Rattle.codegen.specs.Constants.{joined}
 use Rattle.codegen_base.specs.Pieces.{slots}
 
--- the instruction that begins at each slot of the code; the texts that the code names; the nodes for which it stands; and the slots at which the variables' routines begin, in their order
+-- the instruction that begins at each slot of the code; the texts that the code names; the nodes for which it stands;
+-- and the slots at which the variables' routines begin, in their order
 pub record Emitted : Type 0 where
   pub code : List (Option Insn)
   pub constants : List (List ℕ)
   pub nodes : ℕ
   pub routines : List ℕ
 
+-- nothing was taken yet
 abbrev pub no_code : Emitted
 no_code = record { code = []; constants = []; nodes = 0; routines = [] }
 
+-- a piece put behind the code
 abbrev pub with_piece : Emitted → List Insn → Emitted
 with_piece e piece = record e { code = e.code ++ slots piece }
 
@@ -23,6 +26,7 @@ with_piece e piece = record e { code = e.code ++ slots piece }
 abbrev pub with_insn_at : Emitted → ℕ → Insn → Emitted
 with_insn_at e slot i = record e { code = slice_set e.code slot (Some i) }
 
+-- so many more nodes; 64 bits hold their number, or the greatest that they hold stands for it
 abbrev pub with_nodes : Emitted → ℕ → Emitted
 with_nodes e n = record e { nodes = saturated (e.nodes + n) }
 

@@ -4,6 +4,7 @@ use Rattle.cel_reader.specs.Tree.{Tree, Trees, Entries, no_trees, more_trees, no
 use Rattle.cel_reader.specs.WellFormed.{IsWellFormedLiteral}
 
 abbrev mutual
+  -- the literals of an expression are values
   pub HasLiterals : Tree → Type 0
   HasLiterals (tree.literal l) = IsWellFormedLiteral l
   HasLiterals (tree.name n) = Unit {0}
@@ -17,10 +18,12 @@ abbrev mutual
   HasLiterals (tree.list items) = HaveLiterals items
   HasLiterals (tree.map pairs) = EntriesHaveLiterals pairs
 
+  -- those of each of the expressions are
   pub HaveLiterals : Trees → Type 0
   HaveLiterals no_trees = Unit {0}
   HaveLiterals (more_trees a more) = HasLiterals a × HaveLiterals more
 
+  -- those of each key and each value are
   pub EntriesHaveLiterals : Entries → Type 0
   EntriesHaveLiterals no_entries = Unit {0}
   EntriesHaveLiterals (more_entries k v more) = HasLiterals k × HasLiterals v × EntriesHaveLiterals more

@@ -26,23 +26,33 @@ use Rattle.codegen.specs.Code.Expressions.{code_of, routine_code}
 
 -- code takes at most 63 slots for each node, and 8 less, so that jumps in the code of 512 nodes fit 16 bits
 abbrev pub CodeIsShort : Type 0
-CodeIsShort = (e : CoreTree) (texts : List (List ℕ)) (routines words : List (List ℕ × ℕ)) (k p : ℕ) → size (code_of e texts routines words k p) + 8 ≤ 63 * nodes e
+CodeIsShort = (e : CoreTree) (texts : List (List ℕ)) (routines words : List (List ℕ × ℕ)) (k p : ℕ)
+    → size (code_of e texts routines words k p) + 8 ≤ 63 * nodes e
 
 -- what the type checker takes has code, in the scope that it is given
 abbrev pub TypedIsAccepted : Type 0
-TypedIsAccepted = (e : CoreTree) (declared : List Declaration) (t : CelType) → core_typing e (scope_of declared) ≡ typed t → IsAccepted e (each (λ d. d.name) declared)
+TypedIsAccepted = (e : CoreTree) (declared : List Declaration) (t : CelType) → core_typing e (scope_of declared) ≡ typed t
+    → IsAccepted e (each (λ d. d.name) declared)
 
--- wherever it stands, the code of an expression, which may use the variables of a scope, leaves what the expression means, within 128 steps a visit and 16 times what is spent, beside what the first uses of variables take, or is stopped where its charge would pass the limit or a value may be too deep; later variables may stand behind the scope, whose first uses do not count
+-- wherever it stands, the code of an expression, which may use the variables of a scope, leaves what the expression
+-- means, within 128 steps a visit and 16 times what is spent, beside what the first uses of variables take, or is
+-- stopped where its charge would pass the limit or a value may be too deep; later variables may stand behind the scope,
+-- whose first uses do not count
 abbrev pub CodeGives : Type 0
-CodeGives = (image : Contents) (deep : Bool) (roots : Roots) (constants : List ℕ) (scope later : List Variable) (texts : List (List ℕ)) (items : List (List ℕ × Value)) (words : List (List ℕ × ℕ)) (depth k p : ℕ) (e : CoreTree)
+CodeGives =
+    (image : Contents) (deep : Bool) (roots : Roots) (constants : List ℕ) (scope later : List Variable) (texts : List (List ℕ))
+    (items : List (List ℕ × Value)) (words : List (List ℕ × ℕ)) (depth k p : ℕ) (e : CoreTree)
     → IsScope image deep roots constants scope → length scope ≤ 512 → HasLiterals (plain_tree e)
-    → let s = scope_setting image deep scope in let c = scope_context roots items words constants (scope ++ later) in let env = environment_in roots items scope in
+    → let s = scope_setting image deep scope in let c = scope_context roots items words constants (scope ++ later) in
+    let env = environment_in roots items scope in
     Ready s scope texts c depth k e (cost (plain_tree e) env).is_deep
     → Computes s p (code_of e texts (routines scope) words k p) c depth k (meaning (plain_tree e) env) (cost (plain_tree e) env)
 
 -- where the routine of an expression stands, which may use the first variables of a scope, the scope grows by the expression's variable
 abbrev pub RoutineGives : Type 0
-RoutineGives = (image : Contents) (deep : Bool) (roots : Roots) (constants : List ℕ) (scope later : List Variable) (texts : List (List ℕ)) (name : List ℕ) (p : ℕ) (e : CoreTree)
+RoutineGives =
+    (image : Contents) (deep : Bool) (roots : Roots) (constants : List ℕ) (scope later : List Variable) (texts : List (List ℕ))
+    (name : List ℕ) (p : ℕ) (e : CoreTree)
     → IsScope image deep roots constants (scope ++ later) → length scope ≤ 512 → HasLiterals (plain_tree e)
     → let s = scope_setting image deep (scope ++ later) in let c = scope_context roots [] [] constants (scope ++ later) in
     Ready s scope texts c 1 0 e (cost (plain_tree e) (environment_in roots [] scope)).is_deep
@@ -56,4 +66,5 @@ TextsStay = (texts used later : List (List ℕ)) → length (joined (with_texts 
 
 -- from the jump before a routine the machine comes to the slot behind it, in one step that changes nothing else
 abbrev pub RoutineIsPassed : Type 0
-RoutineIsPassed = (s : Setting) (p : ℕ) (piece : List Insn) (b : Body) → Stands s.image.code p (passed piece) → Comes s 1 0 p b (p + size (passed piece)) (λ new. new ≡ b)
+RoutineIsPassed = (s : Setting) (p : ℕ) (piece : List Insn) (b : Body) → Stands s.image.code p (passed piece)
+    → Comes s 1 0 p b (p + size (passed piece)) (λ new. new ≡ b)

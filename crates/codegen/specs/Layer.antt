@@ -1,4 +1,5 @@
--- What code gives as an emitter makes it: for each expression that the type checker takes in a scope of the variables that were taken first.
+-- What code gives as an emitter makes it: for each expression that the type checker takes in a scope of the variables
+-- that were taken first.
 use Rattle.std.specs.Prelude.{◌≡◌, ℕ, ◌+◌, ◌≤◌, Bool, true, List, [], ◌∷◌, ◌++◌, length}
 use Rattle.std.specs.Prelude.{map as each}
 use Rattle.std.specs.List.{AllByRecursion}
@@ -43,17 +44,24 @@ pub record HasConstants (constants : List ℕ) (texts : List (List ℕ)) (e : Co
   pub constants_are : constants ≡ joined (with_texts (with_texts texts (texts_of e)) more)
   pub few : length constants ≤ 1048576
 
--- in each image in which it stands at slot p, and in each frame above which there are frames enough for its variables, the code of the expression gives what the expression means, within 128 steps a visit and 16 times what is spent, beside what those variables of its scope take that are first used in it
+-- in each image in which it stands at slot p, and in each frame above which there are frames enough for its variables,
+-- the code of the expression gives what the expression means, within 128 steps a visit and 16 times what is spent,
+-- beside what those variables of its scope take that are first used in it
 abbrev pub GivesMeaning : List (List ℕ) → List ℕ → List Declaration → CoreTree → ℕ → Type 0
-GivesMeaning texts slots declarations e p = (image : Contents) (deep : Bool) (roots : Roots) (constants : List ℕ) (scope later : List Variable) (frame : ℕ)
-    → AreTaken slots declarations scope later → frame + deepest e (depths_of declarations) ≤ 7 → length scope ≤ 512 → HasConstants constants texts e
+GivesMeaning texts slots declarations e p =
+    (image : Contents) (deep : Bool) (roots : Roots) (constants : List ℕ) (scope later : List Variable) (frame : ℕ)
+    → AreTaken slots declarations scope later → frame + deepest e (depths_of declarations) ≤ 7 → length scope ≤ 512
+    → HasConstants constants texts e
     → IsScope image deep roots constants scope
     → let tree = plain_tree e in let env = environment_in roots [] scope in (IsDeep tree env → deep ≡ true)
-    → Computes (scope_setting image deep scope) p (code_of e (with_texts texts (texts_of e)) (routines_of declarations slots) [] 0 p) (scope_context roots [] [] constants (scope ++ later)) frame 0 (meaning tree env) (cost tree env)
+    → Computes (scope_setting image deep scope) p (code_of e (with_texts texts (texts_of e)) (routines_of declarations slots) [] 0 p)
+    (scope_context roots [] [] constants (scope ++ later)) frame 0 (meaning tree env) (cost tree env)
 
--- in each image in which the expression's routine stands at slot p, as that of a variable that is no deeper than 6, the variables that were taken are a scope with this one more
+-- in each image in which the expression's routine stands at slot p, as that of a variable that is no deeper than 6, the
+-- variables that were taken are a scope with this one more
 abbrev pub JoinsScope : List (List ℕ) → List ℕ → List Declaration → CoreTree → ℕ → Type 0
-JoinsScope texts slots declarations e p = (image : Contents) (deep : Bool) (roots : Roots) (constants : List ℕ) (scope later : List Variable) (name : List ℕ)
+JoinsScope texts slots declarations e p =
+    (image : Contents) (deep : Bool) (roots : Roots) (constants : List ℕ) (scope later : List Variable) (name : List ℕ)
     → AreTaken slots declarations scope later → depth e (depths_of declarations) ≤ 6 → length scope ≤ 512 → HasConstants constants texts e
     → IsScope image deep roots constants (scope ++ later)
     → (IsDeep (plain_tree e) (environment_in roots [] scope) → deep ≡ true)
@@ -64,26 +72,36 @@ JoinsScope texts slots declarations e p = (image : Contents) (deep : Bool) (root
 abbrev pub IsTakenBehind : List (List ℕ) → List ℕ → List Declaration → CoreTree → ℕ → Type 0
 IsTakenBehind texts slots declarations e p = (roots : Roots) (scope : List Variable) (name : List ℕ) (t : CelType)
     → AreTaken slots declarations scope []
-    → AreTaken (slots ++ p ∷ []) (declarations ++ declared name t (depth e (depths_of declarations)) ∷ []) (scope ++ variable_of roots scope (with_texts texts (texts_of e)) name e p ∷ []) []
+    → AreTaken (slots ++ p ∷ []) (declarations ++ declared name t (depth e (depths_of declarations)) ∷ [])
+    (scope ++ variable_of roots scope (with_texts texts (texts_of e)) name e p ∷ []) []
 
+-- so it is with each expression that the type checker takes
 abbrev pub ExpressionGives : Type 0
-ExpressionGives = (texts : List (List ℕ)) (slots : List ℕ) (declarations : List Declaration) (e : CoreTree) (p : ℕ) → IsExpression declarations e → GivesMeaning texts slots declarations e p
+ExpressionGives = (texts : List (List ℕ)) (slots : List ℕ) (declarations : List Declaration) (e : CoreTree) (p : ℕ)
+    → IsExpression declarations e → GivesMeaning texts slots declarations e p
 
 -- where no variable is deeper than 6, the frames of a machine are enough for an expression in the first or second one
 abbrev pub FramesAreEnough : Type 0
 FramesAreEnough = (declarations : List Declaration) (e : CoreTree) → AreShallow declarations → deepest e (depths_of declarations) ≤ 6
 
+-- so it is with the routine of each such expression
 abbrev pub VariableJoins : Type 0
-VariableJoins = (texts : List (List ℕ)) (slots : List ℕ) (declarations : List Declaration) (e : CoreTree) (p : ℕ) → IsExpression declarations e → JoinsScope texts slots declarations e p
+VariableJoins = (texts : List (List ℕ)) (slots : List ℕ) (declarations : List Declaration) (e : CoreTree) (p : ℕ)
+    → IsExpression declarations e → JoinsScope texts slots declarations e p
 
+-- and so it is with each expression and each name
 abbrev pub VariableIsTaken : Type 0
-VariableIsTaken = (texts : List (List ℕ)) (slots : List ℕ) (declarations : List Declaration) (e : CoreTree) (p : ℕ) → IsTakenBehind texts slots declarations e p
+VariableIsTaken = (texts : List (List ℕ)) (slots : List ℕ) (declarations : List Declaration) (e : CoreTree) (p : ℕ)
+    → IsTakenBehind texts slots declarations e p
 
 -- the expression's code, put behind the emitter's, gives its meaning, where the type checker takes it in the scope
 abbrev pub EmitsMeaning : Emitted → List Declaration → CoreTree → Type 0
-EmitsMeaning emitter declarations e = (t : CelType) → core_typing e (scope_of declarations) ≡ typed t → GivesMeaning emitter.constants emitter.routines declarations e (length emitter.code)
+EmitsMeaning emitter declarations e =
+    (t : CelType) → core_typing e (scope_of declarations) ≡ typed t
+    → GivesMeaning emitter.constants emitter.routines declarations e (length emitter.code)
 
 -- the expression's routine, put behind the emitter's code and a jump over it, is that of the next variable
 abbrev pub EmitsRoutine : Emitted → List Declaration → CoreTree → Type 0
 EmitsRoutine emitter declarations e = (t : CelType) → core_typing e (scope_of declarations) ≡ typed t
-    → JoinsScope emitter.constants emitter.routines declarations e (length emitter.code + 1) × IsTakenBehind emitter.constants emitter.routines declarations e (length emitter.code + 1)
+    → JoinsScope emitter.constants emitter.routines declarations e (length emitter.code + 1)
+    × IsTakenBehind emitter.constants emitter.routines declarations e (length emitter.code + 1)

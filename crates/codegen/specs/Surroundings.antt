@@ -15,9 +15,11 @@ use Rattle.codegen.specs.FrameWords.{words_of, AreWords}
 abbrev pub routines_of : List Declaration → List ℕ → List (List ℕ × ℕ)
 routines_of declarations slots = zip (map (λ d. d.name) declarations) slots
 
+-- the texts that stand among the constants
 abbrev pub texts_within : Surroundings → List (List ℕ)
 texts_within around = map string_bytes around.texts.now
 
+-- the variables that the expression may use, each with the first slot of its routine
 abbrev pub routines_within : Surroundings → List (List ℕ × ℕ)
 routines_within around = routines_of (map declaration around.variables.now) around.routines.now
 

@@ -90,12 +90,16 @@ pub(crate) fn skip(slots: usize) -> Insn
     }
 }
 
-/// A jump to the instruction so many slots before this one.
-pub(crate) fn go_back(slots: usize) -> Insn
+/// A jump to the instruction so many slots before this one where the registers compare so.
+pub(crate) fn back_where(comparison: Comparison, dst: Register, src: Register, slots: usize) -> Insn
     requires { slots < 32768 }
-    ensures { result ≡ specs.go_back slots }
+    ensures { result ≡ specs.back_where comparison dst src slots }
 {
-    Insn::Jump {
+    Insn::Branch {
+        comparison,
+        width: Width::W64,
+        dst,
+        operand: Operand::Reg(src),
         offset: -1 - slots as i16,
     }
 }

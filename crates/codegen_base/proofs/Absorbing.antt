@@ -7,7 +7,7 @@ use Rattle.insn_codec.specs.declared.comparison.Comparison.TheVariants.{Eq, Ne}
 use Rattle.insn_codec.specs.declared.insn.Insn.{Insn}
 use Rattle.insn_codec.specs.declared.register.Register.TheVariants.{R0, R1}
 use Rattle.insn_codec.specs.declared.width.Width.TheVariants.{W64}
-use Rattle.value_store.specs.Value.{ValueOrError, error}
+use Rattle.value_store.specs.Value.{ValueOrError, error, value}
 use Rattle.cel_macros.specs.FoldMeaning.{is_error}
 use Rattle.cel_macros.specs.Logic.{truth}
 use Rattle.bpf_machine.specs.Words.{compares}
@@ -39,6 +39,12 @@ is_leaves Decides = false
 is_leaves Leaves = true
 is_leaves Neither = false
 
+-- a side that is neither truth is the error
+abbrev is_fine_by : Side → Bool → Bool
+is_fine_by Decides e = true
+is_fine_by Leaves e = true
+is_fine_by Neither e = e
+
 -- what tests of a reference say of a side
 pub record Tested (decides other : ℤ) (side : Side) (r : ℕ) : Type 0 where
   pub decided : compares W64 Eq r (cast_unsigned w64 decides) ≡ is_decides side
@@ -53,8 +59,17 @@ pub record Absorbing (decides other : ℤ) (f : ValueOrError → ValueOrError �
   pub left_decides : (x y : ValueOrError) → side x ≡ Decides → f x y ≡ x
   pub right_decides : (x y : ValueOrError) → side y ≡ Decides → f x y ≡ y
   pub both_leave : (x y : ValueOrError) → side x ≡ Leaves → side y ≡ Leaves → f x y ≡ y
+  pub one_leaves : (x y : ValueOrError) → side x ≡ Leaves → side y ≡ Leaves → x ≡ y
   pub left_neither : (x y : ValueOrError) → side x ≡ Neither → is_decides (side y) ≡ false → f x y ≡ error
   pub right_neither : (x y : ValueOrError) → is_decides (side x) ≡ false → side y ≡ Neither → f x y ≡ error
+
+-- an answer of the operator: what is neither truth is the error
+abbrev pub is_answer : {decides other : ℤ} {f : ValueOrError → ValueOrError → ValueOrError} → Absorbing decides other f → ValueOrError → Bool
+is_answer op z = is_fine_by (op.side z) (is_error z)
+
+error_is : (x : ValueOrError) → is_error x ≡ true → x ≡ error
+error_is error e = refl
+error_is (value v) e = absurd (cc)
 
 pub told_in : (c : Context) (depth base r : ℕ) (x : ValueOrError) (b : Body) → Fits c depth base b → Names b.values.values r x → Told (truth x) (is_error x) r
 told_in c depth base r x b fits named = told b.values r x fits.values.table.store fits.values.canonical named
@@ -81,6 +96,28 @@ module _ (decides other : ℤ) (f : ValueOrError → ValueOrError → ValueOrErr
       either (is_decides (op.side y))
       (λ is. ap (λ (a : ValueOrError). is_decides (op.side a)) (op.right_decides x y (decides_is (op.side y) is)))
       (λ is_not. undecided_by (op.side x) (op.side y) refl refl early is_not ∙ sym is_not)
+
+  stays_by : (t : Side) → op.side x ≡ t → is_fine_by t (is_error x) ≡ true → is_decides t ≡ false → op.side y ≡ Leaves → f x y ≡ x
+  stays_by Decides is_left fine early is_right = absurd (cc)
+  stays_by Leaves is_left fine early is_right = op.both_leave x y is_left is_right ∙ sym (op.one_leaves x y is_left is_right)
+  stays_by Neither is_left fine early is_right = op.left_neither x y is_left (ap is_decides is_right) ∙ sym (error_is x fine)
+
+  -- the other truth on the right side leaves an answer on the left as it is
+  pub left_stays : is_answer op x ≡ true → is_decides (op.side x) ≡ false → op.side y ≡ Leaves → f x y ≡ x
+  left_stays fine early is_right = stays_by (op.side x) refl fine early is_right
+
+  answer_by_sides : (t u : Side) → op.side x ≡ t → op.side y ≡ u → is_answer op x ≡ true → is_answer op (f x y) ≡ true
+  answer_by_sides Decides u is_left is_right fine = ap (is_answer op) (op.left_decides x y is_left) ∙ fine
+  answer_by_sides Leaves Decides is_left is_right fine = ap (is_answer op) (op.right_decides x y is_right) ∙ ap (λ (side : Side). is_fine_by side (is_error y)) is_right
+  answer_by_sides Neither Decides is_left is_right fine = ap (is_answer op) (op.right_decides x y is_right) ∙ ap (λ (side : Side). is_fine_by side (is_error y)) is_right
+  answer_by_sides Leaves Leaves is_left is_right fine = ap (is_answer op) (left_stays fine (ap is_decides is_left) is_right) ∙ fine
+  answer_by_sides Neither Leaves is_left is_right fine = ap (is_answer op) (left_stays fine (ap is_decides is_left) is_right) ∙ fine
+  answer_by_sides Leaves Neither is_left is_right fine = ap (is_answer op) (op.right_neither x y (ap is_decides is_left) is_right) ∙ ap (λ (side : Side). is_fine_by side true) op.of_error
+  answer_by_sides Neither Neither is_left is_right fine = ap (is_answer op) (op.right_neither x y (ap is_decides is_left) is_right) ∙ ap (λ (side : Side). is_fine_by side true) op.of_error
+
+  -- and an answer with it makes one
+  pub answer_stays : is_answer op x ≡ true → is_answer op (f x y) ≡ true
+  answer_stays fine = answer_by_sides (op.side x) (op.side y) refl refl fine
 
   -- a right side that decides is the answer
   pub right_named : (values : List ValueOrError) (r : ℕ) → Names values r y → is_decides (op.side y) ≡ true → Names values r (f x y)

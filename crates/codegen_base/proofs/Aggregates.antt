@@ -16,12 +16,11 @@ use Rattle.codegen_base.specs.Gives.Aggregates.{Builds, Made, MadeFrom}
 use Rattle.codegen_base.specs.Instructions as insn
 use Rattle.codegen_base.specs.Pieces.{Stands, size}
 use Rattle.codegen_base.specs.Words.{set_word, word_at}
-use Rattle.codegen_base.proofs.Frames.{fits_above, keeps_same, keeps_then, shows_after, shows_registers, stored}
+use Rattle.codegen_base.proofs.Frames.{fits_above, keeps_same, keeps_then, shows_after, stored}
 use Rattle.codegen_base.proofs.Listings.{ask, begins, store}
 use Rattle.codegen_base.proofs.Operators.{shows_placed}
-use Rattle.codegen_base.proofs.Pieces.{size-append, stands_back, stands_first, stands_front}
+use Rattle.codegen_base.proofs.Pieces.{size-append, stands_back, stands_front}
 use Rattle.codegen_base.proofs.Runs.{and_then, done, into, looser, to_place}
-use Rattle.codegen_base.proofs.Steps as step
 use Rattle.codegen_base.proofs.Values.{small_reference}
 
 -- a word in use names what it named
@@ -36,6 +35,7 @@ made_stored c depth k x a b low within shown =
     let st = stored c depth k k r b shown.fits (omega arith) low (small_reference b.values r x shown.fits.values.table shown.shows) in
     record {
       made = record { named = subst (λ (w : ℕ). Names b.values.values w x) (sym st.here) shown.shows; within = within; fits = st.fits };
+      shows = shown.shows;
       keeps = keeps_then (omega arith) shown.keeps st.keeps;
     }
 
@@ -62,21 +62,21 @@ part_runs s p k part c depth l x n m b low has made gives =
 
 pub builds_nothing : (s : Setting) (p : ℕ) (c : Context) (depth k : ℕ) → Builds s p [] c depth k (λ x. x) 0 0
 builds_nothing s p c depth k = record {
-  runs = λ b x has made. to_place s (p + 0) (omega arith) (done s p b (MadeFrom c depth k x b) (record { made = made; keeps = keeps_same (variable_count c) depth k b }));
+  runs = λ b x has made named. to_place s (p + 0) (omega arith) (done s p b (MadeFrom c depth k x b) (record { made = made; shows = named; keeps = keeps_same (variable_count c) depth k b }));
 }
 
 pub builds_then : (s : Setting) (p k : ℕ) (first second : List Insn) (c : Context) (depth : ℕ) (f g : ValueOrError → ValueOrError) (n1 x1 n2 x2 : ℕ) → Builds s p first c depth k f n1 x1 → Builds s (p + size first) second c depth k g n2 x2 → Builds s p (first ++ second) c depth k (λ x. g (f x)) (n1 + n2) (x1 + x2)
 builds_then s p k first second c depth f g n1 x1 n2 x2 before after = record {
-  runs = λ b x has made.
+  runs = λ b x has made named.
       let q = p + size first in
       let place : q + size second ≡ p + size (first ++ second) = omega (arith, size-append first second) in
       let Q = MadeFrom c depth k (g (f x)) b in
       to_place s _ place
-      (and_then s n2 x2 (q + size second) Q (before.runs b x (stands_front s.image.code p first second has) made) (λ b1 g1.
-      into s Q (λ b2 g2. record { made = g2.made; keeps = keeps_then (omega arith) g1.keeps g2.keeps }) (after.runs b1 (f x) (stands_back s.image.code p first second has) g1.made)));
+      (and_then s n2 x2 (q + size second) Q (before.runs b x (stands_front s.image.code p first second has) made named) (λ b1 g1.
+      into s Q (λ b2 g2. record { made = g2.made; shows = g2.shows; keeps = keeps_then (omega arith) g1.keeps g2.keeps }) (after.runs b1 (f x) (stands_back s.image.code p first second has) g1.made g1.shows)));
 }
 
--- ---- a literal: an empty list or map, its parts, and R0 at last
+-- ---- a literal: an empty list or map, and its parts
 
 module _ (s : Setting) (p k : ℕ) (helper : ℤ) (empty : ValueOrError) (low : k < 64) (flat : result_depth empty ≤ depth_limit) (c : Context) (depth : ℕ) where
   abbrev head : List Insn
@@ -92,22 +92,15 @@ module _ (s : Setting) (p k : ℕ) (helper : ℤ) (empty : ValueOrError) (low : 
       store has 1 k refl shown.fits.frame low
       (done s (p + 2) _ _ (made_stored c depth k empty b b1 low flat shown)))))
 
-  pub literal_runs : (parts : List Insn) (f : ValueOrError → ValueOrError) (n x : ℕ) → ((b : Body) → Fits c depth k b → Places helper b empty 1) → Builds s (p + 2) parts c depth k f n x → Gives s p (head ++ (parts ++ insn.load R0 k ∷ [])) c depth k (f empty) (2 + (n + 1)) (1 + x)
+  pub literal_runs : (parts : List Insn) (f : ValueOrError → ValueOrError) (n x : ℕ) → ((b : Body) → Fits c depth k b → Places helper b empty 1) → Builds s (p + 2) parts c depth k f n x → Gives s p (head ++ parts) c depth k (f empty) (2 + n) (1 + x)
   literal_runs parts f n x answers builds = record {
     runs = λ b has fits.
         let code = s.image.code in
-        let last = insn.load R0 k ∷ [] in
-        let h1 = stands_back code p head (parts ++ last) has in
         let q = p + 2 + size parts in
-        let h2 = stands_back code (p + 2) parts last h1 in
-        let place : q + 1 ≡ p + size (head ++ (parts ++ last)) = omega (arith, size-append head (parts ++ last), size-append parts last) in
+        let place : q ≡ p + size (head ++ parts) = omega (arith, size-append head parts) in
         let Q = Shows c depth k (f empty) b in
         to_place s _ place
-        (and_then s (n + 1) x (q + 1) Q (head_runs b (stands_front code p head (parts ++ last) has) fits (answers b fits)) (λ b1 g1.
-        looser s {n = n + 1} {x = x + 0} (n + 1) x (omega arith) (omega arith)
-        (and_then s 1 0 (q + 1) Q (builds.runs b1 empty (stands_front code (p + 2) parts last h1) g1.made) (λ b2 g2.
-        step.load s q (q + 1) b2 depth k R0 (stands_first code q (insn.load R0 k) [] h2) g2.made.fits.frame low refl refl
-        (done s (q + 1) _ Q
-        (let shown = shows_registers c depth k b2 _ refl (f empty) g2.made.fits g2.made.named in
-        record { shows = shown.shows; fits = shown.fits; keeps = keeps_then (omega arith) (keeps_then (omega arith) g1.keeps g2.keeps) shown.keeps }))))));
+        (and_then s n x q Q (head_runs b (stands_front code p head parts has) fits (answers b fits)) (λ b1 g1.
+        into s Q (λ b2 g2. record { shows = g2.shows; fits = g2.made.fits; keeps = keeps_then (omega arith) g1.keeps g2.keeps })
+        (builds.runs b1 empty (stands_back code p head parts has) g1.made g1.shows)));
   }

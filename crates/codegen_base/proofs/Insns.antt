@@ -24,7 +24,7 @@ use Rattle.codegen_base.specs.Code.Selection.{call_with_text, field_tail, has_ta
 use Rattle.codegen_base.specs.Code.Folds.{absorbing_turn, exists_one_end, exists_one_turn, filter_turn, first_empty, first_false, first_true, macro_code, map_turn, map_where_code, map_where_turn}
 use Rattle.codegen_base.specs.Code.Literals.{int_code, null_code, text_code, truth_code}
 use Rattle.codegen_base.specs.Code.Names.{held_code, name_code, reference_or_error, root_reference, root_references}
-use Rattle.codegen_base.specs.Instructions.{copy, load, put, skip}
+use Rattle.codegen_base.specs.Instructions.{copy, load, put, skip, store}
 use Rattle.codegen_base.specs.Loops.{fold_code, loop_code, loop_head, loop_tail, range_tail}
 use Rattle.codegen_base.specs.Pieces.{AreInsns, size}
 use Rattle.codegen_base.specs.Variables.{memo_tail, use_code}
@@ -176,14 +176,14 @@ pub item_insns : (item : List Insn) (k : ℕ) → k < 64 → AreInsns item → A
 item_insns item k below first = insns_append item (push_tail k) first (tt, (word_in_range k below, (omega arith, (word_in_range k below, tt))))
 
 pub list_insns : (items : List Insn) (k : ℕ) → k < 64 → AreInsns items → AreInsns (list_code items k)
-list_insns items k below first = insns_append (list_head k) _ (omega arith, (word_in_range k below, tt)) (insns_append items _ first (word_in_range k below, tt))
+list_insns items k below first = insns_append (list_head k) items (omega arith, (word_in_range k below, tt)) first
 
 pub entry_insns : (key entry : List Insn) (k : ℕ) → k < 63 → AreInsns key → AreInsns entry → AreInsns (entry_code key entry k)
 entry_insns key entry k below first second =
     insns_append key _ first (word_in_range (k + 1) (omega arith), insns_append entry (entry_tail k) second (tt, (word_in_range (k + 1) (omega arith), (word_in_range k (omega arith), (omega arith, (word_in_range k (omega arith), tt))))))
 
 pub map_insns : (entries : List Insn) (k : ℕ) → k < 64 → AreInsns entries → AreInsns (map_code entries k)
-map_insns entries k below first = insns_append (map_head k) _ (omega arith, (word_in_range k below, tt)) (insns_append entries _ first (word_in_range k below, tt))
+map_insns entries k below first = insns_append (map_head k) entries (omega arith, (word_in_range k below, tt)) first
 
 -- ---- literals without parts, and names
 
@@ -228,10 +228,10 @@ loop_head_insns : (k off : ℕ) → k < 56 → off < 32768 → AreInsns (loop_he
 loop_head_insns k off below short = (word_in_range (k + 1) (omega arith), (word_in_range (k + 2) (omega arith), ((tt, over off short), (word_in_range k (omega arith), (omega arith, (word_in_range (k + 4) (omega arith), tt))))))
 
 loop_tail_insns : (k off : ℕ) → k < 56 → off < 32768 → AreInsns (loop_tail k off)
-loop_tail_insns k off below short = (word_in_range (k + 3) (omega arith), (word_in_range (k + 2) (omega arith), (omega arith, (word_in_range (k + 2) (omega arith), (omega (arith, ints), (word_in_range (k + 3) (omega arith), tt))))))
+loop_tail_insns k off below short = (word_in_range (k + 2) (omega arith), (omega arith, (word_in_range (k + 2) (omega arith), (word_in_range (k + 1) (omega arith), ((tt, omega (arith, ints)), (word_in_range (k + 3) (omega arith), tt))))))
 
 loop_insns : (k : ℕ) (turn : List Insn) → k < 56 → size turn ≤ short_size → AreInsns turn → AreInsns (loop_code k turn)
-loop_insns k turn below short first = insns_append (loop_head k (size turn + 8)) _ (loop_head_insns k (size turn + 8) below (omega arith)) (insns_append turn (loop_tail k (size turn + 10)) first (loop_tail_insns k (size turn + 10) below (omega arith)))
+loop_insns k turn below short first = insns_append (loop_head k (size turn + 8)) _ (loop_head_insns k (size turn + 8) below (omega arith)) (insns_append turn (loop_tail k (size turn + 7)) first (loop_tail_insns k (size turn + 7) below (omega arith)))
 
 pub fold_insns : (k : ℕ) (range first turn : List Insn) → k < 56 → size first + size turn ≤ short_size → AreInsns range → AreInsns first → AreInsns turn → AreInsns (fold_code k range first turn)
 fold_insns k range first turn below short one two three =
@@ -240,25 +240,25 @@ fold_insns k range first turn below short one two three =
     insns_append range _ one (insns_append (range_tail k off) _ (range_tail_insns k off below (omega arith)) (insns_append first _ two (word_in_range (k + 3) (omega arith), loop_insns k turn below (omega arith) three)))
 
 absorbing_turn_insns : (decides other : ℤ) (k : ℕ) → FitsSigned w32 decides → FitsSigned w32 other → k < 56 → AreInsns (absorbing_turn decides other k)
-absorbing_turn_insns decides other k d e below = ((d, omega arith), (word_in_range (k + 3) (omega arith), ((e, omega arith), ((e, omega arith), (omega arith, tt)))))
+absorbing_turn_insns decides other k d e below = ((d, omega arith), ((e, omega arith), (omega arith, (word_in_range (k + 3) (omega arith), tt))))
 
 once_turn_insns : (k : ℕ) → k < 56 → AreInsns (exists_one_turn k)
 unfolding exists_one_turn
-once_turn_insns k below = (word_in_range (k + 3) (omega arith), ((omega arith, omega arith), ((omega arith, omega arith), ((omega arith, omega arith), ((omega arith, omega arith), (omega arith, (omega arith, (omega arith, (omega arith, (tt, tt))))))))))
+once_turn_insns k below = ((omega arith, omega arith), ((omega arith, omega arith), (word_in_range (k + 3) (omega arith), ((omega arith, omega arith), ((omega arith, omega arith), (omega arith, (omega arith, (omega arith, (word_in_range (k + 3) (omega arith), tt)))))))))
 
 once_end_insns : AreInsns exists_one_end
 once_end_insns = ((omega arith, omega arith), ((omega arith, omega arith), (omega arith, tt)))
 
 filter_turn_insns : (k : ℕ) → k < 56 → AreInsns (filter_turn k)
 unfolding filter_turn
-filter_turn_insns k below = ((omega arith, omega arith), ((omega arith, omega arith), (word_in_range (k + 3) (omega arith), (word_in_range (k + 4) (omega arith), (omega arith, (omega arith, (word_in_range (k + 3) (omega arith), (omega arith, (omega arith, tt)))))))))
+filter_turn_insns k below = ((omega arith, omega arith), ((omega arith, omega arith), (word_in_range (k + 3) (omega arith), (word_in_range (k + 4) (omega arith), (omega arith, (omega arith, (omega arith, (word_in_range (k + 3) (omega arith), tt))))))))
 
 map_turn_insns : (k : ℕ) → k < 56 → AreInsns (map_turn k)
-map_turn_insns k below = (tt, (word_in_range (k + 3) (omega arith), (omega arith, tt)))
+map_turn_insns k below = (tt, (word_in_range (k + 3) (omega arith), (omega arith, (word_in_range (k + 3) (omega arith), tt))))
 
-where_turn_insns : (transform : List Insn) (k : ℕ) → k < 56 → size transform + 6 < 32768 → AreInsns transform → AreInsns (map_where_turn transform k)
+where_turn_insns : (transform : List Insn) (k : ℕ) → k < 56 → size transform + 7 < 32768 → AreInsns transform → AreInsns (map_where_turn transform k)
 where_turn_insns transform k below short first =
-    ((omega arith, over (size transform + 5) (omega arith)), ((omega arith, over (size transform + 6) (omega arith)), insns_append transform _ first (tt, (word_in_range (k + 3) (omega arith), (omega arith, (omega arith, (word_in_range (k + 3) (omega arith), (omega arith, (omega arith, tt)))))))))
+    ((omega arith, over (size transform + 7) (omega arith)), ((omega arith, over (size transform + 4) (omega arith)), insns_append transform _ first (tt, (word_in_range (k + 3) (omega arith), (omega arith, (omega arith, (omega arith, (word_in_range (k + 3) (omega arith), tt))))))))
 
 first_true_insns : AreInsns first_true
 first_true_insns = (omega arith, tt)
@@ -275,24 +275,24 @@ turned k range first part turn n one is few below short a b c d =
     let long = size-append part turn in
     fold_insns k range first (part ++ turn) below (omega arith) a b (insns_append part turn c d)
 
-size_once : (k : ℕ) → size (exists_one_turn k) ≡ 10
+size_once : (k : ℕ) → size (exists_one_turn k) ≡ 9
 unfolding exists_one_turn
 size_once k = refl
 
-size_filter : (k : ℕ) → size (filter_turn k) ≡ 9
+size_filter : (k : ℕ) → size (filter_turn k) ≡ 8
 unfolding filter_turn
 size_filter k = refl
 
 pub macro_insns : (m : Macro) (k : ℕ) (range part : List Insn) → k < 56 → size part + 50 ≤ short_size → AreInsns range → AreInsns part → AreInsns (macro_code m k range part)
-macro_insns All k range part below short first second = turned k range first_true part (absorbing_turn no_ref yes_ref k) 5 refl refl (omega arith) below short first first_true_insns second (absorbing_turn_insns no_ref yes_ref k (omega arith) (omega arith) below)
-macro_insns Exists k range part below short first second = turned k range first_false part (absorbing_turn yes_ref no_ref k) 5 refl refl (omega arith) below short first first_false_insns second (absorbing_turn_insns yes_ref no_ref k (omega arith) (omega arith) below)
-macro_insns ExistsOne k range part below short first second = insns_append (fold_code k range first_false (part ++ exists_one_turn k)) exists_one_end (turned k range first_false part (exists_one_turn k) 10 refl (size_once k) (omega arith) below short first first_false_insns second (once_turn_insns k below)) once_end_insns
-macro_insns Filter k range part below short first second = turned k range first_empty part (filter_turn k) 9 refl (size_filter k) (omega arith) below short first first_empty_insns second (filter_turn_insns k below)
-macro_insns Map k range part below short first second = turned k range first_empty part (map_turn k) 3 refl refl (omega arith) below short first first_empty_insns second (map_turn_insns k below)
+macro_insns All k range part below short first second = turned k range first_true part (absorbing_turn no_ref yes_ref k) 4 refl refl (omega arith) below short first first_true_insns second (absorbing_turn_insns no_ref yes_ref k (omega arith) (omega arith) below)
+macro_insns Exists k range part below short first second = turned k range first_false part (absorbing_turn yes_ref no_ref k) 4 refl refl (omega arith) below short first first_false_insns second (absorbing_turn_insns yes_ref no_ref k (omega arith) (omega arith) below)
+macro_insns ExistsOne k range part below short first second = insns_append (fold_code k range first_false (part ++ exists_one_turn k)) exists_one_end (turned k range first_false part (exists_one_turn k) 9 refl (size_once k) (omega arith) below short first first_false_insns second (once_turn_insns k below)) once_end_insns
+macro_insns Filter k range part below short first second = turned k range first_empty part (filter_turn k) 8 refl (size_filter k) (omega arith) below short first first_empty_insns second (filter_turn_insns k below)
+macro_insns Map k range part below short first second = turned k range first_empty part (map_turn k) 4 refl refl (omega arith) below short first first_empty_insns second (map_turn_insns k below)
 
-where_size : (transform : List Insn) (k : ℕ) → size (map_where_turn transform k) ≡ 2 + (size transform + 7)
+where_size : (transform : List Insn) (k : ℕ) → size (map_where_turn transform k) ≡ 2 + (size transform + 6)
 where_size transform k =
-    let tail = copy R2 R0 ∷ load R1 (k + 3) ∷ Call (pos 17) ∷ skip 3 ∷ load R0 (k + 3) ∷ skip 1 ∷ put R0 (pos 0) ∷ [] in
+    let tail = copy R2 R0 ∷ load R1 (k + 3) ∷ Call (pos 17) ∷ skip 1 ∷ put R0 (pos 0) ∷ store (k + 3) R0 ∷ [] in
     let long = size-append transform tail in
     let whole : size (map_where_turn transform k) ≡ suc (suc (size (transform ++ tail))) = refl in
     omega arith

@@ -110,14 +110,14 @@ module _ (s : Setting) (k : ℕ) (c : Context) (depth : ℕ) (low : k < 60) (l x
 
 item_builds : (s : Setting) (p k : ℕ) (part : List Insn) (c : Context) (depth : ℕ) (x : ValueOrError) (n m : ℕ) → k < 60 → MayHold s x → Gives s p part c depth (k + 1) x n m → Builds s p (item_code part k) c depth k (λ l. pushed l x) (n + 4) (m + 2)
 item_builds s p k part c depth x n m low held gives = record {
-  runs = λ b l has made.
+  runs = λ b l has made named.
       let code = s.image.code in
       let q = p + size part in
       let place : q + 4 ≡ p + size (item_code part k) = omega (arith, size-append part (push_tail k)) in
       let Q = MadeFrom c depth k (pushed l x) b in
       to_place s _ place
       (and_then s 4 2 (q + 4) Q (part_runs s p k part c depth l x n m b (omega arith) (stands_front code p part (push_tail k) has) made gives) (λ b1 g1.
-      into s Q (λ b2 g2. record { made = g2.made; keeps = keeps_then (omega arith) g1.keeps g2.keeps })
+      into s Q (λ b2 g2. record { made = g2.made; shows = g2.shows; keeps = keeps_then (omega arith) g1.keeps g2.keeps })
       (push_by s k c depth low l x held (nat_le (result_depth (pushed l x)) depth_limit) q b b1 refl (stands_back code p part (push_tail k) has) g1)));
 }
 
@@ -135,6 +135,6 @@ list_gives = record {
   none = builds_nothing;
   more = more_items;
   whole = λ s p k parts c depth xs n x low builds.
-      subst (λ (y : ValueOrError). Gives s p (list_code parts k) c depth k y (2 + (n + 1)) (1 + x)) (list_is xs)
+      subst (λ (y : ValueOrError). Gives s p (list_code parts k) c depth k y (2 + n) (1 + x)) (list_is xs)
       (literal_runs s p k (pos 16) (value (list no_items)) (omega arith) (omega arith) c depth parts (λ l. fold_left pushed l xs) n x (λ b fits. helpers.list_new c.environment.roots b fits.values) builds);
 }

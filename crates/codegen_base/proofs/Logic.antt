@@ -20,7 +20,7 @@ use Rattle.codegen_base.specs.Gives.Logic.{AbsorbingGives, LogicGives, TernaryGi
 use Rattle.codegen_base.specs.Instructions as insn
 use Rattle.codegen_base.specs.Pieces.{Stands, size}
 use Rattle.codegen_base.specs.Words.{word_at}
-use Rattle.codegen_base.proofs.Absorbing.{Absorbing, Decides, Leaves, Neither, Side, Tested, answer_runs, decides_is, is_decides, right_named, told_in}
+use Rattle.codegen_base.proofs.Absorbing.{Absorbing, Decides, Leaves, Neither, Side, Tested, answer_runs, decides_is, is_answer, is_decides, right_named, told_in}
 use Rattle.codegen_base.proofs.Effects.{mov_is}
 use Rattle.codegen_base.proofs.Frames.{keeps_then, shows_registers}
 use Rattle.codegen_base.proofs.HelperAnswers.{helpers}
@@ -189,6 +189,7 @@ and_absorbs = record {
   left_decides = λ x y e. let t = and_decided (truth x) e in ap (λ (u : Truth). of_truth (conjunction u (truth y))) t ∙ ap of_truth (no_left (truth y)) ∙ truth_is x No t (λ h. absurd (cc));
   right_decides = λ x y e. let t = and_decided (truth y) e in ap (λ (u : Truth). of_truth (conjunction (truth x) u)) t ∙ ap of_truth (and_no (truth x)) ∙ truth_is y No t (λ h. absurd (cc));
   both_leave = λ x y e f. let t = and_left (truth x) e in let u = and_left (truth y) f in ap (λ (w : Truth). of_truth (conjunction w (truth y))) t ∙ ap (λ (w : Truth). of_truth (conjunction Yes w)) u ∙ truth_is y Yes u (λ h. absurd (cc));
+  one_leaves = λ x y e f. sym (truth_is x Yes (and_left (truth x) e) (λ h. absurd (cc))) ∙ truth_is y Yes (and_left (truth y) f) (λ h. absurd (cc));
   left_neither = λ x y e f. ap (λ (w : Truth). of_truth (conjunction w (truth y))) (and_neither (truth x) e) ∙ ap of_truth (and_other_left (truth y) f);
   right_neither = λ x y e f. ap (λ (w : Truth). of_truth (conjunction (truth x) w)) (and_neither (truth y) f) ∙ ap of_truth (and_other_right (truth x) e);
 }
@@ -201,6 +202,7 @@ or_absorbs = record {
   left_decides = λ x y e. let t = or_decided (truth x) e in ap (λ (u : Truth). of_truth (disjunction u (truth y))) t ∙ ap of_truth (yes_left (truth y)) ∙ truth_is x Yes t (λ h. absurd (cc));
   right_decides = λ x y e. let t = or_decided (truth y) e in ap (λ (u : Truth). of_truth (disjunction (truth x) u)) t ∙ ap of_truth (or_yes (truth x)) ∙ truth_is y Yes t (λ h. absurd (cc));
   both_leave = λ x y e f. let t = or_left (truth x) e in let u = or_left (truth y) f in ap (λ (w : Truth). of_truth (disjunction w (truth y))) t ∙ ap (λ (w : Truth). of_truth (disjunction No w)) u ∙ truth_is y No u (λ h. absurd (cc));
+  one_leaves = λ x y e f. sym (truth_is x No (or_left (truth x) e) (λ h. absurd (cc))) ∙ truth_is y No (or_left (truth y) f) (λ h. absurd (cc));
   left_neither = λ x y e f. ap (λ (w : Truth). of_truth (disjunction w (truth y))) (or_neither (truth x) e) ∙ ap of_truth (or_other_left (truth y) f);
   right_neither = λ x y e f. ap (λ (w : Truth). of_truth (disjunction (truth x) w)) (or_neither (truth y) f) ∙ ap of_truth (or_other_right (truth x) e);
 }
@@ -213,6 +215,14 @@ true_leaves = refl
 pub false_leaves : is_decides (or_absorbs.side (value (boolean false))) ≡ false
 unfolding or_absorbs
 false_leaves = refl
+
+pub true_answers : is_answer and_absorbs (value (boolean true)) ≡ true
+unfolding and_absorbs
+true_answers = refl
+
+pub false_answers : is_answer or_absorbs (value (boolean false)) ≡ true
+unfolding or_absorbs
+false_answers = refl
 
 -- ---- the conditional
 

@@ -8,13 +8,14 @@ use Rattle.std.proofs.lemmas.List.{length-map}
 use Rattle.std.proofs.lemmas.List.Elements.{All-head, All-tail}
 use Rattle.helper_table.specs.Laws.{Names}
 use Rattle.helper_table.specs.Tables.{IsResultBounded}
-use Rattle.insn_codec.specs.declared.comparison.Comparison.TheVariants.{Eq}
+use Rattle.insn_codec.specs.declared.comparison.Comparison.TheVariants.{Eq, Ne}
 use Rattle.insn_codec.specs.declared.insn.Insn.{Insn}
 use Rattle.insn_codec.specs.declared.insn.Insn.TheVariants.{Store}
 use Rattle.insn_codec.specs.declared.size.Size.TheVariants.{Dw}
 use Rattle.helper_table.proofs.Placing.{same}
 use Rattle.insn_codec.specs.declared.operand.Operand.TheVariants.{Reg}
 use Rattle.insn_codec.specs.declared.width.Width.TheVariants.{W64}
+use Rattle.insn_codec.specs.declared.register.Register.{Register}
 use Rattle.insn_codec.specs.declared.register.Register.TheVariants.{R0, R1, R2, R10}
 use Rattle.value_store.specs.Placing.{charge_limit}
 use Rattle.value_store.specs.Value.{Value, ValueOrError, error, value, null, boolean, int, text, list, map, list_of, keys_of}
@@ -46,7 +47,7 @@ by_range None f g = g refl
 
 -- how many slots a loop and a fold have
 pub loop_size : (k : ℕ) (turn : List Insn) → size (loop_code k turn) ≡ 6 + (size turn + 6)
-loop_size k turn = size-append (loop_head k (size turn + 8)) (turn ++ loop_tail k (size turn + 10)) ∙ ap (λ (n : ℕ). 6 + n) (size-append turn (loop_tail k (size turn + 10)))
+loop_size k turn = size-append (loop_head k (size turn + 8)) (turn ++ loop_tail k (size turn + 7)) ∙ ap (λ (n : ℕ). 6 + n) (size-append turn (loop_tail k (size turn + 7)))
 
 pub fold_size : (k : ℕ) (range first turn : List Insn) → size (fold_code k range first turn) ≡ size range + (9 + (size first + (1 + size (loop_code k turn))))
 fold_size k range first turn =
@@ -131,51 +132,85 @@ pub record Turns (c : Context) (depth k : ℕ) (range : ValueOrError) (n i : ℕ
   pub next : word_at depth (k + 2) b ≡ i
   pub so_far : Names b.values.values (word_at depth (k + 3) b) acc
 
+-- only registers have changed
+turns_told : {c : Context} {depth k : ℕ} {range : ValueOrError} {n i : ℕ} {acc : ValueOrError} (b : Body) (registers : Register → ℕ) → registers R10 ≡ b.registers R10 → Turns c depth k range n i acc b → Turns c depth k range n i acc (record b { registers = registers })
+turns_told {c} {depth} {k} b registers same turns = record {
+  fits = fits_registers c depth k b registers same turns.fits;
+  names_range = turns.names_range;
+  count = turns.count;
+  next = turns.next;
+  so_far = turns.so_far;
+}
+
 -- ---- the end of a turn
 
+-- the place of the next item is told in R2, and the count of the items in R1
+pub record Advanced (c : Context) (depth k : ℕ) (range : ValueOrError) (n i : ℕ) (acc : ValueOrError) (b0 b : Body) : Type 0 where
+  pub turns : Turns c depth k range n i acc b
+  pub keeps : Keeps (variable_count c) depth k b0 b
+  pub count : b.registers R1 ≡ n
+  pub next : b.registers R2 ≡ i
+
 module _ (s : Setting) (c : Context) (depth k : ℕ) (range : ValueOrError) (n : ℕ) (low : k < 56) (small : n < 2 ^ 32) where
-  turn_ends : (o p back i : ℕ) (acc : ValueOrError) (b : Body) → Stands s.image.code o (loop_tail k back) → o + 4 ≡ p + back → i < n → Fits c depth k b → Names b.values.values (b.registers R0) acc → Names b.values.values (word_at depth k b) range → word_at depth (k + 1) b ≡ n → word_at depth (k + 2) b ≡ i → Comes s 5 0 o b p (λ last. Turns c depth k range n (i + 1) acc last × Keeps (variable_count c) depth k b last)
-  turn_ends o p back i acc b has place inside fits named ranged count next =
-      let r = b.registers R0 in
-      let b1 = set_word depth (k + 3) r b in
-      let stored1 = stored c depth k (k + 3) r b fits (omega arith) (omega arith) (small_reference b.values r acc fits.values.table named) in
-      let next1 : word_at depth (k + 2) b1 ≡ i = stored1.other (k + 2) (omega arith) (λ e. omega arith) ∙ next in
-      let b3 = set_register (set_register b1 R0 (word_at depth (k + 2) b1)) R0 (i + 1) in
-      let fits3 = fits_registers c depth k b1 b3.registers refl stored1.fits in
-      let stored4 = stored c depth k (k + 2) (i + 1) b3 fits3 (omega arith) (omega arith) (omega arith) in
-      let other : (j : ℕ) → j < 64 → (j ≡ k + 3 → ⊥) → (j ≡ k + 2 → ⊥) → word_at depth j (set_word depth (k + 2) (i + 1) b3) ≡ word_at depth j b = λ j below not3 not2. stored4.other j below not2 ∙ stored1.other j below not3 in
-      let answer : word_at depth (k + 3) (set_word depth (k + 2) (i + 1) b3) ≡ r = stored4.other (k + 3) (omega arith) (λ e. omega arith) ∙ stored1.here in
+  turn_ends : (o back i : ℕ) (acc : ValueOrError) (b : Body) → Stands s.image.code o (loop_tail k back) → i < n → Turns c depth k range n i acc b → Comes s 4 0 o b (o + 4) (Advanced c depth k range n (i + 1) acc b)
+  turn_ends o back i acc b has inside turns =
+      let next = turns.next in
+      let b1 = set_register (set_register b R2 (word_at depth (k + 2) b)) R2 (i + 1) in
+      let fits1 = fits_registers c depth k b b1.registers refl turns.fits in
+      let stored2 = stored c depth k (k + 2) (i + 1) b1 fits1 (omega arith) (omega arith) (omega arith) in
+      let b2 = set_word depth (k + 2) (i + 1) b1 in
+      let b3 = set_register b2 R1 (word_at depth (k + 1) b2) in
+      let count2 : word_at depth (k + 1) b2 ≡ n = stored2.other (k + 1) (omega arith) (λ e. omega arith) ∙ turns.count in
       begins has
-      (store has 0 (k + 3) refl fits.frame (omega arith)
-      (load has 1 (k + 2) refl stored1.fits.frame (omega arith) refl
-      (alu has 2 (i + 1) refl refl (add_is (word_at depth (k + 2) b1) 1 ∙ omega arith)
-      (store has 3 (k + 2) refl fits3.frame (omega arith)
-      (step.jump s (o + 4) p _ (negsuc back) (has.here 4 _ refl) (omega (arith, ints))
-      (done s p _ _ (
-        record {
-          fits = stored4.fits;
-          names_range = subst (λ (q : ℕ). Names b.values.values q range) (sym (other k (omega arith) (λ e. omega arith) (λ e. omega arith))) ranged;
-          count = other (k + 1) (omega arith) (λ e. omega arith) (λ e. omega arith) ∙ count;
-          next = stored4.here;
-          so_far = subst (λ (q : ℕ). Names b.values.values q acc) (sym answer) named;
-        },
-        keeps_then (omega arith) stored1.keeps (keeps_then (omega arith) (keeps_registers c depth k b1 b3.registers refl (variable_count c)) stored4.keeps),
-      )))))))
+      (load has 0 (k + 2) refl turns.fits.frame (omega arith) refl
+      (alu has 1 (i + 1) refl refl (add_is (word_at depth (k + 2) b) 1 ∙ omega arith)
+      (store has 2 (k + 2) refl fits1.frame (omega arith)
+      (load has 3 (k + 1) refl stored2.fits.frame (omega arith) refl
+      (done s (o + 4) b3 (Advanced c depth k range n (i + 1) acc b) (record {
+        turns = record {
+          fits = fits_registers c depth k b2 b3.registers refl stored2.fits;
+          names_range = subst (λ (q : ℕ). Names b.values.values q range) (sym (stored2.other k (omega arith) (λ e. omega arith))) turns.names_range;
+          count = count2;
+          next = stored2.here;
+          so_far = subst (λ (q : ℕ). Names b.values.values q acc) (sym (stored2.other (k + 3) (omega arith) (λ e. omega arith))) turns.so_far;
+        };
+        keeps = keeps_then (omega arith) (keeps_registers c depth k b b1.registers refl (variable_count c)) (keeps_then (omega arith) stored2.keeps (keeps_registers c depth k b2 b3.registers refl (variable_count c)));
+        count = count2;
+        next = refl;
+      }))))))
 
 -- ---- all turns
+
+-- what is left from the end of a turn on, with these items to come
+abbrev next_steps : (Value → ℕ) → List Value → ℕ
+next_steps steps [] = 2
+next_steps steps (v ∷ vs) = suc (3 + (steps v + (4 + next_steps steps vs)))
+
+steps_are : (steps : Value → ℕ) (vs : List Value) → loop_steps steps vs ≡ 2 + next_steps steps vs
+steps_are steps [] = refl
+steps_are steps (v ∷ vs) = let more = steps_are steps vs in omega arith
 
 module _ (s : Setting) (p k depth : ℕ) (turn : List Insn) (c : Context) (range : ValueOrError) (items : List Value) (f : ValueOrError → Value → ValueOrError) (is_last is_fine : ValueOrError → Bool) (steps charge : Value → ℕ) (low : k < 56) (small : length items < 2 ^ 32) (is_range : range_of range ≡ Some items) (end : ℕ) (tg : TurnGives s (p + 6) end turn c depth k items f is_last is_fine steps charge) (end_is : end ≡ p + 6 + size turn + 6) (has : Stands s.image.code p (loop_code k turn)) where
   abbrev head : List Insn
   head = loop_head k (size turn + 8)
 
   abbrev tail : List Insn
-  tail = loop_tail k (size turn + 10)
+  tail = loop_tail k (size turn + 7)
 
   abbrev tail_place : ℕ
   tail_place = p + 6 + size turn
 
   abbrev Result : Body → List Value → ValueOrError → Body → Type 0
   Result b0 vs acc = Shows c depth k (fold_left f acc vs) b0
+
+  -- before the i-th turn, behind what was before the first, with these items to come
+  record Before (vs : List Value) (i : ℕ) (acc : ValueOrError) (b0 b : Body) : Type 0 where
+    pub keeps : Keeps (variable_count c) depth k b0 b
+    pub turns : Turns c depth k range (length items) i acc b
+    pub not_last : is_last acc ≡ false
+    pub fine : is_fine acc ≡ true
+    pub left : (j : ℕ) (v : Value) → slice_get vs j ≡ Some v → slice_get items (i + j) ≡ Some v
+    pub all : i + length vs ≡ length items
 
   has_head : Stands s.image.code p head
   has_head = stands_front s.image.code p head _ has
@@ -186,37 +221,35 @@ module _ (s : Setting) (p k depth : ℕ) (turn : List Insn) (c : Context) (range
   has_tail : Stands s.image.code tail_place tail
   has_tail = stands_back s.image.code (p + 6) turn tail has_turn
 
-  -- no item is left
-  loop_ends : (acc : ValueOrError) (b0 b : Body) → Keeps (variable_count c) depth k b0 b → Turns c depth k range (length items) (length items) acc b → Comes s 4 0 p b end (Result b0 [] acc)
-  loop_ends acc b0 b kept turns =
-      let frame = turns.fits.frame in
-      begins has_head
-      (load has_head 0 (k + 1) refl frame (omega arith) refl
-      (load has_head 1 (k + 2) refl frame (omega arith) refl
-      (step.branch_yes s (p + 2) (tail_place + 5) _ Eq W64 R1 (Reg R2) (pos (size turn + 8)) (has_head.here 2 _ refl) (equal_yes _ _ (turns.count ∙ sym turns.next)) (omega (arith, ints))
-      (load has_tail 5 (k + 3) refl frame (omega arith) refl
+  -- the answer is loaded
+  answers : (acc : ValueOrError) (b0 b : Body) → Keeps (variable_count c) depth k b0 b → Turns c depth k range (length items) (length items) acc b → Comes s 1 0 (tail_place + 5) b end (Result b0 [] acc)
+  answers acc b0 b kept turns =
+      load has_tail 5 (k + 3) refl turns.fits.frame (omega arith) refl
       (from_place s (tail_place + (5 + 1)) (sym end_is)
-      (done s end _ (Result b0 [] acc) (shows_after (omega arith) (omega arith) kept (shows_registers c depth k b _ refl acc turns.fits turns.so_far) turns.fits)))))))
+      (done s end _ (Result b0 [] acc) (shows_after (omega arith) (omega arith) kept (shows_registers c depth k b _ refl acc turns.fits turns.so_far) turns.fits)))
 
-  pub turns_run : (vs : List Value) (i : ℕ) (acc : ValueOrError) (b0 b : Body) → Keeps (variable_count c) depth k b0 b → Turns c depth k range (length items) i acc b → is_last acc ≡ false → is_fine acc ≡ true → ((j : ℕ) (v : Value) → slice_get vs j ≡ Some v → slice_get items (i + j) ≡ Some v) → i + length vs ≡ length items → Comes s (loop_steps steps vs) (loop_charge charge vs) p b end (Result b0 vs acc)
-  turns_run [] i acc b0 b kept turns not_last fine left all =
+  -- the last place is that of no item
+  at_end : (i : ℕ) (acc : ValueOrError) (b0 b : Body) → Before [] i acc b0 b → Turns c depth k range (length items) (length items) acc b
+  at_end i acc b0 b before =
+      let all = before.all in
       let e : i ≡ length items = omega arith in
-      loop_ends acc b0 b kept (subst (λ (j : ℕ). Turns c depth k range (length items) j acc b) e turns)
-  turns_run (v ∷ vs) i acc b0 b kept turns not_last fine left all =
+      subst (λ (j : ℕ). Turns c depth k range (length items) j acc b) e before.turns
+
+  -- one turn, with its place in R2, and what comes behind it
+  turn_runs : (v : Value) (vs : List Value) (i more more_charge : ℕ) (acc : ValueOrError) (b0 b : Body) → Before (v ∷ vs) i acc b0 b → b.registers R2 ≡ i
+      → ((b1 : Body) → Before vs (i + 1) (f acc v) b0 b1 → b1.registers R1 ≡ length items → b1.registers R2 ≡ i + 1 → Comes s more more_charge (tail_place + 4) b1 end (Result b0 vs (f acc v)))
+      → Comes s (3 + (steps v + (4 + more))) (1 + (charge v + more_charge)) (p + 3) b end (Result b0 (v ∷ vs) acc)
+  turn_runs v vs i more more_charge acc b0 b before placed rest =
+      let turns = before.turns in
       let frame = turns.fits.frame in
       let Q = Result b0 (v ∷ vs) acc in
-      let more = loop_steps steps vs in
-      let more_charge = loop_charge charge vs in
+      let all = before.all in
       let place : i + 0 ≡ i = omega arith in
-      let item : slice_get items i ≡ Some v = ap (slice_get items) (sym place) ∙ left 0 v refl in
-      let asks = set_register (set_register (set_register b R1 (word_at depth (k + 1) b)) R2 (word_at depth (k + 2) b)) R1 (word_at depth k b) in
+      let item : slice_get items i ≡ Some v = ap (slice_get items) (sym place) ∙ before.left 0 v refl in
+      let asks = set_register b R1 (word_at depth k b) in
       let asks_fits = fits_registers c depth k b asks.registers refl turns.fits in
-      let a = helpers.item c.environment.roots asks range items v i asks_fits.values turns.names_range turns.next (omega arith) is_range item in
-      looser s {n = suc (suc (suc (suc (suc (suc (steps v + (5 + more)))))))} {x = 1 + (charge v + (0 + more_charge))} (loop_steps steps (v ∷ vs)) (loop_charge charge (v ∷ vs)) (omega arith) (omega arith)
-      (begins has_head
-      (load has_head 0 (k + 1) refl frame (omega arith) refl
-      (load has_head 1 (k + 2) refl frame (omega arith) refl
-      (no has_head 2 refl (equal_no _ _ (λ e. let count = turns.count in let next = turns.next in omega arith))
+      let a = helpers.item c.environment.roots asks range items v i asks_fits.values turns.names_range placed (omega arith) is_range item in
+      looser s {n = suc (suc (suc (steps v + (4 + more))))} {x = 1 + (charge v + (0 + more_charge))} (3 + (steps v + (4 + more))) (1 + (charge v + more_charge)) (omega arith) (omega arith)
       (load has_head 3 k refl frame (omega arith) refl
       (ask has_head 4 refl a.answers (λ paid.
       let b1 = answered asks a.word a.list (asks.values.charge + 1) in
@@ -229,16 +262,69 @@ module _ (s : Setting) (p k depth : ℕ) (turn : List Insn) (c : Context) (range
       let word2 : (j : ℕ) → j < k + 4 → word_at depth j b2 ≡ word_at depth j b = λ j below. stored2.other j (omega arith) (λ e. omega arith) in
       let so_far2 : Names b2.values.values (word_at depth (k + 3) b2) acc = subst (λ (q : ℕ). Names a.list q acc) (sym (word2 (k + 3) (omega arith))) (a.extends.kept _ acc turns.so_far) in
       let at2 : AtTurn c depth k acc v b2 = record { fits = stored2.fits; so_far = so_far2; item = named2 } in
-      let kept2 = keeps_then (omega arith) kept (keeps_then (omega arith) (keeps_registers c depth k b asks.registers refl (variable_count c)) (keeps_then (omega arith) (keeps_answered depth k a.word (asks.values.charge + 1) a.list asks a.extends (variable_count c)) stored2.keeps)) in
+      let kept2 = keeps_then (omega arith) before.keeps (keeps_then (omega arith) (keeps_registers c depth k b asks.registers refl (variable_count c)) (keeps_then (omega arith) (keeps_answered depth k a.word (asks.values.charge + 1) a.list asks a.extends (variable_count c)) stored2.keeps)) in
       either (is_last (f acc v))
-      (λ last. looser s (steps v + (5 + more)) (charge v + (0 + more_charge)) (omega arith) (omega arith)
-      (into s Q (λ b4 g4. subst (λ (x : ValueOrError). Shows c depth k x b0 b4) (sym (fold_last f is_last (f acc v) vs tg.last last)) (shows_after (omega arith) (omega arith) kept2 g4 stored2.fits)) (tg.leaves b2 acc i v item fine (stands_front s.image.code _ turn _ has_turn) at2 not_last last)))
-      (λ goes_on. and_then s (5 + more) (0 + more_charge) end Q (tg.goes_on b2 acc i v item fine (stands_front s.image.code _ turn _ has_turn) at2 not_last goes_on) (λ b4 g4.
-      let word4 : (j : ℕ) → j < k + 4 → word_at depth j b4 ≡ word_at depth j b = λ j below. g4.keeps.words depth j (omega arith) (inr (refl, omega arith)) ∙ word2 j below in
-      let ranged4 : Names b4.values.values (word_at depth k b4) range = subst (λ (q : ℕ). Names b4.values.values q range) (sym (word4 k (omega arith))) (g4.keeps.values _ range (a.extends.kept _ range turns.names_range)) in
-      let fits4 = fits_below c depth k (k + 5) b2 b4 (omega arith) (omega arith) stored2.fits g4.keeps g4.fits in
-      and_then s more more_charge end Q (turn_ends s c depth k range (length items) low small tail_place p (size turn + 10) i (f acc v) b4 has_tail (omega arith) (omega arith) fits4 g4.shows ranged4 (word4 (k + 1) (omega arith) ∙ turns.count) (word4 (k + 2) (omega arith) ∙ turns.next)) (λ b5 g5.
-      turns_run vs (i + 1) (f acc v) b0 b5 (keeps_then (omega arith) (keeps_then (omega arith) kept2 g4.keeps) g5.1) g5.0 goes_on (tg.fine acc i v item fine) (λ j u h. let e : i + 1 + j ≡ i + suc j = omega arith in ap (slice_get items) e ∙ left (suc j) u h) (omega arith))))))))))))
+      (λ last. looser s (steps v + (4 + more)) (charge v + (0 + more_charge)) (omega arith) (omega arith)
+      (into s Q (λ b4 g4. subst (λ (x : ValueOrError). Shows c depth k x b0 b4) (sym (fold_last f is_last (f acc v) vs tg.last last)) (shows_after (omega arith) (omega arith) kept2 g4 stored2.fits)) (tg.leaves b2 acc i v item before.fine (stands_front s.image.code _ turn _ has_turn) at2 before.not_last last)))
+      (λ goes_on. and_then s (4 + more) (0 + more_charge) end Q (tg.goes_on b2 acc i v item before.fine (stands_front s.image.code _ turn _ has_turn) at2 before.not_last goes_on) (λ b4 g4.
+      let word4 : (j : ℕ) → j < k + 3 → word_at depth j b4 ≡ word_at depth j b = λ j below. g4.keeps.words depth j (omega arith) (inr (refl, omega arith)) ∙ word2 j (omega arith) in
+      let turns4 : Turns c depth k range (length items) i (f acc v) b4 = record {
+        fits = g4.fits;
+        names_range = subst (λ (q : ℕ). Names b4.values.values q range) (sym (word4 k (omega arith))) (g4.keeps.values _ range (a.extends.kept _ range turns.names_range));
+        count = word4 (k + 1) (omega arith) ∙ turns.count;
+        next = word4 (k + 2) (omega arith) ∙ turns.next;
+        so_far = g4.so_far;
+      } in
+      and_then s more more_charge end Q (turn_ends s c depth k range (length items) low small tail_place (size turn + 7) i (f acc v) b4 has_tail (omega arith) turns4) (λ b5 g5.
+      rest b5 (record {
+        keeps = keeps_then (omega arith) (keeps_then (omega arith) kept2 g4.keeps) g5.keeps;
+        turns = g5.turns;
+        not_last = goes_on;
+        fine = tg.fine acc i v item before.fine;
+        left = λ j u h. let e : i + 1 + j ≡ i + suc j = omega arith in ap (slice_get items) e ∙ before.left (suc j) u h;
+        all = omega arith;
+      }) g5.count g5.next)))))))
+
+  -- from the end of a turn on
+  next_runs : (vs : List Value) (i : ℕ) (acc : ValueOrError) (b0 b : Body) → Before vs i acc b0 b → b.registers R1 ≡ length items → b.registers R2 ≡ i → Comes s (next_steps steps vs) (loop_charge charge vs) (tail_place + 4) b end (Result b0 vs acc)
+  next_runs [] i acc b0 b before count next =
+      let all = before.all in
+      no has_tail 4 refl (differs_no (b.registers R1) (b.registers R2) (omega arith)) (answers acc b0 b before.keeps (at_end i acc b0 b before))
+  next_runs (v ∷ vs) i acc b0 b before count next =
+      let all = before.all in
+      step.branch_yes s (tail_place + 4) (p + 3) b Ne W64 R1 (Reg R2) (negsuc (size turn + 7)) (has_tail.here 4 _ refl) (differs_yes (b.registers R1) (b.registers R2) (λ e. omega arith)) (omega (arith, ints))
+      (turn_runs v vs i (next_steps steps vs) (loop_charge charge vs) acc b0 b before next (λ b1 before1 count1 next1.
+      next_runs vs (i + 1) (f acc v) b0 b1 before1 count1 next1))
+
+  turns_run : (vs : List Value) (acc : ValueOrError) (b0 b : Body) → Before vs 0 acc b0 b → Comes s (loop_steps steps vs) (loop_charge charge vs) p b end (Result b0 vs acc)
+  turns_run [] acc b0 b before =
+      let turns = at_end 0 acc b0 b before in
+      let frame = turns.fits.frame in
+      let told = set_register (set_register b R1 (word_at depth (k + 1) b)) R2 (word_at depth (k + 2) b) in
+      begins has_head
+      (load has_head 0 (k + 1) refl frame (omega arith) refl
+      (load has_head 1 (k + 2) refl frame (omega arith) refl
+      (step.branch_yes s (p + 2) (tail_place + 5) told Eq W64 R1 (Reg R2) (pos (size turn + 8)) (has_head.here 2 _ refl) (equal_yes _ _ (turns.count ∙ sym turns.next)) (omega (arith, ints))
+      (answers acc b0 told (keeps_then (omega arith) before.keeps (keeps_registers c depth k b told.registers refl (variable_count c))) (turns_told b told.registers refl turns)))))
+  turns_run (v ∷ vs) acc b0 b before =
+      let turns = before.turns in
+      let all = before.all in
+      let are = steps_are steps vs in
+      let told = set_register (set_register b R1 (word_at depth (k + 1) b)) R2 (word_at depth (k + 2) b) in
+      looser s {n = suc (suc (suc (3 + (steps v + (4 + next_steps steps vs)))))} {x = 1 + (charge v + loop_charge charge vs)} (loop_steps steps (v ∷ vs)) (loop_charge charge (v ∷ vs)) (omega arith) (omega arith)
+      (begins has_head
+      (load has_head 0 (k + 1) refl turns.fits.frame (omega arith) refl
+      (load has_head 1 (k + 2) refl turns.fits.frame (omega arith) refl
+      (no has_head 2 refl (equal_no (word_at depth (k + 1) b) (word_at depth (k + 2) b) (λ e. let count = turns.count in let next = turns.next in omega arith))
+      (turn_runs v vs 0 (next_steps steps vs) (loop_charge charge vs) acc b0 told (record {
+        keeps = keeps_then (omega arith) before.keeps (keeps_registers c depth k b told.registers refl (variable_count c));
+        turns = turns_told b told.registers refl turns;
+        not_last = before.not_last;
+        fine = before.fine;
+        left = before.left;
+        all = before.all;
+      }) turns.next (λ b1 before1 count1 next1.
+      next_runs vs (0 + 1) (f acc v) b0 b1 before1 count1 next1))))))
 
 -- ---- the range and what comes before the first turn
 
@@ -352,7 +438,14 @@ fold_gives s p k depth n1 x1 n2 x2 range first turn c r acc f is_last is_fine st
       } in
       looser s {n = suc (loop_steps steps items)} {x = loop_charge charge items} (1 + loop_steps steps items) (loop_charge charge items) (omega arith) (omega arith)
       (step.store s (q + 9 + size first) (q + 9 + size first + 1) b3 depth (k + 3) R0 (stands_first code (q + 9 + size first) put loop h2) fits3.frame (omega arith) refl
-      (turns_run s (q + 9 + size first + 1) k depth turn c r items f is_last is_fine steps charge low small is end tg1 (omega arith) h3 items 0 acc b b4 kept4 turns not_last fine (λ j v h. let e : 0 + j ≡ j = omega arith in ap (slice_get items) e ∙ h) (omega arith)))))))
+      (turns_run s (q + 9 + size first + 1) k depth turn c r items f is_last is_fine steps charge low small is end tg1 (omega arith) h3 items acc b b4 (record {
+        keeps = kept4;
+        turns = turns;
+        not_last = not_last;
+        fine = fine;
+        left = λ j v h. let e : 0 + j ≡ j = omega arith in ap (slice_get items) e ∙ h;
+        all = omega arith;
+      })))))))
       (λ none.
       subst (λ (o : Option (List Value)). Comes s (9 + (n2 + (1 + fold_steps steps o))) (1 + (x2 + fold_charge charge o)) q b1 end (Shows c depth k (fold_of f acc o) b)) (sym none)
       (looser s (9 + (n2 + (1 + 0))) (1 + (x2 + 0)) (omega arith) (omega arith)

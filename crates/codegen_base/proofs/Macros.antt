@@ -1,5 +1,6 @@
 pub mod Budgets
 pub mod Depths
+pub mod Turned
 pub mod Turn
 pub mod Firsts
 pub mod Within

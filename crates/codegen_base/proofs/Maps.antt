@@ -101,7 +101,7 @@ module _ (s : Setting) (k : ℕ) (c : Context) (depth : ℕ) (low : k + 1 < 60) 
 
 entry_builds : (s : Setting) (p k : ℕ) (key part : List Insn) (c : Context) (depth : ℕ) (x y : ValueOrError) (n1 x1 n2 x2 : ℕ) → k + 1 < 60 → MayHold s y → Gives s p key c depth (k + 1) x n1 x1 → Gives s (p + size key + 1) part c depth (k + 2) y n2 x2 → Builds s p (entry_code key part k) c depth k (λ m. put_of m x y) (n1 + (1 + n2 + 5)) (x1 + (x2 + 2))
 entry_builds s p k key part c depth x y n1 x1 n2 x2 low held gives_key gives_part = record {
-  runs = λ b m has made.
+  runs = λ b m has made named.
       let code = s.image.code in
       let keep = insn.store (k + 1) R0 in
       let pair = key ++ keep ∷ part in
@@ -115,7 +115,7 @@ entry_builds s p k key part c depth x y n1 x1 n2 x2 low held gives_key gives_par
       to_place s _ place
       (looser s {n = n1 + (1 + n2) + 5} {x = x1 + x2 + 2} (n1 + (1 + n2 + 5)) (x1 + (x2 + 2)) (omega arith) (omega arith)
       (and_then s 5 2 (q + 5) Q (pair_runs s k c depth low m x y held p key part n1 x1 n2 x2 b (stands_front code p pair tail whole) made gives_key gives_part) (λ b1 g1.
-      into s Q (λ b2 g2. record { made = g2.made; keeps = keeps_then (omega arith) g1.beside_it.keeps g2.keeps })
+      into s Q (λ b2 g2. record { made = g2.made; shows = g2.shows; keeps = keeps_then (omega arith) g1.beside_it.keeps g2.keeps })
       (put_by s k c depth low m x y held (nat_le (result_depth (put_of m x y)) depth_limit) q b b1 refl (subst (λ (i : ℕ). Stands code i tail) there (stands_back code p pair tail whole)) g1))));
 }
 
@@ -135,6 +135,6 @@ map_gives = record {
   none = builds_nothing;
   more = more_entries;
   whole = λ s p k parts c depth es n x low builds.
-      subst (λ (y : ValueOrError). Gives s p (map_code parts k) c depth k y (2 + (n + 1)) (1 + x)) (map_is es)
+      subst (λ (y : ValueOrError). Gives s p (map_code parts k) c depth k y (2 + n) (1 + x)) (map_is es)
       (literal_runs s p k (pos 18) (value (map no_entries)) (omega arith) (omega arith) c depth parts (λ m. fold_left with_pair m es) n x (λ b fits. helpers.map_new c.environment.roots b fits.values) builds);
 }

@@ -20,6 +20,7 @@ pub record Body : Type 0 where
   pub memory : Memory
   pub values : Contents
 
+-- the words of R0 to R10, in this order
 abbrev pub register_words : (Register → ℕ) → List ℕ
 register_words word = word R0 ∷ word R1 ∷ word R2 ∷ word R3 ∷ word R4 ∷ word R5 ∷ word R6 ∷ word R7 ∷ word R8 ∷ word R9 ∷ word R10 ∷ []
 
@@ -39,6 +40,7 @@ at image p b = record {
 abbrev pub put_register : (Register → ℕ) → Register → ℕ → Register → ℕ
 put_register word r w q = if nat_eq (register_number q) (register_number r) then w else word q
 
+-- the body with w in a register
 abbrev pub set_register : Body → Register → ℕ → Body
 set_register b r w = record b { registers = put_register b.registers r w }
 

@@ -23,7 +23,8 @@ entered p b = record b { records = b.records ++ frame_at p b ∷ []; registers =
 
 -- after its exit the records and R6 to R10 are the caller's again
 abbrev pub resumed : Body → Body → Body
-resumed caller b = record b { records = caller.records; registers = λ r. if nat_lt (register_number r) 6 then b.registers r else caller.registers r }
+resumed caller b =
+    record b { records = caller.records; registers = λ r. if nat_lt (register_number r) 6 then b.registers r else caller.registers r }
 
 -- the words of R1 to R5
 abbrev pub arguments_in : Body → List ℕ
@@ -33,6 +34,7 @@ arguments_in b = b.registers R1 ∷ b.registers R2 ∷ b.registers R3 ∷ b.regi
 abbrev pub after_call : (Register → ℕ) → ℕ → Register → ℕ
 after_call word w r = if nat_eq (register_number r) 0 then w else (if nat_lt (register_number r) 6 then 0 else word r)
 
+-- the body after a helper's call with its word in R0, and a store of these values and this charge
 abbrev pub answered : Body → ℕ → List ValueOrError → ℕ → Body
 answered b w list charge = record b { registers = after_call b.registers w; values = record { values = list; charge = charge } }
 

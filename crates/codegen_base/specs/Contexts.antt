@@ -54,7 +54,8 @@ pub record Fits (c : Context) (depth base : ℕ) (b : Body) : Type 0 where
   pub holds : Holds c depth base b
   pub constants : b.memory.constants ≡ c.constants
 
--- what code for an expression keeps: the words below base and those of the callers, the values that were there, the records, the frame pointer, the verdict region, the constants, and all memos but the first `count`
+-- what code for an expression keeps: the words below base and those of the callers, the values that were there, the
+-- records, the frame pointer, the verdict region, the constants, and all memos but the first `count`
 pub record Keeps (count depth base : ℕ) (old new : Body) : Type 0 where
   pub words : (d k : ℕ) → k < 64 → (d < depth) ⊎ ((d ≡ depth) × (k < base)) → word_at d k new ≡ word_at d k old
   pub values : (r : ℕ) (x : ValueOrError) → Names old.values.values r x → Names new.values.values r x
@@ -64,6 +65,7 @@ pub record Keeps (count depth base : ℕ) (old new : Body) : Type 0 where
   pub constants : new.memory.constants ≡ old.memory.constants
   pub memos : (i : ℕ) → count ≤ i → memo_at i new ≡ memo_at i old
 
+-- how many variables an expression may use
 abbrev pub variable_count : Context → ℕ
 variable_count c = length c.environment.variables
 
@@ -74,5 +76,7 @@ pub record Shows (c : Context) (depth base : ℕ) (x : ValueOrError) (old new : 
   pub keeps : Keeps (variable_count c) depth base old new
 
 -- where the piece stands at slot p, it gives the value or the error from each fitting body, within so many steps and so much charge
-pub record Gives (s : Setting) (p : ℕ) (piece : List Insn) (c : Context) (depth base : ℕ) (x : ValueOrError) (steps charge : ℕ) : Type 0 where
-  pub runs : (b : Body) → Stands s.image.code p piece → Fits c depth base b → Comes s steps charge p b (p + size piece) (Shows c depth base x b)
+pub record Gives (s : Setting) (p : ℕ) (piece : List Insn) (c : Context)
+    (depth base : ℕ) (x : ValueOrError) (steps charge : ℕ) : Type 0 where
+  pub runs : (b : Body) → Stands s.image.code p piece → Fits c depth base b
+      → Comes s steps charge p b (p + size piece) (Shows c depth base x b)

@@ -19,11 +19,12 @@ pub record Setting : Type 0 where
   pub variables : List FirstUse
   pub is_deep : Bool
 
--- the steps that may be taken from b on, and the charge that may be reached, with what first uses take: those since then, where
--- the scratch region is `scratch` now and these calls have been opened and are open
+-- the steps that may be taken from b on: n, and what first uses since then take, where the scratch region is `scratch`
+-- now and these calls have been opened and are open
 abbrev pub steps_to : Setting → ℕ → Body → List ℕ → List Frame → ℕ
 steps_to s n b scratch calls = n + first_uses s.image s.variables (λ v. v.steps) b.memory.scratch scratch calls
 
+-- the charge that may be reached: that of b, x, and what first uses since then take
 abbrev pub charge_to : Setting → ℕ → Body → List ℕ → List Frame → ℕ
 charge_to s x b scratch calls =
     b.values.charge + x + first_uses s.image s.variables (λ v. v.charge) b.memory.scratch scratch calls

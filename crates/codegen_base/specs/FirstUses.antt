@@ -1,5 +1,6 @@
 -- What a run takes for the first uses of variables in it, and for no others.
-use Rattle.std.specs.Prelude.{◌≡◌, ℕ, suc, ◌+◌, ℤ, pos, negsuc, ◌+ℤ◌, Bool, false, not, ◌&&◌, ◌||◌, List, [], ◌∷◌, nat_eq, Option, Some, None, if◌then◌else◌}
+use Rattle.std.specs.Prelude.{◌≡◌, ℕ, suc, ◌+◌, ℤ, pos, negsuc, ◌+ℤ◌, Bool, false, not, ◌&&◌, ◌||◌, List, [], ◌∷◌, nat_eq, Option, Some}
+use Rattle.std.specs.Prelude.{None, if◌then◌else◌}
 use Rattle.std.specs.List.{list_any}
 use Rattle.guest_memory.specs.RegionWords.{word_in}
 use Rattle.insn_codec.specs.declared.insn.Insn.{Insn}
@@ -14,6 +15,7 @@ pub record FirstUse : Type 0 where
   pub steps : ℕ
   pub charge : ℕ
 
+-- the place is this slot
 abbrev pub is_slot : ℕ → ℤ → Bool
 is_slot slot (pos place) = nat_eq place slot
 is_slot slot (negsuc n) = false

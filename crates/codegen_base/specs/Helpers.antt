@@ -35,16 +35,19 @@ pub record Lends (b : Body) (r s : Register) (bytes : List ℕ) : Type 0 where
   pub address : b.registers r < 2 ^ 64
   pub count : b.registers s < 2 ^ 64
 
--- helpers of one, and of two operands whose answer is a function of what they name
+-- a helper of one operand, in R1, whose answer is a function of what it names
 abbrev pub Unary : ℤ → (ValueOrError → ValueOrError) → Type 0
 Unary helper f = (roots : Roots) (b : Body) (x : ValueOrError) → HasValues roots b.values → Holding b R1 x → Places helper b (f x) 1
 
+-- a helper of two operands, in R1 and R2, whose answer is a function of what they name
 abbrev pub Binary : ℤ → (ValueOrError → ValueOrError → ValueOrError) → Type 0
-Binary helper f = (roots : Roots) (b : Body) (x y : ValueOrError) → HasValues roots b.values → Holding b R1 x → Holding b R2 y → Places helper b (f x y) 1
+Binary helper f = (roots : Roots) (b : Body) (x y : ValueOrError) → HasValues roots b.values → Holding b R1 x → Holding b R2 y
+    → Places helper b (f x y) 1
 
 -- helpers that ask for a key
 abbrev pub Keyed : ℤ → (ValueOrError → List ℕ → ValueOrError) → Type 0
-Keyed helper f = (roots : Roots) (b : Body) (x : ValueOrError) (key : List ℕ) → HasValues roots b.values → Holding b R1 x → Lends b R2 R3 key → Places helper b (f x key) 1
+Keyed helper f = (roots : Roots) (b : Body) (x : ValueOrError) (key : List ℕ) → HasValues roots b.values → Holding b R1 x
+    → Lends b R2 R3 key → Places helper b (f x key) 1
 
 -- two texts or two lists, one behind the other, and else the error
 abbrev pub join_of : ValueOrError → ValueOrError → ValueOrError
@@ -60,31 +63,47 @@ joined_length _ = 0
 abbrev pub put_of : ValueOrError → ValueOrError → ValueOrError → ValueOrError
 put_of m k x = value_or_error (entered (Some m) (Some k) (Some x))
 
+-- what each helper answers, and where it stops
 pub record HelpersAnswer : Type 0 where
-  pub kind : (roots : Roots) (b : Body) (x : ValueOrError) → HasValues roots b.values → Holding b R1 x → Tells (pos 1) b (kind_number (seen x)) 1
-  pub int_of : (roots : Roots) (b : Body) (z : ℤ) → HasValues roots b.values → Holding b R1 (value (int z)) → Tells (pos 2) b (cast_unsigned w64 z) 1
-  pub int_new : (roots : Roots) (b : Body) → HasValues roots b.values → b.registers R1 < 2 ^ 64 → Places (pos 3) b (value (int (cast_signed w64 (b.registers R1)))) 1
-  pub text_const : (roots : Roots) (b : Body) (bytes : List ℕ) → HasValues roots b.values → Lends b R1 R2 bytes → is_utf8 bytes ≡ true → Places (pos 4) b (value (text bytes)) (1 + length bytes)
+  pub kind : (roots : Roots) (b : Body) (x : ValueOrError) → HasValues roots b.values → Holding b R1 x
+      → Tells (pos 1) b (kind_number (seen x)) 1
+  pub int_of : (roots : Roots) (b : Body) (z : ℤ) → HasValues roots b.values → Holding b R1 (value (int z))
+      → Tells (pos 2) b (cast_unsigned w64 z) 1
+  pub int_new : (roots : Roots) (b : Body) → HasValues roots b.values → b.registers R1 < 2 ^ 64
+      → Places (pos 3) b (value (int (cast_signed w64 (b.registers R1)))) 1
+  pub text_const : (roots : Roots) (b : Body) (bytes : List ℕ) → HasValues roots b.values → Lends b R1 R2 bytes → is_utf8 bytes ≡ true
+      → Places (pos 4) b (value (text bytes)) (1 + length bytes)
   pub field : Keyed (pos 5) field_of
   pub has : Keyed (pos 6) has_of
   pub index : Binary (pos 7) index_of
   pub size : Unary (pos 8) size_of
   pub equal : Binary (pos 9) equal_of
   pub less : Binary (pos 10) less_of
-  pub join : (roots : Roots) (b : Body) (x y : ValueOrError) → HasValues roots b.values → Holding b R1 x → Holding b R2 y → Places (pos 11) b (join_of x y) (1 + joined_length (joined (Some x) (Some y)))
+  pub join : (roots : Roots) (b : Body) (x y : ValueOrError) → HasValues roots b.values → Holding b R1 x → Holding b R2 y
+      → Places (pos 11) b (join_of x y) (1 + joined_length (joined (Some x) (Some y)))
   pub starts : Binary (pos 12) (text_test_of (Some StartsWith))
   pub ends : Binary (pos 13) (text_test_of (Some EndsWith))
   pub contains : Binary (pos 14) (text_test_of (Some Contains))
   pub member : Binary (pos 15) member_of
   pub list_new : (roots : Roots) (b : Body) → HasValues roots b.values → Places (pos 16) b (value (list no_items)) 1
-  pub push : (roots : Roots) (b : Body) (l x : ValueOrError) → HasValues roots b.values → Holding b R1 l → Holding b R2 x → result_depth (pushed l x) ≤ depth_limit → Places (pos 17) b (pushed l x) 2
-  pub push_deep : (b : Body) (l x : ValueOrError) → Holding b R1 l → Holding b R2 x → depth_limit < result_depth (pushed l x) → Refuses (pos 17) b
+  pub push : (roots : Roots) (b : Body) (l x : ValueOrError) → HasValues roots b.values → Holding b R1 l → Holding b R2 x
+      → result_depth (pushed l x) ≤ depth_limit → Places (pos 17) b (pushed l x) 2
+  pub push_deep : (b : Body) (l x : ValueOrError) → Holding b R1 l → Holding b R2 x → depth_limit < result_depth (pushed l x)
+      → Refuses (pos 17) b
   pub map_new : (roots : Roots) (b : Body) → HasValues roots b.values → Places (pos 18) b (value (map no_entries)) 1
-  pub put : (roots : Roots) (b : Body) (m k x : ValueOrError) → HasValues roots b.values → Holding b R1 m → Holding b R2 k → Holding b R3 x → result_depth (put_of m k x) ≤ depth_limit → Places (pos 19) b (put_of m k x) 2
-  pub put_deep : (b : Body) (m k x : ValueOrError) → Holding b R1 m → Holding b R2 k → Holding b R3 x → depth_limit < result_depth (put_of m k x) → Refuses (pos 19) b
-  pub item : (roots : Roots) (b : Body) (x : ValueOrError) (items : List Value) (v : Value) (i : ℕ) → HasValues roots b.values → Holding b R1 x → b.registers R2 ≡ i → i < 2 ^ 64 → range_of x ≡ Some items → slice_get items i ≡ Some v → Places (pos 20) b (value v) 1
-  pub count : (roots : Roots) (b : Body) (x : ValueOrError) (items : List Value) → HasValues roots b.values → Holding b R1 x → range_of x ≡ Some items → Tells (pos 21) b (length items) 1
-  pub no_count : (roots : Roots) (b : Body) (x : ValueOrError) → HasValues roots b.values → Holding b R1 x → range_of x ≡ None → Tells (pos 21) b 0xffff_ffff_ffff_ffff 1
-  pub text_of_int : (roots : Roots) (b : Body) (z : ℤ) → HasValues roots b.values → Holding b R1 (value (int z)) → Places (pos 22) b (value (text (signed_decimal z))) (1 + length (signed_decimal z))
-  pub no_text_of_int : (roots : Roots) (b : Body) (x : ValueOrError) → HasValues roots b.values → Holding b R1 x → int_part x ≡ None → Places (pos 22) b error 1
+  pub put : (roots : Roots) (b : Body) (m k x : ValueOrError) → HasValues roots b.values → Holding b R1 m → Holding b R2 k → Holding b R3 x
+      → result_depth (put_of m k x) ≤ depth_limit → Places (pos 19) b (put_of m k x) 2
+  pub put_deep : (b : Body) (m k x : ValueOrError) → Holding b R1 m → Holding b R2 k → Holding b R3 x
+      → depth_limit < result_depth (put_of m k x) → Refuses (pos 19) b
+  pub item : (roots : Roots) (b : Body) (x : ValueOrError) (items : List Value) (v : Value) (i : ℕ) → HasValues roots b.values
+      → Holding b R1 x → b.registers R2 ≡ i → i < 2 ^ 64 → range_of x ≡ Some items → slice_get items i ≡ Some v
+      → Places (pos 20) b (value v) 1
+  pub count : (roots : Roots) (b : Body) (x : ValueOrError) (items : List Value) → HasValues roots b.values → Holding b R1 x
+      → range_of x ≡ Some items → Tells (pos 21) b (length items) 1
+  pub no_count : (roots : Roots) (b : Body) (x : ValueOrError) → HasValues roots b.values → Holding b R1 x → range_of x ≡ None
+      → Tells (pos 21) b 0xffff_ffff_ffff_ffff 1
+  pub text_of_int : (roots : Roots) (b : Body) (z : ℤ) → HasValues roots b.values → Holding b R1 (value (int z))
+      → Places (pos 22) b (value (text (signed_decimal z))) (1 + length (signed_decimal z))
+  pub no_text_of_int : (roots : Roots) (b : Body) (x : ValueOrError) → HasValues roots b.values → Holding b R1 x → int_part x ≡ None
+      → Places (pos 22) b error 1
   pub not : Unary (pos 23) not_of

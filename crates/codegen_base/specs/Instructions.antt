@@ -41,6 +41,6 @@ skip_where c r s off = Branch c W64 r (Reg s) (pos off)
 abbrev pub skip : ℕ → Insn
 skip off = Jump (pos off)
 
--- a jump back, to the place of the instruction so many slots before this one
-abbrev pub go_back : ℕ → Insn
-go_back off = Jump (negsuc off)
+-- a jump back where two registers compare so, to the place of the instruction so many slots before this one
+abbrev pub back_where : Comparison → Register → Register → ℕ → Insn
+back_where c r s off = Branch c W64 r (Reg s) (negsuc off)

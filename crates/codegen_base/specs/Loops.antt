@@ -16,7 +16,7 @@ use Rattle.cel_macros.specs.Macros.{range_of}
 use Rattle.codegen_base.specs.Body.{Body}
 use Rattle.codegen_base.specs.Engine.{Setting, Comes}
 use Rattle.codegen_base.specs.Pieces.{size, Stands}
-use Rattle.codegen_base.specs.Contexts.{Context, Fits, Gives, Shows}
+use Rattle.codegen_base.specs.Contexts.{Context, Fits, Gives, Keeps, Shows, variable_count}
 use Rattle.codegen_base.specs.Words.{word_at, word_offset}
 
 -- Five words of the frame serve a loop: word k names the range, and the words after it have the count of its items, the place of the next one, and references of the answer so far and of the item.
@@ -32,19 +32,20 @@ loop_head k off =
     ∷ Store Dw R10 (word_offset (k + 4)) R0
     ∷ []
 
--- R0 names the next answer
+-- the place of the next item, back to where it is placed if there is one, and the answer
 abbrev pub loop_tail : ℕ → ℕ → List Insn
 loop_tail k off =
-    Store Dw R10 (word_offset (k + 3)) R0
-    ∷ Load Dw R0 R10 (word_offset (k + 2))
-    ∷ Alu Add W64 R0 (Imm (pos 1))
-    ∷ Store Dw R10 (word_offset (k + 2)) R0
-    ∷ Jump (negsuc off)
+    Load Dw R2 R10 (word_offset (k + 2))
+    ∷ Alu Add W64 R2 (Imm (pos 1))
+    ∷ Store Dw R10 (word_offset (k + 2)) R2
+    ∷ Load Dw R1 R10 (word_offset (k + 1))
+    ∷ Branch Ne W64 R1 (Reg R2) (negsuc off)
     ∷ Load Dw R0 R10 (word_offset (k + 3))
     ∷ []
 
+-- the turn puts the next answer into its word
 abbrev pub loop_code : ℕ → List Insn → List Insn
-loop_code k turn = loop_head k (size turn + 8) ++ (turn ++ loop_tail k (size turn + 10))
+loop_code k turn = loop_head k (size turn + 8) ++ (turn ++ loop_tail k (size turn + 7))
 
 -- the environment inside a loop, where its name stands for an item
 abbrev pub with_item : Context → ℕ → List ℕ → Value → Context
@@ -56,9 +57,15 @@ pub record AtTurn (c : Context) (depth k : ℕ) (acc : ValueOrError) (v : Value)
   pub so_far : Names b.values.values (word_at depth (k + 3) b) acc
   pub item : Names b.values.values (word_at depth (k + 4) b) (value v)
 
+-- behind the piece the next answer stands in its word, and the words before it are as they were
+pub record Turned (c : Context) (depth k : ℕ) (acc : ValueOrError) (old new : Body) : Type 0 where
+  pub fits : Fits c depth k new
+  pub so_far : Names new.values.values (word_at depth (k + 3) new) acc
+  pub keeps : Keeps (variable_count c) depth (k + 3) old new
+
 -- for each item the piece at slot p makes the next answer, and leaves for slot `end` where that is the last; what `is_fine` asks of answers holds from one to the next
 pub record TurnGives (s : Setting) (p end : ℕ) (turn : List Insn) (c : Context) (depth k : ℕ) (items : List Value) (f : ValueOrError → Value → ValueOrError) (is_last is_fine : ValueOrError → Bool) (steps charge : Value → ℕ) : Type 0 where
-  pub goes_on : (b : Body) (acc : ValueOrError) (i : ℕ) (v : Value) → slice_get items i ≡ Some v → is_fine acc ≡ true → Stands s.image.code p turn → AtTurn c depth k acc v b → is_last acc ≡ false → is_last (f acc v) ≡ false → Comes s (steps v) (charge v) p b (p + size turn) (Shows c depth (k + 5) (f acc v) b)
+  pub goes_on : (b : Body) (acc : ValueOrError) (i : ℕ) (v : Value) → slice_get items i ≡ Some v → is_fine acc ≡ true → Stands s.image.code p turn → AtTurn c depth k acc v b → is_last acc ≡ false → is_last (f acc v) ≡ false → Comes s (steps v) (charge v) p b (p + size turn) (Turned c depth k (f acc v) b)
   pub leaves : (b : Body) (acc : ValueOrError) (i : ℕ) (v : Value) → slice_get items i ≡ Some v → is_fine acc ≡ true → Stands s.image.code p turn → AtTurn c depth k acc v b → is_last acc ≡ false → is_last (f acc v) ≡ true → Comes s (steps v) (charge v) p b end (Shows c depth (k + 5) (f acc v) b)
   pub last : (acc : ValueOrError) (v : Value) → is_last acc ≡ true → f acc v ≡ acc
   pub fine : (acc : ValueOrError) (i : ℕ) (v : Value) → slice_get items i ≡ Some v → is_fine acc ≡ true → is_fine (f acc v) ≡ true
@@ -66,7 +73,7 @@ pub record TurnGives (s : Setting) (p end : ℕ) (turn : List Insn) (c : Context
 -- what a loop takes over its items, when each turn takes this
 abbrev pub loop_steps : (Value → ℕ) → List Value → ℕ
 loop_steps steps [] = 4
-loop_steps steps (v ∷ vs) = 6 + (steps v + (5 + loop_steps steps vs))
+loop_steps steps (v ∷ vs) = 3 + (steps v + (5 + loop_steps steps vs))
 
 abbrev pub loop_charge : (Value → ℕ) → List Value → ℕ
 loop_charge charge [] = 0

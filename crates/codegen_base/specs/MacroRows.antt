@@ -10,11 +10,13 @@ use Rattle.codegen_base.specs.Code.Literals.{null_code, truth_code}
 use Rattle.codegen_base.specs.Code.Names.{word_code}
 use Rattle.codegen_base.specs.Rows.{runs}
 
--- `[true, false].exists_one(x, x)`: 13 steps for the list, 7 for its count, 2 for the first answer, 17 and 15 for the items, 4 behind them, 2 for the end, and the exit
+-- `[true, false].exists_one(x, x)`: 12 steps for the list, 7 for its count, 2 for the first answer, 3 to the first item, 15 and 10 for
+-- the items, 1 behind them, 2 for the end, and the exit
 abbrev pub one_of_two : List Insn
 one_of_two = exists_one_code 0 (list_code (item_code (truth_code true) 0 ++ item_code (truth_code false) 0) 0) (word_code 4) ++ Exit ∷ []
 
--- `[false, null].all(x, x)`: 13 steps for the list, 7 for its count, 2 for the first answer, 8 for the first item, which decides, and the exit
+-- `[false, null].all(x, x)`: 12 steps for the list, 7 for its count, 2 for the first answer, 8 for the first item, which decides, and
+-- the exit
 abbrev pub first_decides : List Insn
 first_decides = all_code 0 (list_code (item_code (truth_code false) 0 ++ item_code null_code 0) 0) (word_code 4) ++ Exit ∷ []
 
@@ -23,6 +25,6 @@ abbrev pub over_no_range : List Insn
 over_no_range = all_code 0 null_code (word_code 4) ++ Exit ∷ []
 
 pub record MacroRowsStand : Type 0 where
-  pub one_of_two_exits : (state_after 61 (runs one_of_two)).status ≡ Exited 3
-  pub first_decides_exits : (state_after 31 (runs first_decides)).status ≡ Exited 2
+  pub one_of_two_exits : (state_after 53 (runs one_of_two)).status ≡ Exited 3
+  pub first_decides_exits : (state_after 30 (runs first_decides)).status ≡ Exited 2
   pub over_no_range_exits : (state_after 8 (runs over_no_range)).status ≡ Exited 0

@@ -13,12 +13,16 @@ use Rattle.codegen_base.specs.Pieces.{Stands, size}
 use Rattle.codegen_base.specs.Words.{word_at}
 
 -- the piece makes z of the value x in R0
-pub record Converts (s : Setting) (p : ℕ) (piece : List Insn) (c : Context) (depth base : ℕ) (x z : ValueOrError) (steps charge : ℕ) : Type 0 where
-  pub runs : (b : Body) → Stands s.image.code p piece → Fits c depth base b → Names b.values.values (b.registers R0) x → Comes s steps charge p b (p + size piece) (Shows c depth base z b)
+pub record Converts (s : Setting) (p : ℕ) (piece : List Insn) (c : Context) (depth base : ℕ) (x z : ValueOrError) (steps charge : ℕ) : Type
+    0 where
+  pub runs : (b : Body) → Stands s.image.code p piece → Fits c depth base b → Names b.values.values (b.registers R0) x
+      → Comes s steps charge p b (p + size piece) (Shows c depth base z b)
 
 -- the piece makes z of the value x in word k and the value y in R0
-pub record Combines (s : Setting) (p : ℕ) (piece : List Insn) (c : Context) (depth k : ℕ) (x y z : ValueOrError) (steps charge : ℕ) : Type 0 where
-  pub runs : (b : Body) → Stands s.image.code p piece → Fits c depth k b → Names b.values.values (word_at depth k b) x → Names b.values.values (b.registers R0) y → Comes s steps charge p b (p + size piece) (Shows c depth k z b)
+pub record Combines (s : Setting) (p : ℕ) (piece : List Insn) (c : Context)
+    (depth k : ℕ) (x y z : ValueOrError) (steps charge : ℕ) : Type 0 where
+  pub runs : (b : Body) → Stands s.image.code p piece → Fits c depth k b → Names b.values.values (word_at depth k b) x
+      → Names b.values.values (b.registers R0) y → Comes s steps charge p b (p + size piece) (Shows c depth k z b)
 
 -- an operand and a piece behind it
 abbrev pub OneGives : Type 0
@@ -43,6 +47,7 @@ ConvertsThen = (s : Setting) (p : ℕ) (first second : List Insn) (c : Context) 
     → Converts s (p + size first) second c depth base y z n2 x2
     → Converts s p (first ++ second) c depth base x z (n1 + n2) (x1 + x2)
 
+-- a piece of one operand behind one of two
 abbrev pub CombinesThen : Type 0
 CombinesThen = (s : Setting) (p k : ℕ) (first second : List Insn) (c : Context) (depth : ℕ) (x y w z : ValueOrError) (n1 x1 n2 x2 : ℕ)
     → Combines s p first c depth k x y w n1 x1
@@ -51,6 +56,11 @@ CombinesThen = (s : Setting) (p k : ℕ) (first second : List Insn) (c : Context
 
 -- the calls of helpers
 pub record CallsGive : Type 0 where
-  pub one : (s : Setting) (p : ℕ) (helper : ℤ) (f : ValueOrError → ValueOrError) (c : Context) (depth base : ℕ) (x : ValueOrError) → base ≤ 64 → Unary helper f → Converts s p (call_one helper) c depth base x (f x) 2 1
-  pub two : (s : Setting) (p k : ℕ) (helper : ℤ) (f : ValueOrError → ValueOrError → ValueOrError) (c : Context) (depth : ℕ) (x y : ValueOrError) → k < 64 → Binary helper f → Combines s p (call_two helper k) c depth k x y (f x y) 3 1
-  pub swapped : (s : Setting) (p k : ℕ) (helper : ℤ) (f : ValueOrError → ValueOrError → ValueOrError) (c : Context) (depth : ℕ) (x y : ValueOrError) → k < 64 → Binary helper f → Combines s p (call_swapped helper k) c depth k x y (f y x) 3 1
+  pub one : (s : Setting) (p : ℕ) (helper : ℤ) (f : ValueOrError → ValueOrError) (c : Context) (depth base : ℕ) (x : ValueOrError)
+      → base ≤ 64 → Unary helper f → Converts s p (call_one helper) c depth base x (f x) 2 1
+  pub two : (s : Setting) (p k : ℕ) (helper : ℤ) (f : ValueOrError → ValueOrError → ValueOrError) (c : Context) (depth : ℕ)
+      (x y : ValueOrError)
+      → k < 64 → Binary helper f → Combines s p (call_two helper k) c depth k x y (f x y) 3 1
+  pub swapped : (s : Setting) (p k : ℕ) (helper : ℤ) (f : ValueOrError → ValueOrError → ValueOrError) (c : Context) (depth : ℕ)
+      (x y : ValueOrError)
+      → k < 64 → Binary helper f → Combines s p (call_swapped helper k) c depth k x y (f y x) 3 1

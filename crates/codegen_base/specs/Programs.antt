@@ -25,18 +25,25 @@ use Rattle.codegen_base.specs.Variables.{routine_context, with_variables}
 abbrev pub start_registers : Register → ℕ
 start_registers r = if nat_eq (register_number r) 10 then 0x1_0000_0200 else 0
 
+-- the body before the first step
 abbrev pub start_body : loader.Contents → Contents → Body
 start_body image values = record { registers = start_registers; records = []; memory = start_memory image.constants; values = values }
 
+-- the sum of the numbers
 abbrev pub total : List ℕ → ℕ
 total [] = 0
 total (n ∷ ns) = n + total ns
 
--- an image whose code begins with a piece for a value and an exit, run from the start, has exited with a reference of the value or of the error, or stopped for its charge or a depth, after its steps and those of its variables
+-- an image whose code begins with a piece for a value and an exit, run from the start, has exited with a reference of
+-- the value or of the error, or stopped for its charge or a depth, after its steps and those of its variables
 abbrev pub ProgramExits : Type 0
-ProgramExits = (image : loader.Contents) (deep : Bool) (values : Contents) (roots : Roots) (piece : List Insn) (routines : List ℕ) (firsts : List FirstUse) (variables : List (List ℕ × ValueOrError)) (v : ValueOrError) (n x m : ℕ)
-    → image.code ≡ spellings (piece ++ Exit ∷ []) ++ routines → All (λ b. b < 256) image.code → All (λ b. b < 256) image.constants → AreInsns (piece ++ Exit ∷ [])
+ProgramExits =
+    (image : loader.Contents) (deep : Bool) (values : Contents) (roots : Roots) (piece : List Insn) (routines : List ℕ)
+    (firsts : List FirstUse) (variables : List (List ℕ × ValueOrError)) (v : ValueOrError) (n x m : ℕ)
+    → image.code ≡ spellings (piece ++ Exit ∷ []) ++ routines → All (λ b. b < 256) image.code → All (λ b. b < 256) image.constants
+    → AreInsns (piece ++ Exit ∷ [])
     → HasValues roots values
     → Gives (with_variables image deep firsts) 0 piece (routine_context roots variables image.constants) 0 0 v n x
     → n + total (each (λ u. u.steps) firsts) < m
-    → Halts (with_variables image deep firsts) x (start_body image values) (λ b. Names b.values.values (b.registers R0) v) (state_after m (start_state image values))
+    → Halts (with_variables image deep firsts) x (start_body image values) (λ b. Names b.values.values (b.registers R0) v)
+    (state_after m (start_state image values))

@@ -15,6 +15,7 @@ use Rattle.codegen_base.specs.FirstUses.{FirstUse, first_uses}
 use Rattle.codegen_base.specs.Pieces.{spellings}
 use Rattle.codegen_base.specs.Variables.{memo_tail, use_code}
 
+-- the start of a program that is this piece
 abbrev pub runs : List Insn → State
 runs piece = start_state (record { version = Second; code = spellings piece; constants = [] }) null_values
 
@@ -30,10 +31,11 @@ null_is_not_true = two_code null_code (truth_code true) 0 (unequal_tail 0) ++ Ex
 abbrev pub two_variables : List FirstUse
 two_variables = record { routine = 15; steps = 10; charge = 3 } ∷ record { routine = 30; steps = 20; charge = 4 } ∷ []
 
--- two memos that are empty, and the first of them filled
+-- two memos that are empty
 abbrev pub both_empty : List ℕ
 both_empty = replicate 16 0
 
+-- the first of them filled
 abbrev pub one_filled : List ℕ
 one_filled = 4 ∷ replicate 15 0
 
@@ -41,9 +43,11 @@ one_filled = 4 ∷ replicate 15 0
 abbrev pub its_call : Frame
 its_call = record { return_pc = pos 6; r6 = 0; r7 = 0; r8 = 0; r9 = 0 }
 
+-- the steps of first uses among these two variables, from one scratch region to another, with these calls open
 abbrev pub used_in : List ℕ → List ℕ → List Frame → ℕ
 used_in old new calls = first_uses (runs variable_and_true).image two_variables (λ v. v.steps) old new calls
 
+-- runs, each with its end, and the steps of first uses
 pub record RowsStand : Type 0 where
   -- the first variable counts where its memo is filled and where its routine is open, and once; the other one never
   pub filled_counts : used_in both_empty one_filled [] ≡ 10

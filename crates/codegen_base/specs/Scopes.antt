@@ -1,5 +1,6 @@
 -- The variables of a scope, each with its routine; one may use those before it.
-use Rattle.std.specs.Prelude.{◌≡◌, ℕ, suc, ◌+◌, ◌<◌, ◌≤◌, ℤ, pos, ◌+ℤ◌, Bool, List, [], ◌∷◌, ◌++◌, length, Option, Some, None, slice_get, bytes_eq, option_map, if◌then◌else◌}
+use Rattle.std.specs.Prelude.{◌≡◌, ℕ, suc, ◌+◌, ◌<◌, ◌≤◌, ℤ, pos, ◌+ℤ◌, Bool, List, [], ◌∷◌, ◌++◌, length, Option, Some, None, slice_get}
+use Rattle.std.specs.Prelude.{bytes_eq, option_map, if◌then◌else◌}
 use Rattle.std.specs.Prelude.{map as each}
 use Rattle.insn_codec.specs.declared.insn.Insn.{Insn}
 use Rattle.insn_codec.specs.declared.register.Register.TheVariants.{R0}
@@ -15,7 +16,8 @@ use Rattle.codegen_base.specs.Pieces.{Stands}
 use Rattle.codegen_base.specs.Variables.{memo_tail, routine_context, use_code, used_context, with_variables}
 use Rattle.codegen_base.specs.Words.{memo_at}
 
--- a variable: its name and its value or error; the slot and the code of its routine; how many frames a use of it opens at most, its own included; and what its value takes
+-- a variable: its name and its value or error; the slot and the code of its routine; how many frames a use of it opens
+-- at most, its own included; and what its value takes
 pub record Variable : Type 0 where
   pub name : List ℕ
   pub value : ValueOrError
@@ -33,9 +35,11 @@ bindings = each (λ v. (v.name, v.value))
 abbrev pub first_steps : List Variable → List ℕ
 first_steps = each (λ v. v.steps + 9)
 
+-- the charge that the first use of each takes
 abbrev pub first_charges : List Variable → List ℕ
 first_charges = each (λ v. v.charge)
 
+-- the first use of a variable
 abbrev pub first_use : Variable → FirstUse
 first_use v = record { routine = v.routine; steps = v.steps + 9; charge = v.charge }
 
@@ -44,14 +48,18 @@ abbrev pub scope_setting : Contents → Bool → List Variable → Setting
 scope_setting image deep scope = with_variables image deep (each first_use scope)
 
 -- the routine of the variable behind these stands in the image, and gives its value in the setting of these wherever enough frames are left
-pub record HasRoutine (image : Contents) (deep : Bool) (roots : Roots) (constants : List ℕ) (before : List Variable) (v : Variable) : Type 0 where
+pub record HasRoutine (image : Contents) (deep : Bool) (roots : Roots) (constants : List ℕ)
+    (before : List Variable) (v : Variable) : Type 0 where
   pub stands : Stands image.code v.routine (v.body ++ memo_tail (length before))
   pub opens : 1 ≤ v.nesting
-  pub gives : (depth : ℕ) → depth + v.nesting ≤ 7 → Gives (scope_setting image deep before) v.routine v.body (routine_context roots (bindings before) constants) (depth + 1) 0 v.value v.steps v.charge
+  pub gives : (depth : ℕ) → depth + v.nesting ≤ 7
+      → Gives (scope_setting image deep before) v.routine v.body (routine_context roots (bindings before) constants) (depth + 1) 0 v.value
+      v.steps v.charge
 
 -- each variable of a scope has its routine
 abbrev pub IsScope : Contents → Bool → Roots → List ℕ → List Variable → Type 0
-IsScope image deep roots constants scope = (before later : List Variable) (v : Variable) → scope ≡ before ++ v ∷ later → HasRoutine image deep roots constants before v
+IsScope image deep roots constants scope =
+    (before later : List Variable) (v : Variable) → scope ≡ before ++ v ∷ later → HasRoutine image deep roots constants before v
 
 -- the place of the first variable of a name
 abbrev pub place_named : List ℕ → List Variable → Option ℕ
@@ -60,11 +68,14 @@ place_named n (v ∷ more) = if bytes_eq v.name n then Some 0 else option_map su
 
 -- the use of a variable, found by its name, gives what the name stands for, with 5 steps of its own, wherever enough frames are left
 abbrev pub ScopeGives : Type 0
-ScopeGives = (image : Contents) (deep : Bool) (roots : Roots) (constants : List ℕ) (scope : List Variable) (words : List (List ℕ × ℕ)) (items : List (List ℕ × Value)) (name : List ℕ) (i : ℕ) (v : Variable) (p depth base : ℕ) (offset : ℤ)
+ScopeGives =
+    (image : Contents) (deep : Bool) (roots : Roots) (constants : List ℕ) (scope : List Variable) (words : List (List ℕ × ℕ))
+    (items : List (List ℕ × Value)) (name : List ℕ) (i : ℕ) (v : Variable) (p depth base : ℕ) (offset : ℤ)
     → IsScope image deep roots constants scope → length scope ≤ 512 → base ≤ 60
     → place_named name scope ≡ Some i → slice_get scope i ≡ Some v → depth + v.nesting ≤ 7
     → pos (p + 5) +ℤ pos 1 +ℤ offset ≡ pos v.routine
-    → Gives (scope_setting image deep scope) p (use_code i offset) (used_context roots items words constants (bindings scope)) depth base (variable_value name (bindings scope)) 5 0
+    → Gives (scope_setting image deep scope) p (use_code i offset) (used_context roots items words constants (bindings scope)) depth base
+    (variable_value name (bindings scope)) 5 0
 
 -- no variables are a scope
 abbrev pub NoScope : Type 0
@@ -72,17 +83,23 @@ NoScope = (image : Contents) (deep : Bool) (roots : Roots) (constants : List ℕ
 
 -- the first variables of a scope are one
 abbrev pub ScopeBegins : Type 0
-ScopeBegins = (image : Contents) (deep : Bool) (roots : Roots) (constants : List ℕ) (scope more : List Variable) → IsScope image deep roots constants (scope ++ more) → IsScope image deep roots constants scope
+ScopeBegins = (image : Contents) (deep : Bool) (roots : Roots) (constants : List ℕ) (scope more : List Variable)
+    → IsScope image deep roots constants (scope ++ more) → IsScope image deep roots constants scope
 
 -- a scope with one more variable, which may use those before it, is one
 abbrev pub ScopeGrows : Type 0
-ScopeGrows = (image : Contents) (deep : Bool) (roots : Roots) (constants : List ℕ) (scope : List Variable) (v : Variable) → IsScope image deep roots constants scope → HasRoutine image deep roots constants scope v → IsScope image deep roots constants (scope ++ v ∷ [])
+ScopeGrows = (image : Contents) (deep : Bool) (roots : Roots) (constants : List ℕ) (scope : List Variable) (v : Variable)
+    → IsScope image deep roots constants scope → HasRoutine image deep roots constants scope v
+    → IsScope image deep roots constants (scope ++ v ∷ [])
 
 -- what a piece gives in a scope it gives where more variables stand behind it, whose memos it leaves
 abbrev pub LaterGives : Type 0
-LaterGives = (image : Contents) (deep : Bool) (roots : Roots) (constants : List ℕ) (scope later : List Variable) (words : List (List ℕ × ℕ)) (items : List (List ℕ × Value)) (p : ℕ) (piece : List Insn) (depth base : ℕ) (x : ValueOrError) (steps charge : ℕ)
+LaterGives =
+    (image : Contents) (deep : Bool) (roots : Roots) (constants : List ℕ) (scope later : List Variable) (words : List (List ℕ × ℕ))
+    (items : List (List ℕ × Value)) (p : ℕ) (piece : List Insn) (depth base : ℕ) (x : ValueOrError) (steps charge : ℕ)
     → Gives (scope_setting image deep scope) p piece (used_context roots items words constants (bindings scope)) depth base x steps charge
-    → Gives (scope_setting image deep scope) p piece (used_context roots items words constants (bindings (scope ++ later))) depth base x steps charge
+    → Gives (scope_setting image deep scope) p piece (used_context roots items words constants (bindings (scope ++ later))) depth base x
+    steps charge
 
 -- and where first uses of more variables are paid
 abbrev pub WiderGives : Type 0

@@ -28,7 +28,8 @@ use_code i offset =
     ∷ CallLocal offset
     ∷ []
 
--- the end of the routine of variable i: its memo gets 1 more than the reference in R0, so that 0 stands for no value yet, and the error's reference can be told from it
+-- the end of the routine of variable i: its memo gets 1 more than the reference in R0, so that 0 stands for no value
+-- yet, and the error's reference can be told from it
 abbrev pub memo_tail : ℕ → List Insn
 memo_tail i =
     copy R2 R0
@@ -44,11 +45,13 @@ with_variables image deep variables = record { image = image; variables = variab
 
 -- in a routine, as at the start of a program, no iteration name is in force; the variables before its own can be used
 abbrev pub routine_context : Roots → List (List ℕ × ValueOrError) → List ℕ → Context
-routine_context roots variables constants = record { environment = record { roots = roots; items = []; variables = variables }; words = []; constants = constants }
+routine_context roots variables constants =
+    record { environment = record { roots = roots; items = []; variables = variables }; words = []; constants = constants }
 
 -- the context of an expression that sees these items and variables
 abbrev pub used_context : Roots → List (List ℕ × Value) → List (List ℕ × ℕ) → List ℕ → List (List ℕ × ValueOrError) → Context
-used_context roots items words constants variables = record { environment = record { roots = roots; items = items; variables = variables }; words = words; constants = constants }
+used_context roots items words constants variables =
+    record { environment = record { roots = roots; items = items; variables = variables }; words = words; constants = constants }
 
 -- code for a variable's value, with those before it, makes a routine; its use gives the value, with 5 steps of its own, and with
 -- at most 9 more than that code takes where it is the first

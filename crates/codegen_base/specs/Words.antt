@@ -18,29 +18,35 @@ stack_index depth k = 64 * depth + 63 - k
 abbrev pub word_offset : ℕ → ℤ
 word_offset k = negsuc (8 * k + 7)
 
+-- word k of the frame at which so many local calls are open
 abbrev pub word_at : ℕ → ℕ → Body → ℕ
 word_at depth k b = word_in b.memory.stack (stack_index depth k)
 
+-- the body with w in word k of that frame
 abbrev pub set_word : ℕ → ℕ → ℕ → Body → Body
 set_word depth k w b = record b { memory = record b.memory { stack = put_word b.memory.stack (stack_index depth k) w } }
 
--- word i of the scratch region is the memo of variable i
+-- where word i of the scratch region begins, which is the memo of variable i
 abbrev pub memo_address : ℕ → ℕ
 memo_address i = base_of Scratch + 8 * i
 
+-- the memo of variable i
 abbrev pub memo_at : ℕ → Body → ℕ
 memo_at i b = word_in b.memory.scratch i
 
+-- the body with w in the memo of variable i
 abbrev pub set_memo : ℕ → ℕ → Body → Body
 set_memo i w b = record b { memory = record b.memory { scratch = put_word b.memory.scratch i w } }
 
--- word i of the verdict region
+-- where word i of the verdict region begins
 abbrev pub verdict_address : ℕ → ℕ
 verdict_address i = base_of Verdict + 8 * i
 
+-- word i of the verdict region
 abbrev pub verdict_at : ℕ → Body → ℕ
 verdict_at i b = word_in b.memory.verdict i
 
+-- the body with w in word i of the verdict region
 abbrev pub set_verdict : ℕ → ℕ → Body → Body
 set_verdict i w b = record b { memory = record b.memory { verdict = put_word b.memory.verdict i w } }
 
@@ -51,5 +57,6 @@ pub record HasFrame (depth pointer : ℕ) (records : List Frame) (m : Memory) : 
   pub records_are : length records ≡ depth
   pub memory : IsMemory m
 
+-- the same of a body, whose R10 is the frame pointer
 abbrev pub Framed : ℕ → Body → Type 0
 Framed depth b = HasFrame depth (b.registers R10) b.records b.memory

@@ -12,10 +12,11 @@ use Rattle.codegen.specs.Constants.{joined}
 use Rattle.codegen_base.proofs.Pieces.{length-spelling, size-append, size-cons}
 use Rattle.codegen_base.specs.Pieces.{size, spellings}
 use Rattle.policy_glue.specs.Checked.{Checks, IsChecked}
-use Rattle.policy_glue.specs.Compiled.{CompilesTo, IsCompiled, contents}
+use Rattle.policy_glue.specs.Compiled.{CompilesTo, IsCompiled}
 use Rattle.policy_glue.specs.Emission.{Emits}
 use Rattle.policy_glue.specs.Limits.{Compiles, excess, policy_nodes, policy_texts}
 use Rattle.policy_glue.specs.Limits as limits
+use Rattle.policy_glue.specs.OneImage.{OneImage, contents}
 use Rattle.policy_glue.specs.Policy.{Rules}
 use Rattle.policy_glue.specs.ProgramCode.{program_of}
 use Rattle.policy_glue.specs.ProgramTrees.{ProgramDecides, ProgramIsShort, ProgramStops}
@@ -97,7 +98,7 @@ image_compiled short law stopped p c code constants image accepted checks within
       trees = t;
       compiles = limits.compiled t checks.2 within;
       program = record {
-        is = λ i. contents Second (code_is i) (constants_are i);
+        version = refl;
         code = bytes;
         constants = constant_bytes;
         few_slots = omega arith;
@@ -105,3 +106,9 @@ image_compiled short law stopped p c code constants image accepted checks within
         stops = λ roots values k table over. stopped f t roots due values k has code_is constants_are bytes constant_bytes table over;
       };
     })
+
+-- and it is the one
+pub image_is_one : (p : Rules) (c : Checked) (code constants : List ℕ) (image : loader.Contents) → (checks : Checks p (Ok c)) → excess checks.0 ≡ None → code ≡ spellings (program_of p.failure_policy checks.0)
+    → constants ≡ joined (policy_texts checks.0) → image ≡ contents Second code constants → OneImage p image
+image_is_one p c code constants image checks within code_is constants_are is =
+    record { trees = checks.0; compiles = limits.compiled checks.0 checks.2 within; is = is ∙ (λ i. contents Second (code_is i) (constants_are i)) }

@@ -1,6 +1,6 @@
 -- What is put into an emitter step by step.
 use Rattle.std.proofs.Common.{◌≡◌, ℕ, zero, suc, ◌+◌, ◌-◌, ◌<◌, ◌≤◌, Bool, true, false, List, [], ◌∷◌, ◌++◌, length, map, take, get_or, Option, Some, None, Result, Ok, Err, OnOk, IfOk, refl, sym, ap, ◌∙◌, subst, arith, append_assoc, length-append, append-nil}
-use Rattle.std.specs.Prelude.{if◌then◌else◌, slice_get, slice_index_or, option_map, fold, replicate}
+use Rattle.std.specs.Prelude.{if◌then◌else◌, slice_get, slice_index_or, slice_set, option_map, fold, replicate}
 use Rattle.std.proofs.lemmas.List.{length-map}
 use Rattle.std.proofs.lemmas.Bool.{leb-true}
 use Rattle.insn_codec.specs.Spelling.{slot_count}
@@ -13,7 +13,7 @@ use Rattle.cel_measures.specs.Measures.{depth, need, nodes}
 use Rattle.cel_types.specs.Declarations.{Declaration, declared, depths_of, scope_of}
 use Rattle.cel_types.specs.Typing.{typing as type_of}
 use Rattle.codegen.specs.Added.{code_at, has_room, with_counted, with_expression}
-use Rattle.codegen.specs.Emitted.{Emitted, with_nodes, with_piece}
+use Rattle.codegen.specs.Emitted.{Emitted, with_insn_at, with_nodes, with_piece}
 use Rattle.codegen.specs.Surroundings.{routines_of}
 use Rattle.codegen.proofs.Lengths.{short_code}
 use Rattle.codegen_base.specs.Pieces.{insn_slots, size, slots}
@@ -21,11 +21,12 @@ use Rattle.codegen_base.proofs.Pieces.{length-insn_slots, slots-append}
 use Rattle.policy_glue.specs.Checked.{rule_expanded, rule_trees}
 use Rattle.policy_glue.specs.Checking.{depth_in, scope_after, type_or_any, with_variable}
 use Rattle.policy_glue.specs.Emission.{FitInOrder, Fits, MayFit, with_message}
-use Rattle.policy_glue.specs.Program.{message_tail}
+use Rattle.policy_glue.specs.Program.{denial_code, leave_error, message_tail}
 use Rattle.policy_glue.specs.ProgramTrees.{AreConditions, AreRules, AreVariables, IsMessage}
 use Rattle.policy_glue.specs.Trees.{RuleTree, VariableTree}
 use Rattle.policy_glue.specs.declared.checked_validation.CheckedValidation.{CheckedValidation}
-use Rattle.policy_glue.proofs.ProgramRules.{message_tail_size}
+use Rattle.policy_glue.specs.declared.failure_policy.FailurePolicy.{FailurePolicy}
+use Rattle.policy_glue.proofs.ProgramRules.{denial_size, message_tail_size}
 
 -- ---- pieces
 
@@ -87,42 +88,75 @@ begins e scope tree =
     let counted = with_counted e tree (nodes tree) in
     begins_where (has_room counted) counted (code_at counted scope tree (length e.code))
 
--- ---- the jump over what is done for a denial
+-- ---- the jumps behind a validation
 
 slots_one : (x : Insn) → slot_count x ≡ 1 → slots (x ∷ []) ≡ Some x ∷ []
 slots_one x one = ap (λ (n : ℕ). Some x ∷ replicate (n - 1) None ++ []) one
 
--- where it stood once the message is there
-get_behind : (xs : List (Option Insn)) (x : Option Insn) (ys : List (Option Insn)) → slice_get (xs ++ x ∷ ys) (length xs) ≡ Some x
-get_behind [] x ys = refl
-get_behind (z ∷ xs) x ys = get_behind xs x ys
+get_behind : (xs ys : List (Option Insn)) (k : ℕ) → slice_get (xs ++ ys) (length xs + k) ≡ slice_get ys k
+get_behind [] ys k = ap (slice_get ys) (omega arith)
+get_behind (x ∷ xs) ys k =
+    let same : suc (length xs) + k ≡ suc (length xs + k) = omega arith in
+    ap (slice_get (x ∷ (xs ++ ys))) same ∙ get_behind xs ys k
 
-pub jump_stands : (i : ℕ) (scope : List Declaration) (tree : CoreTree) (e e1 e2 e3 : Emitted) (jump : Insn) (count : List Insn) → slot_count jump ≡ 1 → e1 ≡ with_piece e (jump ∷ []) → e2 ≡ with_piece e1 count → e3 ≡ with_message i scope e2 tree → slice_get e3.code (length e.code) ≡ Some (Some jump)
-jump_stands i scope tree e e1 e2 e3 jump count one first second third =
-    let behind = begins (with_nodes e2 1) scope tree in
-    let rest = slots count ++ (behind.0 ++ slots (message_tail i)) in
-    let single : slots (jump ∷ []) ≡ Some jump ∷ [] = slots_one jump one in
-    let code1 : e1.code ≡ e.code ++ Some jump ∷ [] = ap (λ (x : Emitted). x.code) first ∙ ap (λ (l : List (Option Insn)). e.code ++ l) single in
-    let code2 : e2.code ≡ (e.code ++ Some jump ∷ []) ++ slots count = ap (λ (x : Emitted). x.code) second ∙ ap (λ (l : List (Option Insn)). l ++ slots count) code1 in
-    let code3 : e3.code ≡ (((e.code ++ Some jump ∷ []) ++ slots count) ++ behind.0) ++ slots (message_tail i) =
-    ap (λ (x : Emitted). x.code) third ∙ ap (λ (l : List (Option Insn)). l ++ slots (message_tail i)) (behind.1 ∙ ap (λ (l : List (Option Insn)). l ++ behind.0) code2) in
-    let whole : e3.code ≡ e.code ++ Some jump ∷ rest =
-    code3
-    ∙ append_assoc ((e.code ++ Some jump ∷ []) ++ slots count) behind.0 (slots (message_tail i))
-    ∙ append_assoc (e.code ++ Some jump ∷ []) (slots count) (behind.0 ++ slots (message_tail i))
-    ∙ append_assoc e.code (Some jump ∷ []) rest in
-    ap (λ (l : List (Option Insn)). slice_get l (length e.code)) whole ∙ get_behind e.code (Some jump) rest
+set_behind : (xs ys : List (Option Insn)) (x y : Option Insn) → slice_set (xs ++ x ∷ ys) (length xs) y ≡ xs ++ y ∷ ys
+set_behind [] ys x y = refl
+set_behind (z ∷ xs) ys x y = ap (λ (l : List (Option Insn)). z ∷ l) (set_behind xs ys x y)
 
-pub few_between : (i : ℕ) (scope : List Declaration) (tree : CoreTree) (e e1 e2 e3 : Emitted) (jump : Insn) (count : List Insn) (last : ℕ) → slot_count jump ≡ 1 → size count ≤ 5 → e1 ≡ with_piece e (jump ∷ []) → e2 ≡ with_piece e1 count → e3 ≡ with_message i scope e2 tree → last + 1 ≡ length e3.code → last - length e.code < 32768
-few_between i scope tree e e1 e2 e3 jump count last one five first second third at =
-    let few = few_slots (with_nodes e2 1) scope tree in
-    let tail = message_tail_size i in
-    let x = with_expression (with_nodes e2 1) scope tree in
-    let n1 = ap (λ (y : Emitted). length y.code) first ∙ length-append e.code (slots (jump ∷ [])) in
-    let n2 = ap (λ (y : Emitted). length y.code) second ∙ length-append e1.code (slots count) in
-    let n3 = ap (λ (y : Emitted). length y.code) third ∙ length-append x.code (slots (message_tail i)) in
-    let single = one_slot jump one in
-    omega (arith, few, tail, n1, n2, n3, single, five, at)
+module _ (f : FailurePolicy) (i : ℕ) (scope : List Declaration) (tree : CoreTree) (e e1 e2 e3 : Emitted) (jump : Insn) (denial : List Insn) (one : slot_count jump ≡ 1) (is : denial ≡ denial_code f i 0) (first : e1 ≡ with_piece e (jump ∷ [])) (second : e2 ≡ with_piece e1 denial) (third : e3 ≡ with_message i scope e2 tree) where
+  abbrev rest : List (Option Insn)
+  rest = (begins (with_nodes e2 1) scope tree).0 ++ slots (message_tail i)
+
+  -- where they stand once the message is there
+  stands : e3.code ≡ e.code ++ Some jump ∷ (slots (denial_code f i 0) ++ rest)
+  stands =
+      let behind = begins (with_nodes e2 1) scope tree in
+      let more = slots denial ++ rest in
+      let code1 : e1.code ≡ e.code ++ Some jump ∷ [] = ap (λ (x : Emitted). x.code) first ∙ ap (λ (l : List (Option Insn)). e.code ++ l) (slots_one jump one) in
+      let code2 : e2.code ≡ (e.code ++ Some jump ∷ []) ++ slots denial = ap (λ (x : Emitted). x.code) second ∙ ap (λ (l : List (Option Insn)). l ++ slots denial) code1 in
+      let code3 : e3.code ≡ (((e.code ++ Some jump ∷ []) ++ slots denial) ++ behind.0) ++ slots (message_tail i) =
+      ap (λ (x : Emitted). x.code) third ∙ ap (λ (l : List (Option Insn)). l ++ slots (message_tail i)) (behind.1 ∙ ap (λ (l : List (Option Insn)). l ++ behind.0) code2) in
+      code3
+      ∙ append_assoc ((e.code ++ Some jump ∷ []) ++ slots denial) behind.0 (slots (message_tail i))
+      ∙ append_assoc (e.code ++ Some jump ∷ []) (slots denial) rest
+      ∙ append_assoc e.code (Some jump ∷ []) more
+      ∙ ap (λ (l : List Insn). e.code ++ Some jump ∷ (slots l ++ rest)) is
+
+  pub jump_stands : slice_get e3.code (length e.code) ≡ Some (Some jump)
+  jump_stands =
+      let start : length e.code ≡ length e.code + 0 = omega arith in
+      ap (slice_get e3.code) start
+      ∙ ap (λ (l : List (Option Insn)). slice_get l (length e.code + 0)) stands
+      ∙ get_behind e.code (Some jump ∷ (slots (denial_code f i 0) ++ rest)) 0
+
+  leave_in : (more : List (Option Insn)) → slice_get (Some jump ∷ (slots (denial_code f i 0) ++ more)) 5 ≡ Some (Some (leave_error f 4))
+  unfolding denial_code
+  leave_in more = refl
+
+  -- the other jump, when the first one has its way
+  pub leave_stands : (e4 : Emitted) (new : Insn) → e4 ≡ with_insn_at e3 (length e.code) new → slice_get e4.code (length e.code + 5) ≡ Some (Some (leave_error f 4))
+  leave_stands e4 new put =
+      let behind = slots (denial_code f i 0) ++ rest in
+      let code : e4.code ≡ e.code ++ Some new ∷ behind =
+      ap (λ (x : Emitted). x.code) put ∙ ap (λ (l : List (Option Insn)). slice_set l (length e.code) (Some new)) stands ∙ set_behind e.code behind (Some jump) (Some new) in
+      ap (λ (l : List (Option Insn)). slice_get l (length e.code + 5)) code
+      ∙ get_behind e.code (Some new ∷ behind) 5
+      ∙ leave_in rest
+
+  -- all of it is short
+  pub few_between : (last : ℕ) → last + 1 ≡ length e3.code → (last - length e.code < 32768) × (length e.code + 5 ≤ last)
+  few_between last at =
+      let few = few_slots (with_nodes e2 1) scope tree in
+      let tail = message_tail_size i in
+      let x = with_expression (with_nodes e2 1) scope tree in
+      let n1 = ap (λ (y : Emitted). length y.code) first ∙ length-append e.code (slots (jump ∷ [])) in
+      let n2 = ap (λ (y : Emitted). length y.code) second ∙ length-append e1.code (slots denial) ∙ ap (λ (l : List Insn). length e1.code + size l) is in
+      let n3 = ap (λ (y : Emitted). length y.code) third ∙ length-append x.code (slots (message_tail i)) in
+      let begun = begins (with_nodes e2 1) scope tree in
+      let n4 = ap (λ (l : List (Option Insn)). length l) begun.1 ∙ length-append e2.code begun.0 in
+      let single = one_slot jump one in
+      let nine : size (denial_code f i 0) ≡ 9 = denial_size f i 0 in
+      (omega (arith, few, tail, n1, n2, n3, single, nine, at), omega (arith, tail, n1, n2, n3, n4, single, nine, at))
 
 -- ---- variables
 

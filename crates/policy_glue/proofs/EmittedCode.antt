@@ -1,20 +1,18 @@
 -- The code of a policy's program as it is emitted, where the program is within its limits.
-use Rattle.std.proofs.Common.{◌≡◌, ℕ, ◌+◌, ◌-◌, ◌≤◌, Bool, true, List, [], ◌∷◌, ◌++◌, length, length-append, map, take, append-nil, append_assoc, Option, Some, None, fold, refl, sym, ap, ◌∙◌, subst, arith, if◌then◌else◌}
-use Rattle.std.specs.Prelude.{option_map, pos, slice_set}
+use Rattle.std.proofs.Common.{◌≡◌, ℕ, suc, ◌+◌, ◌-◌, ◌≤◌, Bool, true, List, [], ◌∷◌, ◌++◌, length, length-append, map, take, append-nil, append_assoc, Option, Some, None, fold, refl, sym, ap, ◌∙◌, subst, arith, if◌then◌else◌}
+use Rattle.std.specs.Prelude.{option_map, slice_set}
 use Rattle.std.specs.List.{sum_by}
 use Rattle.std.proofs.lemmas.Bool.{le-leb}
-use Rattle.std.proofs.lemmas.List.{set-append_right, take-append-le, take_all}
+use Rattle.std.proofs.lemmas.List.{take-append-le, take_all}
 use Rattle.std.proofs.lemmas.List.Sums.{sum_by-cons}
-use Rattle.insn_codec.specs.declared.comparison.Comparison.TheVariants.{Eq}
 use Rattle.insn_codec.specs.declared.insn.Insn.{Insn}
-use Rattle.insn_codec.specs.declared.register.Register.TheVariants.{R3}
 use Rattle.cel_reader.specs.Tree.{Tree}
 use Rattle.cel_macros.specs.CoreTree.{expanded}
 use Rattle.cel_measures.specs.Measures.{nodes}
 use Rattle.cel_measures.specs.Saturated.{saturated}
 use Rattle.cel_types.specs.Declarations.{Declaration, declared, scope_of}
 use Rattle.cel_types.specs.Typing.{typing as type_of}
-use Rattle.codegen_base.specs.Instructions.{skip, skip_if}
+use Rattle.codegen_base.specs.Instructions.{skip}
 use Rattle.codegen_base.specs.Pieces.{size, slots}
 use Rattle.codegen_base.specs.Variables.{memo_tail}
 use Rattle.codegen_base.proofs.Pieces.{size-append, size-cons, slots-append}
@@ -26,16 +24,17 @@ use Rattle.codegen.specs.Surroundings.{routines_of}
 use Rattle.policy_glue.specs.Checked.{rule_expanded}
 use Rattle.policy_glue.specs.Checking.{depth_in, scope_after, type_or_any}
 use Rattle.policy_glue.specs.Checking.{with_variable as with_declared}
-use Rattle.policy_glue.specs.Emission.{unless_denied, with_condition, with_conditions, with_denial, with_message, with_validation, with_validations, with_variables}
+use Rattle.policy_glue.specs.Emission.{with_condition, with_conditions, with_decided, with_message, with_result, with_validation, with_validations, with_variables, with_way}
 use Rattle.policy_glue.specs.Limits.{message_nodes, part_nodes, policy_nodes, rule_nodes}
-use Rattle.policy_glue.specs.Program.{condition_tail, conditions_code, count_code, decided_tail, denial_code, message_code, message_tail, outcome_tail, policy_code, result_tail, routines_code, validation_code, validations_code}
+use Rattle.policy_glue.specs.Program.{condition_tail, conditions_code, decided_code, decided_tail, denial_code, if_true, leave_error, message_code, message_tail, outcome_tail, policy_code, result_code, routines_code, validation_code, validations_code}
 use Rattle.policy_glue.specs.ProgramCode.{Laid, after_condition, after_conditions, after_variables, before_message, condition_codes, laid_conditions, laid_routines, message_codes, nothing_laid, texts_with, tree_code, validation_codes, variable_code, variable_codes, with_routine, with_slots, with_tree}
 use Rattle.policy_glue.specs.ProgramCode.{with_message as with_message_laid}
+use Rattle.policy_glue.specs.ProgramParts.{decided_slots}
 use Rattle.policy_glue.specs.Trees.{PolicyTree, RuleTree, VariableTree}
 use Rattle.policy_glue.specs.declared.failure_policy.FailurePolicy.{FailurePolicy}
 use Rattle.policy_glue.proofs.EmittedCounts.{emitted_before, emitted_of}
 use Rattle.policy_glue.proofs.ProgramRows.{tail_size}
-use Rattle.policy_glue.proofs.ProgramRules.{denial_size, message_tail_size, result_size}
+use Rattle.policy_glue.proofs.ProgramRules.{message_tail_size, result_size}
 
 -- the emitter that has taken this code, these texts, nodes and routines
 abbrev pub emitter : List Insn → List (List ℕ) → ℕ → List ℕ → Emitted
@@ -157,62 +156,81 @@ same_conditions f (a ∷ more) e l code n few s =
     same_at (with_conditions f e (map expanded (a ∷ more))) (after_conditions l (a ∷ more)) _ _ _ _ (append_assoc code piece rest ∙ ap (λ (is : List Insn). code ++ is) (append_assoc (tree_code [] l a) (condition_tail f) rest)) (omega (arith, counted))
     (same_conditions f more (with_condition f e (expanded a)) (after_condition l a) (code ++ piece) (n + part_nodes a) (omega (arith, few, counted)) (same_condition f e l code n a (omega (arith, few, counted)) s))
 
+-- what they decide, if there are any
+same_decided : (cs : List Tree) (before : Laid) (e : Emitted) (l : Laid) (code : List Insn) (n : ℕ) → Same e l code n → Same (with_decided e (map expanded cs)) (with_slots (decided_slots cs) l) (code ++ decided_code (condition_codes before cs)) n
+same_decided [] before e l code n s =
+    let place = s.place in
+    let same = size-append code [] in
+    record { is = s.is ∙ ap (λ (c : List Insn). emitter c l.texts n l.routines) (sym (append-nil code)); place = omega (arith, place, same) }
+same_decided (a ∷ more) before e l code n s = same_piece e l code n decided_tail 5 refl s
+
 -- ---- validations
 
--- the jump over what is done for a denial gets its way
-jump_put : (code message : List Insn) (texts : List (List ℕ)) (n : ℕ) (routines : List ℕ) → with_insn_at (emitter (code ++ (denial_code [] ++ message)) texts n routines) (size code) (unless_denied (size (code ++ (denial_code [] ++ message)) - 1 - size code)) ≡ emitter (code ++ denial_code message) texts n routines
-jump_put code message texts n routines =
-    let behind = count_code ++ message in
-    let long : size (code ++ (denial_code [] ++ message)) ≡ size code + (6 + size message) = size-append code (denial_code [] ++ message) ∙ ap (λ (m : ℕ). size code + m) (size-append (denial_code []) message) in
-    let way : size (code ++ (denial_code [] ++ message)) - 1 - size code ≡ size message + 5 = omega (arith, long) in
-    let old : Insn = skip_if Eq R3 (pos 0) 5 in
-    let new : Insn = skip_if Eq R3 (pos 0) (size message + 5) in
-    let none : size code - size code ≡ 0 = omega arith in
-    ap (λ (m : ℕ). with_insn_at (emitter (code ++ (denial_code [] ++ message)) texts n routines) (size code) (unless_denied m)) way
-    ∙ ap (λ (os : List (Option Insn)). record { code = slice_set os (size code) (Some new); constants = texts; nodes = saturated n; routines = routines }) (slots-append code (old ∷ behind))
-    ∙ ap (λ (os : List (Option Insn)). record { code = os; constants = texts; nodes = saturated n; routines = routines })
-    (set-append_right (slots code) (Some old ∷ slots behind) (size code) (size code) (Some new) refl (omega arith)
-    ∙ ap (λ (m : ℕ). slots code ++ slice_set (Some old ∷ slots behind) m (Some new)) none
-    ∙ sym (slots-append code (new ∷ behind)))
+set_behind : (xs ys : List (Option Insn)) (k : ℕ) (o : Option Insn) → slice_set (xs ++ ys) (length xs + k) o ≡ xs ++ slice_set ys k o
+set_behind [] ys k o = ap (λ (m : ℕ). slice_set ys m o) (omega arith)
+set_behind (x ∷ xs) ys k o =
+    let same : suc (length xs) + k ≡ suc (length xs + k) = omega arith in
+    ap (λ (m : ℕ). slice_set (x ∷ (xs ++ ys)) m o) same ∙ ap (λ (l : List (Option Insn)). x ∷ l) (set_behind xs ys k o)
 
-same_denial : (i : ℕ) (ds : List Declaration) (e : Emitted) (l : Laid) (code : List Insn) (n : ℕ) (m : Option Tree) → Same e l code n → n + message_nodes m ≤ 512 → Same (with_denial i ds e (option_map expanded m)) (with_message_laid ds (with_slots 6 l) m) (code ++ denial_code (message_code i (message_codes ds (with_slots 6 l) m))) (n + message_nodes m)
-same_denial i ds e l code n None s few = same_at _ _ _ _ n (n + 0) refl (omega arith) (same_piece e l code n (denial_code []) 6 refl s)
-same_denial i ds e l code n (Some a) s few =
-    let there = with_slots 6 l in
+-- the code behind a validation, in which two jumps get their way
+way_put : (f : FailurePolicy) (i n : ℕ) (message : List Insn) → slice_set (slice_set (slots (result_code f i [] ++ message)) 0 (Some (if_true (n + 9)))) 5 (Some (leave_error f (n + 4))) ≡ slots (if_true (n + 9) ∷ (denial_code f i n ++ message))
+unfolding denial_code
+way_put f i n message = refl
+
+ways_put : (f : FailurePolicy) (i : ℕ) (code message : List Insn) (texts : List (List ℕ)) (n : ℕ) (routines : List ℕ) → with_way f (size code) (emitter (code ++ (result_code f i [] ++ message)) texts n routines) ≡ emitter (code ++ result_code f i message) texts n routines
+ways_put f i code message texts n routines =
+    let old = result_code f i [] ++ message in
+    let front = result_size f i [] in
+    let long : size (code ++ old) ≡ size code + (10 + size message) = size-append code old ∙ ap (λ (m : ℕ). size code + m) (size-append (result_code f i []) message ∙ ap (λ (m : ℕ). m + size message) front) in
+    let first : size (code ++ old) - 1 - size code ≡ size message + 9 = omega (arith, long) in
+    let leave : size (code ++ old) - 1 - size code - 5 ≡ size message + 4 = omega (arith, long) in
+    let start : size code ≡ size code + 0 = omega arith in
+    let true_way = Some (if_true (size message + 9)) in
+    let error_way = Some (leave_error f (size message + 4)) in
+    let holding : List (Option Insn) → Emitted = λ os. record { code = os; constants = texts; nodes = saturated n; routines = routines } in
+    ap (λ (m : ℕ). with_insn_at (with_insn_at (emitter (code ++ old) texts n routines) (size code) (if_true m)) (size code + 5) (leave_error f (size (code ++ old) - 1 - size code - 5))) first
+    ∙ ap (λ (m : ℕ). with_insn_at (with_insn_at (emitter (code ++ old) texts n routines) (size code) (if_true (size message + 9))) (size code + 5) (leave_error f m)) leave
+    ∙ ap (λ (os : List (Option Insn)). holding (slice_set (slice_set os (size code) true_way) (size code + 5) error_way)) (slots-append code old)
+    ∙ ap (λ (p : ℕ). holding (slice_set (slice_set (slots code ++ slots old) p true_way) (size code + 5) error_way)) start
+    ∙ ap (λ (os : List (Option Insn)). holding (slice_set os (size code + 5) error_way)) (set_behind (slots code) (slots old) 0 true_way)
+    ∙ ap holding (set_behind (slots code) (slice_set (slots old) 0 true_way) 5 error_way ∙ ap (λ (os : List (Option Insn)). slots code ++ os) (way_put f i (size message) message) ∙ sym (slots-append code (result_code f i message)))
+
+same_result : (f : FailurePolicy) (i : ℕ) (ds : List Declaration) (e : Emitted) (l : Laid) (code : List Insn) (n : ℕ) (m : Option Tree) → Same e l code n → n + message_nodes m ≤ 512 → Same (with_result f i ds e (option_map expanded m)) (with_message_laid ds (with_slots 10 l) m) (code ++ result_code f i (message_code i (message_codes ds (with_slots 10 l) m))) (n + message_nodes m)
+same_result f i ds e l code n None s few = same_at _ _ _ _ n (n + 0) refl (omega arith) (same_piece e l code n (result_code f i []) 10 (result_size f i []) s)
+same_result f i ds e l code n (Some a) s few =
+    let there = with_slots 10 l in
     let tree = expanded a in
-    let behind = with_piece e (denial_code []) in
+    let front = result_code f i [] in
+    let behind = with_piece e front in
     let piece = tree_code ds there a in
     let message = piece ++ message_tail i in
-    let first = same_piece e l code n (denial_code []) 6 refl s in
-    let second = same_expression ds (with_nodes behind 1) there (code ++ denial_code []) (n + 1) a (same_nodes behind there (code ++ denial_code []) n 1 first) (omega (arith, few)) in
-    let third = same_piece (with_expression (with_nodes behind 1) ds tree) (with_tree ds there a) ((code ++ denial_code []) ++ piece) (n + 1 + nodes tree) (message_tail i) 7 (message_tail_size i) second in
-    let joined : ((code ++ denial_code []) ++ piece) ++ message_tail i ≡ code ++ (denial_code [] ++ message) = append_assoc (code ++ denial_code []) piece (message_tail i) ∙ append_assoc code (denial_code []) message in
-    let all = same_at (with_message i ds behind tree) (with_message_laid ds there (Some a)) _ (code ++ (denial_code [] ++ message)) _ (n + message_nodes (Some a)) joined (omega arith) third in
+    let first = same_piece e l code n front 10 (result_size f i []) s in
+    let second = same_expression ds (with_nodes behind 1) there (code ++ front) (n + 1) a (same_nodes behind there (code ++ front) n 1 first) (omega (arith, few)) in
+    let third = same_piece (with_expression (with_nodes behind 1) ds tree) (with_tree ds there a) ((code ++ front) ++ piece) (n + 1 + nodes tree) (message_tail i) 7 (message_tail_size i) second in
+    let joined : ((code ++ front) ++ piece) ++ message_tail i ≡ code ++ (front ++ message) = append_assoc (code ++ front) piece (message_tail i) ∙ append_assoc code front message in
+    let all = same_at (with_message i ds behind tree) (with_message_laid ds there (Some a)) _ (code ++ (front ++ message)) _ (n + message_nodes (Some a)) joined (omega arith) third in
     let start : length e.code ≡ size code = ap (λ (x : Emitted). length x.code) s.is in
-    let size_all = size-append code (denial_code [] ++ message) in
-    let size_new = size-append code (denial_code message) in
-    let size_denial = denial_size message in
-    let size_old = size-append (denial_code []) message in
+    let size_all = size-append code (front ++ message) in
+    let size_new = size-append code (result_code f i message) in
+    let size_result = result_size f i message in
+    let size_front = result_size f i [] in
+    let size_old = size-append front message in
     let place = all.place in
     record {
-      is = ap (λ (x : Emitted). with_insn_at x (length e.code) (unless_denied (length x.code - 1 - length e.code))) all.is
-          ∙ ap (λ (p : ℕ). with_insn_at (emitter (code ++ (denial_code [] ++ message)) (texts_with there a) (n + message_nodes (Some a)) l.routines) p (unless_denied (size (code ++ (denial_code [] ++ message)) - 1 - p))) start
-          ∙ jump_put code message (texts_with there a) (n + message_nodes (Some a)) l.routines;
-      place = omega (arith, place, size_all, size_new, size_denial, size_old);
+      is = ap (λ (x : Emitted). with_way f (length e.code) x) all.is
+          ∙ ap (λ (p : ℕ). with_way f p (emitter (code ++ (front ++ message)) (texts_with there a) (n + message_nodes (Some a)) l.routines)) start
+          ∙ ways_put f i code message (texts_with there a) (n + message_nodes (Some a)) l.routines;
+      place = omega (arith, place, size_all, size_new, size_result, size_front, size_old);
     }
 
 same_validation : (f : FailurePolicy) (i : ℕ) (ds : List Declaration) (e : Emitted) (l : Laid) (code : List Insn) (n : ℕ) (r : RuleTree) → n + rule_nodes r ≤ 512 → Same e l code n → Same (with_validation f i ds e (rule_expanded r)) (with_message_laid ds (before_message ds l r) r.message) (code ++ validation_code f i (tree_code ds l r.expression, message_codes ds (before_message ds l r) r.message)) (n + rule_nodes r)
 same_validation f i ds e l code n r few s =
     let piece = tree_code ds l r.expression in
-    let tail = result_tail f i in
     let before = before_message ds l r in
     let message = message_code i (message_codes ds before r.message) in
     let first = same_expression ds (with_nodes e 1) l code (n + 1) r.expression (same_nodes e l code n 1 s) (omega (arith, few)) in
-    let second = same_piece (with_expression (with_nodes e 1) ds (expanded r.expression)) (with_tree ds l r.expression) (code ++ piece) (n + 1 + nodes (expanded r.expression)) tail 11 (result_size f i) first in
-    let third = same_denial i ds (with_piece (with_expression (with_nodes e 1) ds (expanded r.expression)) tail) (with_slots 11 (with_tree ds l r.expression)) ((code ++ piece) ++ tail) (n + 1 + nodes (expanded r.expression)) r.message second (omega (arith, few)) in
-    let seventeen : with_slots 6 (with_slots 11 (with_tree ds l r.expression)) ≡ before = ap (λ (m : ℕ). record { place = m; texts = texts_with l r.expression; routines = l.routines }) (omega arith) in
-    let moved = subst (λ (x : Laid). Same (with_validation f i ds e (rule_expanded r)) (with_message_laid ds x r.message) (((code ++ piece) ++ tail) ++ denial_code (message_code i (message_codes ds x r.message))) (n + 1 + nodes (expanded r.expression) + message_nodes r.message)) seventeen third in
-    same_at (with_validation f i ds e (rule_expanded r)) (with_message_laid ds before r.message) _ _ _ _ (append_assoc (code ++ piece) tail (denial_code message) ∙ append_assoc code piece (tail ++ denial_code message)) (omega arith) moved
+    let second = same_result f i ds (with_expression (with_nodes e 1) ds (expanded r.expression)) (with_tree ds l r.expression) (code ++ piece) (n + 1 + nodes (expanded r.expression)) r.message first (omega (arith, few)) in
+    same_at (with_validation f i ds e (rule_expanded r)) (with_message_laid ds before r.message) _ _ _ _ (append_assoc code piece (result_code f i message)) (omega arith) second
 
 -- what stands behind validations
 abbrev after_rules : List Declaration → Laid → List RuleTree → Laid
@@ -246,11 +264,12 @@ policy_emitted f t few =
     let e1 = with_variables scope 0 (with_nodes no_code 1) (map (λ v. expanded v.expression) t.variables) in
     let second = same_conditions f t.conditions e1 (laid_routines t) routines n1 (omega (arith, few)) first in
     let e2 = with_conditions f e1 (map expanded t.conditions) in
-    let decided = same_piece e2 (after_conditions (laid_routines t) t.conditions) (routines ++ conditions) n2 decided_tail 5 refl second in
-    let third = same_validations f scope t.validations 0 (emitted_before f t) (laid_conditions t) ((routines ++ conditions) ++ decided_tail) n2 (omega (arith, few)) decided in
-    let all = ((routines ++ conditions) ++ decided_tail) ++ rules in
-    let joined : all ++ outcome_tail ≡ routines ++ (conditions ++ (decided_tail ++ (rules ++ outcome_tail))) =
-    append_assoc ((routines ++ conditions) ++ decided_tail) rules outcome_tail ∙ append_assoc (routines ++ conditions) decided_tail (rules ++ outcome_tail) ∙ append_assoc routines conditions (decided_tail ++ (rules ++ outcome_tail)) in
+    let decide = decided_code (condition_codes (laid_routines t) t.conditions) in
+    let decided = same_decided t.conditions (laid_routines t) e2 (after_conditions (laid_routines t) t.conditions) (routines ++ conditions) n2 second in
+    let third = same_validations f scope t.validations 0 (emitted_before f t) (laid_conditions t) ((routines ++ conditions) ++ decide) n2 (omega (arith, few)) decided in
+    let all = ((routines ++ conditions) ++ decide) ++ rules in
+    let joined : all ++ outcome_tail ≡ routines ++ (conditions ++ (decide ++ (rules ++ outcome_tail))) =
+    append_assoc ((routines ++ conditions) ++ decide) rules outcome_tail ∙ append_assoc (routines ++ conditions) decide (rules ++ outcome_tail) ∙ append_assoc routines conditions (decide ++ (rules ++ outcome_tail)) in
     ap (λ (x : Emitted). x.code ++ slots outcome_tail) third.is
     ∙ sym (slots-append all outcome_tail)
     ∙ ap slots joined

@@ -16,9 +16,9 @@ use Rattle.codegen.specs.Constants.{with_text, with_texts}
 use Rattle.codegen.specs.Emitted.{Emitted, no_code, with_nodes, with_piece}
 use Rattle.policy_glue.specs.Checked.{rule_expanded}
 use Rattle.policy_glue.specs.Checking.{scope_after}
-use Rattle.policy_glue.specs.Emission.{with_condition, with_conditions, with_denial, with_validation, with_validations, with_variables}
+use Rattle.policy_glue.specs.Emission.{with_condition, with_conditions, with_decided, with_result, with_validation, with_validations, with_variables}
 use Rattle.policy_glue.specs.Limits.{condition_texts, message_nodes, message_texts, part_nodes, policy_nodes, policy_texts, rule_nodes, rule_texts, tree_texts, validation_texts, variable_texts}
-use Rattle.policy_glue.specs.Program.{decided_tail, denial_code, outcome_tail, result_tail}
+use Rattle.policy_glue.specs.Program.{decided_tail, outcome_tail, result_code}
 use Rattle.policy_glue.specs.Trees.{PolicyTree, RuleTree, VariableTree}
 use Rattle.policy_glue.specs.declared.failure_policy.FailurePolicy.{FailurePolicy}
 
@@ -81,18 +81,22 @@ counts_conditions f e n texts (a ∷ more) c =
     same_counts (with_conditions f e (map expanded (a ∷ more))) _ _ _ _ (omega (arith, counted)) (sym (fold-append with_text texts (tree_texts a) (condition_texts more)))
     (counts_conditions f (with_condition f e (expanded a)) (n + 1 + nodes (expanded a)) (with_texts texts (tree_texts a)) more (counts_condition f e n texts a c))
 
-counts_denial : (i : ℕ) (ds : List Declaration) (e : Emitted) (n : ℕ) (texts : List (List ℕ)) (m : Option Tree) → Counts e n texts → Counts (with_denial i ds e (option_map expanded m)) (n + message_nodes m) (with_texts texts (message_texts m))
-counts_denial i ds e n texts None c = record { nodes_are = (let same = c.nodes_are in omega arith); texts_are = c.texts_are }
-counts_denial i ds e n texts (Some a) c =
-    let behind = with_piece e (denial_code []) in
-    let counted = counts_expression (with_nodes behind 1) ds (expanded a) (n + 1) texts (counts_nodes behind n 1 texts (counts_piece e n texts (denial_code []) c)) in
+counts_decided : (cs : List CoreTree) (e : Emitted) (n : ℕ) (texts : List (List ℕ)) → Counts e n texts → Counts (with_decided e cs) n texts
+counts_decided [] e n texts c = c
+counts_decided (a ∷ more) e n texts c = counts_piece e n texts decided_tail c
+
+counts_result : (f : FailurePolicy) (i : ℕ) (ds : List Declaration) (e : Emitted) (n : ℕ) (texts : List (List ℕ)) (m : Option Tree) → Counts e n texts → Counts (with_result f i ds e (option_map expanded m)) (n + message_nodes m) (with_texts texts (message_texts m))
+counts_result f i ds e n texts None c = record { nodes_are = (let same = c.nodes_are in omega arith); texts_are = c.texts_are }
+counts_result f i ds e n texts (Some a) c =
+    let behind = with_piece e (result_code f i []) in
+    let counted = counts_expression (with_nodes behind 1) ds (expanded a) (n + 1) texts (counts_nodes behind n 1 texts (counts_piece e n texts (result_code f i []) c)) in
     record { nodes_are = (let same = counted.nodes_are in omega arith); texts_are = counted.texts_are }
 
 counts_validation : (f : FailurePolicy) (i : ℕ) (ds : List Declaration) (e : Emitted) (n : ℕ) (texts : List (List ℕ)) (r : RuleTree) → Counts e n texts → Counts (with_validation f i ds e (rule_expanded r)) (n + rule_nodes r) (with_texts texts (rule_texts r))
 counts_validation f i ds e n texts r c =
     let counted = counts_expression (with_nodes e 1) ds (expanded r.expression) (n + 1) texts (counts_nodes e n 1 texts c) in
-    let behind = with_piece (with_expression (with_nodes e 1) ds (expanded r.expression)) (result_tail f i) in
-    let all = counts_denial i ds behind (n + 1 + nodes (expanded r.expression)) (with_texts texts (tree_texts r.expression)) r.message (record { nodes_are = counted.nodes_are; texts_are = counted.texts_are }) in
+    let behind = with_expression (with_nodes e 1) ds (expanded r.expression) in
+    let all = counts_result f i ds behind (n + 1 + nodes (expanded r.expression)) (with_texts texts (tree_texts r.expression)) r.message counted in
     same_counts (with_validation f i ds e (rule_expanded r)) _ _ _ _ (omega arith) (sym (fold-append with_text texts (tree_texts r.expression) (message_texts r.message))) all
 
 counts_validations : (f : FailurePolicy) (i : ℕ) (ds : List Declaration) (e : Emitted) (n : ℕ) (texts : List (List ℕ)) (rs : List RuleTree) → Counts e n texts → Counts (with_validations f i ds e (map rule_expanded rs)) (n + sum_by rule_nodes rs) (with_texts texts (validation_texts rs))
@@ -106,7 +110,8 @@ counts_validations f i ds e n texts (r ∷ more) c =
 
 -- the emitter after a policy's trees
 abbrev pub emitted_before : FailurePolicy → PolicyTree → Emitted
-emitted_before f t = with_piece (with_conditions f (with_variables (scope_after t.variables) 0 (with_nodes no_code 1) (map (λ v. expanded v.expression) t.variables)) (map expanded t.conditions)) decided_tail
+emitted_before f t =
+    with_decided (with_conditions f (with_variables (scope_after t.variables) 0 (with_nodes no_code 1) (map (λ v. expanded v.expression) t.variables)) (map expanded t.conditions)) (map expanded t.conditions)
 
 abbrev pub emitted_of : FailurePolicy → PolicyTree → Emitted
 emitted_of f t = with_piece (with_validations f 0 (scope_after t.variables) (emitted_before f t) (map rule_expanded t.validations)) outcome_tail
@@ -122,7 +127,7 @@ policy_counted f t =
     let n2 = n1 + sum_by part_nodes t.conditions in
     let t2 = with_texts t1 (condition_texts t.conditions) in
     let second = counts_conditions f e1 n1 t1 t.conditions first in
-    let third = counts_validations f 0 (scope_after t.variables) (emitted_before f t) n2 t2 t.validations (record { nodes_are = second.nodes_are; texts_are = second.texts_are }) in
+    let third = counts_validations f 0 (scope_after t.variables) (emitted_before f t) n2 t2 t.validations (counts_decided (map expanded t.conditions) (with_conditions f e1 (map expanded t.conditions)) n2 t2 second) in
     record {
       nodes_are = third.nodes_are;
       texts_are = third.texts_are

@@ -11,9 +11,9 @@ use Rattle.codegen.specs.Emitted.{HasTooManyTexts, IsTooLong, no_code, slot_spel
 use Rattle.codegen.proofs.Finished.{slot_spellings-append, slots_spelled}
 use Rattle.policy_glue.specs.Checked.{IsChecked}
 use Rattle.policy_glue.specs.Checking.{scope_after}
-use Rattle.policy_glue.specs.Emission.{emitted, with_conditions, with_validations, with_variables}
+use Rattle.policy_glue.specs.Emission.{emitted, with_conditions, with_decided, with_validations, with_variables}
 use Rattle.policy_glue.specs.Limits.{excess, policy_nodes, policy_texts}
-use Rattle.policy_glue.specs.Program.{decided_tail, outcome_tail, policy_code}
+use Rattle.policy_glue.specs.Program.{outcome_tail, policy_code}
 use Rattle.policy_glue.specs.ProgramCode.{condition_codes, laid_conditions, laid_routines, nothing_laid, program_of, validation_codes, variable_codes}
 use Rattle.policy_glue.specs.Trees.{PolicyTree}
 use Rattle.policy_glue.specs.declared.checked.Checked.{Checked}
@@ -25,7 +25,7 @@ use Rattle.policy_glue.proofs.EmittedCounts.{emitted_of, policy_counted}
 -- what was checked is emitted as the policy's trees
 pub emitted_is : (f : FailurePolicy) (c : Checked) (t : PolicyTree) → IsChecked c t → emitted f c ≡ emitted_of f t
 emitted_is f c t is =
-    λ i. with_piece (with_validations f 0 (is.scope i) (with_piece (with_conditions f (with_variables (is.scope i) 0 (with_nodes no_code 1) (is.variables i)) (is.conditions i)) decided_tail) (is.validations i)) outcome_tail
+    λ i. with_piece (with_validations f 0 (is.scope i) (with_decided (with_conditions f (with_variables (is.scope i) 0 (with_nodes no_code 1) (is.variables i)) (is.conditions i)) (is.conditions i)) (is.validations i)) outcome_tail
 
 -- ---- limits
 

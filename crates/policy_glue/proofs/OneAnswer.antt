@@ -5,9 +5,9 @@ use Rattle.cel_types.specs.Declarations.{Declaration}
 use Rattle.policy_glue.specs.OneAnswer.{HasOneAnswer, HasOneImage}
 use Rattle.policy_glue.specs.Checking.{ConditionsEnd, Ends, IsMessage, IsNoneOf, IsOneOf, IsNoRule, IsNoVariable, IsRule, IsVariable, PartsEnd, RefusesCondition, RefusesRule, RefusesVariable, TakesCondition, TakesRule, TakesVariable, ValidationsEnd, VariablesEnd, scope_after, texts, truths, variable_judged}
 use Rattle.policy_glue.specs.Checking as checking
-use Rattle.policy_glue.specs.Compiled.{program_image}
 use Rattle.policy_glue.specs.Limits.{Compiles, excess}
 use Rattle.policy_glue.specs.Limits as limits
+use Rattle.policy_glue.specs.OneImage.{program_image}
 use Rattle.policy_glue.specs.Policy.{Named, Rule, Rules}
 use Rattle.policy_glue.specs.Trees.{PolicyTree, RuleTree, VariableTree}
 use Rattle.policy_glue.specs.declared.compile_error.CompileError.{CompileError}
@@ -179,4 +179,4 @@ one_answer p a b is also = compiled_once p a b is also
 pub one_image : HasOneImage
 one_image p a b is also =
     let trees = taken_is is.trees also.trees (compiled_once p (Ok is.trees) (Ok also.trees) is.compiles also.compiles) in
-    is.program.is ∙ ap (program_image p.failure_policy) trees ∙ sym also.program.is
+    is.is ∙ ap (program_image p.failure_policy) trees ∙ sym also.is

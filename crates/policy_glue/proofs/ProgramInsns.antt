@@ -18,8 +18,9 @@ use Rattle.codegen.proofs.CodeInsns.{AreLow, AreNear, AreShort, code_insns, near
 use Rattle.codegen.proofs.Lent.{texts_stand}
 use Rattle.policy_glue.specs.Checking.{scope_after, with_variable}
 use Rattle.policy_glue.specs.Limits.{condition_texts, message_nodes, message_texts, part_nodes, policy_nodes, policy_texts, rule_nodes, tree_texts, validation_texts, variable_texts}
-use Rattle.policy_glue.specs.Program.{condition_tail, conditions_code, count_code, decided_tail, denial_code, message_code, message_tail, outcome_tail, policy_code, result_tail, routines_code, validation_code, validations_code}
+use Rattle.policy_glue.specs.Program.{condition_tail, conditions_code, decided_code, denial_code, message_code, message_tail, outcome_tail, policy_code, result_code, routines_code, validation_code, validations_code}
 use Rattle.policy_glue.specs.ProgramCode.{Laid, after_condition, after_conditions, after_variables, before_message, condition_codes, laid_conditions, laid_routines, message_codes, nothing_laid, program_of, texts_with, tree_code, validation_codes, variable_code, variable_codes, with_message, with_routine}
+use Rattle.policy_glue.specs.ProgramParts.{decided_slots}
 use Rattle.policy_glue.specs.ProgramTrees.{AreConditions, AreRules, AreVariables, IsMessage, ProgramIsCode}
 use Rattle.policy_glue.specs.Trees.{RuleTree, VariableTree}
 use Rattle.policy_glue.specs.declared.failure_policy.FailurePolicy.{FailurePolicy}
@@ -33,24 +34,29 @@ unfolding condition_tail
 condition_tail_insns Fail = ((omega arith, omega arith), (omega arith, (omega arith, ((omega arith, omega arith), (omega arith, (omega arith, (tt, (omega arith, tt))))))))
 condition_tail_insns Ignore = ((omega arith, omega arith), (omega arith, (omega arith, ((omega arith, omega arith), (omega arith, (omega arith, (tt, (omega arith, tt))))))))
 
-decided_tail_insns : AreInsns decided_tail
-decided_tail_insns = (omega arith, (omega arith, ((omega arith, omega arith), (tt, tt))))
+decided_insns : {A : Type 0} (cs : List A) → AreInsns (decided_code cs)
+decided_insns [] = tt
+decided_insns (a ∷ more) = (omega arith, (omega arith, ((omega arith, omega arith), (tt, tt))))
 
-result_tail_insns : (f : FailurePolicy) (i : ℕ) → i < 64 → AreInsns (result_tail f i)
-unfolding result_tail
-result_tail_insns Fail i low = (omega arith, (omega arith, (omega arith, ((omega arith, omega arith), (omega arith, (omega arith, ((omega arith, omega arith), (omega arith, (omega arith, (omega arith, tt))))))))))
-result_tail_insns Ignore i low = (omega arith, (omega arith, (omega arith, ((omega arith, omega arith), (omega arith, (omega arith, ((omega arith, omega arith), (omega arith, (omega arith, (omega arith, tt))))))))))
+slots_few : {A : Type 0} (cs : List A) → decided_slots cs ≤ 5
+slots_few [] = omega arith
+slots_few (a ∷ more) = omega arith
+
+denial_insns : (f : FailurePolicy) (i n : ℕ) → i < 64 → n ≤ 32700 → AreInsns (denial_code f i n)
+unfolding denial_code
+denial_insns Fail i n low short = (omega arith, ((omega arith, omega arith), ((omega arith, omega arith), (omega arith, ((omega arith, omega arith), (omega arith, (omega arith, (omega arith, tt))))))))
+denial_insns Ignore i n low short = (omega arith, ((omega arith, omega arith), ((omega arith, omega arith), (omega arith, ((omega arith, omega arith), (omega arith, (omega arith, (omega arith, tt))))))))
 
 message_tail_insns : (i : ℕ) → i < 64 → AreInsns (message_tail i)
 unfolding message_tail
 message_tail_insns i low = (tt, (tt, (omega arith, ((omega arith, omega arith), (omega arith, (omega arith, tt))))))
 
-denial_insns : (message : List Insn) → size message ≤ 32700 → AreInsns message → AreInsns (denial_code message)
-denial_insns message short insns = ((omega arith, omega arith), insns_append count_code message (omega arith, (omega arith, (omega arith, (omega arith, tt)))) insns)
+result_insns : (f : FailurePolicy) (i : ℕ) (message : List Insn) → i < 64 → size message ≤ 32700 → AreInsns message → AreInsns (result_code f i message)
+result_insns f i message low short insns = ((omega arith, omega arith), insns_append (denial_code f i (size message)) message (denial_insns f i (size message) low short) insns)
 
 outcome_tail_insns : AreInsns outcome_tail
 unfolding outcome_tail
-outcome_tail_insns = (omega arith, (omega arith, (omega arith, ((omega arith, omega arith), (omega arith, (omega arith, (omega arith, tt)))))))
+outcome_tail_insns = (omega arith, (omega arith, (omega arith, ((omega arith, omega arith), (omega arith, (omega arith, tt))))))
 
 -- ---- texts
 
@@ -175,10 +181,9 @@ validations_insns f scope l i (r ∷ more) are low few inside short =
     let here = short_front (tree_texts r.expression ++ message_texts r.message) (validation_texts more) short in
     let small : size message ≤ 32700 = omega (arith, counted, inside, long_message) in
     insns_append (validation_code f i (tree_code scope l r.expression, message_codes scope behind r.message)) (validations_code f (i + 1) (validation_codes scope (with_message scope behind r.message) more))
-    (insns_append (tree_code scope l r.expression) (result_tail f i ++ denial_code message)
+    (insns_append (tree_code scope l r.expression) (result_code f i message)
     (tree_insns scope l r.expression are.0 low (omega (arith, counted, inside)) (short_front (tree_texts r.expression) (message_texts r.message) here))
-    (insns_append (result_tail f i) (denial_code message) (result_tail_insns f i (omega arith))
-    (denial_insns message small (message_insns scope behind i r.message (omega arith) are.1 low_behind (omega (arith, counted, inside, long)) (short_back (tree_texts r.expression) (message_texts r.message) here)))))
+    (result_insns f i message (omega arith) small (message_insns scope behind i r.message (omega arith) are.1 low_behind (omega (arith, counted, inside, long)) (short_back (tree_texts r.expression) (message_texts r.message) here))))
     (validations_insns f scope (with_message scope behind r.message) (i + 1) more are.2 later.low (omega arith) (omega (arith, counted, inside, long, far)) (short_back (tree_texts r.expression ++ message_texts r.message) (validation_texts more) short))
 
 -- ---- the whole
@@ -200,13 +205,14 @@ program_is_code f p has =
     let far = first.inside in
     let second = behind_conditions (laid_routines p) p.conditions first.low in
     let farther = second.inside in
+    let decide = slots_few p.conditions in
     insns_append (policy_code f routines conditions rules) (Exit ∷ [])
-    (insns_append (routines_code routines) (conditions_code f conditions ++ (decided_tail ++ (validations_code f 0 rules ++ outcome_tail)))
+    (insns_append (routines_code routines) (conditions_code f conditions ++ (decided_code conditions ++ (validations_code f 0 rules ++ outcome_tail)))
     (routines_insns [] nothing_laid p.variables has.variables start (omega (arith, room)) (short_front (variable_texts p.variables) rest short))
-    (insns_append (conditions_code f conditions) (decided_tail ++ (validations_code f 0 rules ++ outcome_tail))
+    (insns_append (conditions_code f conditions) (decided_code conditions ++ (validations_code f 0 rules ++ outcome_tail))
     (conditions_insns f (laid_routines p) p.conditions has.conditions first.low (omega (arith, room, far)) (short_front (condition_texts p.conditions) (validation_texts p.validations) short_rest))
-    (insns_append decided_tail (validations_code f 0 rules ++ outcome_tail) decided_tail_insns
+    (insns_append (decided_code conditions) (validations_code f 0 rules ++ outcome_tail) (decided_insns conditions)
     (insns_append (validations_code f 0 rules) outcome_tail
-    (validations_insns f (scope_after p.variables) (laid_conditions p) 0 p.validations has.validations (same_low (after_conditions (laid_routines p) p.conditions) (laid_conditions p) refl second.low) (omega (arith, few_rules)) (omega (arith, room, far, farther)) (short_back (condition_texts p.conditions) (validation_texts p.validations) short_rest))
+    (validations_insns f (scope_after p.variables) (laid_conditions p) 0 p.validations has.validations (same_low (after_conditions (laid_routines p) p.conditions) (laid_conditions p) refl second.low) (omega (arith, few_rules)) (omega (arith, room, far, farther, decide)) (short_back (condition_texts p.conditions) (validation_texts p.validations) short_rest))
     outcome_tail_insns))))
     (tt, tt)

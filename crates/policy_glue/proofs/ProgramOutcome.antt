@@ -20,7 +20,7 @@ use Rattle.policy_glue.proofs.ProgramMarks.{Marked, marks_registers, outcome_sto
 use Rattle.policy_glue.proofs.ProgramSteps.{load_verdict, store_verdict}
 use Rattle.policy_glue.proofs.VerdictWords.{count_of, message_of, result_of}
 
-pub outcome_tail_size : size outcome_tail ≡ 9
+pub outcome_tail_size : size outcome_tail ≡ 7
 unfolding outcome_tail
 outcome_tail_size = refl
 
@@ -47,41 +47,36 @@ counted f (x ∷ xs) = subst (IsCounted (list_any (is_denial f) (x ∷ xs))) (sy
 
 module _ (s : Setting) (c : Context) (f : FailurePolicy) (xs : List Finding) (o : ℕ) (has : Stands s.image.code o outcome_tail) (b : Body) (marked : Marked c f 0 xs b) where
   abbrev asked : Body
-  asked = set_register (set_register (set_register b R1 (verdict_address 1)) R2 (verdict_at 1 b)) R0 4
-
-  abbrev admitted : Body
-  admitted = set_register asked R1 (verdict_address 0)
+  asked = set_register (set_register (set_register b R1 (verdict_address 0)) R2 (verdict_at 1 b)) R0 4
 
   abbrev denied : Body
-  denied = set_register (set_register asked R0 3) R1 (verdict_address 0)
+  denied = set_register asked R0 3
 
-  outcome_by : (any : Bool) → IsCounted any (count_of f xs) → Comes s 7 0 o b (o + 9) (Ends c f (if any then Denied else Admitted) xs)
+  outcome_by : (any : Bool) → IsCounted any (count_of f xs) → Comes s 6 0 o b (o + 7) (Ends c f (if any then Denied else Admitted) xs)
   unfolding outcome_tail
   outcome_by false none =
-      let marks = marks_registers c 0 (count_of f xs) (result_of xs) (message_of xs) b marked admitted.registers refl in
-      let stored = outcome_stored c 0 (count_of f xs) (result_of xs) (message_of xs) admitted marks 4 (omega arith) in
+      let marks = marks_registers c 0 (count_of f xs) (result_of xs) (message_of xs) b marked asked.registers refl in
+      let stored = outcome_stored c 0 (count_of f xs) (result_of xs) (message_of xs) asked marks 4 (omega arith) in
       let count = marked.words.denials_are in
-      looser s 7 0 (omega arith) (omega arith) (begins has
+      looser s 6 0 (omega arith) (omega arith) (begins has
       (load_wide has 0 refl refl
-      (load_verdict has 2 1 refl marked.fits.frame (omega arith) refl refl
+      (load_verdict has 2 0 1 1 refl marked.fits.frame (omega arith) (omega arith) refl refl
       (mov has 3 refl refl
       (yes has 4 1 refl (equal_yes (verdict_at 1 b) 0 (count ∙ none))
-      (load_wide has 6 refl refl
-      (store_verdict has 8 0 refl marks.fits.frame (omega arith) refl
-      (done s (o + 9) (set_verdict 0 4 admitted) (Ends c f Admitted xs) (record { marked = stored; answers = refl })))))))))
+      (store_verdict has 6 0 refl marks.fits.frame (omega arith) refl
+      (done s (o + 7) (set_verdict 0 4 asked) (Ends c f Admitted xs) (record { marked = stored; answers = refl }))))))))
   outcome_by true some =
       let marks = marks_registers c 0 (count_of f xs) (result_of xs) (message_of xs) b marked denied.registers refl in
       let stored = outcome_stored c 0 (count_of f xs) (result_of xs) (message_of xs) denied marks 3 (omega arith) in
       let count = marked.words.denials_are in
       begins has
       (load_wide has 0 refl refl
-      (load_verdict has 2 1 refl marked.fits.frame (omega arith) refl refl
+      (load_verdict has 2 0 1 1 refl marked.fits.frame (omega arith) (omega arith) refl refl
       (mov has 3 refl refl
       (no has 4 refl (equal_no (verdict_at 1 b) 0 (λ e. omega arith))
       (mov has 5 refl refl
-      (load_wide has 6 refl refl
-      (store_verdict has 8 0 refl marks.fits.frame (omega arith) refl
-      (done s (o + 9) (set_verdict 0 3 denied) (Ends c f Denied xs) (record { marked = stored; answers = refl })))))))))
+      (store_verdict has 6 0 refl marks.fits.frame (omega arith) refl
+      (done s (o + 7) (set_verdict 0 3 denied) (Ends c f Denied xs) (record { marked = stored; answers = refl }))))))))
 
-  pub outcome_runs : Comes s 7 0 o b (o + 9) (Ends c f (if list_any (is_denial f) xs then Denied else Admitted) xs)
+  pub outcome_runs : Comes s 6 0 o b (o + 7) (Ends c f (if list_any (is_denial f) xs then Denied else Admitted) xs)
   outcome_runs = outcome_by (list_any (is_denial f) xs) (counted f xs)

@@ -2,26 +2,22 @@
 use Rattle.std.proofs.Common.{◌≡◌, ℕ, ◌+◌, ◌<◌, ◌≤◌, List, [], ◌∷◌, ◌++◌, length, length-append, Option, Some, None, Bool, true, false, refl, ap, ◌∙◌, subst, sym, arith, append_assoc}
 use Rattle.std.specs.Prelude.{map, option_map, if◌then◌else◌}
 use Rattle.insn_codec.specs.declared.insn.Insn.{Insn}
-use Rattle.insn_codec.specs.declared.comparison.Comparison.TheVariants.{Eq}
-use Rattle.insn_codec.specs.declared.register.Register.TheVariants.{R3}
-use Rattle.std.specs.Prelude.{pos}
 use Rattle.value_store.specs.Value.{ValueOrError}
 use Rattle.codegen_base.specs.Body.{Body}
 use Rattle.codegen_base.specs.Contexts.{Context}
 use Rattle.codegen_base.specs.Engine.{Setting, Comes}
-use Rattle.codegen_base.specs.Instructions.{skip_if}
 use Rattle.codegen_base.specs.Pieces.{Stands, size}
-use Rattle.codegen_base.proofs.Pieces.{size-append, stands_back, stands_front}
+use Rattle.codegen_base.proofs.Pieces.{size-append, size-cons, stands_back, stands_front}
 use Rattle.codegen_base.proofs.Runs.{and_then, done, looser, to_place}
 use Rattle.policy_glue.specs.Layout.{most_validations}
-use Rattle.policy_glue.specs.Program.{count_code, denial_code, message_code, message_tail, result_tail, validation_code, validations_code}
+use Rattle.policy_glue.specs.Program.{denial_code, if_true, message_code, message_tail, result_code, validation_code, validations_code}
 use Rattle.policy_glue.specs.ProgramParts.{MessageGives, Part, PartGives, RulePart, ValidationsGive, found, message_charge, message_size, message_steps, rule_charge, rule_code, rule_codes, rule_size, rule_steps, validations_charge, validations_steps}
 use Rattle.policy_glue.specs.Verdict.{Finding, denies, is_denial, text_given, truth_of}
 use Rattle.policy_glue.specs.declared.failure_policy.FailurePolicy.{FailurePolicy}
-use Rattle.policy_glue.proofs.ProgramMarks.{Marked, marks_shown}
+use Rattle.policy_glue.proofs.ProgramMarks.{Judges, Marked, marks_shown}
 use Rattle.policy_glue.proofs.ProgramMessages.{message_runs}
 use Rattle.policy_glue.proofs.ProgramRows.{part_runs}
-use Rattle.policy_glue.proofs.ProgramValidations.{Counted, Scored, denied, not_denied, result_runs, untold}
+use Rattle.policy_glue.proofs.ProgramValidations.{Counted, denied, not_denied, untold}
 use Rattle.policy_glue.proofs.VerdictWords.{count_of, message_of, result_of}
 
 -- the slots of validations
@@ -33,9 +29,21 @@ append_none : (xs : List Finding) → xs ++ [] ≡ xs
 append_none [] = refl
 append_none (x ∷ xs) = ap (λ (ys : List Finding). x ∷ ys) (append_none xs)
 
-pub result_size : (f : FailurePolicy) (i : ℕ) → size (result_tail f i) ≡ 11
-unfolding result_tail
-result_size f i = refl
+-- what stands before the message of a validation
+abbrev pub result_front : FailurePolicy → ℕ → ℕ → List Insn
+result_front f i n = if_true (n + 9) ∷ denial_code f i n
+
+pub denial_size : (f : FailurePolicy) (i n : ℕ) → size (denial_code f i n) ≡ 9
+unfolding denial_code
+denial_size f i n = refl
+
+pub front_size : (f : FailurePolicy) (i n : ℕ) → size (result_front f i n) ≡ 10
+front_size f i n = size-cons (if_true (n + 9)) (denial_code f i n) ∙ ap (λ (m : ℕ). 1 + m) (denial_size f i n)
+
+pub result_size : (f : FailurePolicy) (i : ℕ) (message : List Insn) → size (result_code f i message) ≡ size message + 10
+result_size f i message =
+    let front = front_size f i (size message) in
+    size-append (result_front f i (size message)) message ∙ omega arith
 
 pub message_tail_size : (i : ℕ) → size (message_tail i) ≡ 7
 unfolding message_tail
@@ -51,9 +59,6 @@ pub message_code_size : (i : ℕ) (m : Option Part) → size (message_code i (co
 message_code_size i None = refl
 message_code_size i (Some m) = let tail = message_tail_size i in size-append m.code (message_tail i) ∙ omega arith
 
-pub denial_size : (message : List Insn) → size (denial_code message) ≡ size message + 6
-denial_size message = let all = size-append (skip_if Eq R3 (pos 0) (size message + 5) ∷ count_code) message in all ∙ omega arith
-
 module _ (s : Setting) (c : Context) (f : FailurePolicy) (xs : List Finding) (x : Finding) (few : length xs < most_validations) where
   -- the message of a denial
   message_given : (o : ℕ) (m : Option Part) (b : Body) → Stands s.image.code o (message_code (length xs) (codes_in m)) → MessageGives s c o true m → x.message ≡ text_given (value_in m) → Counted s c f xs x few b → Comes s (message_steps true m) (message_charge true m) o b (o + message_size m) (Marked c f 0 (xs ++ x ∷ []))
@@ -66,31 +71,25 @@ module _ (s : Setting) (c : Context) (f : FailurePolicy) (xs : List Finding) (x 
       (and_then s 6 1 (q + 7) Q ((gives refl).runs b (stands_front s.image.code o m.code (message_tail (length xs)) has) counted.fits) (λ b1 shown.
       message_runs s c f xs x few q (stands_back s.image.code o m.code (message_tail (length xs)) has) m.value b1 (marks_shown c 0 (count_of f (xs ++ x ∷ [])) (result_of (xs ++ x ∷ [])) (message_of xs) b counted m.value b1 shown) shown.shows is))
 
-  -- what is done for a denial, or nothing
-  denial_runs : (o : ℕ) (m : Option Part) (d : Bool) (b : Body) → Stands s.image.code o (denial_code (message_code (length xs) (codes_in m))) → MessageGives s c (o + 6) d m → is_denial f x ≡ d → x.message ≡ (if d then text_given (value_in m) else None) → Scored s c f xs x few b → Comes s (5 + message_steps d m) (message_charge d m) o b (o + 6 + message_size m) (Marked c f 0 (xs ++ x ∷ []))
-  denial_runs o m false b has gives denial is scored =
+  -- what stands behind the expression
+  result_runs : (o : ℕ) (m : Option Part) (v : ValueOrError) (d : Bool) (b : Body) → Stands s.image.code o (result_code f (length xs) (message_code (length xs) (codes_in m))) → MessageGives s c (o + 10) d m → x.truth ≡ truth_of v → is_denial f x ≡ d → x.message ≡ (if d then text_given (value_in m) else None) → Judges c f 0 xs v b → Comes s (8 + message_steps d m) (message_charge d m) o b (o + 10 + message_size m) (Marked c f 0 (xs ++ x ∷ []))
+  result_runs o m v false b has gives truth denial is judges =
       let long = message_code_size (length xs) m in
-      let none = nothing_of m in
-      looser s {n = 1} {x = 0} (5 + message_steps false m) (message_charge false m) (omega arith) (omega arith)
-      (to_place s (o + 6 + message_size m) (omega arith) (not_denied s c f xs x few o (message_code (length xs) (codes_in m)) has b scored denial is))
-    where
-      nothing_of : (m : Option Part) → message_steps false m ≡ 0
-      nothing_of None = refl
-      nothing_of (Some m) = refl
-  denial_runs o m true b has gives denial is scored =
+      looser s {n = 8} {x = 0} (8 + message_steps false m) (message_charge false m) (omega arith) (omega arith)
+      (to_place s (o + 10 + message_size m) (omega arith) (not_denied s c f xs x few o (message_code (length xs) (codes_in m)) has v b judges truth denial is))
+  result_runs o m v true b has gives truth denial is judges =
       let code = message_code (length xs) (codes_in m) in
-      let behind = stands_back s.image.code o (skip_if Eq R3 (pos 0) (size code + 5) ∷ count_code) code has in
-      looser s {n = 5 + message_steps true m} {x = 0 + message_charge true m} (5 + message_steps true m) (message_charge true m) (omega arith) (omega arith)
-      (and_then s (message_steps true m) (message_charge true m) (o + 6 + message_size m) (Marked c f 0 (xs ++ x ∷ [])) (denied s c f xs x few o code has b scored denial) (λ b1 counted.
-      message_given (o + 6) m b1 behind gives is counted))
+      let front = result_front f (length xs) (size code) in
+      let behind = subst (λ (n : ℕ). Stands s.image.code (o + n) code) (front_size f (length xs) (size code)) (stands_back s.image.code o front code has) in
+      looser s {n = 8 + message_steps true m} {x = 0 + message_charge true m} (8 + message_steps true m) (message_charge true m) (omega arith) (omega arith)
+      (and_then s (message_steps true m) (message_charge true m) (o + 10 + message_size m) (Marked c f 0 (xs ++ x ∷ [])) (denied s c f xs x few o code has v b judges truth denial) (λ b1 counted.
+      message_given (o + 10) m b1 behind gives is counted))
 
 rule_code_size : (f : FailurePolicy) (i : ℕ) (r : RulePart) → size (validation_code f i (rule_code r)) ≡ rule_size r
 rule_code_size f i r =
     let message = message_code i (codes_in r.message) in
-    let whole = size-append r.expression.code (result_tail f i ++ denial_code message) in
-    let rest = size-append (result_tail f i) (denial_code message) in
-    let first = result_size f i in
-    let last = denial_size message in
+    let whole = size-append r.expression.code (result_code f i message) in
+    let rest = result_size f i message in
     let long = message_code_size i r.message in
     omega arith
 
@@ -105,22 +104,18 @@ rules_size f i (r ∷ more) =
 
 module _ (s : Setting) (c : Context) (f : FailurePolicy) where
   -- a validation, with its message
-  rule_runs : (xs : List Finding) (r : RulePart) (p : ℕ) (b : Body) → length xs < most_validations → Stands s.image.code p (validation_code f (length xs) (rule_code r)) → PartGives s c p r.expression → MessageGives s c (p + size r.expression.code + 17) (denies f (truth_of r.expression.value)) r.message → Marked c f 0 xs b → Comes s (rule_steps f r) (rule_charge f r) p b (p + rule_size r) (Marked c f 0 (xs ++ found f r ∷ []))
+  rule_runs : (xs : List Finding) (r : RulePart) (p : ℕ) (b : Body) → length xs < most_validations → Stands s.image.code p (validation_code f (length xs) (rule_code r)) → PartGives s c p r.expression → MessageGives s c (p + size r.expression.code + 10) (denies f (truth_of r.expression.value)) r.message → Marked c f 0 xs b → Comes s (rule_steps f r) (rule_charge f r) p b (p + rule_size r) (Marked c f 0 (xs ++ found f r ∷ []))
   rule_runs xs r p b few has gives told marked =
       let e = r.expression in
       let q = p + size e.code in
       let d = denies f (truth_of e.value) in
-      let tail = result_tail f (length xs) in
-      let message = message_code (length xs) (codes_in r.message) in
-      let behind = stands_back s.image.code p e.code (tail ++ denial_code message) has in
-      let has_denial = subst (λ (n : ℕ). Stands s.image.code (q + n) (denial_code message)) (result_size f (length xs)) (stands_back s.image.code q tail (denial_code message) behind) in
-      let place : q + 17 ≡ q + 11 + 6 = omega arith in
+      let code = result_code f (length xs) (message_code (length xs) (codes_in r.message)) in
+      let behind = stands_back s.image.code p e.code code has in
       let Q = Marked c f 0 (xs ++ found f r ∷ []) in
-      looser s {n = e.steps + (10 + (5 + message_steps d r.message))} {x = e.charge + (0 + message_charge d r.message)} (rule_steps f r) (rule_charge f r) (omega arith) (omega arith)
+      looser s {n = e.steps + (8 + message_steps d r.message)} {x = e.charge + message_charge d r.message} (rule_steps f r) (rule_charge f r) (omega arith) (omega arith)
       (to_place s (p + rule_size r) (omega arith)
-      (and_then s (10 + (5 + message_steps d r.message)) (0 + message_charge d r.message) (q + 11 + 6 + message_size r.message) Q (part_runs s c f 0 p xs e b (stands_front s.image.code p e.code (tail ++ denial_code message) has) gives marked) (λ b1 judges.
-      and_then s (5 + message_steps d r.message) (message_charge d r.message) (q + 11 + 6 + message_size r.message) Q (result_runs s c f xs (found f r) few q (stands_front s.image.code q tail (denial_code message) behind) e.value b1 judges refl (truth_of e.value) refl) (λ b2 scored.
-      denial_runs s c f xs (found f r) few (q + 11) r.message d b2 has_denial (subst (λ (n : ℕ). MessageGives s c n d r.message) place told) refl refl scored))))
+      (and_then s (8 + message_steps d r.message) (message_charge d r.message) (q + 10 + message_size r.message) Q (part_runs s c f 0 p xs e b (stands_front s.image.code p e.code code has) gives marked) (λ b1 judges.
+      result_runs s c f xs (found f r) few q r.message e.value d b1 behind told refl refl refl judges)))
 
   -- a row of them
   pub rules_run : (rules : List RulePart) (xs : List Finding) (p : ℕ) (b : Body) → length xs + length rules ≤ most_validations → Stands s.image.code p (validations_code f (length xs) (rule_codes rules)) → ValidationsGive f s c p rules → Marked c f 0 xs b → Comes s (validations_steps f rules) (validations_charge f rules) p b (p + rules_slots rules) (Marked c f 0 (xs ++ map (found f) rules))

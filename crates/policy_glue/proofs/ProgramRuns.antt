@@ -38,7 +38,7 @@ use Rattle.policy_glue.specs.Limits.{condition_texts, policy_texts, tree_texts, 
 use Rattle.policy_glue.specs.Program.{policy_code, routines_code}
 use Rattle.policy_glue.specs.ProgramCode.{Laid, after_condition, after_conditions, after_variables, laid_conditions, laid_routines, nothing_laid, program_of, validation_codes, variable_code, variable_codes, with_routine}
 use Rattle.policy_glue.specs.ProgramLaws.{LeavesVerdict, conditions_place, passes, program_charge, program_steps, validations_place}
-use Rattle.policy_glue.specs.ProgramParts.{ConditionsGive, Part, RulePart, ValidationsGive, codes_of, rule_codes, rules_given, validations_charge, validations_steps, values_given}
+use Rattle.policy_glue.specs.ProgramParts.{ConditionsGive, Part, RulePart, ValidationsGive, codes_of, decided_slots, rule_codes, rules_given, validations_charge, validations_steps, values_given}
 use Rattle.policy_glue.specs.ProgramTrees.{Decides, HasProgram, ProgramDecides, ProgramIsCode, ProgramStops}
 use Rattle.policy_glue.specs.ProgramTrees as trees
 use Rattle.policy_glue.specs.Trees.{PolicyTree, RuleTree, VariableTree}
@@ -68,6 +68,11 @@ variables_used all rest (v ∷ more) ds l used =
 conditions_place_is : (roots : Roots) (cs : List Tree) (l : Laid) → (after_conditions l cs).place ≡ place_after l.place (condition_parts roots l cs)
 conditions_place_is roots [] l = refl
 conditions_place_is roots (a ∷ more) l = conditions_place_is roots more (after_condition l a)
+
+-- the conditions decide something where there are trees
+decided_as_many : (roots : Roots) (l : Laid) (cs : List Tree) → decided_slots cs ≡ decided_slots (condition_parts roots l cs)
+decided_as_many roots l [] = refl
+decided_as_many roots l (a ∷ more) = refl
 
 conditions_used : (all rest : List (List ℕ)) (cs : List Tree) (l : Laid) → all ≡ with_texts l.texts (condition_texts cs ++ rest) → all ≡ with_texts (after_conditions l cs).texts rest
 conditions_used all rest [] l used = used
@@ -212,6 +217,7 @@ module _ (law : DecodesSpelling) (f : FailurePolicy) (p : PolicyTree) (roots : R
       let first = conditions_place_is roots p.conditions (laid_routines p) in
       let second = place_is f (laid_routines p).place conditions in
       let third = first_place in
+      let decide = decided_as_many roots (laid_routines p) p.conditions in
       omega arith
 
   give_conditions : ConditionsGive (scope_setting image deep scope) (routine_context roots (bindings scope) image.constants) (conditions_place routines) conditions
@@ -228,7 +234,7 @@ module _ (law : DecodesSpelling) (f : FailurePolicy) (p : PolicyTree) (roots : R
 
   -- ---- budgets
 
-  rules_paid : (t : Bool) → passes f conditions ≡ t → (if t then validations_steps f rules + 7 else 0) ≤ 128 * (rules_cost (runs_on f p roots) f (environment_with roots (values_of roots p.variables)) p.validations).visits + 7
+  rules_paid : (t : Bool) → passes f conditions ≡ t → (if t then validations_steps f rules + 6 else 0) ≤ 128 * (rules_cost (runs_on f p roots) f (environment_with roots (values_of roots p.variables)) p.validations).visits + 6
   rules_paid false runs = omega arith
   rules_paid true runs =
       let within = validations_steps_within f ds (laid_conditions p) env p.validations in

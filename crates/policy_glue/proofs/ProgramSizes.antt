@@ -17,14 +17,14 @@ use Rattle.codegen.specs.Surroundings.{routines_of}
 use Rattle.codegen.proofs.Lengths.{short_code}
 use Rattle.policy_glue.specs.Checking.{scope_after, with_variable}
 use Rattle.policy_glue.specs.Limits.{message_nodes, part_nodes, policy_nodes, rule_nodes}
-use Rattle.policy_glue.specs.Program.{Validation, condition_tail, conditions_code, decided_tail, denial_code, message_code, message_tail, outcome_tail, policy_code, result_tail, routines_code, validation_code, validations_code}
+use Rattle.policy_glue.specs.Program.{Validation, condition_tail, conditions_code, decided_code, message_code, message_tail, outcome_tail, policy_code, result_code, routines_code, validation_code, validations_code}
 use Rattle.policy_glue.specs.ProgramCode.{Laid, after_condition, before_message, condition_codes, laid_conditions, laid_routines, message_codes, nothing_laid, program_of, texts_with, tree_code, validation_codes, variable_code, variable_codes, with_message, with_routine}
 use Rattle.policy_glue.specs.ProgramTrees.{ProgramIsShort}
 use Rattle.policy_glue.specs.Trees.{RuleTree, VariableTree}
 use Rattle.policy_glue.specs.declared.failure_policy.FailurePolicy.{FailurePolicy}
 use Rattle.policy_glue.proofs.ProgramOutcome.{outcome_tail_size}
 use Rattle.policy_glue.proofs.ProgramRows.{tail_size}
-use Rattle.policy_glue.proofs.ProgramRules.{denial_size, message_tail_size, result_size}
+use Rattle.policy_glue.proofs.ProgramRules.{message_tail_size, result_size}
 
 -- ---- expressions
 
@@ -64,6 +64,11 @@ conditions_short f l (a ∷ more) =
     let counted = sum_by-cons part_nodes a more in
     omega (arith, whole, short, rest, counted)
 
+-- what the conditions decide is short, if there are any
+pub decided_few : {A : Type 0} (cs : List A) → size (decided_code cs) ≤ 5
+decided_few [] = omega arith
+decided_few (a ∷ more) = omega arith
+
 pub message_short : (scope : List Declaration) (l : Laid) (i : ℕ) (m : Option Tree) → size (message_code i (message_codes scope l m)) ≤ 63 * message_nodes m
 message_short scope l i None = omega arith
 message_short scope l i (Some a) =
@@ -72,14 +77,12 @@ message_short scope l i (Some a) =
     let short = tree_short scope l a in
     omega (arith, whole, tail, short)
 
-pub rule_size : (f : FailurePolicy) (i : ℕ) (v : Validation) → size (validation_code f i v) ≡ size v.0 + (17 + size (message_code i v.1))
+pub rule_size : (f : FailurePolicy) (i : ℕ) (v : Validation) → size (validation_code f i v) ≡ size v.0 + (10 + size (message_code i v.1))
 rule_size f i v =
     let message = message_code i v.1 in
-    let whole = size-append v.0 (result_tail f i ++ denial_code message) in
-    let behind = size-append (result_tail f i) (denial_code message) in
-    let result = result_size f i in
-    let denial = denial_size message in
-    omega (arith, whole, behind, result, denial)
+    let whole = size-append v.0 (result_code f i message) in
+    let result = result_size f i message in
+    omega (arith, whole, result)
 
 pub validations_short : (f : FailurePolicy) (scope : List Declaration) (l : Laid) (i : ℕ) (rs : List RuleTree) → size (validations_code f i (validation_codes scope l rs)) ≤ 128 * sum_by rule_nodes rs
 unfolding validations_code
@@ -105,12 +108,13 @@ program_is_short f p =
     let conditions = condition_codes (laid_routines p) p.conditions in
     let rules = validation_codes (scope_after p.variables) (laid_conditions p) p.validations in
     let whole = size-append (policy_code f routines conditions rules) (Exit ∷ []) in
-    let a = size-append (routines_code routines) (conditions_code f conditions ++ (decided_tail ++ (validations_code f 0 rules ++ outcome_tail))) in
-    let b = size-append (conditions_code f conditions) (decided_tail ++ (validations_code f 0 rules ++ outcome_tail)) in
-    let c = size-append decided_tail (validations_code f 0 rules ++ outcome_tail) in
+    let a = size-append (routines_code routines) (conditions_code f conditions ++ (decided_code conditions ++ (validations_code f 0 rules ++ outcome_tail))) in
+    let b = size-append (conditions_code f conditions) (decided_code conditions ++ (validations_code f 0 rules ++ outcome_tail)) in
+    let c = size-append (decided_code conditions) (validations_code f 0 rules ++ outcome_tail) in
     let d = size-append (validations_code f 0 rules) outcome_tail in
     let tail = outcome_tail_size in
+    let decided = decided_few conditions in
     let first = routines_short [] nothing_laid p.variables in
     let second = conditions_short f (laid_routines p) p.conditions in
     let third = validations_short f (scope_after p.variables) (laid_conditions p) 0 p.validations in
-    omega (arith, whole, a, b, c, d, tail, first, second, third)
+    omega (arith, whole, a, b, c, d, tail, decided, first, second, third)

@@ -1,146 +1,141 @@
--- The code behind the expressions of a validation: its word, the count of denials, and its message.
-use Rattle.std.proofs.Common.{◌≡◌, ℕ, ◌+◌, ◌<◌, ◌%◌, ◌^◌, List, [], ◌∷◌, ◌++◌, length, length-append, None, Bool, true, false, refl, ap, ◌∙◌, subst, sym, arith}
-use Rattle.std.specs.Prelude.{pos, if◌then◌else◌}
-use Rattle.std.specs.Int.{w64, cast_unsigned}
+-- The code behind the expression of a validation: its word, the count of denials, or nothing.
+use Rattle.std.proofs.Common.{◌≡◌, ℕ, ◌+◌, ◌<◌, ◌%◌, ◌^◌, List, [], ◌∷◌, ◌++◌, length, length-append, None, Bool, true, false, refl, ap, ◌∙◌, sym, arith, true≢false}
+use Rattle.std.specs.Prelude.{if◌then◌else◌}
 use Rattle.insn_codec.specs.declared.insn.Insn.{Insn}
-use Rattle.insn_codec.specs.declared.register.Register.TheVariants.{R1, R2, R3, R10}
+use Rattle.insn_codec.specs.declared.register.Register.TheVariants.{R1, R2}
 use Rattle.value_store.specs.Value.{ValueOrError}
 use Rattle.codegen_base.specs.Body.{Body, set_register}
 use Rattle.codegen_base.specs.Contexts.{Context}
 use Rattle.codegen_base.specs.Engine.{Setting, Comes}
 use Rattle.codegen_base.specs.Pieces.{Stands, size}
 use Rattle.codegen_base.specs.Words.{set_verdict, verdict_address, verdict_at}
-use Rattle.codegen_base.proofs.Effects.{add_is, equal_no, equal_yes}
-use Rattle.codegen_base.proofs.Listings.{alu, begins, load_wide, mov, no, yes}
+use Rattle.codegen_base.proofs.Effects.{add_is}
+use Rattle.codegen_base.proofs.Listings.{alu, begins, jump, load_wide, no, yes}
 use Rattle.codegen_base.proofs.Runs.{done, from_place, looser}
 use Rattle.policy_glue.specs.Layout.{first_result, most_validations, truth_word}
-use Rattle.policy_glue.specs.Program.{denial_code, error_denies, result_tail}
+use Rattle.policy_glue.specs.Program.{denial_code, error_way, result_code}
 use Rattle.policy_glue.specs.Verdict.{Finding, Truth, Holds, Fails, Errs, denies, is_denial, truth_of}
 use Rattle.policy_glue.specs.declared.failure_policy.FailurePolicy.{FailurePolicy}
 use Rattle.policy_glue.specs.declared.failure_policy.FailurePolicy.TheVariants.{Fail, Ignore}
 use Rattle.policy_glue.proofs.ProgramMarks.{Judges, Marked, Marks, denials_stored, marks_registers, marks_told, result_stored, tested}
-use Rattle.policy_glue.proofs.ProgramSteps.{load_verdict, store_verdict}
-use Rattle.policy_glue.proofs.VerdictWords.{count_more, count_of, count_small, message_none, message_of, result_last, result_of, result_other}
+use Rattle.policy_glue.proofs.ProgramSteps.{load_verdict, put_verdict, store_verdict}
+use Rattle.policy_glue.proofs.VerdictWords.{count_more, count_of, count_small, message_none, message_of, result_last, result_none, result_of, result_other}
 
-abbrev pub denial_number : Bool → ℕ
-denial_number true = 1
-denial_number false = 0
+-- an error that denies goes to the count, and one that does not behind the message
+way_counts : (f : FailurePolicy) (n : ℕ) → denies f Errs ≡ true → error_way f n ≡ 1
+way_counts Fail n e = refl
+way_counts Ignore n e = absurd (true≢false (sym e))
 
-error_number : (f : FailurePolicy) → cast_unsigned w64 (pos (error_denies f)) ≡ denial_number (denies f Errs)
-error_number Fail = refl
-error_number Ignore = refl
+way_leaves : (f : FailurePolicy) (n : ℕ) → denies f Errs ≡ false → error_way f n ≡ n
+way_leaves Fail n e = absurd (true≢false e)
+way_leaves Ignore n e = refl
 
 module _ (s : Setting) (c : Context) (f : FailurePolicy) (xs : List Finding) (x : Finding) (few : length xs < most_validations) where
-  -- the validation's word is kept, and R3 says whether it denies
-  pub record Scored (b : Body) : Type 0 where
-    pub marks : Marks c 0 (count_of f xs) (result_of (xs ++ x ∷ [])) (message_of xs) b
-    pub denies_is : b.registers R3 ≡ denial_number (is_denial f x)
-
-  -- and a denial is counted
+  -- the validation's word is kept, and a denial counted
   abbrev pub Counted : Body → Type 0
   Counted = Marks c 0 (count_of f (xs ++ x ∷ [])) (result_of (xs ++ x ∷ [])) (message_of xs)
 
-  -- ---- the validation's word
+  -- without a message
+  pub untold : (last : Body) → Counted last → x.message ≡ None → Marked c f 0 (xs ++ x ∷ []) last
+  untold last marks no_message = marks_told c 0 (count_of f (xs ++ x ∷ [])) (result_of (xs ++ x ∷ [])) (message_of xs) last marks (count_of f (xs ++ x ∷ [])) (result_of (xs ++ x ∷ [])) (message_of (xs ++ x ∷ [])) refl (λ j. refl) (λ j. message_none xs x j no_message)
 
-  module _ (o : ℕ) (has : Stands s.image.code o (result_tail f (length xs))) (v : ValueOrError) (b : Body) (judges : Judges c f 0 xs v b) (is : x.truth ≡ truth_of v) where
+  -- what does not deny is not counted
+  same_count : is_denial f x ≡ false → count_of f (xs ++ x ∷ []) ≡ count_of f xs
+  same_count denial = let count = count_more f xs x ∙ ap (λ (t : Bool). count_of f xs + (if t then 1 else 0)) denial in omega arith
+
+  module _ (o : ℕ) (message : List Insn) (has : Stands s.image.code o (result_code f (length xs) message)) (v : ValueOrError) (b : Body) (judges : Judges c f 0 xs v b) (is : x.truth ≡ truth_of v) where
     abbrev place : ℕ
     place = first_result + length xs
 
-    -- true until it is found to be something else
-    abbrev first : Body
-    first = set_register (set_register (set_register b R1 (verdict_address place)) R2 0) R3 0
+    -- its address is told from that of the denials
+    abbrev asked : Body
+    asked = set_register b R1 (verdict_address 1)
 
-    abbrev failed : Body
-    failed = set_register (set_register first R2 1) R3 1
+    abbrev worded : Truth → Body
+    worded t = set_verdict place (truth_word t) asked
 
-    abbrev erred : Body
-    erred = set_register (set_register failed R2 2) R3 (cast_unsigned w64 (pos (error_denies f)))
+    -- the word of the validation is put, and no more
+    abbrev Worded : Body → Type 0
+    Worded = Marks c 0 (count_of f xs) (result_of (xs ++ x ∷ [])) (message_of xs)
+
+    marks_asked : Marked c f 0 xs asked
+    marks_asked = marks_registers c 0 (count_of f xs) (result_of xs) (message_of xs) b judges.marked asked.registers refl
 
     truth_small : (t : Truth) → truth_word t < 2 ^ 64
     truth_small Holds = omega arith
     truth_small Fails = omega arith
     truth_small Errs = omega arith
 
-    unscored : (last : Body) → last ≡ record b { registers = last.registers } → last.registers R10 ≡ b.registers R10 → Marks c 0 (count_of f xs) (result_of xs) (message_of xs) last
-    unscored last same pointer = subst (Marks c 0 (count_of f xs) (result_of xs) (message_of xs)) (sym same) (marks_registers c 0 (count_of f xs) (result_of xs) (message_of xs) b judges.marked last.registers pointer)
+    marks_worded : (t : Truth) → truth_of v ≡ t → Worded (worded t)
+    marks_worded t is_t = result_stored c 0 (count_of f xs) (result_of xs) (message_of xs) asked marks_asked (truth_word t) (truth_small t) (length xs) few (result_of (xs ++ x ∷ [])) (result_last xs x ∙ ap truth_word (is ∙ is_t)) (result_other xs x)
 
-    scored : (t : Truth) (last : Body) → truth_of v ≡ t → Marks c 0 (count_of f xs) (result_of xs) (message_of xs) last → last.registers R3 ≡ denial_number (denies f t) → Scored (set_verdict place (truth_word t) last)
-    scored t last is_t marks denial = record {
-      marks = result_stored c 0 (count_of f xs) (result_of xs) (message_of xs) last marks (truth_word t) (truth_small t) (length xs) few (result_of (xs ++ x ∷ [])) (result_last xs x ∙ ap truth_word (is ∙ is_t)) (result_other xs x);
-      denies_is = denial ∙ ap (λ (u : Truth). denial_number (denies f u)) (sym (is ∙ is_t));
-    }
+    -- ---- it denies
 
-    pub result_runs : (t : Truth) → truth_of v ≡ t → Comes s 10 0 o b (o + 11) Scored
-    unfolding result_tail
-    result_runs Holds is_t =
-        let t = tested c v Holds b judges.marked.fits judges.named is_t in
-        let marks = unscored first refl refl in
-        looser s 10 0 (omega arith) (omega arith) (begins has
-        (load_wide has 0 refl refl
-        (mov has 2 refl refl
-        (mov has 3 refl refl
-        (yes has 4 5 refl t.held
-        (store_verdict has 10 place refl marks.fits.frame (omega arith) refl
-        (done s (o + 11) (set_verdict place 0 first) Scored (scored Holds first is_t marks refl))))))))
-    result_runs Fails is_t =
-        let t = tested c v Fails b judges.marked.fits judges.named is_t in
-        let marks = unscored failed refl refl in
-        looser s 10 0 (omega arith) (omega arith) (begins has
-        (load_wide has 0 refl refl
-        (mov has 2 refl refl
-        (mov has 3 refl refl
-        (no has 4 refl t.held
-        (mov has 5 refl refl
-        (mov has 6 refl refl
-        (yes has 7 2 refl t.failed
-        (store_verdict has 10 place refl marks.fits.frame (omega arith) refl
-        (done s (o + 11) (set_verdict place 1 failed) Scored (scored Fails failed is_t marks refl)))))))))))
-    result_runs Errs is_t =
-        let t = tested c v Errs b judges.marked.fits judges.named is_t in
-        let marks = unscored erred refl refl in
-        begins has
-        (load_wide has 0 refl refl
-        (mov has 2 refl refl
-        (mov has 3 refl refl
-        (no has 4 refl t.held
-        (mov has 5 refl refl
-        (mov has 6 refl refl
-        (no has 7 refl t.failed
-        (mov has 8 refl refl
-        (mov has 9 refl refl
-        (store_verdict has 10 place refl marks.fits.frame (omega arith) refl
-        (done s (o + 11) (set_verdict place 2 erred) Scored (scored Errs erred is_t marks (error_number f)))))))))))))
+    abbrev counted : Truth → Body
+    counted t = set_register (set_register (worded t) R2 (verdict_at 1 (worded t))) R2 (count_of f (xs ++ x ∷ []))
 
-  -- ---- a denial is counted, and else passed over
-
-  module _ (o : ℕ) (message : List Insn) (has : Stands s.image.code o (denial_code message)) (b : Body) (scored : Scored b) where
-    pub not_denied : is_denial f x ≡ false → x.message ≡ None → Comes s 1 0 o b (o + (size message + 6)) (Marked c f 0 (xs ++ x ∷ []))
-    not_denied no_denial no_message =
-        let count = count_more f xs x ∙ ap (λ (t : Bool). count_of f xs + (if t then 1 else 0)) no_denial in
-        let same : count_of f (xs ++ x ∷ []) ≡ count_of f xs = omega arith in
-        begins has
-        (yes has 0 (size message + 5) refl (equal_yes (b.registers R3) 0 (scored.denies_is ∙ ap denial_number no_denial))
-        (from_place s (o + (0 + 1 + (size message + 5))) (omega arith)
-        (done s (o + (size message + 6)) b (Marked c f 0 (xs ++ x ∷ [])) (marks_told c 0 (count_of f xs) (result_of (xs ++ x ∷ [])) (message_of xs) b scored.marks (count_of f (xs ++ x ∷ [])) (result_of (xs ++ x ∷ [])) (message_of (xs ++ x ∷ [])) same (λ j. refl) (λ j. message_none xs x j no_message)))))
-
-    abbrev counted : Body
-    counted = set_register (set_register (set_register b R1 (verdict_address 1)) R2 (verdict_at 1 b)) R2 (count_of f (xs ++ x ∷ []))
-
-    pub denied : is_denial f x ≡ true → Comes s 5 0 o b (o + 6) Counted
-    denied denial =
-        let more = count_more f xs x ∙ ap (λ (t : Bool). count_of f xs + (if t then 1 else 0)) denial in
+    counts : (t : Truth) → truth_of v ≡ t → is_denial f x ≡ true → Comes s 3 0 (o + 7) (worded t) (o + 10) Counted
+    unfolding denial_code
+    counts t is_t denial =
+        let more = count_more f xs x ∙ ap (λ (d : Bool). count_of f xs + (if d then 1 else 0)) denial in
         let small = count_small f (xs ++ x ∷ []) (let long = length-append xs (x ∷ []) in omega arith) in
-        let old = scored.marks.words.denials_are in
-        let sum : (verdict_at 1 b + 1) % 2 ^ 64 ≡ count_of f (xs ++ x ∷ []) = omega arith in
-        let marks = marks_registers c 0 (count_of f xs) (result_of (xs ++ x ∷ [])) (message_of xs) b scored.marks counted.registers refl in
-        begins has
-        (no has 0 refl (equal_no (b.registers R3) 0 (λ e. let is = scored.denies_is ∙ ap denial_number denial in omega arith))
-        (load_wide has 1 refl refl
-        (load_verdict has 3 1 refl scored.marks.fits.frame (omega arith) refl refl
-        (alu has 4 (count_of f (xs ++ x ∷ [])) refl refl (add_is (verdict_at 1 b) 1 ∙ sum)
-        (store_verdict has 5 1 refl marks.fits.frame (omega arith) refl
-        (done s (o + 6) (set_verdict 1 (count_of f (xs ++ x ∷ [])) counted) Counted (denials_stored c 0 (count_of f xs) (result_of (xs ++ x ∷ [])) (message_of xs) counted marks (count_of f (xs ++ x ∷ [])) (omega arith))))))))
+        let marks = marks_worded t is_t in
+        let old = marks.words.denials_are in
+        let sum : (verdict_at 1 (worded t) + 1) % 2 ^ 64 ≡ count_of f (xs ++ x ∷ []) = omega arith in
+        let last = marks_registers c 0 (count_of f xs) (result_of (xs ++ x ∷ [])) (message_of xs) (worded t) marks (counted t).registers refl in
+        load_verdict has 7 1 0 1 refl marks.fits.frame (omega arith) (omega arith) refl refl
+        (alu has 8 (count_of f (xs ++ x ∷ [])) refl refl (add_is (verdict_at 1 (worded t)) 1 ∙ sum)
+        (store_verdict has 9 1 refl last.fits.frame (omega arith) refl
+        (done s (o + 10) (set_verdict 1 (count_of f (xs ++ x ∷ [])) (counted t)) Counted (denials_stored c 0 (count_of f xs) (result_of (xs ++ x ∷ [])) (message_of xs) (counted t) last (count_of f (xs ++ x ∷ [])) (omega arith)))))
 
-  -- without a message
-  pub untold : (last : Body) → Counted last → x.message ≡ None → Marked c f 0 (xs ++ x ∷ []) last
-  untold last marks no_message = marks_told c 0 (count_of f (xs ++ x ∷ [])) (result_of (xs ++ x ∷ [])) (message_of xs) last marks (count_of f (xs ++ x ∷ [])) (result_of (xs ++ x ∷ [])) (message_of (xs ++ x ∷ [])) refl (λ j. refl) (λ j. message_none xs x j no_message)
+    denied_by : (t : Truth) → truth_of v ≡ t → is_denial f x ≡ true → denies f t ≡ true → Comes s 8 0 o b (o + 10) Counted
+    unfolding denial_code
+    denied_by Holds is_t denial some = absurd (true≢false (sym some))
+    denied_by Fails is_t denial some =
+        let t = tested c v Fails b judges.marked.fits judges.named is_t in
+        looser s 8 0 (omega arith) (omega arith) (begins has
+        (no has 0 refl t.held
+        (load_wide has 1 refl refl
+        (yes has 3 2 refl t.failed
+        (put_verdict has 6 1 (length xs + 1) place refl marks_asked.fits.frame (omega arith) (omega arith) refl
+        (counts Fails is_t denial))))))
+    denied_by Errs is_t denial some =
+        let t = tested c v Errs b judges.marked.fits judges.named is_t in
+        let way = way_counts f (size message + 4) some in
+        begins has
+        (no has 0 refl t.held
+        (load_wide has 1 refl refl
+        (no has 3 refl t.failed
+        (put_verdict has 4 1 (length xs + 1) place refl marks_asked.fits.frame (omega arith) (omega arith) refl
+        (jump has 5 (error_way f (size message + 4)) refl
+        (from_place s (o + (5 + 1 + error_way f (size message + 4))) (omega (arith, way))
+        (counts Errs is_t denial)))))))
+
+    pub denied : is_denial f x ≡ true → Comes s 8 0 o b (o + 10) Counted
+    denied denial = denied_by (truth_of v) refl denial (ap (denies f) (sym is) ∙ denial)
+
+    -- ---- it does not
+
+    not_denied_by : (t : Truth) → truth_of v ≡ t → is_denial f x ≡ false → x.message ≡ None → denies f t ≡ false → Comes s 8 0 o b (o + (size message + 10)) (Marked c f 0 (xs ++ x ∷ []))
+    unfolding denial_code
+    not_denied_by Holds is_t no_denial no_message none =
+        let t = tested c v Holds b judges.marked.fits judges.named is_t in
+        looser s 8 0 (omega arith) (omega arith) (begins has
+        (yes has 0 (size message + 9) refl t.held
+        (from_place s (o + (0 + 1 + (size message + 9))) (omega arith)
+        (done s (o + (size message + 10)) b (Marked c f 0 (xs ++ x ∷ [])) (marks_told c 0 (count_of f xs) (result_of xs) (message_of xs) b judges.marked (count_of f (xs ++ x ∷ [])) (result_of (xs ++ x ∷ [])) (message_of (xs ++ x ∷ [])) (same_count no_denial) (λ j. result_none xs x j (is ∙ is_t)) (λ j. message_none xs x j no_message))))))
+    not_denied_by Fails is_t no_denial no_message none = absurd (true≢false none)
+    not_denied_by Errs is_t no_denial no_message none =
+        let t = tested c v Errs b judges.marked.fits judges.named is_t in
+        let way = way_leaves f (size message + 4) none in
+        looser s 8 0 (omega arith) (omega arith) (begins has
+        (no has 0 refl t.held
+        (load_wide has 1 refl refl
+        (no has 3 refl t.failed
+        (put_verdict has 4 1 (length xs + 1) place refl marks_asked.fits.frame (omega arith) (omega arith) refl
+        (jump has 5 (error_way f (size message + 4)) refl
+        (from_place s (o + (5 + 1 + error_way f (size message + 4))) (omega (arith, way))
+        (done s (o + (size message + 10)) (worded Errs) (Marked c f 0 (xs ++ x ∷ [])) (marks_told c 0 (count_of f xs) (result_of (xs ++ x ∷ [])) (message_of xs) (worded Errs) (marks_worded Errs is_t) (count_of f (xs ++ x ∷ [])) (result_of (xs ++ x ∷ [])) (message_of (xs ++ x ∷ [])) (same_count no_denial) (λ j. refl) (λ j. message_none xs x j no_message))))))))))
+
+    pub not_denied : is_denial f x ≡ false → x.message ≡ None → Comes s 8 0 o b (o + (size message + 10)) (Marked c f 0 (xs ++ x ∷ []))
+    not_denied no_denial no_message = not_denied_by (truth_of v) refl no_denial no_message (ap (denies f) (sym is) ∙ no_denial)

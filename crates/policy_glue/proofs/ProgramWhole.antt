@@ -30,13 +30,13 @@ use Rattle.codegen_base.proofs.Spelled.{spelled_stands}
 use Rattle.codegen_base.proofs.Steps as step
 use Rattle.policy_glue.specs.Budget.{is_running}
 use Rattle.policy_glue.specs.Layout.{most_validations}
-use Rattle.policy_glue.specs.Program.{conditions_code, decided_tail, outcome_tail, policy_code, routines_code, validations_code}
+use Rattle.policy_glue.specs.Program.{conditions_code, decided_code, outcome_tail, policy_code, routines_code, validations_code}
 use Rattle.policy_glue.specs.ProgramLaws.{LeavesVerdict, PolicyDecides, conditions_place, program_charge, program_steps, validations_place}
 use Rattle.policy_glue.specs.ProgramParts.{ConditionsGive, Part, RulePart, ValidationsGive, codes_of, conditions_charge, conditions_steps, found, rule_codes, rules_given, validations_charge, validations_steps, values_given}
 use Rattle.policy_glue.specs.Verdict.{Denied, Admitted, Finding, Outcome, Verdict, decided, decided_before, finding_of, is_denial, judged_by, truth_of, verdict_of}
 use Rattle.policy_glue.specs.declared.failure_policy.FailurePolicy.{FailurePolicy}
 use Rattle.policy_glue.proofs.ProgramConditions.{Ends}
-use Rattle.policy_glue.proofs.ProgramDecided.{Exits, conditions_end, conditions_pass}
+use Rattle.policy_glue.proofs.ProgramDecided.{Exits, conditions_end, conditions_pass, decided_size}
 use Rattle.policy_glue.proofs.ProgramMarks.{Marked}
 use Rattle.policy_glue.proofs.ProgramOutcome.{outcome_runs, outcome_tail_size}
 use Rattle.policy_glue.proofs.ProgramRows.{truths_of}
@@ -87,6 +87,9 @@ module _ (s : Setting) (c : Context) (f : FailurePolicy) (routines : List (List 
   abbrev row : List Insn
   row = conditions_code f (codes_of conditions)
 
+  abbrev decide : List Insn
+  decide = decided_code (codes_of conditions)
+
   abbrev rules_row : List Insn
   rules_row = validations_code f 0 (rule_codes rules)
 
@@ -102,34 +105,37 @@ module _ (s : Setting) (c : Context) (f : FailurePolicy) (routines : List (List 
   abbrev third : ℕ
   third = second + size rules_row
 
-  has_policy : Stands code 0 (routines_code routines ++ (row ++ (decided_tail ++ running)))
+  has_policy : Stands code 0 (routines_code routines ++ (row ++ (decide ++ running)))
   unfolding policy_code
-  has_policy = stands_front code 0 (routines_code routines ++ (row ++ (decided_tail ++ running))) (Exit ∷ []) has
+  has_policy = stands_front code 0 (routines_code routines ++ (row ++ (decide ++ running))) (Exit ∷ []) has
 
-  has_first : Stands code first (row ++ (decided_tail ++ running))
+  has_first : Stands code first (row ++ (decide ++ running))
   has_first =
       let place : 0 + size (routines_code routines) ≡ first = omega arith in
-      subst (λ (p : ℕ). Stands code p (row ++ (decided_tail ++ running))) place (stands_back code 0 (routines_code routines) (row ++ (decided_tail ++ running)) has_policy)
+      subst (λ (p : ℕ). Stands code p (row ++ (decide ++ running))) place (stands_back code 0 (routines_code routines) (row ++ (decide ++ running)) has_policy)
 
-  has_conditions : Stands code first (row ++ decided_tail)
-  has_conditions = stands_front code first (row ++ decided_tail) running (subst (Stands code first) (sym (append_assoc row decided_tail running)) has_first)
+  has_conditions : Stands code first (row ++ decide)
+  has_conditions = stands_front code first (row ++ decide) running (subst (Stands code first) (sym (append_assoc row decide running)) has_first)
 
   has_second : Stands code second running
-  has_second = stands_back code (first + size row) decided_tail running (stands_back code first row (decided_tail ++ running) has_first)
+  has_second =
+      subst (λ (n : ℕ). Stands code (first + size row + n) running) (decided_size conditions)
+      (stands_back code (first + size row) decide running (stands_back code first row (decide ++ running) has_first))
 
   has_third : Stands code third outcome_tail
   has_third = stands_back code second rules_row outcome_tail has_second
 
-  last_exit : fetched code (pos (third + 9)) ≡ Some (Some Exit)
+  last_exit : fetched code (pos (third + 7)) ≡ Some (Some Exit)
   unfolding policy_code
   last_exit =
-      let whole = routines_code routines ++ (row ++ (decided_tail ++ running)) in
-      let s1 = size-append (routines_code routines) (row ++ (decided_tail ++ running)) in
-      let s2 = size-append row (decided_tail ++ running) in
-      let s3 = size-append decided_tail running in
+      let whole = routines_code routines ++ (row ++ (decide ++ running)) in
+      let s1 = size-append (routines_code routines) (row ++ (decide ++ running)) in
+      let s2 = size-append row (decide ++ running) in
+      let s3 = size-append decide running in
       let s4 = size-append rules_row outcome_tail in
       let s5 = outcome_tail_size in
-      let place : 0 + size whole ≡ third + 9 = omega arith in
+      let s6 = decided_size conditions in
+      let place : 0 + size whole ≡ third + 7 = omega arith in
       subst (λ (p : ℕ). fetched code (pos p) ≡ Some (Some Exit)) place (stands_first code (0 + size whole) Exit [] (stands_back code 0 whole (Exit ∷ []) has))
 
   abbrev found_all : List Finding
@@ -139,24 +145,24 @@ module _ (s : Setting) (c : Context) (f : FailurePolicy) (routines : List (List 
   behind : (n x : ℕ) (q : ℕ) (Q : Body → Type 0) → Comes s n x first b q Q → Comes s (length routines + n) (0 + x) 0 b q Q
   behind n x q Q comes =
       let place : 0 + size (routines_code routines) ≡ first = omega arith in
-      and_then s n x q Q (to_place s first place (routines_pass s routines 0 b (stands_front code 0 (routines_code routines) (row ++ (decided_tail ++ running)) has_policy))) (λ b1 same.
+      and_then s n x q Q (to_place s first place (routines_pass s routines 0 b (stands_front code 0 (routines_code routines) (row ++ (decide ++ running)) has_policy))) (λ b1 same.
       subst (λ (b2 : Body). Comes s n x first b2 q Q) (sym same) comes)
 
   -- the policy runs
-  runs : decided_before f (truths_of conditions) ≡ None → Comes s (conditions_steps conditions + 3 + (validations_steps f rules + 7)) (conditions_charge conditions + 0 + (validations_charge f rules + 0)) first b (third + 9) (Ends c f (if list_any (is_denial f) found_all then Denied else Admitted) found_all)
+  runs : decided_before f (truths_of conditions) ≡ None → Comes s (conditions_steps conditions + 3 + (validations_steps f rules + 6)) (conditions_charge conditions + 0 + (validations_charge f rules + 0)) first b (third + 7) (Ends c f (if list_any (is_denial f) found_all then Denied else Admitted) found_all)
   runs e =
       let Q = Ends c f (if list_any (is_denial f) found_all then Denied else Admitted) found_all in
       let long = rules_size f 0 rules in
-      and_then s (validations_steps f rules + 7) (validations_charge f rules + 0) (third + 9) Q (conditions_pass s c f conditions first b has_conditions gives_conditions marked e) (λ b1 marked1.
-      and_then s 7 0 (third + 9) Q (to_place s third (omega arith) (rules_run s c f rules [] second b1 (omega arith) (stands_front code second rules_row outcome_tail has_second) (gives_rules (ap is_running e)) marked1)) (λ b2 marked2.
+      and_then s (validations_steps f rules + 6) (validations_charge f rules + 0) (third + 7) Q (conditions_pass s c f conditions first b has_conditions gives_conditions marked e) (λ b1 marked1.
+      and_then s 6 0 (third + 7) Q (to_place s third (omega arith) (rules_run s c f rules [] second b1 (omega arith) (stands_front code second rules_row outcome_tail has_second) (gives_rules (ap is_running e)) marked1)) (λ b2 marked2.
       outcome_runs s c f found_all third has_third b2 marked2))
 
-  ends_by : (o : Option Outcome) → decided_before f (truths_of conditions) ≡ o → let v = decided o (judged_by f found_all) in Exits s (length routines + (conditions_steps conditions + 3 + (if is_running o then validations_steps f rules + 7 else 0))) (conditions_charge conditions + (if is_running o then validations_charge f rules else 0)) 0 b (Ends c f v.outcome v.findings)
+  ends_by : (o : Option Outcome) → decided_before f (truths_of conditions) ≡ o → let v = decided o (judged_by f found_all) in Exits s (length routines + (conditions_steps conditions + 3 + (if is_running o then validations_steps f rules + 6 else 0))) (conditions_charge conditions + (if is_running o then validations_charge f rules else 0)) 0 b (Ends c f v.outcome v.findings)
   ends_by None e = record {
-    place = third + 9;
+    place = third + 7;
     comes =
-        looser s {n = length routines + (conditions_steps conditions + 3 + (validations_steps f rules + 7))} {x = 0 + (conditions_charge conditions + 0 + (validations_charge f rules + 0))} (length routines + (conditions_steps conditions + 3 + (validations_steps f rules + 7))) (conditions_charge conditions + validations_charge f rules) (omega arith) (omega arith)
-        (behind (conditions_steps conditions + 3 + (validations_steps f rules + 7)) (conditions_charge conditions + 0 + (validations_charge f rules + 0)) (third + 9) (Ends c f (if list_any (is_denial f) found_all then Denied else Admitted) found_all) (runs e));
+        looser s {n = length routines + (conditions_steps conditions + 3 + (validations_steps f rules + 6))} {x = 0 + (conditions_charge conditions + 0 + (validations_charge f rules + 0))} (length routines + (conditions_steps conditions + 3 + (validations_steps f rules + 6))) (conditions_charge conditions + validations_charge f rules) (omega arith) (omega arith)
+        (behind (conditions_steps conditions + 3 + (validations_steps f rules + 6)) (conditions_charge conditions + 0 + (validations_charge f rules + 0)) (third + 7) (Ends c f (if list_any (is_denial f) found_all then Denied else Admitted) found_all) (runs e));
     here = last_exit;
   }
   ends_by (Some outcome) e =

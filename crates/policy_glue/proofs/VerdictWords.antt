@@ -8,8 +8,8 @@ use Rattle.guest_memory.specs.RegionWords.{put_word, word_in}
 use Rattle.guest_memory.proofs.RegionWords.{put_word-other, put_word-same}
 use Rattle.value_store.specs.Calls.{text_at}
 use Rattle.value_store.specs.Value.{ValueOrError, error, value, null, boolean, int, text, list, map}
-use Rattle.policy_glue.specs.Layout.{IsLayout, IsMessageWord, finding_word, first_message, first_result, message_in, most_validations, outcome_word}
-use Rattle.policy_glue.specs.Verdict.{Finding, Verdict, is_denial}
+use Rattle.policy_glue.specs.Layout.{IsLayout, IsMessageWord, finding_word, first_message, first_result, message_in, most_validations, outcome_word, truth_word}
+use Rattle.policy_glue.specs.Verdict.{Finding, Holds, Verdict, is_denial}
 use Rattle.policy_glue.specs.declared.failure_policy.FailurePolicy.{FailurePolicy}
 
 -- the words of a region: the outcome's, the number of denials, what each validation came to, and its message
@@ -151,6 +151,19 @@ result_last xs x = ap finding_word (get_last xs x)
 
 pub result_other : (xs : List Finding) (x : Finding) (j : ℕ) → (j ≡ length xs → ⊥) → result_of (xs ++ x ∷ []) j ≡ result_of xs j
 result_other xs x j apart = ap finding_word (get_other xs x j apart)
+
+-- a validation that is true leaves the words as they are
+pub result_none : (xs : List Finding) (x : Finding) (j : ℕ) → x.truth ≡ Holds → result_of (xs ++ x ∷ []) j ≡ result_of xs j
+result_none xs x j holds =
+    elim (cases_lt j (length xs)) [
+      | inl before ↦ result_other xs x j (λ e. omega arith)
+      | inr behind ↦ elim (cases_lt (length xs) j) [
+        | inl after ↦ result_other xs x j (λ e. omega arith)
+        | inr not_after ↦
+            let at : j ≡ length xs = omega arith in
+            ap (result_of (xs ++ x ∷ [])) at ∙ result_last xs x ∙ ap truth_word holds ∙ sym (ap finding_word (slice_get_past xs j behind))
+      ]
+    ]
 
 pub message_last : (xs : List Finding) (x : Finding) → message_of (xs ++ x ∷ []) (length xs) ≡ x.message
 message_last xs x = ap message_in (get_last xs x)

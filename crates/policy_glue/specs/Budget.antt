@@ -14,14 +14,17 @@ use Rattle.policy_glue.specs.declared.failure_policy.FailurePolicy.{FailurePolic
 abbrev pub one_visit : Cost
 one_visit = record { visits = 1; sizes = 0; is_deep = false }
 
+-- a part in this environment: its visit, and what its expression costs
 abbrev pub part_cost : Environment → Tree → Cost
 part_cost env a = one_visit and cost a env
 
 -- the variables from here on, with the values of those before
 abbrev pub variables_cost : Roots → List (List ℕ × ValueOrError) → List VariableTree → Cost
 variables_cost roots before [] = nothing
-variables_cost roots before (v ∷ vs) = part_cost (environment_with roots before) v.expression and variables_cost roots (with_value roots before v) vs
+variables_cost roots before (v ∷ vs) =
+    part_cost (environment_with roots before) v.expression and variables_cost roots (with_value roots before v) vs
 
+-- all conditions, which may use no variable
 abbrev pub conditions_cost : Roots → List Tree → Cost
 conditions_cost roots [] = nothing
 conditions_cost roots (a ∷ more) = part_cost (environment_with roots []) a and conditions_cost roots more
@@ -36,9 +39,12 @@ message_cost false env m = nothing
 abbrev pub is_denied : Bool → FailurePolicy → ValueOrError → Bool
 is_denied runs f x = runs && denies f (truth_of x)
 
+-- a validation, and its message expression where it denies; whether the policy runs comes first
 abbrev pub rule_cost : Bool → FailurePolicy → Environment → RuleTree → Cost
-rule_cost runs f env r = part_cost env r.expression and message_cost (is_denied runs f (meaning r.expression env)) env r.message
+rule_cost runs f env r =
+    part_cost env r.expression and message_cost (is_denied runs f (meaning r.expression env)) env r.message
 
+-- all validations, in an environment with every variable
 abbrev pub rules_cost : Bool → FailurePolicy → Environment → List RuleTree → Cost
 rules_cost runs f env [] = nothing
 rules_cost runs f env (r ∷ rs) = rule_cost runs f env r and rules_cost runs f env rs
@@ -48,9 +54,11 @@ abbrev pub is_running : Option Outcome → Bool
 is_running None = true
 is_running (Some outcome) = false
 
+-- whether the policy runs on these roots, so that its validations decide
 abbrev pub runs_on : FailurePolicy → PolicyTree → Roots → Bool
 runs_on f p roots = is_running (decided_before f (map truth_of (condition_values roots p.conditions)))
 
+-- the whole on these roots: every variable, condition and validation, also where the conditions decide
 unfoldable pub policy_cost : FailurePolicy → PolicyTree → Roots → Cost
 policy_cost f p roots =
     one_visit

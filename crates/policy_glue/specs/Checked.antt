@@ -10,7 +10,9 @@ use Rattle.cel_macros.specs.declared.core_tree.Core.{Core}
 use Rattle.cel_types.specs.Declarations.{Declaration}
 use Rattle.cel_types.specs.declared.scope.Scope.{Scope}
 use Rattle.cel_types.specs.declared.cel_type.CelType.{CelType}
-use Rattle.policy_glue.specs.Checking.{Reads, IsTaken, IsRefused, IsOneOf, IsNoneOf, IsVariable, IsNoVariable, IsMessage, IsRule, IsNoRule, PartsEnd, VariablesEnd, ConditionsEnd, ValidationsEnd, expression_judged, scope_after, texts, variable_judged, with_variable}
+use Rattle.policy_glue.specs.Checking.{Reads, IsTaken, IsRefused, IsOneOf, IsNoneOf, IsVariable, IsNoVariable, IsMessage, IsRule, IsNoRule}
+use Rattle.policy_glue.specs.Checking.{PartsEnd, VariablesEnd, ConditionsEnd, ValidationsEnd, expression_judged, scope_after, texts}
+use Rattle.policy_glue.specs.Checking.{variable_judged, with_variable}
 use Rattle.policy_glue.specs.Policy.{Named, Rule, Rules}
 use Rattle.policy_glue.specs.Trees.{VariableTree, RuleTree, PolicyTree}
 use Rattle.policy_glue.specs.declared.checked.Checked.{Checked}
@@ -99,7 +101,8 @@ pub record IsNoMessage (scope : List Declaration) (place : ℕ) (text : Option (
   pub because : IsNoneOf texts K9 Message place scope source e
 
 abbrev pub SortsMessage : List Declaration → ℕ → Option (List ℕ) → Result (Option Core) CompileError → Type 0
-SortsMessage scope place text (Ok m) = (b : Option Tree) × (option_map core_view m ≡ option_map expanded b) × IsMessage scope text b × IfSome b IsWellFormed
+SortsMessage scope place text (Ok m) =
+    (b : Option Tree) × (option_map core_view m ≡ option_map expanded b) × IsMessage scope text b × IfSome b IsWellFormed
 SortsMessage scope place text (Err e) = e ≢ compile_error.Memory → IsNoMessage scope place text e
 
 abbrev pub ChecksRule : List Declaration → ℕ → Rule → Result CheckedValidation CompileError → Type 0

@@ -1,6 +1,7 @@
 -- Which expressions a policy may have, and the first that is refused: variables, conditions and validations, each in its
 -- order, a message expression behind its validation, and each judged whole before the next.
-use Rattle.std.specs.Prelude.{◌≡◌, ℕ, true, false, List, [], ◌∷◌, ◌++◌, length, fold, nat_lt, Option, Some, None, Result, Ok, Err, if◌then◌else◌}
+use Rattle.std.specs.Prelude.{◌≡◌, ℕ, true, false, List, [], ◌∷◌, ◌++◌, length, fold, nat_lt, Option, Some, None, Result, Ok, Err}
+use Rattle.std.specs.Prelude.{if◌then◌else◌}
 use Rattle.cel_tokens.specs.declared.read_error.ReadError.{ReadError}
 use Rattle.cel_reader.specs.Tree.{Tree}
 use Rattle.cel_reader.specs.Answers.{HasTokens, IsAnswer, IsExpression}
@@ -30,21 +31,26 @@ use Rattle.policy_glue.specs.declared.compile_error.CompileError.TheVariants.{K6
 abbrev pub most_need : ℕ
 most_need = 60
 
+-- the greatest depth of a variable, which is one above the deepest that it names
 abbrev pub most_depth : ℕ
 most_depth = 6
 
+-- Y1 to Y3, by why a tree has no type
 abbrev pub type_error : TypeFault → TypeError
 type_error UnknownName = Y1
 type_error NoOverload = Y2
 type_error MisplacedVariables = Y3
 
+-- of a tree of this type: G1 where it needs more stack words than there are
 abbrev pub with_need : ℕ → CelType → Result CelType ExpressionError
 with_need n t = if nat_lt most_need n then Err G1 else Ok t
 
+-- the same of what typing says of the tree
 abbrev pub with_typing : Typing → ℕ → Result CelType ExpressionError
 with_typing (typing.typed t) n = with_need n t
 with_typing (typing.refused y) n = Err (Untyped (type_error y))
 
+-- the same behind the first misuse of a macro, if there is one
 abbrev pub with_macros : Option MacroFault → Typing → ℕ → Result CelType ExpressionError
 with_macros None t n = with_typing t n
 with_macros (Some fault) t n = Err (Unexpanded (fault_error fault))
@@ -53,10 +59,12 @@ with_macros (Some fault) t n = Err (Unexpanded (fault_error fault))
 unfoldable pub expression_judged : List Declaration → Tree → Result CelType ExpressionError
 expression_judged scope a = with_macros (macro_fault a) (type_of a (scope_of scope)) (need (expanded a))
 
+-- of a variable at this depth, judged as a tree: G2 where it is too deep
 abbrev pub with_depth : ℕ → Result CelType ExpressionError → Result CelType ExpressionError
 with_depth d (Ok t) = if nat_lt most_depth d then Err G2 else Ok t
 with_depth d (Err e) = Err e
 
+-- the depth of a variable with this tree, which may name these variables
 abbrev pub depth_in : List Declaration → Tree → ℕ
 depth_in scope a = depth (expanded a) (depths_of scope)
 
@@ -84,6 +92,7 @@ pub data IsRefused (judge : Tree → Result CelType ExpressionError) (text : Lis
 abbrev pub truths : List CelType
 truths = type.Bool ∷ []
 
+-- message expressions are texts
 abbrev pub texts : List CelType
 texts = type.String ∷ []
 
@@ -101,17 +110,22 @@ pub record IsOther (types : List CelType) (scope : List Declaration) (text : Lis
   pub kind : allowed types cel_type ≡ false
 
 -- the text of the part at this place is refused, or is a tree of another type than these
-pub data IsNoneOf (types : List CelType) (other : CompileError) (part : PartKind) (place : ℕ) (scope : List Declaration) (text : List ℕ) : CompileError → Type 0 where
-  refused : (e : ExpressionError) → IsRefused (expression_judged scope) text e → IsNoneOf types other part place scope text (K6 part place e)
+pub data IsNoneOf (types : List CelType) (other : CompileError) (part : PartKind) (place : ℕ) (scope : List Declaration) (text : List ℕ)
+    : CompileError → Type 0 where
+  refused : (e : ExpressionError) → IsRefused (expression_judged scope) text e
+      → IsNoneOf types other part place scope text (K6 part place e)
   of_another_type : IsOther types scope text → IsNoneOf types other part place scope text other
 
 -- ---- lists of parts
 
 -- from here on, behind what is taken, each part is taken, or the first that is not is refused
-pub data Ends {A B : Type 0} (Takes : List B → A → B → Type 0) (Refuses : List B → A → CompileError → Type 0) : List B → List A → Result (List B) CompileError → Type 0 where
+pub data Ends {A B : Type 0} (Takes : List B → A → B → Type 0) (Refuses : List B → A → CompileError → Type 0)
+    : List B → List A → Result (List B) CompileError → Type 0 where
   over : {taken : List B} → Ends Takes Refuses taken [] (Ok taken)
-  refused : {taken : List B} {part : A} {more : List A} (e : CompileError) → Refuses taken part e → Ends Takes Refuses taken (part ∷ more) (Err e)
-  next : {taken : List B} {part : A} {more : List A} {end : Result (List B) CompileError} (tree : B) → Takes taken part tree → Ends Takes Refuses (taken ++ tree ∷ []) more end → Ends Takes Refuses taken (part ∷ more) end
+  refused : {taken : List B} {part : A} {more : List A} (e : CompileError) → Refuses taken part e
+      → Ends Takes Refuses taken (part ∷ more) (Err e)
+  next : {taken : List B} {part : A} {more : List A} {end : Result (List B) CompileError} (tree : B) → Takes taken part tree
+      → Ends Takes Refuses (taken ++ tree ∷ []) more end → Ends Takes Refuses taken (part ∷ more) end
 
 -- the type that was found, or `dyn` where there is none
 abbrev pub type_or_any : Typing → CelType
@@ -132,17 +146,21 @@ pub record IsVariable (scope : List Declaration) (n : Named) (v : VariableTree) 
   pub cel_type : CelType
   pub tree : IsTaken (variable_judged scope) n.expression v.expression cel_type
 
+-- the variable at this place is refused with K6
 pub record IsNoVariable (scope : List Declaration) (place : ℕ) (text : List ℕ) (e : CompileError) : Type 0 where
   pub cause : ExpressionError
   pub because : IsRefused (variable_judged scope) text cause
   pub is : e ≡ K6 Variable place cause
 
+-- the next variable, which may use those taken so far
 abbrev pub TakesVariable : List VariableTree → Named → VariableTree → Type 0
 TakesVariable taken n v = IsVariable (scope_after taken) n v
 
+-- it is refused, at the place behind them
 abbrev pub RefusesVariable : List VariableTree → Named → CompileError → Type 0
 RefusesVariable taken n e = IsNoVariable (scope_after taken) (length taken) n.expression e
 
+-- the trees of all variables, or the first refusal
 abbrev pub VariablesEnd : List Named → Result (List VariableTree) CompileError → Type 0
 VariablesEnd ns end = Ends TakesVariable RefusesVariable [] ns end
 
@@ -150,9 +168,11 @@ VariablesEnd ns end = Ends TakesVariable RefusesVariable [] ns end
 abbrev pub TakesCondition : List Tree → Named → Tree → Type 0
 TakesCondition taken n a = IsOneOf truths [] n.expression a
 
+-- the next condition is refused, with K7 where it has another type
 abbrev pub RefusesCondition : List Tree → Named → CompileError → Type 0
 RefusesCondition taken n e = IsNoneOf truths K7 Condition (length taken) [] n.expression e
 
+-- the trees of all conditions, or the first refusal
 abbrev pub ConditionsEnd : List Named → Result (List Tree) CompileError → Type 0
 ConditionsEnd ns end = Ends TakesCondition RefusesCondition [] ns end
 
@@ -163,20 +183,26 @@ IsMessage scope (Some text) None = ⊥
 IsMessage scope None (Some a) = ⊥
 IsMessage scope None None = Unit {0}
 
+-- a validation is these trees: a bool, and a text where it has a message expression
 pub record IsRule (scope : List Declaration) (n : Rule) (r : RuleTree) : Type 0 where
   pub expression : IsOneOf truths scope n.expression r.expression
   pub message : IsMessage scope n.message_expression r.message
 
+-- the validation at this place is refused: its expression, or else its message expression, with K9 for its type
 pub data IsNoRule (scope : List Declaration) (place : ℕ) (n : Rule) : CompileError → Type 0 where
   expression : (e : CompileError) → IsNoneOf truths K7 Validation place scope n.expression e → IsNoRule scope place n e
-  message : (a : Tree) (text : List ℕ) (e : CompileError) → IsOneOf truths scope n.expression a → n.message_expression ≡ Some text → IsNoneOf texts K9 Message place scope text e → IsNoRule scope place n e
+  message : (a : Tree) (text : List ℕ) (e : CompileError) → IsOneOf truths scope n.expression a → n.message_expression ≡ Some text
+      → IsNoneOf texts K9 Message place scope text e → IsNoRule scope place n e
 
+-- the next validation
 abbrev pub TakesRule : List Declaration → List RuleTree → Rule → RuleTree → Type 0
 TakesRule scope taken n r = IsRule scope n r
 
+-- it is refused, at the place behind those taken so far
 abbrev pub RefusesRule : List Declaration → List RuleTree → Rule → CompileError → Type 0
 RefusesRule scope taken n e = IsNoRule scope (length taken) n e
 
+-- the trees of all validations, or the first refusal
 abbrev pub ValidationsEnd : List Declaration → List Rule → Result (List RuleTree) CompileError → Type 0
 ValidationsEnd scope ns end = Ends (TakesRule scope) (RefusesRule scope) [] ns end
 
@@ -185,6 +211,10 @@ ValidationsEnd scope ns end = Ends (TakesRule scope) (RefusesRule scope) [] ns e
 -- its expressions as trees, or the first refusal
 pub data PartsEnd (p : Rules) : Result PolicyTree CompileError → Type 0 where
   in_variables : (e : CompileError) → VariablesEnd p.variables (Err e) → PartsEnd p (Err e)
-  in_conditions : (vs : List VariableTree) (e : CompileError) → VariablesEnd p.variables (Ok vs) → ConditionsEnd p.conditions (Err e) → PartsEnd p (Err e)
-  in_validations : (vs : List VariableTree) (cs : List Tree) (e : CompileError) → VariablesEnd p.variables (Ok vs) → ConditionsEnd p.conditions (Ok cs) → ValidationsEnd (scope_after vs) p.validations (Err e) → PartsEnd p (Err e)
-  taken : (vs : List VariableTree) (cs : List Tree) (rs : List RuleTree) → VariablesEnd p.variables (Ok vs) → ConditionsEnd p.conditions (Ok cs) → ValidationsEnd (scope_after vs) p.validations (Ok rs) → PartsEnd p (Ok (record { variables = vs; conditions = cs; validations = rs }))
+  in_conditions : (vs : List VariableTree) (e : CompileError) → VariablesEnd p.variables (Ok vs)
+      → ConditionsEnd p.conditions (Err e) → PartsEnd p (Err e)
+  in_validations : (vs : List VariableTree) (cs : List Tree) (e : CompileError) → VariablesEnd p.variables (Ok vs)
+      → ConditionsEnd p.conditions (Ok cs) → ValidationsEnd (scope_after vs) p.validations (Err e) → PartsEnd p (Err e)
+  taken : (vs : List VariableTree) (cs : List Tree) (rs : List RuleTree) → VariablesEnd p.variables (Ok vs)
+      → ConditionsEnd p.conditions (Ok cs) → ValidationsEnd (scope_after vs) p.validations (Ok rs)
+      → PartsEnd p (Ok (record { variables = vs; conditions = cs; validations = rs }))

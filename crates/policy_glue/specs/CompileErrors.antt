@@ -17,6 +17,7 @@ use Rattle.policy_glue.specs.declared.compile_error.CompileError.{CompileError}
 use Rattle.policy_glue.specs.declared.compile_error.CompileError.TheVariants.{K6, K7, K9, G3, G4}
 use Rattle.policy_glue.specs.declared.compile_error.CompileError.TheVariants as compile_error
 
+-- the word for the kind of a part
 abbrev pub kind_text : PartKind → List ℕ
 kind_text Variable = codes "variable"
 kind_text Condition = codes "condition"
@@ -33,17 +34,20 @@ reading_text (P5 place) = codes "P5 at " ++ decimal place
 reading_text (P6 place) = codes "P6 at " ++ decimal place
 reading_text read_error.Memory = codes "memory"
 
+-- M1 to M3
 abbrev pub macro_text : MacroError → List ℕ
 macro_text M1 = codes "M1"
 macro_text M2 = codes "M2"
 macro_text M3 = codes "M3"
 macro_text macro_error.Memory = codes "memory"
 
+-- Y1 to Y3
 abbrev pub type_text : TypeError → List ℕ
 type_text Y1 = codes "Y1"
 type_text Y2 = codes "Y2"
 type_text Y3 = codes "Y3"
 
+-- why an expression is refused
 abbrev pub expression_text : ExpressionError → List ℕ
 expression_text (Unread e) = reading_text e
 expression_text (Unexpanded e) = macro_text e
@@ -52,6 +56,7 @@ expression_text G1 = codes "G1"
 expression_text G2 = codes "G2"
 expression_text expression_error.Memory = codes "memory"
 
+-- why a policy is not compiled: of K6 the kind of the part, its place from 0, and why its expression is refused
 abbrev pub compile_text : CompileError → List ℕ
 compile_text (K6 part place e) = codes "K6 " ++ (kind_text part ++ (codes " " ++ (decimal place ++ (codes " " ++ expression_text e))))
 compile_text K7 = codes "K7"
@@ -70,12 +75,14 @@ from_reader (P5 place) = Unread (P5 place)
 from_reader (P6 place) = Unread (P6 place)
 from_reader read_error.Memory = expression_error.Memory
 
+-- the same of the refusal of a macro
 abbrev pub from_macros : MacroError → ExpressionError
 from_macros M1 = Unexpanded M1
 from_macros M2 = Unexpanded M2
 from_macros M3 = Unexpanded M3
 from_macros macro_error.Memory = expression_error.Memory
 
+-- the refusal of an expression as that of the part at a place
 abbrev pub in_part : PartKind → ℕ → ExpressionError → CompileError
 in_part part place (Unread e) = K6 part place (Unread e)
 in_part part place (Unexpanded e) = K6 part place (Unexpanded e)

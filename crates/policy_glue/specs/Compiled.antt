@@ -1,7 +1,6 @@
 -- What is known of the image of a compiled policy.
-use Rattle.std.specs.Prelude.{◌≡◌, ℕ, ◌*◌, ◌<◌, ◌≤◌, All, false, List, length, Result, Ok, Err}
+use Rattle.std.specs.Prelude.{◌≡◌, ℕ, ◌*◌, ◌<◌, ◌≤◌, All, false, length, Result, Ok, Err}
 use Rattle.loader.specs.Contents as loader
-use Rattle.loader.specs.declared.version.Version.{Version}
 use Rattle.loader.specs.declared.version.Version.TheVariants.{Second}
 use Rattle.value_store.specs.Placing.{Contents}
 use Rattle.cel_macros.specs.Environment.{Roots}
@@ -9,36 +8,29 @@ use Rattle.bpf_machine.specs.State.{start_state}
 use Rattle.bpf_machine.specs.Step.{is_running}
 use Rattle.bpf_machine.specs.Trace.{state_after}
 use Rattle.codegen_base.specs.Contexts.{HasValues}
-use Rattle.codegen_base.specs.Pieces.{spellings}
-use Rattle.codegen.specs.Constants.{joined}
 use Rattle.policy_glue.specs.Budget.{policy_work}
-use Rattle.policy_glue.specs.Limits.{Compiles, policy_nodes, policy_texts}
+use Rattle.policy_glue.specs.Limits.{Compiles, policy_nodes}
 use Rattle.policy_glue.specs.Policy.{Rules}
-use Rattle.policy_glue.specs.ProgramCode.{program_of}
 use Rattle.policy_glue.specs.ProgramTrees.{Decides}
 use Rattle.policy_glue.specs.Trees.{PolicyTree}
 use Rattle.policy_glue.specs.declared.compile_error.CompileError.{CompileError}
 use Rattle.policy_glue.specs.declared.compile_error.CompileError.TheVariants.{K6, K7, K9, G3, G4, Memory}
 use Rattle.policy_glue.specs.declared.failure_policy.FailurePolicy.{FailurePolicy}
 
--- what an image of this version holds
-abbrev pub contents : Version → List ℕ → List ℕ → loader.Contents
-contents version code constants = record { version = version; code = code; constants = constants }
-
--- the image of a policy: the code of its program and its texts, in version 2
-abbrev pub program_image : FailurePolicy → PolicyTree → loader.Contents
-program_image f t = contents Second (spellings (program_of f t)) (joined (policy_texts t))
-
--- that image, which has at most 128 slots for each of the policy's nodes, decides as the policy does on every five roots, within 128 steps for each unit of the policy's work, and has decided so wherever it stands stopped
+-- an image of version 2, with at most 128 slots of 8 bytes for each of the policy's nodes; on every five roots it has
+-- decided as the policy does after 128 steps for each unit of the policy's work, and wherever it stands stopped before
 pub record IsProgram (f : FailurePolicy) (t : PolicyTree) (image : loader.Contents) : Type 0 where
-  pub is : image ≡ program_image f t
+  pub version : image.version ≡ Second
   pub code : All (λ b. b < 256) image.code
   pub constants : All (λ b. b < 256) image.constants
   pub few_slots : length image.code ≤ 8 * (128 * policy_nodes t)
-  pub decides : (roots : Roots) (values : Contents) (m : ℕ) → HasValues roots values → 128 * policy_work f t roots ≤ m → Decides f t roots values (state_after m (start_state image values))
-  pub stops : (roots : Roots) (values : Contents) (k : ℕ) → HasValues roots values → is_running (state_after k (start_state image values)).status ≡ false → Decides f t roots values (state_after k (start_state image values))
+  pub decides : (roots : Roots) (values : Contents) (m : ℕ) → HasValues roots values → 128 * policy_work f t roots ≤ m
+      → Decides f t roots values (state_after m (start_state image values))
+  pub stops : (roots : Roots) (values : Contents) (k : ℕ) → HasValues roots values
+      → is_running (state_after k (start_state image values)).status ≡ false
+      → Decides f t roots values (state_after k (start_state image values))
 
--- the image of a policy that is compiled
+-- an image of a policy that is compiled
 pub record IsCompiled (p : Rules) (image : loader.Contents) : Type 0 where
   pub trees : PolicyTree
   pub compiles : Compiles p (Ok trees)

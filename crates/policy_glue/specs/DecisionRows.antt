@@ -55,7 +55,8 @@ under f conditions = decision_of f (record { variables = []; conditions = condit
 
 -- where variable v is 1 / 0
 abbrev pub with_wrong : FailurePolicy → List RuleTree → Verdict
-with_wrong f rules = decision_of f (record { variables = record { name = codes "v"; expression = wrong } ∷ []; conditions = []; validations = rules }) five
+with_wrong f rules =
+    decision_of f (record { variables = record { name = codes "v"; expression = wrong } ∷ []; conditions = []; validations = rules }) five
 
 abbrev pub found : Truth → Finding
 found t = record { truth = t; message = None }

@@ -1,5 +1,6 @@
 -- The denials as the words of a verdict tell them.
-use Rattle.std.specs.Prelude.{ℕ, ◌+◌, ◌&&◌, ◌||◌, Bool, true, false, List, [], ◌∷◌, ◌++◌, map, nat_eq, slice_get, slice_index, Option, Some, None, option_map, if◌then◌else◌}
+use Rattle.std.specs.Prelude.{ℕ, ◌+◌, ◌&&◌, ◌||◌, Bool, true, false, List, [], ◌∷◌, ◌++◌, map, nat_eq, slice_get, slice_index}
+use Rattle.std.specs.Prelude.{Option, Some, None, option_map, if◌then◌else◌}
 use Rattle.policy_glue.specs.Policy.{Rule, rule_view}
 use Rattle.policy_glue.specs.Layout.{Words, words_view}
 use Rattle.policy_glue.specs.Response.{Denial}

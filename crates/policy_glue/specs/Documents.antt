@@ -19,11 +19,13 @@ abbrev pub has_only : List (List ℕ) → json.Data → Bool
 has_only known (json.object ms) = keys_within known ms
 has_only known _ = false
 
+-- nothing, or an object
 abbrev pub is_object_or_absent : Option json.Data → Bool
 is_object_or_absent None = true
 is_object_or_absent (Some (json.object ms)) = true
 is_object_or_absent (Some _) = false
 
+-- this very text
 abbrev pub is_the_text : Option json.Data → List ℕ → Bool
 is_the_text (Some (json.string s)) text = bytes_eq s text
 is_the_text _ text = false
@@ -45,6 +47,7 @@ text_or_empty_of None = Some []
 text_or_empty_of (Some (json.string s)) = Some s
 text_or_empty_of (Some _) = None
 
+-- both, if both are there
 abbrev pub cons_if : {A : Type 0} → Option A → Option (List A) → Option (List A)
 cons_if (Some a) (Some rest) = Some (a ∷ rest)
 cons_if (Some a) None = None

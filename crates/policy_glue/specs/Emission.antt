@@ -1,9 +1,7 @@
 -- A policy's program as it is emitted: what an emitter has taken behind each part of the policy.
-use Rattle.std.specs.Prelude.{◌≡◌, ◌≢◌, ℕ, ◌+◌, ◌-◌, ◌≤◌, List, [], ◌∷◌, fold, length, map, pos, slice_get, take, Option, Some, None, Result, Ok, Err, Vec}
+use Rattle.std.specs.Prelude.{◌≡◌, ◌≢◌, ℕ, ◌+◌, ◌-◌, ◌≤◌, List, [], ◌∷◌, fold, length, map, slice_get, take}
+use Rattle.std.specs.Prelude.{Option, Some, None, Result, Ok, Err, Vec}
 use Rattle.std.specs.Global.{Global}
-use Rattle.insn_codec.specs.declared.comparison.Comparison.TheVariants.{Eq}
-use Rattle.insn_codec.specs.declared.insn.Insn.{Insn}
-use Rattle.insn_codec.specs.declared.register.Register.TheVariants.{R3}
 use Rattle.cel_macros.specs.CoreTree.{CoreTree}
 use Rattle.cel_macros.specs.CoreView.{core_view}
 use Rattle.cel_measures.specs.Measures.{depth, need}
@@ -11,13 +9,12 @@ use Rattle.cel_types.specs.Declarations.{Declaration, depths_of}
 use Rattle.codegen.specs.Added.{with_expression, with_variable}
 use Rattle.codegen.specs.Constants.{joined}
 use Rattle.codegen.specs.Emitted.{Emitted, no_code, with_insn_at, with_nodes, with_piece}
-use Rattle.codegen_base.specs.Instructions.{skip_if}
 use Rattle.codegen_base.specs.Pieces.{spellings}
 use Rattle.policy_glue.specs.Checked.{IsChecked, rule_trees}
 use Rattle.policy_glue.specs.Checking.{scope_after}
 use Rattle.policy_glue.specs.Layout.{most_validations}
 use Rattle.policy_glue.specs.Limits.{excess, policy_texts}
-use Rattle.policy_glue.specs.Program.{condition_tail, decided_tail, denial_code, message_tail, outcome_tail, result_tail}
+use Rattle.policy_glue.specs.Program.{condition_tail, decided_tail, if_true, leave_error, message_tail, outcome_tail, result_code}
 use Rattle.policy_glue.specs.ProgramCode.{program_of}
 use Rattle.policy_glue.specs.ProgramTrees.{AreConditions, AreRules, AreVariables}
 use Rattle.policy_glue.specs.Trees.{PolicyTree}
@@ -39,24 +36,26 @@ with_condition f e tree = with_piece (with_expression (with_nodes e 1) [] tree) 
 abbrev pub with_conditions : FailurePolicy → Emitted → List CoreTree → Emitted
 with_conditions f e trees = fold (with_condition f) e trees
 
--- a jump over so many slots where a validation does not deny
-abbrev pub unless_denied : ℕ → Insn
-unless_denied n = skip_if Eq R3 (pos 0) n
+-- what the conditions decide, if there are any
+abbrev pub with_decided : {A : Type 0} → Emitted → List A → Emitted
+with_decided e [] = e
+with_decided e (condition ∷ more) = with_piece e decided_tail
 
 abbrev pub with_message : ℕ → List Declaration → Emitted → CoreTree → Emitted
 with_message i scope e tree = with_piece (with_expression (with_nodes e 1) scope tree) (message_tail i)
 
--- the jump at a slot leads behind all of the code
-abbrev pub with_jump_at : ℕ → Emitted → Emitted
-with_jump_at slot e = with_insn_at e slot (unless_denied (length e.code - 1 - slot))
+-- what stands behind a validation from a slot on leads behind all of the code
+abbrev pub with_way : FailurePolicy → ℕ → Emitted → Emitted
+with_way f slot e =
+    with_insn_at (with_insn_at e slot (if_true (length e.code - 1 - slot))) (slot + 5) (leave_error f (length e.code - 1 - slot - 5))
 
--- what is done for a denial, and the message
-abbrev pub with_denial : ℕ → List Declaration → Emitted → Option CoreTree → Emitted
-with_denial i scope e None = with_piece e (denial_code [])
-with_denial i scope e (Some tree) = with_jump_at (length e.code) (with_message i scope (with_piece e (denial_code [])) tree)
+-- what is done where a validation is not true, and the message
+abbrev pub with_result : FailurePolicy → ℕ → List Declaration → Emitted → Option CoreTree → Emitted
+with_result f i scope e None = with_piece e (result_code f i [])
+with_result f i scope e (Some tree) = with_way f (length e.code) (with_message i scope (with_piece e (result_code f i [])) tree)
 
 abbrev pub with_validation : FailurePolicy → ℕ → List Declaration → Emitted → CoreTree × Option CoreTree → Emitted
-with_validation f i scope e v = with_denial i scope (with_piece (with_expression (with_nodes e 1) scope v.0) (result_tail f i)) v.1
+with_validation f i scope e v = with_result f i scope (with_expression (with_nodes e 1) scope v.0) v.1
 
 -- from validation i on
 abbrev pub with_validations : FailurePolicy → ℕ → List Declaration → Emitted → List (CoreTree × Option CoreTree) → Emitted
@@ -75,7 +74,8 @@ abbrev pub validations_of : Checked → List (CoreTree × Option CoreTree)
 validations_of c = map rule_trees c.validations.items
 
 abbrev pub before_validations : FailurePolicy → Checked → Emitted
-before_validations f c = with_piece (with_conditions f (with_variables c.scope 0 (with_nodes no_code 1) (variables_of c)) (conditions_of c)) decided_tail
+before_validations f c =
+    with_decided (with_conditions f (with_variables c.scope 0 (with_nodes no_code 1) (variables_of c)) (conditions_of c)) (conditions_of c)
 
 abbrev pub emitted : FailurePolicy → Checked → Emitted
 emitted f c = with_piece (with_validations f 0 c.scope (before_validations f c) (validations_of c)) outcome_tail
@@ -84,7 +84,8 @@ emitted f c = with_piece (with_validations f 0 c.scope (before_validations f c) 
 
 -- each expression has words enough in a frame, and each variable's is not too deep among those before it
 abbrev pub FitInOrder : List Declaration → List CoreTree → Type 0
-FitInOrder declarations trees = (i : ℕ) (tree : CoreTree) → slice_get trees i ≡ Some tree → (need tree ≤ 60) × (depth tree (depths_of (take i declarations)) ≤ 6)
+FitInOrder declarations trees = (i : ℕ) (tree : CoreTree) → slice_get trees i ≡ Some tree
+    → (need tree ≤ 60) × (depth tree (depths_of (take i declarations)) ≤ 6)
 
 abbrev pub Fits : CoreTree → Type 0
 Fits tree = need tree ≤ 60

@@ -24,6 +24,7 @@ values_of roots variables = fold (with_value roots) [] variables
 abbrev pub condition_values : Roots → List Tree → List ValueOrError
 condition_values roots conditions = map (λ e. meaning e (environment_with roots [])) conditions
 
+-- what the expression of a validation means, and its message expression, if it has one
 abbrev pub rule_value : Environment → RuleTree → ValueOrError × Option ValueOrError
 rule_value env r = (meaning r.expression env, option_map (λ m. meaning m env) r.message)
 

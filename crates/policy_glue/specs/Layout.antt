@@ -1,6 +1,7 @@
 -- How a program leaves its verdict: words of its verdict region (layout 2). Word i begins 8 * i bytes after the
 -- region's first address.
-use Rattle.std.specs.Prelude.{◌≡◌, ℕ, ◌+◌, ◌*◌, ◌<◌, ◌≤◌, List, map, nat_eq, nat_lt, count_by, slice_get, slice_index, Option, Some, None, option_map, Result, Ok, Err, if◌then◌else◌}
+use Rattle.std.specs.Prelude.{◌≡◌, ℕ, ◌+◌, ◌*◌, ◌<◌, ◌≤◌, List, map, nat_eq, nat_lt, count_by, slice_get, slice_index}
+use Rattle.std.specs.Prelude.{Option, Some, None, option_map, Result, Ok, Err, if◌then◌else◌}
 use Rattle.guest_memory.specs.Memory.{Memory, Verdict as VerdictRegion, base_of}
 use Rattle.guest_memory.specs.Access.{read_of}
 use Rattle.guest_memory.specs.RegionWords.{word_in}
@@ -17,6 +18,7 @@ use Rattle.policy_glue.specs.declared.verdict.Verdict.{Verdict as CodeVerdict}
 abbrev pub first_result : ℕ
 first_result = 2
 
+-- the first of the words that name messages
 abbrev pub first_message : ℕ
 first_message = 66
 
@@ -24,21 +26,25 @@ first_message = 66
 abbrev pub most_validations : ℕ
 most_validations = 64
 
+-- the word of an outcome
 abbrev pub outcome_word : Outcome → ℕ
 outcome_word Skipped = 1
 outcome_word Rejected = 2
 outcome_word Denied = 3
 outcome_word Admitted = 4
 
+-- the word of what a validation came to
 abbrev pub truth_word : Truth → ℕ
 truth_word Holds = 0
 truth_word Fails = 1
 truth_word Errs = 2
 
+-- the same, and 0 where there is no such validation
 abbrev pub finding_word : Option Finding → ℕ
 finding_word (Some x) = truth_word x.truth
 finding_word None = 0
 
+-- the text of its message, if it has one
 abbrev pub message_in : Option Finding → Option (List ℕ)
 message_in (Some x) = x.message
 message_in None = None
@@ -53,7 +59,8 @@ pub record IsLayout (f : FailurePolicy) (verdict : Verdict) (values : List Value
   pub outcome : word_in region 0 ≡ outcome_word verdict.outcome
   pub denials : word_in region 1 ≡ count_by (is_denial f) verdict.findings
   pub results : (i : ℕ) → i < most_validations → word_in region (first_result + i) ≡ finding_word (slice_get verdict.findings i)
-  pub messages : (i : ℕ) → i < most_validations → IsMessageWord values (word_in region (first_message + i)) (message_in (slice_get verdict.findings i))
+  pub messages : (i : ℕ) → i < most_validations
+      → IsMessageWord values (word_in region (first_message + i)) (message_in (slice_get verdict.findings i))
   pub others : (i : ℕ) → first_message + most_validations ≤ i → i < 256 → word_in region i ≡ 0
 
 -- ---- reading it
@@ -65,10 +72,12 @@ pub record Words : Type 0 where
   pub results : List ℕ
   pub messages : List (Option (List ℕ))
 
+-- the word that was read, and 0 where there is none
 abbrev pub ok_or_zero : Result ℕ fault.Fault → ℕ
 ok_or_zero (Ok word) = word
 ok_or_zero (Err f) = 0
 
+-- what the code's verdict holds
 abbrev pub words_view : CodeVerdict → Words
 words_view v = record {
   outcome = v.outcome;
@@ -89,6 +98,7 @@ text_named values word = if nat_eq word 0 then None else text_at (slice_get valu
 abbrev pub result_at : Memory → ℕ → ℕ → ℕ
 result_at m count i = if nat_lt i count then verdict_word m (first_result + i) else 0
 
+-- the text of the message that stands for it
 abbrev pub message_at : Memory → List ValueOrError → ℕ → ℕ → Option (List ℕ)
 message_at m values count i = if nat_lt i count then text_named values (verdict_word m (first_message + i)) else None
 

@@ -13,6 +13,7 @@ pub mod Layout
 pub mod Limits
 pub mod Objections
 pub mod OneAnswer
+pub mod OneImage
 pub mod Policy
 pub mod Program
 pub mod ProgramCode

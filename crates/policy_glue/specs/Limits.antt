@@ -14,45 +14,58 @@ use Rattle.policy_glue.specs.declared.compile_error.CompileError.TheVariants.{G3
 
 -- ---- nodes: one for the policy, and one for each part beside those of its expression
 
+-- of a part: one, and those of its expression with its macros expanded
 abbrev pub part_nodes : Tree → ℕ
 part_nodes a = 1 + nodes (expanded a)
 
+-- of a message expression, if there is one
 abbrev pub message_nodes : Option Tree → ℕ
 message_nodes (Some a) = part_nodes a
 message_nodes None = 0
 
+-- of a validation with its message expression
 abbrev pub rule_nodes : RuleTree → ℕ
 rule_nodes r = part_nodes r.expression + message_nodes r.message
 
+-- of the whole
 unfoldable pub policy_nodes : PolicyTree → ℕ
-policy_nodes p = 1 + sum_by (λ v. part_nodes v.expression) p.variables + sum_by part_nodes p.conditions + sum_by rule_nodes p.validations
+policy_nodes p =
+    1 + sum_by (λ v. part_nodes v.expression) p.variables + sum_by part_nodes p.conditions + sum_by rule_nodes p.validations
 
 -- ---- texts: the field names and text literals, each once, in order of first use
 
+-- those of an expression with its macros expanded
 abbrev pub tree_texts : Tree → List (List ℕ)
 tree_texts a = texts_of (expanded a)
 
+-- those of a message expression, if there is one
 abbrev pub message_texts : Option Tree → List (List ℕ)
 message_texts (Some a) = tree_texts a
 message_texts None = []
 
+-- those of a validation with its message expression
 abbrev pub rule_texts : RuleTree → List (List ℕ)
 rule_texts r = tree_texts r.expression ++ message_texts r.message
 
+-- those of all variables
 abbrev pub variable_texts : List VariableTree → List (List ℕ)
 variable_texts [] = []
 variable_texts (v ∷ vs) = tree_texts v.expression ++ variable_texts vs
 
+-- those of all conditions
 abbrev pub condition_texts : List Tree → List (List ℕ)
 condition_texts [] = []
 condition_texts (a ∷ more) = tree_texts a ++ condition_texts more
 
+-- those of all validations
 abbrev pub validation_texts : List RuleTree → List (List ℕ)
 validation_texts [] = []
 validation_texts (r ∷ rs) = rule_texts r ++ validation_texts rs
 
+-- those of the whole, each once
 unfoldable pub policy_texts : PolicyTree → List (List ℕ)
-policy_texts p = with_texts [] (variable_texts p.variables ++ (condition_texts p.conditions ++ validation_texts p.validations))
+policy_texts p =
+    with_texts [] (variable_texts p.variables ++ (condition_texts p.conditions ++ validation_texts p.validations))
 
 -- ---- the limits, and the whole
 

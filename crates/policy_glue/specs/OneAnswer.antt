@@ -1,8 +1,8 @@
 -- A policy is compiled in one way, or refused for one cause.
 use Rattle.std.specs.Prelude.{◌≡◌, Result}
 use Rattle.loader.specs.Contents as loader
-use Rattle.policy_glue.specs.Compiled.{IsCompiled}
 use Rattle.policy_glue.specs.Limits.{Compiles}
+use Rattle.policy_glue.specs.OneImage.{OneImage}
 use Rattle.policy_glue.specs.Policy.{Rules}
 use Rattle.policy_glue.specs.Trees.{PolicyTree}
 use Rattle.policy_glue.specs.declared.compile_error.CompileError.{CompileError}
@@ -13,4 +13,4 @@ HasOneAnswer = (p : Rules) (a b : Result PolicyTree CompileError) → Compiles p
 
 -- two images of a policy are the same
 abbrev pub HasOneImage : Type 0
-HasOneImage = (p : Rules) (a b : loader.Contents) → IsCompiled p a → IsCompiled p b → a ≡ b
+HasOneImage = (p : Rules) (a b : loader.Contents) → OneImage p a → OneImage p b → a ≡ b

@@ -20,15 +20,18 @@ pub record Rule : Type 0 where
   pub reason : Reason
   pub message_expression : Option (List ℕ)
 
+-- the `spec` of a policy: match conditions, variables and validations in their order
 pub record Rules : Type 0 where
   pub failure_policy : FailurePolicy
   pub conditions : List Named
   pub variables : List Named
   pub validations : List Rule
 
+-- the code's condition or variable
 abbrev pub named_view : NamedExpression → Named
 named_view n = record { name = string_bytes n.name; expression = string_bytes n.expression }
 
+-- the code's validation
 abbrev pub rule_view : Validation → Rule
 rule_view v = record {
   expression = string_bytes v.expression;
@@ -37,6 +40,7 @@ rule_view v = record {
   message_expression = option_map string_bytes v.message_expression;
 }
 
+-- the code's policy
 abbrev pub rules_view : Parts → Rules
 rules_view p = record {
   failure_policy = p.failure_policy;
@@ -52,6 +56,7 @@ reason_name Forbidden = codes "Forbidden"
 reason_name Invalid = codes "Invalid"
 reason_name RequestEntityTooLarge = codes "RequestEntityTooLarge"
 
+-- the HTTP status of a reason
 abbrev pub reason_code : Reason → ℕ
 reason_code Unauthorized = 401
 reason_code Forbidden = 403

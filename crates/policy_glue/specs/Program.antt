@@ -1,24 +1,25 @@
 -- The code of a policy. The code of each expression leaves the reference of its value in R0; what comes to be known stands
 -- in the words of the verdict region, since code for expressions keeps these.
-use Rattle.std.specs.Prelude.{ℕ, ◌+◌, pos, List, [], ◌∷◌, ◌++◌, Option, Some, None}
+use Rattle.std.specs.Prelude.{ℕ, ◌+◌, ◌*◌, pos, List, [], ◌∷◌, ◌++◌, Option, Some, None}
 use Rattle.insn_codec.specs.declared.alu_op.AluOp.TheVariants.{Add}
 use Rattle.insn_codec.specs.declared.comparison.Comparison.TheVariants.{Eq, Ne}
 use Rattle.insn_codec.specs.declared.insn.Insn.{Insn}
-use Rattle.insn_codec.specs.declared.insn.Insn.TheVariants.{Alu, Call, Exit, Load, Store}
+use Rattle.insn_codec.specs.declared.insn.Insn.TheVariants.{Alu, Call, Exit, Load, Store, StoreImm}
 use Rattle.insn_codec.specs.declared.operand.Operand.TheVariants.{Imm}
-use Rattle.insn_codec.specs.declared.register.Register.TheVariants.{R0, R1, R2, R3, R6}
+use Rattle.insn_codec.specs.declared.register.Register.TheVariants.{R0, R1, R2, R6}
 use Rattle.insn_codec.specs.declared.size.Size.TheVariants.{Dw}
 use Rattle.insn_codec.specs.declared.width.Width.TheVariants.{W64}
-use Rattle.codegen_base.specs.Instructions.{copy, load_wide, put, skip_if}
+use Rattle.codegen_base.specs.Instructions.{copy, load_wide, put, skip, skip_if}
 use Rattle.codegen_base.specs.Pieces.{size}
 use Rattle.codegen_base.specs.Words.{verdict_address}
 use Rattle.codegen.specs.Added.{passed}
-use Rattle.policy_glue.specs.Layout.{first_message, first_result, outcome_word, truth_word}
-use Rattle.policy_glue.specs.Verdict.{Skipped, Denied, Admitted, Holds, Fails, Errs, undecided}
+use Rattle.policy_glue.specs.Layout.{first_message, outcome_word, truth_word}
+use Rattle.policy_glue.specs.Verdict.{Skipped, Denied, Admitted, Fails, Errs, undecided}
 use Rattle.policy_glue.specs.declared.failure_policy.FailurePolicy.{FailurePolicy}
 use Rattle.policy_glue.specs.declared.failure_policy.FailurePolicy.TheVariants.{Fail, Ignore}
 
--- behind a condition: true goes on, false ends the program with the policy skipped, and an error leaves the outcome that stands where no condition is false
+-- behind a condition: true goes on, false ends the program with the policy skipped, and an error leaves the outcome that
+-- stands where no condition is false
 unfoldable pub condition_tail : FailurePolicy → List Insn
 condition_tail f =
     skip_if Eq R0 (pos 3) 8
@@ -40,30 +41,35 @@ decided_tail =
     ∷ Exit
     ∷ []
 
--- 1 where an error denies
-abbrev pub error_denies : FailurePolicy → ℕ
-error_denies Fail = 1
-error_denies Ignore = 0
+-- where there are no conditions there is nothing to decide
+abbrev pub decided_code : {A : Type 0} → List A → List Insn
+decided_code [] = []
+decided_code (condition ∷ more) = decided_tail
 
--- behind validation i: its word, and in R3 whether it denies
-unfoldable pub result_tail : FailurePolicy → ℕ → List Insn
-result_tail f i =
-    load_wide R1 (verdict_address (first_result + i))
-    ∷ put R2 (pos (truth_word Holds))
-    ∷ put R3 (pos 0)
-    ∷ skip_if Eq R0 (pos 3) 5
-    ∷ put R2 (pos (truth_word Fails))
-    ∷ put R3 (pos 1)
-    ∷ skip_if Eq R0 (pos 2) 2
-    ∷ put R2 (pos (truth_word Errs))
-    ∷ put R3 (pos (error_denies f))
-    ∷ Store Dw R1 (pos 0) R2
-    ∷ []
+-- past so many slots where a validation is true: its word is 0 as it is
+abbrev pub if_true : ℕ → Insn
+if_true n = skip_if Eq R0 (pos 3) n
 
--- one more denial
-abbrev pub count_code : List Insn
-count_code =
+-- an error is counted as a denial, or passes that and the message
+abbrev pub error_way : FailurePolicy → ℕ → ℕ
+error_way Fail n = 1
+error_way Ignore n = n
+
+abbrev pub leave_error : FailurePolicy → ℕ → Insn
+leave_error f n = skip (error_way f n)
+
+-- the word of validation i begins so many bytes behind that of the denials
+abbrev pub result_offset : ℕ → ℕ
+result_offset i = 8 * (i + 1)
+
+-- behind validation i, where it is not true: its word, and one more denial; its message takes n slots
+unfoldable pub denial_code : FailurePolicy → ℕ → ℕ → List Insn
+denial_code f i n =
     load_wide R1 (verdict_address 1)
+    ∷ skip_if Eq R0 (pos 2) 2
+    ∷ StoreImm Dw R1 (pos (result_offset i)) (pos (truth_word Errs))
+    ∷ leave_error f (n + 4)
+    ∷ StoreImm Dw R1 (pos (result_offset i)) (pos (truth_word Fails))
     ∷ Load Dw R2 R1 (pos 0)
     ∷ Alu Add W64 R2 (Imm (pos 1))
     ∷ Store Dw R1 (pos 0) R2
@@ -89,26 +95,25 @@ abbrev pub message_code : ℕ → Option (List Insn) → List Insn
 message_code i (Some message) = message ++ message_tail i
 message_code i None = []
 
--- what is done for a denial, past which R3 leads where it is 0
-abbrev pub denial_code : List Insn → List Insn
-denial_code message = skip_if Eq R3 (pos 0) (size message + 5) ∷ (count_code ++ message)
+-- what stands behind the expression of validation i
+abbrev pub result_code : FailurePolicy → ℕ → List Insn → List Insn
+result_code f i message = if_true (size message + 9) ∷ (denial_code f i (size message) ++ message)
 
 -- a validation's code, and that of its message expression, if it has one
 abbrev pub Validation : Type 0
 Validation = List Insn × Option (List Insn)
 
 abbrev pub validation_code : FailurePolicy → ℕ → Validation → List Insn
-validation_code f i v = v.0 ++ (result_tail f i ++ denial_code (message_code i v.1))
+validation_code f i v = v.0 ++ result_code f i (message_code i v.1)
 
 -- the outcome of a policy that ran: the exit behind it answers R0
 unfoldable pub outcome_tail : List Insn
 outcome_tail =
-    load_wide R1 (verdict_address 1)
-    ∷ Load Dw R2 R1 (pos 0)
+    load_wide R1 (verdict_address 0)
+    ∷ Load Dw R2 R1 (pos 8)
     ∷ put R0 (pos (outcome_word Admitted))
     ∷ skip_if Eq R2 (pos 0) 1
     ∷ put R0 (pos (outcome_word Denied))
-    ∷ load_wide R1 (verdict_address 0)
     ∷ Store Dw R1 (pos 0) R0
     ∷ []
 
@@ -130,4 +135,5 @@ routines_code (routine ∷ more) = passed routine ++ routines_code more
 -- the whole but for its exit
 unfoldable pub policy_code : FailurePolicy → List (List Insn) → List (List Insn) → List Validation → List Insn
 policy_code f routines conditions validations =
-    routines_code routines ++ (conditions_code f conditions ++ (decided_tail ++ (validations_code f 0 validations ++ outcome_tail)))
+    routines_code routines
+    ++ (conditions_code f conditions ++ (decided_code conditions ++ (validations_code f 0 validations ++ outcome_tail)))

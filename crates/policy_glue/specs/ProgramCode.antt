@@ -42,7 +42,8 @@ with_tree scope l a = record l { place = l.place + size (tree_code scope l a); t
 -- ---- variables: each routine stands behind a jump over it
 
 abbrev pub variable_code : List Declaration → Laid → VariableTree → List Insn
-variable_code scope l v = routine_code (expanded v.expression) (texts_with l v.expression) (routines_of scope l.routines) (length l.routines) (l.place + 1)
+variable_code scope l v = routine_code (expanded v.expression) (texts_with l v.expression) (routines_of scope l.routines)
+    (length l.routines) (l.place + 1)
 
 abbrev pub with_routine : List Declaration → Laid → VariableTree → Laid
 with_routine scope l v = record {
@@ -87,7 +88,9 @@ with_message scope l None = l
 
 abbrev pub validation_codes : List Declaration → Laid → List RuleTree → List Validation
 validation_codes scope l [] = []
-validation_codes scope l (r ∷ more) = (tree_code scope l r.expression, message_codes scope (before_message scope l r) r.message) ∷ validation_codes scope (with_message scope (before_message scope l r) r.message) more
+validation_codes scope l (r ∷ more) =
+    (tree_code scope l r.expression, message_codes scope (before_message scope l r) r.message) ∷ validation_codes scope
+    (with_message scope (before_message scope l r) r.message) more
 
 -- ---- the whole
 
@@ -96,10 +99,11 @@ abbrev pub laid_routines : PolicyTree → Laid
 laid_routines p = after_variables [] nothing_laid p.variables
 
 abbrev pub laid_conditions : PolicyTree → Laid
-laid_conditions p = with_slots decided_slots (after_conditions (laid_routines p) p.conditions)
+laid_conditions p = with_slots (decided_slots p.conditions) (after_conditions (laid_routines p) p.conditions)
 
 -- with its exit
 unfoldable pub program_of : FailurePolicy → PolicyTree → List Insn
 program_of f p =
-    policy_code f (variable_codes [] nothing_laid p.variables) (condition_codes (laid_routines p) p.conditions) (validation_codes (scope_after p.variables) (laid_conditions p) p.validations)
+    policy_code f (variable_codes [] nothing_laid p.variables) (condition_codes (laid_routines p) p.conditions)
+    (validation_codes (scope_after p.variables) (laid_conditions p) p.validations)
     ++ Exit ∷ []

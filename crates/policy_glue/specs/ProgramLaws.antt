@@ -18,7 +18,8 @@ use Rattle.codegen_base.specs.Variables.{routine_context}
 use Rattle.policy_glue.specs.Budget.{is_running}
 use Rattle.policy_glue.specs.Layout.{IsLayout, most_validations, outcome_word}
 use Rattle.policy_glue.specs.Program.{conditions_code, policy_code, routines_code}
-use Rattle.policy_glue.specs.ProgramParts.{ConditionsGive, Part, RulePart, ValidationsGive, codes_of, conditions_charge, conditions_steps, decided_slots, rule_codes, rules_given, validations_charge, validations_steps, values_given}
+use Rattle.policy_glue.specs.ProgramParts.{ConditionsGive, Part, RulePart, ValidationsGive, codes_of, conditions_charge, conditions_steps}
+use Rattle.policy_glue.specs.ProgramParts.{decided_slots, rule_codes, rules_given, validations_charge, validations_steps, values_given}
 use Rattle.policy_glue.specs.Verdict.{Verdict, decided_before, truth_of, verdict_of}
 use Rattle.policy_glue.specs.declared.failure_policy.FailurePolicy.{FailurePolicy}
 
@@ -34,7 +35,7 @@ passes f conditions = is_running (decided_before f (map truth_of (values_given c
 -- the steps of the whole but for its exit and for the first uses of variables; validations run where the policy does
 abbrev pub program_steps : FailurePolicy → List (List Insn) → List Part → List RulePart → ℕ
 program_steps f routines conditions rules =
-    length routines + (conditions_steps conditions + 3 + (if passes f conditions then validations_steps f rules + 7 else 0))
+    length routines + (conditions_steps conditions + 3 + (if passes f conditions then validations_steps f rules + 6 else 0))
 
 abbrev pub program_charge : FailurePolicy → List Part → List RulePart → ℕ
 program_charge f conditions rules = conditions_charge conditions + (if passes f conditions then validations_charge f rules else 0)
@@ -44,11 +45,14 @@ abbrev pub conditions_place : List (List Insn) → ℕ
 conditions_place routines = size (routines_code routines)
 
 abbrev pub validations_place : FailurePolicy → List (List Insn) → List Part → ℕ
-validations_place f routines conditions = conditions_place routines + size (conditions_code f (codes_of conditions)) + decided_slots
+validations_place f routines conditions =
+    conditions_place routines + size (conditions_code f (codes_of conditions)) + decided_slots conditions
 
--- an image that begins with the code of a policy and an exit, run from the start, has exited with the verdict's outcome and layout, or stopped for its charge or a depth, after its steps and those of its variables
+-- an image that begins with the code of a policy and an exit, run from the start, has exited with the verdict's outcome and
+-- layout, or stopped for its charge or a depth, after its steps and those of its variables
 abbrev pub PolicyDecides : Type 0
-PolicyDecides = (image : loader.Contents) (deep : Bool) (values : Contents) (roots : Roots) (scope : List Variable) (f : FailurePolicy) (routines : List (List Insn)) (conditions : List Part) (rules : List RulePart) (after : List ℕ) (m : ℕ)
+PolicyDecides = (image : loader.Contents) (deep : Bool) (values : Contents) (roots : Roots) (scope : List Variable) (f : FailurePolicy)
+    (routines : List (List Insn)) (conditions : List Part) (rules : List RulePart) (after : List ℕ) (m : ℕ)
     → let code = policy_code f routines (codes_of conditions) (rule_codes rules) ++ Exit ∷ [] in
     image.code ≡ spellings code ++ after → All (λ b. b < 256) image.code → All (λ b. b < 256) image.constants → AreInsns code
     → HasValues roots values → length rules ≤ most_validations
@@ -56,4 +60,5 @@ PolicyDecides = (image : loader.Contents) (deep : Bool) (values : Contents) (roo
     ConditionsGive s c (conditions_place routines) conditions
     → (passes f conditions ≡ true → ValidationsGive f s c (validations_place f routines conditions) rules)
     → program_steps f routines conditions rules + total (first_steps scope) < m
-    → Halts s (program_charge f conditions rules) (start_body image values) (LeavesVerdict f (verdict_of f (values_given conditions) (rules_given rules))) (state_after m (start_state image values))
+    → Halts s (program_charge f conditions rules) (start_body image values)
+    (LeavesVerdict f (verdict_of f (values_given conditions) (rules_given rules))) (state_after m (start_state image values))

@@ -45,15 +45,16 @@ found f r = finding_of f (rule_given r)
 
 -- ---- places
 
--- slots of what stands behind a condition, behind all conditions, and behind the expression of a validation and of a message
+-- slots of what stands behind a condition, behind all of them if there are any, and behind the expression of a validation and of a message
 abbrev pub condition_slots : ℕ
 condition_slots = 9
 
-abbrev pub decided_slots : ℕ
-decided_slots = 5
+abbrev pub decided_slots : {A : Type 0} → List A → ℕ
+decided_slots [] = 0
+decided_slots (condition ∷ more) = 5
 
 abbrev pub result_slots : ℕ
-result_slots = 17
+result_slots = 10
 
 abbrev pub message_slots : ℕ
 message_slots = 7
@@ -81,7 +82,9 @@ MessageGives s c p denied None = Unit {0}
 -- each validation, with its message where it denies
 abbrev pub ValidationsGive : FailurePolicy → Setting → Context → ℕ → List RulePart → Type 0
 ValidationsGive f s c p [] = Unit {0}
-ValidationsGive f s c p (r ∷ more) = PartGives s c p r.expression × MessageGives s c (p + size r.expression.code + result_slots) (denies f (truth_of r.expression.value)) r.message × ValidationsGive f s c (p + rule_size r) more
+ValidationsGive f s c p (r ∷ more) = PartGives s c p r.expression
+    × MessageGives s c (p + size r.expression.code + result_slots) (denies f (truth_of r.expression.value)) r.message
+    × ValidationsGive f s c (p + rule_size r) more
 
 -- ---- budgets
 
@@ -95,7 +98,7 @@ message_charge denied (Some m) = if denied then m.charge + 1 else 0
 message_charge denied None = 0
 
 abbrev pub rule_steps : FailurePolicy → RulePart → ℕ
-rule_steps f r = r.expression.steps + 15 + message_steps (denies f (truth_of r.expression.value)) r.message
+rule_steps f r = r.expression.steps + 8 + message_steps (denies f (truth_of r.expression.value)) r.message
 
 abbrev pub rule_charge : FailurePolicy → RulePart → ℕ
 rule_charge f r = r.expression.charge + message_charge (denies f (truth_of r.expression.value)) r.message

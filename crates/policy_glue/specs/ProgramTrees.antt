@@ -29,16 +29,20 @@ use Rattle.policy_glue.specs.declared.failure_policy.FailurePolicy.{FailurePolic
 -- each expression is one that the type checker takes with the variables before it, and no variable is too deep
 abbrev pub AreVariables : List Declaration → List VariableTree → Type 0
 AreVariables scope [] = Unit {0}
-AreVariables scope (v ∷ more) = IsExpression scope (expanded v.expression) × (depth_in scope v.expression ≤ 6) × AreVariables (with_variable scope v) more
+AreVariables scope (v ∷ more) =
+    IsExpression scope (expanded v.expression) × (depth_in scope v.expression ≤ 6) × AreVariables (with_variable scope v) more
 
+-- each condition is an expression that is taken without variables
 abbrev pub AreConditions : List Tree → Type 0
 AreConditions [] = Unit {0}
 AreConditions (a ∷ more) = IsExpression [] (expanded a) × AreConditions more
 
+-- a message expression, if there is one, is taken in this scope
 abbrev pub IsMessage : List Declaration → Option Tree → Type 0
 IsMessage scope (Some a) = IsExpression scope (expanded a)
 IsMessage scope None = Unit {0}
 
+-- each validation and its message expression are taken in this scope
 abbrev pub AreRules : List Declaration → List RuleTree → Type 0
 AreRules scope [] = Unit {0}
 AreRules scope (r ∷ more) = IsExpression scope (expanded r.expression) × IsMessage scope r.message × AreRules scope more
@@ -55,12 +59,16 @@ pub record HasProgram (p : PolicyTree) : Type 0 where
 
 -- ---- programs
 
--- the program of a policy has exited with the outcome of its decision in R0 and the layout of the decision in the verdict region, or has stopped where its charge would pass the limit or a value is too deep
+-- the program of a policy has exited with the outcome of its decision in R0 and the layout of the decision in the verdict
+-- region, or has stopped where its charge would pass the limit or a value is too deep
 pub data Decides (f : FailurePolicy) (p : PolicyTree) (roots : Roots) (values : Contents) (t : State) : Type 0 where
-  Over : t.status ≡ Fault F8 → (charge_limit < values.charge + 16 * policy_spent f p roots) ⊎ IsDeepPolicy f p roots → Decides f p roots values t
-  Left : t.status ≡ Exited (outcome_word (decision_of f p roots).outcome) → IsLayout f (decision_of f p roots) t.values.values t.memory.verdict → Decides f p roots values t
+  Over : t.status ≡ Fault F8 → (charge_limit < values.charge + 16 * policy_spent f p roots) ⊎ IsDeepPolicy f p roots
+      → Decides f p roots values t
+  Left : t.status ≡ Exited (outcome_word (decision_of f p roots).outcome)
+      → IsLayout f (decision_of f p roots) t.values.values t.memory.verdict → Decides f p roots values t
 
--- the image of a policy's program, with its texts, run from the start, is there after 128 steps for each unit of the policy's work
+-- the image of a policy's program, with its texts, run from the start, is there after 128 steps for each unit of the
+-- policy's work
 abbrev pub ProgramDecides : Type 0
 ProgramDecides = (f : FailurePolicy) (p : PolicyTree) (roots : Roots) (image : loader.Contents) (values : Contents) (m : ℕ)
     → HasProgram p → image.code ≡ spellings (program_of f p) → image.constants ≡ joined (policy_texts p)
@@ -72,11 +80,13 @@ abbrev pub ProgramStops : Type 0
 ProgramStops = (f : FailurePolicy) (p : PolicyTree) (roots : Roots) (image : loader.Contents) (values : Contents) (k : ℕ)
     → HasProgram p → image.code ≡ spellings (program_of f p) → image.constants ≡ joined (policy_texts p)
     → All (λ b. b < 256) image.code → All (λ b. b < 256) image.constants → HasValues roots values
-    → is_running (state_after k (start_state image values)).status ≡ false → Decides f p roots values (state_after k (start_state image values))
+    → is_running (state_after k (start_state image values)).status ≡ false
+    → Decides f p roots values (state_after k (start_state image values))
 
 -- it has at most 128 slots for each of the policy's nodes, and can be spelled
 abbrev pub ProgramIsShort : Type 0
 ProgramIsShort = (f : FailurePolicy) (p : PolicyTree) → size (program_of f p) ≤ 128 * policy_nodes p
 
+-- and each of its slots can be spelled
 abbrev pub ProgramIsCode : Type 0
 ProgramIsCode = (f : FailurePolicy) (p : PolicyTree) → HasProgram p → AreInsns (program_of f p)

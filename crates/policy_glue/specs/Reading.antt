@@ -1,11 +1,13 @@
 -- Which policy a document says, or why it says none.
-use Rattle.std.specs.Prelude.{◌≡◌, ℕ, ◌&&◌, ◌||◌, Bool, true, false, not, List, [], ◌∷◌, length, nat_lt, nat_eq, Option, Some, None, Result, Ok, Err, codes, if◌then◌else◌}
+use Rattle.std.specs.Prelude.{◌≡◌, ℕ, ◌&&◌, ◌||◌, Bool, true, false, not, List, [], ◌∷◌, length, nat_lt, nat_eq}
+use Rattle.std.specs.Prelude.{Option, Some, None, Result, Ok, Err, codes, if◌then◌else◌}
 use Rattle.std.specs.List.{list_any}
 use Rattle.std.specs.Str.{bytes_eq}
 use Rattle.serde_json.specs.Data as json
 use Rattle.serde_json.specs.Find.{get}
 use Rattle.cel_reader.specs.Words.{is_identifier}
-use Rattle.policy_glue.specs.Documents.{document_of, has_only, is_object_or_absent, is_the_text, text_of, optional_text_of, text_or_empty_of, list_in, optional_list_in}
+use Rattle.policy_glue.specs.Documents.{document_of, has_only, is_object_or_absent, is_the_text, text_of, optional_text_of}
+use Rattle.policy_glue.specs.Documents.{text_or_empty_of, list_in, optional_list_in}
 use Rattle.policy_glue.specs.Policy.{Named, Rule, Rules}
 use Rattle.policy_glue.specs.declared.name_rule.NameRule.{NameRule}
 use Rattle.policy_glue.specs.declared.name_rule.NameRule.TheVariants.{NotEmpty, Identifier}
@@ -23,14 +25,17 @@ use Rattle.policy_glue.specs.declared.policy_error.PolicyError.TheVariants.{K1, 
 unfoldable pub named_keys : List (List ℕ)
 named_keys = codes "name" ∷ codes "expression" ∷ []
 
+-- a condition or variable, if both its name and its expression are there
 abbrev pub named_from : Option (List ℕ) → Option (List ℕ) → Option Named
 named_from (Some n) (Some e) = Some (record { name = n; expression = e })
 named_from (Some n) None = None
 named_from None e = None
 
+-- its `name` and `expression`, which have to be texts
 unfoldable pub named_parts : json.Data → Option Named
 named_parts d = named_from (text_of (get (codes "name") d)) (text_of (get (codes "expression") d))
 
+-- a text with a byte
 abbrev pub is_not_empty : List ℕ → Bool
 is_not_empty [] = false
 is_not_empty (b ∷ bs) = true
@@ -40,6 +45,7 @@ abbrev pub allows : NameRule → List ℕ → Bool
 allows NotEmpty n = is_not_empty n
 allows Identifier n = is_identifier n
 
+-- the same, if its name is allowed
 abbrev pub kept_if : NameRule → Option Named → Option Named
 kept_if rule (Some n) = if allows rule n.name then Some n else None
 kept_if rule None = None
@@ -53,6 +59,7 @@ abbrev pub are_distinct : List Named → Bool
 are_distinct [] = true
 are_distinct (n ∷ ns) = not (list_any (λ m. bytes_eq n.name m.name) ns) && are_distinct ns
 
+-- the same, if no name stands twice
 abbrev pub distinct : Option (List Named) → Option (List Named)
 distinct (Some ns) = if are_distinct ns then Some ns else None
 distinct None = None
@@ -79,6 +86,7 @@ reason_in (Some _) = None
 unfoldable pub rule_keys : List (List ℕ)
 rule_keys = codes "expression" ∷ codes "message" ∷ codes "messageExpression" ∷ codes "reason" ∷ []
 
+-- a validation, if each of its parts has its form
 abbrev pub rule_from : Option (List ℕ) → Option (List ℕ) → Option Reason → Option (Option (List ℕ)) → Option Rule
 rule_from (Some e) (Some m) (Some r) (Some x) = Some (record { expression = e; message = m; reason = r; message_expression = x })
 rule_from (Some e) (Some m) (Some r) None = None
@@ -86,8 +94,13 @@ rule_from (Some e) (Some m) None x = None
 rule_from (Some e) None r x = None
 rule_from None m r x = None
 
+-- its `expression`, `message`, `reason` and `messageExpression`, of which the first has to be there
 unfoldable pub rule_parts : json.Data → Option Rule
-rule_parts d = rule_from (text_of (get (codes "expression") d)) (text_or_empty_of (get (codes "message") d)) (reason_in (get (codes "reason") d)) (optional_text_of (get (codes "messageExpression") d))
+rule_parts d = rule_from
+    (text_of (get (codes "expression") d))
+    (text_or_empty_of (get (codes "message") d))
+    (reason_in (get (codes "reason") d))
+    (optional_text_of (get (codes "messageExpression") d))
 
 -- a validation
 abbrev pub rule_in : json.Data → Option Rule
@@ -105,21 +118,34 @@ failure_in (Some _) = None
 
 -- the fields of the specification; what its `matchConstraints` and its `paramKind` say is not looked at
 unfoldable pub spec_keys : List (List ℕ)
-spec_keys = codes "failurePolicy" ∷ codes "matchConditions" ∷ codes "matchConstraints" ∷ codes "paramKind" ∷ codes "validations" ∷ codes "variables" ∷ []
+spec_keys =
+    codes "failurePolicy" ∷ codes "matchConditions" ∷ codes "matchConstraints" ∷ codes "paramKind" ∷ codes "validations"
+    ∷ codes "variables" ∷ []
 
+-- a policy, if each of its parts has its form
 abbrev pub rules_from : Option FailurePolicy → Option (List Named) → Option (List Named) → Option (List Rule) → Option Rules
-rules_from (Some f) (Some cs) (Some vs) (Some rs) = Some (record { failure_policy = f; conditions = cs; variables = vs; validations = rs })
+rules_from (Some f) (Some cs) (Some vs) (Some rs) =
+    Some (record { failure_policy = f; conditions = cs; variables = vs; validations = rs })
 rules_from (Some f) (Some cs) (Some vs) None = None
 rules_from (Some f) (Some cs) None rs = None
 rules_from (Some f) None vs rs = None
 rules_from None cs vs rs = None
 
+-- its `failurePolicy`, `matchConditions`, `variables` and `validations`, of which the last has to be there
 unfoldable pub spec_parts : json.Data → Option Rules
-spec_parts d = rules_from (failure_in (get (codes "failurePolicy") d)) (named_list_in NotEmpty (get (codes "matchConditions") d)) (named_list_in Identifier (get (codes "variables") d)) (list_in rule_in (get (codes "validations") d))
+spec_parts d = rules_from
+    (failure_in (get (codes "failurePolicy") d))
+    (named_list_in NotEmpty (get (codes "matchConditions") d))
+    (named_list_in Identifier (get (codes "variables") d))
+    (list_in rule_in (get (codes "validations") d))
 
+-- no field is unknown, and those that are not looked at are objects or absent
 unfoldable pub has_spec_form : json.Data → Bool
-has_spec_form d = has_only spec_keys d && (is_object_or_absent (get (codes "matchConstraints") d) && is_object_or_absent (get (codes "paramKind") d))
+has_spec_form d =
+    has_only spec_keys d
+    && (is_object_or_absent (get (codes "matchConstraints") d) && is_object_or_absent (get (codes "paramKind") d))
 
+-- what a specification says, if it has the form
 abbrev pub spec_value_in : json.Data → Option Rules
 spec_value_in d = if has_spec_form d then spec_parts d else None
 
@@ -132,14 +158,19 @@ spec_in None = None
 unfoldable pub top_keys : List (List ℕ)
 top_keys = codes "apiVersion" ∷ codes "kind" ∷ codes "metadata" ∷ codes "spec" ∷ []
 
+-- no field is unknown, and `metadata` is an object or absent
 unfoldable pub has_top_form : json.Data → Bool
 has_top_form d = has_only top_keys d && is_object_or_absent (get (codes "metadata") d)
 
+-- what the document says in its `spec`
 abbrev pub rules_in : json.Data → Option Rules
 rules_in d = if has_top_form d then spec_in (get (codes "spec") d) else None
 
+-- the document is one of this API and kind
 unfoldable pub has_head : json.Data → Bool
-has_head d = is_the_text (get (codes "apiVersion") d) (codes "admissionregistration.k8s.io/v1") && is_the_text (get (codes "kind") d) (codes "ValidatingAdmissionPolicy")
+has_head d =
+    is_the_text (get (codes "apiVersion") d) (codes "admissionregistration.k8s.io/v1")
+    && is_the_text (get (codes "kind") d) (codes "ValidatingAdmissionPolicy")
 
 -- ---- the refusals in their order
 
@@ -147,22 +178,29 @@ has_head d = is_the_text (get (codes "apiVersion") d) (codes "admissionregistrat
 abbrev pub most_parts : ℕ
 most_parts = 64
 
+-- there is nothing to decide by (K4)
 abbrev pub has_no_validation : Rules → Bool
 has_no_validation p = nat_eq (length p.validations) 0
 
+-- there are more than 64 of a kind (K5)
 abbrev pub has_too_many : Rules → Bool
-has_too_many p = nat_lt most_parts (length p.conditions) || (nat_lt most_parts (length p.variables) || nat_lt most_parts (length p.validations))
+has_too_many p =
+    nat_lt most_parts (length p.conditions)
+    || (nat_lt most_parts (length p.variables) || nat_lt most_parts (length p.validations))
 
 -- a line feed or a carriage return
 abbrev pub is_line_break : ℕ → Bool
 is_line_break b = nat_eq b 10 || nat_eq b 13
 
+-- one of the bytes is a line break
 abbrev pub has_line_break : List ℕ → Bool
 has_line_break text = list_any is_line_break text
 
+-- a message has a line break (K8)
 abbrev pub has_broken_message : Rules → Bool
 has_broken_message p = list_any (λ r. has_line_break r.message) p.validations
 
+-- a policy that has the form, or the first of K4, K5 and K8
 abbrev pub judged : Rules → Result Rules PolicyError
 judged p =
     if has_no_validation p then Err K4
@@ -170,13 +208,16 @@ judged p =
     else (if has_broken_message p then Err K8
     else Ok p))
 
+-- or K3 where it has not the form
 abbrev pub judged_form : Option Rules → Result Rules PolicyError
 judged_form (Some p) = judged p
 judged_form None = Err K3
 
+-- or K2 before it, where the document is of another API or kind
 unfoldable pub policy_of : json.Data → Result Rules PolicyError
 policy_of d = if has_head d then judged_form (rules_in d) else Err K2
 
+-- or K1 before it, where the bytes are no JSON text
 abbrev pub policy_said : Option json.Data → Result Rules PolicyError
 policy_said (Some d) = policy_of d
 policy_said None = Err K1

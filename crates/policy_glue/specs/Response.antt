@@ -29,6 +29,7 @@ abbrev pub set_message : List ℕ → List ℕ → List ℕ
 set_message [] expression = codes "failed expression: " ++ expression
 set_message (b ∷ message) expression = b ∷ message
 
+-- what a validation says without its message expression
 abbrev pub plain_message : Rule → List ℕ
 plain_message r = set_message r.message r.expression
 
@@ -36,13 +37,16 @@ plain_message r = set_message r.message r.expression
 abbrev pub is_space : ℕ → Bool
 is_space b = nat_eq b 32
 
+-- the text can be answered as a message
 abbrev pub serves : List ℕ → Bool
 serves text = not (list_all is_space text) && not (has_line_break text)
 
+-- the text of the message expression where it serves, and else the plain message
 abbrev pub message_or : Option (List ℕ) → List ℕ → List ℕ
 message_or (Some text) plain = if serves text then text else plain
 message_or None plain = plain
 
+-- the message of one denial
 abbrev pub denial_text : Denial → List ℕ
 denial_text d = message_or d.message (plain_message d.rule)
 
@@ -59,23 +63,27 @@ first_reason (d ∷ ds) = d.rule.reason
 
 -- ---- the response
 
+-- a status (meta/v1, Status): its message, its reason and its code
 abbrev pub status_tree : List ℕ → Reason → json.Data
 status_tree message reason = json.object
     (json.member (codes "code") (json.number (json.unsigned (reason_code reason)))
     (json.member (codes "message") (json.string message)
     (json.member (codes "reason") (json.string (reason_name reason)) json.no_members)))
 
+-- the response that allows the request with this uid
 abbrev pub allowed_tree : List ℕ → json.Data
 allowed_tree uid = json.object
     (json.member (codes "allowed") (json.boolean true)
     (json.member (codes "uid") (json.string uid) json.no_members))
 
+-- the response that does not, with its status
 abbrev pub denied_tree : List ℕ → List ℕ → Reason → json.Data
 denied_tree uid message reason = json.object
     (json.member (codes "allowed") (json.boolean false)
     (json.member (codes "status") (status_tree message reason)
     (json.member (codes "uid") (json.string uid) json.no_members)))
 
+-- the review that has this response
 unfoldable pub review_tree : json.Data → json.Data
 review_tree response = json.object
     (json.member (codes "apiVersion") (json.string (codes "admission.k8s.io/v1"))
@@ -86,9 +94,11 @@ review_tree response = json.object
 abbrev pub rejected_tree : List ℕ → json.Data
 rejected_tree uid = denied_tree uid (codes "match conditions not decided") Invalid
 
+-- the messages of all denials, and the reason of the first
 abbrev pub denials_tree : List Denial → List ℕ → json.Data
 denials_tree ds uid = denied_tree uid (joined (map denial_text ds)) (first_reason ds)
 
+-- the response by the outcome; a policy that was skipped allows
 abbrev pub tree_of : Outcome → List Denial → List ℕ → json.Data
 tree_of Skipped ds uid = allowed_tree uid
 tree_of Rejected ds uid = rejected_tree uid

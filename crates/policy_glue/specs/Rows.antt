@@ -15,7 +15,9 @@ use Rattle.policy_glue.specs.declared.reason.Reason.TheVariants.{Forbidden, Inva
 
 -- a policy with this specification
 abbrev pub said : List ℕ → Result Rules PolicyError
-said spec = policy_in (codes "{\"apiVersion\":\"admissionregistration.k8s.io/v1\",\"kind\":\"ValidatingAdmissionPolicy\",\"spec\":" ++ (spec ++ codes "}"))
+said spec =
+    policy_in (codes "{\"apiVersion\":\"admissionregistration.k8s.io/v1\",\"kind\":\"ValidatingAdmissionPolicy\",\"spec\":"
+    ++ (spec ++ codes "}"))
 
 abbrev pub rule : List ℕ → Rule
 rule expression = record { expression = expression; message = []; reason = Invalid; message_expression = None }
@@ -27,8 +29,10 @@ abbrev pub few_replicas : Rule
 few_replicas = rule (codes "object.spec.replicas <= 3")
 
 pub record PolicyRowsStand : Type 0 where
-  pub one_validation : said (codes "{\"validations\":[{\"expression\":\"object.spec.replicas <= 3\"}]}") ≡ Ok (with_rules Fail (few_replicas ∷ []))
-  pub all_keys : said (codes "{\"failurePolicy\":\"Ignore\",\"paramKind\":{},\"matchConditions\":[{\"name\":\"c\",\"expression\":\"a\"}],\"variables\":[{\"expression\":\"b\",\"name\":\"v\"}],\"matchConstraints\":{\"x\":1},\"validations\":[{\"message\":\"m\",\"reason\":\"Forbidden\",\"messageExpression\":\"\",\"expression\":\"d\"}]}")
+  pub one_validation : said (codes "{\"validations\":[{\"expression\":\"object.spec.replicas <= 3\"}]}")
+      ≡ Ok (with_rules Fail (few_replicas ∷ []))
+  pub all_keys : said
+      (codes "{\"failurePolicy\":\"Ignore\",\"paramKind\":{},\"matchConditions\":[{\"name\":\"c\",\"expression\":\"a\"}],\"variables\":[{\"expression\":\"b\",\"name\":\"v\"}],\"matchConstraints\":{\"x\":1},\"validations\":[{\"message\":\"m\",\"reason\":\"Forbidden\",\"messageExpression\":\"\",\"expression\":\"d\"}]}")
       ≡ Ok (record {
         failure_policy = Ignore;
         conditions = record { name = codes "c"; expression = codes "a" } ∷ [];
@@ -41,7 +45,9 @@ pub record PolicyRowsStand : Type 0 where
   pub unknown_key : said (codes "{\"validations\":[{\"expression\":\"a\"}],\"x\":1}") ≡ Err K3
   pub null_message : said (codes "{\"validations\":[{\"expression\":\"a\",\"message\":null}]}") ≡ Err K3
   pub no_reason : said (codes "{\"validations\":[{\"expression\":\"a\",\"reason\":\"\"}]}") ≡ Err K3
-  pub two_of_a_name : said (codes "{\"variables\":[{\"name\":\"v\",\"expression\":\"a\"},{\"name\":\"v\",\"expression\":\"b\"}],\"validations\":[{\"expression\":\"a\"}]}") ≡ Err K3
+  pub two_of_a_name :
+      said (codes "{\"variables\":[{\"name\":\"v\",\"expression\":\"a\"},{\"name\":\"v\",\"expression\":\"b\"}],\"validations\":[{\"expression\":\"a\"}]}")
+      ≡ Err K3
   pub reserved_name : said (codes "{\"variables\":[{\"name\":\"if\",\"expression\":\"a\"}],\"validations\":[]}") ≡ Err K3
   pub no_validations : said (codes "{}") ≡ Err K3
   pub empty_validations : said (codes "{\"validations\":[]}") ≡ Err K4
@@ -69,14 +75,21 @@ pub record VerdictRowsStand : Type 0 where
   pub undecided : verdict_of Fail (error ∷ truth true ∷ []) (bare (truth true) ∷ []) ≡ rejected
   pub undecided_ignored : verdict_of Ignore (error ∷ truth true ∷ []) (bare (truth false) ∷ []) ≡ skipped
   pub condition_of_another_kind : verdict_of Fail (value (int (pos 1)) ∷ []) (bare (truth true) ∷ []) ≡ rejected
-  pub admitted : verdict_of Fail (truth true ∷ []) (bare (truth true) ∷ []) ≡ record { outcome = Admitted; findings = record { truth = Holds; message = None } ∷ [] }
-  pub error_denies : verdict_of Fail [] (bare error ∷ []) ≡ record { outcome = Denied; findings = record { truth = Errs; message = None } ∷ [] }
-  pub error_ignored : verdict_of Ignore [] (bare error ∷ []) ≡ record { outcome = Admitted; findings = record { truth = Errs; message = None } ∷ [] }
-  pub false_denies : verdict_of Ignore [] (bare error ∷ bare (truth false) ∷ []) ≡ record { outcome = Denied; findings = record { truth = Errs; message = None } ∷ record { truth = Fails; message = None } ∷ [] }
+  pub admitted : verdict_of Fail (truth true ∷ []) (bare (truth true) ∷ [])
+      ≡ record { outcome = Admitted; findings = record { truth = Holds; message = None } ∷ [] }
+  pub error_denies : verdict_of Fail [] (bare error ∷ [])
+      ≡ record { outcome = Denied; findings = record { truth = Errs; message = None } ∷ [] }
+  pub error_ignored : verdict_of Ignore [] (bare error ∷ [])
+      ≡ record { outcome = Admitted; findings = record { truth = Errs; message = None } ∷ [] }
+  pub false_denies : verdict_of Ignore [] (bare error ∷ bare (truth false) ∷ [])
+      ≡ record { outcome = Denied; findings = record { truth = Errs; message = None } ∷ record { truth = Fails; message = None } ∷ [] }
   -- message expressions give texts for denials, and deny nothing
-  pub text : verdict_of Fail [] ((truth false, Some (value (text (codes "a")))) ∷ []) ≡ record { outcome = Denied; findings = record { truth = Fails; message = Some (codes "a") } ∷ [] }
-  pub no_text : verdict_of Fail [] ((truth false, Some (value (int (pos 1)))) ∷ []) ≡ record { outcome = Denied; findings = record { truth = Fails; message = None } ∷ [] }
-  pub no_denial : verdict_of Fail [] ((truth true, Some error) ∷ []) ≡ record { outcome = Admitted; findings = record { truth = Holds; message = None } ∷ [] }
+  pub text : verdict_of Fail [] ((truth false, Some (value (text (codes "a")))) ∷ [])
+      ≡ record { outcome = Denied; findings = record { truth = Fails; message = Some (codes "a") } ∷ [] }
+  pub no_text : verdict_of Fail [] ((truth false, Some (value (int (pos 1)))) ∷ [])
+      ≡ record { outcome = Denied; findings = record { truth = Fails; message = None } ∷ [] }
+  pub no_denial : verdict_of Fail [] ((truth true, Some error) ∷ [])
+      ≡ record { outcome = Admitted; findings = record { truth = Holds; message = None } ∷ [] }
 
 -- ---- responses
 
@@ -88,26 +101,38 @@ denied_as status = answered (codes "{\"allowed\":false,\"status\":" ++ (status +
 
 -- the response of a policy with one validation, which is false and whose message expression gave this text
 abbrev pub with_text : Option (List ℕ) → List ℕ
-with_text message = response_of (with_rules Fail (few_replicas ∷ [])) (record { outcome = Denied; findings = record { truth = Fails; message = message } ∷ [] }) (codes "u1")
+with_text message =
+    response_of (with_rules Fail (few_replicas ∷ []))
+    (record { outcome = Denied; findings = record { truth = Fails; message = message } ∷ [] }) (codes "u1")
 
 abbrev pub plain : List ℕ
 plain = denied_as (codes "{\"code\":422,\"message\":\"failed expression: object.spec.replicas <= 3\",\"reason\":\"Invalid\"}")
 
 -- false with a message and a reason, and then an error
 abbrev pub two_denials : List Rule
-two_denials = record { expression = codes "false"; message = codes "a"; reason = Forbidden; message_expression = None } ∷ rule (codes "1/0 == 1") ∷ []
+two_denials =
+    record { expression = codes "false"; message = codes "a"; reason = Forbidden; message_expression = None } ∷ rule (codes "1/0 == 1") ∷ []
 
 abbrev pub two_findings : Verdict
-two_findings = record { outcome = Denied; findings = record { truth = Fails; message = None } ∷ record { truth = Errs; message = None } ∷ [] }
+two_findings =
+    record { outcome = Denied; findings = record { truth = Fails; message = None } ∷ record { truth = Errs; message = None } ∷ [] }
 
 pub record ResponseRowsStand : Type 0 where
-  pub admitted : response_of (with_rules Fail (few_replicas ∷ [])) (record { outcome = Admitted; findings = record { truth = Holds; message = None } ∷ [] }) (codes "u1") ≡ answered (codes "{\"allowed\":true,\"uid\":\"u1\"}")
-  pub was_skipped : response_of (with_rules Fail (few_replicas ∷ [])) skipped (codes "u1") ≡ answered (codes "{\"allowed\":true,\"uid\":\"u1\"}")
-  pub was_rejected : response_of (with_rules Fail (few_replicas ∷ [])) rejected (codes "u1") ≡ denied_as (codes "{\"code\":422,\"message\":\"match conditions not decided\",\"reason\":\"Invalid\"}")
+  pub admitted :
+      response_of (with_rules Fail (few_replicas ∷ []))
+      (record { outcome = Admitted; findings = record { truth = Holds; message = None } ∷ [] }) (codes "u1")
+      ≡ answered (codes "{\"allowed\":true,\"uid\":\"u1\"}")
+  pub was_skipped : response_of (with_rules Fail (few_replicas ∷ [])) skipped (codes "u1")
+      ≡ answered (codes "{\"allowed\":true,\"uid\":\"u1\"}")
+  pub was_rejected : response_of (with_rules Fail (few_replicas ∷ [])) rejected (codes "u1")
+      ≡ denied_as (codes "{\"code\":422,\"message\":\"match conditions not decided\",\"reason\":\"Invalid\"}")
   pub denied : with_text None ≡ plain
-  pub message : with_text (Some (codes "replicas 5 above 3")) ≡ denied_as (codes "{\"code\":422,\"message\":\"replicas 5 above 3\",\"reason\":\"Invalid\"}")
+  pub message : with_text (Some (codes "replicas 5 above 3"))
+      ≡ denied_as (codes "{\"code\":422,\"message\":\"replicas 5 above 3\",\"reason\":\"Invalid\"}")
   pub spaces : with_text (Some (codes "  ")) ≡ plain
   pub empty : with_text (Some []) ≡ plain
   pub line_feed : with_text (Some (codes "a\nb")) ≡ plain
-  pub under_fail : response_of (with_rules Fail two_denials) two_findings (codes "u1") ≡ denied_as (codes "{\"code\":403,\"message\":\"a; failed expression: 1/0 == 1\",\"reason\":\"Forbidden\"}")
-  pub under_ignore : response_of (with_rules Ignore two_denials) two_findings (codes "u1") ≡ denied_as (codes "{\"code\":403,\"message\":\"a\",\"reason\":\"Forbidden\"}")
+  pub under_fail : response_of (with_rules Fail two_denials) two_findings (codes "u1")
+      ≡ denied_as (codes "{\"code\":403,\"message\":\"a; failed expression: 1/0 == 1\",\"reason\":\"Forbidden\"}")
+  pub under_ignore : response_of (with_rules Ignore two_denials) two_findings (codes "u1")
+      ≡ denied_as (codes "{\"code\":403,\"message\":\"a\",\"reason\":\"Forbidden\"}")

@@ -1,25 +1,21 @@
 -- Programs of policies run by hand, step by step, on five documents `null`.
 use Rattle.std.specs.Prelude.{◌≡◌, ℕ, List, [], ◌∷◌, map, Some, codes}
 use Rattle.guest_memory.specs.RegionWords.{word_in}
-use Rattle.loader.specs.declared.version.Version.TheVariants.{Second}
 use Rattle.cel_reader.specs.Tree.{Tree, literal, null}
 use Rattle.cel_reader.specs.Written.{str, yes, no}
 use Rattle.cel_macros.specs.Written.{variable}
 use Rattle.bpf_machine.specs.State.{State, null_values, start_state}
 use Rattle.bpf_machine.specs.Trace.{state_after}
 use Rattle.bpf_machine.specs.declared.status.Status.TheVariants.{Exited}
-use Rattle.codegen_base.specs.Pieces.{spellings}
-use Rattle.codegen.specs.Constants.{joined}
 use Rattle.policy_glue.specs.DecisionRows.{bare}
-use Rattle.policy_glue.specs.Limits.{policy_texts}
-use Rattle.policy_glue.specs.ProgramCode.{program_of}
+use Rattle.policy_glue.specs.OneImage.{program_image}
 use Rattle.policy_glue.specs.Trees.{PolicyTree, RuleTree}
 use Rattle.policy_glue.specs.declared.failure_policy.FailurePolicy.{FailurePolicy}
 use Rattle.policy_glue.specs.declared.failure_policy.FailurePolicy.TheVariants.{Fail, Ignore}
 
 -- after so many steps
 abbrev pub run : FailurePolicy → PolicyTree → ℕ → State
-run f p n = state_after n (start_state (record { version = Second; code = spellings (program_of f p); constants = joined (policy_texts p) }) null_values)
+run f p n = state_after n (start_state (program_image f p) null_values)
 
 -- words of the verdict region
 abbrev pub words : List ℕ → State → List ℕ
@@ -39,17 +35,18 @@ abbrev pub under_conditions : List Tree → PolicyTree
 under_conditions conditions = record { variables = []; conditions = conditions; validations = bare no ∷ [] }
 
 abbrev pub false_variable : PolicyTree
-false_variable = record { variables = record { name = codes "v"; expression = no } ∷ []; conditions = []; validations = bare (variable "v") ∷ [] }
+false_variable =
+    record { variables = record { name = codes "v"; expression = no } ∷ []; conditions = []; validations = bare (variable "v") ∷ [] }
 
 pub record RunRowsStand : Type 0 where
   -- its outcome, one denial, that it is false, and the reference of its text
-  pub denied : (run Fail false_with_message 34).status ≡ Exited 3
-  pub denied_words : words (0 ∷ 1 ∷ 2 ∷ 66 ∷ []) (run Fail false_with_message 34) ≡ 3 ∷ 1 ∷ 1 ∷ 9 ∷ []
-  pub admitted : (run Fail (ruled (bare yes ∷ [])) 20).status ≡ Exited 4
-  pub error_denies : (run Fail (ruled (bare other ∷ [])) 27).status ≡ Exited 3
-  pub error_ignored : words (0 ∷ 1 ∷ 2 ∷ []) (run Ignore (ruled (bare other ∷ [])) 23) ≡ 4 ∷ 0 ∷ 2 ∷ []
+  pub denied : (run Fail false_with_message 24).status ≡ Exited 3
+  pub denied_words : words (0 ∷ 1 ∷ 2 ∷ 66 ∷ []) (run Fail false_with_message 24) ≡ 3 ∷ 1 ∷ 1 ∷ 9 ∷ []
+  pub admitted : (run Fail (ruled (bare yes ∷ [])) 8).status ≡ Exited 4
+  pub error_denies : (run Fail (ruled (bare other ∷ [])) 16).status ≡ Exited 3
+  pub error_ignored : words (0 ∷ 1 ∷ 2 ∷ []) (run Ignore (ruled (bare other ∷ [])) 12) ≡ 4 ∷ 0 ∷ 2 ∷ []
   -- a false condition decides behind an error
   pub skipped : (run Fail (under_conditions (other ∷ no ∷ [])) 14).status ≡ Exited 1
   pub rejected : (run Fail (under_conditions (other ∷ yes ∷ [])) 12).status ≡ Exited 2
   pub ignored : (run Ignore (under_conditions (other ∷ yes ∷ [])) 12).status ≡ Exited 1
-  pub variable_denies : (run Ignore false_variable 38).status ≡ Exited 3
+  pub variable_denies : (run Ignore false_variable 26).status ≡ Exited 3

@@ -2,6 +2,7 @@
 use Rattle.std.specs.Prelude.{ℕ, List, Option}
 use Rattle.cel_reader.specs.Tree.{Tree}
 
+-- a variable, with its name
 pub record VariableTree : Type 0 where
   pub name : List ℕ
   pub expression : Tree
@@ -11,6 +12,7 @@ pub record RuleTree : Type 0 where
   pub expression : Tree
   pub message : Option Tree
 
+-- variables, match conditions and validations in their order
 pub record PolicyTree : Type 0 where
   pub variables : List VariableTree
   pub conditions : List Tree

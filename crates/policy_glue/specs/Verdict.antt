@@ -9,6 +9,7 @@ use Rattle.policy_glue.specs.declared.failure_policy.FailurePolicy.TheVariants.{
 
 -- ---- what is decided
 
+-- the conditions skip the policy; they are in error, which denies; a validation denies; none does
 pub data Outcome : Type 0 where
   Skipped : Outcome
   Rejected : Outcome
@@ -44,11 +45,13 @@ truth_of (value (map_value es)) = Errs
 truth_of (value null) = Errs
 truth_of error = Errs
 
+-- a condition that is false
 abbrev pub is_failed : Truth → Bool
 is_failed Holds = false
 is_failed Fails = true
 is_failed Errs = false
 
+-- a condition that is true
 abbrev pub is_held : Truth → Bool
 is_held Holds = true
 is_held Fails = false
@@ -84,15 +87,18 @@ finding_of f x = record {
   message = if denies f (truth_of x.0) then text_given x.1 else None;
 }
 
+-- whether what a validation came to denies
 abbrev pub is_denial : FailurePolicy → Finding → Bool
 is_denial f x = denies f x.truth
 
+-- the verdict of a policy that runs: it denies where a validation does
 abbrev pub judged_by : FailurePolicy → List Finding → Verdict
 judged_by f findings = record {
   outcome = if list_any (is_denial f) findings then Denied else Admitted;
   findings = findings;
 }
 
+-- what the conditions decide, and else the verdict of the validations
 abbrev pub decided : Option Outcome → Verdict → Verdict
 decided (Some outcome) running = record { outcome = outcome; findings = [] }
 decided None running = running

@@ -1,9 +1,10 @@
 //! The compilation of policies.
 
-ghost use Rattle.std.specs.Prelude.{◌≡◌, ◌<◌, All, Ok};
+ghost use Rattle.std.specs.Prelude.{◌≡◌, ◌<◌, All, IfOk, Ok};
 ghost use Rattle.loader.specs.Format.{image_from};
 ghost use Rattle.loader.specs.declared.version.Version.TheVariants.{Second};
-ghost use Rattle.policy_glue.specs.Compiled.{contents, CompilesTo};
+ghost use Rattle.policy_glue.specs.Compiled.{CompilesTo};
+ghost use Rattle.policy_glue.specs.OneImage.{contents, OneImage};
 
 use crate::checking::checked;
 use crate::compile_error::CompileError;
@@ -22,7 +23,9 @@ use std::alloc::Global;
 /// The first refusal in the order of [`CompileError`]; `Memory` where memory runs out, which says nothing
 /// of the policy.
 pub fn compile(alloc: Global, policy: &Policy) -> Result<Image, CompileError>
-    ensures { CompilesTo policy.now result }
+    ensures compiles { CompilesTo policy.now result }
+    // Which image it is, of those that do this.
+    ensures one { IfOk result (λ image. OneImage policy.now image) }
 {
     let checked = checked(alloc, policy)?;
     program_decides();

@@ -15,10 +15,10 @@ use crate::checked::Checked;
 use crate::compile_error::CompileError;
 use crate::failure_policy::FailurePolicy;
 use codegen::{CodeError, Emitter};
-use conditions::conditions;
+use conditions::{conditions, decided};
 use pieces::put_each;
 use std::alloc::{AllocError, Global};
-use tails::{decided_tail, outcome_tail};
+use tails::outcome_tail;
 use validations::validations;
 use variables::variables;
 
@@ -59,13 +59,9 @@ fn emitted(
     let scope = &checked.scope;
     let declared = scope.variables();
     variables(alloc, declared, checked.variables.as_slice(), &mut emitter)?;
-    conditions(
-        alloc,
-        failure_policy,
-        checked.conditions.as_slice(),
-        &mut emitter,
-    )?;
-    put_each(&decided_tail(), &mut emitter)?;
+    let cores = checked.conditions.as_slice();
+    conditions(alloc, failure_policy, cores, &mut emitter)?;
+    decided(cores, &mut emitter)?;
     validations(
         alloc,
         failure_policy,

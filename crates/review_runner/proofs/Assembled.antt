@@ -15,6 +15,7 @@ use Rattle.loader.specs.Contents.{Contents}
 use Rattle.loader.specs.Format.{image_from}
 use Rattle.loader.specs.declared.load_error.LoadError.{LoadError}
 use Rattle.loader.specs.declared.version.Version.TheVariants.{First}
+use Rattle.policy_glue.specs.OneImage.{OneImage}
 use Rattle.review_runner.specs.FileSystem.{Reading}
 use Rattle.review_runner.specs.Making.{Assembled, FileBy, MadeBy, MayRunOut, file_from, no_file, no_program, no_text, program}
 use Rattle.review_runner.specs.Refusals.{load_refusal, program_refusal}
@@ -62,7 +63,7 @@ at_text held text code due same utf8 source is =
 
 -- the file of an image with the code of a text
 pub of_code : (held text code : List ℕ) (r : Result (Vec ℕ Global) Refusal) → text ≡ held → IsUtf8 held → Source text code
-    → FileBy code r → MadeBy ProgramText (Ok held) r
+    → FileBy code r → MadeBy OneImage ProgramText (Ok held) r
 of_code held text code (Ok file) same utf8 source is = at_text held text code _ same utf8 source is
 of_code held text code (Err r) same utf8 source (inl is) = inl (at_text held text code _ same utf8 source is)
 of_code held text code (Err r) same utf8 source (inr lacks) = inr (lacks.0, text_alone held utf8 (of_source held text code same source lacks.1))
@@ -72,7 +73,7 @@ refused_text : (held text : List ℕ) (e : AsmError) → text ≡ held → IsUtf
 refused_text held text e same utf8 answer =
     no_program utf8 (subst (λ (t : List ℕ). Assembles (lines_of t) (Err e)) same answer)
 
-of_cause : (held text : List ℕ) (e : AsmError) → text ≡ held → IsUtf8 held → Answers text (Err e) → MadeBy ProgramText (Ok held) (Err (program_refusal e))
+of_cause : (held text : List ℕ) (e : AsmError) → text ≡ held → IsUtf8 held → Answers text (Err e) → MadeBy OneImage ProgramText (Ok held) (Err (program_refusal e))
 of_cause held text (A1 n) same utf8 answer = inl (refused_text held text _ same utf8 answer)
 of_cause held text (A2 n) same utf8 answer = inl (refused_text held text _ same utf8 answer)
 of_cause held text (A3 n) same utf8 answer = inl (refused_text held text _ same utf8 answer)
@@ -83,9 +84,9 @@ of_cause held text asm_error.Memory same utf8 answer = inr (refl, text_alone hel
 
 -- the refusal of a text
 pub of_refusal : (held text : List ℕ) (e : AsmError) (r : Result (Vec ℕ Global) Refusal) → text ≡ held → IsUtf8 held → Answers text (Err e)
-    → IsErrAnd r (λ q. q ≡ program_refusal e) → MadeBy ProgramText (Ok held) r
+    → IsErrAnd r (λ q. q ≡ program_refusal e) → MadeBy OneImage ProgramText (Ok held) r
 of_refusal held text e (Ok file) same utf8 answer is = absurd is
-of_refusal held text e (Err r) same utf8 answer is = subst (λ (q : Refusal). MadeBy ProgramText (Ok held) (Err q)) (sym is) (of_cause held text e same utf8 answer)
+of_refusal held text e (Err r) same utf8 answer is = subst (λ (q : Refusal). MadeBy OneImage ProgramText (Ok held) (Err q)) (sym is) (of_cause held text e same utf8 answer)
 
 -- memory may run out once the image's file is made
 pub may_run_out : (reading : Reading) (due : Result (List ℕ) Refusal) (file : List ℕ) → Assembled reading due → due ≡ Ok file → MayRunOut ProgramText reading

@@ -5,6 +5,7 @@ use Rattle.std.proofs.lemmas.Bool.{cases_lt}
 use Rattle.std.proofs.lemmas.List.{length-map, length_push}
 use Rattle.guest_memory.specs.Memory.{IsMemory}
 use Rattle.guest_memory.specs.declared.fault.Fault.{Fault as GuestFault}
+use Rattle.guest_memory.specs.declared.fault.Fault.TheVariants.{F8}
 use Rattle.loader.specs.Contents as loader
 use Rattle.value_store.specs.Laws.{StartIsCanonical}
 use Rattle.value_store.specs.Placing.{Contents}
@@ -30,6 +31,7 @@ use Rattle.policy_glue.specs.Checking as checking
 use Rattle.policy_glue.specs.Budget.{policy_work}
 use Rattle.policy_glue.specs.Compiled.{IsCompiled}
 use Rattle.policy_glue.specs.Evaluation.{condition_values, decision_of, environment_with, rule_value, rule_values, values_of}
+use Rattle.policy_glue.specs.Layout.{outcome_word}
 use Rattle.policy_glue.specs.Limits.{Compiles}
 use Rattle.serde_json.specs.Written.{compact_text}
 use Rattle.policy_glue.specs.Objections.{objected_tree, objection_by, objection_of, response_text}
@@ -43,8 +45,9 @@ use Rattle.policy_glue.specs.Trees.{PolicyTree}
 use Rattle.policy_glue.specs.Verdict.{Finding, Outcome, decided, decided_before, finding_of, judged_by, truth_of, verdict_of}
 use Rattle.policy_glue.specs.declared.compile_error.CompileError.{CompileError}
 use Rattle.policy_glue.specs.declared.failure_policy.FailurePolicy.{FailurePolicy}
-use Rattle.review_runner.specs.Deciding.{Answer, Documents, IsPolicy, IsStopped, IsUnended, Reviews, Runs, answer_of, answer_view, is_allowed, decision, started, values_given}
+use Rattle.review_runner.specs.Deciding.{Answer, Documents, IsAnswered, IsPolicy, Reviews, answer_of, answer_view, is_allowed, decision, started, values_given}
 use Rattle.review_runner.specs.Saying.{IsSaid, IsSaidBy, Said, Says, SaysFrom, answer_by, is_silent, said_of, said_view}
+use Rattle.review_runner.specs.Standing.{Images, Runs, Stands, StandsBy, this}
 use Rattle.review_runner.specs.declared.said.Said.{Said as CodeSaid}
 use Rattle.review_runner.specs.Reviews.{Gives, Parts, document_given, documents_from, documents_given, parts_given, root_refusal, uid_in, uid_of}
 use Rattle.review_runner.specs.declared.reply.Reply.{Reply}
@@ -91,6 +94,10 @@ few_findings f t roots =
 
 -- ---- where a program stands
 
+-- what is said of a review, and how an image that is meant stands
+abbrev pub SaysSo : Images → Documents → ℕ → Result Said RunError → Type 0
+SaysSo meant d n result = Says d n result × StandsBy meant d n result
+
 -- the laws of starts and of the states behind them
 pub record Laws : Type 0 where
   pub tables : StartsAreTables
@@ -110,15 +117,16 @@ stopped_status s t is stopped = ap is_running is ∙ stopped
 
 abbrev run_of : (d : Documents) (rules : Rules) (image : loader.Contents) (roots : Roots) → Ready d rules image (started roots) → Runs d
 run_of d rules image roots ready = record {
-  rules = rules;
-  is_said = ready.is_said;
+  case = record {
+    policy = record { rules = rules; is_said = ready.is_said; trees = ready.compiled.trees; compiles = ready.compiled.compiles };
+    roots = roots;
+    are_given = contents_are d.review d.namespace d.params ready.documents (started roots) ready.are_documents ready.starts;
+  };
   image = image;
-  compiled = ready.compiled;
-  roots = roots;
-  are_given = contents_are d.review d.namespace d.params ready.documents (started roots) ready.are_documents ready.starts;
+  program = ready.compiled.program;
 }
 
-module _ (laws : Laws) (d : Documents) (rules : Rules) (image : loader.Contents) (roots : Roots) (ready : Ready d rules image (started roots)) (n : ℕ) where
+module _ (laws : Laws) (meant : Images) (d : Documents) (rules : Rules) (image : loader.Contents) (own : meant rules image) (roots : Roots) (ready : Ready d rules image (started roots)) (n : ℕ) where
   abbrev f : FailurePolicy
   f = rules.failure_policy
 
@@ -144,15 +152,21 @@ module _ (laws : Laws) (d : Documents) (rules : Rules) (image : loader.Contents)
   not_running (Over is why) running = cc
   not_running (Left is layout) running = cc
 
-  unended : s.status ≡ Running → IsUnended d n
+  abbrev run : Runs d
+  run = run_of d rules image roots ready
+
+  standing : (due : Verdict → Status) → s.status ≡ due (decision run.case) → Stands meant d n due
+  standing due is = record { run = run; is_meant = own; status = is }
+
+  unended : s.status ≡ Running → SaysSo meant d n (Err N4)
   unended running =
       elim (cases_lt n (128 * policy_work f t roots)) [
-        | inl before ↦ record { run = run_of d rules image roots ready; goes_on = running; early = before }
+        | inl before ↦ (record { case = run.case; early = before }, standing (λ v. Running) running)
         | inr not_before ↦ absurd (not_running (decides n (omega (arith, not_before))) running)
       ]
 
-  stopped_by : (fault : GuestFault) → s.status ≡ Fault fault → Decides f t roots (started roots) s → IsStopped d n
-  stopped_by fault is (Over by why) = record { run = run_of d rules image roots ready; stops = by; beyond = why }
+  stopped_by : (fault : GuestFault) → s.status ≡ Fault fault → Decides f t roots (started roots) s → SaysSo meant d n (Err N5)
+  stopped_by fault is (Over by why) = (record { case = run.case; beyond = why }, standing (λ v. Fault F8) by)
   stopped_by fault is (Left by layout) = cc
 
   memory : IsMemory s.memory
@@ -161,18 +175,19 @@ module _ (laws : Laws) (d : Documents) (rules : Rules) (image : loader.Contents)
   few : length (decision_of f t roots).findings ≤ length rules.validations
   few = let many = compiled_length rules (Ok t) t ready.compiled.compiles refl in omega (arith, few_findings f t roots, many)
 
-  said_by : (w : ℕ) (said : Said) → s.status ≡ Exited w → IsSaidBy rules s (uid_in d.review) said → Decides f t roots (started roots) s → IsSaid d n said
+  said_by : (w : ℕ) (said : Said) → s.status ≡ Exited w → IsSaidBy rules s (uid_in d.review) said → Decides f t roots (started roots) s → SaysSo meant d n (Ok said)
   said_by w said is told (Over by why) = cc
-  said_by w said is told (Left by layout) = record { run = run_of d rules image roots ready; exits = by; said_is = told (decision_of f t roots) memory few layout }
+  said_by w said is told (Left by layout) =
+      (record { case = run.case; said_is = told (decision_of f t roots) memory few layout }, standing (λ v. Exited (outcome_word v.outcome)) by)
 
-  pub said_from : (result : Result Said RunError) → SaysFrom rules s (uid_in d.review) result → Says d n result
+  pub said_from : (result : Result Said RunError) → SaysFrom rules s (uid_in d.review) result → SaysSo meant d n result
   said_from (Ok said) from = said_by from.0.0 said from.0.1 from.1 (stopped (stopped_status s (Exited from.0.0) from.0.1 refl))
   said_from (Err (N1 e)) from = absurd from
   said_from (Err N2) from = absurd from
   said_from (Err N3) from = absurd from
   said_from (Err N4) from = unended from
   said_from (Err N5) from = stopped_by from.0 from.1 (stopped (stopped_status s (Fault from.0) from.1 refl))
-  said_from (Err Memory) from = tt
+  said_from (Err Memory) from = (tt, tt)
 
 -- the fifth document
 pub at_four : (ds : List Value) (x : Value) → length (map view ds) ≡ 5 → slice_get (map view ds) 4 ≡ Some (view (get_or ds 4 x))
@@ -184,18 +199,28 @@ at_four (a ∷ b ∷ c ∷ e ∷ []) x five = absurd (omega (arith, five))
 at_four (a ∷ b ∷ c ∷ e ∷ g ∷ more) x five = refl
 
 -- a review whose program has run
-pub was_run : Laws → (d : Documents) (rules : Rules) (image : loader.Contents) (values : Contents) (n : ℕ) (s : State) (request : json.Data) (uid : List ℕ) (result : Result Said RunError)
+was_run : Laws → (meant : Images) (d : Documents) (rules : Rules) (image : loader.Contents) (values : Contents) (n : ℕ) (s : State) (request : json.Data) (uid : List ℕ) (result : Result Said RunError)
+    → meant rules image → (ready : Ready d rules image values) → s ≡ state_after n (start_state image values) → uid ≡ uid_of request → (length ready.documents ≡ 5 → slice_get ready.documents 4 ≡ Some request)
+    → SaysFrom rules s uid result → SaysSo meant d n result
+was_run laws meant d rules image values n s request uid result own ready stands named at from =
+    let five = are_five (Some d.review) d.namespace d.params ready.documents ready.are_documents in
+    let begun = are_started ready.documents values five.five ready.starts in
+    let same : uid ≡ uid_in d.review = named ∙ uid_is d.review d.namespace d.params ready.documents request ready.are_documents (at five.five) in
+    let ready : Ready d rules image (started begun.roots) = record { is_said = ready.is_said; compiled = ready.compiled; documents = ready.documents; are_documents = ready.are_documents; starts = ready.starts ∙ ap Ok begun.are } in
+    let stands : s ≡ state_after n (start_state image (started begun.roots)) = stands ∙ ap (λ (c : Contents). state_after n (start_state image c)) begun.are in
+    let from : SaysFrom rules (state_after n (start_state image (started begun.roots))) (uid_in d.review) result =
+    subst (λ (z : State). SaysFrom rules z (uid_in d.review) result) stands (subst (λ (u : List ℕ). SaysFrom rules s u result) same from) in
+    said_from laws meant d rules image own begun.roots ready n result from
+
+pub ran_says : Laws → (d : Documents) (rules : Rules) (image : loader.Contents) (values : Contents) (n : ℕ) (s : State) (request : json.Data) (uid : List ℕ) (result : Result Said RunError)
     → (ready : Ready d rules image values) → s ≡ state_after n (start_state image values) → uid ≡ uid_of request → (length ready.documents ≡ 5 → slice_get ready.documents 4 ≡ Some request)
     → SaysFrom rules s uid result → Says d n result
-was_run laws d rules image values n s request uid result ready stands named at from =
-    let five = are_five (Some d.review) d.namespace d.params ready.documents ready.are_documents in
-    let own = are_started ready.documents values five.five ready.starts in
-    let same : uid ≡ uid_in d.review = named ∙ uid_is d.review d.namespace d.params ready.documents request ready.are_documents (at five.five) in
-    let ready : Ready d rules image (started own.roots) = record { is_said = ready.is_said; compiled = ready.compiled; documents = ready.documents; are_documents = ready.are_documents; starts = ready.starts ∙ ap Ok own.are } in
-    let stands : s ≡ state_after n (start_state image (started own.roots)) = stands ∙ ap (λ (c : Contents). state_after n (start_state image c)) own.are in
-    let from : SaysFrom rules (state_after n (start_state image (started own.roots))) (uid_in d.review) result =
-    subst (λ (z : State). SaysFrom rules z (uid_in d.review) result) stands (subst (λ (u : List ℕ). SaysFrom rules s u result) same from) in
-    said_from laws d rules image own.roots ready n result from
+ran_says laws d rules image values n s request uid result ready stands named at from = (was_run laws (this image) d rules image values n s request uid result refl ready stands named at from).0
+
+pub ran_stands : Laws → (meant : Images) (d : Documents) (rules : Rules) (image : loader.Contents) (values : Contents) (n : ℕ) (s : State) (request : json.Data) (uid : List ℕ) (result : Result Said RunError)
+    → meant rules image → (ready : Ready d rules image values) → s ≡ state_after n (start_state image values) → uid ≡ uid_of request → (length ready.documents ≡ 5 → slice_get ready.documents 4 ≡ Some request)
+    → SaysFrom rules s uid result → StandsBy meant d n result
+ran_stands laws meant d rules image values n s request uid result own ready stands named at from = (was_run laws meant d rules image values n s request uid result own ready stands named at from).1
 
 -- ---- refusals before it
 
@@ -216,49 +241,65 @@ given_refusal : (review : List ℕ) (namespace params : Option (List ℕ)) (e : 
 unfolding documents_given
 given_refusal review namespace params e is = of_documents (parts_given (Some review)) (document_given namespace) (document_given params) e is
 
-by_documents : (d : Documents) (n : ℕ) (e : RunError) → IsPolicy d.policy → values_given d ≡ Err e → IsOfDocuments e → Says d n (Err e)
-by_documents d n e policy is (inl two) = subst (λ (q : RunError). Says d n (Err q)) (sym two) (policy, is ∙ ap Err two)
-by_documents d n e policy is (inr three) = subst (λ (q : RunError). Says d n (Err q)) (sym three) (policy, is ∙ ap Err three)
+by_documents : (meant : Images) (d : Documents) (n : ℕ) (e : RunError) → IsPolicy d.policy → values_given d ≡ Err e → IsOfDocuments e → SaysSo meant d n (Err e)
+by_documents meant d n e policy is (inl two) = subst (λ (q : RunError). SaysSo meant d n (Err q)) (sym two) ((policy, is ∙ ap Err two), tt)
+by_documents meant d n e policy is (inr three) = subst (λ (q : RunError). SaysSo meant d n (Err q)) (sym three) ((policy, is ∙ ap Err three), tt)
 
-no_documents : (d : Documents) (n : ℕ) (e : RunError) → IsPolicy d.policy → documents_given (Some d.review) d.namespace d.params ≡ Err e → Says d n (Err e)
-no_documents d n e policy is = by_documents d n e policy (refused_documents d.review d.namespace d.params e is) (given_refusal d.review d.namespace d.params e is)
+no_documents : (meant : Images) (d : Documents) (n : ℕ) (e : RunError) → IsPolicy d.policy → documents_given (Some d.review) d.namespace d.params ≡ Err e → SaysSo meant d n (Err e)
+no_documents meant d n e policy is = by_documents meant d n e policy (refused_documents d.review d.namespace d.params e is) (given_refusal d.review d.namespace d.params e is)
 
-not_given : (d : Documents) (n : ℕ) (e : RunError) → IsPolicy d.policy → Gives {B = List Value} (λ ds. map view ds) (documents_given (Some d.review) d.namespace d.params) (Err e) → Says d n (Err e)
-not_given d n (N1 x) policy due = no_documents d n (N1 x) policy due
-not_given d n N2 policy due = no_documents d n N2 policy due
-not_given d n N3 policy due = no_documents d n N3 policy due
-not_given d n N4 policy due = no_documents d n N4 policy due
-not_given d n N5 policy due = no_documents d n N5 policy due
-not_given d n Memory policy due = tt
+not_given : (meant : Images) (d : Documents) (n : ℕ) (e : RunError) → IsPolicy d.policy → Gives {B = List Value} (λ ds. map view ds) (documents_given (Some d.review) d.namespace d.params) (Err e) → SaysSo meant d n (Err e)
+not_given meant d n (N1 x) policy due = no_documents meant d n (N1 x) policy due
+not_given meant d n N2 policy due = no_documents meant d n N2 policy due
+not_given meant d n N3 policy due = no_documents meant d n N3 policy due
+not_given meant d n N4 policy due = no_documents meant d n N4 policy due
+not_given meant d n N5 policy due = no_documents meant d n N5 policy due
+not_given meant d n Memory policy due = (tt, tt)
 
 refusal_by : (b : Bool) → IsOfDocuments (if b then N3 else N2)
 refusal_by true = inr refl
 refusal_by false = inl refl
 
-no_roots : (d : Documents) (n : ℕ) (ds : List json.Data) (e : TableError) → IsPolicy d.policy → documents_given (Some d.review) d.namespace d.params ≡ Ok ds → start_contents ds ≡ Err e → IsOfDocuments (root_refusal e)
-    → Says d n (Err (root_refusal e))
-no_roots d n ds e policy documents is of = by_documents d n (root_refusal e) policy (refused_roots d.review d.namespace d.params ds e documents is) of
+no_roots : (meant : Images) (d : Documents) (n : ℕ) (ds : List json.Data) (e : TableError) → IsPolicy d.policy → documents_given (Some d.review) d.namespace d.params ≡ Ok ds → start_contents ds ≡ Err e → IsOfDocuments (root_refusal e)
+    → SaysSo meant d n (Err (root_refusal e))
+no_roots meant d n ds e policy documents is of = by_documents meant d n (root_refusal e) policy (refused_roots d.review d.namespace d.params ds e documents is) of
 
-not_started : (d : Documents) (n : ℕ) (ds : List json.Data) (e : TableError) → IsPolicy d.policy → documents_given (Some d.review) d.namespace d.params ≡ Ok ds → Starts {S = Contents} (λ c. c) (start_contents ds) (Err e)
-    → Says d n (Err (root_refusal e))
-not_started d n ds (V1 place) policy documents due = no_roots d n ds (V1 place) policy documents due (refusal_by (nat_eq place 6 || nat_eq place 7))
-not_started d n ds (V2 place) policy documents due = no_roots d n ds (V2 place) policy documents due (refusal_by (nat_eq place 6 || nat_eq place 7))
-not_started d n ds V3 policy documents due = no_roots d n ds V3 policy documents due (inl refl)
-not_started d n ds table_error.Memory policy documents due = tt
+not_started : (meant : Images) (d : Documents) (n : ℕ) (ds : List json.Data) (e : TableError) → IsPolicy d.policy → documents_given (Some d.review) d.namespace d.params ≡ Ok ds → Starts {S = Contents} (λ c. c) (start_contents ds) (Err e)
+    → SaysSo meant d n (Err (root_refusal e))
+not_started meant d n ds (V1 place) policy documents due = no_roots meant d n ds (V1 place) policy documents due (refusal_by (nat_eq place 6 || nat_eq place 7))
+not_started meant d n ds (V2 place) policy documents due = no_roots meant d n ds (V2 place) policy documents due (refusal_by (nat_eq place 6 || nat_eq place 7))
+not_started meant d n ds V3 policy documents due = no_roots meant d n ds V3 policy documents due (inl refl)
+not_started meant d n ds table_error.Memory policy documents due = (tt, tt)
 
-handed_on : (d : Documents) (n : ℕ) (e : RunError) (result : Result CodeSaid RunError) → IsErrAnd result (λ q. q ≡ e) → Says d n (Err e) → Says d n (said_view result)
-handed_on d n e (Ok x) is reviews = absurd is
-handed_on d n e (Err q) is reviews = subst (λ (x : RunError). Says d n (Err x)) (sym is) reviews
+handed_on : (meant : Images) (d : Documents) (n : ℕ) (e : RunError) (result : Result CodeSaid RunError) → IsErrAnd result (λ q. q ≡ e) → SaysSo meant d n (Err e) → SaysSo meant d n (said_view result)
+handed_on meant d n e (Ok x) is reviews = absurd is
+handed_on meant d n e (Err q) is reviews = subst (λ (x : RunError). SaysSo meant d n (Err x)) (sym is) reviews
 
 -- a refusal of the documents is handed on
-pub documents_refused : (d : Documents) (n : ℕ) (rules : Rules) (image : loader.Contents) (e : RunError) (result : Result CodeSaid RunError) → policy_in d.policy ≡ Ok rules → IsCompiled rules image
+documents_refused : (meant : Images) (d : Documents) (n : ℕ) (rules : Rules) (image : loader.Contents) (e : RunError) (result : Result CodeSaid RunError) → policy_in d.policy ≡ Ok rules → IsCompiled rules image
+    → IsErrAnd result (λ q. q ≡ e) → Gives {B = List Value} (λ ds. map view ds) (documents_given (Some d.review) d.namespace d.params) (Err e) → SaysSo meant d n (said_view result)
+documents_refused meant d n rules image e result said c is due = handed_on meant d n e result is (not_given meant d n e (has_policy d.policy rules image said c) due)
+
+pub documents_say : (d : Documents) (n : ℕ) (rules : Rules) (image : loader.Contents) (e : RunError) (result : Result CodeSaid RunError) → policy_in d.policy ≡ Ok rules → IsCompiled rules image
     → IsErrAnd result (λ q. q ≡ e) → Gives {B = List Value} (λ ds. map view ds) (documents_given (Some d.review) d.namespace d.params) (Err e) → Says d n (said_view result)
-documents_refused d n rules image e result said c is due = handed_on d n e result is (not_given d n e (has_policy d.policy rules image said c) due)
+documents_say d n rules image e result said c is due = (documents_refused (this image) d n rules image e result said c is due).0
+
+pub documents_stand : (meant : Images) (d : Documents) (n : ℕ) (rules : Rules) (image : loader.Contents) (e : RunError) (result : Result CodeSaid RunError) → policy_in d.policy ≡ Ok rules → IsCompiled rules image
+    → IsErrAnd result (λ q. q ≡ e) → Gives {B = List Value} (λ ds. map view ds) (documents_given (Some d.review) d.namespace d.params) (Err e) → StandsBy meant d n (said_view result)
+documents_stand meant d n rules image e result said c is due = (documents_refused meant d n rules image e result said c is due).1
 
 -- and one of the roots
-pub roots_refused : (d : Documents) (n : ℕ) (rules : Rules) (image : loader.Contents) (ds : List json.Data) (e : TableError) (result : Result CodeSaid RunError) → policy_in d.policy ≡ Ok rules → IsCompiled rules image
+roots_refused : (meant : Images) (d : Documents) (n : ℕ) (rules : Rules) (image : loader.Contents) (ds : List json.Data) (e : TableError) (result : Result CodeSaid RunError) → policy_in d.policy ≡ Ok rules → IsCompiled rules image
+    → documents_given (Some d.review) d.namespace d.params ≡ Ok ds → IsErrAnd result (λ q. q ≡ root_refusal e) → Starts {S = Contents} (λ c. c) (start_contents ds) (Err e) → SaysSo meant d n (said_view result)
+roots_refused meant d n rules image ds e result said c documents is due = handed_on meant d n (root_refusal e) result is (not_started meant d n ds e (has_policy d.policy rules image said c) documents due)
+
+pub roots_say : (d : Documents) (n : ℕ) (rules : Rules) (image : loader.Contents) (ds : List json.Data) (e : TableError) (result : Result CodeSaid RunError) → policy_in d.policy ≡ Ok rules → IsCompiled rules image
     → documents_given (Some d.review) d.namespace d.params ≡ Ok ds → IsErrAnd result (λ q. q ≡ root_refusal e) → Starts {S = Contents} (λ c. c) (start_contents ds) (Err e) → Says d n (said_view result)
-roots_refused d n rules image ds e result said c documents is due = handed_on d n (root_refusal e) result is (not_started d n ds e (has_policy d.policy rules image said c) documents due)
+roots_say d n rules image ds e result said c documents is due = (roots_refused (this image) d n rules image ds e result said c documents is due).0
+
+pub roots_stand : (meant : Images) (d : Documents) (n : ℕ) (rules : Rules) (image : loader.Contents) (ds : List json.Data) (e : TableError) (result : Result CodeSaid RunError) → policy_in d.policy ≡ Ok rules → IsCompiled rules image
+    → documents_given (Some d.review) d.namespace d.params ≡ Ok ds → IsErrAnd result (λ q. q ≡ root_refusal e) → Starts {S = Contents} (λ c. c) (start_contents ds) (Err e) → StandsBy meant d n (said_view result)
+roots_stand meant d n rules image ds e result said c documents is due = (roots_refused meant d n rules image ds e result said c documents is due).1
 
 -- ---- answers by what is said
 
@@ -285,12 +326,9 @@ answer_is p v uid =
     λ i. record { response = text i; allowed = allowed i }
 
 -- the reply that says it
-pub answered : (d : Documents) (n : ℕ) (said : Said) (answer : Answer) → IsSaid d n said → answer ≡ answer_by said → Reviews d n (Ok answer)
-answered d n said answer is by = record {
-  run = is.run;
-  exits = is.exits;
-  answer_is = by ∙ ap answer_by is.said_is ∙ answer_is is.run.rules (decision is.run) (uid_in d.review);
-}
+pub answered : (d : Documents) (said : Said) (answer : Answer) → IsSaid d said → answer ≡ answer_by said → IsAnswered d answer
+answered d said answer is by =
+    record { case = is.case; answer_is = by ∙ ap answer_by is.said_is ∙ answer_is is.case.policy.rules (decision is.case) (uid_in d.review) }
 
 same_refusal : (d : Documents) (n : ℕ) (e : RunError) → Says d n (Err e) → Reviews d n (Err e)
 same_refusal d n (N1 e) says = says

@@ -13,7 +13,8 @@ pub mod DocumentNumbers
 pub mod RootContents
 pub mod PolicyFiles
 pub mod Decided
-mod OneReview
+pub mod Standing
+pub mod OneReview
 mod ImageKept
 mod ToldLines
 pub mod Telling

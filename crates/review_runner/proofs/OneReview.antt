@@ -1,6 +1,7 @@
 -- A review has one answer.
 use Rattle.std.proofs.Common.{◌≡◌, ◌≢◌, ℕ, List, Some, Result, Ok, Err, refl, sym, ap, ◌∙◌, subst}
 use Rattle.std.specs.Prelude.{slice_get}
+use Rattle.guest_memory.specs.declared.fault.Fault.TheVariants.{F8}
 use Rattle.loader.specs.Contents as loader
 use Rattle.value_store.specs.Placing.{Contents}
 use Rattle.value_store.specs.Value.{Value, value}
@@ -9,18 +10,21 @@ use Rattle.bpf_machine.specs.State.{start_state}
 use Rattle.bpf_machine.specs.Trace.{state_after}
 use Rattle.bpf_machine.specs.declared.status.Status.{Status}
 use Rattle.bpf_machine.specs.declared.status.Status.TheVariants.{Exited, Fault, Running}
-use Rattle.policy_glue.specs.Compiled.{IsCompiled}
 use Rattle.policy_glue.specs.Evaluation.{decision_of}
+use Rattle.policy_glue.specs.Layout.{outcome_word}
 use Rattle.policy_glue.specs.Limits.{Compiles}
 use Rattle.policy_glue.specs.OneAnswer.{HasOneImage}
 use Rattle.policy_glue.specs.OneAnswer as policy
+use Rattle.policy_glue.specs.OneImage.{OneImage}
 use Rattle.policy_glue.specs.Policy.{Rules}
 use Rattle.policy_glue.specs.Reading.{policy_in}
 use Rattle.policy_glue.specs.Trees.{PolicyTree}
+use Rattle.policy_glue.specs.Verdict.{Verdict}
 use Rattle.policy_glue.specs.declared.compile_error.CompileError.{CompileError}
-use Rattle.review_runner.specs.Deciding.{Answer, Documents, IsPolicy, IsRefused, Reviews, Runs, answer_of, decision, stands, started, values_given}
-use Rattle.review_runner.specs.OneAnswer.{HasOneAnswer}
+use Rattle.review_runner.specs.Deciding.{Answer, Case, Documents, IsPolicy, IsRefused, Reviews, answer_of, decision, started, values_given}
+use Rattle.review_runner.specs.OneAnswer.{HasOneAnswer, IsAnswerTo}
 use Rattle.review_runner.specs.Reviews.{uid_in}
+use Rattle.review_runner.specs.Standing.{Runs, Stands, StandsBy, stands}
 use Rattle.review_runner.specs.declared.policy_refusal.PolicyRefusal.{PolicyRefusal}
 use Rattle.review_runner.specs.declared.policy_refusal.PolicyRefusal.TheVariants.{Unread, Uncompiled}
 use Rattle.review_runner.specs.declared.policy_refusal.PolicyRefusal.TheVariants as policy_refusal
@@ -86,7 +90,13 @@ module _ (compiles_once : policy.HasOneAnswer) (images_once : HasOneImage) where
   -- ---- reviews
 
   module _ (d : Documents) (n : ℕ) where
-    -- the answer by how a run stands
+    cases_once : (c e : Case d) → (c.policy.rules ≡ e.policy.rules) × (c.policy.trees ≡ e.policy.trees) × (c.roots ≡ e.roots)
+    cases_once c e =
+        let rules = ok_same (policy_in d.policy) c.policy.rules e.policy.rules c.policy.is_said e.policy.is_said in
+        let trees = trees_once e.policy.rules c.policy.trees e.policy.trees (subst (λ (p : Rules). Compiles p (Ok c.policy.trees)) rules c.policy.compiles) e.policy.compiles in
+        (rules, trees, roots_once c.roots e.roots (ok_same (values_given d) (started c.roots) (started e.roots) c.are_given e.are_given))
+
+    -- the answer of a case, by how a run stands
     abbrev answer_by : Status → Answer → Result Answer RunError
     answer_by (Exited w) answer = Ok answer
     answer_by Running answer = Err N4
@@ -96,47 +106,55 @@ module _ (compiles_once : policy.HasOneAnswer) (images_once : HasOneImage) where
     answer_from p t image roots = answer_by (state_after n (start_state image (started roots))).status (answer_of p (decision_of p.failure_policy t roots) (uid_in d.review))
 
     abbrev answer_due : Runs d → Result Answer RunError
-    answer_due run = answer_from run.rules run.compiled.trees run.image run.roots
+    answer_due run = answer_from run.case.policy.rules run.case.policy.trees run.image run.case.roots
+
+    abbrev answer_to : Case d → Answer
+    answer_to c = answer_of c.policy.rules (decision c) (uid_in d.review)
 
     -- what an answer is by
     data IsDue (r : Result Answer RunError) : Type 0 where
       by_policy : (e : PolicyRefusal) → IsRefused d.policy e → r ≡ Err (N1 e) → IsDue r
       by_documents : (e : RunError) → IsPolicy d.policy → values_given d ≡ Err e → r ≡ Err e → IsDue r
-      by_run : (run : Runs d) → r ≡ answer_due run → IsDue r
+      by_run : (run : Runs d) → OneImage run.case.policy.rules run.image → r ≡ answer_due run → IsDue r
 
-    standing : (run : Runs d) (s : Status) → (stands run n).status ≡ s → answer_due run ≡ answer_by s (answer_of run.rules (decision run) (uid_in d.review))
-    standing run s is = ap (λ (t : Status). answer_by t (answer_of run.rules (decision run) (uid_in d.review))) is
+    standing : (run : Runs d) (s : Status) → (stands run n).status ≡ s → answer_due run ≡ answer_by s (answer_to run.case)
+    standing run s is = ap (λ (t : Status). answer_by t (answer_to run.case)) is
 
-    due : (r : Result Answer RunError) → r ≢ Err Memory → Reviews d n r → IsDue r
-    due (Ok answer) some is = by_run is.run (ap Ok is.answer_is ∙ sym (standing is.run _ is.exits))
-    due (Err (N1 e)) some is = by_policy e is refl
-    due (Err N2) some is = by_documents N2 is.0 is.1 refl
-    due (Err N3) some is = by_documents N3 is.0 is.1 refl
-    due (Err N4) some is = by_run is.run (sym (standing is.run _ is.goes_on))
-    due (Err N5) some is = by_run is.run (sym (standing is.run _ is.stops))
-    due (Err Memory) some is = absurd (some refl)
+    -- a case and the run have one answer
+    answers_once : (c e : Case d) → answer_to c ≡ answer_to e
+    answers_once c e =
+        let same = cases_once c e in
+        λ i. answer_of (same.0 i) (decision_of (same.0 i).failure_policy (same.1 i) (same.2 i)) (uid_in d.review)
 
-    said : Runs d → IsPolicy d.policy
-    said run = record { rules = run.rules; is_said = run.is_said; trees = run.compiled.trees; compiles = run.compiled.compiles }
+    by_standing : (r : Result Answer RunError) (due_status : Verdict → Status) (s : Stands OneImage d n due_status) → r ≡ answer_by (due_status (decision s.run.case)) (answer_to s.run.case) → IsDue r
+    by_standing r due_status s is = by_run s.run s.is_meant (is ∙ sym (standing s.run _ s.status))
 
-    runs_once : (run other : Runs d) → answer_due run ≡ answer_due other
-    runs_once run other =
-        let rules = ok_same (policy_in d.policy) run.rules other.rules run.is_said other.is_said in
-        let trees = trees_once other.rules run.compiled.trees other.compiled.trees (subst (λ (p : Rules). Compiles p (Ok run.compiled.trees)) rules run.compiled.compiles) other.compiled.compiles in
-        let image = images_once other.rules run.image other.image (subst (λ (p : Rules). IsCompiled p run.image) rules run.compiled) other.compiled in
-        let roots = roots_once run.roots other.roots (ok_same (values_given d) (started run.roots) (started other.roots) run.are_given other.are_given) in
-        λ i. answer_from (rules i) (trees i) (image i) (roots i)
+    due : (r : Result Answer RunError) → r ≢ Err Memory → Reviews d n r → StandsBy OneImage d n r → IsDue r
+    due (Ok answer) some is s = by_standing (Ok answer) (λ v. Exited (outcome_word v.outcome)) s (ap Ok (is.answer_is ∙ answers_once is.case s.run.case))
+    due (Err (N1 e)) some is s = by_policy e is refl
+    due (Err N2) some is s = by_documents N2 is.0 is.1 refl
+    due (Err N3) some is s = by_documents N3 is.0 is.1 refl
+    due (Err N4) some is s = by_standing (Err N4) (λ v. Running) s refl
+    due (Err N5) some is s = by_standing (Err N5) (λ v. Fault F8) s refl
+    due (Err Memory) some is s = absurd (some refl)
+
+    runs_once : (run other : Runs d) → OneImage run.case.policy.rules run.image → OneImage other.case.policy.rules other.image → answer_due run ≡ answer_due other
+    runs_once run other one also =
+        let same = cases_once run.case other.case in
+        let image = images_once other.case.policy.rules run.image other.image (subst (λ (p : Rules). OneImage p run.image) same.0 one) also in
+        λ i. answer_from (same.0 i) (same.1 i) (image i) (same.2 i)
 
     due_once : (r s : Result Answer RunError) → IsDue r → IsDue s → r ≡ s
     due_once r s (by_policy e why is) (by_policy f also so) = is ∙ ap (λ (x : PolicyRefusal). Err (N1 x)) (refusal_once d.policy e f why also) ∙ sym so
     due_once r s (by_policy e why is) (by_documents f policy given so) = absurd (said_once d.policy e why policy)
-    due_once r s (by_policy e why is) (by_run run so) = absurd (said_once d.policy e why (said run))
+    due_once r s (by_policy e why is) (by_run run one so) = absurd (said_once d.policy e why run.case.policy)
     due_once r s (by_documents e policy given is) (by_policy f why so) = absurd (said_once d.policy f why policy)
     due_once r s (by_documents e policy given is) (by_documents f also other so) = is ∙ ap Err (err_same (values_given d) e f given other) ∙ sym so
-    due_once r s (by_documents e policy given is) (by_run run so) = absurd (not_both (values_given d) (started run.roots) e run.are_given given)
-    due_once r s (by_run run is) (by_policy f why so) = absurd (said_once d.policy f why (said run))
-    due_once r s (by_run run is) (by_documents f policy given so) = absurd (not_both (values_given d) (started run.roots) f run.are_given given)
-    due_once r s (by_run run is) (by_run other so) = is ∙ runs_once run other ∙ sym so
+    due_once r s (by_documents e policy given is) (by_run run one so) = absurd (not_both (values_given d) (started run.case.roots) e run.case.are_given given)
+    due_once r s (by_run run one is) (by_policy f why so) = absurd (said_once d.policy f why run.case.policy)
+    due_once r s (by_run run one is) (by_documents f policy given so) = absurd (not_both (values_given d) (started run.case.roots) f run.case.are_given given)
+    due_once r s (by_run run one is) (by_run other also so) = is ∙ runs_once run other one also ∙ sym so
 
 pub one_review : policy.HasOneAnswer → HasOneImage → HasOneAnswer
-one_review compiles images d n a b some other is also = due_once compiles images d n a b (due compiles images d n a some is) (due compiles images d n b other also)
+one_review compiles images d n a b some other is also =
+    due_once compiles images d n a b (due compiles images d n a some is.reviews is.runs) (due compiles images d n b other also.reviews also.runs)

@@ -2,6 +2,7 @@
 use Rattle.std.proofs.Common.{◌≡◌, ℕ, true, List, Result, Ok, Err, Option, refl}
 use Rattle.std.specs.Prelude.{IfOk, IsErr, OnErr}
 use Rattle.std.specs.declared.alloc.AllocError.{AllocError}
+use Rattle.policy_glue.specs.OneImage.{OneImage}
 use Rattle.review_runner.specs.FileSystem.{FileSystem, IsWriting, KeepsFiles}
 use Rattle.review_runner.specs.Order.{Task, assemble, compile, debug, list, review, run_image}
 use Rattle.review_runner.specs.Output.{Outcome, Output, Report, output_by, output_of, refused}
@@ -14,7 +15,7 @@ use Rattle.review_runner.proofs.MadeFiles.{same_files}
 
 -- ---- files
 
-read_alone : (old new : Option FileSystem) (task : Task) (outcome : Outcome) → Performs old task new outcome → only_reads task ≡ true → new ≡ old
+read_alone : (old new : Option FileSystem) (task : Task) (outcome : Outcome) → Performs OneImage old task new outcome → only_reads task ≡ true → new ≡ old
 read_alone old new (compile policy image) outcome p is = cc
 read_alone old new (review files n) outcome p is = p.stays
 read_alone old new (run_image image n) outcome p is = p.stays
@@ -31,7 +32,7 @@ lacked_alone old new (list image) l is = l.0
 lacked_alone old new (debug image documents) l is = absurd l
 
 -- an order that only reads leaves the files
-pub stays : (old new : Option FileSystem) (task : Task) (outcome : Outcome) → PerformsBy old task new outcome → only_reads task ≡ true → new ≡ old
+pub stays : (old new : Option FileSystem) (task : Task) (outcome : Outcome) → PerformsBy OneImage old task new outcome → only_reads task ≡ true → new ≡ old
 stays old new task outcome (performs p) is = read_alone old new task outcome p is
 stays old new task outcome (lacks_memory l) is = lacked_alone old new task l is
 
@@ -45,7 +46,7 @@ kept_by_image old new name file outcome nothing is = same_files old new refl
 kept_by_image old new name file outcome (written {bytes} write) is = cc
 kept_by_image old new name file outcome (failed {bytes} write) is = kept_by_write old new name bytes write
 
-kept_by_task : (old new : Option FileSystem) (task : Task) (outcome : Outcome) → Performs old task new outcome → IsErr outcome → KeepsFiles old new
+kept_by_task : (old new : Option FileSystem) (task : Task) (outcome : Outcome) → Performs OneImage old task new outcome → IsErr outcome → KeepsFiles old new
 kept_by_task old new (compile policy image) outcome p is = kept_by_image old new image p.file outcome p.writes is
 kept_by_task old new (review files n) outcome p is = same_files old new p.stays
 kept_by_task old new (run_image image n) outcome p is = same_files old new p.stays
@@ -62,22 +63,22 @@ kept_by_lack old new (list image) l = same_files old new l.0
 kept_by_lack old new (debug image documents) l = absurd l
 
 -- an order that is refused keeps the files
-pub kept : (old new : Option FileSystem) (task : Task) (r : Refusal) → PerformsBy old task new (Err r) → KeepsFiles old new
+pub kept : (old new : Option FileSystem) (task : Task) (r : Refusal) → PerformsBy OneImage old task new (Err r) → KeepsFiles old new
 kept old new task r p = by (Err r) p refl
   where
-    by : (outcome : Outcome) → PerformsBy old task new outcome → IsErr outcome → KeepsFiles old new
+    by : (outcome : Outcome) → PerformsBy OneImage old task new outcome → IsErr outcome → KeepsFiles old new
     by outcome (performs p) is = kept_by_task old new task outcome p is
     by outcome (lacks_memory l) is = kept_by_lack old new task l
 
 -- ---- what is to be written
 
-has_memory : (old new : Option FileSystem) (task : Task) (outcome : Outcome) → (outcome ≡ Err Memory → ⊥) → PerformsBy old task new outcome → Performs old task new outcome
+has_memory : (old new : Option FileSystem) (task : Task) (outcome : Outcome) → (outcome ≡ Err Memory → ⊥) → PerformsBy OneImage old task new outcome → Performs OneImage old task new outcome
 has_memory old new task outcome some (performs p) = p
 has_memory old new task outcome some (lacks_memory l) = absurd (some refl)
 
 -- an order that succeeded
-pub is_done : (old new : Option FileSystem) (task : Task) (report : Report) (output : Output) → PerformsBy old task new (Ok report) → output ≡ output_by (Ok report)
-    → IsDone old task new output
+pub is_done : (old new : Option FileSystem) (task : Task) (report : Report) (output : Output) → PerformsBy OneImage old task new (Ok report) → output ≡ output_by (Ok report)
+    → IsDone OneImage old task new output
 is_done old new task report output p is =
     record { outcome = Ok report; performs = has_memory old new task _ (λ e. cc) p; has_memory = λ e. cc; output_is = is }
 
@@ -88,14 +89,14 @@ not_ok : (d : Done) → (let o : Result Done AllocError = Ok d in IsErr o) → �
 not_ok d e = cc
 
 -- an order that was refused
-pub is_refused : (old new : Option FileSystem) (task : Task) (r : Refusal) (result : Result Done AllocError) → PerformsBy old task new (Err r) → (r ≡ Memory → IsErr result)
-    → IfOk result (λ d. output_of d ≡ refused r) → IfOk result (λ d. IsDone old task new (output_of d))
+pub is_refused : (old new : Option FileSystem) (task : Task) (r : Refusal) (result : Result Done AllocError) → PerformsBy OneImage old task new (Err r) → (r ≡ Memory → IsErr result)
+    → IfOk result (λ d. output_of d ≡ refused r) → IfOk result (λ d. IsDone OneImage old task new (output_of d))
 is_refused old new task r (Ok d) p memory is =
     let some : (let o : Outcome = Err r in o ≡ Err Memory → ⊥) = λ e. not_ok d (memory (err_is r Memory e)) in
     record { outcome = Err r; performs = has_memory old new task _ some p; has_memory = some; output_is = is }
 is_refused old new task r (Err e) p memory is = tt
 
-pub kept_on_err : (old new : Option FileSystem) (task : Task) (r : Refusal) (result : Result Done AllocError) → PerformsBy old task new (Err r)
+pub kept_on_err : (old new : Option FileSystem) (task : Task) (r : Refusal) (result : Result Done AllocError) → PerformsBy OneImage old task new (Err r)
     → OnErr result (KeepsFiles old new)
 kept_on_err old new task r (Ok d) p = tt
 kept_on_err old new task r (Err e) p = kept old new task r p

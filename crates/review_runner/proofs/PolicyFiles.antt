@@ -7,6 +7,7 @@ use Rattle.loader.specs.Format.{file_of}
 use Rattle.policy_glue.specs.Compiled.{IsCompiled}
 use Rattle.policy_glue.specs.Policy.{Rules}
 use Rattle.policy_glue.specs.Reading.{policy_in}
+use Rattle.policy_glue.specs.OneImage.{OneImage}
 use Rattle.review_runner.specs.Debugging.{IsReadingGiven, ReadingGiven}
 use Rattle.review_runner.specs.Deciding.{Answer, CompilesDocument, Documents, Reviews}
 use Rattle.review_runner.specs.FileSystem.{FileSystem, IsReading, Reading}
@@ -16,6 +17,7 @@ use Rattle.review_runner.specs.Output.{Outcome, Report, outcome_of}
 use Rattle.review_runner.specs.Performing.{PerformsBy, performs}
 use Rattle.review_runner.specs.PolicyFiles.{CompiledFrom, HoldsReview, ReviewsHeld, answer_report, documents_of, image, no_image, reviewed, unread}
 use Rattle.review_runner.specs.Refusals.{file_refusal, policy_refusal_of, run_refusal}
+use Rattle.review_runner.specs.Standing.{StandsBy}
 use Rattle.review_runner.specs.declared.answer.Answer.{Answer as CodeAnswer}
 use Rattle.review_runner.specs.declared.file_error.FileError.{FileError}
 use Rattle.review_runner.specs.declared.file_error.FileError.TheVariants.{Failed}
@@ -36,23 +38,23 @@ use Rattle.review_runner.proofs.HeldFiles.{unread as any_reading}
 ok_not_failed : (held : List ℕ) → (let r : Reading = Ok held in r ≡ Err Failed) → ⊥
 ok_not_failed held e = cc
 
-refused_so : (document : List ℕ) (e : PolicyRefusal) → CompilesDocument document (Err e) → MadeBy PolicyDocument (Ok document) (Err (policy_refusal_of e))
+refused_so : (document : List ℕ) (e : PolicyRefusal) → CompilesDocument document (Err e) → MadeBy OneImage PolicyDocument (Ok document) (Err (policy_refusal_of e))
 refused_so document (Unread e) is = inl (no_image is)
 refused_so document (Uncompiled e) is = inl (no_image is)
 refused_so document policy_refusal.Memory is = inr (refl, ok_not_failed document)
 
 -- a policy that gives no image
-pub no_policy : (document : List ℕ) (e : PolicyRefusal) (r : Result (Vec ℕ Global) Refusal) → IsErrAnd r (λ q. q ≡ policy_refusal_of e) → CompilesDocument document (Err e) → MadeBy PolicyDocument (Ok document) r
+pub no_policy : (document : List ℕ) (e : PolicyRefusal) (r : Result (Vec ℕ Global) Refusal) → IsErrAnd r (λ q. q ≡ policy_refusal_of e) → CompilesDocument document (Err e) → MadeBy OneImage PolicyDocument (Ok document) r
 no_policy document e (Ok file) is due = absurd is
-no_policy document e (Err r) is due = subst (λ (q : Refusal). MadeBy PolicyDocument (Ok document) (Err q)) (sym is) (refused_so document e due)
+no_policy document e (Err r) is due = subst (λ (q : Refusal). MadeBy OneImage PolicyDocument (Ok document) (Err q)) (sym is) (refused_so document e due)
 
 -- there is no memory for the file of an image
-pub no_memory : (document : List ℕ) (r : Result (Vec ℕ Global) Refusal) → IsErrAnd r (λ q. q ≡ Memory) → MadeBy PolicyDocument (Ok document) r
+pub no_memory : (document : List ℕ) (r : Result (Vec ℕ Global) Refusal) → IsErrAnd r (λ q. q ≡ Memory) → MadeBy OneImage PolicyDocument (Ok document) r
 no_memory document (Ok file) is = absurd is
 no_memory document (Err r) is = inr (is, ok_not_failed document)
 
-pub has_image : (document : List ℕ) (p : Rules) (contents : Contents) (file : Vec ℕ Global) → policy_in document ≡ Ok p → IsCompiled p contents → file.items ≡ file_of contents → MadeBy PolicyDocument (Ok document) (Ok file)
-has_image document p contents file said compiled is = subst (λ (f : List ℕ). CompiledFrom (Ok document) (Ok f)) (sym is) (image said compiled)
+pub has_image : (document : List ℕ) (p : Rules) (contents : Contents) (file : Vec ℕ Global) → policy_in document ≡ Ok p → IsCompiled p contents → OneImage p contents → file.items ≡ file_of contents → MadeBy OneImage PolicyDocument (Ok document) (Ok file)
+has_image document p contents file said compiled one is = subst (λ (f : List ℕ). CompiledFrom OneImage (Ok document) (Ok f)) (sym is) (image said compiled one)
 
 -- ---- the files of a review
 
@@ -145,28 +147,30 @@ pub same_documents : (d e : Documents) → d.policy ≡ e.policy → d.review �
 same_documents d e policy given namespace params = λ i. record { policy = policy i; review = given i; namespace = namespace i; params = params i }
 
 -- a review that is not answered
-pub not_answered : (d e : Documents) (n : ℕ) (x : RunError) (result : Result CodeAnswer Refusal) → d ≡ e → IsErrAnd result (λ q. q ≡ run_refusal x) → Reviews d n (Err x) → ReviewsHeld n (Ok e) (outcome_of result)
-not_answered d e n x (Ok a) same is reviews = absurd is
-not_answered d e n x (Err r) same is reviews =
+pub not_answered : (d e : Documents) (n : ℕ) (x : RunError) (result : Result CodeAnswer Refusal) → d ≡ e → IsErrAnd result (λ q. q ≡ run_refusal x) → Reviews d n (Err x) → StandsBy {A = Answer} OneImage d n (Err x) → ReviewsHeld OneImage n (Ok e) (outcome_of result)
+not_answered d e n x (Ok a) same is reviews stands = absurd is
+not_answered d e n x (Err r) same is reviews stands =
     let reviews : Reviews e n (Err x) = subst (λ (held : Documents). Reviews held n (Err x)) same reviews in
-    subst (λ (q : Refusal). ReviewsHeld n (Ok e) (Err q)) (sym is) (reviewed (Err x) reviews)
+    let stands : StandsBy {A = Answer} OneImage e n (Err x) = subst (λ (held : Documents). StandsBy {A = Answer} OneImage held n (Err x)) same stands in
+    subst (λ (q : Refusal). ReviewsHeld OneImage n (Ok e) (Err q)) (sym is) (reviewed (Err x) reviews stands)
 
 -- one whose answer cannot be printed for want of memory
-pub not_printed : (d : Documents) (n : ℕ) (result : Result CodeAnswer Refusal) → IsErrAnd result (λ q. q ≡ Memory) → ReviewsHeld n (Ok d) (outcome_of result)
+pub not_printed : (d : Documents) (n : ℕ) (result : Result CodeAnswer Refusal) → IsErrAnd result (λ q. q ≡ Memory) → ReviewsHeld OneImage n (Ok d) (outcome_of result)
 not_printed d n (Ok a) is = absurd is
-not_printed d n (Err r) is = subst (λ (q : Refusal). ReviewsHeld n (Ok d) (Err q)) (sym is) (reviewed (Err run_error.Memory) tt)
+not_printed d n (Err r) is = subst (λ (q : Refusal). ReviewsHeld OneImage n (Ok d) (Err q)) (sym is) (reviewed (Err run_error.Memory) tt tt)
 
-pub was_answered : (d e : Documents) (n : ℕ) (answer : Answer) (report : Report) → d ≡ e → Reviews d n (Ok answer) → report ≡ answer_report answer → ReviewsHeld n (Ok e) (Ok report)
-was_answered d e n answer report same reviews is =
+pub was_answered : (d e : Documents) (n : ℕ) (answer : Answer) (report : Report) → d ≡ e → Reviews d n (Ok answer) → StandsBy OneImage d n (Ok answer) → report ≡ answer_report answer → ReviewsHeld OneImage n (Ok e) (Ok report)
+was_answered d e n answer report same reviews stands is =
     let reviews : Reviews e n (Ok answer) = subst (λ (held : Documents). Reviews held n (Ok answer)) same reviews in
-    subst (λ (r : Report). ReviewsHeld n (Ok e) (Ok r)) (sym is) (reviewed (Ok answer) reviews)
+    let stands : StandsBy OneImage e n (Ok answer) = subst (λ (held : Documents). StandsBy OneImage held n (Ok answer)) same stands in
+    subst (λ (r : Report). ReviewsHeld OneImage n (Ok e) (Ok r)) (sym is) (reviewed (Ok answer) reviews stands)
 
 -- the files of a review were not read
 pub not_held : (old new : Option FileSystem) (files : ReviewFiles) (n : ℕ) (e : FileError) (result : Result CodeAnswer Refusal) → HoldsReview old files (Err e) → new ≡ old
-    → IsErrAnd result (λ q. q ≡ file_refusal e) → PerformsBy old (review files n) new (outcome_of result)
+    → IsErrAnd result (λ q. q ≡ file_refusal e) → PerformsBy OneImage old (review files n) new (outcome_of result)
 not_held old new files n e (Ok a) holds stays is = absurd is
 not_held old new files n e (Err r) holds stays is =
-    subst (λ (q : Refusal). PerformsBy old (review files n) new (Err q)) (sym is) (performs (record { held = Err e; holds = holds; stays = stays; reviews = unread }))
+    subst (λ (q : Refusal). PerformsBy OneImage old (review files n) new (Err q)) (sym is) (performs (record { held = Err e; holds = holds; stays = stays; reviews = unread }))
 
-pub was_held : (old new : Option FileSystem) (files : ReviewFiles) (n : ℕ) (d : Documents) (outcome : Outcome) → HoldsReview old files (Ok d) → new ≡ old → ReviewsHeld n (Ok d) outcome → PerformsBy old (review files n) new outcome
+pub was_held : (old new : Option FileSystem) (files : ReviewFiles) (n : ℕ) (d : Documents) (outcome : Outcome) → HoldsReview old files (Ok d) → new ≡ old → ReviewsHeld OneImage n (Ok d) outcome → PerformsBy OneImage old (review files n) new outcome
 was_held old new files n d outcome holds stays reviews = performs (record { held = Ok d; holds = holds; stays = stays; reviews = reviews })

@@ -4,6 +4,7 @@ use Rattle.std.specs.Prelude.{IsErrAnd}
 use Rattle.loader.specs.Contents.{Contents}
 use Rattle.loader.specs.Format.{image_in}
 use Rattle.loader.specs.declared.load_error.LoadError.{LoadError}
+use Rattle.policy_glue.specs.OneImage.{OneImage}
 use Rattle.review_runner.specs.FileSystem.{FileSystem, IsReading, Reading}
 use Rattle.review_runner.specs.Opening.{IsAnswer, IsUnrefused, OpensFile, opened, opened_by}
 use Rattle.review_runner.specs.Order.{list, run_image}
@@ -62,11 +63,11 @@ run_unrefused (Ok file) n none = by_image (image_in file) n none
 run_unrefused (Err e) n none = λ r due. same_err (file_refusal e) r (err_is _ _ _ refl due) none
 
 ran_so : (old new : Option FileSystem) (image : List ℕ) (n : ℕ) (reading : Reading) (outcome : Outcome) → IsReading old image reading → new ≡ old
-    → run_image_outcome reading n ≡ outcome → PerformsBy old (run_image image n) new outcome
+    → run_image_outcome reading n ≡ outcome → PerformsBy OneImage old (run_image image n) new outcome
 ran_so old new image n reading outcome read stays due = performs (record { reading = reading; is_reading = read; stays = stays; outcome_is = sym due })
 
 pub ran : (old new : Option FileSystem) (image : List ℕ) (n : ℕ) (reading : Reading) (outcome : Outcome) → IsReading old image reading → new ≡ old
-    → IsAnswer (run_image_outcome reading n) outcome → PerformsBy old (run_image image n) new outcome
+    → IsAnswer (run_image_outcome reading n) outcome → PerformsBy OneImage old (run_image image n) new outcome
 ran old new image n reading (Ok a) read stays due = ran_so old new image n reading _ read stays due
 ran old new image n reading (Err Memory) read stays none = lacks_memory (stays, record { reading = reading; is_reading = read; opens = run_unrefused reading n none })
 ran old new image n reading (Err Words) read stays due = ran_so old new image n reading _ read stays due
@@ -81,19 +82,19 @@ ran old new image n reading (Err Output) read stays due = ran_so old new image n
 
 -- the file of an image was not read
 pub not_run : (old new : Option FileSystem) (image : List ℕ) (n : ℕ) (e : FileError) (result : Result Answer Refusal) → IsReading old image (Err e) → new ≡ old
-    → IsErrAnd result (λ r. r ≡ file_refusal e) → PerformsBy old (run_image image n) new (outcome_of result)
+    → IsErrAnd result (λ r. r ≡ file_refusal e) → PerformsBy OneImage old (run_image image n) new (outcome_of result)
 not_run old new image n e (Ok a) read stays is = absurd is
 not_run old new image n e (Err r) read stays is = ran old new image n (Err e) (Err r) read stays (read_failed {A = Report} e (Err r) is)
 
 -- ---- listings
 
 listed_none : (old new : Option FileSystem) (image : List ℕ) (r : Refusal) (reading : Reading) → IsReading old image reading → new ≡ old
-    → opened reading ≡ Err r → PerformsBy old (list image) new (Err r)
+    → opened reading ≡ Err r → PerformsBy OneImage old (list image) new (Err r)
 listed_none old new image r reading read stays due =
     performs (record { reading = reading; is_reading = read; stays = stays; is_listed = subst (λ (d : Result Contents Refusal). Listed d (Err r)) (sym due) unlisted })
 
 -- there is no image to list
-pub not_listed : (old new : Option FileSystem) (image : List ℕ) (r : Refusal) → OpensFile old image (Err r) → new ≡ old → PerformsBy old (list image) new (Err r)
+pub not_listed : (old new : Option FileSystem) (image : List ℕ) (r : Refusal) → OpensFile old image (Err r) → new ≡ old → PerformsBy OneImage old (list image) new (Err r)
 not_listed old new image Memory o stays = lacks_memory (stays, o)
 not_listed old new image Words o stays = listed_none old new image _ o.reading o.is_reading stays o.opens
 not_listed old new image (Image e) o stays = listed_none old new image _ o.reading o.is_reading stays o.opens
@@ -107,17 +108,17 @@ not_listed old new image Output o stays = listed_none old new image _ o.reading 
 
 -- the image was listed
 pub was_listed : (old new : Option FileSystem) (image : List ℕ) (contents : Contents) (outcome : Outcome) → OpensFile old image (Ok contents) → new ≡ old
-    → Listed (Ok contents) outcome → PerformsBy old (list image) new outcome
+    → Listed (Ok contents) outcome → PerformsBy OneImage old (list image) new outcome
 was_listed old new image contents outcome o stays l =
     performs (record { reading = o.reading; is_reading = o.is_reading; stays = stays; is_listed = subst (λ (d : Result Contents Refusal). Listed d outcome) (sym o.opens) l })
 
 pub list_handed_on : (old new : Option FileSystem) (image : List ℕ) (r : Refusal) (result : Result Answer Refusal) → IsErrAnd result (λ q. q ≡ r)
-    → OpensFile old image (Err r) → new ≡ old → PerformsBy old (list image) new (outcome_of result)
+    → OpensFile old image (Err r) → new ≡ old → PerformsBy OneImage old (list image) new (outcome_of result)
 list_handed_on old new image r (Ok a) is o stays = absurd is
 list_handed_on old new image r (Err q) is o stays = not_listed old new image q (subst (λ (s : Refusal). OpensFile old image (Err s)) (sym is) o) stays
 
 pub list_lacks_memory : (old new : Option FileSystem) (image : List ℕ) (contents : Contents) (result : Result Answer Refusal) → IsErrAnd result (λ q. q ≡ Memory)
-    → OpensFile old image (Ok contents) → new ≡ old → PerformsBy old (list image) new (outcome_of result)
+    → OpensFile old image (Ok contents) → new ≡ old → PerformsBy OneImage old (list image) new (outcome_of result)
 list_lacks_memory old new image contents result is o stays = list_handed_on old new image Memory result is (opened_unrefused old image contents o) stays
 
 -- the listing of an image's code

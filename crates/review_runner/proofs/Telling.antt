@@ -12,22 +12,25 @@ use Rattle.cel_macros.specs.Environment.{Roots}
 use Rattle.bpf_machine.specs.State.{State, start_state}
 use Rattle.bpf_machine.specs.Trace.{state_after}
 use Rattle.codegen_base.specs.Contexts.{HasValues}
-use Rattle.policy_glue.specs.Compiled.{IsCompiled}
+use Rattle.policy_glue.specs.Compiled.{IsProgram}
 use Rattle.policy_glue.specs.Policy.{Rules}
 use Rattle.policy_glue.specs.ProgramTrees.{Decides, Over, Left}
 use Rattle.policy_glue.specs.Reading.{has_broken_message, has_head, has_no_validation, has_too_many, judged_form, most_parts, policy_in, policy_of, policy_said, rules_in}
 use Rattle.policy_glue.specs.Documents as policy
+use Rattle.policy_glue.specs.Trees.{PolicyTree}
+use Rattle.policy_glue.specs.declared.failure_policy.FailurePolicy.{FailurePolicy}
 use Rattle.policy_glue.specs.declared.policy_error.PolicyError.TheVariants.{K2, K4, K5, K8}
 use Rattle.debugger.specs.Answers.{Line, World, answer_of, answer_to}
 use Rattle.debugger.specs.Commands.{command_of, form_of}
 use Rattle.debugger.specs.Session.{Talk, first_talk, granted, hear, talk_of, with_answer}
 use Rattle.debugger.specs.Verdict.{verdict_lines, verdict_text}
 use Rattle.debugger.specs.declared.command.Command.TheVariants.{Verdict}
-use Rattle.review_runner.specs.Deciding.{Documents, Runs, decision, started}
+use Rattle.review_runner.specs.Deciding.{Documents, decision, started}
 use Rattle.review_runner.specs.Debugging.{start_of, started_on}
 use Rattle.review_runner.specs.Debugging as debugging
 use Rattle.review_runner.specs.Opening.{opened_by}
 use Rattle.review_runner.specs.RootValues.{GivenHaveValues}
+use Rattle.review_runner.specs.Standing.{Runs}
 use Rattle.review_runner.specs.Telling.{IsDecided, TellsVerdict, VerdictIsTold, session_files, shown_after, start, world_after}
 use Rattle.review_runner.proofs.Decided.{compiled_length, few_findings}
 use Rattle.review_runner.proofs.ImageKept.{image_of_start}
@@ -90,43 +93,43 @@ written s lines on =
 -- ---- a policy's image
 
 -- the image has version 2, in every state
-version_is : (p : Rules) (image : loader.Contents) (values : Contents) (k : ℕ) → IsCompiled p image → version_number (state_after k (start_state image values)).image.version ≡ 2
-version_is p image values k c = ap (λ (i : loader.Contents). version_number i.version) (image_of_start image values k ∙ c.program.is)
+version_is : (f : FailurePolicy) (t : PolicyTree) (image : loader.Contents) (values : Contents) (k : ℕ) → IsProgram f t image → version_number (state_after k (start_state image values)).image.version ≡ 2
+version_is f t image values k program = ap (λ (i : loader.Contents). version_number i.version) (image_of_start image values k) ∙ ap version_number program.version
 
 module _ (have : GivenHaveValues) (d : Documents) (run : Runs d) where
-  has : HasValues run.roots (started run.roots)
+  has : HasValues run.case.roots (started run.case.roots)
   has =
-      let own = have (Some d.review) d.namespace d.params (started run.roots) run.are_given in
-      subst (λ (r : Roots). HasValues r (started run.roots)) (sym (roots_once run.roots own.roots own.are)) own.has
+      let own = have (Some d.review) d.namespace d.params (started run.case.roots) run.case.are_given in
+      subst (λ (r : Roots). HasValues r (started run.case.roots)) (sym (roots_once run.case.roots own.roots own.are)) own.has
 
-  few : length (decision run).findings ≤ 64
+  few : length (decision run.case).findings ≤ 64
   few =
-      let trees = run.compiled.trees in
-      let many = compiled_length run.rules (Ok trees) trees run.compiled.compiles refl in
-      omega (arith, few_findings run.rules.failure_policy trees run.roots, many, few_validations d.policy run.rules run.is_said)
+      let trees = run.case.policy.trees in
+      let many = compiled_length run.case.policy.rules (Ok trees) trees run.case.policy.compiles refl in
+      omega (arith, few_findings run.case.policy.rules.failure_policy trees run.case.roots, many, few_validations d.policy run.case.policy.rules run.case.policy.is_said)
 
-  told : (seen : List Line) → (world_after run seen).ended ≡ false → Decides run.rules.failure_policy run.compiled.trees run.roots (started run.roots) (shown_after run seen) → TellsVerdict run seen
+  told : (seen : List Line) → (world_after run seen).ended ≡ false → Decides run.case.policy.rules.failure_policy run.case.policy.trees run.case.roots (started run.case.roots) (shown_after run seen) → TellsVerdict run seen
   told seen on (Over is why) = TellsVerdict.over is why
   told seen on (Left is layout) =
       let s = shown_after run seen in
-      let f = run.rules.failure_policy in
-      let v = decision run in
+      let f = run.case.policy.rules.failure_policy in
+      let v = decision run.case in
       TellsVerdict.told (lines.references f v s.values.values s.memory layout few) is (lines.are f v s.values.values s.memory layout few)
       (written (start run) seen on
-      ∙ ap (λ (text : List ℕ). (talk_of (start run) seen).text ++ text) (ap (λ (n : ℕ). verdict_lines n s.memory) (version_is run.rules run.image (started run.roots) (world_after run seen).place run.compiled) ∙ lines.text_is f v s.values.values s.memory layout few))
+      ∙ ap (λ (text : List ℕ). (talk_of (start run) seen).text ++ text) (ap (λ (n : ℕ). verdict_lines n s.memory) (version_is f run.case.policy.trees run.image (started run.case.roots) (world_after run seen).place run.program) ∙ lines.text_is f v s.values.values s.memory layout few))
 
-  decides : (seen : List Line) → IsDecided run seen → Decides run.rules.failure_policy run.compiled.trees run.roots (started run.roots) (shown_after run seen)
+  decides : (seen : List Line) → IsDecided run seen → Decides run.case.policy.rules.failure_policy run.case.policy.trees run.case.roots (started run.case.roots) (shown_after run seen)
   decides seen is =
       elim is.is_there [
-        | inl stopped ↦ run.compiled.program.stops run.roots (started run.roots) (world_after run seen).place has stopped
-        | inr late ↦ run.compiled.program.decides run.roots (started run.roots) (world_after run seen).place has late
+        | inl stopped ↦ run.program.stops run.case.roots (started run.case.roots) (world_after run seen).place has stopped
+        | inr late ↦ run.program.decides run.case.roots (started run.case.roots) (world_after run seen).place has late
       ]
 
   tells : (seen : List Line) → IsDecided run seen → TellsVerdict run seen
   tells seen is = told seen is.goes_on (decides seen is)
 
 starts : (d : Documents) (run : Runs d) (file : List ℕ) → image_in file ≡ Ok run.image → start_of (Ok (session_files file d)) ≡ Ok (start run)
-starts d run file holds = ap (λ (r : Result loader.Contents LoadError). started_on (opened_by r) (session_files file d)) holds ∙ ap (debugging.started run.image) run.are_given
+starts d run file holds = ap (λ (r : Result loader.Contents LoadError). started_on (opened_by r) (session_files file d)) holds ∙ ap (debugging.started run.image) run.case.are_given
 
 pub verdict_is_told : GivenHaveValues → VerdictIsTold
 verdict_is_told have = record { starts = starts; tells = tells have }

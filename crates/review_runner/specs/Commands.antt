@@ -51,7 +51,9 @@ debug_app = with_documents (with_rule (with_rule (new_app (codes "debug")) (file
 
 -- review --policy F --review F [--namespace F] [--params F] [--steps N]
 unfoldable pub review_app : App
-review_app = with_rule (with_documents (with_rule (with_rule (new_app (codes "review")) (required_option_rule (codes "policy"))) (required_option_rule (codes "review")))) steps_rule
+review_app =
+    with_rule (with_documents (with_rule (with_rule (new_app (codes "review")) (required_option_rule (codes "policy")))
+    (required_option_rule (codes "review")))) steps_rule
 
 -- celbpf alone does nothing: it wants a command
 unfoldable pub bare_app : App

@@ -27,6 +27,7 @@ use Rattle.review_runner.specs.declared.run_error.RunError.{RunError}
 abbrev pub ReadingGiven : Type 0
 ReadingGiven = Result (Option (List ℕ)) FileError
 
+-- the same of what the code answers
 abbrev pub reading_given_of : Result (Option (Vec ℕ Global)) FileError → ReadingGiven
 reading_given_of (Ok bytes) = Ok (option_map (λ b. b.items) bytes)
 reading_given_of (Err e) = Err e
@@ -56,6 +57,7 @@ pub record Held : Type 0 where
   pub namespace : Option (List ℕ)
   pub params : Option (List ℕ)
 
+-- the bytes of the code's files
 abbrev pub held_view : HeldFiles → Held
 held_view h = record {
   image = h.image.items;
@@ -64,13 +66,15 @@ held_view h = record {
   params = option_map (λ b. b.items) h.params;
 }
 
+-- the same of what the code answers
 abbrev pub held_of : Result HeldFiles FileError → Result Held FileError
 held_of (Ok h) = Ok (held_view h)
 held_of (Err e) = Err e
 
 -- those bytes, or the first read that failed, in the order of the words
 abbrev pub held_by : Reading → ReadingGiven → ReadingGiven → ReadingGiven → Result Held FileError
-held_by (Ok image) (Ok review) (Ok namespace) (Ok params) = Ok (record { image = image; review = review; namespace = namespace; params = params })
+held_by (Ok image) (Ok review) (Ok namespace) (Ok params) =
+    Ok (record { image = image; review = review; namespace = namespace; params = params })
 held_by (Ok image) (Ok review) (Ok namespace) (Err e) = Err e
 held_by (Ok image) (Ok review) (Err e) params = Err e
 held_by (Ok image) (Err e) namespace params = Err e
@@ -88,10 +92,12 @@ abbrev pub image_of : Result Held FileError → Result Contents Refusal
 image_of (Ok held) = opened_by (image_in held.image)
 image_of (Err e) = Err (file_refusal e)
 
+-- the state at the start of this image on these values, or why there are none
 abbrev pub started : Contents → Result store.Contents RunError → Result State Refusal
 started image (Ok values) = Ok (start_state image values)
 started image (Err e) = Err (run_refusal e)
 
+-- the same on the documents that the files hold, or why there is no image
 abbrev pub started_on : Result Contents Refusal → Held → Result State Refusal
 started_on (Ok image) held = started image (contents_given held.review held.namespace held.params)
 started_on (Err r) held = Err r
@@ -116,19 +122,22 @@ pub record StartsSession (known : Option FileSystem) (name : List ℕ) (files : 
 -- ---- sessions
 
 -- a session with the image in the file of this name, on the roots of the documents in these files
-pub record Debugs (known : Option FileSystem) (name : List ℕ) (files : DocumentFiles) (r r_after w w_after : Stream) (result : Result (Unit {0}) SessionError) : Type 0 where
+pub record Debugs (known : Option FileSystem) (name : List ℕ) (files : DocumentFiles) (r r_after w w_after : Stream)
+    (result : Result (Unit {0}) SessionError) : Type 0 where
   pub state : State
   pub starts : StartsSession known name files (Ok state)
   pub is_session : IsSession state r r_after w w_after result
 
 -- there is no session, and nothing was read or written
-pub record DebugsNone (known : Option FileSystem) (name : List ℕ) (files : DocumentFiles) (r r_after w w_after : Stream) (refusal : Refusal) : Type 0 where
+pub record DebugsNone (known : Option FileSystem) (name : List ℕ) (files : DocumentFiles) (r r_after w w_after : Stream)
+    (refusal : Refusal) : Type 0 where
   pub refused : StartsSession known name files (Err refusal)
   pub none_read : r_after ≡ r
   pub none_written : w_after ≡ w
 
 -- what was read and written, by the result
-abbrev pub DebugsByResult : Option FileSystem → List ℕ → DocumentFiles → Stream → Stream → Stream → Stream → Result (Unit {0}) Refusal → Type 0
+abbrev pub DebugsByResult : Option FileSystem → List ℕ → DocumentFiles → Stream → Stream → Stream → Stream
+    → Result (Unit {0}) Refusal → Type 0
 DebugsByResult known name files r r_after w w_after (Ok u) = Debugs known name files r r_after w w_after (Ok u)
 DebugsByResult known name files r r_after w w_after (Err Input) = Debugs known name files r r_after w w_after (Err S1)
 DebugsByResult known name files r r_after w w_after (Err Output) = Debugs known name files r r_after w w_after (Err S2)

@@ -1,18 +1,12 @@
 -- The answer to a review under a policy.
 use Rattle.std.specs.Prelude.{◌≡◌, ℕ, ◌+◌, ◌*◌, ◌<◌, ◌⊎◌, Bool, true, false, List, [], ◌∷◌, ◌++◌, map, Option, Some, Result, Ok, Err}
-use Rattle.guest_memory.specs.declared.fault.Fault.TheVariants.{F8}
-use Rattle.loader.specs.Contents as loader
 use Rattle.value_store.specs.Placing.{Contents, charge_limit, first_values}
 use Rattle.value_store.specs.Roots.{sizes}
 use Rattle.value_store.specs.Value.{Value, value}
 use Rattle.cel_macros.specs.Environment.{Roots}
-use Rattle.bpf_machine.specs.State.{State, start_state}
-use Rattle.bpf_machine.specs.Trace.{state_after}
-use Rattle.bpf_machine.specs.declared.status.Status.TheVariants.{Exited, Fault, Running}
 use Rattle.policy_glue.specs.Budget.{IsDeepPolicy, policy_spent, policy_work}
 use Rattle.policy_glue.specs.Compiled.{IsCompiled}
 use Rattle.policy_glue.specs.Evaluation.{decision_of}
-use Rattle.policy_glue.specs.Layout.{outcome_word}
 use Rattle.policy_glue.specs.Limits.{Compiles}
 use Rattle.policy_glue.specs.Policy.{Rules}
 use Rattle.policy_glue.specs.Reading.{policy_in}
@@ -35,6 +29,7 @@ pub record Answer : Type 0 where
   pub response : List ℕ
   pub allowed : Bool
 
+-- whether an outcome allows the request
 abbrev pub is_allowed : Outcome → Bool
 is_allowed Skipped = true
 is_allowed Rejected = false
@@ -45,6 +40,7 @@ is_allowed Admitted = true
 abbrev pub answer_of : Rules → Verdict → List ℕ → Answer
 answer_of p v uid = record { response = response_of p v uid; allowed = is_allowed v.outcome }
 
+-- the same of what the code answers
 abbrev pub answer_view : Result Reply RunError → Result Answer RunError
 answer_view (Ok reply) = Ok (record { response = reply.response.items; allowed = reply.allowed })
 answer_view (Err e) = Err e
@@ -64,7 +60,7 @@ IsRefused document (Unread e) = policy_in document ≡ Err e
 IsRefused document (Uncompiled e) = (p : Rules) × (policy_in document ≡ Ok p) × Compiles p (Err e)
 IsRefused document policy_refusal.Memory = ⊥
 
--- a document says this policy, and this is its image
+-- a document says this policy, and this is an image of it
 abbrev pub IsPolicyOf : List ℕ → CompiledPolicy → Type 0
 IsPolicyOf document c = (policy_in document ≡ Ok c.policy) × IsCompiled c.policy c.image
 
@@ -75,14 +71,17 @@ CompilesDocument document (Err (Unread e)) = IsRefused document (Unread e)
 CompilesDocument document (Err (Uncompiled e)) = IsRefused document (Uncompiled e)
 CompilesDocument document (Err policy_refusal.Memory) = Unit {0}
 
--- ---- runs
+-- ---- roots
 
+-- the roots in the order of their references, from 4 on
 abbrev pub values_of_roots : Roots → List Value
 values_of_roots r = r.object ∷ r.old_object ∷ r.params ∷ r.namespace_object ∷ r.request ∷ []
 
 -- the contents at the start, with these roots
 abbrev pub started : Roots → Contents
 started r = record { values = first_values ++ map value (values_of_roots r); charge = sizes (values_of_roots r) }
+
+-- ---- reviews
 
 -- the documents of a policy and of a review
 pub record Documents : Type 0 where
@@ -95,55 +94,48 @@ pub record Documents : Type 0 where
 abbrev pub values_given : Documents → Result Contents RunError
 values_given d = contents_given (Some d.review) d.namespace d.params
 
--- the policy is compiled to an image, and the documents give roots on which it runs
-pub record Runs (d : Documents) : Type 0 where
-  pub rules : Rules
-  pub is_said : policy_in d.policy ≡ Ok rules
-  pub image : loader.Contents
-  pub compiled : IsCompiled rules image
+-- what is to be decided: the policy that one document says, and the roots that the others give
+pub record Case (d : Documents) : Type 0 where
+  pub policy : IsPolicy d.policy
   pub roots : Roots
   pub are_given : values_given d ≡ Ok (started roots)
 
-module _ {d : Documents} (run : Runs d) where
-  -- where it stands after n steps
-  abbrev pub stands : ℕ → State
-  stands n = state_after n (start_state run.image (started run.roots))
+-- what the policy decides
+abbrev pub decision : {d : Documents} → Case d → Verdict
+decision case = decision_of case.policy.rules.failure_policy case.policy.trees case.roots
 
-  -- what the policy decides
-  abbrev pub decision : Verdict
-  decision = decision_of run.rules.failure_policy run.compiled.trees run.roots
+-- the units of work of deciding it
+abbrev pub work : {d : Documents} → Case d → ℕ
+work case = policy_work case.policy.rules.failure_policy case.policy.trees case.roots
 
-  abbrev pub work : ℕ
-  work = policy_work run.rules.failure_policy run.compiled.trees run.roots
+-- the bound on its charge is above the limit, or a value is too deep
+abbrev pub IsBeyond : {d : Documents} → Case d → Type 0
+IsBeyond case =
+    (charge_limit < (started case.roots).charge + 16 * policy_spent case.policy.rules.failure_policy case.policy.trees case.roots)
+    ⊎ IsDeepPolicy case.policy.rules.failure_policy case.policy.trees case.roots
 
-  -- the bound on its charge is above the limit, or a value is too deep
-  abbrev pub IsBeyond : Type 0
-  IsBeyond = (charge_limit < (started run.roots).charge + 16 * policy_spent run.rules.failure_policy run.compiled.trees run.roots) ⊎ IsDeepPolicy run.rules.failure_policy run.compiled.trees run.roots
+-- the answer is that to the policy's verdict
+pub record IsAnswered (d : Documents) (answer : Answer) : Type 0 where
+  pub case : Case d
+  pub answer_is : answer ≡ answer_of case.policy.rules (decision case) (uid_in d.review)
 
--- it has exited within n steps, and the answer is that to the policy's verdict
-pub record IsAnswered (d : Documents) (n : ℕ) (answer : Answer) : Type 0 where
-  pub run : Runs d
-  pub exits : (stands run n).status ≡ Exited (outcome_word (decision run).outcome)
-  pub answer_is : answer ≡ answer_of run.rules (decision run) (uid_in d.review)
-
--- it still runs after n steps
+-- n steps are fewer than the work may take
 pub record IsUnended (d : Documents) (n : ℕ) : Type 0 where
-  pub run : Runs d
-  pub goes_on : (stands run n).status ≡ Running
-  pub early : n < 128 * work run
+  pub case : Case d
+  pub early : n < 128 * work case
 
--- it was stopped within n steps
-pub record IsStopped (d : Documents) (n : ℕ) : Type 0 where
-  pub run : Runs d
-  pub stops : (stands run n).status ≡ Fault F8
-  pub beyond : IsBeyond run
+-- the charge of the work may pass the limit, or a value is too deep
+pub record IsStopped (d : Documents) : Type 0 where
+  pub case : Case d
+  pub beyond : IsBeyond case
 
--- the answer to a review, of which the policy's program may take n steps, or the first refusal: of the policy, of the documents, of the run; or the host has no memory for it
+-- the answer to a review, of which the policy's program may take n steps, or the first refusal: of the policy, of the
+-- documents, of the run; or the host has no memory for it
 abbrev pub Reviews : Documents → ℕ → Result Answer RunError → Type 0
-Reviews d n (Ok answer) = IsAnswered d n answer
+Reviews d n (Ok answer) = IsAnswered d answer
 Reviews d n (Err (N1 e)) = IsRefused d.policy e
 Reviews d n (Err N2) = IsPolicy d.policy × (values_given d ≡ Err N2)
 Reviews d n (Err N3) = IsPolicy d.policy × (values_given d ≡ Err N3)
 Reviews d n (Err N4) = IsUnended d n
-Reviews d n (Err N5) = IsStopped d n
+Reviews d n (Err N5) = IsStopped d
 Reviews d n (Err Memory) = Unit {0}

@@ -16,6 +16,7 @@ pub record FileSystem : Type 0 where
 abbrev pub Reading : Type 0
 Reading = Result (List ℕ) FileError
 
+-- the same of what the code answers
 abbrev pub reading_of : Result (Vec ℕ Global) FileError → Reading
 reading_of (Ok bytes) = Ok bytes.items
 reading_of (Err e) = Err e
@@ -36,12 +37,14 @@ IsReading known name reading = (f : FileSystem) → known ≡ Some f → ReadsFi
 abbrev pub with_file : FileSystem → List ℕ → List ℕ → List ℕ → Option (List ℕ)
 with_file files name bytes other = if bytes_eq other name then Some bytes else files.holds other
 
--- a write that succeeds changes its own file alone; it fails exactly where the name is not taken, and then no file is known to have changed
+-- a write that succeeds changes its own file alone; it fails exactly where the name is not taken, and then each file holds
+-- what it did
 pub record WritesFile (old new : FileSystem) (name bytes : List ℕ) (succeeds : Bool) : Type 0 where
   pub taken : old.takes name ≡ succeeds
   pub takes : new.takes ≡ old.takes
   pub holds : (other : List ℕ) → new.holds other ≡ (if succeeds then with_file old name bytes other else old.holds other)
 
+-- what a write of these bytes to this name may answer, and leave; for want of memory it leaves all as it was
 abbrev pub AnswersWrite : FileSystem → FileSystem → List ℕ → List ℕ → Result (Unit {0}) FileError → Type 0
 AnswersWrite old new name bytes (Ok u) = WritesFile old new name bytes true
 AnswersWrite old new name bytes (Err Failed) = WritesFile old new name bytes false
@@ -49,7 +52,8 @@ AnswersWrite old new name bytes (Err Memory) = new ≡ old
 
 -- a write of these bytes may answer so: files that are known stay known, and change by the answer
 abbrev pub IsWriting : Option FileSystem → List ℕ → List ℕ → Option FileSystem → Result (Unit {0}) FileError → Type 0
-IsWriting known name bytes after result = (f : FileSystem) → known ≡ Some f → (g : FileSystem) × (after ≡ Some g) × AnswersWrite f g name bytes result
+IsWriting known name bytes after result =
+    (f : FileSystem) → known ≡ Some f → (g : FileSystem) × (after ≡ Some g) × AnswersWrite f g name bytes result
 
 -- each file holds what it did, and the same names are taken
 pub record IsSame (old new : FileSystem) : Type 0 where

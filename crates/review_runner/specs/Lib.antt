@@ -9,6 +9,7 @@ pub mod Reviews
 pub mod Deciding
 pub mod OneAnswer
 pub mod Saying
+pub mod Standing
 pub mod RootRows
 pub mod Rows
 pub mod Opening

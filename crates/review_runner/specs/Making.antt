@@ -14,6 +14,7 @@ use Rattle.loader.specs.declared.version.Version.TheVariants.{First}
 use Rattle.review_runner.specs.FileSystem.{FileSystem, IsReading, Reading}
 use Rattle.review_runner.specs.PolicyFiles.{CompiledFrom}
 use Rattle.review_runner.specs.Refusals.{file_refusal, load_refusal}
+use Rattle.review_runner.specs.Standing.{Images}
 use Rattle.review_runner.specs.declared.file_error.FileError.{FileError}
 use Rattle.review_runner.specs.declared.file_error.FileError.TheVariants.{Failed}
 use Rattle.review_runner.specs.declared.refusal.Refusal.{Refusal}
@@ -23,6 +24,7 @@ use Rattle.review_runner.specs.declared.source_kind.SourceKind.TheVariants.{Poli
 
 -- ---- from a program's text
 
+-- the file of an image, or why there is none
 abbrev pub file_from : Result Contents LoadError → Result (List ℕ) Refusal
 file_from (Ok image) = Ok (file_of image)
 file_from (Err e) = Err (load_refusal e)
@@ -42,25 +44,27 @@ FileBy code (Err r) = (file_from (image_from First code []) ≡ Err r) ⊎ ((r �
 -- ---- from either kind of file
 
 -- the image's file, by what a read of the file of this kind answered
-abbrev pub MadeFrom : SourceKind → Reading → Result (List ℕ) Refusal → Type 0
-MadeFrom PolicyDocument reading file = CompiledFrom reading file
-MadeFrom ProgramText reading file = Assembled reading file
+abbrev pub MadeFrom : Images → SourceKind → Reading → Result (List ℕ) Refusal → Type 0
+MadeFrom meant PolicyDocument reading file = CompiledFrom meant reading file
+MadeFrom meant ProgramText reading file = Assembled reading file
 
 -- memory may run out: the read did not fail, and the first line of a text says something
 abbrev pub MayRunOut : SourceKind → Reading → Type 0
 MayRunOut PolicyDocument reading = reading ≡ Err Failed → ⊥
-MayRunOut ProgramText reading = (reading ≡ Err Failed → ⊥) × ((held : List ℕ) → reading ≡ Ok held → IsUtf8 held × FirstLineSays (lines_of held))
+MayRunOut ProgramText reading =
+    (reading ≡ Err Failed → ⊥) × ((held : List ℕ) → reading ≡ Ok held → IsUtf8 held × FirstLineSays (lines_of held))
 
 -- the image's file or its refusal, or want of memory where memory may run out
-abbrev pub MadeBy : SourceKind → Reading → Result (Vec ℕ Global) Refusal → Type 0
-MadeBy kind reading (Ok file) = MadeFrom kind reading (Ok file.items)
-MadeBy kind reading (Err r) = MadeFrom kind reading (Err r) ⊎ ((r ≡ Memory) × MayRunOut kind reading)
+abbrev pub MadeBy : Images → SourceKind → Reading → Result (Vec ℕ Global) Refusal → Type 0
+MadeBy meant kind reading (Ok file) = MadeFrom meant kind reading (Ok file.items)
+MadeBy meant kind reading (Err r) = MadeFrom meant kind reading (Err r) ⊎ ((r ≡ Memory) × MayRunOut kind reading)
 
 -- the same by the file of this name
-pub record MadeOf (kind : SourceKind) (known : Option FileSystem) (name : List ℕ) (result : Result (Vec ℕ Global) Refusal) : Type 0 where
+pub record MadeOf (meant : Images) (kind : SourceKind) (known : Option FileSystem) (name : List ℕ)
+    (result : Result (Vec ℕ Global) Refusal) : Type 0 where
   pub reading : Reading
   pub is_reading : IsReading known name reading
-  pub made : MadeBy kind reading result
+  pub made : MadeBy meant kind reading result
 
 -- memory ran out, and the file of this name was read
 pub record RunsOut (kind : SourceKind) (known : Option FileSystem) (name : List ℕ) : Type 0 where

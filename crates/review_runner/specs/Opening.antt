@@ -8,6 +8,7 @@ use Rattle.review_runner.specs.Refusals.{file_refusal, load_refusal}
 use Rattle.review_runner.specs.declared.refusal.Refusal.{Refusal}
 use Rattle.review_runner.specs.declared.refusal.Refusal.TheVariants.{Memory}
 
+-- the image that a file holds, or its refusal
 abbrev pub opened_by : Result Contents LoadError → Result Contents Refusal
 opened_by (Ok image) = Ok image
 opened_by (Err e) = Err (load_refusal e)

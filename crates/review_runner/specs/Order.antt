@@ -18,6 +18,7 @@ pub record DocumentFiles : Type 0 where
   pub namespace : Option Text
   pub params : Option Text
 
+-- the code's names
 abbrev pub files_view : DocumentNames → DocumentFiles
 files_view names = record {
   review = option_map string_bytes names.review;
@@ -32,6 +33,7 @@ pub record ReviewFiles : Type 0 where
   pub namespace : Option Text
   pub params : Option Text
 
+-- the code's names
 abbrev pub review_files_view : ReviewNames → ReviewFiles
 review_files_view names = record {
   policy = string_bytes names.policy;
@@ -55,6 +57,7 @@ pub data Task : Type 0 where
   -- the image's file name, and those of the documents
   debug : Text → DocumentFiles → Task
 
+-- the code's order
 abbrev pub order_view : Order → Task
 order_view (code.Compile policy image) = compile (string_bytes policy) (string_bytes image)
 order_view (code.Review files steps) = review (review_files_view files) steps
@@ -69,6 +72,7 @@ order_view (code.Debug image names) = debug (string_bytes image) (files_view nam
 unfoldable pub compile_in : List Row → Task
 compile_in rows = compile (unwrap_or (first_of (codes "POLICY") rows) []) (unwrap_or (first_of (codes "IMAGE") rows) [])
 
+-- `review`
 unfoldable pub review_in : List Row → Task
 review_in rows = review (record {
   policy = unwrap_or (first_of (codes "policy") rows) [];
@@ -77,16 +81,20 @@ review_in rows = review (record {
   params = first_of (codes "params") rows;
 }) (unwrap_or (number_of (one_of (codes "steps") rows)) 10000000)
 
+-- `run-image`
 unfoldable pub run_image_in : List Row → Task
 run_image_in rows = run_image (unwrap_or (first_of (codes "IMAGE") rows) [])
     (unwrap_or (number_of (one_of (codes "steps") rows)) 10000000)
 
+-- `asm`
 unfoldable pub assemble_in : List Row → Task
 assemble_in rows = assemble (unwrap_or (first_of (codes "TEXT") rows) []) (unwrap_or (first_of (codes "IMAGE") rows) [])
 
+-- `list`
 unfoldable pub list_in : List Row → Task
 list_in rows = list (unwrap_or (first_of (codes "IMAGE") rows) [])
 
+-- `debug`
 unfoldable pub debug_in : List Row → Task
 debug_in rows = debug (unwrap_or (first_of (codes "IMAGE") rows) []) (record {
   review = first_of (codes "review") rows;
@@ -104,6 +112,7 @@ task_named name rows =
     else (if bytes_eq name (codes "list") then list_in rows
     else debug_in rows))))
 
+-- the task of a command that was entered
 abbrev pub order_in : Option (Text × List Row) → Option Task
 order_in (Some p) = Some (task_named p.0 p.1)
 order_in None = None

@@ -21,9 +21,11 @@ pub record Report : Type 0 where
 abbrev pub Outcome : Type 0
 Outcome = Result Report Refusal
 
+-- the code's answer
 abbrev pub report_of : Answer → Report
 report_of a = record { status = a.status; out = a.out.items }
 
+-- the same of what the code answers
 abbrev pub outcome_of : Result Answer Refusal → Outcome
 outcome_of (Ok a) = Ok (report_of a)
 outcome_of (Err r) = Err r
@@ -38,6 +40,7 @@ run_status (Exited w) = 0
 run_status (Fault f) = 1
 run_status Running = 4
 
+-- what comes of a run, or of a file that holds no image
 abbrev pub run_outcome : Result Shown LoadError → Outcome
 run_outcome (Ok shown) = Ok (record { status = run_status shown.status; out = shown.text })
 run_outcome (Err e) = Err (load_refusal e)
@@ -55,6 +58,7 @@ pub record Output : Type 0 where
   pub out : List ℕ
   pub err : List ℕ
 
+-- the code's outputs
 abbrev pub output_of : Done → Output
 output_of d = record { status = d.status; out = d.out.items; err = d.err.items }
 
@@ -62,6 +66,7 @@ output_of d = record { status = d.status; out = d.out.items; err = d.err.items }
 abbrev pub refused : Refusal → Output
 refused r = record { status = refusal_status r; out = []; err = refusal_line r }
 
+-- what is written by what comes of an order
 abbrev pub output_by : Outcome → Output
 output_by (Ok a) = record { status = a.status; out = a.out; err = [] }
 output_by (Err r) = refused r

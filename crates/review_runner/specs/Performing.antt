@@ -8,6 +8,7 @@ use Rattle.review_runner.specs.Opening.{OpensFile, opened}
 use Rattle.review_runner.specs.Order.{Task, assemble, compile, debug, list, review, run_image}
 use Rattle.review_runner.specs.Output.{Outcome, Output, output_by, run_image_outcome, succeeded}
 use Rattle.review_runner.specs.PolicyFiles.{ReviewsFiles}
+use Rattle.review_runner.specs.Standing.{Images}
 use Rattle.review_runner.specs.declared.file_error.FileError.TheVariants.{Failed}
 use Rattle.review_runner.specs.declared.refusal.Refusal.{Refusal}
 use Rattle.review_runner.specs.declared.refusal.Refusal.TheVariants.{File, Memory}
@@ -36,17 +37,21 @@ pub record ListsImage (old : Option FileSystem) (image : List ℕ) (new : Option
   pub is_listed : Listed (opened reading) outcome
 
 -- this file is written: a refusal before it leaves the files
-pub data WritesImage (old : Option FileSystem) (name : List ℕ) : Result (List ℕ) Refusal → Option FileSystem → Outcome → Type 0 where
+pub data WritesImage (old : Option FileSystem) (name : List ℕ)
+    : Result (List ℕ) Refusal → Option FileSystem → Outcome → Type 0 where
   nothing : {r : Refusal} → WritesImage old name (Err r) old (Err r)
-  written : {bytes : List ℕ} {new : Option FileSystem} → IsWriting old name bytes new (Ok tt) → WritesImage old name (Ok bytes) new (Ok (succeeded []))
-  failed : {bytes : List ℕ} {new : Option FileSystem} → IsWriting old name bytes new (Err Failed) → WritesImage old name (Ok bytes) new (Err File)
+  written : {bytes : List ℕ} {new : Option FileSystem} → IsWriting old name bytes new (Ok tt)
+      → WritesImage old name (Ok bytes) new (Ok (succeeded []))
+  failed : {bytes : List ℕ} {new : Option FileSystem} → IsWriting old name bytes new (Err Failed)
+      → WritesImage old name (Ok bytes) new (Err File)
 
 -- `compile` and `asm`, whatever their files hold
-pub record MakesFile (kind : SourceKind) (old : Option FileSystem) (source image : List ℕ) (new : Option FileSystem) (outcome : Outcome) : Type 0 where
+pub record MakesFile (meant : Images) (kind : SourceKind) (old : Option FileSystem) (source image : List ℕ)
+    (new : Option FileSystem) (outcome : Outcome) : Type 0 where
   pub reading : Reading
   pub is_reading : IsReading old source reading
   pub file : Result (List ℕ) Refusal
-  pub made : MadeFrom kind reading file
+  pub made : MadeFrom meant kind reading file
   pub writes : WritesImage old image file new outcome
 
 -- the task that makes a file of a file
@@ -57,13 +62,13 @@ making ProgramText source image = assemble source image
 -- ---- all orders
 
 -- what a task does: a session does not go this way
-abbrev pub Performs : Option FileSystem → Task → Option FileSystem → Outcome → Type 0
-Performs old (compile policy image) new outcome = MakesFile PolicyDocument old policy image new outcome
-Performs old (review files n) new outcome = ReviewsFiles old files n new outcome
-Performs old (run_image image n) new outcome = RunsImage old image n new outcome
-Performs old (assemble text image) new outcome = MakesFile ProgramText old text image new outcome
-Performs old (list image) new outcome = ListsImage old image new outcome
-Performs old (debug image documents) new outcome = ⊥
+abbrev pub Performs : Images → Option FileSystem → Task → Option FileSystem → Outcome → Type 0
+Performs meant old (compile policy image) new outcome = MakesFile meant PolicyDocument old policy image new outcome
+Performs meant old (review files n) new outcome = ReviewsFiles meant old files n new outcome
+Performs meant old (run_image image n) new outcome = RunsImage old image n new outcome
+Performs meant old (assemble text image) new outcome = MakesFile meant ProgramText old text image new outcome
+Performs meant old (list image) new outcome = ListsImage old image new outcome
+Performs meant old (debug image documents) new outcome = ⊥
 
 -- memory ran out: known files stay, and no refusal stood before anything grew
 abbrev pub LacksMemory : Option FileSystem → Task → Option FileSystem → Type 0
@@ -75,14 +80,14 @@ LacksMemory old (list image) new = (new ≡ old) × OpensFile old image (Err Mem
 LacksMemory old (debug image documents) new = ⊥
 
 -- what comes of a task, with memory or without
-pub data PerformsBy (old : Option FileSystem) (task : Task) (new : Option FileSystem) : Outcome → Type 0 where
-  performs : {outcome : Outcome} → Performs old task new outcome → PerformsBy old task new outcome
-  lacks_memory : LacksMemory old task new → PerformsBy old task new (Err Memory)
+pub data PerformsBy (meant : Images) (old : Option FileSystem) (task : Task) (new : Option FileSystem) : Outcome → Type 0 where
+  performs : {outcome : Outcome} → Performs meant old task new outcome → PerformsBy meant old task new outcome
+  lacks_memory : LacksMemory old task new → PerformsBy meant old task new (Err Memory)
 
 -- what is to be written once a task is done
-pub record IsDone (old : Option FileSystem) (task : Task) (new : Option FileSystem) (output : Output) : Type 0 where
+pub record IsDone (meant : Images) (old : Option FileSystem) (task : Task) (new : Option FileSystem) (output : Output) : Type 0 where
   pub outcome : Outcome
-  pub performs : Performs old task new outcome
+  pub performs : Performs meant old task new outcome
   pub has_memory : outcome ≡ Err Memory → ⊥
   pub output_is : output ≡ output_by outcome
 

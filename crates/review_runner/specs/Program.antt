@@ -10,6 +10,7 @@ use Rattle.review_runner.specs.Order.{DocumentFiles, Task, debug, order_in}
 use Rattle.review_runner.specs.Output.{Outcome, Report}
 use Rattle.review_runner.specs.Performing.{PerformsBy}
 use Rattle.review_runner.specs.Refusals.{order_refusal, refusal_line, refusal_status}
+use Rattle.review_runner.specs.Standing.{Images}
 use Rattle.review_runner.specs.declared.order_error.OrderError.{OrderError}
 use Rattle.review_runner.specs.declared.refusal.Refusal.{Refusal}
 use Rattle.review_runner.specs.declared.refusal.Refusal.TheVariants.{File, Memory, Words}
@@ -20,6 +21,7 @@ use Rattle.review_runner.specs.declared.refusal.Refusal.TheVariants.{File, Memor
 abbrev pub Given : Type 0
 Given = Result (List Text) OrderError
 
+-- the same of what the code is given
 abbrev pub given_of : Result (Vec (String Global) Global) OrderError → Given
 given_of (Ok words) = Ok (map string_bytes words.items)
 given_of (Err e) = Err e
@@ -59,6 +61,7 @@ pub record System : Type 0 where
   pub input : Stream
   pub output : Stream
 
+-- these three together
 abbrev pub system : Option FileSystem → Stream → Stream → System
 system files input output = record { files = files; input = input; output = output }
 
@@ -66,6 +69,7 @@ system files input output = record { files = files; input = input; output = outp
 abbrev pub Ending : Type 0
 Ending = Result ℕ Refusal
 
+-- how a session ends: with 0, or by a refusal
 abbrev pub ending_of : Result (Unit {0}) Refusal → Ending
 ending_of (Ok u) = Ok 0
 ending_of (Err r) = Err r
@@ -77,26 +81,28 @@ pub data Delivers (old new : Stream) : Outcome → Ending → Type 0 where
   cut : {report : Report} → WritesPart old new report.out → Delivers old new (Ok report) (Err File)
 
 -- what comes of an order is written
-pub record AnswersOrder (files files_after : Option FileSystem) (task : Task) (output output_after : Stream) (ending : Ending) : Type 0 where
+pub record AnswersOrder (meant : Images) (files files_after : Option FileSystem) (task : Task) (output output_after : Stream)
+    (ending : Ending) : Type 0 where
   pub outcome : Outcome
-  pub performs : PerformsBy files task files_after outcome
+  pub performs : PerformsBy meant files task files_after outcome
   pub delivers : Delivers output output_after outcome ending
 
 -- what becomes of a task
-pub data DoesTask (old new : System) : Task → Ending → Type 0 where
+pub data DoesTask (meant : Images) (old new : System) : Task → Ending → Type 0 where
   -- an order, whose answer is written
-  order : {task : Task} {ending : Ending} → AnswersOrder old.files new.files task old.output new.output ending
-      → new.input ≡ old.input → DoesTask old new task ending
+  order : {task : Task} {ending : Ending} → AnswersOrder meant old.files new.files task old.output new.output ending
+      → new.input ≡ old.input → DoesTask meant old new task ending
   -- a session, which writes its answers as it goes on
   session : {image : List ℕ} {documents : DocumentFiles} (result : Result (Unit {0}) Refusal)
       → DebugsByResult old.files image documents old.input new.input old.output new.output result
-      → new.files ≡ old.files → DoesTask old new (debug image documents) (ending_of result)
+      → new.files ≡ old.files → DoesTask meant old new (debug image documents) (ending_of result)
 
 -- what becomes of the words
-pub data Does (given : Given) (old new : System) : Ending → Type 0 where
-  nothing : {r : Refusal} → AsksNothing given r → new ≡ old → Does given old new (Err r)
-  task : {task : Task} {ending : Ending} → Asks given task → DoesTask old new task ending → Does given old new ending
+pub data Does (meant : Images) (given : Given) (old new : System) : Ending → Type 0 where
+  nothing : {r : Refusal} → AsksNothing given r → new ≡ old → Does meant given old new (Err r)
+  task : {task : Task} {ending : Ending} → Asks given task → DoesTask meant old new task ending → Does meant given old new ending
 
+-- the status that the program ends with
 abbrev pub ending_status : Ending → ℕ
 ending_status (Ok status) = status
 ending_status (Err r) = refusal_status r
@@ -111,8 +117,8 @@ abbrev pub Says : Stream → Stream → Ending → Type 0
 Says old new ending = Writes old new (ending_line ending) ⊎ WritesPart old new (ending_line ending)
 
 -- the program ends with this status
-pub record Ends (given : Given) (old new : System) (errors errors_after : Stream) (status : ℕ) : Type 0 where
+pub record Ends (meant : Images) (given : Given) (old new : System) (errors errors_after : Stream) (status : ℕ) : Type 0 where
   pub ending : Ending
-  pub does : Does given old new ending
+  pub does : Does meant given old new ending
   pub status_is : status ≡ ending_status ending
   pub says : Says errors errors_after ending

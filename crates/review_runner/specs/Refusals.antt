@@ -131,6 +131,7 @@ run_text N4 = codes "N4"
 run_text N5 = codes "N5"
 run_text run_error.Memory = codes "memory"
 
+-- the text of a refusal
 abbrev pub refusal_text : Refusal → List ℕ
 refusal_text Words = codes "U1"
 refusal_text (Image e) = image_refusal e

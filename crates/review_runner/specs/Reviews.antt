@@ -1,5 +1,6 @@
 -- A review (AdmissionReview, admission.k8s.io/v1), the roots that its documents give, and why they are refused.
-use Rattle.std.specs.Prelude.{◌≡◌, ℕ, ◌&&◌, ◌||◌, Bool, true, false, List, [], ◌∷◌, Option, Some, None, option_map, option_and_then, unwrap_or, Result, Ok, Err, codes, nat_eq, if◌then◌else◌}
+use Rattle.std.specs.Prelude.{◌≡◌, ℕ, ◌&&◌, ◌||◌, Bool, true, false, List, [], ◌∷◌, Option, Some, None, option_map, option_and_then}
+use Rattle.std.specs.Prelude.{unwrap_or, Result, Ok, Err, codes, nat_eq, if◌then◌else◌}
 use Rattle.std.specs.Str.{bytes_eq, is_utf8}
 use Rattle.serde_json.specs.Data as json
 use Rattle.serde_json.specs.Find.{get, get_member}
@@ -27,16 +28,21 @@ document_given None = Some json.null
 
 -- ---- reviews
 
+-- a text is there
 abbrev pub is_text : Option json.Data → Bool
 is_text (Some (json.string s)) = true
 is_text _ = false
 
+-- this very text is there
 abbrev pub is_the_text : Option json.Data → List ℕ → Bool
 is_the_text (Some (json.string s)) text = bytes_eq s text
 is_the_text _ text = false
 
+-- the document is one of this API and kind
 abbrev pub is_review : json.Data → Bool
-is_review d = is_the_text (get (codes "apiVersion") d) (codes "admission.k8s.io/v1") && is_the_text (get (codes "kind") d) (codes "AdmissionReview")
+is_review d =
+    is_the_text (get (codes "apiVersion") d) (codes "admission.k8s.io/v1")
+    && is_the_text (get (codes "kind") d) (codes "AdmissionReview")
 
 -- the members of a request, an object whose `uid` is a text
 abbrev pub members_in : json.Data → Option json.Members
@@ -52,6 +58,7 @@ abbrev pub without : List ℕ → json.Members → json.Members
 without key json.no_members = json.no_members
 without key (json.member k d ms) = if bytes_eq key k then ms else json.member k d (without key ms)
 
+-- the value of a key, and null where there is none
 abbrev pub member_or_null : List ℕ → json.Members → json.Data
 member_or_null key ms = unwrap_or (get_member key ms) json.null
 
@@ -61,6 +68,7 @@ pub record Parts : Type 0 where
   pub old_object : json.Data
   pub request : json.Data
 
+-- the code's parts
 abbrev pub parts_view : Review → Parts
 parts_view r = record { object = view r.object; old_object = view r.old_object; request = view r.request }
 
@@ -72,9 +80,11 @@ parts_of ms = record {
   request = json.object (without (codes "oldObject") (without (codes "object") ms));
 }
 
+-- the parts where no review is given
 abbrev pub null_parts : Parts
 null_parts = record { object = json.null; old_object = json.null; request = json.null }
 
+-- the parts of a document, if it is a review
 abbrev pub parts_in : json.Data → Option Parts
 parts_in d = option_map parts_of (request_of d)
 
@@ -93,12 +103,14 @@ roots_from parts namespace params = parts.object ∷ parts.old_object ∷ params
 abbrev pub refusal_at : ℕ → RunError
 refusal_at place = if nat_eq place 6 || nat_eq place 7 then N3 else N2
 
+-- why values are no roots: by the reference of the first that is refused, and N2 where all together are too large
 abbrev pub root_refusal : TableError → RunError
 root_refusal (V1 place) = refusal_at place
 root_refusal (V2 place) = refusal_at place
 root_refusal V3 = N2
 root_refusal table_error.Memory = Memory
 
+-- the values at the start, or why there are none
 abbrev pub accepted : Result Contents TableError → Result Contents RunError
 accepted (Ok contents) = Ok contents
 accepted (Err e) = Err (root_refusal e)
@@ -119,15 +131,18 @@ abbrev pub contents_from : Result (List json.Data) RunError → Result Contents 
 contents_from (Ok roots) = accepted (start_contents roots)
 contents_from (Err e) = Err e
 
+-- the same of the documents of a review, a namespace and the params
 unfoldable pub contents_given : Option (List ℕ) → Option (List ℕ) → Option (List ℕ) → Result Contents RunError
 contents_given review namespace params = contents_from (documents_given review namespace params)
 
 -- ---- uids
 
+-- the text that is there, and else the empty one
 abbrev pub text_or_empty : Option json.Data → List ℕ
 text_or_empty (Some (json.string s)) = s
 text_or_empty _ = []
 
+-- the uid of a request
 abbrev pub uid_of : json.Data → List ℕ
 uid_of request = text_or_empty (get (codes "uid") request)
 

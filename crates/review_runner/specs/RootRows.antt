@@ -22,12 +22,16 @@ abbrev pub with_uid : Value
 with_uid = kind.map (kind.entry (codes "uid") (kind.text (codes "u1")) kind.no_entries)
 
 abbrev pub replicas : Value
-replicas = kind.map (kind.entry (codes "spec") (kind.map (kind.entry (codes "replicas") (kind.int (pos 5)) kind.no_entries)) kind.no_entries)
+replicas =
+    kind.map (kind.entry (codes "spec") (kind.map (kind.entry (codes "replicas") (kind.int (pos 5)) kind.no_entries)) kind.no_entries)
 
 pub record RootRowsStand : Type 0 where
-  pub a_review : given (codes "{\"uid\":\"u1\",\"object\":{\"spec\":{\"replicas\":5}}}") None None ≡ holding (replicas ∷ kind.null ∷ kind.null ∷ kind.null ∷ with_uid ∷ []) 28
+  pub a_review : given (codes "{\"uid\":\"u1\",\"object\":{\"spec\":{\"replicas\":5}}}") None None
+      ≡ holding (replicas ∷ kind.null ∷ kind.null ∷ kind.null ∷ with_uid ∷ []) 28
   pub no_documents : contents_given None None None ≡ holding (kind.null ∷ kind.null ∷ kind.null ∷ kind.null ∷ kind.null ∷ []) 5
-  pub others : given (codes "{\"oldObject\":{},\"uid\":\"u1\"}") (Some (codes "{\"a\":null}")) (Some (codes "{}")) ≡ holding (kind.null ∷ kind.map kind.no_entries ∷ kind.map kind.no_entries ∷ kind.map (kind.entry (codes "a") kind.null kind.no_entries) ∷ with_uid ∷ []) 15
+  pub others : given (codes "{\"oldObject\":{},\"uid\":\"u1\"}") (Some (codes "{\"a\":null}")) (Some (codes "{}"))
+      ≡ holding (kind.null ∷ kind.map kind.no_entries ∷ kind.map kind.no_entries
+      ∷ kind.map (kind.entry (codes "a") kind.null kind.no_entries) ∷ with_uid ∷ []) 15
   pub fraction : given (codes "{\"uid\":\"u1\",\"object\":{\"spec\":{\"replicas\":1.5}}}") None None ≡ Err N2
   pub number_as_old_object : given (codes "{\"uid\":\"u1\",\"oldObject\":1}") None None ≡ Err N2
   pub fraction_in_request : given (codes "{\"uid\":\"u1\",\"x\":1.5}") None None ≡ Err N2
@@ -36,7 +40,9 @@ pub record RootRowsStand : Type 0 where
   pub no_json : given (codes "{\"uid\":\"u1\"}") (Some (codes "{")) None ≡ Err N3
   pub no_uid : given (codes "{\"uid\":1}") None None ≡ Err N2
   pub no_request : given (codes "null") None None ≡ Err N2
-  pub other_kind : contents_given (Some (codes "{\"apiVersion\":\"admission.k8s.io/v1\",\"kind\":\"Review\",\"request\":{\"uid\":\"u1\"}}")) None None ≡ Err N2
+  pub other_kind :
+      contents_given (Some (codes "{\"apiVersion\":\"admission.k8s.io/v1\",\"kind\":\"Review\",\"request\":{\"uid\":\"u1\"}}")) None None
+      ≡ Err N2
   -- the review's form is judged before the others, and they before the roots
   pub form_first : given (codes "{}") None (Some (codes "{")) ≡ Err N2
   pub params_first : given (codes "{\"uid\":\"u1\",\"object\":1}") None (Some (codes "{")) ≡ Err N3

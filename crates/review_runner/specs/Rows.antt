@@ -22,7 +22,8 @@ debug_words = codes "celbpf" ∷ codes "debug" ∷ codes "a.img" ∷ []
 
 -- celbpf debug a.img --review r.json --namespace n.json --params p.json
 abbrev pub debug_all_words : List Text
-debug_all_words = debug_words ++ codes "--review" ∷ codes "r.json" ∷ codes "--namespace" ∷ codes "n.json" ∷ codes "--params" ∷ codes "p.json" ∷ []
+debug_all_words =
+    debug_words ++ codes "--review" ∷ codes "r.json" ∷ codes "--namespace" ∷ codes "n.json" ∷ codes "--params" ∷ codes "p.json" ∷ []
 
 abbrev pub no_documents : DocumentFiles
 no_documents = record { review = None; namespace = None; params = None }
@@ -56,7 +57,8 @@ review_words = without_review ++ codes "--review" ∷ codes "r.json" ∷ []
 
 -- celbpf review --policy p.json --review r.json --namespace n.json --params q.json --steps 896
 abbrev pub review_all_words : List Text
-review_all_words = review_words ++ codes "--namespace" ∷ codes "n.json" ∷ codes "--params" ∷ codes "q.json" ∷ codes "--steps" ∷ codes "896" ∷ []
+review_all_words =
+    review_words ++ codes "--namespace" ∷ codes "n.json" ∷ codes "--params" ∷ codes "q.json" ∷ codes "--steps" ∷ codes "896" ∷ []
 
 abbrev pub two_files : ReviewFiles
 two_files = record { policy = codes "p.json"; review = codes "r.json"; namespace = None; params = None }

@@ -28,6 +28,7 @@ abbrev pub run_of : Result Contents LoadError → ℕ → Result Shown LoadError
 run_of (Ok image) n = Ok (shown_after n (start_state image null_values))
 run_of (Err e) n = Err e
 
+-- the same of the bytes of a file
 unfoldable pub run_of_file : List ℕ → ℕ → Result Shown LoadError
 run_of_file file n = run_of (image_in file) n
 

@@ -8,7 +8,7 @@ use Rattle.policy_glue.specs.Layout.{IsLayout, outcome_word}
 use Rattle.policy_glue.specs.Objections.{Objection, objection_of, objection_view, response_text}
 use Rattle.policy_glue.specs.Policy.{Rules}
 use Rattle.policy_glue.specs.Verdict.{Verdict}
-use Rattle.review_runner.specs.Deciding.{Answer, Documents, IsPolicy, IsRefused, IsStopped, IsUnended, Runs, decision, stands, values_given}
+use Rattle.review_runner.specs.Deciding.{Answer, Case, Documents, IsPolicy, IsRefused, IsStopped, IsUnended, decision, values_given}
 use Rattle.review_runner.specs.Reviews.{uid_in}
 use Rattle.review_runner.specs.declared.run_error.RunError.{RunError}
 use Rattle.review_runner.specs.declared.run_error.RunError.TheVariants.{N1, N2, N3, N4, N5, Memory}
@@ -19,9 +19,11 @@ pub record Said : Type 0 where
   pub objection : Option Objection
   pub uid : List ℕ
 
+-- what the code says
 abbrev pub said_value : CodeSaid → Said
 said_value x = record { objection = option_map objection_view x.objection; uid = string_bytes x.uid }
 
+-- the same of what the code answers
 abbrev pub said_view : Result CodeSaid RunError → Result Said RunError
 said_view (Ok x) = Ok (said_value x)
 said_view (Err e) = Err e
@@ -39,27 +41,27 @@ is_silent (Some o) = false
 abbrev pub answer_by : Said → Answer
 answer_by x = record { response = response_text x.objection x.uid; allowed = is_silent x.objection }
 
--- it has exited within n steps, and this is what the policy's verdict says
-pub record IsSaid (d : Documents) (n : ℕ) (said : Said) : Type 0 where
-  pub run : Runs d
-  pub exits : (stands run n).status ≡ Exited (outcome_word (decision run).outcome)
-  pub said_is : said ≡ said_of run.rules (decision run) (uid_in d.review)
+-- this is what the policy's verdict says
+pub record IsSaid (d : Documents) (said : Said) : Type 0 where
+  pub case : Case d
+  pub said_is : said ≡ said_of case.policy.rules (decision case) (uid_in d.review)
 
 -- what the policy says of a review, or the first refusal, as a review under it has them
 abbrev pub Says : Documents → ℕ → Result Said RunError → Type 0
-Says d n (Ok said) = IsSaid d n said
+Says d n (Ok said) = IsSaid d said
 Says d n (Err (N1 e)) = IsRefused d.policy e
 Says d n (Err N2) = IsPolicy d.policy × (values_given d ≡ Err N2)
 Says d n (Err N3) = IsPolicy d.policy × (values_given d ≡ Err N3)
 Says d n (Err N4) = IsUnended d n
-Says d n (Err N5) = IsStopped d n
+Says d n (Err N5) = IsStopped d
 Says d n (Err Memory) = Unit {0}
 
 -- ---- parts
 
 -- what is said by a state that has exited with a verdict in its verdict region
 abbrev pub IsSaidBy : Rules → State → List ℕ → Said → Type 0
-IsSaidBy p s uid said = (v : Verdict) → IsMemory s.memory → length v.findings ≤ length p.validations → IsLayout p.failure_policy v s.values.values s.memory.verdict → said ≡ said_of p v uid
+IsSaidBy p s uid said = (v : Verdict) → IsMemory s.memory → length v.findings ≤ length p.validations
+    → IsLayout p.failure_policy v s.values.values s.memory.verdict → said ≡ said_of p v uid
 
 -- what is said by the state in which a program stands
 abbrev pub SaysFrom : Rules → State → List ℕ → Result Said RunError → Type 0

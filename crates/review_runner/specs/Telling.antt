@@ -12,8 +12,9 @@ use Rattle.policy_glue.specs.declared.failure_policy.FailurePolicy.{FailurePolic
 use Rattle.debugger.specs.Answers.{Line, World}
 use Rattle.debugger.specs.Session.{granted, talk_of}
 use Rattle.debugger.specs.Verdict.{word_line}
-use Rattle.review_runner.specs.Deciding.{Documents, Runs, IsBeyond, decision, stands, started, work}
+use Rattle.review_runner.specs.Deciding.{Documents, IsBeyond, decision, started, work}
 use Rattle.review_runner.specs.Debugging.{Held, start_of}
+use Rattle.review_runner.specs.Standing.{Runs, stands}
 
 -- ---- the answer to `w`
 
@@ -24,7 +25,8 @@ numbered_lines name i (w ∷ ws) = word_line name i w ++ numbered_lines name (su
 
 -- the word of the outcome and the number of denials
 abbrev pub outcome_line : FailurePolicy → Verdict → List ℕ
-outcome_line f v = codes "verdict " ++ (decimal (outcome_word v.outcome) ++ (codes " " ++ (decimal (count_by (is_denial f) v.findings) ++ 10 ∷ [])))
+outcome_line f v =
+    codes "verdict " ++ (decimal (outcome_word v.outcome) ++ (codes " " ++ (decimal (count_by (is_denial f) v.findings) ++ 10 ∷ [])))
 
 -- these, each validation that was false (1) or an error (2), and each message by its reference
 unfoldable pub told_text : FailurePolicy → Verdict → List ℕ → List ℕ
@@ -46,8 +48,9 @@ abbrev pub session_files : List ℕ → Documents → Held
 session_files file d = record { image = file; review = Some d.review; namespace = d.namespace; params = d.params }
 
 module _ {d : Documents} (run : Runs d) where
+  -- the state at its start
   abbrev pub start : State
-  start = start_state run.image (started run.roots)
+  start = start_state run.image (started run.case.roots)
 
   -- what the session knows after these lines
   abbrev pub world_after : List Line → World
@@ -60,21 +63,23 @@ module _ {d : Documents} (run : Runs d) where
   -- it goes on, and shows a state that is stopped, or one behind 128 steps for each unit of the policy's work
   pub record IsDecided (lines : List Line) : Type 0 where
     pub goes_on : (world_after lines).ended ≡ false
-    pub is_there : (is_running (shown_after lines).status ≡ false) ⊎ (128 * work run ≤ (world_after lines).place)
+    pub is_there : (is_running (shown_after lines).status ≡ false) ⊎ (128 * work run.case ≤ (world_after lines).place)
 
   -- one more line `w` writes this text
   abbrev pub Writes : List Line → List ℕ → Type 0
   Writes lines text = (talk_of start (lines ++ granted (codes "w") ∷ [])).text ≡ (talk_of start lines).text ++ text
 
-  -- the program has exited with the policy's outcome, and `w` writes its verdict; or it was stopped by F8, beyond the bound on its charge or at a value that is too deep
+  -- the program has exited with the policy's outcome, and `w` writes its verdict; or it was stopped by F8, beyond the bound
+  -- on its charge or at a value that is too deep
   pub data TellsVerdict (lines : List Line) : Type 0 where
     told : (references : List ℕ)
-        → (shown_after lines).status ≡ Exited (outcome_word (decision run).outcome)
-        → AreReferences (shown_after lines).values.values (decision run).findings references
-        → Writes lines (told_text run.rules.failure_policy (decision run) references) → TellsVerdict lines
-    over : (shown_after lines).status ≡ Fault F8 → IsBeyond run → TellsVerdict lines
+        → (shown_after lines).status ≡ Exited (outcome_word (decision run.case).outcome)
+        → AreReferences (shown_after lines).values.values (decision run.case).findings references
+        → Writes lines (told_text run.case.policy.rules.failure_policy (decision run.case) references) → TellsVerdict lines
+    over : (shown_after lines).status ≡ Fault F8 → IsBeyond run.case → TellsVerdict lines
 
 -- whatever lines were answered before, of whatever moves forward and back
 pub record VerdictIsTold : Type 0 where
-  pub starts : (d : Documents) (run : Runs d) (file : List ℕ) → image_in file ≡ Ok run.image → start_of (Ok (session_files file d)) ≡ Ok (start run)
+  pub starts : (d : Documents) (run : Runs d) (file : List ℕ) → image_in file ≡ Ok run.image
+      → start_of (Ok (session_files file d)) ≡ Ok (start run)
   pub tells : (d : Documents) (run : Runs d) (lines : List Line) → IsDecided run lines → TellsVerdict run lines

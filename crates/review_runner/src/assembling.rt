@@ -1,5 +1,6 @@
 //! From a program's text to the file of its image.
 ghost use Rattle.std.specs.Prelude.{Ok};
+ghost use Rattle.policy_glue.specs.OneImage.{OneImage};
 ghost use Rattle.review_runner.specs.Making.{FileBy, MadeBy};
 ghost use Rattle.review_runner.specs.declared.source_kind.SourceKind.TheVariants.{ProgramText};
 
@@ -10,7 +11,7 @@ use std::str;
 
 /// The bytes of the image's file, by what the file of the text holds.
 pub fn assembled_file(alloc: Global, held: &[u8]) -> Result<Vec<u8>, Refusal>
-    ensures { MadeBy ProgramText (Ok held.now) result }
+    ensures { MadeBy OneImage ProgramText (Ok held.now) result }
 {
     let Ok(text) = str::from_utf8(held) else {
         return Err(Refusal::Text);

@@ -1,4 +1,6 @@
 //! Policies with their images.
+ghost use Rattle.std.specs.Prelude.{IfOk};
+ghost use Rattle.policy_glue.specs.OneImage.{OneImage};
 ghost use Rattle.review_runner.specs.Deciding.{CompilesDocument};
 
 use crate::policy_refusal::PolicyRefusal;
@@ -15,7 +17,8 @@ pub struct CompiledPolicy {
 
 /// The policy in a document, compiled.
 pub fn compiled(alloc: Global, document: &[u8]) -> Result<CompiledPolicy, PolicyRefusal>
-    ensures { CompilesDocument document.now result }
+    ensures compiles { CompilesDocument document.now result }
+    ensures one { IfOk result (λ c. OneImage c.policy c.image) }
 {
     let policy = Policy::read(alloc, document)?;
     let image = compile(alloc, &policy)?;

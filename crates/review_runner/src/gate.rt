@@ -1,14 +1,16 @@
 //! Policies that are compiled once and decide many reviews.
-ghost use Rattle.std.specs.Prelude.{◌≡◌, ℕ, List, option_map, IfOk};
+ghost use Rattle.std.specs.Prelude.{◌≡◌, ℕ, List, option_map, IfOk, string_bytes};
 ghost use Rattle.serde_json.specs.View.{view};
 ghost use Rattle.bpf_machine.specs.State.{start_state};
 ghost use Rattle.bpf_machine.specs.Starts.{StartsAreTables};
 ghost use Rattle.bpf_machine.specs.States.{StatesAreKept};
 ghost use Rattle.bpf_machine.specs.Trace.{state_after};
 ghost use Rattle.value_store.specs.Laws.{StartIsCanonical};
+ghost use Rattle.policy_glue.specs.OneImage.{OneImage};
 ghost use Rattle.review_runner.specs.Deciding.{answer_view, CompilesDocument, IsPolicyOf, Reviews};
 ghost use Rattle.review_runner.specs.Reviews.{uid_of};
 ghost use Rattle.review_runner.specs.Saying.{said_value, said_view, IsSaidBy, Says, SaysFrom};
+ghost use Rattle.review_runner.specs.Standing.{this, StandsBy};
 
 use crate::compiled_policy::{CompiledPolicy, compiled};
 use crate::policy_refusal::PolicyRefusal;
@@ -52,7 +54,9 @@ impl Gate {
     ///
     /// Why the policy gives no image. `Memory` where memory runs out, which says nothing of the policy.
     pub fn new(alloc: Global, policy: &[u8]) -> Result<Gate, PolicyRefusal>
-        ensures { CompilesDocument policy.now result }
+        ensures compiles { CompilesDocument policy.now result }
+        // Which image it has, of those that decide as the policy does.
+        ensures one { IfOk result (λ g. OneImage g.policy g.image) }
     {
         let compiled = compiled(alloc, policy)?;
         Ok(Gate { alloc, compiled })
@@ -74,7 +78,9 @@ impl Gate {
         n: u64,
     ) -> Result<Reply, RunError>
         // It answers as `review` does under each policy document that gives this gate.
-        ensures { (policy : List ℕ) → IsPolicyOf policy self.now → Reviews (record { policy = policy; review = review.now; namespace = option_map (λ b. b.now) namespace.entry; params = option_map (λ b. b.now) params.entry }) n (answer_view result) }
+        ensures reviews { (policy : List ℕ) → IsPolicyOf policy self.now → Reviews (record { policy = policy; review = review.now; namespace = option_map (λ b. b.now) namespace.entry; params = option_map (λ b. b.now) params.entry }) n (answer_view result) }
+        // And its image stands as the answer says.
+        ensures runs { (policy : List ℕ) → IsPolicyOf policy self.now → StandsBy (this self.now.image) (record { policy = policy; review = review.now; namespace = option_map (λ b. b.now) namespace.entry; params = option_map (λ b. b.now) params.entry }) n (answer_view result) }
     {
         let said = self.say(review, namespace, params, n)?;
         Ok(said.reply(self.alloc)?)
@@ -92,13 +98,14 @@ impl Gate {
         params: Option<&[u8]>,
         n: u64,
     ) -> Result<Said, RunError>
-        ensures { (policy : List ℕ) → IsPolicyOf policy self.now → Says (record { policy = policy; review = review.now; namespace = option_map (λ b. b.now) namespace.entry; params = option_map (λ b. b.now) params.entry }) n (said_view result) }
+        ensures says { (policy : List ℕ) → IsPolicyOf policy self.now → Says (record { policy = policy; review = review.now; namespace = option_map (λ b. b.now) namespace.entry; params = option_map (λ b. b.now) params.entry }) n (said_view result) }
+        ensures runs { (policy : List ℕ) → IsPolicyOf policy self.now → StandsBy (this self.now.image) (record { policy = policy; review = review.now; namespace = option_map (λ b. b.now) namespace.entry; params = option_map (λ b. b.now) params.entry }) n (said_view result) }
     {
         starts_stand();
         let documents = root_documents(self.alloc, Some(review), namespace, params)?;
-        let table = Table::of_roots(self.alloc, &documents)?;
+        let uid = String::from_str(self.alloc, uid_of(&documents[4]))?;
+        let table = Table::of_documents(self.alloc, documents)?;
         let machine = ran(self.alloc, &self.compiled.image, table, n)?;
-        let uid = uid_of(&documents[4]);
         said(self.alloc, &self.compiled.policy, &machine, uid)
     }
 }
@@ -143,9 +150,9 @@ fn said(
     alloc: Global,
     policy: &Policy,
     machine: &Machine<Table, Guest>,
-    uid: &str,
+    uid: String,
 ) -> Result<Said, RunError>
-    ensures { SaysFrom policy.now machine.now uid.now (said_view result) }
+    ensures { SaysFrom policy.now machine.now (string_bytes uid) (said_view result) }
 {
     match machine.status() {
         Status::Exited(_) => Ok(said_by(alloc, policy, machine, uid)?),
@@ -159,12 +166,11 @@ fn said_by(
     alloc: Global,
     policy: &Policy,
     machine: &Machine<Table, Guest>,
-    uid: &str,
+    uid: String,
 ) -> Result<Said, AllocError>
-    ensures { IfOk result (λ x. IsSaidBy policy.now machine.now uid.now (said_value x)) }
+    ensures { IfOk result (λ x. IsSaidBy policy.now machine.now (string_bytes uid) (said_value x)) }
 {
     let verdict = Verdict::of(machine.memory(), machine.values(), policy);
     let objection = objection_of(alloc, policy, &verdict)?;
-    let uid = String::from_str(alloc, uid)?;
     Ok(Said { objection, uid })
 }

@@ -1,5 +1,6 @@
 //! The listing of the image in a file.
 ghost use Rattle.std.specs.Prelude.{◌≡◌, Ok, IfOk};
+ghost use Rattle.policy_glue.specs.OneImage.{OneImage};
 ghost use Rattle.review_runner.specs.Order.{list};
 ghost use Rattle.review_runner.specs.Output.{outcome_of, report_of};
 ghost use Rattle.review_runner.specs.Performing.{Listed, PerformsBy};
@@ -14,7 +15,7 @@ use std::alloc::{AllocError, Global};
 
 /// Lists the code of the image in the file of this name.
 pub fn list_file<F: Files>(alloc: Global, image: &str, files: &mut F) -> Result<Answer, Refusal>
-    ensures lists { PerformsBy (F.known files.old) (list image.now) (F.known files.new) (outcome_of result) }
+    ensures lists { PerformsBy OneImage (F.known files.old) (list image.now) (F.known files.new) (outcome_of result) }
     ensures known { F.known files.new ≡ F.known files.old }
 {
     let opened = open(alloc, image, files)?;

@@ -1,5 +1,6 @@
 //! From a file to the file of the image that is made from it.
 ghost use Rattle.std.specs.Prelude.{◌≡◌, Ok};
+ghost use Rattle.policy_glue.specs.OneImage.{OneImage};
 ghost use Rattle.review_runner.specs.Making.{MadeBy, MadeOf};
 ghost use Rattle.review_runner.specs.Output.{outcome_of};
 ghost use Rattle.review_runner.specs.Performing.{making, PerformsBy};
@@ -21,7 +22,7 @@ pub fn make_file<F: Files>(
     image: &str,
     files: &mut F,
 ) -> Result<Answer, Refusal>
-    ensures { PerformsBy (F.known files.old) (making kind source.now image.now) (F.known files.new) (outcome_of result) }
+    ensures { PerformsBy OneImage (F.known files.old) (making kind source.now image.now) (F.known files.new) (outcome_of result) }
 {
     let file = made_file(alloc, kind, source, files)?;
     files.write(image, &file)?;
@@ -35,7 +36,7 @@ fn made_file<F: Files>(
     source: &str,
     files: &mut F,
 ) -> Result<Vec<u8>, Refusal>
-    ensures made { MadeOf kind (F.known files.old) source.now result }
+    ensures made { MadeOf OneImage kind (F.known files.old) source.now result }
     ensures known { F.known files.new ≡ F.known files.old }
 {
     let held = files.read(alloc, source)?;
@@ -44,7 +45,7 @@ fn made_file<F: Files>(
 
 /// The bytes of the image's file, by what the file of this kind holds.
 fn file_by(alloc: Global, kind: SourceKind, held: &[u8]) -> Result<Vec<u8>, Refusal>
-    ensures { MadeBy kind (Ok held.now) result }
+    ensures { MadeBy OneImage kind (Ok held.now) result }
 {
     match kind {
         SourceKind::PolicyDocument => compiled_file(alloc, held),

@@ -1,5 +1,6 @@
 //! Orders, done with files that the caller gives.
 ghost use Rattle.std.specs.Prelude.{◌≡◌, false, true, IfOk, OnErr};
+ghost use Rattle.policy_glue.specs.OneImage.{OneImage};
 ghost use Rattle.review_runner.specs.FileSystem.{KeepsFiles};
 ghost use Rattle.review_runner.specs.Opening.{IsAnswer};
 ghost use Rattle.review_runner.specs.Order.{is_session, order_view, run_image};
@@ -23,7 +24,7 @@ use std::alloc::{AllocError, Global};
 /// answer too; the one error is want of memory, which leaves the files. A session is for `debug`.
 pub fn perform<F: Files>(alloc: Global, order: &Order, files: &mut F) -> Result<Done, AllocError>
     requires { is_session (order_view order.now) ≡ false }
-    ensures done { IfOk result (λ d. IsDone (F.known files.old) (order_view order.now) (F.known files.new) (output_of d)) }
+    ensures done { IfOk result (λ d. IsDone OneImage (F.known files.old) (order_view order.now) (F.known files.new) (output_of d)) }
     ensures memory { OnErr result (KeepsFiles (F.known files.old) (F.known files.new)) }
     ensures stays { only_reads (order_view order.now) ≡ true → F.known files.new ≡ F.known files.old }
 {
@@ -44,7 +45,7 @@ pub(crate) fn outcome<F: Files>(
     files: &mut F,
 ) -> Result<Answer, Refusal>
     requires { is_session (order_view order.now) ≡ false }
-    ensures { PerformsBy (F.known files.old) (order_view order.now) (F.known files.new) (outcome_of result) }
+    ensures { PerformsBy OneImage (F.known files.old) (order_view order.now) (F.known files.new) (outcome_of result) }
 {
     match order {
         Order::Compile { policy, image } => {
@@ -72,7 +73,7 @@ fn run_file<F: Files>(
     steps: u64,
     files: &mut F,
 ) -> Result<Answer, Refusal>
-    ensures runs { PerformsBy (F.known files.old) (run_image image.now steps) (F.known files.new) (outcome_of result) }
+    ensures runs { PerformsBy OneImage (F.known files.old) (run_image image.now steps) (F.known files.new) (outcome_of result) }
     ensures known { F.known files.new ≡ F.known files.old }
 {
     let file = files.read(alloc, image)?;

@@ -1,6 +1,7 @@
 //! The program: from its words to its exit code.
 ghost use Rattle.std.specs.Prelude.{◌≡◌, false, Err, IfOk, map, string_bytes};
 ghost use Rattle.std.specs.Process.{exit_status};
+ghost use Rattle.policy_glue.specs.OneImage.{OneImage};
 ghost use Rattle.review_runner.specs.Order.{is_session, order_view, Ordered};
 ghost use Rattle.review_runner.specs.Program.{given_of, system, AnswersOrder, Does, DoesTask, Ends, Says};
 ghost use Rattle.debugger.specs.Streams.{stream};
@@ -29,7 +30,7 @@ pub fn exit_code<F: Files, R: Source, W: Sink, E: Sink>(
     output: &mut W,
     errors: &mut E,
 ) -> ExitCode
-    ensures { Ends (given_of words) (system (F.known files.old) (stream (R.left input.old) (R.failed input.old)) (stream (W.taken output.old) (W.failed output.old))) (system (F.known files.new) (stream (R.left input.new) (R.failed input.new)) (stream (W.taken output.new) (W.failed output.new))) (stream (E.taken errors.old) (E.failed errors.old)) (stream (E.taken errors.new) (E.failed errors.new)) (exit_status result) }
+    ensures { Ends OneImage (given_of words) (system (F.known files.old) (stream (R.left input.old) (R.failed input.old)) (stream (W.taken output.old) (W.failed output.old))) (system (F.known files.new) (stream (R.left input.new) (R.failed input.new)) (stream (W.taken output.new) (W.failed output.new))) (stream (E.taken errors.old) (E.failed errors.old)) (stream (E.taken errors.new) (E.failed errors.new)) (exit_status result) }
 {
     match ending(alloc, words, files, input, output) {
         Ok(status) => ExitCode::from(status),
@@ -56,7 +57,7 @@ fn ending<F: Files, R: Source, W: Sink>(
     input: &mut R,
     output: &mut W,
 ) -> Result<u8, Refusal>
-    ensures { Does (given_of words) (system (F.known files.old) (stream (R.left input.old) (R.failed input.old)) (stream (W.taken output.old) (W.failed output.old))) (system (F.known files.new) (stream (R.left input.new) (R.failed input.new)) (stream (W.taken output.new) (W.failed output.new))) result }
+    ensures { Does OneImage (given_of words) (system (F.known files.old) (stream (R.left input.old) (R.failed input.old)) (stream (W.taken output.old) (W.failed output.old))) (system (F.known files.new) (stream (R.left input.new) (R.failed input.new)) (stream (W.taken output.new) (W.failed output.new))) result }
 {
     let words = words?;
     let asked = asked_order(alloc, &words)?;
@@ -71,7 +72,7 @@ fn done<F: Files, R: Source, W: Sink>(
     input: &mut R,
     output: &mut W,
 ) -> Result<u8, Refusal>
-    ensures { DoesTask (system (F.known files.old) (stream (R.left input.old) (R.failed input.old)) (stream (W.taken output.old) (W.failed output.old))) (system (F.known files.new) (stream (R.left input.new) (R.failed input.new)) (stream (W.taken output.new) (W.failed output.new))) (order_view order.now) result }
+    ensures { DoesTask OneImage (system (F.known files.old) (stream (R.left input.old) (R.failed input.old)) (stream (W.taken output.old) (W.failed output.old))) (system (F.known files.new) (stream (R.left input.new) (R.failed input.new)) (stream (W.taken output.new) (W.failed output.new))) (order_view order.now) result }
 {
     match order {
         Order::Compile { .. }
@@ -94,7 +95,7 @@ fn answer<F: Files, W: Sink>(
     output: &mut W,
 ) -> Result<u8, Refusal>
     requires { is_session (order_view order.now) ≡ false }
-    ensures { AnswersOrder (F.known files.old) (F.known files.new) (order_view order.now) (stream (W.taken output.old) (W.failed output.old)) (stream (W.taken output.new) (W.failed output.new)) result }
+    ensures { AnswersOrder OneImage (F.known files.old) (F.known files.new) (order_view order.now) (stream (W.taken output.old) (W.failed output.old)) (stream (W.taken output.new) (W.failed output.new)) result }
 {
     let answer = outcome(alloc, order, files)?;
     match write_all(output, answer.out.as_slice()) {

@@ -1,5 +1,6 @@
 //! Reviews of documents in files.
 ghost use Rattle.std.specs.Prelude.{◌≡◌, Ok, IfOk};
+ghost use Rattle.policy_glue.specs.OneImage.{OneImage};
 ghost use Rattle.review_runner.specs.Order.{review, review_files_view};
 ghost use Rattle.review_runner.specs.Output.{outcome_of, report_of};
 ghost use Rattle.review_runner.specs.Performing.{PerformsBy};
@@ -21,7 +22,7 @@ pub fn review_files<F: Files>(
     steps: u64,
     files: &mut F,
 ) -> Result<Answer, Refusal>
-    ensures reviews { PerformsBy (F.known files.old) (review (review_files_view names.now) steps) (F.known files.new) (outcome_of result) }
+    ensures reviews { PerformsBy OneImage (F.known files.old) (review (review_files_view names.now) steps) (F.known files.new) (outcome_of result) }
     ensures known { F.known files.new ≡ F.known files.old }
 {
     let held = read_review_files(alloc, names, files)?;
@@ -30,7 +31,7 @@ pub fn review_files<F: Files>(
 
 /// Reviews these documents.
 fn review_held(alloc: Global, held: &HeldReview, steps: u64) -> Result<Answer, Refusal>
-    ensures { ReviewsHeld steps (Ok (documents_view held.now)) (outcome_of result) }
+    ensures { ReviewsHeld OneImage steps (Ok (documents_view held.now)) (outcome_of result) }
 {
     let reply = review(
         alloc,

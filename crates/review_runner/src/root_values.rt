@@ -30,7 +30,7 @@ pub fn roots(
     ensures { Gives (λ t. record { values = ⟦<Table as ValueStore>⟧.values t; charge = ⟦<Table as ValueStore>⟧.charge t }) (contents_given (option_map (λ b. b.now) review.entry) (option_map (λ b. b.now) namespace.entry) (option_map (λ b. b.now) params.entry)) result }
 {
     let documents = root_documents(alloc, review, namespace, params)?;
-    Ok(Table::of_roots(alloc, &documents)?)
+    Ok(Table::of_documents(alloc, documents)?)
 }
 
 /// The documents of those roots, in the order of their references.

@@ -15,7 +15,8 @@ use Rattle.cel_macros.specs.Functions.{Function, Size, String, Dyn, function_nam
 use Rattle.codegen_base.specs.Code.Calls.{two_code}
 use Rattle.codegen_base.specs.Code.Logic.{and_code, or_code, not_tail, ternary_code}
 use Rattle.codegen_base.specs.Code.Arithmetic.{sum_code, difference_code, product_code, divided_code, negation_tail}
-use Rattle.codegen_base.specs.Code.Comparison.{equal_tail, unequal_tail, less_tail, less_equal_tail, greater_tail, greater_equal_tail, member_tail}
+use Rattle.codegen_base.specs.Code.Comparison.{equal_tail, unequal_tail, less_tail, less_equal_tail, greater_tail, greater_equal_tail}
+use Rattle.codegen_base.specs.Code.Comparison.{member_tail}
 use Rattle.codegen.specs.Code.Literals.{address_of, literal_code}
 use Rattle.codegen_base.specs.Code.Aggregates.{item_code, list_code, entry_code, map_code}
 use Rattle.codegen_base.specs.Code.Names.{name_code, reference_code}
@@ -28,6 +29,7 @@ use Rattle.codegen_base.specs.Variables.{memo_tail, use_code}
 abbrev pub no_code : List Insn
 no_code = reference_code (pos 0)
 
+-- an operator before R0
 abbrev pub unary_tail : UnaryOperator → List Insn
 unary_tail unary.Not = not_tail
 unary_tail unary.Negate = negation_tail
@@ -49,11 +51,13 @@ binary_tail binary.Multiply k = product_code k
 binary_tail binary.Divide k = divided_code Sdiv k
 binary_tail binary.Remainder k = divided_code Smod k
 
+-- an operator between two operands, the left one in word k
 abbrev pub binary_code : BinaryOperator → List Insn → List Insn → ℕ → List Insn
 binary_code binary.Or left right k = or_code left right k
 binary_code binary.And left right k = and_code left right k
 binary_code op left right k = two_code left right k (binary_tail op k)
 
+-- a function of an operand
 abbrev pub function_code : Option Function → List Insn → List Insn
 function_code (Some Size) of = of ++ size_tail
 function_code (Some String) of = of ++ string_tail
@@ -67,6 +71,7 @@ method_function_code (Some String) of = no_code
 method_function_code (Some Dyn) of = no_code
 method_function_code None of = no_code
 
+-- a test of two texts, the left one in word k
 abbrev pub test_code : Option TextTest → List Insn → List Insn → ℕ → List Insn
 test_code (Some t) left right k = two_code left right k (test_tail t k)
 test_code None left right k = no_code
@@ -87,7 +92,8 @@ operands_apart binary.Or = 2
 operands_apart binary.And = 2
 operands_apart _ = 1
 
--- the code of an expression whose texts stand among ts, whose variables have the routines rs, in order of declaration, and whose iteration names have the words ws: it keeps the words below k of its frame, and stands at slot p
+-- the code of an expression whose texts stand among ts, whose variables have the routines rs, in order of declaration,
+-- and whose iteration names have the words ws: it keeps the words below k of its frame, and stands at slot p
 unfoldable mutual
   pub code_of : CoreTree → List (List ℕ) → List (List ℕ × ℕ) → List (List ℕ × ℕ) → ℕ → ℕ → List Insn
   code_of (core.literal l) ts rs ws k p = literal_code ts l
@@ -142,6 +148,7 @@ unfoldable mutual
 abbrev pub routine_code : CoreTree → List (List ℕ) → List (List ℕ × ℕ) → ℕ → ℕ → List Insn
 routine_code e ts rs n p = code_of e ts rs [] 0 p ++ memo_tail n
 
+-- the text of a literal, where it is one
 abbrev pub literal_texts : tree.Literal → List (List ℕ)
 literal_texts (tree.text s) = s ∷ []
 literal_texts _ = []
@@ -165,10 +172,12 @@ unfoldable mutual
   texts_of (core.fold m n r p) = texts_of r ++ texts_of p
   texts_of (core.fold_map n r p t) = texts_of r ++ (texts_of p ++ texts_of t)
 
+  -- those of each expression, one after another
   pub texts_of_each : CoreTrees → List (List ℕ)
   texts_of_each no_cores = []
   texts_of_each (more_cores a more) = texts_of a ++ texts_of_each more
 
+  -- those of each key and each value, one after another
   pub texts_of_entries : CoreEntries → List (List ℕ)
   texts_of_entries no_core_entries = []
   texts_of_entries (more_core_entries k v more) = texts_of k ++ (texts_of v ++ texts_of_entries more)

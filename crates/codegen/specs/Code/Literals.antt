@@ -14,6 +14,7 @@ constants_base = 0x4_0000_0000
 abbrev pub address_of : List (List ℕ) → List ℕ → ℕ
 address_of texts t = saturated (constants_base + unwrap_or (option_map saturated (place_of t texts)) 0)
 
+-- a literal: null and a truth by its reference, an int by its word, a text by its address and its length in bytes
 abbrev pub literal_code : List (List ℕ) → tree.Literal → List Insn
 literal_code texts tree.null = null_code
 literal_code texts (tree.truth b) = truth_code b

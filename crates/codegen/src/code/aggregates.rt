@@ -27,7 +27,6 @@ pub(crate) fn list(alloc: Global, items: &[Insn], k: usize) -> Result<Vec<Insn>,
 {
     let mut code = [call(helpers::LIST_NEW), store(k, R0)].to_vec(alloc)?;
     code.extend_from_slice(items)?;
-    code.push(load(R0, k))?;
     Ok(code)
 }
 
@@ -61,6 +60,5 @@ pub(crate) fn map(alloc: Global, entries: &[Insn], k: usize) -> Result<Vec<Insn>
 {
     let mut code = [call(helpers::MAP_NEW), store(k, R0)].to_vec(alloc)?;
     code.extend_from_slice(entries)?;
-    code.push(load(R0, k))?;
     Ok(code)
 }

@@ -5,7 +5,7 @@ ghost use Rattle.codegen_base.specs.Loops as loops;
 ghost use Rattle.codegen_base.specs.Code.Folds as specs;
 ghost use Rattle.codegen_base.specs.Pieces.{size as size_of_piece};
 
-use crate::instructions::{go_back, load, size, skip, skip_where, store};
+use crate::instructions::{back_where, load, size, skip, skip_where, store};
 use Register::{R0, R1, R2};
 use cel_macros::Macro;
 use codegen_base::helpers;
@@ -50,23 +50,24 @@ fn loop_head(k: usize, slots: usize) -> [Insn; 6]
     ]
 }
 
-/// R0 names the next answer; a turn that ends the loop goes on behind these.
+/// Back to the next item, if there is one, and else the answer; a turn that ends the loop goes on behind
+/// these.
 fn loop_tail(k: usize, slots: usize) -> [Insn; 6]
     requires words { k + 4 < 64 }
     requires near { slots < 32768 }
     ensures { result ≡ loops.loop_tail k slots }
 {
     [
-        store(k + 3, R0),
-        load(R0, k + 2),
-        add(R0, 1),
-        store(k + 2, R0),
-        go_back(slots),
+        load(R2, k + 2),
+        add(R2, 1),
+        store(k + 2, R2),
+        load(R1, k + 1),
+        back_where(Comparison::Ne, R1, R2, slots),
         load(R0, k + 3),
     ]
 }
 
-/// A loop whose turn makes the next answer of the answer so far and an item.
+/// A loop whose turn puts the next answer in the place of the one so far.
 fn loop_of(alloc: Global, turn: &[Insn], k: usize) -> Result<Vec<Insn>, AllocError>
     requires words { k + 4 < 64 }
     requires near { size_of_piece turn.now ≤ 32300 }
@@ -75,7 +76,7 @@ fn loop_of(alloc: Global, turn: &[Insn], k: usize) -> Result<Vec<Insn>, AllocErr
     let slots = size(turn);
     let mut code = loop_head(k, slots + 8).to_vec(alloc)?;
     code.extend_from_slice(turn)?;
-    code.extend_from_slice(&loop_tail(k, slots + 10))?;
+    code.extend_from_slice(&loop_tail(k, slots + 7))?;
     Ok(code)
 }
 
@@ -103,67 +104,69 @@ fn fold(
     Ok(code)
 }
 
-/// The predicate's value, and the answer so far, which does not decide; a value that decides ends the
-/// loop.
-fn absorbing_turn(decides: i32, other: i32, k: usize) -> [Insn; 5]
+/// The predicate's value, and the answer so far, which does not decide: a value that decides ends the
+/// loop, the other truth leaves the answer, and what is neither makes it the error.
+fn absorbing_turn(decides: i32, other: i32, k: usize) -> [Insn; 4]
     requires { k + 4 < 64 }
     ensures { result ≡ specs.absorbing_turn decides other k }
 {
     [
-        skip_if(Comparison::Eq, R0, decides, 10),
-        load(R1, k + 3),
-        skip_if(Comparison::Ne, R1, other, 1),
-        skip_if(Comparison::Eq, R0, other, 1),
+        skip_if(Comparison::Eq, R0, decides, 9),
+        skip_if(Comparison::Eq, R0, other, 2),
         put(R0, ERROR),
+        store(k + 3, R0),
     ]
 }
 
 /// The predicate's value in R0, counted: the answer so far is false for none, true for one, null for
 /// more, and the error.
 #[tactic(auto, unfolding(codegen_base::specs::Code::Folds::exists_one_turn))]
-fn exists_one_turn(k: usize) -> [Insn; 10]
+fn exists_one_turn(k: usize) -> [Insn; 9]
     requires { k + 4 < 64 }
     ensures { result ≡ specs.exists_one_turn k }
 {
     [
+        skip_if(Comparison::Eq, R0, NO, 8),
+        skip_if(Comparison::Ne, R0, YES, 5),
         load(R1, k + 3),
-        skip_if(Comparison::Eq, R0, NO, 7),
-        skip_if(Comparison::Ne, R0, YES, 4),
         skip_if(Comparison::Eq, R1, ERROR, 5),
-        skip_if(Comparison::Eq, R1, NO, 5),
+        skip_if(Comparison::Eq, R1, NO, 3),
         put(R0, NULL),
-        skip(3),
-        put(R0, ERROR),
         skip(1),
-        copy(R0, R1),
+        put(R0, ERROR),
+        store(k + 3, R0),
     ]
 }
 
 /// The item behind the answer so far, where the predicate is true.
 #[tactic(auto, unfolding(codegen_base::specs::Code::Folds::filter_turn))]
-fn filter_turn(k: usize) -> [Insn; 9]
+fn filter_turn(k: usize) -> [Insn; 8]
     requires { k + 4 < 64 }
     ensures { result ≡ specs.filter_turn k }
 {
     [
-        skip_if(Comparison::Eq, R0, NO, 5),
-        skip_if(Comparison::Ne, R0, YES, 6),
+        skip_if(Comparison::Eq, R0, NO, 7),
+        skip_if(Comparison::Ne, R0, YES, 4),
         load(R1, k + 3),
         load(R2, k + 4),
         call(helpers::PUSH),
-        skip(3),
-        load(R0, k + 3),
         skip(1),
         put(R0, ERROR),
+        store(k + 3, R0),
     ]
 }
 
 /// The transform's value behind the answer so far.
-fn map_turn(k: usize) -> [Insn; 3]
+fn map_turn(k: usize) -> [Insn; 4]
     requires { k + 4 < 64 }
     ensures { result ≡ specs.map_turn k }
 {
-    [copy(R2, R0), load(R1, k + 3), call(helpers::PUSH)]
+    [
+        copy(R2, R0),
+        load(R1, k + 3),
+        call(helpers::PUSH),
+        store(k + 3, R0),
+    ]
 }
 
 /// The transform where the predicate is true.
@@ -172,12 +175,12 @@ fn map_where_turn(alloc: Global, transform: &[Insn], k: usize) -> Result<Vec<Ins
     requires words { k + 4 < 64 }
     requires near { size_of_piece transform.now ≤ 32256 }
     ensures code { IfOk result (λ code. code.items ≡ specs.map_where_turn transform.now k) }
-    ensures near { IfOk result (λ code. size_of_piece code.items ≡ size_of_piece transform.now + 9) }
+    ensures near { IfOk result (λ code. size_of_piece code.items ≡ size_of_piece transform.now + 8) }
 {
     let slots = size(transform);
     let mut code = [
-        skip_if(Comparison::Eq, R0, NO, slots + 5),
-        skip_if(Comparison::Ne, R0, YES, slots + 6),
+        skip_if(Comparison::Eq, R0, NO, slots + 7),
+        skip_if(Comparison::Ne, R0, YES, slots + 4),
     ]
     .to_vec(alloc)?;
     code.extend_from_slice(transform)?;
@@ -185,10 +188,9 @@ fn map_where_turn(alloc: Global, transform: &[Insn], k: usize) -> Result<Vec<Ins
         copy(R2, R0),
         load(R1, k + 3),
         call(helpers::PUSH),
-        skip(3),
-        load(R0, k + 3),
         skip(1),
         put(R0, ERROR),
+        store(k + 3, R0),
     ])?;
     Ok(code)
 }

@@ -77,7 +77,7 @@ module _ (f : Value → ValueOrError) where
   once_folds (Some items) = once_counts items 0
   once_folds None = refl
 
-turn_size : (k : ℕ) → size (exists_one_turn k) ≡ 10
+turn_size : (k : ℕ) → size (exists_one_turn k) ≡ 9
 unfolding exists_one_turn
 turn_size k = refl
 
@@ -85,11 +85,11 @@ end_converts : (s : Setting) (p : ℕ) (c : Context) (depth base : ℕ) (x : Val
 end_converts s p c depth base x = record { runs = λ b has fits named. once_ends s c depth base p b fits x has named }
 
 module _ (s : Setting) (p k depth : ℕ) (range part : List Insn) (c : Context) (n : List ℕ) (r : ValueOrError) (f : Value → ValueOrError) (w x : ℕ) (visits spent : Value → ℕ) (low : k < 56) (gives_range : Gives s p range c depth k r (step_budget w) (charge_budget x)) (gives_part : (v : Value) → IsItem r v → Gives s (p + size range + 17) part (with_item c k n v) depth (k + 5) (f v) (step_budget (visits v)) (charge_budget (spent v))) where
-  once_runs : (items : List Value) (end : ℕ) → TailRuns s (p + size range + 17 + size part) end (exists_one_turn k) c depth k items f (once_of f) (λ a. false) (λ a. true) (λ v. 7) (λ v. 0)
+  once_runs : (items : List Value) (end : ℕ) → TailRuns s (p + size range + 17 + size part) end (exists_one_turn k) c depth k items f (once_of f) (λ a. false) (λ a. true) (λ v. 8) (λ v. 0)
   once_runs items end = record {
     goes_on = λ b acc i v item fine has at not_last on.
-        let place : p + size range + 17 + size part + 10 ≡ p + size range + 17 + size part + size (exists_one_turn k) = omega (arith, turn_size k) in
-        to_place s _ place (once_turns s c depth k (p + size range + 17 + size part) low b at.fits acc has at.so_far (f v) at.part_is);
+        let place : p + size range + 17 + size part + 9 ≡ p + size range + 17 + size part + size (exists_one_turn k) = omega (arith, turn_size k) in
+        to_place s _ place (once_turns s c depth k (p + size range + 17 + size part) low b at.outer at.fits acc has at.so_far (f v) at.part_is);
     leaves = λ b acc i v item fine has at not_last ends. absurd (cc);
     last = λ acc v e. absurd (cc);
     fine = λ acc i v item fine. refl;
@@ -106,8 +106,8 @@ module _ (s : Setting) (p k depth : ℕ) (range part : List Insn) (c : Context) 
       subst (λ (y : ValueOrError). Gives s p (exists_one_code k range part) c depth k y steps charge) (once_folds f (range_of r))
       (gives_within s p (exists_one_code k range part) c depth k (once_end once) (steps - 3 + 3) (charge + 0) steps charge (omega arith) (omega arith)
       (one_gives s p loop exists_one_end c depth k once (once_end once) (steps - 3) charge 3 0
-      (fold_within s p k depth range first_false turn c r (value (boolean false)) (once_of f) (λ a. false) (λ a. true) w x visits spent (λ v. step_budget (visits v) + 7) (λ v. charge_budget (spent v) + 0) low refl refl refl gives_range (false_gives s (p + size range + 9) c depth (k + 3) (omega arith))
-      (λ items is. turn_gives s (p + size range + 17) end part (exists_one_turn k) c depth k n items f (once_of f) (λ a. false) (λ a. true) (λ v. step_budget (visits v)) (λ v. charge_budget (spent v)) (λ v. 7) (λ v. 0) low
+      (fold_within s p k depth range first_false turn c r (value (boolean false)) (once_of f) (λ a. false) (λ a. true) w x visits spent (λ v. step_budget (visits v) + 8) (λ v. charge_budget (spent v) + 0) low refl refl refl gives_range (false_gives s (p + size range + 9) c depth (k + 3) (omega arith))
+      (λ items is. turn_gives s (p + size range + 17) end part (exists_one_turn k) c depth k n items f (once_of f) (λ a. false) (λ a. true) (λ v. step_budget (visits v)) (λ v. charge_budget (spent v)) (λ v. 8) (λ v. 0) low
       (λ i v item. gives_part v (record { items = items; place = i; range_is = is; item_is = item }))
       (once_runs items end))
       (λ v. omega arith) (λ v. omega arith))

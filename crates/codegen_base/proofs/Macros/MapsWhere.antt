@@ -12,23 +12,24 @@ use Rattle.cel_macros.specs.FoldMeaning.{folded_map, is_error, map_step, pushed,
 use Rattle.cel_macros.specs.Logic.{Truth, Yes, No, Other, chosen, truth}
 use Rattle.cel_macros.specs.Macros.{range_of}
 use Rattle.codegen_base.specs.Body.{Body}
-use Rattle.codegen_base.specs.Code.Folds.{first_empty, map_turn, map_where_code, map_where_turn}
+use Rattle.codegen_base.specs.Code.Folds.{first_empty, map_where_code, map_where_turn}
 use Rattle.codegen_base.specs.Code.Logic.{no_ref, yes_ref}
-use Rattle.codegen_base.specs.Contexts.{Context, Gives, Shows}
+use Rattle.codegen_base.specs.Contexts.{Context, Gives}
 use Rattle.codegen_base.specs.Engine.{Setting, Comes}
 use Rattle.codegen_base.specs.Gives.Macros.{IsItem, MapWhereGives, charge_budget, is_too_deep, items_spent, items_visits, step_budget}
 use Rattle.codegen_base.specs.Instructions as insn
-use Rattle.codegen_base.specs.Loops.{fold_code, fold_of, with_item}
+use Rattle.codegen_base.specs.Loops.{Turned, fold_code, fold_of, with_item}
 use Rattle.codegen_base.specs.Pieces.{Stands, size}
-use Rattle.codegen_base.proofs.Frames.{keeps_then, shows_registers}
-use Rattle.codegen_base.proofs.Listings.{jump, load, mov}
+use Rattle.codegen_base.proofs.Frames.{shows_registers}
+use Rattle.codegen_base.proofs.Listings.{jump, mov, store}
 use Rattle.codegen_base.proofs.Absorbing.{told_in}
 use Rattle.codegen_base.proofs.Loops.{item_gives}
 use Rattle.codegen_base.proofs.Macros.Budgets.{gives_within}
 use Rattle.codegen_base.proofs.Macros.Depths.{chosen_shallow, deep_excused, first_shallow, is_shallow}
 use Rattle.codegen_base.proofs.Macros.Firsts.{empty_gives}
-use Rattle.codegen_base.proofs.Macros.PushingTurn.{map_turns}
+use Rattle.codegen_base.proofs.Macros.PushingTurn.{push_code, push_runs}
 use Rattle.codegen_base.proofs.Macros.Turn.{BehindPart, TailRuns, behind, turn_gives}
+use Rattle.codegen_base.proofs.Macros.Turned.{turned_after, turned_put, turned_same}
 use Rattle.codegen_base.proofs.Macros.Within.{fold_within}
 use Rattle.codegen_base.proofs.Pieces.{size-append, size-cons, stands_back, stands_first, stands_front, stands_rest}
 use Rattle.codegen_base.proofs.Runs.{and_then, done, looser, to_place}
@@ -39,16 +40,16 @@ use Rattle.codegen_base.proofs.Values.{Told, names_error}
 
 module _ (s : Setting) (q : ℕ) (transform : List Insn) (c : Context) (depth k : ℕ) (n : List ℕ) (acc : ValueOrError) (v : Value) (x y : ValueOrError) (n2 x2 : ℕ) (low : k < 56) (has : Stands s.image.code q (map_where_turn transform k)) where
   abbrev to_kept : Insn
-  to_kept = insn.skip_if Eq R0 no_ref (size transform + 5)
+  to_kept = insn.skip_if Eq R0 no_ref (size transform + 7)
 
   abbrev to_error : Insn
-  to_error = insn.skip_if Ne R0 yes_ref (size transform + 6)
+  to_error = insn.skip_if Ne R0 yes_ref (size transform + 4)
 
   abbrev others : List Insn
-  others = insn.skip 3 ∷ insn.load R0 (k + 3) ∷ insn.skip 1 ∷ insn.put R0 (pos 0) ∷ []
+  others = insn.skip 1 ∷ insn.put R0 (pos 0) ∷ insn.store (k + 3) R0 ∷ []
 
   abbrev last : List Insn
-  last = map_turn k ++ others
+  last = push_code k ++ others
 
   abbrev o : ℕ
   o = q + 2 + size transform
@@ -62,34 +63,34 @@ module _ (s : Setting) (q : ℕ) (transform : List Insn) (c : Context) (depth k 
   has3 : Stands s.image.code o last
   has3 = stands_back s.image.code (q + 2) transform last has2
 
-  pub tail_end : o + 7 ≡ q + size (map_where_turn transform k)
+  pub tail_end : o + 6 ≡ q + size (map_where_turn transform k)
   tail_end = omega (arith, size-cons to_kept (to_error ∷ (transform ++ last)), size-cons to_error (transform ++ last), size-append transform last)
 
-  tail_by : (u : Truth) (fails : Bool) → (u ≡ Yes → Gives s (q + 2) transform (with_item c k n v) depth (k + 5) y n2 x2) → (u ≡ Yes → is_too_deep y ≡ true → s.is_deep ≡ true) → is_shallow s.is_deep acc ≡ true → (b : Body) → BehindPart c depth k acc v x b → Told u fails (b.registers R0) → Comes s (chosen u n2 0 0 + 6) (chosen u x2 0 0 + 2) q b (o + 7) (Shows c depth (k + 5) (when_true u (pushed acc y) acc) b)
+  tail_by : (u : Truth) (fails : Bool) → (u ≡ Yes → Gives s (q + 2) transform (with_item c k n v) depth (k + 5) y n2 x2) → (u ≡ Yes → is_too_deep y ≡ true → s.is_deep ≡ true) → is_shallow s.is_deep acc ≡ true → (b : Body) → BehindPart c depth k acc v x b → Told u fails (b.registers R0) → Comes s (chosen u n2 0 0 + 7) (chosen u x2 0 0 + 2) q b (o + 6) (Turned c depth k (when_true u (pushed acc y) acc) b)
   tail_by Yes fails gives may fine b at told =
-      let Q = Shows c depth (k + 5) (pushed acc y) b in
-      looser s {n = suc (suc (n2 + (3 + 1)))} {x = x2 + (2 + 0)} (n2 + 6) (x2 + 2) (omega arith) (omega arith)
-      (step.branch_no s q (q + 1) b Eq W64 R0 (Imm no_ref) (pos (size transform + 5)) (stands_first s.image.code q to_kept _ has) told.no refl
-      (step.branch_no s (q + 1) (q + 2) b Ne W64 R0 (Imm yes_ref) (pos (size transform + 6)) (stands_first s.image.code (q + 1) to_error _ has1) told.not_yes (omega arith)
-      (and_then s (3 + 1) (2 + 0) (o + 7) Q (item_gives s (q + 2) transform c depth k n acc v y n2 x2 b low (gives refl) (stands_front s.image.code (q + 2) transform last has2) (record { fits = at.outer; so_far = at.so_far; item = at.item })) (λ b1 g1.
+      let Q = Turned c depth k (pushed acc y) b in
+      looser s {n = suc (suc (n2 + (3 + 2)))} {x = x2 + (2 + 0)} (n2 + 7) (x2 + 2) (omega arith) (omega arith)
+      (step.branch_no s q (q + 1) b Eq W64 R0 (Imm no_ref) (pos (size transform + 7)) (stands_first s.image.code q to_kept _ has) told.no refl
+      (step.branch_no s (q + 1) (q + 2) b Ne W64 R0 (Imm yes_ref) (pos (size transform + 4)) (stands_first s.image.code (q + 1) to_error _ has1) told.not_yes (omega arith)
+      (and_then s (3 + 2) (2 + 0) (o + 6) Q (item_gives s (q + 2) transform c depth k n acc v y n2 x2 b low (gives refl) (stands_front s.image.code (q + 2) transform last has2) (record { fits = at.outer; so_far = at.so_far; item = at.item })) (λ b1 g1.
       let at1 = behind c depth k acc v y b b1 low at.outer g1 at.so_far at.item in
-      and_then s 1 0 (o + 7) Q (map_turns s c depth k o low b1 at1.fits acc y (stands_front s.image.code o (map_turn k) others has3) at1.part_is at1.so_far (deep_excused s.is_deep acc y (may refl) fine)) (λ b2 g2.
-      jump has3 3 3 refl
-      (done s (o + 7) b2 Q (record { shows = g2.shows; fits = g2.fits; keeps = keeps_then (omega arith) g1.keeps g2.keeps })))))))
+      and_then s 2 0 (o + 6) Q (push_runs s c depth k o low b1 at1.fits acc y (stands_front s.image.code o (push_code k) others has3) at1.part_is at1.so_far (deep_excused s.is_deep acc y (may refl) fine)) (λ b2 g2.
+      jump has3 3 1 refl
+      (store has3 5 (k + 3) refl g2.fits.frame (omega arith)
+      (done s (o + 6) _ Q (turned_after g1.keeps (turned_put low at1.outer g2)))))))))
   tail_by No fails gives may fine b at told =
-      looser s {n = 3} {x = 0} (0 + 6) (0 + 2) (omega arith) (omega arith)
-      (step.branch_yes s q (o + 4) b Eq W64 R0 (Imm no_ref) (pos (size transform + 5)) (stands_first s.image.code q to_kept _ has) told.no (omega (arith, ints))
-      (load has3 4 (k + 3) refl at.fits.frame (omega arith) refl
-      (jump has3 5 1 refl
-      (done s (o + 7) _ _ (shows_registers c depth (k + 5) b _ refl acc at.fits at.so_far)))))
+      looser s {n = 1} {x = 0} (0 + 7) (0 + 2) (omega arith) (omega arith)
+      (step.branch_yes s q (o + 6) b Eq W64 R0 (Imm no_ref) (pos (size transform + 7)) (stands_first s.image.code q to_kept _ has) told.no (omega (arith, ints))
+      (done s (o + 6) b (Turned c depth k acc b) (turned_same low at.outer at.so_far)))
   tail_by Other fails gives may fine b at told =
-      looser s {n = 3} {x = 0} (0 + 6) (0 + 2) (omega arith) (omega arith)
-      (step.branch_no s q (q + 1) b Eq W64 R0 (Imm no_ref) (pos (size transform + 5)) (stands_first s.image.code q to_kept _ has) told.no refl
-      (step.branch_yes s (q + 1) (o + 6) b Ne W64 R0 (Imm yes_ref) (pos (size transform + 6)) (stands_first s.image.code (q + 1) to_error _ has1) told.not_yes (omega (arith, ints))
-      (mov has3 6 refl refl
-      (done s (o + 7) _ _ (shows_registers c depth (k + 5) b _ refl error at.fits (names_error b.values at.fits.values.table.store))))))
+      looser s {n = 4} {x = 0} (0 + 7) (0 + 2) (omega arith) (omega arith)
+      (step.branch_no s q (q + 1) b Eq W64 R0 (Imm no_ref) (pos (size transform + 7)) (stands_first s.image.code q to_kept _ has) told.no refl
+      (step.branch_yes s (q + 1) (o + 4) b Ne W64 R0 (Imm yes_ref) (pos (size transform + 4)) (stands_first s.image.code (q + 1) to_error _ has1) told.not_yes (omega (arith, ints))
+      (mov has3 4 refl refl
+      (store has3 5 (k + 3) refl at.fits.frame (omega arith)
+      (done s (o + 6) _ (Turned c depth k error b) (turned_put low at.outer (shows_registers c depth (k + 5) b _ refl error at.fits (names_error b.values at.fits.values.table.store))))))))
 
-  pub where_turns : (truth x ≡ Yes → Gives s (q + 2) transform (with_item c k n v) depth (k + 5) y n2 x2) → (truth x ≡ Yes → is_too_deep y ≡ true → s.is_deep ≡ true) → is_shallow s.is_deep acc ≡ true → (b : Body) → BehindPart c depth k acc v x b → Comes s (chosen (truth x) n2 0 0 + 6) (chosen (truth x) x2 0 0 + 2) q b (q + size (map_where_turn transform k)) (Shows c depth (k + 5) (when_true (truth x) (pushed acc y) acc) b)
+  pub where_turns : (truth x ≡ Yes → Gives s (q + 2) transform (with_item c k n v) depth (k + 5) y n2 x2) → (truth x ≡ Yes → is_too_deep y ≡ true → s.is_deep ≡ true) → is_shallow s.is_deep acc ≡ true → (b : Body) → BehindPart c depth k acc v x b → Comes s (chosen (truth x) n2 0 0 + 7) (chosen (truth x) x2 0 0 + 2) q b (q + size (map_where_turn transform k)) (Turned c depth k (when_true (truth x) (pushed acc y) acc) b)
   where_turns gives may fine b at = to_place s _ tail_end (tail_by (truth x) (is_error x) gives may fine b at (told_in c depth (k + 5) (b.registers R0) x b at.fits at.part_is))
 
 -- ---- the whole
@@ -118,7 +119,7 @@ map_where_gives s p k depth range predicate transform c n r t f w x visits spent
     let g = map_step (λ v. truth (t v)) f in
     let all_visits : Value → ℕ = λ v. visits v + chosen (truth (t v)) (visits_then v) 0 0 in
     let all_spent : Value → ℕ = λ v. spent v + chosen (truth (t v)) (spent_then v) 0 0 in
-    let more : Value → ℕ = λ v. chosen (truth (t v)) (step_budget (visits_then v)) 0 0 + 6 in
+    let more : Value → ℕ = λ v. chosen (truth (t v)) (step_budget (visits_then v)) 0 0 + 7 in
     let more_charge : Value → ℕ = λ v. chosen (truth (t v)) (charge_budget (spent_then v)) 0 0 + 2 in
     let steps = step_budget (1 + w + items_visits all_visits (range_of r)) in
     let charge = charge_budget (9 + x + items_spent all_spent (range_of r)) in

@@ -6,13 +6,14 @@ use Rattle.insn_codec.specs.declared.insn.Insn.{Insn}
 use Rattle.insn_codec.specs.declared.register.Register.TheVariants.{R0}
 use Rattle.value_store.specs.Value.{Value, ValueOrError, value}
 use Rattle.codegen_base.specs.Body.{Body}
-use Rattle.codegen_base.specs.Contexts.{Context, Fits, Gives, Shows}
+use Rattle.codegen_base.specs.Contexts.{Context, Fits, Gives, Keeps, Shows, variable_count}
 use Rattle.codegen_base.specs.Engine.{Setting, Comes}
-use Rattle.codegen_base.specs.Loops.{AtTurn, TurnGives, with_item}
+use Rattle.codegen_base.specs.Loops.{AtTurn, TurnGives, Turned, with_item}
 use Rattle.codegen_base.specs.Pieces.{Stands, size}
 use Rattle.codegen_base.specs.Words.{word_at}
 use Rattle.codegen_base.proofs.Frames.{fits_below, keeps_then}
 use Rattle.codegen_base.proofs.Loops.{item_gives}
+use Rattle.codegen_base.proofs.Macros.Turned.{turned_after}
 use Rattle.codegen_base.proofs.Pieces.{size-append, stands_back, stands_front}
 use Rattle.codegen_base.proofs.Runs.{and_then, into, to_place}
 
@@ -37,25 +38,24 @@ behind c depth k acc v x b b1 low first shown so_far item =
 
 -- what a tail that stands at slot q does behind a part that gives f v: it makes the next answer, and leaves for slot `end` where that is the last
 pub record TailRuns (s : Setting) (q end : ℕ) (tail : List Insn) (c : Context) (depth k : ℕ) (items : List Value) (f : Value → ValueOrError) (g : ValueOrError → Value → ValueOrError) (is_last is_fine : ValueOrError → Bool) (steps charge : Value → ℕ) : Type 0 where
-  pub goes_on : (b : Body) (acc : ValueOrError) (i : ℕ) (v : Value) → slice_get items i ≡ Some v → is_fine acc ≡ true → Stands s.image.code q tail → BehindPart c depth k acc v (f v) b → is_last acc ≡ false → is_last (g acc v) ≡ false → Comes s (steps v) (charge v) q b (q + size tail) (Shows c depth (k + 5) (g acc v) b)
+  pub goes_on : (b : Body) (acc : ValueOrError) (i : ℕ) (v : Value) → slice_get items i ≡ Some v → is_fine acc ≡ true → Stands s.image.code q tail → BehindPart c depth k acc v (f v) b → is_last acc ≡ false → is_last (g acc v) ≡ false → Comes s (steps v) (charge v) q b (q + size tail) (Turned c depth k (g acc v) b)
   pub leaves : (b : Body) (acc : ValueOrError) (i : ℕ) (v : Value) → slice_get items i ≡ Some v → is_fine acc ≡ true → Stands s.image.code q tail → BehindPart c depth k acc v (f v) b → is_last acc ≡ false → is_last (g acc v) ≡ true → Comes s (steps v) (charge v) q b end (Shows c depth (k + 5) (g acc v) b)
   pub last : (acc : ValueOrError) (v : Value) → is_last acc ≡ true → g acc v ≡ acc
   pub fine : (acc : ValueOrError) (i : ℕ) (v : Value) → slice_get items i ≡ Some v → is_fine acc ≡ true → is_fine (g acc v) ≡ true
 
 module _ (s : Setting) (o end : ℕ) (part tail : List Insn) (c : Context) (depth k : ℕ) (n : List ℕ) (items : List Value) (f : Value → ValueOrError) (g : ValueOrError → Value → ValueOrError) (is_last is_fine : ValueOrError → Bool) (steps charge more more_charge : Value → ℕ) (low : k < 56) where
-  tail_after : (q : ℕ) (b : Body) (acc : ValueOrError) (v : Value) → Gives s o part (with_item c k n v) depth (k + 5) (f v) (steps v) (charge v) → Stands s.image.code o (part ++ tail) → AtTurn c depth k acc v b → ((b1 : Body) → BehindPart c depth k acc v (f v) b1 → Comes s (more v) (more_charge v) (o + size part) b1 q (Shows c depth (k + 5) (g acc v) b1)) → Comes s (steps v + more v) (charge v + more_charge v) o b q (Shows c depth (k + 5) (g acc v) b)
-  tail_after q b acc v gives has turn runs =
-      let Q = Shows c depth (k + 5) (g acc v) b in
-      and_then s (more v) (more_charge v) q Q (item_gives s o part c depth k n acc v (f v) (steps v) (charge v) b low gives (stands_front s.image.code o part tail has) turn) (λ b1 g1.
-      into s Q (λ b2 g2. record { shows = g2.shows; fits = g2.fits; keeps = keeps_then (omega arith) g1.keeps g2.keeps }) (runs b1 (behind c depth k acc v (f v) b b1 low turn.fits g1 turn.so_far turn.item)))
+  tail_after : (Q : Body → Body → Type 0) → ((b1 b2 : Body) → Keeps (variable_count c) depth (k + 5) b1 b2 → (b3 : Body) → Q b2 b3 → Q b1 b3) → (q : ℕ) (b : Body) (acc : ValueOrError) (v : Value) → Gives s o part (with_item c k n v) depth (k + 5) (f v) (steps v) (charge v) → Stands s.image.code o (part ++ tail) → AtTurn c depth k acc v b → ((b1 : Body) → BehindPart c depth k acc v (f v) b1 → Comes s (more v) (more_charge v) (o + size part) b1 q (Q b1)) → Comes s (steps v + more v) (charge v + more_charge v) o b q (Q b)
+  tail_after Q after q b acc v gives has turn runs =
+      and_then s (more v) (more_charge v) q (Q b) (item_gives s o part c depth k n acc v (f v) (steps v) (charge v) b low gives (stands_front s.image.code o part tail has) turn) (λ b1 g1.
+      into s (Q b) (λ b2 g2. after b b1 g1.keeps b2 g2) (runs b1 (behind c depth k acc v (f v) b b1 low turn.fits g1 turn.so_far turn.item)))
 
   pub turn_gives : ((i : ℕ) (v : Value) → slice_get items i ≡ Some v → Gives s o part (with_item c k n v) depth (k + 5) (f v) (steps v) (charge v)) → TailRuns s (o + size part) end tail c depth k items f g is_last is_fine more more_charge → TurnGives s o end (part ++ tail) c depth k items g is_last is_fine (λ v. steps v + more v) (λ v. charge v + more_charge v)
   turn_gives gives tails = record {
     goes_on = λ b acc i v item fine has turn not_last on.
         let place : o + size part + size tail ≡ o + size (part ++ tail) = omega (arith, size-append part tail) in
-        to_place s _ place (tail_after (o + size part + size tail) b acc v (gives i v item) has turn (λ b1 at. tails.goes_on b1 acc i v item fine (stands_back s.image.code o part tail has) at not_last on));
+        to_place s _ place (tail_after (Turned c depth k (g acc v)) (λ b1 b2 kept b3 turned. turned_after kept turned) (o + size part + size tail) b acc v (gives i v item) has turn (λ b1 at. tails.goes_on b1 acc i v item fine (stands_back s.image.code o part tail has) at not_last on));
     leaves = λ b acc i v item fine has turn not_last ends.
-        tail_after end b acc v (gives i v item) has turn (λ b1 at. tails.leaves b1 acc i v item fine (stands_back s.image.code o part tail has) at not_last ends);
+        tail_after (Shows c depth (k + 5) (g acc v)) (λ b1 b2 kept b3 shown. record { shows = shown.shows; fits = shown.fits; keeps = keeps_then (omega arith) kept shown.keeps }) end b acc v (gives i v item) has turn (λ b1 at. tails.leaves b1 acc i v item fine (stands_back s.image.code o part tail has) at not_last ends);
     last = tails.last;
     fine = tails.fine;
   }

@@ -1,4 +1,4 @@
--- List and map literals. What is made so far stands in word k, and the parts use the words behind it.
+-- List and map literals. What is made so far stands in word k and, between the parts, in R0; the parts use the words behind it.
 use Rattle.std.specs.Prelude.{ℕ, ◌+◌, pos, List, [], ◌∷◌, ◌++◌}
 use Rattle.insn_codec.specs.declared.insn.Insn.{Insn}
 use Rattle.insn_codec.specs.declared.insn.Insn.TheVariants.{Call}
@@ -17,7 +17,7 @@ abbrev pub item_code : List Insn → ℕ → List Insn
 item_code item k = item ++ push_tail k
 
 abbrev pub list_code : List Insn → ℕ → List Insn
-list_code items k = list_head k ++ (items ++ load R0 k ∷ [])
+list_code items k = list_head k ++ items
 
 -- an empty map in word k
 abbrev pub map_head : ℕ → List Insn
@@ -31,4 +31,4 @@ abbrev pub entry_code : List Insn → List Insn → ℕ → List Insn
 entry_code key entry k = key ++ store (k + 1) R0 ∷ (entry ++ entry_tail k)
 
 abbrev pub map_code : List Insn → ℕ → List Insn
-map_code entries k = map_head k ++ (entries ++ load R0 k ∷ [])
+map_code entries k = map_head k ++ entries

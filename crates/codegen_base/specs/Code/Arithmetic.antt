@@ -86,13 +86,15 @@ divided_tail op =
     ∷ compute op R1 R7
     ∷ int_answer
 
--- word k - R0, and the like
+-- word k - R0
 abbrev pub difference_code : ℕ → List Insn
 difference_code k = int_operands k 8 ++ difference_tail
 
+-- word k * R0
 abbrev pub product_code : ℕ → List Insn
 product_code k = int_operands k 12 ++ product_tail
 
+-- word k / R0, or word k % R0
 abbrev pub divided_code : AluOp → ℕ → List Insn
 divided_code op k = int_operands k 9 ++ divided_tail op
 

@@ -7,33 +7,32 @@ use Rattle.insn_codec.specs.declared.register.Register.TheVariants.{R0, R1, R2}
 use Rattle.cel_macros.specs.declared.macros.Macro.{Macro}
 use Rattle.cel_macros.specs.declared.macros.Macro.TheVariants.{All, Exists, ExistsOne, Filter, Map}
 use Rattle.codegen_base.specs.Code.Logic.{no_ref, yes_ref}
-use Rattle.codegen_base.specs.Instructions.{copy, load, put, skip, skip_if}
+use Rattle.codegen_base.specs.Instructions.{copy, load, put, skip, skip_if, store}
 use Rattle.codegen_base.specs.Loops.{fold_code}
 use Rattle.codegen_base.specs.Pieces.{size}
 
--- `all` and `exists`: R0 names the predicate's value, and the answer so far does not decide; a value that decides ends the loop
+-- `all` and `exists`: R0 names the predicate's value, and the answer so far does not decide; a value that decides ends the loop, the
+-- other truth leaves the answer as it is, and what is neither makes it the error
 abbrev pub absorbing_turn : ℤ → ℤ → ℕ → List Insn
 absorbing_turn decides other k =
-    skip_if Eq R0 decides 10
-    ∷ load R1 (k + 3)
-    ∷ skip_if Ne R1 other 1
-    ∷ skip_if Eq R0 other 1
+    skip_if Eq R0 decides 9
+    ∷ skip_if Eq R0 other 2
     ∷ put R0 (pos 0)
+    ∷ store (k + 3) R0
     ∷ []
 
 -- `exists_one`: the answer so far is false where the predicate was never true, true where it was once, null where it was more often, and the error
 unfoldable pub exists_one_turn : ℕ → List Insn
 exists_one_turn k =
-    load R1 (k + 3)
-    ∷ skip_if Eq R0 no_ref 7
-    ∷ skip_if Ne R0 yes_ref 4
+    skip_if Eq R0 no_ref 8
+    ∷ skip_if Ne R0 yes_ref 5
+    ∷ load R1 (k + 3)
     ∷ skip_if Eq R1 (pos 0) 5
-    ∷ skip_if Eq R1 no_ref 5
+    ∷ skip_if Eq R1 no_ref 3
     ∷ put R0 (pos 1)
-    ∷ skip 3
-    ∷ put R0 (pos 0)
     ∷ skip 1
-    ∷ copy R0 R1
+    ∷ put R0 (pos 0)
+    ∷ store (k + 3) R0
     ∷ []
 
 -- more often than once is not once
@@ -43,34 +42,32 @@ exists_one_end = skip_if Eq R0 (pos 0) 2 ∷ skip_if Eq R0 yes_ref 1 ∷ put R0 
 -- `filter`: the item behind the answer so far where the predicate is true
 unfoldable pub filter_turn : ℕ → List Insn
 filter_turn k =
-    skip_if Eq R0 no_ref 5
-    ∷ skip_if Ne R0 yes_ref 6
+    skip_if Eq R0 no_ref 7
+    ∷ skip_if Ne R0 yes_ref 4
     ∷ load R1 (k + 3)
     ∷ load R2 (k + 4)
     ∷ Call (pos 17)
-    ∷ skip 3
-    ∷ load R0 (k + 3)
     ∷ skip 1
     ∷ put R0 (pos 0)
+    ∷ store (k + 3) R0
     ∷ []
 
 -- `map`: the transform's value behind the answer so far
 abbrev pub map_turn : ℕ → List Insn
-map_turn k = copy R2 R0 ∷ load R1 (k + 3) ∷ Call (pos 17) ∷ []
+map_turn k = copy R2 R0 ∷ load R1 (k + 3) ∷ Call (pos 17) ∷ store (k + 3) R0 ∷ []
 
 -- `map` with a predicate, whose value is in R0: the transform where it is true
 abbrev pub map_where_turn : List Insn → ℕ → List Insn
 map_where_turn transform k =
-    skip_if Eq R0 no_ref (size transform + 5)
-    ∷ skip_if Ne R0 yes_ref (size transform + 6)
+    skip_if Eq R0 no_ref (size transform + 7)
+    ∷ skip_if Ne R0 yes_ref (size transform + 4)
     ∷ (transform
     ++ copy R2 R0
     ∷ load R1 (k + 3)
     ∷ Call (pos 17)
-    ∷ skip 3
-    ∷ load R0 (k + 3)
     ∷ skip 1
     ∷ put R0 (pos 0)
+    ∷ store (k + 3) R0
     ∷ [])
 
 -- the answer before the first item

@@ -6,13 +6,16 @@ use Rattle.insn_codec.specs.declared.insn.Insn.TheVariants.{Call}
 use Rattle.insn_codec.specs.declared.register.Register.TheVariants.{R0, R1, R2}
 use Rattle.codegen_base.specs.Instructions.{load_wide, put}
 
+-- null, by its reference
 abbrev pub null_code : List Insn
 null_code = put R0 (pos 1) ∷ []
 
+-- a truth, by its reference
 abbrev pub truth_code : Bool → List Insn
 truth_code false = put R0 (pos 2) ∷ []
 truth_code true = put R0 (pos 3) ∷ []
 
+-- an int, by its word in two's complement
 abbrev pub int_code : ℤ → List Insn
 int_code z = load_wide R1 (cast_unsigned w64 z) ∷ Call (pos 3) ∷ []
 

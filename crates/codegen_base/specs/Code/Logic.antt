@@ -7,13 +7,16 @@ use Rattle.codegen_base.specs.Instructions.{load, put, skip, skip_if, store}
 use Rattle.codegen_base.specs.Pieces.{size}
 use Rattle.codegen_base.specs.Code.Calls.{call_one}
 
+-- the reference of false
 abbrev pub no_ref : ℤ
 no_ref = pos 2
 
+-- the reference of true
 abbrev pub yes_ref : ℤ
 yes_ref = pos 3
 
--- the operator for which the one truth decides, with its right side in R0 and its left side, which does not decide, in word k: R0 stays where it decides, and where both sides are the other truth
+-- the operator for which the one truth decides, with its right side in R0 and its left side, which does not decide, in
+-- word k: R0 stays where it decides, and where both sides are the other truth
 abbrev pub absorbing_tail : ℤ → ℤ → ℕ → List Insn
 absorbing_tail decides other k =
     load R1 k
@@ -25,14 +28,18 @@ absorbing_tail decides other k =
 
 -- where the left side decides, the right one is left out
 abbrev pub absorbing_code : ℤ → ℤ → List Insn → List Insn → ℕ → List Insn
-absorbing_code decides other left right k = left ++ skip_if Eq R0 decides (size right + 6) ∷ store k R0 ∷ (right ++ absorbing_tail decides other k)
+absorbing_code decides other left right k =
+    left ++ skip_if Eq R0 decides (size right + 6) ∷ store k R0 ∷ (right ++ absorbing_tail decides other k)
 
+-- left && right, with the left side in word k
 abbrev pub and_code : List Insn → List Insn → ℕ → List Insn
 and_code left right k = absorbing_code no_ref yes_ref left right k
 
+-- left || right, with the left side in word k
 abbrev pub or_code : List Insn → List Insn → ℕ → List Insn
 or_code left right k = absorbing_code yes_ref no_ref left right k
 
+-- !R0
 abbrev pub not_tail : List Insn
 not_tail = call_one (pos 23)
 

@@ -15,8 +15,11 @@ reference_code r = put R0 r ∷ []
 
 -- the references of the roots
 abbrev pub root_references : List (List ℕ × ℤ)
-root_references = (codes "object", pos 4) ∷ (codes "oldObject", pos 5) ∷ (codes "params", pos 6) ∷ (codes "namespaceObject", pos 7) ∷ (codes "request", pos 8) ∷ []
+root_references =
+    (codes "object", pos 4) ∷ (codes "oldObject", pos 5) ∷ (codes "params", pos 6) ∷ (codes "namespaceObject", pos 7)
+    ∷ (codes "request", pos 8) ∷ []
 
+-- the reference, and the error's where there is none
 abbrev pub reference_or_error : Option ℤ → ℤ
 reference_or_error (Some r) = r
 reference_or_error None = pos 0
@@ -30,5 +33,6 @@ abbrev pub held_code : Option ℕ → ℤ → List Insn
 held_code (Some k) r = word_code k
 held_code None r = reference_code r
 
+-- what a name stands for: the item in its word of the frame, where it has one, and else the root of this name
 abbrev pub name_code : List ℕ → List (List ℕ × ℕ) → List Insn
 name_code n words = held_code (lookup n words) (root_reference n)

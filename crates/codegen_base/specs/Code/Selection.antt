@@ -12,15 +12,19 @@ use Rattle.codegen_base.specs.Code.Calls.{call_one, call_two}
 abbrev pub call_with_text : ℤ → ℕ → ℕ → List Insn
 call_with_text helper address count = copy R1 R0 ∷ load_wide R2 address ∷ load_wide R3 count ∷ Call helper ∷ []
 
+-- R0.f, where f is the text
 abbrev pub field_tail : ℕ → ℕ → List Insn
 field_tail address count = call_with_text (pos 5) address count
 
+-- has(R0.f), where f is the text
 abbrev pub has_tail : ℕ → ℕ → List Insn
 has_tail address count = call_with_text (pos 6) address count
 
+-- word k [R0]
 abbrev pub index_tail : ℕ → List Insn
 index_tail k = call_two (pos 7) k
 
+-- size(R0)
 abbrev pub size_tail : List Insn
 size_tail = call_one (pos 8)
 
@@ -43,5 +47,6 @@ test_helper StartsWith = pos 12
 test_helper EndsWith = pos 13
 test_helper Contains = pos 14
 
+-- a test of word k and R0
 abbrev pub test_tail : TextTest → ℕ → List Insn
 test_tail t k = call_two (test_helper t) k

@@ -4,6 +4,7 @@ use Rattle.std.specs.Prelude.{fold as fold_left}
 use Rattle.helper_table.specs.Building.{depth_limit}
 use Rattle.helper_table.specs.Laws.{Names}
 use Rattle.insn_codec.specs.declared.insn.Insn.{Insn}
+use Rattle.insn_codec.specs.declared.register.Register.TheVariants.{R0}
 use Rattle.value_store.specs.Size.{result_depth}
 use Rattle.value_store.specs.Value.{ValueOrError}
 use Rattle.cel_macros.specs.FoldMeaning.{pushed}
@@ -26,13 +27,16 @@ pub record Made (c : Context) (depth k : ℕ) (x : ValueOrError) (b : Body) : Ty
   pub within : result_depth x ≤ depth_limit
   pub fits : Fits c depth k b
 
+-- and so does R0
 pub record MadeFrom (c : Context) (depth k : ℕ) (x : ValueOrError) (old new : Body) : Type 0 where
   pub made : Made c depth k x new
+  pub shows : Names new.values.values (new.registers R0) x
   pub keeps : Keeps (variable_count c) depth k old new
 
--- the piece makes f x of the x in word k
+-- the piece makes f x of the x in word k and R0
 pub record Builds (s : Setting) (p : ℕ) (piece : List Insn) (c : Context) (depth k : ℕ) (f : ValueOrError → ValueOrError) (steps charge : ℕ) : Type 0 where
-  pub runs : (b : Body) (x : ValueOrError) → Stands s.image.code p piece → Made c depth k x b → Comes s steps charge p b (p + size piece) (MadeFrom c depth k (f x) b)
+  pub runs : (b : Body) (x : ValueOrError) → Stands s.image.code p piece → Made c depth k x b → Names b.values.values (b.registers R0) x
+      → Comes s steps charge p b (p + size piece) (MadeFrom c depth k (f x) b)
 
 -- the piece pushes these items, of which each may be the error
 abbrev pub ItemsGive : Setting → ℕ → List Insn → Context → ℕ → ℕ → List ValueOrError → ℕ → ℕ → Type 0
@@ -46,7 +50,7 @@ with_pair m e = put_of m e.0 e.1
 abbrev pub EntriesGive : Setting → ℕ → List Insn → Context → ℕ → ℕ → List (ValueOrError × ValueOrError) → ℕ → ℕ → Type 0
 EntriesGive s p piece c depth k es steps charge = Builds s p piece c depth k (λ m. fold_left with_pair m es) steps charge
 
--- a list takes 3 steps and 1 of charge beside its items, an item 4 steps and 2 of charge of its own
+-- a list takes 2 steps and 1 of charge beside its items, an item 4 steps and 2 of charge of its own
 pub record ListGives : Type 0 where
   pub none : (s : Setting) (p : ℕ) (c : Context) (depth k : ℕ) → ItemsGive s p [] c depth k [] 0 0
   pub more : (s : Setting) (p k : ℕ) (item items : List Insn) (c : Context) (depth : ℕ) (x : ValueOrError) (xs : List ValueOrError) (n1 x1 n2 x2 : ℕ)
@@ -58,9 +62,9 @@ pub record ListGives : Type 0 where
   pub whole : (s : Setting) (p k : ℕ) (items : List Insn) (c : Context) (depth : ℕ) (xs : List ValueOrError) (n x : ℕ)
       → k < 60
       → ItemsGive s (p + 2) items c depth k xs n x
-      → Gives s p (list_code items k) c depth k (list_literal xs) (2 + (n + 1)) (1 + x)
+      → Gives s p (list_code items k) c depth k (list_literal xs) (2 + n) (1 + x)
 
--- a map takes 3 steps and 1 of charge beside its entries, an entry 6 steps and 2 of charge of its own
+-- a map takes 2 steps and 1 of charge beside its entries, an entry 6 steps and 2 of charge of its own
 pub record MapGives : Type 0 where
   pub none : (s : Setting) (p : ℕ) (c : Context) (depth k : ℕ) → EntriesGive s p [] c depth k [] 0 0
   pub more : (s : Setting) (p k : ℕ) (key entry entries : List Insn) (c : Context) (depth : ℕ) (x y : ValueOrError) (es : List (ValueOrError × ValueOrError)) (n1 x1 n2 x2 n3 x3 : ℕ)
@@ -73,4 +77,4 @@ pub record MapGives : Type 0 where
   pub whole : (s : Setting) (p k : ℕ) (entries : List Insn) (c : Context) (depth : ℕ) (es : List (ValueOrError × ValueOrError)) (n x : ℕ)
       → k < 60
       → EntriesGive s (p + 2) entries c depth k es n x
-      → Gives s p (map_code entries k) c depth k (map_literal es) (2 + (n + 1)) (1 + x)
+      → Gives s p (map_code entries k) c depth k (map_literal es) (2 + n) (1 + x)

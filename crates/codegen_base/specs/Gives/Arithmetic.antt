@@ -11,14 +11,19 @@ use Rattle.codegen_base.specs.Gives.Comparison.{TailGives}
 use Rattle.codegen_base.specs.Helpers.{joined_length}
 use Rattle.codegen_base.specs.Operators.{Combines, Converts}
 
+-- what the code of + and - behind its operands gives
 pub record AdditionsGive : Type 0 where
-  pub sum : (s : Setting) (p k : ℕ) (c : Context) (depth : ℕ) (x y : ValueOrError) → k < 64 → Combines s p (sum_code k) c depth k x y (sum_of x y) 22 (5 + joined_length (joined (Some x) (Some y)))
+  pub sum : (s : Setting) (p k : ℕ) (c : Context) (depth : ℕ) (x y : ValueOrError) → k < 64
+      → Combines s p (sum_code k) c depth k x y (sum_of x y) 22 (5 + joined_length (joined (Some x) (Some y)))
   pub difference : TailGives difference_code difference_of 21 5
 
+-- what the code of * / and % behind its operands gives
 pub record ProductsGive : Type 0 where
   pub product : TailGives product_code product_of 25 5
   pub quotient : TailGives (divided_code Sdiv) quotient_of 22 5
   pub remainder : TailGives (divided_code Smod) remainder_of 22 5
 
+-- what the code of a - before its operand gives
 abbrev pub NegationGives : Type 0
-NegationGives = (s : Setting) (p : ℕ) (c : Context) (depth base : ℕ) (x : ValueOrError) → base ≤ 64 → Converts s p negation_tail c depth base x (negation_of x) 12 3
+NegationGives = (s : Setting) (p : ℕ) (c : Context) (depth base : ℕ) (x : ValueOrError) → base ≤ 64
+    → Converts s p negation_tail c depth base x (negation_of x) 12 3

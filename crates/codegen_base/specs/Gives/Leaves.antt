@@ -10,10 +10,15 @@ use Rattle.codegen_base.specs.Contexts.{Context, Gives}
 use Rattle.codegen_base.specs.Engine.{Setting}
 use Rattle.codegen_base.specs.Gives.Selection.{HasText}
 
+-- what the code of a literal and of a name gives
 pub record LeavesGive : Type 0 where
   pub null : (s : Setting) (p : ℕ) (c : Context) (depth base : ℕ) → base ≤ 64 → Gives s p null_code c depth base (value null) 1 0
-  pub truth : (s : Setting) (p : ℕ) (c : Context) (depth base : ℕ) (b : Bool) → base ≤ 64 → Gives s p (truth_code b) c depth base (value (boolean b)) 1 0
-  pub int : (s : Setting) (p : ℕ) (c : Context) (depth base : ℕ) (z : ℤ) → base ≤ 64 → FitsSigned w64 z → Gives s p (int_code z) c depth base (value (int z)) 2 1
-  pub text : (s : Setting) (p : ℕ) (c : Context) (depth base : ℕ) (address : ℕ) (t : List ℕ) → base ≤ 64 → HasText c.constants address t → is_utf8 t ≡ true → Gives s p (text_code address (length t)) c depth base (value (text t)) 3 (1 + length t)
-  pub name : (s : Setting) (p : ℕ) (c : Context) (depth base : ℕ) (n : List ℕ) → base ≤ 64 → Gives s p (name_code n c.words) c depth base (name_value n c.environment) 1 0
+  pub truth : (s : Setting) (p : ℕ) (c : Context) (depth base : ℕ) (b : Bool) → base ≤ 64
+      → Gives s p (truth_code b) c depth base (value (boolean b)) 1 0
+  pub int : (s : Setting) (p : ℕ) (c : Context) (depth base : ℕ) (z : ℤ) → base ≤ 64 → FitsSigned w64 z
+      → Gives s p (int_code z) c depth base (value (int z)) 2 1
+  pub text : (s : Setting) (p : ℕ) (c : Context) (depth base : ℕ) (address : ℕ) (t : List ℕ) → base ≤ 64 → HasText c.constants address t
+      → is_utf8 t ≡ true → Gives s p (text_code address (length t)) c depth base (value (text t)) 3 (1 + length t)
+  pub name : (s : Setting) (p : ℕ) (c : Context) (depth base : ℕ) (n : List ℕ) → base ≤ 64
+      → Gives s p (name_code n c.words) c depth base (name_value n c.environment) 1 0
   pub error : (s : Setting) (p : ℕ) (c : Context) (depth base : ℕ) → base ≤ 64 → Gives s p (reference_code (pos 0)) c depth base error 1 0

@@ -11,7 +11,8 @@ use Rattle.codegen_base.specs.Pieces.{size}
 
 -- an operator for which one truth decides, with 7 steps of its own; the right side is left out where the left one decides
 abbrev pub AbsorbingGives : ℤ → ℤ → (ValueOrError → ValueOrError → ValueOrError) → Type 0
-AbsorbingGives decides other f = (s : Setting) (p k : ℕ) (left right : List Insn) (c : Context) (depth : ℕ) (x y : ValueOrError) (n1 x1 n2 x2 : ℕ)
+AbsorbingGives decides other f =
+    (s : Setting) (p k : ℕ) (left right : List Insn) (c : Context) (depth : ℕ) (x y : ValueOrError) (n1 x1 n2 x2 : ℕ)
     → k < 60
     → Gives s p left c depth k x n1 x1
     → Gives s (p + size left + 2) right c depth (k + 1) y n2 x2
@@ -19,15 +20,19 @@ AbsorbingGives decides other f = (s : Setting) (p k : ℕ) (left right : List In
 
 -- only the side that is chosen runs
 abbrev pub TernaryGives : Type 0
-TernaryGives = (s : Setting) (p base : ℕ) (condition yes no : List Insn) (c : Context) (depth : ℕ) (t x y : ValueOrError) (n1 x1 n2 x2 n3 x3 : ℕ)
+TernaryGives =
+    (s : Setting) (p base : ℕ) (condition yes no : List Insn) (c : Context) (depth : ℕ) (t x y : ValueOrError) (n1 x1 n2 x2 n3 x3 : ℕ)
     → base ≤ 64
     → Gives s p condition c depth base t n1 x1
     → (truth t ≡ Yes → Gives s (p + size condition + 2) yes c depth base x n2 x2)
     → (truth t ≡ No → Gives s (p + size condition + 2 + size yes + 1) no c depth base y n3 x3)
-    → Gives s p (ternary_code condition yes no) c depth base (ternary_of t x y) (n1 + (2 + (chosen (truth t) n2 n3 0 + 1))) (x1 + chosen (truth t) x2 x3 0)
+    → Gives s p (ternary_code condition yes no) c depth base (ternary_of t x y) (n1 + (2 + (chosen (truth t) n2 n3 0 + 1)))
+    (x1 + chosen (truth t) x2 x3 0)
 
+-- what the code of each logical operator and of the conditional gives
 pub record LogicGives : Type 0 where
   pub and : AbsorbingGives no_ref yes_ref and_of
   pub or : AbsorbingGives yes_ref no_ref or_of
-  pub not : (s : Setting) (p : ℕ) (c : Context) (depth base : ℕ) (x : ValueOrError) → base ≤ 64 → Converts s p not_tail c depth base x (not_of x) 2 1
+  pub not : (s : Setting) (p : ℕ) (c : Context) (depth base : ℕ) (x : ValueOrError) → base ≤ 64
+      → Converts s p not_tail c depth base x (not_of x) 2 1
   pub ternary : TernaryGives

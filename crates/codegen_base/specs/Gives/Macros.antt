@@ -1,4 +1,5 @@
--- Macros, within budgets: 128 steps for each visit of a node or an item and 16 of charge for each 1 of what was spent, less 8 of each for the whole.
+-- Macros, within budgets: 128 steps for each visit of a node or an item and 16 of charge for each 1 of what was spent,
+-- less 8 of each for the whole.
 use Rattle.std.specs.Prelude.{◌≡◌, ℕ, ◌+◌, ◌-◌, ◌*◌, ◌<◌, nat_le, Bool, true, false, List, [], ◌∷◌, Option, Some, None, slice_get}
 use Rattle.insn_codec.specs.declared.insn.Insn.{Insn}
 use Rattle.value_store.specs.Size.{result_depth}
@@ -14,10 +15,11 @@ use Rattle.codegen_base.specs.Engine.{Setting}
 use Rattle.codegen_base.specs.Loops.{with_item}
 use Rattle.codegen_base.specs.Pieces.{size}
 
--- the steps and the charge that so many visits and so much spent allow
+-- the steps that so many visits allow
 abbrev pub step_budget : ℕ → ℕ
 step_budget visits = 128 * visits - 8
 
+-- the charge that so much spent allows
 abbrev pub charge_budget : ℕ → ℕ
 charge_budget spent = 16 * spent - 8
 
@@ -26,6 +28,7 @@ abbrev pub each_visits : (Value → ℕ) → List Value → ℕ
 each_visits visits [] = 0
 each_visits visits (v ∷ vs) = 1 + visits v + each_visits visits vs
 
+-- the visits of a range's items; none where it is no range
 abbrev pub items_visits : (Value → ℕ) → Option (List Value) → ℕ
 items_visits visits (Some vs) = each_visits visits vs
 items_visits visits None = 0
@@ -35,6 +38,7 @@ abbrev pub each_spent : (Value → ℕ) → List Value → ℕ
 each_spent spent [] = 0
 each_spent spent (v ∷ vs) = 8 + spent v + each_spent spent vs
 
+-- what a range's items spend; nothing where it is no range
 abbrev pub items_spent : (Value → ℕ) → Option (List Value) → ℕ
 items_spent spent (Some vs) = each_spent spent vs
 items_spent spent None = 0
@@ -60,19 +64,31 @@ pub record IsItem (range : ValueOrError) (v : Value) : Type 0 where
 
 -- the code of the range and of the part, which runs for each item, makes the macro
 abbrev pub MacroGives : Type 0
-MacroGives = (m : Macro) (s : Setting) (p k depth : ℕ) (range part : List Insn) (c : Context) (n : List ℕ) (r : ValueOrError) (f : Value → ValueOrError) (w x : ℕ) (visits spent : Value → ℕ)
+MacroGives =
+    (m : Macro) (s : Setting) (p k depth : ℕ) (range part : List Insn) (c : Context) (n : List ℕ) (r : ValueOrError)
+    (f : Value → ValueOrError) (w x : ℕ) (visits spent : Value → ℕ)
     → k < 56
     → Gives s p range c depth k r (step_budget w) (charge_budget x)
-    → ((v : Value) → IsItem r v → Gives s (p + size range + 17) part (with_item c k n v) depth (k + 5) (f v) (step_budget (visits v)) (charge_budget (spent v)))
+    → ((v : Value) → IsItem r v
+    → Gives s (p + size range + 17) part (with_item c k n v) depth (k + 5) (f v) (step_budget (visits v)) (charge_budget (spent v)))
     → ((v : Value) → IsItem r v → holds_too_deep m v (f v) ≡ true → s.is_deep ≡ true)
-    → Gives s p (macro_code m k range part) c depth k (folded m f (range_of r)) (step_budget (1 + w + items_visits visits (range_of r))) (charge_budget (9 + x + items_spent spent (range_of r)))
+    → Gives s p (macro_code m k range part) c depth k (folded m f (range_of r)) (step_budget (1 + w + items_visits visits (range_of r)))
+    (charge_budget (9 + x + items_spent spent (range_of r)))
 
 -- `map` with a predicate, whose value for v is t v; the transform runs where that is true
 abbrev pub MapWhereGives : Type 0
-MapWhereGives = (s : Setting) (p k depth : ℕ) (range predicate transform : List Insn) (c : Context) (n : List ℕ) (r : ValueOrError) (t f : Value → ValueOrError) (w x : ℕ) (visits spent visits_then spent_then : Value → ℕ)
+MapWhereGives =
+    (s : Setting) (p k depth : ℕ) (range predicate transform : List Insn) (c : Context) (n : List ℕ) (r : ValueOrError)
+    (t f : Value → ValueOrError) (w x : ℕ) (visits spent visits_then spent_then : Value → ℕ)
     → k < 56
     → Gives s p range c depth k r (step_budget w) (charge_budget x)
-    → ((v : Value) → IsItem r v → Gives s (p + size range + 17) predicate (with_item c k n v) depth (k + 5) (t v) (step_budget (visits v)) (charge_budget (spent v)))
-    → ((v : Value) → IsItem r v → truth (t v) ≡ Yes → Gives s (p + size range + 17 + size predicate + 2) transform (with_item c k n v) depth (k + 5) (f v) (step_budget (visits_then v)) (charge_budget (spent_then v)))
+    → ((v : Value) → IsItem r v
+    → Gives s (p + size range + 17) predicate (with_item c k n v) depth (k + 5) (t v) (step_budget (visits v))
+    (charge_budget (spent v)))
+    → ((v : Value) → IsItem r v → truth (t v) ≡ Yes
+    → Gives s (p + size range + 17 + size predicate + 2) transform (with_item c k n v) depth (k + 5) (f v) (step_budget (visits_then v))
+    (charge_budget (spent_then v)))
     → ((v : Value) → IsItem r v → truth (t v) ≡ Yes → is_too_deep (f v) ≡ true → s.is_deep ≡ true)
-    → Gives s p (map_where_code k range predicate transform) c depth k (folded_map (λ v. truth (t v)) f (range_of r)) (step_budget (1 + w + items_visits (λ v. visits v + chosen (truth (t v)) (visits_then v) 0 0) (range_of r))) (charge_budget (9 + x + items_spent (λ v. spent v + chosen (truth (t v)) (spent_then v) 0 0) (range_of r)))
+    → Gives s p (map_where_code k range predicate transform) c depth k (folded_map (λ v. truth (t v)) f (range_of r))
+    (step_budget (1 + w + items_visits (λ v. visits v + chosen (truth (t v)) (visits_then v) 0 0) (range_of r)))
+    (charge_budget (9 + x + items_spent (λ v. spent v + chosen (truth (t v)) (spent_then v) 0 0) (range_of r)))

@@ -19,17 +19,22 @@ pub record HasText (constants : List ℕ) (address : ℕ) (bytes : List ℕ) : T
 
 -- the piece behind an operand asks for a key whose text stands at the address
 abbrev pub KeyedGives : (ℕ → ℕ → List Insn) → (ValueOrError → List ℕ → ValueOrError) → ℕ → ℕ → Type 0
-KeyedGives tail f steps charge = (s : Setting) (p : ℕ) (c : Context) (depth base : ℕ) (x : ValueOrError) (address : ℕ) (key : List ℕ) → base ≤ 64 → HasText c.constants address key → Converts s p (tail address (length key)) c depth base x (f x key) steps charge
+KeyedGives tail f steps charge =
+    (s : Setting) (p : ℕ) (c : Context) (depth base : ℕ) (x : ValueOrError) (address : ℕ) (key : List ℕ) → base ≤ 64
+    → HasText c.constants address key → Converts s p (tail address (length key)) c depth base x (f x key) steps charge
 
 -- how many bytes a text has, and else 0
 abbrev pub text_length : ValueOrError → ℕ
 text_length (value (text s)) = length s
 text_length _ = 0
 
+-- what the code of fields, indices, functions and tests behind its operands gives
 pub record SelectionGives : Type 0 where
   pub field : KeyedGives field_tail field_of 4 1
   pub has : KeyedGives has_tail has_of 4 1
   pub index : TailGives index_tail index_of 3 1
-  pub size : (s : Setting) (p : ℕ) (c : Context) (depth base : ℕ) (x : ValueOrError) → base ≤ 64 → Converts s p size_tail c depth base x (size_of x) 2 1
-  pub string : (s : Setting) (p : ℕ) (c : Context) (depth base : ℕ) (x : ValueOrError) → base ≤ 64 → Converts s p string_tail c depth base x (string_of x) 6 (2 + text_length (string_of x))
+  pub size : (s : Setting) (p : ℕ) (c : Context) (depth base : ℕ) (x : ValueOrError) → base ≤ 64
+      → Converts s p size_tail c depth base x (size_of x) 2 1
+  pub string : (s : Setting) (p : ℕ) (c : Context) (depth base : ℕ) (x : ValueOrError) → base ≤ 64
+      → Converts s p string_tail c depth base x (string_of x) 6 (2 + text_length (string_of x))
   pub test : (t : TextTest) → TailGives (test_tail t) (text_test_of (Some t)) 3 1

@@ -2,10 +2,10 @@
 
 ghost use Rattle.std.specs.Prelude.{◌≡◌, map, All, OnOk};
 ghost use Rattle.cel_macros.specs.CoreView.{core_view};
-ghost use Rattle.policy_glue.specs.Emission.{with_condition, with_conditions, Fits};
+ghost use Rattle.policy_glue.specs.Emission.{with_condition, with_conditions, with_decided, Fits};
 
 use super::pieces::{put_each, put_expression};
-use super::tails::condition_tail;
+use super::tails::{condition_tail, decided_tail};
 use crate::failure_policy::FailurePolicy;
 use cel_macros::Core;
 use cel_types::Scope;
@@ -26,6 +26,17 @@ pub(super) fn conditions(
         put_condition(alloc, failure_policy, core, emitter)?;
     }
     Ok(())
+}
+
+/// Puts behind the conditions the end of the program where they decide it, if there are any. The error
+/// says that there is no memory for it.
+pub(super) fn decided(cores: &[Core], emitter: &mut Emitter) -> Result<(), AllocError>
+    ensures { OnOk result (emitter.new ≡ with_decided emitter.old (map core_view cores.now)) }
+{
+    if cores.is_empty() {
+        return Ok(());
+    }
+    put_each(&decided_tail(), emitter)
 }
 
 /// Puts the condition into the emitter. It may use no variable.

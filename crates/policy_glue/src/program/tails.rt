@@ -2,18 +2,17 @@
 
 ghost use Rattle.std.specs.Prelude.{◌≡◌, ◌<◌, pos};
 ghost use Rattle.codegen_base.specs.Words.{verdict_address as address_of_word};
-ghost use Rattle.policy_glue.specs.Emission.{unless_denied as jump_unless_denied};
 ghost use Rattle.policy_glue.specs.Program as specs;
 ghost use Rattle.policy_glue.specs.Layout.{most_validations, outcome_word};
 ghost use Rattle.policy_glue.specs.Verdict.{undecided as outcome_undecided};
 
 use crate::failure_policy::FailurePolicy;
-use crate::verdict::{FIRST_MESSAGE, FIRST_RESULT, VERDICT};
-use Register::{R0, R1, R2, R3, R6};
+use crate::verdict::{FIRST_MESSAGE, VERDICT};
+use Register::{R0, R1, R2, R6};
 use codegen_base::helpers::{KIND, TEXT_KIND};
 use codegen_base::instructions::{add, call, copy, load_at, load_wide, put, skip_if, store_at};
 use codegen_base::references::{NO, YES};
-use insn_codec::{Comparison, Insn, Register};
+use insn_codec::{Comparison, Insn, Register, Size};
 
 /// The outcome of a policy of which a condition is false.
 const SKIPPED: i32 = 1;
@@ -27,9 +26,6 @@ const DENIED: i32 = 3;
 /// The outcome of a policy of which no validation denies.
 const ADMITTED: i32 = 4;
 
-/// What is kept of a validation that is true.
-const HOLDS: i32 = 0;
-
 /// What is kept of a validation that is false.
 const FAILS: i32 = 1;
 
@@ -39,8 +35,11 @@ const ERRS: i32 = 2;
 /// The word of the verdict in which the denials are counted.
 const DENIALS: u64 = 1;
 
-/// The slots of `count_code`.
-pub(super) const COUNT_SLOTS: u64 = 5;
+/// The slots of `denial_code`.
+pub(super) const DENIAL_SLOTS: u64 = 9;
+
+/// Where in `denial_code` an error leaves it, counted from the jump before it.
+pub(super) const LEAVE_SLOT: u64 = 5;
 
 /// R1 gets the address of word i of the verdict. This takes two slots.
 fn verdict_word(i: u64) -> Insn
@@ -89,50 +88,51 @@ pub(super) fn decided_tail() -> [Insn; 4]
     ]
 }
 
-/// 1 where an error denies.
-fn error_denies(failure_policy: FailurePolicy) -> i32
-    ensures { result ≡ pos (specs.error_denies failure_policy) }
+/// Past so many slots where the validation is true: its word is 0 as it is.
+pub(super) fn if_true(slots: u64) -> Insn
+    requires { slots < 32768 }
+    ensures { result ≡ specs.if_true slots }
 {
-    match failure_policy {
+    skip_if(Comparison::Eq, R0, YES, slots as usize)
+}
+
+/// Where an error goes: to the count of the denials, or past so many slots where it does not deny.
+pub(super) fn leave_error(failure_policy: FailurePolicy, slots: u64) -> Insn
+    requires { slots < 32768 }
+    ensures { result ≡ specs.leave_error failure_policy slots }
+{
+    let way = match failure_policy {
         FailurePolicy::Fail => 1,
-        FailurePolicy::Ignore => 0,
+        FailurePolicy::Ignore => slots,
+    };
+    Insn::Jump { offset: way as i16 }
+}
+
+/// Word i of the verdict gets the number, where R1 has the address of the denials.
+fn put_result(i: usize, n: i32) -> Insn
+    requires { i < most_validations }
+    ensures { result ≡ Insn.StoreImm Size.Dw Register.R1 (pos (specs.result_offset i)) n }
+{
+    Insn::StoreImm {
+        size: Size::Dw,
+        dst: R1,
+        offset: 8 * (i as i16 + 1),
+        imm: n,
     }
 }
 
-/// Behind validation i: its word, and in R3 whether it denies.
-#[tactic(auto, unfolding(crate::specs::Program::result_tail))]
-pub(super) fn result_tail(failure_policy: FailurePolicy, i: usize) -> [Insn; 10]
+/// Behind validation i without a message, where it is not true: its word, and one more denial.
+#[tactic(auto, unfolding(crate::specs::Program::denial_code))]
+pub(super) fn denial_code(failure_policy: FailurePolicy, i: usize) -> [Insn; 8]
     requires { i < most_validations }
-    ensures { result ≡ specs.result_tail failure_policy i }
-{
-    [
-        verdict_word(FIRST_RESULT + i as u64),
-        put(R2, HOLDS),
-        put(R3, 0),
-        skip_if(Comparison::Eq, R0, YES, 5),
-        put(R2, FAILS),
-        put(R3, 1),
-        skip_if(Comparison::Eq, R0, NO, 2),
-        put(R2, ERRS),
-        put(R3, error_denies(failure_policy)),
-        store_at(R1, R2),
-    ]
-}
-
-/// Past so many slots where the validation does not deny.
-pub(super) fn unless_denied(slots: u64) -> Insn
-    requires { slots < 32768 }
-    ensures { result ≡ jump_unless_denied slots }
-{
-    skip_if(Comparison::Eq, R3, 0, slots as usize)
-}
-
-/// One more denial.
-pub(super) fn count_code() -> [Insn; 4]
-    ensures { result ≡ specs.count_code }
+    ensures { result ≡ specs.denial_code failure_policy i 0 }
 {
     [
         verdict_word(DENIALS),
+        skip_if(Comparison::Eq, R0, NO, 2),
+        put_result(i, ERRS),
+        leave_error(failure_policy, DENIAL_SLOTS - LEAVE_SLOT),
+        put_result(i, FAILS),
         load_at(R2, R1),
         add(R2, 1),
         store_at(R1, R2),
@@ -157,16 +157,20 @@ pub(super) fn message_tail(i: usize) -> [Insn; 6]
 
 /// At the end: the outcome of a policy that ran.
 #[tactic(auto, unfolding(crate::specs::Program::outcome_tail))]
-pub(super) fn outcome_tail() -> [Insn; 7]
+pub(super) fn outcome_tail() -> [Insn; 6]
     ensures { result ≡ specs.outcome_tail }
 {
     [
-        verdict_word(DENIALS),
-        load_at(R2, R1),
+        verdict_word(0),
+        Insn::Load {
+            size: Size::Dw,
+            dst: R2,
+            src: R1,
+            offset: 8 * DENIALS as i16,
+        },
         put(R0, ADMITTED),
         skip_if(Comparison::Eq, R2, 0, 1),
         put(R0, DENIED),
-        verdict_word(0),
         store_at(R1, R0),
     ]
 }

@@ -3,11 +3,11 @@
 ghost use Rattle.std.specs.Prelude.{◌≡◌, ◌<◌, ◌≤◌, ◌+◌, length, map, option_map, All, OnOk, IfOk};
 ghost use Rattle.cel_macros.specs.CoreView.{core_view};
 ghost use Rattle.policy_glue.specs.Checked.{rule_trees};
-ghost use Rattle.policy_glue.specs.Emission.{with_denial, with_message, with_validation, with_validations, Fits, MayFit};
+ghost use Rattle.policy_glue.specs.Emission.{with_message, with_result, with_validation, with_validations, Fits, MayFit};
 ghost use Rattle.policy_glue.specs.Layout.{most_validations};
 
 use super::pieces::{put_each, put_expression};
-use super::tails::{COUNT_SLOTS, count_code, message_tail, result_tail, unless_denied};
+use super::tails::{DENIAL_SLOTS, LEAVE_SLOT, denial_code, if_true, leave_error, message_tail};
 use crate::checked_validation::CheckedValidation;
 use crate::failure_policy::FailurePolicy;
 use cel_macros::Core;
@@ -50,14 +50,21 @@ fn put_validation(
 {
     emitter.count(1);
     put_expression(alloc, &validation.expression, scope, emitter)?;
-    put_each(&result_tail(failure_policy, place), emitter)?;
-    put_denial(alloc, place, &validation.message, scope, emitter)
+    put_result(
+        alloc,
+        failure_policy,
+        place,
+        &validation.message,
+        scope,
+        emitter,
+    )
 }
 
-/// Puts into the emitter what is done where the validation at this place denies: the denial is counted,
-/// and its message, if it has an expression for one, evaluated.
-fn put_denial(
+/// Puts into the emitter what is done where the validation at this place is not true: its word is kept,
+/// a denial counted, and its message, if it has an expression for one, evaluated.
+fn put_result(
     alloc: Global,
+    failure_policy: FailurePolicy,
     place: usize,
     message: &Option<Core>,
     scope: &Scope,
@@ -65,13 +72,17 @@ fn put_denial(
 ) -> Result<(), AllocError>
     requires message { MayFit (option_map core_view message.now) }
     requires few { place < most_validations }
-    ensures { OnOk result (emitter.new ≡ with_denial place scope.now emitter.old (option_map core_view message.now)) }
+    ensures { OnOk result (emitter.new ≡ with_result failure_policy place scope.now emitter.old (option_map core_view message.now)) }
 {
-    let jump = emitter.put(&unless_denied(COUNT_SLOTS))?;
-    put_each(&count_code(), emitter)?;
+    let first = emitter.put(&if_true(DENIAL_SLOTS))?;
+    put_each(&denial_code(failure_policy, place), emitter)?;
     if let Some(core) = message {
         let last = put_message(alloc, place, core, scope, emitter)?;
-        emitter.patch(jump, &unless_denied(last - jump));
+        emitter.patch(first, &if_true(last - first));
+        emitter.patch(
+            first + LEAVE_SLOT,
+            &leave_error(failure_policy, last - first - LEAVE_SLOT),
+        );
     }
     Ok(())
 }

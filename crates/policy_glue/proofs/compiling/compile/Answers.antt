@@ -5,19 +5,19 @@ use Rattle.policy_glue.specs.Emission.{Emits}
 use Rattle.policy_glue.specs.Reading.{IsAccepted}
 use Rattle.policy_glue.specs.Trees.{PolicyTree}
 use Rattle.policy_glue.proofs.Accepted.{has_trees}
-use Rattle.policy_glue.proofs.Compiles.{image_compiled, image_due, refused_part, refused_whole}
+use Rattle.policy_glue.proofs.Compiles.{image_compiled, image_due, image_is_one, refused_part, refused_whole}
 use Rattle.policy_glue.proofs.Judged.{passed_on}
 use Rattle.policy_glue.proofs.ProgramSizes.{program_is_short}
 use Rattle.policy_glue.proofs.compiling.compile.Goals as goal
 
-pub returns-in_err-checked : goal.returns-in_err-checked
-returns-in_err-checked c = passed_on (CompilesTo c.args.policy.now) c.in_err-checked.field-0.0 c.from_residual.result (refused_part c.args.policy.now c.in_err-checked.field-0.0 c.in_err-checked.ensures) c.from_residual.ensures.0 c.from_residual.ensures.1
+pub returns-in_err-checked-clause-compiles : goal.returns-in_err-checked-clause-compiles
+returns-in_err-checked-clause-compiles c = passed_on (CompilesTo c.args.policy.now) c.in_err-checked.field-0.0 c.from_residual.result (refused_part c.args.policy.now c.in_err-checked.field-0.0 c.in_err-checked.ensures) c.from_residual.ensures.0 c.from_residual.ensures.1
 
 pub program-requires : goal.program-requires
 program-requires c = has_trees c.args.policy.now c.in_ok-checked.checked (subst IsAccepted c.policy.view_is c.policy.invariant) c.in_ok-checked.ensures
 
-pub returns-in_err-code : goal.returns-in_err-code
-returns-in_err-code c =
+pub returns-in_err-code-clause-compiles : goal.returns-in_err-code-clause-compiles
+returns-in_err-code-clause-compiles c =
     let e = c.in_err-code.field-0.0 in
     let emits = subst (λ p. (t : PolicyTree) → IsChecked c.in_ok-checked.checked t → Emits p.failure_policy t (Err e)) c.policy.view_is c.in_err-code.ensures in
     passed_on (CompilesTo c.args.policy.now) e c.from_residual-in_err-code.result (refused_whole c.args.policy.now c.in_ok-checked.checked e c.in_ok-checked.ensures emits) c.from_residual-in_err-code.ensures.0 c.from_residual-in_err-code.ensures.1
@@ -33,4 +33,7 @@ returns c =
     let checks = c.in_ok-checked.ensures in
     let emits = subst (λ p. (t : PolicyTree) → IsChecked c.in_ok-checked.checked t → Emits p.failure_policy t (Ok (c.in_ok-code.code, c.in_ok-code.constants))) c.policy.view_is c.in_ok-code.ensures in
     let due = emits checks.0 checks.1 in
-    image_compiled program_is_short c.program_decides.ensures.decides c.program_decides.ensures.stops c.args.policy.now c.in_ok-checked.checked c.in_ok-code.code.items c.in_ok-code.constants.items c.image.result (subst IsAccepted c.policy.view_is c.policy.invariant) checks due.0 due.1 due.2 c.image.ensures.is c.image.ensures.code c.image.ensures.constants
+    record {
+      compiles = image_compiled program_is_short c.program_decides.ensures.decides c.program_decides.ensures.stops c.args.policy.now c.in_ok-checked.checked c.in_ok-code.code.items c.in_ok-code.constants.items c.image.result (subst IsAccepted c.policy.view_is c.policy.invariant) checks due.0 due.1 due.2 c.image.ensures.is c.image.ensures.code c.image.ensures.constants;
+      one = image_is_one c.args.policy.now c.in_ok-checked.checked c.in_ok-code.code.items c.in_ok-code.constants.items c.image.result checks due.0 due.1 due.2 c.image.ensures.is;
+    }

@@ -19,14 +19,14 @@ variables-requires-clause-declared c =
 pub conditions-requires : goal.conditions-requires
 conditions-requires c =
     let has = c.requires in
-    conditions_fit has.trees.conditions c.as_slice-2.result.now has.conditions (ap (map core_view) c.as_slice-2.ensures.value ∙ has.are.conditions)
+    conditions_fit has.trees.conditions c.as_slice-cores.result.now has.conditions (ap (map core_view) c.as_slice-cores.ensures.value ∙ has.are.conditions)
 
 pub validations-requires-clause-expressions : goal.validations-requires-clause-expressions
 validations-requires-clause-expressions c =
     let has = c.requires in
-    rules_fit (scope_after has.trees.variables) has.trees.validations c.as_slice-3.result.now has.validations (ap (map rule_trees) c.as_slice-3.ensures.value ∙ has.are.validations)
+    rules_fit (scope_after has.trees.variables) has.trees.validations c.as_slice-2.result.now has.validations (ap (map rule_trees) c.as_slice-2.ensures.value ∙ has.are.validations)
 
 pub validations-requires-clause-messages : goal.validations-requires-clause-messages
 validations-requires-clause-messages c =
     let has = c.requires in
-    messages_fit (scope_after has.trees.variables) has.trees.validations c.as_slice-3.result.now has.validations (ap (map rule_trees) c.as_slice-3.ensures.value ∙ has.are.validations)
+    messages_fit (scope_after has.trees.variables) has.trees.validations c.as_slice-2.result.now has.validations (ap (map rule_trees) c.as_slice-2.ensures.value ∙ has.are.validations)
