@@ -2,3 +2,9 @@ mod OneLine
 mod Going
 mod Kept
 mod Saying
+mod Opened
+mod Programs
+mod Started
+mod Shape
+mod SaidOnce
+mod LineOnce

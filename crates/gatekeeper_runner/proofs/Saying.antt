@@ -1,13 +1,25 @@
 -- What the policies say, gate after gate.
-use Rattle.std.proofs.Common.{◌≡◌, ℕ, zero, suc, ◌+◌, ◌<◌, ◌≤◌, List, [], ◌∷◌, ◌++◌, drop, length, refl, sym, ap, ◌∙◌, subst, arith, append_assoc, append-nil, Result, Ok, Err}
-use Rattle.review_runner.specs.Deciding.{IsPolicyOf}
+use Rattle.std.proofs.Common.{◌≡◌, ℕ, zero, suc, ◌+◌, ◌<◌, ◌≤◌, List, [], ◌∷◌, ◌++◌, Option, drop, length, refl, sym, ap, ◌∙◌, subst, arith, append_assoc, append-nil, Result, Ok, Err}
+use Rattle.policy_glue.specs.OneImage.{OneImage}
+use Rattle.review_runner.specs.Deciding.{Documents}
 use Rattle.review_runner.specs.Saying.{Said, Says, said_view}
+use Rattle.review_runner.specs.Standing.{StandsBy, this}
+use Rattle.review_runner.proofs.Standing.{of_one}
 use Rattle.review_runner.specs.declared.said.Said.{Said as CodeSaid}
 use Rattle.std.specs.Prelude.{IsErrAnd, get_or}
 use Rattle.std.proofs.lemmas.List.{drop_more}
 use Rattle.review_runner.specs.declared.compiled_policy.CompiledPolicy.{CompiledPolicy}
 use Rattle.review_runner.specs.declared.run_error.RunError.{RunError}
-use Rattle.gatekeeper_runner.specs.Together.{AllSay, AreGates, OneRefuses, SayTogether, Terms, none, next, under, unsaid, with_next}
+use Rattle.gatekeeper_runner.specs.Together.{AllSay, AreGates, IsGateOf, OneRefuses, SayTogether, SaysAlone, Terms, none, next, under, unsaid, with_next}
+
+-- what a gate says alone
+pub says_alone : (t : Terms) (policy review : List ℕ) (gate : CompiledPolicy) (namespace params : Option (List ℕ)) (result : Result Said RunError) → IsGateOf policy gate → namespace ≡ t.namespace → params ≡ t.params
+    → (let d : Documents = record { policy = policy; review = review; namespace = namespace; params = params } in Says d t.steps result × StandsBy (this gate.image) d t.steps result) → SaysAlone t policy review result
+says_alone t policy review gate namespace params result of same also says =
+    let d : Documents = record { policy = policy; review = review; namespace = namespace; params = params } in
+    let so : d ≡ under t policy review = λ i. record { policy = policy; review = review; namespace = same i; params = also i } in
+    let stands : StandsBy OneImage d t.steps result = of_one d t.steps gate.policy gate.image result of.0.0 of.1 says.1 in
+    subst (λ (e : Documents). Says e t.steps result × StandsBy OneImage e t.steps result) so (says.0, stands)
 
 -- these gates are left
 pub record Left (t : Terms) (review : List ℕ) (gates : List CompiledPolicy) (said : Said) : Type 0 where
@@ -29,7 +41,7 @@ left_end t review said l = ended t review said l.before l.after l.are l.are_gate
 
 -- the next gate, of which the policy is the first that is left
 took : (t : Terms) (review : List ℕ) (gate : CompiledPolicy) (gates : List CompiledPolicy) (so_far said : Said) (before after : List (List ℕ)) → t.policies ≡ before ++ after → AreGates after (gate ∷ gates) → AllSay t review before so_far
-    → ((policy : List ℕ) → IsPolicyOf policy gate → Says (under t policy review) t.steps (Ok said)) → Left t review gates (with_next so_far said)
+    → ((policy : List ℕ) → IsGateOf policy gate → SaysAlone t policy review (Ok said)) → Left t review gates (with_next so_far said)
 took t review gate gates so_far said before [] are gates_are say says = absurd gates_are
 took t review gate gates so_far said before (p ∷ ps) are gates_are say says = record {
   before = before ++ p ∷ [];
@@ -40,12 +52,12 @@ took t review gate gates so_far said before (p ∷ ps) are gates_are say says = 
 }
 
 pub left_next : (t : Terms) (review : List ℕ) (gate : CompiledPolicy) (gates : List CompiledPolicy) (so_far said both : Said) → Left t review (gate ∷ gates) so_far
-    → ((policy : List ℕ) → IsPolicyOf policy gate → Says (under t policy review) t.steps (Ok said)) → both ≡ with_next so_far said → Left t review gates both
+    → ((policy : List ℕ) → IsGateOf policy gate → SaysAlone t policy review (Ok said)) → both ≡ with_next so_far said → Left t review gates both
 left_next t review gate gates so_far said both l says is =
     subst (Left t review gates) (sym is) (took t review gate gates so_far said l.before l.after l.are l.are_gates l.say says)
 
 refuses_at : (t : Terms) (review : List ℕ) (gate : CompiledPolicy) (gates : List CompiledPolicy) (so_far : Said) (e : RunError) (before after : List (List ℕ)) → t.policies ≡ before ++ after → AreGates after (gate ∷ gates) → AllSay t review before so_far
-    → ((policy : List ℕ) → IsPolicyOf policy gate → Says (under t policy review) t.steps (Err e)) → OneRefuses t review e
+    → ((policy : List ℕ) → IsGateOf policy gate → SaysAlone t policy review (Err e)) → OneRefuses t review e
 refuses_at t review gate gates so_far e before [] are gates_are say says = absurd gates_are
 refuses_at t review gate gates so_far e before (p ∷ ps) are gates_are say says = record {
   before = before;
@@ -58,7 +70,7 @@ refuses_at t review gate gates so_far e before (p ∷ ps) are gates_are say says
 }
 
 pub left_refused : (t : Terms) (review : List ℕ) (gate : CompiledPolicy) (gates : List CompiledPolicy) (so_far : Said) (e : RunError) → Left t review (gate ∷ gates) so_far
-    → ((policy : List ℕ) → IsPolicyOf policy gate → Says (under t policy review) t.steps (Err e)) → OneRefuses t review e
+    → ((policy : List ℕ) → IsGateOf policy gate → SaysAlone t policy review (Err e)) → OneRefuses t review e
 left_refused t review gate gates so_far e l says = refuses_at t review gate gates so_far e l.before l.after l.are l.are_gates l.say says
 
 -- a refusal is handed on

@@ -1,3 +1,7 @@
 pub mod Together
 pub mod Lines
 pub mod Told
+pub mod Orders
+pub mod Starting
+pub mod Program
+pub mod SameAnswers

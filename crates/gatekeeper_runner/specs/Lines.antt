@@ -1,5 +1,6 @@
 -- What is answered to a line.
-use Rattle.std.specs.Prelude.{◌≡◌, ℕ, ◌<◌, ◌≤◌, Bool, true, false, List, [], ◌∷◌, ◌++◌, codes, length, suc, take, Option, Some, None, option_and_then, Result, Ok, Err}
+use Rattle.std.specs.Prelude.{◌≡◌, ℕ, ◌<◌, ◌≤◌, Bool, true, false, List, [], ◌∷◌, ◌++◌, codes, length, suc, take}
+use Rattle.std.specs.Prelude.{Option, Some, None, option_and_then, Result, Ok, Err}
 use Rattle.serde_json.specs.Data as json
 use Rattle.serde_json.specs.Find.{get}
 use Rattle.serde_json.specs.Written.{compact_text}
@@ -31,7 +32,8 @@ uid_shown document = option_and_then text_in (option_and_then (get (codes "uid")
 
 abbrev pub refusal_tree : List ℕ → Option (List ℕ) → json.Data
 refusal_tree name None = json.object (json.member (codes "refused") (json.string name) json.no_members)
-refusal_tree name (Some uid) = json.object (json.member (codes "refused") (json.string name) (json.member (codes "uid") (json.string uid) json.no_members))
+refusal_tree name (Some uid) =
+    json.object (json.member (codes "refused") (json.string name) (json.member (codes "uid") (json.string uid) json.no_members))
 
 -- compact JSON: the name of the refusal, and the uid where there is one
 unfoldable pub refusal_text : RunError → Option (List ℕ) → List ℕ

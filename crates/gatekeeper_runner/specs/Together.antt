@@ -1,8 +1,10 @@
 -- What several policies say of a review together.
 use Rattle.std.specs.Prelude.{◌≡◌, ℕ, List, [], ◌∷◌, ◌++◌, codes, option_map, Option, Some, None, Result, Ok, Err}
 use Rattle.policy_glue.specs.Objections.{Objection}
+use Rattle.policy_glue.specs.OneImage.{OneImage}
 use Rattle.review_runner.specs.Deciding.{Documents, IsPolicyOf}
 use Rattle.review_runner.specs.Saying.{Said, Says}
+use Rattle.review_runner.specs.Standing.{StandsBy}
 use Rattle.review_runner.specs.declared.compiled_policy.CompiledPolicy.{CompiledPolicy}
 use Rattle.review_runner.specs.declared.run_error.RunError.{RunError}
 use Rattle.gatekeeper_runner.specs.declared.keeper.Keeper.{Keeper}
@@ -29,11 +31,16 @@ unsaid = record { objection = None; uid = [] }
 abbrev pub with_next : Said → Said → Said
 with_next so_far next = record { objection = and_also so_far.objection next.objection; uid = next.uid }
 
+-- what one policy says of a review, as whose image stands
+abbrev pub SaysAlone : Terms → List ℕ → List ℕ → Result Said RunError → Type 0
+SaysAlone t policy review result =
+    Says (under t policy review) t.steps result × StandsBy OneImage (under t policy review) t.steps result
+
 -- what policies say of a review, of which none refuses it
 pub data AllSay (t : Terms) (review : List ℕ) : List (List ℕ) → Said → Type 0 where
   none : AllSay t review [] unsaid
-  next : {policies : List (List ℕ)} {policy : List ℕ} {so_far said : Said} → AllSay t review policies so_far → Says (under t policy review) t.steps (Ok said)
-      → AllSay t review (policies ++ policy ∷ []) (with_next so_far said)
+  next : {policies : List (List ℕ)} {policy : List ℕ} {so_far said : Said} → AllSay t review policies so_far
+      → SaysAlone t policy review (Ok said) → AllSay t review (policies ++ policy ∷ []) (with_next so_far said)
 
 -- a policy refuses a review, and none before it does
 pub record OneRefuses (t : Terms) (review : List ℕ) (e : RunError) : Type 0 where
@@ -43,7 +50,7 @@ pub record OneRefuses (t : Terms) (review : List ℕ) (e : RunError) : Type 0 wh
   pub are : t.policies ≡ before ++ policy ∷ after
   pub so_far : Said
   pub say : AllSay t review before so_far
-  pub refuses : Says (under t policy review) t.steps (Err e)
+  pub refuses : SaysAlone t policy review (Err e)
 
 -- what the policies say together, or the first refusal
 abbrev pub SayTogether : Terms → List ℕ → Result Said RunError → Type 0
@@ -52,12 +59,16 @@ SayTogether t review (Err e) = OneRefuses t review e
 
 -- ---- what keeps them
 
+-- the gate of this document
+abbrev pub IsGateOf : List ℕ → CompiledPolicy → Type 0
+IsGateOf policy gate = IsPolicyOf policy gate × OneImage gate.policy gate.image
+
 -- the gates of these documents
 abbrev pub AreGates : List (List ℕ) → List CompiledPolicy → Type 0
 AreGates [] [] = Unit {0}
 AreGates [] (gate ∷ gates) = ⊥
 AreGates (policy ∷ policies) [] = ⊥
-AreGates (policy ∷ policies) (gate ∷ gates) = IsPolicyOf policy gate × AreGates policies gates
+AreGates (policy ∷ policies) (gate ∷ gates) = IsGateOf policy gate × AreGates policies gates
 
 abbrev pub terms_of : List (List ℕ) → Keeper → Terms
 terms_of policies k = record {

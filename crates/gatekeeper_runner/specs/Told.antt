@@ -11,7 +11,8 @@ use Rattle.gatekeeper_runner.specs.Together.{Terms}
 -- the joined answers to lines
 pub data AnswersEach (t : Terms) : List (List ℕ) → List ℕ → Type 0 where
   none : AnswersEach t [] []
-  more : {lines : List (List ℕ)} {text : List ℕ} {line answer : List ℕ} → AnswersEach t lines text → Answers t line answer → AnswersEach t (lines ++ line ∷ []) (text ++ answer)
+  more : {lines : List (List ℕ)} {text : List ℕ} {line answer : List ℕ} → AnswersEach t lines text → Answers t line answer
+      → AnswersEach t (lines ++ line ∷ []) (text ++ answer)
 
 -- all lines of the input were answered
 pub record ToldAll (t : Terms) (input before : List ℕ) (left written : Option (List ℕ)) : Type 0 where
@@ -55,7 +56,8 @@ ByResult t input before left written (Err Memory) = ⊥
 
 -- what answering does to a reader and a writer
 pub record AnswersLines (t : Terms) (r r_after w w_after : Stream) (result : Result (Unit {0}) SessionError) : Type 0 where
-  pub told : (input before : List ℕ) → r.bytes ≡ Some input → w.bytes ≡ Some before → ByResult t input before r_after.bytes w_after.bytes result
+  pub told : (input before : List ℕ) → r.bytes ≡ Some input → w.bytes ≡ Some before
+      → ByResult t input before r_after.bytes w_after.bytes result
   pub fails : FailsByResult r.failed r_after.failed w.failed w_after.failed result
 
 -- ---- parts

@@ -1,8 +1,7 @@
 //! What decides the lines.
 ghost use Rattle.std.specs.Prelude.{ℕ, List};
-ghost use Rattle.review_runner.specs.Deciding.{IsPolicyOf};
-ghost use Rattle.review_runner.specs.Saying.{said_view, Says};
-ghost use Rattle.gatekeeper_runner.specs.Together.{terms_of, under, AreGates, SayTogether};
+ghost use Rattle.review_runner.specs.Saying.{said_view};
+ghost use Rattle.gatekeeper_runner.specs.Together.{terms_of, AreGates, IsGateOf, SayTogether, SaysAlone};
 
 use crate::together::{unsaid, with_next};
 use review_runner::{Gate, RunError, Said};
@@ -37,7 +36,7 @@ impl Keeper {
     }
     /// What one policy says of a review.
     fn say_by(&self, gate: &Gate, review: &[u8]) -> Result<Said, RunError>
-        ensures { (policies : List (List ℕ)) (policy : List ℕ) → IsPolicyOf policy gate.now → Says (under (terms_of policies self.now) policy review.now) self.now.steps (said_view result) }
+        ensures { (policies : List (List ℕ)) (policy : List ℕ) → IsGateOf policy gate.now → SaysAlone (terms_of policies self.now) policy review.now (said_view result) }
     {
         gate.say(
             review,

@@ -1,11 +1,19 @@
-//! Reviews read line by line and decided under policies that are compiled once: `answer_lines`.
+//! Reviews read line by line and decided under policies that are compiled once. `exit_code` is the
+//! program whole, and `answer_lines` what it does with its input.
 #![tactic(auto)]
 
 mod answering;
+mod command_line;
 mod keeper;
+pub mod laws;
 mod line;
+mod order;
+mod ordering;
+mod program;
 mod refusing;
+mod starting;
 mod together;
 
 pub use answering::answer_lines;
 pub use keeper::Keeper;
+pub use program::exit_code;

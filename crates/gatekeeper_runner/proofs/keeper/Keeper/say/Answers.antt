@@ -21,7 +21,7 @@ pub returns-in_err-said : goal.returns-in_err-said
 returns-in_err-said c policies are =
     let left = c.loop-gate.invariant policies (subst (AreGates policies) (sym c.as_slice-gates.ensures.value) are) in
     handed_on _ _ _ _ c.from_residual-in_err-said.ensures.1
-    (left_refused _ _ c.gate-item.result _ _ _ (left_at _ _ _ _ _ _ left c.loop-gate-test.true c.gate-item.is) (λ policy of. tt))
+    (left_refused _ _ c.gate-item.result _ _ _ (left_at _ _ _ _ _ _ left c.loop-gate-test.true c.gate-item.is) (λ policy of. (tt, tt)))
 
 pub returns : goal.returns
 returns c policies are =

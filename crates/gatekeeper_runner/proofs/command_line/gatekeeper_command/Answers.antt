@@ -1,0 +1,13 @@
+use Rattle.std.proofs.Common.{◌≡◌, ◌∙◌, ap, codes}
+use Rattle.std.proofs.lemmas.Result.{IfOk-weaker}
+use Rattle.clap.specs.Words.{app_of, new_app, with_rule}
+use Rattle.review_runner.specs.Commands.{with_documents}
+use Rattle.gatekeeper_runner.specs.Orders.{gatekeeper_app, policies_rule}
+use Rattle.gatekeeper_runner.proofs.command_line.gatekeeper_command.Goals as goal
+
+pub returns : goal.returns
+unfolding gatekeeper_app
+returns c =
+    let first : app_of c.in_ok-command.command ≡ with_rule (new_app (codes "gatekeeper")) policies_rule = c.in_ok-command.ensures.shape c.policies_argument.ensures.local ∙ (λ i. with_rule (c.new.ensures.app i) (c.policies_argument.ensures.rule i)) in
+    let second = c.in_ok-with_documents.ensures.shape ∙ ap with_documents first in
+    IfOk-weaker c.arg-2.result _ _ (λ r adds. adds.shape c.steps_argument.ensures.local ∙ (λ i. with_rule (second i) (c.steps_argument.ensures.rule i))) c.arg-2.ensures

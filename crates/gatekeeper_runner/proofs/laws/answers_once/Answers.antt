@@ -1,0 +1,5 @@
+use Rattle.gatekeeper_runner.proofs.LineOnce.{lines_once}
+use Rattle.gatekeeper_runner.proofs.laws.answers_once.Goals as goal
+
+pub returns : goal.returns
+returns c = lines_once c.compiles_once.ensures.answer c.reviews_once.ensures

@@ -1,0 +1,57 @@
+-- What the words ask for.
+use Rattle.std.specs.Prelude.{◌≡◌, ℕ, List, [], map, Option, Some, option_map, Result, Ok, Err, codes, string_bytes, unwrap_or}
+use Rattle.clap.specs.Words.{App, Kinds, Row, Rule, Text, fault_of, first_of, matches_of, new_app, one_of, with_rule}
+use Rattle.clap.specs.Walk.{all_of}
+use Rattle.clap.specs.declared.builder.action.ArgAction.TheVariants as arg_action
+use Rattle.review_runner.specs.Commands.{required_option_rule, steps_rule, with_documents}
+use Rattle.review_runner.specs.Number.{number_of}
+use Rattle.review_runner.specs.declared.order_error.OrderError.{OrderError}
+use Rattle.review_runner.specs.declared.order_error.OrderError.TheVariants.{U1, Memory}
+use Rattle.gatekeeper_runner.specs.declared.order.Order.{Order as CodeOrder}
+
+-- --policy F, once or more
+unfoldable pub policies_rule : Rule
+policies_rule = record (required_option_rule (codes "policy")) { action = Some arg_action.Append }
+
+-- gatekeeper --policy F [--policy F ..] [--namespace F] [--params F] [--steps N]
+unfoldable pub gatekeeper_app : App
+gatekeeper_app = with_rule (with_documents (with_rule (new_app (codes "gatekeeper")) policies_rule)) steps_rule
+
+-- the reasons to refuse the words, of which there are none where they are taken
+unfoldable pub faults : List Text → Kinds
+faults words = fault_of gatekeeper_app words
+
+-- the values of the arguments
+unfoldable pub entered : List Text → List Row
+entered words = matches_of gatekeeper_app words
+
+-- the names of the files, the policies in the order of the words, and the most steps
+pub record Order : Type 0 where
+  pub policies : List Text
+  pub namespace : Option Text
+  pub params : Option Text
+  pub steps : ℕ
+
+-- what the code reads
+abbrev pub order_view : CodeOrder → Order
+order_view o = record {
+  policies = map string_bytes o.policies.items;
+  namespace = option_map string_bytes o.namespace;
+  params = option_map string_bytes o.params;
+  steps = o.steps;
+}
+
+-- from the values of the arguments; steps that are not there are the default number
+unfoldable pub order_from : List Row → Order
+order_from rows = record {
+  policies = unwrap_or (all_of (codes "policy") rows) [];
+  namespace = first_of (codes "namespace") rows;
+  params = first_of (codes "params") rows;
+  steps = unwrap_or (number_of (one_of (codes "steps") rows)) 10000000;
+}
+
+-- words that are taken give their order, unless memory runs out; U1 only where they are refused
+abbrev pub Ordered : List Text → Result CodeOrder OrderError → Type 0
+Ordered words (Ok o) = (faults words ≡ []) × (order_from (entered words) ≡ order_view o)
+Ordered words (Err U1) = faults words ≡ [] → ⊥
+Ordered words (Err Memory) = Unit {0}

@@ -1,0 +1,67 @@
+-- The start, before a line is read.
+use Rattle.std.specs.Prelude.{◌≡◌, ℕ, List, [], ◌∷◌, ◌++◌, Option, Result, Ok, Err, Vec}
+use Rattle.std.specs.declared.alloc.Global.{Global}
+use Rattle.clap.specs.Words.{Text}
+use Rattle.review_runner.specs.Debugging.{IsReadingGiven}
+use Rattle.review_runner.specs.Deciding.{IsPolicy, IsRefused}
+use Rattle.review_runner.specs.declared.compiled_policy.CompiledPolicy.{CompiledPolicy}
+use Rattle.review_runner.specs.FileSystem.{FileSystem, IsReading}
+use Rattle.review_runner.specs.Refusals.{file_refusal}
+use Rattle.review_runner.specs.declared.file_error.FileError.{FileError}
+use Rattle.review_runner.specs.declared.policy_refusal.PolicyRefusal.{PolicyRefusal}
+use Rattle.review_runner.specs.declared.refusal.Refusal.{Refusal}
+use Rattle.review_runner.specs.declared.refusal.Refusal.TheVariants.{Memory, Policy}
+use Rattle.gatekeeper_runner.specs.Orders.{Order}
+use Rattle.gatekeeper_runner.specs.Together.{AreGates, IsGateOf, Terms, terms_of}
+use Rattle.gatekeeper_runner.specs.declared.keeper.Keeper.{Keeper}
+
+-- the files of these names hold these documents, each of a policy that is compiled
+pub data Opens (known : Option FileSystem) : List Text → List (List ℕ) → Type 0 where
+  none : Opens known [] []
+  next : {names : List Text} {name : Text} {documents : List (List ℕ)} {document : List ℕ} → Opens known names documents
+      → IsReading known name (Ok document) → IsPolicy document → Opens known (names ++ name ∷ []) (documents ++ document ∷ [])
+
+-- why a policy's file gives none
+pub data IsUnopened (known : Option FileSystem) (name : Text) : Refusal → Type 0 where
+  unread : (e : FileError) → IsReading known name (Err e) → IsUnopened known name (file_refusal e)
+  refused : {document : List ℕ} {e : PolicyRefusal} → IsReading known name (Ok document) → IsRefused document e
+      → IsUnopened known name (Policy e)
+  no_memory : IsUnopened known name Memory
+
+-- a policy is not opened, and those before it are
+pub record OneUnopened (known : Option FileSystem) (names : List Text) (r : Refusal) : Type 0 where
+  pub before : List Text
+  pub name : Text
+  pub after : List Text
+  pub are : names ≡ before ++ name ∷ after
+  pub documents : List (List ℕ)
+  pub opens : Opens known before documents
+  pub unopened : IsUnopened known name r
+
+-- what every line is answered under, or why no line is read: the policies are opened first, then the other files are read
+pub data Starts (known : Option FileSystem) (order : Order) : Result Terms Refusal → Type 0 where
+  no_policy : {r : Refusal} → OneUnopened known order.policies r → Starts known order (Err r)
+  no_namespace : (e : FileError) {policies : List (List ℕ)} → Opens known order.policies policies
+      → IsReadingGiven known order.namespace (Err e) → Starts known order (Err (file_refusal e))
+  no_params : (e : FileError) (namespace : Option (List ℕ)) {policies : List (List ℕ)} → Opens known order.policies policies
+      → IsReadingGiven known order.namespace (Ok namespace) → IsReadingGiven known order.params (Err e) → Starts known order (Err (file_refusal e))
+  ready : {policies : List (List ℕ)} {namespace params : Option (List ℕ)} → Opens known order.policies policies
+      → IsReadingGiven known order.namespace (Ok namespace) → IsReadingGiven known order.params (Ok params)
+      → Starts known order (Ok (record { policies = policies; namespace = namespace; params = params; steps = order.steps }))
+
+-- ---- parts
+
+-- what is kept is what the lines are answered under
+abbrev pub KeepsFrom : Option FileSystem → Order → Result Keeper Refusal → Type 0
+KeepsFrom known order (Ok k) = (policies : List (List ℕ)) × AreGates policies k.gates.items × Starts known order (Ok (terms_of policies k))
+KeepsFrom known order (Err r) = Starts known order (Err r)
+
+-- of one policy's file
+abbrev pub OpensGate : Option FileSystem → Text → Result CompiledPolicy Refusal → Type 0
+OpensGate known name (Ok gate) = (document : List ℕ) × IsReading known name (Ok document) × IsGateOf document gate
+OpensGate known name (Err r) = IsUnopened known name r
+
+-- of them all
+abbrev pub GatesFrom : Option FileSystem → List Text → Result (Vec CompiledPolicy Global) Refusal → Type 0
+GatesFrom known names (Ok gates) = (documents : List (List ℕ)) × AreGates documents gates.items × Opens known names documents
+GatesFrom known names (Err r) = OneUnopened known names r

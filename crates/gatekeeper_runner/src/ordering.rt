@@ -1,0 +1,71 @@
+//! From the words of a command line to the order that they give.
+ghost use Rattle.std.specs.Prelude.{◌≡◌, map, string_bytes, unwrap_or, IfOk, []};
+ghost use Rattle.clap.specs.Words.{found_of, rows_of};
+ghost use Rattle.clap.specs.Walk.{all_of};
+ghost use Rattle.gatekeeper_runner.specs.Orders.{order_from, order_view, Ordered};
+
+use crate::command_line::parse;
+use crate::order::Order;
+use clap::ArgMatches;
+use clap::error::ErrorKind;
+use review_runner::OrderError;
+use review_runner::values::{name_in, number_in};
+use std::alloc::{AllocError, Global};
+
+// the steps of a program where the words give no number
+const DEFAULT_STEPS: u64 = 10_000_000;
+
+/// Reads the words of a command line, the program's own name first.
+///
+/// # Errors
+///
+/// `U1` exactly where `clap` refuses the words; `Memory` where memory runs out, which says nothing of
+/// the words.
+pub fn order_of<'a>(alloc: Global, words: &'a [&'a str]) -> Result<Order, OrderError>
+    ensures { Ordered (map (λ s. s.now) words.entry.now) result }
+{
+    match parse(alloc, words) {
+        Ok(matches) => Ok(order_from(alloc, &matches)?),
+        Err(error) => match error.kind() {
+            ErrorKind::OutOfMemory => Err(OrderError::Memory),
+            _ => Err(OrderError::U1),
+        },
+    }
+}
+
+#[tactic(auto, unfolding(crate::specs::Orders::order_from))]
+fn order_from(alloc: Global, matches: &ArgMatches) -> Result<Order, AllocError>
+    ensures { IfOk result (λ o. order_view o ≡ order_from (rows_of (found_of matches.now))) }
+{
+    let policies = names_in(alloc, matches, "policy")?;
+    let namespace = name_in(alloc, matches, "namespace")?;
+    let params = name_in(alloc, matches, "params")?;
+    let steps = number_in(matches, "steps").unwrap_or(DEFAULT_STEPS);
+    Ok(Order {
+        policies,
+        namespace,
+        params,
+        steps,
+    })
+}
+
+// the texts of the argument `id`, each as a name of its own
+fn names_in(alloc: Global, matches: &ArgMatches, id: &str) -> Result<Vec<String>, AllocError>
+    ensures { IfOk result (λ names. map string_bytes names.items ≡ unwrap_or (all_of id.now (rows_of (found_of matches.now))) []) }
+{
+    match matches.get_strs(id) {
+        Some(texts) => names_of(alloc, texts),
+        None => Ok(Vec::new(alloc)),
+    }
+}
+
+// the texts, each as a name of its own
+fn names_of(alloc: Global, texts: &[&str]) -> Result<Vec<String>, AllocError>
+    ensures { IfOk result (λ names. map string_bytes names.items ≡ map (λ s. s.now) texts.now) }
+{
+    let mut names = Vec::new(alloc);
+    for text in texts {
+        names.push(String::from_str(alloc, text)?)?;
+    }
+    Ok(names)
+}

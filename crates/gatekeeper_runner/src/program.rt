@@ -1,0 +1,65 @@
+//! The program: from its words to its exit code.
+ghost use Rattle.std.specs.Prelude.{◌≡◌, map, string_bytes};
+ghost use Rattle.std.specs.Process.{exit_status};
+ghost use Rattle.debugger.specs.Streams.{stream};
+ghost use Rattle.review_runner.specs.Program.{given_of, system};
+ghost use Rattle.gatekeeper_runner.specs.Orders.{Ordered};
+ghost use Rattle.gatekeeper_runner.specs.Program.{Does, Ends};
+
+use crate::answering::answer_lines;
+use crate::order::Order;
+use crate::ordering::order_of;
+use crate::starting::start;
+use debugger::{Sink, Source};
+use review_runner::program::{say, texts_of};
+use review_runner::{Files, OrderError, Refusal};
+use std::alloc::Global;
+use std::process::ExitCode;
+
+/// Answers the lines of the input under the policies that the words name, the program's own name first,
+/// and answers the code that the program ends with. A refusal is one line of standard error; if that
+/// cannot be written, the code is the same. `words` is `U1` where the system's words are no texts, and
+/// `Memory` where there is no memory for them.
+pub fn exit_code<F: Files, R: Source, W: Sink, E: Sink>(
+    alloc: Global,
+    words: Result<Vec<String>, OrderError>,
+    files: &mut F,
+    input: &mut R,
+    output: &mut W,
+    errors: &mut E,
+) -> ExitCode
+    ensures { Ends (given_of words) (system (F.known files.old) (stream (R.left input.old) (R.failed input.old)) (stream (W.taken output.old) (W.failed output.old))) (system (F.known files.new) (stream (R.left input.new) (R.failed input.new)) (stream (W.taken output.new) (W.failed output.new))) (stream (E.taken errors.old) (E.failed errors.old)) (stream (E.taken errors.new) (E.failed errors.new)) (exit_status result) }
+{
+    match ending(alloc, words, files, input, output) {
+        Ok(status) => ExitCode::from(status),
+        Err(refusal) => {
+            say(alloc, refusal, errors);
+            ExitCode::from(refusal.status())
+        }
+    }
+}
+
+/// Answers the lines, and answers the status.
+fn ending<F: Files, R: Source, W: Sink>(
+    alloc: Global,
+    words: Result<Vec<String>, OrderError>,
+    files: &mut F,
+    input: &mut R,
+    output: &mut W,
+) -> Result<u8, Refusal>
+    ensures { Does (given_of words) (system (F.known files.old) (stream (R.left input.old) (R.failed input.old)) (stream (W.taken output.old) (W.failed output.old))) (system (F.known files.new) (stream (R.left input.new) (R.failed input.new)) (stream (W.taken output.new) (W.failed output.new))) result }
+{
+    let words = words?;
+    let order = asked_order(alloc, &words)?;
+    let keeper = start(alloc, &order, files)?;
+    answer_lines(&keeper, input, output)?;
+    Ok(0)
+}
+
+/// The order that the words give.
+fn asked_order(alloc: Global, words: &[String]) -> Result<Order, OrderError>
+    ensures { Ordered (map string_bytes words.now) result }
+{
+    let texts = texts_of(alloc, words)?;
+    order_of(alloc, texts.as_slice())
+}

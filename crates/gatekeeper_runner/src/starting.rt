@@ -1,0 +1,58 @@
+//! The start, before a line is read.
+ghost use Rattle.std.specs.Prelude.{◌≡◌, map, string_bytes, ℕ, List};
+ghost use Rattle.gatekeeper_runner.specs.Orders.{order_view};
+ghost use Rattle.gatekeeper_runner.specs.Starting.{GatesFrom, KeepsFrom, OpensGate};
+
+use crate::keeper::Keeper;
+use crate::order::Order;
+use review_runner::held_files::read_given;
+use review_runner::{Files, Gate, Refusal};
+use std::alloc::Global;
+
+/// Compiles the policies in the files that the order names, in their order, and reads the other files.
+///
+/// # Errors
+///
+/// The first refusal: of a policy's file or of its policy, then of the namespace's file, then of the
+/// params'. `Memory` where memory runs out, which says nothing of the rest.
+pub fn start<F: Files>(alloc: Global, order: &Order, files: &mut F) -> Result<Keeper, Refusal>
+    ensures keeps { KeepsFrom (F.known files.old) (order_view order.now) result }
+    ensures known { F.known files.new ≡ F.known files.old }
+{
+    let gates = open_each(alloc, order.policies.as_slice(), files)?;
+    let namespace = read_given(alloc, &order.namespace, files)?;
+    let params = read_given(alloc, &order.params, files)?;
+    Ok(Keeper {
+        alloc,
+        gates,
+        namespace,
+        params,
+        steps: order.steps,
+    })
+}
+
+/// The gates of the policies in the files of these names.
+fn open_each<F: Files>(alloc: Global, names: &[String], files: &mut F) -> Result<Vec<Gate>, Refusal>
+    ensures gates { GatesFrom (F.known files.old) (map string_bytes names.now) result }
+    ensures known { F.known files.new ≡ F.known files.old }
+{
+    let mut gates = Vec::new(alloc);
+    for name in names {
+        let gate = open(alloc, name.as_str(), files)?;
+        match gates.push(gate) {
+            Ok(()) => {}
+            Err(_) => return Err(Refusal::Memory),
+        }
+    }
+    Ok(gates)
+}
+
+/// The gate of the policy in the file of this name.
+fn open<F: Files>(alloc: Global, name: &str, files: &mut F) -> Result<Gate, Refusal>
+    ensures gate { OpensGate (F.known files.old) name.now result }
+    ensures known { F.known files.new ≡ F.known files.old }
+{
+    let document = files.read(alloc, name)?;
+    let gate = Gate::new(alloc, document.as_slice())?;
+    Ok(gate)
+}
