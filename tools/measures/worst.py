@@ -81,12 +81,19 @@ def searches(runs):
 
 
 def comparisons(runs):
-    """Two lists that differ in their last item, compared in each turn of a loop."""
+    """Two lists that differ in their last item, compared in each turn of a loop, and each list of some with each."""
     for size in SIZES:
         count = 1_000 * size
         first = list(range(count))
         thing = {"l": list(range(1_000)), "a": first, "b": [*first[:-1], -1]}
         on_request(runs, f"!=, {count:,} ints, 1,000 times", "object.l.all(x, object.a != object.b)", {"object": thing})
+    for size in SIZES:
+        count = 7 * size
+        # the lists of each row differ from one another, each in a place of its own
+        lists = [[*[0] * place, 1, *[0] * (count - place - 1)] for place in range(count)]
+        thing = {"a": lists, "b": [[*some[:-1], 2] for some in lists]}
+        name = f"!=, {count:,} lists of {count:,} ints with each of as many"
+        on_request(runs, name, "object.a.all(x, object.b.all(y, x != y))", {"object": thing})
 
 
 def long_keys(runs):
@@ -102,9 +109,14 @@ def long_keys(runs):
 
 
 def shapes(runs):
-    """Documents of many small maps, and of containers."""
+    """Documents of many small maps, of maps in maps, and of containers."""
     for count in (1_900, 19_000, 190_000, 2_600_000):
         on_request(runs, f"{count:,} maps of one key", "true", {"object": {"l": [{"": 0}] * count}})
+    tower = 0
+    for _ in range(100):
+        tower = {"": tower}
+    for count in (26, 260, 2_600):
+        on_request(runs, f"{count:,} towers of 100 maps of one key", "true", {"object": {"l": [tower] * count}})
     for count in (36, 360, 3_600):
         expression = "object.spec.containers.all(c, c.image.startsWith('registry.example.com/'))"
         on_request(runs, f"{count:,} containers", expression, {"object": {"spec": {"containers": [CONTAINER] * count}}})
