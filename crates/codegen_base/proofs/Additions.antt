@@ -26,7 +26,7 @@ use Rattle.codegen_base.specs.Words.{word_at}
 use Rattle.codegen_base.proofs.Frames.{keeps_then, shows_registers}
 use Rattle.codegen_base.proofs.HelperAnswers.{helpers}
 use Rattle.codegen_base.proofs.Listings.{ask, mov}
-use Rattle.codegen_base.proofs.Loops.{all_at}
+use Rattle.codegen_base.proofs.LoopItems.{all_at}
 use Rattle.codegen_base.proofs.Operands.{are_ints, are_others, int_is}
 use Rattle.codegen_base.proofs.Operators.{shows_placed}
 use Rattle.codegen_base.proofs.Pieces.{size-append, stands_back, stands_front}

@@ -19,6 +19,7 @@ pub mod Returns
 pub mod FirstCalls
 pub mod Variables
 pub mod Programs
+pub mod LoopItems
 pub mod Loops
 pub mod Operators
 pub mod Absorbing

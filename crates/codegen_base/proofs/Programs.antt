@@ -1,5 +1,5 @@
 -- A program from its start to its exit.
-use Rattle.std.proofs.Common.{◌≡◌, ℕ, suc, ◌+◌, ◌*◌, ◌<◌, ◌≤◌, List, [], ◌∷◌, ◌++◌, replicate, Bool, true, false, refl, sym, ap, subst, arith, inl}
+use Rattle.std.proofs.Common.{◌≡◌, ℕ, ◌+◌, ◌*◌, ◌<◌, ◌≤◌, List, [], ◌∷◌, ◌++◌, replicate, refl, sym, ap, subst, arith, inl}
 use Rattle.std.specs.Prelude.{All, map, pos, Some}
 use Rattle.std.proofs.lemmas.List.Elements.{All-take, All-drop, All-head, All-replicate, All-tail}
 use Rattle.guest_memory.specs.Memory.{start_memory}

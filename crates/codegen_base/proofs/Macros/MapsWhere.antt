@@ -23,7 +23,7 @@ use Rattle.codegen_base.specs.Pieces.{Stands, size}
 use Rattle.codegen_base.proofs.Frames.{shows_registers}
 use Rattle.codegen_base.proofs.Listings.{jump, mov, store}
 use Rattle.codegen_base.proofs.Absorbing.{told_in}
-use Rattle.codegen_base.proofs.Loops.{item_gives}
+use Rattle.codegen_base.proofs.LoopItems.{item_gives}
 use Rattle.codegen_base.proofs.Macros.Budgets.{gives_within}
 use Rattle.codegen_base.proofs.Macros.Depths.{chosen_shallow, deep_excused, first_shallow, is_shallow}
 use Rattle.codegen_base.proofs.Macros.Firsts.{empty_gives}

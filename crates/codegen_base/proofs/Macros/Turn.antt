@@ -12,7 +12,7 @@ use Rattle.codegen_base.specs.Loops.{AtTurn, TurnGives, Turned, with_item}
 use Rattle.codegen_base.specs.Pieces.{Stands, size}
 use Rattle.codegen_base.specs.Words.{word_at}
 use Rattle.codegen_base.proofs.Frames.{fits_below, keeps_then}
-use Rattle.codegen_base.proofs.Loops.{item_gives}
+use Rattle.codegen_base.proofs.LoopItems.{item_gives}
 use Rattle.codegen_base.proofs.Macros.Turned.{turned_after}
 use Rattle.codegen_base.proofs.Pieces.{size-append, stands_back, stands_front}
 use Rattle.codegen_base.proofs.Runs.{and_then, into, to_place}
