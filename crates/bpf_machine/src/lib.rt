@@ -6,6 +6,7 @@ mod flattening;
 mod frame;
 pub mod laws;
 mod machine;
+mod program;
 mod slot;
 mod status;
 mod targets;
@@ -14,5 +15,6 @@ mod words;
 
 pub use frame::Frame;
 pub use machine::Machine;
+pub use program::Program;
 pub use status::Status;
 pub use word_text::WordText;

@@ -12,16 +12,15 @@ ghost use Rattle.review_runner.specs.Reviews.{uid_of};
 ghost use Rattle.review_runner.specs.Saying.{said_value, said_view, IsSaidBy, Says, SaysFrom};
 ghost use Rattle.review_runner.specs.Standing.{this, StandsBy};
 
-use crate::compiled_policy::{CompiledPolicy, compiled};
+use crate::compiled_policy::compiled;
 use crate::policy_refusal::PolicyRefusal;
 use crate::reply::Reply;
 use crate::root_values::root_documents;
 use crate::run_error::RunError;
 use crate::said::Said;
 use bpf_machine::laws::{starts_are_tables, states_are_kept};
-use bpf_machine::{Machine, Status};
+use bpf_machine::{Machine, Program, Status};
 use guest_memory::Guest;
-use loader::Image;
 use policy_glue::{Policy, Verdict, objection_of};
 use serde_json::Value;
 use std::alloc::{AllocError, Global};
@@ -30,12 +29,13 @@ use value_store::ValueStore;
 use value_store::laws::values_are_as_said;
 use value_table::Table;
 
-/// A policy that is compiled once and decides any number of reviews. No decision changes it, nor one
-/// that fails for want of memory.
+/// A policy that is compiled and decoded once and decides any number of reviews. No decision changes
+/// it, nor one that fails for want of memory.
 #[derive(Drop)]
 pub struct Gate {
     alloc: Global,
-    compiled: CompiledPolicy,
+    policy: Policy,
+    program: Program,
 }
 
 impl Model for Gate {
@@ -43,7 +43,7 @@ impl Model for Gate {
 
     ghost Value = { CompiledPolicy };
 
-    ghost view = { λ g. g.compiled };
+    ghost view = { λ g. record { policy = g.policy; image = g.program } };
 }
 
 impl Gate {
@@ -59,7 +59,12 @@ impl Gate {
         ensures one { IfOk result (λ g. OneImage g.policy g.image) }
     {
         let compiled = compiled(alloc, policy)?;
-        Ok(Gate { alloc, compiled })
+        let program = Program::new(alloc, compiled.image)?;
+        Ok(Gate {
+            alloc,
+            policy: compiled.policy,
+            program,
+        })
     }
 
     /// The response to a review (AdmissionReview, `admission.k8s.io/v1`) under the policy, whose program
@@ -103,10 +108,12 @@ impl Gate {
     {
         starts_stand();
         let documents = root_documents(self.alloc, Some(review), namespace, params)?;
-        let uid = String::from_str(self.alloc, uid_of(&documents[4]))?;
+        // The table takes the documents, and what it refuses counts before want of memory for the uid.
+        let uid = String::from_str(self.alloc, uid_of(&documents[4]));
         let table = Table::of_documents(self.alloc, documents)?;
-        let machine = ran(self.alloc, &self.compiled.image, table, n)?;
-        said(self.alloc, &self.compiled.policy, &machine, uid)
+        let uid = uid?;
+        let machine = ran(self.alloc, &self.program, table, n)?;
+        said(self.alloc, &self.policy, &machine, uid)
     }
 }
 
@@ -124,13 +131,13 @@ fn starts_stand()
 /// The machine where a run of at most `n` steps stands.
 fn ran(
     alloc: Global,
-    image: &Image,
+    program: &Program,
     table: Table,
     n: u64,
 ) -> Result<Machine<Table, Guest>, AllocError>
-    ensures { IfOk result (λ m. m ≡ state_after n (start_state image.now (record { values = ⟦<Table as ValueStore>⟧.values table; charge = ⟦<Table as ValueStore>⟧.charge table }))) }
+    ensures { IfOk result (λ m. m ≡ state_after n (start_state program.now (record { values = ⟦<Table as ValueStore>⟧.values table; charge = ⟦<Table as ValueStore>⟧.charge table }))) }
 {
-    let mut machine = Machine::<Table, Guest>::start(alloc, image.copy()?, table)?;
+    let mut machine = Machine::<Table, Guest>::of_program(alloc, program.copy()?, table)?;
     machine.run(n)?;
     Ok(machine)
 }

@@ -20,7 +20,7 @@ returns-in_err-table c = record {
 pub returns : goal.returns
 returns c =
     let laws : Laws = record { tables = c.starts_stand.ensures.tables; canonical = c.starts_stand.ensures.canonical; states = c.starts_stand.ensures.states } in
-    let held : (policy : List ℕ) → IsPolicyOf policy c.args.self.now → IsPolicyOf policy c.self.inside.compiled = λ policy of. subst (IsPolicyOf policy) (sym c.self.view_is) of in
+    let held : (policy : List ℕ) → IsPolicyOf policy c.args.self.now → IsPolicyOf policy (record { policy = c.self.inside.policy; image = c.self.inside.program }) = λ policy of. subst (IsPolicyOf policy) (sym c.self.view_is) of in
     record {
       says = λ policy of.
           ran_says laws _ _ _ _ _ _ (view (get_or c.in_ok-documents.documents 4 c.index-documents-4.result)) _ _
