@@ -10,8 +10,7 @@ use Rattle.value_store.specs.Roots.{value_of, items_value, members_value, is_oth
 
 number_exact : (n : json.Num) → is_other n ≡ not (is_some (value_of (json.number n)))
 number_exact (json.unsigned n) = grind (arith, nat_tests)
-number_exact (json.negative z) = refl
-number_exact (json.float x) = refl
+number_exact _ = refl
 
 mapped : {A B : Type 0} (f : A → B) (o : Option A) → is_some (option_map f o) ≡ is_some o
 mapped f None = refl
@@ -23,12 +22,10 @@ both f (Some a) p b c e g = rw (e, g, mapped (f a) p) refl
 
 mutual
   pub exact : (d : json.Data) → has_other d ≡ not (is_some (value_of d))
-  exact json.null = refl
-  exact (json.boolean b) = refl
   exact (json.number n) = number_exact n
-  exact (json.string s) = refl
   exact (json.array ds) = items_exact ds ∙ ap not (sym (mapped kind.list (items_value ds)))
   exact (json.object ms) = members_exact ms ∙ ap not (sym (mapped kind.map (members_value ms)))
+  exact _ = refl
 
   items_exact : (ds : json.Items) → items_have_other ds ≡ not (is_some (items_value ds))
   items_exact json.no_items = refl
@@ -55,12 +52,10 @@ number_value (json.float x) e = no_number e
 -- a whole document has its plain value
 mutual
   pub whole_value : (d : json.Data) → has_other d ≡ false → value_of d ≡ Some (plain_value d)
-  whole_value json.null e = refl
-  whole_value (json.boolean b) e = refl
   whole_value (json.number n) e = number_value n e
-  whole_value (json.string s) e = refl
   whole_value (json.array ds) e = ap (option_map kind.list) (whole_items ds e)
   whole_value (json.object ms) e = ap (option_map kind.map) (whole_members ms e)
+  whole_value _ e = refl
 
   whole_items : (ds : json.Items) → items_have_other ds ≡ false → items_value ds ≡ Some (plain_items ds)
   whole_items json.no_items e = refl

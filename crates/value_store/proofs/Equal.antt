@@ -7,10 +7,9 @@ use Rattle.value_store.specs.Equality.{truth_equal, int_equal, equal, items_equa
 use Rattle.value_store.specs.Laws.{EqualDecides}
 
 truth_same : (a b : Bool) → truth_equal a b ≡ true → a ≡ b
-truth_same true true e = refl
 truth_same true false e = sym e
 truth_same false true e = e
-truth_same false false e = refl
+truth_same _ _ e = refl
 
 truth_own : (a : Bool) → truth_equal a a ≡ true
 truth_own true = refl

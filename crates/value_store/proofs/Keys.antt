@@ -30,9 +30,8 @@ below_rest j k (l ∷ ks) e h = (nat_list_cmp_total.trans j k l e h.0, below_res
 below_by : (o : Ordering) (first key : List ℕ) (x : Value) (k : List ℕ) (v : Value) (more : Entries) (rest : Option Entries) → slice_cmp nat_cmp first key ≡ Less → slice_cmp nat_cmp first k ≡ Less → BelowAll first (keys_of more)
     → IfSome rest (λ es. BelowAll first (keys_of es)) → IfSome (inserted_by o key x k v more rest) (λ es. BelowAll first (keys_of es))
 below_by Less first key x k v more rest a b c d = (a, (b, c))
-below_by Equal first key x k v more rest a b c d = tt
-below_by Greater first key x k v more None a b c d = tt
 below_by Greater first key x k v more (Some es) a b c d = (b, d)
+below_by _ first key x k v more _ a b c d = tt
 
 -- what is below the key and all entries is below them all together
 below_inserted : (first key : List ℕ) (x : Value) (es : Entries) → slice_cmp nat_cmp first key ≡ Less → BelowAll first (keys_of es) → IfSome (inserted key x es) (λ more. BelowAll first (keys_of more))
@@ -43,9 +42,8 @@ ascends_by : (o : Ordering) (key : List ℕ) (x : Value) (k : List ℕ) (v : Val
     → (slice_cmp nat_cmp k key ≡ Less → IfSome rest (λ es. BelowAll k (keys_of es))) → IfSome rest (λ es. Ascend (keys_of es)) → IfSome (inserted_by o key x k v more rest) (λ es. Ascend (keys_of es))
 unfolding IsStrictlySortedBy
 ascends_by Less key x k v more rest e up below asc = ((e, below_rest key k (keys_of more) e up.0), up)
-ascends_by Equal key x k v more rest e up below asc = tt
-ascends_by Greater key x k v more None e up below asc = tt
 ascends_by Greater key x k v more (Some es) e up below asc = (below (turned key k e), asc)
+ascends_by _ key x k v more _ e up below asc = tt
 
 pub inserted_in_order : InsertedInOrder
 unfolding IsStrictlySortedBy
@@ -109,14 +107,9 @@ entry_at (entry k v more) zero h = h.0
 entry_at (entry k v more) (suc i) h = entry_at more i h.1
 
 part : (h : Option ValueOrError) (i : ℕ) → IsOrderedAt h → IfSome (part_at h i) IsOrdered
-part None i h = tt
-part (Some error) i h = tt
-part (Some (value kind.null)) i h = tt
-part (Some (value (kind.boolean b))) i h = tt
-part (Some (value (kind.int n))) i h = tt
-part (Some (value (kind.text s))) i h = tt
 part (Some (value (kind.list is))) i h = item_at is i h
 part (Some (value (kind.map es))) i h = entry_at es i h.1
+part _ i h = tt
 
 a_text : (o : Option (List ℕ)) → IfSome (option_map kind.text o) IsOrdered
 a_text None = tt
@@ -144,9 +137,8 @@ push_ordered _ w a b = tt
 entries_by : (o : Ordering) (key : List ℕ) (x : Value) (k : List ℕ) (v : Value) (more : Entries) (rest : Option Entries) → IsOrdered x → AreEntriesOrdered (entry k v more) → IfSome rest AreEntriesOrdered
     → IfSome (inserted_by o key x k v more rest) AreEntriesOrdered
 entries_by Less key x k v more rest a b c = (a, b)
-entries_by Equal key x k v more rest a b c = tt
-entries_by Greater key x k v more None a b c = tt
 entries_by Greater key x k v more (Some es) a b c = (b.0, c)
+entries_by _ key x k v more _ a b c = tt
 
 entries_inserted : (key : List ℕ) (x : Value) (es : Entries) → IsOrdered x → AreEntriesOrdered es → IfSome (inserted key x es) AreEntriesOrdered
 entries_inserted key x no_entries a b = (a, tt)
@@ -161,59 +153,40 @@ put_ordered es key x a b = as_map (inserted key x es) (inserted_in_order key x e
 
 pub put_at_ordered : (key : List ℕ) (m x : Value) → IsOrdered m → IsOrdered x → IfSome (option_and_then (λ es. put_of es key x) (entries_part m)) IsOrdered
 put_at_ordered key (kind.map es) x a b = put_ordered es key x a b
-put_at_ordered key kind.null x a b = tt
-put_at_ordered key (kind.boolean t) x a b = tt
-put_at_ordered key (kind.int n) x a b = tt
-put_at_ordered key (kind.text s) x a b = tt
-put_at_ordered key (kind.list is) x a b = tt
+put_at_ordered key _ x a b = tt
 
 pub made_ordered : {v : Value} {o : Option Value} → Some v ≡ o → IfSome o IsOrdered → IsOrdered v
 made_ordered {v} {o} e h = subst (λ p. IfSome p IsOrdered) (sym e) h
 
 join_two : (a b : Option ValueOrError) → IsOrderedAt a → IsOrderedAt b → IfSome (joined a b) IsOrdered
-join_two None b h k = tt
-join_two (Some error) b h k = tt
-join_two (Some (value v)) None h k = tt
-join_two (Some (value v)) (Some error) h k = tt
 join_two (Some (value v)) (Some (value w)) h k = join_ordered v w h k
+join_two _ _ h k = tt
 
 push_two : (a b : Option ValueOrError) → IsOrderedAt a → IsOrderedAt b → IfSome (pushed a b) IsOrdered
-push_two None b h k = tt
-push_two (Some error) b h k = tt
-push_two (Some (value v)) None h k = tt
-push_two (Some (value v)) (Some error) h k = tt
 push_two (Some (value v)) (Some (value w)) h k = push_ordered v w h k
+push_two _ _ h k = tt
 
 abbrev put_at : Entries → Option (List ℕ) → Option ValueOrError → Option Value
 put_at es key x = option_and_then (λ k. option_and_then (put_of es k) (value_at x)) key
 
 put_key : (es : Entries) (key : Option (List ℕ)) (x : Option ValueOrError) → IsOrdered (kind.map es) → IsOrderedAt x → IfSome (put_at es key x) IsOrdered
-put_key es None x a b = tt
-put_key es (Some key) None a b = tt
-put_key es (Some key) (Some error) a b = tt
 put_key es (Some key) (Some (value v)) a b = put_ordered es key v a b
+put_key es _ _ a b = tt
 
 put_three : (m k x : Option ValueOrError) → IsOrderedAt m → IsOrderedAt x → IfSome (put_in m k x) IsOrdered
-put_three None k x a b = tt
-put_three (Some error) k x a b = tt
-put_three (Some (value kind.null)) k x a b = tt
-put_three (Some (value (kind.boolean t))) k x a b = tt
-put_three (Some (value (kind.int n))) k x a b = tt
-put_three (Some (value (kind.text s))) k x a b = tt
-put_three (Some (value (kind.list is))) k x a b = tt
 put_three (Some (value (kind.map es))) k x a b = put_key es (text_at k) x a b
+put_three _ k x a b = tt
 
 one_more : (vs : List ValueOrError) (x : ValueOrError) → AreOrdered vs → IsResultOrdered x → AreOrdered (vs ++ x ∷ [])
 one_more [] x a b = (b, tt)
 one_more (v ∷ vs) x a b = (a.0, one_more vs x a.1 b)
 
 place_one : (vs : List ValueOrError) (v : Value) → AreOrdered vs → IsOrdered v → AreOrdered (placed vs v)
-place_one vs kind.null a b = a
-place_one vs (kind.boolean t) a b = a
 place_one vs (kind.int n) a b = one_more vs (value (kind.int n)) a b
 place_one vs (kind.text s) a b = one_more vs (value (kind.text s)) a b
 place_one vs (kind.list is) a b = one_more vs (value (kind.list is)) a b
 place_one vs (kind.map es) a b = one_more vs (value (kind.map es)) a b
+place_one vs _ a b = a
 
 pub keeps_order : KeepsOrder
 keeps_order = record { part = part; key = λ h i. a_text (option_and_then (λ es. slice_get (keys_of es) i) (entries_at h)); join = join_two; push = push_two; put = put_three; place = place_one }

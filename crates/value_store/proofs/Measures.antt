@@ -76,12 +76,6 @@ pub no_part : (d : json.Data) → None ≡ measure_of d → has_other d ≡ true
 unfolding measure_of
 no_part d e = unmeasured (has_other d) _ e
 
-pub items_start : (all : json.Items) → ItemsMeasured all all (record { size = 1; depth = 1 })
-items_start all = record { other_is = refl; size_is = refl; depth_is = omega arith; size_fits = omega arith; depth_fits = omega arith; deep = omega arith }
-
-pub members_start : (all : json.Members) → MembersMeasured all all (record { size = 1; depth = 1 })
-members_start all = record { other_is = refl; size_is = refl; depth_is = omega arith; size_fits = omega arith; depth_fits = omega arith; deep = omega arith }
-
 pub items_step : (all : json.Items) (d : json.Data) (ds : json.Items) (m p : Measure) → ItemsMeasured all (json.item d ds) m → Some p ≡ measure_of d
     → ItemsMeasured all ds (record { size = saturated (m.size + p.size); depth = max m.depth (saturated (p.depth + 1)) })
 items_step all d ds m p go e =

@@ -28,12 +28,9 @@ keys_same (json.member k d ms) = ap (λ ks. k ∷ ks) (keys_same ms)
 
 mutual
   pub value_ordered : (d : json.Data) → IsDocumentOrdered d → IsOrdered (plain_value d)
-  value_ordered json.null h = tt
-  value_ordered (json.boolean b) h = tt
-  value_ordered (json.number n) h = tt
-  value_ordered (json.string s) h = tt
   value_ordered (json.array ds) h = items_ordered ds h
   value_ordered (json.object ms) h = (subst Ascend (sym (keys_same ms)) h.0, entries_ordered ms h.1)
+  value_ordered _ h = tt
 
   items_ordered : (ds : json.Items) → AreElementsOrdered ds → AreItemsOrdered (plain_items ds)
   items_ordered json.no_items h = tt
@@ -69,11 +66,8 @@ start_is_ordered ds c ordered e =
 
 abbrev IsRootValue : Value → Type 0
 IsRootValue kind.null = ⊤
-IsRootValue (kind.boolean b) = ⊥
-IsRootValue (kind.int n) = ⊥
-IsRootValue (kind.text s) = ⊥
-IsRootValue (kind.list is) = ⊥
 IsRootValue (kind.map es) = ⊤
+IsRootValue _ = ⊥
 
 map_root : (place : ℕ) (o : Option Entries) (v : Value) → root_value place (option_map kind.map o) ≡ Ok v → IsRootValue v
 map_root place (Some es) v e = let same : kind.map es ≡ v = cc in subst IsRootValue same tt
@@ -81,17 +75,13 @@ map_root place None v e = absurd (cc)
 
 root_kind : (place : ℕ) (d : json.Data) (v : Value) → root_of place d ≡ Ok v → IsRootValue v
 root_kind place json.null v e = let same : kind.null ≡ v = cc in subst IsRootValue same tt
-root_kind place (json.boolean b) v e = absurd (cc)
-root_kind place (json.number n) v e = absurd (cc)
-root_kind place (json.string s) v e = absurd (cc)
-root_kind place (json.array ds) v e = absurd (cc)
 root_kind place (json.object ms) v e = map_root place (members_value ms) v e
+root_kind place _ v e = absurd (cc)
 
 roots_by : (r : Result Value TableError) (q : Result (List Value) TableError) (vs : List Value) → ((v : Value) → r ≡ Ok v → IsRootValue v) → ((ws : List Value) → q ≡ Ok ws → AllByRecursion IsRootValue ws)
     → root_then r q ≡ Ok vs → AllByRecursion IsRootValue vs
 roots_by (Ok v) (Ok ws) vs f g e = let same : v ∷ ws ≡ vs = cc in subst (AllByRecursion IsRootValue) same (f v refl, g ws refl)
-roots_by (Ok v) (Err x) vs f g e = absurd (cc)
-roots_by (Err x) q vs f g e = absurd (cc)
+roots_by _ _ vs f g e = absurd (cc)
 
 roots_kind : (place : ℕ) (ds : List json.Data) (vs : List Value) → roots_of place ds ≡ Ok vs → AllByRecursion IsRootValue vs
 roots_kind place [] vs e = let same : [] ≡ vs = cc in subst (AllByRecursion IsRootValue) same tt

@@ -31,12 +31,9 @@ member_key (suc i) (json.member k d ms) = member_key i ms
 
 -- the value of the part at a place is the part of the value
 pub part_value : (i : ℕ) (d : json.Data) → option_map plain_value (part_of i d) ≡ slice_get (parts_of (plain_value d)) i
-part_value i json.null = refl
-part_value i (json.boolean b) = refl
-part_value i (json.number n) = refl
-part_value i (json.string s) = refl
 part_value i (json.array ds) = item_value i ds
 part_value i (json.object ms) = member_value i ms
+part_value i _ = refl
 
 -- a part is whole, and no deeper than what it is a part of
 pub record Within (e d : json.Data) : Type 0 where
@@ -74,12 +71,9 @@ member_within (suc i) (json.member k d ms) e is whole =
     record { whole = rest.whole; shallow = omega arith }
 
 pub part_within : (i : ℕ) (d e : json.Data) → part_of i d ≡ Some e → has_other d ≡ false → Within e d
-part_within i json.null e is whole = absurd (cc)
-part_within i (json.boolean b) e is whole = absurd (cc)
-part_within i (json.number n) e is whole = absurd (cc)
-part_within i (json.string s) e is whole = absurd (cc)
 part_within i (json.array ds) e is whole = let known = item_within i ds e is whole in let deep = known.shallow in record { whole = known.whole; shallow = omega arith }
 part_within i (json.object ms) e is whole = let known = member_within i ms e is whole in let deep = known.shallow in record { whole = known.whole; shallow = omega arith }
+part_within i _ e is whole = absurd (cc)
 
 pub item_count : (xs : List document.Value) → length (list_of (plain_items (items_view xs))) ≡ length xs
 item_count [] = refl

@@ -45,9 +45,8 @@ fits_by Equal key x k v more rest e there = absurd (cc)
 fits_by Greater key x k v more rest e there = some_mapped (entry k v) rest there
 
 other_key : (b : Bool) (p : Option ℕ) → (if b then Some 0 else option_map suc p) ≡ None → (b ≡ false) × (p ≡ None)
-other_key true p e = absurd (cc)
 other_key false None e = (refl, refl)
-other_key false (Some i) e = absurd (cc)
+other_key _ _ e = absurd (cc)
 
 turned : (b : Bool) (xs ys : List ℕ) → bytes_eq xs ys ≡ b → bytes_eq ys xs ≡ false → b ≡ false
 turned true xs ys e f = let same = (bytes_eq-Decides xs ys).0 e in sym ((bytes_eq-Decides ys xs).1 (sym same)) ∙ f

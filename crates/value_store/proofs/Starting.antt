@@ -1,5 +1,5 @@
 -- The values of the roots, one root after another.
-use Rattle.std.proofs.Common.{◌≡◌, ◌≤◌, ◌<◌, ℕ, suc, ◌+◌, ◌-◌, ◌^◌, List, [], ◌∷◌, ◌++◌, map, Option, Some, None, Result, Ok, Err, Bool, true, false, refl, sym, ap, ap₂, ◌∙◌, subst, arith, append_assoc, append-nil}
+use Rattle.std.proofs.Common.{◌≡◌, ◌≤◌, ◌<◌, ℕ, suc, ◌+◌, ◌-◌, ◌^◌, List, [], ◌∷◌, ◌++◌, map, Option, Some, None, Result, Ok, Err, Bool, true, false, refl, sym, ap, ap₂, ◌∙◌, subst, arith, append_assoc}
 use Rattle.std.specs.Prelude.{min, max, nat_le, if◌then◌else◌, IsOk}
 use Rattle.std.proofs.lemmas.Bool.Decides.{nat_tests}
 use Rattle.serde_json.specs.Data as json
@@ -28,13 +28,6 @@ pub record Judging (all rest : List json.Data) (place charge : ℕ) : Type 0 whe
   pub done : List Value
   pub left : roots_of 4 all ≡ behind done (roots_of place rest)
   pub charge_is : charge ≡ saturated (sizes done)
-
-behind_none : (r : Result (List Value) TableError) → r ≡ behind [] r
-behind_none (Ok vs) = refl
-behind_none (Err e) = refl
-
-pub judging_start : (all : List json.Data) → Judging all all 4 0
-judging_start all = record { done = []; left = behind_none (roots_of 4 all); charge_is = refl }
 
 sizes-append : (vs : List Value) (v : Value) → sizes (vs ++ v ∷ []) ≡ sizes vs + size_of v
 sizes-append [] v = omega arith
@@ -67,42 +60,6 @@ judging_step all d rest place charge size go e =
       charge_is = ap₂ (λ a b. saturated (a + b)) go.charge_is root.size_is ∙ capped_sum (2 ^ 64 - 1) (sizes go.done) (size_of root.value) ∙ ap saturated (sym (sizes-append go.done root.value));
     }
 
-refusal : (r : Result Value TableError) (x : TableError) → Err x ≡ size_in r → r ≡ Err x
-refusal (Ok v) x e = absurd (cc)
-refusal (Err y) x e = ap Err (cc)
-
-pub judging_fail : (all : List json.Data) (d : json.Data) (rest : List json.Data) (place charge : ℕ) (x : TableError) → Judging all (d ∷ rest) place charge → Err x ≡ size_in (root_of place d)
-    → Err x ≡ charge_in (start_contents all)
-judging_fail all d rest place charge x go e =
-    let refused = refusal (root_of place d) x e in
-    sym (ap (λ r. charge_in (contents_of r)) (go.left ∙ ap (λ r. behind go.done (root_then r (roots_of (suc place) rest))) refused))
-
-limited : (b : Bool) (vs : List Value) → b ≡ true → charge_in (if b then Ok (record { values = first_values ++ map value vs; charge = sizes vs }) else Err V3) ≡ Ok (sizes vs)
-limited true vs e = refl
-limited false vs e = absurd (cc)
-
-unlimited : (b : Bool) (vs : List Value) → b ≡ false → charge_in (if b then Ok (record { values = first_values ++ map value vs; charge = sizes vs }) else Err V3) ≡ Err V3
-unlimited true vs e = absurd (cc)
-unlimited false vs e = refl
-
-all_done : (all : List json.Data) (place charge : ℕ) (go : Judging all [] place charge) → start_contents all ≡ within_limit go.done
-all_done all place charge go = ap contents_of (go.left ∙ ap Ok (append-nil go.done))
-
-within : (n c : ℕ) → c ≡ min n (2 ^ 64 - 1) → c ≤ 16777216 → (nat_le n 16777216 ≡ true) × (c ≡ n)
-within n c e f = (grind (arith, nat_tests), omega arith)
-
-above : (n c : ℕ) → c ≡ min n (2 ^ 64 - 1) → 16777216 < c → nat_le n 16777216 ≡ false
-above n c e f = grind (arith, nat_tests)
-
-pub judging_end : (all : List json.Data) (place charge : ℕ) → Judging all [] place charge → charge ≤ 16777216 → Ok charge ≡ charge_in (start_contents all)
-judging_end all place charge go fits =
-    let known = within (sizes go.done) charge go.charge_is fits in
-    ap Ok known.1 ∙ sym (limited (nat_le (sizes go.done) charge_limit) go.done known.0) ∙ ap charge_in (sym (all_done all place charge go))
-
-pub judging_over : (all : List json.Data) (place charge : ℕ) → Judging all [] place charge → 16777216 < charge → Err V3 ≡ charge_in (start_contents all)
-judging_over all place charge go over =
-    sym (ap charge_in (all_done all place charge go) ∙ unlimited (nat_le (sizes go.done) charge_limit) go.done (above (sizes go.done) charge go.charge_is over))
-
 -- ---- roots that are not refused
 
 abbrev pub AllWhole : List json.Data → Type 0
@@ -132,8 +89,7 @@ record Parts (r : Result Value TableError) (q : Result (List Value) TableError) 
 
 parts : (r : Result Value TableError) (q : Result (List Value) TableError) (vs : List Value) → root_then r q ≡ Ok vs → Parts r q vs
 parts (Ok v) (Ok ws) vs e = record { first = v; rest = ws; first_is = refl; rest_is = refl; vs_is = cc }
-parts (Ok v) (Err x) vs e = absurd (cc)
-parts (Err x) q vs e = absurd (cc)
+parts _ _ vs e = absurd (cc)
 
 record Known (ds : List json.Data) (vs : List Value) : Type 0 where
   whole : AllWhole ds
@@ -146,9 +102,6 @@ roots_known place (d ∷ ds) vs e =
     let root = root_by (is_root d) (has_other d) place d both.first refl both.first_is in
     let more = roots_known (suc place) ds both.rest both.rest_is in
     record { whole = (root.whole, more.whole); values_are = both.vs_is ∙ ap₂ (λ v ws. v ∷ ws) root.value_is more.values_are }
-
-contents_from : List Value → Contents
-contents_from vs = record { values = first_values ++ map value vs; charge = sizes vs }
 
 pub record Started (ds : List json.Data) : Type 0 where
   pub welcome : Welcome ds
@@ -188,12 +141,9 @@ charged_ok (Err x) n e = absurd (cc)
 
 mutual
   pub shallow : (v : Value) → depth_of v ≤ size_of v
-  shallow kind.null = omega arith
-  shallow (kind.boolean b) = omega arith
-  shallow (kind.int n) = omega arith
-  shallow (kind.text s) = omega arith
   shallow (kind.list is) = let e = shallow_items is in omega arith
   shallow (kind.map es) = let e = shallow_entries es in omega arith
+  shallow _ = omega arith
 
   shallow_items : (is : kind.Items) → items_depth is ≤ items_size is
   shallow_items kind.no_items = omega arith
@@ -218,15 +168,11 @@ start_stands vs ws e small = rw e (record { first = refl; shallow = let f = shal
 pub next_shallow : (d : json.Data) (ds : List json.Data) → Welcome (d ∷ ds) → depth_of (plain_value d) < 2 ^ 64
 next_shallow d ds w = let e = shallow (plain_value d) in let f = w.small in omega arith
 
-pub rest_welcome : (d : json.Data) (ds : List json.Data) → Welcome (d ∷ ds) → Welcome ds
-rest_welcome d ds w = record { whole = w.whole.1; small = let f = w.small in omega arith }
-
 -- ---- want of memory is no root's fault
 
 no_memory_root : (b : Bool) (place : ℕ) (o : Option Value) → (if b then root_value place o else Err (V1 place)) ≡ Err Memory → ⊥
 no_memory_root true place (Some v) e = cc
-no_memory_root true place None e = cc
-no_memory_root false place o e = cc
+no_memory_root _ place _ e = cc
 
 no_memory_then : (r : Result Value TableError) (q : Result (List Value) TableError) → (r ≡ Err Memory → ⊥) → (q ≡ Err Memory → ⊥) → root_then r q ≡ Err Memory → ⊥
 no_memory_then (Ok v) (Ok ws) f g e = cc

@@ -24,10 +24,6 @@ pub stored-append : (ns : List Node) (n : Node) → stored_values (ns ++ n ∷ [
 stored-append [] n = refl
 stored-append (m ∷ ns) n = ap (λ vs. stored m ∷ vs) (stored-append ns n)
 
-pub length-stored : (ns : List Node) → length (stored_values ns) ≡ length ns
-length-stored [] = refl
-length-stored (n ∷ ns) = ap suc (length-stored ns)
-
 pub record Begins (vs : List ValueOrError) : Type 0 where
   pub more : List ValueOrError
   pub is : vs ≡ first_values ++ more
@@ -66,9 +62,8 @@ stored_at ns h n e = slice_get-map stored ns h ∙ ap (option_map stored) e
 
 pub stored_same : (ns ms : List Node) → AllZip (λ n m. stored m ≡ stored n) ns ms → stored_values ms ≡ stored_values ns
 stored_same [] [] e = refl
-stored_same [] (m ∷ ms) e = absurd e
-stored_same (n ∷ ns) [] e = absurd e
 stored_same (n ∷ ns) (m ∷ ms) e = ap₂ (λ v vs. v ∷ vs) e.0 (stored_same ns ms e.1)
+stored_same _ _ e = absurd e
 
 -- the first values of a table, as it says of itself
 pub same_stands : (vs ws : List ValueOrError) → ws ≡ vs → Stands vs → Stands ws

@@ -18,13 +18,11 @@ number_text_same (json.float x) e = no_number e
 
 mutual
   pub text_same : (d : json.Data) → has_other d ≡ false → compact_text d ≡ json_text (plain_value d)
-  text_same json.null e = refl
   text_same (json.boolean true) e = refl
-  text_same (json.boolean false) e = refl
   text_same (json.number n) e = number_text_same n e
-  text_same (json.string s) e = refl
   text_same (json.array ds) e = ap (λ s. 91 ∷ s) (items_text_same false ds e)
   text_same (json.object ms) e = ap (λ s. 123 ∷ s) (members_text_same false ms e)
+  text_same _ e = refl
 
   items_text_same : (later : Bool) (ds : json.Items) → items_have_other ds ≡ false → json_items_text later ds ≡ items_text later (plain_items ds)
   items_text_same later json.no_items e = refl
@@ -35,18 +33,15 @@ mutual
   members_text_same later (json.member k d ms) e = ap₂ (λ s t. comma_if later ++ (quoted k ++ 58 ∷ (s ++ t))) (text_same d (first_no _ _ e)) (members_text_same true ms (second_no (has_other d) _ e))
 
 number_no_float : (n : json.Num) → has_other (json.number n) ≡ false → has_float (json.number n) ≡ false
-number_no_float (json.unsigned n) e = refl
-number_no_float (json.negative z) e = refl
 number_no_float (json.float x) e = no_number e
+number_no_float _ e = refl
 
 mutual
   pub no_float : (d : json.Data) → has_other d ≡ false → has_float d ≡ false
-  no_float json.null e = refl
-  no_float (json.boolean b) e = refl
   no_float (json.number n) e = number_no_float n e
-  no_float (json.string s) e = refl
   no_float (json.array ds) e = no_float_items ds e
   no_float (json.object ms) e = no_float_members ms e
+  no_float _ e = refl
 
   no_float_items : (ds : json.Items) → items_have_other ds ≡ false → items_have_float ds ≡ false
   no_float_items json.no_items e = refl

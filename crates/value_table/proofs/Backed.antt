@@ -13,19 +13,20 @@ use Rattle.value_table.specs.declared.part.Part.{Part}
 use Rattle.value_table.specs.declared.backings.Backings.{Backings}
 use Rattle.value_table.proofs.Growth.{text_kept}
 
-more_set : (bs : List (List ℕ)) (b c : ℕ) (ws : List ℕ) → c < length bs → (rest : List ℕ) × (get_or (slice_set bs b (get_or bs b [] ++ ws)) c [] ≡ get_or bs c [] ++ rest)
+more_set : (bs : List (List ℕ)) (b c : ℕ) (ws : List ℕ) → c < length bs
+    → (rest : List ℕ) × (get_or (slice_set bs b (get_or bs b [] ++ ws)) c [] ≡ get_or bs c [] ++ rest)
 more_set [] b c ws h = absurd (omega arith)
 more_set (y ∷ bs) zero zero ws h = (ws, refl)
-more_set (y ∷ bs) zero (suc c) ws h = ([], sym (append-nil _))
-more_set (y ∷ bs) (suc b) zero ws h = ([], sym (append-nil _))
 more_set (y ∷ bs) (suc b) (suc c) ws h = more_set bs b c ws (omega arith)
+more_set (y ∷ bs) _ _ ws h = ([], sym (append-nil _))
 
 -- the bytes have grown
 pub bytes_more : (old : Backings) (bytes rest : List ℕ) → bytes ≡ old.bytes ++ rest → Extends old (record old { bytes = bytes })
 bytes_more old bytes rest e = record { bytes = (rest, e); keys = ([], sym (append-nil old.keys)); lists = omega arith; items = λ b h. ([], sym (append-nil (get_or old.lists b []))) }
 
 -- one backing grows in place
-pub items_pushed : (old : Backings) (lists : List (List ℕ)) (b : ℕ) (ws : List ℕ) → lists ≡ slice_set old.lists b (get_or old.lists b [] ++ ws) → Extends old (record old { lists = lists })
+pub items_pushed : (old : Backings) (lists : List (List ℕ)) (b : ℕ) (ws : List ℕ) → lists ≡ slice_set old.lists b (get_or old.lists b [] ++ ws)
+    → Extends old (record old { lists = lists })
 items_pushed old lists b ws e =
     let l = length-set old.lists b (get_or old.lists b [] ++ ws) in
     record {
@@ -58,7 +59,8 @@ whole_behind bs ws a b p q =
     rw (p, drop-append_seam bs ws) (take_all (b - length bs) ws (omega arith))
 
 -- two texts behind all others, as one
-pub texts_joined : (bs ms ns : List ℕ) (p q : Part) (from to json : ℕ) → IsText bs p → IsText bs q → ms ≡ bs ++ part_of bs p → ns ≡ ms ++ part_of ms q → from ≡ length bs → to ≡ length ns
+pub texts_joined : (bs ms ns : List ℕ) (p q : Part) (from to json : ℕ) → IsText bs p → IsText bs q → ms ≡ bs ++ part_of bs p → ns ≡ ms ++ part_of ms q
+    → from ≡ length bs → to ≡ length ns
     → json ≡ saturated (length (quoted (slice_range ns from to)))
     → IsText ns (record { from = from; to = to; json = json }) × (part_of ns (record { from = from; to = to; json = json }) ≡ part_of bs p ++ part_of bs q)
 texts_joined bs ms ns p q from to json hp hq em en ef et ej =

@@ -18,14 +18,12 @@ way_some None here next e less = absurd (omega arith)
 word_of : (same : List ℕ) (here next d : ℕ) → slice_get same here ≡ Some next → here < length same → get_or same here d ≡ next
 word_of same here next d e inside = let is = slice_get-get_or same here d inside in cc
 
-way_is : (same : List ℕ) (place further d : ℕ) → LeadDown same → place < length same → further ≡ way_down (slice_get same place) place → get_or same place d ≡ further
+way_is : (same : List ℕ) (place further d : ℕ) → LeadDown same → place < length same → further ≡ way_down (slice_get same place) place
+    → get_or same place d ≡ further
 way_is same place further d down inside e =
     let low = down place d inside in
     let is : further ≡ min (get_or same place d) place = e ∙ ap (λ (o : Option ℕ). way_down o place) (slice_get-get_or same place d inside) in
     omega (arith, low, is)
-
-pub starts : (same : List ℕ) (place : ℕ) → LeadDown same → Shortens same same place
-starts same place down = record { down = down; stay = λ vs s. s; roots = λ i root. root; others = λ i d above. refl }
 
 module _ (old now : List ℕ) (place here next further : ℕ) (so_far : Shortens old now place) (low : here ≤ place) (is : next ≡ way_down (slice_get now here) here) (less : next < here) (beyond : further ≡ way_down (slice_get now next) next) where
   word_is : slice_get now here ≡ Some next
@@ -63,7 +61,8 @@ module _ (old now : List ℕ) (place here next further : ℕ) (so_far : Shortens
         let long = length-set now here further in
         elim (cases_eq i here) [
           | inl same ↦
-              let at_next : slice_get vs further ≡ slice_get vs next = ap (slice_get vs) (sym (other_word next d (λ e. omega arith) ∙ next_is d)) ∙ s.equal next d (let h = inside in omega arith) in
+              let at_next : slice_get vs further ≡ slice_get vs next = ap (slice_get vs) (sym (other_word next d (λ e. omega arith) ∙ next_is d))
+              ∙ s.equal next d (let h = inside in omega arith) in
               let at_here : slice_get vs further ≡ slice_get vs here = ap (slice_get vs) (sym (new_word d)) ∙ s.equal here d (let h = inside in omega arith) in
               ap (λ (j : ℕ). slice_get vs (get_or now j d)) same ∙ ap (slice_get vs) (here_is d) ∙ sym at_next ∙ at_here ∙ ap (slice_get vs) (sym same)
           | inr other ↦ ap (slice_get vs) (sym (other_word i d other)) ∙ s.equal i d (omega arith)
@@ -108,7 +107,8 @@ module _ (old : List ℕ) (root target : ℕ) (down : LeadDown old) (is : IsRoot
   }
 
   pub pointed_one : root < length old → AreOneClass (set old root target) target root
-  pointed_one inside vs s = let long = length-set old root target in ap (slice_get vs) (sym (get_or-set_same old root target 0 inside)) ∙ s.equal root 0 (omega arith)
+  pointed_one inside vs s =
+      let long = length-set old root target in ap (slice_get vs) (sym (get_or-set_same old root target 0 inside)) ∙ s.equal root 0 (omega arith)
 
 -- the words once the root that stands behind points at the other one
 abbrev pub united : List ℕ → ℕ → ℕ → List ℕ
@@ -119,7 +119,8 @@ pub record Unites (old new : List ℕ) (a b : ℕ) : Type 0 where
   pub one : max a b < length old → AreOneClass new a b
   pub others : (i d : ℕ) → max a b < i → get_or new i d ≡ get_or old i d
 
-unites_by : (less : Bool) (old : List ℕ) (a b : ℕ) → nat_lt a b ≡ less → LeadDown old → IsRoot old (max a b) → Unites old (if less then set old b a else set old a b) a b
+unites_by : (less : Bool) (old : List ℕ) (a b : ℕ) → nat_lt a b ≡ less → LeadDown old → IsRoot old (max a b)
+    → Unites old (if less then set old b a else set old a b) a b
 unites_by true old a b e down root =
     let h = ltb-true a b e in
     let larger : max a b ≡ b = omega arith in
@@ -175,7 +176,8 @@ pub words_before : (same more all : List ℕ) → all ≡ same ++ more → Class
 words_before same more all is vs s =
     let long = length-append same more in
     let whole = ap length is in
-    let word : (i d : ℕ) → i < length same → get_or all i d ≡ get_or same i d = λ i d inside. ap (λ (words : List ℕ). get_or words i d) is ∙ get_or_append_left same more d i inside in
+    let word : (i d : ℕ) → i < length same → get_or all i d ≡ get_or same i d = λ i d inside. ap (λ (words : List ℕ). get_or words i d) is
+    ∙ get_or_append_left same more d i inside in
     record {
       long = let most = s.long in omega arith;
       below = λ i d inside. subst (λ (w : ℕ). w ≤ i) (word i d inside) (s.below i d (omega arith));

@@ -22,7 +22,8 @@ use Rattle.value_table.proofs.Searches.{up_to}
 use Rattle.value_table.proofs.Walks.{same_value, same_place}
 
 -- a comparison of two places answers whether their values are equal
-pub answer_is : (bs : Backings) (vs : List Value) (cs : List Cell) (a b : ℕ) (r : Bool) → AreMeanings bs vs cs → a < length cs → b < length cs → Decides r (slice_get vs a ≡ slice_get vs b)
+pub answer_is : (bs : Backings) (vs : List Value) (cs : List Cell) (a b : ℕ) (r : Bool) → AreMeanings bs vs cs → a < length cs → b < length cs
+    → Decides r (slice_get vs a ≡ slice_get vs b)
     → r ≡ equal (value_in vs a) (value_in vs b)
 answer_is bs vs cs a b r m h k d =
     let e = equal_decides (value_in vs a) (value_in vs b) in
@@ -35,7 +36,8 @@ pub meanings_of : (bs : Backings) (cs : List Cell) → AreCells bs [] cs → Are
 meanings_of bs cs h = λ r c e. let f = found bs cs r c e h in slice_get-get_or (grown bs [] cs) r kind.null f.inside ∙ ap (λ v. Some v) f.is
 
 -- the first of some places, and those behind it
-pub item_step : (vs : List Value) (x : Value) (rs : List ℕ) (i : ℕ) (r : Bool) → i < length rs → r ≡ equal x (value_in vs (get_or rs i 0)) → has_item x (items_at vs (drop i rs)) ≡ r || has_item x (items_at vs (drop (i + 1) rs))
+pub item_step : (vs : List Value) (x : Value) (rs : List ℕ) (i : ℕ) (r : Bool) → i < length rs → r ≡ equal x (value_in vs (get_or rs i 0))
+    → has_item x (items_at vs (drop i rs)) ≡ r || has_item x (items_at vs (drop (i + 1) rs))
 item_step vs x rs i r h e = rw (add-one, drop-cons rs i 0 h) (ap (λ b. b || has_item x (items_at vs (drop (suc i) rs))) (sym e))
 
 -- ---- one more word
@@ -68,10 +70,8 @@ some_same : {A : Type 0} {a b : A} → Some a ≡ Some b → a ≡ b
 some_same e = cc
 
 -- a map has a text as a key where the key has a place
-pub key_member : (x m : Value) (key : List ℕ) (o : Option ℕ) → x ≡ kind.text key → Some o ≡ option_map (place_of_key key) (entries_part m) → Some (is_some o) ≡ member x m
-key_member x (kind.map es) key o e f = ap (λ p. Some (is_some p)) (some_same f) ∙ ap (λ b. Some b) (sym (has_key_place key es)) ∙ ap (λ v. member v (kind.map es)) (sym e)
-key_member x kind.null key o e f = absurd (cc)
-key_member x (kind.boolean b) key o e f = absurd (cc)
-key_member x (kind.int n) key o e f = absurd (cc)
-key_member x (kind.text s) key o e f = absurd (cc)
-key_member x (kind.list is) key o e f = absurd (cc)
+pub key_member : (x m : Value) (key : List ℕ) (o : Option ℕ) → x ≡ kind.text key → Some o ≡ option_map (place_of_key key) (entries_part m)
+    → Some (is_some o) ≡ member x m
+key_member x (kind.map es) key o e f =
+    ap (λ p. Some (is_some p)) (some_same f) ∙ ap (λ b. Some b) (sym (has_key_place key es)) ∙ ap (λ v. member v (kind.map es)) (sym e)
+key_member x _ key o e f = absurd (cc)

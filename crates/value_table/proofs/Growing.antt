@@ -1,12 +1,12 @@
 -- Documents become values one by one.
-use Rattle.std.proofs.Common.{◌≡◌, ℕ, false, List, [], ◌∷◌, ◌++◌, length, refl, sym, ap, ap₂, ◌∙◌, arith, length-append, append_assoc, append-nil, subst, Option, Some, None, Result, Ok, Err}
-use Rattle.std.specs.Prelude.{IfSome, IsSome, IfOk}
+use Rattle.std.proofs.Common.{◌≡◌, ℕ, false, List, [], ◌∷◌, ◌++◌, length, refl, sym, ap, ap₂, ◌∙◌, arith, length-append, append_assoc, append-nil, subst, Result, Ok, Err}
+use Rattle.std.specs.Prelude.{IfOk}
 use Rattle.std.proofs.lemmas.List.{map-append}
 use Rattle.std.specs.declared.alloc.AllocError.{AllocError}
 use Rattle.serde_json.specs.Data as json
 use Rattle.value_store.specs.Value as kind
 use Rattle.value_store.specs.Value.{Value, Items, no_items, item, items_push, items_join, Entries, no_entries, entry, keys_of, values_of}
-use Rattle.value_store.specs.Keys.{IsOrdered, AreItemsOrdered, AreEntriesOrdered}
+use Rattle.value_store.specs.Keys.{AreItemsOrdered, AreEntriesOrdered}
 use Rattle.value_store.specs.Roots.{has_other, items_have_other, members_have_other}
 use Rattle.value_store.specs.Plain.{plain_value, plain_items, plain_entries}
 use Rattle.value_store.proofs.Trees.{second_no}
@@ -21,19 +21,12 @@ use Rattle.value_table.proofs.Listed.{below_le, below_append, items_more}
 use Rattle.value_table.proofs.Heads.{entries_built}
 use Rattle.value_table.proofs.Named.{place_added}
 
-pub grown_same : (vs : List Value) → HasGrown vs vs
-grown_same vs = ([], sym (append-nil vs))
-
 pub grown_more : (us vs ws : List Value) → HasGrown us vs → HasGrown vs ws → HasGrown us ws
 grown_more us vs ws a b = (a.0 ++ b.0, b.1 ∙ ap (λ xs. xs ++ b.0) a.1 ∙ append_assoc us a.0 b.0)
 
 pub grown_added : (vs ws : List Value) (v : Value) (r : Result ℕ AllocError) → Adds vs v r ws → HasGrown vs ws
 grown_added vs ws v (Ok i) a = (v ∷ [], a.1)
 grown_added vs ws v (Err e) a = ([], a ∙ sym (append-nil vs))
-
-pub grown_due : (vs ws : List Value) (due : Option Value) (r : Result ℕ AllocError) → IsSome due → IfSome due (λ v. Adds vs v r ws) → HasGrown vs ws
-grown_due vs ws None r s a = absurd (cc)
-grown_due vs ws (Some v) r s a = grown_added vs ws v r a
 
 pub stands_added : (vs ws : List Value) (v : Value) (i : ℕ) → Adds vs v (Ok i) ws → Stands ws i v
 stands_added vs ws v i a = let p = place_added vs ws v i a in record { inside = p.0; is = p.1 }
@@ -66,17 +59,16 @@ pub record ItemsStand (all : Items) (vs : List Value) (places : List ℕ) (rest 
   pub whole : items_have_other rest ≡ false
   pub ordered : AreItemsOrdered (plain_items rest)
 
-pub items_start : (ds : json.Items) (vs : List Value) → items_have_other ds ≡ false → AreItemsOrdered (plain_items ds) → ItemsStand (plain_items ds) vs [] ds
-items_start ds vs w o = record { is = refl; below = tt; whole = w; ordered = o }
-
-pub items_step : (all : Items) (us vs : List Value) (places places' : List ℕ) (r : ℕ) (d : json.Data) (rest : json.Items) → places' ≡ places ++ r ∷ [] → HasGrown us vs → Stands vs r (plain_value d) → ItemsStand all us places (json.item d rest) → ItemsStand all vs places' rest
+pub items_step : (all : Items) (us vs : List Value) (places places' : List ℕ) (r : ℕ) (d : json.Data) (rest : json.Items) → places' ≡ places ++ r ∷ []
+    → HasGrown us vs → Stands vs r (plain_value d) → ItemsStand all us places (json.item d rest) → ItemsStand all vs places' rest
 items_step all us vs places places' r d rest e up s g =
     let kept : items_at vs places ≡ items_at us places = ap (λ ws. items_at ws places) up.1 ∙ items_stable us up.0 places g.below in
     let more : items_at vs (places ++ r ∷ []) ≡ items_push (items_at us places) (plain_value d) = items_more vs places r ∙ ap₂ items_push kept s.is in
     let l = length-append us up.0 in
     let n = ap length up.1 in
     record {
-      is = ap (λ ps. items_join (items_at vs ps) (plain_items rest)) e ∙ ap (λ is. items_join is (plain_items rest)) more ∙ join_pushed (items_at us places) (plain_value d) (plain_items rest) ∙ g.is;
+      is = ap (λ ps. items_join (items_at vs ps) (plain_items rest)) e ∙ ap (λ is. items_join is (plain_items rest)) more
+          ∙ join_pushed (items_at us places) (plain_value d) (plain_items rest) ∙ g.is;
       below = subst (AreBelow (length vs)) (sym e) (below_append (length vs) places (r ∷ []) (below_le (length us) (length vs) places (omega (arith, l, n)) g.below) (s.inside, tt));
       whole = second_no (has_other d) _ g.whole;
       ordered = g.ordered.1;
@@ -100,7 +92,8 @@ texts_append : (bytes : List ℕ) (ks : List Part) (k : Part) → AreTexts bytes
 texts_append bytes [] k h t = (t, tt)
 texts_append bytes (j ∷ ks) k h t = (h.0, texts_append bytes ks k h.1 t)
 
-pub keys_step : (bs cs : Backings) (keys keys' : List (List ℕ)) (parts parts' : List Part) (k : Part) (key : List ℕ) → keys' ≡ keys ++ key ∷ [] → parts' ≡ parts ++ k ∷ [] → Extends bs cs → IsText cs.bytes k → part_of cs.bytes k ≡ key → KeysStand keys bs.bytes parts
+pub keys_step : (bs cs : Backings) (keys keys' : List (List ℕ)) (parts parts' : List Part) (k : Part) (key : List ℕ) → keys' ≡ keys ++ key ∷ []
+    → parts' ≡ parts ++ k ∷ [] → Extends bs cs → IsText cs.bytes k → part_of cs.bytes k ≡ key → KeysStand keys bs.bytes parts
     → KeysStand keys' cs.bytes parts'
 keys_step bs cs keys keys' parts parts' k key d e up t is g =
     let same : texts_of cs.bytes parts ≡ texts_of bs.bytes parts = ap (λ xs. texts_of xs parts) up.bytes.1 ∙ texts_same bs.bytes up.bytes.0 parts g.texts in
@@ -110,7 +103,8 @@ keys_step bs cs keys keys' parts parts' k key d e up t is g =
     }
 
 -- the entries with these keys
-pub entries_stand : (bytes : List ℕ) (us vs : List Value) (keys all : List (List ℕ)) (parts : List Part) (places : List ℕ) → keys ≡ all → KeysStand keys bytes parts → vs ≡ us → entries_at bytes vs parts places ≡ entries_of all (values_at us places)
+pub entries_stand : (bytes : List ℕ) (us vs : List Value) (keys all : List (List ℕ)) (parts : List Part) (places : List ℕ) → keys ≡ all
+    → KeysStand keys bytes parts → vs ≡ us → entries_at bytes vs parts places ≡ entries_of all (values_at us places)
 entries_stand bytes us vs keys all parts places k g e = entries_built bytes vs parts places ∙ ap₂ (λ ks ws. entries_of ks (values_at ws places)) (g.are ∙ k) e
 
 -- ---- the members of an object
@@ -124,9 +118,6 @@ pub record MembersStand (all : Entries) (vs : List Value) (keys : List (List ℕ
   pub whole : members_have_other rest ≡ false
   pub ordered : AreEntriesOrdered (plain_entries rest)
 
-pub members_start : (ms : json.Members) (vs : List Value) → members_have_other ms ≡ false → IsOrdered (kind.map (plain_entries ms)) → MembersStand (plain_entries ms) vs [] [] ms
-members_start ms vs w o = record { keys_are = refl; values_are = refl; pairs = refl; below = tt; whole = w; ordered = o.1 }
-
 values_on : (us more : List Value) (rs : List ℕ) → AreBelow (length us) rs → values_at (us ++ more) rs ≡ values_at us rs
 values_on us more [] b = refl
 values_on us more (r ∷ rs) b = ap₂ (λ v vs. v ∷ vs) (value_stable us more r b.0) (values_on us more rs b.1)
@@ -136,7 +127,8 @@ pub members_step : (all : Entries) (us vs : List Value) (keys keys' : List (List
 members_step all us vs keys keys' places places' r key d rest k e up s m =
     let left = values_of (plain_entries rest) in
     let kept : values_at vs places ≡ values_at us places = ap (λ ws. values_at ws places) up.1 ∙ values_on us up.0 places m.below in
-    let more : values_at vs places' ≡ values_at us places ++ plain_value d ∷ [] = ap (values_at vs) e ∙ map-append (value_in vs) places (r ∷ []) ∙ ap₂ (λ ws v. ws ++ v ∷ []) kept s.is in
+    let more : values_at vs places' ≡ values_at us places ++ plain_value d ∷ [] = ap (values_at vs) e ∙ map-append (value_in vs) places (r ∷ [])
+    ∙ ap₂ (λ ws v. ws ++ v ∷ []) kept s.is in
     let l = length-append us up.0 in
     let n = ap length up.1 in
     let one = ap length k ∙ length-append keys (key ∷ []) in
@@ -155,5 +147,7 @@ entries_back : (es : Entries) → entries_of (keys_of es) (values_of es) ≡ es
 entries_back no_entries = refl
 entries_back (entry k v es) = ap (entry k v) (entries_back es)
 
-pub members_end : (all : Entries) (vs : List Value) (keys : List (List ℕ)) (places : List ℕ) → MembersStand all vs keys places json.no_members → entries_of keys (values_at vs places) ≡ all
-members_end all vs keys places m = ap₂ entries_of (sym (append-nil keys) ∙ m.keys_are) (sym (append-nil (values_at vs places)) ∙ m.values_are) ∙ entries_back all
+pub members_end : (all : Entries) (vs : List Value) (keys : List (List ℕ)) (places : List ℕ) → MembersStand all vs keys places json.no_members
+    → entries_of keys (values_at vs places) ≡ all
+members_end all vs keys places m =
+    ap₂ entries_of (sym (append-nil keys) ∙ m.keys_are) (sym (append-nil (values_at vs places)) ∙ m.values_are) ∙ entries_back all

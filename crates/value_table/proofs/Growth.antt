@@ -4,7 +4,7 @@ use Rattle.std.specs.Prelude.{slice_range}
 use Rattle.std.proofs.lemmas.List.{take-append-le, drop-append-le, get_or_append_left}
 use Rattle.std.proofs.Math.Seq.{get_or-append_seam}
 use Rattle.value_store.specs.Value as kind
-use Rattle.value_store.specs.Value.{Value, Items, item, Entries, entry}
+use Rattle.value_store.specs.Value.{Value}
 use Rattle.value_store.specs.Size.{depth_of}
 use Rattle.value_table.specs.Meaning.{part_of, value_in, items_at, entries_at, refs_at, keys_at, meaning, grown}
 use Rattle.value_table.specs.Lengths.{json_length}
@@ -34,10 +34,10 @@ pub texts_kept : (bytes rest : List ℕ) (ks : List Part) → AreTexts bytes ks 
 texts_kept bytes rest [] h = tt
 texts_kept bytes rest (k ∷ ks) h = ((text_kept bytes rest k h.0).1, texts_kept bytes rest ks h.1)
 
-entries_kept : (bytes rest : List ℕ) (vs : List Value) (ks : List Part) (rs : List ℕ) → AreTexts bytes ks → entries_at (bytes ++ rest) vs ks rs ≡ entries_at bytes vs ks rs
-entries_kept bytes rest vs [] rs h = refl
-entries_kept bytes rest vs (k ∷ ks) [] h = refl
+entries_kept : (bytes rest : List ℕ) (vs : List Value) (ks : List Part) (rs : List ℕ) → AreTexts bytes ks
+    → entries_at (bytes ++ rest) vs ks rs ≡ entries_at bytes vs ks rs
 entries_kept bytes rest vs (k ∷ ks) (r ∷ rs) h = rw ((text_kept bytes rest k h.0).0, entries_kept bytes rest vs ks rs h.1)
+entries_kept bytes rest vs _ _ h = refl
 
 refs_kept : (bs cs : Backings) (i b n : ℕ) → Extends bs cs → IsRange bs.lists i b n → refs_at cs.lists b n ≡ refs_at bs.lists b n
 refs_kept bs cs i b n e h = let m = e.items b h.inside in rw m.1 (take-append-le n (get_or bs.lists b []) m.0 h.long)
@@ -63,22 +63,18 @@ keys_stay bs cs k n e h =
     record { inside = long; texts = rw (keys_kept bs cs k n e h, e.bytes.1) (texts_kept bs.bytes e.bytes.0 (keys_at bs.keys k n) h.texts) }
 
 pub meaning_kept : (bs cs : Backings) (i : ℕ) (vs : List Value) (c : Content) → Extends bs cs → IsContent bs i c → meaning cs vs c ≡ meaning bs vs c
-meaning_kept bs cs i vs cell.Null e h = refl
-meaning_kept bs cs i vs (cell.Bool b) e h = refl
-meaning_kept bs cs i vs (cell.Int n) e h = refl
 meaning_kept bs cs i vs (cell.Text p) e h = rw e.bytes.1 (ap kind.text (text_kept bs.bytes e.bytes.0 p h).0)
 meaning_kept bs cs i vs (cell.List b n) e h = rw (refs_kept bs cs i b n e h)
 meaning_kept bs cs i vs (cell.Map k b n) e h =
     rw (refs_kept bs cs i b n e h.0, keys_kept bs cs k n e h.1, e.bytes.1)
     (ap kind.map (entries_kept bs.bytes e.bytes.0 vs (keys_at bs.keys k n) (refs_at bs.lists b n) h.1.texts))
+meaning_kept bs cs i vs _ e h = refl
 
 pub content_kept : (bs cs : Backings) (i : ℕ) (c : Content) → Extends bs cs → IsContent bs i c → IsContent cs i c
-content_kept bs cs i cell.Null e h = tt
-content_kept bs cs i (cell.Bool b) e h = tt
-content_kept bs cs i (cell.Int n) e h = tt
 content_kept bs cs i (cell.Text p) e h = rw e.bytes.1 (text_kept bs.bytes e.bytes.0 p h).1
 content_kept bs cs i (cell.List b n) e h = range_stays bs cs i b n e h
 content_kept bs cs i (cell.Map k b n) e h = (range_stays bs cs i b n e h.0, keys_stay bs cs k n e h.1)
+content_kept bs cs i _ e h = tt
 
 cell_kept : (bs cs : Backings) (vs : List Value) (c : Cell) → Extends bs cs → IsCell bs vs c → IsCell cs vs c
 cell_kept bs cs vs c e h =
@@ -98,7 +94,8 @@ cells_kept bs cs vs (c ∷ xs) e h =
 
 -- ---- one more cell
 
-pub grown_one : (bs : Backings) (vs : List Value) (xs : List Cell) (c : Cell) → grown bs vs (xs ++ c ∷ []) ≡ grown bs vs xs ++ meaning bs (grown bs vs xs) c.content ∷ []
+pub grown_one : (bs : Backings) (vs : List Value) (xs : List Cell) (c : Cell)
+    → grown bs vs (xs ++ c ∷ []) ≡ grown bs vs xs ++ meaning bs (grown bs vs xs) c.content ∷ []
 grown_one bs vs [] c = refl
 grown_one bs vs (d ∷ xs) c = grown_one bs (vs ++ meaning bs vs d.content ∷ []) xs c
 
@@ -125,18 +122,15 @@ pub items_stable : (vs ws : List Value) (rs : List ℕ) → AreBelow (length vs)
 items_stable vs ws [] h = refl
 items_stable vs ws (r ∷ rs) h = rw (value_stable vs ws r h.0, items_stable vs ws rs h.1)
 
-pub entries_stable : (bytes : List ℕ) (vs ws : List Value) (ks : List Part) (rs : List ℕ) → AreBelow (length vs) rs → entries_at bytes (vs ++ ws) ks rs ≡ entries_at bytes vs ks rs
-entries_stable bytes vs ws [] rs h = refl
-entries_stable bytes vs ws (k ∷ ks) [] h = refl
+pub entries_stable : (bytes : List ℕ) (vs ws : List Value) (ks : List Part) (rs : List ℕ) → AreBelow (length vs) rs
+    → entries_at bytes (vs ++ ws) ks rs ≡ entries_at bytes vs ks rs
 entries_stable bytes vs ws (k ∷ ks) (r ∷ rs) h = rw (value_stable vs ws r h.0, entries_stable bytes vs ws ks rs h.1)
+entries_stable bytes vs ws _ _ h = refl
 
 pub meaning_stable : (bs : Backings) (vs ws : List Value) (c : Content) → IsContent bs (length vs) c → meaning bs (vs ++ ws) c ≡ meaning bs vs c
-meaning_stable bs vs ws cell.Null h = refl
-meaning_stable bs vs ws (cell.Bool b) h = refl
-meaning_stable bs vs ws (cell.Int n) h = refl
-meaning_stable bs vs ws (cell.Text p) h = refl
 meaning_stable bs vs ws (cell.List b n) h = ap kind.list (items_stable vs ws (refs_at bs.lists b n) h.below)
 meaning_stable bs vs ws (cell.Map k b n) h = ap kind.map (entries_stable bs.bytes vs ws (keys_at bs.keys k n) (refs_at bs.lists b n) h.0.below)
+meaning_stable bs vs ws _ h = refl
 
 pub grows : (bs : Backings) (vs : List Value) (xs : List Cell) → (more : List Value) × (grown bs vs xs ≡ vs ++ more)
 grows bs vs [] = ([], sym (append-nil vs))
@@ -162,7 +156,8 @@ here bs vs xs c h =
       ordered = rw same h.0.ordered;
     })
 
-found_at : (bs : Backings) (vs : List Value) (xs : List Cell) (r : ℕ) (c : Cell) → slice_get xs r ≡ Some c → AreCells bs vs xs → Found bs (grown bs vs xs) (length vs + r) c
+found_at : (bs : Backings) (vs : List Value) (xs : List Cell) (r : ℕ) (c : Cell) → slice_get xs r ≡ Some c → AreCells bs vs xs
+    → Found bs (grown bs vs xs) (length vs + r) c
 found_at bs vs [] r c e h = absurd (cc)
 found_at bs vs (d ∷ xs) zero c e h =
     let s : d ≡ c = cc in

@@ -6,7 +6,7 @@ use Rattle.value_store.specs.Value as kind
 use Rattle.value_store.specs.Value.{Value, Items, Entries, items_of, list_of, keys_of, values_of}
 use Rattle.value_table.specs.Meaning.{part_of, value_in, items_at, entries_at, refs_at, keys_at, meaning}
 use Rattle.value_table.specs.Heaps.{IsContent}
-use Rattle.value_table.specs.Heads.{Head, simple, items, entries, head, parts, texts_of, values_at, entries_of, built, IsReadable}
+use Rattle.value_table.specs.Heads.{Head, simple, items, entries, head, parts, texts_of, values_at, entries_of, built}
 use Rattle.value_table.specs.declared.part.Part.{Part}
 use Rattle.value_table.specs.declared.content.Content.{Content}
 use Rattle.value_table.specs.declared.content.Content.TheVariants as cell
@@ -18,28 +18,22 @@ items_built : (vs : List Value) (rs : List ℕ) → items_at vs rs ≡ items_of 
 items_built vs [] = refl
 items_built vs (r ∷ rs) = ap (kind.item (value_in vs r)) (items_built vs rs)
 
-pub entries_built : (bytes : List ℕ) (vs : List Value) (ks : List Part) (rs : List ℕ) → entries_at bytes vs ks rs ≡ entries_of (texts_of bytes ks) (values_at vs rs)
-entries_built bytes vs [] rs = refl
-entries_built bytes vs (k ∷ ks) [] = refl
+pub entries_built : (bytes : List ℕ) (vs : List Value) (ks : List Part) (rs : List ℕ)
+    → entries_at bytes vs ks rs ≡ entries_of (texts_of bytes ks) (values_at vs rs)
 entries_built bytes vs (k ∷ ks) (r ∷ rs) = ap (kind.entry (part_of bytes k) (value_in vs r)) (entries_built bytes vs ks rs)
+entries_built bytes vs _ _ = refl
 
 pub meaning_built : (bs : Backings) (vs : List Value) (c : Content) → meaning bs vs c ≡ built (head bs c) (values_at vs (parts bs c))
-meaning_built bs vs cell.Null = refl
-meaning_built bs vs (cell.Bool b) = refl
-meaning_built bs vs (cell.Int n) = refl
-meaning_built bs vs (cell.Text p) = refl
 meaning_built bs vs (cell.List b n) = ap kind.list (items_built vs (refs_at bs.lists b n))
 meaning_built bs vs (cell.Map k b n) = ap kind.map (entries_built bs.bytes vs (keys_at bs.keys k n) (refs_at bs.lists b n))
+meaning_built bs vs _ = refl
 
 -- ---- a head says how many parts there are
 
 abbrev pub HasNoParts : Value → Type 0
-HasNoParts kind.null = ⊤
-HasNoParts (kind.boolean b) = ⊤
-HasNoParts (kind.int n) = ⊤
-HasNoParts (kind.text s) = ⊤
 HasNoParts (kind.list is) = ⊥
 HasNoParts (kind.map es) = ⊥
+HasNoParts _ = ⊤
 
 abbrev pub Fits : Head → ℕ → Type 0
 Fits (simple v) n = HasNoParts v × (n ≡ 0)
@@ -53,26 +47,19 @@ pub taken_long : {A : Type 0} (xs : List A) (n : ℕ) → n ≤ length xs → le
 taken_long xs n h = length-take n xs ∙ omega arith
 
 pub fits : (bs : Backings) (i : ℕ) (c : Content) → IsContent bs i c → Fits (head bs c) (length (parts bs c))
-fits bs i cell.Null h = (tt, refl)
-fits bs i (cell.Bool b) h = (tt, refl)
-fits bs i (cell.Int n) h = (tt, refl)
-fits bs i (cell.Text p) h = (tt, refl)
 fits bs i (cell.List b n) h = sym (taken_long (slice_index_or bs.lists b []) n h.long)
 fits bs i (cell.Map k b n) h =
     length-map (keys_at bs.keys k n) (part_of bs.bytes) ∙ range_long bs.keys k n h.1.inside ∙ sym (taken_long (slice_index_or bs.lists b []) n h.0.long)
+fits bs i _ h = (tt, refl)
 
 fits_long : (h k : Head) (m n : ℕ) → Fits h m → Fits k n → h ≡ k → m ≡ n
 fits_long (simple v) (simple w) m n f g e = f.1 ∙ sym g.1
-fits_long (simple v) (items o) m n f g e = absurd (cc)
-fits_long (simple v) (entries ks) m n f g e = absurd (cc)
-fits_long (items o) (simple w) m n f g e = absurd (cc)
 fits_long (items o) (items p) m n f g e = let k : o ≡ p = cc in sym f ∙ k ∙ g
-fits_long (items o) (entries ks) m n f g e = absurd (cc)
-fits_long (entries ks) (simple w) m n f g e = absurd (cc)
-fits_long (entries ks) (items o) m n f g e = absurd (cc)
 fits_long (entries ks) (entries ls) m n f g e = let k : ks ≡ ls = cc in sym f ∙ ap length k ∙ g
+fits_long _ _ m n f g e = absurd (cc)
 
-pub parts_long : (bs : Backings) (i j : ℕ) (c d : Content) → IsContent bs i c → IsContent bs j d → head bs c ≡ head bs d → length (parts bs c) ≡ length (parts bs d)
+pub parts_long : (bs : Backings) (i j : ℕ) (c d : Content) → IsContent bs i c → IsContent bs j d → head bs c ≡ head bs d
+    → length (parts bs c) ≡ length (parts bs d)
 parts_long bs i j c d f g e = fits_long (head bs c) (head bs d) (length (parts bs c)) (length (parts bs d)) (fits bs i c f) (fits bs j d g) e
 
 -- ---- what is built of two heads and parts is equal only where these are
@@ -88,9 +75,8 @@ keys_back (k ∷ ks) (v ∷ vs) e = ap (λ ls. k ∷ ls) (keys_back ks vs (omega
 
 values_back : (ks : List (List ℕ)) (vs : List Value) → length ks ≡ length vs → values_of (entries_of ks vs) ≡ vs
 values_back [] [] e = refl
-values_back [] (v ∷ vs) e = absurd (omega arith)
-values_back (k ∷ ks) [] e = absurd (omega arith)
 values_back (k ∷ ks) (v ∷ vs) e = ap (λ ws. v ∷ ws) (values_back ks vs (omega arith))
+values_back _ _ e = absurd (omega arith)
 
 same_items : (is js : Items) → kind.list is ≡ kind.list js → is ≡ js
 same_items is js e = cc
@@ -104,45 +90,37 @@ none (v ∷ vs) e = absurd (omega arith)
 
 apart : (h k : Head) (vs ws : List Value) → Fits h (length vs) → Fits k (length ws) → built h vs ≡ built k ws → (h ≡ k) × (vs ≡ ws)
 apart (simple v) (simple w) vs ws f g e = (ap simple e, none vs f.1 ∙ sym (none ws g.1))
-apart (simple v) (items n) vs ws f g e = absurd (subst HasNoParts e f.0)
-apart (simple v) (entries ks) vs ws f g e = absurd (subst HasNoParts e f.0)
-apart (items n) (simple w) vs ws f g e = absurd (subst HasNoParts (sym e) g.0)
 apart (items m) (items n) vs ws f g e =
     let is = same_items (items_of vs) (items_of ws) e in
     let same : vs ≡ ws = sym (list_back vs) ∙ ap list_of is ∙ list_back ws in
     (ap items (f ∙ ap length same ∙ sym g), same)
 apart (items n) (entries ks) vs ws f g e = absurd (cc)
-apart (entries ks) (simple w) vs ws f g e = absurd (subst HasNoParts (sym e) g.0)
 apart (entries ks) (items n) vs ws f g e = absurd (cc)
 apart (entries ks) (entries ls) vs ws f g e =
     let es = same_entries (entries_of ks vs) (entries_of ls ws) e in
     (ap entries (sym (keys_back ks vs f) ∙ ap keys_of es ∙ keys_back ls ws g), sym (values_back ks vs f) ∙ ap values_of es ∙ values_back ls ws g)
+apart (simple v) _ vs ws f g e = absurd (subst HasNoParts e f.0)
+apart _ (simple w) vs ws f g e = absurd (subst HasNoParts (sym e) g.0)
 
-pub same_meaning : (bs : Backings) (vs : List Value) (c d : Content) → head bs c ≡ head bs d → values_at vs (parts bs c) ≡ values_at vs (parts bs d) → meaning bs vs c ≡ meaning bs vs d
+pub same_meaning : (bs : Backings) (vs : List Value) (c d : Content) → head bs c ≡ head bs d → values_at vs (parts bs c) ≡ values_at vs (parts bs d)
+    → meaning bs vs c ≡ meaning bs vs d
 same_meaning bs vs c d h p = meaning_built bs vs c ∙ ap₂ built h p ∙ sym (meaning_built bs vs d)
 
 pub record Alike (bs : Backings) (vs : List Value) (c d : Content) : Type 0 where
   pub heads : head bs c ≡ head bs d
   pub values : values_at vs (parts bs c) ≡ values_at vs (parts bs d)
 
-pub meaning_apart : (bs : Backings) (vs : List Value) (i j : ℕ) (c d : Content) → IsContent bs i c → IsContent bs j d → meaning bs vs c ≡ meaning bs vs d → Alike bs vs c d
+pub meaning_apart : (bs : Backings) (vs : List Value) (i j : ℕ) (c d : Content) → IsContent bs i c → IsContent bs j d → meaning bs vs c ≡ meaning bs vs d
+    → Alike bs vs c d
 meaning_apart bs vs i j c d f g e =
     let fit = λ (k : ℕ) (a : Content) (s : IsContent bs k a). subst (Fits (head bs a)) (sym (length-map (parts bs a) (value_in vs))) (fits bs k a s) in
     let both = apart (head bs c) (head bs d) (values_at vs (parts bs c)) (values_at vs (parts bs d)) (fit i c f) (fit j d g) (sym (meaning_built bs vs c) ∙ e ∙ meaning_built bs vs d) in
     record { heads = both.0; values = both.1 }
 
--- what a cell names can be read
-pub readable : (bs : Backings) (i : ℕ) (c : Content) → IsContent bs i c → IsReadable bs c
-readable bs i cell.Null h = tt
-readable bs i (cell.Bool b) h = tt
-readable bs i (cell.Int n) h = tt
-readable bs i (cell.Text p) h = h
-readable bs i (cell.List b n) h = tt
-readable bs i (cell.Map k b n) h = h.1
-
 -- ---- the keys of a map
 
-pub map_keys : (bs : Backings) (vs : List Value) (i k b n : ℕ) → IsContent bs i (cell.Map k b n) → keys_of (entries_at bs.bytes vs (keys_at bs.keys k n) (refs_at bs.lists b n)) ≡ texts_of bs.bytes (keys_at bs.keys k n)
+pub map_keys : (bs : Backings) (vs : List Value) (i k b n : ℕ) → IsContent bs i (cell.Map k b n)
+    → keys_of (entries_at bs.bytes vs (keys_at bs.keys k n) (refs_at bs.lists b n)) ≡ texts_of bs.bytes (keys_at bs.keys k n)
 map_keys bs vs i k b n h =
     let ks = keys_at bs.keys k n in
     let rs = refs_at bs.lists b n in

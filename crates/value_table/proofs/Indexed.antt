@@ -35,7 +35,8 @@ or_else None o = o
 abbrev place_if : Bool → ℕ → Option ℕ
 place_if b n = if b then Some n else None
 
-push_step : (b c : Bool) (o : Option ℕ) (n : ℕ) → (if b then Some 0 else option_map suc (or_else o (place_if c n))) ≡ or_else (if b then Some 0 else option_map suc o) (place_if c (suc n))
+push_step : (b c : Bool) (o : Option ℕ) (n : ℕ)
+    → (if b then Some 0 else option_map suc (or_else o (place_if c n))) ≡ or_else (if b then Some 0 else option_map suc o) (place_if c (suc n))
 push_step true c o n = refl
 push_step false c (Some p) n = refl
 push_step false true None n = refl
@@ -43,20 +44,19 @@ push_step false false None n = refl
 
 place_push : (t k : List ℕ) (ts : List (List ℕ)) → place_among t (ts ++ k ∷ []) ≡ or_else (place_among t ts) (place_if (bytes_eq k t) (length ts))
 place_push t k [] = refl
-place_push t k (u ∷ ts) = ap (λ o. if bytes_eq u t then Some 0 else option_map suc o) (place_push t k ts) ∙ push_step (bytes_eq u t) (bytes_eq k t) (place_among t ts) (length ts)
+place_push t k (u ∷ ts) =
+    ap (λ o. if bytes_eq u t then Some 0 else option_map suc o) (place_push t k ts) ∙ push_step (bytes_eq u t) (bytes_eq k t) (place_among t ts) (length ts)
 
 -- one that stands there already
 none_more : (o : Option ℕ) (b : Bool) (n : ℕ) → (b ≡ true → is_some o ≡ true) → or_else o (place_if b n) ≡ o
-none_more (Some p) b n h = refl
 none_more None true n h = absurd (true≢false (sym (h refl)))
-none_more None false n h = refl
+none_more _ _ n h = refl
 
 -- and one that does not
 one_more : (o : Option ℕ) (b : Bool) (n : ℕ) → (b ≡ true → is_some o ≡ false) → cond b (Some n) o ≡ or_else o (place_if b n)
 one_more (Some p) true n h = absurd (true≢false (h refl))
 one_more None true n h = refl
-one_more (Some p) false n h = refl
-one_more None false n h = refl
+one_more _ _ n h = refl
 
 same_text : (k t : List ℕ) (ts : List (List ℕ)) (b : Bool) → is_some (place_among k ts) ≡ b → bytes_eq k t ≡ true → is_some (place_among t ts) ≡ b
 same_text k t ts b e same = ap (λ u. is_some (place_among u ts)) (sym ((bytes_decides k t).0 same)) ∙ e
@@ -64,15 +64,19 @@ same_text k t ts b e same = ap (λ u. is_some (place_among u ts)) (sym ((bytes_d
 counted : (ts : List (List ℕ)) (k : List ℕ) (m n : ℕ) → m ≡ length ts → n ≡ m + 1 → n ≡ length (ts ++ k ∷ [])
 counted ts k m n e f = let l = length-append ts (k ∷ []) in omega (arith, e, f, l)
 
-pub index_kept : (old new : Index) (ts : List (List ℕ)) (k : List ℕ) → IsIndex old ts → new.count ≡ old.count + 1 → new.places ≡ old.places → is_some (get_by_text old.places k) ≡ true → IsIndex new (ts ++ k ∷ [])
+pub index_kept : (old new : Index) (ts : List (List ℕ)) (k : List ℕ) → IsIndex old ts → new.count ≡ old.count + 1 → new.places ≡ old.places
+    → is_some (get_by_text old.places k) ≡ true → IsIndex new (ts ++ k ∷ [])
 index_kept old new ts k h n same there =
     let here = ap is_some (sym (h.least k)) ∙ there in
     record {
       count = counted ts k old.count new.count h.count n;
-      least = λ t. ap (λ m. get_by_text m t) same ∙ h.least t ∙ sym (place_push t k ts ∙ none_more (place_among t ts) (bytes_eq k t) (length ts) (same_text k t ts true here));
+      least = λ t. ap (λ m. get_by_text m t) same ∙ h.least t
+          ∙ sym (place_push t k ts ∙ none_more (place_among t ts) (bytes_eq k t) (length ts) (same_text k t ts true here));
     }
 
-pub index_more : (old new : Index) (ts : List (List ℕ)) (k : List ℕ) → IsIndex old ts → new.count ≡ old.count + 1 → ((t : List ℕ) → get_by_text new.places t ≡ update bytes_eq (λ u. get_by_text old.places u) k (Some old.count) t) → is_some (get_by_text old.places k) ≡ false
+pub index_more : (old new : Index) (ts : List (List ℕ)) (k : List ℕ) → IsIndex old ts → new.count ≡ old.count + 1
+    → ((t : List ℕ) → get_by_text new.places t ≡ update bytes_eq (λ u. get_by_text old.places u) k (Some old.count) t)
+    → is_some (get_by_text old.places k) ≡ false
     → IsIndex new (ts ++ k ∷ [])
 index_more old new ts k h n put none =
     let here = ap is_some (sym (h.least k)) ∙ none in
@@ -93,20 +97,23 @@ abbrev pub start_of : Option ℕ → ℕ → ℕ
 start_of (Some p) n = min p n
 start_of None n = n
 
-skip_step : (b : Bool) (vs : List Value) (x : Value) (r : ℕ) (rs : List ℕ) (o : Option ℕ) (n : ℕ) → (b ≡ false → equal x (value_in vs r) ≡ false) → has_item x (items_at vs rs) ≡ has_item x (items_at vs (drop (start_of o n) rs))
+skip_step : (b : Bool) (vs : List Value) (x : Value) (r : ℕ) (rs : List ℕ) (o : Option ℕ) (n : ℕ) → (b ≡ false → equal x (value_in vs r) ≡ false)
+    → has_item x (items_at vs rs) ≡ has_item x (items_at vs (drop (start_of o n) rs))
     → equal x (value_in vs r) || has_item x (items_at vs rs) ≡ has_item x (items_at vs (drop (start_of (if b then Some 0 else option_map suc o) (suc n)) (r ∷ rs)))
 skip_step true vs x r rs o n h e = let z : min 0 (suc n) ≡ 0 = omega arith in rw z refl
 skip_step false vs x r rs (Some p) n h e = let z : min (suc p) (suc n) ≡ suc (min p n) = omega arith in rw (z, h refl) e
 skip_step false vs x r rs None n h e = rw (h refl) e
 
-skips : (vs : List Value) (x : Value) (rs : List ℕ) (n k : ℕ) → n ≤ k → has_item x (items_at vs (take n rs)) ≡ has_item x (items_at vs (drop (start_of (place_among (looked_up_by x) (texts_at vs (take k rs))) n) (take n rs)))
+skips : (vs : List Value) (x : Value) (rs : List ℕ) (n k : ℕ) → n ≤ k
+    → has_item x (items_at vs (take n rs)) ≡ has_item x (items_at vs (drop (start_of (place_among (looked_up_by x) (texts_at vs (take k rs))) n) (take n rs)))
 skips vs x rs zero k h = ap (λ xs. has_item x (items_at vs xs)) (sym (drop-nil {A = ℕ} _))
 skips vs x [] (suc n) k h = ap (λ xs. has_item x (items_at vs xs)) (sym (drop-nil {A = ℕ} _))
 skips vs x (r ∷ rs) (suc n) zero h = absurd (omega arith)
 skips vs x (r ∷ rs) (suc n) (suc k) h =
     skip_step (bytes_eq (looked_up_by (value_in vs r)) (looked_up_by x)) vs x r (take n rs) (place_among (looked_up_by x) (texts_at vs (take k rs))) n (differs x (value_in vs r)) (skips vs x rs n k (omega arith))
 
-pub skips_from : (vs : List Value) (x : Value) (rs : List ℕ) (n k s : ℕ) (o : Option ℕ) → n ≤ k → o ≡ place_among (looked_up_by x) (texts_at vs (take k rs)) → s ≡ start_of o n → has_item x (items_at vs (take n rs)) ≡ has_item x (items_at vs (drop s (take n rs)))
+pub skips_from : (vs : List Value) (x : Value) (rs : List ℕ) (n k s : ℕ) (o : Option ℕ) → n ≤ k → o ≡ place_among (looked_up_by x) (texts_at vs (take k rs))
+    → s ≡ start_of o n → has_item x (items_at vs (take n rs)) ≡ has_item x (items_at vs (drop s (take n rs)))
 skips_from vs x rs n k s o h e f = skips vs x rs n k h ∙ ap (λ i. has_item x (items_at vs (drop i (take n rs)))) (ap (λ p. start_of p n) (sym e) ∙ sym f)
 
 -- ---- one more item
@@ -115,13 +122,15 @@ below_push : (i : ℕ) (rs : List ℕ) (r : ℕ) → AreBelow i rs → r < i →
 below_push i [] r h l = (l, tt)
 below_push i (s ∷ rs) r h l = (h.0, below_push i rs r h.1 l)
 
-pub covers_more : (vs : List Value) (rs : List ℕ) (old new : Index) (d : ℕ) (k : List ℕ) → Covers vs rs old → old.count < length rs → get_or rs old.count d < length vs → new.count ≡ old.count + 1 → k ≡ looked_up_by (value_in vs (get_or rs old.count d))
+pub covers_more : (vs : List Value) (rs : List ℕ) (old new : Index) (d : ℕ) (k : List ℕ) → Covers vs rs old → old.count < length rs
+    → get_or rs old.count d < length vs → new.count ≡ old.count + 1 → k ≡ looked_up_by (value_in vs (get_or rs old.count d))
     → ((ts : List (List ℕ)) → IsIndex old ts → IsIndex new (ts ++ k ∷ [])) → Covers vs rs new
 covers_more vs rs old new d k h inside low n is more =
     let r = get_or rs old.count d in
     let t : take new.count rs ≡ take old.count rs ++ r ∷ [] = ap (λ c. take c rs) n ∙ take_more rs old.count d inside in
     let u : texts_at vs (take new.count rs) ≡ texts_at vs (take old.count rs) ++ k ∷ [] =
-    ap (texts_at vs) t ∙ map-append (λ s. looked_up_by (value_in vs s)) (take old.count rs) (r ∷ []) ∙ ap (λ l. texts_at vs (take old.count rs) ++ l ∷ []) (sym is)
+    ap (texts_at vs) t ∙ map-append (λ s. looked_up_by (value_in vs s)) (take old.count rs) (r ∷ [])
+    ∙ ap (λ l. texts_at vs (take old.count rs) ++ l ∷ []) (sym is)
     in
     record { long = omega (arith, n, inside); below = subst (AreBelow (length vs)) (sym t) (below_push (length vs) (take old.count rs) r h.below low); index = subst (IsIndex new) (sym u) (more _ h.index) }
 
@@ -177,8 +186,10 @@ new_indexed bs vs x b inside is h =
     }
 
 -- one with one more text
-pub entered : (bs : Backings) (vs : List Value) (old new : Index) (i b n : ℕ) (k : List ℕ) → IsIndexed bs vs old → IsRange bs.lists i b n → length vs ≡ i → old.backing ≡ b → old.count < n → new.backing ≡ old.backing → new.count ≡ old.count + 1
-    → k ≡ looked_up_by (value_in vs (get_or (refs_at bs.lists b n) old.count 0)) → ((ts : List (List ℕ)) → IsIndex old ts → IsIndex new (ts ++ k ∷ [])) → IsIndexed bs vs new
+pub entered : (bs : Backings) (vs : List Value) (old new : Index) (i b n : ℕ) (k : List ℕ) → IsIndexed bs vs old → IsRange bs.lists i b n → length vs ≡ i
+    → old.backing ≡ b → old.count < n → new.backing ≡ old.backing → new.count ≡ old.count + 1
+    → k ≡ looked_up_by (value_in vs (get_or (refs_at bs.lists b n) old.count 0)) → ((ts : List (List ℕ)) → IsIndex old ts → IsIndex new (ts ++ k ∷ []))
+    → IsIndexed bs vs new
 entered bs vs old new i b n k h range long at lt same more is put =
     let it = item_at bs.lists i b n old.count 0 range lt in
     let low = it.1 in
@@ -187,19 +198,9 @@ entered bs vs old new i b n k h range long at lt same more is put =
     let d = covers_more vs (get_or bs.lists b []) old new 0 k c it.2 (omega arith) more (is ∙ ap (λ r. looked_up_by (value_in vs r)) it.0) put in
     record { inside = omega arith; covers = subst (λ j. Covers vs (get_or bs.lists j []) new) (sym (same ∙ at)) d }
 
--- and one in which nothing could be entered
-pub refused : (bs : Backings) (vs : List Value) (old new : Index) → IsIndexed bs vs old → new.backing ≡ old.backing → ((ts : List (List ℕ)) → IsIndex old ts → IsIndex new ts) → IsIndexed bs vs new
-refused bs vs old new h same keep =
-    let k = keep _ h.covers.index in
-    let n : new.count ≡ old.count = k.count ∙ sym h.covers.index.count in
-    let long = h.covers.long in
-    let inside = h.inside in
-    let rs = get_or bs.lists old.backing [] in
-    let d : Covers vs rs new = record { long = omega arith; below = subst (λ c. AreBelow (length vs) (take c rs)) (sym n) h.covers.below; index = subst (λ c. IsIndex new (texts_at vs (take c rs))) (sym n) k } in
-    record { inside = omega arith; covers = subst (λ j. Covers vs (get_or bs.lists j []) new) (sym same) d }
-
 -- what a search passes
-pub skips_by : (bs : Backings) (vs : List Value) (x : Value) (y : Index) (b n s : ℕ) (o : Option ℕ) (t : List ℕ) → IsIndexed bs vs y → y.backing ≡ b → n ≤ y.count → t ≡ looked_up_by x → ((ts : List (List ℕ)) → IsIndex y ts → o ≡ place_among t ts) → s ≡ start_of o n
+pub skips_by : (bs : Backings) (vs : List Value) (x : Value) (y : Index) (b n s : ℕ) (o : Option ℕ) (t : List ℕ) → IsIndexed bs vs y → y.backing ≡ b
+    → n ≤ y.count → t ≡ looked_up_by x → ((ts : List (List ℕ)) → IsIndex y ts → o ≡ place_among t ts) → s ≡ start_of o n
     → has_item x (items_at vs (refs_at bs.lists b n)) ≡ has_item x (items_at vs (drop s (refs_at bs.lists b n)))
 skips_by bs vs x y b n s o t h is long e find f =
     let rs = get_or bs.lists b [] in
@@ -218,13 +219,15 @@ rest_is s rs = let l = length-drop s rs in take_all (length rs - s) (drop s rs) 
 abbrev Each : Backings → List Value → List Index → Type 0
 Each bs vs xs = (i : ℕ) (x : Index) → slice_get xs i ≡ Some x → IsIndexed bs vs x
 
-pushed : (bs : Backings) (vs : List Value) (xs : List Index) (y : Index) → Each bs vs xs → IsIndexed bs vs y → (i : ℕ) (x : Index) → slice_get (xs ++ y ∷ []) i ≡ Some x → IsIndexed bs vs x
+pushed : (bs : Backings) (vs : List Value) (xs : List Index) (y : Index) → Each bs vs xs → IsIndexed bs vs y → (i : ℕ) (x : Index)
+    → slice_get (xs ++ y ∷ []) i ≡ Some x → IsIndexed bs vs x
 pushed bs vs [] y h k zero x e = let s : y ≡ x = cc in subst (IsIndexed bs vs) s k
 pushed bs vs [] y h k (suc i) x e = absurd (cc)
 pushed bs vs (z ∷ xs) y h k zero x e = h zero x e
 pushed bs vs (z ∷ xs) y h k (suc i) x e = pushed bs vs xs y (λ j w f. h (suc j) w f) k i x e
 
-was_set : (bs : Backings) (vs : List Value) (xs : List Index) (s : ℕ) (y : Index) → Each bs vs xs → IsIndexed bs vs y → (i : ℕ) (x : Index) → slice_get (set xs s y) i ≡ Some x → IsIndexed bs vs x
+was_set : (bs : Backings) (vs : List Value) (xs : List Index) (s : ℕ) (y : Index) → Each bs vs xs → IsIndexed bs vs y → (i : ℕ) (x : Index)
+    → slice_get (set xs s y) i ≡ Some x → IsIndexed bs vs x
 was_set bs vs [] s y h k i x e = absurd (cc)
 was_set bs vs (z ∷ xs) zero y h k zero x e = let same : y ≡ x = cc in subst (IsIndexed bs vs) same k
 was_set bs vs (z ∷ xs) zero y h k (suc i) x e = h (suc i) x e
@@ -234,10 +237,12 @@ was_set bs vs (z ∷ xs) (suc s) y h k (suc i) x e = was_set bs vs xs s y (λ j 
 pub indexes_kept : (bs cs : Backings) (vs ws : List Value) (xs : List Index) → Extends bs cs → AreIndexes bs vs xs → AreIndexes cs (vs ++ ws) xs
 indexes_kept bs cs vs ws xs e h = record { each = λ i x at. indexed_kept bs cs vs ws x e (h.each i x at) }
 
-pub indexes_push : (bs : Backings) (vs : List Value) (xs ys : List Index) (y : Index) → ys ≡ xs ++ y ∷ [] → AreIndexes bs vs xs → IsIndexed bs vs y → AreIndexes bs vs ys
+pub indexes_push : (bs : Backings) (vs : List Value) (xs ys : List Index) (y : Index) → ys ≡ xs ++ y ∷ [] → AreIndexes bs vs xs → IsIndexed bs vs y
+    → AreIndexes bs vs ys
 indexes_push bs vs xs ys y e h k = subst (AreIndexes bs vs) (sym e) (record { each = pushed bs vs xs y h.each k })
 
-pub indexes_set : (bs : Backings) (vs : List Value) (xs ys : List Index) (s : ℕ) (y : Index) → ys ≡ set xs s y → AreIndexes bs vs xs → IsIndexed bs vs y → AreIndexes bs vs ys
+pub indexes_set : (bs : Backings) (vs : List Value) (xs ys : List Index) (s : ℕ) (y : Index) → ys ≡ set xs s y → AreIndexes bs vs xs → IsIndexed bs vs y
+    → AreIndexes bs vs ys
 indexes_set bs vs xs ys s y e h k = subst (AreIndexes bs vs) (sym e) (record { each = was_set bs vs xs s y h.each k })
 
 pub slot_inside : (xs : List Index) (s b : ℕ) → option_map (λ x. x.backing) (slice_get xs s) ≡ Some b → s < length xs

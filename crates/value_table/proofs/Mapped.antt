@@ -8,7 +8,7 @@ use Rattle.std.specs.Ordering.{nat_cmp}
 use Rattle.std.specs.Cmp.Lexicographic.{slice_cmp}
 use Rattle.std.proofs.lemmas.List.{length-map}
 use Rattle.value_store.specs.Value as kind
-use Rattle.value_store.specs.Value.{Value, Entries, no_entries, entry, keys_of}
+use Rattle.value_store.specs.Value.{Value, Entries, entry, keys_of}
 use Rattle.value_store.specs.Size.{depth_of, entries_depth}
 use Rattle.value_store.specs.Keys.{Ascend, IsOrdered}
 use Rattle.value_store.specs.Plain.{saturated}
@@ -33,15 +33,15 @@ use Rattle.value_table.proofs.Listed.{Made, below_le}
 
 -- ---- an entry put at its gap
 
-inserted_at : (o : Ordering) (key : List ℕ) (v : Value) (k : List ℕ) (w : Value) (more : Entries) (rest : Option Entries) → slice_cmp nat_cmp key k ≡ o → inserted_by (slice_cmp nat_cmp key k) key v k w more rest ≡ inserted_by o key v k w more rest
+inserted_at : (o : Ordering) (key : List ℕ) (v : Value) (k : List ℕ) (w : Value) (more : Entries) (rest : Option Entries) → slice_cmp nat_cmp key k ≡ o
+    → inserted_by (slice_cmp nat_cmp key k) key v k w more rest ≡ inserted_by o key v k w more rest
 inserted_at o key v k w more rest e = ap (λ p. inserted_by p key v k w more rest) e
 
-pub entry_put : (bytes : List ℕ) (vs : List Value) (ks : List Part) (rs : List ℕ) (k : Part) (x i : ℕ) → length ks ≡ length rs → IsGap (texts_of bytes ks) (part_of bytes k) i
+pub entry_put : (bytes : List ℕ) (vs : List Value) (ks : List Part) (rs : List ℕ) (k : Part) (x i : ℕ) → length ks ≡ length rs
+    → IsGap (texts_of bytes ks) (part_of bytes k) i
     → inserted (part_of bytes k) (value_in vs x) (entries_at bytes vs ks rs) ≡ Some (entries_at bytes vs (with_one i k ks) (with_one i x rs))
 entry_put bytes vs [] [] k x zero e g = refl
 entry_put bytes vs [] [] k x (suc i) e g = absurd (let l = g.inside in omega arith)
-entry_put bytes vs [] (r ∷ rs) k x i e g = absurd (omega arith)
-entry_put bytes vs (p ∷ ks) [] k x i e g = absurd (omega arith)
 entry_put bytes vs (p ∷ ks) (r ∷ rs) k x zero e g =
     inserted_at Less (part_of bytes k) (value_in vs x) (part_of bytes p) (value_in vs r) (entries_at bytes vs ks rs) (inserted (part_of bytes k) (value_in vs x) (entries_at bytes vs ks rs)) (g.behind 0 [] (omega arith) (omega arith))
 entry_put bytes vs (p ∷ ks) (r ∷ rs) k x (suc i) e g =
@@ -50,6 +50,7 @@ entry_put bytes vs (p ∷ ks) (r ∷ rs) k x (suc i) e g =
     let rest : IsGap (texts_of bytes ks) key i = record { inside = omega arith; before = λ j d l. g.before (suc j) d (omega arith); behind = λ j d l m. g.behind (suc j) d (omega arith) (omega arith) } in
     inserted_at Greater key (value_in vs x) (part_of bytes p) (value_in vs r) (entries_at bytes vs ks rs) (inserted key (value_in vs x) (entries_at bytes vs ks rs)) (g.before 0 [] (omega arith))
     ∙ ap (option_map (entry (part_of bytes p) (value_in vs r))) (entry_put bytes vs ks rs k x i (omega arith) rest)
+entry_put bytes vs _ _ k x i e g = absurd (omega arith)
 
 -- ---- what is put is below, readable and as deep
 
@@ -68,19 +69,20 @@ texts_one bytes (j ∷ ks) k (suc p) b h = (b.0, texts_one bytes ks k p b.1 h)
 pub depth_one : (bytes : List ℕ) (vs : List Value) (ks : List Part) (rs : List ℕ) (k : Part) (x p : ℕ) → length ks ≡ length rs → p ≤ length ks
     → entries_depth (entries_at bytes vs (with_one p k ks) (with_one p x rs)) ≡ max (entries_depth (entries_at bytes vs ks rs)) (depth_of (value_in vs x))
 depth_one bytes vs [] [] k x zero e l = omega arith
-depth_one bytes vs [] [] k x (suc p) e l = absurd (omega arith)
-depth_one bytes vs [] (r ∷ rs) k x p e l = absurd (omega arith)
-depth_one bytes vs (j ∷ ks) [] k x p e l = absurd (omega arith)
 depth_one bytes vs (j ∷ ks) (r ∷ rs) k x zero e l = omega arith
 depth_one bytes vs (j ∷ ks) (r ∷ rs) k x (suc p) e l = let h = depth_one bytes vs ks rs k x p (omega arith) (omega arith) in omega (arith, h)
+depth_one bytes vs _ _ k x _ e l = absurd (omega arith)
 
 if_made : (P : Value → Type 0) (o : Option Value) (v : Value) → o ≡ Some v → IfSome o P → P v
 if_made P o v e h = subst (λ (p : Option Value). IfSome p P) e h
 
 -- the cell of a map with one more entry
-pub map_put : (bs cs : Backings) (vs : List Value) (m k x row b n row' b' i d j : ℕ) (mc kc xc : Cell) (key : Part) → Found bs vs m mc → Found bs vs k kc → Found bs vs x xc → mc.content ≡ cell.Map row b n → kc.content ≡ cell.Text key
-    → length (keys_at bs.keys row n) ≡ length (refs_at bs.lists b n) → IsGap (texts_of bs.bytes (keys_at bs.keys row n)) (part_of bs.bytes key) i → cs.bytes ≡ bs.bytes
-    → Holds cs.lists b' (n + 1) (with_one i x (refs_at bs.lists b n)) → HoldsKeys cs.keys row' (n + 1) (with_one i key (keys_at bs.keys row n)) → d ≡ max mc.depth (xc.depth + 1) → j ≡ saturated (mc.json + (1 + commas n 1) + kc.json + xc.json)
+pub map_put : (bs cs : Backings) (vs : List Value) (m k x row b n row' b' i d j : ℕ) (mc kc xc : Cell) (key : Part) → Found bs vs m mc → Found bs vs k kc
+    → Found bs vs x xc → mc.content ≡ cell.Map row b n → kc.content ≡ cell.Text key
+    → length (keys_at bs.keys row n) ≡ length (refs_at bs.lists b n) → IsGap (texts_of bs.bytes (keys_at bs.keys row n)) (part_of bs.bytes key) i
+    → cs.bytes ≡ bs.bytes
+    → Holds cs.lists b' (n + 1) (with_one i x (refs_at bs.lists b n)) → HoldsKeys cs.keys row' (n + 1) (with_one i key (keys_at bs.keys row n))
+    → d ≡ max mc.depth (xc.depth + 1) → j ≡ saturated (mc.json + (1 + commas n 1) + kc.json + xc.json)
     → Made cs vs (record { content = cell.Map row' b' (n + 1); depth = d; json = j }) (put_values (value_in vs m) (value_in vs k) (value_in vs x))
 map_put bs cs vs m k x row b n row' b' i d j mc kc xc key fm fk fx em ek long gap same hr hk deep json =
     let ks = keys_at bs.keys row n in
@@ -91,7 +93,8 @@ map_put bs cs vs m k x row b n row' b' i d j mc kc xc key fm fk fx em ek long ga
     let is : value_in vs m ≡ kind.map old = fm.is ∙ ap (meaning bs vs) em in
     let name : value_in vs k ≡ kind.text (part_of bs.bytes key) = fk.is ∙ ap (meaning bs vs) ek in
     let put = entry_put bs.bytes vs ks rs key x i long gap in
-    let due : put_values (value_in vs m) (value_in vs k) (value_in vs x) ≡ Some (kind.map new) = ap₂ (λ v w. put_values v w (value_in vs x)) is name ∙ ap (option_map kind.map) put in
+    let due : put_values (value_in vs m) (value_in vs k) (value_in vs x) ≡ Some (kind.map new) = ap₂ (λ v w. put_values v w (value_in vs x)) is name
+    ∙ ap (option_map kind.map) put in
     let here : entries_at cs.bytes vs (keys_at cs.keys row' (n + 1)) (refs_at cs.lists b' (n + 1)) ≡ new = rw (same, hk.are, hr.items) refl in
     let inside = gap.inside in
     let count = length-map ks (part_of bs.bytes) in
@@ -126,7 +129,8 @@ map_put bs cs vs m k x row b n row' b' i d j mc kc xc key fm fk fx em ek long ga
       value = due ∙ ap (λ es. Some (kind.map es)) (sym here);
     }
 
-pub map_new : (cs : Backings) (vs : List Value) (b n : ℕ) (rs : List ℕ) → Holds cs.lists b n rs → IsCell cs vs (record { content = cell.Map 0 b 0; depth = 1; json = 2 })
+pub map_new : (cs : Backings) (vs : List Value) (b n : ℕ) (rs : List ℕ) → Holds cs.lists b n rs
+    → IsCell cs vs (record { content = cell.Map 0 b 0; depth = 1; json = 2 })
 unfolding IsStrictlySortedBy
 map_new cs vs b n rs h = record { content = (record { inside = h.inside; long = omega arith; below = tt }, record { inside = omega arith; texts = tt }); depth = refl; shallow = omega arith; json = refl; ordered = (tt, tt) }
 

@@ -33,9 +33,8 @@ items_row (v ∷ vs) = ap (λ t. value_tokens v ++ t) (items_row vs)
 
 entries_row : (ks : List (List ℕ)) (vs : List Value) → length ks ≡ length vs → entries_tokens (entries_of ks vs) ≡ row_tokens ks vs
 entries_row [] [] e = refl
-entries_row [] (v ∷ vs) e = absurd (omega arith)
-entries_row (k ∷ ks) [] e = absurd (omega arith)
 entries_row (k ∷ ks) (v ∷ vs) e = ap (λ t. json.key k ∷ (value_tokens v ++ t)) (entries_row ks vs (omega arith))
+entries_row _ _ e = absurd (omega arith)
 
 none : (vs : List Value) → length vs ≡ 0 → vs ≡ []
 none [] e = refl
@@ -48,7 +47,9 @@ built_tokens (entries ks) vs f = ap (λ t. json.begin_object ∷ (t ++ json.end_
 
 pub meaning_tokens : (bs : Backings) (vs : List Value) (i : ℕ) (c : Content) → IsContent bs i c
     → value_tokens (meaning bs vs c) ≡ opening (head bs c) ++ (row_tokens (head_keys (head bs c)) (values_at vs (parts bs c)) ++ closing (head bs c))
-meaning_tokens bs vs i c h = ap value_tokens (meaning_built bs vs c) ∙ built_tokens (head bs c) (values_at vs (parts bs c)) (subst (Fits (head bs c)) (sym (length-map (parts bs c) (value_in vs))) (fits bs i c h))
+meaning_tokens bs vs i c h =
+    ap value_tokens (meaning_built bs vs c)
+    ∙ built_tokens (head bs c) (values_at vs (parts bs c)) (subst (Fits (head bs c)) (sym (length-map (parts bs c) (value_in vs))) (fits bs i c h))
 
 pub step_tokens : (w0 w1 w2 n v r rest : List Token) → w1 ≡ w0 ++ n → w2 ≡ w1 ++ v → rest ≡ n ++ (v ++ r) → w2 ++ r ≡ w0 ++ rest
 step_tokens w0 w1 w2 n v r rest p q e =

@@ -28,7 +28,7 @@ pub judged : (ds : List json.Data) (n : ℕ) → Ok n ≡ charge_in (start_conte
 judged ds n e o = let start = started ds (charged_ok (start_contents ds) n e) in welcome_all ds start.welcome.whole o
 
 -- the error, null, false and true
-pub start_first : (h : Heap) (ps : List ℕ) (a b c : ℕ) → IsHeap h → ps ≡ a ∷ b ∷ c ∷ [] → Stands (heap_values h) a kind.null → Stands (heap_values h) b (kind.boolean false) → Stands (heap_values h) c (kind.boolean true) → StartsWith (record { heap = h; places = ps }) first_values
+pub start_first : (h : Heap) (ps : List ℕ) (a b c : ℕ) → IsHeap h → ps ≡ a ∷ b ∷ c ∷ [] → Stands (heap_values h) a kind.null → Stands (heap_values h) b (kind.boolean false) → Stands (heap_values h) c (kind.boolean true) → StartsWith h ps first_values
 start_first h ps a b c k e x y z =
     let l = x.inside in
     let m = y.inside in

@@ -1,22 +1,16 @@
 -- How long the JSON texts of lists and maps made of others are.
-use Rattle.std.proofs.Common.{◌≡◌, ℕ, zero, suc, ◌+◌, ◌<◌, ◌≤◌, ◌/◌, ◌%◌, ◌^◌, List, [], ◌∷◌, ◌++◌, length, get_or, take, decimal, refl, sym, ap, ◌∙◌, arith, length-append, true, inl, inr}
+use Rattle.std.proofs.Common.{◌≡◌, ℕ, zero, suc, ◌+◌, ◌<◌, ◌≤◌, ◌/◌, ◌%◌, ◌^◌, List, [], ◌∷◌, ◌++◌, length, decimal, refl, sym, ap, ◌∙◌, arith, length-append, true, inl, inr}
 use Rattle.std.proofs.lemmas.Bool.{cases_lt}
 use Rattle.std.proofs.lemmas.Fmt.{decimal_step, decimal_digit}
-use Rattle.std.proofs.lemmas.Grind.{flat_map-append}
-use Rattle.std.proofs.lemmas.List.{take_more, take_all}
-use Rattle.json.specs.Print.{quoted, escape, escape_byte}
+use Rattle.json.specs.Print.{quoted}
 use Rattle.value_store.specs.Value.{Value, list, map, Items, no_items, item, no_entries, list_of, items_push, items_join}
 use Rattle.value_store.specs.Json.{json_text, items_text, entries_text}
-use Rattle.value_store.specs.Plain.{saturated}
 use Rattle.value_table.specs.Meaning.{part_of, value_in, entries_at}
 use Rattle.value_table.specs.Lengths.{commas}
 use Rattle.value_table.specs.Entries.{with_one}
 use Rattle.value_table.specs.declared.part.Part.{Part}
 
 -- ---- sums that stop at the greatest number
-
-pub sum_saturates : (a b s : ℕ) → saturated (saturated a + s + saturated b) ≡ saturated (a + s + b)
-sum_saturates a b s = omega arith
 
 -- ---- lists
 
@@ -28,15 +22,15 @@ push_behind (item w is) v =
     let m = length-append (json_text w) (items_text true is) in
     omega (arith, h, l, m)
 
-pub push_long : (is : Items) (v : Value) (n : ℕ) → length (list_of is) ≡ n → length (json_text (list (items_push is v))) ≡ length (json_text (list is)) + commas n 1 + length (json_text v)
+pub push_long : (is : Items) (v : Value) (n : ℕ) → length (list_of is) ≡ n
+    → length (json_text (list (items_push is v))) ≡ length (json_text (list is)) + commas n 1 + length (json_text v)
 push_long no_items v zero e = let l = length-append (json_text v) (items_text true no_items) in omega (arith, l)
-push_long no_items v (suc n) e = absurd (omega (arith, e))
-push_long (item w is) v zero e = absurd (omega (arith, e))
 push_long (item w is) v (suc n) e =
     let h = push_behind is v in
     let l = length-append (json_text w) (items_text true (items_push is v)) in
     let m = length-append (json_text w) (items_text true is) in
     omega (arith, h, l, m)
+push_long _ v _ e = absurd (omega (arith, e))
 
 join_behind : (is js : Items) → length (items_text true (items_join is js)) + 1 ≡ length (items_text true is) + length (items_text true js)
 join_behind no_items js = omega arith
@@ -49,20 +43,18 @@ join_behind (item w is) js =
 pub join_long : (is js : Items) (n m : ℕ) → length (list_of is) ≡ n → length (list_of js) ≡ m
     → length (json_text (list (items_join is js))) + 2 ≡ length (json_text (list is)) + commas n m + length (json_text (list js))
 join_long no_items js zero m e f = omega arith
-join_long no_items js (suc n) m e f = absurd (omega (arith, e))
-join_long (item w is) js zero m e f = absurd (omega (arith, e))
 join_long (item w is) no_items (suc n) zero e f =
     let h = join_behind is no_items in
     let l = length-append (json_text w) (items_text true (items_join is no_items)) in
     let k = length-append (json_text w) (items_text true is) in
     omega (arith, h, l, k)
-join_long (item w is) no_items (suc n) (suc m) e f = absurd (omega (arith, f))
-join_long (item w is) (item v js) (suc n) zero e f = absurd (omega (arith, f))
 join_long (item w is) (item v js) (suc n) (suc m) e f =
     let h = join_behind is (item v js) in
     let l = length-append (json_text w) (items_text true (items_join is (item v js))) in
     let k = length-append (json_text w) (items_text true is) in
     omega (arith, h, l, k)
+join_long (item w is) _ (suc n) _ e f = absurd (omega (arith, f))
+join_long _ js _ m e f = absurd (omega (arith, e))
 
 behind_long : (is : Items) → 1 ≤ length (items_text true is)
 behind_long no_items = omega arith
@@ -77,7 +69,8 @@ list_long (item v is) =
 
 -- ---- maps
 
-entry_behind : (later : List ℕ) (key : List ℕ) (v : Value) → length (quoted key ++ (58 ∷ (json_text v ++ later))) ≡ length (quoted key) + 1 + length (json_text v) + length later
+entry_behind : (later : List ℕ) (key : List ℕ) (v : Value)
+    → length (quoted key ++ (58 ∷ (json_text v ++ later))) ≡ length (quoted key) + 1 + length (json_text v) + length later
 entry_behind later key v =
     let l = length-append (quoted key) (58 ∷ (json_text v ++ later)) in
     let m = length-append (json_text v) later in
@@ -87,8 +80,6 @@ put_behind : (bytes : List ℕ) (vs : List Value) (ks : List Part) (rs : List �
     → length (entries_text true (entries_at bytes vs (with_one i k ks) (with_one i x rs))) ≡ length (entries_text true (entries_at bytes vs ks rs)) + 2 + length (quoted (part_of bytes k)) + length (json_text (value_in vs x))
 put_behind bytes vs [] [] k x zero e h = let l = entry_behind (entries_text true no_entries) (part_of bytes k) (value_in vs x) in omega (arith, l)
 put_behind bytes vs [] [] k x (suc i) e h = absurd (omega (arith, h))
-put_behind bytes vs [] (r ∷ rs) k x i e h = absurd (omega (arith, e))
-put_behind bytes vs (p ∷ ks) [] k x i e h = absurd (omega (arith, e))
 put_behind bytes vs (p ∷ ks) (r ∷ rs) k x zero e h =
     let l = entry_behind (entries_text true (entries_at bytes vs (p ∷ ks) (r ∷ rs))) (part_of bytes k) (value_in vs x) in
     omega (arith, l)
@@ -97,14 +88,13 @@ put_behind bytes vs (p ∷ ks) (r ∷ rs) k x (suc i) e h =
     let l = entry_behind (entries_text true (entries_at bytes vs (with_one i k ks) (with_one i x rs))) (part_of bytes p) (value_in vs r) in
     let m = entry_behind (entries_text true (entries_at bytes vs ks rs)) (part_of bytes p) (value_in vs r) in
     omega (arith, more, l, m)
+put_behind bytes vs _ _ k x i e h = absurd (omega (arith, e))
 
 pub put_long : (bytes : List ℕ) (vs : List Value) (ks : List Part) (rs : List ℕ) (k : Part) (x i n : ℕ) → length ks ≡ length rs → length ks ≡ n → i ≤ length ks
     → length (json_text (map (entries_at bytes vs (with_one i k ks) (with_one i x rs)))) ≡ length (json_text (map (entries_at bytes vs ks rs))) + (1 + commas n 1) + length (quoted (part_of bytes k)) + length (json_text (value_in vs x))
 put_long bytes vs [] [] k x zero zero e c h = let l = entry_behind (entries_text true no_entries) (part_of bytes k) (value_in vs x) in omega (arith, l)
 put_long bytes vs [] [] k x zero (suc n) e c h = absurd (omega (arith, c))
 put_long bytes vs [] [] k x (suc i) n e c h = absurd (omega (arith, h))
-put_long bytes vs [] (r ∷ rs) k x i n e c h = absurd (omega (arith, e))
-put_long bytes vs (p ∷ ks) [] k x i n e c h = absurd (omega (arith, e))
 put_long bytes vs (p ∷ ks) (r ∷ rs) k x i zero e c h = absurd (omega (arith, c))
 put_long bytes vs (p ∷ ks) (r ∷ rs) k x zero (suc n) e c h =
     let l = entry_behind (entries_text true (entries_at bytes vs (p ∷ ks) (r ∷ rs))) (part_of bytes k) (value_in vs x) in
@@ -114,6 +104,7 @@ put_long bytes vs (p ∷ ks) (r ∷ rs) k x (suc i) (suc n) e c h =
     let l = entry_behind (entries_text true (entries_at bytes vs (with_one i k ks) (with_one i x rs))) (part_of bytes p) (value_in vs r) in
     let m = entry_behind (entries_text true (entries_at bytes vs ks rs)) (part_of bytes p) (value_in vs r) in
     omega (arith, more, l, m)
+put_long bytes vs _ _ k x i n e c h = absurd (omega (arith, e))
 
 -- ---- ints
 
@@ -143,18 +134,3 @@ pub rest_step : (n : ℕ) → 0 < n → n < 2 ^ 64 → rest_digits n ≡ 1 + res
 rest_step n some h = rest_is n some ∙ decimal_long n h
 
 -- ---- texts
-
-pub quote_step : (text : List ℕ) (i k d e : ℕ) → i < length text → k ≡ saturated (2 + length (escape (take i text))) → e ≡ length (escape_byte (get_or text i d))
-    → saturated (k + e) ≡ saturated (2 + length (escape (take (i + 1) text)))
-quote_step text i k d e h a b =
-    let t = ap (λ xs. length (escape xs)) (take_more text i d h) in
-    let f = ap length (flat_map-append escape_byte (take i text) (get_or text i d ∷ [])) in
-    let l = length-append (escape (take i text)) (escape (get_or text i d ∷ [])) in
-    let m = length-append (escape_byte (get_or text i d)) [] in
-    omega (arith, t, f, l, m, a, b)
-
-pub quote_end : (text : List ℕ) (i k : ℕ) → length text ≤ i → k ≡ saturated (2 + length (escape (take i text))) → k ≡ saturated (length (quoted text))
-quote_end text i k h a =
-    let t = ap (λ xs. length (escape xs)) (take_all i text h) in
-    let l = length-append (escape text) (34 ∷ []) in
-    omega (arith, t, l, a)

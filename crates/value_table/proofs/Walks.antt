@@ -21,12 +21,9 @@ below_here i (r ∷ rs) zero d h l = h.0
 below_here i (r ∷ rs) (suc k) d h l = below_here i rs k d h.1 (omega arith)
 
 below_parts : (bs : Backings) (i : ℕ) (c : Content) → IsContent bs i c → AreBelow i (parts bs c)
-below_parts bs i cell.Null h = tt
-below_parts bs i (cell.Bool b) h = tt
-below_parts bs i (cell.Int n) h = tt
-below_parts bs i (cell.Text p) h = tt
 below_parts bs i (cell.List b n) h = h.below
 below_parts bs i (cell.Map k b n) h = h.0.below
+below_parts bs i _ h = tt
 
 -- a part stands before its cell
 pub part_below : (bs : Backings) (i : ℕ) (c : Content) (k d : ℕ) → IsContent bs i c → k < length (parts bs c) → get_or (parts bs c) k d < i
@@ -37,7 +34,8 @@ text_here bytes [] k d h l = absurd (omega arith)
 text_here bytes (p ∷ ps) zero d h l = h.0
 text_here bytes (p ∷ ps) (suc k) d h l = text_here bytes ps k d h.1 (omega arith)
 
-pub value_here : (bs : Backings) (vs : List Value) (cs : List Cell) (r : ℕ) (d : Cell) → AreMeanings bs vs cs → r < length cs → slice_get vs r ≡ Some (meaning bs vs (get_or cs r d).content)
+pub value_here : (bs : Backings) (vs : List Value) (cs : List Cell) (r : ℕ) (d : Cell) → AreMeanings bs vs cs → r < length cs
+    → slice_get vs r ≡ Some (meaning bs vs (get_or cs r d).content)
 value_here bs vs cs r d h l = h r (get_or cs r d) (slice_get-get_or cs r d l)
 
 -- ---- values at places, and what is read there
@@ -52,7 +50,8 @@ stands vs r v e = e ∙ ap (λ w. Some w) (sym (get_or_from_slice_get vs r v kin
 abbrev pub some_cell : Cell
 some_cell = record { content = cell.Null; depth = 0; json = 0 }
 
-pub same_place : (bs : Backings) (vs : List Value) (cs : List Cell) (r s : ℕ) → AreMeanings bs vs cs → r < length cs → s < length cs → value_in vs r ≡ value_in vs s → slice_get vs r ≡ slice_get vs s
+pub same_place : (bs : Backings) (vs : List Value) (cs : List Cell) (r s : ℕ) → AreMeanings bs vs cs → r < length cs → s < length cs
+    → value_in vs r ≡ value_in vs s → slice_get vs r ≡ slice_get vs s
 same_place bs vs cs r s m h k same =
     stands vs r _ (value_here bs vs cs r some_cell m h) ∙ ap (λ w. Some w) same ∙ sym (stands vs s _ (value_here bs vs cs s some_cell m k))
 
@@ -61,7 +60,8 @@ same_place bs vs cs r s m h k same =
 some_same : {v w : Value} → Some v ≡ Some w → v ≡ w
 some_same e = cc
 
-met : (bs : Backings) (vs : List Value) (cs : List Cell) (x y : ℕ) (c d : Cell) → AreContents bs cs → AreMeanings bs vs cs → slice_get cs x ≡ Some c → slice_get cs y ≡ Some d → slice_get vs x ≡ slice_get vs y
+met : (bs : Backings) (vs : List Value) (cs : List Cell) (x y : ℕ) (c d : Cell) → AreContents bs cs → AreMeanings bs vs cs → slice_get cs x ≡ Some c
+    → slice_get cs y ≡ Some d → slice_get vs x ≡ slice_get vs y
     → Alike bs vs c.content d.content
 met bs vs cs x y c d s m h k e =
     let v = m x c h in
@@ -70,18 +70,21 @@ met bs vs cs x y c d s m h k e =
     meaning_apart bs vs x y c.content d.content (s x c h) (s y d k) same
 
 -- equal values have one head
-pub same_heads : (bs : Backings) (vs : List Value) (cs : List Cell) (x y : ℕ) (c d : Cell) → AreContents bs cs → AreMeanings bs vs cs → slice_get cs x ≡ Some c → slice_get cs y ≡ Some d → slice_get vs x ≡ slice_get vs y
+pub same_heads : (bs : Backings) (vs : List Value) (cs : List Cell) (x y : ℕ) (c d : Cell) → AreContents bs cs → AreMeanings bs vs cs → slice_get cs x ≡ Some c
+    → slice_get cs y ≡ Some d → slice_get vs x ≡ slice_get vs y
     → head bs c.content ≡ head bs d.content
 same_heads bs vs cs x y c d s m h k e = (met bs vs cs x y c d s m h k e).heads
 
 -- and their parts have equal values
 pub same_parts : (bs : Backings) (vs : List Value) (cs : List Cell) (x y : ℕ) (c d : Cell) (xs ys : List ℕ) → xs ≡ parts bs c.content → ys ≡ parts bs d.content
-    → AreContents bs cs → AreMeanings bs vs cs → slice_get cs x ≡ Some c → slice_get cs y ≡ Some d → slice_get vs x ≡ slice_get vs y → values_at vs xs ≡ values_at vs ys
+    → AreContents bs cs → AreMeanings bs vs cs → slice_get cs x ≡ Some c → slice_get cs y ≡ Some d → slice_get vs x ≡ slice_get vs y
+    → values_at vs xs ≡ values_at vs ys
 same_parts bs vs cs x y c d xs ys p q s m h k e = ap (values_at vs) p ∙ (met bs vs cs x y c d s m h k e).values ∙ sym (ap (values_at vs) q)
 
 -- with one head and equal parts two values are equal
 pub same_cells : (bs : Backings) (vs : List Value) (cs : List Cell) (x y : ℕ) (c d : Cell) (xs ys : List ℕ) → xs ≡ parts bs c.content → ys ≡ parts bs d.content
-    → AreMeanings bs vs cs → slice_get cs x ≡ Some c → slice_get cs y ≡ Some d → head bs c.content ≡ head bs d.content → values_at vs xs ≡ values_at vs ys → slice_get vs x ≡ slice_get vs y
+    → AreMeanings bs vs cs → slice_get cs x ≡ Some c → slice_get cs y ≡ Some d → head bs c.content ≡ head bs d.content → values_at vs xs ≡ values_at vs ys
+    → slice_get vs x ≡ slice_get vs y
 same_cells bs vs cs x y c d xs ys p q m h k e f =
     let v = m x c h in
     let w = m y d k in
@@ -94,7 +97,8 @@ same_long bs cs x y c d xs ys p q s h k e =
     ap length p ∙ parts_long bs x y c.content d.content (s x c h) (s y d k) e ∙ sym (ap length q)
 
 -- a part stands before its cell
-pub part_before : (bs : Backings) (cs : List Cell) (x : ℕ) (c : Cell) (xs : List ℕ) (k d : ℕ) → xs ≡ parts bs c.content → AreContents bs cs → slice_get cs x ≡ Some c → k < length xs → get_or xs k d < x
+pub part_before : (bs : Backings) (cs : List Cell) (x : ℕ) (c : Cell) (xs : List ℕ) (k d : ℕ) → xs ≡ parts bs c.content → AreContents bs cs
+    → slice_get cs x ≡ Some c → k < length xs → get_or xs k d < x
 part_before bs cs x c xs k d p s h l =
     let t : k < length (parts bs c.content) = subst (λ zs. k < length zs) p l in
     subst (λ zs. get_or zs k d < x) (sym p) (part_below bs x c.content k d (s x c h) t)

@@ -22,7 +22,7 @@ mod lookup;
 mod measure;
 mod order;
 mod part;
-mod references;
+mod places;
 mod room;
 mod roots;
 mod search;

@@ -1,4 +1,4 @@
-//! The references of a review's five roots.
+//! The places of a review's five roots.
 
 ghost use Rattle.std.specs.Prelude.{◌≡◌, map, ◌++◌, false, IfOk};
 ghost use Rattle.std.specs.List.{AllByRecursion};
@@ -8,26 +8,27 @@ ghost use Rattle.value_store.specs.Keys.{IsOrdered};
 ghost use Rattle.value_store.specs.Roots.{has_other};
 ghost use Rattle.value_store.specs.Placing.{first_values};
 ghost use Rattle.value_store.specs.Plain.{plain_value};
+ghost use Rattle.value_table.specs.Heap.{IsHeap};
 ghost use Rattle.value_table.specs.Start.{StartsWith, IsWelcome};
 
 use crate::documents::{add_bool, add_document, add_null};
 use crate::heap::Heap;
-use crate::references::References;
 use crate::sequence::Sequence;
 use serde_json::Value;
-use std::alloc::{AllocError, Global};
+use std::alloc::AllocError;
 
-/// The references of the error, null, false, true and the roots, which are dropped as their values are made.
-pub(crate) fn start_references(alloc: Global, roots: [Value; 5]) -> Result<References, AllocError>
-    requires { AllByRecursion IsWelcome (map view roots) }
-    ensures { IfOk result (λ t. StartsWith t (first_values ++ map value (map plain_value (map view roots)))) }
+/// The places of null, false, true and the roots, which are dropped as their values are made.
+pub(crate) fn start_places(heap: &mut Heap, roots: [Value; 5]) -> Result<Sequence<u64>, AllocError>
+    requires heap { IsHeap heap.old }
+    requires welcome { AllByRecursion IsWelcome (map view roots) }
+    ensures { IfOk result (λ ps. StartsWith heap.new ps (first_values ++ map value (map plain_value (map view roots)))) }
 {
-    let mut references = first_references(alloc)?;
+    let mut places = first_places(heap)?;
     for root in roots {
-        let place = add_document(&mut references.heap, root)?;
-        references.name(place)?;
+        let place = add_document(heap, root)?;
+        places.push(place)?;
     }
-    Ok(references)
+    Ok(places)
 }
 
 /// Equal documents.
@@ -44,14 +45,14 @@ pub(crate) fn copies(roots: &[Value; 5]) -> Result<[Value; 5], AllocError>
     ])
 }
 
-// The references of the error, null, false and true.
-fn first_references(alloc: Global) -> Result<References, AllocError>
-    ensures { IfOk result (λ t. StartsWith t first_values) }
+// The places of null, false and true.
+fn first_places(heap: &mut Heap) -> Result<Sequence<u64>, AllocError>
+    requires { IsHeap heap.old }
+    ensures { IfOk result (λ ps. StartsWith heap.new ps first_values) }
 {
-    let mut heap = Heap::new(alloc)?;
-    let mut places = Sequence::new(alloc)?;
-    places.push(add_null(&mut heap)?)?;
-    places.push(add_bool(&mut heap, false)?)?;
-    places.push(add_bool(&mut heap, true)?)?;
-    Ok(References { heap, places })
+    let mut places = Sequence::new(heap.cells.alloc())?;
+    places.push(add_null(heap)?)?;
+    places.push(add_bool(heap, false)?)?;
+    places.push(add_bool(heap, true)?)?;
+    Ok(places)
 }

@@ -1,11 +1,20 @@
 //! The table of values.
 
-ghost use Rattle.std.specs.Prelude.{◌≡◌, map};
+ghost use Rattle.std.specs.Prelude.{◌≡◌, ◌≤◌, ◌++◌, map, IfOk};
+ghost use Rattle.std.specs.List.{AllByRecursion};
 ghost use Rattle.serde_json.specs.View.{view};
+ghost use Rattle.value_store.specs.Placing.{first_values};
+ghost use Rattle.value_store.specs.Plain.{plain_value};
 ghost use Rattle.value_store.specs.Roots.{start_contents, Starts};
+ghost use Rattle.value_store.specs.Value.{value};
+ghost use Rattle.value_table.specs.Meaning.{reference_of};
+ghost use Rattle.value_table.specs.Start.{IsWelcome};
 
-use crate::references::References;
-use crate::roots::{copies, start_references};
+use crate::content::Content;
+use crate::heap::Heap;
+use crate::places::{next_reference, place, place_of};
+use crate::roots::{copies, start_places};
+use crate::sequence::Sequence;
 use serde_json::Value;
 use std::alloc::{AllocError, Global};
 use std::marker::Model;
@@ -15,7 +24,9 @@ use value_store::{Shape, TableError, ValueStore, start_charge};
 /// until one of them grows.
 #[derive(Drop)]
 pub struct Table {
-    references: References,
+    heap: Heap,
+    /// The places of the references' cells, from reference 1 on.
+    places: Sequence<u64>,
     charge: u64,
 }
 
@@ -31,9 +42,9 @@ impl Model for Table {
     ghost use Rattle.std.specs.Prelude.{◌≤◌};
     ghost use Rattle.value_table.specs.References.{reference_values, AreReferences};
 
-    ghost view = { λ t. record { values = reference_values t.references; charge = t.charge } };
+    ghost view = { λ t. record { values = reference_values t.heap t.places; charge = t.charge } };
 
-    ghost invariant = { λ t. AreReferences t.references × (t.charge ≤ 16777216) };
+    ghost invariant = { λ t. AreReferences t.heap t.places × (t.charge ≤ 16777216) };
 }
 
 impl Table {
@@ -48,8 +59,8 @@ impl Table {
         ensures { Starts (λ t. record { values = ⟦<Table as ValueStore>⟧.values t; charge = ⟦<Table as ValueStore>⟧.charge t }) (start_contents (map view roots.now)) result }
     {
         let charge = start_charge(roots)?;
-        let references = start_references(alloc, copies(roots)?)?;
-        Ok(Table { references, charge })
+        let table = Table::charged(alloc, copies(roots)?, charge)?;
+        Ok(table)
     }
 
     /// The table of roots that are given, as `of_roots` makes it. They are dropped as their values are
@@ -58,8 +69,23 @@ impl Table {
         ensures { Starts (λ t. record { values = ⟦<Table as ValueStore>⟧.values t; charge = ⟦<Table as ValueStore>⟧.charge t }) (start_contents (map view roots)) result }
     {
         let charge = start_charge(&roots)?;
-        let references = start_references(alloc, roots)?;
-        Ok(Table { references, charge })
+        let table = Table::charged(alloc, roots, charge)?;
+        Ok(table)
+    }
+
+    // The table of documents that are charged with their sizes.
+    fn charged(alloc: Global, roots: [Value; 5], charge: u64) -> Result<Table, AllocError>
+        requires welcome { AllByRecursion IsWelcome (map view roots) }
+        requires limit { charge ≤ 16777216 }
+        ensures { IfOk result (λ t. t ≡ record { values = first_values ++ map value (map plain_value (map view roots)); charge = charge }) }
+    {
+        let mut heap = Heap::new(alloc)?;
+        let places = start_places(&mut heap, roots)?;
+        Ok(Table {
+            heap,
+            places,
+            charge,
+        })
     }
 }
 
@@ -69,7 +95,7 @@ impl ValueStore for Table {
     ghost charge = { λ t. t.charge };
 
     fn len(&self) -> u64 {
-        self.references.count()
+        next_reference(&self.places)
     }
 
     fn charge(&self) -> u64 {
@@ -81,78 +107,161 @@ impl ValueStore for Table {
     }
 
     fn at(&self, h: u64) -> Option<Shape<'_>> {
-        self.references.shape(h)
+        match place_of(&self.places, h) {
+            Some(place) => Some(self.heap.shape(place)),
+            None if h == 0 => Some(Shape::Error),
+            None => None,
+        }
     }
 
     fn text(&self, h: u64) -> Option<&str> {
-        self.references.text(h)
+        match place_of(&self.places, h) {
+            Some(place) => self.heap.text(place),
+            None => None,
+        }
     }
 
     fn depth(&self, h: u64) -> u64 {
-        self.references.depth(h)
+        match place_of(&self.places, h) {
+            Some(place) => self.heap.cell(place).depth,
+            None => 0,
+        }
     }
 
     fn equal(&mut self, a: u64, b: u64) -> bool {
-        self.references.equal(a, b)
+        let left = place(&self.heap, &self.places, a);
+        let right = place(&self.heap, &self.places, b);
+        self.heap.equal(left, right)
     }
 
     fn less(&self, a: u64, b: u64) -> bool {
-        self.references.less(a, b)
+        let left = place(&self.heap, &self.places, a);
+        let right = place(&self.heap, &self.places, b);
+        self.heap.less(left, right)
     }
 
     fn member(&mut self, x: u64, c: u64) -> bool {
-        self.references.member(x, c)
+        let value = place(&self.heap, &self.places, x);
+        let container = place(&self.heap, &self.places, c);
+        self.heap.member(value, container)
     }
 
     fn find(&self, m: u64, key: &[u8]) -> Option<u64> {
-        self.references.find(m, key)
+        let map = place(&self.heap, &self.places, m);
+        self.heap.find(map, key)
     }
 
     fn json(&self, h: u64) -> Result<String, AllocError> {
-        self.references.json(h)
+        let alloc = self.places.alloc();
+        match place_of(&self.places, h) {
+            Some(place) => self.heap.json(alloc, place),
+            None => String::from_str(alloc, "error"),
+        }
     }
 
     fn place_int(&mut self, n: i64) -> Result<u64, AllocError> {
-        self.references.place_int(n)
+        let reference = next_reference(&self.places);
+        let places = self.places.room()?;
+        let place = self.heap.add_int(n)?;
+        places.push_reserved(place);
+        Ok(reference)
     }
 
     fn place_text(&mut self, s: &str) -> Result<u64, AllocError> {
-        self.references.place_text(s)
+        let reference = next_reference(&self.places);
+        let places = self.places.room()?;
+        let place = self.heap.add_text(s)?;
+        places.push_reserved(place);
+        Ok(reference)
     }
 
     fn alias(&mut self, h: u64, i: u64) -> Result<u64, AllocError> {
-        self.references.alias(h, i)
+        let whole = place(&self.heap, &self.places, h);
+        let part = self.heap.part(whole, i);
+        match first_reference(self.heap.cell(part).content) {
+            Some(reference) => Ok(reference),
+            None => {
+                let reference = next_reference(&self.places);
+                self.places.push(part)?;
+                Ok(reference)
+            }
+        }
     }
 
     fn alias_key(&mut self, h: u64, i: u64) -> Result<u64, AllocError> {
-        self.references.alias_key(h, i)
+        let map = place(&self.heap, &self.places, h);
+        let key = self.heap.key(map, i);
+        let reference = next_reference(&self.places);
+        let places = self.places.room()?;
+        let place = self.heap.add_part(key)?;
+        places.push_reserved(place);
+        Ok(reference)
     }
 
     fn join(&mut self, a: u64, b: u64) -> Result<u64, AllocError> {
-        self.references.join(a, b)
+        let first = place(&self.heap, &self.places, a);
+        let second = place(&self.heap, &self.places, b);
+        let reference = next_reference(&self.places);
+        let places = self.places.room()?;
+        let place = self.heap.join(first, second)?;
+        places.push_reserved(place);
+        Ok(reference)
     }
 
     fn new_list(&mut self) -> Result<u64, AllocError> {
-        self.references.new_list()
+        let reference = next_reference(&self.places);
+        let places = self.places.room()?;
+        let place = self.heap.new_list()?;
+        places.push_reserved(place);
+        Ok(reference)
     }
 
     fn new_map(&mut self) -> Result<u64, AllocError> {
-        self.references.new_map()
+        let reference = next_reference(&self.places);
+        let places = self.places.room()?;
+        let place = self.heap.new_map()?;
+        places.push_reserved(place);
+        Ok(reference)
     }
 
     fn push(&mut self, l: u64, x: u64) -> Result<u64, AllocError> {
-        self.references.push(l, x)
+        let list = place(&self.heap, &self.places, l);
+        let item = place(&self.heap, &self.places, x);
+        let reference = next_reference(&self.places);
+        let places = self.places.room()?;
+        let place = self.heap.push(list, item)?;
+        places.push_reserved(place);
+        Ok(reference)
     }
 
     fn put(&mut self, m: u64, k: u64, x: u64) -> Result<u64, AllocError> {
-        self.references.put(m, k, x)
+        let map = place(&self.heap, &self.places, m);
+        let key = place(&self.heap, &self.places, k);
+        let value = place(&self.heap, &self.places, x);
+        let reference = next_reference(&self.places);
+        let places = self.places.room()?;
+        let place = self.heap.put(map, key, value)?;
+        places.push_reserved(place);
+        Ok(reference)
     }
 
     fn copy(&self) -> Result<Self, AllocError> {
-        let references = self.references.copy()?;
         Ok(Table {
-            references,
+            heap: self.heap.copy()?,
+            places: self.places.clone()?,
             charge: self.charge,
         })
+    }
+}
+
+// The reference of null, false and true, which are placed nowhere else.
+fn first_reference(content: Content) -> Option<u64>
+    ensures { result ≡ reference_of content }
+{
+    match content {
+        Content::Null => Some(1),
+        Content::Bool(false) => Some(2),
+        Content::Bool(true) => Some(3),
+        _ => None,
     }
 }

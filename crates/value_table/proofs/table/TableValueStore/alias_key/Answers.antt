@@ -1,0 +1,21 @@
+use Rattle.std.proofs.Common.{refl, ap}
+use Rattle.value_table.proofs.Named.{puts, key_is}
+use Rattle.value_table.proofs.table.TableValueStore.alias_key.Goals as goal
+
+pub invariant_of-self-2 : goal.invariant_of-self-2
+invariant_of-self-2 c =
+    let before = ap (λ t. t.values) c.self.view_is in
+    let key = key_is c.self.inside.heap c.self.inside.places _ c.args.h c.place-map.result c.args.i _ before c.place-map.ensures c.key-key.ensures.value in (
+      (puts c.self.inside.heap c.self.inside.places _ c.add_part.new.self _ _ _ _ c.in_ok-place.place c.next_reference-reference.result before key
+          c.self.invariant.0 c.requires refl c.add_part.ensures.heap c.in_ok-place.ensures.added c.in_ok-places.ensures.items c.push_reserved.ensures.items
+          c.next_reference-reference.ensures).sound,
+      c.self.invariant.1,
+    )
+
+pub returns-clause-placed : goal.returns-clause-placed
+returns-clause-placed c =
+    let before = ap (λ t. t.values) c.self.view_is in
+    let key = key_is c.self.inside.heap c.self.inside.places _ c.args.h c.place-map.result c.args.i _ before c.place-map.ensures c.key-key.ensures.value in
+    (puts c.self.inside.heap c.self.inside.places _ c.add_part.new.self _ _ _ _ c.in_ok-place.place c.next_reference-reference.result before key
+    c.self.invariant.0 c.requires refl c.add_part.ensures.heap c.in_ok-place.ensures.added c.in_ok-places.ensures.items c.push_reserved.ensures.items
+    c.next_reference-reference.ensures).placed

@@ -1,0 +1,23 @@
+use Rattle.std.proofs.Common.{refl, sym, ap, w64, Some}
+use Rattle.std.proofs.lemmas.Int.{to_z-of_z}
+use Rattle.value_store.specs.Value.{int}
+use Rattle.value_table.proofs.Named.{puts}
+use Rattle.value_table.proofs.table.TableValueStore.place_int.Goals as goal
+
+pub invariant_of-self-2 : goal.invariant_of-self-2
+invariant_of-self-2 c =
+    let before = ap (λ t. t.values) c.self.view_is in
+    let n = to_z-of_z w64 c.args.n c.ranges.n in (
+      (puts c.self.inside.heap c.self.inside.places _ c.add_int.new.self _ _ (Some (int _)) _ c.in_ok-place.place c.next_reference-reference.result before
+          (ap (λ z. Some (int z)) (sym n)) c.self.invariant.0 refl refl c.add_int.ensures.heap c.in_ok-place.ensures.added c.in_ok-places.ensures.items
+          c.push_reserved.ensures.items c.next_reference-reference.ensures).sound,
+      c.self.invariant.1,
+    )
+
+pub returns-clause-placed : goal.returns-clause-placed
+returns-clause-placed c =
+    let before = ap (λ t. t.values) c.self.view_is in
+    let n = to_z-of_z w64 c.args.n c.ranges.n in
+    (puts c.self.inside.heap c.self.inside.places _ c.add_int.new.self _ _ (Some (int _)) _ c.in_ok-place.place c.next_reference-reference.result before
+    (ap (λ z. Some (int z)) (sym n)) c.self.invariant.0 refl refl c.add_int.ensures.heap c.in_ok-place.ensures.added c.in_ok-places.ensures.items
+    c.push_reserved.ensures.items c.next_reference-reference.ensures).placed
