@@ -3,9 +3,9 @@ use Rattle.std.proofs.Common.{◌≡◌, ℕ, Bool, true, false, ◌||◌, List,
 use Rattle.std.specs.Prelude.{bytes_eq, IsSome}
 use Rattle.std.specs.Prelude.{map as each}
 use Rattle.std.specs.List.{list_any}
-use Rattle.cel_macros.specs.CoreTree.{CoreTree, CoreTrees, CoreEntries, no_cores, more_cores, no_core_entries, more_core_entries, plain_tree, literal, name, variable, select, has, index, call, method, unary, binary, ternary, list, map, fold, fold_map}
+use Rattle.cel_macros.specs.CoreTree.{CoreTree, CoreTrees, CoreEntries, no_cores, more_cores, no_core_entries, more_core_entries, plain_tree, name, variable, select, has, index, call, method, unary, binary, ternary, list, map, fold, fold_map}
 use Rattle.cel_macros.specs.Environment.{lookup}
-use Rattle.cel_macros.specs.Functions.{Function, Size, String, Dyn, function_named, TextTest, test_named}
+use Rattle.cel_macros.specs.Functions.{Function, Size, function_named, TextTest, test_named}
 use Rattle.cel_macros.specs.Macros.{is_variables, variables_name}
 use Rattle.cel_types.specs.declared.cel_type.CelType.{CelType}
 use Rattle.cel_types.specs.CoreTyping.{core_typing, core_typings, core_entry_typings}
@@ -32,9 +32,8 @@ then_typed (typed t) f h = (t, h)
 then_typed (refused y) f h = absurd h
 
 none_typed : (xs : List Typing) (y : _) → IsTyped (with_types xs (refused y)) → ⊥
-none_typed [] y h = h
 none_typed (typed t ∷ xs) y h = none_typed xs y h
-none_typed (refused z ∷ xs) y h = h
+none_typed _ y h = h
 
 function_some : (g : Option Function) (t : CelType) → IsTyped (function_row g t) → IsSome g
 function_some (Some g) t h = refl
@@ -42,23 +41,24 @@ function_some None t h = absurd h
 
 method_size : (g : Option Function) (t : CelType) → IsTyped (method_row g t) → g ≡ Some Size
 method_size (Some Size) t h = refl
-method_size (Some String) t h = absurd h
-method_size (Some Dyn) t h = absurd h
-method_size None t h = absurd h
+method_size _ t h = absurd h
 
 test_some : (g : Option TextTest) (a b : CelType) → IsTyped (test_row g a b) → IsSome g
 test_some (Some g) a b h = refl
 test_some None a b h = absurd h
 
-known_by : (here : Bool) (t : CelType) (rest : Option CelType) (more : Bool) → (IsTyped (type_or_fault rest) → more ≡ true) → IsTyped (type_or_fault (if here then Some t else rest)) → (here || more) ≡ true
+known_by : (here : Bool) (t : CelType) (rest : Option CelType) (more : Bool) → (IsTyped (type_or_fault rest) → more ≡ true)
+    → IsTyped (type_or_fault (if here then Some t else rest)) → (here || more) ≡ true
 known_by true t rest more later h = refl
 known_by false t rest more later h = later h
 
 -- a variable with a type has one of the names
-known_variable : (v : List ℕ) (variables : List (List ℕ × CelType)) → IsTyped (variable_type v variables) → list_any (λ m. bytes_eq m v) (each (λ x. x.0) variables) ≡ true
+known_variable : (v : List ℕ) (variables : List (List ℕ × CelType)) → IsTyped (variable_type v variables)
+    → list_any (λ m. bytes_eq m v) (each (λ x. x.0) variables) ≡ true
 unfolding variable_type
 known_variable v [] h = absurd h
-known_variable v (x ∷ variables) h = known_by (bytes_eq x.0 v) x.1 (lookup v variables) (list_any (λ m. bytes_eq m v) (each (λ y. y.0) variables)) (known_variable v variables) h
+known_variable v (x ∷ variables) h =
+    known_by (bytes_eq x.0 v) x.1 (lookup v variables) (list_any (λ m. bytes_eq m v) (each (λ y. y.0) variables)) (known_variable v variables) h
 
 name_by : (n : List ℕ) (items : List (List ℕ)) (same : Bool) → bytes_eq variables_name n ≡ same → IsTyped (name_type n items) → same ≡ false
 unfolding name_type
@@ -69,27 +69,12 @@ name_by n items false e h = refl
 not_variables : (a : CoreTree) (s : Scope) → IsTyped (core_typing a s) → is_variables (plain_tree a) ≡ false
 unfolding core_typing plain_tree is_variables
 not_variables (name n) s h = name_by n s.items (bytes_eq variables_name n) refl h
-not_variables (literal l) s h = refl
-not_variables (variable v) s h = refl
-not_variables (select a f) s h = refl
-not_variables (has a f) s h = refl
-not_variables (index a k) s h = refl
-not_variables (call n arguments) s h = refl
-not_variables (method a n arguments) s h = refl
-not_variables (unary op a) s h = refl
-not_variables (binary op a b) s h = refl
-not_variables (ternary c a b) s h = refl
-not_variables (list items) s h = refl
-not_variables (map es) s h = refl
-not_variables (fold m n r p) s h = refl
-not_variables (fold_map n r p t) s h = refl
+not_variables _ s h = refl
 
 mutual
   unfolding core_typing IsAccepted
 
   pub accepted : (e : CoreTree) (s : Scope) (vs : List (List ℕ)) → each (λ x. x.0) s.variables ≡ vs → IsTyped (core_typing e s) → IsAccepted e vs
-  accepted (literal l) s vs v h = tt
-  accepted (name n) s vs v h = tt
   accepted (variable x) s vs v h = subst (λ (ns : List (List ℕ)). list_any (λ m. bytes_eq m x) ns ≡ true) v (known_variable x s.variables h)
   accepted (select a f) s vs v h = let first = first_typed (core_typing a s) field_row h in (not_variables a s first, accepted a s vs v first)
   accepted (has a f) s vs v h = accepted a s vs v (first_typed (core_typing a s) has_row h)
@@ -133,15 +118,18 @@ mutual
       let row2 : CelType → Typing = λ y. with_type (core_typing t (within n s)) (λ z. map_row more.0 y z) in
       let last = then_typed (core_typing p (within n s)) row2 more.1 in
       (accepted r s vs v (first_typed (core_typing r s) row h), accepted p (within n s) vs v (first_typed (core_typing p (within n s)) row2 more.1), accepted t (within n s) vs v (first_typed (core_typing t (within n s)) (λ z. map_row more.0 last.0 z) last.1))
+  accepted _ s vs v h = tt
 
-  are_accepted : (es : CoreTrees) (s : Scope) (vs : List (List ℕ)) → each (λ x. x.0) s.variables ≡ vs → (last : Typing) → IsTyped (with_types (core_typings es s) last) → AreAccepted es vs
+  are_accepted : (es : CoreTrees) (s : Scope) (vs : List (List ℕ)) → each (λ x. x.0) s.variables ≡ vs → (last : Typing)
+      → IsTyped (with_types (core_typings es s) last) → AreAccepted es vs
   are_accepted no_cores s vs v last h = tt
   are_accepted (more_cores a more) s vs v last h =
       let row : CelType → Typing = λ t. with_types (core_typings more s) last in
       let rest = then_typed (core_typing a s) row h in
       (accepted a s vs v (first_typed (core_typing a s) row h), are_accepted more s vs v last rest.1)
 
-  are_entries_accepted : (es : CoreEntries) (s : Scope) (vs : List (List ℕ)) → each (λ x. x.0) s.variables ≡ vs → (last : Typing) → IsTyped (with_types (core_entry_typings es s) last) → AreEntriesAccepted es vs
+  are_entries_accepted : (es : CoreEntries) (s : Scope) (vs : List (List ℕ)) → each (λ x. x.0) s.variables ≡ vs → (last : Typing)
+      → IsTyped (with_types (core_entry_typings es s) last) → AreEntriesAccepted es vs
   are_entries_accepted no_core_entries s vs v last h = tt
   are_entries_accepted (more_core_entries k e more) s vs v last h =
       let row2 : CelType → Typing = λ t. with_types (core_entry_typings more s) last in

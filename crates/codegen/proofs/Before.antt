@@ -1,5 +1,5 @@
 -- An expression that the type checker takes with the first variables of a scope has the same code where more stand behind them.
-use Rattle.std.proofs.Common.{◌≡◌, ℕ, suc, ◌+◌, Bool, true, false, ◌||◌, List, [], ◌∷◌, ◌++◌, Option, Some, None, length, refl, sym, ap, ◌∙◌, subst, if◌then◌else◌}
+use Rattle.std.proofs.Common.{◌≡◌, ℕ, suc, ◌+◌, Bool, true, false, ◌||◌, List, [], ◌∷◌, ◌++◌, Option, Some, length, refl, sym, ap, ◌∙◌, subst, if◌then◌else◌}
 use Rattle.std.specs.Prelude.{bytes_eq, option_map}
 use Rattle.std.specs.Prelude.{map as each}
 use Rattle.std.specs.List.{list_any, zip}
@@ -7,15 +7,16 @@ use Rattle.std.proofs.lemmas.List.{map-append}
 use Rattle.cel_macros.specs.CoreTree.{CoreTree, CoreTrees, CoreEntries, no_cores, more_cores, no_core_entries, more_core_entries, literal, name, variable, select, has, index, call, method, unary, binary, ternary, list, map, fold, fold_map}
 use Rattle.cel_macros.specs.Functions.{function_named, test_named}
 use Rattle.cel_types.specs.Declarations.{Declaration}
+use Rattle.insn_codec.specs.declared.register.Register.TheVariants.{R1, R2}
 use Rattle.codegen_base.specs.Code.Aggregates.{entry_code, item_code, list_code, map_code}
-use Rattle.codegen_base.specs.Code.Calls.{two_code}
+use Rattle.codegen_base.specs.Code.Calls.{kept_size, operand_code, operands_code}
 use Rattle.codegen_base.specs.Code.Folds.{macro_code, map_where_code}
 use Rattle.codegen_base.specs.Code.Logic.{ternary_code}
 use Rattle.codegen_base.specs.Code.Selection.{field_tail, has_tail, index_tail}
 use Rattle.codegen_base.specs.Pieces.{size}
 use Rattle.codegen_base.specs.Scopes.{Variable}
 use Rattle.codegen.specs.Accepted.{AreAccepted, AreEntriesAccepted, IsAccepted}
-use Rattle.codegen.specs.Code.Expressions.{binary_code, code_of, entries_code, function_code, items_code, method_function_code, operands_apart, routine_named, test_code, unary_tail, variable_code}
+use Rattle.codegen.specs.Code.Expressions.{binary_code, code_of, entries_code, function_code, items_code, leaf_of, left_size, method_function_code, routine_named, test_code, unary_code, variable_code}
 use Rattle.codegen.specs.Code.Literals.{address_of}
 use Rattle.codegen.specs.Computes.{names, routines}
 use Rattle.codegen.specs.Layer.{AreTaken, IsExpression}
@@ -47,17 +48,17 @@ module _ (ts : List (List ℕ)) (scope : List Variable) (behind : List (List ℕ
     same_code (literal l) ws k p h = refl
     same_code (name n) ws k p h = refl
     same_code (variable v) ws k p h = ap (λ (o : Option (ℕ × ℕ)). variable_code o p) (named_first v scope behind h)
-    same_code (select a f) ws k p h = λ i. same_code a ws k p h.1 i ++ field_tail (address_of ts f) (length f)
-    same_code (has a f) ws k p h = λ i. same_code a ws k p h i ++ has_tail (address_of ts f) (length f)
-    same_code (index a b) ws k p h = λ i. two_code (same_code a ws k p h.0 i) (same_code b ws (k + 1) (p + size (same_code a ws k p h.0 i) + 1) h.1 i) k (index_tail k)
+    same_code (select a f) ws k p h = λ i. operand_code (leaf_of a ws) (same_code a ws k p h.1 i) R1 ++ field_tail (address_of ts f) (length f)
+    same_code (has a f) ws k p h = λ i. operand_code (leaf_of a ws) (same_code a ws k p h i) R1 ++ has_tail (address_of ts f) (length f)
+    same_code (index a b) ws k p h = λ i. operands_code (leaf_of a ws) (same_code a ws k p h.0 i) (leaf_of b ws) (same_code b ws (k + 1) (p + kept_size (leaf_of a ws) (same_code a ws k p h.0 i)) h.1 i) k R1 R2 ++ index_tail
     same_code (call n no_cores) ws k p h = absurd h
-    same_code (call n (more_cores a no_cores)) ws k p h = λ i. function_code (function_named n) (same_code a ws k p h.1 i)
+    same_code (call n (more_cores a no_cores)) ws k p h = λ i. function_code (function_named n) (leaf_of a ws) (same_code a ws k p h.1 i)
     same_code (call n (more_cores a (more_cores b more))) ws k p h = absurd h
-    same_code (method a n no_cores) ws k p h = λ i. method_function_code (function_named n) (same_code a ws k p h.1 i)
-    same_code (method a n (more_cores b no_cores)) ws k p h = λ i. test_code (test_named n) (same_code a ws k p h.1 i) (same_code b ws (k + 1) (p + size (same_code a ws k p h.1 i) + 1) h.2 i) k
+    same_code (method a n no_cores) ws k p h = λ i. method_function_code (function_named n) (leaf_of a ws) (same_code a ws k p h.1 i)
+    same_code (method a n (more_cores b no_cores)) ws k p h = λ i. test_code (test_named n) (leaf_of a ws) (same_code a ws k p h.1 i) (leaf_of b ws) (same_code b ws (k + 1) (p + kept_size (leaf_of a ws) (same_code a ws k p h.1 i)) h.2 i) k
     same_code (method a n (more_cores b (more_cores x more))) ws k p h = absurd h
-    same_code (unary op a) ws k p h = λ i. same_code a ws k p h i ++ unary_tail op
-    same_code (binary op a b) ws k p h = λ i. binary_code op (same_code a ws k p h.0 i) (same_code b ws (k + 1) (p + size (same_code a ws k p h.0 i) + operands_apart op) h.1 i) k
+    same_code (unary op a) ws k p h = λ i. unary_code op (leaf_of a ws) (same_code a ws k p h i)
+    same_code (binary op a b) ws k p h = λ i. binary_code op (leaf_of a ws) (same_code a ws k p h.0 i) (leaf_of b ws) (same_code b ws (k + 1) (p + left_size op (leaf_of a ws) (same_code a ws k p h.0 i)) h.1 i) k
     same_code (ternary c a b) ws k p h =
         λ i. ternary_code (same_code c ws k p h.0 i) (same_code a ws k (p + size (same_code c ws k p h.0 i) + 2) h.1 i) (same_code b ws k (p + size (same_code c ws k p h.0 i) + 2 + size (same_code a ws k (p + size (same_code c ws k p h.0 i) + 2) h.1 i) + 1) h.2 i)
     same_code (list items) ws k p h = λ i. list_code (same_items items ws k (p + 2) h i) k

@@ -1,20 +1,23 @@
 -- Code of constructs within the budgets of their parts.
-use Rattle.std.proofs.Common.{◌≡◌, ℕ, ◌+◌, ◌-◌, ◌*◌, ◌<◌, ◌≤◌, List, ◌++◌, arith}
+use Rattle.std.proofs.Common.{◌≡◌, ℕ, ◌+◌, ◌-◌, ◌*◌, ◌<◌, ◌≤◌, false, List, ◌++◌, Option, arith}
 use Rattle.std.specs.Prelude.{ℤ}
 use Rattle.insn_codec.specs.declared.insn.Insn.{Insn}
+use Rattle.insn_codec.specs.declared.register.Register.{Register}
+use Rattle.bpf_machine.specs.Operands.{is_frame_pointer}
 use Rattle.value_store.specs.Size.{result_size}
 use Rattle.value_store.specs.Value.{ValueOrError, error, value, null, boolean, int, text, list, map}
 use Rattle.cel_macros.specs.Logic.{Truth, Yes, No, Other, chosen, truth, ternary_of}
 use Rattle.codegen.specs.Computes.{Computes}
 use Rattle.codegen.specs.Cost.{Cost, ◌and◌, node, nothing, spent_by}
-use Rattle.codegen_base.specs.Code.Calls.{two_code}
+use Rattle.codegen_base.specs.Code.Calls.{kept_size, operand_code, operands_code}
 use Rattle.codegen_base.specs.Code.Logic.{absorbing_code, ternary_code}
 use Rattle.codegen_base.specs.Contexts.{Context, Gives}
 use Rattle.codegen_base.specs.Engine.{Setting}
 use Rattle.codegen_base.specs.Gives.Logic.{AbsorbingGives}
 use Rattle.codegen_base.specs.Gives.Selection.{text_length}
-use Rattle.codegen_base.specs.Operators.{Combines, Converts}
+use Rattle.codegen_base.specs.Operators.{AreApart, Combines, Converts, IsLeafOf}
 use Rattle.codegen_base.specs.Pieces.{size}
+use Rattle.codegen_base.specs.declared.leaf.Leaf.{Leaf}
 use Rattle.codegen_base.proofs.Logic.{logic_gives}
 use Rattle.codegen_base.proofs.Operators.{one_gives, two_gives}
 use Rattle.codegen_base.proofs.Runs.{looser}
@@ -49,17 +52,17 @@ module _ (s : Setting) (c : Context) (depth k : ℕ) where
   pub leaf : (p : ℕ) (piece : List Insn) (x : ValueOrError) (n m : ℕ) (t : Cost) → n ≤ 120 → 1 ≤ t.visits → m ≤ 120 + 16 * t.sizes → Gives s p piece c depth k x n m → Computes s p piece c depth k x t
   leaf p piece x n m t hn hv hm g = gives_within s p piece c depth k x n m _ _ (omega arith) (omega arith) g
 
-  -- a part and a piece behind it
-  pub one : (p : ℕ) (operand piece : List Insn) (x z : ValueOrError) (n m : ℕ) (part t : Cost) → n ≤ 120 → m ≤ 120 + 16 * result_size z → 1 + part.visits ≤ t.visits → result_size z + part.sizes ≤ t.sizes → Computes s p operand c depth k x part → Converts s (p + size operand) piece c depth k x z n m → Computes s p (operand ++ piece) c depth k z t
-  one p operand piece x z n m part t hn hm hv hs g h = gives_within s p (operand ++ piece) c depth k z _ _ _ _ (omega arith) (omega arith) (one_gives s p operand piece c depth k x z _ _ n m g h)
+  -- a part in a register, and a piece behind it
+  pub one : (p : ℕ) (l : Option Leaf) (operand piece : List Insn) (r : Register) (x z : ValueOrError) (n m : ℕ) (part t : Cost) → is_frame_pointer r ≡ false → n ≤ 119 → m ≤ 120 + 16 * result_size z → 1 + part.visits ≤ t.visits → result_size z + part.sizes ≤ t.sizes → IsLeafOf c depth k l x → Computes s p operand c depth k x part → Converts s (p + size (operand_code l operand r)) piece r c depth k x z n m → Computes s p (operand_code l operand r ++ piece) c depth k z t
+  one p l operand piece r x z n m part t free hn hm hv hs leaf g h = gives_within s p (operand_code l operand r ++ piece) c depth k z _ _ _ _ (omega arith) (omega arith) (one_gives s p l operand piece r c depth k x z _ _ n m free leaf g h)
 
   -- a part alone
   pub same : (p : ℕ) (piece : List Insn) (x : ValueOrError) (part t : Cost) → part.visits ≤ t.visits → part.sizes ≤ t.sizes → Computes s p piece c depth k x part → Computes s p piece c depth k x t
   same p piece x part t hv hs g = gives_within s p piece c depth k x _ _ _ _ (omega arith) (omega arith) g
 
-  -- two parts and a piece behind them
-  pub two : (p : ℕ) (left right piece : List Insn) (x y z : ValueOrError) (n m : ℕ) (first second : Cost) → k < 60 → n ≤ 119 → m ≤ 120 + 16 * result_size z → Computes s p left c depth k x first → Computes s (p + size left + 1) right c depth (k + 1) y second → Combines s (p + size left + 1 + size right) piece c depth k x y z n m → Computes s p (two_code left right k piece) c depth k z (node z and first and second)
-  two p left right piece x y z n m first second low hn hm g h t = gives_within s p (two_code left right k piece) c depth k z _ _ _ _ (omega arith) (omega arith) (two_gives s p k left right piece c depth x y z _ _ _ _ n m low g h t)
+  -- two parts in registers, and a piece behind them
+  pub two : (p : ℕ) (l : Option Leaf) (left : List Insn) (m : Option Leaf) (right piece : List Insn) (r q : Register) (x y z : ValueOrError) (n w : ℕ) (first second : Cost) → k < 60 → AreApart r q → n ≤ 117 → w ≤ 120 + 16 * result_size z → IsLeafOf c depth k l x → Computes s p left c depth k x first → IsLeafOf c depth (k + 1) m y → Computes s (p + kept_size l left) right c depth (k + 1) y second → Combines s (p + size (operands_code l left m right k r q)) piece r q c depth k x y z n w → Computes s p (operands_code l left m right k r q ++ piece) c depth k z (node z and first and second)
+  two p l left m right piece r q x y z n w first second low apart hn hw leaf g leaf_right h t = gives_within s p (operands_code l left m right k r q ++ piece) c depth k z _ _ _ _ (omega arith) (omega arith) (two_gives s p k l left m right piece r q c depth x y z _ _ _ _ n w low apart leaf g leaf_right h t)
 
   -- two parts, of which the left one may decide
   pub absorbing : (p : ℕ) (decides other : ℤ) (f : ValueOrError → ValueOrError → ValueOrError) → AbsorbingGives decides other f → (left right : List Insn) (x y : ValueOrError) (first second : Cost) → k < 60 → Computes s p left c depth k x first → Computes s (p + size left + 2) right c depth (k + 1) y second → Computes s p (absorbing_code decides other left right k) c depth k (f x y) (node (f x y) and first and second)

@@ -6,6 +6,8 @@ use Rattle.std.specs.Int.{w32}
 use Rattle.std.specs.List.{AllByRecursion}
 use Rattle.insn_codec.specs.declared.alu_op.AluOp.TheVariants.{Sdiv, Smod}
 use Rattle.insn_codec.specs.declared.insn.Insn.{Insn}
+use Rattle.insn_codec.specs.declared.register.Register.{Register}
+use Rattle.insn_codec.specs.declared.register.Register.TheVariants.{R1, R2, R6, R7}
 use Rattle.cel_reader.specs.Tree as tree
 use Rattle.cel_reader.specs.WellFormed.{IsWellFormedLiteral}
 use Rattle.cel_reader.specs.declared.operator.BinaryOperator.{BinaryOperator}
@@ -19,12 +21,15 @@ use Rattle.cel_macros.specs.Functions.{Function, Size, String, Dyn, function_nam
 use Rattle.cel_measures.specs.Measures.{nodes, nodes_of, entries_nodes, need, needs, entries_need}
 use Rattle.cel_measures.specs.Saturated.{saturated}
 use Rattle.cel_types.specs.Declarations.{Declaration}
-use Rattle.codegen_base.specs.Code.Logic.{no_ref, yes_ref}
+use Rattle.codegen_base.specs.Code.Logic.{no_ref, not_tail, yes_ref}
 use Rattle.codegen_base.specs.Pieces.{AreInsns, size}
+use Rattle.codegen_base.specs.Code.Arithmetic.{negation_tail}
+use Rattle.codegen_base.specs.Code.Calls.{kept_size, operand_code, operands_code}
 use Rattle.codegen_base.specs.Code.Selection.{index_tail, size_tail, string_tail, test_tail}
-use Rattle.codegen_base.proofs.Insns.{absorbing_insns, difference_insns, divided_insns, entry_insns, equal_insns, field_insns, greater_equal_insns, greater_insns, has_insns, index_insns, insns_append, int_insns, item_insns, less_equal_insns, less_insns, list_insns, macro_insns, map_insns, map_where_insns, member_insns, name_insns, negation_insns, not_insns, null_insns, product_insns, size_insns, string_insns, sum_insns, ternary_insns, test_insns, text_insns, truth_insns, two_insns, unequal_insns, use_insns}
-use Rattle.codegen.specs.Code.Expressions.{binary_code, binary_tail, code_of, entries_code, function_code, items_code, method_function_code, no_code, operands_apart, routine_named, test_code, texts_of, texts_of_each, texts_of_entries, unary_tail, variable_code}
-use Rattle.codegen.specs.Code.Literals.{address_of, literal_code}
+use Rattle.codegen_base.specs.declared.leaf.Leaf.{Leaf}
+use Rattle.codegen_base.proofs.Insns.{MayBeNear, absorbing_insns, difference_insns, divided_insns, entry_insns, equal_insns, field_insns, has_insns, index_insns, insns_append, int_insns, item_insns, less_insns, list_insns, macro_insns, map_insns, map_where_insns, member_insns, name_insns, name_near, negation_insns, not_insns, not_less_insns, null_insns, operand_insns, operands_insns, product_insns, size_insns, string_insns, sum_insns, ternary_insns, test_insns, text_insns, truth_insns, unequal_insns, use_insns}
+use Rattle.codegen.specs.Code.Expressions.{binary_code, binary_tail, code_of, entries_code, function_code, items_code, leaf_of, left_size, method_function_code, no_code, routine_named, test_code, texts_of, texts_of_each, texts_of_entries, unary_code, variable_code}
+use Rattle.codegen.specs.Code.Literals.{address_of, literal_code, literal_leaf}
 use Rattle.codegen.specs.Computes.{TextsStand}
 use Rattle.codegen.specs.Constants.{place_of}
 use Rattle.codegen.specs.HasLiterals.{EntriesHaveLiterals, HasLiterals, HaveLiterals}
@@ -75,42 +80,78 @@ literal_insns texts (tree.truth b) h short = truth_insns b
 literal_insns texts (tree.int z) h short = int_insns z h
 literal_insns texts (tree.text t) h short = text_insns (address_of texts t) (length t) (address_small texts t) short.0
 
-unary_insns : (op : UnaryOperator) → AreInsns (unary_tail op)
-unary_insns unary.Not = not_insns
-unary_insns unary.Negate = negation_insns
+literal_near : (l : tree.Literal) → MayBeNear (literal_leaf l)
+literal_near tree.null = omega arith
+literal_near (tree.truth true) = omega arith
+literal_near (tree.truth false) = omega arith
+literal_near (tree.int z) = tt
+literal_near (tree.text t) = tt
 
-binary_insns : (op : BinaryOperator) (left right : List Insn) (k : ℕ) → k < 60 → size right ≤ 32700 → AreInsns left → AreInsns right → AreInsns (binary_code op left right k)
-unfolding binary_tail
-binary_insns binary.Or left right k low short a b = absorbing_insns yes_ref no_ref left right k (omega arith) (omega arith) (omega arith) short a b
-binary_insns binary.And left right k low short a b = absorbing_insns no_ref yes_ref left right k (omega arith) (omega arith) (omega arith) short a b
-binary_insns binary.Less left right k low short a b = two_insns left right _ k (omega arith) a b (less_insns k (omega arith))
-binary_insns binary.LessEqual left right k low short a b = two_insns left right _ k (omega arith) a b (less_equal_insns k (omega arith))
-binary_insns binary.GreaterEqual left right k low short a b = two_insns left right _ k (omega arith) a b (greater_equal_insns k (omega arith))
-binary_insns binary.Greater left right k low short a b = two_insns left right _ k (omega arith) a b (greater_insns k (omega arith))
-binary_insns binary.Equal left right k low short a b = two_insns left right _ k (omega arith) a b (equal_insns k (omega arith))
-binary_insns binary.NotEqual left right k low short a b = two_insns left right _ k (omega arith) a b (unequal_insns k (omega arith))
-binary_insns binary.In left right k low short a b = two_insns left right _ k (omega arith) a b (member_insns k (omega arith))
-binary_insns binary.Add left right k low short a b = two_insns left right _ k (omega arith) a b (sum_insns k (omega arith))
-binary_insns binary.Subtract left right k low short a b = two_insns left right _ k (omega arith) a b (difference_insns k (omega arith))
-binary_insns binary.Multiply left right k low short a b = two_insns left right _ k (omega arith) a b (product_insns k (omega arith))
-binary_insns binary.Divide left right k low short a b = two_insns left right _ k (omega arith) a b (divided_insns Sdiv k (omega arith))
-binary_insns binary.Remainder left right k low short a b = two_insns left right _ k (omega arith) a b (divided_insns Smod k (omega arith))
+leaf_near : (e : CoreTree) (ws : List (List ℕ × ℕ)) → AreWithin ws → MayBeNear (leaf_of e ws)
+leaf_near (core.literal l) ws words = literal_near l
+leaf_near (core.name n) ws words = name_near n ws (words n)
+leaf_near (core.variable v) ws words = tt
+leaf_near (core.select a f) ws words = tt
+leaf_near (core.has a f) ws words = tt
+leaf_near (core.index a b) ws words = tt
+leaf_near (core.call n items) ws words = tt
+leaf_near (core.method a n items) ws words = tt
+leaf_near (core.unary op a) ws words = tt
+leaf_near (core.binary op a b) ws words = tt
+leaf_near (core.ternary a b d) ws words = tt
+leaf_near (core.list items) ws words = tt
+leaf_near (core.map es) ws words = tt
+leaf_near (core.fold m n r e) ws words = tt
+leaf_near (core.fold_map n r e t) ws words = tt
 
-function_insns : (f : Option Function) (part : List Insn) → AreInsns part → AreInsns (function_code f part)
-function_insns (Some Size) part a = insns_append part size_tail a size_insns
-function_insns (Some String) part a = insns_append part string_tail a string_insns
-function_insns (Some Dyn) part a = a
-function_insns None part a = no_insns
+-- ---- one operand
 
-method_insns : (f : Option Function) (part : List Insn) → AreInsns part → AreInsns (method_function_code f part)
-method_insns (Some Size) part a = insns_append part size_tail a size_insns
-method_insns (Some String) part a = no_insns
-method_insns (Some Dyn) part a = no_insns
-method_insns None part a = no_insns
+module _ (l : Option Leaf) (part : List Insn) (near : MayBeNear l) (a : AreInsns part) where
+  one_insns : (r : Register) (tail : List Insn) → AreInsns tail → AreInsns (operand_code l part r ++ tail)
+  one_insns r tail b = insns_append (operand_code l part r) tail (operand_insns l part r near a) b
 
-tested_insns : (t : Option TextTest) (left right : List Insn) (k : ℕ) → k < 60 → AreInsns left → AreInsns right → AreInsns (test_code t left right k)
-tested_insns (Some t) left right k low a b = two_insns left right (test_tail t k) k (omega arith) a b (test_insns t k (omega arith))
-tested_insns None left right k low a b = no_insns
+  unary_insns : (op : UnaryOperator) → AreInsns (unary_code op l part)
+  unary_insns unary.Not = one_insns R1 not_tail not_insns
+  unary_insns unary.Negate = one_insns R6 negation_tail negation_insns
+
+  function_insns : (f : Option Function) → AreInsns (function_code f l part)
+  function_insns (Some Size) = one_insns R1 size_tail size_insns
+  function_insns (Some String) = one_insns R6 string_tail string_insns
+  function_insns (Some Dyn) = a
+  function_insns None = no_insns
+
+  method_insns : (f : Option Function) → AreInsns (method_function_code f l part)
+  method_insns (Some Size) = one_insns R1 size_tail size_insns
+  method_insns (Some String) = no_insns
+  method_insns (Some Dyn) = no_insns
+  method_insns None = no_insns
+
+-- ---- two operands
+
+module _ (l : Option Leaf) (left : List Insn) (m : Option Leaf) (right : List Insn) (k : ℕ) (low : k < 60) (near : MayBeNear l) (a : AreInsns left) (near_right : MayBeNear m) (b : AreInsns right) where
+  two_insns : (r q : Register) (tail : List Insn) → AreInsns tail → AreInsns (operands_code l left m right k r q ++ tail)
+  two_insns r q tail d = insns_append (operands_code l left m right k r q) tail (operands_insns l left m right k r q (omega arith) near a near_right b) d
+
+  binary_insns : (op : BinaryOperator) → size right ≤ 32700 → AreInsns (binary_code op l left m right k)
+  unfolding binary_tail
+  binary_insns binary.Or short = absorbing_insns yes_ref no_ref left right k (omega arith) (omega arith) (omega arith) short a b
+  binary_insns binary.And short = absorbing_insns no_ref yes_ref left right k (omega arith) (omega arith) (omega arith) short a b
+  binary_insns binary.Less short = two_insns R1 R2 _ less_insns
+  binary_insns binary.LessEqual short = two_insns R2 R1 _ not_less_insns
+  binary_insns binary.GreaterEqual short = two_insns R1 R2 _ not_less_insns
+  binary_insns binary.Greater short = two_insns R2 R1 _ less_insns
+  binary_insns binary.Equal short = two_insns R1 R2 _ equal_insns
+  binary_insns binary.NotEqual short = two_insns R1 R2 _ unequal_insns
+  binary_insns binary.In short = two_insns R1 R2 _ member_insns
+  binary_insns binary.Add short = two_insns R6 R7 _ sum_insns
+  binary_insns binary.Subtract short = two_insns R6 R7 _ difference_insns
+  binary_insns binary.Multiply short = two_insns R6 R7 _ product_insns
+  binary_insns binary.Divide short = two_insns R6 R7 _ (divided_insns Sdiv)
+  binary_insns binary.Remainder short = two_insns R6 R7 _ (divided_insns Smod)
+
+  tested_insns : (t : Option TextTest) → AreInsns (test_code t l left m right k)
+  tested_insns (Some t) = two_insns R1 R2 (test_tail t) (test_insns t)
+  tested_insns None = no_insns
 
 -- ---- variables
 
@@ -143,21 +184,26 @@ variable_insns : (found : Option (ℕ × ℕ)) (p : ℕ) → p + 6 ≤ 0x8000_00
 variable_insns (Some at) p low near = let is = near at refl in use_insns at.0 (pos at.1 -ℤ pos (p + 6)) is.0 (distance_fits at.1 (p + 6) is.1 low)
 variable_insns None p low near = no_insns
 
-apart_at_most : (op : BinaryOperator) → operands_apart op ≤ 2
-apart_at_most binary.Or = omega arith
-apart_at_most binary.And = omega arith
-apart_at_most binary.Less = omega arith
-apart_at_most binary.LessEqual = omega arith
-apart_at_most binary.GreaterEqual = omega arith
-apart_at_most binary.Greater = omega arith
-apart_at_most binary.Equal = omega arith
-apart_at_most binary.NotEqual = omega arith
-apart_at_most binary.In = omega arith
-apart_at_most binary.Add = omega arith
-apart_at_most binary.Subtract = omega arith
-apart_at_most binary.Multiply = omega arith
-apart_at_most binary.Divide = omega arith
-apart_at_most binary.Remainder = omega arith
+-- a right operand begins close behind the left one's code
+kept_at_most : (l : Option Leaf) (left : List Insn) → kept_size l left ≤ size left + 1
+kept_at_most (Some l) left = omega arith
+kept_at_most None left = omega arith
+
+left_at_most : (op : BinaryOperator) (l : Option Leaf) (left : List Insn) → left_size op l left ≤ size left + 2
+left_at_most binary.Or l left = omega arith
+left_at_most binary.And l left = omega arith
+left_at_most binary.Less l left = let h = kept_at_most l left in omega (arith, h)
+left_at_most binary.LessEqual l left = let h = kept_at_most l left in omega (arith, h)
+left_at_most binary.GreaterEqual l left = let h = kept_at_most l left in omega (arith, h)
+left_at_most binary.Greater l left = let h = kept_at_most l left in omega (arith, h)
+left_at_most binary.Equal l left = let h = kept_at_most l left in omega (arith, h)
+left_at_most binary.NotEqual l left = let h = kept_at_most l left in omega (arith, h)
+left_at_most binary.In l left = let h = kept_at_most l left in omega (arith, h)
+left_at_most binary.Add l left = let h = kept_at_most l left in omega (arith, h)
+left_at_most binary.Subtract l left = let h = kept_at_most l left in omega (arith, h)
+left_at_most binary.Multiply l left = let h = kept_at_most l left in omega (arith, h)
+left_at_most binary.Divide l left = let h = kept_at_most l left in omega (arith, h)
+left_at_most binary.Remainder l left = let h = kept_at_most l left in omega (arith, h)
 
 module _ (ts : List (List ℕ)) (rs : List (List ℕ × ℕ)) (near : AreNear rs) where
   abbrev code : CoreTree → List (List ℕ × ℕ) → ℕ → ℕ → List Insn
@@ -170,27 +216,31 @@ module _ (ts : List (List ℕ)) (rs : List (List ℕ × ℕ)) (near : AreNear rs
     code_insns (core.literal l) ws k p words room few inside h short = literal_insns ts l h short
     code_insns (core.name n) ws k p words room few inside h short = name_insns n ws (words n)
     code_insns (core.variable v) ws k p words room few inside h short = variable_insns (routine_named v rs) p (omega arith) (near v)
-    code_insns (core.select a f) ws k p words room few inside h short = insns_append (code a ws k p) _ (code_insns a ws k p words room (omega arith) (omega arith) h (short_front (texts_of a) (f ∷ []) short)) (field_insns (address_of ts f) (length f) (address_small ts f) (short_last (texts_of a) f short))
-    code_insns (core.has a f) ws k p words room few inside h short = insns_append (code a ws k p) _ (code_insns a ws k p words room (omega arith) (omega arith) h.0 (short_front (texts_of a) (f ∷ []) short)) (has_insns (address_of ts f) (length f) (address_small ts f) (short_last (texts_of a) f short))
+    code_insns (core.select a f) ws k p words room few inside h short = one_insns (leaf_of a ws) (code a ws k p) (leaf_near a ws words) (code_insns a ws k p words room (omega arith) (omega arith) h (short_front (texts_of a) (f ∷ []) short)) R1 _ (field_insns (address_of ts f) (length f) (address_small ts f) (short_last (texts_of a) f short))
+    code_insns (core.has a f) ws k p words room few inside h short = one_insns (leaf_of a ws) (code a ws k p) (leaf_near a ws words) (code_insns a ws k p words room (omega arith) (omega arith) h.0 (short_front (texts_of a) (f ∷ []) short)) R1 _ (has_insns (address_of ts f) (length f) (address_small ts f) (short_last (texts_of a) f short))
     code_insns (core.index a b) ws k p words room few inside h short =
+        let q = p + kept_size (leaf_of a ws) (code a ws k p) in
+        let near_left = kept_at_most (leaf_of a ws) (code a ws k p) in
         let long = short_code a ts rs ws k p in
-        two_insns (code a ws k p) _ (index_tail k) k (omega arith) (code_insns a ws k p words (omega arith) (omega arith) (omega arith) h.0 (short_front (texts_of a) (texts_of b) short)) (code_insns b ws (k + 1) _ words (omega arith) (omega arith) (omega arith) h.1 (short_back (texts_of a) (texts_of b) short)) (index_insns k (omega arith))
+        two_insns (leaf_of a ws) (code a ws k p) (leaf_of b ws) (code b ws (k + 1) q) k (omega arith) (leaf_near a ws words) (code_insns a ws k p words (omega arith) (omega arith) (omega arith) h.0 (short_front (texts_of a) (texts_of b) short)) (leaf_near b ws words) (code_insns b ws (k + 1) q words (omega arith) (omega arith) (omega arith) h.1 (short_back (texts_of a) (texts_of b) short)) R1 R2 index_tail index_insns
     code_insns (core.call n no_cores) ws k p words room few inside h short = no_insns
-    code_insns (core.call n (more_cores a no_cores)) ws k p words room few inside h short = function_insns (function_named n) (code a ws k p) (code_insns a ws k p words room (omega arith) (omega arith) h.0 (short_front (texts_of a) [] short))
+    code_insns (core.call n (more_cores a no_cores)) ws k p words room few inside h short = function_insns (leaf_of a ws) (code a ws k p) (leaf_near a ws words) (code_insns a ws k p words room (omega arith) (omega arith) h.0 (short_front (texts_of a) [] short)) (function_named n)
     code_insns (core.call n (more_cores a (more_cores b more))) ws k p words room few inside h short = no_insns
-    code_insns (core.method a n no_cores) ws k p words room few inside h short = method_insns (function_named n) (code a ws k p) (code_insns a ws k p words (omega arith) (omega arith) (omega arith) h.0 (short_front (texts_of a) [] short))
+    code_insns (core.method a n no_cores) ws k p words room few inside h short = method_insns (leaf_of a ws) (code a ws k p) (leaf_near a ws words) (code_insns a ws k p words (omega arith) (omega arith) (omega arith) h.0 (short_front (texts_of a) [] short)) (function_named n)
     code_insns (core.method a n (more_cores b no_cores)) ws k p words room few inside h short =
+        let q = p + kept_size (leaf_of a ws) (code a ws k p) in
+        let near_left = kept_at_most (leaf_of a ws) (code a ws k p) in
         let long = short_code a ts rs ws k p in
         let rest = short_back (texts_of a) (texts_of b ++ []) short in
-        tested_insns (test_named n) (code a ws k p) _ k (omega arith) (code_insns a ws k p words (omega arith) (omega arith) (omega arith) h.0 (short_front (texts_of a) (texts_of b ++ []) short)) (code_insns b ws (k + 1) _ words (omega arith) (omega arith) (omega arith) h.1.0 (short_front (texts_of b) [] rest))
+        tested_insns (leaf_of a ws) (code a ws k p) (leaf_of b ws) (code b ws (k + 1) q) k (omega arith) (leaf_near a ws words) (code_insns a ws k p words (omega arith) (omega arith) (omega arith) h.0 (short_front (texts_of a) (texts_of b ++ []) short)) (leaf_near b ws words) (code_insns b ws (k + 1) q words (omega arith) (omega arith) (omega arith) h.1.0 (short_front (texts_of b) [] rest)) (test_named n)
     code_insns (core.method a n (more_cores b (more_cores x more))) ws k p words room few inside h short = no_insns
-    code_insns (core.unary op a) ws k p words room few inside h short = insns_append (code a ws k p) (unary_tail op) (code_insns a ws k p words room (omega arith) (omega arith) h short) (unary_insns op)
+    code_insns (core.unary op a) ws k p words room few inside h short = unary_insns (leaf_of a ws) (code a ws k p) (leaf_near a ws words) (code_insns a ws k p words room (omega arith) (omega arith) h short) op
     code_insns (core.binary op a b) ws k p words room few inside h short =
-        let q = p + size (code a ws k p) + operands_apart op in
-        let apart = apart_at_most op in
+        let q = p + left_size op (leaf_of a ws) (code a ws k p) in
+        let near_left = left_at_most op (leaf_of a ws) (code a ws k p) in
         let long = short_code a ts rs ws k p in
         let long_right = short_code b ts rs ws (k + 1) q in
-        binary_insns op (code a ws k p) (code b ws (k + 1) q) k (omega arith) (omega arith) (code_insns a ws k p words (omega arith) (omega arith) (omega arith) h.0 (short_front (texts_of a) (texts_of b) short)) (code_insns b ws (k + 1) q words (omega arith) (omega arith) (omega arith) h.1 (short_back (texts_of a) (texts_of b) short))
+        binary_insns (leaf_of a ws) (code a ws k p) (leaf_of b ws) (code b ws (k + 1) q) k (omega arith) (leaf_near a ws words) (code_insns a ws k p words (omega arith) (omega arith) (omega arith) h.0 (short_front (texts_of a) (texts_of b) short)) (leaf_near b ws words) (code_insns b ws (k + 1) q words (omega arith) (omega arith) (omega arith) h.1 (short_back (texts_of a) (texts_of b) short)) op (omega arith)
     code_insns (core.ternary c a b) ws k p words room few inside h short =
         let q = p + size (code c ws k p) + 2 in
         let r = q + size (code a ws k q) + 1 in

@@ -1,11 +1,12 @@
 -- The code of an expression gives its meaning within its budgets, by induction on its tree.
-use Rattle.std.proofs.Common.{ℕ, ◌+◌, ◌≤◌, Bool, List, ◌∷◌, length, IfSome, subst, arith}
+use Rattle.std.proofs.Common.{ℕ, ◌+◌, ◌≤◌, Bool, true, false, List, ◌∷◌, length, Option, Some, None, IfSome, subst, arith}
 use Rattle.loader.specs.Contents.{Contents}
-use Rattle.value_store.specs.Value.{Value}
+use Rattle.value_store.specs.Value.{Value, ValueOrError}
 use Rattle.cel_reader.specs.Tree as tree
 use Rattle.cel_reader.specs.Tree.{Tree, Trees, Entries, no_trees, more_trees, no_entries, more_entries}
 use Rattle.cel_macros.specs.CoreTree as core
-use Rattle.cel_macros.specs.CoreTree.{CoreTree, CoreTrees, CoreEntries, expanded, expanded_entries, expanded_operand, expanded_trees, more_cores, no_cores, plain_tree}
+use Rattle.cel_macros.specs.CoreTree.{CoreTree, CoreTrees, CoreEntries, call_or_has, expanded, expanded_entries, expanded_operand, expanded_trees, method_or_fold, method_or_fold_map, more_cores, no_cores, plain_tree, selection}
+use Rattle.cel_macros.specs.declared.macros.Macro.{Macro}
 use Rattle.cel_macros.specs.Environment.{Environment, Roots, bind}
 use Rattle.cel_macros.specs.Macros.{field_name, is_has, is_map, is_variables, macro_named, name_of}
 use Rattle.cel_macros.specs.Meaning.{entry_meanings, meaning, meanings, operand_meaning}
@@ -13,6 +14,7 @@ use Rattle.codegen_base.specs.Contexts.{Context}
 use Rattle.codegen_base.specs.Engine.{Setting}
 use Rattle.codegen_base.specs.Scopes.{IsScope, Variable, scope_setting}
 use Rattle.codegen_base.proofs.Later.{later_gives}
+use Rattle.codegen_base.proofs.Leaves.{leaves_name}
 use Rattle.codegen.specs.HasLiterals.{EntriesHaveLiterals, HasLiterals, HaveLiterals}
 use Rattle.codegen.specs.Cost.{cost, costs, entry_costs, operand_cost}
 use Rattle.codegen.specs.Accepted.{IsAccepted}
@@ -20,7 +22,7 @@ use Rattle.codegen.proofs.Aggregates.{EntriesPart, ItemsPart, entries_more, entr
 use Rattle.codegen.proofs.Binaries.{binary_part, unary_part}
 use Rattle.codegen.proofs.Calls.{call_part, method_part, selection_part, text_method_part}
 use Rattle.codegen.proofs.Expanded.{expanded_again}
-use Rattle.codegen.proofs.Parts.{Part, index_part, literal_part, name_part, ternary_part}
+use Rattle.codegen.proofs.Parts.{LeafPart, Part, index_part, literal_part, name_part, ternary_part}
 use Rattle.codegen.specs.Code.Expressions.{code_of}
 use Rattle.codegen.specs.Computes.{Ready, environment_in, names, routines, scope_context}
 use Rattle.codegen.specs.Laws.{CodeGives}
@@ -62,6 +64,27 @@ module _ (s : Setting) (scope : List Variable) (texts : List (List ℕ)) (depth 
   unfolding IsAccepted
   no_longer_method c k a n x y more d ready = ready.accepted
 
+-- what may be of two forms is a leaf in neither
+module _ (depth : ℕ) (c : Context) (k : ℕ) (x : ValueOrError) where
+  selection_leaf : (b : Bool) (f : List ℕ) (a : CoreTree) → LeafPart depth c k (selection b f a) x
+  selection_leaf true f a low = tt
+  selection_leaf false f a low = tt
+
+  call_leaf : (b : Bool) (o : Option (List ℕ)) (n : List ℕ) (inner a : CoreTree) → LeafPart depth c k (call_or_has b o n inner a) x
+  call_leaf true (Some f) n inner a low = tt
+  call_leaf true None n inner a low = tt
+  call_leaf false o n inner a low = tt
+
+  fold_leaf : (m : Option Macro) (o : Option (List ℕ)) (n : List ℕ) (a y p : CoreTree) → LeafPart depth c k (method_or_fold m o n a y p) x
+  fold_leaf (Some m) (Some i) n a y p low = tt
+  fold_leaf (Some m) None n a y p low = tt
+  fold_leaf None o n a y p low = tt
+
+  fold_map_leaf : (b : Bool) (o : Option (List ℕ)) (n : List ℕ) (a y p t : CoreTree) → LeafPart depth c k (method_or_fold_map b o n a y p t) x
+  fold_map_leaf true (Some i) n a y p t low = tt
+  fold_map_leaf true None n a y p t low = tt
+  fold_map_leaf false o n a y p t low = tt
+
 -- in each scope the code gives what the expression means
 module _ (image : Contents) (deep : Bool) (roots : Roots) (constants : List ℕ) (scope : List Variable) (is : IsScope image deep roots constants scope) (few : length scope ≤ 512) (texts : List (List ℕ)) (depth : ℕ) where
   abbrev s : Setting
@@ -73,30 +96,54 @@ module _ (image : Contents) (deep : Bool) (roots : Roots) (constants : List ℕ)
   abbrev around : List (List ℕ × Value) → Environment
   around xs = environment_in roots xs scope
 
+  -- a leaf names what the expression means
+  leaf_named : (e : Tree) (xs : List (List ℕ × Value)) (ws : List (List ℕ × ℕ)) (k : ℕ) → LeafPart depth (here xs ws) k (expanded e) (meaning e (around xs))
+  unfolding expanded meaning
+  leaf_named (tree.literal tree.null) xs ws k low = leaves_name.null (here xs ws) depth k
+  leaf_named (tree.literal (tree.truth b)) xs ws k low = leaves_name.truth (here xs ws) depth k b
+  leaf_named (tree.literal (tree.int z)) xs ws k low = tt
+  leaf_named (tree.literal (tree.text t)) xs ws k low = tt
+  leaf_named (tree.name n) xs ws k low = leaves_name.name (here xs ws) depth k n (omega arith)
+  leaf_named (tree.select a f) xs ws k low = selection_leaf depth (here xs ws) k _ (is_variables a) f (expanded a) low
+  leaf_named (tree.index a b) xs ws k low = tt
+  leaf_named (tree.unary op a) xs ws k low = tt
+  leaf_named (tree.binary op a b) xs ws k low = tt
+  leaf_named (tree.ternary t a b) xs ws k low = tt
+  leaf_named (tree.list items) xs ws k low = tt
+  leaf_named (tree.map es) xs ws k low = tt
+  leaf_named (tree.call n no_trees) xs ws k low = tt
+  leaf_named (tree.call n (more_trees a no_trees)) xs ws k low = call_leaf depth (here xs ws) k _ (is_has n) (field_name a) n (expanded_operand a) (expanded a) low
+  leaf_named (tree.call n (more_trees a (more_trees b more))) xs ws k low = tt
+  leaf_named (tree.method a n no_trees) xs ws k low = tt
+  leaf_named (tree.method a n (more_trees b no_trees)) xs ws k low = tt
+  leaf_named (tree.method a n (more_trees x (more_trees p no_trees))) xs ws k low = fold_leaf depth (here xs ws) k _ (macro_named n) (name_of x) n (expanded a) (expanded x) (expanded p) low
+  leaf_named (tree.method a n (more_trees x (more_trees p (more_trees t no_trees)))) xs ws k low = fold_map_leaf depth (here xs ws) k _ (is_map n) (name_of x) n (expanded a) (expanded x) (expanded p) (expanded t) low
+  leaf_named (tree.method a n (more_trees x (more_trees p (more_trees t (more_trees u more))))) xs ws k low = tt
+
   mutual
     unfolding expanded meaning cost
 
     computes : (e : Tree) (xs : List (List ℕ × Value)) (ws : List (List ℕ × ℕ)) (k : ℕ) → HasLiterals e → Part s scope texts depth (here xs ws) k (expanded e) (meaning e (around xs)) (cost e (around xs))
     computes (tree.literal l) xs ws k h = literal_part s scope texts depth (here xs ws) k l h
     computes (tree.name n) xs ws k h = name_part s scope texts depth (here xs ws) k n
-    computes (tree.select a f) xs ws k h = selection_part s scope texts depth (here xs ws) k (is_variables a) (expanded a) f (meaning a (around xs)) (cost a (around xs)) (use_gives image deep roots constants scope is few texts xs ws depth k f) (computes a xs ws k h)
-    computes (tree.index a b) xs ws k h = index_part s scope texts depth (here xs ws) k (expanded a) (expanded b) (meaning a (around xs)) (meaning b (around xs)) (cost a (around xs)) (cost b (around xs)) (computes a xs ws k h.0) (computes b xs ws (k + 1) h.1)
-    computes (tree.unary op a) xs ws k h = unary_part s scope texts depth (here xs ws) k op (expanded a) (meaning a (around xs)) (cost a (around xs)) (computes a xs ws k h)
-    computes (tree.binary op a b) xs ws k h = binary_part s scope texts depth (here xs ws) k (expanded a) (expanded b) (meaning a (around xs)) (meaning b (around xs)) (cost a (around xs)) (cost b (around xs)) (computes a xs ws k h.0) (computes b xs ws (k + 1) h.1) op
+    computes (tree.select a f) xs ws k h = selection_part s scope texts depth (here xs ws) k (is_variables a) (expanded a) f (meaning a (around xs)) (cost a (around xs)) (use_gives image deep roots constants scope is few texts xs ws depth k f) (leaf_named a xs ws k) (computes a xs ws k h)
+    computes (tree.index a b) xs ws k h = index_part s scope texts depth (here xs ws) k (expanded a) (expanded b) (meaning a (around xs)) (meaning b (around xs)) (cost a (around xs)) (cost b (around xs)) (leaf_named a xs ws k) (leaf_named b xs ws (k + 1)) (computes a xs ws k h.0) (computes b xs ws (k + 1) h.1)
+    computes (tree.unary op a) xs ws k h = unary_part s scope texts depth (here xs ws) k op (expanded a) (meaning a (around xs)) (cost a (around xs)) (leaf_named a xs ws k) (computes a xs ws k h)
+    computes (tree.binary op a b) xs ws k h = binary_part s scope texts depth (here xs ws) k (expanded a) (expanded b) (meaning a (around xs)) (meaning b (around xs)) (cost a (around xs)) (cost b (around xs)) (leaf_named a xs ws k) (leaf_named b xs ws (k + 1)) (computes a xs ws k h.0) (computes b xs ws (k + 1) h.1) op
     computes (tree.ternary t a b) xs ws k h = ternary_part s scope texts depth (here xs ws) k (expanded t) (expanded a) (expanded b) (meaning t (around xs)) (meaning a (around xs)) (meaning b (around xs)) (cost t (around xs)) (cost a (around xs)) (cost b (around xs)) (computes t xs ws k h.0) (computes a xs ws k h.1) (computes b xs ws k h.2)
     computes (tree.list items) xs ws k h = list_part s scope texts depth (here xs ws) k (expanded_trees items) (meanings items (around xs)) (costs items (around xs)) (items_compute items xs ws k h)
     computes (tree.map es) xs ws k h = map_part s scope texts depth (here xs ws) k (expanded_entries es) (entry_meanings es (around xs)) (entry_costs es (around xs)) (entries_compute es xs ws k h)
     computes (tree.call n no_trees) xs ws k h = λ ready p. absurd (no_call s scope texts depth (here xs ws) k n _ ready)
-    computes (tree.call n (more_trees a no_trees)) xs ws k h = call_part s scope texts depth (here xs ws) k (is_has n) (field_name a) n (expanded_operand a) (expanded a) (operand_meaning a (around xs)) (meaning a (around xs)) (operand_cost a (around xs)) (cost a (around xs)) (operand_computes a xs ws k h.0) (computes a xs ws k h.0)
+    computes (tree.call n (more_trees a no_trees)) xs ws k h = call_part s scope texts depth (here xs ws) k (is_has n) (field_name a) n (expanded_operand a) (expanded a) (operand_meaning a (around xs)) (meaning a (around xs)) (operand_cost a (around xs)) (cost a (around xs)) (operand_computes a xs ws k h.0) (leaf_named a xs ws k) (computes a xs ws k h.0)
     computes (tree.call n (more_trees a (more_trees b more))) xs ws k h = λ ready p. absurd (no_longer_call s scope texts depth (here xs ws) k n (expanded a) (expanded b) (expanded_trees more) _ ready)
-    computes (tree.method a n no_trees) xs ws k h = method_part s scope texts depth (here xs ws) k n (expanded a) (meaning a (around xs)) (cost a (around xs)) (computes a xs ws k h.0)
-    computes (tree.method a n (more_trees b no_trees)) xs ws k h = text_method_part s scope texts depth (here xs ws) k n (expanded a) (expanded b) (meaning a (around xs)) (meaning b (around xs)) (cost a (around xs)) (cost b (around xs)) (computes a xs ws k h.0) (computes b xs ws (k + 1) h.1.0)
+    computes (tree.method a n no_trees) xs ws k h = method_part s scope texts depth (here xs ws) k n (expanded a) (meaning a (around xs)) (cost a (around xs)) (leaf_named a xs ws k) (computes a xs ws k h.0)
+    computes (tree.method a n (more_trees b no_trees)) xs ws k h = text_method_part s scope texts depth (here xs ws) k n (expanded a) (expanded b) (meaning a (around xs)) (meaning b (around xs)) (cost a (around xs)) (cost b (around xs)) (leaf_named a xs ws k) (leaf_named b xs ws (k + 1)) (computes a xs ws k h.0) (computes b xs ws (k + 1) h.1.0)
     computes (tree.method a n (more_trees x (more_trees p no_trees))) xs ws k h = fold_part s scope texts depth (here xs ws) k (macro_named n) (name_of x) n (expanded a) (expanded x) (expanded p) (meaning a (around xs)) (cost a (around xs)) (λ i v. meaning p (bind i v (around xs))) (λ i v. cost p (bind i v (around xs))) (computes a xs ws k h.0) (λ i v. computes p ((i, v) ∷ xs) ((i, k + 4) ∷ ws) (k + 5) h.1.1.0)
     computes (tree.method a n (more_trees x (more_trees p (more_trees t no_trees)))) xs ws k h = fold_map_part s scope texts depth (here xs ws) k (is_map n) (name_of x) n (expanded a) (expanded x) (expanded p) (expanded t) (meaning a (around xs)) (cost a (around xs)) (λ i v. meaning p (bind i v (around xs))) (λ i v. meaning t (bind i v (around xs))) (λ i v. cost p (bind i v (around xs))) (λ i v. cost t (bind i v (around xs))) (computes a xs ws k h.0) (λ i v. computes p ((i, v) ∷ xs) ((i, k + 4) ∷ ws) (k + 5) h.1.1.0) (λ i v. computes t ((i, v) ∷ xs) ((i, k + 4) ∷ ws) (k + 5) h.1.1.1.0)
     computes (tree.method a n (more_trees x (more_trees p (more_trees t (more_trees u more))))) xs ws k h = λ ready q. absurd (no_longer_method s scope texts depth (here xs ws) k (expanded a) n (expanded x) (expanded p) _ _ ready)
 
-    operand_computes : (a : Tree) (xs : List (List ℕ × Value)) (ws : List (List ℕ × ℕ)) (k : ℕ) → HasLiterals a → IfSome (field_name a) (λ f. Part s scope texts depth (here xs ws) k (expanded_operand a) (operand_meaning a (around xs)) (operand_cost a (around xs)))
-    operand_computes (tree.select a f) xs ws k h = computes a xs ws k h
+    operand_computes : (a : Tree) (xs : List (List ℕ × Value)) (ws : List (List ℕ × ℕ)) (k : ℕ) → HasLiterals a → IfSome (field_name a) (λ f. LeafPart depth (here xs ws) k (expanded_operand a) (operand_meaning a (around xs)) × Part s scope texts depth (here xs ws) k (expanded_operand a) (operand_meaning a (around xs)) (operand_cost a (around xs)))
+    operand_computes (tree.select a f) xs ws k h = (leaf_named a xs ws k, computes a xs ws k h)
     operand_computes _ xs ws k h = tt
 
     items_compute : (items : Trees) (xs : List (List ℕ × Value)) (ws : List (List ℕ × ℕ)) (k : ℕ) → HaveLiterals items → ItemsPart s scope texts depth (here xs ws) k (expanded_trees items) (meanings items (around xs)) (costs items (around xs))

@@ -5,7 +5,7 @@ use Rattle.std.specs.Prelude.{map as each}
 use Rattle.std.specs.List.{zip}
 use Rattle.std.proofs.lemmas.List.{length-map, map-append}
 use Rattle.loader.specs.Contents.{Contents}
-use Rattle.cel_macros.specs.CoreTree.{CoreTree, CoreTrees, CoreEntries, no_cores, more_cores, no_core_entries, more_core_entries, literal, name, variable, select, has, index, call, method, unary, binary, ternary, list, map, fold, fold_map, plain_tree}
+use Rattle.cel_macros.specs.CoreTree.{CoreTree, CoreTrees, CoreEntries, no_cores, more_cores, no_core_entries, more_core_entries, name, variable, select, has, index, call, method, unary, binary, ternary, list, map, fold, fold_map, plain_tree}
 use Rattle.cel_macros.specs.Environment.{Roots, lookup}
 use Rattle.cel_macros.specs.Meaning.{meaning}
 use Rattle.cel_measures.specs.Measures.{deepest, deepest_of, depth as depth_of, depth_or_none, entries_deepest}
@@ -30,7 +30,8 @@ slots_first : (scope : List Variable) (more : List ℕ) → zip (names scope) (e
 slots_first [] more = refl
 slots_first (v ∷ scope) more = ap (λ (rs : List (List ℕ × ℕ)). (v.name, v.routine) ∷ rs) (slots_first scope more)
 
-pub routines_are : (slots : List ℕ) (ds : List Declaration) (scope later : List Variable) → AreTaken slots ds scope later → routines_of ds slots ≡ routines scope
+pub routines_are : (slots : List ℕ) (ds : List Declaration) (scope later : List Variable) → AreTaken slots ds scope later
+    → routines_of ds slots ≡ routines scope
 routines_are slots ds scope later taken =
     ap (λ (ns : List (List ℕ)). zip ns slots) (sym (names_declared scope ds taken.depths_are))
     ∙ ap (zip (names scope)) (sym taken.slots_are ∙ map-append (λ (v : Variable). v.routine) scope later)
@@ -51,8 +52,6 @@ module _ (ds : List Declaration) (shallow : AreShallow ds) where
     unfolding deepest
 
     deepest_within : (e : CoreTree) → deepest e (depths_of ds) ≤ 6
-    deepest_within (literal l) = omega arith
-    deepest_within (name n) = omega arith
     deepest_within (variable v) = shallow_named v ds shallow
     deepest_within (select a f) = deepest_within a
     deepest_within (has a f) = deepest_within a
@@ -66,6 +65,7 @@ module _ (ds : List Declaration) (shallow : AreShallow ds) where
     deepest_within (map es) = entries_within es
     deepest_within (fold m n r p) = let first = deepest_within r in let second = deepest_within p in omega arith
     deepest_within (fold_map n r p t) = let first = deepest_within r in let second = deepest_within p in let third = deepest_within t in omega arith
+    deepest_within _ = omega arith
 
     each_within : (es : CoreTrees) → deepest_of es (depths_of ds) ≤ 6
     each_within no_cores = omega arith
@@ -91,7 +91,8 @@ module _ (image : Contents) (deep : Bool) (roots : Roots) (constants : List ℕ)
       }
 
 -- the texts that were taken stand among the constants
-pub known_stand : (constants : List ℕ) (texts : List (List ℕ)) (e : CoreTree) → HasConstants constants texts e → TextsStand constants (with_texts texts (texts_of e)) (texts_of e)
+pub known_stand : (constants : List ℕ) (texts : List (List ℕ)) (e : CoreTree) → HasConstants constants texts e
+    → TextsStand constants (with_texts texts (texts_of e)) (texts_of e)
 known_stand constants texts e holds = subst (λ (bytes : List ℕ). TextsStand bytes (with_texts texts (texts_of e)) (texts_of e)) (sym holds.constants_are) (texts_stand texts (texts_of e) holds.more (subst (λ (bytes : List ℕ). length bytes ≤ 1048576) holds.constants_are holds.few))
 
 pub frames_are_enough : FramesAreEnough
@@ -116,6 +117,8 @@ variable_is_taken texts slots ds e p roots scope n t taken =
     let v = variable_of roots scope (with_texts texts (texts_of e)) n e p in
     let before : each (λ v. v.routine) scope ≡ slots = ap (each (λ v. v.routine)) (sym (append-nil scope)) ∙ taken.slots_are in
     record {
-      slots_are = ap (each (λ v. v.routine)) (append-nil (scope ++ v ∷ [])) ∙ map-append (λ (u : Variable). u.routine) scope (v ∷ []) ∙ ap (λ (ns : List ℕ). ns ++ p ∷ []) before;
-      depths_are = map-append (λ (u : Variable). (u.name, u.nesting)) scope (v ∷ []) ∙ (λ i. taken.depths_are i ++ (n, depth_of e (taken.depths_are i)) ∷ []) ∙ sym (map-append (λ (d : Declaration). (d.name, d.depth)) ds (declared n t (depth_of e (depths_of ds)) ∷ []));
+      slots_are = ap (each (λ v. v.routine)) (append-nil (scope ++ v ∷ [])) ∙ map-append (λ (u : Variable). u.routine) scope (v ∷ [])
+          ∙ ap (λ (ns : List ℕ). ns ++ p ∷ []) before;
+      depths_are = map-append (λ (u : Variable). (u.name, u.nesting)) scope (v ∷ []) ∙ (λ i. taken.depths_are i ++ (n, depth_of e (taken.depths_are i)) ∷ [])
+          ∙ sym (map-append (λ (d : Declaration). (d.name, d.depth)) ds (declared n t (depth_of e (depths_of ds)) ∷ []));
     }

@@ -2,7 +2,8 @@
 use Rattle.std.proofs.Common.{◌≡◌, ℕ, ◌+◌, ◌*◌, ◌≤◌, true, false, List, [], ◌∷◌, ◌++◌, length, Option, Some, None, ap, ◌∙◌, arith}
 use Rattle.insn_codec.specs.declared.insn.Insn.{Insn}
 use Rattle.insn_codec.specs.declared.comparison.Comparison.TheVariants.{Eq, Ne}
-use Rattle.insn_codec.specs.declared.register.Register.TheVariants.{R0}
+use Rattle.insn_codec.specs.declared.register.Register.{Register}
+use Rattle.insn_codec.specs.declared.register.Register.TheVariants.{R0, R1, R2, R6}
 use Rattle.std.specs.Prelude.{ℤ, pos}
 use Rattle.cel_reader.specs.Tree as tree
 use Rattle.cel_reader.specs.declared.operator.BinaryOperator.{BinaryOperator}
@@ -13,26 +14,47 @@ use Rattle.cel_macros.specs.CoreTree as core
 use Rattle.cel_macros.specs.CoreTree.{CoreTree, CoreTrees, CoreEntries, no_cores, more_cores, no_core_entries, more_core_entries}
 use Rattle.cel_macros.specs.declared.macros.Macro.{Macro}
 use Rattle.cel_macros.specs.declared.macros.Macro.TheVariants.{All, Exists, ExistsOne, Filter, Map}
-use Rattle.cel_macros.specs.Environment.{lookup}
 use Rattle.cel_macros.specs.Functions.{Function, Size, String, Dyn, function_named, TextTest, test_named}
 use Rattle.cel_measures.specs.Measures.{nodes, nodes_of, entries_nodes}
-use Rattle.codegen_base.specs.Instructions.{put, skip, skip_if, store}
+use Rattle.codegen_base.specs.Instructions.{copy, put, skip, skip_if, store}
 use Rattle.codegen_base.specs.Pieces.{size}
 use Rattle.codegen_base.specs.Code.Arithmetic.{product_tail, negation_tail}
-use Rattle.codegen_base.specs.Code.Calls.{two_code}
-use Rattle.codegen.specs.Code.Expressions.{code_of, items_code, entries_code, binary_code, binary_tail, unary_tail, function_code, method_function_code, routine_named, test_code, variable_code}
+use Rattle.codegen_base.specs.Code.Calls.{kept_code, kept_size, operand_code, operands_code}
+use Rattle.codegen_base.specs.Code.Leaves.{leaf_code, leaf_insn}
+use Rattle.codegen.specs.Code.Expressions.{code_of, items_code, entries_code, binary_code, binary_tail, leaf_of, unary_code, function_code, method_function_code, routine_named, test_code, variable_code}
 use Rattle.codegen_base.specs.Loops.{fold_code}
+use Rattle.codegen_base.specs.declared.leaf.Leaf.{Leaf}
+use Rattle.codegen_base.specs.declared.leaf.Leaf.TheVariants.{Word}
+use Rattle.codegen_base.proofs.Loaded.{leaf_size}
 use Rattle.codegen_base.proofs.Loops.{fold_size, loop_size}
 use Rattle.codegen_base.specs.Code.Folds.{macro_code, first_true, first_false, first_empty, absorbing_turn, exists_one_turn, exists_one_end, filter_turn, map_turn, map_where_turn, map_where_code}
 use Rattle.codegen.specs.Code.Literals.{address_of, literal_code}
 use Rattle.codegen_base.specs.Code.Aggregates.{item_code, push_tail, list_head, list_code, entry_code, entry_tail, map_head, map_code}
-use Rattle.codegen_base.specs.Code.Logic.{no_ref, yes_ref, absorbing_code, absorbing_tail, ternary_code}
-use Rattle.codegen_base.specs.Code.Names.{held_code, root_reference}
+use Rattle.codegen_base.specs.Code.Logic.{no_ref, not_tail, yes_ref, absorbing_code, absorbing_tail, ternary_code}
+use Rattle.codegen_base.specs.Code.Names.{name_leaf}
 use Rattle.codegen_base.specs.Code.Selection.{field_tail, has_tail, index_tail, size_tail, string_tail, test_tail}
 use Rattle.codegen.proofs.Sizes.{size_append, size_cons, size_map_where}
 
-size_two : (a b : List Insn) (k : ℕ) (tail : List Insn) → size (two_code a b k tail) ≡ size a + (1 + (size b + size tail))
-size_two a b k tail = size_append a (store k R0 ∷ (b ++ tail)) ∙ ap (λ n. size a + n) (size_cons (store k R0) (b ++ tail) ∙ ap (λ n. 1 + n) (size_append b tail))
+-- an operand takes at most a slot more than its code, and two operands three more than theirs
+size_operand : (l : Option Leaf) (a : List Insn) (r : Register) → size (operand_code l a r) ≤ size a + 1
+size_operand (Some l) a r = let e = leaf_size l r in omega (arith, e)
+size_operand None a r = let e = size_append a (copy r R0 ∷ []) in omega (arith, e)
+
+size_right : (l : Leaf) (a : List Insn) (r q : Register) → size (a ++ copy q R0 ∷ leaf_insn l r ∷ []) ≡ size a + 2
+size_right l a r q = size_append a (copy q R0 ∷ leaf_insn l r ∷ []) ∙ ap (λ n. size a + n) (size_cons (copy q R0) (leaf_insn l r ∷ []) ∙ ap (λ n. 1 + n) (leaf_size l r))
+
+size_operands : (l : Option Leaf) (a : List Insn) (m : Option Leaf) (b : List Insn) (k : ℕ) (r q : Register) → size (operands_code l a m b k r q) ≤ size a + size b + 3
+size_operands l a (Some m) b k r q =
+    let e = size_append (operand_code l a r) (leaf_insn m q ∷ []) in
+    let first = size_operand l a r in
+    let last = leaf_size m q in
+    omega (arith, e, first, last)
+size_operands (Some l) a None b k r q = let e = size_right l b r q in omega (arith, e)
+size_operands None a None b k r q =
+    let e = size_append (kept_code None a k) (b ++ copy q R0 ∷ leaf_insn (Word k) r ∷ []) in
+    let first = size_append a (store k R0 ∷ []) in
+    let last = size_right (Word k) b r q in
+    omega (arith, e, first, last)
 
 size_absorbing : (d o : ℤ) (a b : List Insn) (k : ℕ) → size (absorbing_code d o a b k) ≡ size a + (1 + (1 + (size b + 5)))
 size_absorbing d o a b k =
@@ -58,70 +80,76 @@ size_ternary c a b =
 size_fold : (k : ℕ) (range first turn : List Insn) → size (fold_code k range first turn) ≡ size range + (9 + (size first + (1 + (6 + (size turn + 6)))))
 size_fold k range first turn = fold_size k range first turn ∙ ap (λ n. size range + (9 + (size first + (1 + n)))) (loop_size k turn)
 
+-- a part in a register, and a tail
+one_short : (l : Option Leaf) (a : List Insn) (r : Register) (tail : List Insn) (n : ℕ) → size a + 8 ≤ 63 * n → size tail ≤ 40 → size (operand_code l a r ++ tail) + 8 ≤ 63 * (1 + n)
+one_short l a r tail n ha ht =
+    let e = size_append (operand_code l a r) tail in
+    let first = size_operand l a r in
+    omega (arith, e, first, ha, ht)
+
 -- tails are short
-unary_short : (op : UnaryOperator) → size (unary_tail op) ≤ 14
+unary_code_short : (op : UnaryOperator) (l : Option Leaf) (a : List Insn) (n : ℕ) → size a + 8 ≤ 63 * n → size (unary_code op l a) + 8 ≤ 63 * (1 + n)
 unfolding negation_tail
-unary_short unary.Not = omega arith
-unary_short unary.Negate = omega arith
+unary_code_short unary.Not l a n ha = one_short l a R1 not_tail n ha (omega arith)
+unary_code_short unary.Negate l a n ha = one_short l a R6 negation_tail n ha (omega arith)
 
-binary_short : (op : BinaryOperator) (k : ℕ) → size (binary_tail op k) ≤ 27
+binary_short : (op : BinaryOperator) → size (binary_tail op) ≤ 25
 unfolding binary_tail product_tail
-binary_short binary.Or k = omega arith
-binary_short binary.And k = omega arith
-binary_short binary.Less k = omega arith
-binary_short binary.LessEqual k = omega arith
-binary_short binary.GreaterEqual k = omega arith
-binary_short binary.Greater k = omega arith
-binary_short binary.Equal k = omega arith
-binary_short binary.NotEqual k = omega arith
-binary_short binary.In k = omega arith
-binary_short binary.Add k = omega arith
-binary_short binary.Subtract k = omega arith
-binary_short binary.Multiply k = omega arith
-binary_short binary.Divide k = omega arith
-binary_short binary.Remainder k = omega arith
+binary_short binary.Or = omega arith
+binary_short binary.And = omega arith
+binary_short binary.Less = omega arith
+binary_short binary.LessEqual = omega arith
+binary_short binary.GreaterEqual = omega arith
+binary_short binary.Greater = omega arith
+binary_short binary.Equal = omega arith
+binary_short binary.NotEqual = omega arith
+binary_short binary.In = omega arith
+binary_short binary.Add = omega arith
+binary_short binary.Subtract = omega arith
+binary_short binary.Multiply = omega arith
+binary_short binary.Divide = omega arith
+binary_short binary.Remainder = omega arith
 
-two_short : (a b : List Insn) (k : ℕ) (tail : List Insn) (n m : ℕ) → size a + 8 ≤ 63 * n → size b + 8 ≤ 63 * m → size tail ≤ 27 → size (two_code a b k tail) + 8 ≤ 63 * (1 + n + m)
-two_short a b k tail n m ha hb ht = let e = size_two a b k tail in omega (arith, e, ha, hb, ht)
+two_short : (l : Option Leaf) (a : List Insn) (m : Option Leaf) (b : List Insn) (k : ℕ) (r q : Register) (tail : List Insn) (n i : ℕ) → size a + 8 ≤ 63 * n → size b + 8 ≤ 63 * i → size tail ≤ 25 → size (operands_code l a m b k r q ++ tail) + 8 ≤ 63 * (1 + n + i)
+two_short l a m b k r q tail n i ha hb ht =
+    let e = size_append (operands_code l a m b k r q) tail in
+    let both = size_operands l a m b k r q in
+    omega (arith, e, both, ha, hb, ht)
 
 absorbing_short : (d o : ℤ) (a b : List Insn) (k n m : ℕ) → size a + 8 ≤ 63 * n → size b + 8 ≤ 63 * m → size (absorbing_code d o a b k) + 8 ≤ 63 * (1 + n + m)
 absorbing_short d o a b k n m ha hb = let e = size_absorbing d o a b k in omega (arith, e, ha, hb)
 
-binary_code_short : (op : BinaryOperator) (a b : List Insn) (k n m : ℕ) → size a + 8 ≤ 63 * n → size b + 8 ≤ 63 * m → size (binary_code op a b k) + 8 ≤ 63 * (1 + n + m)
-binary_code_short binary.Or a b k n m ha hb = absorbing_short yes_ref no_ref a b k n m ha hb
-binary_code_short binary.And a b k n m ha hb = absorbing_short no_ref yes_ref a b k n m ha hb
-binary_code_short binary.Less a b k n m ha hb = two_short a b k _ n m ha hb (binary_short binary.Less k)
-binary_code_short binary.LessEqual a b k n m ha hb = two_short a b k _ n m ha hb (binary_short binary.LessEqual k)
-binary_code_short binary.GreaterEqual a b k n m ha hb = two_short a b k _ n m ha hb (binary_short binary.GreaterEqual k)
-binary_code_short binary.Greater a b k n m ha hb = two_short a b k _ n m ha hb (binary_short binary.Greater k)
-binary_code_short binary.Equal a b k n m ha hb = two_short a b k _ n m ha hb (binary_short binary.Equal k)
-binary_code_short binary.NotEqual a b k n m ha hb = two_short a b k _ n m ha hb (binary_short binary.NotEqual k)
-binary_code_short binary.In a b k n m ha hb = two_short a b k _ n m ha hb (binary_short binary.In k)
-binary_code_short binary.Add a b k n m ha hb = two_short a b k _ n m ha hb (binary_short binary.Add k)
-binary_code_short binary.Subtract a b k n m ha hb = two_short a b k _ n m ha hb (binary_short binary.Subtract k)
-binary_code_short binary.Multiply a b k n m ha hb = two_short a b k _ n m ha hb (binary_short binary.Multiply k)
-binary_code_short binary.Divide a b k n m ha hb = two_short a b k _ n m ha hb (binary_short binary.Divide k)
-binary_code_short binary.Remainder a b k n m ha hb = two_short a b k _ n m ha hb (binary_short binary.Remainder k)
+binary_code_short : (op : BinaryOperator) (l : Option Leaf) (a : List Insn) (m : Option Leaf) (b : List Insn) (k n i : ℕ) → size a + 8 ≤ 63 * n → size b + 8 ≤ 63 * i → size (binary_code op l a m b k) + 8 ≤ 63 * (1 + n + i)
+binary_code_short binary.Or l a m b k n i ha hb = absorbing_short yes_ref no_ref a b k n i ha hb
+binary_code_short binary.And l a m b k n i ha hb = absorbing_short no_ref yes_ref a b k n i ha hb
+binary_code_short binary.Less l a m b k n i ha hb = two_short l a m b k _ _ _ n i ha hb (binary_short binary.Less)
+binary_code_short binary.LessEqual l a m b k n i ha hb = two_short l a m b k _ _ _ n i ha hb (binary_short binary.LessEqual)
+binary_code_short binary.GreaterEqual l a m b k n i ha hb = two_short l a m b k _ _ _ n i ha hb (binary_short binary.GreaterEqual)
+binary_code_short binary.Greater l a m b k n i ha hb = two_short l a m b k _ _ _ n i ha hb (binary_short binary.Greater)
+binary_code_short binary.Equal l a m b k n i ha hb = two_short l a m b k _ _ _ n i ha hb (binary_short binary.Equal)
+binary_code_short binary.NotEqual l a m b k n i ha hb = two_short l a m b k _ _ _ n i ha hb (binary_short binary.NotEqual)
+binary_code_short binary.In l a m b k n i ha hb = two_short l a m b k _ _ _ n i ha hb (binary_short binary.In)
+binary_code_short binary.Add l a m b k n i ha hb = two_short l a m b k _ _ _ n i ha hb (binary_short binary.Add)
+binary_code_short binary.Subtract l a m b k n i ha hb = two_short l a m b k _ _ _ n i ha hb (binary_short binary.Subtract)
+binary_code_short binary.Multiply l a m b k n i ha hb = two_short l a m b k _ _ _ n i ha hb (binary_short binary.Multiply)
+binary_code_short binary.Divide l a m b k n i ha hb = two_short l a m b k _ _ _ n i ha hb (binary_short binary.Divide)
+binary_code_short binary.Remainder l a m b k n i ha hb = two_short l a m b k _ _ _ n i ha hb (binary_short binary.Remainder)
 
--- a part and a tail
-one_short : (a tail : List Insn) (n m : ℕ) → size a + 8 ≤ 63 * n → size tail ≤ 40 → size (a ++ tail) + 8 ≤ 63 * (1 + n)
-one_short a tail n m ha ht = let e = size_append a tail in omega (arith, e, ha, ht)
+function_short : (f : Option Function) (l : Option Leaf) (a : List Insn) (n : ℕ) → size a + 8 ≤ 63 * n → size (function_code f l a) + 8 ≤ 63 * (1 + n)
+function_short (Some Size) l a n ha = one_short l a R1 size_tail n ha (omega arith)
+function_short (Some String) l a n ha = one_short l a R6 string_tail n ha (omega arith)
+function_short (Some Dyn) l a n ha = omega (arith, ha)
+function_short None l a n ha = omega arith
 
-function_short : (f : Option Function) (a : List Insn) (n : ℕ) → size a + 8 ≤ 63 * n → size (function_code f a) + 8 ≤ 63 * (1 + n)
-function_short (Some Size) a n ha = let e = size_append a size_tail in omega (arith, e, ha)
-function_short (Some String) a n ha = let e = size_append a string_tail in omega (arith, e, ha)
-function_short (Some Dyn) a n ha = omega (arith, ha)
-function_short None a n ha = omega arith
+method_short : (f : Option Function) (l : Option Leaf) (a : List Insn) (n : ℕ) → size a + 8 ≤ 63 * n → size (method_function_code f l a) + 8 ≤ 63 * (1 + n)
+method_short (Some Size) l a n ha = one_short l a R1 size_tail n ha (omega arith)
+method_short (Some String) l a n ha = omega arith
+method_short (Some Dyn) l a n ha = omega arith
+method_short None l a n ha = omega arith
 
-method_short : (f : Option Function) (a : List Insn) (n : ℕ) → size a + 8 ≤ 63 * n → size (method_function_code f a) + 8 ≤ 63 * (1 + n)
-method_short (Some Size) a n ha = let e = size_append a size_tail in omega (arith, e, ha)
-method_short (Some String) a n ha = omega arith
-method_short (Some Dyn) a n ha = omega arith
-method_short None a n ha = omega arith
-
-test_short : (t : Option TextTest) (a b : List Insn) (k n m : ℕ) → size a + 8 ≤ 63 * n → size b + 8 ≤ 63 * m → size (test_code t a b k) + 8 ≤ 63 * (1 + n + m)
-test_short (Some t) a b k n m ha hb = two_short a b k (test_tail t k) n m ha hb (omega arith)
-test_short None a b k n m ha hb = omega arith
+test_short : (t : Option TextTest) (l : Option Leaf) (a : List Insn) (m : Option Leaf) (b : List Insn) (k n i : ℕ) → size a + 8 ≤ 63 * n → size b + 8 ≤ 63 * i → size (test_code t l a m b k) + 8 ≤ 63 * (1 + n + i)
+test_short (Some t) l a m b k n i ha hb = two_short l a m b k R1 R2 (test_tail t) n i ha hb (omega arith)
+test_short None l a m b k n i ha hb = omega arith
 
 fold_short : (k : ℕ) (range first turn : List Insn) (n m : ℕ) → size range + 8 ≤ 63 * n → size first ≤ 1 → size turn ≤ 63 * m + 10 → size (fold_code k range first turn) + 20 ≤ 63 * (1 + n + m)
 fold_short k range first turn n m hr hf ht = let e = size_fold k range first turn in omega (arith, e, hr, hf, ht)
@@ -152,9 +180,8 @@ map_short k r p t n q m hr hp ht =
 ternary_short : (c a b : List Insn) (n q m : ℕ) → size c + 8 ≤ 63 * n → size a + 8 ≤ 63 * q → size b + 8 ≤ 63 * m → size (ternary_code c a b) + 8 ≤ 63 * (1 + n + q + m)
 ternary_short c a b n q m hc ha hb = let e = size_ternary c a b in omega (arith, e, hc, ha, hb)
 
-held_short : (w : Option ℕ) (r : ℤ) → size (held_code w r) + 8 ≤ 63
-held_short (Some k) r = omega arith
-held_short None r = omega arith
+leaf_short : (l : Leaf) → size (leaf_code l) + 8 ≤ 63
+leaf_short l = let e = leaf_size l R0 in omega (arith, e)
 
 literal_short : (ts : List (List ℕ)) (l : tree.Literal) → size (literal_code ts l) + 8 ≤ 63
 literal_short ts (tree.int z) = omega arith
@@ -197,21 +224,21 @@ module _ (ts : List (List ℕ)) (rs : List (List ℕ × ℕ)) where
 
     code_short : (e : CoreTree) (ws : List (List ℕ × ℕ)) (k p : ℕ) → size (code_of e ts rs ws k p) + 8 ≤ 63 * nodes e
     code_short (core.literal l) ws k p = literal_short ts l
-    code_short (core.name n) ws k p = held_short (lookup n ws) (root_reference n)
+    code_short (core.name n) ws k p = leaf_short (name_leaf n ws)
     code_short (core.variable v) ws k p = variable_short (routine_named v rs) p
-    code_short (core.select a f) ws k p = one_short _ (field_tail (address_of ts f) (length f)) (nodes a) 0 (code_short a ws k p) (omega arith)
-    code_short (core.has a f) ws k p = one_short _ (has_tail (address_of ts f) (length f)) (nodes a) 0 (code_short a ws k p) (omega arith)
-    code_short (core.index a b) ws k p = two_short _ _ k (index_tail k) (nodes a) (nodes b) (code_short a ws k p) (code_short b ws (k + 1) _) (omega arith)
+    code_short (core.select a f) ws k p = one_short (leaf_of a ws) _ R1 (field_tail (address_of ts f) (length f)) (nodes a) (code_short a ws k p) (omega arith)
+    code_short (core.has a f) ws k p = one_short (leaf_of a ws) _ R1 (has_tail (address_of ts f) (length f)) (nodes a) (code_short a ws k p) (omega arith)
+    code_short (core.index a b) ws k p = two_short (leaf_of a ws) _ (leaf_of b ws) _ k R1 R2 index_tail (nodes a) (nodes b) (code_short a ws k p) (code_short b ws (k + 1) _) (omega arith)
     code_short (core.call n no_cores) ws k p = omega arith
-    code_short (core.call n (more_cores a no_cores)) ws k p = let h = function_short (function_named n) _ (nodes a) (code_short a ws k p) in omega (arith, h)
+    code_short (core.call n (more_cores a no_cores)) ws k p = let h = function_short (function_named n) (leaf_of a ws) _ (nodes a) (code_short a ws k p) in omega (arith, h)
     code_short (core.call n (more_cores a (more_cores b more))) ws k p = omega arith
-    code_short (core.method a n no_cores) ws k p = let h = method_short (function_named n) _ (nodes a) (code_short a ws k p) in omega (arith, h)
+    code_short (core.method a n no_cores) ws k p = let h = method_short (function_named n) (leaf_of a ws) _ (nodes a) (code_short a ws k p) in omega (arith, h)
     code_short (core.method a n (more_cores b no_cores)) ws k p =
-        let h = test_short (test_named n) _ _ k (nodes a) (nodes b) (code_short a ws k p) (code_short b ws (k + 1) (p + size (code_of a ts rs ws k p) + 1)) in
+        let h = test_short (test_named n) (leaf_of a ws) _ (leaf_of b ws) _ k (nodes a) (nodes b) (code_short a ws k p) (code_short b ws (k + 1) (p + kept_size (leaf_of a ws) (code_of a ts rs ws k p))) in
         omega (arith, h)
     code_short (core.method a n (more_cores b (more_cores x more))) ws k p = omega arith
-    code_short (core.unary op a) ws k p = one_short _ (unary_tail op) (nodes a) 0 (code_short a ws k p) (let h = unary_short op in omega (arith, h))
-    code_short (core.binary op a b) ws k p = binary_code_short op _ _ k (nodes a) (nodes b) (code_short a ws k p) (code_short b ws (k + 1) _)
+    code_short (core.unary op a) ws k p = unary_code_short op (leaf_of a ws) _ (nodes a) (code_short a ws k p)
+    code_short (core.binary op a b) ws k p = binary_code_short op (leaf_of a ws) _ (leaf_of b ws) _ k (nodes a) (nodes b) (code_short a ws k p) (code_short b ws (k + 1) _)
     code_short (core.ternary c a b) ws k p = ternary_short _ _ _ (nodes c) (nodes a) (nodes b) (code_short c ws k p) (code_short a ws k _) (code_short b ws k _)
     code_short (core.list items) ws k p = list_short _ k (nodes_of items) (items_short items ws k _)
     code_short (core.map es) ws k p = map_literal_short _ k (entries_nodes es) (entries_short es ws k _)

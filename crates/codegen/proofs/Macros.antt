@@ -3,11 +3,11 @@ use Rattle.std.proofs.Common.{◌≡◌, ℕ, zero, suc, ◌+◌, ◌<◌, ◌�
 use Rattle.std.specs.Prelude.{slice_get}
 use Rattle.insn_codec.specs.declared.insn.Insn.{Insn}
 use Rattle.value_store.specs.Size.{result_size}
-use Rattle.value_store.specs.Value.{Value, ValueOrError, error, value, null, boolean, int, text, list, map}
+use Rattle.value_store.specs.Value.{Value, ValueOrError, value, null}
 use Rattle.cel_macros.specs.declared.macros.Macro.{Macro}
-use Rattle.cel_macros.specs.declared.macros.Macro.TheVariants.{All, Exists, ExistsOne, Filter, Map}
+use Rattle.cel_macros.specs.declared.macros.Macro.TheVariants.{Filter, Map}
 use Rattle.cel_macros.specs.FoldMeaning.{folded, folded_map}
-use Rattle.cel_macros.specs.Logic.{Truth, Yes, No, Other, chosen, truth}
+use Rattle.cel_macros.specs.Logic.{Truth, Yes, chosen, truth}
 use Rattle.cel_macros.specs.Macros.{range_of}
 use Rattle.codegen.specs.Computes.{Computes}
 use Rattle.codegen.specs.Cost.{Cost, ◌and◌, each_item, items_cost, kept, kept_by, node, nothing, one_item, spent_by}
@@ -22,13 +22,8 @@ use Rattle.codegen_base.proofs.Macros.Budgets.{gives_within}
 use Rattle.codegen_base.proofs.Macros.MapsWhere.{map_where_gives}
 
 size_least : (x : ValueOrError) → 1 ≤ result_size x
-size_least error = omega arith
 size_least (value null) = omega arith
-size_least (value (boolean b)) = omega arith
-size_least (value (int n)) = omega arith
-size_least (value (text s)) = omega arith
-size_least (value (list is)) = omega arith
-size_least (value (map es)) = omega arith
+size_least _ = omega arith
 
 second_side : (a b : Bool) → b ≡ true → (a || b) ≡ true
 second_side true b e = refl
@@ -37,10 +32,6 @@ second_side false b e = e
 first_side : (a b : Bool) → a ≡ true → (a || b) ≡ true
 first_side true b e = refl
 first_side false b e = absurd (cc)
-
--- a cost of two is deep where either is
-pub left_deep : (a b : Cost) → a.is_deep ≡ true → (a and b).is_deep ≡ true
-left_deep a b e = first_side a.is_deep b.is_deep e
 
 pub right_deep : (a b : Cost) → b.is_deep ≡ true → (a and b).is_deep ≡ true
 right_deep a b e = second_side a.is_deep b.is_deep e
@@ -71,7 +62,8 @@ module _ (f : Value → Cost) where
   each_deep (w ∷ vs) (suc i) v at deep = right_deep (one_item and f w) (each_item f vs) (each_deep vs i v at deep)
 
   pub item_deep : (r : ValueOrError) (v : Value) → IsItem r v → (f v).is_deep ≡ true → (items_cost f (range_of r)).is_deep ≡ true
-  item_deep r v inside deep = ap (λ (o : Option (List Value)). (items_cost f o).is_deep) inside.range_is ∙ each_deep inside.items inside.place v inside.item_is deep
+  item_deep r v inside deep =
+      ap (λ (o : Option (List Value)). (items_cost f o).is_deep) inside.range_is ∙ each_deep inside.items inside.place v inside.item_is deep
 
 -- items that cost alike
 module _ (f g : Value → ℕ) (same : (v : Value) → f v ≡ g v) where
@@ -102,15 +94,12 @@ module _ (f g : Value → ℕ) (same : (v : Value) → f v ≡ g v) where
 -- an item that is to be held and is too deep
 filter_deep : (t : Truth) (v : Value) → chosen t (is_too_deep (value v)) false false ≡ true → (chosen t (kept (value v)) nothing nothing).is_deep ≡ true
 filter_deep Yes v e = e
-filter_deep No v e = absurd (cc)
-filter_deep Other v e = absurd (cc)
+filter_deep _ v e = absurd (cc)
 
 kept_deep : (m : Macro) (v : Value) (x : ValueOrError) → holds_too_deep m v x ≡ true → (kept_by m v x).is_deep ≡ true
-kept_deep All v x e = absurd (cc)
-kept_deep Exists v x e = absurd (cc)
-kept_deep ExistsOne v x e = absurd (cc)
 kept_deep Filter v x e = filter_deep (truth x) v e
 kept_deep Map v x e = e
+kept_deep _ v x e = absurd (cc)
 
 -- what each item costs, when its part costs this
 abbrev pub item_cost : Macro → (Value → ValueOrError) → (Value → Cost) → Value → Cost
@@ -140,13 +129,11 @@ where_cost t f first second v = first v and chosen (truth (t v)) (second v and k
 
 chosen_visits : (t : Truth) (a b : Cost) → a.visits + chosen t b.visits 0 0 ≡ (a and chosen t b nothing nothing).visits
 chosen_visits Yes a b = refl
-chosen_visits No a b = refl
-chosen_visits Other a b = refl
+chosen_visits _ a b = refl
 
 chosen_spent : (t : Truth) (a b : Cost) → spent_by a + chosen t (spent_by b) 0 0 ≡ spent_by (a and chosen t b nothing nothing)
 chosen_spent Yes a b = omega arith
-chosen_spent No a b = omega arith
-chosen_spent Other a b = omega arith
+chosen_spent _ a b = omega arith
 
 -- what is deep where the predicate is true
 pub chosen_deep : (t : Truth) (a b : Cost) → t ≡ Yes → b.is_deep ≡ true → (a and chosen t b nothing nothing).is_deep ≡ true

@@ -1,9 +1,10 @@
 -- The code of each construct, where the code of its parts gives theirs within their budgets.
-use Rattle.std.proofs.Common.{◌≡◌, ℕ, ◌+◌, ◌<◌, ◌≤◌, Bool, true, false, ◌||◌, List, [], ◌∷◌, ◌++◌, length, Some, refl, ap, ◌∙◌, subst, arith}
+use Rattle.std.proofs.Common.{◌≡◌, ℕ, ◌+◌, ◌<◌, ◌≤◌, Bool, true, false, ◌||◌, List, [], ◌∷◌, ◌++◌, length, Option, Some, refl, ap, ◌∙◌, subst, arith}
 use Rattle.std.proofs.lemmas.Str.{is_utf8-from_IsUtf8}
 use Rattle.cel_reader.specs.Tree as tree
 use Rattle.cel_reader.specs.WellFormed.{IsWellFormedLiteral}
 use Rattle.insn_codec.specs.declared.insn.Insn.{Insn}
+use Rattle.insn_codec.specs.declared.register.Register.TheVariants.{R1, R2, R6}
 use Rattle.value_store.specs.Calls.{joined}
 use Rattle.value_store.specs.Size.{items_size, result_size, size_of as value_size}
 use Rattle.value_store.specs.Value.{Value, ValueOrError, error, value, null, boolean, int, text, list, map, Items, no_items, item, list_of, items_join}
@@ -16,15 +17,18 @@ use Rattle.cel_macros.specs.Literals.{literal_of}
 use Rattle.cel_macros.specs.Logic.{Truth, Yes, No, chosen, ternary_of, truth}
 use Rattle.cel_macros.specs.Selection.{field_of, has_of, index_of}
 use Rattle.cel_measures.specs.Measures.{deepest, need}
+use Rattle.codegen_base.specs.Code.Calls.{kept_size}
 use Rattle.codegen_base.specs.Contexts.{Context}
 use Rattle.codegen_base.specs.Engine.{Setting}
 use Rattle.codegen_base.specs.Gives.Selection.{HasText, text_length}
 use Rattle.codegen_base.specs.Helpers.{joined_length}
+use Rattle.codegen_base.specs.Operators.{AreApart, IsLeafOf}
 use Rattle.codegen_base.specs.Pieces.{size}
 use Rattle.codegen_base.specs.Scopes.{Variable}
+use Rattle.codegen_base.specs.declared.leaf.Leaf.{Leaf}
 use Rattle.codegen_base.proofs.Leaves.{leaves_give}
 use Rattle.codegen_base.proofs.Selection.{selection_gives}
-use Rattle.codegen.specs.Code.Expressions.{code_of, function_code, test_code, texts_of}
+use Rattle.codegen.specs.Code.Expressions.{code_of, function_code, leaf_of, test_code, texts_of}
 use Rattle.codegen.specs.Code.Literals.{address_of}
 use Rattle.codegen.specs.Computes.{Computes, Ready, TextsStand, names, nestings, routines}
 use Rattle.codegen.specs.Cost.{Cost, ◌and◌, literal_cost, name_or_text, node, nothing}
@@ -96,6 +100,14 @@ joined_within (value (map es)) (value w) = none_joined (value (map es)) (value w
 abbrev pub Part : Setting → List Variable → List (List ℕ) → ℕ → Context → ℕ → CoreTree → ValueOrError → Cost → Type 0
 Part s scope texts depth c k e x t = Ready s scope texts c depth k e t.is_deep → (p : ℕ) → Computes s p (code_of e texts (routines scope) c.words k p) c depth k x t
 
+-- where the expression is a leaf, that names the value
+abbrev pub LeafPart : ℕ → Context → ℕ → CoreTree → ValueOrError → Type 0
+LeafPart depth c k e x = k ≤ 60 → IsLeafOf c depth k (leaf_of e c.words) x
+
+-- the registers of two operands of a helper
+pub first_two : AreApart R1 R2
+first_two = record { first = refl; second = refl; apart = refl; back = refl }
+
 module _ (s : Setting) (scope : List Variable) (texts : List (List ℕ)) (depth : ℕ) (c : Context) (k : ℕ) where
   -- the code at a slot, with words from another one on
   abbrev code : CoreTree → ℕ → ℕ → List Insn
@@ -136,26 +148,26 @@ module _ (s : Setting) (scope : List Variable) (texts : List (List ℕ)) (depth 
   key_stands : (a : CoreTree) (f : List ℕ) → TextsStand c.constants texts (texts_of a ++ f ∷ []) → HasText c.constants (address_of texts f) f
   key_stands a f h = let last = texts_back c.constants texts (texts_of a) (f ∷ []) h in last.0
 
-  pub select_part : (a : CoreTree) (f : List ℕ) (x : ValueOrError) (t : Cost) → Part s scope texts depth c k a x t → Part s scope texts depth c k (core.select a f) (field_of x f) (node (field_of x f) and (t and name_or_text f))
+  pub select_part : (a : CoreTree) (f : List ℕ) (x : ValueOrError) (t : Cost) → LeafPart depth c k a x → Part s scope texts depth c k a x t → Part s scope texts depth c k (core.select a f) (field_of x f) (node (field_of x f) and (t and name_or_text f))
   unfolding code_of need deepest texts_of IsAccepted
-  select_part a f x t part ready p =
+  select_part a f x t named part ready p =
       let room = ready.room in
       let accepted = ready.accepted in
       let first = one_ready a (core.select a f) t.is_deep (t.is_deep || false) (f ∷ []) accepted.1 (omega arith) (omega arith) refl (or_left t.is_deep false) ready in
-      one s c depth k p (code a k p) _ x (field_of x f) 4 1 t (node (field_of x f) and (t and name_or_text f)) (omega arith) (omega arith) (omega arith) (omega arith) (part first p) (selection_gives.field s _ c depth k x (address_of texts f) f (omega arith) (key_stands a f ready.texts_stand))
+      one s c depth k p (leaf_of a c.words) (code a k p) _ R1 x (field_of x f) 3 1 t (node (field_of x f) and (t and name_or_text f)) refl (omega arith) (omega arith) (omega arith) (omega arith) (named (omega arith)) (part first p) (selection_gives.field s _ c depth k x (address_of texts f) f (omega arith) (key_stands a f ready.texts_stand))
 
-  pub has_part : (a : CoreTree) (f : List ℕ) (x : ValueOrError) (t : Cost) → Part s scope texts depth c k a x t → Part s scope texts depth c k (core.has a f) (has_of x f) (node (has_of x f) and (t and name_or_text f))
+  pub has_part : (a : CoreTree) (f : List ℕ) (x : ValueOrError) (t : Cost) → LeafPart depth c k a x → Part s scope texts depth c k a x t → Part s scope texts depth c k (core.has a f) (has_of x f) (node (has_of x f) and (t and name_or_text f))
   unfolding code_of need deepest texts_of IsAccepted
-  has_part a f x t part ready p =
+  has_part a f x t named part ready p =
       let room = ready.room in
       let first = one_ready a (core.has a f) t.is_deep (t.is_deep || false) (f ∷ []) ready.accepted (omega arith) (omega arith) refl (or_left t.is_deep false) ready in
-      one s c depth k p (code a k p) _ x (has_of x f) 4 1 t (node (has_of x f) and (t and name_or_text f)) (omega arith) (omega arith) (omega arith) (omega arith) (part first p) (selection_gives.has s _ c depth k x (address_of texts f) f (omega arith) (key_stands a f ready.texts_stand))
+      one s c depth k p (leaf_of a c.words) (code a k p) _ R1 x (has_of x f) 3 1 t (node (has_of x f) and (t and name_or_text f)) refl (omega arith) (omega arith) (omega arith) (omega arith) (named (omega arith)) (part first p) (selection_gives.has s _ c depth k x (address_of texts f) f (omega arith) (key_stands a f ready.texts_stand))
 
   -- a function of what a piece gives
-  pub function_part : (g : Function) (piece : List Insn) (x : ValueOrError) (t : Cost) (p : ℕ) → k ≤ 60 → Computes s p piece c depth k x t → Computes s p (function_code (Some g) piece) c depth k (function_of (Some g) x) (node (function_of (Some g) x) and t)
-  function_part Size piece x t p low part = one s c depth k p piece _ x (size_of x) 2 1 t (node (size_of x) and t) (omega arith) (omega arith) (omega arith) (omega arith) part (selection_gives.size s _ c depth k x (omega arith))
-  function_part String piece x t p low part = let short = text_within (string_of x) in one s c depth k p piece _ x (string_of x) 6 (2 + text_length (string_of x)) t (node (string_of x) and t) (omega arith) (omega arith) (omega arith) (omega arith) part (selection_gives.string s _ c depth k x (omega arith))
-  function_part Dyn piece x t p low part = same s c depth k p piece x t (node x and t) (omega arith) (omega arith) part
+  pub function_part : (g : Function) (l : Option Leaf) (piece : List Insn) (x : ValueOrError) (t : Cost) (p : ℕ) → k ≤ 60 → IsLeafOf c depth k l x → Computes s p piece c depth k x t → Computes s p (function_code (Some g) l piece) c depth k (function_of (Some g) x) (node (function_of (Some g) x) and t)
+  function_part Size l piece x t p low named part = one s c depth k p l piece _ R1 x (size_of x) 1 1 t (node (size_of x) and t) refl (omega arith) (omega arith) (omega arith) (omega arith) named part (selection_gives.size s _ c depth k x (omega arith))
+  function_part String l piece x t p low named part = let short = text_within (string_of x) in one s c depth k p l piece _ R6 x (string_of x) 5 (2 + text_length (string_of x)) t (node (string_of x) and t) refl (omega arith) (omega arith) (omega arith) (omega arith) named part (selection_gives.string s _ c depth k x (omega arith))
+  function_part Dyn l piece x t p low named part = same s c depth k p piece x t (node x and t) (omega arith) (omega arith) part
 
   -- ---- two parts
 
@@ -174,18 +186,18 @@ module _ (s : Setting) (scope : List Variable) (texts : List (List ℕ)) (depth 
         may = λ d. ready.may (deep ∙ or_right t u d);
       }
 
-  pub index_part : (a b : CoreTree) (x y : ValueOrError) (t u : Cost) → Part s scope texts depth c k a x t → Part s scope texts depth c (k + 1) b y u → Part s scope texts depth c k (core.index a b) (index_of x y) (node (index_of x y) and t and u)
+  pub index_part : (a b : CoreTree) (x y : ValueOrError) (t u : Cost) → LeafPart depth c k a x → LeafPart depth c (k + 1) b y → Part s scope texts depth c k a x t → Part s scope texts depth c (k + 1) b y u → Part s scope texts depth c k (core.index a b) (index_of x y) (node (index_of x y) and t and u)
   unfolding code_of need deepest texts_of IsAccepted
-  index_part a b x y t u first second ready p =
+  index_part a b x y t u named named_right first second ready p =
       let room = ready.room in
       let accepted = ready.accepted in
       let left = left_ready a b (core.index a b) t.is_deep u.is_deep (t.is_deep || u.is_deep) accepted.0 (omega arith) (omega arith) refl refl ready in
       let right = right_ready a b (core.index a b) t.is_deep u.is_deep (t.is_deep || u.is_deep) accepted.1 (omega arith) (omega arith) refl refl ready in
-      two s c depth k p (code a k p) (code b (k + 1) (p + size (code a k p) + 1)) _ x y (index_of x y) 3 1 t u (omega arith) (omega arith) (omega arith) (first left p) (second right _) (selection_gives.index s _ k c depth x y (omega arith))
+      two s c depth k p (leaf_of a c.words) (code a k p) (leaf_of b c.words) _ _ R1 R2 x y (index_of x y) 1 1 t u (omega arith) first_two (omega arith) (omega arith) (named (omega arith)) (first left p) (named_right (omega arith)) (second right _) (selection_gives.index s _ k c depth x y (omega arith))
 
-  pub test_part : (g : TextTest) (left right : List Insn) (x y : ValueOrError) (t u : Cost) (p : ℕ) → k < 60 → Computes s p left c depth k x t → Computes s (p + size left + 1) right c depth (k + 1) y u → Computes s p (test_code (Some g) left right k) c depth k (text_test_of (Some g) x y) (node (text_test_of (Some g) x y) and t and u)
-  test_part g left right x y t u p low first second =
-      two s c depth k p left right _ x y (text_test_of (Some g) x y) 3 1 t u low (omega arith) (omega arith) first second (selection_gives.test g s _ k c depth x y (omega arith))
+  pub test_part : (g : TextTest) (l : Option Leaf) (left : List Insn) (m : Option Leaf) (right : List Insn) (x y : ValueOrError) (t u : Cost) (p : ℕ) → k < 60 → IsLeafOf c depth k l x → Computes s p left c depth k x t → IsLeafOf c depth (k + 1) m y → Computes s (p + kept_size l left) right c depth (k + 1) y u → Computes s p (test_code (Some g) l left m right k) c depth k (text_test_of (Some g) x y) (node (text_test_of (Some g) x y) and t and u)
+  test_part g l left m right x y t u p low named first named_right second =
+      two s c depth k p l left m right _ R1 R2 x y (text_test_of (Some g) x y) 1 1 t u low first_two (omega arith) (omega arith) named first named_right second (selection_gives.test g s _ k c depth x y (omega arith))
 
   -- ---- three parts, of which the condition chooses one
 

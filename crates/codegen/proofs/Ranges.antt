@@ -1,5 +1,5 @@
 -- Macros as they are written, where the code of their parts gives theirs within their budgets.
-use Rattle.std.proofs.Common.{◌≡◌, ℕ, ◌+◌, Bool, true, false, ◌||◌, List, ◌∷◌, ◌++◌, Option, Some, None, refl, ap, ◌∙◌, subst, arith}
+use Rattle.std.proofs.Common.{◌≡◌, ℕ, ◌+◌, Bool, true, ◌||◌, List, ◌∷◌, ◌++◌, Option, Some, refl, ap, ◌∙◌, subst, arith}
 use Rattle.insn_codec.specs.declared.insn.Insn.{Insn}
 use Rattle.value_store.specs.Value.{Value, ValueOrError}
 use Rattle.cel_macros.specs.CoreTree as core
@@ -31,7 +31,8 @@ module _ (s : Setting) (scope : List Variable) (texts : List (List ℕ)) (depth 
   part_code i e p = code_of e texts (routines scope) ((i, k + 4) ∷ c.words) (k + 5) p
 
   -- no other method has two arguments or more
-  no_method : (a x : CoreTree) (n : List ℕ) (y : CoreTree) (more : core.CoreTrees) (d : Bool) → Ready s scope texts c depth k (core.method a n (more_cores x (more_cores y more))) d → ⊥
+  no_method : (a x : CoreTree) (n : List ℕ) (y : CoreTree) (more : core.CoreTrees) (d : Bool)
+      → Ready s scope texts c depth k (core.method a n (more_cores x (more_cores y more))) d → ⊥
   unfolding IsAccepted
   no_method a x n y more d ready = ready.accepted
 
@@ -40,7 +41,8 @@ module _ (s : Setting) (scope : List Variable) (texts : List (List ℕ)) (depth 
     abbrev costs_of : Value → Cost
     costs_of v = each v and kept_by m v (f v)
 
-    pub macro_part : Part s scope texts depth c k a r t → ((v : Value) → Part s scope texts depth (with_item c k i v) (k + 5) p (f v) (each v)) → Part s scope texts depth c k (core.fold m i a p) (folded m f (range_of r)) (node (folded m f (range_of r)) and t and items_cost costs_of (range_of r))
+    pub macro_part : Part s scope texts depth c k a r t → ((v : Value) → Part s scope texts depth (with_item c k i v) (k + 5) p (f v) (each v))
+        → Part s scope texts depth c k (core.fold m i a p) (folded m f (range_of r)) (node (folded m f (range_of r)) and t and items_cost costs_of (range_of r))
     unfolding code_of need deepest texts_of IsAccepted
     macro_part range part ready q =
         let room = ready.room in
@@ -56,8 +58,7 @@ module _ (s : Setting) (scope : List Variable) (texts : List (List ℕ)) (depth 
   fold_part (Some m) (Some i) n a x p r t f each range part =
       subst (λ (z : ValueOrError). Part s scope texts depth c k (core.fold m i a p) z (node z and t and macro_cost (Some m) (Some i) each f (range_of r))) (folds_mean m i f (range_of r))
       (macro_part m i a p r t (f i) (each i) range (part i))
-  fold_part (Some m) None n a x p r t f each range part = λ ready q. absurd (no_method a x n p no_cores _ ready)
-  fold_part None o n a x p r t f each range part = λ ready q. absurd (no_method a x n p no_cores _ ready)
+  fold_part _ _ n a x p r t f each range part = λ ready q. absurd (no_method a x n p no_cores _ ready)
 
   module _ (i : List ℕ) (a p d : CoreTree) (r : ValueOrError) (t : Cost) (g f : Value → ValueOrError) (each then_costs : Value → Cost) where
     abbrev where_costs : Value → Cost
@@ -86,5 +87,4 @@ module _ (s : Setting) (scope : List Variable) (texts : List (List ℕ)) (depth 
   fold_map_part true (Some i) n a x p d r t g f each then_costs range predicate transform =
       subst (λ (z : ValueOrError). Part s scope texts depth c k (core.fold_map i a p d) z (node z and t and map_cost true (Some i) each (λ j v. truth (g j v)) (λ j v. then_costs j v and kept (f j v)) (range_of r))) (fold_maps_mean i g f (range_of r))
       (map_where_part i a p d r t (g i) (f i) (each i) (then_costs i) range (predicate i) (transform i))
-  fold_map_part true None n a x p d r t g f each then_costs range predicate transform = λ ready q. absurd (no_method a x n p (one_core d) _ ready)
-  fold_map_part false o n a x p d r t g f each then_costs range predicate transform = λ ready q. absurd (no_method a x n p (one_core d) _ ready)
+  fold_map_part _ _ n a x p d r t g f each then_costs range predicate transform = λ ready q. absurd (no_method a x n p (one_core d) _ ready)

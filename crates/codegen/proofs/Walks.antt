@@ -14,9 +14,10 @@ use Rattle.cel_macros.specs.Functions.{function_named, test_named}
 use Rattle.cel_macros.specs.declared.core_tree.Core.{Core}
 use Rattle.cel_measures.specs.Measures.{need, needs, entries_need, nodes, nodes_of, entries_nodes}
 use Rattle.codegen_base.specs.Code.Aggregates.{item_code, entry_code}
+use Rattle.codegen_base.specs.Code.Calls.{kept_size}
 use Rattle.codegen_base.specs.Code.Folds.{map_where_code}
 use Rattle.codegen_base.specs.Pieces.{size}
-use Rattle.codegen.specs.Code.Expressions.{code_of, items_code, entries_code, function_code, method_function_code, test_code, no_code}
+use Rattle.codegen.specs.Code.Expressions.{code_of, items_code, entries_code, function_code, leaf_of, method_function_code, test_code, no_code}
 use Rattle.codegen.specs.FrameWords.{words_of, words_step}
 use Rattle.codegen.specs.declared.frame_words.FrameWords as frame
 use Rattle.codegen.specs.declared.frame_words.FrameWords.{FrameWords}
@@ -59,10 +60,12 @@ unfolding need
 entries_need_here pairs i x lt is = ap (λ l. entries_need (core_entries (map core_pair l))) (here pairs i x lt is)
 
 module _ (ts : List (List ℕ)) (rs ws : List (List ℕ × ℕ)) (k p : ℕ) where
-  pub call_of_one : (n : List ℕ) (items : List Core) (x : Core) (of : List Insn) → 1 ≤ length items → length items < 2 → x ≡ get_or items 0 x → of ≡ code_of (core_view x) ts rs ws k p → function_code (function_named n) of ≡ code_of (core.call n (cores (map core_view items))) ts rs ws k p
+  pub call_of_one : (n : List ℕ) (items : List Core) (x : Core) (of : List Insn) → 1 ≤ length items → length items < 2 → x ≡ get_or items 0 x → of ≡ code_of (core_view x) ts rs ws k p → function_code (function_named n) (leaf_of (core_view x) ws) of ≡ code_of (core.call n (cores (map core_view items))) ts rs ws k p
   unfolding code_of
   call_of_one n [] x of some few is h = absurd (omega arith)
-  call_of_one n (y ∷ []) x of some few is h = ap (function_code (function_named n)) (h ∙ ap (λ a. code_of (core_view a) ts rs ws k p) is)
+  call_of_one n (y ∷ []) x of some few is h =
+      let whole = h ∙ ap (λ a. code_of (core_view a) ts rs ws k p) is in
+      λ j. function_code (function_named n) (leaf_of (core_view (is j)) ws) (whole j)
   call_of_one n (y ∷ z ∷ items) x of some few is h = absurd (omega arith)
 
   pub call_of_others : (n : List ℕ) (items : List Core) → (length items ≡ 1 → ⊥) → no_code ≡ code_of (core.call n (cores (map core_view items))) ts rs ws k p
@@ -71,17 +74,18 @@ module _ (ts : List (List ℕ)) (rs ws : List (List ℕ × ℕ)) (k p : ℕ) whe
   call_of_others n (y ∷ []) other = absurd (other refl)
   call_of_others n (y ∷ z ∷ items) other = refl
 
-  pub method_of_none : (a : CoreTree) (n : List ℕ) (items : List Core) (of : List Insn) → length items < 1 → of ≡ code_of a ts rs ws k p → method_function_code (function_named n) of ≡ code_of (core.method a n (cores (map core_view items))) ts rs ws k p
+  pub method_of_none : (a : CoreTree) (n : List ℕ) (items : List Core) (of : List Insn) → length items < 1 → of ≡ code_of a ts rs ws k p → method_function_code (function_named n) (leaf_of a ws) of ≡ code_of (core.method a n (cores (map core_view items))) ts rs ws k p
   unfolding code_of
-  method_of_none a n [] of few h = ap (method_function_code (function_named n)) h
+  method_of_none a n [] of few h = ap (method_function_code (function_named n) (leaf_of a ws)) h
   method_of_none a n (y ∷ items) of few h = absurd (omega arith)
 
-  pub method_of_one : (a : CoreTree) (n : List ℕ) (items : List Core) (x : Core) (left right : List Insn) → 1 ≤ length items → length items < 2 → x ≡ get_or items 0 x → left ≡ code_of a ts rs ws k p → right ≡ code_of (core_view x) ts rs ws (k + 1) (p + size left + 1) → test_code (test_named n) left right k ≡ code_of (core.method a n (cores (map core_view items))) ts rs ws k p
+  pub method_of_one : (a : CoreTree) (n : List ℕ) (items : List Core) (x : Core) (left right : List Insn) → 1 ≤ length items → length items < 2 → x ≡ get_or items 0 x → left ≡ code_of a ts rs ws k p → right ≡ code_of (core_view x) ts rs ws (k + 1) (p + kept_size (leaf_of a ws) left) → test_code (test_named n) (leaf_of a ws) left (leaf_of (core_view x) ws) right k ≡ code_of (core.method a n (cores (map core_view items))) ts rs ws k p
   unfolding code_of
   method_of_one a n [] x left right some few is hl hr = absurd (omega arith)
   method_of_one a n (y ∷ []) x left right some few is hl hr =
-      let behind : right ≡ code_of (core_view y) ts rs ws (k + 1) (p + size (code_of a ts rs ws k p) + 1) = hr ∙ (λ j. code_of (core_view (is j)) ts rs ws (k + 1) (p + size (hl j) + 1)) in
-      λ j. test_code (test_named n) (hl j) (behind j) k
+      let l = leaf_of a ws in
+      let behind : right ≡ code_of (core_view y) ts rs ws (k + 1) (p + kept_size l (code_of a ts rs ws k p)) = hr ∙ (λ j. code_of (core_view (is j)) ts rs ws (k + 1) (p + kept_size l (hl j))) in
+      λ j. test_code (test_named n) l (hl j) (leaf_of (core_view (is j)) ws) (behind j) k
   method_of_one a n (y ∷ z ∷ items) x left right some few is hl hr = absurd (omega arith)
 
   pub method_of_others : (a : CoreTree) (n : List ℕ) (items : List Core) → 2 ≤ length items → no_code ≡ code_of (core.method a n (cores (map core_view items))) ts rs ws k p

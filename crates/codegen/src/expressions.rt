@@ -1,25 +1,46 @@
 //! The code of expressions.
 #![tactic(auto, unfolding(crate::specs::Code::Expressions::code_of, cel_measures::specs::Measures::need, cel_measures::specs::Measures::nodes))]
 
-ghost use Rattle.std.specs.Prelude.{◌≡◌, ◌≤◌, ◌+◌, ◌*◌, IfOk};
+ghost use Rattle.std.specs.Prelude.{◌≡◌, ◌≤◌, ◌+◌, ◌*◌, IfOk, IfSome};
 ghost use Rattle.std.specs.Prelude as list;
 ghost use Rattle.cel_macros.specs.CoreTree as core;
 ghost use Rattle.cel_macros.specs.CoreView.{core_view, cores, core_entries};
 ghost use Rattle.cel_macros.specs.Expanding.{core_pair};
 ghost use Rattle.cel_measures.specs.Measures.{nodes};
+ghost use Rattle.codegen_base.specs.Code.Calls.{kept_size as size_when_kept};
+ghost use Rattle.codegen_base.specs.Code.Leaves.{HasWord};
 ghost use Rattle.codegen_base.specs.Pieces.{size as size_of_piece};
+ghost use Rattle.codegen.specs.Code.Expressions as specs;
+ghost use Rattle.codegen.specs.FrameWords.{words_of, AreWords};
 ghost use Rattle.codegen.specs.Surroundings.{piece_of, HasRoom};
 
-use crate::code::calls::two;
+use crate::code::calls::{kept_size, operands as operands_code};
 use crate::code::{aggregates, folds, literals, logic, names, operators, selection, variables};
 use crate::frame_words::FrameWords;
 use crate::instructions::size;
+use crate::part::Part;
 use crate::spot::Spot;
 use crate::surroundings::Surroundings;
 use cel_macros::{Core, Macro};
 use cel_reader::BinaryOperator;
-use insn_codec::Insn;
+use codegen_base::helpers;
+use codegen_base::instructions::call as call_helper;
+use codegen_base::leaf::Leaf;
+use insn_codec::{Insn, Register};
 use std::alloc::{AllocError, Global};
+
+/// The leaf that an expression is.
+fn leaf_of(core: &Core, words: &FrameWords) -> Option<Leaf>
+    requires { AreWords (words_of words.now) }
+    ensures leaf { result ≡ specs.leaf_of (core_view core.now) (words_of words.now) }
+    ensures word { IfSome result HasWord }
+{
+    match core {
+        Core::Literal(literal) => literals::literal_leaf(literal),
+        Core::Name(name) => Some(names::name_leaf(name, words)),
+        _ => None,
+    }
+}
 
 /// A part, and how many slots it takes.
 #[cycle(code)]
@@ -41,29 +62,47 @@ fn part(
     Ok((code, slots))
 }
 
-/// Two operands, so many slots apart.
+/// An operand, which may be a leaf.
+#[cycle(code)]
+fn operand(
+    alloc: Global,
+    core: &Core,
+    around: &Surroundings,
+    words: &FrameWords,
+    spot: Spot,
+) -> Result<Part, AllocError>
+    requires { HasRoom (core_view core.now) words.now spot }
+    ensures leaf { IfOk result (λ part. part.leaf ≡ specs.leaf_of (core_view core.now) (words_of words.now)) }
+    ensures code { IfOk result (λ part. part.code.items ≡ piece_of (core_view core.now) around.now words.now spot) }
+    ensures short { IfOk result (λ part. size_of_piece part.code.items + 8 ≤ 63 * nodes (core_view core.now)) }
+{
+    let leaf = leaf_of(core, words);
+    let (code, _) = part(alloc, core, around, words, spot)?;
+    Ok(Part { leaf, code })
+}
+
+/// Two operands, of which the left one is kept while the right one is evaluated.
 #[cycle(code)]
 fn operands(
     alloc: Global,
     left: &Core,
     right: &Core,
-    apart: usize,
     around: &Surroundings,
     words: &FrameWords,
     spot: Spot,
-) -> Result<(Vec<Insn>, Vec<Insn>), AllocError>
-    requires room { HasRoom (core.index (core_view left.now) (core_view right.now)) words.now spot }
-    requires apart { apart ≤ 2 }
-    ensures left { IfOk result (λ code. code.0.items ≡ piece_of (core_view left.now) around.now words.now spot) }
-    ensures right { IfOk result (λ code. code.1.items ≡ piece_of (core_view right.now) around.now words.now (record { word = spot.word + 1; slot = spot.slot + size_of_piece code.0.items + apart })) }
-    ensures near { IfOk result (λ code. size_of_piece code.1.items ≤ 32256) }
+) -> Result<(Part, Part), AllocError>
+    requires { HasRoom (core.index (core_view left.now) (core_view right.now)) words.now spot }
+    ensures left { IfOk result (λ parts. parts.0.leaf ≡ specs.leaf_of (core_view left.now) (words_of words.now)) }
+    ensures left_code { IfOk result (λ parts. parts.0.code.items ≡ piece_of (core_view left.now) around.now words.now spot) }
+    ensures right { IfOk result (λ parts. parts.1.leaf ≡ specs.leaf_of (core_view right.now) (words_of words.now)) }
+    ensures right_code { IfOk result (λ parts. parts.1.code.items ≡ piece_of (core_view right.now) around.now words.now (record { word = spot.word + 1; slot = spot.slot + size_when_kept parts.0.leaf parts.0.code.items })) }
 {
-    let (first, slots) = part(alloc, left, around, words, spot)?;
+    let first = operand(alloc, left, around, words, spot)?;
     let behind = Spot {
         word: spot.word + 1,
-        slot: spot.slot + slots + apart,
+        slot: spot.slot + kept_size(&first),
     };
-    let (second, _) = part(alloc, right, around, words, behind)?;
+    let second = operand(alloc, right, around, words, behind)?;
     Ok((first, second))
 }
 
@@ -80,9 +119,10 @@ fn index(
     requires { HasRoom (core.index (core_view of.now) (core_view at.now)) words.now spot }
     ensures { IfOk result (λ code. code.items ≡ piece_of (core.index (core_view of.now) (core_view at.now)) around.now words.now spot) }
 {
-    let (left, right) = operands(alloc, of, at, 1, around, words, spot)?;
-    let tail = selection::index_tail(spot.word);
-    two(alloc, &left, &right, spot.word, &tail)
+    let (left, right) = operands(alloc, of, at, around, words, spot)?;
+    let mut code = operands_code(alloc, &left, &right, spot.word, Register::R1, Register::R2)?;
+    code.push(call_helper(helpers::INDEX))?;
+    Ok(code)
 }
 
 /// An operator of two operands.
@@ -99,9 +139,13 @@ fn binary(
     requires { HasRoom (core.binary op (core_view left.now) (core_view right.now)) words.now spot }
     ensures { IfOk result (λ code. code.items ≡ piece_of (core.binary op (core_view left.now) (core_view right.now)) around.now words.now spot) }
 {
-    let apart = operators::apart(op);
-    let (left, right) = operands(alloc, left, right, apart, around, words, spot)?;
-    operators::binary(alloc, op, &left, &right, spot.word)
+    let first = operand(alloc, left, around, words, spot)?;
+    let behind = Spot {
+        word: spot.word + 1,
+        slot: spot.slot + operators::left_size(op, &first),
+    };
+    let second = operand(alloc, right, around, words, behind)?;
+    operators::binary(alloc, op, &first, &second, spot.word)
 }
 
 /// A list.
@@ -175,8 +219,8 @@ fn call(
     ensures { IfOk result (λ code. code.items ≡ piece_of (core.call name.now (cores (list.map core_view arguments.now))) around.now words.now spot) }
 {
     match arguments {
-        [operand] => {
-            let of = code_of(alloc, operand, around, words, spot)?;
+        [argument] => {
+            let of = operand(alloc, argument, around, words, spot)?;
             names::function(alloc, name, &of)
         }
         _ => names::nothing(alloc),
@@ -199,11 +243,11 @@ fn method(
 {
     match arguments {
         [] => {
-            let of = code_of(alloc, of, around, words, spot)?;
+            let of = operand(alloc, of, around, words, spot)?;
             names::method(alloc, name, &of)
         }
         [argument] => {
-            let (left, right) = operands(alloc, of, argument, 1, around, words, spot)?;
+            let (left, right) = operands(alloc, of, argument, around, words, spot)?;
             names::test(alloc, name, &left, &right, spot.word)
         }
         _ => names::nothing(alloc),
@@ -308,19 +352,19 @@ pub(crate) fn code_of(
 {
     match core {
         Core::Literal(literal) => literals::literal(alloc, around.texts, literal),
-        Core::Name(name) => names::name(alloc, name, words),
+        Core::Name(name) => names::leaf(alloc, names::name_leaf(name, words)),
         Core::Variable(name) => variables::variable(alloc, name, around, spot.slot),
         Core::Select(of, field) => {
-            let of = code_of(alloc, of, around, words, spot)?;
+            let of = operand(alloc, of, around, words, spot)?;
             selection::select(alloc, &of, around.texts, field)
         }
         Core::Has(of, field) => {
-            let of = code_of(alloc, of, around, words, spot)?;
+            let of = operand(alloc, of, around, words, spot)?;
             selection::has(alloc, &of, around.texts, field)
         }
-        Core::Unary(op, operand) => {
-            let code = code_of(alloc, operand, around, words, spot)?;
-            operators::unary(alloc, *op, &code)
+        Core::Unary(op, of) => {
+            let of = operand(alloc, of, around, words, spot)?;
+            operators::unary(alloc, *op, &of)
         }
         Core::Index(of, at) => index(alloc, of, at, around, words, spot),
         Core::Binary(op, left, right) => binary(alloc, *op, left, right, around, words, spot),

@@ -4,7 +4,10 @@ ghost use Rattle.std.specs.Prelude.{◌≡◌, ◌<◌, ◌≤◌, ◌+◌};
 ghost use Rattle.codegen_base.specs.Instructions as specs;
 ghost use Rattle.codegen_base.specs.Words.{word_offset as offset_of_word};
 ghost use Rattle.codegen_base.specs.Pieces.{size as size_of_piece};
+ghost use Rattle.codegen_base.specs.Code.Leaves.{leaf_insn, HasWord};
 
+use codegen_base::instructions::put;
+use codegen_base::leaf::Leaf;
 use insn_codec::{AluOp, Comparison, Insn, Operand, Register, Size, Width};
 
 /// How many slots the instructions take.
@@ -38,6 +41,17 @@ pub(crate) fn load(register: Register, k: usize) -> Insn
         dst: register,
         src: Register::R10,
         offset: word_offset(k),
+    }
+}
+
+/// The register gets what the leaf names.
+pub(crate) fn leaf_into(leaf: Leaf, register: Register) -> Insn
+    requires { HasWord leaf }
+    ensures { result ≡ leaf_insn leaf register }
+{
+    match leaf {
+        Leaf::Reference(n) => put(register, n),
+        Leaf::Word(k) => load(register, k),
     }
 }
 

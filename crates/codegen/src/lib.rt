@@ -11,6 +11,7 @@ mod frame_words;
 mod instructions;
 mod laws;
 mod literals_fit;
+mod part;
 mod spot;
 mod surroundings;
 mod texts;

@@ -31,19 +31,16 @@ pub data Side : Type 0 where
 
 abbrev pub is_decides : Side → Bool
 is_decides Decides = true
-is_decides Leaves = false
-is_decides Neither = false
+is_decides _ = false
 
 abbrev pub is_leaves : Side → Bool
-is_leaves Decides = false
 is_leaves Leaves = true
-is_leaves Neither = false
+is_leaves _ = false
 
 -- a side that is neither truth is the error
 abbrev is_fine_by : Side → Bool → Bool
-is_fine_by Decides e = true
-is_fine_by Leaves e = true
 is_fine_by Neither e = e
+is_fine_by _ e = true
 
 -- what tests of a reference say of a side
 pub record Tested (decides other : ℤ) (side : Side) (r : ℕ) : Type 0 where
@@ -76,19 +73,17 @@ told_in c depth base r x b fits named = told b.values r x fits.values.table.stor
 
 pub decides_is : (side : Side) → is_decides side ≡ true → side ≡ Decides
 decides_is Decides e = refl
-decides_is Leaves e = absurd (cc)
-decides_is Neither e = absurd (cc)
+decides_is _ e = absurd (cc)
 
 module _ (decides other : ℤ) (f : ValueOrError → ValueOrError → ValueOrError) (op : Absorbing decides other f) (x y : ValueOrError) where
   of_answer : {z : ValueOrError} {side : Side} → f x y ≡ z → op.side z ≡ side → is_decides (op.side (f x y)) ≡ is_decides side
   of_answer e is = ap (λ (a : ValueOrError). is_decides (op.side a)) e ∙ ap is_decides is
 
   undecided_by : (t u : Side) → op.side x ≡ t → op.side y ≡ u → is_decides t ≡ false → is_decides u ≡ false → is_decides (op.side (f x y)) ≡ false
-  undecided_by Decides u is_left is_right early h = absurd (cc)
-  undecided_by Leaves Decides is_left is_right early h = absurd (cc)
   undecided_by Leaves Leaves is_left is_right early h = of_answer (op.both_leave x y is_left is_right) is_right
   undecided_by Leaves Neither is_left is_right early h = of_answer (op.right_neither x y (ap is_decides is_left) is_right) op.of_error
   undecided_by Neither u is_left is_right early h = of_answer (op.left_neither x y is_left (ap is_decides is_right ∙ h)) op.of_error
+  undecided_by _ _ is_left is_right early h = absurd (cc)
 
   -- where the left side does not decide, the answer does if the right side does
   pub right_tells : is_decides (op.side x) ≡ false → is_decides (op.side (f x y)) ≡ is_decides (op.side y)
@@ -108,12 +103,11 @@ module _ (decides other : ℤ) (f : ValueOrError → ValueOrError → ValueOrErr
 
   answer_by_sides : (t u : Side) → op.side x ≡ t → op.side y ≡ u → is_answer op x ≡ true → is_answer op (f x y) ≡ true
   answer_by_sides Decides u is_left is_right fine = ap (is_answer op) (op.left_decides x y is_left) ∙ fine
-  answer_by_sides Leaves Decides is_left is_right fine = ap (is_answer op) (op.right_decides x y is_right) ∙ ap (λ (side : Side). is_fine_by side (is_error y)) is_right
-  answer_by_sides Neither Decides is_left is_right fine = ap (is_answer op) (op.right_decides x y is_right) ∙ ap (λ (side : Side). is_fine_by side (is_error y)) is_right
-  answer_by_sides Leaves Leaves is_left is_right fine = ap (is_answer op) (left_stays fine (ap is_decides is_left) is_right) ∙ fine
-  answer_by_sides Neither Leaves is_left is_right fine = ap (is_answer op) (left_stays fine (ap is_decides is_left) is_right) ∙ fine
-  answer_by_sides Leaves Neither is_left is_right fine = ap (is_answer op) (op.right_neither x y (ap is_decides is_left) is_right) ∙ ap (λ (side : Side). is_fine_by side true) op.of_error
-  answer_by_sides Neither Neither is_left is_right fine = ap (is_answer op) (op.right_neither x y (ap is_decides is_left) is_right) ∙ ap (λ (side : Side). is_fine_by side true) op.of_error
+  answer_by_sides _ Leaves is_left is_right fine = ap (is_answer op) (left_stays fine (ap is_decides is_left) is_right) ∙ fine
+  answer_by_sides _ Decides is_left is_right fine =
+      ap (is_answer op) (op.right_decides x y is_right) ∙ ap (λ (side : Side). is_fine_by side (is_error y)) is_right
+  answer_by_sides _ Neither is_left is_right fine =
+      ap (is_answer op) (op.right_neither x y (ap is_decides is_left) is_right) ∙ ap (λ (side : Side). is_fine_by side true) op.of_error
 
   -- and an answer with it makes one
   pub answer_stays : is_answer op x ≡ true → is_answer op (f x y) ≡ true
@@ -152,11 +146,10 @@ module _ (decides other : ℤ) (f : ValueOrError → ValueOrError → ValueOrErr
       (done s (o + 5) _ _ (shows_registers c depth base b _ refl (f x y) fits (subst (Names b.values.values 0) (sym (op.right_neither x y (ap is_decides is_left) is_right)) (names_error b.values fits.values.table.store))))))
 
   answer_by : (t u : Side) → op.side x ≡ t → op.side y ≡ u → is_decides t ≡ false → is_decides u ≡ false → Answered
-  answer_by Decides u is_left is_right early h = absurd (cc)
-  answer_by Leaves Decides is_left is_right early h = absurd (cc)
   answer_by Leaves Leaves is_left is_right early h = both_runs is_left is_right
   answer_by Leaves Neither is_left is_right early h = right_runs is_left is_right
   answer_by Neither u is_left is_right early h = left_runs is_left (ap is_decides is_right ∙ h)
+  answer_by _ _ is_left is_right early h = absurd (cc)
 
   pub answer_runs : is_decides (op.side x) ≡ false → is_decides (op.side y) ≡ false → Answered
   answer_runs early h = answer_by (op.side x) (op.side y) refl refl early h

@@ -22,7 +22,6 @@ use Rattle.codegen_base.specs.Helpers.{join_of, joined_length}
 use Rattle.codegen_base.specs.Instructions as insn
 use Rattle.codegen_base.specs.Operators.{Combines}
 use Rattle.codegen_base.specs.Pieces.{Stands, size, slots}
-use Rattle.codegen_base.specs.Words.{word_at}
 use Rattle.codegen_base.proofs.Frames.{keeps_then, shows_registers}
 use Rattle.codegen_base.proofs.HelperAnswers.{helpers}
 use Rattle.codegen_base.proofs.Listings.{ask, mov}
@@ -41,54 +40,54 @@ int_fits c depth base r x z b fits named is = subst (IsResultBounded b.values.ch
 
 -- ---- operands that are to be ints, and a piece that ends with the error for others
 
-module _ (f : ℤ → ℤ → ValueOrError) (s : Setting) (p k off : ℕ) (tail : List Insn) (c : Context) (depth steps charge : ℕ) (x y : ValueOrError) (low : k < 64) (long : size tail ≡ off + 1) (error_at : slice_get (slots tail) off ≡ Some (Some (insn.put R0 (pos 0)))) (gives : (m n : ℤ) → OnInts s (p + 14) tail c depth k m n (f m n) steps charge) (has : Stands s.image.code p (int_operands k off ++ tail)) (b : Body) (fits : Fits c depth k b) (left : Names b.values.values (word_at depth k b) x) (right : Names b.values.values (b.registers R0) y) where
+module _ (f : ℤ → ℤ → ValueOrError) (s : Setting) (p k off : ℕ) (tail : List Insn) (c : Context) (depth steps charge : ℕ) (x y : ValueOrError) (long : size tail ≡ off + 1) (error_at : slice_get (slots tail) off ≡ Some (Some (insn.put R0 (pos 0)))) (gives : (m n : ℤ) → OnInts s (p + 12) tail c depth k m n (f m n) steps charge) (has : Stands s.image.code p (int_operands off ++ tail)) (b : Body) (fits : Fits c depth k b) (left : Names b.values.values (b.registers R6) x) (right : Names b.values.values (b.registers R7) y) where
   abbrev whole : ℕ
-  whole = p + size (int_operands k off ++ tail)
+  whole = p + size (int_operands off ++ tail)
 
-  has_operands : Stands s.image.code p (int_operands k off)
-  has_operands = stands_front s.image.code p (int_operands k off) tail has
+  has_operands : Stands s.image.code p (int_operands off)
+  has_operands = stands_front s.image.code p (int_operands off) tail has
 
-  has_tail : Stands s.image.code (p + 14) tail
-  has_tail = stands_back s.image.code p (int_operands k off) tail has
+  has_tail : Stands s.image.code (p + 12) tail
+  has_tail = stands_back s.image.code p (int_operands off) tail has
 
-  place : p + 14 + size tail ≡ whole
-  place = omega (arith, size-append (int_operands k off) tail)
+  place : p + 12 + size tail ≡ whole
+  place = omega (arith, size-append (int_operands off) tail)
 
-  of_others : (int_part x ≡ None) ⊎ (int_part y ≡ None) → Comes s (14 + steps) (4 + charge) p b whole (Shows c depth k error b)
+  of_others : (int_part x ≡ None) ⊎ (int_part y ≡ None) → Comes s (12 + steps) (4 + charge) p b whole (Shows c depth k error b)
   of_others none =
       to_place s whole place
-      (looser s {n = 8 + 1} {x = 2 + 0} (14 + steps) (4 + charge) (omega arith) (omega arith)
-      (and_then s 1 0 (p + 14 + size tail) (Shows c depth k error b) (are_others s c depth k p off low has_operands b fits x y left right (int_part x) (int_part y) refl refl none) (λ b1 g1.
-      from_place s (p + (14 + off)) (omega arith)
-      (to_place s (p + 14 + size tail) (omega arith)
+      (looser s {n = 6 + 1} {x = 2 + 0} (12 + steps) (4 + charge) (omega arith) (omega arith)
+      (and_then s 1 0 (p + 12 + size tail) (Shows c depth k error b) (are_others s c depth k p off has_operands b fits x y left right (int_part x) (int_part y) refl refl none) (λ b1 g1.
+      from_place s (p + (12 + off)) (omega arith)
+      (to_place s (p + 12 + size tail) (omega arith)
       (mov has_tail off error_at refl
-      (done s (p + 14 + (off + 1)) _ (Shows c depth k error b) (
+      (done s (p + 12 + (off + 1)) _ (Shows c depth k error b) (
       let shown = shows_registers c depth k b1 (set_register b1 R0 0).registers refl error g1.fitting (names_error b1.values g1.fitting.values.table.store) in
       record { shows = shown.shows; fits = shown.fits; keeps = keeps_then (omega arith) g1.keeps shown.keeps }
       )))))))
 
-  of_ints : (m n : ℤ) → int_part x ≡ Some m → int_part y ≡ Some n → Comes s (14 + steps) (4 + charge) p b whole (Shows c depth k (f m n) b)
+  of_ints : (m n : ℤ) → int_part x ≡ Some m → int_part y ≡ Some n → Comes s (12 + steps) (4 + charge) p b whole (Shows c depth k (f m n) b)
   of_ints m n is_x is_y =
       to_place s whole place
-      (and_then s steps charge (p + 14 + size tail) (Shows c depth k (f m n) b) (are_ints s c depth k p off low has_operands b fits x y left right m n is_x is_y) (λ b1 g1.
+      (and_then s steps charge (p + 12 + size tail) (Shows c depth k (f m n) b) (are_ints s c depth k p off has_operands b fits x y left right m n is_x is_y) (λ b1 g1.
       into s (Shows c depth k (f m n) b) (λ b2 g2. record { shows = g2.shows; fits = g2.fits; keeps = keeps_then (omega arith) g1.keeps g2.keeps })
-      ((gives m n).runs b1 has_tail g1.fitting g1.first g1.second (int_fits c depth k (word_at depth k b) x m b fits left is_x) (int_fits c depth k (b.registers R0) y n b fits right is_y))))
+      ((gives m n).runs b1 has_tail g1.fitting g1.first g1.second (int_fits c depth k (b.registers R6) x m b fits left is_x) (int_fits c depth k (b.registers R7) y n b fits right is_y))))
 
-  by_parts : (m n : Option ℤ) → int_part x ≡ m → int_part y ≡ n → Comes s (14 + steps) (4 + charge) p b whole (Shows c depth k (on_ints f m n) b)
+  by_parts : (m n : Option ℤ) → int_part x ≡ m → int_part y ≡ n → Comes s (12 + steps) (4 + charge) p b whole (Shows c depth k (on_ints f m n) b)
   by_parts (Some m) (Some n) is_x is_y = of_ints m n is_x is_y
   by_parts (Some m) None is_x is_y = of_others (inr is_y)
   by_parts None n is_x is_y = of_others (inl is_x)
 
-  pub ints_run : Comes s (14 + steps) (4 + charge) p b whole (Shows c depth k (on_ints f (int_part x) (int_part y)) b)
+  pub ints_run : Comes s (12 + steps) (4 + charge) p b whole (Shows c depth k (on_ints f (int_part x) (int_part y)) b)
   ints_run = by_parts (int_part x) (int_part y) refl refl
 
 -- a piece for two ints makes a piece for any operands
-pub ints_give : (f : ℤ → ℤ → ValueOrError) (s : Setting) (p k off : ℕ) (tail : List Insn) (c : Context) (depth steps charge : ℕ) (x y : ValueOrError) → k < 64 → size tail ≡ off + 1 → slice_get (slots tail) off ≡ Some (Some (insn.put R0 (pos 0))) → ((m n : ℤ) → OnInts s (p + 14) tail c depth k m n (f m n) steps charge) → Combines s p (int_operands k off ++ tail) c depth k x y (on_ints f (int_part x) (int_part y)) (14 + steps) (4 + charge)
-ints_give f s p k off tail c depth steps charge x y low long error_at gives = record { runs = λ b has fits left right. ints_run f s p k off tail c depth steps charge x y low long error_at gives has b fits left right }
+pub ints_give : (f : ℤ → ℤ → ValueOrError) (s : Setting) (p k off : ℕ) (tail : List Insn) (c : Context) (depth steps charge : ℕ) (x y : ValueOrError) → size tail ≡ off + 1 → slice_get (slots tail) off ≡ Some (Some (insn.put R0 (pos 0))) → ((m n : ℤ) → OnInts s (p + 12) tail c depth k m n (f m n) steps charge) → Combines s p (int_operands off ++ tail) R6 R7 c depth k x y (on_ints f (int_part x) (int_part y)) (12 + steps) (4 + charge)
+ints_give f s p k off tail c depth steps charge x y long error_at gives = record { runs = λ b has fits left right. ints_run f s p k off tail c depth steps charge x y long error_at gives has b fits left right }
 
-pub difference_gives : TailGives difference_code difference_of 21 5
+pub difference_gives : TailGives difference_code R6 R7 difference_of 19 5
 difference_gives s p k c depth x y low =
-    ints_give difference s p k 8 difference_tail c depth 7 1 x y low refl refl (λ m n. difference_runs s (p + 14) c depth k m n (omega arith))
+    ints_give difference s p k 8 difference_tail c depth 7 1 x y refl refl (λ m n. difference_runs s (p + 12) c depth k m n (omega arith))
 
 -- ---- `+`
 
@@ -136,56 +135,56 @@ sum_is (value (list is)) y none = list_sum is y
 sum_is (value (map es)) error none = refl
 sum_is (value (map es)) (value v) none = refl
 
-module _ (s : Setting) (p k : ℕ) (c : Context) (depth : ℕ) (x y : ValueOrError) (low : k < 64) (has : Stands s.image.code p (sum_code k)) (b : Body) (fits : Fits c depth k b) (left : Names b.values.values (word_at depth k b) x) (right : Names b.values.values (b.registers R0) y) where
+module _ (s : Setting) (p k : ℕ) (c : Context) (depth : ℕ) (x y : ValueOrError) (low : k < 64) (has : Stands s.image.code p sum_code) (b : Body) (fits : Fits c depth k b) (left : Names b.values.values (b.registers R6) x) (right : Names b.values.values (b.registers R7) y) where
   abbrev rest : List Insn
   rest = sum_tail ++ insn.skip 3 ∷ insn.copy R1 R6 ∷ insn.copy R2 R7 ∷ Call (pos 11) ∷ []
 
   abbrev cost : ℕ
   cost = 5 + joined_length (joined (Some x) (Some y))
 
-  has_both : Stands s.image.code p (int_operands k 10)
-  has_both = stands_front s.image.code p (int_operands k 10) rest has
+  has_both : Stands s.image.code p (int_operands 10)
+  has_both = stands_front s.image.code p (int_operands 10) rest has
 
-  has_rest : Stands s.image.code (p + 14) rest
-  has_rest = stands_back s.image.code p (int_operands k 10) rest has
+  has_rest : Stands s.image.code (p + 12) rest
+  has_rest = stands_back s.image.code p (int_operands 10) rest has
 
-  of_joined : (int_part x ≡ None) ⊎ (int_part y ≡ None) → Comes s 22 cost p b (p + 27) (Shows c depth k (sum_of x y) b)
+  of_joined : (int_part x ≡ None) ⊎ (int_part y ≡ None) → Comes s 20 cost p b (p + 25) (Shows c depth k (sum_of x y) b)
   of_joined none =
-      looser s {n = 8 + 3} {x = 2 + (1 + joined_length (joined (Some x) (Some y)) + 0)} 22 cost (omega arith) (omega arith)
-      (and_then s 3 (1 + joined_length (joined (Some x) (Some y)) + 0) (p + 27) (Shows c depth k (sum_of x y) b) (are_others s c depth k p 10 low has_both b fits x y left right (int_part x) (int_part y) refl refl none) (λ b1 g1.
+      looser s {n = 6 + 3} {x = 2 + (1 + joined_length (joined (Some x) (Some y)) + 0)} 20 cost (omega arith) (omega arith)
+      (and_then s 3 (1 + joined_length (joined (Some x) (Some y)) + 0) (p + 25) (Shows c depth k (sum_of x y) b) (are_others s c depth k p 10 has_both b fits x y left right (int_part x) (int_part y) refl refl none) (λ b1 g1.
       let asks = set_register (set_register b1 R1 (b1.registers R6)) R2 (b1.registers R7) in
       let fits1 = g1.fitting in
       let a = helpers.join c.environment.roots asks x y fits1.values g1.first g1.second in
       let last = answered asks a.word a.list (b1.values.charge + (1 + joined_length (joined (Some x) (Some y)))) in
-      from_place s (p + (14 + 10)) (omega arith)
+      from_place s (p + (12 + 10)) (omega arith)
       (mov has_rest 10 refl refl
       (mov has_rest 11 refl refl
       (ask has_rest 12 refl a.answers (λ paid.
-      to_place s (p + 27) (omega arith)
-      (done s (p + 14 + 13) last (Shows c depth k (sum_of x y) b) (
+      to_place s (p + 25) (omega arith)
+      (done s (p + 12 + 13) last (Shows c depth k (sum_of x y) b) (
       let shown = shows_placed c depth k (pos 11) (join_of x y) (1 + joined_length (joined (Some x) (Some y))) b1 asks.registers (omega arith) refl fits1 a paid in
       record { shows = subst (Names last.values.values (last.registers R0)) (sym (sum_is x y none)) shown.shows; fits = shown.fits; keeps = keeps_then (omega arith) g1.keeps shown.keeps }
       ))))))))
 
-  of_summed : (m n : ℤ) → int_part x ≡ Some m → int_part y ≡ Some n → Comes s 22 cost p b (p + 27) (Shows c depth k (int_or_error (m +ℤ n)) b)
+  of_summed : (m n : ℤ) → int_part x ≡ Some m → int_part y ≡ Some n → Comes s 20 cost p b (p + 25) (Shows c depth k (int_or_error (m +ℤ n)) b)
   of_summed m n is_x is_y =
       let Q = Shows c depth k (int_or_error (m +ℤ n)) b in
-      looser s {n = 14 + (7 + 1)} {x = 4 + (1 + 0)} 22 cost (omega arith) (omega arith)
-      (and_then s (7 + 1) (1 + 0) (p + 27) Q (are_ints s c depth k p 10 low has_both b fits x y left right m n is_x is_y) (λ b1 g1.
-      and_then s 1 0 (p + 27) Q ((sum_runs s (p + 14) c depth k m n (omega arith)).runs b1 (stands_front s.image.code (p + 14) sum_tail _ has_rest) g1.fitting g1.first g1.second (int_fits c depth k (word_at depth k b) x m b fits left is_x) (int_fits c depth k (b.registers R0) y n b fits right is_y)) (λ b2 g2.
-      step.jump s (p + 14 + 9) (p + 27) b2 (pos 3) (has_rest.here 9 _ refl) (omega (arith, ints))
-      (done s (p + 27) b2 Q (record { shows = g2.shows; fits = g2.fits; keeps = keeps_then (omega arith) g1.keeps g2.keeps })))))
+      looser s {n = 12 + (7 + 1)} {x = 4 + (1 + 0)} 20 cost (omega arith) (omega arith)
+      (and_then s (7 + 1) (1 + 0) (p + 25) Q (are_ints s c depth k p 10 has_both b fits x y left right m n is_x is_y) (λ b1 g1.
+      and_then s 1 0 (p + 25) Q ((sum_runs s (p + 12) c depth k m n (omega arith)).runs b1 (stands_front s.image.code (p + 12) sum_tail _ has_rest) g1.fitting g1.first g1.second (int_fits c depth k (b.registers R6) x m b fits left is_x) (int_fits c depth k (b.registers R7) y n b fits right is_y)) (λ b2 g2.
+      step.jump s (p + 12 + 9) (p + 25) b2 (pos 3) (has_rest.here 9 _ refl) (omega (arith, ints))
+      (done s (p + 25) b2 Q (record { shows = g2.shows; fits = g2.fits; keeps = keeps_then (omega arith) g1.keeps g2.keeps })))))
 
-  by_addends : (m n : Option ℤ) → int_part x ≡ m → int_part y ≡ n → Comes s 22 cost p b (p + 27) (Shows c depth k (sum_of x y) b)
+  by_addends : (m n : Option ℤ) → int_part x ≡ m → int_part y ≡ n → Comes s 20 cost p b (p + 25) (Shows c depth k (sum_of x y) b)
   by_addends (Some m) (Some n) is_x is_y =
-      subst (λ (z : ValueOrError). Comes s 22 cost p b (p + 27) (Shows c depth k z b)) (sym (ap (λ (u : ValueOrError). sum_of u y) (int_is x m is_x) ∙ ap (sum_of (value (int m))) (int_is y n is_y))) (of_summed m n is_x is_y)
+      subst (λ (z : ValueOrError). Comes s 20 cost p b (p + 25) (Shows c depth k z b)) (sym (ap (λ (u : ValueOrError). sum_of u y) (int_is x m is_x) ∙ ap (sum_of (value (int m))) (int_is y n is_y))) (of_summed m n is_x is_y)
   by_addends (Some m) None is_x is_y = of_joined (inr is_y)
   by_addends None n is_x is_y = of_joined (inl is_x)
 
-  pub sum_run : Comes s 22 cost p b (p + 27) (Shows c depth k (sum_of x y) b)
+  pub sum_run : Comes s 20 cost p b (p + 25) (Shows c depth k (sum_of x y) b)
   sum_run = by_addends (int_part x) (int_part y) refl refl
 
-pub sum_gives : (s : Setting) (p k : ℕ) (c : Context) (depth : ℕ) (x y : ValueOrError) → k < 64 → Combines s p (sum_code k) c depth k x y (sum_of x y) 22 (5 + joined_length (joined (Some x) (Some y)))
+pub sum_gives : (s : Setting) (p k : ℕ) (c : Context) (depth : ℕ) (x y : ValueOrError) → k < 64 → Combines s p sum_code R6 R7 c depth k x y (sum_of x y) 20 (5 + joined_length (joined (Some x) (Some y)))
 sum_gives s p k c depth x y low = record { runs = λ b has fits left right. sum_run s p k c depth x y low has b fits left right }
 
 pub additions_give : AdditionsGive

@@ -1,22 +1,24 @@
 -- The code of comparisons and of membership gives their meaning.
-use Rattle.std.proofs.Common.{◌≡◌, ℕ, ◌+◌, ◌<◌, List, Option, Some, None, Bool, true, false, not, refl, subst, arith}
+use Rattle.std.proofs.Common.{◌≡◌, ℕ, ◌+◌, ◌<◌, List, ◌∷◌, Option, Some, None, Bool, true, false, not, refl, subst, arith}
 use Rattle.std.specs.Prelude.{pos, option_map}
 use Rattle.insn_codec.specs.declared.insn.Insn.{Insn}
+use Rattle.insn_codec.specs.declared.register.Register.{Register}
+use Rattle.insn_codec.specs.declared.register.Register.TheVariants.{R0, R1, R2}
 use Rattle.value_store.specs.Equality.{equal}
 use Rattle.value_store.specs.Order.{less}
 use Rattle.value_store.specs.Value.{ValueOrError, error, value}
 use Rattle.cel_macros.specs.Comparison.{equal_of, greater_equal_of, greater_of, less_equal_of, less_of, member_of, truth_or_error, unequal_of}
 use Rattle.cel_macros.specs.Logic.{not_of}
-use Rattle.codegen_base.specs.Code.Comparison.{equal_tail, greater_equal_tail, greater_tail, less_equal_tail, less_tail, opposite_of, unequal_tail}
+use Rattle.codegen_base.specs.Code.Comparison.{equal_tail, less_tail, not_less_tail, opposite_of, unequal_tail}
 use Rattle.codegen_base.specs.Code.Logic.{not_tail}
 use Rattle.codegen_base.specs.Contexts.{Context}
 use Rattle.codegen_base.specs.Engine.{Setting}
 use Rattle.codegen_base.specs.Gives.Comparison.{ComparisonGives, TailGives}
+use Rattle.codegen_base.specs.Instructions.{copy}
 use Rattle.codegen_base.specs.Operators.{Combines}
 use Rattle.codegen_base.specs.Pieces.{size}
 use Rattle.codegen_base.proofs.HelperAnswers.{helpers}
-use Rattle.codegen_base.proofs.Logic.{logic_gives}
-use Rattle.codegen_base.proofs.Operators.{calls_give, combines_then}
+use Rattle.codegen_base.proofs.Operators.{call_on_result, calls_give, combines_then}
 
 -- the opposite of a test's answer
 not_test : (o : Option Bool) → not_of (truth_or_error o) ≡ truth_or_error (option_map not o)
@@ -47,28 +49,28 @@ greater_equal_is (value v) error = refl
 greater_equal_is (value v) (value w) = not_test (less v w)
 
 -- a tail whose meaning has another form
-same_tail : (s : Setting) (p k : ℕ) (tail : List Insn) (c : Context) (depth : ℕ) (x y z w : ValueOrError) (n m : ℕ) → z ≡ w → Combines s p tail c depth k x y z n m → Combines s p tail c depth k x y w n m
-same_tail s p k tail c depth x y z w n m e h = subst (λ (v : ValueOrError). Combines s p tail c depth k x y v n m) e h
+same_tail : (s : Setting) (p k : ℕ) (tail : List Insn) (r q : Register) (c : Context) (depth : ℕ) (x y z w : ValueOrError) (n m : ℕ) → z ≡ w → Combines s p tail r q c depth k x y z n m → Combines s p tail r q c depth k x y w n m
+same_tail s p k tail r q c depth x y z w n m e h = subst (λ (v : ValueOrError). Combines s p tail r q c depth k x y v n m) e h
 
-opposite_gives : (s : Setting) (p k : ℕ) (tail : List Insn) (c : Context) (depth : ℕ) (x y z : ValueOrError) → k < 64 → Combines s p tail c depth k x y z 3 1 → Combines s p (opposite_of tail) c depth k x y (not_of z) 5 2
-opposite_gives s p k tail c depth x y z low h = combines_then s p k tail not_tail c depth x y z (not_of z) 3 1 2 1 h (logic_gives.not s (p + size tail) c depth k z (omega arith))
+opposite_gives : (s : Setting) (p k : ℕ) (tail : List Insn) (r q : Register) (c : Context) (depth : ℕ) (x y z : ValueOrError) → k < 64 → Combines s p tail r q c depth k x y z 1 1 → Combines s p (opposite_of tail) r q c depth k x y (not_of z) 3 2
+opposite_gives s p k tail r q c depth x y z low h = combines_then s p k tail (copy R1 R0 ∷ not_tail) r q c depth x y z (not_of z) 1 1 2 1 h (call_on_result s (p + size tail) (pos 23) not_of c depth k z (omega arith) helpers.not)
 
-equal_gives : TailGives equal_tail equal_of 3 1
+equal_gives : TailGives equal_tail R1 R2 equal_of 1 1
 equal_gives s p k c depth x y low = calls_give.two s p k (pos 9) equal_of c depth x y low helpers.equal
 
-less_gives : TailGives less_tail less_of 3 1
+less_gives : TailGives less_tail R1 R2 less_of 1 1
 less_gives s p k c depth x y low = calls_give.two s p k (pos 10) less_of c depth x y low helpers.less
 
-swapped_gives : (s : Setting) (p k : ℕ) (c : Context) (depth : ℕ) (x y : ValueOrError) → k < 64 → Combines s p (greater_tail k) c depth k x y (less_of y x) 3 1
+swapped_gives : (s : Setting) (p k : ℕ) (c : Context) (depth : ℕ) (x y : ValueOrError) → k < 64 → Combines s p less_tail R2 R1 c depth k x y (less_of y x) 1 1
 swapped_gives s p k c depth x y low = calls_give.swapped s p k (pos 10) less_of c depth x y low helpers.less
 
 pub comparison_gives : ComparisonGives
 comparison_gives = record {
   equal = equal_gives;
-  unequal = λ s p k c depth x y low. same_tail s p k (unequal_tail k) c depth x y _ _ 5 2 (unequal_is x y) (opposite_gives s p k (equal_tail k) c depth x y _ low (equal_gives s p k c depth x y low));
+  unequal = λ s p k c depth x y low. same_tail s p k unequal_tail R1 R2 c depth x y _ _ 3 2 (unequal_is x y) (opposite_gives s p k equal_tail R1 R2 c depth x y _ low (equal_gives s p k c depth x y low));
   less = less_gives;
-  less_equal = λ s p k c depth x y low. same_tail s p k (less_equal_tail k) c depth x y _ _ 5 2 (less_equal_is x y) (opposite_gives s p k (greater_tail k) c depth x y _ low (swapped_gives s p k c depth x y low));
-  greater = λ s p k c depth x y low. same_tail s p k (greater_tail k) c depth x y _ _ 3 1 (greater_is x y) (swapped_gives s p k c depth x y low);
-  greater_equal = λ s p k c depth x y low. same_tail s p k (greater_equal_tail k) c depth x y _ _ 5 2 (greater_equal_is x y) (opposite_gives s p k (less_tail k) c depth x y _ low (less_gives s p k c depth x y low));
+  less_equal = λ s p k c depth x y low. same_tail s p k not_less_tail R2 R1 c depth x y _ _ 3 2 (less_equal_is x y) (opposite_gives s p k less_tail R2 R1 c depth x y _ low (swapped_gives s p k c depth x y low));
+  greater = λ s p k c depth x y low. same_tail s p k less_tail R2 R1 c depth x y _ _ 1 1 (greater_is x y) (swapped_gives s p k c depth x y low);
+  greater_equal = λ s p k c depth x y low. same_tail s p k not_less_tail R1 R2 c depth x y _ _ 3 2 (greater_equal_is x y) (opposite_gives s p k less_tail R1 R2 c depth x y _ low (less_gives s p k c depth x y low));
   member = λ s p k c depth x y low. calls_give.two s p k (pos 15) member_of c depth x y low helpers.member;
 }

@@ -1,6 +1,6 @@
 -- What each instruction makes of a body.
 use Rattle.std.proofs.Common.{◌≡◌, ℕ, ◌+◌, ◌%◌, ◌^◌, Some, refl, ap, ◌∙◌, arith, true, false}
-use Rattle.std.specs.Prelude.{ℤ, pos, ◌+ℤ◌, slice_index, slice_set, bit_xor, not, if◌then◌else◌}
+use Rattle.std.specs.Prelude.{ℤ, pos, ◌+ℤ◌, slice_index, slice_set, not, if◌then◌else◌}
 use Rattle.std.proofs.lemmas.Bool.{eq-eqb, eqb-true, ne_eqb}
 use Rattle.bpf_word.specs.Arithmetic.{alu64_of, operated}
 use Rattle.bpf_word.specs.Comparisons.{holds_of}
@@ -14,7 +14,7 @@ use Rattle.insn_codec.specs.declared.insn.Insn.{Insn}
 use Rattle.insn_codec.specs.declared.operand.Operand.{Operand}
 use Rattle.insn_codec.specs.declared.operand.Operand.TheVariants.{Imm, Reg}
 use Rattle.insn_codec.specs.declared.register.Register.{Register}
-use Rattle.insn_codec.specs.declared.register.Register.TheVariants.{R0, R1, R2, R3, R4, R5, R6, R7, R8, R9, R10}
+use Rattle.insn_codec.specs.declared.register.Register.TheVariants.{R0}
 use Rattle.insn_codec.specs.declared.width.Width.{Width}
 use Rattle.loader.specs.Contents.{Contents}
 use Rattle.bpf_machine.specs.Access.{load_wide_row}
@@ -29,29 +29,11 @@ use Rattle.codegen_base.specs.Body.{Body, at, register_words, put_register, set_
 
 index_words : (word : Register → ℕ) (r : Register) → slice_index (register_words word) (register_number r) ≡ word r
 index_words word R0 = refl
-index_words word R1 = refl
-index_words word R2 = refl
-index_words word R3 = refl
-index_words word R4 = refl
-index_words word R5 = refl
-index_words word R6 = refl
-index_words word R7 = refl
-index_words word R8 = refl
-index_words word R9 = refl
-index_words word R10 = refl
+index_words word _ = refl
 
 set_words : (word : Register → ℕ) (r : Register) (w : ℕ) → slice_set (register_words word) (register_number r) w ≡ register_words (put_register word r w)
 set_words word R0 w = refl
-set_words word R1 w = refl
-set_words word R2 w = refl
-set_words word R3 w = refl
-set_words word R4 w = refl
-set_words word R5 w = refl
-set_words word R6 w = refl
-set_words word R7 w = refl
-set_words word R8 w = refl
-set_words word R9 w = refl
-set_words word R10 w = refl
+set_words word _ w = refl
 
 module _ (image : Contents) (p : ℕ) (b : Body) where
   pub operand_is : (operand : Operand) → operand_word operand (at image p b) ≡ operand_in operand b
@@ -68,14 +50,16 @@ module _ (image : Contents) (p : ℕ) (b : Body) where
   pub result_is : (dst : Register) (w : ℕ) → is_frame_pointer dst ≡ false → result_in dst w (at image p b) ≡ at image (p + 1) (set_register b dst w)
   result_is dst w free = rw free (register_set (p + 1) dst w)
 
-  pub alu_does : (op : AluOp) (width : Width) (dst : Register) (operand : Operand) → is_frame_pointer dst ≡ false → alu_row op width dst operand (at image p b) ≡ at image (p + 1) (set_register b dst (alu_result width op (b.registers dst) (operand_in operand b)))
+  pub alu_does : (op : AluOp) (width : Width) (dst : Register) (operand : Operand) → is_frame_pointer dst ≡ false
+      → alu_row op width dst operand (at image p b) ≡ at image (p + 1) (set_register b dst (alu_result width op (b.registers dst) (operand_in operand b)))
   unfolding alu_row
   alu_does op width dst operand free =
       ap (λ (w : ℕ). result_in dst (alu_result width op w (operand_word operand (at image p b))) (at image p b)) (index_words b.registers dst)
       ∙ ap (λ (w : ℕ). result_in dst (alu_result width op (b.registers dst) w) (at image p b)) (operand_is operand)
       ∙ result_is dst _ free
 
-  pub load_wide_does : (dst : Register) (value : ℕ) → is_frame_pointer dst ≡ false → load_wide_row dst value (at image p b) ≡ at image (p + 2) (set_register b dst value)
+  pub load_wide_does : (dst : Register) (value : ℕ) → is_frame_pointer dst ≡ false
+      → load_wide_row dst value (at image p b) ≡ at image (p + 2) (set_register b dst value)
   unfolding load_wide_row
   load_wide_does dst value free =
       let two : p + 1 + 1 ≡ p + 2 = omega arith in
@@ -99,10 +83,6 @@ mov_is dst operand = refl
 pub add_is : (dst operand : ℕ) → alu_result W64 op.Add dst operand ≡ (dst + operand) % 2 ^ 64
 unfolding alu64_of operated
 add_is dst operand = refl
-
-pub xor_is : (dst operand : ℕ) → alu_result W64 op.Xor dst operand ≡ bit_xor dst operand
-unfolding alu64_of operated
-xor_is dst operand = refl
 
 -- what comparisons of whole words say
 pub equal_yes : (left right : ℕ) → left ≡ right → compares W64 Eq left right ≡ true

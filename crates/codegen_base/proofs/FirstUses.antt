@@ -18,7 +18,8 @@ use Rattle.codegen_base.specs.Programs.{total}
 -- ---- sums
 
 module _ (cost : FirstUse → ℕ) where
-  cost-append : (test : ℕ → FirstUse → Bool) (i : ℕ) (vs more : List FirstUse) → cost_where test cost i (vs ++ more) ≡ cost_where test cost i vs + cost_where test cost (i + length vs) more
+  cost-append : (test : ℕ → FirstUse → Bool) (i : ℕ) (vs more : List FirstUse)
+      → cost_where test cost i (vs ++ more) ≡ cost_where test cost i vs + cost_where test cost (i + length vs) more
   unfolding cost_where
   cost-append test i [] more =
       let e : i + 0 ≡ i = omega arith in
@@ -30,12 +31,15 @@ module _ (cost : FirstUse → ℕ) where
       let moved = ap (λ (j : ℕ). cost_where test cost j more) e in
       omega arith
 
-  cost-less : (f g : ℕ → FirstUse → Bool) → ((i : ℕ) (v : FirstUse) → (if f i v then cost v else 0) ≤ (if g i v then cost v else 0)) → (i : ℕ) (vs : List FirstUse) → cost_where f cost i vs ≤ cost_where g cost i vs
+  cost-less : (f g : ℕ → FirstUse → Bool) → ((i : ℕ) (v : FirstUse) → (if f i v then cost v else 0) ≤ (if g i v then cost v else 0))
+      → (i : ℕ) (vs : List FirstUse) → cost_where f cost i vs ≤ cost_where g cost i vs
   unfolding cost_where
   cost-less f g le i [] = omega arith
   cost-less f g le i (v ∷ vs) = let here = le i v in let rest = cost-less f g le (suc i) vs in omega arith
 
-  cost-both : (f g h : ℕ → FirstUse → Bool) → ((i : ℕ) (v : FirstUse) → (if f i v then cost v else 0) + (if g i v then cost v else 0) ≤ (if h i v then cost v else 0)) → (i : ℕ) (vs : List FirstUse) → cost_where f cost i vs + cost_where g cost i vs ≤ cost_where h cost i vs
+  cost-both : (f g h : ℕ → FirstUse → Bool)
+      → ((i : ℕ) (v : FirstUse) → (if f i v then cost v else 0) + (if g i v then cost v else 0) ≤ (if h i v then cost v else 0)) → (i : ℕ) (vs : List FirstUse)
+      → cost_where f cost i vs + cost_where g cost i vs ≤ cost_where h cost i vs
   unfolding cost_where
   cost-both f g h le i [] = omega arith
   cost-both f g h le i (v ∷ vs) = let here = le i v in let rest = cost-both f g h le (suc i) vs in omega arith
@@ -54,24 +58,18 @@ module _ (cost : FirstUse → ℕ) where
 -- the words of a memo at the start, in between and at the end
 both_stretches : (start between end open_now : Bool) (n : ℕ) → (between ≡ true → start ≡ true) → (end ≡ true → between ≡ true)
     → (if start && (not between || false) then n else 0) + (if between && (not end || open_now) then n else 0) ≤ (if start && (not end || open_now) then n else 0)
-both_stretches true true end open_now n first second = omega arith
 both_stretches false true end open_now n first second = absurd (true≢false (sym (first refl)))
 both_stretches start false true open_now n first second = absurd (true≢false (sym (second refl)))
-both_stretches true false false open_now n first second = omega arith
-both_stretches false false false open_now n first second = omega arith
+both_stretches _ _ _ open_now n first second = omega arith
 
-more_open : (start end few more : Bool) (n : ℕ) → (few ≡ true → more ≡ true) → (if start && (not end || few) then n else 0) ≤ (if start && (not end || more) then n else 0)
-more_open false end few more n grows = omega arith
-more_open true false few more n grows = omega arith
-more_open true true true true n grows = omega arith
-more_open true true false more n grows = omega arith
+more_open : (start end few more : Bool) (n : ℕ) → (few ≡ true → more ≡ true)
+    → (if start && (not end || few) then n else 0) ≤ (if start && (not end || more) then n else 0)
 more_open true true true false n grows = absurd (true≢false (sym (grows refl)))
+more_open _ _ _ _ n grows = omega arith
 
 only_empty : (start end open_now : Bool) (n : ℕ) → (if start && (not end || open_now) then n else 0) ≤ (if start then n else 0)
-only_empty false end open_now n = omega arith
-only_empty true false open_now n = omega arith
 only_empty true true true n = omega arith
-only_empty true true false n = omega arith
+only_empty _ _ _ n = omega arith
 
 still_empty : (old new : List ℕ) → StayFilled old new → (i : ℕ) → nat_eq (word_in new i) 0 ≡ true → nat_eq (word_in old i) 0 ≡ true
 still_empty old new stay i e = eq-eqb (word_in old i) 0 (stay i (eqb-true (word_in new i) 0 e))
@@ -84,11 +82,13 @@ none_first false open_now n none = refl
 
 module _ (image : Contents) (variables : List FirstUse) (cost : FirstUse → ℕ) where
   -- what is first used in a stretch is not first used in the next one
-  pub uses-join : (old between new : List ℕ) (calls : List Frame) → StayFilled old between → StayFilled between new → first_uses image variables cost old between [] + first_uses image variables cost between new calls ≤ first_uses image variables cost old new calls
+  pub uses-join : (old between new : List ℕ) (calls : List Frame) → StayFilled old between → StayFilled between new
+      → first_uses image variables cost old between [] + first_uses image variables cost between new calls ≤ first_uses image variables cost old new calls
   uses-join old between new calls first second =
       cost-both cost _ _ _ (λ i v. both_stretches (nat_eq (word_in old i) 0) (nat_eq (word_in between i) 0) (nat_eq (word_in new i) 0) (is_open image v.routine calls) (cost v) (still_empty old between first i) (still_empty between new second i)) 0 variables
 
-  pub uses-more_calls : (old new : List ℕ) (f : Frame) (calls : List Frame) → first_uses image variables cost old new calls ≤ first_uses image variables cost old new (f ∷ calls)
+  pub uses-more_calls : (old new : List ℕ) (f : Frame) (calls : List Frame)
+      → first_uses image variables cost old new calls ≤ first_uses image variables cost old new (f ∷ calls)
   uses-more_calls old new f calls =
       cost-less cost _ _ (λ i v. more_open (nat_eq (word_in old i) 0) (nat_eq (word_in new i) 0) (is_open image v.routine calls) (is_open image v.routine (f ∷ calls)) (cost v) (or_right (is_call_of v.routine f.return_pc (fetched image.code (f.return_pc +ℤ negsuc 0))) (is_open image v.routine calls))) 0 variables
     where
@@ -107,24 +107,29 @@ module _ (image : Contents) (variables : List FirstUse) (cost : FirstUse → ℕ
   uses-most old new calls = cost-total cost _ 0 variables
 
   -- more variables take no less
-  pub uses-more : (more : List FirstUse) (old new : List ℕ) (calls : List Frame) → first_uses image variables cost old new calls ≤ first_uses image (variables ++ more) cost old new calls
+  pub uses-more : (more : List FirstUse) (old new : List ℕ) (calls : List Frame)
+      → first_uses image variables cost old new calls ≤ first_uses image (variables ++ more) cost old new calls
   uses-more more old new calls =
       let split = cost-append cost (λ i v. is_first_use (word_in old i) (word_in new i) (is_open image v.routine calls)) 0 variables more in
       omega arith
 
   -- one that is first used behind these is paid
-  pub uses-with : (v : FirstUse) (later : List FirstUse) (old new : List ℕ) (calls : List Frame) → is_first_use (word_in old (length variables)) (word_in new (length variables)) (is_open image v.routine calls) ≡ true → first_uses image variables cost old new calls + cost v ≤ first_uses image (variables ++ v ∷ later) cost old new calls
+  pub uses-with : (v : FirstUse) (later : List FirstUse) (old new : List ℕ) (calls : List Frame)
+      → is_first_use (word_in old (length variables)) (word_in new (length variables)) (is_open image v.routine calls) ≡ true
+      → first_uses image variables cost old new calls + cost v ≤ first_uses image (variables ++ v ∷ later) cost old new calls
   unfolding cost_where
   uses-with v later old new calls is_first =
       let test : ℕ → FirstUse → Bool = λ i u. is_first_use (word_in old i) (word_in new i) (is_open image u.routine calls) in
       let split = cost-append cost test 0 variables (v ∷ later) in
       let place : 0 + length variables ≡ length variables = omega arith in
-      let here : (if test (0 + length variables) v then cost v else 0) ≡ cost v = ap (λ (i : ℕ). if test i v then cost v else 0) place ∙ ap (λ (t : Bool). if t then cost v else 0) is_first in
+      let here : (if test (0 + length variables) v then cost v else 0) ≡ cost v = ap (λ (i : ℕ). if test i v then cost v else 0) place
+      ∙ ap (λ (t : Bool). if t then cost v else 0) is_first in
       omega arith
 
 -- ---- no first use
 
-nothing_used : (image : Contents) (cost : FirstUse → ℕ) (i : ℕ) (variables : List FirstUse) (scratch : List ℕ) → cost_where (λ j v. is_first_use (word_in scratch j) (word_in scratch j) (is_open image v.routine [])) cost i variables ≡ 0
+nothing_used : (image : Contents) (cost : FirstUse → ℕ) (i : ℕ) (variables : List FirstUse) (scratch : List ℕ)
+    → cost_where (λ j v. is_first_use (word_in scratch j) (word_in scratch j) (is_open image v.routine [])) cost i variables ≡ 0
 unfolding cost_where
 nothing_used image cost i [] scratch = refl
 nothing_used image cost i (v ∷ vs) scratch =
@@ -146,12 +151,14 @@ own_budgets = record {
 
 -- ---- a call that is open
 
-called_at : (place : ℤ) (slot : ℕ) (found : Option (Option Insn)) (offset : ℤ) → found ≡ Some (Some (CallLocal offset)) → place +ℤ offset ≡ pos slot → is_call_of slot place found ≡ true
+called_at : (place : ℤ) (slot : ℕ) (found : Option (Option Insn)) (offset : ℤ) → found ≡ Some (Some (CallLocal offset)) → place +ℤ offset ≡ pos slot
+    → is_call_of slot place found ≡ true
 called_at place slot found offset is leads =
     ap (is_call_of slot place) is ∙ ap (is_slot slot) leads ∙ eq-eqb slot slot refl
 
 -- the record of a call that stands at slot q
-pub call_is_open : (image : Contents) (q slot : ℕ) (b : Body) (offset : ℤ) (calls : List Frame) → fetched image.code (pos q) ≡ Some (Some (CallLocal offset)) → pos q +ℤ pos 1 +ℤ offset ≡ pos slot → is_open image slot (frame_at q b ∷ calls) ≡ true
+pub call_is_open : (image : Contents) (q slot : ℕ) (b : Body) (offset : ℤ) (calls : List Frame) → fetched image.code (pos q) ≡ Some (Some (CallLocal offset))
+    → pos q +ℤ pos 1 +ℤ offset ≡ pos slot → is_open image slot (frame_at q b ∷ calls) ≡ true
 call_is_open image q slot b offset calls here leads =
     let before : pos (q + 1) +ℤ negsuc 0 ≡ pos q = omega (arith, ints) in
     let next : pos (q + 1) +ℤ offset ≡ pos slot = omega (arith, ints, leads) in

@@ -12,7 +12,7 @@ use Rattle.cel_macros.specs.Environment.{Roots, lookup}
 use Rattle.codegen_base.specs.Body.{Body}
 use Rattle.codegen_base.specs.Calls.{answered, entered, frame_at}
 use Rattle.codegen_base.specs.Contexts.{Context, Fits, HasValues, IsHeld, IsMemo, Keeps, Shows, variable_count}
-use Rattle.codegen_base.specs.Words.{Framed, memo_at, set_memo, set_verdict, set_word, stack_index, verdict_at, word_at}
+use Rattle.codegen_base.specs.Words.{Framed, memo_at, set_memo, set_verdict, set_word, stack_index, word_at}
 use Rattle.codegen_base.proofs.Accesses.{has_memo, has_verdict, has_word}
 use Rattle.codegen_base.proofs.Values.{roots_kept}
 
@@ -49,13 +49,15 @@ module _ (depth k w : ℕ) (b : Body) (f : Framed depth b) (below : k < 64) wher
 -- ---- names in force
 
 -- a held name's word and what it names may change, as long as the word names the item
-pub held_on : (depth base base1 : ℕ) (old new : Body) (o : Option ℕ) (v : Option Value) → ((k : ℕ) → k < base → k < base1) → ((k : ℕ) (u : Value) → k < base → Names old.values.values (word_at depth k old) (value u) → Names new.values.values (word_at depth k new) (value u)) → IsHeld depth base old o v → IsHeld depth base1 new o v
+pub held_on : (depth base base1 : ℕ) (old new : Body) (o : Option ℕ) (v : Option Value) → ((k : ℕ) → k < base → k < base1)
+    → ((k : ℕ) (u : Value) → k < base → Names old.values.values (word_at depth k old) (value u) → Names new.values.values (word_at depth k new) (value u))
+    → IsHeld depth base old o v → IsHeld depth base1 new o v
 held_on depth base base1 old new (Some k) (Some v) below names h = (below k h.0, names k v h.0 h.1)
 held_on depth base base1 old new None None below names h = tt
-held_on depth base base1 old new (Some k) None below names h = h
-held_on depth base base1 old new None (Some v) below names h = h
+held_on depth base base1 old new _ _ below names h = h
 
-pub memo_on : (old new : List ValueOrError) (w : ℕ) (x : ValueOrError) → ((r : ℕ) (u : ValueOrError) → Names old r u → Names new r u) → IsMemo old w x → IsMemo new w x
+pub memo_on : (old new : List ValueOrError) (w : ℕ) (x : ValueOrError) → ((r : ℕ) (u : ValueOrError) → Names old r u → Names new r u) → IsMemo old w x
+    → IsMemo new w x
 memo_on old new w x grows (inl empty) = inl empty
 memo_on old new w x grows (inr full) = inr (full.0, full.1, grows full.0 x full.2)
 
@@ -112,12 +114,6 @@ module _ (depth i w : ℕ) (b : Body) (f : Framed depth b) (below : i < 256) whe
     memory = with_word b.memory Verdict i w (has_verdict i b.memory f.memory below) f.memory;
   }
 
-  pub verdict_stored : w < 2 ^ 64 → verdict_at i (set_verdict i w b) ≡ w
-  verdict_stored small = put_word-same b.memory.verdict i w (has_verdict i b.memory f.memory below) small
-
-  pub verdict_kept : (j : ℕ) → (j ≡ i → ⊥) → verdict_at j (set_verdict i w b) ≡ verdict_at j b
-  verdict_kept j other = put_word-other b.memory.verdict i w (has_verdict i b.memory f.memory below) j other
-
   pub fits_verdict : (c : Context) (base : ℕ) → Fits c depth base b → Fits c depth base (set_verdict i w b)
   fits_verdict c base fits = record {
     frame = frame_verdict;
@@ -150,7 +146,8 @@ fits_above c depth base k b le fits = record {
 }
 
 -- a body that fits with more words in use, in which the words below base are as in one that fits with fewer
-pub fits_below : (c : Context) (depth base k : ℕ) (old new : Body) → base ≤ k → base ≤ 64 → Fits c depth base old → Keeps (variable_count c) depth k old new → Fits c depth k new → Fits c depth base new
+pub fits_below : (c : Context) (depth base k : ℕ) (old new : Body) → base ≤ k → base ≤ 64 → Fits c depth base old → Keeps (variable_count c) depth k old new
+    → Fits c depth k new → Fits c depth base new
 fits_below c depth base k old new le low first kept fits = record {
   frame = fits.frame;
   values = fits.values;
@@ -169,7 +166,8 @@ keeps_same count depth base b = record { words = λ d k inside h. refl; values =
 
 pub keeps_then : {count depth base k : ℕ} {a b c : Body} → base ≤ k → Keeps count depth base a b → Keeps count depth k b c → Keeps count depth base a c
 keeps_then {count} {depth} {base} {k} le f g = record {
-  words = λ d j inside h. g.words d j inside (elim h [ inl lower ↦ inl lower | inr same ↦ inr (same.0, (let l = same.1 in omega arith)) ]) ∙ f.words d j inside h;
+  words = λ d j inside h. g.words d j inside (elim h [ inl lower ↦ inl lower | inr same ↦ inr (same.0, (let l = same.1 in omega arith)) ])
+      ∙ f.words d j inside h;
   values = λ r x h. g.values r x (f.values r x h);
   records = g.records ∙ f.records;
   pointer = g.pointer ∙ f.pointer;
@@ -194,7 +192,8 @@ module _ (c : Context) (depth base : ℕ) (b : Body) (registers : Register → �
   pub keeps_registers : (count : ℕ) → Keeps count depth base b (record b { registers = registers })
   keeps_registers count = record { words = λ d k inside h. refl; values = λ r x h. h; records = refl; pointer = same; verdict = refl; constants = refl; memos = λ i above. refl }
 
-  pub shows_registers : (x : ValueOrError) → Fits c depth base b → Names b.values.values (registers R0) x → Shows c depth base x b (record b { registers = registers })
+  pub shows_registers : (x : ValueOrError) → Fits c depth base b → Names b.values.values (registers R0) x
+      → Shows c depth base x b (record b { registers = registers })
   shows_registers x fits h = record {
     shows = h;
     fits = fits_registers fits;
@@ -207,7 +206,8 @@ module _ (depth base w charge : ℕ) (list : List ValueOrError) (b : Body) (exte
   pub keeps_answered : (count : ℕ) → Keeps count depth base b (answered b w list charge)
   keeps_answered count = record { words = λ d j inside h. refl; values = extends.kept; records = refl; pointer = refl; verdict = refl; constants = refl; memos = λ j above. refl }
 
-  pub values_answered : (roots : Roots) → IsTable (record { values = list; charge = charge }) → HasValues roots b.values → HasValues roots (record { values = list; charge = charge })
+  pub values_answered : (roots : Roots) → IsTable (record { values = list; charge = charge }) → HasValues roots b.values
+      → HasValues roots (record { values = list; charge = charge })
   values_answered roots table old = record { table = table; canonical = extends.canonical old.canonical; stand = roots_kept b.values.values list roots extends.kept old.stand }
 
   pub fits_answered : (c : Context) → IsTable (record { values = list; charge = charge }) → Fits c depth base b → Fits c depth base (answered b w list charge)
@@ -224,5 +224,6 @@ module _ (depth base w charge : ℕ) (list : List ValueOrError) (b : Body) (exte
       }
 
 -- what comes after something else was kept
-pub shows_after : {c : Context} {depth base k : ℕ} {x : ValueOrError} {a b d : Body} → base ≤ k → base ≤ 64 → Keeps (variable_count c) depth base a b → Shows c depth k x b d → Fits c depth base b → Shows c depth base x a d
+pub shows_after : {c : Context} {depth base k : ℕ} {x : ValueOrError} {a b d : Body} → base ≤ k → base ≤ 64 → Keeps (variable_count c) depth base a b
+    → Shows c depth k x b d → Fits c depth base b → Shows c depth base x a d
 shows_after {c} {depth} {base} {k} {x} {a} {b} {d} le low kept shown first = record { shows = shown.shows; fits = fits_below c depth base k b d le low first shown.keeps shown.fits; keeps = keeps_then le kept shown.keeps }

@@ -10,7 +10,7 @@ use Rattle.helper_table.specs.Building.{is_key}
 use Rattle.value_store.specs.Calls.{put_of, text_at, value_at}
 use Rattle.value_store.specs.Keys.{Ascend}
 use Rattle.value_store.specs.Lookup.{has_key, inserted, inserted_by}
-use Rattle.value_store.specs.Value.{Value, ValueOrError, error, value, null, boolean, int, text, list, map, Entries, no_entries, entry, keys_of}
+use Rattle.value_store.specs.Value.{Value, ValueOrError, error, value, null, map, Entries, no_entries, entry, keys_of}
 use Rattle.value_store.proofs.Keys.{inserted_in_order, inserted_once}
 use Rattle.cel_macros.specs.Environment.{value_or_error}
 use Rattle.cel_macros.specs.Literals.{entries_in, map_literal, map_or_error, text_part, with_entry}
@@ -23,15 +23,16 @@ compared j k = slice_cmp nat_cmp j k
 -- ---- two entries, put in either order
 
 -- both come before what stands first
-fronts : (o : Ordering) (j k : List ℕ) (v w : Value) (h : List ℕ) (x : Value) (more : Entries) (a b : Option Entries) → a ≡ Some (entry j v (entry h x more)) → b ≡ Some (entry k w (entry h x more)) → inserted_by o j v k w (entry h x more) a ≡ inserted_by (ordering_reverse o) k w j v (entry h x more) b
+fronts : (o : Ordering) (j k : List ℕ) (v w : Value) (h : List ℕ) (x : Value) (more : Entries) (a b : Option Entries) → a ≡ Some (entry j v (entry h x more))
+    → b ≡ Some (entry k w (entry h x more)) → inserted_by o j v k w (entry h x more) a ≡ inserted_by (ordering_reverse o) k w j v (entry h x more) b
 fronts Less j k v w h x more a b e f = sym (ap (option_map (entry j v)) f)
 fronts Equal j k v w h x more a b e f = refl
 fronts Greater j k v w h x more a b e f = ap (option_map (entry k w)) e
 
-alone : (o : Ordering) (j k : List ℕ) (v w : Value) → inserted_by o j v k w no_entries (Some (entry j v no_entries)) ≡ inserted_by (ordering_reverse o) k w j v no_entries (Some (entry k w no_entries))
+alone : (o : Ordering) (j k : List ℕ) (v w : Value)
+    → inserted_by o j v k w no_entries (Some (entry j v no_entries)) ≡ inserted_by (ordering_reverse o) k w j v no_entries (Some (entry k w no_entries))
 alone Less j k v w = refl
-alone Equal j k v w = refl
-alone Greater j k v w = refl
+alone _ j k v w = refl
 
 module _ (j : List ℕ) (v : Value) (h : List ℕ) (x : Value) where
   -- where j comes before, at and behind the first key
@@ -44,7 +45,8 @@ module _ (j : List ℕ) (v : Value) (h : List ℕ) (x : Value) where
   behind : (more : Entries) → compared j h ≡ Greater → inserted j v (entry h x more) ≡ option_map (entry h x) (inserted j v more)
   behind more e = ap (λ (o : Ordering). inserted_by o j v h x more (inserted j v more)) e
 
-  before_all : (o : Option Entries) → compared j h ≡ Less → option_and_then (inserted j v) (option_map (entry h x) o) ≡ option_map (λ es. entry j v (entry h x es)) o
+  before_all : (o : Option Entries) → compared j h ≡ Less
+      → option_and_then (inserted j v) (option_map (entry h x) o) ≡ option_map (λ es. entry j v (entry h x es)) o
   before_all None e = refl
   before_all (Some es) e = before es e
 
@@ -52,11 +54,13 @@ module _ (j : List ℕ) (v : Value) (h : List ℕ) (x : Value) where
   here_all None e = refl
   here_all (Some es) e = here es e
 
-  behind_all : (o : Option Entries) → compared j h ≡ Greater → option_and_then (inserted j v) (option_map (entry h x) o) ≡ option_map (entry h x) (option_and_then (inserted j v) o)
+  behind_all : (o : Option Entries) → compared j h ≡ Greater
+      → option_and_then (inserted j v) (option_map (entry h x) o) ≡ option_map (entry h x) (option_and_then (inserted j v) o)
   behind_all None e = refl
   behind_all (Some es) e = behind es e
 
-mapped_twice : (j : List ℕ) (v : Value) (h : List ℕ) (x : Value) (o : Option Entries) → option_map (entry j v) (option_map (entry h x) o) ≡ option_map (λ es. entry j v (entry h x es)) o
+mapped_twice : (j : List ℕ) (v : Value) (h : List ℕ) (x : Value) (o : Option Entries)
+    → option_map (entry j v) (option_map (entry h x) o) ≡ option_map (λ es. entry j v (entry h x es)) o
 mapped_twice j v h x None = refl
 mapped_twice j v h x (Some es) = refl
 
@@ -68,7 +72,8 @@ module _ (j k : List ℕ) (v w : Value) (h : List ℕ) (x : Value) (more : Entri
   all = entry h x more
 
   -- j comes before the first key, where k is that key or comes behind it
-  before_here : compared j h ≡ Less → compared k h ≡ Equal → option_and_then (inserted j v) (inserted k w all) ≡ option_and_then (inserted k w) (inserted j v all)
+  before_here : compared j h ≡ Less → compared k h ≡ Equal
+      → option_and_then (inserted j v) (inserted k w all) ≡ option_and_then (inserted k w) (inserted j v all)
   before_here e f =
       let over : compared k j ≡ Greater = nat_list_cmp_total.congr k h j f ∙ turned j h Less e in
       ap (option_and_then (inserted j v)) (here k w h x more f)
@@ -76,7 +81,8 @@ module _ (j k : List ℕ) (v w : Value) (h : List ℕ) (x : Value) (more : Entri
       ∙ sym (behind k w j v all over)
       ∙ sym (ap (option_and_then (inserted k w)) (before j v h x more e))
 
-  before_behind : compared j h ≡ Less → compared k h ≡ Greater → option_and_then (inserted j v) (inserted k w all) ≡ option_and_then (inserted k w) (inserted j v all)
+  before_behind : compared j h ≡ Less → compared k h ≡ Greater
+      → option_and_then (inserted j v) (inserted k w all) ≡ option_and_then (inserted k w) (inserted j v all)
   before_behind e f =
       let under : compared j k ≡ Less = nat_list_cmp_total.trans j h k e (turned k h Greater f) in
       let over : compared k j ≡ Greater = turned j k Less under in
@@ -87,23 +93,28 @@ module _ (j k : List ℕ) (v w : Value) (h : List ℕ) (x : Value) (more : Entri
       ∙ sym (behind k w j v all over)
       ∙ sym (ap (option_and_then (inserted k w)) (before j v h x more e))
 
-  here_behind : compared j h ≡ Equal → compared k h ≡ Greater → option_and_then (inserted j v) (inserted k w all) ≡ option_and_then (inserted k w) (inserted j v all)
+  here_behind : compared j h ≡ Equal → compared k h ≡ Greater
+      → option_and_then (inserted j v) (inserted k w all) ≡ option_and_then (inserted k w) (inserted j v all)
   here_behind e f =
       ap (option_and_then (inserted j v)) (behind k w h x more f)
       ∙ here_all j v h x (inserted k w more) e
       ∙ sym (ap (option_and_then (inserted k w)) (here j v h x more e))
 
-  both_before : compared j h ≡ Less → compared k h ≡ Less → option_and_then (inserted j v) (inserted k w all) ≡ option_and_then (inserted k w) (inserted j v all)
+  both_before : compared j h ≡ Less → compared k h ≡ Less
+      → option_and_then (inserted j v) (inserted k w all) ≡ option_and_then (inserted k w) (inserted j v all)
   both_before e f =
       ap (option_and_then (inserted j v)) (before k w h x more f)
       ∙ fronts (compared j k) j k v w h x more (inserted j v all) (inserted k w all) (before j v h x more e) (before k w h x more f)
       ∙ sym (ap (λ (o : Ordering). inserted_by o k w j v all (inserted k w all)) (turned j k (compared j k) refl))
       ∙ sym (ap (option_and_then (inserted k w)) (before j v h x more e))
 
-  both_here : compared j h ≡ Equal → compared k h ≡ Equal → option_and_then (inserted j v) (inserted k w all) ≡ option_and_then (inserted k w) (inserted j v all)
+  both_here : compared j h ≡ Equal → compared k h ≡ Equal
+      → option_and_then (inserted j v) (inserted k w all) ≡ option_and_then (inserted k w) (inserted j v all)
   both_here e f = ap (option_and_then (inserted j v)) (here k w h x more f) ∙ sym (ap (option_and_then (inserted k w)) (here j v h x more e))
 
-  both_behind : compared j h ≡ Greater → compared k h ≡ Greater → option_and_then (inserted j v) (inserted k w more) ≡ option_and_then (inserted k w) (inserted j v more) → option_and_then (inserted j v) (inserted k w all) ≡ option_and_then (inserted k w) (inserted j v all)
+  both_behind : compared j h ≡ Greater → compared k h ≡ Greater
+      → option_and_then (inserted j v) (inserted k w more) ≡ option_and_then (inserted k w) (inserted j v more)
+      → option_and_then (inserted j v) (inserted k w all) ≡ option_and_then (inserted k w) (inserted j v all)
   both_behind e f rest =
       ap (option_and_then (inserted j v)) (behind k w h x more f)
       ∙ behind_all j v h x (inserted k w more) e
@@ -111,7 +122,9 @@ module _ (j k : List ℕ) (v w : Value) (h : List ℕ) (x : Value) (more : Entri
       ∙ sym (behind_all k w h x (inserted j v more) f)
       ∙ sym (ap (option_and_then (inserted k w)) (behind j v h x more e))
 
-swapped_by : (a b : Ordering) (j k : List ℕ) (v w : Value) (h : List ℕ) (x : Value) (more : Entries) → compared j h ≡ a → compared k h ≡ b → option_and_then (inserted j v) (inserted k w more) ≡ option_and_then (inserted k w) (inserted j v more) → option_and_then (inserted j v) (inserted k w (entry h x more)) ≡ option_and_then (inserted k w) (inserted j v (entry h x more))
+swapped_by : (a b : Ordering) (j k : List ℕ) (v w : Value) (h : List ℕ) (x : Value) (more : Entries) → compared j h ≡ a → compared k h ≡ b
+    → option_and_then (inserted j v) (inserted k w more) ≡ option_and_then (inserted k w) (inserted j v more)
+    → option_and_then (inserted j v) (inserted k w (entry h x more)) ≡ option_and_then (inserted k w) (inserted j v (entry h x more))
 swapped_by Less Less j k v w h x more e f rest = both_before j k v w h x more e f
 swapped_by Less Equal j k v w h x more e f rest = before_here j k v w h x more e f
 swapped_by Less Greater j k v w h x more e f rest = before_behind j k v w h x more e f
@@ -123,31 +136,24 @@ swapped_by Greater Equal j k v w h x more e f rest = sym (here_behind k j w v h 
 swapped_by Greater Greater j k v w h x more e f rest = both_behind j k v w h x more e f rest
 
 swapped : (j k : List ℕ) (v w : Value) (es : Entries) → option_and_then (inserted j v) (inserted k w es) ≡ option_and_then (inserted k w) (inserted j v es)
-swapped j k v w no_entries = alone (compared j k) j k v w ∙ sym (ap (λ (o : Ordering). inserted_by o k w j v no_entries (Some (entry k w no_entries))) (turned j k (compared j k) refl))
+swapped j k v w no_entries =
+    alone (compared j k) j k v w ∙ sym (ap (λ (o : Ordering). inserted_by o k w j v no_entries (Some (entry k w no_entries))) (turned j k (compared j k) refl))
 swapped j k v w (entry h x more) = swapped_by (compared j h) (compared k h) j k v w h x more refl refl (swapped j k v w more)
 
 -- ---- the same for keys and values that may be none
 
 in_none : (a : Option (List ℕ)) (x : ValueOrError) → with_entry a x None ≡ None
-in_none None x = refl
 in_none (Some j) error = refl
-in_none (Some j) (value v) = refl
-
-of_error : (a : Option (List ℕ)) (o : Option Entries) → with_entry a error o ≡ None
-of_error None o = refl
-of_error (Some j) o = refl
+in_none _ _ = refl
 
 in_some : (j : List ℕ) (v : Value) (o : Option Entries) → with_entry (Some j) (value v) o ≡ option_and_then (inserted j v) o
 in_some j v None = refl
 in_some j v (Some es) = refl
 
 entries_swapped : (a b : Option (List ℕ)) (x y : ValueOrError) (o : Option Entries) → with_entry a x (with_entry b y o) ≡ with_entry b y (with_entry a x o)
-entries_swapped None b x y o = sym (in_none b y)
-entries_swapped (Some j) b error y o = sym (in_none b y)
-entries_swapped (Some j) None (value v) y o = refl
-entries_swapped (Some j) (Some k) (value v) error o = refl
-entries_swapped (Some j) (Some k) (value v) (value w) None = refl
 entries_swapped (Some j) (Some k) (value v) (value w) (Some es) = in_some j v (inserted k w es) ∙ swapped j k v w es ∙ sym (in_some k w (inserted j v es))
+entries_swapped (Some j) _ (value v) _ _ = refl
+entries_swapped _ b _ y o = sym (in_none b y)
 
 -- ---- all entries
 
@@ -163,7 +169,8 @@ backwards_is : (es : List (ValueOrError × ValueOrError)) → backwards (Some no
 backwards_is [] = refl
 backwards_is (e ∷ es) = ap (enter e) (backwards_is es)
 
-first_last : (e : ValueOrError × ValueOrError) (o : Option Entries) (es : List (ValueOrError × ValueOrError)) → backwards (enter e o) es ≡ enter e (backwards o es)
+first_last : (e : ValueOrError × ValueOrError) (o : Option Entries) (es : List (ValueOrError × ValueOrError))
+    → backwards (enter e o) es ≡ enter e (backwards o es)
 first_last e o [] = refl
 first_last e o (f ∷ es) = ap (enter f) (first_last e o es) ∙ entries_swapped (text_part f.0) (text_part e.0) f.1 e.1 (backwards o es)
 
@@ -174,26 +181,18 @@ abbrev InOrder : Option Entries → Type 0
 InOrder o = IfSome o (λ es. Ascend (keys_of es))
 
 enter_in_order : (a : Option (List ℕ)) (x : ValueOrError) (o : Option Entries) → InOrder o → InOrder (with_entry a x o)
-enter_in_order None x o up = tt
-enter_in_order (Some j) error o up = tt
-enter_in_order (Some j) (value v) None up = tt
 enter_in_order (Some j) (value v) (Some es) up = inserted_in_order j v es up
+enter_in_order _ _ _ up = tt
 
 text_is : (x : ValueOrError) → text_at (Some x) ≡ text_part x
-text_is error = refl
 text_is (value null) = refl
-text_is (value (boolean b)) = refl
-text_is (value (int z)) = refl
-text_is (value (text s)) = refl
-text_is (value (list is)) = refl
-text_is (value (map es)) = refl
+text_is _ = refl
 
 -- of a key that is not there
 absent : (b : Bool) (o : Option Entries) → is_some o ≡ not b → value_or_error (if b then None else option_map map o) ≡ map_or_error o
-absent true None e = refl
 absent true (Some es) e = absurd (cc)
 absent false None e = refl
-absent false (Some es) e = refl
+absent _ _ e = refl
 
 never : (b : Bool) → value_or_error (if b then None else None) ≡ error
 never true = refl

@@ -10,6 +10,7 @@ use Rattle.insn_codec.specs.declared.comparison.Comparison.{Comparison}
 use Rattle.insn_codec.specs.declared.comparison.Comparison.TheVariants.{Sge, Sgt, Sle, Slt}
 use Rattle.insn_codec.specs.declared.insn.Insn.{Insn}
 use Rattle.insn_codec.specs.declared.insn.Insn.TheVariants.{Call}
+use Rattle.insn_codec.specs.declared.register.Register.{Register}
 use Rattle.insn_codec.specs.declared.register.Register.TheVariants.{R0, R1, R2, R6, R7}
 use Rattle.cel_macros.specs.Environment.{lookup}
 use Rattle.cel_macros.specs.declared.macros.Macro.{Macro}
@@ -17,18 +18,21 @@ use Rattle.cel_macros.specs.declared.macros.Macro.TheVariants.{All, Exists, Exis
 use Rattle.cel_macros.specs.Functions.{TextTest, StartsWith, EndsWith, Contains}
 use Rattle.codegen_base.specs.Code.Aggregates.{entry_code, entry_tail, item_code, list_code, list_head, map_code, map_head, push_tail}
 use Rattle.codegen_base.specs.Code.Arithmetic.{checked_tail, difference_code, divided_code, divided_tail, int_answer, int_operands, negation_tail, product_code, product_tail, sum_code, sum_tail, difference_tail}
-use Rattle.codegen_base.specs.Code.Calls.{call_one, call_swapped, call_two, two_code}
-use Rattle.codegen_base.specs.Code.Comparison.{equal_tail, greater_equal_tail, greater_tail, less_equal_tail, less_tail, member_tail, unequal_tail}
+use Rattle.codegen_base.specs.Code.Calls.{operand_code, operands_code}
+use Rattle.codegen_base.specs.Code.Comparison.{equal_tail, less_tail, member_tail, not_less_tail, unequal_tail}
+use Rattle.codegen_base.specs.Code.Leaves.{leaf_insn}
 use Rattle.codegen_base.specs.Code.Logic.{absorbing_code, absorbing_tail, no_ref, not_tail, ternary_code, yes_ref}
 use Rattle.codegen_base.specs.Code.Selection.{call_with_text, field_tail, has_tail, index_tail, size_tail, string_tail, test_helper, test_tail}
 use Rattle.codegen_base.specs.Code.Folds.{absorbing_turn, exists_one_end, exists_one_turn, filter_turn, first_empty, first_false, first_true, macro_code, map_turn, map_where_code, map_where_turn}
 use Rattle.codegen_base.specs.Code.Literals.{int_code, null_code, text_code, truth_code}
-use Rattle.codegen_base.specs.Code.Names.{held_code, name_code, reference_or_error, root_reference, root_references}
+use Rattle.codegen_base.specs.Code.Names.{held_leaf, name_code, name_leaf, reference_or_error, root_reference, root_references}
 use Rattle.codegen_base.specs.Instructions.{copy, load, put, skip, store}
 use Rattle.codegen_base.specs.Loops.{fold_code, loop_code, loop_head, loop_tail, range_tail}
 use Rattle.codegen_base.specs.Pieces.{AreInsns, size}
 use Rattle.codegen_base.specs.Variables.{memo_tail, use_code}
 use Rattle.codegen_base.specs.Words.{word_offset}
+use Rattle.codegen_base.specs.declared.leaf.Leaf.{Leaf}
+use Rattle.codegen_base.specs.declared.leaf.Leaf.TheVariants.{Reference, Word}
 use Rattle.codegen_base.proofs.Ints.{word_small}
 use Rattle.codegen_base.proofs.Loops.{loop_size}
 use Rattle.codegen_base.proofs.Pieces.{size-append}
@@ -51,17 +55,32 @@ over n short = omega arith
 
 -- ---- calls and operands
 
-pub two_insns : (left right tail : List Insn) (k : ℕ) → k < 64 → AreInsns left → AreInsns right → AreInsns tail → AreInsns (two_code left right k tail)
-two_insns left right tail k below first second third = insns_append left _ first (word_in_range k below, insns_append right tail second third)
+-- the instruction of a leaf can be spelled
+abbrev pub IsNear : Leaf → Type 0
+IsNear (Reference n) = FitsSigned w32 n
+IsNear (Word k) = k < 64
 
-pub call_one_insns : (helper : ℤ) → FitsSigned w32 helper → AreInsns (call_one helper)
-call_one_insns helper h = (tt, (h, tt))
+pub leaf_insns : (l : Leaf) (r : Register) → IsNear l → AreInsns (leaf_insn l r ∷ [])
+leaf_insns (Reference n) r near = (near, tt)
+leaf_insns (Word k) r near = (word_in_range k near, tt)
 
-pub call_two_insns : (helper : ℤ) (k : ℕ) → FitsSigned w32 helper → k < 64 → AreInsns (call_two helper k)
-call_two_insns helper k h below = (tt, (word_in_range k below, (h, tt)))
+-- and that of an operand that is one
+abbrev pub MayBeNear : Option Leaf → Type 0
+MayBeNear (Some l) = IsNear l
+MayBeNear None = Unit {0}
 
-pub call_swapped_insns : (helper : ℤ) (k : ℕ) → FitsSigned w32 helper → k < 64 → AreInsns (call_swapped helper k)
-call_swapped_insns helper k h below = (tt, (word_in_range k below, (h, tt)))
+pub operand_insns : (l : Option Leaf) (operand : List Insn) (r : Register) → MayBeNear l → AreInsns operand → AreInsns (operand_code l operand r)
+operand_insns (Some l) operand r near first = leaf_insns l r near
+operand_insns None operand r near first = insns_append operand (copy r R0 ∷ []) first (tt, tt)
+
+pub operands_insns : (l : Option Leaf) (left : List Insn) (m : Option Leaf) (right : List Insn) (k : ℕ) (r q : Register) → k < 64 → MayBeNear l → AreInsns left → MayBeNear m → AreInsns right → AreInsns (operands_code l left m right k r q)
+operands_insns l left (Some m) right k r q below near first near_right second = insns_append (operand_code l left r) (leaf_insn m q ∷ []) (operand_insns l left r near first) (leaf_insns m q near_right)
+operands_insns (Some l) left None right k r q below near first near_right second = insns_append right (copy q R0 ∷ leaf_insn l r ∷ []) second (tt, leaf_insns l r near)
+operands_insns None left None right k r q below near first near_right second =
+    insns_append (left ++ store k R0 ∷ []) (right ++ copy q R0 ∷ load r k ∷ []) (insns_append left (store k R0 ∷ []) first (word_in_range k below, tt)) (insns_append right (copy q R0 ∷ load r k ∷ []) second (tt, (word_in_range k below, tt)))
+
+call_insns : (helper : ℤ) → FitsSigned w32 helper → AreInsns (Call helper ∷ [])
+call_insns helper h = (h, tt)
 
 -- ---- logic
 
@@ -73,7 +92,7 @@ absorbing_insns decides other left right k d e below short first second =
     insns_append left _ first ((d, over (size right + 6) (omega arith)), (word_in_range k below, insns_append right _ second (absorbing_tail_insns decides other k d e below)))
 
 pub not_insns : AreInsns not_tail
-not_insns = call_one_insns (pos 23) (omega arith)
+not_insns = call_insns (pos 23) (omega arith)
 
 pub ternary_insns : (condition chosen other : List Insn) → size chosen + size other ≤ short_size → AreInsns condition → AreInsns chosen → AreInsns other → AreInsns (ternary_code condition chosen other)
 ternary_insns condition chosen other short first second third =
@@ -81,34 +100,25 @@ ternary_insns condition chosen other short first second third =
 
 -- ---- comparisons and membership
 
-opposite_insns : (tail : List Insn) → AreInsns tail → AreInsns (tail ++ not_tail)
-opposite_insns tail first = insns_append tail not_tail first not_insns
+pub equal_insns : AreInsns equal_tail
+equal_insns = call_insns (pos 9) (omega arith)
 
-pub equal_insns : (k : ℕ) → k < 64 → AreInsns (equal_tail k)
-equal_insns k below = call_two_insns (pos 9) k (omega arith) below
+pub unequal_insns : AreInsns unequal_tail
+unequal_insns = (omega arith, (tt, not_insns))
 
-pub unequal_insns : (k : ℕ) → k < 64 → AreInsns (unequal_tail k)
-unequal_insns k below = opposite_insns (equal_tail k) (equal_insns k below)
+pub less_insns : AreInsns less_tail
+less_insns = call_insns (pos 10) (omega arith)
 
-pub less_insns : (k : ℕ) → k < 64 → AreInsns (less_tail k)
-less_insns k below = call_two_insns (pos 10) k (omega arith) below
+pub not_less_insns : AreInsns not_less_tail
+not_less_insns = (omega arith, (tt, not_insns))
 
-pub greater_insns : (k : ℕ) → k < 64 → AreInsns (greater_tail k)
-greater_insns k below = call_swapped_insns (pos 10) k (omega arith) below
-
-pub less_equal_insns : (k : ℕ) → k < 64 → AreInsns (less_equal_tail k)
-less_equal_insns k below = opposite_insns (greater_tail k) (greater_insns k below)
-
-pub greater_equal_insns : (k : ℕ) → k < 64 → AreInsns (greater_equal_tail k)
-greater_equal_insns k below = opposite_insns (less_tail k) (less_insns k below)
-
-pub member_insns : (k : ℕ) → k < 64 → AreInsns (member_tail k)
-member_insns k below = call_two_insns (pos 15) k (omega arith) below
+pub member_insns : AreInsns member_tail
+member_insns = call_insns (pos 15) (omega arith)
 
 -- ---- selection
 
 pub with_text_insns : (helper : ℤ) (address count : ℕ) → FitsSigned w32 helper → address < 2 ^ 64 → count < 2 ^ 64 → AreInsns (call_with_text helper address count)
-with_text_insns helper address count h small few = (tt, (small, (few, (h, tt))))
+with_text_insns helper address count h small few = (small, (few, (h, tt)))
 
 pub field_insns : (address count : ℕ) → address < 2 ^ 64 → count < 2 ^ 64 → AreInsns (field_tail address count)
 field_insns address count small few = with_text_insns (pos 5) address count (omega arith) small few
@@ -116,28 +126,28 @@ field_insns address count small few = with_text_insns (pos 5) address count (ome
 pub has_insns : (address count : ℕ) → address < 2 ^ 64 → count < 2 ^ 64 → AreInsns (has_tail address count)
 has_insns address count small few = with_text_insns (pos 6) address count (omega arith) small few
 
-pub index_insns : (k : ℕ) → k < 64 → AreInsns (index_tail k)
-index_insns k below = call_two_insns (pos 7) k (omega arith) below
+pub index_insns : AreInsns index_tail
+index_insns = call_insns (pos 7) (omega arith)
 
 pub size_insns : AreInsns size_tail
-size_insns = call_one_insns (pos 8) (omega arith)
+size_insns = call_insns (pos 8) (omega arith)
 
 pub string_insns : AreInsns string_tail
-string_insns = (tt, (tt, (omega arith, ((omega arith, omega arith), (tt, (omega arith, (tt, (omega arith, tt))))))))
+string_insns = (tt, (omega arith, ((omega arith, omega arith), (tt, (omega arith, (tt, (omega arith, tt)))))))
 
 test_in_range : (t : TextTest) → FitsSigned w32 (test_helper t)
 test_in_range StartsWith = omega arith
 test_in_range EndsWith = omega arith
 test_in_range Contains = omega arith
 
-pub test_insns : (t : TextTest) (k : ℕ) → k < 64 → AreInsns (test_tail t k)
-test_insns t k below = call_two_insns (test_helper t) k (test_in_range t) below
+pub test_insns : (t : TextTest) → AreInsns (test_tail t)
+test_insns t = call_insns (test_helper t) (test_in_range t)
 
 -- ---- arithmetic
 
-int_operands_insns : (k off : ℕ) → k < 64 → off ≤ 100 → AreInsns (int_operands k off)
-int_operands_insns k off below short =
-    (tt, (word_in_range k below, (tt, (omega arith, ((omega arith, over (off + 9) (omega arith)), (tt, (omega arith, ((omega arith, over (off + 6) (omega arith)), (tt, (omega arith, (tt, (tt, (omega arith, (tt, tt))))))))))))))
+int_operands_insns : (off : ℕ) → off ≤ 100 → AreInsns (int_operands off)
+int_operands_insns off short =
+    (tt, (omega arith, ((omega arith, over (off + 9) (omega arith)), (tt, (omega arith, ((omega arith, over (off + 6) (omega arith)), (tt, (omega arith, (tt, (tt, (omega arith, (tt, tt))))))))))))
 
 int_answer_insns : AreInsns int_answer
 int_answer_insns = (omega arith, (omega arith, (omega arith, tt)))
@@ -152,23 +162,23 @@ product_tail_insns = (tt, (tt, ((omega arith, omega arith), ((omega arith, omega
 divided_tail_insns : (op : AluOp) → AreInsns (divided_tail op)
 divided_tail_insns op = ((omega arith, omega arith), ((omega arith, omega arith), (omega arith, ((tt, omega arith), (tt, (tt, int_answer_insns))))))
 
-pub difference_insns : (k : ℕ) → k < 64 → AreInsns (difference_code k)
-difference_insns k below = insns_append (int_operands k 8) difference_tail (int_operands_insns k 8 below (omega arith)) (checked_insns Sub Sle Sgt)
+pub difference_insns : AreInsns difference_code
+difference_insns = insns_append (int_operands 8) difference_tail (int_operands_insns 8 (omega arith)) (checked_insns Sub Sle Sgt)
 
-pub product_insns : (k : ℕ) → k < 64 → AreInsns (product_code k)
-product_insns k below = insns_append (int_operands k 12) product_tail (int_operands_insns k 12 below (omega arith)) product_tail_insns
+pub product_insns : AreInsns product_code
+product_insns = insns_append (int_operands 12) product_tail (int_operands_insns 12 (omega arith)) product_tail_insns
 
-pub divided_insns : (op : AluOp) (k : ℕ) → k < 64 → AreInsns (divided_code op k)
-divided_insns op k below = insns_append (int_operands k 9) (divided_tail op) (int_operands_insns k 9 below (omega arith)) (divided_tail_insns op)
+pub divided_insns : (op : AluOp) → AreInsns (divided_code op)
+divided_insns op = insns_append (int_operands 9) (divided_tail op) (int_operands_insns 9 (omega arith)) (divided_tail_insns op)
 
-pub sum_insns : (k : ℕ) → k < 64 → AreInsns (sum_code k)
-sum_insns k below =
+pub sum_insns : AreInsns sum_code
+sum_insns =
     let joining = skip 3 ∷ copy R1 R6 ∷ copy R2 R7 ∷ Call (pos 11) ∷ [] in
-    insns_append (int_operands k 10) (sum_tail ++ joining) (int_operands_insns k 10 below (omega arith)) (insns_append sum_tail joining (checked_insns Add Sge Slt) (omega arith, (tt, (tt, (omega arith, tt)))))
+    insns_append (int_operands 10) (sum_tail ++ joining) (int_operands_insns 10 (omega arith)) (insns_append sum_tail joining (checked_insns Add Sge Slt) (omega arith, (tt, (tt, (omega arith, tt)))))
 
 pub negation_insns : AreInsns negation_tail
 unfolding negation_tail
-negation_insns = (tt, (tt, (omega arith, ((omega arith, omega arith), (tt, (omega arith, (tt, (omega arith, ((tt, omega arith), (tt, int_answer_insns))))))))))
+negation_insns = (tt, (omega arith, ((omega arith, omega arith), (tt, (omega arith, (tt, (omega arith, ((tt, omega arith), (tt, int_answer_insns)))))))))
 
 -- ---- list and map literals
 
@@ -200,9 +210,9 @@ int_insns z fits = (word_small z fits, (omega arith, tt))
 pub text_insns : (address count : ℕ) → address < 2 ^ 64 → count < 2 ^ 64 → AreInsns (text_code address count)
 text_insns address count small few = (small, (few, (omega arith, tt)))
 
-pub held_insns : (o : Option ℕ) (r : ℤ) → FitsSigned w32 r → ((k : ℕ) → o ≡ Some k → k < 64) → AreInsns (held_code o r)
-held_insns (Some k) r h below = (word_in_range k (below k refl), tt)
-held_insns None r h below = (h, tt)
+held_near : (o : Option ℕ) (r : ℤ) → FitsSigned w32 r → ((k : ℕ) → o ≡ Some k → k < 64) → IsNear (held_leaf o r)
+held_near (Some k) r h below = below k refl
+held_near None r h below = h
 
 root_by : (found : Bool) (r : ℤ) (o : Option ℤ) → FitsSigned w32 r → FitsSigned w32 (reference_or_error o) → FitsSigned w32 (reference_or_error (if found then Some r else o))
 root_by true r o first later = first
@@ -216,8 +226,11 @@ root_in_range : (n : List ℕ) → FitsSigned w32 (root_reference n)
 unfolding root_reference
 root_in_range n = references_in_range n root_references (omega arith, (omega arith, (omega arith, (omega arith, (omega arith, tt)))))
 
+pub name_near : (n : List ℕ) (words : List (List ℕ × ℕ)) → ((k : ℕ) → lookup n words ≡ Some k → k < 64) → IsNear (name_leaf n words)
+name_near n words below = held_near (lookup n words) (root_reference n) (root_in_range n) below
+
 pub name_insns : (n : List ℕ) (words : List (List ℕ × ℕ)) → ((k : ℕ) → lookup n words ≡ Some k → k < 64) → AreInsns (name_code n words)
-name_insns n words below = held_insns (lookup n words) (root_reference n) (root_in_range n) below
+name_insns n words below = leaf_insns (name_leaf n words) R0 (name_near n words below)
 
 -- ---- loops and macros
 

@@ -1,7 +1,7 @@
 -- Ints of 64 bits as words, and when results fit.
 use Rattle.std.proofs.Common.{◌≡◌, ℕ, ◌+◌, ◌-◌, ◌%◌, ◌^◌, ◌<◌, ◌≤◌, true, false, refl, ap, ◌∙◌, rules, arith}
 use Rattle.std.specs.Prelude.{ℤ, pos, negsuc, ◌+ℤ◌, ◌-ℤ◌, FitsSigned, unsigned_abs}
-use Rattle.std.specs.Int.{w64, cast_signed, cast_unsigned, int_wrap}
+use Rattle.std.specs.Int.{w64, cast_signed, cast_unsigned}
 use Rattle.std.proofs.lemmas.Int.{ints, to_z-of_z, int_rem_euclid_is}
 use Rattle.std.proofs.lemmas.Bool.Decides.{nat_tests}
 use Rattle.bpf_word.specs.Arithmetic.{alu64_of, operated}
@@ -30,11 +30,6 @@ signed_is w h = grind (arith, ints)
 pub signed_word : (z : ℤ) → FitsSigned w64 z → signed_of 64 (cast_unsigned w64 z) ≡ z
 signed_word z h = signed_is (cast_unsigned w64 z) (word_small z h) ∙ to_z-of_z w64 z h
 
--- whether a number fits, as the meaning tests it
-pub fits_yes : (z : ℤ) → fits z ≡ true → FitsSigned w64 z
-fits_yes (pos n) e = grind (arith, ints, nat_tests)
-fits_yes (negsuc n) e = grind (arith, ints, nat_tests)
-
 pub fits_is : (z : ℤ) → FitsSigned w64 z → fits z ≡ true
 fits_is (pos n) h = grind (arith, ints, nat_tests)
 fits_is (negsuc n) h = grind (arith, ints, nat_tests)
@@ -50,19 +45,10 @@ signed_fits (negsuc n) h = grind (arith, ints)
 pub cast_fits : (w : ℕ) → w < 2 ^ 64 → FitsSigned w64 (cast_signed w64 w)
 cast_fits w h = search (rules, ints)
 
--- the word of a number, and what a difference of words is
-pub word_of-small : (z : ℤ) → word_of 64 z < 2 ^ 64
-unfolding word_of
-word_of-small (pos n) = omega arith
-word_of-small (negsuc n) = omega arith
-
-pub word_of-wraps : (z : ℤ) → cast_signed w64 (word_of 64 z) ≡ int_wrap w64 z
-unfolding word_of int_wrap
-word_of-wraps z = refl
-
 pub difference_word : (m n : ℕ) → n ≤ 2 ^ 64 → word_of 64 (pos m -ℤ pos n) ≡ (m + (2 ^ 64 - n)) % 2 ^ 64
 unfolding word_of
-difference_word m n h = ap unsigned_abs (int_rem_euclid_is (pos m -ℤ pos n) (pos (2 ^ 64)) (2 ^ 64) 1 (m + (2 ^ 64 - n)) (omega arith) refl (omega (arith, ints)))
+difference_word m n h =
+    ap unsigned_abs (int_rem_euclid_is (pos m -ℤ pos n) (pos (2 ^ 64)) (2 ^ 64) 1 (m + (2 ^ 64 - n)) (omega arith) refl (omega (arith, ints)))
 
 -- ---- sums and differences
 

@@ -1,44 +1,51 @@
 -- The code of literals without parts and of names gives their meaning.
-use Rattle.std.proofs.Common.{◌≡◌, ℕ, ◌+◌, ◌≤◌, List, length, Option, Some, None, Bool, true, false, refl, ap, subst, arith}
+use Rattle.std.proofs.Common.{◌≡◌, ℕ, ◌+◌, ◌≤◌, List, [], length, Option, Some, None, Bool, true, false, refl, ap, subst, arith}
 use Rattle.std.specs.Prelude.{ℤ, pos, FitsSigned, bytes_eq, codes, if◌then◌else◌}
 use Rattle.std.specs.Int.{w64, cast_signed, cast_unsigned}
 use Rattle.std.specs.Str.{is_utf8}
 use Rattle.std.proofs.lemmas.Int.{to_z-of_z}
 use Rattle.helper_table.specs.Laws.{Names}
-use Rattle.insn_codec.specs.declared.register.Register.TheVariants.{R1, R2}
+use Rattle.insn_codec.specs.declared.register.Register.TheVariants.{R0, R1, R2}
 use Rattle.value_store.specs.Placing.{Contents}
 use Rattle.value_store.specs.Value.{Value, ValueOrError, error, value, null, boolean, int, text}
 use Rattle.cel_macros.specs.Environment.{Roots, item_or_root, lookup, name_value, root_bindings, value_or_error}
 use Rattle.codegen_base.specs.Body.{Body, set_register}
 use Rattle.codegen_base.specs.Calls.{Places}
-use Rattle.codegen_base.specs.Code.Literals.{int_code, text_code, truth_code}
-use Rattle.codegen_base.specs.Code.Names.{held_code, name_code, reference_code, reference_or_error, root_reference}
-use Rattle.codegen_base.specs.Contexts.{Context, Fits, Gives, HasValues, IsHeld, Shows}
-use Rattle.codegen_base.specs.Engine.{Setting, Comes}
-use Rattle.codegen_base.specs.Gives.Leaves.{LeavesGive}
+use Rattle.codegen_base.specs.Code.Leaves.{leaf_code, leaf_insn}
+use Rattle.codegen_base.specs.Code.Literals.{int_code, null_leaf, text_code, truth_leaf}
+use Rattle.codegen_base.specs.Code.Names.{held_leaf, name_leaf, reference_or_error, root_reference}
+use Rattle.codegen_base.specs.Contexts.{Context, Fits, Gives, HasValues, IsHeld}
+use Rattle.codegen_base.specs.Engine.{Setting}
+use Rattle.codegen_base.specs.Gives.Leaves.{LeavesGive, LeavesName}
 use Rattle.codegen_base.specs.Gives.Selection.{HasText}
 use Rattle.codegen_base.specs.Helpers.{Lends}
-use Rattle.codegen_base.specs.Pieces.{Stands, size}
+use Rattle.codegen_base.specs.Operators.{IsLeafIn, IsLeafOf}
+use Rattle.codegen_base.specs.Pieces.{size}
+use Rattle.codegen_base.specs.declared.leaf.Leaf.{Leaf}
+use Rattle.codegen_base.specs.declared.leaf.Leaf.TheVariants.{Reference}
 use Rattle.codegen_base.proofs.Frames.{fits_registers, shows_registers}
 use Rattle.codegen_base.proofs.HelperAnswers.{helpers}
 use Rattle.codegen_base.proofs.Ints.{word_small}
-use Rattle.codegen_base.proofs.Listings.{ask, begins, load, load_wide, mov}
+use Rattle.codegen_base.proofs.Listings.{ask, begins, load_wide}
+use Rattle.codegen_base.proofs.Loaded.{leaf_size, leaf_step}
 use Rattle.codegen_base.proofs.Operators.{shows_placed}
-use Rattle.codegen_base.proofs.Runs.{done, looser}
+use Rattle.codegen_base.proofs.Pieces.{stands_first}
+use Rattle.codegen_base.proofs.Runs.{done, looser, to_place}
 use Rattle.codegen_base.proofs.Values.{names_error, names_no, names_null, names_yes}
 
--- a reference that names the value in every body that fits
-reference_gives : (s : Setting) (p : ℕ) (c : Context) (depth base : ℕ) (r : ℤ) (x : ValueOrError) → ((b : Body) → Fits c depth base b → Names b.values.values (cast_unsigned w64 r) x) → Gives s p (reference_code r) c depth base x 1 0
-reference_gives s p c depth base r x named = record {
+-- a leaf that names the value in every body that fits
+leaf_gives : (s : Setting) (p : ℕ) (c : Context) (depth base : ℕ) (l : Leaf) (x : ValueOrError) → IsLeafOf c depth base (Some l) x → Gives s p (leaf_code l) c depth base x 1 0
+leaf_gives s p c depth base l x named = record {
   runs = λ b has fits.
-      begins has
-      (mov has 0 refl refl
-      (done s (p + 1) _ _ (shows_registers c depth base b _ refl x fits (named b fits))));
+      let place : p + 1 ≡ p + size (leaf_code l) = omega (arith, leaf_size l R0) in
+      to_place s _ place
+      (leaf_step s p (p + 1) b depth R0 x l (stands_first s.image.code p (leaf_insn l R0) [] has) fits.frame refl (named b fits) refl (λ w is.
+      done s (p + 1) _ _ (shows_registers c depth base b _ refl x fits is)));
 }
 
-truth_gives : (s : Setting) (p : ℕ) (c : Context) (depth base : ℕ) (t : Bool) → Gives s p (truth_code t) c depth base (value (boolean t)) 1 0
-truth_gives s p c depth base false = reference_gives s p c depth base (pos 2) (value (boolean false)) (λ b fits. names_no b.values fits.values.table.store)
-truth_gives s p c depth base true = reference_gives s p c depth base (pos 3) (value (boolean true)) (λ b fits. names_yes b.values fits.values.table.store)
+truth_named : (c : Context) (depth base : ℕ) (t : Bool) → IsLeafOf c depth base (Some (truth_leaf t)) (value (boolean t))
+truth_named c depth base false b fits = names_no b.values fits.values.table.store
+truth_named c depth base true b fits = names_yes b.values fits.values.table.store
 
 int_gives : (s : Setting) (p : ℕ) (c : Context) (depth base : ℕ) (z : ℤ) → base ≤ 64 → FitsSigned w64 z → Gives s p (int_code z) c depth base (value (int z)) 2 1
 int_gives s p c depth base z low h = record {
@@ -85,34 +92,31 @@ root_named : (roots : Roots) (values : Contents) (n : List ℕ) → HasValues ro
 unfolding root_reference
 root_named roots values n h = root_by roots values h (bytes_eq (codes "object") n) (bytes_eq (codes "oldObject") n) (bytes_eq (codes "params") n) (bytes_eq (codes "namespaceObject") n) (bytes_eq (codes "request") n)
 
-module _ (s : Setting) (p : ℕ) (c : Context) (depth base : ℕ) (low : base ≤ 64) (b : Body) (fits : Fits c depth base b) (r : ℤ) (root : Option Value) (named : Names b.values.values (cast_unsigned w64 r) (value_or_error root)) where
-  held_runs : (word : Option ℕ) (item : Option Value) → IsHeld depth base b word item → Stands s.image.code p (held_code word r) → Comes s 1 0 p b (p + size (held_code word r)) (Shows c depth base (item_or_root item root) b)
-  held_runs (Some k) (Some v) held has =
-      let below = held.0 in
-      begins has
-      (load has 0 k refl fits.frame (omega arith) refl
-      (done s (p + 1) _ _ (shows_registers c depth base b _ refl (value v) fits held.1)))
-  held_runs None None held has =
-      begins has
-      (mov has 0 refl refl
-      (done s (p + 1) _ _ (shows_registers c depth base b _ refl (value_or_error root) fits named)))
-  held_runs (Some k) None held has = absurd held
-  held_runs None (Some v) held has = absurd held
+held_named : (depth base : ℕ) (b : Body) (r : ℤ) (root : Option Value) → base ≤ 64 → Names b.values.values (cast_unsigned w64 r) (value_or_error root) → (word : Option ℕ) (item : Option Value) → IsHeld depth base b word item → IsLeafIn (held_leaf word r) depth b (item_or_root item root)
+held_named depth base b r root low named (Some k) (Some v) held = let below = held.0 in (omega arith, held.1)
+held_named depth base b r root low named None None held = named
+held_named depth base b r root low named (Some k) None held = absurd held
+held_named depth base b r root low named None (Some v) held = absurd held
 
-name_gives : (s : Setting) (p : ℕ) (c : Context) (depth base : ℕ) (n : List ℕ) → base ≤ 64 → Gives s p (name_code n c.words) c depth base (name_value n c.environment) 1 0
+name_named : (c : Context) (depth base : ℕ) (n : List ℕ) → base ≤ 64 → IsLeafOf c depth base (Some (name_leaf n c.words)) (name_value n c.environment)
 unfolding name_value
-name_gives s p c depth base n low = record {
-  runs = λ b has fits.
-      let roots = c.environment.roots in
-      held_runs s p c depth base low b fits (root_reference n) (lookup n (root_bindings roots)) (root_named roots b.values n fits.values) (lookup n c.words) (lookup n c.environment.items) (fits.holds.names n) has;
+name_named c depth base n low b fits =
+    let roots = c.environment.roots in
+    held_named depth base b (root_reference n) (lookup n (root_bindings roots)) low (root_named roots b.values n fits.values) (lookup n c.words) (lookup n c.environment.items) (fits.holds.names n)
+
+pub leaves_name : LeavesName
+leaves_name = record {
+  null = λ c depth base b fits. names_null b.values fits.values.table.store;
+  truth = truth_named;
+  name = name_named;
 }
 
 pub leaves_give : LeavesGive
 leaves_give = record {
-  null = λ s p c depth base low. reference_gives s p c depth base (pos 1) (value null) (λ b fits. names_null b.values fits.values.table.store);
-  truth = λ s p c depth base t low. truth_gives s p c depth base t;
+  null = λ s p c depth base low. leaf_gives s p c depth base null_leaf (value null) (leaves_name.null c depth base);
+  truth = λ s p c depth base t low. leaf_gives s p c depth base (truth_leaf t) (value (boolean t)) (truth_named c depth base t);
   int = int_gives;
   text = text_gives;
-  name = name_gives;
-  error = λ s p c depth base low. reference_gives s p c depth base (pos 0) error (λ b fits. names_error b.values fits.values.table.store);
+  name = λ s p c depth base n low. leaf_gives s p c depth base (name_leaf n c.words) (name_value n c.environment) (name_named c depth base n low);
+  error = λ s p c depth base low. leaf_gives s p c depth base (Reference (pos 0)) error (λ b fits. names_error b.values fits.values.table.store);
 }

@@ -21,6 +21,7 @@ pub mod Variables
 pub mod Programs
 pub mod LoopItems
 pub mod Loops
+pub mod Loaded
 pub mod Operators
 pub mod Absorbing
 pub mod Logic
@@ -42,4 +43,3 @@ pub mod IntWords
 pub mod Products
 pub mod Multiplications
 pub mod Negation
-pub mod Joined

@@ -7,7 +7,7 @@ use Rattle.helper_table.specs.Building.{depth_limit}
 use Rattle.insn_codec.specs.declared.insn.Insn.{Insn}
 use Rattle.insn_codec.specs.declared.register.Register.TheVariants.{R0, R1, R2}
 use Rattle.value_store.specs.Size.{items_depth, depth_of, result_depth}
-use Rattle.value_store.specs.Value.{Value, ValueOrError, error, value, null, boolean, int, text, list, map, Items, no_items, item, items_join, items_of, items_push}
+use Rattle.value_store.specs.Value.{Value, ValueOrError, error, value, list, Items, no_items, item, items_join, items_of, items_push}
 use Rattle.cel_macros.specs.FoldMeaning.{pushed}
 use Rattle.cel_macros.specs.Literals.{list_literal, list_or_error, values_in}
 use Rattle.codegen_base.specs.Body.{Body, set_register}
@@ -68,19 +68,14 @@ push_depth no_items v = omega arith
 push_depth (item w is) v = let h = push_depth is v in omega arith
 
 pub pushed_depth : (l x : ValueOrError) → result_depth (pushed l x) ≤ max (result_depth l) (1 + result_depth x)
-pushed_depth error x = omega arith
-pushed_depth (value null) x = omega arith
-pushed_depth (value (boolean b)) x = omega arith
-pushed_depth (value (int z)) x = omega arith
-pushed_depth (value (text s)) x = omega arith
-pushed_depth (value (list is)) error = omega arith
 pushed_depth (value (list is)) (value v) = let h = push_depth is v in omega arith
-pushed_depth (value (map es)) x = omega arith
+pushed_depth _ _ = omega arith
 
 -- ---- an item
 
 module _ (s : Setting) (k : ℕ) (c : Context) (depth : ℕ) (low : k < 60) (l x : ValueOrError) (held : MayHold s x) where
-  push_by : (fits_in : Bool) (q : ℕ) (a b : Body) → nat_le (result_depth (pushed l x)) depth_limit ≡ fits_in → Stands s.image.code q (push_tail k) → Beside c depth k l x a b → Comes s 4 2 q b (q + 4) (MadeFrom c depth k (pushed l x) b)
+  push_by : (fits_in : Bool) (q : ℕ) (a b : Body) → nat_le (result_depth (pushed l x)) depth_limit ≡ fits_in → Stands s.image.code q (push_tail k)
+      → Beside c depth k l x a b → Comes s 4 2 q b (q + 4) (MadeFrom c depth k (pushed l x) b)
   push_by true q a b e has g =
       let within : result_depth (pushed l x) ≤ depth_limit = leb-true _ _ e in
       let fits = g.made.fits in
@@ -108,7 +103,8 @@ module _ (s : Setting) (k : ℕ) (c : Context) (depth : ℕ) (low : k < 60) (l x
       (load has 1 k refl g.made.fits.frame (omega arith) refl
       (refused has 2 refl (helpers.push_deep asks l x g.made.named g.shows over) (held (le-leb depth_limit (result_depth x) deep))))))
 
-item_builds : (s : Setting) (p k : ℕ) (part : List Insn) (c : Context) (depth : ℕ) (x : ValueOrError) (n m : ℕ) → k < 60 → MayHold s x → Gives s p part c depth (k + 1) x n m → Builds s p (item_code part k) c depth k (λ l. pushed l x) (n + 4) (m + 2)
+item_builds : (s : Setting) (p k : ℕ) (part : List Insn) (c : Context) (depth : ℕ) (x : ValueOrError) (n m : ℕ) → k < 60 → MayHold s x
+    → Gives s p part c depth (k + 1) x n m → Builds s p (item_code part k) c depth k (λ l. pushed l x) (n + 4) (m + 2)
 item_builds s p k part c depth x n m low held gives = record {
   runs = λ b l has made named.
       let code = s.image.code in
@@ -123,7 +119,9 @@ item_builds s p k part c depth x n m low held gives = record {
 
 -- ---- the literal
 
-more_items : (s : Setting) (p k : ℕ) (part parts : List Insn) (c : Context) (depth : ℕ) (x : ValueOrError) (xs : List ValueOrError) (n1 x1 n2 x2 : ℕ) → k < 60 → MayHold s x → Gives s p part c depth (k + 1) x n1 x1 → ItemsGive s (p + size part + 4) parts c depth k xs n2 x2 → ItemsGive s p (item_code part k ++ parts) c depth k (x ∷ xs) (n1 + 4 + n2) (x1 + 2 + x2)
+more_items : (s : Setting) (p k : ℕ) (part parts : List Insn) (c : Context) (depth : ℕ) (x : ValueOrError) (xs : List ValueOrError) (n1 x1 n2 x2 : ℕ) → k < 60
+    → MayHold s x → Gives s p part c depth (k + 1) x n1 x1 → ItemsGive s (p + size part + 4) parts c depth k xs n2 x2
+    → ItemsGive s p (item_code part k ++ parts) c depth k (x ∷ xs) (n1 + 4 + n2) (x1 + 2 + x2)
 more_items s p k part parts c depth x xs n1 x1 n2 x2 low held gives rest =
     let place : p + size part + 4 ≡ p + size (item_code part k) = omega (arith, size-append part (push_tail k)) in
     builds_then s p k (item_code part k) parts c depth (λ l. pushed l x) (λ l. fold_left pushed l xs) (n1 + 4) (x1 + 2) n2 x2

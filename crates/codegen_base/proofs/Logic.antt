@@ -26,7 +26,8 @@ use Rattle.codegen_base.proofs.Frames.{keeps_then, shows_registers}
 use Rattle.codegen_base.proofs.HelperAnswers.{helpers}
 use Rattle.codegen_base.proofs.Listings.{begins, load, no, yes}
 use Rattle.codegen_base.proofs.Loops.{either}
-use Rattle.codegen_base.proofs.Operators.{calls_give, keeps_left}
+use Rattle.codegen_base.proofs.Loaded.{keeps_left}
+use Rattle.codegen_base.proofs.Operators.{calls_give}
 use Rattle.codegen_base.proofs.Pieces.{size-append, size-cons, stands_back, stands_first, stands_front, stands_rest}
 use Rattle.codegen_base.proofs.Runs.{and_then, done, into, looser, to_place}
 use Rattle.codegen_base.proofs.Steps as step

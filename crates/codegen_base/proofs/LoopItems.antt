@@ -7,7 +7,7 @@ use Rattle.std.proofs.lemmas.List.Elements.{All-head, All-tail}
 use Rattle.helper_table.specs.Laws.{Names}
 use Rattle.helper_table.specs.Tables.{IsResultBounded}
 use Rattle.insn_codec.specs.declared.insn.Insn.{Insn}
-use Rattle.value_store.specs.Value.{Value, ValueOrError, error, value, null, boolean, int, text, list, map, list_of, keys_of}
+use Rattle.value_store.specs.Value.{Value, ValueOrError, value, text, list, map, list_of, keys_of}
 use Rattle.cel_macros.specs.Environment.{lookup}
 use Rattle.cel_macros.specs.Macros.{range_of}
 use Rattle.codegen_base.specs.Body.{Body}
@@ -27,11 +27,6 @@ all_at n (v ∷ vs) zero x all e = let same : v ≡ x = cc in subst (IsResultBou
 all_at n (v ∷ vs) (suc r) x all e = all_at n vs r x (All-tail (IsResultBounded n) v vs all) e
 
 bounded_range : (n : ℕ) (x : ValueOrError) (items : List Value) → IsResultBounded n x → range_of x ≡ Some items → length items ≤ n
-bounded_range n error items bounded e = absurd (cc)
-bounded_range n (value null) items bounded e = absurd (cc)
-bounded_range n (value (boolean b)) items bounded e = absurd (cc)
-bounded_range n (value (int z)) items bounded e = absurd (cc)
-bounded_range n (value (text s)) items bounded e = absurd (cc)
 bounded_range n (value (list is)) items bounded e =
     let same : list_of is ≡ items = cc in
     subst (λ (vs : List Value). length vs ≤ n) same bounded.0
@@ -40,8 +35,10 @@ bounded_range n (value (map es)) items bounded e =
     let long = length-map (keys_of es) text in
     let few = bounded.0 in
     subst (λ (vs : List Value). length vs ≤ n) same (omega arith)
+bounded_range n _ items bounded e = absurd (cc)
 
-pub few_items : (c : Context) (depth base r : ℕ) (x : ValueOrError) (items : List Value) (b : Body) → Fits c depth base b → Names b.values.values r x → range_of x ≡ Some items → length items < 2 ^ 32
+pub few_items : (c : Context) (depth base r : ℕ) (x : ValueOrError) (items : List Value) (b : Body) → Fits c depth base b → Names b.values.values r x
+    → range_of x ≡ Some items → length items < 2 ^ 32
 few_items c depth base r x items b fits named range =
     let charged = fits.values.table.store.charged in
     let few = bounded_range b.values.charge x items (all_at b.values.charge b.values.values r x fits.values.table.bounded named) range in
@@ -49,11 +46,13 @@ few_items c depth base r x items b fits named range =
 
 -- ---- an item has its name
 
-held_item : (depth k : ℕ) (b : Body) (v : Value) (same : Bool) (o : Option ℕ) (u : Option Value) → Names b.values.values (word_at depth (k + 4) b) (value v) → IsHeld depth k b o u → IsHeld depth (k + 5) b (if same then Some (k + 4) else o) (if same then Some v else u)
+held_item : (depth k : ℕ) (b : Body) (v : Value) (same : Bool) (o : Option ℕ) (u : Option Value) → Names b.values.values (word_at depth (k + 4) b) (value v)
+    → IsHeld depth k b o u → IsHeld depth (k + 5) b (if same then Some (k + 4) else o) (if same then Some v else u)
 held_item depth k b v true o u named h = (omega arith, named)
 held_item depth k b v false o u named h = held_on depth k (k + 5) b b o u (λ j inside. omega arith) (λ j w inside n. n) h
 
-pub fits_item : (c : Context) (depth k : ℕ) (n : List ℕ) (v : Value) (b : Body) → Fits c depth k b → Names b.values.values (word_at depth (k + 4) b) (value v) → Fits (with_item c k n v) depth (k + 5) b
+pub fits_item : (c : Context) (depth k : ℕ) (n : List ℕ) (v : Value) (b : Body) → Fits c depth k b → Names b.values.values (word_at depth (k + 4) b) (value v)
+    → Fits (with_item c k n v) depth (k + 5) b
 fits_item c depth k n v b fits named = record {
   frame = fits.frame;
   values = fits.values;
@@ -65,7 +64,8 @@ fits_item c depth k n v b fits named = record {
 }
 
 -- after the item's body its name is gone
-pub fits_outside : (c : Context) (depth k : ℕ) (n : List ℕ) (v : Value) (old new : Body) → k < 56 → Fits c depth k old → Keeps (variable_count c) depth (k + 5) old new → Fits (with_item c k n v) depth (k + 5) new → Fits c depth (k + 5) new
+pub fits_outside : (c : Context) (depth k : ℕ) (n : List ℕ) (v : Value) (old new : Body) → k < 56 → Fits c depth k old
+    → Keeps (variable_count c) depth (k + 5) old new → Fits (with_item c k n v) depth (k + 5) new → Fits c depth (k + 5) new
 fits_outside c depth k n v old new low first kept fits = record {
   frame = fits.frame;
   values = fits.values;

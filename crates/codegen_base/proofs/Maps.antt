@@ -27,7 +27,8 @@ use Rattle.codegen_base.proofs.Frames.{fits_above, fits_registers, keeps_then}
 use Rattle.codegen_base.proofs.HelperAnswers.{helpers}
 use Rattle.codegen_base.proofs.Insertions.{map_is}
 use Rattle.codegen_base.proofs.Listings.{ask, begins, load, mov, refused, store}
-use Rattle.codegen_base.proofs.Operators.{keeps_left, shows_placed}
+use Rattle.codegen_base.proofs.Loaded.{keeps_left}
+use Rattle.codegen_base.proofs.Operators.{shows_placed}
 use Rattle.codegen_base.proofs.Pieces.{size-append, size-cons, stands_back, stands_front}
 use Rattle.codegen_base.proofs.Runs.{and_then, done, into, looser, to_place}
 

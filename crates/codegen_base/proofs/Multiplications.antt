@@ -145,18 +145,18 @@ remainder_runs = divided_runs Smod remainder remainder_divided
 
 -- ---- behind any operands
 
-product_gives : TailGives product_code product_of 25 5
+product_gives : TailGives product_code R6 R7 product_of 23 5
 unfolding product_tail
 product_gives s p k c depth x y low =
-    ints_give product s p k 12 product_tail c depth 11 1 x y low refl refl (λ m n. product_runs s (p + 14) c depth k m n (omega arith))
+    ints_give product s p k 12 product_tail c depth 11 1 x y refl refl (λ m n. product_runs s (p + 12) c depth k m n (omega arith))
 
-quotient_gives : TailGives (divided_code Sdiv) quotient_of 22 5
+quotient_gives : TailGives (divided_code Sdiv) R6 R7 quotient_of 20 5
 quotient_gives s p k c depth x y low =
-    ints_give quotient s p k 9 (divided_tail Sdiv) c depth 8 1 x y low refl refl (λ m n. quotient_runs s (p + 14) c depth k m n (omega arith))
+    ints_give quotient s p k 9 (divided_tail Sdiv) c depth 8 1 x y refl refl (λ m n. quotient_runs s (p + 12) c depth k m n (omega arith))
 
-remainder_gives : TailGives (divided_code Smod) remainder_of 22 5
+remainder_gives : TailGives (divided_code Smod) R6 R7 remainder_of 20 5
 remainder_gives s p k c depth x y low =
-    ints_give remainder s p k 9 (divided_tail Smod) c depth 8 1 x y low refl refl (λ m n. remainder_runs s (p + 14) c depth k m n (omega arith))
+    ints_give remainder s p k 9 (divided_tail Smod) c depth 8 1 x y refl refl (λ m n. remainder_runs s (p + 12) c depth k m n (omega arith))
 
 pub products_give : ProductsGive
 products_give = record { product = product_gives; quotient = quotient_gives; remainder = remainder_gives }

@@ -51,15 +51,15 @@ neg {s} {o} {piece} {n} {x} {p'} {b} {Q} has {width} {dst} k h free c =
 
 -- ---- the piece
 
-module _ (s : Setting) (c : Context) (depth base o : ℕ) (low : base ≤ 64) (has : Stands s.image.code o negation_tail) (b : Body) (fitting : Fits c depth base b) (x : ValueOrError) (named : Names b.values.values (b.registers R0) x) where
+module _ (s : Setting) (c : Context) (depth base o : ℕ) (low : base ≤ 64) (has : Stands s.image.code o negation_tail) (b : Body) (fitting : Fits c depth base b) (x : ValueOrError) (named : Names b.values.values (b.registers R6) x) where
   abbrev asks : Body
-  asks = set_register (set_register b R6 (b.registers R0)) R1 (b.registers R0)
+  asks = set_register b R1 (b.registers R6)
 
   fits1 : Fits c depth base asks
   fits1 = fits_registers c depth base b asks.registers refl fitting
 
   -- an operand that is no int
-  of_other : int_part x ≡ None → Comes s 12 3 o b (o + 14) (Shows c depth base error b)
+  of_other : int_part x ≡ None → Comes s 11 3 o b (o + 13) (Shows c depth base error b)
   unfolding negation_tail
   of_other none =
       let w = kind_number (seen x) in
@@ -67,20 +67,19 @@ module _ (s : Setting) (c : Context) (depth base o : ℕ) (low : base ≤ 64) (h
       let told = answered asks w b.values.values (b.values.charge + 1) in
       let kept = keeps_then (omega arith) (keeps_registers c depth base b asks.registers refl (variable_count c)) (keeps_told c depth base (pos 1) w 1 asks t) in
       let Q = Shows c depth base error b in
-      looser s 12 3 (omega arith) (omega arith) (begins has
+      looser s 11 3 (omega arith) (omega arith) (begins has
       (mov has 0 refl refl
-      (mov has 1 refl refl
-      (ask has 2 refl t.answers (λ paid.
-      yes has 3 9 refl (kind_of_other x none)
+      (ask has 1 refl t.answers (λ paid.
+      yes has 2 9 refl (kind_of_other x none)
       (into s Q (λ b1 g1. record { shows = g1.shows; fits = g1.fits; keeps = keeps_then (omega arith) kept g1.keeps })
-      (answers_error s c depth base o low negation_tail has 11 refl refl refl told told.registers error refl (fits_told c depth base (pos 1) w 1 asks t paid fits1) refl)))))))
+      (answers_error s c depth base o low negation_tail has 10 refl refl refl told told.registers error refl (fits_told c depth base (pos 1) w 1 asks t paid fits1) refl))))))
 
   module _ (z : ℤ) (is : int_part x ≡ Some z) where
-    holds : Names b.values.values (b.registers R0) (value (int z))
-    holds = subst (Names b.values.values (b.registers R0)) (int_is x z is) named
+    holds : Names b.values.values (b.registers R6) (value (int z))
+    holds = subst (Names b.values.values (b.registers R6)) (int_is x z is) named
 
     check : Negated (word z) z
-    check = negated_is z (fits_from z (int_fits c depth base (b.registers R0) x z b fitting named is))
+    check = negated_is z (fits_from z (int_fits c depth base (b.registers R6) x z b fitting named is))
 
     exact_is : compares W64 Eq (word z) least ≡ false → value (int (cast_signed w64 (negated W64 (word z)))) ≡ int_or_error (neg_ℤ z)
     exact_is h =
@@ -90,41 +89,40 @@ module _ (s : Setting) (c : Context) (depth base o : ℕ) (low : base ≤ 64) (h
     over_is : fits (neg_ℤ z) ≡ false → error ≡ int_or_error (neg_ℤ z)
     over_is h = sym (ap (λ (t : Bool). if t then value (int (neg_ℤ z)) else error) h)
 
-    of_int : Comes s 12 3 o b (o + 14) (Shows c depth base (int_or_error (neg_ℤ z)) b)
+    of_int : Comes s 11 3 o b (o + 13) (Shows c depth base (int_or_error (neg_ℤ z)) b)
     unfolding negation_tail
     of_int =
         let charge = b.values.charge in
         let w = kind_number (seen x) in
         let t = helpers.kind c.environment.roots asks x fits1.values named in
         let told = answered asks w b.values.values (charge + 1) in
-        let asks2 = set_register told R1 (b.registers R0) in
+        let asks2 = set_register told R1 (b.registers R6) in
         let told2 = answered asks2 (word z) b.values.values (charge + 1 + 1) in
         let Q = Shows c depth base (int_or_error (neg_ℤ z)) b in
         begins has
         (mov has 0 refl refl
-        (mov has 1 refl refl
-        (ask has 2 refl t.answers (λ paid.
+        (ask has 1 refl t.answers (λ paid.
         let fits2 = fits_registers c depth base told asks2.registers refl (fits_told c depth base (pos 1) w 1 asks t paid fits1) in
         let t2 = helpers.int_of c.environment.roots asks2 z fits2.values holds in
         let kept = keeps_then (omega arith) (keeps_registers c depth base b asks.registers refl (variable_count c)) (keeps_then (omega arith) (keeps_told c depth base (pos 1) w 1 asks t) (keeps_then (omega arith) (keeps_registers c depth base told asks2.registers refl (variable_count c)) (keeps_told c depth base (pos 2) (word z) 1 asks2 t2))) in
-        no has 3 refl (kind_of_int x z is)
-        (mov has 4 refl refl
-        (ask has 5 refl t2.answers (λ paid2.
+        no has 2 refl (kind_of_int x z is)
+        (mov has 3 refl refl
+        (ask has 4 refl t2.answers (λ paid2.
         let fits3 = fits_told c depth base (pos 2) (word z) 1 asks2 t2 paid2 fits2 in
         let loaded = set_register (set_register told2 R1 (word z)) R2 least_word in
         let last = set_register loaded R1 (negated W64 (word z)) in
-        mov has 6 refl refl
-        (load_wide has 7 refl refl
+        mov has 5 refl refl
+        (load_wide has 6 refl refl
         (into s Q (λ b1 g1. record { shows = g1.shows; fits = g1.fits; keeps = keeps_then (omega arith) kept g1.keeps })
         (either (compares W64 Eq (word z) least)
         (λ lowest. looser s 4 1 (omega arith) (omega arith)
-        (yes has 9 3 refl lowest
-        (answers_error s c depth base o low negation_tail has 11 refl refl refl told2 loaded.registers (int_or_error (neg_ℤ z)) refl fits3 (over_is (check.over lowest)))))
-        (λ other. no has 9 refl other
-        (neg has 10 refl refl
-        (answers_int s c depth base o low negation_tail has 11 refl refl refl told2 last.registers (int_or_error (neg_ℤ z)) refl fits3 check.small (exact_is other))))))))))))))
+        (yes has 8 3 refl lowest
+        (answers_error s c depth base o low negation_tail has 10 refl refl refl told2 loaded.registers (int_or_error (neg_ℤ z)) refl fits3 (over_is (check.over lowest)))))
+        (λ other. no has 8 refl other
+        (neg has 9 refl refl
+        (answers_int s c depth base o low negation_tail has 10 refl refl refl told2 last.registers (int_or_error (neg_ℤ z)) refl fits3 check.small (exact_is other)))))))))))))
 
-  by_part : (n : Option ℤ) → int_part x ≡ n → Comes s 12 3 o b (o + 14) (Shows c depth base (negation n) b)
+  by_part : (n : Option ℤ) → int_part x ≡ n → Comes s 11 3 o b (o + 13) (Shows c depth base (negation n) b)
   by_part (Some z) is = of_int z is
   by_part None is = of_other is
 

@@ -19,11 +19,10 @@ use Rattle.codegen_base.specs.Code.Arithmetic.{int_operands}
 use Rattle.codegen_base.specs.Contexts.{Context, Fits, Keeps, variable_count}
 use Rattle.codegen_base.specs.Engine.{Setting, Comes}
 use Rattle.codegen_base.specs.Pieces.{Stands}
-use Rattle.codegen_base.specs.Words.{word_at}
 use Rattle.codegen_base.proofs.Effects.{differs_no, differs_yes}
 use Rattle.codegen_base.proofs.Frames.{fits_answered, fits_registers, keeps_answered, keeps_registers, keeps_then}
 use Rattle.codegen_base.proofs.HelperAnswers.{helpers}
-use Rattle.codegen_base.proofs.Listings.{ask, begins, load, mov, no, yes}
+use Rattle.codegen_base.proofs.Listings.{ask, begins, mov, no, yes}
 use Rattle.codegen_base.proofs.Runs.{done, from_place, looser}
 
 -- ---- a helper tells a word, and the values stay
@@ -60,7 +59,7 @@ kind_of_other (value (map es)) e = differs_yes 6 3 (λ h. omega arith)
 
 -- ---- both operands are ints, or not
 
-module _ (s : Setting) (c : Context) (depth k o off : ℕ) (low : k < 64) (has : Stands s.image.code o (int_operands k off)) (b : Body) (fits : Fits c depth k b) (x y : ValueOrError) (left : Names b.values.values (word_at depth k b) x) (right : Names b.values.values (b.registers R0) y) where
+module _ (s : Setting) (c : Context) (depth k o off : ℕ) (has : Stands s.image.code o (int_operands off)) (b : Body) (fits : Fits c depth k b) (x y : ValueOrError) (left : Names b.values.values (b.registers R6) x) (right : Names b.values.values (b.registers R7) y) where
   -- R6 and R7 have the words of the ints
   pub record AreInts (m n : ℤ) (last : Body) : Type 0 where
     pub first : last.registers R6 ≡ cast_unsigned w64 m
@@ -76,7 +75,7 @@ module _ (s : Setting) (c : Context) (depth k o off : ℕ) (low : k < 64) (has :
     pub keeps : Keeps (variable_count c) depth k b last
 
   abbrev asks : Body
-  asks = set_register (set_register (set_register b R7 (b.registers R0)) R6 (word_at depth k b)) R1 (word_at depth k b)
+  asks = set_register b R1 (b.registers R6)
 
   fits1 : Fits c depth k asks
   fits1 = fits_registers c depth k b asks.registers refl fits
@@ -92,7 +91,7 @@ module _ (s : Setting) (c : Context) (depth k o off : ℕ) (low : k < 64) (has :
   told1 = answered asks (kind_number (seen x)) b.values.values (b.values.charge + 1)
 
   abbrev asks2 : Body
-  asks2 = set_register told1 R1 (b.registers R0)
+  asks2 = set_register told1 R1 (b.registers R7)
 
   fits2 : b.values.charge + 1 ≤ charge_limit → Fits c depth k asks2
   fits2 paid = fits_registers c depth k told1 asks2.registers refl (fits_told c depth k (pos 1) (kind_number (seen x)) 1 asks kind1 paid fits1)
@@ -113,70 +112,64 @@ module _ (s : Setting) (c : Context) (depth k o off : ℕ) (low : k < 64) (has :
   keeps3 : (paid : b.values.charge + 1 ≤ charge_limit) → Keeps (variable_count c) depth k b told2
   keeps3 paid = keeps_then (omega arith) keeps2 (keeps_told c depth k (pos 1) (kind_number (seen y)) 1 asks2 (kind2 paid))
 
-  first_other : int_part x ≡ None → Comes s 8 2 o b (o + (14 + off)) AreOthers
+  first_other : int_part x ≡ None → Comes s 6 2 o b (o + (12 + off)) AreOthers
   first_other is =
-      looser s 8 2 (omega arith) (omega arith) (begins has
+      looser s 6 2 (omega arith) (omega arith) (begins has
       (mov has 0 refl refl
-      (load has 1 k refl fits.frame low refl
-      (mov has 2 refl refl
-      (ask has 3 refl kind1.answers (λ paid.
-      yes has 4 (off + 9) refl (kind_of_other x is)
-      (from_place s (o + (4 + 1 + (off + 9))) (omega arith)
-      (done s (o + (14 + off)) told1 AreOthers (record { first = left; second = right; fitting = fits_told c depth k (pos 1) (kind_number (seen x)) 1 asks kind1 paid fits1; keeps = keeps_then (omega arith) keeps1 (keeps_told c depth k (pos 1) (kind_number (seen x)) 1 asks kind1) })))))))))
+      (ask has 1 refl kind1.answers (λ paid.
+      yes has 2 (off + 9) refl (kind_of_other x is)
+      (from_place s (o + (2 + 1 + (off + 9))) (omega arith)
+      (done s (o + (12 + off)) told1 AreOthers (record { first = left; second = right; fitting = fits_told c depth k (pos 1) (kind_number (seen x)) 1 asks kind1 paid fits1; keeps = keeps_then (omega arith) keeps1 (keeps_told c depth k (pos 1) (kind_number (seen x)) 1 asks kind1) })))))))
 
-  second_other : (m : ℤ) → int_part x ≡ Some m → int_part y ≡ None → Comes s 8 2 o b (o + (14 + off)) AreOthers
+  second_other : (m : ℤ) → int_part x ≡ Some m → int_part y ≡ None → Comes s 6 2 o b (o + (12 + off)) AreOthers
   second_other m is none =
-      looser s 8 2 (omega arith) (omega arith) (begins has
+      looser s 6 2 (omega arith) (omega arith) (begins has
       (mov has 0 refl refl
-      (load has 1 k refl fits.frame low refl
-      (mov has 2 refl refl
-      (ask has 3 refl kind1.answers (λ paid.
-      no has 4 refl (kind_of_int x m is)
-      (mov has 5 refl refl
-      (ask has 6 refl (kind2 paid).answers (λ paid2.
-      yes has 7 (off + 6) refl (kind_of_other y none)
-      (from_place s (o + (7 + 1 + (off + 6))) (omega arith)
-      (done s (o + (14 + off)) told2 AreOthers (record { first = left; second = right; fitting = fits3 paid paid2; keeps = keeps3 paid }))))))))))))
+      (ask has 1 refl kind1.answers (λ paid.
+      no has 2 refl (kind_of_int x m is)
+      (mov has 3 refl refl
+      (ask has 4 refl (kind2 paid).answers (λ paid2.
+      yes has 5 (off + 6) refl (kind_of_other y none)
+      (from_place s (o + (5 + 1 + (off + 6))) (omega arith)
+      (done s (o + (12 + off)) told2 AreOthers (record { first = left; second = right; fitting = fits3 paid paid2; keeps = keeps3 paid }))))))))))
 
-  pub are_others : (m n : Option ℤ) → int_part x ≡ m → int_part y ≡ n → (m ≡ None) ⊎ (n ≡ None) → Comes s 8 2 o b (o + (14 + off)) AreOthers
+  pub are_others : (m n : Option ℤ) → int_part x ≡ m → int_part y ≡ n → (m ≡ None) ⊎ (n ≡ None) → Comes s 6 2 o b (o + (12 + off)) AreOthers
   are_others None n is_x is_y either = first_other is_x
   are_others (Some m) None is_x is_y either = second_other m is_x is_y
   are_others (Some m) (Some n) is_x is_y (inl e) = absurd (cc)
   are_others (Some m) (Some n) is_x is_y (inr e) = absurd (cc)
 
-  pub are_ints : (m n : ℤ) → int_part x ≡ Some m → int_part y ≡ Some n → Comes s 14 4 o b (o + 14) (AreInts m n)
+  pub are_ints : (m n : ℤ) → int_part x ≡ Some m → int_part y ≡ Some n → Comes s 12 4 o b (o + 12) (AreInts m n)
   are_ints m n is_x is_y =
-      let asks3 = set_register told2 R1 (word_at depth k b) in
+      let asks3 = set_register told2 R1 (b.registers R6) in
       let int_x = int_is x m is_x in
       let int_y = int_is y n is_y in
-      let left_int : Names b.values.values (word_at depth k b) (value (int m)) = subst (Names b.values.values (word_at depth k b)) int_x left in
-      let right_int : Names b.values.values (b.registers R0) (value (int n)) = subst (Names b.values.values (b.registers R0)) int_y right in
+      let left_int : Names b.values.values (b.registers R6) (value (int m)) = subst (Names b.values.values (b.registers R6)) int_x left in
+      let right_int : Names b.values.values (b.registers R7) (value (int n)) = subst (Names b.values.values (b.registers R7)) int_y right in
       begins has
       (mov has 0 refl refl
-      (load has 1 k refl fits.frame low refl
-      (mov has 2 refl refl
-      (ask has 3 refl kind1.answers (λ paid.
-      no has 4 refl (kind_of_int x m is_x)
-      (mov has 5 refl refl
-      (ask has 6 refl (kind2 paid).answers (λ paid2.
+      (ask has 1 refl kind1.answers (λ paid.
+      no has 2 refl (kind_of_int x m is_x)
+      (mov has 3 refl refl
+      (ask has 4 refl (kind2 paid).answers (λ paid2.
       let fits4 = fits_registers c depth k told2 asks3.registers refl (fits3 paid paid2) in
       let of_left = helpers.int_of c.environment.roots asks3 m fits4.values left_int in
       let told3 = answered asks3 (cast_unsigned w64 m) b.values.values (b.values.charge + 1 + 1 + 1) in
-      let asks4 = set_register (set_register told3 R6 (cast_unsigned w64 m)) R1 (b.registers R0) in
-      no has 7 refl (kind_of_int y n is_y)
-      (mov has 8 refl refl
-      (ask has 9 refl of_left.answers (λ paid3.
+      let asks4 = set_register (set_register told3 R6 (cast_unsigned w64 m)) R1 (b.registers R7) in
+      no has 5 refl (kind_of_int y n is_y)
+      (mov has 6 refl refl
+      (ask has 7 refl of_left.answers (λ paid3.
       let fits5 = fits_registers c depth k told3 asks4.registers refl (fits_told c depth k (pos 2) (cast_unsigned w64 m) 1 asks3 of_left paid3 fits4) in
       let of_right = helpers.int_of c.environment.roots asks4 n fits5.values right_int in
       let told4 = answered asks4 (cast_unsigned w64 n) b.values.values (b.values.charge + 1 + 1 + 1 + 1) in
       let last = set_register told4 R7 (cast_unsigned w64 n) in
-      mov has 10 refl refl
-      (mov has 11 refl refl
-      (ask has 12 refl of_right.answers (λ paid4.
-      mov has 13 refl refl
-      (done s (o + 14) last (AreInts m n) (record {
+      mov has 8 refl refl
+      (mov has 9 refl refl
+      (ask has 10 refl of_right.answers (λ paid4.
+      mov has 11 refl refl
+      (done s (o + 12) last (AreInts m n) (record {
         first = refl;
         second = refl;
         fitting = fits_registers c depth k told4 last.registers refl (fits_told c depth k (pos 2) (cast_unsigned w64 n) 1 asks4 of_right paid4 fits5);
         keeps = keeps_then (omega arith) (keeps3 paid) (keeps_then (omega arith) (keeps_registers c depth k told2 asks3.registers refl (variable_count c)) (keeps_then (omega arith) (keeps_told c depth k (pos 2) (cast_unsigned w64 m) 1 asks3 of_left) (keeps_then (omega arith) (keeps_registers c depth k told3 asks4.registers refl (variable_count c)) (keeps_then (omega arith) (keeps_told c depth k (pos 2) (cast_unsigned w64 n) 1 asks4 of_right) (keeps_registers c depth k told4 last.registers refl (variable_count c))))));
-      }))))))))))))))))
+      }))))))))))))))

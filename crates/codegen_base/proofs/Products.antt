@@ -35,11 +35,13 @@ first_factor (pos zero) (negsuc b) some = ap (λ (z : ℤ). int_div z (negsuc b)
 first_factor (pos (suc a)) (negsuc b) some =
     let m = a * suc b + b in
     let times : suc a * suc b ≡ suc m = omega (arith, suc-mul a (suc b)) in
-    ap (λ (z : ℤ). int_div z (negsuc b)) (pos-*ℤ-negsuc (suc a) b ∙ ap (λ (n : ℕ). neg_ℤ (pos n)) times) ∙ ap (λ (n : ℕ). pos (n / suc b)) (sym times) ∙ ap pos (cancel (suc a) b)
+    ap (λ (z : ℤ). int_div z (negsuc b)) (pos-*ℤ-negsuc (suc a) b ∙ ap (λ (n : ℕ). neg_ℤ (pos n)) times) ∙ ap (λ (n : ℕ). pos (n / suc b)) (sym times)
+    ∙ ap pos (cancel (suc a) b)
 first_factor (negsuc a) (pos (suc b)) some =
     let m = a * suc b + b in
     let times : suc a * suc b ≡ suc m = omega (arith, suc-mul a (suc b)) in
-    ap (λ (z : ℤ). int_div z (pos (suc b))) (negsuc-*ℤ-pos a (suc b) ∙ ap (λ (n : ℕ). neg_ℤ (pos n)) times) ∙ ap (λ (n : ℕ). neg_ℤ (pos (n / suc b))) (sym times) ∙ ap (λ (n : ℕ). neg_ℤ (pos n)) (cancel (suc a) b)
+    ap (λ (z : ℤ). int_div z (pos (suc b))) (negsuc-*ℤ-pos a (suc b) ∙ ap (λ (n : ℕ). neg_ℤ (pos n)) times)
+    ∙ ap (λ (n : ℕ). neg_ℤ (pos (n / suc b))) (sym times) ∙ ap (λ (n : ℕ). neg_ℤ (pos n)) (cancel (suc a) b)
 first_factor (negsuc a) (negsuc b) some =
     ap (λ (z : ℤ). int_div z (negsuc b)) (negsuc-*ℤ-negsuc a b) ∙ ap (λ (n : ℕ). neg_ℤ (pos n)) (cancel (suc a) b)
 
@@ -55,9 +57,6 @@ quotient_small (negsuc a) (negsuc (suc b)) h far =
     let whole = div-add-mod' (suc a) (suc (suc b)) in
     let two : ((suc a) / suc (suc b)) * 2 ≤ ((suc a) / suc (suc b)) * suc (suc b) = mul-le-mul_left ((suc a) / suc (suc b)) (omega arith) in
     grind arith
-
-quotient_over : fits (int_div (negsuc (2 ^ 63 - 1)) (negsuc 0)) ≡ false
-quotient_over = refl
 
 -- where a quotient of two ints has the word of x, it is x, unless the divisor is -1 and x the least int
 same_quotient : (t x y : ℤ) → fits t ≡ true → fits x ≡ true → (x ≡ negsuc (2 ^ 63 - 1) → y ≡ negsuc 0 → ⊥) → word_of 64 (int_div t y) ≡ word x → int_div t y ≡ x
@@ -79,7 +78,8 @@ no_rest m r t whole same fit =
     let rest : t +ℤ neg_ℤ m ≡ r = omega (arith, ints) in
     let shifted : int_wrap w64 (t +ℤ neg_ℤ m) ≡ int_wrap w64 (m +ℤ neg_ℤ m) = int_wrap-add_same w64 t m (neg_ℤ m) same in
     let zero_wrapped : int_wrap w64 (pos 0) ≡ pos 0 = int_wrap_fits w64 (pos 0) (fits_into (pos 0) refl) in
-    let nothing : r ≡ pos 0 = sym (int_wrap_fits w64 r (fits_into r fit)) ∙ ap (int_wrap w64) (sym rest) ∙ shifted ∙ ap (int_wrap w64) (+ℤ_invr m) ∙ zero_wrapped in
+    let nothing : r ≡ pos 0 = sym (int_wrap_fits w64 r (fits_into r fit)) ∙ ap (int_wrap w64) (sym rest) ∙ shifted ∙ ap (int_wrap w64) (+ℤ_invr m)
+    ∙ zero_wrapped in
     omega (arith, ints)
 
 -- the divisor is not -1, or the dividend not the least int
@@ -139,9 +139,12 @@ module _ (x y : ℤ) (hx : fits x ≡ true) (hy : fits y ≡ true) where
       no_rest (x *ℤ y) (int_rem t y) t whole (int_wrap_fits w64 t (fits_into t (number_fits times)) ∙ times_wraps) (rest_fits some)
 
   back_computed : (y ≡ pos 0 → ⊥) → compares W64 Eq (word y) 0 ≡ false → alu_result W64 Sdiv times (word y) ≡ word_of 64 (int_div (number times) y)
-  back_computed some h = quotient_computed times (word y) times_small (word_small y hy) (not_equal (word y) 0 h) ∙ ap (λ (d : ℤ). word_of 64 (int_div (number times) d)) (number_word y hy)
+  back_computed some h =
+      quotient_computed times (word y) times_small (word_small y hy) (not_equal (word y) 0 h)
+      ∙ ap (λ (d : ℤ). word_of 64 (int_div (number times) d)) (number_word y hy)
 
-  back_tells : (f : Bool) → fits (x *ℤ y) ≡ f → compares W64 Eq (word y) 0 ≡ false → IsFar (word x) (word y) → compares W64 Ne (alu_result W64 Sdiv times (word y)) (word x) ≡ not f
+  back_tells : (f : Bool) → fits (x *ℤ y) ≡ f → compares W64 Eq (word y) 0 ≡ false → IsFar (word x) (word y)
+      → compares W64 Ne (alu_result W64 Sdiv times (word y)) (word x) ≡ not f
   back_tells true e h far =
       let some = is_something y hy h in
       differs_no (alu_result W64 Sdiv times (word y)) (word x) (back_computed some h ∙ ap (λ (t : ℤ). word_of 64 (int_div t y)) (times_word e) ∙ ap (word_of 64) (first_factor x y some) ∙ number_word_of x hx)
@@ -211,7 +214,8 @@ module _ (x y : ℤ) (hx : fits x ≡ true) (hy : fits y ≡ true) where
       let small = quotient_small x y hx (far_from x y far) in
       record {
         result = word (int_div x y);
-        computed = quotient_computed (word x) (word y) (word_small x hx) (word_small y hy) (not_equal (word y) 0 h) ∙ ap₂ (λ (m n : ℤ). word_of 64 (int_div m n)) (number_word x hx) (number_word y hy) ∙ number_word_of (int_div x y) small;
+        computed = quotient_computed (word x) (word y) (word_small x hx) (word_small y hy) (not_equal (word y) 0 h)
+            ∙ ap₂ (λ (m n : ℤ). word_of 64 (int_div m n)) (number_word x hx) (number_word y hy) ∙ number_word_of (int_div x y) small;
         small = word_small (int_div x y) small;
         exact = ap (λ (z : ℤ). value (int z)) (number_word (int_div x y) small) ∙ quotient_is some small;
       }
@@ -222,7 +226,8 @@ module _ (x y : ℤ) (hx : fits x ≡ true) (hy : fits y ≡ true) where
       let small = quotient_small x y hx (far_from x y far) in
       record {
         result = word (int_rem x y);
-        computed = remainder_computed (word x) (word y) (word_small x hx) (word_small y hy) (not_equal (word y) 0 h) ∙ ap₂ (λ (m n : ℤ). word_of 64 (int_rem m n)) (number_word x hx) (number_word y hy) ∙ number_word_of (int_rem x y) remainder_fits;
+        computed = remainder_computed (word x) (word y) (word_small x hx) (word_small y hy) (not_equal (word y) 0 h)
+            ∙ ap₂ (λ (m n : ℤ). word_of 64 (int_rem m n)) (number_word x hx) (number_word y hy) ∙ number_word_of (int_rem x y) remainder_fits;
         small = word_small (int_rem x y) remainder_fits;
         exact = ap (λ (z : ℤ). value (int z)) (number_word (int_rem x y) remainder_fits) ∙ remainder_is some small;
       }

@@ -37,21 +37,20 @@ lends_text c depth base b address key fits h at count = record {
   count = rw (count) h.length_is_word;
 }
 
-keyed_gives : (helper : ℤ) (f : ValueOrError → List ℕ → ValueOrError) → Keyed helper f → KeyedGives (call_with_text helper) f 4 1
+keyed_gives : (helper : ℤ) (f : ValueOrError → List ℕ → ValueOrError) → Keyed helper f → KeyedGives (call_with_text helper) f 3 1
 keyed_gives helper f keyed s p c depth base x address key low h = record {
   runs = λ b has fits named.
-      let asks = set_register (set_register (set_register b R1 (b.registers R0)) R2 address) R3 (length key) in
+      let asks = set_register (set_register b R2 address) R3 (length key) in
       let fits1 = fits_registers c depth base b asks.registers refl fits in
       let a = keyed c.environment.roots asks x key fits1.values named (lends_text c depth base asks address key fits1 h refl refl) in
       begins has
-      (mov has 0 refl refl
-      (load_wide has 1 refl refl
-      (load_wide has 3 refl refl
-      (ask has 5 refl a.answers (λ paid.
-      done s (p + 6) _ _ (shows_placed c depth base helper (f x key) 1 b asks.registers low refl fits a paid))))));
+      (load_wide has 0 refl refl
+      (load_wide has 2 refl refl
+      (ask has 4 refl a.answers (λ paid.
+      done s (p + 5) _ _ (shows_placed c depth base helper (f x key) 1 b asks.registers low refl fits a paid)))));
 }
 
-test_gives : (t : TextTest) → TailGives (test_tail t) (text_test_of (Some t)) 3 1
+test_gives : (t : TextTest) → TailGives (test_tail t) R1 R2 (text_test_of (Some t)) 1 1
 test_gives StartsWith s p k c depth x y low = calls_give.two s p k (pos 12) (text_test_of (Some StartsWith)) c depth x y low helpers.starts
 test_gives EndsWith s p k c depth x y low = calls_give.two s p k (pos 13) (text_test_of (Some EndsWith)) c depth x y low helpers.ends
 test_gives Contains s p k c depth x y low = calls_give.two s p k (pos 14) (text_test_of (Some Contains)) c depth x y low helpers.contains
@@ -61,7 +60,7 @@ test_gives Contains s p k c depth x y low = calls_give.two s p k (pos 14) (text_
 module _ (s : Setting) (p : ℕ) (c : Context) (depth base : ℕ) (low : base ≤ 64) (b : Body) (has : Stands s.image.code p string_tail) (fits : Fits c depth base b) where
   -- before and after the call that tells the kind
   abbrev asks : Body
-  asks = set_register (set_register b R6 (b.registers R0)) R1 (b.registers R0)
+  asks = set_register b R1 (b.registers R6)
 
   abbrev told : ℕ → Body
   told w = answered asks w b.values.values (b.values.charge + 1)
@@ -69,7 +68,7 @@ module _ (s : Setting) (p : ℕ) (c : Context) (depth base : ℕ) (low : base �
   asks_fits : Fits c depth base asks
   asks_fits = fits_registers c depth base b asks.registers refl fits
 
-  told_fits : (x : ValueOrError) → Names b.values.values (b.registers R0) x → b.values.charge + 1 ≤ charge_limit → Fits c depth base (told (kind_number (seen x)))
+  told_fits : (x : ValueOrError) → Names b.values.values (b.registers R6) x → b.values.charge + 1 ≤ charge_limit → Fits c depth base (told (kind_number (seen x)))
   told_fits x named paid =
       let t = helpers.kind c.environment.roots asks x asks_fits.values named in
       fits_answered depth base (kind_number (seen x)) (b.values.charge + 1) b.values.values asks (same b.values.values) c (t.table paid) asks_fits
@@ -78,60 +77,58 @@ module _ (s : Setting) (p : ℕ) (c : Context) (depth base : ℕ) (low : base �
   told_keeps w = keeps_then (omega arith) (keeps_registers c depth base b asks.registers refl (variable_count c)) (keeps_answered depth base w (b.values.charge + 1) b.values.values asks (same b.values.values) (variable_count c))
 
   -- a text stays
-  text_runs : (t : List ℕ) → Names b.values.values (b.registers R0) (value (text t)) → Comes s 6 1 p b (p + 8) (Shows c depth base (value (text t)) b)
+  text_runs : (t : List ℕ) → Names b.values.values (b.registers R6) (value (text t)) → Comes s 5 1 p b (p + 7) (Shows c depth base (value (text t)) b)
   text_runs t named =
       let kind = helpers.kind c.environment.roots asks (value (text t)) asks_fits.values named in
-      let last = set_register (told 4) R0 (b.registers R0) in
+      let last = set_register (told 4) R0 (b.registers R6) in
       begins has
       (mov has 0 refl refl
-      (mov has 1 refl refl
-      (ask has 2 refl kind.answers (λ paid.
-      no has 3 refl (differs_no 4 4 refl)
-      (mov has 4 refl refl
-      (jump has 5 2 refl
-      (done s (p + 8) _ _ (record {
+      (ask has 1 refl kind.answers (λ paid.
+      no has 2 refl (differs_no 4 4 refl)
+      (mov has 3 refl refl
+      (jump has 4 2 refl
+      (done s (p + 7) _ _ (record {
         shows = named;
         fits = fits_registers c depth base (told 4) last.registers refl (told_fits (value (text t)) named paid);
         keeps = keeps_then (omega arith) (told_keeps 4) (keeps_registers c depth base (told 4) last.registers refl (variable_count c));
-      }))))))))
+      })))))))
 
   -- of all else helper 22 is asked
-  made_runs : (x y : ValueOrError) (cost : ℕ) → Names b.values.values (b.registers R0) x → (kind_number (seen x) ≡ 4 → ⊥) → ((d : Body) → HasValues c.environment.roots d.values → Holding d R1 x → Places (pos 22) d y cost) → Comes s 6 (1 + (cost + 0)) p b (p + 8) (Shows c depth base y b)
+  made_runs : (x y : ValueOrError) (cost : ℕ) → Names b.values.values (b.registers R6) x → (kind_number (seen x) ≡ 4 → ⊥) → ((d : Body) → HasValues c.environment.roots d.values → Holding d R1 x → Places (pos 22) d y cost) → Comes s 5 (1 + (cost + 0)) p b (p + 7) (Shows c depth base y b)
   made_runs x y cost named other makes =
       let w = kind_number (seen x) in
       let kind = helpers.kind c.environment.roots asks x asks_fits.values named in
-      let again = set_register (told w) R1 (b.registers R0) in
+      let again = set_register (told w) R1 (b.registers R6) in
       begins has
       (mov has 0 refl refl
-      (mov has 1 refl refl
-      (ask has 2 refl kind.answers (λ paid.
+      (ask has 1 refl kind.answers (λ paid.
       let fits1 = told_fits x named paid in
       let fits2 = fits_registers c depth base (told w) again.registers refl fits1 in
       let a = makes again fits2.values named in
-      yes has 3 2 refl (differs_yes w 4 other)
-      (mov has 6 refl refl
-      (ask has 7 refl a.answers (λ paid2.
+      yes has 2 2 refl (differs_yes w 4 other)
+      (mov has 5 refl refl
+      (ask has 6 refl a.answers (λ paid2.
       let shown = shows_placed c depth base (pos 22) y cost (told w) again.registers low refl fits1 a paid2 in
-      done s (p + 8) _ _ (record { shows = shown.shows; fits = shown.fits; keeps = keeps_then (omega arith) (told_keeps w) shown.keeps }))))))))
+      done s (p + 7) _ _ (record { shows = shown.shows; fits = shown.fits; keeps = keeps_then (omega arith) (told_keeps w) shown.keeps })))))))
 
-  no_text_runs : (x : ValueOrError) → Names b.values.values (b.registers R0) x → (kind_number (seen x) ≡ 4 → ⊥) → int_part x ≡ None → Comes s 6 2 p b (p + 8) (Shows c depth base error b)
+  no_text_runs : (x : ValueOrError) → Names b.values.values (b.registers R6) x → (kind_number (seen x) ≡ 4 → ⊥) → int_part x ≡ None → Comes s 5 2 p b (p + 7) (Shows c depth base error b)
   no_text_runs x named other none = made_runs x error 1 named other (λ d values holding. helpers.no_text_of_int c.environment.roots d x values holding none)
 
-  int_runs : (z : ℤ) → Names b.values.values (b.registers R0) (value (int z)) → Comes s 6 (2 + length (signed_decimal z)) p b (p + 8) (Shows c depth base (value (text (signed_decimal z))) b)
+  int_runs : (z : ℤ) → Names b.values.values (b.registers R6) (value (int z)) → Comes s 5 (2 + length (signed_decimal z)) p b (p + 7) (Shows c depth base (value (text (signed_decimal z))) b)
   int_runs z named =
       let n = length (signed_decimal z) in
-      looser s {n = 6} {x = 1 + (1 + n + 0)} 6 (2 + n) (omega arith) (omega arith) (made_runs (value (int z)) (value (text (signed_decimal z))) (1 + n) named (λ e. absurd (omega arith)) (λ d values holding. helpers.text_of_int c.environment.roots d z values holding))
+      looser s {n = 5} {x = 1 + (1 + n + 0)} 5 (2 + n) (omega arith) (omega arith) (made_runs (value (int z)) (value (text (signed_decimal z))) (1 + n) named (λ e. absurd (omega arith)) (λ d values holding. helpers.text_of_int c.environment.roots d z values holding))
 
-  string_runs : (x : ValueOrError) → Names b.values.values (b.registers R0) x → Comes s 6 (2 + text_length (string_of x)) p b (p + 8) (Shows c depth base (string_of x) b)
+  string_runs : (x : ValueOrError) → Names b.values.values (b.registers R6) x → Comes s 5 (2 + text_length (string_of x)) p b (p + 7) (Shows c depth base (string_of x) b)
   string_runs error named = no_text_runs error named (λ e. absurd (omega arith)) refl
   string_runs (value null) named = no_text_runs (value null) named (λ e. absurd (omega arith)) refl
   string_runs (value (boolean t)) named = no_text_runs (value (boolean t)) named (λ e. absurd (omega arith)) refl
   string_runs (value (int z)) named = int_runs z named
-  string_runs (value (text t)) named = looser s {n = 6} {x = 1} 6 (2 + length t) (omega arith) (omega arith) (text_runs t named)
+  string_runs (value (text t)) named = looser s {n = 5} {x = 1} 5 (2 + length t) (omega arith) (omega arith) (text_runs t named)
   string_runs (value (list is)) named = no_text_runs (value (list is)) named (λ e. absurd (omega arith)) refl
   string_runs (value (map es)) named = no_text_runs (value (map es)) named (λ e. absurd (omega arith)) refl
 
-string_gives : (s : Setting) (p : ℕ) (c : Context) (depth base : ℕ) (x : ValueOrError) → base ≤ 64 → Converts s p string_tail c depth base x (string_of x) 6 (2 + text_length (string_of x))
+string_gives : (s : Setting) (p : ℕ) (c : Context) (depth base : ℕ) (x : ValueOrError) → base ≤ 64 → Converts s p string_tail R6 c depth base x (string_of x) 5 (2 + text_length (string_of x))
 string_gives s p c depth base x low = record { runs = λ b has fits named. string_runs s p c depth base low b has fits x named }
 
 pub selection_gives : SelectionGives

@@ -1,15 +1,16 @@
 -- Programs run by hand, step by step.
-use Rattle.std.specs.Prelude.{◌≡◌, ℕ, pos, true, List, [], ◌∷◌, ◌++◌, replicate}
+use Rattle.std.specs.Prelude.{◌≡◌, ℕ, pos, true, List, [], ◌∷◌, ◌++◌, Some, replicate}
 use Rattle.insn_codec.specs.declared.insn.Insn.{Insn}
 use Rattle.insn_codec.specs.declared.insn.Insn.TheVariants.{Exit}
+use Rattle.insn_codec.specs.declared.register.Register.TheVariants.{R1, R2}
 use Rattle.loader.specs.declared.version.Version.TheVariants.{Second}
 use Rattle.bpf_machine.specs.State.{State, null_values, start_state}
 use Rattle.bpf_machine.specs.Trace.{state_after}
 use Rattle.bpf_machine.specs.declared.frame.Frame.{Frame}
 use Rattle.bpf_machine.specs.declared.status.Status.TheVariants.{Exited}
 use Rattle.codegen_base.specs.Code.Comparison.{unequal_tail}
-use Rattle.codegen_base.specs.Code.Calls.{two_code}
-use Rattle.codegen_base.specs.Code.Literals.{null_code, truth_code}
+use Rattle.codegen_base.specs.Code.Calls.{operands_code}
+use Rattle.codegen_base.specs.Code.Literals.{null_code, null_leaf, truth_code, truth_leaf}
 use Rattle.codegen_base.specs.Code.Logic.{and_code}
 use Rattle.codegen_base.specs.FirstUses.{FirstUse, first_uses}
 use Rattle.codegen_base.specs.Pieces.{spellings}
@@ -23,9 +24,10 @@ runs piece = start_state (record { version = Second; code = spellings piece; con
 abbrev pub variable_and_true : List Insn
 variable_and_true = and_code (use_code 0 (pos 9)) (truth_code true) 0 ++ Exit ∷ (truth_code true ++ memo_tail 0)
 
--- `null != true`
+-- `null != true`: 2 steps for both sides, 1 for the comparison, 2 for its opposite, and the exit
 abbrev pub null_is_not_true : List Insn
-null_is_not_true = two_code null_code (truth_code true) 0 (unequal_tail 0) ++ Exit ∷ []
+null_is_not_true =
+    operands_code (Some null_leaf) null_code (Some (truth_leaf true)) (truth_code true) 0 R1 R2 ++ (unequal_tail ++ Exit ∷ [])
 
 -- the first use of that variable, and that of another one whose routine stands at slot 30
 abbrev pub two_variables : List FirstUse
@@ -56,4 +58,4 @@ pub record RowsStand : Type 0 where
   pub filled_before_is_none : used_in one_filled one_filled [] ≡ 0
   pub unused_is_none : used_in both_empty both_empty [] ≡ 0
   pub variable_and_true_exits : (state_after 19 (runs variable_and_true)).status ≡ Exited 3
-  pub null_is_not_true_exits : (state_after 9 (runs null_is_not_true)).status ≡ Exited 3
+  pub null_is_not_true_exits : (state_after 6 (runs null_is_not_true)).status ≡ Exited 3

@@ -3,7 +3,7 @@ ghost use Rattle.codegen_base.specs.Engine.{OwnBudgets};
 ghost use Rattle.codegen_base.specs.Gives.Aggregates.{ListGives, MapGives};
 ghost use Rattle.codegen_base.specs.Gives.Arithmetic.{AdditionsGive, NegationGives, ProductsGive};
 ghost use Rattle.codegen_base.specs.Gives.Comparison.{ComparisonGives};
-ghost use Rattle.codegen_base.specs.Gives.Leaves.{LeavesGive};
+ghost use Rattle.codegen_base.specs.Gives.Leaves.{LeavesGive, LeavesName};
 ghost use Rattle.codegen_base.specs.Gives.Logic.{LogicGives};
 ghost use Rattle.codegen_base.specs.Gives.Macros.{MacroGives, MapWhereGives};
 ghost use Rattle.codegen_base.specs.Gives.Selection.{SelectionGives};
@@ -31,8 +31,8 @@ pub fn helpers_answer()
     ensures { HelpersAnswer }
 {}
 
-/// Code for one or two operands with a piece behind it gives what the piece makes of them, one piece
-/// goes on with what another gives, and the call of a helper is such a piece.
+/// Code for one or two operands, put into registers, with a piece behind it gives what the piece makes
+/// of them, one piece goes on with what another gives, and the call of a helper is such a piece.
 pub fn operands_give()
     ensures one { OneGives }
     ensures two { TwoGives }
@@ -83,9 +83,10 @@ pub fn fold_gives()
     ensures { FoldGives }
 {}
 
-/// Literals without parts, and names, have code that gives their values.
+/// Literals without parts, and names, have code that gives their values; those that are leaves name them.
 pub fn leaves_give()
-    ensures { LeavesGive }
+    ensures give { LeavesGive }
+    ensures name { LeavesName }
 {}
 
 /// Behind the code of an operand stands the code for a field, for whether there is one, for a size and

@@ -1,7 +1,7 @@
 //! The ground of the code generator: what it means that code gives a value, within budgets of steps
 //! and of charge, on the machine and with its helpers.
 //!
-//! `instructions`, `helpers` and `references` are what code is written with. They are public for the
+//! `instructions`, `helpers`, `references` and `leaf` are what code is written with. They are public for the
 //! crates above, which make code of expressions and of policies, and are no part of the program's own
 //! surface.
 //!
@@ -13,4 +13,5 @@
 pub mod helpers;
 pub mod instructions;
 pub mod laws;
+pub mod leaf;
 pub mod references;

@@ -24,7 +24,7 @@ use Rattle.policy_glue.specs.Checked.{Checks, IsFormedRule}
 use Rattle.policy_glue.specs.Emission.{HasTrees}
 use Rattle.policy_glue.specs.declared.checked.Checked.{Checked}
 use Rattle.policy_glue.specs.Checking as parts
-use Rattle.policy_glue.specs.Checking.{Ends, over, refused, next, in_conditions, in_validations, in_variables, IsMessage, IsOneOf, IsRule, IsTaken, IsVariable, PartsEnd, TakesCondition, RefusesCondition, TakesRule, RefusesRule, TakesVariable, RefusesVariable, depth_in, expression_judged, scope_after, texts, truths, variable_judged, with_depth, with_macros, with_need, with_typing, with_variable}
+use Rattle.policy_glue.specs.Checking.{Ends, over, refused, next, IsMessage, IsOneOf, IsRule, IsVariable, PartsEnd, TakesCondition, RefusesCondition, TakesRule, RefusesRule, TakesVariable, RefusesVariable, depth_in, expression_judged, scope_after, texts, truths, with_depth, with_macros, with_variable}
 use Rattle.policy_glue.specs.Limits.{excess, policy_nodes, policy_texts}
 use Rattle.policy_glue.specs.Policy.{Named, Rule, Rules}
 use Rattle.policy_glue.specs.ProgramTrees.{HasProgram}
@@ -72,9 +72,8 @@ record IsJudged (t : Typing) (n : ℕ) : Type 0 where
   fits : n ≤ 60
 
 judged_by : (m : Option MacroFault) (t : Typing) (n : ℕ) (u : CelType) → with_macros m t n ≡ Ok u → IsJudged t n
-judged_by (Some fault) t n u is = cc
-judged_by None (types.refused y) n u is = cc
 judged_by None (types.typed t) n u is = record { cel_type = t; typed = refl; fits = ltb-false 60 n (need_by (nat_lt 60 n) t u is) }
+judged_by _ _ n u is = cc
 
 judged_so : (scope : List Declaration) (a : Tree) (t : CelType) → expression_judged scope a ≡ Ok t → IsJudged (typing a (scope_of scope)) (need (expanded a))
 unfolding expression_judged
@@ -138,7 +137,8 @@ AreJudged scope (v ∷ more) = ((n : Named) × IsVariable scope n v) × AreJudge
 scope_more : (taken : List VariableTree) (v : VariableTree) → scope_after (taken ++ v ∷ []) ≡ with_variable (scope_after taken) v
 scope_more taken v = fold-append with_variable [] taken (v ∷ [])
 
-variables_of : (taken : List VariableTree) (ns : List Named) (end : Result (List VariableTree) CompileError) → Ends TakesVariable RefusesVariable taken ns end → (all : List VariableTree) → end ≡ Ok all → Rest (AreJudged (scope_after taken)) taken ns all
+variables_of : (taken : List VariableTree) (ns : List Named) (end : Result (List VariableTree) CompileError) → Ends TakesVariable RefusesVariable taken ns end
+    → (all : List VariableTree) → end ≡ Ok all → Rest (AreJudged (scope_after taken)) taken ns all
 variables_of taken ns end (over) all is = record { more = []; is = ok_is taken all is ∙ append_none taken; count = refl; holds = tt }
 variables_of taken ns end (refused e no_part) all is = cc
 variables_of taken ns end (next {part = part} {more = others} {end = last} v takes ends) all is =
@@ -152,7 +152,8 @@ variables_of taken ns end (next {part = part} {more = others} {end = last} v tak
 
 -- ---- as the program asks of them
 
-are_variables : (scope : List Declaration) (vs : List VariableTree) → AreJudged scope vs → All (λ (v : VariableTree). IsWellFormed v.expression) vs → program.AreVariables scope vs
+are_variables : (scope : List Declaration) (vs : List VariableTree) → AreJudged scope vs → All (λ (v : VariableTree). IsWellFormed v.expression) vs
+    → program.AreVariables scope vs
 are_variables scope [] judged formed = tt
 are_variables scope (v ∷ more) judged formed =
     let taken = judged.0.1 in
@@ -169,13 +170,13 @@ one_expression kinds scope a one formed = is_expression scope a one.1.cel_type o
 
 are_conditions : (cs : List Tree) → Each (IsOne truths []) cs → All IsWellFormed cs → program.AreConditions cs
 are_conditions [] each formed = tt
-are_conditions (a ∷ more) each formed = (one_expression truths [] a each.0 (All-head IsWellFormed a more formed), are_conditions more each.1 (All-tail IsWellFormed a more formed))
+are_conditions (a ∷ more) each formed =
+    (one_expression truths [] a each.0 (All-head IsWellFormed a more formed), are_conditions more each.1 (All-tail IsWellFormed a more formed))
 
 is_message : (scope : List Declaration) (text : Option (List ℕ)) (m : Option Tree) → IsMessage scope text m → IfSome m IsWellFormed → program.IsMessage scope m
 is_message scope (Some text) (Some a) message formed = one_expression texts scope a (text, message) formed
-is_message scope (Some text) None message formed = tt
 is_message scope None (Some a) message formed = absurd message
-is_message scope None None message formed = tt
+is_message scope _ None message formed = tt
 
 abbrev IsOneRule : List Declaration → RuleTree → Type 0
 IsOneRule scope r = (n : Rule) × IsRule scope n r
@@ -190,9 +191,8 @@ are_rules scope (r ∷ more) each formed =
 -- ---- the limits
 
 limits_by : (long many : Bool) → (if long then Some G3 else (if many then Some G4 else None)) ≡ None → (long ≡ false) × (many ≡ false)
-limits_by true many is = cc
-limits_by false true is = cc
 limits_by false false is = (refl, refl)
+limits_by _ _ is = cc
 
 within_limits : (t : PolicyTree) → excess t ≡ None → (128 * policy_nodes t ≤ 65536) × (length (joined (policy_texts t)) ≤ 1048576)
 within_limits t is =
@@ -200,10 +200,8 @@ within_limits t is =
     (ltb-false 65536 (128 * policy_nodes t) known.0, ltb-false 1048576 (length (joined (policy_texts t))) known.1)
 
 none_of : (a b c : Bool) → (a || (b || c)) ≡ false → (a ≡ false) × (b ≡ false) × (c ≡ false)
-none_of true b c is = cc
-none_of false true c is = cc
-none_of false false true is = cc
 none_of false false false is = (refl, refl, refl)
+none_of _ _ _ is = cc
 
 few_parts : (p : Rules) → IsAccepted p → (length p.variables ≤ 64) × (length p.validations ≤ 64)
 few_parts p accepted =
@@ -221,15 +219,13 @@ tree_is : (s t : PolicyTree) → (let r : Result PolicyTree CompileError = Ok s 
 tree_is s t is = cc
 
 whole_by : (p : Rules) (end : Result PolicyTree CompileError) → PartsEnd p end → (t : PolicyTree) → end ≡ Ok t → IsWhole p t
-whole_by p end (in_variables e variables) t is = cc
-whole_by p end (in_conditions vs e variables conditions) t is = cc
-whole_by p end (in_validations vs cs e variables conditions validations) t is = cc
 whole_by p end (parts.taken vs cs rs variables conditions validations) t is =
     subst (IsWhole p) (tree_is (record { variables = vs; conditions = cs; validations = rs }) t is) (record {
       variables = variables_of [] p.variables (Ok vs) variables vs refl;
       conditions = rest_of (IsOne truths []) TakesCondition RefusesCondition (λ before n a takes. (n.expression, takes)) [] p.conditions (Ok cs) conditions cs refl;
       validations = rest_of (IsOneRule (scope_after vs)) (TakesRule (scope_after vs)) (RefusesRule (scope_after vs)) (λ before n r takes. (n, takes)) [] p.validations (Ok rs) validations rs refl;
     })
+whole_by p end _ t is = cc
 
 count_by : {A B : Type 0} (P : List B → Type 0) (ns : List A) (all : List B) → Rest P [] ns all → length all ≡ length ns
 count_by P ns all rest = ap length rest.is ∙ rest.count

@@ -14,7 +14,7 @@ use Rattle.codegen_base.specs.Pieces.{size, spellings}
 use Rattle.policy_glue.specs.Checked.{Checks, IsChecked}
 use Rattle.policy_glue.specs.Compiled.{CompilesTo, IsCompiled}
 use Rattle.policy_glue.specs.Emission.{Emits}
-use Rattle.policy_glue.specs.Limits.{Compiles, excess, policy_nodes, policy_texts}
+use Rattle.policy_glue.specs.Limits.{Compiles, excess, policy_texts}
 use Rattle.policy_glue.specs.Limits as limits
 use Rattle.policy_glue.specs.OneImage.{OneImage, contents}
 use Rattle.policy_glue.specs.Policy.{Rules}
@@ -24,7 +24,6 @@ use Rattle.policy_glue.specs.Reading.{IsAccepted}
 use Rattle.policy_glue.specs.Trees.{PolicyTree}
 use Rattle.policy_glue.specs.declared.checked.Checked.{Checked}
 use Rattle.policy_glue.specs.declared.compile_error.CompileError.{CompileError}
-use Rattle.policy_glue.specs.declared.compile_error.CompileError.TheVariants.{K6, K7, K9, G3, G4}
 use Rattle.policy_glue.specs.declared.compile_error.CompileError.TheVariants as compile_error
 use Rattle.policy_glue.specs.declared.failure_policy.FailurePolicy.{FailurePolicy}
 use Rattle.policy_glue.proofs.Accepted.{has_program}
@@ -32,19 +31,16 @@ use Rattle.policy_glue.proofs.Accepted.{has_program}
 -- ---- refusals
 
 failed : (p : Rules) (e : CompileError) → (e ≢ compile_error.Memory → Compiles p (Err e)) → CompilesTo p (Err e)
-failed p (K6 part place e) why = why (λ no. cc)
-failed p K7 why = why (λ no. cc)
-failed p K9 why = why (λ no. cc)
-failed p G3 why = why (λ no. cc)
-failed p G4 why = why (λ no. cc)
 failed p compile_error.Memory why = tt
+failed p _ why = why (λ no. cc)
 
 -- a part is refused
 pub refused_part : (p : Rules) (e : CompileError) → Checks p (Err e) → CompilesTo p (Err e)
 refused_part p e checks = failed p e (λ some. limits.refused e (checks some))
 
 -- the whole is too large
-pub refused_whole : (p : Rules) (c : Checked) (e : CompileError) → Checks p (Ok c) → ((t : PolicyTree) → IsChecked c t → Emits p.failure_policy t (Err e)) → CompilesTo p (Err e)
+pub refused_whole : (p : Rules) (c : Checked) (e : CompileError) → Checks p (Ok c) → ((t : PolicyTree) → IsChecked c t → Emits p.failure_policy t (Err e))
+    → CompilesTo p (Err e)
 refused_whole p c e checks emits = failed p e (λ some. limits.too_large checks.0 e checks.2 (emits checks.0 checks.1 some))
 
 -- ---- the image
@@ -66,7 +62,8 @@ some_size : (f : FailurePolicy) (p : PolicyTree) → 1 ≤ size (program_of f p)
 unfolding program_of
 some_size f p = ends_with _
 
-image_by : (code constants : List ℕ) (n : ℕ) → length code ≡ 8 * n → 1 ≤ n → n ≤ 65536 → length constants ≤ 1048576 → image_from Second code constants ≡ Ok (contents Second code constants)
+image_by : (code constants : List ℕ) (n : ℕ) → length code ≡ 8 * n → 1 ≤ n → n ≤ 65536 → length constants ≤ 1048576
+    → image_from Second code constants ≡ Ok (contents Second code constants)
 unfolding image_from
 image_by code constants n long some most few =
     let part : not (nat_eq (length code % 8) 0) ≡ false = grind (arith, nat_tests) in
@@ -76,7 +73,9 @@ image_by code constants n long some most few =
 
 -- ---- the whole
 
-pub image_due : (short : ProgramIsShort) (p : Rules) (c : Checked) (f : FailurePolicy) (code constants : List ℕ) → IsAccepted p → (checks : Checks p (Ok c)) → excess checks.0 ≡ None → code ≡ spellings (program_of f checks.0) → constants ≡ joined (policy_texts checks.0) → image_from Second code constants ≡ Ok (contents Second code constants)
+pub image_due : (short : ProgramIsShort) (p : Rules) (c : Checked) (f : FailurePolicy) (code constants : List ℕ) → IsAccepted p → (checks : Checks p (Ok c))
+    → excess checks.0 ≡ None → code ≡ spellings (program_of f checks.0) → constants ≡ joined (policy_texts checks.0)
+    → image_from Second code constants ≡ Ok (contents Second code constants)
 image_due short p c f code constants accepted checks within code_is constants_are =
     let t = checks.0 in
     let has = has_program p c accepted checks within in
@@ -108,7 +107,8 @@ image_compiled short law stopped p c code constants image accepted checks within
     })
 
 -- and it is the one
-pub image_is_one : (p : Rules) (c : Checked) (code constants : List ℕ) (image : loader.Contents) → (checks : Checks p (Ok c)) → excess checks.0 ≡ None → code ≡ spellings (program_of p.failure_policy checks.0)
+pub image_is_one : (p : Rules) (c : Checked) (code constants : List ℕ) (image : loader.Contents) → (checks : Checks p (Ok c)) → excess checks.0 ≡ None
+    → code ≡ spellings (program_of p.failure_policy checks.0)
     → constants ≡ joined (policy_texts checks.0) → image ≡ contents Second code constants → OneImage p image
 image_is_one p c code constants image checks within code_is constants_are is =
     record { trees = checks.0; compiles = limits.compiled checks.0 checks.2 within; is = is ∙ (λ i. contents Second (code_is i) (constants_are i)) }

@@ -37,17 +37,13 @@ and_all false = refl
 
 one_more : (here there : Bool) → cond here true there ≡ there || (here || false)
 one_more true true = refl
-one_more true false = refl
 one_more false true = refl
-one_more false false = refl
+one_more _ _ = refl
 
 shuffle : (a b c d : Bool) → not (a || (b || false)) && (not c && d) ≡ not (b || c) && (not a && d)
-shuffle true true c d = refl
 shuffle true false true d = refl
-shuffle true false false d = refl
-shuffle false true c d = refl
 shuffle false false true d = refl
-shuffle false false false d = refl
+shuffle _ _ _ d = refl
 
 -- one more name behind others
 distinct-push : (ns : List Named) (n : Named) → are_distinct (ns ++ n ∷ []) ≡ not (list_any (λ m. bytes_eq n.name m.name) ns) && are_distinct ns
@@ -60,10 +56,12 @@ distinct-push (m ∷ ns) n =
     ∙ shuffle (list_any (λ k. bytes_eq m.name k.name) ns) (bytes_eq m.name n.name) (list_any (λ k. bytes_eq n.name k.name) ns) (are_distinct ns)
     ∙ ap (λ b. not (b || list_any (λ k. bytes_eq n.name k.name) ns) && (not (list_any (λ k. bytes_eq m.name k.name) ns) && are_distinct ns)) back
 
-twice_by : (n : Named) (ns rest : List Named) (hit : Bool) → list_any (λ m. bytes_eq n.name m.name) ns ≡ hit → not hit && are_distinct ns ≡ false → (are_distinct ns ≡ false → are_distinct (ns ++ rest) ≡ false)
+twice_by : (n : Named) (ns rest : List Named) (hit : Bool) → list_any (λ m. bytes_eq n.name m.name) ns ≡ hit → not hit && are_distinct ns ≡ false
+    → (are_distinct ns ≡ false → are_distinct (ns ++ rest) ≡ false)
     → not (list_any (λ m. bytes_eq n.name m.name) (ns ++ rest)) && are_distinct (ns ++ rest) ≡ false
 twice_by n ns rest true is twice later =
-    let here : list_any (λ m. bytes_eq n.name m.name) (ns ++ rest) ≡ true = list_any-append (λ m. bytes_eq n.name m.name) ns rest ∙ ap (λ b. b || list_any (λ m. bytes_eq n.name m.name) rest) is in
+    let here : list_any (λ m. bytes_eq n.name m.name) (ns ++ rest) ≡ true = list_any-append (λ m. bytes_eq n.name m.name) ns rest
+    ∙ ap (λ b. b || list_any (λ m. bytes_eq n.name m.name) rest) is in
     ap (λ b. not b && are_distinct (ns ++ rest)) here
 twice_by n ns rest false is twice later = ap (λ b. not (list_any (λ m. bytes_eq n.name m.name) (ns ++ rest)) && b) (later twice) ∙ and_none _
 
@@ -79,10 +77,12 @@ names_none names none key = ap (λ ks. list_any (λ k. is_eq (slice_cmp nat_cmp 
 front_next : (all : List NamedExpression) (i : ℕ) (x : NamedExpression) → i < length all → x ≡ get_or all i x → take (i + 1) all ≡ take i all ++ x ∷ []
 front_next all i x within is = take_more all i x within ∙ ap (λ y. take i all ++ y ∷ []) (sym is)
 
-pub names_more : (all : List NamedExpression) (i : ℕ) (x : NamedExpression) (key : Bor (List ℕ)) (names more : Names) → i < length all → x ≡ get_or all i x → key.now ≡ string_bytes x.name
+pub names_more : (all : List NamedExpression) (i : ℕ) (x : NamedExpression) (key : Bor (List ℕ)) (names more : Names) → i < length all → x ≡ get_or all i x
+    → key.now ≡ string_bytes x.name
     → HasNames names (take i all) → Updates (λ x y. slice_cmp nat_cmp x.now y.now) names more key true → HasNames more (take (i + 1) all)
 names_more all i x key names more within is named has updates other =
-    let same : is_eq (slice_cmp nat_cmp key.now other.now) ≡ bytes_eq other.now (string_bytes x.name) = is_eq-slice_cmp key.now other.now ∙ nat_list_eq_equiv.symm key.now other.now ∙ ap (bytes_eq other.now) named in
+    let same : is_eq (slice_cmp nat_cmp key.now other.now) ≡ bytes_eq other.now (string_bytes x.name) = is_eq-slice_cmp key.now other.now
+    ∙ nat_list_eq_equiv.symm key.now other.now ∙ ap (bytes_eq other.now) named in
     updates.0 other
     ∙ (λ j. cond (same j) true (has other j))
     ∙ one_more (bytes_eq other.now (string_bytes x.name)) (list_any (λ n. bytes_eq other.now (string_bytes n.name)) (take i all))
@@ -90,11 +90,14 @@ names_more all i x key names more within is named has updates other =
     ∙ ap (λ ns. list_any (λ n. bytes_eq other.now (string_bytes n.name)) ns) (sym (front_next all i x within is))
 
 -- whether the names stay distinct with the next one
-pub distinct_more : (all : List NamedExpression) (i : ℕ) (x : NamedExpression) (key : Bor (List ℕ)) (names : Names) (added : Bool) → i < length all → x ≡ get_or all i x → key.now ≡ string_bytes x.name
-    → HasNames names (take i all) → are_distinct (map named_view (take i all)) ≡ true → added ≡ not (has_key names key) → are_distinct (map named_view (take (i + 1) all)) ≡ added
+pub distinct_more : (all : List NamedExpression) (i : ℕ) (x : NamedExpression) (key : Bor (List ℕ)) (names : Names) (added : Bool) → i < length all
+    → x ≡ get_or all i x → key.now ≡ string_bytes x.name
+    → HasNames names (take i all) → are_distinct (map named_view (take i all)) ≡ true → added ≡ not (has_key names key)
+    → are_distinct (map named_view (take (i + 1) all)) ≡ added
 distinct_more all i x key names added within is named has distinct says =
     let behind : list_any (λ m. bytes_eq (string_bytes x.name) m.name) (map named_view (take i all)) ≡ has_key names key =
-    sym (name_in_views (string_bytes x.name) (take i all)) ∙ ap (λ bs. list_any (λ n. bytes_eq bs (string_bytes n.name)) (take i all)) (sym named) ∙ sym (has key) in
+    sym (name_in_views (string_bytes x.name) (take i all)) ∙ ap (λ bs. list_any (λ n. bytes_eq bs (string_bytes n.name)) (take i all)) (sym named)
+    ∙ sym (has key) in
     ap (λ ns. are_distinct (map named_view ns)) (front_next all i x within is)
     ∙ ap are_distinct (map-append named_view (take i all) (x ∷ []))
     ∙ distinct-push (map named_view (take i all)) (named_view x)

@@ -1,6 +1,6 @@
 -- A list that is filled from the left.
 use Rattle.std.proofs.Common.{◌≡◌, ◌<◌, ◌+◌, ◌⊎◌, inl, inr, ℕ, zero, suc, List, [], ◌∷◌, length, map, set, get_or, Option, Some, None, arith, refl, sym, ap, ◌∙◌, subst}
-use Rattle.std.specs.Prelude.{slice_get, slice_index}
+use Rattle.std.specs.Prelude.{slice_get}
 use Rattle.policy_glue.specs.Denials.{lent}
 
 -- the first i elements are those of f, of n in all
@@ -14,25 +14,20 @@ set_same (x ∷ xs) zero y h = refl
 set_same (x ∷ xs) (suc i) y h = set_same xs i y (omega arith)
 
 set_below : {A : Type 0} (xs : List A) (i k : ℕ) (y : A) → k < i → slice_get (set xs i y) k ≡ slice_get xs k
-set_below [] i k y h = refl
 set_below (x ∷ xs) zero k y h = absurd (omega arith)
-set_below (x ∷ xs) (suc i) zero y h = refl
 set_below (x ∷ xs) (suc i) (suc k) y h = set_below xs i k y (omega arith)
+set_below _ _ _ y h = refl
 
 set_size : {A : Type 0} (xs : List A) (i : ℕ) (y : A) → length (set xs i y) ≡ length xs
-set_size [] i y = refl
-set_size (x ∷ xs) zero y = refl
 set_size (x ∷ xs) (suc i) y = ap suc (set_size xs i y)
+set_size _ _ y = refl
 
 map-set : {A B : Type 0} (g : A → B) (xs : List A) (i : ℕ) (y : A) → map g (set xs i y) ≡ set (map g xs) i (g y)
-map-set g [] i y = refl
-map-set g (x ∷ xs) zero y = refl
 map-set g (x ∷ xs) (suc i) y = ap (λ ys. g x ∷ ys) (map-set g xs i y)
+map-set g _ _ y = refl
 
-pub filled_start : {A : Type 0} (f : ℕ → A) (n : ℕ) (xs : List A) → length xs ≡ n → IsFilled f n 0 xs
-filled_start f n xs size = record { size = size; each = λ k h. absurd (omega arith) }
-
-more_by : {A : Type 0} (f : ℕ → A) (n i k : ℕ) (xs : List A) (y : A) → IsFilled f n i xs → i < length xs → y ≡ f i → (k < i) ⊎ (k ≡ i) → slice_get (set xs i y) k ≡ Some (f k)
+more_by : {A : Type 0} (f : ℕ → A) (n i k : ℕ) (xs : List A) (y : A) → IsFilled f n i xs → i < length xs → y ≡ f i → (k < i) ⊎ (k ≡ i)
+    → slice_get (set xs i y) k ≡ Some (f k)
 more_by f n i k xs y go h is (inl below) = set_below xs i k y below ∙ go.each k below
 more_by f n i k xs y go h is (inr at) = ap (slice_get (set xs i y)) at ∙ set_same xs i y h ∙ ap Some (is ∙ ap f (sym at))
 
@@ -53,17 +48,9 @@ filled_more f n i xs y go h is = record {
 }
 
 -- the same of what the elements show
-pub filled_view : {A B : Type 0} (g : A → B) (f : ℕ → B) (n i : ℕ) (xs : List A) (y : A) → IsFilled f n i (map g xs) → i < n → g y ≡ f i → IsFilled f n (i + 1) (map g (set xs i y))
+pub filled_view : {A B : Type 0} (g : A → B) (f : ℕ → B) (n i : ℕ) (xs : List A) (y : A) → IsFilled f n i (map g xs) → i < n → g y ≡ f i
+    → IsFilled f n (i + 1) (map g (set xs i y))
 filled_view g f n i xs y go h is = subst (IsFilled f n (i + 1)) (sym (map-set g xs i y)) (filled_more f n i (map g xs) (g y) go h is)
-
-number_of : (xs : List ℕ) (k m : ℕ) → slice_get xs k ≡ Some m → slice_index xs k ≡ m
-number_of [] k m e = cc
-number_of (x ∷ xs) zero m e = cc
-number_of (x ∷ xs) (suc k) m e = number_of xs k m e
-
--- numbers, with 0 behind them
-pub filled_numbers : (f : ℕ → ℕ) (n : ℕ) (xs : List ℕ) → IsFilled f n n xs → (i : ℕ) → i < n → slice_index xs i ≡ f i
-filled_numbers f n xs go i h = number_of xs i (f i) (go.each i h)
 
 -- an element as it is read
 pub read_lent : {A : Type 0} (g : A → Option (List ℕ)) (xs : List A) (i : ℕ) (d : A) → g d ≡ None → g (get_or xs i d) ≡ lent (slice_get (map g xs) i)

@@ -21,7 +21,7 @@ use Rattle.cel_types.specs.Types.{Typing, allowed, fault_of}
 use Rattle.cel_types.specs.Typing.{typing}
 use Rattle.cel_types.specs.declared.cel_type.CelType.{CelType}
 use Rattle.cel_types.specs.declared.type_error.TypeError.{TypeError}
-use Rattle.cel_types.specs.declared.type_error.TypeError.TheVariants.{Y1, Y2, Y3}
+use Rattle.cel_types.specs.declared.type_error.TypeError.TheVariants.{Y1}
 use Rattle.cel_measures.specs.Measures.{depth, need}
 use Rattle.cel_measures.specs.Saturated.{saturated}
 use Rattle.policy_glue.specs.Checked.{ChecksRule, Expands, IsAdded, IsExpanded, Judges, JudgesVariable, Sorts, SortsMessage}
@@ -32,7 +32,7 @@ use Rattle.policy_glue.specs.Policy.{Named, Rule}
 use Rattle.policy_glue.specs.declared.checked_validation.CheckedValidation.{CheckedValidation}
 use Rattle.policy_glue.specs.declared.compile_error.CompileError.TheVariants.{K7, K9}
 use Rattle.policy_glue.specs.declared.part_kind.PartKind.{PartKind}
-use Rattle.policy_glue.specs.declared.part_kind.PartKind.TheVariants.{Message, Validation, Variable}
+use Rattle.policy_glue.specs.declared.part_kind.PartKind.TheVariants.{Message, Validation}
 use Rattle.policy_glue.specs.declared.expression_error.ExpressionError.{ExpressionError}
 use Rattle.policy_glue.specs.declared.expression_error.ExpressionError.TheVariants.{G1, G2, Unread, Unexpanded, Untyped}
 use Rattle.policy_glue.specs.declared.expression_error.ExpressionError.TheVariants as expression_error
@@ -47,12 +47,14 @@ unread_by text (P6 place) said at = λ some scope. unread (P6 place) (record { s
 unread_by text read_error.Memory said at = λ some. absurd (some refl)
 
 -- the text is no expression
-pub unread_is : (text : List ℕ) (e : ReadError) (r : Result Core ExpressionError) → Answers text (Err e) → Placed text (Err e) → IsErr r → IsErrAnd r (λ x. x ≡ from_reader e) → Expands text r
+pub unread_is : (text : List ℕ) (e : ReadError) (r : Result Core ExpressionError) → Answers text (Err e) → Placed text (Err e) → IsErr r
+    → IsErrAnd r (λ x. x ≡ from_reader e) → Expands text r
 unread_is text e (Ok core) said at err is = absurd (false≢true err)
 unread_is text e (Err x) said at err is = subst (λ y. Expands text (Err y)) (sym is) (unread_by text e said at)
 
 -- a macro is not well formed
-macros_judged : (scope : List Declaration) (a : Tree) (fault : MacroFault) → macro_fault a ≡ Some fault → expression_judged scope a ≡ Err (Unexpanded (fault_error fault))
+macros_judged : (scope : List Declaration) (a : Tree) (fault : MacroFault) → macro_fault a ≡ Some fault
+    → expression_judged scope a ≡ Err (Unexpanded (fault_error fault))
 unfolding expression_judged
 macros_judged scope a fault is = ap (λ m. with_macros m (typing a (scope_of scope)) (need (expanded a))) is
 
@@ -67,23 +69,29 @@ memory_by text e is = λ some. absurd (some (ap from_macros is))
 error_is : (x y : MacroError) → (let r : Result Core MacroError = Err x in r ≡ Err y) → x ≡ y
 error_is x y e = cc
 
-refused_by : (text : List ℕ) (a : Tree) (e : MacroError) (m : Option MacroFault) → Reads text a → macro_fault a ≡ m → IfSome m (λ fault. (let r : Result Core MacroError = Err e in r ≡ Err (fault_error fault))) → (m ≡ None → e ≡ macro_error.Memory) → Expands text (Err (from_macros e))
-refused_by text a e (Some fault) reads is clause only = subst (λ x. Expands text (Err (from_macros x))) (sym (error_is e (fault_error fault) clause)) (fault_by text a fault reads is)
+refused_by : (text : List ℕ) (a : Tree) (e : MacroError) (m : Option MacroFault) → Reads text a → macro_fault a ≡ m
+    → IfSome m (λ fault. (let r : Result Core MacroError = Err e in r ≡ Err (fault_error fault))) → (m ≡ None → e ≡ macro_error.Memory)
+    → Expands text (Err (from_macros e))
+refused_by text a e (Some fault) reads is clause only =
+    subst (λ x. Expands text (Err (from_macros x))) (sym (error_is e (fault_error fault) clause)) (fault_by text a fault reads is)
 refused_by text a e None reads is clause only = memory_by text e (only refl)
 
-pub macros_refused : (text : List ℕ) (a : Tree) (e : MacroError) (r : Result Core ExpressionError) → Reads text a → IfSome (macro_fault a) (λ fault. (let r : Result Core MacroError = Err e in r ≡ Err (fault_error fault))) → (macro_fault a ≡ None → e ≡ macro_error.Memory)
+pub macros_refused : (text : List ℕ) (a : Tree) (e : MacroError) (r : Result Core ExpressionError) → Reads text a
+    → IfSome (macro_fault a) (λ fault. (let r : Result Core MacroError = Err e in r ≡ Err (fault_error fault)))
+    → (macro_fault a ≡ None → e ≡ macro_error.Memory)
     → IsErr r → IsErrAnd r (λ x. x ≡ from_macros e) → Expands text r
 macros_refused text a e (Ok core) reads clause only err is = absurd (false≢true err)
-macros_refused text a e (Err x) reads clause only err is = subst (λ y. Expands text (Err y)) (sym is) (refused_by text a e (macro_fault a) reads refl clause only)
+macros_refused text a e (Err x) reads clause only err is =
+    subst (λ y. Expands text (Err y)) (sym is) (refused_by text a e (macro_fault a) reads refl clause only)
 
 -- what has no type, or needs too many words
 
 type_error_of : (y : TypeError) → type_error (fault_of y) ≡ y
 type_error_of Y1 = refl
-type_error_of Y2 = refl
-type_error_of Y3 = refl
+type_error_of _ = refl
 
-pub untyped_is : (t : Typing) (n : ℕ) (y : TypeError) (r : Result CelType ExpressionError) → types.refused (fault_of y) ≡ t → IsErr r → IsErrAnd r (λ x. x ≡ Untyped y) → r ≡ with_typing t n
+pub untyped_is : (t : Typing) (n : ℕ) (y : TypeError) (r : Result CelType ExpressionError) → types.refused (fault_of y) ≡ t → IsErr r
+    → IsErrAnd r (λ x. x ≡ Untyped y) → r ≡ with_typing t n
 untyped_is t n y (Ok u) is err gives = absurd (false≢true err)
 untyped_is t n y (Err x) is err gives = ap Err (gives ∙ ap Untyped (sym (type_error_of y))) ∙ ap (λ s. with_typing s n) is
 
@@ -98,60 +106,58 @@ needy_is t n m u is need above =
     ap (λ b. if b then Err G1 else Ok u) (sym test) ∙ ap (λ s. with_typing s n) is
 
 -- both together
-expression_is : (scope : List Declaration) (a : Tree) (r : Result CelType ExpressionError) → macro_fault a ≡ None → r ≡ with_typing (typing a (scope_of scope)) (need (expanded a)) → expression_judged scope a ≡ r
+expression_is : (scope : List Declaration) (a : Tree) (r : Result CelType ExpressionError) → macro_fault a ≡ None
+    → r ≡ with_typing (typing a (scope_of scope)) (need (expanded a)) → expression_judged scope a ≡ r
 unfolding expression_judged
 expression_is scope a r plain is = ap (λ m. with_macros m (typing a (scope_of scope)) (need (expanded a))) plain ∙ sym is
 
-pub judged_is : (scope : List Declaration) (text : List ℕ) (core : Core) (t : CelType) → Expands text (Ok core) → ((a : Tree) → IsExpanded core a → Ok t ≡ with_typing (typing a (scope_of scope)) (need (expanded a))) → Judges (expression_judged scope) text (Ok (core, t))
-judged_is scope text core t expands types = (expands.0, expands.1, record { reads = expands.2; judged = expression_is scope expands.0 (Ok t) expands.3 (types expands.0 expands.1) })
+pub judged_is : (scope : List Declaration) (text : List ℕ) (core : Core) (t : CelType) → Expands text (Ok core)
+    → ((a : Tree) → IsExpanded core a → Ok t ≡ with_typing (typing a (scope_of scope)) (need (expanded a)))
+    → Judges (expression_judged scope) text (Ok (core, t))
+judged_is scope text core t expands types =
+    (expands.0, expands.1, record { reads = expands.2; judged = expression_is scope expands.0 (Ok t) expands.3 (types expands.0 expands.1) })
 
-pub mistyped_is : (scope : List Declaration) (text : List ℕ) (core : Core) (e : ExpressionError) → Expands text (Ok core) → ((a : Tree) → IsExpanded core a → Err e ≡ with_typing (typing a (scope_of scope)) (need (expanded a))) → Judges (expression_judged scope) text (Err e)
+pub mistyped_is : (scope : List Declaration) (text : List ℕ) (core : Core) (e : ExpressionError) → Expands text (Ok core)
+    → ((a : Tree) → IsExpanded core a → Err e ≡ with_typing (typing a (scope_of scope)) (need (expanded a))) → Judges (expression_judged scope) text (Err e)
 mistyped_is scope text core e expands types = λ some. judged expands.0 e expands.2 (expression_is scope expands.0 (Err e) expands.3 (types expands.0 expands.1))
 
 -- ---- a variable's expression
 
-refused_too : (scope : List Declaration) (text : List ℕ) (e : ExpressionError) → IsRefused (expression_judged scope) text e → IsRefused (variable_judged scope) text e
+refused_too : (scope : List Declaration) (text : List ℕ) (e : ExpressionError) → IsRefused (expression_judged scope) text e
+    → IsRefused (variable_judged scope) text e
 refused_too scope text e (unread why is) = unread why is
 refused_too scope text e (judged a why reads is) = judged a why reads (ap (with_depth (depth_in scope a)) is)
 
-pub variable_refused : (scope : List Declaration) (text : List ℕ) (e : ExpressionError) (r : Result (Core × CelType) ExpressionError) → Judges (expression_judged scope) text (Err e) → IsErr r → IsErrAnd r (λ x. x ≡ e) → Judges (variable_judged scope) text r
+pub variable_refused : (scope : List Declaration) (text : List ℕ) (e : ExpressionError) (r : Result (Core × CelType) ExpressionError)
+    → Judges (expression_judged scope) text (Err e) → IsErr r → IsErrAnd r (λ x. x ≡ e) → Judges (variable_judged scope) text r
 variable_refused scope text e (Ok x) judges err is = absurd (false≢true err)
-variable_refused scope text e (Err x) judges err is = λ some. subst (IsRefused (variable_judged scope) text) (sym is) (refused_too scope text e (judges (λ no. some (is ∙ no))))
+variable_refused scope text e (Err x) judges err is =
+    λ some. subst (IsRefused (variable_judged scope) text) (sym is) (refused_too scope text e (judges (λ no. some (is ∙ no))))
 
 deep_by : (d : ℕ) (t : CelType) (r : Result CelType ExpressionError) → r ≡ Ok t → 6 < d → with_depth d r ≡ Err G2
 deep_by d t r is above =
     let test : nat_lt 6 d ≡ true = grind (arith, nat_tests) in
     ap (with_depth d) is ∙ ap (λ b. if b then Err G2 else Ok t) test
 
-shallow_by : (d : ℕ) (t : CelType) (r : Result CelType ExpressionError) → r ≡ Ok t → d ≤ 6 → with_depth d r ≡ Ok t
-shallow_by d t r is within =
-    let test : nat_lt 6 d ≡ false = grind (arith, nat_tests) in
-    ap (with_depth d) is ∙ ap (λ b. if b then Err G2 else Ok t) test
-
 above_by : (n m : ℕ) → m ≡ saturated n → 6 < m → 6 < n
 above_by n m is above = omega arith
 
-within_by : (n m : ℕ) → m ≡ saturated n → m ≤ 6 → n ≤ 6
-within_by n m is within = omega arith
-
-depth_by : (scope : List Declaration) (core : Core) (a : Tree) (m : ℕ) → core_view core ≡ expanded a → m ≡ saturated (depth (core_view core) (depths_of scope)) → m ≡ saturated (depth_in scope a)
+depth_by : (scope : List Declaration) (core : Core) (a : Tree) (m : ℕ) → core_view core ≡ expanded a → m ≡ saturated (depth (core_view core) (depths_of scope))
+    → m ≡ saturated (depth_in scope a)
 depth_by scope core a m expands is = is ∙ ap (λ t. saturated (depth t (depths_of scope))) expands
 
-pub deep_is : (scope : List Declaration) (text : List ℕ) (core : Core) (t : CelType) (m : ℕ) → Judges (expression_judged scope) text (Ok (core, t)) → m ≡ saturated (depth (core_view core) (depths_of scope)) → 6 < m → Judges (variable_judged scope) text (Err G2)
+pub deep_is : (scope : List Declaration) (text : List ℕ) (core : Core) (t : CelType) (m : ℕ) → Judges (expression_judged scope) text (Ok (core, t))
+    → m ≡ saturated (depth (core_view core) (depths_of scope)) → 6 < m → Judges (variable_judged scope) text (Err G2)
 deep_is scope text core t m judges is above = λ some. judged judges.0 G2 judges.2.reads (deep_by (depth_in scope judges.0) t (expression_judged scope judges.0) judges.2.judged (above_by (depth_in scope judges.0) m (depth_by scope core judges.0 m judges.1.0 is) above))
-
-pub shallow_is : (scope : List Declaration) (text : List ℕ) (core : Core) (t : CelType) (m : ℕ) → Judges (expression_judged scope) text (Ok (core, t)) → m ≡ saturated (depth (core_view core) (depths_of scope)) → m ≤ 6 → Judges (variable_judged scope) text (Ok (core, t))
-shallow_is scope text core t m judges is within = (judges.0, judges.1, record { reads = judges.2.reads; judged = shallow_by (depth_in scope judges.0) t (expression_judged scope judges.0) judges.2.judged (within_by (depth_in scope judges.0) m (depth_by scope core judges.0 m judges.1.0 is) within) })
 
 -- ---- the kind of a type
 
-pub sorted_is : (types : List CelType) (other : CompileError) (part : PartKind) (place : ℕ) (scope : List Declaration) (text : List ℕ) (core : Core) (t : CelType) → Judges (expression_judged scope) text (Ok (core, t)) → allowed types t ≡ true → Sorts types other part place scope text (Ok core)
-sorted_is types other part place scope text core t judges kind = (judges.0, judges.1, record { cel_type = t; taken = judges.2; kind = kind })
-
 pub other_is : (types : List CelType) (other : CompileError) (part : PartKind) (place : ℕ) (scope : List Declaration) (text : List ℕ) (core : Core) (t : CelType) → Judges (expression_judged scope) text (Ok (core, t)) → allowed types t ≡ false → Sorts types other part place scope text (Err other)
-other_is types other part place scope text core t judges kind = λ some. of_another_type (record { tree = judges.0; cel_type = t; taken = judges.2; kind = kind })
+other_is types other part place scope text core t judges kind =
+    λ some. of_another_type (record { tree = judges.0; cel_type = t; taken = judges.2; kind = kind })
 
-part_by : (types : List CelType) (other : CompileError) (part : PartKind) (place : ℕ) (scope : List Declaration) (text : List ℕ) (e : ExpressionError) → Judges (expression_judged scope) text (Err e) → Sorts types other part place scope text (Err (in_part part place e))
+part_by : (types : List CelType) (other : CompileError) (part : PartKind) (place : ℕ) (scope : List Declaration) (text : List ℕ) (e : ExpressionError)
+    → Judges (expression_judged scope) text (Err e) → Sorts types other part place scope text (Err (in_part part place e))
 part_by types other part place scope text (Unread e) judges = λ some. refused (Unread e) (judges (λ no. cc))
 part_by types other part place scope text (Unexpanded e) judges = λ some. refused (Unexpanded e) (judges (λ no. cc))
 part_by types other part place scope text (Untyped e) judges = λ some. refused (Untyped e) (judges (λ no. cc))
@@ -160,29 +166,18 @@ part_by types other part place scope text G2 judges = λ some. refused G2 (judge
 part_by types other part place scope text expression_error.Memory judges = λ some. absurd (some refl)
 
 pub part_refused : (types : List CelType) (other : CompileError) (part : PartKind) (place : ℕ) (scope : List Declaration) (text : List ℕ) (e : ExpressionError) (x : CompileError) → Judges (expression_judged scope) text (Err e) → x ≡ in_part part place e → Sorts types other part place scope text (Err x)
-part_refused types other part place scope text e x judges is = subst (λ y. Sorts types other part place scope text (Err y)) (sym is) (part_by types other part place scope text e judges)
+part_refused types other part place scope text e x judges is =
+    subst (λ y. Sorts types other part place scope text (Err y)) (sym is) (part_by types other part place scope text e judges)
 
 -- ---- a variable in scope
-
-variable_by : (scope : List Declaration) (place : ℕ) (text : List ℕ) (e : ExpressionError) → Judges (variable_judged scope) text (Err e) → JudgesVariable scope place text (Err (in_part Variable place e))
-variable_by scope place text (Unread e) judges = λ some. record { cause = Unread e; because = judges (λ no. cc); is = refl }
-variable_by scope place text (Unexpanded e) judges = λ some. record { cause = Unexpanded e; because = judges (λ no. cc); is = refl }
-variable_by scope place text (Untyped e) judges = λ some. record { cause = Untyped e; because = judges (λ no. cc); is = refl }
-variable_by scope place text G1 judges = λ some. record { cause = G1; because = judges (λ no. cc); is = refl }
-variable_by scope place text G2 judges = λ some. record { cause = G2; because = judges (λ no. cc); is = refl }
-variable_by scope place text expression_error.Memory judges = λ some. absurd (some refl)
-
-pub variable_part : (scope : List Declaration) (place : ℕ) (text : List ℕ) (e : ExpressionError) (x : CompileError) → Judges (variable_judged scope) text (Err e) → x ≡ in_part Variable place e → JudgesVariable scope place text (Err x)
-variable_part scope place text e x judges is = subst (λ y. JudgesVariable scope place text (Err y)) (sym is) (variable_by scope place text e judges)
 
 need_known : (b : Bool) (t u : CelType) → (if b then Err G1 else (let r : Result CelType ExpressionError = Ok t in r)) ≡ Ok u → t ≡ u
 need_known true t u is = cc
 need_known false t u is = cc
 
 type_known : (m : Option MacroFault) (t : Typing) (n : ℕ) (u : CelType) → with_macros m t n ≡ Ok u → type_or_any t ≡ u
-type_known (Some fault) t n u is = cc
-type_known None (types.refused y) n u is = cc
 type_known None (types.typed t) n u is = need_known (nat_lt 60 n) t u is
+type_known _ _ n u is = cc
 
 deep_known : (b : Bool) (t u : CelType) → (if b then Err G2 else (let r : Result CelType ExpressionError = Ok t in r)) ≡ Ok u → (b ≡ false) × (t ≡ u)
 deep_known true t u is = cc
@@ -199,7 +194,9 @@ type_in_scope : (scope : List Declaration) (a : Tree) (t : CelType) → expressi
 unfolding expression_judged
 type_in_scope scope a t is = type_known (macro_fault a) (typing a (scope_of scope)) (need (expanded a)) t is
 
-pub added_is : (n : Named) (place : ℕ) (old new : List Declaration) (core : Core) (t : CelType) (d : ℕ) (before after : List CoreTree) → JudgesVariable old place n.expression (Ok (core, t)) → d ≡ saturated (depth (core_view core) (depths_of old)) → new ≡ old ++ declared n.name t d ∷ [] → after ≡ before ++ core_view core ∷ [] → IsAdded n old new before after
+pub added_is : (n : Named) (place : ℕ) (old new : List Declaration) (core : Core) (t : CelType) (d : ℕ) (before after : List CoreTree)
+    → JudgesVariable old place n.expression (Ok (core, t)) → d ≡ saturated (depth (core_view core) (depths_of old)) → new ≡ old ++ declared n.name t d ∷ []
+    → after ≡ before ++ core_view core ∷ [] → IsAdded n old new before after
 added_is n place old new core t d before after judges depth_is scope_is trees_are =
     let a = judges.0 in
     let known = shallow_known (depth_in old a) (expression_judged old a) t judges.2.judged in
@@ -215,26 +212,29 @@ added_is n place old new core t d before after judges depth_is scope_is trees_ar
 
 -- ---- an error that is passed on
 
-pub passed_on : {X : Type 0} (Target : Result X CompileError → Type 0) (e : CompileError) (r : Result X CompileError) → Target (Err e) → IsErr r → IsErrAnd r (λ x. x ≡ e) → Target r
+pub passed_on : {X : Type 0} (Target : Result X CompileError → Type 0) (e : CompileError) (r : Result X CompileError) → Target (Err e) → IsErr r
+    → IsErrAnd r (λ x. x ≡ e) → Target r
 passed_on Target e (Ok x) here err is = absurd (false≢true err)
 passed_on Target e (Err x) here err is = subst (λ y. Target (Err y)) (sym is) here
 
 -- ---- a validation
 
-message_by_cause : (scope : List Declaration) (place : ℕ) (text : Option (List ℕ)) (source : List ℕ) (e : CompileError) → text ≡ Some source → Sorts texts K9 Message place scope source (Err e) → SortsMessage scope place text (Err e)
-message_by_cause scope place text source e is sorts = λ some. record { source = source; is = is; because = sorts some }
-
-pub message_is : (scope : List Declaration) (place : ℕ) (source : List ℕ) (core : Core) → Sorts texts K9 Message place scope source (Ok core) → SortsMessage scope place (Some source) (Ok (Some core))
+pub message_is : (scope : List Declaration) (place : ℕ) (source : List ℕ) (core : Core) → Sorts texts K9 Message place scope source (Ok core)
+    → SortsMessage scope place (Some source) (Ok (Some core))
 message_is scope place source core sorts = (Some sorts.0, ap Some sorts.1.0, sorts.2, sorts.1.1)
 
-pub rule_unexpressed : (scope : List Declaration) (place : ℕ) (n : Rule) (e : CompileError) → Sorts truths K7 Validation place scope n.expression (Err e) → ChecksRule scope place n (Err e)
+pub rule_unexpressed : (scope : List Declaration) (place : ℕ) (n : Rule) (e : CompileError) → Sorts truths K7 Validation place scope n.expression (Err e)
+    → ChecksRule scope place n (Err e)
 rule_unexpressed scope place n e sorts = λ some. expression e (sorts some)
 
-pub rule_unsaid : (scope : List Declaration) (place : ℕ) (n : Rule) (core : Core) (e : CompileError) → Sorts truths K7 Validation place scope n.expression (Ok core) → SortsMessage scope place n.message_expression (Err e) → ChecksRule scope place n (Err e)
+pub rule_unsaid : (scope : List Declaration) (place : ℕ) (n : Rule) (core : Core) (e : CompileError)
+    → Sorts truths K7 Validation place scope n.expression (Ok core) → SortsMessage scope place n.message_expression (Err e) → ChecksRule scope place n (Err e)
 rule_unsaid scope place n core e sorts says = λ some. let none = says some in message sorts.0 none.source e sorts.2 none.is none.because
 
 pair_is : {A B : Type 0} {a b : A} {c d : B} → a ≡ b → c ≡ d → (let p : A × B = (a, c) in p) ≡ (b, d)
 pair_is {b = b} {c = c} first second = ap (λ x. (x, c)) first ∙ ap (λ y. (b, y)) second
 
-pub rule_is : (scope : List Declaration) (place : ℕ) (n : Rule) (v : CheckedValidation) → Sorts truths K7 Validation place scope n.expression (Ok v.expression) → SortsMessage scope place n.message_expression (Ok v.message) → ChecksRule scope place n (Ok v)
-rule_is scope place n v sorts says = (record { expression = sorts.0; message = says.0 }, pair_is sorts.1.0 says.1, record { expression = sorts.2; message = says.2 }, (sorts.1.1, says.3))
+pub rule_is : (scope : List Declaration) (place : ℕ) (n : Rule) (v : CheckedValidation) → Sorts truths K7 Validation place scope n.expression (Ok v.expression)
+    → SortsMessage scope place n.message_expression (Ok v.message) → ChecksRule scope place n (Ok v)
+rule_is scope place n v sorts says =
+    (record { expression = sorts.0; message = says.0 }, pair_is sorts.1.0 says.1, record { expression = sorts.2; message = says.2 }, (sorts.1.1, says.3))

@@ -3,7 +3,7 @@ use Rattle.std.proofs.Common.{◌≡◌, ℕ, List, [], ◌∷◌, ◌++◌, len
 use Rattle.cel_reader.specs.Tree.{Tree}
 use Rattle.cel_types.specs.Declarations.{Declaration}
 use Rattle.policy_glue.specs.OneAnswer.{HasOneAnswer, HasOneImage}
-use Rattle.policy_glue.specs.Checking.{ConditionsEnd, Ends, IsMessage, IsNoneOf, IsOneOf, IsNoRule, IsNoVariable, IsRule, IsVariable, PartsEnd, RefusesCondition, RefusesRule, RefusesVariable, TakesCondition, TakesRule, TakesVariable, ValidationsEnd, VariablesEnd, scope_after, texts, truths, variable_judged}
+use Rattle.policy_glue.specs.Checking.{ConditionsEnd, Ends, IsMessage, IsNoneOf, IsNoRule, IsNoVariable, IsRule, IsVariable, PartsEnd, RefusesCondition, RefusesRule, RefusesVariable, TakesCondition, TakesRule, TakesVariable, ValidationsEnd, VariablesEnd, scope_after, texts, truths, variable_judged}
 use Rattle.policy_glue.specs.Checking as checking
 use Rattle.policy_glue.specs.Limits.{Compiles, excess}
 use Rattle.policy_glue.specs.Limits as limits
@@ -32,7 +32,8 @@ module _ {A B : Type 0} (Takes : List B → A → B → Type 0) (Refuses : List 
     (takes_once : (taken : List B) (part : A) (x y : B) → Takes taken part x → Takes taken part y → x ≡ y)
     (takes_or_refuses : (taken : List B) (part : A) (x : B) (e : CompileError) → Takes taken part x → Refuses taken part e → ⊥)
     (refuses_once : (taken : List B) (part : A) (e f : CompileError) → Refuses taken part e → Refuses taken part f → e ≡ f) where
-  ends_once : (taken : List B) (parts : List A) (r s : Result (List B) CompileError) → Ends Takes Refuses taken parts r → Ends Takes Refuses taken parts s → r ≡ s
+  ends_once : (taken : List B) (parts : List A) (r s : Result (List B) CompileError) → Ends Takes Refuses taken parts r → Ends Takes Refuses taken parts s
+      → r ≡ s
   ends_once taken [] r s checking.over checking.over = refl
   ends_once taken (part ∷ more) r s (checking.refused e because) (checking.refused f also) = ap Err (refuses_once taken part e f because also)
   ends_once taken (part ∷ more) r s (checking.refused e because) (checking.next y takes ends) = absurd (takes_or_refuses taken part y e takes because)
@@ -49,7 +50,8 @@ variable_once scope n x y is also =
     let tree : x.expression ≡ y.expression = reads_once n.expression x.expression y.expression is.tree.reads also.tree.reads in
     λ i. record { name = name i; expression = tree i }
 
-no_variable_once : (scope : List Declaration) (place : ℕ) (text : List ℕ) (e f : CompileError) → IsNoVariable scope place text e → IsNoVariable scope place text f → e ≡ f
+no_variable_once : (scope : List Declaration) (place : ℕ) (text : List ℕ) (e f : CompileError) → IsNoVariable scope place text e
+    → IsNoVariable scope place text f → e ≡ f
 no_variable_once scope place text e f refused also =
     refused.is ∙ ap (K6 Variable place) (refused_once (variable_judged scope) text refused.cause also.cause refused.because also.because) ∙ sym also.is
 
@@ -76,13 +78,13 @@ conditions_once ns r s ends also =
 module _ (scope : List Declaration) where
   message_once : (text : Option (List ℕ)) (x y : Option Tree) → IsMessage scope text x → IsMessage scope text y → x ≡ y
   message_once (Some text) (Some a) (Some b) is also = ap Some (one_of_once texts scope text a b is also)
-  message_once (Some text) (Some a) None is also = absurd also
   message_once (Some text) None y is also = absurd is
   message_once None (Some a) y is also = absurd is
-  message_once None None (Some b) is also = absurd also
   message_once None None None is also = refl
+  message_once _ _ _ is also = absurd also
 
-  message_not_none : (place : ℕ) (text : List ℕ) (x : Option Tree) (e : CompileError) → IsMessage scope (Some text) x → IsNoneOf texts K9 Message place scope text e → ⊥
+  message_not_none : (place : ℕ) (text : List ℕ) (x : Option Tree) (e : CompileError) → IsMessage scope (Some text) x
+      → IsNoneOf texts K9 Message place scope text e → ⊥
   message_not_none place text (Some a) e is none = not_none texts scope text K9 Message place a e is none
   message_not_none place text None e is none = is
 
@@ -102,8 +104,10 @@ module _ (scope : List Declaration) where
 
   no_rule_once : (place : ℕ) (n : Rule) (e f : CompileError) → IsNoRule scope place n e → IsNoRule scope place n f → e ≡ f
   no_rule_once place n e f (checking.expression x none) (checking.expression y other) = none_once truths scope n.expression K7 Validation place x y none other
-  no_rule_once place n e f (checking.expression x none) (checking.message b text y one is other) = absurd (not_none truths scope n.expression K7 Validation place b x one none)
-  no_rule_once place n e f (checking.message a text x one is none) (checking.expression y other) = absurd (not_none truths scope n.expression K7 Validation place a y one other)
+  no_rule_once place n e f (checking.expression x none) (checking.message b text y one is other) =
+      absurd (not_none truths scope n.expression K7 Validation place b x one none)
+  no_rule_once place n e f (checking.message a text x one is none) (checking.expression y other) =
+      absurd (not_none truths scope n.expression K7 Validation place a y one other)
   no_rule_once place n e f (checking.message a text x one is none) (checking.message b source y two also other) =
       none_once texts scope source K9 Message place x y (subst (λ (t : List ℕ). IsNoneOf texts K9 Message place scope t x) (some_same text source n.message_expression is also) none) other
 
@@ -118,8 +122,10 @@ module _ (scope : List Declaration) where
 -- ---- the policy
 
 module _ (p : Rules) where
-  scoped : (vs ws : List VariableTree) (r : Result (List RuleTree) CompileError) → VariablesEnd p.variables (Ok vs) → VariablesEnd p.variables (Ok ws) → ValidationsEnd (scope_after vs) p.validations r → ValidationsEnd (scope_after ws) p.validations r
-  scoped vs ws r v w ends = subst (λ (us : List VariableTree). ValidationsEnd (scope_after us) p.validations r) (taken_is vs ws (variables_once p.variables (Ok vs) (Ok ws) v w)) ends
+  scoped : (vs ws : List VariableTree) (r : Result (List RuleTree) CompileError) → VariablesEnd p.variables (Ok vs) → VariablesEnd p.variables (Ok ws)
+      → ValidationsEnd (scope_after vs) p.validations r → ValidationsEnd (scope_after ws) p.validations r
+  scoped vs ws r v w ends =
+      subst (λ (us : List VariableTree). ValidationsEnd (scope_after us) p.validations r) (taken_is vs ws (variables_once p.variables (Ok vs) (Ok ws) v w)) ends
 
   rules_once : (vs ws : List VariableTree) (r s : Result (List RuleTree) CompileError) → VariablesEnd p.variables (Ok vs) → VariablesEnd p.variables (Ok ws)
       → ValidationsEnd (scope_after vs) p.validations r → ValidationsEnd (scope_after ws) p.validations s → r ≡ s
@@ -130,9 +136,6 @@ module _ (p : Rules) where
 
   no_conditions : (cs : List Tree) (e : CompileError) → ConditionsEnd p.conditions (Ok cs) → ConditionsEnd p.conditions (Err e) → ⊥
   no_conditions cs e c d = not_both cs e (conditions_once p.conditions (Ok cs) (Err e) c d)
-
-  tree_of : List VariableTree → List Tree → List RuleTree → PolicyTree
-  tree_of vs cs rs = record { variables = vs; conditions = cs; validations = rs }
 
   parts_once : (r s : Result PolicyTree CompileError) → PartsEnd p r → PartsEnd p s → r ≡ s
   parts_once r s (checking.in_variables e v) (checking.in_variables f w) = refusal_is e f (variables_once p.variables (Err e) (Err f) v w)
@@ -146,7 +149,8 @@ module _ (p : Rules) where
   parts_once r s (checking.in_validations vs cs e v c x) (checking.in_variables f w) = absurd (no_variables vs f v w)
   parts_once r s (checking.in_validations vs cs e v c x) (checking.in_conditions ws f w d) = absurd (no_conditions cs f c d)
   parts_once r s (checking.in_validations vs cs e v c x) (checking.in_validations ws ds f w d y) = refusal_is e f (rules_once vs ws (Err e) (Err f) v w x y)
-  parts_once r s (checking.in_validations vs cs e v c x) (checking.taken ws ds ys w d y) = absurd (not_both ys e (sym (rules_once vs ws (Err e) (Ok ys) v w x y)))
+  parts_once r s (checking.in_validations vs cs e v c x) (checking.taken ws ds ys w d y) =
+      absurd (not_both ys e (sym (rules_once vs ws (Err e) (Ok ys) v w x y)))
   parts_once r s (checking.taken vs cs xs v c x) (checking.in_variables f w) = absurd (no_variables vs f v w)
   parts_once r s (checking.taken vs cs xs v c x) (checking.in_conditions ws f w d) = absurd (no_conditions cs f c d)
   parts_once r s (checking.taken vs cs xs v c x) (checking.in_validations ws ds f w d y) = absurd (not_both xs f (rules_once vs ws (Ok xs) (Err f) v w x y))
@@ -167,7 +171,8 @@ module _ (p : Rules) where
   compiled_once r s (limits.refused e parts) (limits.too_large u f also above) = absurd (not_taken u e also parts)
   compiled_once r s (limits.refused e parts) (limits.compiled u also fits) = absurd (not_taken u e also parts)
   compiled_once r s (limits.too_large t e parts above) (limits.refused f also) = absurd (not_taken t f parts also)
-  compiled_once r s (limits.too_large t e parts above) (limits.too_large u f also beyond) = let same = ap excess (trees_once t u parts also) in let cause : e ≡ f = cc in ap Err cause
+  compiled_once r s (limits.too_large t e parts above) (limits.too_large u f also beyond) =
+      let same = ap excess (trees_once t u parts also) in let cause : e ≡ f = cc in ap Err cause
   compiled_once r s (limits.too_large t e parts above) (limits.compiled u also fits) = let same = ap excess (trees_once t u parts also) in absurd (cc)
   compiled_once r s (limits.compiled t parts fits) (limits.refused f also) = absurd (not_taken t f parts also)
   compiled_once r s (limits.compiled t parts fits) (limits.too_large u f also above) = let same = ap excess (trees_once t u parts also) in absurd (cc)

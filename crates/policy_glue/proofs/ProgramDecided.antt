@@ -16,7 +16,7 @@ use Rattle.codegen_base.proofs.Runs.{and_then, done, looser, to_place}
 use Rattle.policy_glue.specs.Layout.{outcome_word}
 use Rattle.policy_glue.specs.Program.{condition_tail, conditions_code, decided_code, decided_tail}
 use Rattle.policy_glue.specs.ProgramParts.{ConditionsGive, Part, codes_of, conditions_charge, conditions_steps, decided_slots}
-use Rattle.policy_glue.specs.Verdict.{Outcome, Skipped, Rejected, Denied, Admitted, Truth, decided_before, is_failed, is_held, undecided}
+use Rattle.policy_glue.specs.Verdict.{Outcome, Skipped, Truth, decided_before, is_failed, is_held, undecided}
 use Rattle.policy_glue.specs.declared.failure_policy.FailurePolicy.{FailurePolicy}
 use Rattle.policy_glue.proofs.ProgramConditions.{Ends}
 use Rattle.policy_glue.proofs.ProgramMarks.{Marked, marks_registers}
@@ -32,11 +32,11 @@ pub record Exits (s : Setting) (n x p : ℕ) (b : Body) (Q : Body → Type 0) : 
 
 -- ---- the outcome that stands
 
-kept_by : (f : FailurePolicy) (w : ℕ) (held rest : Bool) → (if rest then (if held then w else outcome_word (undecided f)) else outcome_word (undecided f)) ≡ (if held && rest then w else outcome_word (undecided f))
+kept_by : (f : FailurePolicy) (w : ℕ) (held rest : Bool)
+    → (if rest then (if held then w else outcome_word (undecided f)) else outcome_word (undecided f)) ≡ (if held && rest then w else outcome_word (undecided f))
 kept_by f w true true = refl
-kept_by f w true false = refl
 kept_by f w false true = refl
-kept_by f w false false = refl
+kept_by f w _ _ = refl
 
 stands_is : (f : FailurePolicy) (w : ℕ) (ts : List Truth) → stands_after f w ts ≡ (if list_all is_held ts then w else outcome_word (undecided f))
 stands_is f w [] = refl
@@ -44,9 +44,7 @@ stands_is f w (t ∷ more) = stands_is f (if is_held t then w else outcome_word 
 
 outcome_some : (o : Outcome) → outcome_word o ≡ 0 → ⊥
 outcome_some Skipped e = omega arith
-outcome_some Rejected e = omega arith
-outcome_some Denied e = omega arith
-outcome_some Admitted e = omega arith
+outcome_some _ e = omega arith
 
 pub place_is : (f : FailurePolicy) (p : ℕ) (parts : List Part) → place_after p parts ≡ p + size (conditions_code f (codes_of parts))
 unfolding conditions_code
@@ -90,8 +88,10 @@ tail_is : (parts : List Part) → list_all is_held (truths_of parts) ≡ false �
 tail_is [] e = absurd (true≢false e)
 tail_is (a ∷ more) e = refl
 
-goes_on : (s : Setting) (c : Context) (f : FailurePolicy) (parts : List Part) (o : ℕ) (b : Body) → Stands s.image.code o (decided_code (codes_of parts)) → Marked c f 0 [] b → Comes s 3 0 o b (o + decided_slots parts) (Marked c f 0 [])
-goes_on s c f [] o b has marked = looser s {n = 0} {x = 0} 3 0 (omega arith) (omega arith) (to_place s (o + 0) (omega arith) (done s o b (Marked c f 0 []) marked))
+goes_on : (s : Setting) (c : Context) (f : FailurePolicy) (parts : List Part) (o : ℕ) (b : Body) → Stands s.image.code o (decided_code (codes_of parts))
+    → Marked c f 0 [] b → Comes s 3 0 o b (o + decided_slots parts) (Marked c f 0 [])
+goes_on s c f [] o b has marked =
+    looser s {n = 0} {x = 0} 3 0 (omega arith) (omega arith) (to_place s (o + 0) (omega arith) (done s o b (Marked c f 0 []) marked))
 goes_on s c f (a ∷ more) o b has marked = runs_on s c f o has b marked
 
 -- ---- all conditions, and the code behind them
@@ -110,25 +110,30 @@ module _ (s : Setting) (c : Context) (f : FailurePolicy) (parts : List Part) (p 
   tail_stands = stands_back s.image.code p row (decided_code (codes_of parts)) has
 
   -- none is false
-  passes : (w : ℕ) → list_any is_failed (truths_of parts) ≡ false → stands_after f 0 (truths_of parts) ≡ w → Comes s (conditions_steps parts) (conditions_charge parts) p b end (Marked c f w [])
+  passes : (w : ℕ) → list_any is_failed (truths_of parts) ≡ false → stands_after f 0 (truths_of parts) ≡ w
+      → Comes s (conditions_steps parts) (conditions_charge parts) p b end (Marked c f w [])
   passes w none stands =
       to_place s end (place_is f p parts) (subst (λ (v : ℕ). Comes s (conditions_steps parts) (conditions_charge parts) p b (place_after p parts) (Marked c f v [])) stands (row_passes s c f parts p 0 b none row_stands gives marked))
 
   stands_by : (all : Bool) → list_all is_held (truths_of parts) ≡ all → stands_after f 0 (truths_of parts) ≡ (if all then 0 else outcome_word (undecided f))
   stands_by all e = stands_is f 0 (truths_of parts) ∙ ap (λ (t : Bool). if t then 0 else outcome_word (undecided f)) e
 
-  pass_by : (any all : Bool) → list_any is_failed (truths_of parts) ≡ any → list_all is_held (truths_of parts) ≡ all → ◌≡◌ {A = Option Outcome} (if any then Some Skipped else (if all then None else Some (undecided f))) None → Comes s (conditions_steps parts + 3) (conditions_charge parts + 0) p b (end + decided_slots parts) (Marked c f 0 [])
-  pass_by true all is_any is_all e = absurd (cc)
-  pass_by false false is_any is_all e = absurd (cc)
+  pass_by : (any all : Bool) → list_any is_failed (truths_of parts) ≡ any → list_all is_held (truths_of parts) ≡ all
+      → ◌≡◌ {A = Option Outcome} (if any then Some Skipped else (if all then None else Some (undecided f))) None
+      → Comes s (conditions_steps parts + 3) (conditions_charge parts + 0) p b (end + decided_slots parts) (Marked c f 0 [])
   pass_by false true is_any is_all e =
       and_then s 3 0 (end + decided_slots parts) (Marked c f 0 []) (passes 0 is_any (stands_by true is_all)) (λ b1 marked1.
       goes_on s c f parts end b1 tail_stands marked1)
+  pass_by _ _ is_any is_all e = absurd (cc)
 
   -- the policy runs
-  pub conditions_pass : decided_before f (truths_of parts) ≡ None → Comes s (conditions_steps parts + 3) (conditions_charge parts + 0) p b (end + decided_slots parts) (Marked c f 0 [])
+  pub conditions_pass : decided_before f (truths_of parts) ≡ None
+      → Comes s (conditions_steps parts + 3) (conditions_charge parts + 0) p b (end + decided_slots parts) (Marked c f 0 [])
   conditions_pass e = pass_by (list_any is_failed (truths_of parts)) (list_all is_held (truths_of parts)) refl refl e
 
-  end_by : (any all : Bool) (outcome : Outcome) → list_any is_failed (truths_of parts) ≡ any → list_all is_held (truths_of parts) ≡ all → (if any then Some Skipped else (if all then None else Some (undecided f))) ≡ Some outcome → Exits s (conditions_steps parts + 3) (conditions_charge parts + 0) p b (Ends c f outcome [])
+  end_by : (any all : Bool) (outcome : Outcome) → list_any is_failed (truths_of parts) ≡ any → list_all is_held (truths_of parts) ≡ all
+      → (if any then Some Skipped else (if all then None else Some (undecided f))) ≡ Some outcome
+      → Exits s (conditions_steps parts + 3) (conditions_charge parts + 0) p b (Ends c f outcome [])
   end_by true all outcome is_any is_all e =
       let same : Skipped ≡ outcome = cc in
       subst (λ (o : Outcome). Exits s (conditions_steps parts + 3) (conditions_charge parts + 0) p b (Ends c f o [])) same (record {
@@ -149,5 +154,6 @@ module _ (s : Setting) (c : Context) (f : FailurePolicy) (parts : List Part) (p 
       })
 
   -- the program ends
-  pub conditions_end : (outcome : Outcome) → decided_before f (truths_of parts) ≡ Some outcome → Exits s (conditions_steps parts + 3) (conditions_charge parts + 0) p b (Ends c f outcome [])
+  pub conditions_end : (outcome : Outcome) → decided_before f (truths_of parts) ≡ Some outcome
+      → Exits s (conditions_steps parts + 3) (conditions_charge parts + 0) p b (Ends c f outcome [])
   conditions_end outcome e = end_by (list_any is_failed (truths_of parts)) (list_all is_held (truths_of parts)) outcome refl refl e

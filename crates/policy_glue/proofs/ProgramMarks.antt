@@ -1,11 +1,11 @@
 -- Between the expressions of a policy: nothing of the frame is in use, and the verdict region has the words so far.
-use Rattle.std.proofs.Common.{◌≡◌, ℕ, ◌+◌, ◌<◌, ◌^◌, List, length, Option, true, false, not, subst, sym, arith}
+use Rattle.std.proofs.Common.{◌≡◌, ℕ, ◌+◌, ◌<◌, ◌^◌, List, length, Option, true, not, subst, sym, arith}
 use Rattle.helper_table.specs.Laws.{Names}
 use Rattle.insn_codec.specs.declared.comparison.Comparison.TheVariants.{Eq, Ne}
 use Rattle.insn_codec.specs.declared.register.Register.{Register}
 use Rattle.insn_codec.specs.declared.register.Register.TheVariants.{R0, R10}
 use Rattle.insn_codec.specs.declared.width.Width.TheVariants.{W64}
-use Rattle.value_store.specs.Value.{ValueOrError, error, value, null, boolean, int, text, list, map}
+use Rattle.value_store.specs.Value.{ValueOrError, value, boolean}
 use Rattle.cel_macros.specs.FoldMeaning.{is_error}
 use Rattle.cel_macros.specs.Logic.{truth}
 use Rattle.bpf_machine.specs.Words.{compares}
@@ -37,7 +37,8 @@ module _ (c : Context) (outcome denials : ℕ) (result : ℕ → ℕ) (message :
   long_region = marks.fits.frame.memory.verdict
 
   -- only registers have changed
-  pub marks_registers : (registers : Register → ℕ) → registers R10 ≡ b.registers R10 → Marks c outcome denials result message (record b { registers = registers })
+  pub marks_registers : (registers : Register → ℕ) → registers R10 ≡ b.registers R10
+      → Marks c outcome denials result message (record b { registers = registers })
   marks_registers registers same = record { fits = fits_registers c 0 0 b registers same marks.fits; words = marks.words }
 
   -- code for an expression has run
@@ -48,7 +49,8 @@ module _ (c : Context) (outcome denials : ℕ) (result : ℕ → ℕ) (message :
   }
 
   -- the same words, said otherwise
-  pub marks_told : (d : ℕ) (results : ℕ → ℕ) (messages : ℕ → Option (List ℕ)) → d ≡ denials → ((j : ℕ) → results j ≡ result j) → ((j : ℕ) → messages j ≡ message j) → Marks c outcome d results messages b
+  pub marks_told : (d : ℕ) (results : ℕ → ℕ) (messages : ℕ → Option (List ℕ)) → d ≡ denials → ((j : ℕ) → results j ≡ result j)
+      → ((j : ℕ) → messages j ≡ message j) → Marks c outcome d results messages b
   marks_told d results messages count same_results same_messages = record {
     fits = marks.fits;
     words = words_told outcome denials result message b.values.values b.memory.verdict marks.words d results messages count same_results same_messages;
@@ -69,13 +71,15 @@ module _ (c : Context) (outcome denials : ℕ) (result : ℕ → ℕ) (message :
       words = denials_put outcome denials result message b.values.values b.memory.verdict long_region marks.words w small;
     }
 
-    pub result_stored : (k : ℕ) → k < most_validations → (more : ℕ → ℕ) → more k ≡ w → ((j : ℕ) → (j ≡ k → ⊥) → more j ≡ result j) → Marks c outcome denials more message (set_verdict (first_result + k) w b)
+    pub result_stored : (k : ℕ) → k < most_validations → (more : ℕ → ℕ) → more k ≡ w → ((j : ℕ) → (j ≡ k → ⊥) → more j ≡ result j)
+        → Marks c outcome denials more message (set_verdict (first_result + k) w b)
     result_stored k inside more here rest = record {
       fits = fits_verdict 0 (first_result + k) w b marks.fits.frame (omega arith) c 0 marks.fits;
       words = result_put outcome denials result message b.values.values b.memory.verdict long_region marks.words w small k inside more here rest;
     }
 
-    pub message_stored : (k : ℕ) → k < most_validations → (more : ℕ → Option (List ℕ)) → IsMessageWord b.values.values w (more k) → ((j : ℕ) → (j ≡ k → ⊥) → more j ≡ message j) → Marks c outcome denials result more (set_verdict (first_message + k) w b)
+    pub message_stored : (k : ℕ) → k < most_validations → (more : ℕ → Option (List ℕ)) → IsMessageWord b.values.values w (more k)
+        → ((j : ℕ) → (j ≡ k → ⊥) → more j ≡ message j) → Marks c outcome denials result more (set_verdict (first_message + k) w b)
     message_stored k inside more here rest = record {
       fits = fits_verdict 0 (first_message + k) w b marks.fits.frame (omega arith) c 0 marks.fits;
       words = message_put outcome denials result message b.values.values b.memory.verdict long_region marks.words w small k inside more here rest;
@@ -90,15 +94,10 @@ pub record Tests (t : Truth) (r : ℕ) : Type 0 where
   pub not_failed : compares W64 Ne r 2 ≡ not (is_failed t)
 
 tests_of : (x : ValueOrError) (r : ℕ) → Told (truth x) (is_error x) r → Tests (truth_of x) r
-tests_of error r t = record { held = t.yes; failed = t.no; not_failed = t.not_no }
-tests_of (value null) r t = record { held = t.yes; failed = t.no; not_failed = t.not_no }
 tests_of (value (boolean true)) r t = record { held = t.yes; failed = t.no; not_failed = t.not_no }
-tests_of (value (boolean false)) r t = record { held = t.yes; failed = t.no; not_failed = t.not_no }
-tests_of (value (int n)) r t = record { held = t.yes; failed = t.no; not_failed = t.not_no }
-tests_of (value (text s)) r t = record { held = t.yes; failed = t.no; not_failed = t.not_no }
-tests_of (value (list is)) r t = record { held = t.yes; failed = t.no; not_failed = t.not_no }
-tests_of (value (map es)) r t = record { held = t.yes; failed = t.no; not_failed = t.not_no }
+tests_of _ r t = record { held = t.yes; failed = t.no; not_failed = t.not_no }
 
-pub tested : (c : Context) (x : ValueOrError) (t : Truth) (b : Body) → Fits c 0 0 b → Names b.values.values (b.registers R0) x → truth_of x ≡ t → Tests t (b.registers R0)
+pub tested : (c : Context) (x : ValueOrError) (t : Truth) (b : Body) → Fits c 0 0 b → Names b.values.values (b.registers R0) x → truth_of x ≡ t
+    → Tests t (b.registers R0)
 tested c x t b fits named is =
     subst (λ (u : Truth). Tests u (b.registers R0)) is (tests_of x (b.registers R0) (told b.values (b.registers R0) x fits.values.table.store fits.values.canonical named))

@@ -35,9 +35,8 @@ IsCounted true n = 1 ≤ n
 IsCounted false n = n ≡ 0
 
 counted_more : (first rest : Bool) (n : ℕ) → IsCounted rest n → IsCounted (first || rest) ((if first then 1 else 0) + n)
-counted_more true rest n is = omega arith
 counted_more false true n is = omega arith
-counted_more false false n is = omega arith
+counted_more _ _ n is = omega arith
 
 counted : (f : FailurePolicy) (xs : List Finding) → IsCounted (list_any (is_denial f) xs) (count_of f xs)
 counted f [] = refl

@@ -63,24 +63,29 @@ condition_codes_are roots l (a ∷ more) = ap (λ (cs : List (List Insn)). tree_
 
 pub condition_values_are : (roots : Roots) (l : Laid) (trees : List Tree) → values_given (condition_parts roots l trees) ≡ condition_values roots trees
 condition_values_are roots l [] = refl
-condition_values_are roots l (a ∷ more) = ap (λ (vs : List ValueOrError). meaning a (environment_with roots []) ∷ vs) (condition_values_are roots (after_condition l a) more)
+condition_values_are roots l (a ∷ more) =
+    ap (λ (vs : List ValueOrError). meaning a (environment_with roots []) ∷ vs) (condition_values_are roots (after_condition l a) more)
 
-message_code_is : (ds : List Declaration) (l : Laid) (env : Environment) (m : Option Tree) → option_map (λ (a : Part). a.code) (message_part ds l env m) ≡ message_codes ds l m
+message_code_is : (ds : List Declaration) (l : Laid) (env : Environment) (m : Option Tree)
+    → option_map (λ (a : Part). a.code) (message_part ds l env m) ≡ message_codes ds l m
 message_code_is ds l env (Some a) = refl
 message_code_is ds l env None = refl
 
-message_value_is : (ds : List Declaration) (l : Laid) (env : Environment) (m : Option Tree) → option_map (λ (a : Part). a.value) (message_part ds l env m) ≡ option_map (λ a. meaning a env) m
+message_value_is : (ds : List Declaration) (l : Laid) (env : Environment) (m : Option Tree)
+    → option_map (λ (a : Part). a.value) (message_part ds l env m) ≡ option_map (λ a. meaning a env) m
 message_value_is ds l env (Some a) = refl
 message_value_is ds l env None = refl
 
-pub rule_codes_are : (ds : List Declaration) (l : Laid) (env : Environment) (rs : List RuleTree) → rule_codes (rule_parts ds l env rs) ≡ validation_codes ds l rs
+pub rule_codes_are : (ds : List Declaration) (l : Laid) (env : Environment) (rs : List RuleTree)
+    → rule_codes (rule_parts ds l env rs) ≡ validation_codes ds l rs
 rule_codes_are ds l env [] = refl
 rule_codes_are ds l env (r ∷ more) =
     let first = message_code_is ds (before_message ds l r) env r.message in
     let rest = rule_codes_are ds (after_rule ds l r) env more in
     cc
 
-pub rule_values_are : (ds : List Declaration) (l : Laid) (env : Environment) (rs : List RuleTree) → rules_given (rule_parts ds l env rs) ≡ map (rule_value env) rs
+pub rule_values_are : (ds : List Declaration) (l : Laid) (env : Environment) (rs : List RuleTree)
+    → rules_given (rule_parts ds l env rs) ≡ map (rule_value env) rs
 rule_values_are ds l env [] = refl
 rule_values_are ds l env (r ∷ more) =
     let first = message_value_is ds (before_message ds l r) env r.message in
@@ -104,10 +109,13 @@ module _ (image : Contents) (deep : Bool) (roots : Roots) (everything : List (Li
 
   -- ---- conditions
 
-  pub conditions_give : (scope : List Variable) (trees : List Tree) (l : Laid) (rest : List (List ℕ)) → map (λ (v : Variable). v.routine) scope ≡ l.routines → AreConditions trees → everything ≡ with_texts l.texts (condition_texts trees ++ rest) → ((conditions_cost roots trees).is_deep ≡ true → deep ≡ true) → ConditionsGive (scope_setting image deep scope) (routine_context roots (bindings scope) image.constants) l.place (condition_parts roots l trees)
+  pub conditions_give : (scope : List Variable) (trees : List Tree) (l : Laid) (rest : List (List ℕ)) → map (λ (v : Variable). v.routine) scope ≡ l.routines
+      → AreConditions trees → everything ≡ with_texts l.texts (condition_texts trees ++ rest) → ((conditions_cost roots trees).is_deep ≡ true → deep ≡ true)
+      → ConditionsGive (scope_setting image deep scope) (routine_context roots (bindings scope) image.constants) l.place (condition_parts roots l trees)
   conditions_give scope [] l rest slots expressions used may = tt
   conditions_give scope (a ∷ more) l rest slots expressions used may =
-      let apart : everything ≡ with_texts l.texts (tree_texts a ++ (condition_texts more ++ rest)) = used ∙ ap (with_texts l.texts) (append_assoc (tree_texts a) (condition_texts more) rest) in
+      let apart : everything ≡ with_texts l.texts (tree_texts a ++ (condition_texts more ++ rest)) = used
+      ∙ ap (with_texts l.texts) (append_assoc (tree_texts a) (condition_texts more) rest) in
       let first = tree_gives [] scope scope [] l a (condition_texts more ++ rest) refl (record { slots_are = slots; depths_are = refl }) tt (no_scope image deep roots image.constants) (omega arith) expressions.0 apart (λ e. may (or_left (cost a (environment_with roots [])).is_deep (conditions_cost roots more).is_deep e)) in
       let others = conditions_give scope more (after_condition l a) rest slots expressions.1 (used_more everything l.texts (tree_texts a) (condition_texts more ++ rest) apart) (λ e. may (or_right (cost a (environment_with roots [])).is_deep (conditions_cost roots more).is_deep e)) in
       (first, others)
@@ -124,10 +132,13 @@ module _ (image : Contents) (deep : Bool) (roots : Roots) (everything : List (Li
     abbrev c : Context
     c = routine_context roots (bindings scope) image.constants
 
-    one_gives : (l : Laid) (a : Tree) (rest : List (List ℕ)) → AreTaken l.routines ds scope [] → IsExpression ds (expanded a) → everything ≡ with_texts l.texts (tree_texts a ++ rest) → (IsDeep a env → deep ≡ true) → PartGives s c l.place (tree_part ds l env a)
+    one_gives : (l : Laid) (a : Tree) (rest : List (List ℕ)) → AreTaken l.routines ds scope [] → IsExpression ds (expanded a)
+        → everything ≡ with_texts l.texts (tree_texts a ++ rest) → (IsDeep a env → deep ≡ true) → PartGives s c l.place (tree_part ds l env a)
     one_gives l a rest taken expression used may = tree_gives scope [] scope ds l a rest (append-nil scope) taken shallow is short expression used may
 
-    message_gives : (l : Laid) (m : Option Tree) (rest : List (List ℕ)) (d : Bool) → AreTaken l.routines ds scope [] → IsMessage ds m → everything ≡ with_texts l.texts (message_texts m ++ rest) → ((message_cost d env m).is_deep ≡ true → deep ≡ true) → MessageGives s c l.place d (message_part ds l env m)
+    message_gives : (l : Laid) (m : Option Tree) (rest : List (List ℕ)) (d : Bool) → AreTaken l.routines ds scope [] → IsMessage ds m
+        → everything ≡ with_texts l.texts (message_texts m ++ rest) → ((message_cost d env m).is_deep ≡ true → deep ≡ true)
+        → MessageGives s c l.place d (message_part ds l env m)
     message_gives l None rest d taken expression used may = tt
     message_gives l (Some a) rest false taken expression used may = λ e. absurd (true≢false (sym e))
     message_gives l (Some a) rest true taken expression used may = λ e. one_gives l a rest taken expression used may
@@ -144,7 +155,9 @@ module _ (image : Contents) (deep : Bool) (roots : Roots) (everything : List (Li
     message_routines l (Some a) = refl
     message_routines l None = refl
 
-    pub validations_give : (rs : List RuleTree) (l : Laid) (rest : List (List ℕ)) → AreTaken l.routines ds scope [] → AreRules ds rs → everything ≡ with_texts l.texts (validation_texts rs ++ rest) → ((rules_cost true f env rs).is_deep ≡ true → deep ≡ true) → ValidationsGive f s c l.place (rule_parts ds l env rs)
+    pub validations_give : (rs : List RuleTree) (l : Laid) (rest : List (List ℕ)) → AreTaken l.routines ds scope [] → AreRules ds rs
+        → everything ≡ with_texts l.texts (validation_texts rs ++ rest) → ((rules_cost true f env rs).is_deep ≡ true → deep ≡ true)
+        → ValidationsGive f s c l.place (rule_parts ds l env rs)
     validations_give [] l rest taken expressions used may = tt
     validations_give (r ∷ more) l rest taken expressions used may =
         let e = r.expression in
@@ -157,7 +170,8 @@ module _ (image : Contents) (deep : Bool) (roots : Roots) (everything : List (Li
         let more_cost = (rules_cost true f env more).is_deep in
         let apart : everything ≡ with_texts l.texts (tree_texts e ++ (message_texts r.message ++ behind)) = used ∙ ap (with_texts l.texts) (append_assoc (rule_texts r) (validation_texts more) rest ∙ append_assoc (tree_texts e) (message_texts r.message) behind) in
         let used1 : everything ≡ with_texts l1.texts (message_texts r.message ++ behind) = used_more everything l.texts (tree_texts e) (message_texts r.message ++ behind) apart in
-        let used2 : everything ≡ with_texts l2.texts behind = used_more everything l1.texts (message_texts r.message) behind used1 ∙ ap (λ (ts : List (List ℕ)). with_texts ts behind) (sym (message_used l1 r.message)) in
+        let used2 : everything ≡ with_texts l2.texts behind = used_more everything l1.texts (message_texts r.message) behind used1
+        ∙ ap (λ (ts : List (List ℕ)). with_texts ts behind) (sym (message_used l1 r.message)) in
         let first = one_gives l e (message_texts r.message ++ behind) taken expressions.0 apart (λ h. may (or_left (first_cost || told_cost) more_cost (or_left first_cost told_cost h))) in
         let told = message_gives l1 r.message behind d taken expressions.1 used1 (λ h. may (or_left (first_cost || told_cost) more_cost (or_right first_cost told_cost h))) in
         let taken2 = subst (λ (slots : List ℕ). AreTaken slots ds scope []) (sym (message_routines l1 r.message)) taken in
@@ -167,34 +181,38 @@ module _ (image : Contents) (deep : Bool) (roots : Roots) (everything : List (Li
 
 -- ---- budgets
 
-pub conditions_steps_within : (roots : Roots) (l : Laid) (trees : List Tree) → conditions_steps (condition_parts roots l trees) ≤ 128 * (conditions_cost roots trees).visits
+pub conditions_steps_within : (roots : Roots) (l : Laid) (trees : List Tree)
+    → conditions_steps (condition_parts roots l trees) ≤ 128 * (conditions_cost roots trees).visits
 conditions_steps_within roots l [] = omega arith
 conditions_steps_within roots l (a ∷ more) = let rest = conditions_steps_within roots (after_condition l a) more in omega arith
 
-pub conditions_charge_within : (roots : Roots) (l : Laid) (trees : List Tree) → conditions_charge (condition_parts roots l trees) ≤ 16 * spent_by (conditions_cost roots trees)
+pub conditions_charge_within : (roots : Roots) (l : Laid) (trees : List Tree)
+    → conditions_charge (condition_parts roots l trees) ≤ 16 * spent_by (conditions_cost roots trees)
 conditions_charge_within roots l [] = omega arith
 conditions_charge_within roots l (a ∷ more) = let rest = conditions_charge_within roots (after_condition l a) more in omega arith
 
-message_steps_within : (ds : List Declaration) (l : Laid) (env : Environment) (m : Option Tree) (d : Bool) → message_steps d (message_part ds l env m) ≤ 128 * (message_cost d env m).visits
+message_steps_within : (ds : List Declaration) (l : Laid) (env : Environment) (m : Option Tree) (d : Bool)
+    → message_steps d (message_part ds l env m) ≤ 128 * (message_cost d env m).visits
 message_steps_within ds l env None true = omega arith
-message_steps_within ds l env None false = omega arith
 message_steps_within ds l env (Some a) true = omega arith
-message_steps_within ds l env (Some a) false = omega arith
+message_steps_within ds l env _ _ = omega arith
 
-message_charge_within : (ds : List Declaration) (l : Laid) (env : Environment) (m : Option Tree) (d : Bool) → message_charge d (message_part ds l env m) ≤ 16 * spent_by (message_cost d env m)
+message_charge_within : (ds : List Declaration) (l : Laid) (env : Environment) (m : Option Tree) (d : Bool)
+    → message_charge d (message_part ds l env m) ≤ 16 * spent_by (message_cost d env m)
 message_charge_within ds l env None true = omega arith
-message_charge_within ds l env None false = omega arith
 message_charge_within ds l env (Some a) true = omega arith
-message_charge_within ds l env (Some a) false = omega arith
+message_charge_within ds l env _ _ = omega arith
 
-pub validations_steps_within : (f : FailurePolicy) (ds : List Declaration) (l : Laid) (env : Environment) (rs : List RuleTree) → validations_steps f (rule_parts ds l env rs) ≤ 128 * (rules_cost true f env rs).visits
+pub validations_steps_within : (f : FailurePolicy) (ds : List Declaration) (l : Laid) (env : Environment) (rs : List RuleTree)
+    → validations_steps f (rule_parts ds l env rs) ≤ 128 * (rules_cost true f env rs).visits
 validations_steps_within f ds l env [] = omega arith
 validations_steps_within f ds l env (r ∷ more) =
     let told = message_steps_within ds (before_message ds l r) env r.message (denies f (truth_of (meaning r.expression env))) in
     let rest = validations_steps_within f ds (after_rule ds l r) env more in
     omega arith
 
-pub validations_charge_within : (f : FailurePolicy) (ds : List Declaration) (l : Laid) (env : Environment) (rs : List RuleTree) → validations_charge f (rule_parts ds l env rs) ≤ 16 * spent_by (rules_cost true f env rs)
+pub validations_charge_within : (f : FailurePolicy) (ds : List Declaration) (l : Laid) (env : Environment) (rs : List RuleTree)
+    → validations_charge f (rule_parts ds l env rs) ≤ 16 * spent_by (rules_cost true f env rs)
 validations_charge_within f ds l env [] = omega arith
 validations_charge_within f ds l env (r ∷ more) =
     let told = message_charge_within ds (before_message ds l r) env r.message (denies f (truth_of (meaning r.expression env))) in

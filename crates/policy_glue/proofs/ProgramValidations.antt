@@ -63,8 +63,7 @@ module _ (s : Setting) (c : Context) (f : FailurePolicy) (xs : List Finding) (x 
 
     truth_small : (t : Truth) → truth_word t < 2 ^ 64
     truth_small Holds = omega arith
-    truth_small Fails = omega arith
-    truth_small Errs = omega arith
+    truth_small _ = omega arith
 
     marks_worded : (t : Truth) → truth_of v ≡ t → Worded (worded t)
     marks_worded t is_t = result_stored c 0 (count_of f xs) (result_of xs) (message_of xs) asked marks_asked (truth_word t) (truth_small t) (length xs) few (result_of (xs ++ x ∷ [])) (result_last xs x ∙ ap truth_word (is ∙ is_t)) (result_other xs x)
@@ -116,7 +115,8 @@ module _ (s : Setting) (c : Context) (f : FailurePolicy) (xs : List Finding) (x 
 
     -- ---- it does not
 
-    not_denied_by : (t : Truth) → truth_of v ≡ t → is_denial f x ≡ false → x.message ≡ None → denies f t ≡ false → Comes s 8 0 o b (o + (size message + 10)) (Marked c f 0 (xs ++ x ∷ []))
+    not_denied_by : (t : Truth) → truth_of v ≡ t → is_denial f x ≡ false → x.message ≡ None → denies f t ≡ false
+        → Comes s 8 0 o b (o + (size message + 10)) (Marked c f 0 (xs ++ x ∷ []))
     unfolding denial_code
     not_denied_by Holds is_t no_denial no_message none =
         let t = tested c v Holds b judges.marked.fits judges.named is_t in

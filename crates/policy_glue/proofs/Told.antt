@@ -1,5 +1,5 @@
 -- The denials that words tell, and those of the verdict that the words tell.
-use Rattle.std.proofs.Common.{◌≡◌, ◌<◌, ◌≤◌, ◌+◌, ℕ, zero, suc, Bool, true, false, List, [], ◌∷◌, ◌++◌, length, Option, Some, arith, refl, sym, ap, ◌∙◌, append_assoc}
+use Rattle.std.proofs.Common.{◌≡◌, ◌<◌, ◌≤◌, ◌+◌, ℕ, zero, suc, Bool, true, false, List, [], ◌∷◌, ◌++◌, length, Option, Some, arith, refl, sym, ap, ◌∙◌}
 use Rattle.std.proofs.Common.{◌-◌, map, subst, nat_lt, true≢false}
 use Rattle.std.proofs.lemmas.Bool.{ltb-false}
 use Rattle.std.specs.Prelude.{◌||◌}
@@ -12,7 +12,7 @@ use Rattle.policy_glue.specs.Layout.{Words, Tell, finding_word, message_in, most
 use Rattle.policy_glue.specs.Policy.{Rule, Rules, rule_view, rules_view}
 use Rattle.policy_glue.specs.Objections.{Objection, objected_tree, objection_by, objection_of, objection_told, response_text}
 use Rattle.policy_glue.specs.Response.{Denial, denials_of, response_of, review_tree, tree_of}
-use Rattle.policy_glue.specs.Verdict.{Finding, Verdict, Truth, Holds, Fails, Errs, Outcome, Skipped, Rejected, Denied, Admitted, denies}
+use Rattle.policy_glue.specs.Verdict.{Finding, Verdict, Truth, Holds, Fails, Errs, Outcome, Skipped, denies}
 use Rattle.policy_glue.specs.declared.failure_policy.FailurePolicy.{FailurePolicy}
 use Rattle.policy_glue.specs.declared.failure_policy.FailurePolicy.TheVariants.{Fail, Ignore}
 
@@ -21,35 +21,17 @@ use Rattle.policy_glue.specs.declared.failure_policy.FailurePolicy.TheVariants.{
 pub record DenialsGo (f : FailurePolicy) (all rest : List Rule) (words : Words) (i : ℕ) (done : List Denial) : Type 0 where
   pub left : denials_told f all words 0 ≡ done ++ denials_told f rest words i
 
-pub denials_start : (f : FailurePolicy) (all : List Rule) (words : Words) → DenialsGo f all all words 0 []
-denials_start f all words = record { left = refl }
-
-pub denials_step : (f : FailurePolicy) (all : List Rule) (r : Rule) (rest : List Rule) (words : Words) (i word : ℕ) (message : Option (List ℕ)) (denial : Option Denial) (done more : List Denial)
-    → DenialsGo f all (r ∷ rest) words i done → word ≡ slice_index words.results i → message ≡ lent (slice_get words.messages i)
-    → denial ≡ denial_told f r word message → more ≡ done ++ told_in denial → DenialsGo f all rest words (i + 1) more
-denials_step f all r rest words i word message denial done more go first second third fourth =
-    let here : denial ≡ denial_told f r (slice_index words.results i) (lent (slice_get words.messages i)) =
-    third ∙ ap (λ w. denial_told f r w message) first ∙ ap (denial_told f r (slice_index words.results i)) second in
-    record {
-      left = go.left ∙ sym (append_assoc done _ _) ∙ ap (λ ds. ds ++ denials_told f rest words (i + 1)) (ap (λ d. done ++ told_in d) (sym here) ∙ sym fourth);
-    }
-
-append_none : {A : Type 0} (xs : List A) → xs ++ [] ≡ xs
-append_none [] = refl
-append_none (x ∷ xs) = ap (λ ys. x ∷ ys) (append_none xs)
-
-pub denials_end : (f : FailurePolicy) (all : List Rule) (words : Words) (i : ℕ) (done : List Denial) → DenialsGo f all [] words i done → done ≡ denials_told f all words 0
-denials_end f all words i done go = sym (go.left ∙ append_none done)
-
 -- ---- what the words of a verdict tell
 
-none_told : (f : FailurePolicy) (rs : List Rule) (words : Words) (i : ℕ) → ((k : ℕ) → i ≤ k → k < i + length rs → slice_index words.results k ≡ 0) → denials_told f rs words i ≡ []
+none_told : (f : FailurePolicy) (rs : List Rule) (words : Words) (i : ℕ) → ((k : ℕ) → i ≤ k → k < i + length rs → slice_index words.results k ≡ 0)
+    → denials_told f rs words i ≡ []
 none_told f [] words i zeros = refl
 none_told f (r ∷ rs) words i zeros =
     ap (λ w. told_in (denial_told f r w (lent (slice_get words.messages i))) ++ denials_told f rs words (i + 1)) (zeros i (omega arith) (omega arith))
     ∙ none_told f rs words (i + 1) (λ k low high. zeros k (omega arith) (omega arith))
 
-one_told : (f : FailurePolicy) (r : Rule) (t : Truth) (m : Option (List ℕ)) (more : List Denial) → told_in (denial_told f r (truth_word t) m) ++ more ≡ (if denies f t then record { rule = r; message = m } ∷ more else more)
+one_told : (f : FailurePolicy) (r : Rule) (t : Truth) (m : Option (List ℕ)) (more : List Denial)
+    → told_in (denial_told f r (truth_word t) m) ++ more ≡ (if denies f t then record { rule = r; message = m } ∷ more else more)
 one_told f r Holds m more = refl
 one_told f r Fails m more = refl
 one_told Fail r Errs m more = refl
@@ -78,7 +60,8 @@ rest_told x xs words i n told = record {
   messages = λ k below. ap (slice_get words.messages) (later i k) ∙ told.messages (suc k) (omega arith);
 }
 
-pub denials_from : (f : FailurePolicy) (rs : List Rule) (xs : List Finding) (words : Words) (i n : ℕ) → length rs ≤ n → TellFrom xs words i n → denials_told f rs words i ≡ denials_of f rs xs
+pub denials_from : (f : FailurePolicy) (rs : List Rule) (xs : List Finding) (words : Words) (i n : ℕ) → length rs ≤ n → TellFrom xs words i n
+    → denials_told f rs words i ≡ denials_of f rs xs
 denials_from f [] xs words i n short told = refl
 denials_from f (r ∷ rs) [] words i n short told = none_told f (r ∷ rs) words i (λ k low high. past words i n k low (omega arith) told)
 denials_from f (r ∷ rs) (x ∷ xs) words i zero short told = absurd (omega arith)
@@ -90,9 +73,7 @@ denials_from f (r ∷ rs) (x ∷ xs) words i (suc n) short told =
 
 said_by : (o : Outcome) (ds : List Denial) → objection_told (outcome_word o) ds ≡ objection_by o ds
 said_by Skipped ds = refl
-said_by Rejected ds = refl
-said_by Denied ds = refl
-said_by Admitted ds = refl
+said_by _ ds = refl
 
 zero_plus : (k : ℕ) → 0 + k ≡ k
 zero_plus k = omega arith
@@ -103,7 +84,8 @@ from_zero f v words told = record {
   messages = λ k below. ap (slice_get words.messages) (zero_plus k) ∙ told.messages k below;
 }
 
-objection_is : (f : FailurePolicy) (rs : List Rule) (v : Verdict) (words : Words) → length rs ≤ most_validations → Tell f v words → objection_told words.outcome (denials_told f rs words 0) ≡ objection_by v.outcome (denials_of f rs v.findings)
+objection_is : (f : FailurePolicy) (rs : List Rule) (v : Verdict) (words : Words) → length rs ≤ most_validations → Tell f v words
+    → objection_told words.outcome (denials_told f rs words 0) ≡ objection_by v.outcome (denials_of f rs v.findings)
 objection_is f rs v words short told =
     ap (λ o. objection_told o (denials_told f rs words 0)) told.outcome
     ∙ said_by v.outcome (denials_told f rs words 0)
@@ -120,7 +102,8 @@ few_validations : (p : Rules) → IsAccepted p → length p.validations ≤ most
 few_validations p accepted = short_by (length p.validations) most_validations (or_right (nat_lt most_parts (length p.variables)) _ (or_right (nat_lt most_parts (length p.conditions)) _ accepted.counts))
 
 -- what is said is what the verdict that the words tell says
-pub objected : (parts : Parts) (p : Rules) (v : Verdict) (words : Words) (said : Option Objection) → p ≡ rules_view parts → IsAccepted (rules_view parts) → Tell p.failure_policy v words
+pub objected : (parts : Parts) (p : Rules) (v : Verdict) (words : Words) (said : Option Objection) → p ≡ rules_view parts → IsAccepted (rules_view parts)
+    → Tell p.failure_policy v words
     → said ≡ objection_told words.outcome (denials_told parts.failure_policy (map rule_view parts.validations.items) words 0) → said ≡ objection_of p v
 objected parts p v words said is accepted told here =
     here
@@ -129,12 +112,12 @@ objected parts p v words said is accepted told here =
 
 tree_by : (o : Outcome) (ds : List Denial) (uid : List ℕ) → objected_tree (objection_by o ds) uid ≡ tree_of o ds uid
 tree_by Skipped ds uid = refl
-tree_by Rejected ds uid = refl
-tree_by Denied ds uid = refl
-tree_by Admitted ds uid = refl
+tree_by _ ds uid = refl
 
 -- the response by what a verdict says is the one to the verdict
-pub responded : (p : Rules) (v : Verdict) (uid bytes : List ℕ) (said : Option Objection) → said ≡ objection_of p v → bytes ≡ response_text said uid → bytes ≡ response_of p v uid
+pub responded : (p : Rules) (v : Verdict) (uid bytes : List ℕ) (said : Option Objection) → said ≡ objection_of p v → bytes ≡ response_text said uid
+    → bytes ≡ response_of p v uid
 unfolding response_of response_text
 responded p v uid bytes said here written =
-    written ∙ ap (λ o. compact_text (review_tree (objected_tree o uid))) here ∙ ap (λ t. compact_text (review_tree t)) (tree_by v.outcome (denials_of p.failure_policy p.validations v.findings) uid)
+    written ∙ ap (λ o. compact_text (review_tree (objected_tree o uid))) here
+    ∙ ap (λ t. compact_text (review_tree t)) (tree_by v.outcome (denials_of p.failure_policy p.validations v.findings) uid)

@@ -7,7 +7,7 @@ use Rattle.std.proofs.lemmas.Option.{slice_get_past}
 use Rattle.guest_memory.specs.RegionWords.{put_word, word_in}
 use Rattle.guest_memory.proofs.RegionWords.{put_word-other, put_word-same}
 use Rattle.value_store.specs.Calls.{text_at}
-use Rattle.value_store.specs.Value.{ValueOrError, error, value, null, boolean, int, text, list, map}
+use Rattle.value_store.specs.Value.{ValueOrError, value, text}
 use Rattle.policy_glue.specs.Layout.{IsLayout, IsMessageWord, finding_word, first_message, first_result, message_in, most_validations, outcome_word, truth_word}
 use Rattle.policy_glue.specs.Verdict.{Finding, Holds, Verdict, is_denial}
 use Rattle.policy_glue.specs.declared.failure_policy.FailurePolicy.{FailurePolicy}
@@ -55,17 +55,21 @@ module _ (outcome denials : ℕ) (result : ℕ → ℕ) (message : ℕ → Optio
   }
 
   module _ (k : ℕ) (inside : k < most_validations) where
-    result_by : (more : ℕ → ℕ) → more k ≡ word → ((j : ℕ) → (j ≡ k → ⊥) → more j ≡ result j) → (i : ℕ) → i < most_validations → (i < k) ⊎ (k ≤ i) → word_in (put_word region (first_result + k) word) (first_result + i) ≡ more i
-    result_by more here rest i below (inl before) = other (first_result + k) (first_result + i) (omega arith) (λ e. omega arith) ∙ has.results i below ∙ sym (rest i (λ e. omega arith))
+    result_by : (more : ℕ → ℕ) → more k ≡ word → ((j : ℕ) → (j ≡ k → ⊥) → more j ≡ result j) → (i : ℕ) → i < most_validations → (i < k) ⊎ (k ≤ i)
+        → word_in (put_word region (first_result + k) word) (first_result + i) ≡ more i
+    result_by more here rest i below (inl before) =
+        other (first_result + k) (first_result + i) (omega arith) (λ e. omega arith) ∙ has.results i below ∙ sym (rest i (λ e. omega arith))
     result_by more here rest i below (inr behind) =
         elim (cases_lt k i) [
           | inl after ↦ other (first_result + k) (first_result + i) (omega arith) (λ e. omega arith) ∙ has.results i below ∙ sym (rest i (λ e. omega arith))
           | inr not_after ↦
               let at : i ≡ k = omega arith in
-              ap (λ (j : ℕ). word_in (put_word region (first_result + k) word) (first_result + j)) at ∙ same (first_result + k) (omega arith) ∙ sym (ap more at ∙ here)
+              ap (λ (j : ℕ). word_in (put_word region (first_result + k) word) (first_result + j)) at ∙ same (first_result + k) (omega arith)
+              ∙ sym (ap more at ∙ here)
         ]
 
-    pub result_put : (more : ℕ → ℕ) → more k ≡ word → ((j : ℕ) → (j ≡ k → ⊥) → more j ≡ result j) → HasWords outcome denials more message values (put_word region (first_result + k) word)
+    pub result_put : (more : ℕ → ℕ) → more k ≡ word → ((j : ℕ) → (j ≡ k → ⊥) → more j ≡ result j)
+        → HasWords outcome denials more message values (put_word region (first_result + k) word)
     result_put more here rest = record {
       outcome_is = other (first_result + k) 0 (omega arith) (λ e. omega arith) ∙ has.outcome_is;
       denials_are = other (first_result + k) 1 (omega arith) (λ e. omega arith) ∙ has.denials_are;
@@ -74,7 +78,8 @@ module _ (outcome denials : ℕ) (result : ℕ → ℕ) (message : ℕ → Optio
       others = λ i past below. other (first_result + k) i (omega arith) (λ e. omega arith) ∙ has.others i past below;
     }
 
-    message_by : (more : ℕ → Option (List ℕ)) → IsMessageWord values word (more k) → ((j : ℕ) → (j ≡ k → ⊥) → more j ≡ message j) → (i : ℕ) → i < most_validations → (i < k) ⊎ (k ≤ i) → IsMessageWord values (word_in (put_word region (first_message + k) word) (first_message + i)) (more i)
+    message_by : (more : ℕ → Option (List ℕ)) → IsMessageWord values word (more k) → ((j : ℕ) → (j ≡ k → ⊥) → more j ≡ message j) → (i : ℕ)
+        → i < most_validations → (i < k) ⊎ (k ≤ i) → IsMessageWord values (word_in (put_word region (first_message + k) word) (first_message + i)) (more i)
     message_by more here rest i below (inl before) = message_on values _ _ _ _ (other (first_message + k) (first_message + i) (omega arith) (λ e. omega arith)) (rest i (λ e. omega arith)) (has.messages i below)
     message_by more here rest i below (inr behind) =
         elim (cases_lt k i) [
@@ -84,7 +89,8 @@ module _ (outcome denials : ℕ) (result : ℕ → ℕ) (message : ℕ → Optio
               message_on values _ _ _ _ (ap (λ (j : ℕ). word_in (put_word region (first_message + k) word) (first_message + j)) at ∙ same (first_message + k) (omega arith)) (ap more at) here
         ]
 
-    pub message_put : (more : ℕ → Option (List ℕ)) → IsMessageWord values word (more k) → ((j : ℕ) → (j ≡ k → ⊥) → more j ≡ message j) → HasWords outcome denials result more values (put_word region (first_message + k) word)
+    pub message_put : (more : ℕ → Option (List ℕ)) → IsMessageWord values word (more k) → ((j : ℕ) → (j ≡ k → ⊥) → more j ≡ message j)
+        → HasWords outcome denials result more values (put_word region (first_message + k) word)
     message_put more here rest = record {
       outcome_is = other (first_message + k) 0 (omega arith) (λ e. omega arith) ∙ has.outcome_is;
       denials_are = other (first_message + k) 1 (omega arith) (λ e. omega arith) ∙ has.denials_are;
@@ -96,21 +102,17 @@ module _ (outcome denials : ℕ) (result : ℕ → ℕ) (message : ℕ → Optio
 -- ---- more values, and the same messages
 
 pub text_is : (x : Option ValueOrError) (t : List ℕ) → text_at x ≡ Some t → x ≡ Some (value (text t))
-text_is None t e = absurd (cc)
-text_is (Some error) t e = absurd (cc)
-text_is (Some (value null)) t e = absurd (cc)
-text_is (Some (value (boolean b))) t e = absurd (cc)
-text_is (Some (value (int n))) t e = absurd (cc)
 text_is (Some (value (text s))) t e = let same : s ≡ t = cc in ap (λ (u : List ℕ). Some (value (text u))) same
-text_is (Some (value (list is))) t e = absurd (cc)
-text_is (Some (value (map es))) t e = absurd (cc)
+text_is _ t e = absurd (cc)
 
-message_grows : (old new : List ValueOrError) (word : ℕ) (m : Option (List ℕ)) → ((r : ℕ) (x : ValueOrError) → slice_get old r ≡ Some x → slice_get new r ≡ Some x) → IsMessageWord old word m → IsMessageWord new word m
+message_grows : (old new : List ValueOrError) (word : ℕ) (m : Option (List ℕ))
+    → ((r : ℕ) (x : ValueOrError) → slice_get old r ≡ Some x → slice_get new r ≡ Some x) → IsMessageWord old word m → IsMessageWord new word m
 message_grows old new word None grows is = is
 message_grows old new word (Some t) grows is = (is.0, ap text_at (grows word (value (text t)) (text_is (slice_get old word) t is.1)))
 
 module _ (outcome denials : ℕ) (result : ℕ → ℕ) (message : ℕ → Option (List ℕ)) (values : List ValueOrError) (region : List ℕ) (has : HasWords outcome denials result message values region) where
-  pub words_grow : (new : List ValueOrError) → ((r : ℕ) (x : ValueOrError) → slice_get values r ≡ Some x → slice_get new r ≡ Some x) → HasWords outcome denials result message new region
+  pub words_grow : (new : List ValueOrError) → ((r : ℕ) (x : ValueOrError) → slice_get values r ≡ Some x → slice_get new r ≡ Some x)
+      → HasWords outcome denials result message new region
   words_grow new grows = record {
     outcome_is = has.outcome_is;
     denials_are = has.denials_are;
@@ -119,7 +121,8 @@ module _ (outcome denials : ℕ) (result : ℕ → ℕ) (message : ℕ → Optio
     others = has.others;
   }
 
-  pub words_told : (d : ℕ) (results : ℕ → ℕ) (more : ℕ → Option (List ℕ)) → d ≡ denials → ((j : ℕ) → results j ≡ result j) → ((j : ℕ) → more j ≡ message j) → HasWords outcome d results more values region
+  pub words_told : (d : ℕ) (results : ℕ → ℕ) (more : ℕ → Option (List ℕ)) → d ≡ denials → ((j : ℕ) → results j ≡ result j) → ((j : ℕ) → more j ≡ message j)
+      → HasWords outcome d results more values region
   words_told d results more count same_results same_messages = record {
     outcome_is = has.outcome_is;
     denials_are = has.denials_are ∙ sym count;
@@ -142,9 +145,8 @@ get_last (y ∷ xs) x = get_last xs x
 
 get_other : (xs : List Finding) (x : Finding) (j : ℕ) → (j ≡ length xs → ⊥) → slice_get (xs ++ x ∷ []) j ≡ slice_get xs j
 get_other [] x zero apart = absurd (apart refl)
-get_other [] x (suc j) apart = refl
-get_other (y ∷ xs) x zero apart = refl
 get_other (y ∷ xs) x (suc j) apart = get_other xs x j (λ e. apart (ap suc e))
+get_other _ x _ apart = refl
 
 pub result_last : (xs : List Finding) (x : Finding) → result_of (xs ++ x ∷ []) (length xs) ≡ finding_word (Some x)
 result_last xs x = ap finding_word (get_last xs x)
@@ -188,12 +190,14 @@ abbrev pub count_of : FailurePolicy → List Finding → ℕ
 count_of f xs = count_by (is_denial f) xs
 
 pub count_more : (f : FailurePolicy) (xs : List Finding) (x : Finding) → count_of f (xs ++ x ∷ []) ≡ count_of f xs + (if is_denial f x then 1 else 0)
-count_more f xs x = sum_by-append (λ y. if is_denial f y then 1 else 0) xs (x ∷ []) ∙ ap (λ (n : ℕ). count_of f xs + n) (zero-add (if is_denial f x then 1 else 0))
+count_more f xs x =
+    sum_by-append (λ y. if is_denial f y then 1 else 0) xs (x ∷ []) ∙ ap (λ (n : ℕ). count_of f xs + n) (zero-add (if is_denial f x then 1 else 0))
 
 pub count_small : (f : FailurePolicy) (xs : List Finding) → length xs ≤ most_validations → count_of f xs < 2 ^ 64
 count_small f xs few = let most = count_by-le-length (is_denial f) xs in omega arith
 
 -- ---- the whole layout
 
-pub is_layout : (f : FailurePolicy) (v : Verdict) (values : List ValueOrError) (region : List ℕ) → HasWords (outcome_word v.outcome) (count_of f v.findings) (result_of v.findings) (message_of v.findings) values region → IsLayout f v values region
+pub is_layout : (f : FailurePolicy) (v : Verdict) (values : List ValueOrError) (region : List ℕ)
+    → HasWords (outcome_word v.outcome) (count_of f v.findings) (result_of v.findings) (message_of v.findings) values region → IsLayout f v values region
 is_layout f v values region has = record { outcome = has.outcome_is; denials = has.denials_are; results = has.results; messages = has.messages; others = has.others }

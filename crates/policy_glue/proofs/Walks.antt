@@ -1,7 +1,7 @@
 -- A walk over the parts of a policy, over plain variables.
 use Rattle.std.proofs.Common.{◌≡◌, ◌+◌, ◌<◌, ◌≤◌, ℕ, zero, suc, List, [], ◌∷◌, ◌++◌, drop, get_or, length, map, Option, Result, Ok, Err, arith, refl, sym, ap, ◌∙◌, subst}
 use Rattle.std.proofs.lemmas.List.{drop_more}
-use Rattle.std.proofs.lemmas.List.Elements.{All-nil, All-push}
+use Rattle.std.proofs.lemmas.List.Elements.{All-push}
 use Rattle.std.specs.Prelude.{All}
 use Rattle.std.proofs.lemmas.List.Sums.{fold-append}
 use Rattle.cel_reader.specs.Tree.{Tree}
@@ -38,23 +38,24 @@ pub record VariablesGo (all rest : List Named) (place : ℕ) (scope : List Decla
   pub formed : All (λ v. IsWellFormed v.expression) taken
   pub goes : Goes TakesVariable RefusesVariable all rest taken
 
-pub variables_start : (all : List Named) (scope : List Declaration) (trees : List CoreTree) → scope ≡ [] → trees ≡ [] → VariablesGo all all 0 scope trees
-variables_start all scope trees none no_trees = record { taken = []; count = refl; scope_is = none; trees_are = no_trees; formed = All-nil (λ (v : VariableTree). IsWellFormed v.expression); goes = λ end h. h }
-
-pub variables_step : (all : List Named) (n : Named) (rest : List Named) (place : ℕ) (old new : List Declaration) (before after : List CoreTree) → VariablesGo all (n ∷ rest) place old before → IsAdded n old new before after → VariablesGo all rest (place + 1) new after
+pub variables_step : (all : List Named) (n : Named) (rest : List Named) (place : ℕ) (old new : List Declaration) (before after : List CoreTree)
+    → VariablesGo all (n ∷ rest) place old before → IsAdded n old new before after → VariablesGo all rest (place + 1) new after
 variables_step all n rest place old new before after go added = record {
   taken = go.taken ++ added.variable ∷ [];
   count = length_more go.taken added.variable ∙ ap (λ k. k + 1) go.count;
   scope_is = added.scope ∙ ap (λ s. with_variable s added.variable) go.scope_is ∙ sym (fold-append with_variable [] go.taken (added.variable ∷ []));
-  trees_are = added.trees ∙ ap (λ ts. ts ++ expanded added.variable.expression ∷ []) go.trees_are ∙ sym (map_more (λ v. expanded v.expression) go.taken added.variable);
+  trees_are = added.trees ∙ ap (λ ts. ts ++ expanded added.variable.expression ∷ []) go.trees_are
+      ∙ sym (map_more (λ v. expanded v.expression) go.taken added.variable);
   formed = All-push (λ (v : VariableTree). IsWellFormed v.expression) go.taken added.variable go.formed added.formed;
   goes = λ end h. go.goes end (next added.variable (subst (λ s. IsVariable s n added.variable) go.scope_is added.taken) h);
 }
 
-pub variables_fail : (all : List Named) (n : Named) (rest : List Named) (place : ℕ) (scope : List Declaration) (trees : List CoreTree) (e : CompileError) → VariablesGo all (n ∷ rest) place scope trees → IsNoVariable scope place n.expression e → Ends TakesVariable RefusesVariable [] all (Err e)
+pub variables_fail : (all : List Named) (n : Named) (rest : List Named) (place : ℕ) (scope : List Declaration) (trees : List CoreTree) (e : CompileError)
+    → VariablesGo all (n ∷ rest) place scope trees → IsNoVariable scope place n.expression e → Ends TakesVariable RefusesVariable [] all (Err e)
 variables_fail all n rest place scope trees e go refusal = go.goes (Err e) (refused e (subst (λ k. IsNoVariable (scope_after go.taken) k n.expression e) (sym go.count) (subst (λ s. IsNoVariable s place n.expression e) go.scope_is refusal)))
 
-pub variables_end : (all : List Named) (place : ℕ) (scope : List Declaration) (trees : List CoreTree) → VariablesGo all [] place scope trees → AreVariables all scope trees
+pub variables_end : (all : List Named) (place : ℕ) (scope : List Declaration) (trees : List CoreTree) → VariablesGo all [] place scope trees
+    → AreVariables all scope trees
 variables_end all place scope trees go = record { taken = go.taken; end = go.goes (Ok go.taken) over; scope_is = go.scope_is; trees_are = go.trees_are; formed = go.formed }
 
 -- ---- conditions
@@ -66,9 +67,6 @@ pub record ConditionsGo (all rest : List Named) (place : ℕ) (trees : List Core
   pub formed : All IsWellFormed taken
   pub goes : Goes TakesCondition RefusesCondition all rest taken
 
-pub conditions_start : (all : List Named) (trees : List CoreTree) → trees ≡ [] → ConditionsGo all all 0 trees
-conditions_start all trees no_trees = record { taken = []; count = refl; trees_are = no_trees; formed = All-nil IsWellFormed; goes = λ end h. h }
-
 pub conditions_step : (all : List Named) (n : Named) (rest : List Named) (place : ℕ) (scope : List Declaration) (before after : List CoreTree) (tree : CoreTree) (a : Tree) → ConditionsGo all (n ∷ rest) place before → scope ≡ [] → (tree ≡ expanded a) × IsWellFormed a → IsOneOf truths scope n.expression a → after ≡ before ++ tree ∷ [] → ConditionsGo all rest (place + 1) after
 conditions_step all n rest place scope before after tree a go none is takes more = record {
   taken = go.taken ++ a ∷ [];
@@ -78,7 +76,9 @@ conditions_step all n rest place scope before after tree a go none is takes more
   goes = λ end h. go.goes end (next a (subst (λ s. IsOneOf truths s n.expression a) none takes) h);
 }
 
-pub conditions_fail : (all : List Named) (n : Named) (rest : List Named) (place : ℕ) (scope : List Declaration) (trees : List CoreTree) (e : CompileError) → ConditionsGo all (n ∷ rest) place trees → scope ≡ [] → IsNoneOf truths K7 Condition place scope n.expression e → Ends TakesCondition RefusesCondition [] all (Err e)
+pub conditions_fail : (all : List Named) (n : Named) (rest : List Named) (place : ℕ) (scope : List Declaration) (trees : List CoreTree) (e : CompileError)
+    → ConditionsGo all (n ∷ rest) place trees → scope ≡ [] → IsNoneOf truths K7 Condition place scope n.expression e
+    → Ends TakesCondition RefusesCondition [] all (Err e)
 conditions_fail all n rest place scope trees e go none refusal = go.goes (Err e) (refused e (subst (λ k. IsNoneOf truths K7 Condition k [] n.expression e) (sym go.count) (subst (λ s. IsNoneOf truths K7 Condition place s n.expression e) none refusal)))
 
 pub conditions_end : (all : List Named) (place : ℕ) (trees : List CoreTree) → ConditionsGo all [] place trees → AreConditions all trees
@@ -93,9 +93,6 @@ pub record RulesGo (scope : List Declaration) (all rest : List Rule) (place : �
   pub formed : All IsFormedRule taken
   pub goes : Goes (TakesRule scope) (RefusesRule scope) all rest taken
 
-pub rules_start : (scope : List Declaration) (all : List Rule) (trees : List (CoreTree × Option CoreTree)) → trees ≡ [] → RulesGo scope all all 0 trees
-rules_start scope all trees no_trees = record { taken = []; count = refl; trees_are = no_trees; formed = All-nil IsFormedRule; goes = λ end h. h }
-
 pub rules_step : (scope : List Declaration) (all : List Rule) (n : Rule) (rest : List Rule) (place : ℕ) (before after : List (CoreTree × Option CoreTree)) (tree : CoreTree × Option CoreTree) (r : RuleTree) → RulesGo scope all (n ∷ rest) place before → tree ≡ rule_expanded r → IsRule scope n r → IsFormedRule r → after ≡ before ++ tree ∷ [] → RulesGo scope all rest (place + 1) after
 rules_step scope all n rest place before after tree r go is takes formed more = record {
   taken = go.taken ++ r ∷ [];
@@ -108,7 +105,8 @@ rules_step scope all n rest place before after tree r go is takes formed more = 
 pub rules_fail : (scope : List Declaration) (all : List Rule) (n : Rule) (rest : List Rule) (place : ℕ) (trees : List (CoreTree × Option CoreTree)) (e : CompileError) → RulesGo scope all (n ∷ rest) place trees → IsNoRule scope place n e → Ends (TakesRule scope) (RefusesRule scope) [] all (Err e)
 rules_fail scope all n rest place trees e go refusal = go.goes (Err e) (refused e (subst (λ k. IsNoRule scope k n e) (sym go.count) refusal))
 
-pub rules_end : (scope : List Declaration) (all : List Rule) (place : ℕ) (trees : List (CoreTree × Option CoreTree)) → RulesGo scope all [] place trees → AreRules scope all trees
+pub rules_end : (scope : List Declaration) (all : List Rule) (place : ℕ) (trees : List (CoreTree × Option CoreTree)) → RulesGo scope all [] place trees
+    → AreRules scope all trees
 rules_end scope all place trees go = record { taken = go.taken; end = go.goes (Ok go.taken) over; trees_are = go.trees_are; formed = go.formed }
 
 -- ---- where the walk stands in a list of the code

@@ -12,69 +12,100 @@ use Rattle.cel_reader.specs.declared.operator.UnaryOperator.TheVariants as unary
 use Rattle.cel_macros.specs.CoreTree as core
 use Rattle.cel_macros.specs.CoreTree.{CoreTree, CoreTrees, CoreEntries, no_cores, more_cores, no_core_entries, more_core_entries}
 use Rattle.cel_macros.specs.Functions.{Function, Size, String, Dyn, function_named, TextTest, test_named}
-use Rattle.codegen_base.specs.Code.Calls.{two_code}
+use Rattle.insn_codec.specs.declared.register.Register.{Register}
+use Rattle.insn_codec.specs.declared.register.Register.TheVariants.{R1, R2, R6, R7}
+use Rattle.codegen_base.specs.Code.Leaves.{leaf_code}
+use Rattle.codegen_base.specs.Code.Calls.{kept_size, operand_code, operands_code}
 use Rattle.codegen_base.specs.Code.Logic.{and_code, or_code, not_tail, ternary_code}
 use Rattle.codegen_base.specs.Code.Arithmetic.{sum_code, difference_code, product_code, divided_code, negation_tail}
-use Rattle.codegen_base.specs.Code.Comparison.{equal_tail, unequal_tail, less_tail, less_equal_tail, greater_tail, greater_equal_tail}
-use Rattle.codegen_base.specs.Code.Comparison.{member_tail}
-use Rattle.codegen.specs.Code.Literals.{address_of, literal_code}
+use Rattle.codegen_base.specs.Code.Comparison.{equal_tail, unequal_tail, less_tail, not_less_tail, member_tail}
+use Rattle.codegen.specs.Code.Literals.{address_of, literal_code, literal_leaf}
 use Rattle.codegen_base.specs.Code.Aggregates.{item_code, list_code, entry_code, map_code}
-use Rattle.codegen_base.specs.Code.Names.{name_code, reference_code}
+use Rattle.codegen_base.specs.Code.Names.{name_code, name_leaf}
 use Rattle.codegen_base.specs.Code.Selection.{field_tail, has_tail, index_tail, size_tail, string_tail, test_tail}
 use Rattle.codegen_base.specs.Code.Folds.{macro_code, map_where_code}
 use Rattle.codegen_base.specs.Pieces.{size}
 use Rattle.codegen_base.specs.Variables.{memo_tail, use_code}
+use Rattle.codegen_base.specs.declared.leaf.Leaf.{Leaf}
+use Rattle.codegen_base.specs.declared.leaf.Leaf.TheVariants.{Reference}
+
+-- null, truths and names are leaves
+abbrev pub leaf_of : CoreTree → List (List ℕ × ℕ) → Option Leaf
+leaf_of (core.literal l) ws = literal_leaf l
+leaf_of (core.name n) ws = Some (name_leaf n ws)
+leaf_of _ ws = None
 
 -- no expression that the type checker takes has such a part
 abbrev pub no_code : List Insn
-no_code = reference_code (pos 0)
+no_code = leaf_code (Reference (pos 0))
 
--- an operator before R0
-abbrev pub unary_tail : UnaryOperator → List Insn
-unary_tail unary.Not = not_tail
-unary_tail unary.Negate = negation_tail
+-- an operator before its operand
+abbrev pub unary_code : UnaryOperator → Option Leaf → List Insn → List Insn
+unary_code unary.Not l of = operand_code l of R1 ++ not_tail
+unary_code unary.Negate l of = operand_code l of R6 ++ negation_tail
 
--- what is made of both operands, the left one in word k
-unfoldable pub binary_tail : BinaryOperator → ℕ → List Insn
-binary_tail binary.Or k = []
-binary_tail binary.And k = []
-binary_tail binary.Less k = less_tail k
-binary_tail binary.LessEqual k = less_equal_tail k
-binary_tail binary.GreaterEqual k = greater_equal_tail k
-binary_tail binary.Greater k = greater_tail k
-binary_tail binary.Equal k = equal_tail k
-binary_tail binary.NotEqual k = unequal_tail k
-binary_tail binary.In k = member_tail k
-binary_tail binary.Add k = sum_code k
-binary_tail binary.Subtract k = difference_code k
-binary_tail binary.Multiply k = product_code k
-binary_tail binary.Divide k = divided_code Sdiv k
-binary_tail binary.Remainder k = divided_code Smod k
+-- the registers of an operator's operands: arithmetic has them where helpers keep them, and `>` and `<=` exchange the sides
+abbrev pub left_register : BinaryOperator → Register
+left_register binary.LessEqual = R2
+left_register binary.Greater = R2
+left_register binary.Add = R6
+left_register binary.Subtract = R6
+left_register binary.Multiply = R6
+left_register binary.Divide = R6
+left_register binary.Remainder = R6
+left_register _ = R1
 
--- an operator between two operands, the left one in word k
-abbrev pub binary_code : BinaryOperator → List Insn → List Insn → ℕ → List Insn
-binary_code binary.Or left right k = or_code left right k
-binary_code binary.And left right k = and_code left right k
-binary_code op left right k = two_code left right k (binary_tail op k)
+abbrev pub right_register : BinaryOperator → Register
+right_register binary.LessEqual = R1
+right_register binary.Greater = R1
+right_register binary.Add = R7
+right_register binary.Subtract = R7
+right_register binary.Multiply = R7
+right_register binary.Divide = R7
+right_register binary.Remainder = R7
+right_register _ = R2
+
+-- what is made of both operands
+unfoldable pub binary_tail : BinaryOperator → List Insn
+binary_tail binary.Or = []
+binary_tail binary.And = []
+binary_tail binary.Less = less_tail
+binary_tail binary.LessEqual = not_less_tail
+binary_tail binary.GreaterEqual = not_less_tail
+binary_tail binary.Greater = less_tail
+binary_tail binary.Equal = equal_tail
+binary_tail binary.NotEqual = unequal_tail
+binary_tail binary.In = member_tail
+binary_tail binary.Add = sum_code
+binary_tail binary.Subtract = difference_code
+binary_tail binary.Multiply = product_code
+binary_tail binary.Divide = divided_code Sdiv
+binary_tail binary.Remainder = divided_code Smod
+
+-- an operator between two operands, which may use the words from k on
+abbrev pub binary_code : BinaryOperator → Option Leaf → List Insn → Option Leaf → List Insn → ℕ → List Insn
+binary_code binary.Or l left m right k = or_code left right k
+binary_code binary.And l left m right k = and_code left right k
+binary_code op l left m right k = operands_code l left m right k (left_register op) (right_register op) ++ binary_tail op
 
 -- a function of an operand
-abbrev pub function_code : Option Function → List Insn → List Insn
-function_code (Some Size) of = of ++ size_tail
-function_code (Some String) of = of ++ string_tail
-function_code (Some Dyn) of = of
-function_code None of = no_code
+abbrev pub function_code : Option Function → Option Leaf → List Insn → List Insn
+function_code (Some Size) l of = operand_code l of R1 ++ size_tail
+function_code (Some String) l of = operand_code l of R6 ++ string_tail
+function_code (Some Dyn) l of = of
+function_code None l of = no_code
 
 -- of the functions only `size` is a method too
-abbrev pub method_function_code : Option Function → List Insn → List Insn
-method_function_code (Some Size) of = of ++ size_tail
-method_function_code (Some String) of = no_code
-method_function_code (Some Dyn) of = no_code
-method_function_code None of = no_code
+abbrev pub method_function_code : Option Function → Option Leaf → List Insn → List Insn
+method_function_code (Some Size) l of = operand_code l of R1 ++ size_tail
+method_function_code (Some String) l of = no_code
+method_function_code (Some Dyn) l of = no_code
+method_function_code None l of = no_code
 
--- a test of two texts, the left one in word k
-abbrev pub test_code : Option TextTest → List Insn → List Insn → ℕ → List Insn
-test_code (Some t) left right k = two_code left right k (test_tail t k)
-test_code None left right k = no_code
+-- a test of two texts
+abbrev pub test_code : Option TextTest → Option Leaf → List Insn → Option Leaf → List Insn → ℕ → List Insn
+test_code (Some t) l left m right k = operands_code l left m right k R1 R2 ++ test_tail t
+test_code None l left m right k = no_code
 
 -- of the first variable of a name among these, its number and the slot of its routine
 abbrev pub routine_named : List ℕ → List (List ℕ × ℕ) → Option (ℕ × ℕ)
@@ -86,11 +117,11 @@ abbrev pub variable_code : Option (ℕ × ℕ) → ℕ → List Insn
 variable_code (Some found) p = use_code found.0 (pos found.1 -ℤ pos (p + 6))
 variable_code None p = no_code
 
--- how many slots stand between an operator's operands
-abbrev pub operands_apart : BinaryOperator → ℕ
-operands_apart binary.Or = 2
-operands_apart binary.And = 2
-operands_apart _ = 1
+-- how many slots stand before an operator's right operand
+abbrev pub left_size : BinaryOperator → Option Leaf → List Insn → ℕ
+left_size binary.Or l left = size left + 2
+left_size binary.And l left = size left + 2
+left_size _ l left = kept_size l left
 
 -- the code of an expression whose texts stand among ts, whose variables have the routines rs, in order of declaration,
 -- and whose iteration names have the words ws: it keeps the words below k of its frame, and stands at slot p
@@ -99,22 +130,25 @@ unfoldable mutual
   code_of (core.literal l) ts rs ws k p = literal_code ts l
   code_of (core.name n) ts rs ws k p = name_code n ws
   code_of (core.variable v) ts rs ws k p = variable_code (routine_named v rs) p
-  code_of (core.select a f) ts rs ws k p = code_of a ts rs ws k p ++ field_tail (address_of ts f) (length f)
-  code_of (core.has a f) ts rs ws k p = code_of a ts rs ws k p ++ has_tail (address_of ts f) (length f)
+  code_of (core.select a f) ts rs ws k p =
+      operand_code (leaf_of a ws) (code_of a ts rs ws k p) R1 ++ field_tail (address_of ts f) (length f)
+  code_of (core.has a f) ts rs ws k p = operand_code (leaf_of a ws) (code_of a ts rs ws k p) R1 ++ has_tail (address_of ts f) (length f)
   code_of (core.index a b) ts rs ws k p =
       let first = code_of a ts rs ws k p in
-      two_code first (code_of b ts rs ws (k + 1) (p + size first + 1)) k (index_tail k)
-  code_of (core.call n (more_cores a no_cores)) ts rs ws k p = function_code (function_named n) (code_of a ts rs ws k p)
+      let second = code_of b ts rs ws (k + 1) (p + kept_size (leaf_of a ws) first) in
+      operands_code (leaf_of a ws) first (leaf_of b ws) second k R1 R2 ++ index_tail
+  code_of (core.call n (more_cores a no_cores)) ts rs ws k p = function_code (function_named n) (leaf_of a ws) (code_of a ts rs ws k p)
   code_of (core.call n _) ts rs ws k p = no_code
-  code_of (core.method a n no_cores) ts rs ws k p = method_function_code (function_named n) (code_of a ts rs ws k p)
+  code_of (core.method a n no_cores) ts rs ws k p = method_function_code (function_named n) (leaf_of a ws) (code_of a ts rs ws k p)
   code_of (core.method a n (more_cores b no_cores)) ts rs ws k p =
       let first = code_of a ts rs ws k p in
-      test_code (test_named n) first (code_of b ts rs ws (k + 1) (p + size first + 1)) k
+      let second = code_of b ts rs ws (k + 1) (p + kept_size (leaf_of a ws) first) in
+      test_code (test_named n) (leaf_of a ws) first (leaf_of b ws) second k
   code_of (core.method a n _) ts rs ws k p = no_code
-  code_of (core.unary op a) ts rs ws k p = code_of a ts rs ws k p ++ unary_tail op
+  code_of (core.unary op a) ts rs ws k p = unary_code op (leaf_of a ws) (code_of a ts rs ws k p)
   code_of (core.binary op a b) ts rs ws k p =
       let left = code_of a ts rs ws k p in
-      binary_code op left (code_of b ts rs ws (k + 1) (p + size left + operands_apart op)) k
+      binary_code op (leaf_of a ws) left (leaf_of b ws) (code_of b ts rs ws (k + 1) (p + left_size op (leaf_of a ws) left)) k
   code_of (core.ternary c a b) ts rs ws k p =
       let condition = code_of c ts rs ws k p in
       let if_true = code_of a ts rs ws k (p + size condition + 2) in

@@ -3,7 +3,7 @@
 ghost use Rattle.std.specs.Prelude.{◌≡◌, ◌<◌, ◌≤◌, IfOk};
 ghost use Rattle.codegen_base.specs.Code.Arithmetic as specs;
 
-use crate::instructions::{compute, load, skip, skip_where};
+use crate::instructions::{compute, skip, skip_where};
 use Register::{R0, R1, R2, R6, R7};
 use codegen_base::helpers::{self, INT_KIND};
 use codegen_base::instructions::{call, copy, load_wide, put, skip_if};
@@ -14,17 +14,14 @@ use std::alloc::{AllocError, Global};
 /// The word of the least int.
 const LEAST: u64 = 1 << 63;
 
-/// The ints of word k and of R0 into R6 and R7; where they are no ints, on to the slot so many behind
+/// The ints that R6 and R7 name, into these; where they name no ints, on to the slot so many behind
 /// these.
 #[tactic(auto, unfolding(codegen_base::specs::Code::Arithmetic::int_operands))]
-fn int_operands(k: usize, slots: usize) -> [Insn; 14]
-    requires word { k < 64 }
-    requires near { slots ≤ 100 }
-    ensures { result ≡ specs.int_operands k slots }
+fn int_operands(slots: usize) -> [Insn; 12]
+    requires { slots ≤ 100 }
+    ensures { result ≡ specs.int_operands slots }
 {
     [
-        copy(R7, R0),
-        load(R6, k),
         copy(R1, R6),
         call(helpers::KIND),
         skip_if(Comparison::Ne, R0, INT_KIND, slots + 9),
@@ -95,55 +92,50 @@ fn divided_tail(op: AluOp) -> [Insn; 9]
     ]
 }
 
-/// Word k plus R0.
-pub(crate) fn sum(alloc: Global, k: usize) -> Result<Vec<Insn>, AllocError>
-    requires { k < 64 }
-    ensures { IfOk result (λ code. code.items ≡ specs.sum_code k) }
+/// R6 plus R7, of what they name.
+pub(crate) fn sum(alloc: Global) -> Result<Vec<Insn>, AllocError>
+    ensures { IfOk result (λ code. code.items ≡ specs.sum_code) }
 {
-    let mut code = int_operands(k, 10).to_vec(alloc)?;
+    let mut code = int_operands(10).to_vec(alloc)?;
     code.extend_from_slice(&checked_tail(AluOp::Add, Comparison::Sge, Comparison::Slt))?;
     code.extend_from_slice(&[skip(3), copy(R1, R6), copy(R2, R7), call(helpers::JOIN)])?;
     Ok(code)
 }
 
-/// Word k less R0.
-pub(crate) fn difference(alloc: Global, k: usize) -> Result<Vec<Insn>, AllocError>
-    requires { k < 64 }
-    ensures { IfOk result (λ code. code.items ≡ specs.difference_code k) }
+/// R6 less R7.
+pub(crate) fn difference(alloc: Global) -> Result<Vec<Insn>, AllocError>
+    ensures { IfOk result (λ code. code.items ≡ specs.difference_code) }
 {
-    let mut code = int_operands(k, 8).to_vec(alloc)?;
+    let mut code = int_operands(8).to_vec(alloc)?;
     code.extend_from_slice(&checked_tail(AluOp::Sub, Comparison::Sle, Comparison::Sgt))?;
     Ok(code)
 }
 
-/// Word k times R0.
-pub(crate) fn product(alloc: Global, k: usize) -> Result<Vec<Insn>, AllocError>
-    requires { k < 64 }
-    ensures { IfOk result (λ code. code.items ≡ specs.product_code k) }
+/// R6 times R7.
+pub(crate) fn product(alloc: Global) -> Result<Vec<Insn>, AllocError>
+    ensures { IfOk result (λ code. code.items ≡ specs.product_code) }
 {
-    let mut code = int_operands(k, 12).to_vec(alloc)?;
+    let mut code = int_operands(12).to_vec(alloc)?;
     code.extend_from_slice(&product_tail())?;
     Ok(code)
 }
 
-/// The quotient or the remainder of word k by R0.
-pub(crate) fn divided(alloc: Global, op: AluOp, k: usize) -> Result<Vec<Insn>, AllocError>
-    requires { k < 64 }
-    ensures { IfOk result (λ code. code.items ≡ specs.divided_code op k) }
+/// The quotient or the remainder of R6 by R7.
+pub(crate) fn divided(alloc: Global, op: AluOp) -> Result<Vec<Insn>, AllocError>
+    ensures { IfOk result (λ code. code.items ≡ specs.divided_code op) }
 {
-    let mut code = int_operands(k, 9).to_vec(alloc)?;
+    let mut code = int_operands(9).to_vec(alloc)?;
     code.extend_from_slice(&divided_tail(op))?;
     Ok(code)
 }
 
-/// The negative of R0.
+/// The negative of R6, of what it names.
 #[tactic(auto, unfolding(codegen_base::specs::Code::Arithmetic::negation_tail))]
-pub(crate) fn negation_tail() -> [Insn; 13]
+pub(crate) fn negation_tail() -> [Insn; 12]
     ensures { result ≡ specs.negation_tail }
 {
     [
-        copy(R6, R0),
-        copy(R1, R0),
+        copy(R1, R6),
         call(helpers::KIND),
         skip_if(Comparison::Ne, R0, INT_KIND, 9),
         copy(R1, R6),

@@ -1,16 +1,19 @@
 //! Literals of null, truths, ints and texts.
 
-ghost use Rattle.std.specs.Prelude.{◌≡◌, ◌∷◌, [], length, map, string_bytes, IfOk};
+ghost use Rattle.std.specs.Prelude.{◌≡◌, ◌∷◌, [], length, map, string_bytes, IfOk, IfSome};
 ghost use Rattle.cel_reader.specs.Tree.{literal_view};
+ghost use Rattle.codegen_base.specs.Code.Leaves.{HasWord};
 ghost use Rattle.codegen_base.specs.Code.Literals as base;
 ghost use Rattle.codegen_base.specs.Instructions.{load_wide as load_wide_insn};
 ghost use Rattle.codegen.specs.Code.Literals as specs;
 
+use crate::code::names::leaf;
 use crate::constants::place_of;
-use Register::{R0, R1, R2};
+use Register::{R1, R2};
 use cel_reader::Literal;
 use codegen_base::helpers;
-use codegen_base::instructions::{call, load_wide, put};
+use codegen_base::instructions::{call, load_wide};
+use codegen_base::leaf::Leaf;
 use codegen_base::references::{NO, NULL, YES};
 use insn_codec::{Insn, Register};
 use std::alloc::{AllocError, Global};
@@ -41,11 +44,23 @@ pub(crate) fn text_range(
 }
 
 /// A truth, which has a reference of its own.
-fn truth(alloc: Global, truth: bool) -> Result<Vec<Insn>, AllocError>
-    ensures { IfOk result (λ code. code.items ≡ base.truth_code truth) }
+fn truth_leaf(truth: bool) -> Leaf
+    ensures leaf { result ≡ base.truth_leaf truth }
+    ensures word { HasWord result }
 {
-    let reference = if truth { YES } else { NO };
-    [put(R0, reference)].to_vec(alloc)
+    Leaf::Reference(if truth { YES } else { NO })
+}
+
+/// The leaf that a literal is.
+pub(crate) fn literal_leaf(literal: &Literal) -> Option<Leaf>
+    ensures leaf { result ≡ specs.literal_leaf (literal_view literal.now) }
+    ensures word { IfSome result HasWord }
+{
+    match literal {
+        Literal::Null => Some(Leaf::Reference(NULL)),
+        Literal::Bool(b) => Some(truth_leaf(*b)),
+        Literal::Int(_) | Literal::Text(_) => None,
+    }
 }
 
 /// An int, from its word.
@@ -73,8 +88,8 @@ pub(crate) fn literal(
     ensures { IfOk result (λ code. code.items ≡ specs.literal_code (map string_bytes texts.now) (literal_view literal.now)) }
 {
     match literal {
-        Literal::Null => [put(R0, NULL)].to_vec(alloc),
-        Literal::Bool(b) => truth(alloc, *b),
+        Literal::Null => leaf(alloc, Leaf::Reference(NULL)),
+        Literal::Bool(b) => leaf(alloc, truth_leaf(*b)),
         Literal::Int(n) => int(alloc, *n),
         Literal::Text(t) => text(alloc, texts, t.as_str()),
     }

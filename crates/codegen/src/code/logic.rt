@@ -1,14 +1,12 @@
 //! Logical operators and the conditional.
 
 ghost use Rattle.std.specs.Prelude.{◌≡◌, ◌<◌, ◌≤◌, ◌+◌, IfOk};
-ghost use Rattle.codegen_base.specs.Code.Comparison as comparison;
 ghost use Rattle.codegen_base.specs.Code.Logic as specs;
 ghost use Rattle.codegen_base.specs.Pieces.{size as size_of_piece};
 
-use crate::code::calls::call_one;
 use crate::instructions::{load, size, skip, store};
 use codegen_base::helpers;
-use codegen_base::instructions::{put, skip_if};
+use codegen_base::instructions::{call, put, skip_if};
 use codegen_base::references::{ERROR, NO, YES};
 use insn_codec::{Comparison, Insn, Register};
 use std::alloc::{AllocError, Global};
@@ -51,20 +49,11 @@ pub(crate) fn absorbing(
     Ok(code)
 }
 
-/// The other truth than R0.
-pub(crate) fn not_tail() -> [Insn; 2]
+/// The other truth than R1.
+pub(crate) fn not_tail() -> [Insn; 1]
     ensures { result ≡ specs.not_tail }
 {
-    call_one(helpers::NOT)
-}
-
-/// The opposite of the truth that this code gives.
-pub(crate) fn opposite_of(alloc: Global, code: &[Insn]) -> Result<Vec<Insn>, AllocError>
-    ensures { IfOk result (λ opposite. opposite.items ≡ comparison.opposite_of code.now) }
-{
-    let mut opposite = code.to_vec(alloc)?;
-    opposite.extend_from_slice(&not_tail())?;
-    Ok(opposite)
+    [call(helpers::NOT)]
 }
 
 /// The chosen side, or the error where the condition is neither true nor false.

@@ -3,16 +3,21 @@
 ghost use Rattle.std.specs.Prelude.{◌≡◌, ◌<◌, ◌++◌, IfOk, IfSome};
 ghost use Rattle.cel_macros.specs.Environment.{lookup};
 ghost use Rattle.cel_macros.specs.Functions.{function_named, test_named};
+ghost use Rattle.codegen_base.specs.Code.Calls.{operand_code};
+ghost use Rattle.codegen_base.specs.Code.Leaves.{leaf_code, HasWord};
 ghost use Rattle.codegen_base.specs.Code.Names as names;
+ghost use Rattle.codegen_base.specs.Code.Selection.{size_tail, string_tail as string_tail_code};
 ghost use Rattle.codegen.specs.Code.Expressions as specs;
 ghost use Rattle.codegen.specs.FrameWords.{words_of, AreWords};
 
-use crate::code::calls::{call_two, two};
-use crate::code::selection::{size_tail, string_tail};
+use crate::code::calls::{operand, operands};
+use crate::code::selection::string_tail;
 use crate::frame_words::FrameWords;
-use crate::instructions::load;
+use crate::instructions::leaf_into;
+use crate::part::Part;
 use codegen_base::helpers;
-use codegen_base::instructions::put;
+use codegen_base::instructions::call;
+use codegen_base::leaf::Leaf;
 use codegen_base::references::{ERROR, NAMESPACE_OBJECT, OBJECT, OLD_OBJECT, PARAMS, REQUEST};
 use insn_codec::{Insn, Register};
 use std::alloc::{AllocError, Global};
@@ -50,29 +55,23 @@ fn root_reference(name: &str) -> i32
     }
 }
 
-/// What word k of the frame names.
-fn word(alloc: Global, k: usize) -> Result<Vec<Insn>, AllocError>
-    requires { k < 64 }
-    ensures { IfOk result (λ code. code.items ≡ names.word_code k) }
+/// A leaf as an expression.
+pub(crate) fn leaf(alloc: Global, leaf: Leaf) -> Result<Vec<Insn>, AllocError>
+    requires { HasWord leaf }
+    ensures { IfOk result (λ code. code.items ≡ leaf_code leaf) }
 {
-    [load(Register::R0, k)].to_vec(alloc)
-}
-
-/// What stands at a reference of its own.
-fn reference(alloc: Global, r: i32) -> Result<Vec<Insn>, AllocError>
-    ensures { IfOk result (λ code. code.items ≡ names.reference_code r) }
-{
-    [put(Register::R0, r)].to_vec(alloc)
+    [leaf_into(leaf, Register::R0)].to_vec(alloc)
 }
 
 /// What a name stands for.
-pub(crate) fn name(alloc: Global, name: &str, words: &FrameWords) -> Result<Vec<Insn>, AllocError>
+pub(crate) fn name_leaf(name: &str, words: &FrameWords) -> Leaf
     requires { AreWords (words_of words.now) }
-    ensures { IfOk result (λ code. code.items ≡ names.name_code name.now (words_of words.now)) }
+    ensures leaf { result ≡ names.name_leaf name.now (words_of words.now) }
+    ensures word { HasWord result }
 {
     match word_named(name, words) {
-        Some(k) => word(alloc, k),
-        None => reference(alloc, root_reference(name)),
+        Some(k) => Leaf::Word(k),
+        None => Leaf::Reference(root_reference(name)),
     }
 }
 
@@ -80,35 +79,50 @@ pub(crate) fn name(alloc: Global, name: &str, words: &FrameWords) -> Result<Vec<
 pub(crate) fn nothing(alloc: Global) -> Result<Vec<Insn>, AllocError>
     ensures { IfOk result (λ code. code.items ≡ specs.no_code) }
 {
-    reference(alloc, ERROR)
+    leaf(alloc, Leaf::Reference(ERROR))
 }
 
-/// The function of this name, of what code gives.
-#[tactic(auto, unfolding(cel_macros::specs::Functions::function_named))]
-pub(crate) fn function(alloc: Global, name: &str, of: &[Insn]) -> Result<Vec<Insn>, AllocError>
-    ensures { IfOk result (λ code. code.items ≡ specs.function_code (function_named name.now) of.now) }
+/// The number of code points, items or entries of a part.
+fn size_of(alloc: Global, of: &Part) -> Result<Vec<Insn>, AllocError>
+    ensures { IfOk result (λ code. code.items ≡ operand_code of.now.leaf of.now.code.items Register.R1 ++ size_tail) }
 {
-    let mut code = of.to_vec(alloc)?;
+    let mut code = operand(alloc, of, Register::R1)?;
+    code.push(call(helpers::SIZE))?;
+    Ok(code)
+}
+
+/// The text of a part.
+fn text_of(alloc: Global, of: &Part) -> Result<Vec<Insn>, AllocError>
+    ensures { IfOk result (λ code. code.items ≡ operand_code of.now.leaf of.now.code.items Register.R6 ++ string_tail_code) }
+{
+    let mut code = operand(alloc, of, Register::R6)?;
+    code.extend_from_slice(&string_tail())?;
+    Ok(code)
+}
+
+/// The function of this name, of a part.
+#[tactic(auto, unfolding(cel_macros::specs::Functions::function_named))]
+pub(crate) fn function(alloc: Global, name: &str, of: &Part) -> Result<Vec<Insn>, AllocError>
+    ensures { IfOk result (λ code. code.items ≡ specs.function_code (function_named name.now) of.now.leaf of.now.code.items) }
+{
     match name {
-        "size" => code.extend_from_slice(&size_tail())?,
-        "string" => code.extend_from_slice(&string_tail())?,
-        "dyn" => {}
-        _ => return nothing(alloc),
+        "size" => size_of(alloc, of),
+        "string" => text_of(alloc, of),
+        "dyn" => of.code.to_vec(alloc),
+        _ => nothing(alloc),
     }
-    Ok(code)
 }
 
-/// The method of this name and without arguments, of what code gives.
+/// The method of this name and without arguments, of a part.
 #[tactic(auto, unfolding(cel_macros::specs::Functions::function_named))]
-pub(crate) fn method(alloc: Global, name: &str, of: &[Insn]) -> Result<Vec<Insn>, AllocError>
-    ensures { IfOk result (λ code. code.items ≡ specs.method_function_code (function_named name.now) of.now) }
+pub(crate) fn method(alloc: Global, name: &str, of: &Part) -> Result<Vec<Insn>, AllocError>
+    ensures { IfOk result (λ code. code.items ≡ specs.method_function_code (function_named name.now) of.now.leaf of.now.code.items) }
 {
-    if "size" != name {
-        return nothing(alloc);
+    if "size" == name {
+        size_of(alloc, of)
+    } else {
+        nothing(alloc)
     }
-    let mut code = of.to_vec(alloc)?;
-    code.extend_from_slice(&size_tail())?;
-    Ok(code)
 }
 
 /// The test of this name, of a text for a part.
@@ -116,12 +130,12 @@ pub(crate) fn method(alloc: Global, name: &str, of: &[Insn]) -> Result<Vec<Insn>
 pub(crate) fn test(
     alloc: Global,
     name: &str,
-    left: &[Insn],
-    right: &[Insn],
+    left: &Part,
+    right: &Part,
     k: usize,
 ) -> Result<Vec<Insn>, AllocError>
     requires { k < 64 }
-    ensures { IfOk result (λ code. code.items ≡ specs.test_code (test_named name.now) left.now right.now k) }
+    ensures { IfOk result (λ code. code.items ≡ specs.test_code (test_named name.now) left.now.leaf left.now.code.items right.now.leaf right.now.code.items k) }
 {
     let helper = match name {
         "startsWith" => helpers::STARTS,
@@ -129,5 +143,7 @@ pub(crate) fn test(
         "contains" => helpers::CONTAINS,
         _ => return nothing(alloc),
     };
-    two(alloc, left, right, k, &call_two(helper, k))
+    let mut code = operands(alloc, left, right, k, Register::R1, Register::R2)?;
+    code.push(call(helper))?;
+    Ok(code)
 }

@@ -1,88 +1,118 @@
 //! Operators.
 
-ghost use Rattle.std.specs.Prelude.{◌≡◌, ◌<◌, ◌≤◌, ◌+◌, ◌++◌, IfOk};
+ghost use Rattle.std.specs.Prelude.{◌≡◌, ◌<◌, ◌≤◌, ◌+◌, ◌++◌, ◌∷◌, [], IfOk};
 ghost use Rattle.codegen.specs.Code.Expressions as specs;
+ghost use Rattle.codegen_base.specs.Code.Comparison as comparison;
 ghost use Rattle.codegen_base.specs.Pieces.{size as size_of_piece};
 
 use crate::code::arithmetic::{difference, divided, negation_tail, product, sum};
-use crate::code::calls::{call_swapped, call_two, two};
-use crate::code::logic::{absorbing, not_tail, opposite_of};
+use crate::code::calls::{kept_size, operand, operands};
+use crate::code::logic::{absorbing, not_tail};
+use crate::instructions::size;
+use crate::part::Part;
+use Register::{R0, R1, R2, R6, R7};
 use cel_reader::{BinaryOperator, UnaryOperator};
-use codegen_base::helpers::{EQUAL, LESS, MEMBER};
+use codegen_base::helpers::{EQUAL, LESS, MEMBER, NOT};
+use codegen_base::instructions::{call, copy};
 use codegen_base::references::{NO, YES};
-use insn_codec::{AluOp, Insn};
+use insn_codec::{AluOp, Insn, Register};
 use std::alloc::{AllocError, Global};
 
-/// The operator, of what code gives.
-pub(crate) fn unary(
-    alloc: Global,
-    op: UnaryOperator,
-    operand: &[Insn],
-) -> Result<Vec<Insn>, AllocError>
-    ensures { IfOk result (λ code. code.items ≡ operand.now ++ specs.unary_tail op) }
-{
-    let mut code = operand.to_vec(alloc)?;
-    match op {
-        UnaryOperator::Not => code.extend_from_slice(&not_tail())?,
-        UnaryOperator::Negate => code.extend_from_slice(&negation_tail())?,
-    }
-    Ok(code)
-}
-
-/// How many slots stand between the operator's operands.
-pub(crate) fn apart(op: BinaryOperator) -> usize
-    ensures apart { result ≡ specs.operands_apart op }
-    ensures few { result ≤ 2 }
+/// The operator, of a part.
+pub(crate) fn unary(alloc: Global, op: UnaryOperator, of: &Part) -> Result<Vec<Insn>, AllocError>
+    ensures { IfOk result (λ code. code.items ≡ specs.unary_code op of.now.leaf of.now.code.items) }
 {
     match op {
-        BinaryOperator::Or | BinaryOperator::And => 2,
-        _ => 1,
+        UnaryOperator::Not => {
+            let mut code = operand(alloc, of, R1)?;
+            code.extend_from_slice(&not_tail())?;
+            Ok(code)
+        }
+        UnaryOperator::Negate => {
+            let mut code = operand(alloc, of, R6)?;
+            code.extend_from_slice(&negation_tail())?;
+            Ok(code)
+        }
     }
 }
 
-/// What the operator makes of word k and R0.
+/// How many slots stand before the operator's right operand.
+pub(crate) fn left_size(op: BinaryOperator, left: &Part) -> usize
+    requires { size_of_piece left.now.code.items ≤ 32256 }
+    ensures size { result ≡ specs.left_size op left.now.leaf left.now.code.items }
+    ensures near { result ≤ size_of_piece left.now.code.items + 2 }
+{
+    match op {
+        BinaryOperator::Or | BinaryOperator::And => size(&left.code) + 2,
+        _ => kept_size(left),
+    }
+}
+
+/// The registers of the operator's operands.
+fn registers(op: BinaryOperator) -> (Register, Register)
+    ensures left { result.0 ≡ specs.left_register op }
+    ensures right { result.1 ≡ specs.right_register op }
+{
+    match op {
+        // `a > b` is `b < a`, and `a <= b` its opposite.
+        BinaryOperator::LessEqual | BinaryOperator::Greater => (R2, R1),
+        BinaryOperator::Add
+        | BinaryOperator::Subtract
+        | BinaryOperator::Multiply
+        | BinaryOperator::Divide
+        | BinaryOperator::Remainder => (R6, R7),
+        _ => (R1, R2),
+    }
+}
+
+/// The opposite of the helper's answer on R1 and R2.
+fn opposite_of(helper: i32) -> [Insn; 3]
+    ensures { result ≡ comparison.opposite_of (Insn.Call helper ∷ []) }
+{
+    [call(helper), copy(R1, R0), call(NOT)]
+}
+
+/// What the operator makes of both operands.
 #[tactic(auto, unfolding(crate::specs::Code::Expressions::binary_tail))]
-fn binary_tail(alloc: Global, op: BinaryOperator, k: usize) -> Result<Vec<Insn>, AllocError>
-    requires { k < 64 }
-    ensures { IfOk result (λ code. code.items ≡ specs.binary_tail op k) }
+fn binary_tail(alloc: Global, op: BinaryOperator) -> Result<Vec<Insn>, AllocError>
+    ensures { IfOk result (λ code. code.items ≡ specs.binary_tail op) }
 {
     match op {
         // These two leave early, so their code is no piece behind both operands.
         BinaryOperator::Or | BinaryOperator::And => Ok(Vec::new(alloc)),
-        BinaryOperator::Less => call_two(LESS, k).to_vec(alloc),
-        BinaryOperator::Greater => call_swapped(LESS, k).to_vec(alloc),
-        // word k is at most R0 where R0 is not below it
-        BinaryOperator::LessEqual => opposite_of(alloc, &call_swapped(LESS, k)),
-        BinaryOperator::GreaterEqual => opposite_of(alloc, &call_two(LESS, k)),
-        BinaryOperator::Equal => call_two(EQUAL, k).to_vec(alloc),
-        BinaryOperator::NotEqual => opposite_of(alloc, &call_two(EQUAL, k)),
-        BinaryOperator::In => call_two(MEMBER, k).to_vec(alloc),
-        BinaryOperator::Add => sum(alloc, k),
-        BinaryOperator::Subtract => difference(alloc, k),
-        BinaryOperator::Multiply => product(alloc, k),
-        BinaryOperator::Divide => divided(alloc, AluOp::Sdiv, k),
-        BinaryOperator::Remainder => divided(alloc, AluOp::Smod, k),
+        BinaryOperator::Less | BinaryOperator::Greater => [call(LESS)].to_vec(alloc),
+        BinaryOperator::LessEqual | BinaryOperator::GreaterEqual => opposite_of(LESS).to_vec(alloc),
+        BinaryOperator::Equal => [call(EQUAL)].to_vec(alloc),
+        BinaryOperator::NotEqual => opposite_of(EQUAL).to_vec(alloc),
+        BinaryOperator::In => [call(MEMBER)].to_vec(alloc),
+        BinaryOperator::Add => sum(alloc),
+        BinaryOperator::Subtract => difference(alloc),
+        BinaryOperator::Multiply => product(alloc),
+        BinaryOperator::Divide => divided(alloc, AluOp::Sdiv),
+        BinaryOperator::Remainder => divided(alloc, AluOp::Smod),
     }
 }
 
-/// The operator, of what the code of both sides gives.
+/// The operator, of both sides.
 pub(crate) fn binary(
     alloc: Global,
     op: BinaryOperator,
-    left: &[Insn],
-    right: &[Insn],
+    left: &Part,
+    right: &Part,
     k: usize,
 ) -> Result<Vec<Insn>, AllocError>
     requires word { k < 64 }
-    requires near { size_of_piece right.now ≤ 32256 }
-    ensures { IfOk result (λ code. code.items ≡ specs.binary_code op left.now right.now k) }
+    requires near { size_of_piece right.now.code.items ≤ 32256 }
+    ensures { IfOk result (λ code. code.items ≡ specs.binary_code op left.now.leaf left.now.code.items right.now.leaf right.now.code.items k) }
 {
     match op {
-        BinaryOperator::Or => absorbing(alloc, YES, NO, left, right, k),
-        BinaryOperator::And => absorbing(alloc, NO, YES, left, right, k),
+        BinaryOperator::Or => absorbing(alloc, YES, NO, &left.code, &right.code, k),
+        BinaryOperator::And => absorbing(alloc, NO, YES, &left.code, &right.code, k),
         _ => {
-            let tail = binary_tail(alloc, op, k)?;
-            two(alloc, left, right, k, &tail)
+            let (first, second) = registers(op);
+            let mut code = operands(alloc, left, right, k, first, second)?;
+            code.extend_from_slice(&binary_tail(alloc, op)?)?;
+            Ok(code)
         }
     }
 }

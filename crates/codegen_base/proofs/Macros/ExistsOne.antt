@@ -4,6 +4,7 @@ use Rattle.std.specs.Prelude.{pos, nat_eq}
 use Rattle.std.specs.Prelude.{fold as fold_left}
 use Rattle.std.proofs.lemmas.Bool.{ne_eqb}
 use Rattle.insn_codec.specs.declared.insn.Insn.{Insn}
+use Rattle.insn_codec.specs.declared.register.Register.TheVariants.{R0}
 use Rattle.value_store.specs.Value.{Value, ValueOrError, error, value, null, boolean, int}
 use Rattle.cel_macros.specs.declared.macros.Macro.TheVariants.{ExistsOne}
 use Rattle.cel_macros.specs.FoldMeaning.{end_of, folded, is_error, one_more, step_of, when_true}
@@ -22,7 +23,7 @@ use Rattle.codegen_base.proofs.Macros.Once.{once_end, once_more, once_step}
 use Rattle.codegen_base.proofs.Macros.OnceTurn.{once_ends, once_turns}
 use Rattle.codegen_base.proofs.Macros.Turn.{TailRuns, turn_gives}
 use Rattle.codegen_base.proofs.Macros.Within.{fold_within}
-use Rattle.codegen_base.proofs.Operators.{one_gives}
+use Rattle.codegen_base.proofs.Operators.{result_gives}
 use Rattle.codegen_base.proofs.Runs.{to_place}
 
 -- the answer so far where the predicate was true so often
@@ -81,7 +82,7 @@ turn_size : (k : ℕ) → size (exists_one_turn k) ≡ 9
 unfolding exists_one_turn
 turn_size k = refl
 
-end_converts : (s : Setting) (p : ℕ) (c : Context) (depth base : ℕ) (x : ValueOrError) → Converts s p exists_one_end c depth base x (once_end x) 3 0
+end_converts : (s : Setting) (p : ℕ) (c : Context) (depth base : ℕ) (x : ValueOrError) → Converts s p exists_one_end R0 c depth base x (once_end x) 3 0
 end_converts s p c depth base x = record { runs = λ b has fits named. once_ends s c depth base p b fits x has named }
 
 module _ (s : Setting) (p k depth : ℕ) (range part : List Insn) (c : Context) (n : List ℕ) (r : ValueOrError) (f : Value → ValueOrError) (w x : ℕ) (visits spent : Value → ℕ) (low : k < 56) (gives_range : Gives s p range c depth k r (step_budget w) (charge_budget x)) (gives_part : (v : Value) → IsItem r v → Gives s (p + size range + 17) part (with_item c k n v) depth (k + 5) (f v) (step_budget (visits v)) (charge_budget (spent v))) where
@@ -105,7 +106,7 @@ module _ (s : Setting) (p k depth : ℕ) (range part : List Insn) (c : Context) 
       let charge = charge_budget (9 + x + items_spent spent (range_of r)) in
       subst (λ (y : ValueOrError). Gives s p (exists_one_code k range part) c depth k y steps charge) (once_folds f (range_of r))
       (gives_within s p (exists_one_code k range part) c depth k (once_end once) (steps - 3 + 3) (charge + 0) steps charge (omega arith) (omega arith)
-      (one_gives s p loop exists_one_end c depth k once (once_end once) (steps - 3) charge 3 0
+      (result_gives s p loop exists_one_end c depth k once (once_end once) (steps - 3) charge 3 0
       (fold_within s p k depth range first_false turn c r (value (boolean false)) (once_of f) (λ a. false) (λ a. true) w x visits spent (λ v. step_budget (visits v) + 8) (λ v. charge_budget (spent v) + 0) low refl refl refl gives_range (false_gives s (p + size range + 9) c depth (k + 3) (omega arith))
       (λ items is. turn_gives s (p + size range + 17) end part (exists_one_turn k) c depth k n items f (once_of f) (λ a. false) (λ a. true) (λ v. step_budget (visits v)) (λ v. charge_budget (spent v)) (λ v. 8) (λ v. 0) low
       (λ i v item. gives_part v (record { items = items; place = i; range_is = is; item_is = item }))

@@ -58,7 +58,9 @@ module _ (s : Setting) (q : ℕ) (transform : List Insn) (c : Context) (depth k 
   has1 = stands_rest s.image.code q to_kept (to_error ∷ (transform ++ last)) has
 
   has2 : Stands s.image.code (q + 2) (transform ++ last)
-  has2 = let place : q + 1 + 1 ≡ q + 2 = omega arith in subst (λ (i : ℕ). Stands s.image.code i (transform ++ last)) place (stands_rest s.image.code (q + 1) to_error (transform ++ last) has1)
+  has2 =
+      let place : q + 1 + 1 ≡ q + 2 = omega arith in
+      subst (λ (i : ℕ). Stands s.image.code i (transform ++ last)) place (stands_rest s.image.code (q + 1) to_error (transform ++ last) has1)
 
   has3 : Stands s.image.code o last
   has3 = stands_back s.image.code (q + 2) transform last has2
@@ -66,7 +68,9 @@ module _ (s : Setting) (q : ℕ) (transform : List Insn) (c : Context) (depth k 
   pub tail_end : o + 6 ≡ q + size (map_where_turn transform k)
   tail_end = omega (arith, size-cons to_kept (to_error ∷ (transform ++ last)), size-cons to_error (transform ++ last), size-append transform last)
 
-  tail_by : (u : Truth) (fails : Bool) → (u ≡ Yes → Gives s (q + 2) transform (with_item c k n v) depth (k + 5) y n2 x2) → (u ≡ Yes → is_too_deep y ≡ true → s.is_deep ≡ true) → is_shallow s.is_deep acc ≡ true → (b : Body) → BehindPart c depth k acc v x b → Told u fails (b.registers R0) → Comes s (chosen u n2 0 0 + 7) (chosen u x2 0 0 + 2) q b (o + 6) (Turned c depth k (when_true u (pushed acc y) acc) b)
+  tail_by : (u : Truth) (fails : Bool) → (u ≡ Yes → Gives s (q + 2) transform (with_item c k n v) depth (k + 5) y n2 x2)
+      → (u ≡ Yes → is_too_deep y ≡ true → s.is_deep ≡ true) → is_shallow s.is_deep acc ≡ true → (b : Body) → BehindPart c depth k acc v x b
+      → Told u fails (b.registers R0) → Comes s (chosen u n2 0 0 + 7) (chosen u x2 0 0 + 2) q b (o + 6) (Turned c depth k (when_true u (pushed acc y) acc) b)
   tail_by Yes fails gives may fine b at told =
       let Q = Turned c depth k (pushed acc y) b in
       looser s {n = suc (suc (n2 + (3 + 2)))} {x = x2 + (2 + 0)} (n2 + 7) (x2 + 2) (omega arith) (omega arith)
@@ -91,7 +95,8 @@ module _ (s : Setting) (q : ℕ) (transform : List Insn) (c : Context) (depth k 
       (done s (o + 6) _ (Turned c depth k error b) (turned_put low at.outer (shows_registers c depth (k + 5) b _ refl error at.fits (names_error b.values at.fits.values.table.store))))))))
 
   pub where_turns : (truth x ≡ Yes → Gives s (q + 2) transform (with_item c k n v) depth (k + 5) y n2 x2) → (truth x ≡ Yes → is_too_deep y ≡ true → s.is_deep ≡ true) → is_shallow s.is_deep acc ≡ true → (b : Body) → BehindPart c depth k acc v x b → Comes s (chosen (truth x) n2 0 0 + 7) (chosen (truth x) x2 0 0 + 2) q b (q + size (map_where_turn transform k)) (Turned c depth k (when_true (truth x) (pushed acc y) acc) b)
-  where_turns gives may fine b at = to_place s _ tail_end (tail_by (truth x) (is_error x) gives may fine b at (told_in c depth (k + 5) (b.registers R0) x b at.fits at.part_is))
+  where_turns gives may fine b at =
+      to_place s _ tail_end (tail_by (truth x) (is_error x) gives may fine b at (told_in c depth (k + 5) (b.registers R0) x b at.fits at.part_is))
 
 -- ---- the whole
 
@@ -102,13 +107,11 @@ where_folds p f None = refl
 -- budgets of what runs where a predicate is true
 chosen_steps : (t : Truth) (n : ℕ) → chosen t (step_budget n) 0 0 ≤ 128 * chosen t n 0 0
 chosen_steps Yes n = omega arith
-chosen_steps No n = omega arith
-chosen_steps Other n = omega arith
+chosen_steps _ n = omega arith
 
 chosen_charge : (t : Truth) (n : ℕ) → chosen t (charge_budget n) 0 0 ≤ 16 * chosen t n 0 0
 chosen_charge Yes n = omega arith
-chosen_charge No n = omega arith
-chosen_charge Other n = omega arith
+chosen_charge _ n = omega arith
 
 pub map_where_gives : MapWhereGives
 map_where_gives s p k depth range predicate transform c n r t f w x visits spent visits_then spent_then low gives_range gives_predicate gives_transform may =

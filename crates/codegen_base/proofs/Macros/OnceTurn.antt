@@ -48,7 +48,8 @@ module _ (s : Setting) (c : Context) (depth k o : ℕ) (low : k < 56) (b : Body)
       (done s (o + 9) _ (Turned c depth k error b) (turned_put low outer (shows_registers c depth (k + 5) b _ refl error fits (names_error b.values fits.values.table.store)))))))))
 
   -- more often than once
-  many : (f : Bool) (u : Truth) → Told Yes f (b.registers R0) → Told u false r → compares W64 Eq r 2 ≡ false → Comes s 8 0 o b (o + 9) (Turned c depth k (value null) b)
+  many : (f : Bool) (u : Truth) → Told Yes f (b.registers R0) → Told u false r → compares W64 Eq r 2 ≡ false
+      → Comes s 8 0 o b (o + 9) (Turned c depth k (value null) b)
   unfolding exists_one_turn
   many f u right left not_none =
       begins has
@@ -83,7 +84,8 @@ module _ (s : Setting) (c : Context) (depth k o : ℕ) (low : k < 56) (b : Body)
   counts f false Yes right left = many f Yes right left left.no
   counts f false Other right left = many f Other right left left.no
 
-  turn_by : (t : Truth) (f : Bool) → Told t f (b.registers R0) → Comes s 8 0 o b (o + 9) (Turned c depth k (when_true t (once_more (truth acc) (is_error acc)) acc) b)
+  turn_by : (t : Truth) (f : Bool) → Told t f (b.registers R0)
+      → Comes s 8 0 o b (o + 9) (Turned c depth k (when_true t (once_more (truth acc) (is_error acc)) acc) b)
   turn_by No f right = keeps_acc f right
   turn_by Other f right = fails f right
   turn_by Yes f right = counts f (is_error acc) (truth acc) right (told b.values r acc fits.values.table.store fits.values.canonical so_far)
@@ -103,13 +105,7 @@ module _ (s : Setting) (c : Context) (depth base o : ℕ) (b : Body) (fits : Fit
       (no has 0 refl seen.error
       (yes has 1 1 refl seen.yes
       (done s (o + 3) _ _ (shows_registers c depth base b _ refl (value (boolean true)) fits (subst (λ (q : ℕ). Names b.values.values q (value (boolean true))) (sym (equal_is _ 3 seen.yes)) (names_yes b.values fits.values.table.store)))))))
-  end_by No false seen =
-      begins has
-      (no has 0 refl seen.error
-      (no has 1 refl seen.yes
-      (mov has 2 refl refl
-      (done s (o + 3) _ _ (shows_registers c depth base b _ refl (value (boolean false)) fits (names_no b.values fits.values.table.store))))))
-  end_by Other false seen =
+  end_by _ false seen =
       begins has
       (no has 0 refl seen.error
       (no has 1 refl seen.yes

@@ -9,7 +9,7 @@ use Rattle.insn_codec.specs.declared.insn.Insn.{Insn}
 use Rattle.insn_codec.specs.declared.insn.Insn.TheVariants.{Call, Neg}
 use Rattle.insn_codec.specs.declared.register.Register.TheVariants.{R0, R1, R2, R6, R7}
 use Rattle.insn_codec.specs.declared.width.Width.TheVariants.{W64}
-use Rattle.codegen_base.specs.Instructions.{compute, copy, load, load_wide, put, skip, skip_if, skip_where}
+use Rattle.codegen_base.specs.Instructions.{compute, copy, load_wide, put, skip, skip_if, skip_where}
 
 -- the kind of an int, as helper 1 answers it
 abbrev pub int_kind : ℤ
@@ -19,12 +19,10 @@ int_kind = pos 3
 abbrev pub least_word : ℕ
 least_word = 2 ^ 63
 
--- the ints of word k and of R0 into R6 and R7; where they are no ints, on to the slot so many behind these
-abbrev pub int_operands : ℕ → ℕ → List Insn
-int_operands k off =
-    copy R7 R0
-    ∷ load R6 k
-    ∷ copy R1 R6
+-- the ints that R6 and R7 name, into these; where they name no ints, on to the slot so many behind these
+abbrev pub int_operands : ℕ → List Insn
+int_operands off =
+    copy R1 R6
     ∷ Call (pos 1)
     ∷ skip_if Ne R0 int_kind (off + 9)
     ∷ copy R1 R7
@@ -86,27 +84,26 @@ divided_tail op =
     ∷ compute op R1 R7
     ∷ int_answer
 
--- word k - R0
-abbrev pub difference_code : ℕ → List Insn
-difference_code k = int_operands k 8 ++ difference_tail
+-- R6 - R7 of what they name
+abbrev pub difference_code : List Insn
+difference_code = int_operands 8 ++ difference_tail
 
--- word k * R0
-abbrev pub product_code : ℕ → List Insn
-product_code k = int_operands k 12 ++ product_tail
+-- R6 * R7
+abbrev pub product_code : List Insn
+product_code = int_operands 12 ++ product_tail
 
--- word k / R0, or word k % R0
-abbrev pub divided_code : AluOp → ℕ → List Insn
-divided_code op k = int_operands k 9 ++ divided_tail op
+-- R6 / R7, or R6 % R7
+abbrev pub divided_code : AluOp → List Insn
+divided_code op = int_operands 9 ++ divided_tail op
 
--- word k + R0: of two ints their sum, of all else what joining gives
-abbrev pub sum_code : ℕ → List Insn
-sum_code k = int_operands k 10 ++ (sum_tail ++ skip 3 ∷ copy R1 R6 ∷ copy R2 R7 ∷ Call (pos 11) ∷ [])
+-- R6 + R7: of two ints their sum, of all else what joining gives
+abbrev pub sum_code : List Insn
+sum_code = int_operands 10 ++ (sum_tail ++ skip 3 ∷ copy R1 R6 ∷ copy R2 R7 ∷ Call (pos 11) ∷ [])
 
--- -R0: the error of the least int, and of all that is no int
+-- -R6: the error of the least int, and of all that is no int
 unfoldable pub negation_tail : List Insn
 negation_tail =
-    copy R6 R0
-    ∷ copy R1 R0
+    copy R1 R6
     ∷ Call (pos 1)
     ∷ skip_if Ne R0 int_kind 9
     ∷ copy R1 R6

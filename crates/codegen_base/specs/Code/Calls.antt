@@ -1,22 +1,35 @@
--- Operands and calls of helpers.
-use Rattle.std.specs.Prelude.{ℕ, ℤ, List, [], ◌∷◌, ◌++◌}
+-- Operands, which go into registers.
+use Rattle.std.specs.Prelude.{ℕ, ◌+◌, List, [], ◌∷◌, ◌++◌, Option, Some, None}
 use Rattle.insn_codec.specs.declared.insn.Insn.{Insn}
-use Rattle.insn_codec.specs.declared.insn.Insn.TheVariants.{Call}
-use Rattle.insn_codec.specs.declared.register.Register.TheVariants.{R0, R1, R2}
-use Rattle.codegen_base.specs.Instructions.{copy, load, store}
+use Rattle.insn_codec.specs.declared.register.Register.{Register}
+use Rattle.insn_codec.specs.declared.register.Register.TheVariants.{R0}
+use Rattle.codegen_base.specs.Code.Leaves.{leaf_insn}
+use Rattle.codegen_base.specs.Instructions.{copy, store}
+use Rattle.codegen_base.specs.Pieces.{size}
+use Rattle.codegen_base.specs.declared.leaf.Leaf.{Leaf}
+use Rattle.codegen_base.specs.declared.leaf.Leaf.TheVariants.{Word}
 
--- the left operand is kept in word k while the right one is evaluated
-abbrev pub two_code : List Insn → List Insn → ℕ → List Insn → List Insn
-two_code left right k tail = left ++ store k R0 ∷ (right ++ tail)
+-- an operand into a register: a leaf by its own instruction, all else by its code, which leaves it in R0
+abbrev pub operand_code : Option Leaf → List Insn → Register → List Insn
+operand_code (Some l) code r = leaf_insn l r ∷ []
+operand_code None code r = code ++ copy r R0 ∷ []
 
--- the helper's answer on R0
-abbrev pub call_one : ℤ → List Insn
-call_one helper = copy R1 R0 ∷ Call helper ∷ []
+-- a left operand before the right one: a leaf can wait, all else is kept in word k
+abbrev pub kept_code : Option Leaf → List Insn → ℕ → List Insn
+kept_code (Some l) code k = []
+kept_code None code k = code ++ store k R0 ∷ []
 
--- the helper's answer on word k and R0
-abbrev pub call_two : ℤ → ℕ → List Insn
-call_two helper k = copy R2 R0 ∷ load R1 k ∷ Call helper ∷ []
+-- how many slots that takes
+abbrev pub kept_size : Option Leaf → List Insn → ℕ
+kept_size (Some l) code = 0
+kept_size None code = size code + 1
 
--- the helper's answer on R0 and word k
-abbrev pub call_swapped : ℤ → ℕ → List Insn
-call_swapped helper k = copy R1 R0 ∷ load R2 k ∷ Call helper ∷ []
+-- what names the left operand behind the right one
+abbrev pub kept_leaf : Option Leaf → ℕ → Leaf
+kept_leaf (Some l) k = l
+kept_leaf None k = Word k
+
+-- two operands into the registers r and q; a right one that is a leaf needs no word of the frame
+abbrev pub operands_code : Option Leaf → List Insn → Option Leaf → List Insn → ℕ → Register → Register → List Insn
+operands_code l left (Some m) right k r q = operand_code l left r ++ leaf_insn m q ∷ []
+operands_code l left None right k r q = kept_code l left k ++ (right ++ copy q R0 ∷ leaf_insn (kept_leaf l k) r ∷ [])

@@ -1,37 +1,31 @@
--- Comparisons of word k with R0.
-use Rattle.std.specs.Prelude.{ℕ, pos, List, ◌++◌}
+-- Comparisons of R1 with R2.
+use Rattle.std.specs.Prelude.{pos, List, [], ◌∷◌, ◌++◌}
 use Rattle.insn_codec.specs.declared.insn.Insn.{Insn}
-use Rattle.codegen_base.specs.Code.Calls.{call_two, call_swapped}
+use Rattle.insn_codec.specs.declared.insn.Insn.TheVariants.{Call}
+use Rattle.insn_codec.specs.declared.register.Register.TheVariants.{R0, R1}
 use Rattle.codegen_base.specs.Code.Logic.{not_tail}
+use Rattle.codegen_base.specs.Instructions.{copy}
 
 -- the opposite of a truth behind what gives it
 abbrev pub opposite_of : List Insn → List Insn
-opposite_of tail = tail ++ not_tail
+opposite_of tail = tail ++ copy R1 R0 ∷ not_tail
 
--- word k == R0
-abbrev pub equal_tail : ℕ → List Insn
-equal_tail k = call_two (pos 9) k
+-- R1 == R2
+abbrev pub equal_tail : List Insn
+equal_tail = Call (pos 9) ∷ []
 
--- word k != R0
-abbrev pub unequal_tail : ℕ → List Insn
-unequal_tail k = opposite_of (equal_tail k)
+-- R1 != R2
+abbrev pub unequal_tail : List Insn
+unequal_tail = opposite_of equal_tail
 
--- word k < R0
-abbrev pub less_tail : ℕ → List Insn
-less_tail k = call_two (pos 10) k
+-- R1 < R2, and R2 > R1
+abbrev pub less_tail : List Insn
+less_tail = Call (pos 10) ∷ []
 
--- word k > R0: R0 less than word k
-abbrev pub greater_tail : ℕ → List Insn
-greater_tail k = call_swapped (pos 10) k
+-- R1 >= R2, and R2 <= R1: R1 is not less than R2
+abbrev pub not_less_tail : List Insn
+not_less_tail = opposite_of less_tail
 
--- word k <= R0: R0 is not less than word k
-abbrev pub less_equal_tail : ℕ → List Insn
-less_equal_tail k = opposite_of (greater_tail k)
-
--- word k >= R0: word k is not less than R0
-abbrev pub greater_equal_tail : ℕ → List Insn
-greater_equal_tail k = opposite_of (less_tail k)
-
--- word k in R0
-abbrev pub member_tail : ℕ → List Insn
-member_tail k = call_two (pos 15) k
+-- R1 in R2
+abbrev pub member_tail : List Insn
+member_tail = Call (pos 15) ∷ []

@@ -3,17 +3,26 @@ use Rattle.std.specs.Prelude.{ℕ, ℤ, pos, Bool, true, false, List, [], ◌∷
 use Rattle.std.specs.Int.{w64, cast_unsigned}
 use Rattle.insn_codec.specs.declared.insn.Insn.{Insn}
 use Rattle.insn_codec.specs.declared.insn.Insn.TheVariants.{Call}
-use Rattle.insn_codec.specs.declared.register.Register.TheVariants.{R0, R1, R2}
-use Rattle.codegen_base.specs.Instructions.{load_wide, put}
+use Rattle.insn_codec.specs.declared.register.Register.TheVariants.{R1, R2}
+use Rattle.codegen_base.specs.Code.Leaves.{leaf_code}
+use Rattle.codegen_base.specs.Instructions.{load_wide}
+use Rattle.codegen_base.specs.declared.leaf.Leaf.{Leaf}
+use Rattle.codegen_base.specs.declared.leaf.Leaf.TheVariants.{Reference}
 
 -- null, by its reference
+abbrev pub null_leaf : Leaf
+null_leaf = Reference (pos 1)
+
 abbrev pub null_code : List Insn
-null_code = put R0 (pos 1) ∷ []
+null_code = leaf_code null_leaf
 
 -- a truth, by its reference
+abbrev pub truth_leaf : Bool → Leaf
+truth_leaf false = Reference (pos 2)
+truth_leaf true = Reference (pos 3)
+
 abbrev pub truth_code : Bool → List Insn
-truth_code false = put R0 (pos 2) ∷ []
-truth_code true = put R0 (pos 3) ∷ []
+truth_code b = leaf_code (truth_leaf b)
 
 -- an int, by its word in two's complement
 abbrev pub int_code : ℤ → List Insn

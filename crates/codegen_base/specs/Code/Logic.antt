@@ -2,10 +2,10 @@
 use Rattle.std.specs.Prelude.{ℕ, ◌+◌, ℤ, pos, List, [], ◌∷◌, ◌++◌}
 use Rattle.insn_codec.specs.declared.comparison.Comparison.TheVariants.{Eq, Ne}
 use Rattle.insn_codec.specs.declared.insn.Insn.{Insn}
+use Rattle.insn_codec.specs.declared.insn.Insn.TheVariants.{Call}
 use Rattle.insn_codec.specs.declared.register.Register.TheVariants.{R0, R1}
 use Rattle.codegen_base.specs.Instructions.{load, put, skip, skip_if, store}
 use Rattle.codegen_base.specs.Pieces.{size}
-use Rattle.codegen_base.specs.Code.Calls.{call_one}
 
 -- the reference of false
 abbrev pub no_ref : ℤ
@@ -39,9 +39,9 @@ and_code left right k = absorbing_code no_ref yes_ref left right k
 abbrev pub or_code : List Insn → List Insn → ℕ → List Insn
 or_code left right k = absorbing_code yes_ref no_ref left right k
 
--- !R0
+-- !R1
 abbrev pub not_tail : List Insn
-not_tail = call_one (pos 23)
+not_tail = Call (pos 23) ∷ []
 
 -- what stands where the condition is true or where it is false, or the error where it is neither
 abbrev pub ternary_code : List Insn → List Insn → List Insn → List Insn

@@ -1,17 +1,10 @@
 -- Names: of items, which words of the frame hold, and of the roots, which stand at references of their own.
 use Rattle.std.specs.Prelude.{ℕ, ℤ, pos, List, [], ◌∷◌, Option, Some, None, codes}
 use Rattle.insn_codec.specs.declared.insn.Insn.{Insn}
-use Rattle.insn_codec.specs.declared.register.Register.TheVariants.{R0}
 use Rattle.cel_macros.specs.Environment.{lookup}
-use Rattle.codegen_base.specs.Instructions.{load, put}
-
--- what a word of the frame names
-abbrev pub word_code : ℕ → List Insn
-word_code k = load R0 k ∷ []
-
--- what stands at a reference of its own
-abbrev pub reference_code : ℤ → List Insn
-reference_code r = put R0 r ∷ []
+use Rattle.codegen_base.specs.Code.Leaves.{leaf_code}
+use Rattle.codegen_base.specs.declared.leaf.Leaf.{Leaf}
+use Rattle.codegen_base.specs.declared.leaf.Leaf.TheVariants.{Reference, Word}
 
 -- the references of the roots
 abbrev pub root_references : List (List ℕ × ℤ)
@@ -29,10 +22,13 @@ unfoldable pub root_reference : List ℕ → ℤ
 root_reference n = reference_or_error (lookup n root_references)
 
 -- an iteration name hides a root
-abbrev pub held_code : Option ℕ → ℤ → List Insn
-held_code (Some k) r = word_code k
-held_code None r = reference_code r
+abbrev pub held_leaf : Option ℕ → ℤ → Leaf
+held_leaf (Some k) r = Word k
+held_leaf None r = Reference r
 
 -- what a name stands for: the item in its word of the frame, where it has one, and else the root of this name
+abbrev pub name_leaf : List ℕ → List (List ℕ × ℕ) → Leaf
+name_leaf n words = held_leaf (lookup n words) (root_reference n)
+
 abbrev pub name_code : List ℕ → List (List ℕ × ℕ) → List Insn
-name_code n words = held_code (lookup n words) (root_reference n)
+name_code n words = leaf_code (name_leaf n words)

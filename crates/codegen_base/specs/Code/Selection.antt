@@ -6,33 +6,31 @@ use Rattle.insn_codec.specs.declared.insn.Insn.TheVariants.{Call}
 use Rattle.insn_codec.specs.declared.register.Register.TheVariants.{R0, R1, R2, R3, R6}
 use Rattle.cel_macros.specs.Functions.{TextTest, StartsWith, EndsWith, Contains}
 use Rattle.codegen_base.specs.Instructions.{copy, load_wide, skip, skip_if}
-use Rattle.codegen_base.specs.Code.Calls.{call_one, call_two}
 
--- the helper's answer on R0 and a text of so many bytes, which begins at an address among the constants
+-- the helper's answer on R1 and a text of so many bytes, which begins at an address among the constants
 abbrev pub call_with_text : ℤ → ℕ → ℕ → List Insn
-call_with_text helper address count = copy R1 R0 ∷ load_wide R2 address ∷ load_wide R3 count ∷ Call helper ∷ []
+call_with_text helper address count = load_wide R2 address ∷ load_wide R3 count ∷ Call helper ∷ []
 
--- R0.f, where f is the text
+-- R1.f, where f is the text
 abbrev pub field_tail : ℕ → ℕ → List Insn
 field_tail address count = call_with_text (pos 5) address count
 
--- has(R0.f), where f is the text
+-- has(R1.f), where f is the text
 abbrev pub has_tail : ℕ → ℕ → List Insn
 has_tail address count = call_with_text (pos 6) address count
 
--- word k [R0]
-abbrev pub index_tail : ℕ → List Insn
-index_tail k = call_two (pos 7) k
+-- R1[R2]
+abbrev pub index_tail : List Insn
+index_tail = Call (pos 7) ∷ []
 
--- size(R0)
+-- size(R1)
 abbrev pub size_tail : List Insn
-size_tail = call_one (pos 8)
+size_tail = Call (pos 8) ∷ []
 
--- a text as it is, and of an int its decimal text
+-- string(R6): a text as it is, and of an int its decimal text
 abbrev pub string_tail : List Insn
 string_tail =
-    copy R6 R0
-    ∷ copy R1 R0
+    copy R1 R6
     ∷ Call (pos 1)
     ∷ skip_if Ne R0 (pos 4) 2
     ∷ copy R0 R6
@@ -47,6 +45,6 @@ test_helper StartsWith = pos 12
 test_helper EndsWith = pos 13
 test_helper Contains = pos 14
 
--- a test of word k and R0
-abbrev pub test_tail : TextTest → ℕ → List Insn
-test_tail t k = call_two (test_helper t) k
+-- a test of R1 and R2
+abbrev pub test_tail : TextTest → List Insn
+test_tail t = Call (test_helper t) ∷ []

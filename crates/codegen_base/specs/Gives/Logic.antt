@@ -1,6 +1,7 @@
 -- The logical operators and the conditional.
 use Rattle.std.specs.Prelude.{◌≡◌, ℕ, ◌+◌, ◌<◌, ◌≤◌, ℤ, List}
 use Rattle.insn_codec.specs.declared.insn.Insn.{Insn}
+use Rattle.insn_codec.specs.declared.register.Register.TheVariants.{R1}
 use Rattle.value_store.specs.Value.{ValueOrError}
 use Rattle.cel_macros.specs.Logic.{Yes, No, and_of, chosen, not_of, or_of, ternary_of, truth}
 use Rattle.codegen_base.specs.Code.Logic.{absorbing_code, no_ref, not_tail, ternary_code, yes_ref}
@@ -34,5 +35,5 @@ pub record LogicGives : Type 0 where
   pub and : AbsorbingGives no_ref yes_ref and_of
   pub or : AbsorbingGives yes_ref no_ref or_of
   pub not : (s : Setting) (p : ℕ) (c : Context) (depth base : ℕ) (x : ValueOrError) → base ≤ 64
-      → Converts s p not_tail c depth base x (not_of x) 2 1
+      → Converts s p not_tail R1 c depth base x (not_of x) 1 1
   pub ternary : TernaryGives

@@ -2,6 +2,7 @@
 use Rattle.std.specs.Prelude.{◌≡◌, ℕ, ◌+◌, ◌^◌, ◌<◌, ◌≤◌, List, length, Some}
 use Rattle.helper_table.specs.Calls.{bytes_at}
 use Rattle.insn_codec.specs.declared.insn.Insn.{Insn}
+use Rattle.insn_codec.specs.declared.register.Register.TheVariants.{R1, R2, R6}
 use Rattle.value_store.specs.Value.{ValueOrError, value, text}
 use Rattle.cel_macros.specs.Functions.{TextTest, size_of, string_of, text_test_of}
 use Rattle.cel_macros.specs.Selection.{field_of, has_of, index_of}
@@ -21,7 +22,7 @@ pub record HasText (constants : List ℕ) (address : ℕ) (bytes : List ℕ) : T
 abbrev pub KeyedGives : (ℕ → ℕ → List Insn) → (ValueOrError → List ℕ → ValueOrError) → ℕ → ℕ → Type 0
 KeyedGives tail f steps charge =
     (s : Setting) (p : ℕ) (c : Context) (depth base : ℕ) (x : ValueOrError) (address : ℕ) (key : List ℕ) → base ≤ 64
-    → HasText c.constants address key → Converts s p (tail address (length key)) c depth base x (f x key) steps charge
+    → HasText c.constants address key → Converts s p (tail address (length key)) R1 c depth base x (f x key) steps charge
 
 -- how many bytes a text has, and else 0
 abbrev pub text_length : ValueOrError → ℕ
@@ -30,11 +31,11 @@ text_length _ = 0
 
 -- what the code of fields, indices, functions and tests behind its operands gives
 pub record SelectionGives : Type 0 where
-  pub field : KeyedGives field_tail field_of 4 1
-  pub has : KeyedGives has_tail has_of 4 1
-  pub index : TailGives index_tail index_of 3 1
+  pub field : KeyedGives field_tail field_of 3 1
+  pub has : KeyedGives has_tail has_of 3 1
+  pub index : TailGives index_tail R1 R2 index_of 1 1
   pub size : (s : Setting) (p : ℕ) (c : Context) (depth base : ℕ) (x : ValueOrError) → base ≤ 64
-      → Converts s p size_tail c depth base x (size_of x) 2 1
+      → Converts s p size_tail R1 c depth base x (size_of x) 1 1
   pub string : (s : Setting) (p : ℕ) (c : Context) (depth base : ℕ) (x : ValueOrError) → base ≤ 64
-      → Converts s p string_tail c depth base x (string_of x) 6 (2 + text_length (string_of x))
-  pub test : (t : TextTest) → TailGives (test_tail t) (text_test_of (Some t)) 3 1
+      → Converts s p string_tail R6 c depth base x (string_of x) 5 (2 + text_length (string_of x))
+  pub test : (t : TextTest) → TailGives (test_tail t) R1 R2 (text_test_of (Some t)) 1 1

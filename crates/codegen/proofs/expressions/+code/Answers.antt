@@ -4,10 +4,11 @@ use Rattle.cel_macros.specs.CoreView.{core_view, core_entries}
 use Rattle.cel_macros.specs.CoreViewLaws.{view_map}
 use Rattle.cel_macros.specs.Expanding.{core_pair}
 use Rattle.cel_measures.specs.Measures.{nodes}
-use Rattle.cel_macros.specs.Functions.{test_named}
+use Rattle.cel_macros.specs.Functions.{function_named, test_named}
 use Rattle.codegen_base.specs.Code.Aggregates.{item_code, entry_code}
+use Rattle.codegen_base.specs.Code.Calls.{kept_size}
 use Rattle.codegen_base.specs.Code.Folds.{map_where_code}
-use Rattle.codegen.specs.Code.Expressions.{code_of, test_code}
+use Rattle.codegen.specs.Code.Expressions.{code_of, function_code, leaf_of, method_function_code, test_code}
 use Rattle.codegen.specs.FrameWords.{words_of}
 use Rattle.codegen.specs.Surroundings.{texts_within, routines_within, piece_of, HasRoom}
 use Rattle.codegen.proofs.Walks.{same_code, words_within, call_of_one, call_of_others, method_of_none, method_of_one, method_of_others, fold_map_of, item_more, entry_more, nodes_here, needs_here, entries_nodes_here, entries_need_here}
@@ -16,7 +17,9 @@ use Rattle.codegen.proofs.expressions.+code.Goals.{call-in_default-via-then-argu
 
 pub call-returns-in_ok-of-in-len1 : goal.call-returns-in_ok-of-in-len1
 call-returns-in_ok-of-in-len1 t c =
-    same_code _ _ _ (call_of_one _ _ _ _ _ c.args.name.now c.args.arguments.now c.operand-item.result c.deref.result.now c.in-len1.len_at_least c.in-len1.len_below c.operand-item.is (c.deref.ensures.value ∙ c.in_ok-of-in-len1.ensures)) c.function.ensures
+    let of = c.in_ok-of-in-len1 in
+    let whole = call_of_one _ _ _ _ _ c.args.name.now c.args.arguments.now c.argument-item.result of.of.code.items c.in-len1.len_at_least c.in-len1.len_below c.argument-item.is of.ensures.code in
+    same_code _ _ _ (ap (λ l. function_code (function_named c.args.name.now) l of.of.code.items) of.ensures.leaf ∙ whole) c.function.ensures
 
 pub call-returns-in_default : goal.call-returns-in_default
 call-returns-in_default t c =
@@ -25,13 +28,25 @@ call-returns-in_default t c =
 
 pub method-returns-in_ok-of-in-empty : goal.method-returns-in_ok-of-in-empty
 method-returns-in_ok-of-in-empty t c =
-    same_code _ _ _ (method_of_none _ _ _ _ _ (core_view c.args.of.now) c.args.name.now c.args.arguments.now c.deref.result.now c.in-empty.len_below (c.deref.ensures.value ∙ c.in_ok-of-in-empty.ensures)) c.method.ensures
+    let of = c.in_ok-of-in-empty in
+    let whole = method_of_none _ _ _ _ _ (core_view c.args.of.now) c.args.name.now c.args.arguments.now of.of.code.items c.in-empty.len_below of.ensures.code in
+    same_code _ _ _ (ap (λ l. method_function_code (function_named c.args.name.now) l of.of.code.items) of.ensures.leaf ∙ whole) c.method.ensures
 
 pub method-returns-in_ok-left-in-len1 : goal.method-returns-in_ok-left-in-len1
 method-returns-in_ok-left-in-len1 t c =
     let code = c.in_ok-left-in-len1 in
-    let whole = method_of_one _ _ _ _ _ (core_view c.args.of.now) c.args.name.now c.args.arguments.now c.argument-item.result code.left.items code.right.items c.in-len1.len_at_least c.in-len1.len_below c.argument-item.is code.ensures.left code.ensures.right in
-    same_code _ _ _ ((λ j. test_code (test_named c.args.name.now) (c.deref-in-len1.ensures.value j) (c.deref-in-len1-2.ensures.value j) c.args.spot.word) ∙ whole) c.test.ensures
+    let n = c.args.name.now in
+    let k = c.args.spot.word in
+    let ts = texts_within c.args.around.now in
+    let rs = routines_within c.args.around.now in
+    let ws = words_of c.args.words.now in
+    let a = core_view c.args.of.now in
+    let x = c.argument-item.result in
+    let left = code.left.code.items in
+    let right = code.right.code.items in
+    let right_is : right ≡ code_of (core_view x) ts rs ws (k + 1) (c.args.spot.slot + kept_size (leaf_of a ws) left) = code.ensures.right_code ∙ ap (λ l. code_of (core_view x) ts rs ws (k + 1) (c.args.spot.slot + kept_size l left)) code.ensures.left in
+    let whole = method_of_one ts rs ws k c.args.spot.slot a n c.args.arguments.now x left right c.in-len1.len_at_least c.in-len1.len_below c.argument-item.is code.ensures.left_code right_is in
+    same_code _ _ _ ((λ j. test_code (test_named n) (code.ensures.left j) left (code.ensures.right j) right k) ∙ whole) c.test.ensures
 
 pub method-returns-in_default : goal.method-returns-in_default
 method-returns-in_default t c =

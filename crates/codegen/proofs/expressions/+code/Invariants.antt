@@ -10,40 +10,43 @@ use Rattle.codegen.specs.Surroundings.{texts_within, routines_within}
 use Rattle.codegen.proofs.expressions.+code.Given as goal
 
 abbrev pub decreases-code_of : goal.decreases-code_of
-decreases-code_of l = 4 * nodes (core_view l.core.now) + 2
+decreases-code_of l = 5 * nodes (core_view l.core.now) + 2
 
 abbrev pub decreases-part : goal.decreases-part
-decreases-part l = 4 * nodes (core_view l.core.now) + 3
+decreases-part l = 5 * nodes (core_view l.core.now) + 3
+
+abbrev pub decreases-operand : goal.decreases-operand
+decreases-operand l = 5 * nodes (core_view l.core.now) + 4
 
 abbrev pub decreases-list : goal.decreases-list
-decreases-list l = 4 * nodes (core.list (cores (list.map core_view l.parts.now))) + 1
+decreases-list l = 5 * nodes (core.list (cores (list.map core_view l.parts.now))) + 1
 
 abbrev pub decreases-map : goal.decreases-map
-decreases-map l = 4 * nodes (core.map (core_entries (list.map core_pair l.pairs.now))) + 1
+decreases-map l = 5 * nodes (core.map (core_entries (list.map core_pair l.pairs.now))) + 1
 
 abbrev pub decreases-call : goal.decreases-call
-decreases-call l = 4 * nodes (core.call l.name.now (cores (list.map core_view l.arguments.now))) + 1
+decreases-call l = 5 * nodes (core.call l.name.now (cores (list.map core_view l.arguments.now))) + 1
 
 abbrev pub decreases-method : goal.decreases-method
-decreases-method l = 4 * nodes (core.method (core_view l.of.now) l.name.now (cores (list.map core_view l.arguments.now))) + 1
+decreases-method l = 5 * nodes (core.method (core_view l.of.now) l.name.now (cores (list.map core_view l.arguments.now))) + 1
 
 abbrev pub decreases-operands : goal.decreases-operands
-decreases-operands l = 4 * nodes (core.index (core_view l.left.now) (core_view l.right.now))
+decreases-operands l = 5 * nodes (core.index (core_view l.left.now) (core_view l.right.now))
 
 abbrev pub decreases-index : goal.decreases-index
-decreases-index l = 4 * nodes (core.index (core_view l.of.now) (core_view l.at.now)) + 1
+decreases-index l = 5 * nodes (core.index (core_view l.of.now) (core_view l.at.now)) + 1
 
 abbrev pub decreases-binary : goal.decreases-binary
-decreases-binary l = 4 * nodes (core.binary l.op (core_view l.left.now) (core_view l.right.now)) + 1
+decreases-binary l = 5 * nodes (core.binary l.op (core_view l.left.now) (core_view l.right.now)) + 1
 
 abbrev pub decreases-ternary : goal.decreases-ternary
-decreases-ternary l = 4 * nodes (core.ternary (core_view l.test.now) (core_view l.yes.now) (core_view l.no.now)) + 1
+decreases-ternary l = 5 * nodes (core.ternary (core_view l.test.now) (core_view l.yes.now) (core_view l.no.now)) + 1
 
 abbrev pub decreases-fold : goal.decreases-fold
-decreases-fold l = 4 * nodes (core.fold l.found l.name.now (core_view l.range.now) (core_view l.body.now)) + 1
+decreases-fold l = 5 * nodes (core.fold l.found l.name.now (core_view l.range.now) (core_view l.body.now)) + 1
 
 abbrev pub decreases-fold_map : goal.decreases-fold_map
-decreases-fold_map l = 4 * nodes (core.fold_map l.name.now (core_view l.range.now) (core_view l.test.now) (core_view l.body.now)) + 1
+decreases-fold_map l = 5 * nodes (core.fold_map l.name.now (core_view l.range.now) (core_view l.test.now) (core_view l.body.now)) + 1
 
 abbrev pub invariant-list-loop-item : goal.invariant-list-loop-item
 invariant-list-loop-item l =

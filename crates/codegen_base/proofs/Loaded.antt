@@ -1,0 +1,232 @@
+-- Operands go into their registers.
+use Rattle.std.proofs.Common.{◌≡◌, ℕ, suc, ◌+◌, ◌<◌, ◌≤◌, List, [], ◌∷◌, ◌++◌, Option, Some, None, Bool, true, false, refl, sym, ap, ◌∙◌, append_assoc, subst, arith, inr, nat_eq}
+use Rattle.std.specs.Prelude.{pos, if◌then◌else◌}
+use Rattle.std.specs.Int.{w64, cast_unsigned}
+use Rattle.std.proofs.lemmas.Bool.{eq-eqb}
+use Rattle.helper_table.specs.Laws.{Names}
+use Rattle.insn_codec.specs.Codes.{register_number}
+use Rattle.insn_codec.specs.declared.alu_op.AluOp.TheVariants.{Mov}
+use Rattle.insn_codec.specs.declared.insn.Insn.{Insn}
+use Rattle.insn_codec.specs.declared.operand.Operand.TheVariants.{Imm, Reg}
+use Rattle.insn_codec.specs.declared.register.Register.{Register}
+use Rattle.insn_codec.specs.declared.register.Register.TheVariants.{R0, R1, R2, R3, R4, R5, R6, R7, R8, R9, R10}
+use Rattle.insn_codec.specs.declared.width.Width.TheVariants.{W64}
+use Rattle.value_store.specs.Value.{ValueOrError}
+use Rattle.bpf_machine.specs.Decoding.{fetched}
+use Rattle.bpf_machine.specs.Operands.{is_frame_pointer}
+use Rattle.bpf_machine.specs.declared.frame.Frame.{Frame}
+use Rattle.codegen_base.specs.Body.{Body, put_register, set_register}
+use Rattle.codegen_base.specs.Code.Calls.{kept_code, kept_size, operand_code, operands_code}
+use Rattle.codegen_base.specs.Code.Leaves.{leaf_insn}
+use Rattle.codegen_base.specs.Contexts.{Context, Fits, Gives, Keeps, Shows, variable_count}
+use Rattle.codegen_base.specs.Engine.{Setting, Comes, Reaches}
+use Rattle.codegen_base.specs.Instructions as insn
+use Rattle.codegen_base.specs.Operators.{AreApart, IsLeafIn, IsLeafOf}
+use Rattle.codegen_base.specs.Pieces.{Stands, size}
+use Rattle.codegen_base.specs.Words.{Framed, set_word, word_at}
+use Rattle.codegen_base.specs.declared.leaf.Leaf.{Leaf}
+use Rattle.codegen_base.specs.declared.leaf.Leaf.TheVariants.{Reference, Word}
+use Rattle.codegen_base.proofs.Effects.{mov_is}
+use Rattle.codegen_base.proofs.Frames.{fits_above, fits_registers, keeps_registers, keeps_same, keeps_then, shows_after, stored}
+use Rattle.codegen_base.proofs.Pieces.{size-append, size-cons, stands_back, stands_first, stands_front, stands_rest}
+use Rattle.codegen_base.proofs.Runs.{and_then, done, into, looser, to_place}
+use Rattle.codegen_base.proofs.Steps as step
+use Rattle.codegen_base.proofs.Values.{small_reference}
+
+-- ---- a register that is written
+
+written : (word : Register → ℕ) (r : Register) (w : ℕ) → put_register word r w r ≡ w
+written word r w = ap (λ (t : Bool). if t then w else word r) (eq-eqb (register_number r) (register_number r) refl)
+
+unwritten : (word : Register → ℕ) (r q : Register) (w : ℕ) → nat_eq (register_number r) (register_number q) ≡ false → put_register word q w r ≡ word r
+unwritten word r q w apart = ap (λ (t : Bool). if t then w else word r) apart
+
+pointer_stays : (word : Register → ℕ) (r : Register) (w : ℕ) → is_frame_pointer r ≡ false → put_register word r w R10 ≡ word R10
+pointer_stays word R0 w free = refl
+pointer_stays word R1 w free = refl
+pointer_stays word R2 w free = refl
+pointer_stays word R3 w free = refl
+pointer_stays word R4 w free = refl
+pointer_stays word R5 w free = refl
+pointer_stays word R6 w free = refl
+pointer_stays word R7 w free = refl
+pointer_stays word R8 w free = refl
+pointer_stays word R9 w free = refl
+pointer_stays word R10 w free = absurd (cc)
+
+-- ---- leaves
+
+pub leaf_size : (l : Leaf) (r : Register) → size (leaf_insn l r ∷ []) ≡ 1
+leaf_size (Reference n) r = refl
+leaf_size (Word k) r = refl
+
+-- it reads no register
+leaf_stays : (l : Leaf) (depth : ℕ) (b : Body) (registers : Register → ℕ) (x : ValueOrError) → IsLeafIn l depth b x → IsLeafIn l depth (record b { registers = registers }) x
+leaf_stays (Reference n) depth b registers x named = named
+leaf_stays (Word k) depth b registers x named = named
+
+module _ (s : Setting) {n m p' : ℕ} {records : List Frame} {Q : Body → Type 0} (p p1 : ℕ) (b : Body) (depth : ℕ) (r : Register) (x : ValueOrError) where
+  pub leaf_step : (l : Leaf) → fetched s.image.code (pos p) ≡ Some (Some (leaf_insn l r)) → Framed depth b → is_frame_pointer r ≡ false → IsLeafIn l depth b x → p1 ≡ p + 1 → ((w : ℕ) → Names b.values.values w x → Reaches s n m p1 (set_register b r w) records p' Q) → Reaches s (suc n) m p b records p' Q
+  leaf_step (Reference z) h frame free named place next =
+      step.alu s p p1 b Mov W64 r (Imm z) (cast_unsigned w64 z) h free (mov_is (b.registers r) (cast_unsigned w64 z)) place (next (cast_unsigned w64 z) named)
+  leaf_step (Word k) h frame free named place next = step.load s p p1 b depth k r h frame named.0 free place (next (word_at depth k b) named.1)
+
+-- ---- one operand
+
+-- the register names the value, in a body that fits again
+pub record Loaded (c : Context) (depth base : ℕ) (r : Register) (x : ValueOrError) (old new : Body) : Type 0 where
+  pub named : Names new.values.values (new.registers r) x
+  pub fits : Fits c depth base new
+  pub keeps : Keeps (variable_count c) depth base old new
+
+loaded : (c : Context) (depth base : ℕ) (r : Register) (x : ValueOrError) (old b : Body) (w : ℕ) → is_frame_pointer r ≡ false → Names b.values.values w x → Fits c depth base b → Keeps (variable_count c) depth base old b → Loaded c depth base r x old (set_register b r w)
+loaded c depth base r x old b w free named fits keeps =
+    let pointer = pointer_stays b.registers r w free in
+    record {
+      named = subst (λ (v : ℕ). Names b.values.values v x) (sym (written b.registers r w)) named;
+      fits = fits_registers c depth base b (put_register b.registers r w) pointer fits;
+      keeps = keeps_then (omega arith) keeps (keeps_registers c depth base b (put_register b.registers r w) pointer (variable_count c));
+    }
+
+module _ (s : Setting) (p : ℕ) (r : Register) (free : is_frame_pointer r ≡ false) (c : Context) (depth base : ℕ) (x : ValueOrError) (n m : ℕ) where
+  pub operand_runs : (l : Option Leaf) (operand : List Insn) → IsLeafOf c depth base l x → Gives s p operand c depth base x n m → (b : Body) → Stands s.image.code p (operand_code l operand r) → Fits c depth base b → Comes s (n + 1) m p b (p + size (operand_code l operand r)) (Loaded c depth base r x b)
+  operand_runs (Some l) operand leaf gives b has fits =
+      let Q = Loaded c depth base r x b in
+      let place : p + 1 ≡ p + size (leaf_insn l r ∷ []) = omega (arith, leaf_size l r) in
+      to_place s _ place
+      (looser s {n = suc 0} {x = 0} (n + 1) m (omega arith) (omega arith)
+      (leaf_step s p (p + 1) b depth r x l (stands_first s.image.code p (leaf_insn l r) [] has) fits.frame free (leaf b fits) refl (λ w named.
+      done s (p + 1) (set_register b r w) Q (loaded c depth base r x b b w free named fits (keeps_same (variable_count c) depth base b)))))
+  operand_runs None operand leaf gives b has fits =
+      let code = s.image.code in
+      let q = p + size operand in
+      let last = insn.copy r R0 in
+      let Q = Loaded c depth base r x b in
+      let place : q + 1 ≡ p + size (operand ++ last ∷ []) = omega (arith, size-append operand (last ∷ [])) in
+      to_place s _ place
+      (looser s {n = n + suc 0} {x = m + 0} (n + 1) m (omega arith) (omega arith)
+      (and_then s (suc 0) 0 (q + 1) Q (gives.runs b (stands_front code p operand (last ∷ []) has) fits) (λ b1 g1.
+      step.alu s q (q + 1) b1 Mov W64 r (Reg R0) (b1.registers R0) (stands_first code q last [] (stands_back code p operand (last ∷ []) has)) free (mov_is (b1.registers r) (b1.registers R0)) refl
+      (done s (q + 1) (set_register b1 r (b1.registers R0)) Q (loaded c depth base r x b b1 (b1.registers R0) free g1.shows g1.fits g1.keeps)))))
+
+-- ---- two operands
+
+-- the value in R0 is kept in word k while a right side is evaluated
+module _ (s : Setting) (k : ℕ) (right : List Insn) (c : Context) (depth : ℕ) (x y : ValueOrError) (n m : ℕ) (low : k < 60) where
+  -- word k and R0 name both sides
+  pub record Both (b last : Body) : Type 0 where
+    pub left : Names last.values.values (word_at depth k last) x
+    pub shown : Shows c depth k y b last
+
+  pub keeps_left : (q : ℕ) (b : Body) → Stands s.image.code q (insn.store k R0 ∷ right) → Fits c depth k b → Names b.values.values (b.registers R0) x → Gives s (q + 1) right c depth (k + 1) y n m → Comes s (1 + n) m q b (q + 1 + size right) (Both b)
+  keeps_left q b has fits named gives =
+      let r = b.registers R0 in
+      let stored1 = stored c depth k k r b fits (omega arith) (omega arith) (small_reference b.values r x fits.values.table named) in
+      let b1 = set_word depth k r b in
+      looser s {n = suc n} {x = m} (1 + n) m (omega arith) (omega arith)
+      (step.store s q (q + 1) b depth k R0 (stands_first s.image.code q (insn.store k R0) right has) fits.frame (omega arith) refl
+      (into s (Both b) (λ b2 g2.
+      let same : word_at depth k b2 ≡ r = g2.keeps.words depth k (omega arith) (inr (refl, omega arith)) ∙ stored1.here in
+      record {
+        left = subst (λ (w : ℕ). Names b2.values.values w x) (sym same) (g2.keeps.values r x named);
+        shown = shows_after (omega arith) (omega arith) stored1.keeps g2 stored1.fits;
+      })
+      (gives.runs b1 (stands_rest s.image.code q (insn.store k R0) right has) (fits_above c depth k (k + 1) b1 (omega arith) stored1.fits))))
+
+-- the registers name both values, in a body that fits again
+pub record LoadedBoth (c : Context) (depth k : ℕ) (r q : Register) (x y : ValueOrError) (old new : Body) : Type 0 where
+  pub first : Names new.values.values (new.registers r) x
+  pub second : Names new.values.values (new.registers q) y
+  pub fits : Fits c depth k new
+  pub keeps : Keeps (variable_count c) depth k old new
+
+-- a right operand in R0 goes into its register, and the left one, by then a leaf, into its own
+module _ (s : Setting) (c : Context) (depth k : ℕ) (r q : Register) (apart : AreApart r q) (x y : ValueOrError) where
+  pub both_loaded : (p : ℕ) (l : Leaf) (old b : Body) → Stands s.image.code p (insn.copy q R0 ∷ leaf_insn l r ∷ []) → IsLeafIn l depth b x → Shows c depth k y old b → Comes s 2 0 p b (p + 2) (LoadedBoth c depth k r q x y old)
+  both_loaded p l old b has leaf shown =
+      let code = s.image.code in
+      let copy = insn.copy q R0 in
+      let w = b.registers R0 in
+      let b1 = set_register b q w in
+      let one = loaded c depth k q y old b w apart.second shown.shows shown.fits shown.keeps in
+      let Q = LoadedBoth c depth k r q x y old in
+      looser s {n = suc (suc 0)} {x = 0} 2 0 (omega arith) (omega arith)
+      (step.alu s p (p + 1) b Mov W64 q (Reg R0) w (stands_first code p copy (leaf_insn l r ∷ []) has) apart.second (mov_is (b.registers q) w) refl
+      (leaf_step s (p + 1) (p + 2) b1 depth r x l (stands_first code (p + 1) (leaf_insn l r) [] (stands_rest code p copy (leaf_insn l r ∷ []) has)) one.fits.frame apart.first (leaf_stays l depth b b1.registers x leaf) (omega arith) (λ v named.
+      let two = loaded c depth k r x old b1 v apart.first named one.fits one.keeps in
+      done s (p + 2) (set_register b1 r v) Q (record {
+        first = two.named;
+        second = subst (λ (u : ℕ). Names b.values.values u y) (sym (unwritten b1.registers q r v apart.back)) one.named;
+        fits = two.fits;
+        keeps = two.keeps;
+      }))))
+
+  -- the right one is a leaf
+  right_leaf : (p n1 x1 : ℕ) (l : Option Leaf) (left : List Insn) (m : Leaf) → IsLeafOf c depth k l x → Gives s p left c depth k x n1 x1 → IsLeafOf c depth (k + 1) (Some m) y → (b : Body) → Stands s.image.code p (operand_code l left r ++ leaf_insn m q ∷ []) → Fits c depth k b → Comes s (n1 + 1 + 1) (x1 + 0) p b (p + size (operand_code l left r ++ leaf_insn m q ∷ [])) (LoadedBoth c depth k r q x y b)
+  right_leaf p n1 x1 l left m leaf gives right b has fits =
+      let code = s.image.code in
+      let piece = operand_code l left r in
+      let last = leaf_insn m q in
+      let p1 = p + size piece in
+      let place : p1 + 1 ≡ p + size (piece ++ last ∷ []) = omega (arith, size-append piece (last ∷ []), leaf_size m q) in
+      let Q = LoadedBoth c depth k r q x y b in
+      to_place s _ place
+      (and_then s 1 0 (p1 + 1) Q (operand_runs s p r apart.first c depth k x n1 x1 l left leaf gives b (stands_front code p piece (last ∷ []) has) fits) (λ b1 g1.
+      looser s {n = suc 0} {x = 0} 1 0 (omega arith) (omega arith)
+      (leaf_step s p1 (p1 + 1) b1 depth q y m (stands_first code p1 last [] (stands_back code p piece (last ∷ []) has)) g1.fits.frame apart.second (right b1 (fits_above c depth k (k + 1) b1 (omega arith) g1.fits)) refl (λ w named.
+      let two = loaded c depth k q y b b1 w apart.second named g1.fits g1.keeps in
+      done s (p1 + 1) (set_register b1 q w) Q (record {
+        first = subst (λ (u : ℕ). Names b1.values.values u x) (sym (unwritten b1.registers r q w apart.apart)) g1.named;
+        second = two.named;
+        fits = two.fits;
+        keeps = two.keeps;
+      })))))
+
+  -- the left one is a leaf, and the right one is none
+  left_leaf : (p n2 x2 : ℕ) (l : Leaf) (left right : List Insn) → k < 60 → IsLeafOf c depth k (Some l) x → Gives s (p + 0) right c depth (k + 1) y n2 x2 → (b : Body) → Stands s.image.code p (right ++ insn.copy q R0 ∷ leaf_insn l r ∷ []) → Fits c depth k b → Comes s (n2 + 2) (x2 + 0) p b (p + size (right ++ insn.copy q R0 ∷ leaf_insn l r ∷ [])) (LoadedBoth c depth k r q x y b)
+  left_leaf p n2 x2 l left right low leaf gives b has fits =
+      let code = s.image.code in
+      let tail = insn.copy q R0 ∷ leaf_insn l r ∷ [] in
+      let here : p + 0 ≡ p = omega arith in
+      let q1 = p + size right in
+      let tail_size : size tail ≡ 2 = size-cons (insn.copy q R0) (leaf_insn l r ∷ []) ∙ ap (λ (i : ℕ). 1 + i) (leaf_size l r) in
+      let place : q1 + 2 ≡ p + size (right ++ tail) = omega (arith, size-append right tail, tail_size) in
+      let Q = LoadedBoth c depth k r q x y b in
+      let given : Gives s p right c depth (k + 1) y n2 x2 = subst (λ (i : ℕ). Gives s i right c depth (k + 1) y n2 x2) here gives in
+      to_place s _ place
+      (and_then s 2 0 (q1 + 2) Q (given.runs b (stands_front code p right tail has) (fits_above c depth k (k + 1) b (omega arith) fits)) (λ b1 g1.
+      let shown = shows_after {c = c} {depth = depth} {base = k} {k = k + 1} {x = y} {a = b} {b = b} {d = b1} (omega arith) (omega arith) (keeps_same (variable_count c) depth k b) g1 fits in
+      both_loaded q1 l b b1 (stands_back code p right tail has) (leaf b1 shown.fits) shown))
+
+  -- the left one is kept in word k
+  both_kept : (p n1 x1 n2 x2 : ℕ) (left right : List Insn) → k < 60 → Gives s p left c depth k x n1 x1 → Gives s (p + (size left + 1)) right c depth (k + 1) y n2 x2 → (b : Body) → Stands s.image.code p (kept_code None left k ++ (right ++ insn.copy q R0 ∷ leaf_insn (Word k) r ∷ [])) → Fits c depth k b → Comes s (n1 + (1 + (n2 + 2))) (x1 + (x2 + 0)) p b (p + size (kept_code None left k ++ (right ++ insn.copy q R0 ∷ leaf_insn (Word k) r ∷ []))) (LoadedBoth c depth k r q x y b)
+  both_kept p n1 x1 n2 x2 left right low gives_left gives_right b has fits =
+      let code = s.image.code in
+      let put = insn.store k R0 in
+      let tail = insn.copy q R0 ∷ leaf_insn (Word k) r ∷ [] in
+      let q1 = p + size left in
+      let whole = append_assoc left (put ∷ []) (right ++ tail) in
+      let has1 = subst (Stands code p) whole has in
+      let h0 = stands_back code p left (put ∷ (right ++ tail)) has1 in
+      let h1 : Stands code q1 (put ∷ right) = stands_front code q1 (put ∷ right) tail h0 in
+      let place1 : q1 + size (put ∷ right) ≡ q1 + 1 + size right = omega (arith, size-cons put right) in
+      let h2 : Stands code (q1 + 1 + size right) tail = subst (λ (i : ℕ). Stands code i tail) place1 (stands_back code q1 (put ∷ right) tail h0) in
+      let begins : p + (size left + 1) ≡ q1 + 1 = omega arith in
+      let given : Gives s (q1 + 1) right c depth (k + 1) y n2 x2 = subst (λ (i : ℕ). Gives s i right c depth (k + 1) y n2 x2) begins gives_right in
+      let end = q1 + 1 + size right + 2 in
+      let place : end ≡ p + size (kept_code None left k ++ (right ++ tail)) = omega (arith, ap size whole, size-append left (put ∷ (right ++ tail)), size-cons put (right ++ tail), size-append right tail) in
+      let Q = LoadedBoth c depth k r q x y b in
+      to_place s _ place
+      (and_then s (1 + (n2 + 2)) (x2 + 0) end Q (gives_left.runs b (stands_front code p left (put ∷ (right ++ tail)) has1) fits) (λ b1 g1.
+      looser s {n = 1 + n2 + 2} {x = x2 + 0} (1 + (n2 + 2)) (x2 + 0) (omega arith) (omega arith)
+      (and_then s 2 0 end Q (keeps_left s k right c depth x y n2 x2 low q1 b1 h1 g1.fits g1.shows given) (λ b2 g2.
+      into s Q (λ b3 g3. record { first = g3.first; second = g3.second; fits = g3.fits; keeps = keeps_then (omega arith) g1.keeps g3.keeps })
+      (both_loaded (q1 + 1 + size right) (Word k) b1 b2 h2 (omega arith, g2.left) g2.shown)))))
+
+  pub operands_run : (p n1 x1 n2 x2 : ℕ) (l : Option Leaf) (left : List Insn) (m : Option Leaf) (right : List Insn) → k < 60 → IsLeafOf c depth k l x → Gives s p left c depth k x n1 x1 → IsLeafOf c depth (k + 1) m y → Gives s (p + kept_size l left) right c depth (k + 1) y n2 x2 → (b : Body) → Stands s.image.code p (operands_code l left m right k r q) → Fits c depth k b → Comes s (n1 + (1 + (n2 + 2))) (x1 + x2) p b (p + size (operands_code l left m right k r q)) (LoadedBoth c depth k r q x y b)
+  operands_run p n1 x1 n2 x2 l left (Some m) right low leaf gives_left leaf_right gives_right b has fits =
+      looser s {n = n1 + 1 + 1} {x = x1 + 0} (n1 + (1 + (n2 + 2))) (x1 + x2) (omega arith) (omega arith) (right_leaf p n1 x1 l left m leaf gives_left leaf_right b has fits)
+  operands_run p n1 x1 n2 x2 (Some l) left None right low leaf gives_left leaf_right gives_right b has fits =
+      looser s {n = n2 + 2} {x = x2 + 0} (n1 + (1 + (n2 + 2))) (x1 + x2) (omega arith) (omega arith) (left_leaf p n2 x2 l left right low leaf gives_right b has fits)
+  operands_run p n1 x1 n2 x2 None left None right low leaf gives_left leaf_right gives_right b has fits =
+      looser s {n = n1 + (1 + (n2 + 2))} {x = x1 + (x2 + 0)} (n1 + (1 + (n2 + 2))) (x1 + x2) (omega arith) (omega arith) (both_kept p n1 x1 n2 x2 left right low gives_left gives_right b has fits)
