@@ -1,6 +1,7 @@
 -- A line has one answer.
 use Rattle.std.proofs.Common.{◌≡◌, ◌≢◌, ℕ, ◌⊎◌, List, [], ◌∷◌, ◌++◌, length, Result, Ok, Err, inl, inr, refl, sym, ap, ◌∙◌, subst, arith}
 use Rattle.policy_glue.specs.OneAnswer as policy
+use Rattle.policy_glue.specs.OneImage.{OneImage}
 use Rattle.review_runner.specs.OneAnswer.{HasOneAnswer}
 use Rattle.review_runner.specs.Saying.{Said}
 use Rattle.review_runner.specs.declared.run_error.RunError.{RunError}
@@ -16,7 +17,7 @@ IsTold result = result ≢ Err Memory
 
 module _ (compiles_once : policy.HasOneAnswer) (reviews_once : HasOneAnswer) (t : Terms) (line : List ℕ) where
   abbrev By : List ℕ → Result Said RunError → Type 0
-  By policy result = SaysAlone t policy line result
+  By policy result = SaysAlone OneImage t policy line result
 
   -- what is said behind what was said so far, or the refusal, from the first policy on
   Ends : Said → List (List ℕ) → Result Said RunError → Type 0
@@ -35,12 +36,12 @@ module _ (compiles_once : policy.HasOneAnswer) (reviews_once : HasOneAnswer) (t 
   ends_refused so_far m (q ∷ qs) p after e (inl refused) by = absurd (cc)
   ends_refused so_far m (q ∷ qs) p after e (inr goes) by = inr (goes.0, goes.1, ends_refused (with_next so_far goes.0) m qs p after e goes.2 by)
 
-  all_end : (ps : List (List ℕ)) (said : Said) → AllSay t line ps said → Ends unsaid ps (Ok said)
+  all_end : (ps : List (List ℕ)) (said : Said) → AllSay OneImage t line ps said → Ends unsaid ps (Ok said)
   unfolding Ends
   all_end ps said none = refl
   all_end ps said (next all by) = ends_more unsaid _ _ _ _ (all_end _ _ all) by
 
-  together_ends : (result : Result Said RunError) → SayTogether t line result → Ends unsaid t.policies result
+  together_ends : (result : Result Said RunError) → SayTogether OneImage t line result → Ends unsaid t.policies result
   together_ends (Ok said) all = all_end t.policies said all
   together_ends (Err e) one = subst (λ (ps : List (List ℕ)). Ends unsaid ps (Err e)) (sym one.are) (ends_refused unsaid one.so_far one.before one.policy one.after e (all_end one.before one.so_far one.say) one.refuses)
 
@@ -65,10 +66,10 @@ module _ (compiles_once : policy.HasOneAnswer) (reviews_once : HasOneAnswer) (t 
       let said : a.0 ≡ b.0 = cc in
       ends_once (with_next so_far b.0) ps r s some other (subst (λ (x : Said). Ends (with_next so_far x) ps r) said a.2) b.2
 
-  together_once : (r s : Result Said RunError) → IsTold r → IsTold s → SayTogether t line r → SayTogether t line s → r ≡ s
+  together_once : (r s : Result Said RunError) → IsTold r → IsTold s → SayTogether OneImage t line r → SayTogether OneImage t line s → r ≡ s
   together_once r s some other is also = ends_once unsaid t.policies r s some other (together_ends r is) (together_ends s also)
 
-  answers_same : (a b : List ℕ) → a ≢ no_memory_text → b ≢ no_memory_text → Answers t line a → Answers t line b → a ≡ b
+  answers_same : (a b : List ℕ) → a ≢ no_memory_text → b ≢ no_memory_text → Answers OneImage t line a → Answers OneImage t line b → a ≡ b
   answers_same a b some other (passed_over is) (passed_over also) = refl
   answers_same a b some other (passed_over is) (too_long long) = absurd (let zero = ap length is in omega (arith, long, zero))
   answers_same a b some other (passed_over is) (decided full short why says) = absurd (let zero = ap length is in omega (arith, full, zero))

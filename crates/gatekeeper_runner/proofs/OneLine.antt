@@ -4,6 +4,7 @@ use Rattle.std.specs.Prelude.{IfOk, IsErr, nat_lt}
 use Rattle.std.proofs.lemmas.Bool.{ltb-false, ltb-true}
 use Rattle.debugger.specs.Streams.{AddsBytes}
 use Rattle.policy_glue.specs.Objections.{response_text}
+use Rattle.policy_glue.specs.OneImage.{OneImage}
 use Rattle.review_runner.specs.Reviews.{document_of}
 use Rattle.review_runner.specs.Saying.{Said}
 use Rattle.review_runner.specs.declared.run_error.RunError.{RunError}
@@ -14,30 +15,30 @@ use Rattle.gatekeeper_runner.specs.Told.{Answered, AnsweredPart}
 use Rattle.gatekeeper_runner.proofs.Kept.{kept_long, kept_whole}
 
 module _ (t : Terms) where
-  pub all_said : (line text : List ℕ) (said : Said) → 0 < length line → length line ≤ longest_line → SayTogether t line (Ok said) → text ≡ response_text said.objection said.uid → Answers t line (line_of text)
-  all_said line text said some short says is = subst (λ (x : List ℕ). Answers t line (line_of x)) (sym is) (decided {result = Ok said} some short (λ e. cc) says)
+  pub all_said : (line text : List ℕ) (said : Said) → 0 < length line → length line ≤ longest_line → SayTogether OneImage t line (Ok said) → text ≡ response_text said.objection said.uid → Answers OneImage t line (line_of text)
+  all_said line text said some short says is = subst (λ (x : List ℕ). Answers OneImage t line (line_of x)) (sym is) (decided {result = Ok said} some short (λ e. cc) says)
 
-  pub one_refused : (line text : List ℕ) (e : RunError) → 0 < length line → length line ≤ longest_line → SayTogether t line (Err e) → (e ≡ Memory → ⊥) → text ≡ refusal_text e (uid_shown (document_of line)) → Answers t line (line_of text)
-  one_refused line text e some short says why is = subst (λ (x : List ℕ). Answers t line (line_of x)) (sym is) (decided {result = Err e} some short (λ same. why (cc)) says)
+  pub one_refused : (line text : List ℕ) (e : RunError) → 0 < length line → length line ≤ longest_line → SayTogether OneImage t line (Err e) → (e ≡ Memory → ⊥) → text ≡ refusal_text e (uid_shown (document_of line)) → Answers OneImage t line (line_of text)
+  one_refused line text e some short says why is = subst (λ (x : List ℕ). Answers OneImage t line (line_of x)) (sym is) (decided {result = Err e} some short (λ same. why (cc)) says)
 
-  pub was_long : (lacks : Bool) (kept line text : List ℕ) → lacks ≡ false → IsKept lacks kept line → true ≡ nat_lt longest_line (length kept) → text ≡ line_of (refusal_text N2 None) → Answers t line text
+  pub was_long : (lacks : Bool) (kept line text : List ℕ) → lacks ≡ false → IsKept lacks kept line → true ≡ nat_lt longest_line (length kept) → text ≡ line_of (refusal_text N2 None) → Answers OneImage t line text
   was_long true kept line text held keeps long is = absurd (cc)
-  was_long false kept line text held keeps long is = subst (Answers t line) (sym is) (too_long (kept_long longest_line kept line keeps (ltb-true _ _ (sym long))))
+  was_long false kept line text held keeps long is = subst (Answers OneImage t line) (sym is) (too_long (kept_long longest_line kept line keeps (ltb-true _ _ (sym long))))
 
-  pub was_short : (lacks : Bool) (kept line text : List ℕ) → lacks ≡ false → IsKept lacks kept line → false ≡ nat_lt longest_line (length kept) → (0 < length kept → length kept ≤ longest_line → Answers t kept text) → 0 < length line → Answers t line text
+  pub was_short : (lacks : Bool) (kept line text : List ℕ) → lacks ≡ false → IsKept lacks kept line → false ≡ nat_lt longest_line (length kept) → (0 < length kept → length kept ≤ longest_line → Answers OneImage t kept text) → 0 < length line → Answers OneImage t line text
   was_short true kept line text held keeps short answers some = absurd (cc)
   was_short false kept line text held keeps short answers some =
       let few = ltb-false _ _ (sym short) in
       let same = kept_whole longest_line kept line keeps few in
-      subst (λ (l : List ℕ). Answers t l text) same (answers (subst (λ (l : List ℕ). 0 < length l) (sym same) some) few)
+      subst (λ (l : List ℕ). Answers OneImage t l text) same (answers (subst (λ (l : List ℕ). 0 < length l) (sym same) some) few)
 
-  pub nothing_written : (line : List ℕ) (old : Option (List ℕ)) → line ≡ [] → Answered t line old old
+  pub nothing_written : (line : List ℕ) (old : Option (List ℕ)) → line ≡ [] → Answered OneImage t line old old
   nothing_written line old none = record { text = []; answers = passed_over none; written = λ before is. is ∙ ap Some (sym (append-nil before)) }
 
-  pub written_whole : (line text given : List ℕ) (old new : Option (List ℕ)) → Answers t line text → given ≡ text → AddsBytes old new given → Answered t line old new
+  pub written_whole : (line text given : List ℕ) (old new : Option (List ℕ)) → Answers OneImage t line text → given ≡ text → AddsBytes old new given → Answered OneImage t line old new
   written_whole line text given old new answers is adds = record { text = text; answers = answers; written = subst (AddsBytes old new) is adds }
 
-  pub written_part : (line text given : List ℕ) (old new : Option (List ℕ)) → Answers t line text → given ≡ text → (n : ℕ) × (n < length given) × AddsBytes old new (take n given) → AnsweredPart t line old new
+  pub written_part : (line text given : List ℕ) (old new : Option (List ℕ)) → Answers OneImage t line text → given ≡ text → (n : ℕ) × (n < length given) × AddsBytes old new (take n given) → AnsweredPart OneImage t line old new
   written_part line text given old new answers is part = record {
     text = text;
     answers = answers;

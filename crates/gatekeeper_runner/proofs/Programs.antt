@@ -5,6 +5,7 @@ use Rattle.std.specs.declared.alloc.Global.{Global}
 use Rattle.clap.specs.Words.{Text}
 use Rattle.debugger.specs.Streams.{Stream}
 use Rattle.debugger.specs.declared.session_error.SessionError.{SessionError}
+use Rattle.policy_glue.specs.OneImage.{OneImage}
 use Rattle.review_runner.specs.FileSystem.{FileSystem}
 use Rattle.review_runner.specs.Program.{Ending, System, system}
 use Rattle.review_runner.specs.Refusals.{order_refusal, session_refusal}
@@ -21,9 +22,9 @@ use Rattle.gatekeeper_runner.specs.declared.keeper.Keeper.{Keeper}
 use Rattle.gatekeeper_runner.specs.declared.order.Order.{Order}
 
 -- there are no words
-pub no_words_given : (s : System) (e : OrderError) (result : Ending) → IsErrAnd result (λ q. q ≡ order_refusal e) → Does (Err e) s s result
+pub no_words_given : (s : System) (e : OrderError) (result : Ending) → IsErrAnd result (λ q. q ≡ order_refusal e) → Does OneImage (Err e) s s result
 no_words_given s e (Ok status) is = absurd is
-no_words_given s e (Err r) is = subst (λ (q : Refusal). Does (Err e) s s (Err q)) (sym is) (nothing no_words refl)
+no_words_given s e (Err r) is = subst (λ (q : Refusal). Does OneImage (Err e) s s (Err q)) (sym is) (nothing no_words refl)
 
 words_refused : (words : List Text) (e : OrderError) → Ordered words (Err e) → AsksNothing (Ok words) (order_refusal e)
 words_refused words U1 bad = not_taken bad
@@ -31,11 +32,11 @@ words_refused words order_error.Memory u = no_memory
 
 -- the words give no order
 pub not_ordered : (words given : List (String Global)) (s : System) (e : OrderError) (result : Ending) → given ≡ words → IsErrAnd result (λ q. q ≡ order_refusal e)
-    → Ordered (map string_bytes given) (Err e) → Does (Ok (map string_bytes words)) s s result
+    → Ordered (map string_bytes given) (Err e) → Does OneImage (Ok (map string_bytes words)) s s result
 not_ordered words given s e (Ok status) same is bad = absurd is
 not_ordered words given s e (Err r) same is bad =
     let bad : Ordered (map string_bytes words) (Err e) = subst (λ (w : List (String Global)). Ordered (map string_bytes w) (Err e)) same bad in
-    subst (λ (q : Refusal). Does (Ok (map string_bytes words)) s s (Err q)) (sym is) (nothing (words_refused _ e bad) refl)
+    subst (λ (q : Refusal). Does OneImage (Ok (map string_bytes words)) s s (Err q)) (sym is) (nothing (words_refused _ e bad) refl)
 
 asks : (words given : List (String Global)) (o : Order) → given ≡ words → Ordered (map string_bytes given) (Ok o) → Asks (Ok (map string_bytes words)) (order_view o)
 asks words given o same ordered =
@@ -44,24 +45,24 @@ asks words given o same ordered =
 
 -- no line is read
 pub was_not_started : (words given : List (String Global)) (files files_after : Option FileSystem) (input output : Stream) (o : Order) (r : Refusal) (result : Ending) → given ≡ words → Ordered (map string_bytes given) (Ok o)
-    → IsErrAnd result (λ q. q ≡ r) → Starts files (order_view o) (Err r) → files_after ≡ files → Does (Ok (map string_bytes words)) (system files input output) (system files_after input output) result
+    → IsErrAnd result (λ q. q ≡ r) → Starts files (order_view o) (Err r) → files_after ≡ files → Does OneImage (Ok (map string_bytes words)) (system files input output) (system files_after input output) result
 was_not_started words given files files_after input output o r (Ok status) same ordered is starts known = absurd is
 was_not_started words given files files_after input output o r (Err q) same ordered is starts known =
-    subst (λ (x : Refusal). Does (Ok (map string_bytes words)) (system files input output) (system files_after input output) (Err x)) (sym is)
+    subst (λ (x : Refusal). Does OneImage (Ok (map string_bytes words)) (system files input output) (system files_after input output) (Err x)) (sym is)
     (not_started (asks words given o same ordered) starts (λ i. system (known i) input output))
 
 -- lines were answered
 module _ (words given : List (String Global)) (files files_after : Option FileSystem) (input input_after output output_after : Stream) (o : Order) (k : Keeper) (same : given ≡ words)
     (ordered : Ordered (map string_bytes given) (Ok o)) (keeps : KeepsFrom files (order_view o) (Ok k)) (known : files_after ≡ files) where
-  lines_answered : (r : Result (Unit {0}) SessionError) → ((policies : List (List ℕ)) → AreGates policies k.gates.items → AnswersLines (terms_of policies k) input input_after output output_after r)
-      → Does (Ok (map string_bytes words)) (system files input output) (system files_after input_after output_after) (ending_of r)
+  lines_answered : (r : Result (Unit {0}) SessionError) → ((policies : List (List ℕ)) → AreGates policies k.gates.items → AnswersLines OneImage (terms_of policies k) input input_after output output_after r)
+      → Does OneImage (Ok (map string_bytes words)) (system files input output) (system files_after input_after output_after) (ending_of r)
   lines_answered r told = answers r (asks words given o same ordered) keeps.2 (told keeps.0 keeps.1) known
 
-  pub broke_off : (e : SessionError) (result : Ending) → IsErrAnd result (λ q. q ≡ session_refusal e) → ((policies : List (List ℕ)) → AreGates policies k.gates.items → AnswersLines (terms_of policies k) input input_after output output_after (Err e))
-      → Does (Ok (map string_bytes words)) (system files input output) (system files_after input_after output_after) result
+  pub broke_off : (e : SessionError) (result : Ending) → IsErrAnd result (λ q. q ≡ session_refusal e) → ((policies : List (List ℕ)) → AreGates policies k.gates.items → AnswersLines OneImage (terms_of policies k) input input_after output output_after (Err e))
+      → Does OneImage (Ok (map string_bytes words)) (system files input output) (system files_after input_after output_after) result
   broke_off e (Ok status) is told = absurd is
-  broke_off e (Err q) is told = subst (λ (x : Refusal). Does (Ok (map string_bytes words)) (system files input output) (system files_after input_after output_after) (Err x)) (sym is) (lines_answered (Err e) told)
+  broke_off e (Err q) is told = subst (λ (x : Refusal). Does OneImage (Ok (map string_bytes words)) (system files input output) (system files_after input_after output_after) (Err x)) (sym is) (lines_answered (Err e) told)
 
-  pub ended : ((policies : List (List ℕ)) → AreGates policies k.gates.items → AnswersLines (terms_of policies k) input input_after output output_after (Ok tt))
-      → Does (Ok (map string_bytes words)) (system files input output) (system files_after input_after output_after) (Ok 0)
+  pub ended : ((policies : List (List ℕ)) → AreGates policies k.gates.items → AnswersLines OneImage (terms_of policies k) input input_after output output_after (Ok tt))
+      → Does OneImage (Ok (map string_bytes words)) (system files input output) (system files_after input_after output_after) (Ok 0)
   ended told = lines_answered (Ok tt) told

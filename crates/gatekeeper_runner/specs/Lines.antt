@@ -7,6 +7,7 @@ use Rattle.serde_json.specs.Written.{compact_text}
 use Rattle.policy_glue.specs.Objections.{response_text}
 use Rattle.review_runner.specs.Reviews.{document_of}
 use Rattle.review_runner.specs.Saying.{Said}
+use Rattle.review_runner.specs.Standing.{Images}
 use Rattle.review_runner.specs.declared.run_error.RunError.{RunError}
 use Rattle.review_runner.specs.declared.run_error.RunError.TheVariants.{N1, N2, N3, N4, N5, Memory}
 use Rattle.gatekeeper_runner.specs.Together.{SayTogether, Terms}
@@ -14,6 +15,7 @@ use Rattle.gatekeeper_runner.specs.declared.line.Line.{Line}
 
 -- ---- refusals
 
+-- how an answer names a refusal
 abbrev pub refusal_name : RunError → List ℕ
 refusal_name (N1 e) = codes "N1"
 refusal_name N2 = codes "N2"
@@ -22,6 +24,7 @@ refusal_name N4 = codes "N4"
 refusal_name N5 = codes "N5"
 refusal_name Memory = codes "memory"
 
+-- the text that a JSON value is, where it is one
 abbrev pub text_in : json.Data → Option (List ℕ)
 text_in (json.string s) = Some s
 text_in _ = None
@@ -30,12 +33,13 @@ text_in _ = None
 abbrev pub uid_shown : Option json.Data → Option (List ℕ)
 uid_shown document = option_and_then text_in (option_and_then (get (codes "uid")) (option_and_then (get (codes "request")) document))
 
+-- an object with the name of the refusal, and with the uid where there is one
 abbrev pub refusal_tree : List ℕ → Option (List ℕ) → json.Data
 refusal_tree name None = json.object (json.member (codes "refused") (json.string name) json.no_members)
 refusal_tree name (Some uid) =
     json.object (json.member (codes "refused") (json.string name) (json.member (codes "uid") (json.string uid) json.no_members))
 
--- compact JSON: the name of the refusal, and the uid where there is one
+-- the same as compact JSON
 unfoldable pub refusal_text : RunError → Option (List ℕ) → List ℕ
 refusal_text e uid = compact_text (refusal_tree (refusal_name e) uid)
 
@@ -45,9 +49,11 @@ refusal_text e uid = compact_text (refusal_tree (refusal_name e) uid)
 unfoldable pub longest_line : ℕ
 longest_line = 16777216
 
+-- a text and the line feed that ends it
 abbrev pub line_of : List ℕ → List ℕ
 line_of text = text ++ 10 ∷ []
 
+-- what is written where the host has no memory for the answer to a line
 abbrev pub no_memory_text : List ℕ
 no_memory_text = codes "{\"refused\":\"memory\"}\n"
 
@@ -57,13 +63,13 @@ answer_text line (Ok said) = response_text said.objection said.uid
 answer_text line (Err e) = refusal_text e (uid_shown (document_of line))
 
 -- a line, and what is written for it, which hangs on no other line
-pub data Answers (t : Terms) (line : List ℕ) : List ℕ → Type 0 where
-  passed_over : line ≡ [] → Answers t line []
-  too_long : longest_line < length line → Answers t line (line_of (refusal_text N2 None))
+pub data Answers (meant : Images) (t : Terms) (line : List ℕ) : List ℕ → Type 0 where
+  passed_over : line ≡ [] → Answers meant t line []
+  too_long : longest_line < length line → Answers meant t line (line_of (refusal_text N2 None))
   decided : {result : Result Said RunError} → 0 < length line → length line ≤ longest_line → (result ≡ Err Memory → ⊥)
-      → SayTogether t line result → Answers t line (line_of (answer_text line result))
+      → SayTogether meant t line result → Answers meant t line (line_of (answer_text line result))
   -- the host has no memory for it, which says nothing of the line
-  no_memory : 0 < length line → Answers t line no_memory_text
+  no_memory : 0 < length line → Answers meant t line no_memory_text
 
 -- ---- the line that is read
 

@@ -32,7 +32,7 @@ pub record Order : Type 0 where
   pub params : Option Text
   pub steps : ℕ
 
--- what the code reads
+-- the same of the code's order
 abbrev pub order_view : CodeOrder → Order
 order_view o = record {
   policies = map string_bytes o.policies.items;

@@ -5,6 +5,7 @@ use Rattle.debugger.specs.Streams.{Stream}
 use Rattle.debugger.specs.declared.session_error.SessionError.{SessionError}
 use Rattle.review_runner.specs.Program.{Ending, Given, Says, System, ending_status}
 use Rattle.review_runner.specs.Refusals.{order_refusal, session_refusal}
+use Rattle.review_runner.specs.Standing.{Images}
 use Rattle.review_runner.specs.declared.order_error.OrderError.{OrderError}
 use Rattle.review_runner.specs.declared.refusal.Refusal.{Refusal}
 use Rattle.review_runner.specs.declared.refusal.Refusal.TheVariants.{Memory, Words}
@@ -32,15 +33,17 @@ ending_of (Ok u) = Ok 0
 ending_of (Err e) = Err (session_refusal e)
 
 -- what becomes of the words
-pub data Does (given : Given) (old new : System) : Ending → Type 0 where
-  nothing : {r : Refusal} → AsksNothing given r → new ≡ old → Does given old new (Err r)
-  not_started : {order : Order} {r : Refusal} → Asks given order → Starts old.files order (Err r) → new ≡ old → Does given old new (Err r)
+pub data Does (meant : Images) (given : Given) (old new : System) : Ending → Type 0 where
+  nothing : {r : Refusal} → AsksNothing given r → new ≡ old → Does meant given old new (Err r)
+  not_started : {order : Order} {r : Refusal} → Asks given order → Starts old.files order (Err r) → new ≡ old
+      → Does meant given old new (Err r)
   answers : {order : Order} {terms : Terms} (result : Result (Unit {0}) SessionError) → Asks given order → Starts old.files order (Ok terms)
-      → AnswersLines terms old.input new.input old.output new.output result → new.files ≡ old.files → Does given old new (ending_of result)
+      → AnswersLines meant terms old.input new.input old.output new.output result → new.files ≡ old.files
+      → Does meant given old new (ending_of result)
 
 -- the program ends with this status
-pub record Ends (given : Given) (old new : System) (errors errors_after : Stream) (status : ℕ) : Type 0 where
+pub record Ends (meant : Images) (given : Given) (old new : System) (errors errors_after : Stream) (status : ℕ) : Type 0 where
   pub ending : Ending
-  pub does : Does given old new ending
+  pub does : Does meant given old new ending
   pub status_is : status ≡ ending_status ending
   pub says : Says errors errors_after ending

@@ -44,24 +44,25 @@ pub data Starts (known : Option FileSystem) (order : Order) : Result Terms Refus
   no_namespace : (e : FileError) {policies : List (List ℕ)} → Opens known order.policies policies
       → IsReadingGiven known order.namespace (Err e) → Starts known order (Err (file_refusal e))
   no_params : (e : FileError) (namespace : Option (List ℕ)) {policies : List (List ℕ)} → Opens known order.policies policies
-      → IsReadingGiven known order.namespace (Ok namespace) → IsReadingGiven known order.params (Err e) → Starts known order (Err (file_refusal e))
+      → IsReadingGiven known order.namespace (Ok namespace) → IsReadingGiven known order.params (Err e)
+      → Starts known order (Err (file_refusal e))
   ready : {policies : List (List ℕ)} {namespace params : Option (List ℕ)} → Opens known order.policies policies
       → IsReadingGiven known order.namespace (Ok namespace) → IsReadingGiven known order.params (Ok params)
       → Starts known order (Ok (record { policies = policies; namespace = namespace; params = params; steps = order.steps }))
 
 -- ---- parts
 
--- what is kept is what the lines are answered under
+-- what is kept is what the lines are answered under, or the start ends so
 abbrev pub KeepsFrom : Option FileSystem → Order → Result Keeper Refusal → Type 0
 KeepsFrom known order (Ok k) = (policies : List (List ℕ)) × AreGates policies k.gates.items × Starts known order (Ok (terms_of policies k))
 KeepsFrom known order (Err r) = Starts known order (Err r)
 
--- of one policy's file
+-- the gate of the policy in this file, or why there is none
 abbrev pub OpensGate : Option FileSystem → Text → Result CompiledPolicy Refusal → Type 0
 OpensGate known name (Ok gate) = (document : List ℕ) × IsReading known name (Ok document) × IsGateOf document gate
 OpensGate known name (Err r) = IsUnopened known name r
 
--- of them all
+-- the gates of the policies in all these files, or the first reason why there are none
 abbrev pub GatesFrom : Option FileSystem → List Text → Result (Vec CompiledPolicy Global) Refusal → Type 0
 GatesFrom known names (Ok gates) = (documents : List (List ℕ)) × AreGates documents gates.items × Opens known names documents
 GatesFrom known names (Err r) = OneUnopened known names r

@@ -4,7 +4,7 @@ use Rattle.policy_glue.specs.Objections.{Objection}
 use Rattle.policy_glue.specs.OneImage.{OneImage}
 use Rattle.review_runner.specs.Deciding.{Documents, IsPolicyOf}
 use Rattle.review_runner.specs.Saying.{Said, Says}
-use Rattle.review_runner.specs.Standing.{StandsBy}
+use Rattle.review_runner.specs.Standing.{Images, StandsBy}
 use Rattle.review_runner.specs.declared.compiled_policy.CompiledPolicy.{CompiledPolicy}
 use Rattle.review_runner.specs.declared.run_error.RunError.{RunError}
 use Rattle.gatekeeper_runner.specs.declared.keeper.Keeper.{Keeper}
@@ -16,6 +16,7 @@ pub record Terms : Type 0 where
   pub params : Option (List ℕ)
   pub steps : ℕ
 
+-- the documents of a review under one of the policies
 abbrev pub under : Terms → List ℕ → List ℕ → Documents
 under t policy review = record { policy = policy; review = review; namespace = t.namespace; params = t.params }
 
@@ -25,37 +26,39 @@ and_also None next = next
 and_also (Some first) None = Some first
 and_also (Some first) (Some next) = Some (record { message = first.message ++ (codes "; " ++ next.message); reason = first.reason })
 
+-- what is said before the first policy speaks: nothing against the request
 abbrev pub unsaid : Said
 unsaid = record { objection = None; uid = [] }
 
+-- what is said so far and by a further policy, which has the review's uid
 abbrev pub with_next : Said → Said → Said
 with_next so_far next = record { objection = and_also so_far.objection next.objection; uid = next.uid }
 
--- what one policy says of a review, as whose image stands
-abbrev pub SaysAlone : Terms → List ℕ → List ℕ → Result Said RunError → Type 0
-SaysAlone t policy review result =
-    Says (under t policy review) t.steps result × StandsBy OneImage (under t policy review) t.steps result
+-- what one policy says of a review, and that the run of its program stands as that tells
+abbrev pub SaysAlone : Images → Terms → List ℕ → List ℕ → Result Said RunError → Type 0
+SaysAlone meant t policy review result =
+    Says (under t policy review) t.steps result × StandsBy meant (under t policy review) t.steps result
 
 -- what policies say of a review, of which none refuses it
-pub data AllSay (t : Terms) (review : List ℕ) : List (List ℕ) → Said → Type 0 where
-  none : AllSay t review [] unsaid
-  next : {policies : List (List ℕ)} {policy : List ℕ} {so_far said : Said} → AllSay t review policies so_far
-      → SaysAlone t policy review (Ok said) → AllSay t review (policies ++ policy ∷ []) (with_next so_far said)
+pub data AllSay (meant : Images) (t : Terms) (review : List ℕ) : List (List ℕ) → Said → Type 0 where
+  none : AllSay meant t review [] unsaid
+  next : {policies : List (List ℕ)} {policy : List ℕ} {so_far said : Said} → AllSay meant t review policies so_far
+      → SaysAlone meant t policy review (Ok said) → AllSay meant t review (policies ++ policy ∷ []) (with_next so_far said)
 
 -- a policy refuses a review, and none before it does
-pub record OneRefuses (t : Terms) (review : List ℕ) (e : RunError) : Type 0 where
+pub record OneRefuses (meant : Images) (t : Terms) (review : List ℕ) (e : RunError) : Type 0 where
   pub before : List (List ℕ)
   pub policy : List ℕ
   pub after : List (List ℕ)
   pub are : t.policies ≡ before ++ policy ∷ after
   pub so_far : Said
-  pub say : AllSay t review before so_far
-  pub refuses : SaysAlone t policy review (Err e)
+  pub say : AllSay meant t review before so_far
+  pub refuses : SaysAlone meant t policy review (Err e)
 
 -- what the policies say together, or the first refusal
-abbrev pub SayTogether : Terms → List ℕ → Result Said RunError → Type 0
-SayTogether t review (Ok said) = AllSay t review t.policies said
-SayTogether t review (Err e) = OneRefuses t review e
+abbrev pub SayTogether : Images → Terms → List ℕ → Result Said RunError → Type 0
+SayTogether meant t review (Ok said) = AllSay meant t review t.policies said
+SayTogether meant t review (Err e) = OneRefuses meant t review e
 
 -- ---- what keeps them
 

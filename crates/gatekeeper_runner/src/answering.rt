@@ -1,6 +1,7 @@
 //! Line after line.
 ghost use Rattle.std.specs.Prelude.{◌≡◌, ◌<◌, ◌≤◌, ℕ, List, length, IfErr, IfOk, OnErr, OnOk};
 ghost use Rattle.debugger.specs.Streams.{one_more, stream};
+ghost use Rattle.policy_glue.specs.OneImage.{OneImage};
 ghost use Rattle.gatekeeper_runner.specs.Lines.{line_of, longest_line, Answers, Keeps};
 ghost use Rattle.gatekeeper_runner.specs.Together.{terms_of, AreGates};
 ghost use Rattle.gatekeeper_runner.specs.Told.{Answered, AnsweredPart, AnswersLines};
@@ -27,7 +28,7 @@ pub fn answer_lines<R: Source, W: Sink>(
     r: &mut R,
     w: &mut W,
 ) -> Result<(), SessionError>
-    ensures { (policies : List (List ℕ)) → AreGates policies keeper.now.gates.items → AnswersLines (terms_of policies keeper.now) (stream (R.left r.old) (R.failed r.old)) (stream (R.left r.new) (R.failed r.new)) (stream (W.taken w.old) (W.failed w.old)) (stream (W.taken w.new) (W.failed w.new)) result }
+    ensures { (policies : List (List ℕ)) → AreGates policies keeper.now.gates.items → AnswersLines OneImage (terms_of policies keeper.now) (stream (R.left r.old) (R.failed r.old)) (stream (R.left r.new) (R.failed r.new)) (stream (W.taken w.old) (W.failed w.old)) (stream (W.taken w.new) (W.failed w.new)) result }
 {
     let mut line = Line::new(keeper.alloc);
     for i in 0..9_223_372_036_854_775_808u64 {
@@ -52,8 +53,8 @@ pub fn answer_lines<R: Source, W: Sink>(
 
 /// Answers the line behind the last line feed.
 fn answer_last<W: Sink>(keeper: &Keeper, line: &Line, w: &mut W) -> Result<(), SessionError>
-    ensures whole { OnOk result ((policies : List (List ℕ)) → AreGates policies keeper.now.gates.items → (bytes : List ℕ) → Keeps line.now bytes → Answered (terms_of policies keeper.now) bytes (W.taken w.old) (W.taken w.new)) }
-    ensures part { OnErr result ((policies : List (List ℕ)) → AreGates policies keeper.now.gates.items → (bytes : List ℕ) → Keeps line.now bytes → AnsweredPart (terms_of policies keeper.now) bytes (W.taken w.old) (W.taken w.new)) }
+    ensures whole { OnOk result ((policies : List (List ℕ)) → AreGates policies keeper.now.gates.items → (bytes : List ℕ) → Keeps line.now bytes → Answered OneImage (terms_of policies keeper.now) bytes (W.taken w.old) (W.taken w.new)) }
+    ensures part { OnErr result ((policies : List (List ℕ)) → AreGates policies keeper.now.gates.items → (bytes : List ℕ) → Keeps line.now bytes → AnsweredPart OneImage (terms_of policies keeper.now) bytes (W.taken w.old) (W.taken w.new)) }
     ensures cause { IfErr result (λ e. e ≡ SessionError.S2) }
     ensures ok { OnOk result (W.failed w.new ≡ W.failed w.old) }
     ensures err { OnErr result (W.failed w.new ≡ one_more (W.failed w.old)) }
@@ -66,8 +67,8 @@ fn answer_last<W: Sink>(keeper: &Keeper, line: &Line, w: &mut W) -> Result<(), S
 
 /// Answers a line, and nothing where it is empty.
 fn answer_line<W: Sink>(keeper: &Keeper, line: &Line, w: &mut W) -> Result<(), Failed>
-    ensures whole { OnOk result ((policies : List (List ℕ)) → AreGates policies keeper.now.gates.items → (bytes : List ℕ) → Keeps line.now bytes → Answered (terms_of policies keeper.now) bytes (W.taken w.old) (W.taken w.new)) }
-    ensures part { OnErr result ((policies : List (List ℕ)) → AreGates policies keeper.now.gates.items → (bytes : List ℕ) → Keeps line.now bytes → AnsweredPart (terms_of policies keeper.now) bytes (W.taken w.old) (W.taken w.new)) }
+    ensures whole { OnOk result ((policies : List (List ℕ)) → AreGates policies keeper.now.gates.items → (bytes : List ℕ) → Keeps line.now bytes → Answered OneImage (terms_of policies keeper.now) bytes (W.taken w.old) (W.taken w.new)) }
+    ensures part { OnErr result ((policies : List (List ℕ)) → AreGates policies keeper.now.gates.items → (bytes : List ℕ) → Keeps line.now bytes → AnsweredPart OneImage (terms_of policies keeper.now) bytes (W.taken w.old) (W.taken w.new)) }
     ensures ok { OnOk result (W.failed w.new ≡ W.failed w.old) }
     ensures err { OnErr result (W.failed w.new ≡ one_more (W.failed w.old)) }
 {
@@ -82,7 +83,7 @@ fn answer_line<W: Sink>(keeper: &Keeper, line: &Line, w: &mut W) -> Result<(), F
 
 /// The answer to a line that is not empty, with its line feed.
 fn answer_of(keeper: &Keeper, line: &Line) -> Result<Vec<u8>, AllocError>
-    ensures { IfOk result (λ text. (policies : List (List ℕ)) → AreGates policies keeper.now.gates.items → (bytes : List ℕ) → Keeps line.now bytes → 0 < length bytes → Answers (terms_of policies keeper.now) bytes text.items) }
+    ensures { IfOk result (λ text. (policies : List (List ℕ)) → AreGates policies keeper.now.gates.items → (bytes : List ℕ) → Keeps line.now bytes → 0 < length bytes → Answers OneImage (terms_of policies keeper.now) bytes text.items) }
 {
     if line.lacks {
         return Err(AllocError);
@@ -104,7 +105,7 @@ fn ended(text: Vec<u8>) -> Result<Vec<u8>, AllocError>
 
 /// The text by what the policies say of the review in a line.
 fn decision(keeper: &Keeper, line: &[u8]) -> Result<Vec<u8>, AllocError>
-    ensures { IfOk result (λ text. (policies : List (List ℕ)) → AreGates policies keeper.now.gates.items → 0 < length line.now → length line.now ≤ longest_line → Answers (terms_of policies keeper.now) line.now (line_of text.items)) }
+    ensures { IfOk result (λ text. (policies : List (List ℕ)) → AreGates policies keeper.now.gates.items → 0 < length line.now → length line.now ≤ longest_line → Answers OneImage (terms_of policies keeper.now) line.now (line_of text.items)) }
 {
     match keeper.say(line) {
         Ok(said) => response_text(keeper.alloc, &said.objection, said.uid.as_str()),

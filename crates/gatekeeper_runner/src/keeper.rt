@@ -1,5 +1,6 @@
 //! What decides the lines.
 ghost use Rattle.std.specs.Prelude.{ℕ, List};
+ghost use Rattle.policy_glue.specs.OneImage.{OneImage};
 ghost use Rattle.review_runner.specs.Saying.{said_view};
 ghost use Rattle.gatekeeper_runner.specs.Together.{terms_of, AreGates, IsGateOf, SayTogether, SaysAlone};
 
@@ -24,7 +25,7 @@ pub struct Keeper {
 impl Keeper {
     /// What the policies say of a review together, or the first refusal.
     pub fn say(&self, review: &[u8]) -> Result<Said, RunError>
-        ensures { (policies : List (List ℕ)) → AreGates policies self.now.gates.items → SayTogether (terms_of policies self.now) review.now (said_view result) }
+        ensures { (policies : List (List ℕ)) → AreGates policies self.now.gates.items → SayTogether OneImage (terms_of policies self.now) review.now (said_view result) }
     {
         let mut said = unsaid(self.alloc);
         let gates = self.gates.as_slice();
@@ -36,7 +37,7 @@ impl Keeper {
     }
     /// What one policy says of a review.
     fn say_by(&self, gate: &Gate, review: &[u8]) -> Result<Said, RunError>
-        ensures { (policies : List (List ℕ)) (policy : List ℕ) → IsGateOf policy gate.now → SaysAlone (terms_of policies self.now) policy review.now (said_view result) }
+        ensures { (policies : List (List ℕ)) (policy : List ℕ) → IsGateOf policy gate.now → SaysAlone OneImage (terms_of policies self.now) policy review.now (said_view result) }
     {
         gate.say(
             review,

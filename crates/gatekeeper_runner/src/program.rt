@@ -2,6 +2,7 @@
 ghost use Rattle.std.specs.Prelude.{◌≡◌, map, string_bytes};
 ghost use Rattle.std.specs.Process.{exit_status};
 ghost use Rattle.debugger.specs.Streams.{stream};
+ghost use Rattle.policy_glue.specs.OneImage.{OneImage};
 ghost use Rattle.review_runner.specs.Program.{given_of, system};
 ghost use Rattle.gatekeeper_runner.specs.Orders.{Ordered};
 ghost use Rattle.gatekeeper_runner.specs.Program.{Does, Ends};
@@ -28,7 +29,7 @@ pub fn exit_code<F: Files, R: Source, W: Sink, E: Sink>(
     output: &mut W,
     errors: &mut E,
 ) -> ExitCode
-    ensures { Ends (given_of words) (system (F.known files.old) (stream (R.left input.old) (R.failed input.old)) (stream (W.taken output.old) (W.failed output.old))) (system (F.known files.new) (stream (R.left input.new) (R.failed input.new)) (stream (W.taken output.new) (W.failed output.new))) (stream (E.taken errors.old) (E.failed errors.old)) (stream (E.taken errors.new) (E.failed errors.new)) (exit_status result) }
+    ensures { Ends OneImage (given_of words) (system (F.known files.old) (stream (R.left input.old) (R.failed input.old)) (stream (W.taken output.old) (W.failed output.old))) (system (F.known files.new) (stream (R.left input.new) (R.failed input.new)) (stream (W.taken output.new) (W.failed output.new))) (stream (E.taken errors.old) (E.failed errors.old)) (stream (E.taken errors.new) (E.failed errors.new)) (exit_status result) }
 {
     match ending(alloc, words, files, input, output) {
         Ok(status) => ExitCode::from(status),
@@ -47,7 +48,7 @@ fn ending<F: Files, R: Source, W: Sink>(
     input: &mut R,
     output: &mut W,
 ) -> Result<u8, Refusal>
-    ensures { Does (given_of words) (system (F.known files.old) (stream (R.left input.old) (R.failed input.old)) (stream (W.taken output.old) (W.failed output.old))) (system (F.known files.new) (stream (R.left input.new) (R.failed input.new)) (stream (W.taken output.new) (W.failed output.new))) result }
+    ensures { Does OneImage (given_of words) (system (F.known files.old) (stream (R.left input.old) (R.failed input.old)) (stream (W.taken output.old) (W.failed output.old))) (system (F.known files.new) (stream (R.left input.new) (R.failed input.new)) (stream (W.taken output.new) (W.failed output.new))) result }
 {
     let words = words?;
     let order = asked_order(alloc, &words)?;

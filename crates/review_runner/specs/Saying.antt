@@ -63,7 +63,7 @@ abbrev pub IsSaidBy : Rules → State → List ℕ → Said → Type 0
 IsSaidBy p s uid said = (v : Verdict) → IsMemory s.memory → length v.findings ≤ length p.validations
     → IsLayout p.failure_policy v s.values.values s.memory.verdict → said ≡ said_of p v uid
 
--- what is said by the state in which a program stands
+-- what is said by the state in which a program stands; telling a verdict alone may want memory
 abbrev pub SaysFrom : Rules → State → List ℕ → Result Said RunError → Type 0
 SaysFrom p s uid (Ok said) = ((w : ℕ) × (s.status ≡ Exited w)) × IsSaidBy p s uid said
 SaysFrom p s uid (Err (N1 e)) = ⊥
@@ -71,4 +71,4 @@ SaysFrom p s uid (Err N2) = ⊥
 SaysFrom p s uid (Err N3) = ⊥
 SaysFrom p s uid (Err N4) = s.status ≡ Running
 SaysFrom p s uid (Err N5) = (f : guest.Fault) × (s.status ≡ Fault f)
-SaysFrom p s uid (Err Memory) = Unit {0}
+SaysFrom p s uid (Err Memory) = (w : ℕ) × (s.status ≡ Exited w)

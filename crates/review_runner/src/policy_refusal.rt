@@ -1,8 +1,10 @@
 //! Why a policy gives no image.
 ghost use Rattle.std.specs.Prelude.{◌≡◌};
 ghost use Rattle.review_runner.specs.Refusals.{compile_refusal, document_refusal};
+ghost use Rattle.review_runner.specs.declared.policy_refusal.PolicyRefusal.TheVariants as policy_refusal;
 
 use policy_glue::{CompileError, PolicyError};
+use std::alloc::AllocError;
 
 /// Why a policy gives no image.
 #[derive(Clone, Copy, Debug, PartialEq, Eq)]
@@ -34,5 +36,13 @@ impl From<CompileError> for PolicyRefusal {
             CompileError::Memory => PolicyRefusal::Memory,
             _ => PolicyRefusal::Uncompiled(error),
         }
+    }
+}
+
+impl From<AllocError> for PolicyRefusal {
+    ghost from_gives = { λ _ e. e ≡ policy_refusal.Memory };
+
+    fn from(_error: AllocError) -> PolicyRefusal {
+        PolicyRefusal::Memory
     }
 }

@@ -1,7 +1,11 @@
-//! Files in memory.
+//! Files and a reader in memory.
 
+mod cut_short;
 mod folder;
 mod one_file;
+mod policies;
 
+pub use cut_short::CutShort;
 pub use folder::Folder;
 pub use one_file::OneFile;
+pub use policies::Policies;

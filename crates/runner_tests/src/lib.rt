@@ -1,4 +1,4 @@
-//! Tests of orders, of what they write, and of the program's one function.
+//! Tests of orders, of what they write, and of the one function of each program.
 #![tactic(auto)]
 
 #[cfg(test)]
@@ -9,6 +9,8 @@ mod doubles;
 mod drawn_image_tests;
 #[cfg(test)]
 mod error_tests;
+#[cfg(test)]
+mod gatekeeper_tests;
 #[cfg(test)]
 mod order_tests;
 #[cfg(test)]

@@ -11,7 +11,7 @@ use std::test::Fail;
 const TWO: &[u8] = b"CELBPF01\x02\0\0\0\0\0\0\0\xb7\0\0\0\x05\0\0\0\x95\0\0\0\0\0\0\0";
 
 /// The words of a command line, each after one space.
-fn words(alloc: Global, line: &str) -> Result<Vec<String>, AllocError> {
+pub fn words(alloc: Global, line: &str) -> Result<Vec<String>, AllocError> {
     let mut words = Vec::new(alloc);
     for word in line.split(' ') {
         words.push(String::from_str(alloc, word)?)?;
@@ -57,7 +57,7 @@ fn program(
 }
 
 /// Whether the bytes are those of the text, and zeros.
-fn is_text(bytes: &[u8], text: &[u8]) -> bool {
+pub fn is_text(bytes: &[u8], text: &[u8]) -> bool {
     bytes.starts_with(text) && bytes.get(text.len()) == Some(&0)
 }
 

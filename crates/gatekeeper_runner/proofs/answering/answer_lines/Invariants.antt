@@ -1,5 +1,6 @@
 use Rattle.std.proofs.Common.{◌≡◌, ℕ, List, Some, take}
 use Rattle.debugger.specs.Session.{cut}
+use Rattle.policy_glue.specs.OneImage.{OneImage}
 use Rattle.gatekeeper_runner.specs.Lines.{Keeps}
 use Rattle.gatekeeper_runner.specs.Together.{AreGates, terms_of}
 use Rattle.gatekeeper_runner.specs.Told.{Going}
@@ -8,7 +9,7 @@ use Rattle.gatekeeper_runner.proofs.answering.answer_lines.Given as goal
 abbrev pub invariant-loop-i : goal.invariant-loop-i
 invariant-loop-i g l = record {
   going : (policies : List (List ℕ)) → AreGates policies l.keeper.gates.items → (input before : List ℕ) → g.R.Source.left l.fn.r ≡ Some input → g.W.Sink.taken l.fn.w ≡ Some before
-      → Going (terms_of policies l.keeper) input before l.i (g.R.Source.left l.r) (g.W.Sink.taken l.w) × Keeps l.line (cut (take l.i input)).1;
+      → Going OneImage (terms_of policies l.keeper) input before l.i (g.R.Source.left l.r) (g.W.Sink.taken l.w) × Keeps l.line (cut (take l.i input)).1;
   read : g.R.Source.failed l.r ≡ g.R.Source.failed l.fn.r;
   wrote : g.W.Sink.failed l.w ≡ g.W.Sink.failed l.fn.w;
 }

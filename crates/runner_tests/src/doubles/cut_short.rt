@@ -1,0 +1,18 @@
+//! A reader that breaks off.
+
+use std::io::{Error, ErrorKind, Read};
+
+/// Gives its bytes, and fails behind them.
+#[derive(Drop)]
+pub struct CutShort<'a> {
+    pub left: &'a [u8],
+}
+
+impl Read for CutShort<'_> {
+    fn read(&mut self, buf: &mut [u8]) -> std::io::Result<usize> {
+        if self.left.is_empty() {
+            return Err(Error::from(ErrorKind::BrokenPipe));
+        }
+        self.left.read(buf)
+    }
+}
