@@ -17,7 +17,7 @@ use Rattle.assembler.specs.Labels.{label_slot}
 use Rattle.assembler.specs.Reading.{OneReading}
 use Rattle.assembler.specs.SecondPass.{code_bytes}
 use Rattle.assembler.specs.declared.asm_error.AsmError.{AsmError}
-use Rattle.assembler.specs.declared.asm_error.AsmError.TheVariants.{A1, A2, A3, A4, A5, A6, Memory}
+use Rattle.assembler.specs.declared.asm_error.AsmError.TheVariants.{Memory}
 use Rattle.assembler.specs.declared.lines.line.Line.{Line}
 use Rattle.assembler.specs.declared.passes.scan.Scanned.{Scanned}
 
@@ -62,40 +62,20 @@ first_says before lines items (next i reads free room rest) some = (i, reads)
 pub answered : (text : List ℕ) (s : Scanned) (slice : List Line) (r : Result (Vec ℕ Global) AsmError) → slice ≡ s.lines.items → FirstPass (lines_of text) (Ok s) → Emits (code_bytes (λ q. get_by_text s.labels q) 1 0 (map item_of slice)) r → OnErr r (slice ≢ []) → Answers text r
 answered text s slice (Ok code) e h m some = scanned_source text code.items (map item_of s.lines.items) h.0.0 (emits_same (lines_of text) s slice e h ∙ m)
 answered text s slice (Err Memory) e h m some = first_says [] (lines_of text) (map item_of s.lines.items) h.0.0 (λ none. some (e ∙ no_lines s.lines.items none))
-answered text s slice (Err (A1 n)) e h m some = resolved (map item_of s.lines.items) h.0.0 (emits_same (lines_of text) s slice e h ∙ m)
-answered text s slice (Err (A2 n)) e h m some = resolved (map item_of s.lines.items) h.0.0 (emits_same (lines_of text) s slice e h ∙ m)
-answered text s slice (Err (A3 n)) e h m some = resolved (map item_of s.lines.items) h.0.0 (emits_same (lines_of text) s slice e h ∙ m)
-answered text s slice (Err (A4 n)) e h m some = resolved (map item_of s.lines.items) h.0.0 (emits_same (lines_of text) s slice e h ∙ m)
-answered text s slice (Err (A5 n)) e h m some = resolved (map item_of s.lines.items) h.0.0 (emits_same (lines_of text) s slice e h ∙ m)
-answered text s slice (Err (A6 n)) e h m some = resolved (map item_of s.lines.items) h.0.0 (emits_same (lines_of text) s slice e h ∙ m)
+answered text s slice (Err _) e h m some = resolved (map item_of s.lines.items) h.0.0 (emits_same (lines_of text) s slice e h ∙ m)
 
 pub only_answer : (text : List ℕ) (s : Scanned) (slice : List Line) (r : Result (Vec ℕ Global) AsmError) → slice ≡ s.lines.items → FirstPass (lines_of text) (Ok s) → Emits (code_bytes (λ q. get_by_text s.labels q) 1 0 (map item_of slice)) r → (t : Result (List ℕ) AsmError) → Assembles (lines_of text) t → IsAnswer t r
 only_answer text s slice (Ok code) e h m t a = only_resolved (lines_of text) (map item_of s.lines.items) (Ok code.items) t h.0.1 (emits_same (lines_of text) s slice e h ∙ m) a
 only_answer text s slice (Err Memory) e h m t a = tt
-only_answer text s slice (Err (A1 n)) e h m t a = only_resolved (lines_of text) (map item_of s.lines.items) (Err (A1 n)) t h.0.1 (emits_same (lines_of text) s slice e h ∙ m) a
-only_answer text s slice (Err (A2 n)) e h m t a = only_resolved (lines_of text) (map item_of s.lines.items) (Err (A2 n)) t h.0.1 (emits_same (lines_of text) s slice e h ∙ m) a
-only_answer text s slice (Err (A3 n)) e h m t a = only_resolved (lines_of text) (map item_of s.lines.items) (Err (A3 n)) t h.0.1 (emits_same (lines_of text) s slice e h ∙ m) a
-only_answer text s slice (Err (A4 n)) e h m t a = only_resolved (lines_of text) (map item_of s.lines.items) (Err (A4 n)) t h.0.1 (emits_same (lines_of text) s slice e h ∙ m) a
-only_answer text s slice (Err (A5 n)) e h m t a = only_resolved (lines_of text) (map item_of s.lines.items) (Err (A5 n)) t h.0.1 (emits_same (lines_of text) s slice e h ∙ m) a
-only_answer text s slice (Err (A6 n)) e h m t a = only_resolved (lines_of text) (map item_of s.lines.items) (Err (A6 n)) t h.0.1 (emits_same (lines_of text) s slice e h ∙ m) a
+only_answer text s slice (Err error) e h m t a = only_resolved (lines_of text) (map item_of s.lines.items) (Err error) t h.0.1 (emits_same (lines_of text) s slice e h ∙ m) a
 
 pub first_refused : (text : List ℕ) (e : AsmError) → FirstPass (lines_of text) (Err e) → Answers text (Err e)
-first_refused text (A1 n) h = refused h.0
-first_refused text (A2 n) h = refused h.0
-first_refused text (A3 n) h = refused h.0
-first_refused text (A4 n) h = refused h.0
-first_refused text (A5 n) h = refused h.0
-first_refused text (A6 n) h = refused h.0
 first_refused text Memory h = h
+first_refused text _ h = refused h.0
 
 pub only_first : (text : List ℕ) (e : AsmError) → FirstPass (lines_of text) (Err e) → (t : Result (List ℕ) AsmError) → Assembles (lines_of text) t → IsAnswer t (Err e)
-only_first text (A1 n) h t a = only_refused (lines_of text) (A1 n) t h.1 a
-only_first text (A2 n) h t a = only_refused (lines_of text) (A2 n) t h.1 a
-only_first text (A3 n) h t a = only_refused (lines_of text) (A3 n) t h.1 a
-only_first text (A4 n) h t a = only_refused (lines_of text) (A4 n) t h.1 a
-only_first text (A5 n) h t a = only_refused (lines_of text) (A5 n) t h.1 a
-only_first text (A6 n) h t a = only_refused (lines_of text) (A6 n) t h.1 a
 only_first text Memory h t a = tt
+only_first text error h t a = only_refused (lines_of text) error t h.1 a
 
 -- where each line reads in one way, both passes have one answer
 pub one_answer : OneReading → (lines : List (List ℕ)) (r s : Result (List ℕ) AsmError) → Assembles lines r → Assembles lines s → r ≡ s

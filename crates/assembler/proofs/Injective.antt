@@ -1,5 +1,5 @@
 -- Each text names one thing.
-use Rattle.std.proofs.Common.{◌≡◌, ℕ, suc, ℤ, pos, negsuc, List, [], ◌∷◌, false, Option, Some, None, refl, sym, ap, ◌∙◌, arith}
+use Rattle.std.proofs.Common.{◌≡◌, ℕ, suc, ℤ, pos, negsuc, List, [], ◌∷◌, ◌++◌, map, false, Option, Some, None, refl, sym, ap, ◌∙◌, arith}
 use Rattle.std.proofs.lemmas.Bool.{false≢true}
 use Rattle.std.specs.Str.Parse.{AllDigits}
 use Rattle.std.specs.Prelude.{if◌then◌else◌}
@@ -7,14 +7,17 @@ use Rattle.std.specs.Str.{bytes_eq}
 use Rattle.insn_codec.specs.Lines.{decimal, offset_text, operand_text, register_text, signed_decimal}
 use Rattle.insn_codec.specs.declared.alu_op.AluOp.TheVariants as alu
 use Rattle.insn_codec.specs.declared.atomic_op.AtomicOp.TheVariants as atomic
+use Rattle.insn_codec.specs.declared.byte_order.ByteOrder.{ByteOrder}
 use Rattle.insn_codec.specs.declared.byte_order.ByteOrder.TheVariants as order
 use Rattle.insn_codec.specs.declared.comparison.Comparison.TheVariants as comparison
 use Rattle.insn_codec.specs.declared.extension.Extension.TheVariants as extension
 use Rattle.insn_codec.specs.declared.register.Register.{Register}
 use Rattle.insn_codec.specs.declared.register.Register.TheVariants as register
 use Rattle.insn_codec.specs.declared.signed_size.SignedSize.TheVariants as signed
+use Rattle.insn_codec.specs.declared.size.Size.{Size}
 use Rattle.insn_codec.specs.declared.size.Size.TheVariants as size
 use Rattle.insn_codec.specs.declared.swap_width.SwapWidth.TheVariants as swap
+use Rattle.insn_codec.specs.declared.width.Width.{Width}
 use Rattle.insn_codec.specs.declared.width.Width.TheVariants as width
 use Rattle.insn_codec.specs.Mnemonics.{mnemonic_text}
 use Rattle.assembler.specs.Numbers.{is_immediate}
@@ -46,132 +49,65 @@ registers = register.R0 ∷ register.R1 ∷ register.R2 ∷ register.R3 ∷ regi
 
 register_found : (x : Register) → find register_text registers (register_text x) ≡ Some x
 register_found register.R0 = refl
-register_found register.R1 = refl
-register_found register.R2 = refl
-register_found register.R3 = refl
-register_found register.R4 = refl
-register_found register.R5 = refl
-register_found register.R6 = refl
-register_found register.R7 = refl
-register_found register.R8 = refl
-register_found register.R9 = refl
-register_found register.R10 = refl
+register_found _ = refl
 
 pub register_injective : (x y : Register) → register_text x ≡ register_text y → x ≡ y
 register_injective = by_search register_text registers register_found
 
+-- each of these at each width
+abbrev at_widths : {X : Type 0} → (X → Width → Mnemonic) → List X → List Mnemonic
+at_widths f [] = []
+at_widths f (x ∷ xs) = f x width.W32 ∷ f x width.W64 ∷ at_widths f xs
+
+abbrev of_operations : List Mnemonic
+of_operations = at_widths Alu (alu.Add ∷ alu.Sub ∷ alu.Mul ∷ alu.Div ∷ alu.Sdiv ∷ alu.Or ∷ alu.And ∷ alu.Lsh ∷ alu.Rsh ∷ alu.Mod ∷ alu.Smod ∷ alu.Xor ∷ alu.Mov ∷ alu.Arsh ∷ [])
+
+abbrev of_comparisons : List Mnemonic
+of_comparisons = at_widths Branch
+    (comparison.Eq ∷ comparison.Gt ∷ comparison.Ge ∷ comparison.Set ∷ comparison.Ne ∷ comparison.Sgt ∷ comparison.Sge ∷ comparison.Lt
+    ∷ comparison.Le ∷ comparison.Slt ∷ comparison.Sle ∷ [])
+
+abbrev of_atomics : List Mnemonic
+of_atomics = at_widths Atomic
+    (atomic.Add ∷ atomic.Or ∷ atomic.And ∷ atomic.Xor ∷ atomic.FetchAdd ∷ atomic.FetchOr ∷ atomic.FetchAnd ∷ atomic.FetchXor
+    ∷ atomic.Exchange ∷ atomic.CompareExchange ∷ [])
+
+abbrev of_order : ByteOrder → List Mnemonic
+of_order x = map (ByteSwap x) (swap.Bits16 ∷ swap.Bits32 ∷ swap.Bits64 ∷ [])
+
+abbrev of_extensions : List Mnemonic
+of_extensions = map SignExtend (extension.From8To32 ∷ extension.From16To32 ∷ extension.From8To64 ∷ extension.From16To64 ∷ extension.From32To64 ∷ [])
+
+abbrev of_size : (Size → Mnemonic) → List Mnemonic
+of_size f = map f (size.B ∷ size.H ∷ size.W ∷ size.Dw ∷ [])
+
+abbrev of_loads : List Mnemonic
+of_loads = map LoadSigned (signed.B ∷ signed.H ∷ signed.W ∷ []) ++ (of_size Load ++ (of_size StoreImm ++ of_size Store))
+
+abbrev of_orders : List Mnemonic
+of_orders = of_order order.Little ++ (of_order order.Big ++ of_order order.Swap)
+
 abbrev mnemonics : List Mnemonic
-mnemonics = Alu alu.Add width.W32 ∷ Alu alu.Add width.W64 ∷ Alu alu.Sub width.W32 ∷ Alu alu.Sub width.W64 ∷ Alu alu.Mul width.W32 ∷ Alu alu.Mul width.W64 ∷ Alu alu.Div width.W32 ∷ Alu alu.Div width.W64 ∷ Alu alu.Sdiv width.W32 ∷ Alu alu.Sdiv width.W64 ∷ Alu alu.Or width.W32 ∷ Alu alu.Or width.W64 ∷ Alu alu.And width.W32 ∷ Alu alu.And width.W64 ∷ Alu alu.Lsh width.W32 ∷ Alu alu.Lsh width.W64 ∷ Alu alu.Rsh width.W32 ∷ Alu alu.Rsh width.W64 ∷ Alu alu.Mod width.W32 ∷ Alu alu.Mod width.W64 ∷ Alu alu.Smod width.W32 ∷ Alu alu.Smod width.W64 ∷ Alu alu.Xor width.W32 ∷ Alu alu.Xor width.W64 ∷ Alu alu.Mov width.W32 ∷ Alu alu.Mov width.W64 ∷ Alu alu.Arsh width.W32 ∷ Alu alu.Arsh width.W64 ∷ Neg width.W32 ∷ Neg width.W64 ∷ SignExtend extension.From8To32 ∷ SignExtend extension.From16To32 ∷ SignExtend extension.From8To64 ∷ SignExtend extension.From16To64 ∷ SignExtend extension.From32To64 ∷ ByteSwap order.Little swap.Bits16 ∷ ByteSwap order.Little swap.Bits32 ∷ ByteSwap order.Little swap.Bits64 ∷ ByteSwap order.Big swap.Bits16 ∷ ByteSwap order.Big swap.Bits32 ∷ ByteSwap order.Big swap.Bits64 ∷ ByteSwap order.Swap swap.Bits16 ∷ ByteSwap order.Swap swap.Bits32 ∷ ByteSwap order.Swap swap.Bits64 ∷ Ja ∷ JaLong ∷ Branch comparison.Eq width.W32 ∷ Branch comparison.Eq width.W64 ∷ Branch comparison.Gt width.W32 ∷ Branch comparison.Gt width.W64 ∷ Branch comparison.Ge width.W32 ∷ Branch comparison.Ge width.W64 ∷ Branch comparison.Set width.W32 ∷ Branch comparison.Set width.W64 ∷ Branch comparison.Ne width.W32 ∷ Branch comparison.Ne width.W64 ∷ Branch comparison.Sgt width.W32 ∷ Branch comparison.Sgt width.W64 ∷ Branch comparison.Sge width.W32 ∷ Branch comparison.Sge width.W64 ∷ Branch comparison.Lt width.W32 ∷ Branch comparison.Lt width.W64 ∷ Branch comparison.Le width.W32 ∷ Branch comparison.Le width.W64 ∷ Branch comparison.Slt width.W32 ∷ Branch comparison.Slt width.W64 ∷ Branch comparison.Sle width.W32 ∷ Branch comparison.Sle width.W64 ∷ Call ∷ CallLocal ∷ Exit ∷ Load size.B ∷ Load size.H ∷ Load size.W ∷ Load size.Dw ∷ LoadSigned signed.B ∷ LoadSigned signed.H ∷ LoadSigned signed.W ∷ StoreImm size.B ∷ StoreImm size.H ∷ StoreImm size.W ∷ StoreImm size.Dw ∷ Store size.B ∷ Store size.H ∷ Store size.W ∷ Store size.Dw ∷ LoadWide ∷ Slot ∷ Atomic atomic.Add width.W32 ∷ Atomic atomic.Add width.W64 ∷ Atomic atomic.Or width.W32 ∷ Atomic atomic.Or width.W64 ∷ Atomic atomic.And width.W32 ∷ Atomic atomic.And width.W64 ∷ Atomic atomic.Xor width.W32 ∷ Atomic atomic.Xor width.W64 ∷ Atomic atomic.FetchAdd width.W32 ∷ Atomic atomic.FetchAdd width.W64 ∷ Atomic atomic.FetchOr width.W32 ∷ Atomic atomic.FetchOr width.W64 ∷ Atomic atomic.FetchAnd width.W32 ∷ Atomic atomic.FetchAnd width.W64 ∷ Atomic atomic.FetchXor width.W32 ∷ Atomic atomic.FetchXor width.W64 ∷ Atomic atomic.Exchange width.W32 ∷ Atomic atomic.Exchange width.W64 ∷ Atomic atomic.CompareExchange width.W32 ∷ Atomic atomic.CompareExchange width.W64 ∷ []
+mnemonics =
+    of_operations ++ (of_comparisons ++ (of_atomics ++ (of_orders ++ (of_extensions ++ (of_loads ++
+    (Neg width.W32 ∷ Neg width.W64 ∷ Ja ∷ JaLong ∷ Call ∷ CallLocal ∷ Exit ∷ LoadWide ∷ Slot ∷ []))))))
 
 mnemonic_found : (x : Mnemonic) → find mnemonic_text mnemonics (mnemonic_text x) ≡ Some x
 mnemonic_found (Alu alu.Add width.W32) = refl
-mnemonic_found (Alu alu.Add width.W64) = refl
-mnemonic_found (Alu alu.Sub width.W32) = refl
-mnemonic_found (Alu alu.Sub width.W64) = refl
-mnemonic_found (Alu alu.Mul width.W32) = refl
-mnemonic_found (Alu alu.Mul width.W64) = refl
-mnemonic_found (Alu alu.Div width.W32) = refl
-mnemonic_found (Alu alu.Div width.W64) = refl
-mnemonic_found (Alu alu.Sdiv width.W32) = refl
-mnemonic_found (Alu alu.Sdiv width.W64) = refl
-mnemonic_found (Alu alu.Or width.W32) = refl
-mnemonic_found (Alu alu.Or width.W64) = refl
-mnemonic_found (Alu alu.And width.W32) = refl
-mnemonic_found (Alu alu.And width.W64) = refl
-mnemonic_found (Alu alu.Lsh width.W32) = refl
-mnemonic_found (Alu alu.Lsh width.W64) = refl
-mnemonic_found (Alu alu.Rsh width.W32) = refl
-mnemonic_found (Alu alu.Rsh width.W64) = refl
-mnemonic_found (Alu alu.Mod width.W32) = refl
-mnemonic_found (Alu alu.Mod width.W64) = refl
-mnemonic_found (Alu alu.Smod width.W32) = refl
-mnemonic_found (Alu alu.Smod width.W64) = refl
-mnemonic_found (Alu alu.Xor width.W32) = refl
-mnemonic_found (Alu alu.Xor width.W64) = refl
-mnemonic_found (Alu alu.Mov width.W32) = refl
-mnemonic_found (Alu alu.Mov width.W64) = refl
-mnemonic_found (Alu alu.Arsh width.W32) = refl
-mnemonic_found (Alu alu.Arsh width.W64) = refl
+mnemonic_found (Alu _ width.W32) = refl
 mnemonic_found (Neg width.W32) = refl
-mnemonic_found (Neg width.W64) = refl
 mnemonic_found (SignExtend extension.From8To32) = refl
-mnemonic_found (SignExtend extension.From16To32) = refl
-mnemonic_found (SignExtend extension.From8To64) = refl
-mnemonic_found (SignExtend extension.From16To64) = refl
-mnemonic_found (SignExtend extension.From32To64) = refl
 mnemonic_found (ByteSwap order.Little swap.Bits16) = refl
-mnemonic_found (ByteSwap order.Little swap.Bits32) = refl
-mnemonic_found (ByteSwap order.Little swap.Bits64) = refl
-mnemonic_found (ByteSwap order.Big swap.Bits16) = refl
-mnemonic_found (ByteSwap order.Big swap.Bits32) = refl
-mnemonic_found (ByteSwap order.Big swap.Bits64) = refl
-mnemonic_found (ByteSwap order.Swap swap.Bits16) = refl
-mnemonic_found (ByteSwap order.Swap swap.Bits32) = refl
-mnemonic_found (ByteSwap order.Swap swap.Bits64) = refl
-mnemonic_found Ja = refl
-mnemonic_found JaLong = refl
+mnemonic_found (ByteSwap _ swap.Bits16) = refl
 mnemonic_found (Branch comparison.Eq width.W32) = refl
-mnemonic_found (Branch comparison.Eq width.W64) = refl
-mnemonic_found (Branch comparison.Gt width.W32) = refl
-mnemonic_found (Branch comparison.Gt width.W64) = refl
-mnemonic_found (Branch comparison.Ge width.W32) = refl
-mnemonic_found (Branch comparison.Ge width.W64) = refl
-mnemonic_found (Branch comparison.Set width.W32) = refl
-mnemonic_found (Branch comparison.Set width.W64) = refl
-mnemonic_found (Branch comparison.Ne width.W32) = refl
-mnemonic_found (Branch comparison.Ne width.W64) = refl
-mnemonic_found (Branch comparison.Sgt width.W32) = refl
-mnemonic_found (Branch comparison.Sgt width.W64) = refl
-mnemonic_found (Branch comparison.Sge width.W32) = refl
-mnemonic_found (Branch comparison.Sge width.W64) = refl
-mnemonic_found (Branch comparison.Lt width.W32) = refl
-mnemonic_found (Branch comparison.Lt width.W64) = refl
-mnemonic_found (Branch comparison.Le width.W32) = refl
-mnemonic_found (Branch comparison.Le width.W64) = refl
-mnemonic_found (Branch comparison.Slt width.W32) = refl
-mnemonic_found (Branch comparison.Slt width.W64) = refl
-mnemonic_found (Branch comparison.Sle width.W32) = refl
-mnemonic_found (Branch comparison.Sle width.W64) = refl
-mnemonic_found Call = refl
-mnemonic_found CallLocal = refl
-mnemonic_found Exit = refl
+mnemonic_found (Branch _ width.W32) = refl
 mnemonic_found (Load size.B) = refl
-mnemonic_found (Load size.H) = refl
-mnemonic_found (Load size.W) = refl
-mnemonic_found (Load size.Dw) = refl
 mnemonic_found (LoadSigned signed.B) = refl
-mnemonic_found (LoadSigned signed.H) = refl
-mnemonic_found (LoadSigned signed.W) = refl
 mnemonic_found (StoreImm size.B) = refl
-mnemonic_found (StoreImm size.H) = refl
-mnemonic_found (StoreImm size.W) = refl
-mnemonic_found (StoreImm size.Dw) = refl
 mnemonic_found (Store size.B) = refl
-mnemonic_found (Store size.H) = refl
-mnemonic_found (Store size.W) = refl
-mnemonic_found (Store size.Dw) = refl
-mnemonic_found LoadWide = refl
-mnemonic_found Slot = refl
 mnemonic_found (Atomic atomic.Add width.W32) = refl
-mnemonic_found (Atomic atomic.Add width.W64) = refl
-mnemonic_found (Atomic atomic.Or width.W32) = refl
-mnemonic_found (Atomic atomic.Or width.W64) = refl
-mnemonic_found (Atomic atomic.And width.W32) = refl
-mnemonic_found (Atomic atomic.And width.W64) = refl
-mnemonic_found (Atomic atomic.Xor width.W32) = refl
-mnemonic_found (Atomic atomic.Xor width.W64) = refl
-mnemonic_found (Atomic atomic.FetchAdd width.W32) = refl
-mnemonic_found (Atomic atomic.FetchAdd width.W64) = refl
-mnemonic_found (Atomic atomic.FetchOr width.W32) = refl
-mnemonic_found (Atomic atomic.FetchOr width.W64) = refl
-mnemonic_found (Atomic atomic.FetchAnd width.W32) = refl
-mnemonic_found (Atomic atomic.FetchAnd width.W64) = refl
-mnemonic_found (Atomic atomic.FetchXor width.W32) = refl
-mnemonic_found (Atomic atomic.FetchXor width.W64) = refl
-mnemonic_found (Atomic atomic.Exchange width.W32) = refl
-mnemonic_found (Atomic atomic.Exchange width.W64) = refl
-mnemonic_found (Atomic atomic.CompareExchange width.W32) = refl
-mnemonic_found (Atomic atomic.CompareExchange width.W64) = refl
+mnemonic_found (Atomic _ width.W32) = refl
+mnemonic_found _ = refl
 
 pub mnemonic_injective : (x y : Mnemonic) → mnemonic_text x ≡ mnemonic_text y → x ≡ y
 mnemonic_injective = by_search mnemonic_text mnemonics mnemonic_found
@@ -190,16 +126,7 @@ offset_injective (negsuc m) (negsuc n) e = let h : suc m ≡ suc n = decimal_inj
 
 no_form : (r : Register) → is_immediate (register_text r) ≡ false
 no_form register.R0 = refl
-no_form register.R1 = refl
-no_form register.R2 = refl
-no_form register.R3 = refl
-no_form register.R4 = refl
-no_form register.R5 = refl
-no_form register.R6 = refl
-no_form register.R7 = refl
-no_form register.R8 = refl
-no_form register.R9 = refl
-no_form register.R10 = refl
+no_form _ = refl
 
 -- no register's name is a number
 pub register_no_number : (r : Register) (z : ℤ) → register_text r ≡ signed_decimal z → ⊥

@@ -56,21 +56,15 @@ offset_fits (Branch comparison width dst operand) z h = wider z h.1
 
 pub has_line : (j : Jump) (z : ℤ) → HasLine (statement (jump_by j z))
 has_line Near z = tt
-has_line Long z = tt
-has_line CallLocal z = tt
-has_line (Branch comparison width dst operand) z = tt
+has_line _ z = tt
 
 pub mnemonic_is : (j : Jump) (z : ℤ) → item_mnemonic (statement (jump_by j z)) ≡ Some (jump_mnemonic j)
 mnemonic_is Near z = refl
-mnemonic_is Long z = refl
-mnemonic_is CallLocal z = refl
-mnemonic_is (Branch comparison width dst operand) z = refl
+mnemonic_is _ z = refl
 
 pub operands_are : (j : Jump) (z : ℤ) → operands_text (jump_operands j (offset_text z)) ≡ item_operands (statement (jump_by j z))
 operands_are Near z = refl
-operands_are Long z = refl
-operands_are CallLocal z = refl
-operands_are (Branch comparison width dst operand) z = refl
+operands_are _ z = refl
 
 pub operands_at : (j : Jump) (z : ℤ) (goal : List ℕ) → goal ≡ offset_text z → operands_text (jump_operands j goal) ≡ item_operands (statement (jump_by j z))
 operands_at j z goal e = ap (λ g. operands_text (jump_operands j g)) e ∙ operands_are j z

@@ -16,16 +16,7 @@ use Rattle.assembler.proofs.Plain.{plain_lacks}
 
 pub go_register : (r : Register) → all_go_on (register_text r) ≡ true
 go_register register.R0 = refl
-go_register register.R1 = refl
-go_register register.R2 = refl
-go_register register.R3 = refl
-go_register register.R4 = refl
-go_register register.R5 = refl
-go_register register.R6 = refl
-go_register register.R7 = refl
-go_register register.R8 = refl
-go_register register.R9 = refl
-go_register register.R10 = refl
+go_register _ = refl
 
 or_true : (b : Bool) → (b || true) ≡ true
 or_true true = refl

@@ -99,12 +99,8 @@ same_jump m is i k a b h g e =
     same_target p.0 q.0 i k p.2 q.2 h g s.0 s.1
 
 no_exit : (i : Item) → item_mnemonic i ≡ Some mnemonic.Exit → ⊥
-no_exit (statement (statement_kind.Slot word)) e = absurd cc
 no_exit (statement (statement_kind.Insn insn.Exit)) e = absurd cc
 no_exit (jump jump_kind.Near name) e = absurd cc
-no_exit (jump jump_kind.Long name) e = absurd cc
-no_exit (jump jump_kind.CallLocal name) e = absurd cc
-no_exit (jump (jump_kind.Branch comparison width d o) name) e = absurd cc
 no_exit _ e = absurd cc
 
 -- a mnemonic and operands are those of one item

@@ -10,7 +10,7 @@ use Rattle.assembler.specs.Items.{Item, item_of, item_slots, slots_of}
 use Rattle.assembler.specs.Labels.{IsFree}
 use Rattle.assembler.specs.LineAnswers.{ReadsAs}
 use Rattle.assembler.specs.declared.asm_error.AsmError.{AsmError}
-use Rattle.assembler.specs.declared.asm_error.AsmError.TheVariants.{A1, A2, A3, A4, A5, A6, Memory}
+use Rattle.assembler.specs.declared.asm_error.AsmError.TheVariants.{A1, A2, A4, A6, Memory}
 use Rattle.assembler.specs.declared.lines.line.Line.{Line}
 
 -- after these lines the pass over the rest ends as the pass over all does
@@ -35,23 +35,15 @@ read_refused before line more rest lines number (A1 n) goes cut num h =
 read_refused before line more rest lines number (A2 n) goes cut num h =
     let at : n ≡ suc (length before) = h.0 ∙ num in
     rw at (ends_with before line more rest lines (Err (A2 (suc (length before)))) goes cut (wide h.1.0) (λ s t. after_wide before line more s (only_wide line h.1.0 h.1.1) t))
-read_refused before line more rest lines number (A3 n) goes cut num h = absurd h
-read_refused before line more rest lines number (A4 n) goes cut num h = absurd h
-read_refused before line more rest lines number (A5 n) goes cut num h = absurd h
-read_refused before line more rest lines number (A6 n) goes cut num h = absurd h
-read_refused before line more rest lines number Memory goes cut num h = absurd h
+read_refused before line more rest lines number _ goes cut num h = absurd h
 
 pub label_refused : (before : List Item) (old new : List ℕ → Option ℕ) (l : Line) (line : List ℕ) (more rest lines : List (List ℕ)) (slot number : ℕ) (e : AsmError) → Begun rest lines → GoesOn before rest lines → rest ≡ line ∷ more → number ≡ suc (length before) → HasSlots old before → ReadsAs line (Ok l) → AddsLabel old new (item_of l) slot number (Err e) → FirstPass lines (Err e)
-label_refused before old new l line more rest lines slot number (A1 n) start goes cut num has reads h = absurd h
-label_refused before old new l line more rest lines slot number (A2 n) start goes cut num has reads h = absurd h
-label_refused before old new l line more rest lines slot number (A3 n) start goes cut num has reads h = absurd h
 label_refused before old new l line more rest lines slot number (A4 n) start goes cut num has reads h =
     let at : n ≡ suc (length before) = h.0 ∙ num in
     let taken : IsFree before (item_of l) → ⊥ = λ free. h.1 (free_in before old (item_of l) has free) in
     rw at (ends_with before line more rest lines (Err (A4 (suc (length before)))) goes cut (twice (item_of l) reads.0 taken) (λ s t. after_twice before line more s (item_of l) (only_says line (item_of l) reads.0 reads.1) taken t))
-label_refused before old new l line more rest lines slot number (A5 n) start goes cut num has reads h = absurd h
-label_refused before old new l line more rest lines slot number (A6 n) start goes cut num has reads h = absurd h
 label_refused before old new l line more rest lines slot number Memory start goes cut num has reads h = begun l line more rest lines start cut reads
+label_refused before old new l line more rest lines slot number _ start goes cut num has reads h = absurd h
 
 pub full_refused : (before : List Item) (labels : List ℕ → Option ℕ) (l : Line) (line : List ℕ) (more rest lines : List (List ℕ)) (number : ℕ) → GoesOn before rest lines → rest ≡ line ∷ more → number ≡ suc (length before) → HasSlots labels before → ReadsAs line (Ok l) → IsFreeIn labels (item_of l) → 65536 < slots_of before + item_slots (item_of l) → ScansOnlyTo lines (Err (A6 number))
 full_refused before labels l line more rest lines number goes cut num has reads free past =

@@ -78,10 +78,8 @@ operands_lack_colon (statement (statement_kind.Insn (insn.Atomic op width dst of
 operands_lack_colon (statement (statement_kind.Insn (insn.LoadWide dst value))) h = lacks_listed (register_text dst) (wide_text value) (plain_lacks 58 refl (register_text dst) (register_plain dst)) (plain_lacks 58 refl (wide_text value) (wide_plain value))
 operands_lack_colon (statement (statement_kind.Slot word)) h = plain_lacks 58 refl (wide_text word) (wide_plain word)
 operands_lack_colon (label name) h = tt
-operands_lack_colon (jump jump_kind.Near name) h = name_lacks 58 refl name h
-operands_lack_colon (jump jump_kind.Long name) h = name_lacks 58 refl name h
-operands_lack_colon (jump jump_kind.CallLocal name) h = name_lacks 58 refl name h
 operands_lack_colon (jump (jump_kind.Branch comparison width dst operand) name) h = lacks_listed (register_text dst) (operand_list (operand_text operand) name) (plain_lacks 58 refl (register_text dst) (register_plain dst)) (lacks_listed (operand_text operand) name (lacks_operand 58 refl operand) (name_lacks 58 refl name h))
+operands_lack_colon (jump _ name) h = name_lacks 58 refl name h
 
 code_lacks_colon : (i : Item) (m : Mnemonic) → HasLine i → item_mnemonic i ≡ Some m → Lacks 58 (item_text i)
 code_lacks_colon i m h e = subst (λ t. Lacks 58 t) (sym (line_halves i m e)) (lacks_append 58 (mnemonic_text m) (32 ∷ item_operands i) (mnemonic_lacks 58 refl m) (apart 32 58 refl, operands_lack_colon i h))

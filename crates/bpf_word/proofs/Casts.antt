@@ -12,10 +12,7 @@ use Rattle.bpf_word.specs.Signs.{signed_of, word_of}
 pub signed_is : (w : Width) (n : ℕ) → n < 2 ^ bits w → cast_signed w n ≡ signed_of (bits w) n
 unfolding signed_of
 signed_is w8 n h = grind (arith, ints)
-signed_is w16 n h = grind (arith, ints)
-signed_is w32 n h = grind (arith, ints)
-signed_is w64 n h = grind (arith, ints)
-signed_is w128 n h = grind (arith, ints)
+signed_is _ n h = grind (arith, ints)
 
 -- `cast_unsigned` gives the word that `word_of` does
 pub word_is : (w : Width) (z : ℤ) → mag z < 2 ^ bits w → cast_unsigned w z ≡ word_of (bits w) z
@@ -29,10 +26,7 @@ word_below w (negsuc n) h = omega arith
 
 mag_below : (w : Width) (n : ℕ) → n < 2 ^ bits w → mag (cast_signed w n) < 2 ^ bits w
 mag_below w8 n h = grind (arith, ints)
-mag_below w16 n h = grind (arith, ints)
-mag_below w32 n h = grind (arith, ints)
-mag_below w64 n h = grind (arith, ints)
-mag_below w128 n h = grind (arith, ints)
+mag_below _ n h = grind (arith, ints)
 
 -- to wrap a number changes nothing of its word
 pub wrapped_is : (w : Width) (z : ℤ) → mag z < 2 ^ bits w → word_of (bits w) (cast_signed w (cast_unsigned w z)) ≡ word_of (bits w) z
@@ -48,9 +42,7 @@ difference_is bits a b h =
 
 mag_quotient : (x y : ℤ) → mag (int_div x y) ≤ mag x + 1
 mag_quotient (pos a) (pos b) = grind arith
-mag_quotient (pos a) (negsuc b) = grind arith
-mag_quotient (negsuc a) (pos b) = grind arith
-mag_quotient (negsuc a) (negsuc b) = grind arith
+mag_quotient _ _ = grind arith
 
 -- `wrapping_div` leaves the word of the quotient
 pub quotient_is : (w : Width) (x y q : ℤ) → FitsSigned w x → FitsSigned w y → FitsSigned w q → q ≡ int_wrapping_div w (cast_signed w (cast_unsigned w x)) (cast_signed w (cast_unsigned w y)) → word_of (bits w) (cast_signed w (cast_unsigned w q)) ≡ word_of (bits w) (int_div x y)

@@ -56,14 +56,12 @@ alu64_below operation dst operand a b = operated_below 64 operation dst operand 
 sext_below : (bits : SignBits) (word : ℕ) → sext_of bits word < 2 ^ 64
 unfolding sext_of
 sext_below B8 word = word_below 64 _
-sext_below B16 word = word_below 64 _
-sext_below B32 word = word_below 64 _
+sext_below _ word = word_below 64 _
 
 swap_below : (width : SwapWidth) (word : ℕ) → swap_of width word < 2 ^ 64
 unfolding swap_of
 swap_below Bits16 word = omega arith
-swap_below Bits32 word = omega arith
-swap_below Bits64 word = omega arith
+swap_below _ word = omega arith
 
 pub results_are_words : ResultsAreWords
 results_are_words = record { arithmetic = alu64_below; extension = sext_below; swap = swap_below }

@@ -18,7 +18,6 @@ word_below bits (negsuc a) = omega (arith, pow_pos bits)
 pub operated_below : (bits : ℕ) (operation : Operation) (a b : ℕ) → a < 2 ^ bits → b < 2 ^ bits → operated bits operation a b < 2 ^ bits
 unfolding operated
 operated_below bits Add a b p q = mod-lt (a + b) (pow_pos bits)
-operated_below bits Sub a b p q = word_below bits _
 operated_below bits Mul a b p q = mod-lt (a * b) (pow_pos bits)
 operated_below bits Div a b p q = grind (arith, pow_pos bits, div-le_self a b)
 operated_below bits Sdiv a b p q = grind (arith, pow_pos bits, word_below)
@@ -30,4 +29,4 @@ operated_below bits Mod a b p q = grind arith
 operated_below bits Smod a b p q = grind (arith, word_below)
 operated_below bits Xor a b p q = xor_lt bits a b p q
 operated_below bits Mov a b p q = q
-operated_below bits Arsh a b p q = word_below bits _
+operated_below bits _ a b p q = word_below bits _

@@ -14,34 +14,24 @@ has_of_none [] h = refl
 has_of_none (a ∷ items) h = absurd (omega arith)
 
 pub has_of_more : (items : List Expr) → 1 < length items → has_fault true (trees (map view items)) ≡ Some ArgumentCount
-has_of_more [] h = absurd (omega arith)
-has_of_more (a ∷ []) h = absurd (omega arith)
 has_of_more (a ∷ b ∷ items) h = refl
+has_of_more _ h = absurd (omega arith)
 
 pub fold_of_few : (m : Macro) (items : List Expr) → length items < 2 → fold_fault (Some m) (trees (map view items)) ≡ Some ArgumentCount
-fold_of_few m [] h = refl
-fold_of_few m (a ∷ []) h = refl
 fold_of_few m (a ∷ b ∷ items) h = absurd (omega arith)
+fold_of_few m _ h = refl
 
 pub fold_of_many : (m : Macro) (items : List Expr) → 3 < length items → fold_fault (Some m) (trees (map view items)) ≡ Some ArgumentCount
-fold_of_many m [] h = absurd (omega arith)
-fold_of_many m (a ∷ []) h = absurd (omega arith)
-fold_of_many m (a ∷ b ∷ []) h = absurd (omega arith)
-fold_of_many m (a ∷ b ∷ d ∷ []) h = absurd (omega arith)
 fold_of_many m (a ∷ b ∷ d ∷ e ∷ items) h = refl
+fold_of_many m _ h = absurd (omega arith)
 
 pub fold_of_two : (m : Macro) (items : List Expr) (x : Expr) → 1 < length items → length items < 3 → x ≡ get_or items 0 x → fold_fault (Some m) (trees (map view items)) ≡ name_fault (name_of (view x))
-fold_of_two m [] x h g e = absurd (omega arith)
-fold_of_two m (a ∷ []) x h g e = absurd (omega arith)
 fold_of_two m (a ∷ b ∷ []) x h g e = ap (λ y. name_fault (name_of (view y))) (sym e)
-fold_of_two m (a ∷ b ∷ d ∷ items) x h g e = absurd (omega arith)
+fold_of_two m _ x h g e = absurd (omega arith)
 
 pub fold_of_three : (m : Macro) (items : List Expr) (x : Expr) → 2 < length items → length items < 4 → x ≡ get_or items 0 x → fold_fault (Some m) (trees (map view items)) ≡ three_fault m (name_of (view x))
-fold_of_three m [] x h g e = absurd (omega arith)
-fold_of_three m (a ∷ []) x h g e = absurd (omega arith)
-fold_of_three m (a ∷ b ∷ []) x h g e = absurd (omega arith)
 fold_of_three m (a ∷ b ∷ d ∷ []) x h g e = ap (λ y. three_fault m (name_of (view y))) (sym e)
-fold_of_three m (a ∷ b ∷ d ∷ f ∷ items) x h g e = absurd (omega arith)
+fold_of_three m _ x h g e = absurd (omega arith)
 
 -- ---- tests one after another
 

@@ -13,23 +13,19 @@ conjunctions (t ∷ ts) = conjunction t (conjunctions ts)
 
 pub no_and : (t : Truth) → conjunction No t ≡ No
 no_and Yes = refl
-no_and No = refl
-no_and Other = refl
+no_and _ = refl
 
 yes_and : (t : Truth) → conjunction Yes t ≡ t
 yes_and Yes = refl
-yes_and No = refl
-yes_and Other = refl
+yes_and _ = refl
 
 and_yes : (t : Truth) → conjunction t Yes ≡ t
 and_yes Yes = refl
-and_yes No = refl
-and_yes Other = refl
+and_yes _ = refl
 
 other_twice : (t : Truth) → conjunction Other (conjunction Other t) ≡ conjunction Other t
 other_twice Yes = refl
-other_twice No = refl
-other_twice Other = refl
+other_twice _ = refl
 
 and_assoc : (a b c : Truth) → conjunction (conjunction a b) c ≡ conjunction a (conjunction b c)
 and_assoc Yes b c = ap (λ t. conjunction t c) (yes_and b) ∙ sym (yes_and (conjunction b c))
@@ -40,8 +36,7 @@ and_assoc Other Other c = sym (other_twice c)
 
 pub truth_back : (t : Truth) → truth (of_truth t) ≡ t
 truth_back Yes = refl
-truth_back No = refl
-truth_back Other = refl
+truth_back _ = refl
 
 after_other : (ts : List Truth) → cond (list_any is_no ts) (value (boolean false)) error ≡ of_truth (conjunction Other (conjunctions ts))
 after_other [] = refl

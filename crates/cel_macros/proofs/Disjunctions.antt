@@ -14,23 +14,19 @@ disjunctions (t ∷ ts) = disjunction t (disjunctions ts)
 
 pub yes_or : (t : Truth) → disjunction Yes t ≡ Yes
 yes_or No = refl
-yes_or Yes = refl
-yes_or Other = refl
+yes_or _ = refl
 
 no_or : (t : Truth) → disjunction No t ≡ t
 no_or No = refl
-no_or Yes = refl
-no_or Other = refl
+no_or _ = refl
 
 or_no : (t : Truth) → disjunction t No ≡ t
 or_no No = refl
-or_no Yes = refl
-or_no Other = refl
+or_no _ = refl
 
 other_twice : (t : Truth) → disjunction Other (disjunction Other t) ≡ disjunction Other t
 other_twice No = refl
-other_twice Yes = refl
-other_twice Other = refl
+other_twice _ = refl
 
 or_assoc : (a b c : Truth) → disjunction (disjunction a b) c ≡ disjunction a (disjunction b c)
 or_assoc No b c = ap (λ t. disjunction t c) (no_or b) ∙ sym (no_or (disjunction b c))

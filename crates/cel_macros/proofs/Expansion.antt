@@ -62,27 +62,22 @@ selection_plain false a f e h = ap (λ t. tree.select t f) h
 call_plain : (b : Bool) (k : Option (List ℕ)) (n : List ℕ) (inner c : CoreTree) (a : Tree) → is_has n ≡ b → IfSome k (λ f. tree.select (plain_tree inner) f ≡ a) → plain_tree c ≡ a → plain_tree (call_or_has b k n inner c) ≡ tree.call n (more_trees a no_trees)
 unfolding plain_tree
 call_plain true (Some f) n inner c a e h p = λ i. tree.call (has_back n e i) (more_trees (h i) no_trees)
-call_plain true None n inner c a e h p = ap (λ t. tree.call n (more_trees t no_trees)) p
-call_plain false k n inner c a e h p = ap (λ t. tree.call n (more_trees t no_trees)) p
+call_plain _ _ n inner c a e h p = ap (λ t. tree.call n (more_trees t no_trees)) p
 
 fold_plain : (m : Option Macro) (k : Option (List ℕ)) (n : List ℕ) (ca cx cp : CoreTree) (a x p : Tree) → IfSome m (λ m. macro_name m ≡ n) → IfSome k (λ i. tree.name i ≡ x) → plain_tree ca ≡ a → plain_tree cx ≡ x → plain_tree cp ≡ p → plain_tree (method_or_fold m k n ca cx cp) ≡ tree.method a n (more_trees x (more_trees p no_trees))
 unfolding plain_tree
 fold_plain (Some m) (Some i) n ca cx cp a x p em ek ha hx hp = λ j. tree.method (ha j) (em j) (more_trees (ek j) (more_trees (hp j) no_trees))
-fold_plain (Some m) None n ca cx cp a x p em ek ha hx hp = λ j. tree.method (ha j) n (more_trees (hx j) (more_trees (hp j) no_trees))
-fold_plain None k n ca cx cp a x p em ek ha hx hp = λ j. tree.method (ha j) n (more_trees (hx j) (more_trees (hp j) no_trees))
+fold_plain _ _ n ca cx cp a x p em ek ha hx hp = λ j. tree.method (ha j) n (more_trees (hx j) (more_trees (hp j) no_trees))
 
 fold_map_plain : (b : Bool) (k : Option (List ℕ)) (n : List ℕ) (ca cx cp ct : CoreTree) (a x p t : Tree) → is_map n ≡ b → IfSome k (λ i. tree.name i ≡ x) → plain_tree ca ≡ a → plain_tree cx ≡ x → plain_tree cp ≡ p → plain_tree ct ≡ t → plain_tree (method_or_fold_map b k n ca cx cp ct) ≡ tree.method a n (more_trees x (more_trees p (more_trees t no_trees)))
 unfolding plain_tree
 fold_map_plain true (Some i) n ca cx cp ct a x p t e ek ha hx hp ht = λ j. tree.method (ha j) (map_back n e j) (more_trees (ek j) (more_trees (hp j) (more_trees (ht j) no_trees)))
-fold_map_plain true None n ca cx cp ct a x p t e ek ha hx hp ht = λ j. tree.method (ha j) n (more_trees (hx j) (more_trees (hp j) (more_trees (ht j) no_trees)))
-fold_map_plain false k n ca cx cp ct a x p t e ek ha hx hp ht = λ j. tree.method (ha j) n (more_trees (hx j) (more_trees (hp j) (more_trees (ht j) no_trees)))
+fold_map_plain _ _ n ca cx cp ct a x p t e ek ha hx hp ht = λ j. tree.method (ha j) n (more_trees (hx j) (more_trees (hp j) (more_trees (ht j) no_trees)))
 
 mutual
   unfolding expanded plain_tree
 
   pub expansion_plain : (e : Tree) → plain_tree (expanded e) ≡ e
-  expansion_plain (tree.literal l) = refl
-  expansion_plain (tree.name n) = refl
   expansion_plain (tree.select a f) = selection_plain (is_variables a) a f refl (expansion_plain a)
   expansion_plain (tree.index a k) = λ j. tree.index (expansion_plain a j) (expansion_plain k j)
   expansion_plain (tree.unary op a) = ap (tree.unary op) (expansion_plain a)
@@ -90,7 +85,6 @@ mutual
   expansion_plain (tree.ternary c a b) = λ j. tree.ternary (expansion_plain c j) (expansion_plain a j) (expansion_plain b j)
   expansion_plain (tree.list items) = ap tree.list (trees_plain items)
   expansion_plain (tree.map es) = ap tree.map (entries_plain es)
-  expansion_plain (tree.call n no_trees) = refl
   expansion_plain (tree.call n (more_trees a no_trees)) = call_plain (is_has n) (field_name a) n (expanded_operand a) (expanded a) a refl (operand_plain a) (expansion_plain a)
   expansion_plain (tree.call n (more_trees a (more_trees b more))) = λ j. tree.call n (more_trees (expansion_plain a j) (more_trees (expansion_plain b j) (trees_plain more j)))
   expansion_plain (tree.method a n no_trees) = ap (λ t. tree.method t n no_trees) (expansion_plain a)
@@ -98,6 +92,7 @@ mutual
   expansion_plain (tree.method a n (more_trees x (more_trees p no_trees))) = fold_plain (macro_named n) (name_of x) n (expanded a) (expanded x) (expanded p) a x p (macro_back n) (name_back x) (expansion_plain a) (expansion_plain x) (expansion_plain p)
   expansion_plain (tree.method a n (more_trees x (more_trees p (more_trees t no_trees)))) = fold_map_plain (is_map n) (name_of x) n (expanded a) (expanded x) (expanded p) (expanded t) a x p t refl (name_back x) (expansion_plain a) (expansion_plain x) (expansion_plain p) (expansion_plain t)
   expansion_plain (tree.method a n (more_trees x (more_trees p (more_trees t (more_trees u more))))) = λ j. tree.method (expansion_plain a j) n (more_trees (expansion_plain x j) (more_trees (expansion_plain p j) (more_trees (expansion_plain t j) (more_trees (expansion_plain u j) (trees_plain more j)))))
+  expansion_plain _ = refl
 
   operand_plain : (a : Tree) → IfSome (field_name a) (λ f. tree.select (plain_tree (expanded_operand a)) f ≡ a)
   operand_plain (tree.select a f) = ap (λ t. tree.select t f) (expansion_plain a)
@@ -121,27 +116,22 @@ selection_means false f c x env h = ap (λ r. field_of r f) h
 call_means : (b : Bool) (k : Option (List ℕ)) (n : List ℕ) (inner c : CoreTree) (x y : ValueOrError) (env : Environment) → IfSome k (λ f. fold_meaning inner env ≡ x) → fold_meaning c env ≡ y → fold_meaning (call_or_has b k n inner c) env ≡ called b k (function_named n) x y
 unfolding fold_meaning
 call_means true (Some f) n inner c x y env hx hy = ap (λ r. has_of r f) hx
-call_means true None n inner c x y env hx hy = ap (function_of (function_named n)) hy
-call_means false k n inner c x y env hx hy = ap (function_of (function_named n)) hy
+call_means _ _ n inner c x y env hx hy = ap (function_of (function_named n)) hy
 
 fold_means : (m : Option Macro) (k : Option (List ℕ)) (n : List ℕ) (ca cx cp : CoreTree) (env : Environment) (x : ValueOrError) (f : List ℕ → Value → ValueOrError) → fold_meaning ca env ≡ x → ((i : List ℕ) (v : Value) → fold_meaning cp (bind i v env) ≡ f i v) → fold_meaning (method_or_fold m k n ca cx cp) env ≡ over_range m k f (range_of x)
 unfolding fold_meaning
 fold_means (Some m) (Some i) n ca cx cp env x f ha hp = (λ j. folded m (λ v. hp i v j) (range_of (ha j))) ∙ folds_mean m i f (range_of x)
-fold_means (Some m) None n ca cx cp env x f ha hp = refl
-fold_means None k n ca cx cp env x f ha hp = refl
+fold_means _ _ n ca cx cp env x f ha hp = refl
 
 fold_map_means : (b : Bool) (k : Option (List ℕ)) (n : List ℕ) (ca cx cp ct : CoreTree) (env : Environment) (x : ValueOrError) (p f : List ℕ → Value → ValueOrError) → fold_meaning ca env ≡ x → ((i : List ℕ) (v : Value) → fold_meaning cp (bind i v env) ≡ p i v) → ((i : List ℕ) (v : Value) → fold_meaning ct (bind i v env) ≡ f i v) → fold_meaning (method_or_fold_map b k n ca cx cp ct) env ≡ map_over_range b k p f (range_of x)
 unfolding fold_meaning
 fold_map_means true (Some i) n ca cx cp ct env x p f ha hp ht = (λ j. folded_map (λ v. truth (hp i v j)) (λ v. ht i v j) (range_of (ha j))) ∙ fold_maps_mean i p f (range_of x)
-fold_map_means true None n ca cx cp ct env x p f ha hp ht = refl
-fold_map_means false k n ca cx cp ct env x p f ha hp ht = refl
+fold_map_means _ _ n ca cx cp ct env x p f ha hp ht = refl
 
 mutual
   unfolding expanded fold_meaning meaning
 
   pub expansion_means : (e : Tree) (env : Environment) → fold_meaning (expanded e) env ≡ meaning e env
-  expansion_means (tree.literal l) env = refl
-  expansion_means (tree.name n) env = refl
   expansion_means (tree.select a f) env = selection_means (is_variables a) f (expanded a) (meaning a env) env (expansion_means a env)
   expansion_means (tree.index a k) env = λ j. index_of (expansion_means a env j) (expansion_means k env j)
   expansion_means (tree.unary op a) env = ap (unary_of op) (expansion_means a env)
@@ -149,14 +139,12 @@ mutual
   expansion_means (tree.ternary c a b) env = λ j. ternary_of (expansion_means c env j) (expansion_means a env j) (expansion_means b env j)
   expansion_means (tree.list items) env = ap list_literal (trees_mean items env)
   expansion_means (tree.map es) env = ap map_literal (entries_mean es env)
-  expansion_means (tree.call n no_trees) env = refl
   expansion_means (tree.call n (more_trees a no_trees)) env = call_means (is_has n) (field_name a) n (expanded_operand a) (expanded a) (operand_meaning a env) (meaning a env) env (operand_means a env) (expansion_means a env)
-  expansion_means (tree.call n (more_trees a (more_trees b more))) env = refl
   expansion_means (tree.method a n no_trees) env = ap (method_of (function_named n)) (expansion_means a env)
   expansion_means (tree.method a n (more_trees b no_trees)) env = λ j. text_test_of (test_named n) (expansion_means a env j) (expansion_means b env j)
   expansion_means (tree.method a n (more_trees x (more_trees p no_trees))) env = fold_means (macro_named n) (name_of x) n (expanded a) (expanded x) (expanded p) env (meaning a env) (λ i v. meaning p (bind i v env)) (expansion_means a env) (λ i v. expansion_means p (bind i v env))
   expansion_means (tree.method a n (more_trees x (more_trees p (more_trees t no_trees)))) env = fold_map_means (is_map n) (name_of x) n (expanded a) (expanded x) (expanded p) (expanded t) env (meaning a env) (λ i v. meaning p (bind i v env)) (λ i v. meaning t (bind i v env)) (expansion_means a env) (λ i v. expansion_means p (bind i v env)) (λ i v. expansion_means t (bind i v env))
-  expansion_means (tree.method a n (more_trees x (more_trees p (more_trees t (more_trees u more))))) env = refl
+  expansion_means _ env = refl
 
   operand_means : (a : Tree) (env : Environment) → IfSome (field_name a) (λ f. fold_meaning (expanded_operand a) env ≡ operand_meaning a env)
   operand_means (tree.select a f) env = expansion_means a env

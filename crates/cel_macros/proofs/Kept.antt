@@ -19,8 +19,7 @@ push_is (v ∷ vs) w = ap (item v) (push_is vs w)
 
 pub still_error : (t : Truth) → when_true t error error ≡ error
 still_error Yes = refl
-still_error No = refl
-still_error Other = refl
+still_error _ = refl
 
 count_error : (f : Value → ValueOrError) (items : List Value) → fold (step_of ExistsOne f) error items ≡ error
 count_error f [] = refl

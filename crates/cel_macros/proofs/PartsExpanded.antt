@@ -20,38 +20,23 @@ selection_name false f a = refl
 
 call_name : (b : Bool) (k : Option (List ℕ)) (n : List ℕ) (inner a : CoreTree) → core_name (call_or_has b k n inner a) ≡ None
 call_name true (Some f) n inner a = refl
-call_name true None n inner a = refl
-call_name false k n inner a = refl
+call_name _ _ n inner a = refl
 
 fold_name : (m : Option Macro) (k : Option (List ℕ)) (n : List ℕ) (a x p : CoreTree) → core_name (method_or_fold m k n a x p) ≡ None
 fold_name (Some m) (Some i) n a x p = refl
-fold_name (Some m) None n a x p = refl
-fold_name None k n a x p = refl
+fold_name _ _ n a x p = refl
 
 fold_map_name : (b : Bool) (k : Option (List ℕ)) (n : List ℕ) (a x p t : CoreTree) → core_name (method_or_fold_map b k n a x p t) ≡ None
 fold_map_name true (Some i) n a x p t = refl
-fold_map_name true None n a x p t = refl
-fold_map_name false k n a x p t = refl
+fold_map_name _ _ n a x p t = refl
 
 name_stays : (x : Tree) → core_name (expanded x) ≡ name_of x
 unfolding expanded
-name_stays (tree.name n) = refl
 name_stays (tree.select a f) = selection_name (is_variables a) f (expanded a)
-name_stays (tree.call n no_trees) = refl
 name_stays (tree.call n (more_trees a no_trees)) = call_name (is_has n) (field_name a) n (expanded_operand a) (expanded a)
-name_stays (tree.call n (more_trees a (more_trees b more))) = refl
-name_stays (tree.method a n no_trees) = refl
-name_stays (tree.method a n (more_trees b no_trees)) = refl
 name_stays (tree.method a n (more_trees x (more_trees p no_trees))) = fold_name (macro_named n) (name_of x) n (expanded a) (expanded x) (expanded p)
 name_stays (tree.method a n (more_trees x (more_trees p (more_trees t no_trees)))) = fold_map_name (is_map n) (name_of x) n (expanded a) (expanded x) (expanded p) (expanded t)
-name_stays (tree.method a n (more_trees x (more_trees p (more_trees t (more_trees u more))))) = refl
-name_stays (tree.literal l) = refl
-name_stays (tree.index a k) = refl
-name_stays (tree.unary op a) = refl
-name_stays (tree.binary op a b) = refl
-name_stays (tree.ternary c a b) = refl
-name_stays (tree.list items) = refl
-name_stays (tree.map es) = refl
+name_stays _ = refl
 
 -- of the macro `has` by what is selected, of a call by its argument
 abbrev Selects : CoreTree → Option (List ℕ) → CoreTree → Type 0
@@ -64,24 +49,20 @@ no_selection a inner e false n = refl
 selection_selects : (b : Bool) (a : Tree) (f : List ℕ) → is_variables a ≡ b → Selects (selection b f (expanded a)) (Some f) (expanded a)
 unfolding expanded
 selection_selects true a f e true n = ap (λ t. call_or_has true (Some f) n (expanded t) (selection true f (expanded a))) (variables_back a e)
-selection_selects true a f e false n = refl
 selection_selects false a f e true n = refl
-selection_selects false a f e false n = refl
+selection_selects _ a f e _ n = refl
 
 call_selects : (b : Bool) (k : Option (List ℕ)) (n : List ℕ) (inner a : CoreTree) → core_selection (call_or_has b k n inner a) ≡ None
 call_selects true (Some f) n inner a = refl
-call_selects true None n inner a = refl
-call_selects false k n inner a = refl
+call_selects _ _ n inner a = refl
 
 fold_selects : (m : Option Macro) (k : Option (List ℕ)) (n : List ℕ) (a x p : CoreTree) → core_selection (method_or_fold m k n a x p) ≡ None
 fold_selects (Some m) (Some i) n a x p = refl
-fold_selects (Some m) None n a x p = refl
-fold_selects None k n a x p = refl
+fold_selects _ _ n a x p = refl
 
 fold_map_selects : (b : Bool) (k : Option (List ℕ)) (n : List ℕ) (a x p t : CoreTree) → core_selection (method_or_fold_map b k n a x p t) ≡ None
 fold_map_selects true (Some i) n a x p t = refl
-fold_map_selects true None n a x p t = refl
-fold_map_selects false k n a x p t = refl
+fold_map_selects _ _ n a x p t = refl
 
 selection_stays : (a : Tree) → Selects (expanded a) (field_name a) (expanded_operand a)
 unfolding expanded
@@ -89,49 +70,26 @@ selection_stays (tree.select a f) = selection_selects (is_variables a) a f refl
 selection_stays (tree.name n) = no_selection (expanded (tree.name n)) (expanded_operand (tree.name n)) refl
 selection_stays (tree.call n no_trees) = no_selection (expanded (tree.call n no_trees)) (expanded_operand (tree.call n no_trees)) refl
 selection_stays (tree.call n (more_trees a no_trees)) = no_selection _ _ (call_selects (is_has n) (field_name a) n (expanded_operand a) (expanded a))
-selection_stays (tree.call n (more_trees a (more_trees b more))) = no_selection _ _ refl
-selection_stays (tree.method a n no_trees) = no_selection _ _ refl
-selection_stays (tree.method a n (more_trees b no_trees)) = no_selection _ _ refl
 selection_stays (tree.method a n (more_trees x (more_trees p no_trees))) = no_selection _ _ (fold_selects (macro_named n) (name_of x) n (expanded a) (expanded x) (expanded p))
 selection_stays (tree.method a n (more_trees x (more_trees p (more_trees t no_trees)))) = no_selection _ _ (fold_map_selects (is_map n) (name_of x) n (expanded a) (expanded x) (expanded p) (expanded t))
-selection_stays (tree.method a n (more_trees x (more_trees p (more_trees t (more_trees u more))))) = no_selection _ _ refl
-selection_stays (tree.literal l) = no_selection _ _ refl
-selection_stays (tree.index a k) = no_selection _ _ refl
-selection_stays (tree.unary op a) = no_selection _ _ refl
-selection_stays (tree.binary op a b) = no_selection _ _ refl
-selection_stays (tree.ternary c a b) = no_selection _ _ refl
-selection_stays (tree.list items) = no_selection _ _ refl
-selection_stays (tree.map es) = no_selection _ _ refl
+selection_stays _ = no_selection _ _ refl
 
 -- ---- calls and methods
 
 pub call_expanded : (n : List ℕ) (ts : Trees) → expanded (tree.call n ts) ≡ call_of n (expanded_trees ts)
 unfolding expanded
-call_expanded n no_trees = refl
 call_expanded n (more_trees a no_trees) = sym (selection_stays a (is_has n) n)
-call_expanded n (more_trees a (more_trees b more)) = refl
+call_expanded n _ = refl
 
 pub method_expanded : (a : Tree) (n : List ℕ) (ts : Trees) → expanded (tree.method a n ts) ≡ method_of (expanded a) n (expanded_trees ts)
 unfolding expanded
-method_expanded a n no_trees = refl
-method_expanded a n (more_trees b no_trees) = refl
 method_expanded a n (more_trees x (more_trees p no_trees)) = ap (λ k. method_or_fold (macro_named n) k n (expanded a) (expanded x) (expanded p)) (sym (name_stays x))
 method_expanded a n (more_trees x (more_trees p (more_trees t no_trees))) = ap (λ k. method_or_fold_map (is_map n) k n (expanded a) (expanded x) (expanded p) (expanded t)) (sym (name_stays x))
-method_expanded a n (more_trees x (more_trees p (more_trees t (more_trees u more)))) = refl
-
-pub call_plain : (b : Bool) (n : List ℕ) (cs : CoreTrees) → b ≡ false → call_with b n cs ≡ call n cs
-call_plain b n no_cores e = refl
-call_plain false n (more_cores a no_cores) e = refl
-call_plain true n (more_cores a no_cores) e = absurd (true≢false e)
-call_plain b n (more_cores a (more_cores d more)) e = refl
+method_expanded a n _ = refl
 
 pub call_of_many : (b : Bool) (n : List ℕ) (items : List Core) → (length items ≡ 1 → ⊥) → call_with b n (cores (map core_view items)) ≡ call n (cores (map core_view items))
-call_of_many b n [] h = refl
 call_of_many b n (a ∷ []) h = absurd (h refl)
-call_of_many b n (a ∷ d ∷ items) h = refl
-
-pub call_of_one : (b : Bool) (n : List ℕ) (items : List Core) (a : Core) → items ≡ a ∷ [] → call_with b n (cores (map core_view items)) ≡ has_or_call b (core_selection (core_view a)) n (core_view a)
-call_of_one b n items a e = ap (λ xs. call_with b n (cores (map core_view xs))) e
+call_of_many b n _ h = refl
 
 -- ---- shapes
 
@@ -140,61 +98,24 @@ named (name i) e = (i, refl)
 named _ e = absurd (true≢false (sym e))
 
 pub pair_shape : (items : List Core) (x : Core) → 2 ≤ length items → length items < 3 → x ≡ get_or items 0 x → is_some (core_name (core_view x)) ≡ true → IsPair (map core_view items)
-pair_shape [] x h g e t = absurd (omega arith)
-pair_shape (a ∷ []) x h g e t = absurd (omega arith)
 pair_shape (a ∷ b ∷ []) x h g e t =
     let n = named (core_view x) t in
     (n.0, core_view b, λ j. (ap core_view (sym e) ∙ n.1) j ∷ core_view b ∷ [])
-pair_shape (a ∷ b ∷ d ∷ items) x h g e t = absurd (omega arith)
+pair_shape _ x h g e t = absurd (omega arith)
 
 pub triple_shape : (items : List Core) (x : Core) → 3 ≤ length items → length items < 4 → x ≡ get_or items 0 x → is_some (core_name (core_view x)) ≡ true → IsTriple (map core_view items)
-triple_shape [] x h g e t = absurd (omega arith)
-triple_shape (a ∷ []) x h g e t = absurd (omega arith)
-triple_shape (a ∷ b ∷ []) x h g e t = absurd (omega arith)
 triple_shape (a ∷ b ∷ d ∷ []) x h g e t =
     let n = named (core_view x) t in
     (n.0, core_view b, core_view d, λ j. (ap core_view (sym e) ∙ n.1) j ∷ core_view b ∷ core_view d ∷ [])
-triple_shape (a ∷ b ∷ d ∷ f ∷ items) x h g e t = absurd (omega arith)
-
-no_fold : (m : Option Macro) (k : Option (List ℕ)) (n : List ℕ) (a x p : CoreTree) → is_some k ≡ false → method_or_fold m k n a x p ≡ method a n (more_cores x (more_cores p no_cores))
-no_fold (Some m) None n a x p e = refl
-no_fold (Some m) (Some i) n a x p e = absurd (true≢false e)
-no_fold None k n a x p e = refl
-
-no_fold_map : (b : Bool) (k : Option (List ℕ)) (n : List ℕ) (a x p t : CoreTree) → is_some k ≡ false → method_or_fold_map b k n a x p t ≡ method a n (more_cores x (more_cores p (more_cores t no_cores)))
-no_fold_map true None n a x p t e = refl
-no_fold_map true (Some i) n a x p t e = absurd (true≢false e)
-no_fold_map false k n a x p t e = refl
-
-pub other_pair : (items : List Core) (x : Core) → 2 ≤ length items → length items < 4 → x ≡ get_or items 0 x → is_some (core_name (core_view x)) ≡ false → IsOther (map core_view items)
-other_pair [] x h g e t = absurd (omega arith)
-other_pair (a ∷ []) x h g e t = absurd (omega arith)
-other_pair (a ∷ b ∷ []) x h g e t = λ o n. no_fold (macro_named n) (core_name (core_view a)) n o (core_view a) (core_view b) (ap (λ y. is_some (core_name (core_view y))) (sym e) ∙ t)
-other_pair (a ∷ b ∷ d ∷ []) x h g e t = λ o n. no_fold_map (is_map n) (core_name (core_view a)) n o (core_view a) (core_view b) (core_view d) (ap (λ y. is_some (core_name (core_view y))) (sym e) ∙ t)
-other_pair (a ∷ b ∷ d ∷ f ∷ items) x h g e t = absurd (omega arith)
+triple_shape _ x h g e t = absurd (omega arith)
 
 pub other_few : (items : List Core) → length items < 2 → IsOther (map core_view items)
-other_few [] h = λ o n. refl
-other_few (a ∷ []) h = λ o n. refl
 other_few (a ∷ b ∷ items) h = absurd (omega arith)
+other_few _ h = λ o n. refl
 
 pub other_many : (items : List Core) → 3 < length items → IsOther (map core_view items)
-other_many [] h = absurd (omega arith)
-other_many (a ∷ []) h = absurd (omega arith)
-other_many (a ∷ b ∷ []) h = absurd (omega arith)
-other_many (a ∷ b ∷ d ∷ []) h = absurd (omega arith)
 other_many (a ∷ b ∷ d ∷ f ∷ items) h = λ o n. refl
-
--- three arguments without the last one
-pub triple_front : (front : List Core) (t : Core) → IsTriple (map core_view (front ++ t ∷ [])) → IsPair (map core_view front)
-triple_front [] t h = absurd (cc)
-triple_front (a ∷ []) t h = absurd (cc)
-triple_front (a ∷ b ∷ []) t h = (h.0, core_view b, let e : core_view a ≡ name h.0 = cc in λ j. e j ∷ core_view b ∷ [])
-triple_front (a ∷ b ∷ d ∷ []) t h = absurd (cc)
-triple_front (a ∷ b ∷ d ∷ f ∷ front) t h = absurd (cc)
-
-pub folded_map_is : (front : List Core) (t : Core) (i : List ℕ) (p c o : CoreTree) (items : List Core) → items ≡ front ++ t ∷ [] → map core_view front ≡ name i ∷ p ∷ [] → c ≡ fold_map i o p (core_view t) → IsFoldMap c o (map core_view items)
-folded_map_is front t i p c o items e f h = (i, p, core_view t, ap (map core_view) e ∙ map-append core_view front (t ∷ []) ∙ ap (λ xs. xs ++ core_view t ∷ []) f, h)
+other_many _ h = absurd (omega arith)
 
 -- ---- lists of parts
 

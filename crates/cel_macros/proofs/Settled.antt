@@ -11,14 +11,10 @@ use Rattle.cel_macros.proofs.Kept.{still_error}
 
 all_stays : (acc x : ValueOrError) → is_no (truth acc) ≡ true → and_of acc x ≡ acc
 all_stays (value (boolean false)) x e = ap of_truth (no_and (truth x))
-all_stays (value (boolean true)) x e = absurd (true≢false (sym e))
-all_stays error x e = absurd (true≢false (sym e))
 all_stays _ x e = absurd (true≢false (sym e))
 
 exists_stays : (acc x : ValueOrError) → is_yes (truth acc) ≡ true → or_of acc x ≡ acc
 exists_stays (value (boolean true)) x e = ap of_truth (yes_or (truth x))
-exists_stays (value (boolean false)) x e = absurd (true≢false (sym e))
-exists_stays error x e = absurd (true≢false (sym e))
 exists_stays _ x e = absurd (true≢false (sym e))
 
 pub settled_stays : SettledStays
@@ -27,6 +23,4 @@ settled_stays Exists f acc v e = exists_stays acc (f v) e
 settled_stays ExistsOne f error v e = still_error (truth (f v))
 settled_stays Filter f error v e = still_error (truth (f v))
 settled_stays Map f error v e = refl
-settled_stays ExistsOne f (value a) v e = absurd (true≢false (sym e))
-settled_stays Filter f (value a) v e = absurd (true≢false (sym e))
-settled_stays Map f (value a) v e = absurd (true≢false (sym e))
+settled_stays _ f (value a) v e = absurd (true≢false (sym e))

@@ -66,8 +66,7 @@ module _ (P : ℤ → Type 0) (S : Type 0) (fitting : (z : ℤ) → fits z ≡ t
 
   of_truths : (t : Truth) → Is (of_truth t)
   of_truths Yes = tt
-  of_truths No = tt
-  of_truths Other = tt
+  of_truths _ = tt
 
   one_of : (t : Truth) (a b : ValueOrError) → Is a → Is b → Is (chosen t a b error)
   one_of Yes a b h k = h
@@ -86,9 +85,8 @@ module _ (P : ℤ → Type 0) (S : Type 0) (fitting : (z : ℤ) → fits z ≡ t
   told None = tt
 
   compared : (test : Value → Value → Option Bool) (x y : ValueOrError) → Is (on_values test x y)
-  compared test error y = tt
-  compared test (value a) error = tt
   compared test (value a) (value b) = told (test a b)
+  compared test _ _ = tt
 
   a_quotient : (a b : ℤ) → Is (quotient a b)
   a_quotient a b = by (is_zero b)
@@ -114,8 +112,7 @@ module _ (P : ℤ → Type 0) (S : Type 0) (fitting : (z : ℤ) → fits z ≡ t
 
   on_two : (f : ℤ → ℤ → ValueOrError) (a b : Option ℤ) → ((m n : ℤ) → P m → P n → Is (f m n)) → Int a → Int b → Is (on_ints f a b)
   on_two f (Some a) (Some b) step h k = step a b h k
-  on_two f (Some a) None step h k = tt
-  on_two f None b step h k = tt
+  on_two f _ _ step h k = tt
 
   abbrev AnAddend : Addend → Type 0
   AnAddend (Number z) = P z
@@ -146,18 +143,14 @@ module _ (P : ℤ → Type 0) (S : Type 0) (fitting : (z : ℤ) → fits z ≡ t
   by_binary : (op : BinaryOperator) (x y : ValueOrError) → Is x → Is y → Is (binary_of op x y)
   by_binary binary.Or x y h k = of_truths (disjunction (truth x) (truth y))
   by_binary binary.And x y h k = of_truths (conjunction (truth x) (truth y))
-  by_binary binary.Less x y h k = compared _ x y
-  by_binary binary.LessEqual x y h k = compared _ x y
-  by_binary binary.GreaterEqual x y h k = compared _ x y
-  by_binary binary.Greater x y h k = compared _ x y
   by_binary binary.Equal x y h k = compared (λ a b. Some (equal a b)) x y
   by_binary binary.NotEqual x y h k = compared (λ a b. Some (not (equal a b))) x y
-  by_binary binary.In x y h k = compared _ x y
   by_binary binary.Add x y h k = summed (addend x) (addend y) (addend_in x h) (addend_in y k)
   by_binary binary.Subtract x y h k = on_two difference (int_part x) (int_part y) (λ m n a b. an_int (m -ℤ n)) (int_in x h) (int_in y k)
   by_binary binary.Multiply x y h k = on_two product (int_part x) (int_part y) (λ m n a b. an_int (m *ℤ n)) (int_in x h) (int_in y k)
   by_binary binary.Divide x y h k = on_two quotient (int_part x) (int_part y) (λ m n a b. a_quotient m n) (int_in x h) (int_in y k)
   by_binary binary.Remainder x y h k = on_two remainder (int_part x) (int_part y) a_remainder (int_in x h) (int_in y k)
+  by_binary _ x y h k = compared _ x y
 
   -- ---- functions
 
@@ -184,14 +177,11 @@ module _ (P : ℤ → Type 0) (S : Type 0) (fitting : (z : ℤ) → fits z ≡ t
 
   by_test : (t : Option TextTest) (a b : Option (List ℕ)) → Is (test_texts t a b)
   by_test (Some t) (Some a) (Some b) = tt
-  by_test (Some t) (Some a) None = tt
-  by_test (Some t) None b = tt
-  by_test None a b = tt
+  by_test _ _ _ = tt
 
   by_call : (b : Bool) (f : Option (List ℕ)) (g : Option Function) (x y : ValueOrError) → (g ≡ Some Size → S) → Is y → Is (called b f g x y)
   by_call true (Some f) g x y s h = a_test P f (entries_part x)
-  by_call true None g x y s h = by_function g y s h
-  by_call false f g x y s h = by_function g y s h
+  by_call _ _ g x y s h = by_function g y s h
 
   module _ (small : (z : ℤ) → FitsSigned w64 z → P z) where
     mutual
@@ -207,10 +197,8 @@ module _ (P : ℤ → Type 0) (S : Type 0) (fitting : (z : ℤ) → fits z ≡ t
       stays (tree.ternary c a b) env w s h = one_of (truth (meaning c env)) (meaning a env) (meaning b env) (stays a env w.1 s.1 h) (stays b env w.2 s.2 h)
       stays (tree.list items) env w s h = a_list_literal P (meanings items env) (each_stays items env w s h)
       stays (tree.map es) env w s h = a_map P (entries_in (entry_meanings es env)) (all_entries P (entry_meanings es env) (entries_stay es env w s h))
-      stays (tree.call n no_trees) env w s h = tt
       stays (tree.call n (more_trees a no_trees)) env w s h = by_call (is_has n) (field_name a) (function_named n) (operand_meaning a env) (meaning a env) s.0
           (stays a env w.1.0 s.1.0 h)
-      stays (tree.call n (more_trees a (more_trees b more))) env w s h = tt
       stays (tree.method a n no_trees) env w s h = by_method (function_named n) (meaning a env) s.1
       stays (tree.method a n (more_trees b no_trees)) env w s h = by_test (test_named n) (text_part (meaning a env)) (text_part (meaning b env))
       stays (tree.method a n (more_trees x (more_trees p no_trees))) env w s h =
@@ -219,7 +207,7 @@ module _ (P : ℤ → Type 0) (S : Type 0) (fitting : (z : ℤ) → fits z ≡ t
       stays (tree.method a n (more_trees x (more_trees p (more_trees t no_trees)))) env w s h =
           map_over P (is_map n) (name_of x) (λ i v. meaning p (bind i v env)) (λ i v. meaning t (bind i v env)) (range_of (meaning a env))
           (λ i v k. stays t (bind i v env) w.2.1.1.0 s.2.1.1.0 (within P i v env k h)) (range_in P (meaning a env) (stays a env w.0 s.0 h))
-      stays (tree.method a n (more_trees x (more_trees p (more_trees t (more_trees u more))))) env w s h = tt
+      stays _ env w s h = tt
 
       each_stays : (ts : Trees) (env : Environment) → AreWellFormed ts → AtSizes S ts → NamesValues P env → AllByRecursion Is (meanings ts env)
       each_stays no_trees env w s h = tt
@@ -232,8 +220,6 @@ module _ (P : ℤ → Type 0) (S : Type 0) (fitting : (z : ℤ) → fits z ≡ t
 
 mutual
   any_size : (e : Tree) → AtSize ⊤ e
-  any_size (tree.literal l) = tt
-  any_size (tree.name n) = tt
   any_size (tree.select a f) = any_size a
   any_size (tree.index a k) = (any_size a, any_size k)
   any_size (tree.call n arguments) = ((λ e. tt), any_sizes arguments)
@@ -243,6 +229,7 @@ mutual
   any_size (tree.ternary c a b) = (any_size c, any_size a, any_size b)
   any_size (tree.list items) = any_sizes items
   any_size (tree.map es) = any_entry_sizes es
+  any_size _ = tt
 
   any_sizes : (ts : Trees) → AtSizes ⊤ ts
   any_sizes no_trees = tt

@@ -80,9 +80,8 @@ module _ (P : ℤ → Type 0) where
       → HasValues P (entry k v more) → IfSome rest (HasValues P)
       → IfSome (inserted_by o key x k v more rest) (HasValues P)
   put_by Less key x k v more rest u a h r = (u, a, h)
-  put_by Equal key x k v more rest u a h r = tt
-  put_by Greater key x k v more None u a h r = tt
   put_by Greater key x k v more (Some es) u a h r = (h.0, h.1, r)
+  put_by _ key x k v more _ u a h r = tt
 
   pub put : (key : List ℕ) (x : Value) (es : Entries) → IsUtf8 key → IsValue P x → HasValues P es → IfSome (inserted key x es) (HasValues P)
   put key x no_entries u a h = (u, a, tt)
@@ -121,9 +120,8 @@ module _ (P : ℤ → Type 0) where
 
   pub one_more : (x : ValueOrError) (o : Option (List Value)) → Is x → IfSome o (AllByRecursion (IsValue P))
       → IfSome (with_value x o) (AllByRecursion (IsValue P))
-  one_more error o h k = tt
-  one_more (value v) None h k = tt
   one_more (value v) (Some vs) h k = (h, k)
+  one_more _ _ h k = tt
 
   pub all_values : (xs : List ValueOrError) → AllByRecursion Is xs → IfSome (values_in xs) (AllByRecursion (IsValue P))
   all_values [] h = tt
@@ -149,9 +147,7 @@ module _ (P : ℤ → Type 0) where
 
   pub one_entry : (k : Option (List ℕ)) (x : ValueOrError) (o : Option Entries) → IfSome k IsUtf8 → Is x → IfSome o InOrder → IfSome (with_entry k x o) InOrder
   one_entry (Some k) (value v) (Some es) u h i = both (inserted k v es) (inserted_in_order k v es i.0) (put k v es u h i.1)
-  one_entry (Some k) (value v) None u h i = tt
-  one_entry (Some k) error o u h i = tt
-  one_entry None x o u h i = tt
+  one_entry _ _ _ u h i = tt
 
   pub all_entries : (es : List (ValueOrError × ValueOrError)) → AllByRecursion (λ e. Is e.0 × Is e.1) es → IfSome (entries_in es) InOrder
   all_entries [] h = (no_keys, tt)
@@ -179,9 +175,8 @@ module _ (P : ℤ → Type 0) where
   each_is f (v ∷ vs) s h = (s v h.0, each_is f vs s h.1)
 
   pub a_truth : (b c : Bool) (x y : Bool) → Is (cond b (value (boolean x)) (cond c (value (boolean y)) error))
-  a_truth true c x y = tt
   a_truth false true x y = tt
-  a_truth false false x y = tt
+  a_truth _ _ x y = tt
 
   pub one_truth : (b : Bool) (x : Bool) → Is (cond b error (value (boolean x)))
   one_truth true x = tt
@@ -210,16 +205,12 @@ module _ (P : ℤ → Type 0) where
   pub over : (m : Option Macro) (n : Option (List ℕ)) (f : List ℕ → Value → ValueOrError) (r : Option (List Value)) → ((i : List ℕ) → Step (f i))
       → IfSome r (AllByRecursion (IsValue P)) → Is (over_range m n f r)
   over (Some m) (Some n) f (Some vs) s h = by_macro m (f n) vs (s n) h
-  over (Some m) (Some n) f None s h = tt
-  over (Some m) None f r s h = tt
-  over None n f r s h = tt
+  over _ _ f _ s h = tt
 
   pub map_over : (b : Bool) (n : Option (List ℕ)) (p f : List ℕ → Value → ValueOrError) (r : Option (List Value)) → ((i : List ℕ) → Step (f i))
       → IfSome r (AllByRecursion (IsValue P)) → Is (map_over_range b n p f r)
   map_over true (Some n) p f (Some vs) s h = among (λ x. truth (p n x)) (map_of (f n)) vs (λ ws k. a_list_literal (each (f n) ws) (each_is (f n) ws (s n) k)) h
-  map_over true (Some n) p f None s h = tt
-  map_over true None p f r s h = tt
-  map_over false n p f r s h = tt
+  map_over _ _ p f _ s h = tt
 
   -- ---- names
 
@@ -271,8 +262,7 @@ module _ (P : ℤ → Type 0) where
   pub a_literal : (l : Literal) → IsWellFormedLiteral l → ((z : ℤ) → FitsSigned w64 z → P z) → Is (literal_of l)
   a_literal (tree.int z) h f = f z h
   a_literal (tree.text s) h f = h
-  a_literal (tree.truth b) h f = tt
-  a_literal tree.null h f = tt
+  a_literal _ h f = tt
 
   pub a_selection : (b : Bool) (f : List ℕ) (x : ValueOrError) (env : Environment) → Is x → NamesValues P env → Is (selected b f x env)
   a_selection true f x env h k = a_variable f env k

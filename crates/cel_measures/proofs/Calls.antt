@@ -11,6 +11,5 @@ need_of_none (a ∷ items) h = absurd (omega arith)
 
 pub need_of_many : (items : List Core) → 1 < length items → call_need (cores (map core_view items)) ≡ 1 + needs (cores (map core_view items))
 unfolding call_need
-need_of_many [] h = absurd (omega arith)
-need_of_many (a ∷ []) h = absurd (omega arith)
 need_of_many (a ∷ b ∷ items) h = refl
+need_of_many _ h = absurd (omega arith)

@@ -62,9 +62,8 @@ entry_need (more_core_entries k v more) = ap (λ n. max (max (1 + need k) (2 + n
 
 a_call : (cs : CoreTrees) → source.call_need (each_core need cs) ≡ call_need cs
 unfolding need
-a_call no_cores = refl
-a_call (more_cores a no_cores) = refl
 a_call (more_cores a (more_cores b more)) = ap (λ k. 1 + max (need a) (max (need b) k)) (greatest_need more)
+a_call _ = refl
 
 need_table : IsBy need_by need
 unfolding need

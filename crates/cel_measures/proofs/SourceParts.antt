@@ -52,20 +52,17 @@ module _ {R : Type 0} (by : Parts R → R) (m : CoreTree → R) (table : IsBy by
 
   a_call : (b : Bool) (k : Option (List ℕ)) (n : List ℕ) (inner a : CoreTree) → by (called (m a ∷ []) b (operand k inner)) ≡ m (call_or_has b k n inner a)
   a_call true (Some f) n inner a = table.has inner f
-  a_call true None n inner a = table.call n (more_cores a no_cores)
-  a_call false k n inner a = table.call n (more_cores a no_cores)
+  a_call _ _ n inner a = table.call n (more_cores a no_cores)
 
   a_fold : (w : Option Macro) (b : Bool) (k : Option (List ℕ)) (n : List ℕ) (a x p : CoreTree)
       → by (by_method (m a) (m x ∷ m p ∷ []) w b k) ≡ m (method_or_fold w k n a x p)
   a_fold (Some w) b (Some i) n a x p = table.fold w i a p
-  a_fold (Some w) b None n a x p = table.method a n (more_cores x (more_cores p no_cores))
-  a_fold None b k n a x p = table.method a n (more_cores x (more_cores p no_cores))
+  a_fold _ b _ n a x p = table.method a n (more_cores x (more_cores p no_cores))
 
   a_fold_map : (w : Option Macro) (b : Bool) (k : Option (List ℕ)) (n : List ℕ) (a x p t : CoreTree)
       → by (by_method (m a) (m x ∷ m p ∷ m t ∷ []) w b k) ≡ m (method_or_fold_map b k n a x p t)
   a_fold_map w true (Some i) n a x p t = table.fold_map i a p t
-  a_fold_map w true None n a x p t = table.method a n (more_cores x (more_cores p (more_cores t no_cores)))
-  a_fold_map w false k n a x p t = table.method a n (more_cores x (more_cores p (more_cores t no_cores)))
+  a_fold_map w _ _ n a x p t = table.method a n (more_cores x (more_cores p (more_cores t no_cores)))
 
   mutual
     unfolding measured expanded

@@ -31,49 +31,42 @@ same = here refl refl
 -- both begin with the same word, or there is none
 abbrev pub SameHead : List Word → List Word → Type 0
 SameHead [] [] = Unit {0}
-SameHead [] (u ∷ us) = ⊥
-SameHead (w ∷ ws) [] = ⊥
 SameHead (w ∷ ws) (u ∷ us) = u ≡ w
+SameHead _ _ = ⊥
 
 pub head_same : (w : Word) (ws us vs : List Word) → ws ≡ w ∷ us → SameHead ws (w ∷ vs)
 head_same w ws us vs e = subst (λ (x : List Word). SameHead x (w ∷ vs)) (sym e) refl
 
 pub not_at_too : (m : Mark) (ws us : List Word) → SameHead ws us → NotAt m ws → NotAt m us
 not_at_too m [] [] h n = tt
-not_at_too m [] (u ∷ us) h n = absurd h
-not_at_too m (w ∷ ws) [] h n = absurd h
 not_at_too m (w ∷ ws) (u ∷ us) h n = λ e. n (sym h ∙ e)
+not_at_too m _ _ h n = absurd h
 
 pub no_operator_too : (l : Level) (ws us : List Word) → SameHead ws us → NoOperator l ws → NoOperator l us
 no_operator_too l [] [] h n = tt
-no_operator_too l [] (u ∷ us) h n = absurd h
-no_operator_too l (w ∷ ws) [] h n = absurd h
 no_operator_too l (w ∷ ws) (u ∷ us) h n = subst (λ (x : Word). NoOperator l (x ∷ us)) (sym h) n
+no_operator_too l _ _ h n = absurd h
 
 pub no_literal_too : (ws us : List Word) → SameHead ws us → NoLiteral ws → NoLiteral us
 no_literal_too [] [] h n = tt
-no_literal_too [] (u ∷ us) h n = absurd h
-no_literal_too (w ∷ ws) [] h n = absurd h
 no_literal_too (w ∷ ws) (u ∷ us) h n = subst (λ (x : Word). literal_of x ≡ None) (sym h) n
+no_literal_too _ _ h n = absurd h
 
 pub no_selector_too : (ws us : List Word) → SameHead ws us → NoSelector ws → NoSelector us
 no_selector_too [] [] h n = tt
-no_selector_too [] (u ∷ us) h n = absurd h
-no_selector_too (w ∷ ws) [] h n = absurd h
 no_selector_too (w ∷ ws) (u ∷ us) h n = λ k e. n k (sym h ∙ e)
+no_selector_too _ _ h n = absurd h
 
 pub no_identifier_too : (ws us : List Word) → SameHead ws us → NoIdentifier ws → NoIdentifier us
 no_identifier_too [] [] h n = tt
-no_identifier_too [] (u ∷ us) h n = absurd h
-no_identifier_too (w ∷ ws) [] h n = absurd h
 no_identifier_too (w ∷ ws) (u ∷ us) h n = λ k e. n k (sym h ∙ e)
+no_identifier_too _ _ h n = absurd h
 
 -- the same head, the other way round
 heads : (ws us vs : List Word) (w : Word) → SameHead ws us → us ≡ w ∷ vs → (xs : List Word) × (ws ≡ w ∷ xs)
 heads [] [] vs w h e = absurd cc
-heads [] (u ∷ us) vs w h e = absurd h
-heads (x ∷ ws) [] vs w h e = absurd h
 heads (x ∷ ws) (u ∷ us) vs w h e = let f : x ∷ ws ≡ w ∷ ws = cc in (ws, f)
+heads _ _ vs w h e = absurd h
 
 comma_first : (m : Mark) (ws us : List Word) → ws ≡ mark Comma ∷ us → NotAt m ws → mark Comma ≡ mark m → ⊥
 comma_first m ws us e n f = subst (λ (x : List Word). NotAt m x) e n f
@@ -88,8 +81,7 @@ goes_too c ws us h g n rest (inr p) = let x = heads ws us (mark (closing_mark c)
 
 no_closing : (c : Closing) → mark Comma ≡ mark (closing_mark c) → ⊥
 no_closing Call e = absurd cc
-no_closing ListLiteral e = absurd cc
-no_closing Map e = absurd cc
+no_closing _ e = absurd cc
 
 first_of : (w u : Word) (ws us : List Word) → w ∷ ws ≡ u ∷ us → w ≡ u
 first_of w u ws us e = cc

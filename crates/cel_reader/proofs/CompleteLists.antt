@@ -32,8 +32,7 @@ at_enclosed m room ws rest a f o (reads.enclosed_closed {inner = inner} {us = u}
 
 comma_closes_none : {P : Type 0} (c : Closing) (x y : List Word) → mark Comma ∷ x ≡ mark (closing_mark c) ∷ y → P
 comma_closes_none Call x y e = absurd cc
-comma_closes_none ListLiteral x y e = absurd cc
-comma_closes_none Map x y e = absurd cc
+comma_closes_none _ x y e = absurd cc
 
 -- a list ends in one way
 closes_same : (c : Closing) (ws x y : List Word) → Closes c ws x → Closes c ws y → x ≡ y

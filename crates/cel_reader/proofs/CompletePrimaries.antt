@@ -27,13 +27,8 @@ mark_no_literal m us vs w v e is =
 
 -- no identifier is a literal
 plain_no_literal : (named : Bool) (r : Role) (v : Literal) → (named && may_stand_free r) ≡ true → literal_role r ≡ Some v → ⊥
-plain_no_literal false r v e f = let g : false ≡ true = e in cc
-plain_no_literal true role.True v e f = let g : false ≡ true = e in cc
-plain_no_literal true role.False v e f = let g : false ≡ true = e in cc
-plain_no_literal true role.Null v e f = let g : false ≡ true = e in cc
-plain_no_literal true role.In v e f = let g : false ≡ true = e in cc
-plain_no_literal true role.Reserved v e f = let g : false ≡ true = e in cc
 plain_no_literal true role.Plain v e f = let g : None ≡ Some v = f in cc
+plain_no_literal _ _ v e f = let g : false ≡ true = e in cc
 
 name_no_literal : {P : Type 0} (n : List ℕ) (us vs : List Word) (w : Word) (v : Literal) → is_identifier n ≡ true → name n ∷ us ≡ w ∷ vs → literal_of w ≡ Some v → P
 name_no_literal n us vs w v is e found =

@@ -102,10 +102,9 @@ no_unary unary.Not ws us n m e = absurd (not_at Not ws us n e)
 no_unary unary.Negate ws us n m e = absurd (not_at Minus ws us m e)
 
 same_unary : (op other : UnaryOperator) (us vs : List Word) → mark (unary_mark op) ∷ us ≡ mark (unary_mark other) ∷ vs → other ≡ op
-same_unary unary.Not unary.Not us vs e = refl
 same_unary unary.Not unary.Negate us vs e = absurd cc
 same_unary unary.Negate unary.Not us vs e = absurd cc
-same_unary unary.Negate unary.Negate us vs e = refl
+same_unary _ _ us vs e = refl
 
 prefix_run : (op k : UnaryOperator) (room : ℕ) (ws us : List Word) (o : Outcome) → mark (unary_mark op) ∷ ws ≡ mark (unary_mark k) ∷ us → Reads (Row (Prefixed k)) room us o → Reads (Row (Prefixed op)) room ws o
 prefix_run op k room ws us o e r = turn r (ap (λ i. Row (Prefixed i)) (same_unary op k ws us e)) (tails ws us (mark (unary_mark op)) (mark (unary_mark k)) e)

@@ -64,17 +64,10 @@ inside {ws = ws} {rest = rest} tail (finishes more f) g = finishes (more ++ tail
 
 -- no bracket stands before the step
 abbrev Plain : Step → Type 0
-Plain (Row c) = Unit {0}
-Plain (Tail l a) = Unit {0}
-Plain (Suffix a) = Unit {0}
-Plain (Selection a) = Unit {0}
 Plain (Enclosed m) = ⊥
 Plain (Listed c) = ⊥
-Plain (Item c items) = Unit {0}
-Plain (Behind c items) = Unit {0}
 Plain Mapped = ⊥
-Plain (Entry pairs) = Unit {0}
-Plain (BehindEntry pairs) = Unit {0}
+Plain _ = Unit {0}
 
 -- what stands before a refusal goes on to the step's end; a bracket too many is in the step, or just before it
 pub data Ended : Step → ℕ → List Word → Outcome → Type 0 where
@@ -152,7 +145,6 @@ lone false c room inner ws us t z q = finishes (mark (closing_mark c) ∷ []) (�
 
 pub ended : {s : Step} {room : ℕ} {ws : List Word} {o : Outcome} → Reads s room ws o → Ended s room ws o
 ended (reads.expression_fails r) = raised tt (ended r) (λ by cut part. inside [] part (λ vs end f. (vs, same, (f.0, derives.plain f.1))))
-ended (reads.expression_plain r x) = got
 ended (reads.expression_deep {room = room} {a = a} r q z) = within {b = mark Question} (finishes (int (pos 0) ∷ mark Colon ∷ int (pos 0) ∷ []) (λ end.
     let d = carried (wide true (sound r)) (mark Question ∷ int (pos 0) ∷ mark Colon ∷ int (pos 0) ∷ end) in
     (d.0, over (down q same) d.1, (tree.ternary a nil nil, derives.conditional d.2 (nought_or room (mark Colon ∷ int (pos 0) ∷ end)) (nought_whole room end))))) refl (finishes [] (λ end.
@@ -171,27 +163,22 @@ ended (reads.else_fails {room = room} {inner = inner} {a = a} {b = b} r q z f g 
     let u = carried (wide by (sound f)) (mark Colon ∷ vs) in
     let d = carried (wide by (sound r)) (mark Question ∷ u.0) in
     (d.0, over (down q (over (down g same) u.1)) d.1, (tree.ternary a b k.0, roomy (derives.conditional (fitted d.2 i) u.2 k.1) i))))
-ended (reads.conditional r q z f g h) = got
 ended (reads.infix_fails {l = l} r) = raised tt (ended r) (λ by cut part. inside [] part (λ vs end f. (vs, same, (f.0, derives.operand l f.1))))
 ended (reads.infix_goes {l = l} r g) = raised tt (ended g) (λ by cut part. inside [] part (λ vs end f.
     let d = carried (wide by (sound r)) vs in
     (d.0, d.1, (f.0, f.1 d.0 (derives.operand l d.2)))))
-ended (reads.tail_stops x) = got
 ended (reads.tail_fails {a = a} {w = w} op x y q r) = raised tt (ended r) (λ by cut part. inside [] part (λ vs end f. (w ∷ vs, down q same, (tree.binary op a f.0, λ start d. derives.operation op x y d f.1))))
 ended (reads.tail_goes {w = w} op x y q r g) = raised tt (ended g) (λ by cut part. inside [] part (λ vs end f.
     let d = carried (wide by (sound r)) vs in
     (w ∷ d.0, down q d.1, (f.0, λ start h. f.1 start (derives.operation op x y h d.2)))))
 ended (reads.unary_member x y r) = raised tt (ended r) (λ by cut part. inside [] part (λ vs end f. (vs, same, (f.0, derives.unprefixed f.1))))
 ended (reads.unary_fails op q r) = raised tt (ended r) (λ by cut part. inside [] part (λ vs end f. (_, down q same, (tree.unary op f.0, derives.prefixed op f.1))))
-ended (reads.unary_goes op q r) = got
 ended (reads.prefixed_member op x r) = raised tt (ended r) (λ by cut part. inside [] part (λ vs end f. (vs, same, (f.0, derives.last_prefix op f.1))))
 ended (reads.prefixed_fails op q r) = raised tt (ended r) (λ by cut part. inside [] part (λ vs end f. (_, down q same, (tree.unary op f.0, derives.next_prefix op f.1))))
-ended (reads.prefixed_goes op q r) = got
 ended (reads.member_fails r) = raised tt (ended r) (λ by cut part. inside [] part (λ vs end f. (vs, same, (f.0, derives.whole f.1))))
 ended (reads.member_goes r g) = raised tt (ended g) (λ by cut part. inside [] part (λ vs end f.
     let d = carried (wide by (sound r)) vs in
     (d.0, d.1, (f.0, f.1 d.0 (derives.whole d.2)))))
-ended (reads.suffix_stops x y) = got
 ended (reads.dot_fails q r) = raised tt (ended r) (λ by cut part. inside [] part (λ vs end f. (mark Dot ∷ vs, down q same, (f.0, f.1))))
 ended (reads.dot_goes {room = room} q r g) = raised tt (ended g) (λ by cut part. inside [] part (λ vs end f.
     let d = selected r (enough by room) vs in
@@ -203,27 +190,18 @@ ended (reads.index_goes {room = room} q r g) = raised tt (ended g) (λ by cut pa
     let d = carried (wide by x.2) (mark CloseBracket ∷ vs) in
     (mark OpenBracket ∷ d.0, down q (over (down refl same) d.1), (f.0, λ start h. f.1 start (roomy (derives.indexing (fitted h i) d.2) i)))))
 ended (reads.no_selector {a = a} x) = misfit (finishes (name (codes "x") ∷ []) (λ end. (name (codes "x") ∷ end, same, (tree.select a (codes "x"), λ start d. derives.selection selects d))))
-ended (reads.selection q x g) = got
 ended (reads.method_fails {a = a} {n = n} q x g r) = raised_own (ended r) (λ by cut part. inside [] part (λ vs end f. (name n ∷ mark OpenParen ∷ vs, down q (down g same), (tree.method a n (trees f.0), λ start d. method_sound _ start _ _ vs end a n f.0 refl x refl d f.1)))) (λ rest k. (mark OpenParen, refl, finishes [] (λ end. (name n ∷ end, down q (here (g ∙ ap (λ (y : List Word). mark OpenParen ∷ y) k) refl), (tree.select a n, λ start d. derives.selection x d)))))
-ended (reads.method_call q x g r) = got
 ended (reads.no_primary {room = room} a b c d e) = misfit (finishes (int (pos 0) ∷ []) (λ end. (int (pos 0) ∷ end, same, (nil, nought_primary room end))))
 ended (reads.bracket {room = room} q r) = raised_own (ended r) (λ by cut part. inside [] part (λ vs end f. (mark OpenParen ∷ vs, down q same, (f.0, roomy (derives.bracket f.1.2) f.1.1)))) (λ rest k. (mark OpenParen, refl, finishes (int (pos 0) ∷ []) (λ end. (int (pos 0) ∷ end, here (q ∙ ap (λ (y : List Word). mark OpenParen ∷ y) k) refl, (nil, nought_primary room end)))))
 ended (reads.list_fails q r) = raised_own (ended r) (λ by cut part. inside [] part (λ vs end f. (mark OpenBracket ∷ vs, down q same, (tree.list (trees f.0), list_sound _ _ vs end f.0 refl f.1)))) (λ rest k. (mark OpenBracket, refl, finishes (int (pos 0) ∷ []) (λ end. (int (pos 0) ∷ end, here (q ∙ ap (λ (y : List Word). mark OpenBracket ∷ y) k) refl, (nil, nought_primary _ end)))))
-ended (reads.list_literal q r) = got
 ended (reads.map_fails q r) = raised_own (ended r) (λ by cut part. inside [] part (λ vs end f. (mark OpenBrace ∷ vs, down q same, (tree.map (entries f.0), map_sound _ _ vs end f.0 refl f.1)))) (λ rest k. (mark OpenBrace, refl, finishes (int (pos 0) ∷ []) (λ end. (int (pos 0) ∷ end, here (q ∙ ap (λ (y : List Word). mark OpenBrace ∷ y) k) refl, (nil, nought_primary _ end)))))
-ended (reads.map_literal q r) = got
-ended (reads.constant q l) = got
-ended (reads.identifier q x g) = got
 ended (reads.function_fails {n = n} q x g r) = raised_own (ended r) (λ by cut part. inside [] part (λ vs end f. (name n ∷ mark OpenParen ∷ vs, down q (down g same), (tree.call n (trees f.0), function_sound _ _ _ vs end n f.0 refl x refl f.1)))) (λ rest k. (mark OpenParen, refl, finishes [] (λ end. (name n ∷ end, down q (here (g ∙ ap (λ (y : List Word). mark OpenParen ∷ y) k) refl), (tree.name n, derives.identifier x)))))
-ended (reads.function_call q x g r) = got
 ended (reads.enclosed_deep {room = room} {m = m} z) = own (finishes (int (pos 0) ∷ mark m ∷ []) (λ end. (int (pos 0) ∷ mark m ∷ end, same, (nil, (room, refl, nought_whole room (mark m ∷ end)))))) (λ y. y) refl
 ended (reads.enclosed_fails {room = room} {inner = inner} {m = m} z r) = raised tt (ended r) (λ by cut part. inside (mark m ∷ []) part (λ vs end f. (vs, same, (f.0, (extra by inner, extra_inner by room inner z, f.1)))))
 ended (reads.enclosed_open {inner = inner} {m = m} {a = a} z r x) = misfit (finishes (mark m ∷ []) (λ end.
     let d = carried (sound r) (mark m ∷ end) in
     (d.0, d.1, (a, (inner, z, d.2)))))
-ended (reads.enclosed_closed z r q) = got
 ended (reads.list_deep {room = room} {c = c} z) = own (finishes (mark (closing_mark c) ∷ []) (λ end. (mark (closing_mark c) ∷ end, same, ([], (room, mark (closing_mark c) ∷ end, refl, derives.no_items, inl refl))))) (λ y. y) refl
-ended (reads.list_empty z x) = got
 ended (reads.list_comma {room = room} {inner = inner} {ws = ws} {us = us} {c = c} z g q) = misfit (lone (takes_comma c) c room inner ws us refl z q)
 ended (reads.list_items {room = room} {inner = inner} z g x r) = raised tt (ended r) (λ by cut part. inside [] part (λ vs end f.
     let y = f.1 vs (inl (refl, refl)) in
@@ -232,11 +210,9 @@ ended (reads.item_fails {c = c} {items = items} r) = raised tt (ended r) (λ by 
 ended (reads.item_goes {items = items} {a = a} r g) = raised tt (ended g) (λ by cut part. inside [] part (λ vs end f.
     let d = carried (wide by (sound r)) vs in
     (d.0, d.1, (f.0, λ start before. f.1 start (item_added _ start d.0 vs items a before d.2)))))
-ended (reads.items_end x) = got
 ended (reads.items_misfit {c = c} {items = items} g x) = misfit (finishes (mark (closing_mark c) ∷ []) (λ end. (mark (closing_mark c) ∷ end, same, (items, λ start d. (mark (closing_mark c) ∷ end, d, inl refl)))))
 ended (reads.items_go_on g q r) = raised tt (ended r) (λ by cut part. inside [] part (λ vs end f. (mark Comma ∷ vs, down q same, (f.0, λ start d. f.1 start (inr d)))))
 ended (reads.map_deep {room = room} z) = own (finishes (mark CloseBrace ∷ []) (λ end. (mark CloseBrace ∷ end, same, ([], (room, mark CloseBrace ∷ end, refl, derives.no_pairs, inl refl))))) (λ y. y) refl
-ended (reads.map_empty z x) = got
 ended (reads.map_comma {inner = inner} z g q) = misfit (finishes (mark CloseBrace ∷ []) (λ end. (mark Comma ∷ mark CloseBrace ∷ end, down q same, ([], (inner, mark Comma ∷ mark CloseBrace ∷ end, z, derives.no_pairs, inr (refl, refl))))))
 ended (reads.map_entries {room = room} {inner = inner} z g x r) = raised tt (ended r) (λ by cut part. inside [] part (λ vs end f.
     let y = f.1 vs (inl (refl, refl)) in
@@ -252,6 +228,6 @@ ended (reads.entry_goes {pairs = pairs} {a = a} {b = b} r q g h) = raised tt (en
     let u = carried (wide by (sound g)) vs in
     let d = carried (wide by (sound r)) (mark Colon ∷ u.0) in
     (d.0, over (down q u.1) d.1, (f.0, λ start before. f.1 start (pair_added _ start d.0 u.0 vs pairs a b before d.2 u.2)))))
-ended (reads.entries_end x) = got
 ended (reads.entries_misfit {pairs = pairs} g x) = misfit (finishes (mark CloseBrace ∷ []) (λ end. (mark CloseBrace ∷ end, same, (pairs, λ start d. (mark CloseBrace ∷ end, d, inl refl)))))
 ended (reads.entries_go_on g q r) = raised tt (ended r) (λ by cut part. inside [] part (λ vs end f. (mark Comma ∷ vs, down q same, (f.0, λ start d. f.1 start (inr d)))))
+ended _ = got

@@ -31,17 +31,13 @@ is_prefix other = false
 
 -- a word that a member begins with
 abbrev pub begins_member : Word → Bool
-begins_member (name n) = true
-begins_member (int z) = true
-begins_member (text bytes) = true
 begins_member (mark m) = opens_member m
+begins_member _ = true
 
 -- a word that an expression begins with
 abbrev pub begins : Word → Bool
-begins (name n) = true
-begins (int z) = true
-begins (text bytes) = true
 begins (mark m) = opens_member m || is_prefix m
+begins _ = true
 
 abbrev pub FirstIs : (Word → Bool) → List Word → Type 0
 FirstIs p [] = ⊥
@@ -49,16 +45,11 @@ FirstIs p (w ∷ ws) = p w ≡ true
 
 -- what the first word of a phrase of the row is
 abbrev pub Front : Class → List Word → Type 0
-Front Expression ws = FirstIs begins ws
-Front (Infix l) ws = FirstIs begins ws
-Front Unary ws = FirstIs begins ws
-Front (Prefixed op) ws = FirstIs begins ws
 Front Member ws = FirstIs begins_member ws
 Front Primary ws = FirstIs begins_member ws
-Front Items ws = FirstIs begins ws
-Front Pairs ws = FirstIs begins ws
 Front OptionalItems ws = Unit {0}
 Front OptionalPairs ws = Unit {0}
+Front _ ws = FirstIs begins ws
 
 either_way : (a b : Bool) → a ≡ true → (a || b) ≡ true
 either_way true b e = refl
@@ -66,27 +57,20 @@ either_way false b e = absurd (let f : false ≡ true = e in cc)
 
 begins_too : (ws : List Word) → FirstIs begins_member ws → FirstIs begins ws
 begins_too [] x = x
-begins_too (name n ∷ ws) x = refl
-begins_too (int z ∷ ws) x = refl
-begins_too (text bytes ∷ ws) x = refl
 begins_too (mark m ∷ ws) x = either_way (opens_member m) (is_prefix m) x
+begins_too _ x = refl
 
 below_begins : (l : Level) (ws : List Word) → Front (below l) ws → FirstIs begins ws
 below_begins Or ws x = x
-below_begins And ws x = x
-below_begins Relation ws x = x
-below_begins Sum ws x = x
-below_begins Product ws x = x
+below_begins _ ws x = x
 
 prefix_begins : (op : UnaryOperator) → begins (mark (unary_mark op)) ≡ true
 prefix_begins unary.Not = refl
 prefix_begins unary.Negate = refl
 
 literal_begins : (w : Word) (v : Literal) → literal_of w ≡ Some v → begins_member w ≡ true
-literal_begins (name n) v e = refl
-literal_begins (int z) v e = refl
-literal_begins (text bytes) v e = refl
 literal_begins (mark m) v e = absurd (let f : None ≡ Some v = e in cc)
+literal_begins _ v e = refl
 
 pub first : {c : Class} {room : ℕ} {ws : List Word} {p : Phrase} {rest : List Word} → Derives c room ws p rest → Front c ws
 first (derives.plain d) = first d
@@ -101,12 +85,7 @@ first (derives.whole d) = first d
 first (derives.selection is d) = first d
 first (derives.method_call is d e) = first d
 first (derives.indexing d e) = first d
-first (derives.identifier is) = refl
-first (derives.function_call is d) = refl
-first (derives.bracket d) = refl
 first (derives.constant {w = w} {v = v} x) = literal_begins w v x
-first (derives.list_literal d x) = refl
-first (derives.map_literal d x) = refl
 first (derives.no_items) = tt
 first (derives.some_items d) = tt
 first (derives.first_item d) = first d
@@ -115,6 +94,7 @@ first (derives.no_pairs) = tt
 first (derives.some_pairs d) = tt
 first (derives.first_pair d e) = first d
 first (derives.next_pair d e f) = first d
+first _ = refl
 
 -- another mark is first
 pub not_first : (p : Word → Bool) (m : Mark) (ws : List Word) → p (mark m) ≡ false → FirstIs p ws → NotAt m ws
@@ -126,8 +106,7 @@ mark_not_first m ws us none x e = let f : begins (mark m) ≡ true = subst (λ (
 
 pub closing_not_first : (c : Closing) → begins (mark (closing_mark c)) ≡ false
 closing_not_first Call = refl
-closing_not_first ListLiteral = refl
-closing_not_first Map = refl
+closing_not_first _ = refl
 
 -- where an expression begins, no list ends and no comma stands
 pub goes_on : (c : Closing) (ws : List Word) → FirstIs begins ws → GoesOn c ws

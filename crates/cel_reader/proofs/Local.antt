@@ -38,23 +38,15 @@ Near (Got p rest) ws us = SameHead ws us
 Near (Refused e) ws us = NearCause e ws us
 
 near : (o : Outcome) (ws us : List Word) → SameHead ws us → Near o ws us
-near (Got p rest) ws us h = h
-near (Refused (Misfit rest)) ws us h = h
 near (Refused (Deep rest)) ws us h = tt
+near _ ws us h = h
 
 -- and so is the first word of the step, unless a bracket stands before it
 abbrev Begun : Step → Outcome → List Word → List Word → Type 0
-Begun (Row c) o ws us = SameHead ws us
-Begun (Tail l a) o ws us = SameHead ws us
-Begun (Suffix a) o ws us = SameHead ws us
-Begun (Selection a) o ws us = SameHead ws us
 Begun (Enclosed m) o ws us = Near o ws us
 Begun (Listed c) o ws us = Near o ws us
-Begun (Item c items) o ws us = SameHead ws us
-Begun (Behind c items) o ws us = SameHead ws us
 Begun Mapped o ws us = Near o ws us
-Begun (Entry pairs) o ws us = SameHead ws us
-Begun (BehindEntry pairs) o ws us = SameHead ws us
+Begun _ o ws us = SameHead ws us
 
 -- the step before other words
 abbrev Again : Step → ℕ → List Word → Outcome → List Word → Type 0

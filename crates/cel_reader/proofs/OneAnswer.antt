@@ -73,13 +73,10 @@ data IsWrong (source : List ℕ) : ReadError → Type 0 where
   deep : (lexemes : List Lexeme) (count : ℕ) → Lexes source (Ok lexemes) → DeepAt count (spoken lexemes) → IsWrong source (P5 (place_at (length source) (drop count lexemes)))
 
 wrong : (source : List ℕ) (e : ReadError) → IsAnswer source (Err e) → IsWrong source e
-wrong source (P1 place) is = cut_off is.answers
-wrong source (P2 place) is = cut_off is.answers
-wrong source (P3 place) is = cut_off is.answers
 wrong source (P4 place) is = let at = is.placed.2 in subst (λ (n : ℕ). IsWrong source (P4 n)) (sym at.1) (misfit is.placed.0 at.0 is.placed.1 at.2)
 wrong source (P5 place) is = let at = is.placed.2 in subst (λ (n : ℕ). IsWrong source (P5 n)) (sym at.1) (deep is.placed.0 at.0 is.placed.1 at.2)
-wrong source (P6 place) is = cut_off is.answers
 wrong source Memory is = absurd (is.some refl)
+wrong source _ is = cut_off is.answers
 
 same_place : (source : List ℕ) (xs ys : List Lexeme) (count other : ℕ) → xs ≡ ys → count ≡ other → place_at (length source) (drop count xs) ≡ place_at (length source) (drop other ys)
 same_place source xs ys count other e f = ap (λ (n : ℕ). place_at (length source) (drop n xs)) f ∙ ap (λ (zs : List Lexeme). place_at (length source) (drop other zs)) e

@@ -19,29 +19,20 @@ Within room most (Refused (Misfit us)) = Unit {0}
 
 -- a bracket stands before these words
 abbrev Counted : Step → ℕ → List Word → Outcome → Type 0
-Counted (Row c) room ws o = Within room (openings ws) o
-Counted (Tail l a) room ws o = Within room (openings ws) o
-Counted (Suffix a) room ws o = Within room (openings ws) o
-Counted (Selection a) room ws o = Within room (openings ws) o
 Counted (Enclosed m) room ws o = Within room (suc (openings ws)) o
 Counted (Listed c) room ws o = Within room (suc (openings ws)) o
-Counted (Item c items) room ws o = Within room (openings ws) o
-Counted (Behind c items) room ws o = Within room (openings ws) o
 Counted Mapped room ws o = Within room (suc (openings ws)) o
-Counted (Entry pairs) room ws o = Within room (openings ws) o
-Counted (BehindEntry pairs) room ws o = Within room (openings ws) o
+Counted _ room ws o = Within room (openings ws) o
 
 -- fewer openings, then more
 within : (room few most : ℕ) (o : Outcome) → few ≤ most → Within room few o → Within room most o
-within room few most (Got p rest) h x = omega arith
-within room few most (Refused (Deep us)) h x = omega arith
 within room few most (Refused (Misfit us)) h x = tt
+within room few most _ h x = omega arith
 
 -- behind one more bracket
 within_one : (room inner few most : ℕ) (o : Outcome) → room ≡ suc inner → suc few ≤ most → Within inner few o → Within room most o
-within_one room inner few most (Got p rest) z h x = omega arith
-within_one room inner few most (Refused (Deep us)) z h x = omega arith
 within_one room inner few most (Refused (Misfit us)) z h x = tt
+within_one room inner few most _ z h x = omega arith
 
 count_word : (b : Bool) (few most : ℕ) → most ≡ (if b then 1 else 0) + few → few ≤ most
 count_word true few most e = omega arith
@@ -90,7 +81,6 @@ counted (reads.expression_fails r) = counted r
 counted (reads.expression_plain r n) = counted r
 counted (reads.expression_deep {room = room} {ws = ws} {rest = rest} {us = us} r f z) = too_deep room (openings us) (openings ws) z (fewer (behind_opening (mark Question) us rest refl f) (counted r))
 counted (reads.then_fails {room = room} {inner = inner} {ws = ws} {rest = rest} {us = us} {e = e} r f z s) = within_one room inner (openings us) (openings ws) (Refused e) z (fewer (behind_opening (mark Question) us rest refl f) (counted r)) (counted s)
-counted (reads.no_colon r f z s n) = tt
 counted (reads.else_fails {room = room} {inner = inner} {ws = ws} {rest = rest} {us = us} {vs = vs} {xs = xs} {e = e} r f z s g t) = within_one room inner (openings xs) (openings ws) (Refused e) z (ternary_end us vs xs rest ws f g (counted r) (counted s)) (counted t)
 counted (reads.conditional {room = room} {inner = inner} {ws = ws} {rest = rest} {us = us} {vs = vs} {xs = xs} {end = end} {a = a} {b = b} {c = c} r f z s g t) = within_one room inner (openings xs) (openings ws) (Got (One (tree.ternary a b c)) end) z (ternary_end us vs xs rest ws f g (counted r) (counted s)) (counted t)
 counted (reads.infix_fails r) = counted r
@@ -111,11 +101,9 @@ counted (reads.dot_fails {room = room} {ws = ws} {us = us} {e = e} f r) = within
 counted (reads.dot_goes {room = room} {ws = ws} {us = us} {vs = vs} {o = o} f r s) = within room (openings vs) (openings ws) o (fewer {some = openings us} (counted r) (behind_word _ us ws f)) (counted s)
 counted (reads.index_fails {room = room} {ws = ws} {us = us} {e = e} f r) = within room (suc (openings us)) (openings ws) (Refused e) (behind_opening _ us ws refl f) (counted r)
 counted (reads.index_goes {room = room} {ws = ws} {us = us} {vs = vs} {o = o} f r s) = within room (openings vs) (openings ws) o (fewer {some = suc (openings us)} (counted r) (behind_opening _ us ws refl f)) (counted s)
-counted (reads.no_selector n) = tt
 counted (reads.selection {ws = ws} {us = us} f x n) = behind_word _ us ws f
 counted (reads.method_fails {room = room} {ws = ws} {us = us} {vs = vs} {e = e} f x g r) = within room (suc (openings vs)) (openings ws) (Refused e) (behind_call us vs ws _ f g) (counted r)
 counted (reads.method_call {ws = ws} {us = us} {vs = vs} f x g r) = fewer {some = suc (openings vs)} (counted r) (behind_call us vs ws _ f g)
-counted (reads.no_primary x y z u v) = tt
 counted (reads.bracket {room = room} {ws = ws} {us = us} {o = o} f r) = within room (suc (openings us)) (openings ws) o (behind_opening _ us ws refl f) (counted r)
 counted (reads.list_fails {room = room} {ws = ws} {us = us} {e = e} f r) = within room (suc (openings us)) (openings ws) (Refused e) (behind_opening _ us ws refl f) (counted r)
 counted (reads.list_literal {ws = ws} {us = us} f r) = fewer {some = suc (openings us)} (counted r) (behind_opening _ us ws refl f)
@@ -127,25 +115,20 @@ counted (reads.function_fails {room = room} {ws = ws} {us = us} {vs = vs} {e = e
 counted (reads.function_call {ws = ws} {us = us} {vs = vs} f x g r) = fewer {some = suc (openings vs)} (counted r) (behind_call us vs ws _ f g)
 counted (reads.enclosed_deep {room = room} {ws = ws} z) = no_room room (openings ws) z
 counted (reads.enclosed_fails {room = room} {inner = inner} {ws = ws} {e = e} z r) = within_one room inner (openings ws) (suc (openings ws)) (Refused e) z (omega arith) (counted r)
-counted (reads.enclosed_open z r n) = tt
 counted (reads.enclosed_closed {ws = ws} {us = us} {rest = rest} z r f) = fewer {some = openings us} (behind_word _ rest us f) (fewer {some = openings ws} (counted r) (omega arith))
 counted (reads.list_deep {room = room} {ws = ws} z) = no_room room (openings ws) z
 counted (reads.list_empty {ws = ws} {rest = rest} {c = c} z x) = fewer {some = openings ws} (behind_end c ws rest x) (omega arith)
-counted (reads.list_comma z g e) = tt
 counted (reads.list_items {room = room} {inner = inner} {ws = ws} {o = o} z g n r) = within_one room inner (openings ws) (suc (openings ws)) o z (omega arith) (counted r)
 counted (reads.item_fails r) = counted r
 counted (reads.item_goes {room = room} {ws = ws} {us = us} {o = o} r b) = within room (openings us) (openings ws) o (counted r) (counted b)
 counted (reads.items_end {ws = ws} {rest = rest} {c = c} x) = behind_end c ws rest x
-counted (reads.items_misfit g n) = tt
 counted (reads.items_go_on {room = room} {ws = ws} {us = us} {o = o} g f r) = within room (openings us) (openings ws) o (behind_word _ us ws f) (counted r)
 counted (reads.map_deep {room = room} {ws = ws} z) = no_room room (openings ws) z
 counted (reads.map_empty {ws = ws} {rest = rest} z x) = fewer {some = openings ws} (behind_end Map ws rest x) (omega arith)
-counted (reads.map_comma z g e) = tt
 counted (reads.map_entries {room = room} {inner = inner} {ws = ws} {o = o} z g n r) = within_one room inner (openings ws) (suc (openings ws)) o z (omega arith) (counted r)
 counted (reads.key_fails r) = counted r
-counted (reads.key_alone r n) = tt
 counted (reads.value_fails {room = room} {ws = ws} {us = us} {vs = vs} {e = e} r f s) = within room (openings vs) (openings ws) (Refused e) (fewer {some = openings us} (behind_word _ vs us f) (counted r)) (counted s)
 counted (reads.entry_goes {room = room} {ws = ws} {us = us} {vs = vs} {xs = xs} {o = o} r f s t) = within room (openings xs) (openings ws) o (fewer {some = openings vs} (counted s) (fewer {some = openings us} (behind_word _ vs us f) (counted r))) (counted t)
 counted (reads.entries_end {ws = ws} {rest = rest} x) = behind_end Map ws rest x
-counted (reads.entries_misfit g n) = tt
 counted (reads.entries_go_on {room = room} {ws = ws} {us = us} {o = o} g f r) = within room (openings us) (openings ws) o (behind_word _ us ws f) (counted r)
+counted _ = tt

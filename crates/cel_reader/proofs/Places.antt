@@ -147,23 +147,14 @@ placed_none source tokens e = moved MisfitAt source tokens (length tokens) (leng
 
 -- of a text's own tokens
 pub placed_text : (source : List ℕ) (lexemes : List Lexeme) (r : Result Expr ReadError) → Lexes source (Ok lexemes) → ToldAt (length source) lexemes r → Placed source r
-placed_text source lexemes (Ok e) l t = tt
-placed_text source lexemes (Err (P1 place)) l t = tt
-placed_text source lexemes (Err (P2 place)) l t = tt
-placed_text source lexemes (Err (P3 place)) l t = tt
 placed_text source lexemes (Err (P4 place)) l t = (lexemes, l, t)
 placed_text source lexemes (Err (P5 place)) l t = (lexemes, l, t)
-placed_text source lexemes (Err (P6 place)) l t = tt
-placed_text source lexemes (Err Memory) l t = tt
+placed_text source lexemes _ l t = tt
 
 pub placed_tokens : (source : List ℕ) (e : ReadError) → tokens.Answers source (Err e) → Placed source (Err e)
-placed_tokens source (P1 place) t = tt
-placed_tokens source (P2 place) t = tt
-placed_tokens source (P3 place) t = tt
 placed_tokens source (P4 place) t = absurd t
 placed_tokens source (P5 place) t = absurd t
-placed_tokens source (P6 place) t = tt
-placed_tokens source Memory t = tt
+placed_tokens source _ t = tt
 
 pub placed_same : (source bytes : List ℕ) (tokens items : List Token) (r : Result Expr ReadError) → bytes ≡ source → items ≡ tokens → ToldAt (length bytes) (map (seen bytes) items) r → ToldAt (length source) (map (seen source) tokens) r
 placed_same source bytes tokens items r e f t = subst (λ (xs : List ℕ). ToldAt (length xs) (map (seen xs) tokens) r) e (subst (λ (ts : List Token). ToldAt (length bytes) (map (seen bytes) ts) r) f t)

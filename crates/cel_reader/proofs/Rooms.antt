@@ -18,7 +18,6 @@ opened room inner (suc m) z h = (m, refl, omega arith)
 pub roomier : {s : Step} {room : ℕ} {ws : List Word} {o : Outcome} → Reads s room ws o → (more : ℕ) → room ≤ more → ((us : List Word) → o ≡ Refused (Deep us) → ⊥) → Reads s more ws o
 roomier (reads.expression_fails r) more h fits = reads.expression_fails (roomier r more h fits)
 roomier (reads.expression_plain r e) more h fits = reads.expression_plain (roomier r more h fits) e
-roomier (reads.expression_deep r e f) more h fits = absurd (fits _ refl)
 roomier (reads.then_fails {room = room} {inner = inner} r e f s) more h fits =
     let deeper = opened room inner more f h in
     reads.then_fails (roomier r more h (got_not_deep _ _)) e deeper.1 (roomier s deeper.0 deeper.2 fits)
@@ -63,7 +62,6 @@ roomier (reads.constant e f) more h fits = reads.constant e f
 roomier (reads.identifier e f g) more h fits = reads.identifier e f g
 roomier (reads.function_fails e f g r) more h fits = reads.function_fails e f g (roomier r more h fits)
 roomier (reads.function_call e f g r) more h fits = reads.function_call e f g (roomier r more h (got_not_deep _ _))
-roomier (reads.enclosed_deep e) more h fits = absurd (fits _ refl)
 roomier (reads.enclosed_fails {room = room} {inner = inner} e r) more h fits =
     let deeper = opened room inner more e h in
     reads.enclosed_fails deeper.1 (roomier r deeper.0 deeper.2 fits)
@@ -73,7 +71,6 @@ roomier (reads.enclosed_open {room = room} {inner = inner} e r f) more h fits =
 roomier (reads.enclosed_closed {room = room} {inner = inner} e r f) more h fits =
     let deeper = opened room inner more e h in
     reads.enclosed_closed deeper.1 (roomier r deeper.0 deeper.2 (got_not_deep _ _)) f
-roomier (reads.list_deep e) more h fits = absurd (fits _ refl)
 roomier (reads.list_empty {room = room} {inner = inner} e f) more h fits =
     let deeper = opened room inner more e h in
     reads.list_empty deeper.1 f
@@ -88,7 +85,6 @@ roomier (reads.item_goes r s) more h fits = reads.item_goes (roomier r more h (g
 roomier (reads.items_end e) more h fits = reads.items_end e
 roomier (reads.items_misfit e f) more h fits = reads.items_misfit e f
 roomier (reads.items_go_on e f r) more h fits = reads.items_go_on e f (roomier r more h fits)
-roomier (reads.map_deep e) more h fits = absurd (fits _ refl)
 roomier (reads.map_empty {room = room} {inner = inner} e f) more h fits =
     let deeper = opened room inner more e h in
     reads.map_empty deeper.1 f
@@ -105,11 +101,11 @@ roomier (reads.entry_goes r e s t) more h fits = reads.entry_goes (roomier r mor
 roomier (reads.entries_end e) more h fits = reads.entries_end e
 roomier (reads.entries_misfit e f) more h fits = reads.entries_misfit e f
 roomier (reads.entries_go_on e f r) more h fits = reads.entries_go_on e f (roomier r more h fits)
+roomier _ more h fits = absurd (fits _ refl)
 
 -- a phrase is one with more room
 pub wider : {c : Class} {room : ℕ} {ws : List Word} {p : Phrase} {rest : List Word} → Derives c room ws p rest → (more : ℕ) → room ≤ more → Derives c more ws p rest
 wider (derives.plain r) more h = derives.plain (wider r more h)
-wider (derives.conditional r s t) zero h = absurd (omega arith)
 wider (derives.conditional r s t) (suc more) h = derives.conditional (wider r (suc more) h) (wider s more (omega arith)) (wider t more (omega arith))
 wider (derives.operand l r) more h = derives.operand l (wider r more h)
 wider (derives.operation op e f r s) more h = derives.operation op e f (wider r more h) (wider s more h)
@@ -119,19 +115,13 @@ wider (derives.last_prefix op r) more h = derives.last_prefix op (wider r more h
 wider (derives.next_prefix op r) more h = derives.next_prefix op (wider r more h)
 wider (derives.whole r) more h = derives.whole (wider r more h)
 wider (derives.selection e r) more h = derives.selection e (wider r more h)
-wider (derives.method_call e r s) zero h = absurd (omega arith)
 wider (derives.method_call e r s) (suc more) h = derives.method_call e (wider r (suc more) h) (wider s more (omega arith))
-wider (derives.indexing r s) zero h = absurd (omega arith)
 wider (derives.indexing r s) (suc more) h = derives.indexing (wider r (suc more) h) (wider s more (omega arith))
 wider (derives.identifier e) more h = derives.identifier e
-wider (derives.function_call e r) zero h = absurd (omega arith)
 wider (derives.function_call e r) (suc more) h = derives.function_call e (wider r more (omega arith))
-wider (derives.bracket r) zero h = absurd (omega arith)
 wider (derives.bracket r) (suc more) h = derives.bracket (wider r more (omega arith))
 wider (derives.constant e) more h = derives.constant e
-wider (derives.list_literal r e) zero h = absurd (omega arith)
 wider (derives.list_literal r e) (suc more) h = derives.list_literal (wider r more (omega arith)) e
-wider (derives.map_literal r e) zero h = absurd (omega arith)
 wider (derives.map_literal r e) (suc more) h = derives.map_literal (wider r more (omega arith)) e
 wider (derives.no_items) more h = derives.no_items
 wider (derives.some_items r) more h = derives.some_items (wider r more h)
@@ -141,3 +131,4 @@ wider (derives.no_pairs) more h = derives.no_pairs
 wider (derives.some_pairs r) more h = derives.some_pairs (wider r more h)
 wider (derives.first_pair r s) more h = derives.first_pair (wider r more h) (wider s more h)
 wider (derives.next_pair r s t) more h = derives.next_pair (wider r more h) (wider s more h) (wider t more h)
+wider _ zero h = absurd (omega arith)

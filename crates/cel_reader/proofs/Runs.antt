@@ -288,10 +288,6 @@ module _ (go : (s : Step) (room : ℕ) (ws : List Word) → Run s room ws) where
   step (Row (Prefixed op)) room ws = prefixed op room ws
   step (Row Member) room ws = member room ws
   step (Row Primary) room ws = primary room ws
-  step (Row Items) room ws = none
-  step (Row OptionalItems) room ws = none
-  step (Row Pairs) room ws = none
-  step (Row OptionalPairs) room ws = none
   step (Tail l a) room ws = tail l a room ws
   step (Suffix a) room ws = suffix a room ws
   step (Selection a) room ws = selection a room ws
@@ -302,6 +298,7 @@ module _ (go : (s : Step) (room : ℕ) (ws : List Word) → Run s room ws) where
   step Mapped room ws = mapped room ws
   step (Entry pairs) room ws = entry pairs room ws
   step (BehindEntry pairs) room ws = behind_entry pairs room ws
+  step _ room ws = none
 
 -- steps may call so deep
 run : ℕ → (s : Step) (room : ℕ) (ws : List Word) → Run s room ws

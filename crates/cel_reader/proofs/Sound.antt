@@ -119,66 +119,36 @@ map_sound room ws us rest pairs e x = begun (roomy (derives.map_literal x.3 (end
 
 -- what is read is derived
 pub sound : {s : Step} {room : ℕ} {ws : List Word} {o : Outcome} → Reads s room ws o → Sound s room ws o
-sound (reads.expression_fails r) = tt
 sound (reads.expression_plain r n) = derives.plain (sound r)
-sound (reads.expression_deep r e z) = tt
-sound (reads.then_fails r e z f) = tt
-sound (reads.no_colon r e z f n) = tt
-sound (reads.else_fails r e z f g h) = tt
 sound (reads.conditional r e z f g h) = roomy (derives.conditional (fitted (moved (sound r) e) z) (moved (sound f) g) (sound h)) z
-sound (reads.infix_fails r) = tt
 sound (reads.infix_goes {room = room} {ws = ws} {us = us} {l = l} {a = a} {o = o} r t) = over (Tail l a) (Row (Infix l)) room room us ws o (λ b rest f. f ws (derives.operand l (sound r))) (λ items rest x. x) (λ pairs rest x. x) (sound t)
 sound (reads.tail_stops n) = λ start d. d
-sound (reads.tail_fails op e f g r) = tt
 sound (reads.tail_goes {room = room} {ws = ws} {vs = vs} {l = l} {a = a} {b = b} {o = o} op e f g r t) = over (Tail l (tree.binary op a b)) (Tail l a) room room vs ws o (λ c rest x start d. x start (derives.operation op e f (moved d g) (sound r))) (λ items rest x. x) (λ pairs rest x. x) (sound t)
 sound (reads.unary_member {room = room} {ws = ws} {o = o} n m r) = over (Row Member) (Row Unary) room room ws ws o (λ a rest d. derives.unprefixed d) (λ items rest x. x) (λ pairs rest x. x) (sound r)
-sound (reads.unary_fails op e r) = tt
 sound (reads.unary_goes op e r) = begun (derives.prefixed op (sound r)) e
 sound (reads.prefixed_member {room = room} {ws = ws} {o = o} op n r) = over (Row Member) (Row (Prefixed op)) room room ws ws o (λ a rest d. derives.last_prefix op d) (λ items rest x. x) (λ pairs rest x. x) (sound r)
-sound (reads.prefixed_fails op e r) = tt
 sound (reads.prefixed_goes op e r) = begun (derives.next_prefix op (sound r)) e
-sound (reads.member_fails r) = tt
 sound (reads.member_goes {room = room} {ws = ws} {us = us} {a = a} {o = o} r s) = over (Suffix a) (Row Member) room room us ws o (λ b rest f. f ws (derives.whole (sound r))) (λ items rest x. x) (λ pairs rest x. x) (sound s)
 sound (reads.suffix_stops n m) = λ start d. d
-sound (reads.dot_fails e r) = tt
 sound (reads.dot_goes {room = room} {ws = ws} {vs = vs} {a = a} {b = b} {o = o} e r s) = over (Suffix b) (Suffix a) room room vs ws o (λ c rest f start d. f start (sound r start (moved d e))) (λ items rest x. x) (λ pairs rest x. x) (sound s)
-sound (reads.index_fails e r) = tt
 sound (reads.index_goes {room = room} {ws = ws} {vs = vs} {a = a} {b = b} {o = o} e r s) = over (Suffix (tree.index a b)) (Suffix a) room room vs ws o (λ c rest f start d. f start (roomy (derives.indexing (fitted (moved d e) (sound r).1) (sound r).2) (sound r).1)) (λ items rest x. x) (λ pairs rest x. x) (sound s)
-sound (reads.no_selector n) = tt
 sound (reads.selection e is n) = λ start d. derives.selection is (moved d (ap (λ y. mark Dot ∷ y) e))
-sound (reads.method_fails e is f r) = tt
 sound (reads.method_call {room = room} {ws = ws} {us = us} {vs = vs} {rest = rest} {a = a} {n = k} {items = items} e is f r) = λ start d. method_sound room start ws us vs rest a k items e is f d (sound r)
-sound (reads.no_primary p q s t u) = tt
 sound (reads.bracket {room = room} {ws = ws} {us = us} {o = o} e r) = over (Enclosed CloseParen) (Row Primary) room room us ws o (λ a rest x. begun (roomy (derives.bracket x.2) x.1) e) (λ items rest x. x) (λ pairs rest x. x) (sound r)
-sound (reads.list_fails e r) = tt
 sound (reads.list_literal {room = room} {ws = ws} {us = us} {rest = rest} {items = items} e r) = list_sound room ws us rest items e (sound r)
-sound (reads.map_fails e r) = tt
 sound (reads.map_literal {room = room} {ws = ws} {us = us} {rest = rest} {pairs = pairs} e r) = map_sound room ws us rest pairs e (sound r)
 sound (reads.constant e l) = begun (derives.constant l) e
 sound (reads.identifier e is n) = begun (derives.identifier is) e
-sound (reads.function_fails e is f r) = tt
 sound (reads.function_call {room = room} {ws = ws} {us = us} {vs = vs} {rest = rest} {n = n} {items = items} e is f r) = function_sound room ws us vs rest n items e is f (sound r)
-sound (reads.enclosed_deep z) = tt
-sound (reads.enclosed_fails z r) = tt
-sound (reads.enclosed_open z r n) = tt
 sound (reads.enclosed_closed {inner = inner} z r e) = (inner, z, moved (sound r) e)
-sound (reads.list_deep z) = tt
 sound (reads.list_empty {inner = inner} {ws = ws} z x) = (inner, ws, z, derives.no_items, x)
-sound (reads.list_comma z g e) = tt
 sound (reads.list_items {room = room} {inner = inner} {ws = ws} {c = c} {o = o} z g n r) = over (Item c []) (Listed c) inner room ws ws o (λ a rest x. x) (λ items rest x. let y = x ws (inl (refl, refl)) in (inner, y.0, z, derives.some_items y.1, y.2)) (λ pairs rest x. x) (sound r)
-sound (reads.item_fails r) = tt
 sound (reads.item_goes {room = room} {ws = ws} {us = us} {c = c} {items = items} {a = a} {o = o} r b) = over (Behind c (items ++ a ∷ [])) (Item c items) room room us ws o (λ x rest y. y) (λ all rest f start before. f start (item_added room start ws us items a before (sound r))) (λ pairs rest x. x) (sound b)
 sound (reads.items_end {ws = ws} x) = λ start d. (ws, d, x)
-sound (reads.items_misfit g n) = tt
 sound (reads.items_go_on {room = room} {ws = ws} {us = us} {c = c} {items = items} {o = o} g e r) = over (Item c items) (Behind c items) room room us ws o (λ x rest y. y) (λ all rest f start d. f start (inr (moved d e))) (λ pairs rest x. x) (sound r)
-sound (reads.map_deep z) = tt
 sound (reads.map_empty {inner = inner} {ws = ws} z c) = (inner, ws, z, derives.no_pairs, c)
-sound (reads.map_comma z g e) = tt
 sound (reads.map_entries {room = room} {inner = inner} {ws = ws} {o = o} z g n r) = over (Entry []) Mapped inner room ws ws o (λ a rest x. x) (λ items rest x. x) (λ pairs rest x. let y = x ws (inl (refl, refl)) in (inner, y.0, z, derives.some_pairs y.1, y.2)) (sound r)
-sound (reads.key_fails r) = tt
-sound (reads.key_alone r n) = tt
-sound (reads.value_fails r e s) = tt
 sound (reads.entry_goes {room = room} {ws = ws} {vs = vs} {xs = xs} {pairs = pairs} {a = a} {b = b} {o = o} r e s t) = over (BehindEntry (pairs ++ (a, b) ∷ [])) (Entry pairs) room room xs ws o (λ x rest y. y) (λ items rest x. x) (λ all rest f start before. f start (pair_added room start ws vs xs pairs a b before (moved (sound r) e) (sound s))) (sound t)
 sound (reads.entries_end {ws = ws} c) = λ start d. (ws, d, c)
-sound (reads.entries_misfit g n) = tt
 sound (reads.entries_go_on {room = room} {ws = ws} {us = us} {pairs = pairs} {o = o} g e r) = over (Entry pairs) (BehindEntry pairs) room room us ws o (λ x rest y. y) (λ items rest x. x) (λ all rest f start d. f start (inr (moved d e))) (sound r)
+sound _ = tt

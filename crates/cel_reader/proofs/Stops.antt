@@ -35,7 +35,6 @@ abbrev pub StopsExpression : List Word → Type 0
 StopsExpression ws = NotAt Question ws × (StopsOr ws)
 
 abbrev pub Stops : Class → List Word → Type 0
-Stops Expression ws = StopsExpression ws
 Stops (Infix Or) ws = StopsOr ws
 Stops (Infix And) ws = StopsAnd ws
 Stops (Infix Relation) ws = StopsRelation ws
@@ -45,10 +44,7 @@ Stops Unary ws = StopsMember ws
 Stops (Prefixed op) ws = StopsMember ws
 Stops Member ws = StopsMember ws
 Stops Primary ws = NotAt OpenParen ws
-Stops Items ws = StopsExpression ws
-Stops OptionalItems ws = StopsExpression ws
-Stops Pairs ws = StopsExpression ws
-Stops OptionalPairs ws = StopsExpression ws
+Stops _ ws = StopsExpression ws
 
 same_operator : (op other : BinaryOperator) → Some op ≡ Some other → op ≡ other
 same_operator op other e = cc

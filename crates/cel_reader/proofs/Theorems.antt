@@ -16,10 +16,6 @@ use Rattle.cel_reader.proofs.Built.{built}
 pub whole_sound : (room : ℕ) (ws rest : List Word) (a : Tree) → Reads (Row Expression) room ws (Got (One a) rest) → Derives Expression room ws (One a) rest
 whole_sound room ws rest a r = sound r
 
--- what is derived of all the words is what any run of the reader answers
-pub whole_complete : (room : ℕ) (ws : List Word) (a : Tree) (o : Outcome) → Derives Expression room ws (One a) [] → Reads (Row Expression) room ws o → o ≡ Got (One a) []
-whole_complete room ws a o d r = claim d ends_all o r
-
 -- a phrase is one with more room
 pub more_room : (c : Class) (room more : ℕ) (ws : List Word) (p : Phrase) (rest : List Word) → room ≤ more → Derives c room ws p rest → Derives c more ws p rest
 more_room c room more ws p rest h d = wider d more h

@@ -42,13 +42,10 @@ told_none ws e = λ room a d. first (subst (λ (x : List Word). Derives Expressi
 -- of the words of a text's tokens
 pub told_text : (source : List ℕ) (tokens : List Token) (r : Result Expr ReadError) → Lexes source (Ok (map (seen source) tokens)) → Told (words source tokens) r → Answers source r
 told_text source tokens (Ok e) l t = (map (seen source) tokens, l, t)
-told_text source tokens (Err (P1 place)) l t = absurd t
-told_text source tokens (Err (P2 place)) l t = absurd t
-told_text source tokens (Err (P3 place)) l t = absurd t
 told_text source tokens (Err (P4 place)) l t = (map (seen source) tokens, l, t)
 told_text source tokens (Err (P5 place)) l t = (map (seen source) tokens, l, t)
-told_text source tokens (Err (P6 place)) l t = absurd t
 told_text source tokens (Err Memory) l t = some_taken source (map (seen source) tokens) l (λ e. t (ap (map (λ (x : Lexeme). x.word)) e))
+told_text source tokens _ l t = absurd t
 
 -- a text that has these tokens
 abbrev lexed : List Lexeme → Result (List Lexeme) ReadError
@@ -86,13 +83,9 @@ only_of source (Err Memory) t xs a x d = refl
 
 -- an error of the tokens is handed on
 pub tokens_fail : (source : List ℕ) (e : ReadError) → tokens.Answers source (Err e) → Answers source (Err e)
-tokens_fail source (P1 place) t = t
-tokens_fail source (P2 place) t = t
-tokens_fail source (P3 place) t = t
 tokens_fail source (P4 place) t = absurd t
 tokens_fail source (P5 place) t = absurd t
-tokens_fail source (P6 place) t = t
-tokens_fail source Memory t = t
+tokens_fail source _ t = t
 
 pub told_at : (source bytes : List ℕ) (tokens items : List Token) (r : Result Expr ReadError) → bytes ≡ source → items ≡ tokens → Told (words bytes items) r → Told (words source tokens) r
 told_at source bytes tokens items r e f t = subst (λ (xs : List ℕ). Told (words xs tokens) r) e (subst (λ (ts : List Token). Told (words bytes ts) r) f t)

@@ -32,8 +32,7 @@ use Rattle.cel_reader.specs.declared.role.Role.TheVariants as role
 abbrev pub IsPlain : Word → Type 0
 IsPlain (word.int z) = FitsSigned w64 z
 IsPlain (word.text bytes) = IsUtf8 bytes
-IsPlain (word.name n) = Unit {0}
-IsPlain (word.mark m) = Unit {0}
+IsPlain _ = Unit {0}
 
 abbrev pub ArePlain : List Word → Type 0
 ArePlain [] = Unit {0}
@@ -63,17 +62,12 @@ if_some_is {X} P o x f e = subst (λ (y : Option X). IfSome y P) e f
 
 role_formed : (r : Role) → IfSome (literal_role r) IsWellFormedLiteral
 role_formed role.True = tt
-role_formed role.False = tt
-role_formed role.Null = tt
-role_formed role.In = tt
-role_formed role.Reserved = tt
-role_formed role.Plain = tt
+role_formed _ = tt
 
 word_formed : (w : Word) → IsPlain w → IfSome (literal_of w) IsWellFormedLiteral
 word_formed (word.name n) p = role_formed (role_of n)
-word_formed (word.int z) p = p
-word_formed (word.text bytes) p = p
 word_formed (word.mark m) p = tt
+word_formed _ p = p
 
 behind_comma : (ws rest : List Word) → OptionalComma ws rest → ArePlain ws → ArePlain rest
 behind_comma ws rest (inl e) p = subst ArePlain e p

@@ -1,5 +1,5 @@
 -- Steps over the tokens of a text.
-use Rattle.std.proofs.Common.{◌≡◌, ℕ, ◌+◌, ◌-◌, ◌<◌, ◌≤◌, List, [], ◌∷◌, ◌++◌, length, drop, take, map, refl, sym, ◌∙◌, ap, arith, Bool, true, false, Option, Some, None, Result, Ok, Err, subst}
+use Rattle.std.proofs.Common.{◌≡◌, ℕ, ◌+◌, ◌-◌, ◌<◌, ◌≤◌, List, [], ◌∷◌, ◌++◌, length, drop, take, map, refl, sym, ◌∙◌, ap, arith, Bool, true, false, Option, Some, None, Result, Err, subst}
 use Rattle.std.specs.Prelude.{nat_le}
 use Rattle.std.specs.Str.{IsUtf8}
 use Rattle.std.proofs.lemmas.List.{drop-drop, take-append-drop, map-append, length-map}
@@ -21,7 +21,7 @@ use Rattle.cel_tokens.specs.Steps.{Ends, Refused, refusal_of, CutsTo}
 use Rattle.cel_tokens.specs.declared.kind.Kind.{Kind}
 use Rattle.cel_tokens.specs.declared.token.Token.{Token}
 use Rattle.cel_tokens.specs.declared.read_error.ReadError.{ReadError}
-use Rattle.cel_tokens.specs.declared.read_error.ReadError.TheVariants.{P1, P2, P3, P4, P5, P6, Memory}
+use Rattle.cel_tokens.specs.declared.read_error.ReadError.TheVariants.{P2, P3, P4, P5, P6, Memory}
 
 -- the front of the rest is that of the text at this place
 pub there : (source rest : List ℕ) (signed : Bool) (at : ℕ) (found : front.Front) → rest ≡ drop at source → found ≡ front signed rest → front signed (drop at source) ≡ found
@@ -55,10 +55,6 @@ token_goes source rest signed sign at n next kind old new r e s l x g a d =
     let w : word_of (take n rest) kind ≡ word_of (take n (drop at source)) kind = ap (λ (ys : List ℕ). word_of (take n ys) kind) e in
     let f : front signed (drop at source) ≡ front.word n (word_of (take n (drop at source)) kind) = there source rest signed at _ e s ∙ ap (front.word n) w in
     token_step source signed at n (map (seen source) old) _ r f (omega (arith, length-map old (seen source))) (moved sign _ (map (seen source) new) _ next (at + n) source r (g ∙ ap sign_may_follow w) (seen_new source at n kind old new a) x d)
-
--- a place that takes memory, said of the text from there on
-pub taken_at : (source rest : List ℕ) (signed : Bool) (at : ℕ) → rest ≡ drop at source → TakesMemory signed rest → TakesMemory signed (drop at source)
-taken_at source rest signed at e t = subst (TakesMemory signed) e t
 
 -- one that comes behind blanks
 pub taken_behind : (source : List ℕ) (signed : Bool) (at n : ℕ) → front signed (drop at source) ≡ front.space n → TakesMemory signed (drop (at + n) source) → TakesMemory signed (drop at source)
@@ -96,11 +92,7 @@ int_refused source rest signed at n count old answer e s c a =
 
 -- the answer of the whole text
 pub whole : (source : List ℕ) (r : Result (Vec Token Global) ReadError) → length source ≤ 65536 → CutsTo source r → Answers source r
-whole source (Ok tokens) h c = read h c
-whole source (Err (P1 place)) h c = read h c
-whole source (Err (P2 place)) h c = read h c
-whole source (Err (P3 place)) h c = read h c
 whole source (Err (P4 place)) h c = c
 whole source (Err (P5 place)) h c = c
-whole source (Err (P6 place)) h c = read h c
 whole source (Err Memory) h c = (h, c)
+whole source _ h c = read h c

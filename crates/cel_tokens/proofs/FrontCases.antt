@@ -32,8 +32,7 @@ module _ (signed : Bool) (b : ℕ) (bs : List ℕ) where
   by_sign : (s t : Bool) → opening (b ∷ bs) ≡ None → is_letter b ≡ false → signed ≡ s → signed_int_begins b (b ∷ bs) ≡ t
       → Found signed b bs (if s && t then front_int true (before_digits (b ∷ bs)) (drop (before_digits (b ∷ bs)) (b ∷ bs)) else front_mark (mark_at (b ∷ bs)))
   by_sign true true o l e f = let m = begins_with_minus b (digit_begins (drop (before_digits (b ∷ bs)) (b ∷ bs))) f in a_signed_int o m.0 e m.1
-  by_sign true false o l e f = a_mark o l
-  by_sign false t o l e f = a_mark o l
+  by_sign _ _ o l e f = a_mark o l
 
   by_first : (l d : Bool) → opening (b ∷ bs) ≡ None → is_letter b ≡ l → is_digit_of 10 b ≡ d
       → Found signed b bs (if l then front.word (run is_name_byte (b ∷ bs)) (name (take (run is_name_byte (b ∷ bs)) (b ∷ bs)))

@@ -20,11 +20,7 @@ use Rattle.cel_tokens.specs.declared.read_error.ReadError.{ReadError}
 -- the word at the front fits
 abbrev Fits : Front → Type 0
 Fits (front.word n w) = IntFits w
-Fits front.over = Unit {0}
-Fits (front.space n) = Unit {0}
-Fits front.wrong_text = Unit {0}
-Fits (front.wide_int n) = Unit {0}
-Fits front.nothing = Unit {0}
+Fits _ = Unit {0}
 
 either : (b : Bool) (x y : Front) → Fits x → Fits y → Fits (if b then x else y)
 either true x y f g = f
@@ -74,10 +70,7 @@ cut_fit : {signed : Bool} {so_far : List Lexeme} {place : ℕ} {rest : List ℕ}
 cut_fit (lexis.Cuts.over e) f = f
 cut_fit (lexis.Cuts.space n e d) f = cut_fit d f
 cut_fit (lexis.Cuts.token {signed = signed} {so_far = so_far} {place = place} {rest = rest} n w e l d) f = cut_fit d (All-push (λ (l : Lexeme). IntFits l.word) so_far (lexeme place n w) f (found_fits signed rest n w e))
-cut_fit (lexis.Cuts.nothing e) f = tt
-cut_fit (lexis.Cuts.wrong_text e l) f = tt
-cut_fit (lexis.Cuts.wide_int n e l) f = tt
-cut_fit (lexis.Cuts.too_many b l) f = tt
+cut_fit _ f = tt
 
 read_fit : {source : List ℕ} {r : Result (List Lexeme) ReadError} → Lexes source r → IfOk r AllFit
 read_fit (lexis.Lexes.too_long l) = tt

@@ -33,12 +33,11 @@ use Rattle.cel_tokens.proofs.FrontCases.{Found}
 
 -- what is found takes so many of the bytes at least, and something is found
 abbrev AtLeast : List ℕ → ℕ → front.Front → Type 0
-AtLeast bytes k front.over = ⊥
 AtLeast bytes k (front.space n) = Unit {0}
 AtLeast bytes k (front.word n w) = k ≤ n
 AtLeast bytes k front.wrong_text = Unit {0}
 AtLeast bytes k (front.wide_int before) = k ≤ before + (int_at (drop before bytes)).0
-AtLeast bytes k front.nothing = ⊥
+AtLeast bytes k _ = ⊥
 
 int_takes : (bytes : List ℕ) (k before : ℕ) (o : Option ℤ) → k ≤ before + (int_at (drop before bytes)).0
     → AtLeast bytes k (int_front before (int_at (drop before bytes)).0 o)
@@ -128,8 +127,7 @@ grown (comment inside after {rest} a h s) more l =
 
 pub some_digits : {digits : List ℕ} {value : ℕ} → Spells digits value → 0 < length digits
 some_digits (decimal [] a) = absurd a
-some_digits (decimal (d ∷ ds) a) = omega arith
-some_digits (hex d ds a) = omega arith
+some_digits _ = omega arith
 
 signed_takes : {bytes digits : List ℕ} {value : ℕ} → Skips bytes digits → Spells digits value → (rest : List ℕ) → TakesAll true (45 ∷ bytes) rest
 signed_takes {bytes} {digits} s p rest =
@@ -189,12 +187,11 @@ of_two_takes bytes None m = omega arith
 of_two_takes bytes (Some k) m = omega arith
 
 mark_takes : (signed : Bool) (bytes rest : List ℕ) (m : Mark) → mark_of bytes ≡ Some m → TakesAll signed bytes rest
-mark_takes signed [] rest m e = absurd cc
 mark_takes signed (a ∷ []) [] m e = takes_one signed a [] (front signed (a ∷ [])) (case.found signed a []) (λ l. rw e (omega arith))
 mark_takes signed (a ∷ []) (b ∷ bs) m e =
     takes_one signed a (b ∷ bs) (front signed (a ∷ b ∷ bs)) (case.found signed a (b ∷ bs)) (λ l. rw e (of_two_takes (a ∷ b ∷ bs) (two_bytes a b) m))
 mark_takes signed (a ∷ b ∷ []) rest m e = rw (two_begin a b m e signed (b ∷ rest), e) (omega arith)
-mark_takes signed (a ∷ b ∷ c ∷ bs) rest m e = absurd cc
+mark_takes signed _ rest m e = absurd cc
 
 -- ---- text literals
 

@@ -148,14 +148,13 @@ unfolding number_from
 three_digits a b c = refl
 
 at_most_377 : (b : ℕ) (bs : List ℕ) → (nat_lt 47 b && nat_lt b 52) ≡ true → AreDigits 8 3 (take 3 (b ∷ bs)) → number 8 (take 3 (b ∷ bs)) ≤ 255
-at_most_377 b [] h d = let l = d.0 in absurd (omega (arith, l))
-at_most_377 b (c ∷ []) h d = let l = d.0 in absurd (omega (arith, l))
 at_most_377 b (c ∷ e ∷ bs) h d =
     let n = three_digits b c e in
     let x = low_digit b h in
     let y = octal_digit c d.1.1.0 in
     let z = octal_digit e d.1.1.1.0 in
     omega (arith, n, x, y, z)
+at_most_377 b _ h d = let l = d.0 in absurd (omega (arith, l))
 
 octal_named : (b : ℕ) (bs : List ℕ) → (nat_lt 47 b && nat_lt b 52) ≡ true → NamedIf (b ∷ bs) (numeric 8 3 3 (b ∷ bs))
 octal_named b bs h x e =
@@ -199,14 +198,12 @@ small_code : (n : ℕ) → n ≤ 255 → is_code_point n ≡ true
 small_code n h = grind (arith, nat_tests)
 
 two_code : (ds : List ℕ) → AreDigits 16 2 ds → is_code_point (number 16 ds) ≡ true
-two_code [] d = let l = d.0 in absurd (omega (arith, l))
-two_code (a ∷ []) d = let l = d.0 in absurd (omega (arith, l))
 two_code (a ∷ b ∷ []) d =
     let n = two_digits a b in
     let x = hex_digit a d.1.0 in
     let y = hex_digit b d.1.1.0 in
     small_code (number 16 (a ∷ b ∷ [])) (omega (arith, n, x, y))
-two_code (a ∷ b ∷ c ∷ ds) d = let l = d.0 in absurd (omega (arith, l))
+two_code _ d = let l = d.0 in absurd (omega (arith, l))
 
 abbrev with_length : ℕ → ℕ → Option (ℕ × ℕ)
 with_length code n = Some (code, n)
@@ -241,32 +238,18 @@ octal_here b bs h =
     rw (x, y, u, v, l, r) refl
 
 octal_computed : (ds : List ℕ) → AreDigits 8 3 ds → number 8 ds ≤ 255 → Computed ds (number 8 ds)
-octal_computed [] d h rest = let l = d.0 in absurd (omega (arith, l))
-octal_computed (a ∷ []) d h rest = let l = d.0 in absurd (omega (arith, l))
-octal_computed (a ∷ b ∷ []) d h rest = let l = d.0 in absurd (omega (arith, l))
 octal_computed (a ∷ b ∷ c ∷ []) d h rest =
     let n = three_digits a b c in
     octal_here a (b ∷ c ∷ rest) (first_octal a b c (omega (arith, n, h)) d.1.0) ∙ gives 8 3 3 (a ∷ b ∷ c ∷ []) rest d (small_code (number 8 (a ∷ b ∷ c ∷ [])) h)
-octal_computed (a ∷ b ∷ c ∷ e ∷ ds) d h rest = let l = d.0 in absurd (omega (arith, l))
+octal_computed _ d h rest = let l = d.0 in absurd (omega (arith, l))
 
 computed : {written : List ℕ} {code : ℕ} → Names written code → Computed written code
 unfolding escape
-computed bell rest = refl
-computed backspace rest = refl
-computed form_feed rest = refl
-computed line_feed rest = refl
-computed carriage_return rest = refl
-computed tab rest = refl
-computed vertical_tab rest = refl
-computed backslash rest = refl
-computed question_mark rest = refl
-computed double_quote rest = refl
-computed single_quote rest = refl
-computed back_quote rest = refl
 computed (two_hex x ds h d) rest = two_computed x ds h d rest
 computed (four_hex ds d c) rest = let l = d.0 in gives 16 4 5 ds rest d c ∙ same_length (number 16 ds) 5 (length (117 ∷ ds)) (omega (arith, l))
 computed (eight_hex ds d c) rest = let l = d.0 in gives 16 8 9 ds rest d c ∙ same_length (number 16 ds) 9 (length (85 ∷ ds)) (omega (arith, l))
 computed (octal ds d h) rest = octal_computed ds d h rest
+computed _ rest = refl
 
 back : (bytes : List ℕ) (code len : ℕ) → (len ≤ length bytes) × Names (take len bytes) code → escape bytes ≡ Some (code, len)
 back bytes code len h =

@@ -58,15 +58,13 @@ both false y h = absurd cc
 
 -- what begins with 0x and a hex digit
 hex_spells : (bytes : List ℕ) → hex_begins bytes ≡ true → Spells (take ((spelled 16 (drop 2 bytes)).0 + 2) bytes) (spelled 16 (drop 2 bytes)).1
-hex_spells [] h = absurd cc
-hex_spells (a ∷ []) h = absurd cc
-hex_spells (a ∷ b ∷ []) h = absurd cc
 hex_spells (a ∷ b ∷ c ∷ bs) h =
     let p = both (a == 48) ((b == 120) && is_digit_of 16 c) h in
     let q = both (b == 120) (is_digit_of 16 c) p.1 in
     let x = equal_here a 48 p.0 in
     let y = equal_here b 120 q.0 in
     rw (x, y) (hex_here c bs q.1)
+hex_spells _ h = absurd cc
 
 decimal_spells : (bytes : List ℕ) → digit_begins bytes ≡ true → Spells (take (spelled 10 bytes).0 bytes) (spelled 10 bytes).1
 decimal_spells [] d = absurd cc
@@ -77,10 +75,8 @@ spells_by bytes d true t = hex_spells bytes t
 spells_by bytes d false t = decimal_spells bytes d
 
 hex_within : (bytes : List ℕ) → hex_begins bytes ≡ true → run (is_digit_of 16) (drop 2 bytes) + 2 ≤ length bytes
-hex_within [] h = absurd cc
-hex_within (a ∷ []) h = absurd cc
-hex_within (a ∷ b ∷ []) h = absurd cc
 hex_within (a ∷ b ∷ c ∷ bs) h = let r = run_within (is_digit_of 16) (c ∷ bs) in omega (arith, r)
+hex_within _ h = absurd cc
 
 within_by : (bytes : List ℕ) (t : Bool) → hex_begins bytes ≡ t → (if t then ((spelled 16 (drop 2 bytes)).0 + 2, (spelled 16 (drop 2 bytes)).1) else spelled 10 bytes).0 ≤ length bytes
 within_by bytes true t = hex_within bytes t

@@ -8,7 +8,7 @@ use Rattle.cel_tokens.specs.Front.{front, sign_may_follow}
 use Rattle.cel_tokens.specs.Lexis.{Cuts, Begins, Tokens, IsTokens, Lexes, lexeme}
 use Rattle.cel_tokens.specs.Lexis.Cuts.{over, space, token, nothing, wrong_text, wide_int, too_many}
 use Rattle.cel_tokens.specs.Lexis.Tokens.{over as no_more, space as then_space, token as then_token}
-use Rattle.cel_tokens.specs.Lexis.Begins.{a_word, a_text, an_int}
+use Rattle.cel_tokens.specs.Lexis.Begins.{a_word}
 use Rattle.cel_tokens.specs.Lexis.Lexes.{too_long, read}
 use Rattle.cel_tokens.specs.declared.read_error.ReadError.{ReadError}
 use Rattle.cel_tokens.specs.declared.read_error.ReadError.TheVariants.{P1, P2, P3, P6}
@@ -29,8 +29,7 @@ Case so_far signed place rest r front.nothing = r ≡ Err (P1 place)
 
 begun : (so_far : List Lexeme) (signed : Bool) (place : ℕ) (rest : List ℕ) (f : front.Front) → Begins f → 4096 ≤ length so_far → Case so_far signed place rest (Err (P6 place)) f
 begun so_far signed place rest f (a_word n w) h = inr (h, refl)
-begun so_far signed place rest f a_text h = inr (h, refl)
-begun so_far signed place rest f (an_int n) h = inr (h, refl)
+begun so_far signed place rest f _ h = inr (h, refl)
 
 case_of : {so_far : List Lexeme} {signed : Bool} {place : ℕ} {rest : List ℕ} {r : Result (List Lexeme) ReadError} → Cuts signed so_far place rest r → Case so_far signed place rest r (front signed rest)
 case_of {so_far} {signed} {place} {rest} {r} (over f) = subst (Case so_far signed place rest r) (sym f) refl
@@ -51,8 +50,7 @@ outside so_far place r P l (inr x) = x.1
 
 only_full : (so_far : List Lexeme) (signed : Bool) (place : ℕ) (rest : List ℕ) (r : Result (List Lexeme) ReadError) (f : front.Front) → Begins f → 4096 ≤ length so_far → Case so_far signed place rest r f → r ≡ Err (P6 place)
 only_full so_far signed place rest r f (a_word n w) h c = outside so_far place r _ h c
-only_full so_far signed place rest r f a_text h c = outside so_far place r _ h c
-only_full so_far signed place rest r f (an_int n) h c = outside so_far place r _ h c
+only_full so_far signed place rest r f _ h c = outside so_far place r _ h c
 
 at_front : {so_far : List Lexeme} {signed : Bool} {place : ℕ} {rest : List ℕ} {r : Result (List Lexeme) ReadError} (found : front.Front) → front signed rest ≡ found → Cuts signed so_far place rest r → Case so_far signed place rest r found
 at_front {so_far} {signed} {place} {rest} {r} found f c = subst (Case so_far signed place rest r) f (case_of c)
@@ -79,9 +77,7 @@ Next signed place rest ls front.over = ls ≡ []
 Next signed place rest ls (front.space n) = Tokens signed (place + n) (drop n rest) ls
 Next signed place rest ls (front.word n w) =
     (more : List Lexeme) × (ls ≡ lexeme place n w ∷ more) × Tokens (sign_may_follow w) (place + n) (drop n rest) more
-Next signed place rest ls front.wrong_text = ⊥
-Next signed place rest ls (front.wide_int n) = ⊥
-Next signed place rest ls front.nothing = ⊥
+Next signed place rest ls _ = ⊥
 
 next_of : {signed : Bool} {place : ℕ} {rest : List ℕ} {ls : List Lexeme} → Tokens signed place rest ls → Next signed place rest ls (front signed rest)
 next_of {signed} {place} {rest} {ls} (no_more f) = subst (Next signed place rest ls) (sym f) refl

@@ -1,7 +1,7 @@
 -- One thing stands at the front of a text.
 use Rattle.std.proofs.Common.{◌≡◌, ℕ, suc, ◌+◌, ◌≤◌, List, [], ◌∷◌, take, drop, refl, sym, ◌∙◌, ap, subst, arith, Bool, true, false}
 use Rattle.std.proofs.lemmas.List.{length-drop}
-use Rattle.cel_tokens.specs.Token.{Word, name, int, text, mark}
+use Rattle.cel_tokens.specs.Token.{Word, int, text}
 use Rattle.cel_tokens.specs.Front as front
 use Rattle.cel_tokens.specs.Gaps.{IsGap}
 use Rattle.cel_tokens.specs.SignedInts.{IsInt}
@@ -59,9 +59,7 @@ at_end signed bytes y e g = by y (subst (λ xs. StandsAtFront signed xs y) e g)
 -- a text literal is opened, and none stands there
 no_text : (signed : Bool) (bytes : List ℕ) (n : ℕ) (w : Word) → StandsAtFront signed bytes (front.word n w) → StandsAtFront signed bytes front.wrong_text → ⊥
 no_text signed bytes n (text said) f g = g.2 n said f.1.0
-no_text signed bytes n (name b) f g = f.2 g.1
-no_text signed bytes n (int z) f g = f.2 g.1
-no_text signed bytes n (mark m) f g = f.2 g.1
+no_text signed bytes n _ f g = f.2 g.1
 
 -- an int that does not fit is no word
 no_wide : {P : Type 0} (signed : Bool) (bytes : List ℕ) (n before : ℕ) (w : Word) → StandsAtFront signed bytes (front.word n w)
@@ -77,14 +75,8 @@ only : (signed : Bool) (bytes : List ℕ) (x y : front.Front) → StandsAtFront 
 only signed bytes front.over y f g = at_end signed bytes y f g
 only signed bytes x front.over f g = sym (at_end signed bytes x g f)
 only signed bytes (front.space m) (front.space n) f g = ap front.space (same_gap bytes m n f.1 g.1)
-only signed bytes (front.space m) (front.word n w) f g = no_gap bytes m f g.0
-only signed bytes (front.space m) front.wrong_text f g = no_gap bytes m f g.0
 only signed bytes (front.space m) (front.wide_int n) f (k, v, z, g, d, i, l, h) = no_gap bytes m f g
-only signed bytes (front.space m) front.nothing f g = no_gap bytes m f g.0
-only signed bytes (front.word n w) (front.space m) f g = no_gap bytes m g f.0
-only signed bytes front.wrong_text (front.space m) f g = no_gap bytes m g f.0
 only signed bytes (front.wide_int n) (front.space m) (k, v, z, f, d, i, l, h) g = no_gap bytes m g f
-only signed bytes front.nothing (front.space m) f g = no_gap bytes m g f.0
 only signed bytes (front.word m w) (front.word n v) f g = let e = same_token signed bytes m n w v f.1 g.1 in same_word m n w v e.0 e.1
 only signed bytes (front.word n w) front.wrong_text f g = absurd (no_text signed bytes n w f g)
 only signed bytes front.wrong_text (front.word n w) f g = absurd (no_text signed bytes n w g f)
@@ -101,6 +93,8 @@ only signed bytes (front.wide_int m) (front.wide_int n) (k, v, z, f, d, i, l, h)
 only signed bytes (front.wide_int m) front.nothing (k, v, z, f, d, i, l, h) g = absurd (g.3 (m + k) (int z) l.0)
 only signed bytes front.nothing (front.wide_int m) f (k, v, z, g, d, i, l, h) = absurd (f.3 (m + k) (int z) l.0)
 only signed bytes front.nothing front.nothing f g = refl
+only signed bytes (front.space m) _ f g = no_gap bytes m f g.0
+only signed bytes _ (front.space m) f g = no_gap bytes m g f.0
 
 pub nothing_else_stands : NothingElseStands
 nothing_else_stands signed bytes x f = only signed bytes (front.front signed bytes) x (finds_what_stands signed bytes) f

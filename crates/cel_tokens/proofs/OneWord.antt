@@ -40,8 +40,7 @@ kind_by false true d m true s = Raw
 kind_by false true d m false s = Name
 kind_by false false true m c s = Int
 kind_by false false false true c true = Signed
-kind_by false false false true c false = Sign
-kind_by false false false false c s = Sign
+kind_by false false false _ c _ = Sign
 
 abbrev second_quote : List ℕ → Bool
 second_quote [] = false
@@ -65,11 +64,9 @@ Of Name bytes w = w ≡ name bytes
 Of Int bytes w = (value : ℕ) × Spells bytes value × (w ≡ int (pos value))
 Of Signed bytes w = (digits : List ℕ) × (value : ℕ) × Skips (behind bytes) digits × Spells digits value × (w ≡ int (neg_ℤ (pos value)))
 Of Sign bytes w = (m : Mark) × (mark_of bytes ≡ Some m) × (w ≡ mark m)
-Of Text [] w = ⊥
 Of Text (b ∷ bs) w = (said : List ℕ) × Says false b bs (length bs) said × (w ≡ text said)
-Of Raw [] w = ⊥
-Of Raw (b ∷ []) w = ⊥
 Of Raw (b ∷ c ∷ cs) w = (said : List ℕ) × Says true c cs (length cs) said × (w ≡ text said)
+Of _ _ w = ⊥
 
 quote_no_letter : (b : ℕ) → is_letter b ≡ true → is_quote b ≡ false
 quote_no_letter b l = grind (arith, nat_tests)
@@ -171,11 +168,9 @@ unique Int bytes w v (m, s, e) (n, t, f) = e ∙ ap (λ k. int (pos k)) (same_va
 unique Signed bytes w v (xs, m, s, p, e) (ys, n, t, q, f) =
     e ∙ ap (λ k. int (neg_ℤ (pos k))) (same_value (subst (λ zs. Spells zs m) (same_digits s t p q) p) q) ∙ sym f
 unique Sign bytes w v (m, s, e) (n, t, f) = e ∙ ap mark (same_mark m n (sym s ∙ t)) ∙ sym f
-unique Text [] w v o p = absurd o
 unique Text (b ∷ bs) w v (xs, s, e) (ys, t, f) = e ∙ ap text (same_said false b (length bs) bs xs ys s t) ∙ sym f
-unique Raw [] w v o p = absurd o
-unique Raw (b ∷ []) w v o p = absurd o
 unique Raw (b ∷ c ∷ cs) w v (xs, s, e) (ys, t, f) = e ∙ ap text (same_said true c (length cs) cs xs ys s t) ∙ sym f
+unique _ _ w v o p = absurd o
 
 pub one_word : {signed : Bool} {bytes : List ℕ} {w v : Word} → IsToken signed bytes w → IsToken signed bytes v → w ≡ v
 one_word {bytes = bytes} {w = w} {v = v} s t = unique (kind bytes) bytes w v (of_its_kind s) (of_its_kind t)

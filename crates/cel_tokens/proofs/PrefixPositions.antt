@@ -5,7 +5,7 @@ use Rattle.std.proofs.lemmas.Slice.Eq.{bytes_eq-Decides}
 use Rattle.std.proofs.lemmas.Bool.{false_from_ne_true}
 use Rattle.std.proofs.lemmas.Bool.Decides.{not_from_Decides}
 use Rattle.cel_tokens.specs.declared.mark.Mark.{Mark}
-use Rattle.cel_tokens.specs.declared.mark.Mark.TheVariants.{Question, Colon, Or, And, Less, LessEqual, GreaterEqual, Greater, Equal, NotEqual, Plus, Minus, Star, Slash, Percent, Not, Dot, Comma, OpenParen, CloseParen, OpenBracket, CloseBracket, OpenBrace, CloseBrace}
+use Rattle.cel_tokens.specs.declared.mark.Mark.TheVariants.{CloseParen, CloseBracket, CloseBrace}
 use Rattle.cel_tokens.specs.Token.{Word, name, int, text, mark}
 use Rattle.cel_tokens.specs.Front.{sign_may_follow}
 use Rattle.cel_tokens.specs.SignedInts.{EndsOperand}
@@ -18,27 +18,7 @@ after_mark : (m : Mark) → sign_may_follow (mark m) ≡ false → EndsOperand (
 after_mark CloseParen e = paren
 after_mark CloseBracket e = bracket
 after_mark CloseBrace e = brace
-after_mark Question e = may e
-after_mark Colon e = may e
-after_mark Or e = may e
-after_mark And e = may e
-after_mark Less e = may e
-after_mark LessEqual e = may e
-after_mark GreaterEqual e = may e
-after_mark Greater e = may e
-after_mark Equal e = may e
-after_mark NotEqual e = may e
-after_mark Plus e = may e
-after_mark Minus e = may e
-after_mark Star e = may e
-after_mark Slash e = may e
-after_mark Percent e = may e
-after_mark Not e = may e
-after_mark Dot e = may e
-after_mark Comma e = may e
-after_mark OpenParen e = may e
-after_mark OpenBracket e = may e
-after_mark OpenBrace e = may e
+after_mark _ e = may e
 
 ends : (w : Word) → sign_may_follow w ≡ false → EndsOperand w
 ends (name bytes) e = identifier bytes (not_from_Decides (bytes_eq bytes (codes "in")) (bytes_eq-Decides bytes (codes "in")) e)
@@ -48,11 +28,7 @@ ends (mark m) e = after_mark m e
 
 none_follows : {w : Word} → EndsOperand w → sign_may_follow w ≡ false
 none_follows (identifier bytes h) = false_from_ne_true (bytes_eq bytes (codes "in")) (λ e. h ((bytes_eq-Decides bytes (codes "in")).0 e))
-none_follows (an_int z) = refl
-none_follows (a_text bytes) = refl
-none_follows paren = refl
-none_follows bracket = refl
-none_follows brace = refl
+none_follows _ = refl
 
 pub has_prefix_position : (w : Word) → (sign_may_follow w ≡ false → EndsOperand w) × (EndsOperand w → sign_may_follow w ≡ false)
 has_prefix_position w = (ends w, none_follows)

@@ -27,10 +27,7 @@ cut_takes : {signed : Bool} {so_far : List Lexeme} {place : ℕ} {rest : List �
 cut_takes (lexis.Cuts.over f) e = inl e
 cut_takes (lexis.Cuts.space {signed = signed} {rest = rest} {r = r} n f d) e = behind signed n rest r f (cut_takes d e)
 cut_takes (lexis.Cuts.token {signed = signed} {rest = rest} {r = r} n w f l d) e = takes signed rest r (for_word n w f)
-cut_takes (lexis.Cuts.nothing f) e = tt
-cut_takes (lexis.Cuts.wrong_text f l) e = tt
-cut_takes (lexis.Cuts.wide_int n f l) e = tt
-cut_takes (lexis.Cuts.too_many b l) e = tt
+cut_takes _ e = tt
 
 -- the text has no token, or is short enough and takes memory
 abbrev Found : List ℕ → Result (List Lexeme) ReadError → Type 0

@@ -22,27 +22,22 @@ selection_typed false f c t s h = ap (λ r. with_type r field_row) h
 call_typed : (b : Bool) (k : Option (List ℕ)) (n : List ℕ) (inner c : CoreTree) (x y : Typing) (s : Scope) → IfSome k (λ f. core_typing inner s ≡ x) → core_typing c s ≡ y → core_typing (call_or_has b k n inner c) s ≡ call_type b k (function_named n) x y
 unfolding core_typing
 call_typed true (Some f) n inner c x y s hx hy = ap (λ r. with_type r has_row) hx
-call_typed true None n inner c x y s hx hy = ap (λ r. with_type r (function_row (function_named n))) hy
-call_typed false k n inner c x y s hx hy = ap (λ r. with_type r (function_row (function_named n))) hy
+call_typed _ _ n inner c x y s hx hy = ap (λ r. with_type r (function_row (function_named n))) hy
 
 fold_typed : (m : Option Macro) (k : Option (List ℕ)) (n : List ℕ) (ca cx cp : CoreTree) (s : Scope) (a x p : Typing) (q : List ℕ → Typing) → core_typing ca s ≡ a → core_typing cx s ≡ x → core_typing cp s ≡ p → ((i : List ℕ) → core_typing cp (within i s) ≡ q i) → core_typing (method_or_fold m k n ca cx cp) s ≡ fold_type m k a q (a ∷ x ∷ p ∷ [])
 unfolding core_typing
 fold_typed (Some m) (Some i) n ca cx cp s a x p q ha hx hp hq = λ j. with_type (ha j) (λ t. with_type (hq i j) (λ u. macro_row m t u))
-fold_typed (Some m) None n ca cx cp s a x p q ha hx hp hq = λ j. with_types (ha j ∷ hx j ∷ hp j ∷ []) (refused NoOverload)
-fold_typed None k n ca cx cp s a x p q ha hx hp hq = λ j. with_types (ha j ∷ hx j ∷ hp j ∷ []) (refused NoOverload)
+fold_typed _ _ n ca cx cp s a x p q ha hx hp hq = λ j. with_types (ha j ∷ hx j ∷ hp j ∷ []) (refused NoOverload)
 
 fold_map_typed : (b : Bool) (k : Option (List ℕ)) (n : List ℕ) (ca cx cp ct : CoreTree) (s : Scope) (a x p t : Typing) (q u : List ℕ → Typing) → core_typing ca s ≡ a → core_typing cx s ≡ x → core_typing cp s ≡ p → core_typing ct s ≡ t → ((i : List ℕ) → core_typing cp (within i s) ≡ q i) → ((i : List ℕ) → core_typing ct (within i s) ≡ u i) → core_typing (method_or_fold_map b k n ca cx cp ct) s ≡ fold_map_type b k a q u (a ∷ x ∷ p ∷ t ∷ [])
 unfolding core_typing
 fold_map_typed true (Some i) n ca cx cp ct s a x p t q u ha hx hp ht hq hu = λ j. with_type (ha j) (λ v. with_type (hq i j) (λ w. with_type (hu i j) (λ z. map_row v w z)))
-fold_map_typed true None n ca cx cp ct s a x p t q u ha hx hp ht hq hu = λ j. with_types (ha j ∷ hx j ∷ hp j ∷ ht j ∷ []) (refused NoOverload)
-fold_map_typed false k n ca cx cp ct s a x p t q u ha hx hp ht hq hu = λ j. with_types (ha j ∷ hx j ∷ hp j ∷ ht j ∷ []) (refused NoOverload)
+fold_map_typed _ _ n ca cx cp ct s a x p t q u ha hx hp ht hq hu = λ j. with_types (ha j ∷ hx j ∷ hp j ∷ ht j ∷ []) (refused NoOverload)
 
 mutual
   unfolding expanded core_typing typing
 
   pub expansion_typed : (e : Tree) (s : Scope) → core_typing (expanded e) s ≡ typing e s
-  expansion_typed (tree.literal l) s = refl
-  expansion_typed (tree.name n) s = refl
   expansion_typed (tree.select a f) s = selection_typed (is_variables a) f (expanded a) (typing a s) s (expansion_typed a s)
   expansion_typed (tree.index a k) s = λ j. with_type (expansion_typed a s j) (λ x. with_type (expansion_typed k s j) (λ y. index_row x y))
   expansion_typed (tree.unary op a) s = ap (λ t. with_type t (unary_row op)) (expansion_typed a s)
@@ -50,7 +45,6 @@ mutual
   expansion_typed (tree.ternary c a b) s = λ j. with_type (expansion_typed c s j) (λ x. with_type (expansion_typed a s j) (λ y. with_type (expansion_typed b s j) (λ z. ternary_row x y z)))
   expansion_typed (tree.list items) s = ap (λ ts. with_types ts (typed type.List)) (trees_typed items s)
   expansion_typed (tree.map es) s = λ j. with_types (entries_typed es s j) (row (list_all is_text_key (keys_typed es s j)) type.Map)
-  expansion_typed (tree.call n no_trees) s = refl
   expansion_typed (tree.call n (more_trees a no_trees)) s = call_typed (is_has n) (field_name a) n (expanded_operand a) (expanded a) (operand_typing a s) (typing a s) s (operand_typed a s) (expansion_typed a s)
   expansion_typed (tree.call n (more_trees a (more_trees b more))) s = λ j. with_types (expansion_typed a s j ∷ expansion_typed b s j ∷ trees_typed more s j) (refused NoOverload)
   expansion_typed (tree.method a n no_trees) s = ap (λ t. with_type t (method_row (function_named n))) (expansion_typed a s)
@@ -58,6 +52,7 @@ mutual
   expansion_typed (tree.method a n (more_trees x (more_trees p no_trees))) s = fold_typed (macro_named n) (name_of x) n (expanded a) (expanded x) (expanded p) s (typing a s) (typing x s) (typing p s) (λ i. typing p (within i s)) (expansion_typed a s) (expansion_typed x s) (expansion_typed p s) (λ i. expansion_typed p (within i s))
   expansion_typed (tree.method a n (more_trees x (more_trees p (more_trees t no_trees)))) s = fold_map_typed (is_map n) (name_of x) n (expanded a) (expanded x) (expanded p) (expanded t) s (typing a s) (typing x s) (typing p s) (typing t s) (λ i. typing p (within i s)) (λ i. typing t (within i s)) (expansion_typed a s) (expansion_typed x s) (expansion_typed p s) (expansion_typed t s) (λ i. expansion_typed p (within i s)) (λ i. expansion_typed t (within i s))
   expansion_typed (tree.method a n (more_trees x (more_trees p (more_trees t (more_trees u more))))) s = λ j. with_types (expansion_typed a s j ∷ expansion_typed x s j ∷ expansion_typed p s j ∷ expansion_typed t s j ∷ expansion_typed u s j ∷ trees_typed more s j) (refused NoOverload)
+  expansion_typed _ s = refl
 
   operand_typed : (a : Tree) (s : Scope) → IfSome (field_name a) (λ f. core_typing (expanded_operand a) s ≡ operand_typing a s)
   operand_typed (tree.select a f) s = expansion_typed a s

@@ -134,23 +134,17 @@ module _ (s : Scope) (e : Tree) (due : NoOverload ≡ cause e) where
   by_row ts false t step = due
 
   by_one : (f : CelType → Typing) (ts : List CelType) → ((x : CelType) → Answered s e (x ∷ []) (f x)) → Answered s e ts (on_one f ts)
-  by_one f [] step = due
   by_one f (x ∷ []) step = step x
-  by_one f (x ∷ y ∷ ts) step = due
+  by_one f _ step = due
 
   by_two : (f : CelType → CelType → Typing) (ts : List CelType) → ((x y : CelType) → Answered s e (x ∷ y ∷ []) (f x y)) → Answered s e ts (on_two f ts)
-  by_two f [] step = due
-  by_two f (x ∷ []) step = due
   by_two f (x ∷ y ∷ []) step = step x y
-  by_two f (x ∷ y ∷ z ∷ ts) step = due
+  by_two f _ step = due
 
   by_three : (f : CelType → CelType → CelType → Typing) (ts : List CelType) → ((x y z : CelType) → Answered s e (x ∷ y ∷ z ∷ []) (f x y z))
       → Answered s e ts (on_three f ts)
-  by_three f [] step = due
-  by_three f (x ∷ []) step = due
-  by_three f (x ∷ y ∷ []) step = due
   by_three f (x ∷ y ∷ z ∷ []) step = step x y z
-  by_three f (x ∷ y ∷ z ∷ u ∷ ts) step = due
+  by_three f _ step = due
 
 literal_rows : (s : Scope) (l : tree.Literal) (ts : List CelType) → Answered s (tree.literal l) ts (on_none (typed (literal_type l)) NoOverload ts)
 literal_rows s l [] = a_literal l
@@ -299,9 +293,8 @@ module _ (s : Scope) (n i : List ℕ) (a p : Tree) (r x : CelType) where
 fold_rows : (s : Scope) (n : List ℕ) (a x p : Tree) (ts : List CelType) (m : Option Macro) → macro_named n ≡ m
     → Answered s (folded a n x p) ts (fold_node m (name_of x) ts)
 fold_rows s n a (tree.name i) p ts (Some m) e = by_two s (folded a n (tree.name i) p) refl (macro_row m) ts (λ r x. macro_rows s n i a p r x m e)
-fold_rows s n a (tree.name i) p ts None e = refl
 fold_rows s n a _ p ts (Some m) e = refl
-fold_rows s n a _ p ts None e = refl
+fold_rows s n a _ p ts _ e = refl
 
 fold_map_rows : (s : Scope) (n : List ℕ) (a x p t : Tree) (ts : List CelType) (b : Bool) → is_map n ≡ b
     → Answered s (folded_map a n x p t) ts (fold_map_node b (name_of x) ts)
@@ -328,12 +321,10 @@ node_rows s (tree.binary o a b) ts = by_two s (tree.binary o a b) refl (binary_r
 node_rows s (tree.ternary c a b) ts = by_three s (tree.ternary c a b) refl ternary_row ts (choice_rows s c a b)
 node_rows s (tree.list items) ts = a_list
 node_rows s (tree.map es) ts = by_row s (tree.map es) refl ts (text_keys ts) type.Map (λ h. a_map (keys ts h))
-node_rows s (tree.call n no_trees) ts = refl
 node_rows s (tree.call n (more_trees a no_trees)) ts = by_one s (call_of n a) refl _ ts (λ x. call_rows s n a x (is_has n) refl)
-node_rows s (tree.call n (more_trees a (more_trees b more))) ts = refl
 node_rows s (tree.method a n no_trees) ts = by_one s (method_of a n) refl (method_row (function_named n)) ts (λ x. method_rows s n a x (function_named n) refl)
 node_rows s (tree.method a n (more_trees b no_trees)) ts = by_two s (method_with a n b) refl (test_row (test_named n)) ts
     (λ x y. test_rows s n a b x y (test_named n) refl)
 node_rows s (tree.method a n (more_trees x (more_trees p no_trees))) ts = fold_rows s n a x p ts (macro_named n) refl
 node_rows s (tree.method a n (more_trees x (more_trees p (more_trees t no_trees)))) ts = fold_map_rows s n a x p t ts (is_map n) refl
-node_rows s (tree.method a n (more_trees x (more_trees p (more_trees t (more_trees u more))))) ts = refl
+node_rows s _ ts = refl

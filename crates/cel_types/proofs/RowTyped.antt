@@ -74,12 +74,11 @@ node s (tree.ternary c a b) ts = on_three ternary_row ts
 node s (tree.list items) ts = typed type.List
 node s (tree.map es) ts = map_literal_row (text_keys ts)
 node s (tree.call n (more_trees a no_trees)) ts = on_one (λ x. call_type (is_has n) (field_name a) (function_named n) (typed x) (typed x)) ts
-node s (tree.call n _) ts = refused NoOverload
 node s (tree.method a n no_trees) ts = on_one (method_row (function_named n)) ts
 node s (tree.method a n (more_trees b no_trees)) ts = on_two (test_row (test_named n)) ts
 node s (tree.method a n (more_trees x (more_trees p no_trees))) ts = fold_node (macro_named n) (name_of x) ts
 node s (tree.method a n (more_trees x (more_trees p (more_trees t no_trees)))) ts = fold_map_node (is_map n) (name_of x) ts
-node s (tree.method a n _) ts = refused NoOverload
+node s _ ts = refused NoOverload
 
 -- ---- what a row asks for, as a test
 
@@ -89,12 +88,7 @@ or_right false b h = h
 
 same_self : (k : CelType) → same_type k k ≡ true
 same_self type.Bool = refl
-same_self type.Int = refl
-same_self type.String = refl
-same_self type.Null = refl
-same_self type.List = refl
-same_self type.Map = refl
-same_self type.Dyn = refl
+same_self _ = refl
 
 allowed_of : (ks : List CelType) {x : CelType} → MayBeOne ks x → allowed ks x ≡ true
 allowed_of ks {x} m = by m.2 (list_any_at (same_type m.0) ks m.1.0 m.0 m.1.1 (ap (same_type m.0) m.1.2 ∙ same_self m.0))
@@ -177,7 +171,6 @@ quantified r x m c = All-contains P (All ∷ Exists ∷ ExistsOne ∷ []) m (All
 -- the type of a row is that of its node
 pub row_typed : (s : Scope) {e : Tree} {ts : List CelType} {t : CelType} → IsRow s e ts t → node s e ts ≡ typed t
 unfolding is_variables name_type variable_type
-row_typed s (a_literal l) = refl
 row_typed s (a_name {n} v k) = λ j. if v j then refused MisplacedVariables else (if k j then typed type.Dyn else refused UnknownName)
 row_typed s (a_variable {a} {v = f} {t} v h) = (λ j. select_node (v j) f s []) ∙ ap type_or_fault h
 row_typed s (a_field {a} {f} {x} v m) = (λ j. select_node (v j) f s (x ∷ [])) ∙ one_typed type.Dyn (may m)
@@ -200,7 +193,6 @@ row_typed s (a_key l m) = key_typed l m
 row_typed s (a_logic {o} {a} {b} {x} {y} c l m) =
     grouped (binary.And ∷ binary.Or ∷ []) x y (logic_row x y) (refl, (refl, tt)) c ∙ one_typed type.Bool (both l m)
 row_typed s (a_choice c m) = two_typed _ (may c) (agree_of m)
-row_typed s a_list = refl
 row_typed s (a_map h) = one_typed type.Map (keys_of h)
 row_typed s (a_size {n} {a} {x} h m) = called n Size a x h ∙ one_typed type.Int (allowed_of (type.String ∷ type.List ∷ type.Map ∷ []) m)
 row_typed s (a_size_method {n} {a} {x} h m) = (λ j. method_row (h j) x) ∙ one_typed type.Int (allowed_of (type.String ∷ type.List ∷ type.Map ∷ []) m)
@@ -215,3 +207,4 @@ row_typed s (a_transform {n} {i} {a} {t} {r} {x} h o) =
     (λ j. fold_node (h j) (Some i) (r ∷ x ∷ [])) ∙ two_typed type.List (allowed_of (type.List ∷ type.Map ∷ []) o) refl
 row_typed s (a_filtered_transform {n} {i} {a} {p} {t} {r} {x} {y} h o q) =
     (λ j. fold_map_node (h j) (Some i) (r ∷ x ∷ y ∷ [])) ∙ two_typed type.List (allowed_of (type.List ∷ type.Map ∷ []) o) (may q)
+row_typed s _ = refl

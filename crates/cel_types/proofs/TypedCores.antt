@@ -72,10 +72,7 @@ no_has n x false e h = refl
 macro_again : (m : Macro) → macro_named (macro_name m) ≡ Some m
 unfolding macro_named
 macro_again All = refl
-macro_again Exists = refl
-macro_again ExistsOne = refl
-macro_again Filter = refl
-macro_again Map = refl
+macro_again _ = refl
 
 -- ---- the expansion of the plain tree
 
@@ -83,9 +80,6 @@ mutual
   unfolding expanded plain_tree core_typing is_has is_map is_variables
 
   pub typed_expands : (c : CoreTree) (s : Scope) → IsTyped (core_typing c s) → expanded (plain_tree c) ≡ c
-  typed_expands (literal l) s h = refl
-  typed_expands (name n) s h = refl
-  typed_expands (variable v) s h = refl
   typed_expands (select a f) s h =
       let of = first_typed (core_typing a s) field_row h in
       λ j. selection (no_variables a s of j) f (typed_expands a s of j)
@@ -105,6 +99,7 @@ mutual
   typed_expands (method a n (more_cores b (more_cores d more))) s h = absurd (never_typed (core_typing a s ∷ core_typings (more_cores b (more_cores d more)) s) NoOverload h)
   typed_expands (fold m n r p) s h = λ j. method_or_fold (macro_again m j) (Some n) (macro_name m) (typed_expands r s (first_typed (core_typing r s) _ h) j) (name n) (typed_expands p (within n s) (second_typed (core_typing r s) (core_typing p (within n s)) (macro_row m) h) j)
   typed_expands (fold_map n r p t) s h = λ j. fold_map n (typed_expands r s (first_typed (core_typing r s) _ h) j) (typed_expands p (within n s) (second_typed (core_typing r s) (core_typing p (within n s)) _ h) j) (typed_expands t (within n s) (third_typed (core_typing r s) (core_typing p (within n s)) (core_typing t (within n s)) map_row h) j)
+  typed_expands _ s h = refl
 
   trees_expand : (ts : CoreTrees) (s : Scope) (last : Typing) → IsTyped (with_types (core_typings ts s) last) → expanded_trees (plain_trees ts) ≡ ts
   trees_expand no_cores s last h = refl

@@ -71,26 +71,23 @@ same_is _ _ e = absurd (true≢false (sym e))
 -- ---- results of one kind
 
 truth_fits : (t : Truth) → Fits (typed type.Bool) (of_truth t)
-truth_fits Yes = refl
-truth_fits No = refl
 truth_fits Other = tt
+truth_fits _ = refl
 
 test_fits : (o : Option Bool) → Fits (typed type.Bool) (truth_or_error o)
 test_fits (Some b) = refl
 test_fits None = tt
 
 values_fit : (test : Value → Value → Option Bool) (x y : ValueOrError) → Fits (typed type.Bool) (on_values test x y)
-values_fit test error y = tt
-values_fit test (value a) error = tt
 values_fit test (value a) (value b) = test_fits (test a b)
+values_fit test _ _ = tt
 
 int_fits : (z : ℤ) → Fits (typed type.Int) (int_or_error z)
 int_fits z = cond_fits (fits z) type.Int (value (int z)) error refl tt
 
 ints_fit : (f : ℤ → ℤ → ValueOrError) → ((a b : ℤ) → Fits (typed type.Int) (f a b)) → (x y : Option ℤ) → Fits (typed type.Int) (on_ints f x y)
-ints_fit f h None y = tt
-ints_fit f h (Some a) None = tt
 ints_fit f h (Some a) (Some b) = h a b
+ints_fit f h _ _ = tt
 
 quotient_fits : (a b : ℤ) → Fits (typed type.Int) (quotient a b)
 quotient_fits a b = cond_fits (is_zero b) type.Int error (int_or_error (int_div a b)) tt (int_fits (int_div a b))
@@ -112,9 +109,7 @@ map_fits (Some es) = refl
 
 pub literal_fits : (l : tree.Literal) → Fits (typed (literal_type l)) (literal_of l)
 literal_fits (tree.int z) = refl
-literal_fits (tree.text s) = refl
-literal_fits (tree.truth b) = refl
-literal_fits tree.null = refl
+literal_fits _ = refl
 
 -- ---- operators
 
@@ -127,19 +122,13 @@ sum_left : (t : CelType) (u v : ValueOrError) → Fits (typed t) u → Fits (typ
 sum_left t (value (int a)) (value (int b)) h = cond_fits (fits (a +ℤ b)) t (value (int (a +ℤ b))) error h tt
 sum_left t (value (text a)) (value (text b)) h = h
 sum_left t (value (list a)) (value (list b)) h = h
-sum_left t (value (int a)) _ h = tt
-sum_left t (value (text a)) _ h = tt
-sum_left t (value (list a)) _ h = tt
-sum_left t _ v h = tt
+sum_left t _ _ h = tt
 
 sum_right : (t : CelType) (u v : ValueOrError) → Fits (typed t) v → Fits (typed t) (sum_of u v)
 sum_right t (value (int a)) (value (int b)) h = cond_fits (fits (a +ℤ b)) t (value (int (a +ℤ b))) error h tt
 sum_right t (value (text a)) (value (text b)) h = h
 sum_right t (value (list a)) (value (list b)) h = h
-sum_right t (value (int a)) _ h = tt
-sum_right t (value (text a)) _ h = tt
-sum_right t (value (list a)) _ h = tt
-sum_right t _ v h = tt
+sum_right t _ _ h = tt
 
 either_type : (b : Bool) (s t : CelType) (x : ValueOrError) → Fits (typed s) x → Fits (typed t) x → Fits (typed (cond b s t)) x
 either_type true s t x hs ht = hs
@@ -238,10 +227,8 @@ method_fits (Some Dyn) a x = with_fits a (method_row (Some Dyn)) error (λ t. tt
 method_fits None a x = with_fits a (method_row None) error (λ t. tt)
 
 texts_fit : (f : Option TextTest) (x y : Option (List ℕ)) → Fits (typed type.Bool) (test_texts f x y)
-texts_fit None x y = tt
-texts_fit (Some f) None y = tt
-texts_fit (Some f) (Some a) None = tt
 texts_fit (Some f) (Some a) (Some b) = refl
+texts_fit _ _ _ = tt
 
 test_row_fits : (f : Option TextTest) (u v : ValueOrError) (x y : CelType) → Fits (test_row f x y) (text_test_of f u v)
 test_row_fits None u v x y = tt
@@ -256,8 +243,7 @@ has_fits f (Some es) = refl
 
 pub call_fits : (b : Bool) (k : Option (List ℕ)) (g : Option Function) (x y : Typing) (u v : ValueOrError) → Fits (call_type b k g x y) (called b k g u v)
 call_fits true (Some f) g x y u v = with_fits x has_row (has_of u f) (λ t. row_fits (allowed (type.Map ∷ []) t) type.Bool (has_of u f) (has_fits f (entries_part u)))
-call_fits true None g x y u v = with_fits y (function_row g) (function_of g v) (function_fits g v)
-call_fits false k g x y u v = with_fits y (function_row g) (function_of g v) (function_fits g v)
+call_fits _ _ g x y u v = with_fits y (function_row g) (function_of g v) (function_fits g v)
 
 -- ---- macros
 
@@ -286,8 +272,7 @@ range_fits m n f (Some items) = macro_fits m (f n) items
 
 pub fold_fits : (m : Option Macro) (k : Option (List ℕ)) (r : Typing) (p : List ℕ → Typing) (parts : List Typing) (f : List ℕ → Value → ValueOrError) (items : Option (List Value)) → Fits (fold_type m k r p parts) (over_range m k f items)
 fold_fits (Some m) (Some n) r p parts f items = two_fit r (p n) (macro_row m) (over_range (Some m) (Some n) f items) (λ a b. row_fits (is_range a && part_allowed m b) (macro_type m) (over_range (Some m) (Some n) f items) (range_fits m n f items))
-fold_fits (Some m) None r p parts f items = with_types_fit parts (refused NoOverload) error tt
-fold_fits None k r p parts f items = with_types_fit parts (refused NoOverload) error tt
+fold_fits _ _ r p parts f items = with_types_fit parts (refused NoOverload) error tt
 
 map_range_fits : (n : List ℕ) (p f : List ℕ → Value → ValueOrError) (items : Option (List Value)) → Fits (typed type.List) (map_over_range true (Some n) p f items)
 map_range_fits n p f None = tt
@@ -298,5 +283,4 @@ fold_map_fits true (Some n) r p t parts q f items =
     with_fits r (λ a. with_type (p n) (λ b. with_type (t n) (λ c. map_row a b c))) (map_over_range true (Some n) q f items) (λ a.
     two_fit (p n) (t n) (map_row a) (map_over_range true (Some n) q f items) (λ b c.
     row_fits (is_range a && allowed (type.Bool ∷ []) b) type.List (map_over_range true (Some n) q f items) (map_range_fits n q f items)))
-fold_map_fits true None r p t parts q f items = with_types_fit parts (refused NoOverload) error tt
-fold_map_fits false k r p t parts q f items = with_types_fit parts (refused NoOverload) error tt
+fold_map_fits _ _ r p t parts q f items = with_types_fit parts (refused NoOverload) error tt

@@ -91,33 +91,19 @@ answer_of-capped s w (Forward n) fits = by_range (can_go_on w.place) (on_out w.p
 answer_of-capped s w (Back n) fits = by_range (can_go_back w.place) (back_out w.place) (λ (m : ℕ). moves_to s w (w.place - m)) (out_of_range w) n
 answer_of-capped s w (Go k) fits = by_range can_go_to to_out (moves_to s w) (out_of_range w) k
 answer_of-capped s w (Continue n) fits = by_range (can_go_on w.place) (on_out w.place) (λ (m : ℕ). moves_to s w (first_stop w.breakpoints s w.place m)) (out_of_range w) n
-answer_of-capped s w ReverseContinue fits = refl
-answer_of-capped s w Registers fits = refl
 answer_of-capped s w (ValueAt h) fits = ap (says w) (value_text-capped (state_after w.place s).values.values h fits)
 answer_of-capped s w (MemoryAt address n) fits = ap (λ (bytes : Option (List ℕ)). says w (memory_text address bytes)) (by_range is_count count_out (bytes_from (state_after w.place s).memory address) None n)
-answer_of-capped s w Frames fits = refl
-answer_of-capped s w Listing fits = refl
-answer_of-capped s w Verdict fits = refl
-answer_of-capped s w Quit fits = refl
-answer_of-capped s w Unknown fits = refl
+answer_of-capped s w _ fits = refl
 
 may_be_refused-capped : (s : State) (w : World) (c : Command) → Fits (state_after w.place s) (capped_command c) → may_be_refused s w (capped_command c) ≡ may_be_refused s w c
 unfolding may_be_refused
 may_be_refused-capped s w (SetBreakpoint n) fits = by_test (λ (m : ℕ). is_slot m && not (has_breakpoint m w.breakpoints)) (new_out w.breakpoints) n
-may_be_refused-capped s w (ClearBreakpoint n) fits = refl
 may_be_refused-capped s w (Forward n) fits = by_test (can_go_on w.place) (on_out w.place) n
 may_be_refused-capped s w (Back n) fits = by_test (can_go_back w.place) (back_out w.place) n
 may_be_refused-capped s w (Go k) fits = by_test can_go_to to_out k
 may_be_refused-capped s w (Continue n) fits = by_test (can_go_on w.place) (on_out w.place) n
-may_be_refused-capped s w ReverseContinue fits = refl
-may_be_refused-capped s w Registers fits = refl
 may_be_refused-capped s w (ValueAt h) fits = ap (λ (v : Option ValueOrError). is_some v) (value_is (state_after w.place s).values.values h fits)
-may_be_refused-capped s w (MemoryAt address n) fits = refl
-may_be_refused-capped s w Frames fits = refl
-may_be_refused-capped s w Listing fits = refl
-may_be_refused-capped s w Verdict fits = refl
-may_be_refused-capped s w Quit fits = refl
-may_be_refused-capped s w Unknown fits = refl
+may_be_refused-capped s w _ fits = refl
 
 -- a line whose command was obeyed
 pub answers_granted : (s : State) (w next : World) (line : List ℕ) (c : Command) (text : List ℕ) → Fits (state_after w.place s) c → c ≡ capped_command (command_of line) → (answer_of s w c).next ≡ next → (answer_of s w c).text ≡ text → Answers s w line next text

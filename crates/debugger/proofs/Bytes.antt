@@ -35,10 +35,3 @@ adds_more old known new bytes i n so_far more before is =
     more (before ++ take i bytes) (so_far before is)
     ∙ ap (λ (piece : List ℕ). Some ((before ++ take i bytes) ++ take n piece)) (rest_of bytes i)
     ∙ ap Some (append_assoc before (take i bytes) (take n (drop i bytes)) ∙ ap (λ (piece : List ℕ). before ++ piece) (sym (take-add i n bytes)))
-
--- a write that fails adds nothing to the first i bytes
-pub adds_kept : (old known new : Option (List ℕ)) (bytes : List ℕ) → AddsBytes old known bytes → KeepsBytes known new → AddsBytes old new bytes
-adds_kept old known new bytes so_far kept before is = kept (before ++ bytes) (so_far before is)
-
-pub adds_all : (old new : Option (List ℕ)) (bytes : List ℕ) (i : ℕ) → length bytes ≤ i → AddsBytes old new (take i bytes) → AddsBytes old new bytes
-adds_all old new bytes i end so_far before is = so_far before is ∙ ap (λ (piece : List ℕ). Some (before ++ piece)) (take_all i bytes end)

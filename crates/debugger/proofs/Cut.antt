@@ -89,9 +89,8 @@ with_rest-none lines n [] none = refl
 with_rest-none lines n (c ∷ cs) none = cc
 
 with_rest-some : (lines : List (List ℕ)) (n : ℕ) (rest : List ℕ) → 0 < length (take n rest) → with_rest lines rest ≡ lines ++ rest ∷ []
-with_rest-some lines zero rest some = absurd (omega (arith, some))
-with_rest-some lines (suc n) [] some = absurd (omega (arith, some))
 with_rest-some lines (suc n) (c ∷ cs) some = refl
+with_rest-some lines _ _ some = absurd (omega (arith, some))
 
 -- where the last line has ended, and where it has not
 pub input_lines-ended : (input : List ℕ) → take 65 (cut input).1 ≡ [] → input_lines input ≡ (cut input).0
@@ -113,9 +112,8 @@ take-end input i limit none before =
     sym (take-split limit i input before) ∙ ap (λ (more : List ℕ). take i input ++ take (limit - i) more) none ∙ ap (λ (more : List ℕ). take i input ++ more) (take-none (limit - i)) ∙ append-nil (take i input)
 
 pub take-push : (n : ℕ) (xs : List ℕ) (b : ℕ) → take n (take n xs ++ b ∷ []) ≡ take n (xs ++ b ∷ [])
-take-push zero xs b = refl
-take-push (suc n) [] b = refl
 take-push (suc n) (x ∷ xs) b = ap (λ (more : List ℕ). x ∷ more) (take-push n xs b)
+take-push _ _ b = refl
 
 pub one_within : (input : List ℕ) (i b : ℕ) → drop i input ≡ b ∷ drop 1 (drop i input) → i + 1 ≤ length input
 one_within input i b first = let one = ap length first in let all = length-drop i input in omega (arith, one, all)

@@ -27,13 +27,12 @@ wrapped_line a b bytes is =
 -- an address is shown in 64 bits
 wrapped_lines : (count a b : ℕ) (bytes : List ℕ) → a ≡ b + 2 ^ 64 → memory_lines count a bytes ≡ memory_lines count b bytes
 unfolding memory_lines
-wrapped_lines zero a b bytes is = refl
-wrapped_lines (suc count) a b [] is = refl
 wrapped_lines (suc count) a b (c ∷ cs) is =
     let next : a + 16 ≡ b + 16 + 2 ^ 64 = omega (arith, is) in
     let first = wrapped_line a b (take 16 (c ∷ cs)) is in
     let rest = wrapped_lines count (a + 16) (b + 16) (drop 16 (c ∷ cs)) next in
     λ i. first i ++ rest i
+wrapped_lines _ a b _ is = refl
 
 next_lines : (count a b : ℕ) (bytes : List ℕ) → b ≡ (a + 16) % 2 ^ 64 → a < 2 ^ 64 → memory_lines count (a + 16) bytes ≡ memory_lines count b bytes
 next_lines count a b bytes is fits =
@@ -44,9 +43,8 @@ next_lines count a b bytes is fits =
 
 pub lines_none : (count a : ℕ) (old bytes : List ℕ) → length bytes ≡ 0 → old ≡ old ++ memory_lines count a bytes
 unfolding memory_lines
-lines_none zero a old bytes none = sym (append-nil old)
-lines_none (suc count) a old [] none = sym (append-nil old)
 lines_none (suc count) a old (b ∷ bs) none = absurd (omega (arith, none))
+lines_none _ a old _ none = sym (append-nil old)
 
 pub some_bytes : (bytes : List ℕ) → (length bytes ≡ 0 → ⊥) → 0 < length bytes
 some_bytes bytes some = omega (arith, some)

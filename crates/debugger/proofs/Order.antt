@@ -23,15 +23,7 @@ answer_ordered s w (Forward n) kept = either (λ (a : Answer). Ordered a.next) (
 answer_ordered s w (Back n) kept = either (λ (a : Answer). Ordered a.next) (can_go_back w.place n) _ (out_of_range w) kept kept
 answer_ordered s w (Go k) kept = either (λ (a : Answer). Ordered a.next) (can_go_to k) (moves_to s w k) (out_of_range w) kept kept
 answer_ordered s w (Continue n) kept = either (λ (a : Answer). Ordered a.next) (can_go_on w.place n) (moves_to s w (first_stop w.breakpoints s w.place n)) (out_of_range w) kept kept
-answer_ordered s w ReverseContinue kept = kept
-answer_ordered s w Registers kept = kept
-answer_ordered s w (ValueAt h) kept = kept
-answer_ordered s w (MemoryAt address n) kept = kept
-answer_ordered s w Frames kept = kept
-answer_ordered s w Listing kept = kept
-answer_ordered s w Verdict kept = kept
-answer_ordered s w Quit kept = kept
-answer_ordered s w Unknown kept = kept
+answer_ordered s w _ kept = kept
 
 line_ordered : (s : State) (w : World) (l : Line) → Ordered w → Ordered (answer_to s w l).next
 unfolding answer_to

@@ -28,34 +28,14 @@ answer_of-ended s w (Forward n) on = either (Ends false) (can_go_on w.place n) _
 answer_of-ended s w (Back n) on = either (Ends false) (can_go_back w.place n) _ (out_of_range w) on on
 answer_of-ended s w (Go k) on = either (Ends false) (can_go_to k) (moves_to s w k) (out_of_range w) on on
 answer_of-ended s w (Continue n) on = either (Ends false) (can_go_on w.place n) (moves_to s w (first_stop w.breakpoints s w.place n)) (out_of_range w) on on
-answer_of-ended s w ReverseContinue on = on
-answer_of-ended s w Registers on = on
-answer_of-ended s w (ValueAt h) on = on
-answer_of-ended s w (MemoryAt address n) on = on
-answer_of-ended s w Frames on = on
-answer_of-ended s w Listing on = on
-answer_of-ended s w Verdict on = on
 answer_of-ended s w Quit on = refl
-answer_of-ended s w Unknown on = on
+answer_of-ended s w _ on = on
 
 -- and it needs no memory
 quit_granted : (s : State) (w : World) (c : Command) → may_be_refused s w c ≡ true → is_quit c ≡ false
 unfolding may_be_refused
-quit_granted s w (SetBreakpoint n) may = refl
-quit_granted s w (ClearBreakpoint n) may = refl
-quit_granted s w (Forward n) may = refl
-quit_granted s w (Back n) may = refl
-quit_granted s w (Go k) may = refl
-quit_granted s w (Continue n) may = refl
-quit_granted s w ReverseContinue may = refl
-quit_granted s w Registers may = refl
-quit_granted s w (ValueAt h) may = refl
-quit_granted s w (MemoryAt address n) may = refl
-quit_granted s w Frames may = refl
-quit_granted s w Listing may = refl
-quit_granted s w Verdict may = refl
 quit_granted s w Quit may = cc
-quit_granted s w Unknown may = refl
+quit_granted s w _ may = refl
 
 ended_by : (s : State) (w : World) (c : Command) (mark refused : Bool) → mark && may_be_refused s w c ≡ refused → w.ended ≡ false → (if refused then says w (codes "? memory\n") else answer_of s w c).next.ended ≡ is_quit c
 ended_by s w c true true is on = on ∙ sym (quit_granted s w c is)

@@ -283,14 +283,12 @@ abbrev pub low : List ℕ → List ℕ
 low words = map (λ (word : ℕ). word % 256) words
 
 take_low : (n : ℕ) (words : List ℕ) → take n (low words) ≡ low (take n words)
-take_low zero words = refl
-take_low (suc n) [] = refl
 take_low (suc n) (w ∷ ws) = ap (λ (t : List ℕ). w % 256 ∷ t) (take_low n ws)
+take_low _ _ = refl
 
 drop_low : (n : ℕ) (words : List ℕ) → drop n (low words) ≡ low (drop n words)
-drop_low zero words = refl
-drop_low (suc n) [] = refl
 drop_low (suc n) (w ∷ ws) = drop_low n ws
+drop_low _ _ = refl
 
 low_pair : (word : ℕ) → hex_digits 2 (word % 256) ≡ hex_digits 2 word
 unfolding hex_digits
@@ -310,12 +308,11 @@ low_line address words = ap (λ (t : List ℕ). word_text address ++ (t ++ 10 �
 
 low_lines : (count address : ℕ) (words : List ℕ) → memory_lines count address (low words) ≡ memory_lines count address words
 unfolding memory_lines
-low_lines zero address words = refl
-low_lines (suc count) address [] = refl
 low_lines (suc count) address (w ∷ ws) =
     let first = ap (memory_line address) (take_low 16 (w ∷ ws)) ∙ low_line address (take 16 (w ∷ ws)) in
     let rest = ap (memory_lines count (address + 16)) (drop_low 16 (w ∷ ws)) ∙ low_lines count (address + 16) (drop 16 (w ∷ ws)) in
     λ i. first i ++ rest i
+low_lines _ address _ = refl
 
 -- a text does not tell words from their low bytes
 pub low_text : (address : ℕ) (words : Option (List ℕ)) → memory_text address (option_map low words) ≡ memory_text address words

@@ -72,8 +72,7 @@ write_by : (m after : Memory) (address n word : ℕ) (o : Option (Region × ℕ)
 write_by m after address n word (Some (Stack, at)) has says e = subst HasRegions (ok_is _ after e) (written Stack m _ (within_region Stack m address n at word says) has)
 write_by m after address n word (Some (Scratch, at)) has says e = subst HasRegions (ok_is _ after e) (written Scratch m _ (within_region Scratch m address n at word says) has)
 write_by m after address n word (Some (Verdict, at)) has says e = subst HasRegions (ok_is _ after e) (written Verdict m _ (within_region Verdict m address n at word says) has)
-write_by m after address n word (Some (Constants, at)) has says e = cc
-write_by m after address n word None has says e = cc
+write_by m after address n word _ has says e = cc
 
 write_sized : (m after : Memory) (address word : ℕ) (size : memory.Size) → HasRegions m → write_of m address size word ≡ Ok after → HasRegions after
 unfolding write_of
@@ -130,13 +129,8 @@ module _ (s : State) (is : IsSized s) where
 
   executed_sized : (i : Insn) → IsSized (executed i s)
   unfolding alu_row neg_row sign_extend_row byte_swap_row jump_row branch_row call_row call_local_row exit_row load_row load_signed_row store_row atomic_row load_wide_row
-  executed_sized (Alu op width dst operand) = either _ _ _ is is
-  executed_sized (Neg width dst) = either _ _ _ is is
-  executed_sized (SignExtend extension dst src) = either _ _ _ is is
-  executed_sized (ByteSwap order width dst) = either _ _ _ is is
   executed_sized (Jump offset) = is
   executed_sized (JumpLong offset) = is
-  executed_sized (Branch comparison width dst operand offset) = either _ _ _ is is
   executed_sized (Call helper) = answered_sized _
   executed_sized (CallLocal offset) = called_sized offset _ refl
   executed_sized Exit = returned_sized (newest s.records)
@@ -145,17 +139,15 @@ module _ (s : State) (is : IsSized s) where
   executed_sized (StoreImm size dst offset imm) = stored_sized _ (λ m e. write_sized s.memory m _ _ _ is.regions e)
   executed_sized (Store size dst offset src) = stored_sized _ (λ m e. write_sized s.memory m _ _ _ is.regions e)
   executed_sized (Atomic op width dst offset src) = either _ _ _ is (where_sized _ _ (exchanged_sized op width src _ _))
-  executed_sized (LoadWide dst value) = either _ _ _ is is
+  executed_sized _ = either _ _ _ is is
 
   stepped_sized : (o : Option (Option Insn)) → IsSized (stepped o s)
-  stepped_sized None = is
-  stepped_sized (Some None) = is
   stepped_sized (Some (Some i)) = executed_sized i
+  stepped_sized _ = is
 
   status_sized : (status : Status) → IsSized (by_status status s)
   status_sized Running = stepped_sized (fetched s.image.code s.pc)
-  status_sized (Exited w) = is
-  status_sized (Fault f) = is
+  status_sized _ = is
 
   next_sized : IsSized (next_state s)
   unfolding next_state

@@ -16,27 +16,23 @@ retained R keep f says (s ∷ slots) left kept =
 
 or_swap : (a b c : Bool) → a || (b || c) ≡ b || (a || c)
 or_swap true true c = refl
-or_swap true false c = refl
 or_swap false true c = refl
-or_swap false false c = refl
+or_swap _ _ c = refl
 
 and_swap : (a b c : Bool) → a && (b && c) ≡ b && (a && c)
 and_swap true true c = refl
-and_swap true false c = refl
 and_swap false true c = refl
-and_swap false false c = refl
+and_swap _ _ c = refl
 
 any-insert : (test : ℕ → Bool) (xs : List ℕ) (i x : ℕ) → list_any test (insert xs i x) ≡ test x || list_any test xs
 any-insert test [] zero x = refl
-any-insert test [] (suc i) x = refl
-any-insert test (y ∷ ys) zero x = refl
 any-insert test (y ∷ ys) (suc i) x = ap (λ (b : Bool). test y || b) (any-insert test ys i x) ∙ or_swap (test y) (test x) (list_any test ys)
+any-insert test _ _ x = refl
 
 all-insert : (test : ℕ → Bool) (xs : List ℕ) (i x : ℕ) → list_all test (insert xs i x) ≡ test x && list_all test xs
 all-insert test [] zero x = refl
-all-insert test [] (suc i) x = refl
-all-insert test (y ∷ ys) zero x = refl
 all-insert test (y ∷ ys) (suc i) x = ap (λ (b : Bool). test y && b) (all-insert test ys i x) ∙ and_swap (test y) (test x) (list_all test ys)
+all-insert test _ _ x = refl
 
 -- a slot that is there is there under each equal name
 has_same : (slot other : ℕ) (slots : List ℕ) (same : Bool) → nat_eq slot other ≡ same → has_breakpoint slot slots ≡ true → has_breakpoint other slots ≡ nat_eq slot other || has_breakpoint other slots

@@ -45,10 +45,3 @@ words_more name old text new m from i word is front last =
 
 pub words_all : (name old text : List ℕ) (m : Memory) (from i : ℕ) → i ≡ 64 → text ≡ old ++ word_lines name m from i → text ≡ old ++ word_lines name m from 64
 words_all name old text m from i all e = e ∙ ap (λ (k : ℕ). old ++ word_lines name m from k) all
-
-pub lines_all : (none first second all : List ℕ) (version : ℕ) (m : Memory) → none ≡ [] → first ≡ none ++ verdict_line m → second ≡ first ++ word_lines (codes "validation") m 16 64 → all ≡ second ++ message_lines version m → all ≡ verdict_lines version m
-unfolding verdict_lines
-lines_all none first second all version m empty a b c =
-    c
-    ∙ ap (λ (t : List ℕ). t ++ message_lines version m) (b ∙ ap (λ (t : List ℕ). t ++ word_lines (codes "validation") m 16 64) (a ∙ ap (λ (t : List ℕ). t ++ verdict_line m) empty))
-    ∙ append_assoc (verdict_line m) (word_lines (codes "validation") m 16 64) (message_lines version m)

@@ -113,9 +113,8 @@ memory_line-whole address bytes = fed_whole (word_text address ++ (digits_of_byt
 
 memory_lines-whole : (count address : ℕ) (bytes : List ℕ) → Whole (memory_lines count address bytes)
 unfolding memory_lines
-memory_lines-whole zero address bytes = none_whole
-memory_lines-whole (suc count) address [] = none_whole
 memory_lines-whole (suc count) address (b ∷ bs) = whole-append (memory_line address (take 16 (b ∷ bs))) _ (memory_line-whole address (take 16 (b ∷ bs))) (memory_lines-whole count (address + 16) (drop 16 (b ∷ bs)))
+memory_lines-whole _ address _ = none_whole
 
 bytes_whole : (address : ℕ) (bytes : Option (List ℕ)) → Whole (memory_text address bytes)
 bytes_whole address (Some bytes) = memory_lines-whole 16 address bytes

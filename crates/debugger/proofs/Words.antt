@@ -74,9 +74,8 @@ first_written c (d ∷ ds) n true false is first alone short read =
     (ap (λ (front : List ℕ). front ++ d ∷ ds) (ap (λ (e : ℕ). e ∷ []) (sym same) ∙ sym (decimal_digit (c - 48) (omega (arith, high)))) ∙ all.0, all.1)
 
 number_by : (c : ℕ) (ds : List ℕ) (n : ℕ) (empty leads : Bool) → leads_with_zero (c ∷ ds) ≡ leads → length (c ∷ ds) ≤ 64 → (if empty then None else (if leads then None else read_digits 0 (c ∷ ds))) ≡ Some n → Writes (c ∷ ds) n
-number_by c ds n true leads is short read = cc
-number_by c ds n false true is short read = cc
 number_by c ds n false false is short read = first_written c ds n (is_digit c) (nat_eq c 48) refl refl is short read
+number_by c ds n _ _ is short read = cc
 
 -- what is read as a number is its decimals
 number_written : (ds : List ℕ) (n : ℕ) → length ds ≤ 64 → number_of ds ≡ Some n → Writes ds n
@@ -160,21 +159,8 @@ begins : (word line : List ℕ) → begins_with word line ≡ true → line ≡ 
 begins word line same_word = sym (take-append-drop (length word) line) ∙ ap (λ (front : List ℕ). front ++ drop (length word) line) (sym ((bytes_eq-Decides word (take (length word) line)).0 same_word))
 
 is_unknown : (c : Command) → (c ≡ Unknown) ⊎ (c ≢ Unknown)
-is_unknown (SetBreakpoint n) = inr (λ e. cc)
-is_unknown (ClearBreakpoint n) = inr (λ e. cc)
-is_unknown (Forward n) = inr (λ e. cc)
-is_unknown (Back n) = inr (λ e. cc)
-is_unknown (Go k) = inr (λ e. cc)
-is_unknown (Continue n) = inr (λ e. cc)
-is_unknown ReverseContinue = inr (λ e. cc)
-is_unknown Registers = inr (λ e. cc)
-is_unknown (ValueAt h) = inr (λ e. cc)
-is_unknown (MemoryAt address n) = inr (λ e. cc)
-is_unknown Frames = inr (λ e. cc)
-is_unknown Listing = inr (λ e. cc)
-is_unknown Verdict = inr (λ e. cc)
-is_unknown Quit = inr (λ e. cc)
 is_unknown Unknown = inl refl
+is_unknown _ = inr (λ e. cc)
 
 -- a line asks for this command, or for none
 Found : List ℕ → Command → Type 0
@@ -296,19 +282,14 @@ reads_form (Forward n) line l = ap form_of l.is ∙ ap (numbered Forward) (numbe
 reads_form (Back n) line l = ap form_of l.is ∙ ap (numbered Back) (number_read n l.fits)
 reads_form (Go k) line l = ap form_of l.is ∙ ap (numbered Go) (number_read k l.fits)
 reads_form (Continue n) line l = ap form_of l.is ∙ ap (numbered Continue) (number_read n l.fits)
-reads_form ReverseContinue line l = ap form_of l
-reads_form Registers line l = ap form_of l
 reads_form (ValueAt h) line l = ap form_of l.is ∙ ap (numbered ValueAt) (number_read h l.fits)
 reads_form (MemoryAt address n) line l =
     ap form_of l.is
     ∙ address_read l.digits address (codes " " ++ decimal n) l.most l.fits
     ∙ address_ended l.digits address (decimal n) l.some
     ∙ ap (numbered (MemoryAt address)) (number_read n l.number_fits)
-reads_form Frames line l = ap form_of l
-reads_form Listing line l = ap form_of l
-reads_form Verdict line l = ap form_of l
-reads_form Quit line l = ap form_of l
 reads_form Unknown line l = absurd l
+reads_form _ line l = ap form_of l
 
 reads_asked : (line : List ℕ) (c : Command) → Asks line c → command_of line ≡ c
 unfolding command_of

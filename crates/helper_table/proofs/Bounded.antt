@@ -13,12 +13,11 @@ use Rattle.helper_table.specs.Tables.{IsBounded, AreItemsBounded, AreEntriesBoun
 
 mutual
   pub looser : (v : Value) (n m : ℕ) → n ≤ m → IsBounded n v → IsBounded m v
-  looser null n m h b = tt
-  looser (boolean x) n m h b = tt
   looser (int z) n m h b = b
   looser (text s) n m h b = omega (arith, h, b)
   looser (list is) n m h b = (omega (arith, h, b.0), looser_items is n m h b.1)
   looser (map es) n m h b = (omega (arith, h, b.0), looser_entries es n m h b.1)
+  looser _ n m h b = tt
 
   pub looser_items : (is : Items) (n m : ℕ) → n ≤ m → AreItemsBounded n is → AreItemsBounded m is
   looser_items no_items n m h b = tt
@@ -58,35 +57,21 @@ found_bounded n key no_entries v b e = absurd (cc)
 found_bounded n key (entry k w es) v b e = first_or_later n (bytes_eq k key) w v (find key es) b.1 (found_bounded n key es v b.2) e
 
 pub under_bounded : (n : ℕ) (x : ValueOrError) (key : List ℕ) (v : Value) → IsResultBounded n x → value_under (Some x) key ≡ Some v → IsBounded n v
-under_bounded n error key v b e = absurd (cc)
-under_bounded n (value null) key v b e = absurd (cc)
-under_bounded n (value (boolean y)) key v b e = absurd (cc)
-under_bounded n (value (int z)) key v b e = absurd (cc)
-under_bounded n (value (text s)) key v b e = absurd (cc)
-under_bounded n (value (list is)) key v b e = absurd (cc)
 under_bounded n (value (map es)) key v b e = found_bounded n key es v b.1 e
+under_bounded n _ key v b e = absurd (cc)
 
 pub part_bounded : (n : ℕ) (x : ValueOrError) (i : ℕ) (v : Value) → IsResultBounded n x → part_at (Some x) i ≡ Some v → IsBounded n v
-part_bounded n error i v b e = absurd (cc)
-part_bounded n (value null) i v b e = absurd (cc)
-part_bounded n (value (boolean y)) i v b e = absurd (cc)
-part_bounded n (value (int z)) i v b e = absurd (cc)
-part_bounded n (value (text s)) i v b e = absurd (cc)
 part_bounded n (value (list is)) i v b e = item_bounded n is i v b.1 e
 part_bounded n (value (map es)) i v b e = entry_bounded n es i v b.1 e
+part_bounded n _ i v b e = absurd (cc)
 
 text_bounded : (n : ℕ) (o : Option (List ℕ)) (v : Value) → ((k : List ℕ) → o ≡ Some k → length k ≤ n) → option_map text o ≡ Some v → IsBounded n v
 text_bounded n None v b e = absurd (cc)
 text_bounded n (Some k) v b e = let same : text k ≡ v = cc in subst (IsBounded n) same (b k refl)
 
 pub key_text_bounded : (n : ℕ) (x : ValueOrError) (i : ℕ) (v : Value) → IsResultBounded n x → key_at (Some x) i ≡ Some v → IsBounded n v
-key_text_bounded n error i v b e = absurd (cc)
-key_text_bounded n (value null) i v b e = absurd (cc)
-key_text_bounded n (value (boolean y)) i v b e = absurd (cc)
-key_text_bounded n (value (int z)) i v b e = absurd (cc)
-key_text_bounded n (value (text s)) i v b e = absurd (cc)
-key_text_bounded n (value (list is)) i v b e = absurd (cc)
 key_text_bounded n (value (map es)) i v b e = text_bounded n (slice_get (keys_of es) i) v (λ k h. key_bounded n es i k b.1 h) e
+key_text_bounded n _ i v b e = absurd (cc)
 
 -- ---- lists
 
@@ -108,9 +93,8 @@ join_list n (text s) (text t) is b c e = absurd (cc)
 join_list n _ _ is b c e = absurd (cc)
 
 pub joined_items : (n : ℕ) (x y : ValueOrError) (is : Items) → IsResultBounded n x → IsResultBounded n y → joined (Some x) (Some y) ≡ Some (list is) → AreItemsBounded n is
-joined_items n error y is b c e = absurd (cc)
-joined_items n (value v) error is b c e = absurd (cc)
 joined_items n (value v) (value w) is b c e = join_list n v w is b c e
+joined_items n _ _ is b c e = absurd (cc)
 
 push_bounded : (n : ℕ) (v w u : Value) → IsBounded n v → IsBounded n w → push_of v w ≡ Some u → IsBounded (n + 2) u
 push_bounded n (list is) w u b c e =
@@ -119,9 +103,8 @@ push_bounded n (list is) w u b c e =
 push_bounded n _ w u b c e = absurd (cc)
 
 pub pushed_bounded : (n : ℕ) (x y : ValueOrError) (u : Value) → IsResultBounded n x → IsResultBounded n y → pushed (Some x) (Some y) ≡ Some u → IsBounded (n + 2) u
-pushed_bounded n error y u b c e = absurd (cc)
-pushed_bounded n (value v) error u b c e = absurd (cc)
 pushed_bounded n (value v) (value w) u b c e = push_bounded n v w u b c e
+pushed_bounded n _ _ u b c e = absurd (cc)
 
 -- ---- maps
 
@@ -135,12 +118,11 @@ entered_by : (n : ℕ) (order : Ordering) (key k : List ℕ) (x v : Value) (more
 entered_by n Less key k x v more new rest short b all later e =
     let same : entry key x (entry k v more) ≡ new = cc in
     subst (λ (es : Entries). IsLonger n (entry k v more) es) same (record { length_is = omega arith; bounded = (short, b, all) })
-entered_by n Equal key k x v more new rest short b all later e = absurd (cc)
-entered_by n Greater key k x v more new None short b all later e = absurd (cc)
 entered_by n Greater key k x v more new (Some es) short b all later e =
     let same : entry k v es ≡ new = cc in
     let longer = later es refl in
     subst (λ (fs : Entries). IsLonger n (entry k v more) fs) same (record { length_is = omega (arith, longer.length_is); bounded = (all.0, all.1, longer.bounded) })
+entered_by n _ key k x v more new _ short b all later e = absurd (cc)
 
 inserted_bounded : (n : ℕ) (key : List ℕ) (x : Value) (es new : Entries) → length key ≤ n → IsBounded n x → AreEntriesBounded n es → inserted key x es ≡ Some new → IsLonger n es new
 inserted_bounded n key x no_entries new short b all e =
@@ -165,19 +147,9 @@ put_value n es key (value v) u b short c e = put_bounded n es key v u b short c 
 
 put_key : (n : ℕ) (es : Entries) (k x : ValueOrError) (u : Value) → IsBounded n (map es) → IsResultBounded n k → IsResultBounded n x
     → option_and_then (λ key. option_and_then (put_of es key) (value_at (Some x))) (text_at (Some k)) ≡ Some u → IsBounded (n + 2) u
-put_key n es error x u b bk c e = absurd (cc)
-put_key n es (value null) x u b bk c e = absurd (cc)
-put_key n es (value (boolean y)) x u b bk c e = absurd (cc)
-put_key n es (value (int z)) x u b bk c e = absurd (cc)
 put_key n es (value (text s)) x u b bk c e = put_value n es s x u b bk c e
-put_key n es (value (list is)) x u b bk c e = absurd (cc)
-put_key n es (value (map fs)) x u b bk c e = absurd (cc)
+put_key n es _ x u b bk c e = absurd (cc)
 
 pub put_in_bounded : (n : ℕ) (m k x : ValueOrError) (u : Value) → IsResultBounded n m → IsResultBounded n k → IsResultBounded n x → put_in (Some m) (Some k) (Some x) ≡ Some u → IsBounded (n + 2) u
-put_in_bounded n error k x u b bk c e = absurd (cc)
-put_in_bounded n (value null) k x u b bk c e = absurd (cc)
-put_in_bounded n (value (boolean y)) k x u b bk c e = absurd (cc)
-put_in_bounded n (value (int z)) k x u b bk c e = absurd (cc)
-put_in_bounded n (value (text s)) k x u b bk c e = absurd (cc)
-put_in_bounded n (value (list is)) k x u b bk c e = absurd (cc)
 put_in_bounded n (value (map es)) k x u b bk c e = put_key n es k x u b bk c e
+put_in_bounded n _ k x u b bk c e = absurd (cc)

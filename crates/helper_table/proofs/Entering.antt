@@ -34,10 +34,9 @@ is_other true v rest e = absurd (cc)
 is_other false v rest e = record { key = refl; free = e }
 
 inserted_free : (o : Ordering) (key : List ℕ) (x : Value) (k : List ℕ) (v : Value) (more : Entries) (rest : Option Entries) → (o ≡ Equal → ⊥) → is_some rest ≡ true → is_some (inserted_by o key x k v more rest) ≡ true
-inserted_free Less key x k v more rest apart e = refl
 inserted_free Equal key x k v more rest apart e = absurd (apart refl)
 inserted_free Greater key x k v more None apart e = absurd (cc)
-inserted_free Greater key x k v more (Some es) apart e = refl
+inserted_free _ key x k v more _ apart e = refl
 
 free_enters : (key : List ℕ) (x : Value) (es : Entries) → has_key key es ≡ false → is_some (inserted key x es) ≡ true
 free_enters key x no_entries e = refl
@@ -51,12 +50,11 @@ depth_by : (o : Ordering) (key : List ℕ) (x : Value) (k : List ℕ) (v : Value
 depth_by Less key x k v more rest es deep e =
     let f : entry key x (entry k v more) ≡ es = cc in
     sym (ap entries_depth f) ∙ omega arith
-depth_by Equal key x k v more rest es deep e = absurd (cc)
-depth_by Greater key x k v more None es deep e = absurd (cc)
 depth_by Greater key x k v more (Some ms) es deep e =
     let f : entry k v ms ≡ es = cc in
     let d = deep ms refl in
     sym (ap entries_depth f) ∙ omega arith
+depth_by _ key x k v more _ es deep e = absurd (cc)
 
 inserted_depth : (key : List ℕ) (x : Value) (es fs : Entries) → inserted key x es ≡ Some fs → entries_depth fs ≡ max (entries_depth es) (depth_of x)
 inserted_depth key x no_entries fs e =
@@ -89,39 +87,27 @@ and_false true = refl
 and_false false = refl
 
 enters_among : (es : Option Entries) (key : Option (List ℕ)) (x : Option Value) → (is_new_key es key && is_some x) ≡ is_some (if is_key es key then None else put_among es key x)
-enters_among None key x = refl
-enters_among (Some es) None x = refl
 enters_among (Some es) (Some key) None = and_false (not (has_key key es)) ∙ not_free (has_key key es)
 enters_among (Some es) (Some key) (Some v) =
     and_true (not (has_key key es)) ∙ free (has_key key es) (put_of es key v) (λ e. sym (mapped (inserted key v es)) ∙ free_enters key v es e)
+enters_among _ _ x = refl
 
 text_seen : (x : ValueOrError) → text_part (seen x) ≡ text_at (Some x)
-text_seen error = refl
 text_seen (value null) = refl
-text_seen (value (boolean b)) = refl
-text_seen (value (int z)) = refl
-text_seen (value (text s)) = refl
-text_seen (value (list is)) = refl
-text_seen (value (map es)) = refl
+text_seen _ = refl
 
 value_seen : (x : ValueOrError) → is_value (seen x) ≡ is_some (value_at (Some x))
-value_seen error = refl
 value_seen (value null) = refl
-value_seen (value (boolean b)) = refl
-value_seen (value (int z)) = refl
-value_seen (value (text s)) = refl
-value_seen (value (list is)) = refl
-value_seen (value (map es)) = refl
+value_seen _ = refl
 
 -- where a map can be entered
 pub enters : (m k x : Option ValueOrError) (s t : Seen) → option_map seen k ≡ Some s → option_map seen x ≡ Some t → (is_new_key (entries_at m) (text_part s) && is_value t) ≡ is_some (entered m k x)
-enters m None x s t e f = absurd (cc)
-enters m (Some k) None s t e f = absurd (cc)
 enters m (Some k) (Some x) s t e f =
     let p : s ≡ seen k = cc in
     let q : t ≡ seen x = cc in
     (λ i. is_new_key (entries_at m) ((ap text_part p ∙ text_seen k) i) && (ap is_value q ∙ value_seen x) i)
     ∙ enters_among (entries_at m) (text_at (Some k)) (value_at (Some x))
+enters m _ _ s t e f = absurd (cc)
 
 unless : (b : Bool) (o : Option Value) → is_some (if b then None else o) ≡ true → (if b then None else o) ≡ o
 unless true o e = absurd (cc)
@@ -138,26 +124,17 @@ put_depth es key v w (Some fs) e f =
     sym (ap depth_of g) ∙ omega arith
 
 entries_are : (m : Option ValueOrError) (es : Entries) → entries_at m ≡ Some es → depth_at m ≡ depth_of (map es)
-entries_are None es e = absurd (cc)
-entries_are (Some error) es e = absurd (cc)
-entries_are (Some (value null)) es e = absurd (cc)
-entries_are (Some (value (boolean b))) es e = absurd (cc)
-entries_are (Some (value (int z))) es e = absurd (cc)
-entries_are (Some (value (text s))) es e = absurd (cc)
-entries_are (Some (value (list is))) es e = absurd (cc)
 entries_are (Some (value (map ms))) es e = let h : ms ≡ es = cc in ap (λ l. depth_of (map l)) h
+entries_are _ es e = absurd (cc)
 
 value_is : (x : Option ValueOrError) (v : Value) → value_at x ≡ Some v → depth_at x ≡ depth_of v
-value_is None v e = absurd (cc)
-value_is (Some error) v e = absurd (cc)
 value_is (Some (value w)) v e = let h : w ≡ v = cc in ap depth_of h
+value_is _ v e = absurd (cc)
 
 put_among_depth : (m x : Option ValueOrError) (es : Option Entries) (key : Option (List ℕ)) (y : Option Value) (w : Value) → entries_at m ≡ es → value_at x ≡ y → put_among es key y ≡ Some w → depth_of w ≡ max (depth_at m) (1 + depth_at x)
-put_among_depth m x None key y w e f g = absurd (cc)
-put_among_depth m x (Some es) None y w e f g = absurd (cc)
-put_among_depth m x (Some es) (Some key) None w e f g = absurd (cc)
 put_among_depth m x (Some es) (Some key) (Some v) w e f g =
     put_depth es key v w (inserted key v es) refl g ∙ (let a = sym (entries_are m es e) in let b = sym (value_is x v f) in λ i. max (a i) (1 + b i))
+put_among_depth m x _ _ _ w e f g = absurd (cc)
 
 pub enters_by : (m k x : Option ValueOrError) → is_some (entered m k x) ≡ true → Grows (entered m k x) (max (depth_at m) (1 + depth_at x))
 enters_by m k x there = record { is = λ w e. put_among_depth m x (entries_at m) (text_at k) (value_at x) w refl refl (sym (entered_is m k x there) ∙ e) }

@@ -24,11 +24,7 @@ values_join _ _ = record { can = refl; outcome = λ e. absurd (cc) }
 
 error_joins : (v : Value) → can_join (seen (value v)) sees_error ≡ false
 error_joins null = refl
-error_joins (boolean b) = refl
-error_joins (int z) = refl
-error_joins (text s) = refl
-error_joins (list is) = refl
-error_joins (map es) = refl
+error_joins _ = refl
 
 operands_join : (x y : ValueOrError) → Joins (seen x) (seen y) (joined (Some x) (Some y))
 operands_join error y = record { can = refl; outcome = λ e. absurd (cc) }
@@ -36,14 +32,13 @@ operands_join (value v) error = record { can = error_joins v; outcome = λ e. le
 operands_join (value v) (value w) = values_join v w
 
 all_join : (a b : Option ValueOrError) (s t : Seen) → option_map seen a ≡ Some s → option_map seen b ≡ Some t → Joins s t (joined a b)
-all_join None b s t e f = absurd (cc)
-all_join (Some x) None s t e f = absurd (cc)
 all_join (Some x) (Some y) s t e f =
     let p : seen x ≡ s = cc in
     let q : seen y ≡ t = cc in
     let P : Seen → Type 0 = λ u. Joins u t (joined (Some x) (Some y)) in
     let Q : Seen → Type 0 = λ u. Joins (seen x) u (joined (Some x) (Some y)) in
     subst P p (subst Q q (operands_join x y))
+all_join _ _ s t e f = absurd (cc)
 
 pub joins : (a b : Option ValueOrError) (s t : Seen) → option_map seen a ≡ Some s → option_map seen b ≡ Some t → can_join s t ≡ true → named (joined a b) (seen_size s + seen_size t) ≡ sequence (joined a b)
 joins a b s t e f can = (all_join a b s t e f).outcome can

@@ -17,48 +17,24 @@ module _ (i n : ℕ) where
   past is e h = slice_get_past (list_of is) i (subst (λ m. m ≤ i) e h)
 
   pub item_there : (o : Option ValueOrError) → option_map seen o ≡ Some (sees_list n) → i < n → is_some (part_at o i) ≡ true
-  item_there None e h = absurd (cc)
-  item_there (Some error) e h = absurd (cc)
-  item_there (Some (value null)) e h = absurd (cc)
-  item_there (Some (value (boolean b))) e h = absurd (cc)
-  item_there (Some (value (int z))) e h = absurd (cc)
-  item_there (Some (value (text s))) e h = absurd (cc)
   item_there (Some (value (list is))) e h = counted is (cc) h
-  item_there (Some (value (map es))) e h = absurd (cc)
+  item_there _ e h = absurd (cc)
 
   pub no_item : (o : Option ValueOrError) → option_map seen o ≡ Some (sees_list n) → n ≤ i → part_at o i ≡ None
-  no_item None e h = absurd (cc)
-  no_item (Some error) e h = absurd (cc)
-  no_item (Some (value null)) e h = absurd (cc)
-  no_item (Some (value (boolean b))) e h = absurd (cc)
-  no_item (Some (value (int z))) e h = absurd (cc)
-  no_item (Some (value (text s))) e h = absurd (cc)
   no_item (Some (value (list is))) e h = past is (cc) h
-  no_item (Some (value (map es))) e h = absurd (cc)
+  no_item _ e h = absurd (cc)
 
   pub key_there : (o : Option ValueOrError) → option_map seen o ≡ Some (sees_map n) → i < n → is_some (key_at o i) ≡ true
-  key_there None e h = absurd (cc)
-  key_there (Some error) e h = absurd (cc)
-  key_there (Some (value null)) e h = absurd (cc)
-  key_there (Some (value (boolean b))) e h = absurd (cc)
-  key_there (Some (value (int z))) e h = absurd (cc)
-  key_there (Some (value (text s))) e h = absurd (cc)
-  key_there (Some (value (list is))) e h = absurd (cc)
   key_there (Some (value (map es))) e h =
       let known : n ≡ length (keys_of es) = cc in
       ap (λ k. is_some (option_map text k)) (slice_get-get_or (keys_of es) i [] (subst (λ m. i < m) known h))
+  key_there _ e h = absurd (cc)
 
   pub no_key : (o : Option ValueOrError) → option_map seen o ≡ Some (sees_map n) → n ≤ i → key_at o i ≡ None
-  no_key None e h = absurd (cc)
-  no_key (Some error) e h = absurd (cc)
-  no_key (Some (value null)) e h = absurd (cc)
-  no_key (Some (value (boolean b))) e h = absurd (cc)
-  no_key (Some (value (int z))) e h = absurd (cc)
-  no_key (Some (value (text s))) e h = absurd (cc)
-  no_key (Some (value (list is))) e h = absurd (cc)
   no_key (Some (value (map es))) e h =
       let known : n ≡ length (keys_of es) = cc in
       ap (option_map text) (slice_get_past (keys_of es) i (subst (λ m. m ≤ i) known h))
+  no_key _ e h = absurd (cc)
 
 pub few_code_points : (s : List ℕ) (n : ℕ) → length s < n → code_points_of s < n
 few_code_points s n h = omega (arith, count_by-le-length is_leading s)

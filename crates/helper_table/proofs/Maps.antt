@@ -10,13 +10,8 @@ use Rattle.helper_table.specs.Lookups.{value_under}
 use Rattle.helper_table.specs.Kinds.{has_entries}
 
 entries_seen : (x : ValueOrError) → has_entries (seen x) ≡ is_some (entries_at (Some x))
-entries_seen error = refl
 entries_seen (value null) = refl
-entries_seen (value (boolean b)) = refl
-entries_seen (value (int z)) = refl
-entries_seen (value (text s)) = refl
-entries_seen (value (list is)) = refl
-entries_seen (value (map es)) = refl
+entries_seen _ = refl
 
 pub sees_entries : (o : Option ValueOrError) (s : Seen) → Some s ≡ option_map seen o → has_entries s ≡ is_some (entries_at o)
 sees_entries None s e = absurd (cc)
@@ -58,14 +53,8 @@ has_places key (entry k v more) = placed_later (bytes_eq k key) v (find key more
 
 -- the entries of a map at a reference, and its parts
 part_of_entries : (o : Option ValueOrError) (es : Entries) (i : ℕ) → entries_at o ≡ Some es → part_at o i ≡ slice_get (values_of es) i
-part_of_entries None es i e = absurd (cc)
-part_of_entries (Some error) es i e = absurd (cc)
-part_of_entries (Some (value null)) es i e = absurd (cc)
-part_of_entries (Some (value (boolean b))) es i e = absurd (cc)
-part_of_entries (Some (value (int z))) es i e = absurd (cc)
-part_of_entries (Some (value (text s))) es i e = absurd (cc)
-part_of_entries (Some (value (list is))) es i e = absurd (cc)
 part_of_entries (Some (value (map ms))) es i e = let h : ms ≡ es = cc in ap (λ m. slice_get (values_of m) i) h
+part_of_entries _ es i e = absurd (cc)
 
 -- the value at a key stands at the key's place
 found_among : (key : List ℕ) (es : Entries) (i : ℕ) → place_of_key key es ≡ Some i → slice_get (values_of es) i ≡ find key es

@@ -14,20 +14,15 @@ nothing (Some b) e = absurd (cc)
 
 -- what holds of what is seen holds of what stands there
 pair : {A : Type 0} (test : Seen → Seen → Bool) (at : Option ValueOrError → Option ValueOrError → Option A) → ((x y : ValueOrError) → test (seen x) (seen y) ≡ is_some (at (Some x) (Some y))) → (a b : Option ValueOrError) (s t : Seen) → option_map seen a ≡ Some s → option_map seen b ≡ Some t → test s t ≡ is_some (at a b)
-pair test at same None b s t e f = absurd (cc)
-pair test at same (Some x) None s t e f = absurd (cc)
 pair test at same (Some x) (Some y) s t e f =
     let p : s ≡ seen x = cc in
     let q : t ≡ seen y = cc in
     (λ i. test (p i) (q i)) ∙ same x y
+pair test at same _ _ s t e f = absurd (cc)
 
 a_value : (v : Value) → is_value (seen (value v)) ≡ true
 a_value null = refl
-a_value (boolean b) = refl
-a_value (int z) = refl
-a_value (text s) = refl
-a_value (list is) = refl
-a_value (map es) = refl
+a_value _ = refl
 
 equal_same : (x y : ValueOrError) → (is_value (seen x) && is_value (seen y)) ≡ is_some (equal_at (Some x) (Some y))
 equal_same error y = refl
@@ -39,11 +34,7 @@ equal_pair = pair (λ s t. is_value s && is_value t) equal_at equal_same
 
 unordered_error : (v : Value) → have_order (seen (value v)) sees_error ≡ false
 unordered_error null = refl
-unordered_error (boolean b) = refl
-unordered_error (int z) = refl
-unordered_error (text s) = refl
-unordered_error (list is) = refl
-unordered_error (map es) = refl
+unordered_error _ = refl
 
 order_same : (v w : Value) → have_order (seen (value v)) (seen (value w)) ≡ is_some (less v w)
 order_same (boolean a) (boolean b) = refl
@@ -71,19 +62,11 @@ in_same _ _ = refl
 
 not_in_error : (v : Value) → may_be_in (seen (value v)) sees_error ≡ false
 not_in_error null = refl
-not_in_error (boolean b) = refl
-not_in_error (int z) = refl
-not_in_error (text s) = refl
-not_in_error (list is) = refl
-not_in_error (map es) = refl
+not_in_error _ = refl
 
 no_error_in : (w : Value) → may_be_in sees_error (seen (value w)) ≡ false
 no_error_in null = refl
-no_error_in (boolean b) = refl
-no_error_in (int z) = refl
-no_error_in (text s) = refl
-no_error_in (list is) = refl
-no_error_in (map es) = refl
+no_error_in _ = refl
 
 member_same : (x y : ValueOrError) → may_be_in (seen x) (seen y) ≡ is_some (member_at (Some x) (Some y))
 member_same error error = refl
@@ -96,19 +79,11 @@ member_pair = pair may_be_in member_at member_same
 
 push_error : (v : Value) → (is_list (seen (value v)) && false) ≡ false
 push_error null = refl
-push_error (boolean b) = refl
-push_error (int z) = refl
-push_error (text s) = refl
-push_error (list is) = refl
-push_error (map es) = refl
+push_error _ = refl
 
 push_same : (v w : Value) → (is_list (seen (value v)) && is_value (seen (value w))) ≡ is_some (push_of v w)
-push_same null w = refl
-push_same (boolean b) w = refl
-push_same (int z) w = refl
-push_same (text s) w = refl
 push_same (list is) w = a_value w
-push_same (map es) w = refl
+push_same _ w = refl
 
 pushed_same : (x y : ValueOrError) → (is_list (seen x) && is_value (seen y)) ≡ is_some (pushed (Some x) (Some y))
 pushed_same error y = refl

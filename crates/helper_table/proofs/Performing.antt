@@ -28,17 +28,12 @@ named_adds None added = refl
 named_adds (Some w) added = refl
 
 pub plan_adds : (vs : List ValueOrError) (a : Action) (added : ℕ) → Adds (outcome_by vs a added) added
-plan_adds vs (action.Word w) added = refl
-plan_adds vs (action.Int n) added = refl
-plan_adds vs (action.Text s) added = refl
-plan_adds vs (action.Decimal n) added = refl
 plan_adds vs (action.Part h i) added = named_adds _ added
 plan_adds vs (action.Key h i) added = named_adds _ added
 plan_adds vs (action.Join a b) added = named_adds _ added
-plan_adds vs action.List added = refl
-plan_adds vs action.Map added = refl
 plan_adds vs (action.Push l x) added = named_adds _ added
 plan_adds vs (action.Put m k x) added = named_adds _ added
+plan_adds vs _ added = refl
 
 leaves : (test : Bool) (e : CallEnd) → test ≡ true → (if test then e else Halts F8) ≡ e
 leaves true e t = refl

@@ -37,8 +37,7 @@ IsFit n (Refused f) = Unit {0}
 
 truth_fits : (n : ℕ) (b : Option Bool) → IsFit n (truth b)
 truth_fits n (Some false) = lit< tt
-truth_fits n (Some true) = lit< tt
-truth_fits n None = lit< tt
+truth_fits n _ = lit< tt
 
 found_fits : (n : ℕ) (o : Option Value) → ((v : Value) → o ≡ Some v → IsBounded n v) → IsFit n (found o)
 found_fits n None b = lit< tt
@@ -76,12 +75,7 @@ module _ (n : ℕ) (vs : List ValueOrError) (all : All (IsResultBounded n) vs) w
 
 kind_small : (s : Seen) → kind_number s < 2 ^ 64
 kind_small sees_error = lit< tt
-kind_small sees_null = lit< tt
-kind_small (sees_bool b) = lit< tt
-kind_small (sees_int z) = lit< tt
-kind_small (sees_text s) = lit< tt
-kind_small (sees_list n) = lit< tt
-kind_small (sees_map n) = lit< tt
+kind_small _ = lit< tt
 
 kind_fits : (n : ℕ) (x : ValueOrError) → IsFit n (kind_row x)
 unfolding kind_row
@@ -93,13 +87,8 @@ int_small (negsuc m) h = omega arith
 
 int_of_fits : (n : ℕ) (x : ValueOrError) → IsResultBounded n x → IsFit n (int_of_row x)
 unfolding int_of_row
-int_of_fits n error b = lit< tt
-int_of_fits n (value null) b = lit< tt
-int_of_fits n (value (boolean y)) b = lit< tt
 int_of_fits n (value (int z)) b = int_small z b
-int_of_fits n (value (text s)) b = lit< tt
-int_of_fits n (value (list is)) b = lit< tt
-int_of_fits n (value (map es)) b = lit< tt
+int_of_fits n _ b = lit< tt
 
 signed_fits : (w : ℕ) → w < 2 ^ 64 → FitsSigned w64 (cast_signed w64 w)
 signed_fits w h = search (rules, ints)
@@ -163,23 +152,16 @@ item_fits n x i b = found_fits n (item_or_key (seen x) i (Some x)) (λ v e. at_b
 module _ (n : ℕ) (small : n ≤ charge_limit) where
   size_fits : (x : ValueOrError) → IsResultBounded n x → IsFit n (size_row x)
   unfolding size_row
-  size_fits error b = lit< tt
-  size_fits (value null) b = lit< tt
-  size_fits (value (boolean y)) b = lit< tt
-  size_fits (value (int z)) b = lit< tt
   size_fits (value (text s)) b = let few = few_code_points s (2 ^ 63) (omega (arith, b, small)) in omega (arith, few)
   size_fits (value (list is)) b = omega (arith, b.0, small)
   size_fits (value (map es)) b = omega (arith, b.0, small)
+  size_fits _ b = lit< tt
 
   count_fits : (x : ValueOrError) → IsResultBounded n x → IsFit n (count_row x)
   unfolding count_row
-  count_fits error b = lit< tt
-  count_fits (value null) b = lit< tt
-  count_fits (value (boolean y)) b = lit< tt
-  count_fits (value (int z)) b = lit< tt
-  count_fits (value (text s)) b = lit< tt
   count_fits (value (list is)) b = omega (arith, b.0, small)
   count_fits (value (map es)) b = omega (arith, b.0, small)
+  count_fits _ b = lit< tt
 
 -- ---- comparisons
 
@@ -203,11 +185,7 @@ test_fits n test x y = truth_fits n (on_texts test (text_part (seen x)) (text_pa
 sequence_fits : (n : ℕ) (o : Option Value) → ((is : Items) → o ≡ Some (list is) → AreItemsBounded n is) → IsFit n (sequence o)
 sequence_fits n (Some (text s)) b = omega arith
 sequence_fits n (Some (list is)) b = (omega arith, looser_items is n (n + (1 + length (list_of is))) (omega arith) (b is refl))
-sequence_fits n (Some null) b = lit< tt
-sequence_fits n (Some (boolean y)) b = lit< tt
-sequence_fits n (Some (int z)) b = lit< tt
-sequence_fits n (Some (map es)) b = lit< tt
-sequence_fits n None b = lit< tt
+sequence_fits n _ b = lit< tt
 
 join_fits : (n : ℕ) (x y : ValueOrError) → IsResultBounded n x → IsResultBounded n y → IsFit n (join_row x y)
 unfolding join_row
@@ -254,14 +232,13 @@ module _ (n : ℕ) (small : n ≤ charge_limit) (vs : List ValueOrError) (all : 
   row_fits helper.Ends = values_fit n vs all (r1 args) (r2 args) (text_row (ends_with nat_eq)) (λ x y b c. test_fits n (ends_with nat_eq) x y)
   row_fits helper.Contains = values_fit n vs all (r1 args) (r2 args) (text_row contains) (λ x y b c. test_fits n contains x y)
   row_fits helper.Member = values_fit n vs all (r1 args) (r2 args) member_row (λ x y b c. member_fits n x y)
-  row_fits helper.ListNew = (omega arith, tt)
   row_fits helper.Push = values_fit n vs all (r1 args) (r2 args) push_row (push_fits n)
-  row_fits helper.MapNew = (omega arith, tt)
   row_fits helper.Put = value_fits n vs all (r1 args) (λ m. on_values vs (r2 args) (r3 args) (put_row m)) (λ m b. values_fit n vs all (r2 args) (r3 args) (put_row m) (λ k x c d. put_fits n m k x b c d))
   row_fits helper.Item = value_fits n vs all (r1 args) (λ x. item_row x (r2 args)) (λ x b. item_fits n x (r2 args) b)
   row_fits helper.Count = value_fits n vs all (r1 args) count_row (count_fits n small)
   row_fits helper.TextOfInt = value_fits n vs all (r1 args) text_of_int_row (λ x b. text_of_int_fits n x)
   row_fits helper.Not = value_fits n vs all (r1 args) not_row (λ x b. not_fits n x)
+  row_fits _ = (omega arith, tt)
 
   numbered_fits : (o : Option Helper) → IsFit n (row_numbered o args vs constants)
   numbered_fits (Some h) = row_fits h
@@ -277,21 +254,17 @@ one_more : (m : ℕ) (vs : List ValueOrError) (v : Value) → All (IsResultBound
 one_more m vs v all b = All-append (IsResultBounded m) vs (value v ∷ []) all (All-cons (IsResultBounded m) (value v) [] b (All-nil (IsResultBounded m)))
 
 placed_bounded : (m : ℕ) (vs : List ValueOrError) (v : Value) → All (IsResultBounded m) vs → IsBounded m v → All (IsResultBounded m) (placed vs v)
-placed_bounded m vs null all b = all
-placed_bounded m vs (boolean y) all b = all
 placed_bounded m vs (int z) all b = one_more m vs (int z) all b
 placed_bounded m vs (text s) all b = one_more m vs (text s) all b
 placed_bounded m vs (list is) all b = one_more m vs (list is) all b
 placed_bounded m vs (map es) all b = one_more m vs (map es) all b
+placed_bounded m vs _ all b = all
 
 place_small : (vs : List ValueOrError) (v : Value) → length vs < 2 ^ 64 → place vs v < 2 ^ 64
 place_small vs null h = lit< tt
 place_small vs (boolean false) h = lit< tt
 place_small vs (boolean true) h = lit< tt
-place_small vs (int z) h = h
-place_small vs (text s) h = h
-place_small vs (list is) h = h
-place_small vs (map es) h = h
+place_small vs _ h = h
 
 -- a call that left something stayed within the limit, and left its word and its values
 record Left (test : Bool) (w word : ℕ) (contents new : Contents) : Type 0 where

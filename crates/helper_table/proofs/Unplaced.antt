@@ -17,8 +17,7 @@ use Rattle.helper_table.specs.declared.helper.Helper.TheVariants as helper
 
 unnamed_truth : (b : Option Bool) → is_named (truth b) ≡ false
 unnamed_truth (Some false) = refl
-unnamed_truth (Some true) = refl
-unnamed_truth None = refl
+unnamed_truth _ = refl
 
 unnamed_operand : (row : ValueOrError → Outcome) → ((x : ValueOrError) → is_named (row x) ≡ false) → (o : Option ValueOrError) → is_named (on_operand o row) ≡ false
 unnamed_operand row is (Some x) = is x

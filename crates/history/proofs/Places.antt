@@ -235,9 +235,6 @@ places_kept place cs c ps room is full =
 pub is_due : (ps : List ℕ) (k p : ℕ) → k % 1024 ≡ 0 → IsNearest (0 ∷ ps) k p → p ≢ k → IsDue ps k
 is_due ps k p round nearest other = (round, λ c. other (omega (arith, nearest.at_most, nearest.greatest k c (omega arith))))
 
-pub not_due : (ps : List ℕ) (k p : ℕ) → IsNearest (0 ∷ ps) k p → p ≡ k → IsDue ps k → ⊥
-not_due ps k p nearest same due = due.1 (subst (λ (q : ℕ). Contains (0 ∷ ps) q) same nearest.among)
-
 -- nothing was added, and nothing is gone
 gives_none : (gave_up : Bool) (ps qs : List ℕ) → qs ≡ ps → GivesUp gave_up ps qs
 gives_none gave_up ps qs same = record { gone = 0; rest = same; within = omega arith; none = λ told. refl }

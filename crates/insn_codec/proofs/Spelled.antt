@@ -9,7 +9,7 @@ use Rattle.insn_codec.specs.Slots.{second_imm, slot_bytes, slot_of, IsSlot}
 use Rattle.insn_codec.specs.Spelled.{SpelledIsSpelling, spelled}
 use Rattle.insn_codec.specs.Spelling.{Begins, IsInsn, first_slot, more_bytes, on_hand, second_bytes, spelling}
 use Rattle.insn_codec.specs.declared.insn.Insn.{Insn}
-use Rattle.insn_codec.specs.declared.insn.Insn.TheVariants.{Alu, Neg, SignExtend, ByteSwap, Jump, JumpLong, Branch, Call, CallLocal, Exit, Load, LoadSigned, StoreImm, Store, Atomic, LoadWide}
+use Rattle.insn_codec.specs.declared.insn.Insn.TheVariants.{LoadWide}
 use Rattle.insn_codec.specs.declared.register.Register.{Register}
 use Rattle.insn_codec.specs.declared.slot.Slot.{Slot}
 use Rattle.insn_codec.proofs.Bytes.{imm_fits, offset_fits, second_imm-slot_bytes, second_imm_below, slot_of-slot_bytes}
@@ -61,21 +61,7 @@ spelled_other text i e n = rw e (kept_not text i n)
 
 high_of : (i : Insn) (rest : List ℕ) → IsInsn i → HighOf i (second_imm (slot_bytes (first_slot i) ++ (second_bytes i ++ rest)))
 high_of (LoadWide dst value) rest f = (second_imm-slot_bytes (first_slot (LoadWide dst value)) (value / 2 ^ 32) rest (omega arith), f)
-high_of (Alu op width dst operand) rest f = tt
-high_of (Neg width dst) rest f = tt
-high_of (SignExtend extension dst src) rest f = tt
-high_of (ByteSwap order width dst) rest f = tt
-high_of (Jump offset) rest f = tt
-high_of (JumpLong offset) rest f = tt
-high_of (Branch x width dst operand offset) rest f = tt
-high_of (Call helper) rest f = tt
-high_of (CallLocal offset) rest f = tt
-high_of Exit rest f = tt
-high_of (Load size dst src offset) rest f = tt
-high_of (LoadSigned size dst src offset) rest f = tt
-high_of (StoreImm size dst offset imm) rest f = tt
-high_of (Store size dst offset src) rest f = tt
-high_of (Atomic op width dst offset src) rest f = tt
+high_of _ rest f = tt
 
 candidate_of_spelling : (i : Insn) (text : List ℕ) → IsInsn i → Begins (spelling i) text → candidate_at (slot_of text) (second_imm text) ≡ Some i
 candidate_of_spelling i text f b =
@@ -107,25 +93,10 @@ wide_opcode : (first : ℕ) (second : Option ℕ) (dst : Register) (value : ℕ)
 wide_opcode first second dst value b = ap (λ t. slice_index t 0) b.1
 
 kept_alone : (first : ℕ) (second : Option ℕ) (o : Option Insn) → first % 256 ≢ 0x18 → (o >>= kept (on_hand first second)) ≡ (o >>= kept (on_hand first None))
-kept_alone first second None n = refl
-kept_alone first second (Some (Alu op width dst operand)) n = refl
-kept_alone first second (Some (Neg width dst)) n = refl
-kept_alone first second (Some (SignExtend extension dst src)) n = refl
-kept_alone first second (Some (ByteSwap order width dst)) n = refl
-kept_alone first second (Some (Jump offset)) n = refl
-kept_alone first second (Some (JumpLong offset)) n = refl
-kept_alone first second (Some (Branch x width dst operand offset)) n = refl
-kept_alone first second (Some (Call helper)) n = refl
-kept_alone first second (Some (CallLocal offset)) n = refl
-kept_alone first second (Some Exit) n = refl
-kept_alone first second (Some (Load size dst src offset)) n = refl
-kept_alone first second (Some (LoadSigned size dst src offset)) n = refl
-kept_alone first second (Some (StoreImm size dst offset imm)) n = refl
-kept_alone first second (Some (Store size dst offset src)) n = refl
-kept_alone first second (Some (Atomic op width dst offset src)) n = refl
 kept_alone first second (Some (LoadWide dst value)) n =
     let i : Insn = LoadWide dst value in
     kept_not (on_hand first second) i (λ b. n (wide_opcode first second dst value b)) ∙ sym (kept_not (on_hand first None) i (λ b. n (wide_opcode first None dst value b)))
+kept_alone first second _ n = refl
 
 pub spelled_alone : (first : ℕ) (second : Option ℕ) → first % 256 ≢ 0x18 → spelled (on_hand first second) ≡ spelled (on_hand first None)
 unfolding spelled

@@ -98,21 +98,22 @@ impl fmt::Display for AluOp {
     ghost output = { λ x. Some (alu_text x) };
 
     fn fmt<W: fmt::Write>(&self, f: &mut fmt::Formatter<W>) -> fmt::Result {
-        match self {
-            AluOp::Add => write!(f, "add"),
-            AluOp::Sub => write!(f, "sub"),
-            AluOp::Mul => write!(f, "mul"),
-            AluOp::Div => write!(f, "div"),
-            AluOp::Sdiv => write!(f, "sdiv"),
-            AluOp::Or => write!(f, "or"),
-            AluOp::And => write!(f, "and"),
-            AluOp::Lsh => write!(f, "lsh"),
-            AluOp::Rsh => write!(f, "rsh"),
-            AluOp::Mod => write!(f, "mod"),
-            AluOp::Smod => write!(f, "smod"),
-            AluOp::Xor => write!(f, "xor"),
-            AluOp::Mov => write!(f, "mov"),
-            AluOp::Arsh => write!(f, "arsh"),
-        }
+        let name = match self {
+            AluOp::Add => "add",
+            AluOp::Sub => "sub",
+            AluOp::Mul => "mul",
+            AluOp::Div => "div",
+            AluOp::Sdiv => "sdiv",
+            AluOp::Or => "or",
+            AluOp::And => "and",
+            AluOp::Lsh => "lsh",
+            AluOp::Rsh => "rsh",
+            AluOp::Mod => "mod",
+            AluOp::Smod => "smod",
+            AluOp::Xor => "xor",
+            AluOp::Mov => "mov",
+            AluOp::Arsh => "arsh",
+        };
+        write!(f, "{name}")
     }
 }

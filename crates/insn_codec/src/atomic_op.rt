@@ -8,25 +8,25 @@ use std::fmt;
 #[derive(Clone, Copy, Debug, PartialEq, Eq)]
 pub enum AtomicOp {
     /// The sum of the word and the source.
-    Add,
+    Add = 0x00,
     /// The bits that are set in either.
-    Or,
+    Or = 0x40,
     /// The bits that are set in both.
-    And,
+    And = 0x50,
     /// The bits that are set in just one of both.
-    Xor,
+    Xor = 0xa0,
     /// The sum; the source gets the old word.
-    FetchAdd,
+    FetchAdd = 0x01,
     /// The bits that are set in either; the source gets the old word.
-    FetchOr,
+    FetchOr = 0x41,
     /// The bits that are set in both; the source gets the old word.
-    FetchAnd,
+    FetchAnd = 0x51,
     /// The bits that are set in just one of both; the source gets the old word.
-    FetchXor,
+    FetchXor = 0xa1,
     /// The source; the source gets the old word.
-    Exchange,
+    Exchange = 0xe1,
     /// The source, where the word is R0; R0 gets the old word.
-    CompareExchange,
+    CompareExchange = 0xf1,
 }
 
 impl AtomicOp {
@@ -55,18 +55,7 @@ impl AtomicOp {
     pub(crate) fn code(self) -> i32
         ensures { result ≡ atomic_code self }
     {
-        match self {
-            AtomicOp::Add => 0x00,
-            AtomicOp::Or => 0x40,
-            AtomicOp::And => 0x50,
-            AtomicOp::Xor => 0xa0,
-            AtomicOp::FetchAdd => 0x01,
-            AtomicOp::FetchOr => 0x41,
-            AtomicOp::FetchAnd => 0x51,
-            AtomicOp::FetchXor => 0xa1,
-            AtomicOp::Exchange => 0xe1,
-            AtomicOp::CompareExchange => 0xf1,
-        }
+        self as i32
     }
 }
 
@@ -74,17 +63,18 @@ impl fmt::Display for AtomicOp {
     ghost output = { λ x. Some (atomic_text x) };
 
     fn fmt<W: fmt::Write>(&self, f: &mut fmt::Formatter<W>) -> fmt::Result {
-        match self {
-            AtomicOp::Add => write!(f, "add"),
-            AtomicOp::Or => write!(f, "or"),
-            AtomicOp::And => write!(f, "and"),
-            AtomicOp::Xor => write!(f, "xor"),
-            AtomicOp::FetchAdd => write!(f, "fetch_add"),
-            AtomicOp::FetchOr => write!(f, "fetch_or"),
-            AtomicOp::FetchAnd => write!(f, "fetch_and"),
-            AtomicOp::FetchXor => write!(f, "fetch_xor"),
-            AtomicOp::Exchange => write!(f, "xchg"),
-            AtomicOp::CompareExchange => write!(f, "cmpxchg"),
-        }
+        let name = match self {
+            AtomicOp::Add => "add",
+            AtomicOp::Or => "or",
+            AtomicOp::And => "and",
+            AtomicOp::Xor => "xor",
+            AtomicOp::FetchAdd => "fetch_add",
+            AtomicOp::FetchOr => "fetch_or",
+            AtomicOp::FetchAnd => "fetch_and",
+            AtomicOp::FetchXor => "fetch_xor",
+            AtomicOp::Exchange => "xchg",
+            AtomicOp::CompareExchange => "cmpxchg",
+        };
+        write!(f, "{name}")
     }
 }

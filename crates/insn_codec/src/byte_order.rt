@@ -7,11 +7,11 @@ use std::fmt;
 #[derive(Clone, Copy, Debug, PartialEq, Eq)]
 pub enum ByteOrder {
     /// Between the host's order and little-endian.
-    Little,
+    Little = 0xd4,
     /// Between the host's order and big-endian.
-    Big,
+    Big = 0xdc,
     /// The bytes are reversed, whatever the host's order is.
-    Swap,
+    Swap = 0xd7,
 }
 
 impl ByteOrder {
@@ -33,11 +33,7 @@ impl ByteOrder {
     pub(crate) fn opcode(self) -> u8
         ensures { result ≡ order_opcode self }
     {
-        match self {
-            ByteOrder::Little => 0xd4,
-            ByteOrder::Big => 0xdc,
-            ByteOrder::Swap => 0xd7,
-        }
+        self as u8
     }
 }
 

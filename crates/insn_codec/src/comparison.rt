@@ -7,27 +7,27 @@ use std::fmt;
 #[derive(Clone, Copy, Debug, PartialEq, Eq)]
 pub enum Comparison {
     /// They are equal.
-    Eq,
+    Eq = 0x1,
     /// The destination is greater, as unsigned numbers.
-    Gt,
+    Gt = 0x2,
     /// The destination is not less, as unsigned numbers.
-    Ge,
+    Ge = 0x3,
     /// Some bit is set in both.
-    Set,
+    Set = 0x4,
     /// They are not equal.
-    Ne,
+    Ne = 0x5,
     /// The destination is greater, as signed numbers.
-    Sgt,
+    Sgt = 0x6,
     /// The destination is not less, as signed numbers.
-    Sge,
+    Sge = 0x7,
     /// The destination is less, as unsigned numbers.
-    Lt,
+    Lt = 0xa,
     /// The destination is not greater, as unsigned numbers.
-    Le,
+    Le = 0xb,
     /// The destination is less, as signed numbers.
-    Slt,
+    Slt = 0xc,
     /// The destination is not greater, as signed numbers.
-    Sle,
+    Sle = 0xd,
 }
 
 impl Comparison {
@@ -57,19 +57,7 @@ impl Comparison {
     pub(crate) fn code(self) -> u8
         ensures { result ≡ comparison_code self }
     {
-        match self {
-            Comparison::Eq => 0x1,
-            Comparison::Gt => 0x2,
-            Comparison::Ge => 0x3,
-            Comparison::Set => 0x4,
-            Comparison::Ne => 0x5,
-            Comparison::Sgt => 0x6,
-            Comparison::Sge => 0x7,
-            Comparison::Lt => 0xa,
-            Comparison::Le => 0xb,
-            Comparison::Slt => 0xc,
-            Comparison::Sle => 0xd,
-        }
+        self as u8
     }
 }
 
@@ -77,18 +65,19 @@ impl fmt::Display for Comparison {
     ghost output = { λ x. Some (comparison_text x) };
 
     fn fmt<W: fmt::Write>(&self, f: &mut fmt::Formatter<W>) -> fmt::Result {
-        match self {
-            Comparison::Eq => write!(f, "jeq"),
-            Comparison::Gt => write!(f, "jgt"),
-            Comparison::Ge => write!(f, "jge"),
-            Comparison::Set => write!(f, "jset"),
-            Comparison::Ne => write!(f, "jne"),
-            Comparison::Sgt => write!(f, "jsgt"),
-            Comparison::Sge => write!(f, "jsge"),
-            Comparison::Lt => write!(f, "jlt"),
-            Comparison::Le => write!(f, "jle"),
-            Comparison::Slt => write!(f, "jslt"),
-            Comparison::Sle => write!(f, "jsle"),
-        }
+        let name = match self {
+            Comparison::Eq => "jeq",
+            Comparison::Gt => "jgt",
+            Comparison::Ge => "jge",
+            Comparison::Set => "jset",
+            Comparison::Ne => "jne",
+            Comparison::Sgt => "jsgt",
+            Comparison::Sge => "jsge",
+            Comparison::Lt => "jlt",
+            Comparison::Le => "jle",
+            Comparison::Slt => "jslt",
+            Comparison::Sle => "jsle",
+        };
+        write!(f, "{name}")
     }
 }

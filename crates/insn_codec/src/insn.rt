@@ -130,119 +130,101 @@ impl Insn {
         }
     }
 
-    /// The fields of the first slot; those that the instruction does not name are 0.
+    /// The fields of the first slot, row by row; those that the instruction does not name are 0.
     pub(crate) fn first_slot(self) -> Slot
         ensures { result ≡ first_slot self }
-    {
-        Slot {
-            opcode: self.opcode(),
-            dst: self.dst(),
-            src: self.src(),
-            offset: self.offset(),
-            imm: self.imm(),
-        }
-    }
-
-    /// The opcode of the first slot.
-    fn opcode(self) -> u8
-        ensures { result ≡ (first_slot self).opcode }
     {
         match self {
             Insn::Alu {
                 op,
                 width,
+                dst,
                 operand,
-                ..
-            } => 16 * op.code() + 8 * operand.flag() + width.alu_class(),
-            Insn::Neg { width, .. } => 0x80 + width.alu_class(),
-            Insn::SignExtend { extension, .. } => 0xb8 + extension.width().alu_class(),
-            Insn::ByteSwap { order, .. } => order.opcode(),
-            Insn::Jump { .. } => 0x05,
-            Insn::JumpLong { .. } => 0x06,
+            } => {
+                let opcode = 16 * op.code() + 8 * operand.flag() + width.alu_class();
+                Slot::with(
+                    opcode,
+                    dst.number(),
+                    operand.src(),
+                    op.offset(),
+                    operand.imm(),
+                )
+            }
+            Insn::Neg { width, dst } => Slot::with(0x80 + width.alu_class(), dst.number(), 0, 0, 0),
+            Insn::SignExtend {
+                extension,
+                dst,
+                src,
+            } => {
+                let opcode = 0xb8 + extension.width().alu_class();
+                Slot::with(opcode, dst.number(), src.number(), extension.bits(), 0)
+            }
+            Insn::ByteSwap { order, width, dst } => {
+                let opcode = order.opcode();
+                Slot::with(opcode, dst.number(), 0, 0, width.bits())
+            }
+            Insn::Jump { offset } => Slot::with(0x05, 0, 0, offset, 0),
+            Insn::JumpLong { offset } => Slot::with(0x06, 0, 0, 0, offset),
             Insn::Branch {
                 comparison,
                 width,
+                dst,
                 operand,
-                ..
-            } => 16 * comparison.code() + 8 * operand.flag() + width.jump_class(),
-            Insn::Call { .. } | Insn::CallLocal { .. } => 0x85,
-            Insn::Exit => 0x95,
-            Insn::Load { size, .. } => 0x61 + 8 * size.code(),
-            Insn::LoadSigned { size, .. } => 0x81 + 8 * size.code(),
-            Insn::StoreImm { size, .. } => 0x62 + 8 * size.code(),
-            Insn::Store { size, .. } => 0x63 + 8 * size.code(),
-            Insn::Atomic { width, .. } => width.atomic_opcode(),
-            Insn::LoadWide { .. } => 0x18,
-        }
-    }
-
-    /// What stands in the first slot's dst field.
-    fn dst(self) -> u8
-        ensures { result ≡ (first_slot self).dst }
-    {
-        match self {
-            Insn::Alu { dst, .. }
-            | Insn::Neg { dst, .. }
-            | Insn::SignExtend { dst, .. }
-            | Insn::ByteSwap { dst, .. }
-            | Insn::Branch { dst, .. }
-            | Insn::Load { dst, .. }
-            | Insn::LoadSigned { dst, .. }
-            | Insn::StoreImm { dst, .. }
-            | Insn::Store { dst, .. }
-            | Insn::Atomic { dst, .. }
-            | Insn::LoadWide { dst, .. } => dst.number(),
-            _ => 0,
-        }
-    }
-
-    /// What stands in the first slot's src field: a register, or which of the calls it is.
-    fn src(self) -> u8
-        ensures { result ≡ (first_slot self).src }
-    {
-        match self {
-            Insn::Alu { operand, .. } | Insn::Branch { operand, .. } => operand.src(),
-            Insn::SignExtend { src, .. }
-            | Insn::Load { src, .. }
-            | Insn::LoadSigned { src, .. }
-            | Insn::Store { src, .. }
-            | Insn::Atomic { src, .. } => src.number(),
-            Insn::CallLocal { .. } => 1,
-            _ => 0,
-        }
-    }
-
-    /// What stands in the first slot's offset field.
-    fn offset(self) -> i16
-        ensures { result ≡ (first_slot self).offset }
-    {
-        match self {
-            Insn::Alu { op, .. } => op.offset(),
-            Insn::SignExtend { extension, .. } => extension.bits(),
-            Insn::Jump { offset }
-            | Insn::Branch { offset, .. }
-            | Insn::Load { offset, .. }
-            | Insn::LoadSigned { offset, .. }
-            | Insn::StoreImm { offset, .. }
-            | Insn::Store { offset, .. }
-            | Insn::Atomic { offset, .. } => offset,
-            _ => 0,
-        }
-    }
-
-    /// What stands in the first slot's imm field.
-    fn imm(self) -> i32
-        ensures { result ≡ (first_slot self).imm }
-    {
-        match self {
-            Insn::Alu { operand, .. } | Insn::Branch { operand, .. } => operand.imm(),
-            Insn::ByteSwap { width, .. } => width.bits(),
-            Insn::JumpLong { offset } | Insn::CallLocal { offset } => offset,
-            Insn::Call { helper } => helper,
-            Insn::StoreImm { imm, .. } => imm,
-            Insn::Atomic { op, .. } => op.code(),
-            Insn::LoadWide { value, .. } => ((value % 0x1_0000_0000) as u32).cast_signed(),
-            _ => 0,
+                offset,
+            } => {
+                let opcode = 16 * comparison.code() + 8 * operand.flag() + width.jump_class();
+                Slot::with(opcode, dst.number(), operand.src(), offset, operand.imm())
+            }
+            Insn::Call { helper } => Slot::with(0x85, 0, 0, 0, helper),
+            Insn::CallLocal { offset } => Slot::with(0x85, 0, 1, 0, offset),
+            Insn::Exit => Slot::with(0x95, 0, 0, 0, 0),
+            Insn::Load {
+                size,
+                dst,
+                src,
+                offset,
+            } => {
+                let opcode = 0x61 + 8 * size.code();
+                Slot::with(opcode, dst.number(), src.number(), offset, 0)
+            }
+            Insn::LoadSigned {
+                size,
+                dst,
+                src,
+                offset,
+            } => {
+                let opcode = 0x81 + 8 * size.code();
+                Slot::with(opcode, dst.number(), src.number(), offset, 0)
+            }
+            Insn::StoreImm {
+                size,
+                dst,
+                offset,
+                imm,
+            } => Slot::with(0x62 + 8 * size.code(), dst.number(), 0, offset, imm),
+            Insn::Store {
+                size,
+                dst,
+                offset,
+                src,
+            } => {
+                let opcode = 0x63 + 8 * size.code();
+                Slot::with(opcode, dst.number(), src.number(), offset, 0)
+            }
+            Insn::Atomic {
+                op,
+                width,
+                dst,
+                offset,
+                src,
+            } => {
+                let opcode = width.atomic_opcode();
+                Slot::with(opcode, dst.number(), src.number(), offset, op.code())
+            }
+            Insn::LoadWide { dst, value } => {
+                let low = (value % 0x1_0000_0000) as u32;
+                Slot::with(0x18, dst.number(), 0, 0, low.cast_signed())
+            }
         }
     }
 

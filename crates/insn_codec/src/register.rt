@@ -54,18 +54,19 @@ impl fmt::Display for Register {
     ghost output = { λ x. Some (register_text x) };
 
     fn fmt<W: fmt::Write>(&self, f: &mut fmt::Formatter<W>) -> fmt::Result {
-        match self {
-            Register::R0 => write!(f, "r0"),
-            Register::R1 => write!(f, "r1"),
-            Register::R2 => write!(f, "r2"),
-            Register::R3 => write!(f, "r3"),
-            Register::R4 => write!(f, "r4"),
-            Register::R5 => write!(f, "r5"),
-            Register::R6 => write!(f, "r6"),
-            Register::R7 => write!(f, "r7"),
-            Register::R8 => write!(f, "r8"),
-            Register::R9 => write!(f, "r9"),
-            Register::R10 => write!(f, "r10"),
-        }
+        let name = match self {
+            Register::R0 => "r0",
+            Register::R1 => "r1",
+            Register::R2 => "r2",
+            Register::R3 => "r3",
+            Register::R4 => "r4",
+            Register::R5 => "r5",
+            Register::R6 => "r6",
+            Register::R7 => "r7",
+            Register::R8 => "r8",
+            Register::R9 => "r9",
+            Register::R10 => "r10",
+        };
+        write!(f, "{name}")
     }
 }

@@ -7,11 +7,11 @@ use std::fmt;
 #[derive(Clone, Copy, Debug, PartialEq, Eq)]
 pub enum SignedSize {
     /// One byte.
-    B,
+    B = 2,
     /// Two bytes.
-    H,
+    H = 1,
     /// Four bytes.
-    W,
+    W = 0,
 }
 
 impl SignedSize {
@@ -33,11 +33,7 @@ impl SignedSize {
     pub(crate) fn code(self) -> u8
         ensures { result ≡ signed_size_code self }
     {
-        match self {
-            SignedSize::W => 0,
-            SignedSize::H => 1,
-            SignedSize::B => 2,
-        }
+        self as u8
     }
 }
 

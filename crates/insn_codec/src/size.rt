@@ -7,13 +7,13 @@ use std::fmt;
 #[derive(Clone, Copy, Debug, PartialEq, Eq)]
 pub enum Size {
     /// One byte.
-    B,
+    B = 2,
     /// Two bytes.
-    H,
+    H = 1,
     /// Four bytes.
-    W,
+    W = 0,
     /// Eight bytes.
-    Dw,
+    Dw = 3,
 }
 
 impl Size {
@@ -36,12 +36,7 @@ impl Size {
     pub(crate) fn code(self) -> u8
         ensures { result ≡ size_code self }
     {
-        match self {
-            Size::W => 0,
-            Size::H => 1,
-            Size::B => 2,
-            Size::Dw => 3,
-        }
+        self as u8
     }
 }
 

@@ -13,7 +13,20 @@ pub struct Slot {
 
 impl Slot {
     ghost use Rattle.insn_codec.specs.Candidate.{extends_at};
-    ghost use Rattle.insn_codec.specs.Slots.{IsSlot, slot_bytes};
+    ghost use Rattle.insn_codec.specs.Slots.{IsSlot, slot_bytes, slot_with};
+
+    /// The slot of these fields.
+    pub(crate) fn with(opcode: u8, dst: u8, src: u8, offset: i16, imm: i32) -> Slot
+        ensures { result ≡ slot_with opcode dst src offset imm }
+    {
+        Slot {
+            opcode,
+            dst,
+            src,
+            offset,
+            imm,
+        }
+    }
 
     /// The fields of the slot whose bytes, read little-endian, are the word.
     pub(crate) fn of_word(word: u64) -> Slot

@@ -7,11 +7,11 @@ use std::fmt;
 #[derive(Clone, Copy, Debug, PartialEq, Eq)]
 pub enum SwapWidth {
     /// 16 bits.
-    Bits16,
+    Bits16 = 16,
     /// 32 bits.
-    Bits32,
+    Bits32 = 32,
     /// All 64 bits.
-    Bits64,
+    Bits64 = 64,
 }
 
 impl SwapWidth {
@@ -33,11 +33,7 @@ impl SwapWidth {
     pub(crate) fn bits(self) -> i32
         ensures { result ≡ swap_bits self }
     {
-        match self {
-            SwapWidth::Bits16 => 16,
-            SwapWidth::Bits32 => 32,
-            SwapWidth::Bits64 => 64,
-        }
+        self as i32
     }
 }
 

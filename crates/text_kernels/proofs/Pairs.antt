@@ -21,15 +21,13 @@ abbrev run_of : List Bool → ℕ
 run_of bs = run (λ b. b) bs
 
 as_run : (xs ys : List ℕ) → first_difference_of xs ys ≡ run_of (zip2 differ xs ys)
-as_run [] ys = refl
-as_run (x ∷ xs) [] = refl
 as_run (x ∷ xs) (y ∷ ys) = ap₂ (λ b n. cond b (1 + n) 0) (twice (x == y)) (as_run xs ys)
+as_run _ _ = refl
 
 zip2-append : (xs ys us vs : List ℕ) → length xs ≡ length ys → zip2 differ (xs ++ us) (ys ++ vs) ≡ zip2 differ xs ys ++ zip2 differ us vs
 zip2-append [] [] us vs e = refl
-zip2-append [] (y ∷ ys) us vs e = let no : ⊥ = omega arith in absurd no
-zip2-append (x ∷ xs) [] us vs e = let no : ⊥ = omega arith in absurd no
 zip2-append (x ∷ xs) (y ∷ ys) us vs e = ap (λ r. differ x y ∷ r) (zip2-append xs ys us vs (omega arith))
+zip2-append _ _ us vs e = let no : ⊥ = omega arith in absurd no
 
 module _ (left right : List ℕ) (i n : ℕ) (room_left : i + n ≤ length left) (room_right : i + n ≤ length right) where
   abbrev block : List Bool

@@ -77,17 +77,15 @@ digits : (x y : ℕ) → ordering_then (nat_cmp (x / 64) (y / 64)) (nat_cmp (x %
 digits x y = digits_by x y _ _ (ranks (x / 64) (y / 64)) (ranks (x % 64) (y % 64))
 
 shifted_by : (n x y : ℕ) (r : Ordering) → MatchOrdering r (x < y) (x ≡ y) (y < x) → MatchOrdering r (n + x < n + y) (n + x ≡ n + y) (n + y < n + x)
-shifted_by n x y Less h = omega (arith, h)
 shifted_by n x y Equal h = ap (λ z. n + z) h
-shifted_by n x y Greater h = omega (arith, h)
+shifted_by n x y _ h = omega (arith, h)
 
 shifted : (n x y : ℕ) → nat_cmp (n + x) (n + y) ≡ nat_cmp x y
 shifted n x y = sym (nat_cmp_is (n + x) (n + y) _ (shifted_by n x y _ (ranks x y)))
 
 in_turn : (a b c : Ordering) → ordering_then a (ordering_then b c) ≡ ordering_then (ordering_then a b) c
 in_turn Less b c = refl
-in_turn Equal b c = refl
-in_turn Greater b c = refl
+in_turn _ b c = refl
 
 -- the quotients by 64, and then what goes on a character, are told as the numbers
 last : (x y : ℕ) (o : Ordering) → ordering_then (nat_cmp (x / 64) (y / 64)) (ordering_then (nat_cmp (next x) (next y)) o) ≡ ordering_then (nat_cmp x y) o

@@ -66,9 +66,7 @@ at_mark m n us false e = no (λ f. eqb-false (number n) (number m) e (ap number 
 unfoldable pub at : (m : Mark) (ws : List Word) → At m ws
 at m [] = no tt
 at m (mark n ∷ us) = at_mark m n us (number n == number m) refl
-at m (name n ∷ us) = no (λ e. cc)
-at m (int z ∷ us) = no (λ e. cc)
-at m (text bytes ∷ us) = no (λ e. cc)
+at m _ = no (λ e. cc)
 
 pub data OperatorAt (l : Level) (ws : List Word) : Type 0 where
   operator : (op : BinaryOperator) (w : Word) (us : List Word) → operator_of w ≡ Some op → level_of op ≡ l → ws ≡ w ∷ us → OperatorAt l ws
@@ -109,6 +107,4 @@ named_by test n false e = unnamed (λ m f. ap test (sym (one_name n m f)) ∙ e)
 
 unfoldable pub named_at : (test : List ℕ → Bool) (w : Word) → Named test w
 named_at test (name n) = named_by test n (test n) refl
-named_at test (int z) = unnamed (λ n e. cc)
-named_at test (text bytes) = unnamed (λ n e. cc)
-named_at test (mark m) = unnamed (λ n e. cc)
+named_at test _ = unnamed (λ n e. cc)

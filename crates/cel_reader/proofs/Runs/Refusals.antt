@@ -106,11 +106,7 @@ from_cut source (cut (Ok lexemes) c) e h is = from_run source lexemes (run 2000 
 from_cut source (cut (Err (P1 place)) c) e h is = same_refusal source (P1 place) e is (record { some = λ no. cc; answers = tokens.read h c; placed = tt })
 from_cut source (cut (Err (P2 place)) c) e h is = same_refusal source (P2 place) e is (record { some = λ no. cc; answers = tokens.read h c; placed = tt })
 from_cut source (cut (Err (P3 place)) c) e h is = same_refusal source (P3 place) e is (record { some = λ no. cc; answers = tokens.read h c; placed = tt })
-from_cut source (cut (Err (P4 place)) c) e h is = cc
-from_cut source (cut (Err (P5 place)) c) e h is = cc
-from_cut source (cut (Err (P6 place)) c) e h is = cc
-from_cut source (cut (Err Memory) c) e h is = cc
-from_cut source uncut e h is = cc
+from_cut source _ e h is = cc
 
 -- ---- rows
 
