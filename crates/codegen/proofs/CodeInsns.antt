@@ -28,37 +28,16 @@ use Rattle.codegen_base.specs.Code.Calls.{kept_size, operand_code, operands_code
 use Rattle.codegen_base.specs.Code.Selection.{index_tail, size_tail, string_tail, test_tail}
 use Rattle.codegen_base.specs.declared.leaf.Leaf.{Leaf}
 use Rattle.codegen_base.proofs.Insns.{MayBeNear, absorbing_insns, difference_insns, divided_insns, entry_insns, equal_insns, field_insns, has_insns, index_insns, insns_append, int_insns, item_insns, less_insns, list_insns, macro_insns, map_insns, map_where_insns, member_insns, name_insns, name_near, negation_insns, not_insns, not_less_insns, null_insns, operand_insns, operands_insns, product_insns, size_insns, string_insns, sum_insns, ternary_insns, test_insns, text_insns, truth_insns, unequal_insns, use_insns}
-use Rattle.codegen.specs.Code.Expressions.{binary_code, binary_tail, code_of, entries_code, function_code, items_code, leaf_of, left_size, method_function_code, no_code, routine_named, test_code, texts_of, texts_of_each, texts_of_entries, unary_code, variable_code}
+use Rattle.codegen.specs.Code.Expressions.{binary_code, binary_tail, code_of, entries_code, function_code, items_code, leaf_of, left_size, method_function_code, no_code, routine_named, test_code, unary_code, variable_code}
 use Rattle.codegen.specs.Code.Literals.{address_of, literal_code, literal_leaf}
-use Rattle.codegen.specs.Computes.{TextsStand}
 use Rattle.codegen.specs.Constants.{place_of}
 use Rattle.codegen.specs.HasLiterals.{EntriesHaveLiterals, HasLiterals, HaveLiterals}
 use Rattle.codegen.specs.Surroundings.{routines_of}
 use Rattle.codegen.proofs.Lengths.{short_code}
 
--- texts whose lengths are words
-abbrev pub AreShort : List (List ℕ) → Type 0
-AreShort texts = AllByRecursion (λ t. length t < 2 ^ 64) texts
-
--- texts that stand among the constants have lengths that are words
-pub stand_short : (constants : List ℕ) (texts used : List (List ℕ)) → TextsStand constants texts used → AreShort used
-stand_short constants texts [] h = tt
-stand_short constants texts (t ∷ used) h = (h.0.length_is_word, stand_short constants texts used h.1)
-
 -- iteration names stand in words of the frame
 abbrev pub AreWithin : List (List ℕ × ℕ) → Type 0
 AreWithin words = (n : List ℕ) (k : ℕ) → lookup n words ≡ Some k → k < 64
-
-pub short_front : (xs ys : List (List ℕ)) → AreShort (xs ++ ys) → AreShort xs
-short_front [] ys h = tt
-short_front (x ∷ xs) ys h = (h.0, short_front xs ys h.1)
-
-pub short_back : (xs ys : List (List ℕ)) → AreShort (xs ++ ys) → AreShort ys
-short_back [] ys h = h
-short_back (x ∷ xs) ys h = short_back xs ys h.1
-
-short_last : (xs : List (List ℕ)) (t : List ℕ) → AreShort (xs ++ t ∷ []) → length t < 2 ^ 64
-short_last xs t h = let last = short_back xs (t ∷ []) h in last.0
 
 within_by : (found : Bool) (j k i : ℕ) (o : Option ℕ) → j < 64 → (o ≡ Some i → i < 64) → (if found then Some j else o) ≡ Some i → i < 64
 within_by true j k i o low later e = let same : j ≡ i = ap (λ (p : Option ℕ). unwrap_or p 0) e in omega arith
@@ -73,12 +52,11 @@ address_small texts t = let most = unwrap_or (option_map saturated (place_of t t
 no_insns : AreInsns no_code
 no_insns = (omega arith, tt)
 
-literal_insns : (texts : List (List ℕ)) (l : tree.Literal) → IsWellFormedLiteral l → AreShort (texts_of (core.literal l)) → AreInsns (literal_code texts l)
-unfolding texts_of
-literal_insns texts tree.null h short = null_insns
-literal_insns texts (tree.truth b) h short = truth_insns b
-literal_insns texts (tree.int z) h short = int_insns z h
-literal_insns texts (tree.text t) h short = text_insns (address_of texts t) (length t) (address_small texts t) short.0
+literal_insns : (texts : List (List ℕ)) (l : tree.Literal) → IsWellFormedLiteral l → AreInsns (literal_code texts l)
+literal_insns texts tree.null h = null_insns
+literal_insns texts (tree.truth b) h = truth_insns b
+literal_insns texts (tree.int z) h = int_insns z h
+literal_insns texts (tree.text t) h = text_insns (address_of texts t) (length t) (address_small texts t)
 
 literal_near : (l : tree.Literal) → MayBeNear (literal_leaf l)
 literal_near tree.null = omega arith
@@ -210,75 +188,71 @@ module _ (ts : List (List ℕ)) (rs : List (List ℕ × ℕ)) (near : AreNear rs
   code e ws k p = code_of e ts rs ws k p
 
   mutual
-    unfolding code_of need nodes texts_of plain_tree
+    unfolding code_of need nodes plain_tree
 
-    pub code_insns : (e : CoreTree) (ws : List (List ℕ × ℕ)) (k p : ℕ) → AreWithin ws → k + need e ≤ 60 → nodes e ≤ 512 → p + 63 * nodes e ≤ 0x8000_0000 → HasLiterals (plain_tree e) → AreShort (texts_of e) → AreInsns (code_of e ts rs ws k p)
-    code_insns (core.literal l) ws k p words room few inside h short = literal_insns ts l h short
-    code_insns (core.name n) ws k p words room few inside h short = name_insns n ws (words n)
-    code_insns (core.variable v) ws k p words room few inside h short = variable_insns (routine_named v rs) p (omega arith) (near v)
-    code_insns (core.select a f) ws k p words room few inside h short = one_insns (leaf_of a ws) (code a ws k p) (leaf_near a ws words) (code_insns a ws k p words room (omega arith) (omega arith) h (short_front (texts_of a) (f ∷ []) short)) R1 _ (field_insns (address_of ts f) (length f) (address_small ts f) (short_last (texts_of a) f short))
-    code_insns (core.has a f) ws k p words room few inside h short = one_insns (leaf_of a ws) (code a ws k p) (leaf_near a ws words) (code_insns a ws k p words room (omega arith) (omega arith) h.0 (short_front (texts_of a) (f ∷ []) short)) R1 _ (has_insns (address_of ts f) (length f) (address_small ts f) (short_last (texts_of a) f short))
-    code_insns (core.index a b) ws k p words room few inside h short =
+    pub code_insns : (e : CoreTree) (ws : List (List ℕ × ℕ)) (k p : ℕ) → AreWithin ws → k + need e ≤ 60 → nodes e ≤ 512 → p + 63 * nodes e ≤ 0x8000_0000 → HasLiterals (plain_tree e) → AreInsns (code_of e ts rs ws k p)
+    code_insns (core.literal l) ws k p words room few inside h = literal_insns ts l h
+    code_insns (core.name n) ws k p words room few inside h = name_insns n ws (words n)
+    code_insns (core.variable v) ws k p words room few inside h = variable_insns (routine_named v rs) p (omega arith) (near v)
+    code_insns (core.select a f) ws k p words room few inside h = one_insns (leaf_of a ws) (code a ws k p) (leaf_near a ws words) (code_insns a ws k p words room (omega arith) (omega arith) h) R1 _ (field_insns (address_of ts f) (length f) (address_small ts f))
+    code_insns (core.has a f) ws k p words room few inside h = one_insns (leaf_of a ws) (code a ws k p) (leaf_near a ws words) (code_insns a ws k p words room (omega arith) (omega arith) h.0) R1 _ (has_insns (address_of ts f) (length f) (address_small ts f))
+    code_insns (core.index a b) ws k p words room few inside h =
         let q = p + kept_size (leaf_of a ws) (code a ws k p) in
         let near_left = kept_at_most (leaf_of a ws) (code a ws k p) in
         let long = short_code a ts rs ws k p in
-        two_insns (leaf_of a ws) (code a ws k p) (leaf_of b ws) (code b ws (k + 1) q) k (omega arith) (leaf_near a ws words) (code_insns a ws k p words (omega arith) (omega arith) (omega arith) h.0 (short_front (texts_of a) (texts_of b) short)) (leaf_near b ws words) (code_insns b ws (k + 1) q words (omega arith) (omega arith) (omega arith) h.1 (short_back (texts_of a) (texts_of b) short)) R1 R2 index_tail index_insns
-    code_insns (core.call n no_cores) ws k p words room few inside h short = no_insns
-    code_insns (core.call n (more_cores a no_cores)) ws k p words room few inside h short = function_insns (leaf_of a ws) (code a ws k p) (leaf_near a ws words) (code_insns a ws k p words room (omega arith) (omega arith) h.0 (short_front (texts_of a) [] short)) (function_named n)
-    code_insns (core.call n (more_cores a (more_cores b more))) ws k p words room few inside h short = no_insns
-    code_insns (core.method a n no_cores) ws k p words room few inside h short = method_insns (leaf_of a ws) (code a ws k p) (leaf_near a ws words) (code_insns a ws k p words (omega arith) (omega arith) (omega arith) h.0 (short_front (texts_of a) [] short)) (function_named n)
-    code_insns (core.method a n (more_cores b no_cores)) ws k p words room few inside h short =
+        two_insns (leaf_of a ws) (code a ws k p) (leaf_of b ws) (code b ws (k + 1) q) k (omega arith) (leaf_near a ws words) (code_insns a ws k p words (omega arith) (omega arith) (omega arith) h.0) (leaf_near b ws words) (code_insns b ws (k + 1) q words (omega arith) (omega arith) (omega arith) h.1) R1 R2 index_tail index_insns
+    code_insns (core.call n no_cores) ws k p words room few inside h = no_insns
+    code_insns (core.call n (more_cores a no_cores)) ws k p words room few inside h = function_insns (leaf_of a ws) (code a ws k p) (leaf_near a ws words) (code_insns a ws k p words room (omega arith) (omega arith) h.0) (function_named n)
+    code_insns (core.call n (more_cores a (more_cores b more))) ws k p words room few inside h = no_insns
+    code_insns (core.method a n no_cores) ws k p words room few inside h = method_insns (leaf_of a ws) (code a ws k p) (leaf_near a ws words) (code_insns a ws k p words (omega arith) (omega arith) (omega arith) h.0) (function_named n)
+    code_insns (core.method a n (more_cores b no_cores)) ws k p words room few inside h =
         let q = p + kept_size (leaf_of a ws) (code a ws k p) in
         let near_left = kept_at_most (leaf_of a ws) (code a ws k p) in
         let long = short_code a ts rs ws k p in
-        let rest = short_back (texts_of a) (texts_of b ++ []) short in
-        tested_insns (leaf_of a ws) (code a ws k p) (leaf_of b ws) (code b ws (k + 1) q) k (omega arith) (leaf_near a ws words) (code_insns a ws k p words (omega arith) (omega arith) (omega arith) h.0 (short_front (texts_of a) (texts_of b ++ []) short)) (leaf_near b ws words) (code_insns b ws (k + 1) q words (omega arith) (omega arith) (omega arith) h.1.0 (short_front (texts_of b) [] rest)) (test_named n)
-    code_insns (core.method a n (more_cores b (more_cores x more))) ws k p words room few inside h short = no_insns
-    code_insns (core.unary op a) ws k p words room few inside h short = unary_insns (leaf_of a ws) (code a ws k p) (leaf_near a ws words) (code_insns a ws k p words room (omega arith) (omega arith) h short) op
-    code_insns (core.binary op a b) ws k p words room few inside h short =
+        tested_insns (leaf_of a ws) (code a ws k p) (leaf_of b ws) (code b ws (k + 1) q) k (omega arith) (leaf_near a ws words) (code_insns a ws k p words (omega arith) (omega arith) (omega arith) h.0) (leaf_near b ws words) (code_insns b ws (k + 1) q words (omega arith) (omega arith) (omega arith) h.1.0) (test_named n)
+    code_insns (core.method a n (more_cores b (more_cores x more))) ws k p words room few inside h = no_insns
+    code_insns (core.unary op a) ws k p words room few inside h = unary_insns (leaf_of a ws) (code a ws k p) (leaf_near a ws words) (code_insns a ws k p words room (omega arith) (omega arith) h) op
+    code_insns (core.binary op a b) ws k p words room few inside h =
         let q = p + left_size op (leaf_of a ws) (code a ws k p) in
         let near_left = left_at_most op (leaf_of a ws) (code a ws k p) in
         let long = short_code a ts rs ws k p in
         let long_right = short_code b ts rs ws (k + 1) q in
-        binary_insns (leaf_of a ws) (code a ws k p) (leaf_of b ws) (code b ws (k + 1) q) k (omega arith) (leaf_near a ws words) (code_insns a ws k p words (omega arith) (omega arith) (omega arith) h.0 (short_front (texts_of a) (texts_of b) short)) (leaf_near b ws words) (code_insns b ws (k + 1) q words (omega arith) (omega arith) (omega arith) h.1 (short_back (texts_of a) (texts_of b) short)) op (omega arith)
-    code_insns (core.ternary c a b) ws k p words room few inside h short =
+        binary_insns (leaf_of a ws) (code a ws k p) (leaf_of b ws) (code b ws (k + 1) q) k (omega arith) (leaf_near a ws words) (code_insns a ws k p words (omega arith) (omega arith) (omega arith) h.0) (leaf_near b ws words) (code_insns b ws (k + 1) q words (omega arith) (omega arith) (omega arith) h.1) op (omega arith)
+    code_insns (core.ternary c a b) ws k p words room few inside h =
         let q = p + size (code c ws k p) + 2 in
         let r = q + size (code a ws k q) + 1 in
         let long = short_code c ts rs ws k p in
         let long_first = short_code a ts rs ws k q in
         let long_second = short_code b ts rs ws k r in
-        let rest = short_back (texts_of c) (texts_of a ++ texts_of b) short in
-        ternary_insns (code c ws k p) (code a ws k q) (code b ws k r) (omega arith) (code_insns c ws k p words (omega arith) (omega arith) (omega arith) h.0 (short_front (texts_of c) (texts_of a ++ texts_of b) short)) (code_insns a ws k q words (omega arith) (omega arith) (omega arith) h.1 (short_front (texts_of a) (texts_of b) rest)) (code_insns b ws k r words (omega arith) (omega arith) (omega arith) h.2 (short_back (texts_of a) (texts_of b) rest))
-    code_insns (core.list items) ws k p words room few inside h short = list_insns (items_code items ts rs ws k (p + 2)) k (omega arith) (items_insns items ws k (p + 2) words (omega arith) (omega arith) (omega arith) h short)
-    code_insns (core.map es) ws k p words room few inside h short = map_insns (entries_code es ts rs ws k (p + 2)) k (omega arith) (entries_insns es ws k (p + 2) words (omega arith) (omega arith) (omega arith) h short)
-    code_insns (core.fold m n r e) ws k p words room few inside h short =
+        ternary_insns (code c ws k p) (code a ws k q) (code b ws k r) (omega arith) (code_insns c ws k p words (omega arith) (omega arith) (omega arith) h.0) (code_insns a ws k q words (omega arith) (omega arith) (omega arith) h.1) (code_insns b ws k r words (omega arith) (omega arith) (omega arith) h.2)
+    code_insns (core.list items) ws k p words room few inside h = list_insns (items_code items ts rs ws k (p + 2)) k (omega arith) (items_insns items ws k (p + 2) words (omega arith) (omega arith) (omega arith) h)
+    code_insns (core.map es) ws k p words room few inside h = map_insns (entries_code es ts rs ws k (p + 2)) k (omega arith) (entries_insns es ws k (p + 2) words (omega arith) (omega arith) (omega arith) h)
+    code_insns (core.fold m n r e) ws k p words room few inside h =
         let ws1 = (n, k + 4) ∷ ws in
         let q = p + size (code r ws k p) + 17 in
         let long = short_code r ts rs ws k p in
         let long_part = short_code e ts rs ws1 (k + 5) q in
-        macro_insns m k (code r ws k p) (code e ws1 (k + 5) q) (omega arith) (omega arith) (code_insns r ws k p words (omega arith) (omega arith) (omega arith) h.0 (short_front (texts_of r) (texts_of e) short)) (code_insns e ws1 (k + 5) q (within_more n (k + 4) ws (omega arith) words) (omega arith) (omega arith) (omega arith) h.1.1.0 (short_back (texts_of r) (texts_of e) short))
-    code_insns (core.fold_map n r e t) ws k p words room few inside h short =
+        macro_insns m k (code r ws k p) (code e ws1 (k + 5) q) (omega arith) (omega arith) (code_insns r ws k p words (omega arith) (omega arith) (omega arith) h.0) (code_insns e ws1 (k + 5) q (within_more n (k + 4) ws (omega arith) words) (omega arith) (omega arith) (omega arith) h.1.1.0)
+    code_insns (core.fold_map n r e t) ws k p words room few inside h =
         let ws1 = (n, k + 4) ∷ ws in
         let q = p + size (code r ws k p) + 17 in
         let u = q + size (code e ws1 (k + 5) q) + 2 in
         let long = short_code r ts rs ws k p in
         let long_first = short_code e ts rs ws1 (k + 5) q in
         let long_second = short_code t ts rs ws1 (k + 5) u in
-        let rest = short_back (texts_of r) (texts_of e ++ texts_of t) short in
         let inner = within_more n (k + 4) ws (omega arith) words in
-        map_where_insns k (code r ws k p) (code e ws1 (k + 5) q) (code t ws1 (k + 5) u) (omega arith) (omega arith) (code_insns r ws k p words (omega arith) (omega arith) (omega arith) h.0 (short_front (texts_of r) (texts_of e ++ texts_of t) short)) (code_insns e ws1 (k + 5) q inner (omega arith) (omega arith) (omega arith) h.1.1.0 (short_front (texts_of e) (texts_of t) rest)) (code_insns t ws1 (k + 5) u inner (omega arith) (omega arith) (omega arith) h.1.1.1.0 (short_back (texts_of e) (texts_of t) rest))
+        map_where_insns k (code r ws k p) (code e ws1 (k + 5) q) (code t ws1 (k + 5) u) (omega arith) (omega arith) (code_insns r ws k p words (omega arith) (omega arith) (omega arith) h.0) (code_insns e ws1 (k + 5) q inner (omega arith) (omega arith) (omega arith) h.1.1.0) (code_insns t ws1 (k + 5) u inner (omega arith) (omega arith) (omega arith) h.1.1.1.0)
 
-    items_insns : (items : CoreTrees) (ws : List (List ℕ × ℕ)) (k p : ℕ) → AreWithin ws → k + 1 + needs items ≤ 60 → nodes_of items ≤ 512 → p + 63 * nodes_of items ≤ 0x8000_0000 → HaveLiterals (plain_trees items) → AreShort (texts_of_each items) → AreInsns (items_code items ts rs ws k p)
-    items_insns no_cores ws k p words room few inside h short = tt
-    items_insns (more_cores a more) ws k p words room few inside h short =
+    items_insns : (items : CoreTrees) (ws : List (List ℕ × ℕ)) (k p : ℕ) → AreWithin ws → k + 1 + needs items ≤ 60 → nodes_of items ≤ 512 → p + 63 * nodes_of items ≤ 0x8000_0000 → HaveLiterals (plain_trees items) → AreInsns (items_code items ts rs ws k p)
+    items_insns no_cores ws k p words room few inside h = tt
+    items_insns (more_cores a more) ws k p words room few inside h =
         let long = short_code a ts rs ws (k + 1) p in
-        insns_append _ (items_code more ts rs ws k _) (item_insns (code a ws (k + 1) p) k (omega arith) (code_insns a ws (k + 1) p words (omega arith) (omega arith) (omega arith) h.0 (short_front (texts_of a) (texts_of_each more) short))) (items_insns more ws k _ words (omega arith) (omega arith) (omega arith) h.1 (short_back (texts_of a) (texts_of_each more) short))
+        insns_append _ (items_code more ts rs ws k _) (item_insns (code a ws (k + 1) p) k (omega arith) (code_insns a ws (k + 1) p words (omega arith) (omega arith) (omega arith) h.0)) (items_insns more ws k _ words (omega arith) (omega arith) (omega arith) h.1)
 
-    entries_insns : (es : CoreEntries) (ws : List (List ℕ × ℕ)) (k p : ℕ) → AreWithin ws → k + entries_need es ≤ 60 → entries_nodes es ≤ 512 → p + 63 * entries_nodes es ≤ 0x8000_0000 → EntriesHaveLiterals (plain_entries es) → AreShort (texts_of_entries es) → AreInsns (entries_code es ts rs ws k p)
-    entries_insns no_core_entries ws k p words room few inside h short = tt
-    entries_insns (more_core_entries key v more) ws k p words room few inside h short =
+    entries_insns : (es : CoreEntries) (ws : List (List ℕ × ℕ)) (k p : ℕ) → AreWithin ws → k + entries_need es ≤ 60 → entries_nodes es ≤ 512 → p + 63 * entries_nodes es ≤ 0x8000_0000 → EntriesHaveLiterals (plain_entries es) → AreInsns (entries_code es ts rs ws k p)
+    entries_insns no_core_entries ws k p words room few inside h = tt
+    entries_insns (more_core_entries key v more) ws k p words room few inside h =
         let q = p + size (code key ws (k + 1) p) + 1 in
         let long = short_code key ts rs ws (k + 1) p in
         let long_value = short_code v ts rs ws (k + 2) q in
-        let rest = short_back (texts_of key) (texts_of v ++ texts_of_entries more) short in
-        insns_append _ (entries_code more ts rs ws k _) (entry_insns (code key ws (k + 1) p) (code v ws (k + 2) q) k (omega arith) (code_insns key ws (k + 1) p words (omega arith) (omega arith) (omega arith) h.0 (short_front (texts_of key) (texts_of v ++ texts_of_entries more) short)) (code_insns v ws (k + 2) q words (omega arith) (omega arith) (omega arith) h.1 (short_front (texts_of v) (texts_of_entries more) rest))) (entries_insns more ws k _ words (omega arith) (omega arith) (omega arith) h.2 (short_back (texts_of v) (texts_of_entries more) rest))
+        insns_append _ (entries_code more ts rs ws k _) (entry_insns (code key ws (k + 1) p) (code v ws (k + 2) q) k (omega arith) (code_insns key ws (k + 1) p words (omega arith) (omega arith) (omega arith) h.0) (code_insns v ws (k + 2) q words (omega arith) (omega arith) (omega arith) h.1)) (entries_insns more ws k _ words (omega arith) (omega arith) (omega arith) h.2)

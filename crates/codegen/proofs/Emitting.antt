@@ -21,15 +21,15 @@ use Rattle.codegen.specs.Code.Expressions.{code_of, routine_code, texts_of}
 use Rattle.codegen.specs.Computes.{Computes, environment_in}
 use Rattle.codegen.specs.Constants.{with_texts}
 use Rattle.codegen.specs.Cost.{spent_by}
-use Rattle.codegen.specs.Emission.{AreConstants, EmitsExpression, EmitsVariable, HasRoutines, Running, Suits, caller_context, context, cost_in, meaning_in, next_routine, next_variable, setting}
+use Rattle.codegen.specs.Emission.{EmitsExpression, EmitsVariable, HasRoutines, Running, Suits, caller_context, context, cost_in, meaning_in, next_routine, next_variable, setting}
 use Rattle.codegen.specs.Emitted.{Emitted, with_piece}
 use Rattle.codegen.specs.HasLiterals.{HasLiterals}
 use Rattle.codegen.specs.Layer.{AreTaken, HasConstants, IsExpression}
 use Rattle.codegen.specs.Surroundings.{routines_of}
 use Rattle.codegen.proofs.Before.{code_before}
-use Rattle.codegen.proofs.CodeInsns.{AreLow, AreNear, code_insns, near_named, stand_short}
+use Rattle.codegen.proofs.CodeInsns.{AreLow, AreNear, code_insns, near_named}
 use Rattle.codegen.proofs.Computed.{visited}
-use Rattle.codegen.proofs.Layer.{expression_gives, known_stand, routines_are, variable_is_taken, variable_joins}
+use Rattle.codegen.proofs.Layer.{expression_gives, routines_are, variable_is_taken, variable_joins}
 use Rattle.codegen.proofs.Lengths.{short_code}
 use Rattle.codegen.proofs.Passed.{routine_is_passed}
 
@@ -68,10 +68,8 @@ module _ (old : Emitted) (ds : List Declaration) (e : CoreTree) (few : 2 * lengt
       let first = here.0 in
       (omega (arith, first, few, most), here.1)
 
-  piece_spells : (p : ℕ) → p + 63 * nodes e ≤ 0x8000_0000 → nodes e ≤ 512 → old.nodes ≤ 512 → (constants : List ℕ) → AreConstants constants known → AreInsns (code_of e known routines [] 0 p)
-  piece_spells p here short most constants are =
-      let texts : HasConstants constants old.constants e = record { more = are.later; constants_are = are.are; few = are.few } in
-      code_insns known routines (near most) e [] 0 p (λ n k is. absurd (cc)) (omega (arith, fits)) short here literals (stand_short constants known (texts_of e) (known_stand constants old.constants e texts))
+  piece_spells : (p : ℕ) → p + 63 * nodes e ≤ 0x8000_0000 → nodes e ≤ 512 → old.nodes ≤ 512 → AreInsns (code_of e known routines [] 0 p)
+  piece_spells p here short most = code_insns known routines (near most) e [] 0 p (λ n k is. absurd (cc)) (omega (arith, fits)) short here literals
 
   -- the code with all declarations, where the type checker takes the expression with the first of them
   computed : (first rest : List Declaration) (r : Running) (p frame : ℕ) → old.nodes ≤ 512 → ds ≡ first ++ rest → Suits old.routines known first e r → HasRoutines r r.scope → frame + deepest e (depths_of first) ≤ 7
@@ -93,7 +91,7 @@ module _ (old : Emitted) (ds : List Declaration) (e : CoreTree) (few : 2 * lengt
         piece = code_of e known routines [] 0 (length old.code);
         behind = refl;
         short = omega (arith, long);
-        spells = piece_spells (length old.code) (omega (arith, within, inside)) (omega (arith, within)) (omega (arith, within));
+        spells = λ constants are. piece_spells (length old.code) (omega (arith, within, inside)) (omega (arith, within)) (omega (arith, within));
         gives = λ first rest r frame whole suits scoped near. computed first rest r (length old.code) frame (omega (arith, within)) whole suits scoped near;
         counted = omega (arith, short);
         kept = refl;
@@ -153,7 +151,7 @@ module _ (old : Emitted) (ds : List Declaration) (e : CoreTree) (few : 2 * lengt
           body = body;
           behind = refl;
           short = omega (arith, long, whole, first);
-          spells = λ constants are. (omega (arith, jump), insns_append body (memo_tail (length old.routines)) (piece_spells slot (omega (arith, within, inside)) (omega (arith, within)) most constants are) (memo_insns (length old.routines) (omega (arith, few, most))));
+          spells = λ constants are. (omega (arith, jump), insns_append body (memo_tail (length old.routines)) (piece_spells slot (omega (arith, within, inside)) (omega (arith, within)) most) (memo_insns (length old.routines) (omega (arith, few, most))));
           passes = λ s b stands. to_place s (length (old.code ++ slots (passed routine))) (sym (length-append old.code (slots (passed routine)))) (routine_is_passed s (length old.code) routine b stands);
           returns = λ first rest r name items words frame base whole suits scoped near low stands. returned first rest r name items words frame base most whole suits scoped near low stands;
           joins = λ r name suits scoped stands. joined_scope r name most suits scoped stands;

@@ -5,7 +5,7 @@ use Rattle.std.specs.Prelude.{map as each}
 use Rattle.std.specs.List.{zip}
 use Rattle.std.proofs.lemmas.List.{length-map, map-append}
 use Rattle.loader.specs.Contents.{Contents}
-use Rattle.cel_macros.specs.CoreTree.{CoreTree, CoreTrees, CoreEntries, no_cores, more_cores, no_core_entries, more_core_entries, name, variable, select, has, index, call, method, unary, binary, ternary, list, map, fold, fold_map, plain_tree}
+use Rattle.cel_macros.specs.CoreTree.{CoreTree, CoreTrees, CoreEntries, no_cores, more_cores, no_core_entries, more_core_entries, variable, select, has, index, call, method, unary, binary, ternary, list, map, fold, fold_map, plain_tree}
 use Rattle.cel_macros.specs.Environment.{Roots, lookup}
 use Rattle.cel_macros.specs.Meaning.{meaning}
 use Rattle.cel_measures.specs.Measures.{deepest, deepest_of, depth as depth_of, depth_or_none, entries_deepest}

@@ -70,7 +70,7 @@ has_text t texts rest n place small =
     record {
       bytes_are = ap (λ a. bytes_at (joined texts ++ rest) a (length t)) at ∙ lent_by t (joined texts ++ rest) n (text_stands t texts rest n place);
       address_is_word = omega (arith, at, w, small, all);
-      length_is_word = omega (arith, w, small, all);
+      length_is_immediate = omega (arith, w, small, all);
     }
 
 all_stand : (texts : List (List ℕ)) (rest : List ℕ) → length (joined texts) ≤ 1048576 → (used : List (List ℕ)) → AllByRecursion (HasPlace texts) used → TextsStand (joined texts ++ rest) texts used

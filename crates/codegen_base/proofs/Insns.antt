@@ -1,6 +1,6 @@
 -- The numbers of the instructions are in range: code can be spelled where that of its parts can, and is short.
 use Rattle.std.proofs.Common.{◌≡◌, ℕ, suc, ◌+◌, ◌^◌, ◌<◌, ◌≤◌, List, [], ◌∷◌, ◌++◌, Option, Some, None, refl, arith}
-use Rattle.std.specs.Prelude.{ℤ, Bool, true, false, pos, bytes_eq, FitsSigned, if◌then◌else◌}
+use Rattle.std.specs.Prelude.{ℤ, Bool, true, false, pos, bytes_eq, min, FitsSigned, if◌then◌else◌}
 use Rattle.std.specs.List.{AllByRecursion}
 use Rattle.std.specs.Int.{w16, w32, w64}
 use Rattle.std.proofs.lemmas.Int.{ints}
@@ -117,14 +117,18 @@ member_insns = call_insns (pos 15) (omega arith)
 
 -- ---- selection
 
-pub with_text_insns : (helper : ℤ) (address count : ℕ) → FitsSigned w32 helper → address < 2 ^ 64 → count < 2 ^ 64 → AreInsns (call_with_text helper address count)
-with_text_insns helper address count h small few = (small, (few, (h, tt)))
+-- a text's length is an immediate, whatever it is
+length_in_range : (count : ℕ) → FitsSigned w32 (pos (min count 0x7fff_ffff))
+length_in_range count = omega arith
 
-pub field_insns : (address count : ℕ) → address < 2 ^ 64 → count < 2 ^ 64 → AreInsns (field_tail address count)
-field_insns address count small few = with_text_insns (pos 5) address count (omega arith) small few
+pub with_text_insns : (helper : ℤ) (address count : ℕ) → FitsSigned w32 helper → address < 2 ^ 64 → AreInsns (call_with_text helper address count)
+with_text_insns helper address count h small = (small, (length_in_range count, (h, tt)))
 
-pub has_insns : (address count : ℕ) → address < 2 ^ 64 → count < 2 ^ 64 → AreInsns (has_tail address count)
-has_insns address count small few = with_text_insns (pos 6) address count (omega arith) small few
+pub field_insns : (address count : ℕ) → address < 2 ^ 64 → AreInsns (field_tail address count)
+field_insns address count small = with_text_insns (pos 5) address count (omega arith) small
+
+pub has_insns : (address count : ℕ) → address < 2 ^ 64 → AreInsns (has_tail address count)
+has_insns address count small = with_text_insns (pos 6) address count (omega arith) small
 
 pub index_insns : AreInsns index_tail
 index_insns = call_insns (pos 7) (omega arith)
@@ -207,8 +211,8 @@ truth_insns false = (omega arith, tt)
 pub int_insns : (z : ℤ) → FitsSigned w64 z → AreInsns (int_code z)
 int_insns z fits = (word_small z fits, (omega arith, tt))
 
-pub text_insns : (address count : ℕ) → address < 2 ^ 64 → count < 2 ^ 64 → AreInsns (text_code address count)
-text_insns address count small few = (small, (few, (omega arith, tt)))
+pub text_insns : (address count : ℕ) → address < 2 ^ 64 → AreInsns (text_code address count)
+text_insns address count small = (small, (length_in_range count, (omega arith, tt)))
 
 held_near : (o : Option ℕ) (r : ℤ) → FitsSigned w32 r → ((k : ℕ) → o ≡ Some k → k < 64) → IsNear (held_leaf o r)
 held_near (Some k) r h below = below k refl

@@ -1,6 +1,6 @@
 -- Ints of 64 bits as words, and when results fit.
 use Rattle.std.proofs.Common.{◌≡◌, ℕ, ◌+◌, ◌-◌, ◌%◌, ◌^◌, ◌<◌, ◌≤◌, true, false, refl, ap, ◌∙◌, rules, arith}
-use Rattle.std.specs.Prelude.{ℤ, pos, negsuc, ◌+ℤ◌, ◌-ℤ◌, FitsSigned, unsigned_abs}
+use Rattle.std.specs.Prelude.{ℤ, pos, negsuc, ◌+ℤ◌, ◌-ℤ◌, FitsSigned, min, unsigned_abs}
 use Rattle.std.specs.Int.{w64, cast_signed, cast_unsigned}
 use Rattle.std.proofs.lemmas.Int.{ints, to_z-of_z, int_rem_euclid_is}
 use Rattle.std.proofs.lemmas.Bool.Decides.{nat_tests}
@@ -21,6 +21,10 @@ use Rattle.cel_macros.specs.Arithmetic.{fits}
 pub word_small : (z : ℤ) → FitsSigned w64 z → cast_unsigned w64 z < 2 ^ 64
 word_small (pos m) h = omega arith
 word_small (negsuc m) h = omega arith
+
+-- the word of a text's length
+pub length_word : (n : ℕ) → n < 2 ^ 31 → cast_unsigned w64 (pos (min n 0x7fff_ffff)) ≡ n
+length_word n h = omega arith
 
 -- the signed number of a word
 pub signed_is : (w : ℕ) → w < 2 ^ 64 → signed_of 64 w ≡ cast_signed w64 w

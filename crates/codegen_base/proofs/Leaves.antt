@@ -14,7 +14,7 @@ use Rattle.codegen_base.specs.Calls.{Places}
 use Rattle.codegen_base.specs.Code.Leaves.{leaf_code, leaf_insn}
 use Rattle.codegen_base.specs.Code.Literals.{int_code, null_leaf, text_code, truth_leaf}
 use Rattle.codegen_base.specs.Code.Names.{held_leaf, name_leaf, reference_or_error, root_reference}
-use Rattle.codegen_base.specs.Contexts.{Context, Fits, Gives, HasValues, IsHeld}
+use Rattle.codegen_base.specs.Contexts.{Context, Gives, HasValues, IsHeld}
 use Rattle.codegen_base.specs.Engine.{Setting}
 use Rattle.codegen_base.specs.Gives.Leaves.{LeavesGive, LeavesName}
 use Rattle.codegen_base.specs.Gives.Selection.{HasText}
@@ -26,7 +26,7 @@ use Rattle.codegen_base.specs.declared.leaf.Leaf.TheVariants.{Reference}
 use Rattle.codegen_base.proofs.Frames.{fits_registers, shows_registers}
 use Rattle.codegen_base.proofs.HelperAnswers.{helpers}
 use Rattle.codegen_base.proofs.Ints.{word_small}
-use Rattle.codegen_base.proofs.Listings.{ask, begins, load_wide}
+use Rattle.codegen_base.proofs.Listings.{ask, begins, load_wide, put_length}
 use Rattle.codegen_base.proofs.Loaded.{leaf_size, leaf_step}
 use Rattle.codegen_base.proofs.Operators.{shows_placed}
 use Rattle.codegen_base.proofs.Pieces.{stands_first}
@@ -66,13 +66,13 @@ text_gives s p c depth base address t low h utf8 = record {
   runs = λ b has fits.
       let asks = set_register (set_register b R1 address) R2 (length t) in
       let fits1 = fits_registers c depth base b asks.registers refl fits in
-      let lends : Lends asks R1 R2 t = record { bytes_are = rw (fits.constants) h.bytes_are; address = h.address_is_word; count = h.length_is_word } in
+      let lends : Lends asks R1 R2 t = record { bytes_are = rw (fits.constants) h.bytes_are; address = h.address_is_word; count = (let few = h.length_is_immediate in omega (arith, few)) } in
       let a = helpers.text_const c.environment.roots asks t fits1.values lends utf8 in
       looser s {n = 3} {x = 1 + length t + 0} 3 (1 + length t) (omega arith) (omega arith) (begins has
       (load_wide has 0 refl refl
-      (load_wide has 2 refl refl
-      (ask has 4 refl a.answers (λ paid.
-      done s (p + 5) _ _ (shows_placed c depth base (pos 4) (value (text t)) (1 + length t) b asks.registers low refl fits a paid))))));
+      (put_length has 2 (length t) refl refl h.length_is_immediate
+      (ask has 3 refl a.answers (λ paid.
+      done s (p + 4) _ _ (shows_placed c depth base (pos 4) (value (text t)) (1 + length t) b asks.registers low refl fits a paid))))));
 }
 
 -- ---- names

@@ -1,5 +1,5 @@
 -- The laws of instructions in a piece that is written out: places in it are numerals.
-use Rattle.std.proofs.Common.{◌≡◌, ℕ, suc, ◌+◌, ◌<◌, ◌≤◌, Some, List, arith, true, false}
+use Rattle.std.proofs.Common.{◌≡◌, ℕ, suc, ◌+◌, ◌^◌, ◌<◌, ◌≤◌, ◌∙◌, Some, List, arith, true, false}
 use Rattle.std.specs.Prelude.{ℤ, pos, slice_get}
 use Rattle.std.proofs.lemmas.Int.{ints}
 use Rattle.insn_codec.specs.declared.alu_op.AluOp.{AluOp}
@@ -22,9 +22,11 @@ use Rattle.codegen_base.specs.Calls.{Answers, Refuses, answered}
 use Rattle.bpf_machine.specs.declared.frame.Frame.{Frame}
 use Rattle.codegen_base.specs.Engine.{Setting, Reaches}
 use Rattle.codegen_base.specs.FirstUses.{StayFilled}
+use Rattle.codegen_base.specs.Instructions.{put_length as length_insn}
 use Rattle.codegen_base.specs.Pieces.{slots, Stands}
 use Rattle.codegen_base.specs.Words.{Framed, memo_address, memo_at, set_memo, set_word, word_at, word_offset}
 use Rattle.codegen_base.proofs.Effects.{mov_is}
+use Rattle.codegen_base.proofs.Ints.{length_word}
 use Rattle.codegen_base.proofs.Runs.{from_place}
 use Rattle.codegen_base.proofs.Steps as step
 
@@ -40,6 +42,10 @@ module _ {s : Setting} {o : ℕ} {piece : List Insn} {n x p' : ℕ} {b : Body} {
       → is_frame_pointer dst ≡ false → alu_result width op (b.registers dst) (operand_in operand b) ≡ w
       → Reaches s n x (o + (k + 1)) (set_register b dst w) r p' Q → Reaches s (suc n) x (o + k) b r p' Q
   alu {op} {width} {dst} {operand} k w h free e c = step.alu s (o + k) (o + (k + 1)) b op width dst operand w (has.here k _ h) free e (omega arith) c
+
+  pub put_length : {dst : Register} (k count : ℕ) → slice_get (slots piece) k ≡ Some (Some (length_insn dst count)) → is_frame_pointer dst ≡ false → count < 2 ^ 31
+      → Reaches s n x (o + (k + 1)) (set_register b dst count) r p' Q → Reaches s (suc n) x (o + k) b r p' Q
+  put_length {dst} k count h free few c = alu k count h free (mov_is (b.registers dst) _ ∙ length_word count few) c
 
   pub load_wide : {dst : Register} {value : ℕ} (k : ℕ) → slice_get (slots piece) k ≡ Some (Some (LoadWide dst value)) → is_frame_pointer dst ≡ false
       → Reaches s n x (o + (k + 2)) (set_register b dst value) r p' Q → Reaches s (suc n) x (o + k) b r p' Q

@@ -9,7 +9,7 @@ use Rattle.insn_codec.specs.declared.insn.Insn.{Insn}
 use Rattle.insn_codec.specs.declared.insn.Insn.TheVariants.{Neg}
 use Rattle.insn_codec.specs.declared.operand.Operand.TheVariants.{Reg}
 use Rattle.insn_codec.specs.declared.register.Register.{Register}
-use Rattle.insn_codec.specs.declared.register.Register.TheVariants.{R0, R1, R2, R6}
+use Rattle.insn_codec.specs.declared.register.Register.TheVariants.{R1, R2, R6}
 use Rattle.insn_codec.specs.declared.width.Width.{Width}
 use Rattle.insn_codec.specs.declared.width.Width.TheVariants.{W64}
 use Rattle.loader.specs.Contents as loader

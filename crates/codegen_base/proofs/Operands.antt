@@ -1,12 +1,12 @@
 -- Two operands as ints.
-use Rattle.std.proofs.Common.{◌≡◌, ℕ, ◌+◌, ◌<◌, ◌≤◌, Option, Some, None, true, false, refl, ap, subst, arith, inl, inr}
+use Rattle.std.proofs.Common.{◌≡◌, ℕ, ◌+◌, ◌≤◌, Option, Some, None, true, false, refl, ap, subst, arith, inl, inr}
 use Rattle.std.specs.Prelude.{◌⊎◌, ℤ, pos}
 use Rattle.std.specs.Int.{w64, cast_unsigned}
 use Rattle.helper_table.specs.Conversions.{kind_number}
 use Rattle.helper_table.specs.Laws.{Names}
 use Rattle.helper_table.proofs.Placing.{same}
 use Rattle.insn_codec.specs.declared.comparison.Comparison.TheVariants.{Ne}
-use Rattle.insn_codec.specs.declared.register.Register.TheVariants.{R0, R1, R6, R7}
+use Rattle.insn_codec.specs.declared.register.Register.TheVariants.{R1, R6, R7}
 use Rattle.insn_codec.specs.declared.width.Width.TheVariants.{W64}
 use Rattle.value_store.specs.Placing.{charge_limit}
 use Rattle.value_store.specs.Seen.{seen}

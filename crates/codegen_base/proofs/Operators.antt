@@ -1,7 +1,6 @@
 -- Operands, and pieces behind them.
-use Rattle.std.proofs.Common.{◌≡◌, ℕ, suc, ◌+◌, ◌<◌, ◌≤◌, List, [], ◌∷◌, ◌++◌, refl, arith}
+use Rattle.std.proofs.Common.{◌≡◌, ℕ, suc, ◌+◌, ◌≤◌, List, [], ◌∷◌, ◌++◌, refl, arith}
 use Rattle.std.specs.Prelude.{ℤ}
-use Rattle.helper_table.specs.Laws.{Names}
 use Rattle.insn_codec.specs.declared.insn.Insn.{Insn}
 use Rattle.insn_codec.specs.declared.insn.Insn.TheVariants.{Call}
 use Rattle.insn_codec.specs.declared.register.Register.{Register}
@@ -13,9 +12,9 @@ use Rattle.codegen_base.specs.Calls.{Places, answered}
 use Rattle.codegen_base.specs.Code.Calls.{operand_code, operands_code}
 use Rattle.codegen_base.specs.Contexts.{Context, Fits, Gives, Shows, variable_count}
 use Rattle.codegen_base.specs.Engine.{Setting, Comes}
-use Rattle.codegen_base.specs.Helpers.{Binary, Unary}
+use Rattle.codegen_base.specs.Helpers.{Unary}
 use Rattle.codegen_base.specs.Instructions as insn
-use Rattle.codegen_base.specs.Operators.{CallsGive, Combines, CombinesThen, Converts, ConvertsThen, OneGives, TwoGives}
+use Rattle.codegen_base.specs.Operators.{CallsGive, CombinesThen, Converts, ConvertsThen, OneGives, TwoGives}
 use Rattle.codegen_base.specs.Pieces.{Stands, size}
 use Rattle.codegen_base.proofs.Frames.{fits_answered, fits_registers, keeps_answered, keeps_registers, keeps_then}
 use Rattle.codegen_base.proofs.Listings.{ask, begins, mov}

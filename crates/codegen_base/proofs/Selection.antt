@@ -25,7 +25,7 @@ use Rattle.codegen_base.specs.Pieces.{Stands}
 use Rattle.codegen_base.proofs.Effects.{differs_no, differs_yes}
 use Rattle.codegen_base.proofs.Frames.{fits_answered, fits_registers, keeps_answered, keeps_registers, keeps_then}
 use Rattle.codegen_base.proofs.HelperAnswers.{helpers}
-use Rattle.codegen_base.proofs.Listings.{ask, begins, jump, load_wide, mov, no, yes}
+use Rattle.codegen_base.proofs.Listings.{ask, begins, jump, load_wide, mov, no, put_length, yes}
 use Rattle.codegen_base.proofs.Operators.{calls_give, shows_placed}
 use Rattle.codegen_base.proofs.Runs.{done, looser}
 
@@ -34,7 +34,7 @@ lends_text : (c : Context) (depth base : ℕ) (b : Body) (address : ℕ) (key : 
 lends_text c depth base b address key fits h at count = record {
   bytes_are = rw (fits.constants, at, count) h.bytes_are;
   address = rw (at) h.address_is_word;
-  count = rw (count) h.length_is_word;
+  count = rw (count) (let few = h.length_is_immediate in omega (arith, few));
 }
 
 keyed_gives : (helper : ℤ) (f : ValueOrError → List ℕ → ValueOrError) → Keyed helper f → KeyedGives (call_with_text helper) f 3 1
@@ -45,9 +45,9 @@ keyed_gives helper f keyed s p c depth base x address key low h = record {
       let a = keyed c.environment.roots asks x key fits1.values named (lends_text c depth base asks address key fits1 h refl refl) in
       begins has
       (load_wide has 0 refl refl
-      (load_wide has 2 refl refl
-      (ask has 4 refl a.answers (λ paid.
-      done s (p + 5) _ _ (shows_placed c depth base helper (f x key) 1 b asks.registers low refl fits a paid)))));
+      (put_length has 2 (length key) refl refl h.length_is_immediate
+      (ask has 3 refl a.answers (λ paid.
+      done s (p + 4) _ _ (shows_placed c depth base helper (f x key) 1 b asks.registers low refl fits a paid)))));
 }
 
 test_gives : (t : TextTest) → TailGives (test_tail t) R1 R2 (text_test_of (Some t)) 1 1

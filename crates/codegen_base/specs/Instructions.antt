@@ -1,6 +1,6 @@
 -- Short words for the instructions that code is made of. A frame's words are counted from 0: word k begins 8 * (k + 1)
 -- bytes below R10.
-use Rattle.std.specs.Prelude.{ℕ, ℤ, pos, negsuc}
+use Rattle.std.specs.Prelude.{ℕ, ℤ, pos, negsuc, min}
 use Rattle.insn_codec.specs.declared.alu_op.AluOp.{AluOp}
 use Rattle.insn_codec.specs.declared.alu_op.AluOp.TheVariants.{Mov}
 use Rattle.insn_codec.specs.declared.comparison.Comparison.{Comparison}
@@ -27,6 +27,10 @@ copy r s = compute Mov r s
 
 abbrev pub put : Register → ℤ → Insn
 put r n = Alu Mov W64 r (Imm n)
+
+-- the number of bytes of a text, which is an immediate of 32 bits wherever the text stands in an image
+abbrev pub put_length : Register → ℕ → Insn
+put_length r n = put r (pos (min n 0x7fff_ffff))
 
 abbrev pub load_wide : Register → ℕ → Insn
 load_wide r w = LoadWide r w

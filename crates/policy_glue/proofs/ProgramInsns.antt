@@ -11,13 +11,11 @@ use Rattle.codegen_base.specs.Pieces.{AreInsns, size}
 use Rattle.codegen_base.specs.Variables.{memo_tail}
 use Rattle.codegen_base.proofs.Insns.{insns_append, memo_insns}
 use Rattle.codegen.specs.Code.Expressions.{code_of}
-use Rattle.codegen.specs.Constants.{joined, with_texts}
 use Rattle.codegen.specs.Layer.{IsExpression}
 use Rattle.codegen.specs.Surroundings.{routines_of}
-use Rattle.codegen.proofs.CodeInsns.{AreLow, AreNear, AreShort, code_insns, near_named, short_back, short_front, stand_short}
-use Rattle.codegen.proofs.Lent.{texts_stand}
+use Rattle.codegen.proofs.CodeInsns.{AreLow, AreNear, code_insns, near_named}
 use Rattle.policy_glue.specs.Checking.{scope_after, with_variable}
-use Rattle.policy_glue.specs.Limits.{condition_texts, message_nodes, message_texts, part_nodes, policy_nodes, policy_texts, rule_nodes, tree_texts, validation_texts, variable_texts}
+use Rattle.policy_glue.specs.Limits.{message_nodes, part_nodes, policy_nodes, rule_nodes}
 use Rattle.policy_glue.specs.Program.{condition_tail, conditions_code, decided_code, denial_code, message_code, message_tail, outcome_tail, policy_code, result_code, routines_code, validation_code, validations_code}
 use Rattle.policy_glue.specs.ProgramCode.{Laid, after_condition, after_conditions, after_variables, before_message, condition_codes, laid_conditions, laid_routines, message_codes, nothing_laid, program_of, texts_with, tree_code, validation_codes, variable_code, variable_codes, with_message, with_routine}
 use Rattle.policy_glue.specs.ProgramParts.{decided_slots}
@@ -58,11 +56,6 @@ outcome_tail_insns : AreInsns outcome_tail
 unfolding outcome_tail
 outcome_tail_insns = (omega arith, (omega arith, (omega arith, ((omega arith, omega arith), (omega arith, (omega arith, tt))))))
 
--- ---- texts
-
-used_short : (used : List (List ℕ)) → length (joined (with_texts [] used)) ≤ 1048576 → AreShort used
-used_short used few = stand_short (joined (with_texts [] used)) (with_texts [] used) used (texts_stand [] used [] few)
-
 -- ---- routines that stand so far
 
 low_more : (slots : List ℕ) (slot : ℕ) → AreLow slots → slot ≤ 0x7fff_ff00 → AreLow (slots ++ slot ∷ [])
@@ -83,17 +76,17 @@ near_all ds l n low name found e =
 
 -- ---- expressions
 
-tree_insns : (scope : List Declaration) (l : Laid) (a : Tree) → IsExpression scope (expanded a) → Low l 0 → l.place + 128 * part_nodes a ≤ 65536 → AreShort (tree_texts a) → AreInsns (tree_code scope l a)
-tree_insns scope l a is low inside short =
+tree_insns : (scope : List Declaration) (l : Laid) (a : Tree) → IsExpression scope (expanded a) → Low l 0 → l.place + 128 * part_nodes a ≤ 65536 → AreInsns (tree_code scope l a)
+tree_insns scope l a is low inside =
     let fits = is.fits in
-    code_insns (texts_with l a) (routines_of scope l.routines) (near_all scope l 0 low) (expanded a) [] 0 l.place (λ n k e. absurd (cc)) (omega arith) (omega arith) (omega arith) is.literals short
+    code_insns (texts_with l a) (routines_of scope l.routines) (near_all scope l 0 low) (expanded a) [] 0 l.place (λ n k e. absurd (cc)) (omega arith) (omega arith) (omega arith) is.literals
 
-routine_insns : (scope : List Declaration) (l : Laid) (v : VariableTree) (n : ℕ) → IsExpression scope (expanded v.expression) → Low l (suc n) → l.place + 128 * part_nodes v.expression ≤ 65536 → AreShort (tree_texts v.expression) → AreInsns (variable_code scope l v)
-routine_insns scope l v n is low inside short =
+routine_insns : (scope : List Declaration) (l : Laid) (v : VariableTree) (n : ℕ) → IsExpression scope (expanded v.expression) → Low l (suc n) → l.place + 128 * part_nodes v.expression ≤ 65536 → AreInsns (variable_code scope l v)
+routine_insns scope l v n is low inside =
     let fits = is.fits in
     let few = low.few in
     insns_append (code_of (expanded v.expression) (texts_with l v.expression) (routines_of scope l.routines) [] 0 (l.place + 1)) (memo_tail (length l.routines))
-    (code_insns (texts_with l v.expression) (routines_of scope l.routines) (near_all scope l (suc n) low) (expanded v.expression) [] 0 (l.place + 1) (λ m k e. absurd (cc)) (omega arith) (omega arith) (omega arith) is.literals short)
+    (code_insns (texts_with l v.expression) (routines_of scope l.routines) (near_all scope l (suc n) low) (expanded v.expression) [] 0 (l.place + 1) (λ m k e. absurd (cc)) (omega arith) (omega arith) (omega arith) is.literals)
     (memo_insns (length l.routines) (omega arith))
 
 -- ---- variables
@@ -104,17 +97,17 @@ with_routine_low scope l v n low inside =
     let long = length-append l.routines ((l.place + 1) ∷ []) in
     record { slots = low_more l.routines (l.place + 1) low.slots (omega arith); few = omega arith }
 
-routines_insns : (scope : List Declaration) (l : Laid) (vs : List VariableTree) → AreVariables scope vs → Low l (length vs) → l.place + 128 * sum_by (λ v. part_nodes v.expression) vs ≤ 65536 → AreShort (variable_texts vs) → AreInsns (routines_code (variable_codes scope l vs))
-routines_insns scope l [] are low inside short = tt
-routines_insns scope l (v ∷ more) are low inside short =
+routines_insns : (scope : List Declaration) (l : Laid) (vs : List VariableTree) → AreVariables scope vs → Low l (length vs) → l.place + 128 * sum_by (λ v. part_nodes v.expression) vs ≤ 65536 → AreInsns (routines_code (variable_codes scope l vs))
+routines_insns scope l [] are low inside = tt
+routines_insns scope l (v ∷ more) are low inside =
     let counted = sum_by-cons (λ u. part_nodes u.expression) v more in
     let routine = variable_code scope l v in
     let long = routine_short scope l v in
     let jump : size routine ≤ 32767 = omega (arith, counted, inside, long) in (
       omega (arith, jump),
       insns_append routine (routines_code (variable_codes (with_variable scope v) (with_routine scope l v) more))
-          (routine_insns scope l v (length more) are.0 low (omega (arith, counted, inside)) (short_front (tree_texts v.expression) (variable_texts more) short))
-          (routines_insns (with_variable scope v) (with_routine scope l v) more are.2 (with_routine_low scope l v (length more) low (omega (arith, counted, inside))) (omega (arith, counted, inside, long)) (short_back (tree_texts v.expression) (variable_texts more) short)),
+          (routine_insns scope l v (length more) are.0 low (omega (arith, counted, inside)))
+          (routines_insns (with_variable scope v) (with_routine scope l v) more are.2 (with_routine_low scope l v (length more) low (omega (arith, counted, inside))) (omega (arith, counted, inside, long))),
     )
 
 -- what stands behind them
@@ -136,16 +129,16 @@ after_routines scope l (v ∷ more) low inside =
 same_low : (l m : Laid) → l.routines ≡ m.routines → Low l 0 → Low m 0
 same_low l m same low = let few = low.few in let long = ap length same in record { slots = subst AreLow same low.slots; few = omega arith }
 
-conditions_insns : (f : FailurePolicy) (l : Laid) (cs : List Tree) → AreConditions cs → Low l 0 → l.place + 128 * sum_by part_nodes cs ≤ 65536 → AreShort (condition_texts cs) → AreInsns (conditions_code f (condition_codes l cs))
+conditions_insns : (f : FailurePolicy) (l : Laid) (cs : List Tree) → AreConditions cs → Low l 0 → l.place + 128 * sum_by part_nodes cs ≤ 65536 → AreInsns (conditions_code f (condition_codes l cs))
 unfolding conditions_code
-conditions_insns f l [] are low inside short = tt
-conditions_insns f l (a ∷ more) are low inside short =
+conditions_insns f l [] are low inside = tt
+conditions_insns f l (a ∷ more) are low inside =
     let counted = sum_by-cons part_nodes a more in
     let long = tree_short [] l a in
     insns_append (tree_code [] l a) (condition_tail f ++ conditions_code f (condition_codes (after_condition l a) more))
-    (tree_insns [] l a are.0 low (omega (arith, counted, inside)) (short_front (tree_texts a) (condition_texts more) short))
+    (tree_insns [] l a are.0 low (omega (arith, counted, inside)))
     (insns_append (condition_tail f) (conditions_code f (condition_codes (after_condition l a) more)) (condition_tail_insns f)
-    (conditions_insns f (after_condition l a) more are.1 (same_low l (after_condition l a) refl low) (omega (arith, counted, inside, long)) (short_back (tree_texts a) (condition_texts more) short)))
+    (conditions_insns f (after_condition l a) more are.1 (same_low l (after_condition l a) refl low) (omega (arith, counted, inside, long))))
 
 behind_conditions : (l : Laid) (cs : List Tree) → Low l 0 → Behind (after_conditions l cs) l (128 * sum_by part_nodes cs)
 behind_conditions l [] low = record { low = low; inside = omega arith }
@@ -158,18 +151,18 @@ behind_conditions l (a ∷ more) low =
 
 -- ---- validations
 
-message_insns : (scope : List Declaration) (l : Laid) (i : ℕ) (m : Option Tree) → i < 64 → IsMessage scope m → Low l 0 → l.place + 128 * message_nodes m ≤ 65536 → AreShort (message_texts m) → AreInsns (message_code i (message_codes scope l m))
-message_insns scope l i None few is low inside short = tt
-message_insns scope l i (Some a) few is low inside short = insns_append (tree_code scope l a) (message_tail i) (tree_insns scope l a is low inside short) (message_tail_insns i few)
+message_insns : (scope : List Declaration) (l : Laid) (i : ℕ) (m : Option Tree) → i < 64 → IsMessage scope m → Low l 0 → l.place + 128 * message_nodes m ≤ 65536 → AreInsns (message_code i (message_codes scope l m))
+message_insns scope l i None few is low inside = tt
+message_insns scope l i (Some a) few is low inside = insns_append (tree_code scope l a) (message_tail i) (tree_insns scope l a is low inside) (message_tail_insns i few)
 
 behind_message : (scope : List Declaration) (l : Laid) (m : Option Tree) → Low l 0 → Behind (with_message scope l m) l (128 * message_nodes m)
 behind_message scope l None low = record { low = low; inside = omega arith }
 behind_message scope l (Some a) low = let long = tree_short scope l a in record { low = same_low l (with_message scope l (Some a)) refl low; inside = omega (arith, long) }
 
-validations_insns : (f : FailurePolicy) (scope : List Declaration) (l : Laid) (i : ℕ) (rs : List RuleTree) → AreRules scope rs → Low l 0 → i + length rs ≤ 64 → l.place + 128 * sum_by rule_nodes rs ≤ 65536 → AreShort (validation_texts rs) → AreInsns (validations_code f i (validation_codes scope l rs))
+validations_insns : (f : FailurePolicy) (scope : List Declaration) (l : Laid) (i : ℕ) (rs : List RuleTree) → AreRules scope rs → Low l 0 → i + length rs ≤ 64 → l.place + 128 * sum_by rule_nodes rs ≤ 65536 → AreInsns (validations_code f i (validation_codes scope l rs))
 unfolding validations_code
-validations_insns f scope l i [] are low few inside short = tt
-validations_insns f scope l i (r ∷ more) are low few inside short =
+validations_insns f scope l i [] are low few inside = tt
+validations_insns f scope l i (r ∷ more) are low few inside =
     let counted = sum_by-cons rule_nodes r more in
     let long = tree_short scope l r.expression in
     let behind = before_message scope l r in
@@ -178,25 +171,21 @@ validations_insns f scope l i (r ∷ more) are low few inside short =
     let long_message = message_short scope behind i r.message in
     let later = behind_message scope behind r.message low_behind in
     let far = later.inside in
-    let here = short_front (tree_texts r.expression ++ message_texts r.message) (validation_texts more) short in
     let small : size message ≤ 32700 = omega (arith, counted, inside, long_message) in
     insns_append (validation_code f i (tree_code scope l r.expression, message_codes scope behind r.message)) (validations_code f (i + 1) (validation_codes scope (with_message scope behind r.message) more))
     (insns_append (tree_code scope l r.expression) (result_code f i message)
-    (tree_insns scope l r.expression are.0 low (omega (arith, counted, inside)) (short_front (tree_texts r.expression) (message_texts r.message) here))
-    (result_insns f i message (omega arith) small (message_insns scope behind i r.message (omega arith) are.1 low_behind (omega (arith, counted, inside, long)) (short_back (tree_texts r.expression) (message_texts r.message) here))))
-    (validations_insns f scope (with_message scope behind r.message) (i + 1) more are.2 later.low (omega arith) (omega (arith, counted, inside, long, far)) (short_back (tree_texts r.expression ++ message_texts r.message) (validation_texts more) short))
+    (tree_insns scope l r.expression are.0 low (omega (arith, counted, inside)))
+    (result_insns f i message (omega arith) small (message_insns scope behind i r.message (omega arith) are.1 low_behind (omega (arith, counted, inside, long)))))
+    (validations_insns f scope (with_message scope behind r.message) (i + 1) more are.2 later.low (omega arith) (omega (arith, counted, inside, long, far)))
 
 -- ---- the whole
 
 pub program_is_code : ProgramIsCode
-unfolding program_of policy_code policy_nodes policy_texts
+unfolding program_of policy_code policy_nodes
 program_is_code f p has =
     let routines = variable_codes [] nothing_laid p.variables in
     let conditions = condition_codes (laid_routines p) p.conditions in
     let rules = validation_codes (scope_after p.variables) (laid_conditions p) p.validations in
-    let rest = condition_texts p.conditions ++ validation_texts p.validations in
-    let short = used_short (variable_texts p.variables ++ rest) has.few_texts in
-    let short_rest = short_back (variable_texts p.variables) rest short in
     let room = has.short in
     let few_variables = has.few_variables in
     let few_rules = has.few_validations in
@@ -208,11 +197,11 @@ program_is_code f p has =
     let decide = slots_few p.conditions in
     insns_append (policy_code f routines conditions rules) (Exit ∷ [])
     (insns_append (routines_code routines) (conditions_code f conditions ++ (decided_code conditions ++ (validations_code f 0 rules ++ outcome_tail)))
-    (routines_insns [] nothing_laid p.variables has.variables start (omega (arith, room)) (short_front (variable_texts p.variables) rest short))
+    (routines_insns [] nothing_laid p.variables has.variables start (omega (arith, room)))
     (insns_append (conditions_code f conditions) (decided_code conditions ++ (validations_code f 0 rules ++ outcome_tail))
-    (conditions_insns f (laid_routines p) p.conditions has.conditions first.low (omega (arith, room, far)) (short_front (condition_texts p.conditions) (validation_texts p.validations) short_rest))
+    (conditions_insns f (laid_routines p) p.conditions has.conditions first.low (omega (arith, room, far)))
     (insns_append (decided_code conditions) (validations_code f 0 rules ++ outcome_tail) (decided_insns conditions)
     (insns_append (validations_code f 0 rules) outcome_tail
-    (validations_insns f (scope_after p.variables) (laid_conditions p) 0 p.validations has.validations (same_low (after_conditions (laid_routines p) p.conditions) (laid_conditions p) refl second.low) (omega (arith, few_rules)) (omega (arith, room, far, farther, decide)) (short_back (condition_texts p.conditions) (validation_texts p.validations) short_rest))
+    (validations_insns f (scope_after p.variables) (laid_conditions p) 0 p.validations has.validations (same_low (after_conditions (laid_routines p) p.conditions) (laid_conditions p) refl second.low) (omega (arith, few_rules)) (omega (arith, room, far, farther, decide)))
     outcome_tail_insns))))
     (tt, tt)

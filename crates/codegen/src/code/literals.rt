@@ -4,7 +4,7 @@ ghost use Rattle.std.specs.Prelude.{◌≡◌, ◌∷◌, [], length, map, strin
 ghost use Rattle.cel_reader.specs.Tree.{literal_view};
 ghost use Rattle.codegen_base.specs.Code.Leaves.{HasWord};
 ghost use Rattle.codegen_base.specs.Code.Literals as base;
-ghost use Rattle.codegen_base.specs.Instructions.{load_wide as load_wide_insn};
+ghost use Rattle.codegen_base.specs.Instructions.{load_wide as load_wide_insn, put_length as put_length_insn};
 ghost use Rattle.codegen.specs.Code.Literals as specs;
 
 use crate::code::names::leaf;
@@ -12,7 +12,7 @@ use crate::constants::place_of;
 use Register::{R1, R2};
 use cel_reader::Literal;
 use codegen_base::helpers;
-use codegen_base::instructions::{call, load_wide};
+use codegen_base::instructions::{call, load_wide, put};
 use codegen_base::leaf::Leaf;
 use codegen_base::references::{NO, NULL, YES};
 use insn_codec::{Insn, Register};
@@ -21,11 +21,21 @@ use std::alloc::{AllocError, Global};
 /// Where the constants begin in memory.
 const CONSTANTS: u64 = 0x4_0000_0000;
 
+/// The greatest immediate. An image has no room for a text of as many bytes.
+const GREATEST_IMMEDIATE: usize = 0x7fff_ffff;
+
 /// Where the text, which is among these, begins in memory.
 fn address_of(texts: &[String], text: &str) -> u64
     ensures { result ≡ specs.address_of (map string_bytes texts.now) text.now }
 {
     CONSTANTS.saturating_add(place_of(texts, text).unwrap_or(0))
+}
+
+/// The length of a text into a register.
+fn put_length(dst: Register, bytes: usize) -> Insn
+    ensures { result ≡ put_length_insn dst bytes }
+{
+    put(dst, bytes.min(GREATEST_IMMEDIATE) as i32)
 }
 
 /// The address and the length of a text into two registers.
@@ -35,11 +45,11 @@ pub(crate) fn text_range(
     address: Register,
     bytes: Register,
 ) -> [Insn; 2]
-    ensures { result ≡ load_wide_insn address (specs.address_of (map string_bytes texts.now) text.now) ∷ load_wide_insn bytes (length text.now) ∷ [] }
+    ensures { result ≡ load_wide_insn address (specs.address_of (map string_bytes texts.now) text.now) ∷ put_length_insn bytes (length text.now) ∷ [] }
 {
     [
         load_wide(address, address_of(texts, text)),
-        load_wide(bytes, text.len() as u64),
+        put_length(bytes, text.len()),
     ]
 }
 

@@ -5,7 +5,7 @@ use Rattle.insn_codec.specs.declared.insn.Insn.{Insn}
 use Rattle.insn_codec.specs.declared.insn.Insn.TheVariants.{Call}
 use Rattle.insn_codec.specs.declared.register.Register.TheVariants.{R1, R2}
 use Rattle.codegen_base.specs.Code.Leaves.{leaf_code}
-use Rattle.codegen_base.specs.Instructions.{load_wide}
+use Rattle.codegen_base.specs.Instructions.{load_wide, put_length}
 use Rattle.codegen_base.specs.declared.leaf.Leaf.{Leaf}
 use Rattle.codegen_base.specs.declared.leaf.Leaf.TheVariants.{Reference}
 
@@ -30,4 +30,4 @@ int_code z = load_wide R1 (cast_unsigned w64 z) ∷ Call (pos 3) ∷ []
 
 -- a text of so many bytes, which begins at an address among the constants
 abbrev pub text_code : ℕ → ℕ → List Insn
-text_code address count = load_wide R1 address ∷ load_wide R2 count ∷ Call (pos 4) ∷ []
+text_code address count = load_wide R1 address ∷ put_length R2 count ∷ Call (pos 4) ∷ []

@@ -5,11 +5,11 @@ use Rattle.insn_codec.specs.declared.insn.Insn.{Insn}
 use Rattle.insn_codec.specs.declared.insn.Insn.TheVariants.{Call}
 use Rattle.insn_codec.specs.declared.register.Register.TheVariants.{R0, R1, R2, R3, R6}
 use Rattle.cel_macros.specs.Functions.{TextTest, StartsWith, EndsWith, Contains}
-use Rattle.codegen_base.specs.Instructions.{copy, load_wide, skip, skip_if}
+use Rattle.codegen_base.specs.Instructions.{copy, load_wide, put_length, skip, skip_if}
 
 -- the helper's answer on R1 and a text of so many bytes, which begins at an address among the constants
 abbrev pub call_with_text : ℤ → ℕ → ℕ → List Insn
-call_with_text helper address count = load_wide R2 address ∷ load_wide R3 count ∷ Call helper ∷ []
+call_with_text helper address count = load_wide R2 address ∷ put_length R3 count ∷ Call helper ∷ []
 
 -- R1.f, where f is the text
 abbrev pub field_tail : ℕ → ℕ → List Insn

@@ -12,11 +12,11 @@ use Rattle.codegen_base.specs.Engine.{Setting}
 use Rattle.codegen_base.specs.Gives.Comparison.{TailGives}
 use Rattle.codegen_base.specs.Operators.{Converts}
 
--- the bytes of a text stand at an address among the constants
+-- the bytes of a text stand at an address among the constants, and their number is an immediate
 pub record HasText (constants : List ℕ) (address : ℕ) (bytes : List ℕ) : Type 0 where
   pub bytes_are : bytes_at constants address (length bytes) ≡ Some bytes
   pub address_is_word : address < 2 ^ 64
-  pub length_is_word : length bytes < 2 ^ 64
+  pub length_is_immediate : length bytes < 2 ^ 31
 
 -- the piece behind an operand asks for a key whose text stands at the address
 abbrev pub KeyedGives : (ℕ → ℕ → List Insn) → (ValueOrError → List ℕ → ValueOrError) → ℕ → ℕ → Type 0
