@@ -7,6 +7,7 @@ pub mod Jumps
 pub mod HelperCalls
 pub mod Access
 pub mod Atomics
+pub mod Writables
 pub mod Slots
 pub mod Step
 pub mod Going

@@ -12,6 +12,7 @@ mod status;
 mod targets;
 mod word_text;
 mod words;
+mod writable;
 
 pub use frame::Frame;
 pub use machine::Machine;

@@ -1,6 +1,7 @@
 -- Where a range of addresses lies.
-use Rattle.std.proofs.Common.{◌≡◌, ℕ, ◌+◌, ◌-◌, ◌≤◌, length, Bool, true, false, if◌then◌else◌, ◌&&◌, Option, Some, None, refl, arith, inl, inr}
+use Rattle.std.proofs.Common.{◌≡◌, ℕ, ◌+◌, ◌-◌, ◌%◌, ◌^◌, ◌<◌, ◌≤◌, length, sym, ap, ◌∙◌, Bool, true, false, if◌then◌else◌, ◌&&◌, Option, Some, None, refl, arith, inl, inr}
 use Rattle.std.specs.Prelude.{◌⊎◌, nat_le}
+use Rattle.std.proofs.lemmas.Bool.{cases_lt}
 use Rattle.std.proofs.lemmas.Bool.Decides.{nat_tests}
 use Rattle.guest_memory.specs.Memory.{Memory, Region, Stack, Scratch, Verdict, Constants, bytes_in, base_of}
 use Rattle.guest_memory.specs.Access.{place_of, at_region, region_of}
@@ -100,3 +101,14 @@ where_stands m address n some = stands_by m address n (region_of m address n) so
 
 pub one_region : (m : Memory) (address n : ℕ) → IsInside m address n → StandInOne m address n
 one_region m address n i = (i.region, all_stand i.region m address n i.at i.place)
+
+-- an address below the stack is beyond its end, where the difference wraps
+pub place_on_stack : (len address n : ℕ) → address < 2 ^ 64 → len ≤ 65536 → n ≤ len → (address + 18446744069414584320) % 18446744073709551616 ≤ len - n
+    → Some ((address + 18446744069414584320) % 18446744073709551616) ≡ place_of 4294967296 len address n
+place_on_stack len address n word short some within =
+    elim (cases_lt address 4294967296) [
+      | inl below ↦ absurd (omega (arith, below, short, within))
+      | inr above ↦
+          let at : (address + 18446744069414584320) % 18446744073709551616 ≡ address - 4294967296 = omega (arith, word, above) in
+          ap Some at ∙ sym (place_of-here 4294967296 len address n (omega (arith, above)) (omega (arith, word, above, some, within)))
+    ]

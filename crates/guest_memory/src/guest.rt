@@ -62,6 +62,24 @@ fn shared(alloc: Global, constants: &[u8]) -> Result<Rc<Vec<u8>>, AllocError>
     Ok(block)
 }
 
+impl Guest {
+    /// Where a word begins on the stack, if all of its bytes stand there. An address below the stack is
+    /// beyond its end as well, since the difference wraps.
+    #[inline(always)]
+    fn on_stack(&self, addr: u64, size: Size) -> Option<usize>
+        ensures { result ≡ place_of 0x100000000 (length self.now.stack) addr (size_bytes size) }
+    {
+        let at = addr.wrapping_sub(STACK);
+        let len = self.stack.len() as u64;
+        let n = size.bytes() as u64;
+        if n <= len && at <= len - n {
+            Some(at as usize)
+        } else {
+            None
+        }
+    }
+}
+
 /// Loads and stores beyond the stack, which are rare: out of the way of those on it.
 impl Guest {
     /// The word of a load whose bytes do not all stand on the stack, if one region has them.
@@ -135,8 +153,7 @@ impl Regions for Guest {
     #[tactic(auto, unfolding(crate::specs::Access::read_of))]
     #[inline(always)]
     fn read(&self, addr: u64, size: Size) -> Result<u64, Fault> {
-        let n = size.bytes() as u64;
-        if let Some(at) = place(STACK, self.stack.len(), addr, n) {
+        if let Some(at) = self.on_stack(addr, size) {
             return Ok(self.stack.word_at(at, size));
         }
         match self.read_above(addr, size) {
@@ -148,8 +165,7 @@ impl Regions for Guest {
     #[tactic(auto, unfolding(crate::specs::Access::write_of))]
     #[inline(always)]
     fn write(&mut self, addr: u64, size: Size, word: u64) -> Result<(), WriteError> {
-        let n = size.bytes() as u64;
-        if let Some(at) = place(STACK, self.stack.len(), addr, n) {
+        if let Some(at) = self.on_stack(addr, size) {
             let Ok(()) = self.stack.put_word(at, size, word) else {
                 return Err(WriteError::Memory);
             };

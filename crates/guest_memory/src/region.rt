@@ -48,7 +48,8 @@ impl<const N: usize> Region<N> {
     /// How many bytes it has.
     #[inline(always)]
     pub fn len(&self) -> usize
-        ensures { result ≡ length self.now }
+        ensures same { result ≡ length self.now }
+        ensures most { result ≤ 65536 }
     {
         self.block[..].len()
     }
