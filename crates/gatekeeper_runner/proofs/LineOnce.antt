@@ -4,8 +4,8 @@ use Rattle.policy_glue.specs.OneAnswer as policy
 use Rattle.policy_glue.specs.OneImage.{OneImage}
 use Rattle.review_runner.specs.OneAnswer.{HasOneAnswer}
 use Rattle.review_runner.specs.Saying.{Said}
-use Rattle.review_runner.specs.declared.run_error.RunError.{RunError}
-use Rattle.review_runner.specs.declared.run_error.RunError.TheVariants.{Memory}
+use Rattle.review_runner.specs.declared.refusals.run_error.RunError.{RunError}
+use Rattle.review_runner.specs.declared.refusals.run_error.RunError.TheVariants.{Memory}
 use Rattle.gatekeeper_runner.specs.Lines.{Answers, answer_text, decided, line_of, no_memory, no_memory_text, passed_over, too_long}
 use Rattle.gatekeeper_runner.specs.SameAnswers.{LinesHaveOneAnswer}
 use Rattle.gatekeeper_runner.specs.Together.{AllSay, SayTogether, SaysAlone, Terms, next, none, under, unsaid, with_next}

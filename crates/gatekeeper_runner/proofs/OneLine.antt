@@ -5,10 +5,10 @@ use Rattle.std.proofs.lemmas.Bool.{ltb-false, ltb-true}
 use Rattle.debugger.specs.Streams.{AddsBytes}
 use Rattle.policy_glue.specs.Objections.{response_text}
 use Rattle.policy_glue.specs.OneImage.{OneImage}
-use Rattle.review_runner.specs.Reviews.{document_of}
+use Rattle.policy_glue.specs.Documents.{document_of}
 use Rattle.review_runner.specs.Saying.{Said}
-use Rattle.review_runner.specs.declared.run_error.RunError.{RunError}
-use Rattle.review_runner.specs.declared.run_error.RunError.TheVariants.{N2, Memory}
+use Rattle.review_runner.specs.declared.refusals.run_error.RunError.{RunError}
+use Rattle.review_runner.specs.declared.refusals.run_error.RunError.TheVariants.{N2, Memory}
 use Rattle.gatekeeper_runner.specs.Lines.{Answers, IsKept, decided, line_of, longest_line, passed_over, refusal_text, too_long, uid_shown}
 use Rattle.gatekeeper_runner.specs.Together.{SayTogether, Terms}
 use Rattle.gatekeeper_runner.specs.Told.{Answered, AnsweredPart}

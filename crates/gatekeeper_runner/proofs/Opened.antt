@@ -7,11 +7,11 @@ use Rattle.clap.specs.Words.{Text}
 use Rattle.review_runner.specs.Deciding.{CompilesDocument, IsPolicy}
 use Rattle.review_runner.specs.FileSystem.{FileSystem, IsReading}
 use Rattle.review_runner.specs.Refusals.{file_refusal, policy_refusal_of}
-use Rattle.review_runner.specs.declared.compiled_policy.CompiledPolicy.{CompiledPolicy}
-use Rattle.review_runner.specs.declared.file_error.FileError.{FileError}
-use Rattle.review_runner.specs.declared.policy_refusal.PolicyRefusal.{PolicyRefusal}
-use Rattle.review_runner.specs.declared.policy_refusal.PolicyRefusal.TheVariants.{Unread, Uncompiled, Memory}
-use Rattle.review_runner.specs.declared.refusal.Refusal.{Refusal}
+use Rattle.review_runner.specs.declared.reviews.compiled_policy.CompiledPolicy.{CompiledPolicy}
+use Rattle.review_runner.specs.declared.refusals.file_error.FileError.{FileError}
+use Rattle.review_runner.specs.declared.refusals.policy_refusal.PolicyRefusal.{PolicyRefusal}
+use Rattle.review_runner.specs.declared.refusals.policy_refusal.PolicyRefusal.TheVariants.{Unread, Uncompiled, Memory}
+use Rattle.review_runner.specs.declared.refusals.refusal.Refusal.{Refusal}
 use Rattle.gatekeeper_runner.specs.Starting.{GatesFrom, IsUnopened, OneUnopened, Opens, OpensGate, next, no_memory, none, refused, unread}
 use Rattle.gatekeeper_runner.specs.Together.{AreGates, IsGateOf}
 

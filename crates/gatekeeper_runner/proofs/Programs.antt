@@ -9,10 +9,10 @@ use Rattle.policy_glue.specs.OneImage.{OneImage}
 use Rattle.review_runner.specs.FileSystem.{FileSystem}
 use Rattle.review_runner.specs.Program.{Ending, System, system}
 use Rattle.review_runner.specs.Refusals.{order_refusal, session_refusal}
-use Rattle.review_runner.specs.declared.order_error.OrderError.{OrderError}
-use Rattle.review_runner.specs.declared.order_error.OrderError.TheVariants.{U1}
-use Rattle.review_runner.specs.declared.order_error.OrderError.TheVariants as order_error
-use Rattle.review_runner.specs.declared.refusal.Refusal.{Refusal}
+use Rattle.review_runner.specs.declared.refusals.order_error.OrderError.{OrderError}
+use Rattle.review_runner.specs.declared.refusals.order_error.OrderError.TheVariants.{U1}
+use Rattle.review_runner.specs.declared.refusals.order_error.OrderError.TheVariants as order_error
+use Rattle.review_runner.specs.declared.refusals.refusal.Refusal.{Refusal}
 use Rattle.gatekeeper_runner.specs.Orders.{Ordered, order_view}
 use Rattle.gatekeeper_runner.specs.Program.{Asks, AsksNothing, Does, answers, ending_of, no_memory, no_words, not_started, not_taken, nothing}
 use Rattle.gatekeeper_runner.specs.Starting.{KeepsFrom, Starts}

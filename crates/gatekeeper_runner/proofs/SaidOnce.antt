@@ -13,8 +13,8 @@ use Rattle.review_runner.specs.OneAnswer.{HasOneAnswer}
 use Rattle.review_runner.specs.Reviews.{uid_in}
 use Rattle.review_runner.specs.Saying.{IsSaid, Said, Says, answer_by, said_of}
 use Rattle.review_runner.specs.Standing.{StandsBy}
-use Rattle.review_runner.specs.declared.run_error.RunError.{RunError}
-use Rattle.review_runner.specs.declared.run_error.RunError.TheVariants.{N1, N2, N3, N4, N5, Memory}
+use Rattle.review_runner.specs.declared.refusals.run_error.RunError.{RunError}
+use Rattle.review_runner.specs.declared.refusals.run_error.RunError.TheVariants.{N1, N2, N3, N4, N5, Memory}
 use Rattle.review_runner.proofs.Decided.{answered}
 use Rattle.review_runner.proofs.OneReview.{roots_once}
 

@@ -5,11 +5,11 @@ use Rattle.review_runner.specs.Deciding.{Documents}
 use Rattle.review_runner.specs.Saying.{Said, Says, said_view}
 use Rattle.review_runner.specs.Standing.{StandsBy, this}
 use Rattle.review_runner.proofs.Standing.{of_one}
-use Rattle.review_runner.specs.declared.said.Said.{Said as CodeSaid}
+use Rattle.review_runner.specs.declared.reviews.said.Said.{Said as CodeSaid}
 use Rattle.std.specs.Prelude.{IsErrAnd, get_or}
 use Rattle.std.proofs.lemmas.List.{drop_more}
-use Rattle.review_runner.specs.declared.compiled_policy.CompiledPolicy.{CompiledPolicy}
-use Rattle.review_runner.specs.declared.run_error.RunError.{RunError}
+use Rattle.review_runner.specs.declared.reviews.compiled_policy.CompiledPolicy.{CompiledPolicy}
+use Rattle.review_runner.specs.declared.refusals.run_error.RunError.{RunError}
 use Rattle.gatekeeper_runner.specs.Together.{AllSay, AreGates, IsGateOf, OneRefuses, SayTogether, SaysAlone, Terms, none, next, under, unsaid, with_next}
 
 -- what a gate says alone

@@ -6,9 +6,9 @@ use Rattle.clap.specs.Words.{Text}
 use Rattle.review_runner.specs.Debugging.{IsReadingGiven, ReadingGiven}
 use Rattle.review_runner.specs.FileSystem.{FileSystem}
 use Rattle.review_runner.specs.Refusals.{file_refusal}
-use Rattle.review_runner.specs.declared.compiled_policy.CompiledPolicy.{CompiledPolicy}
-use Rattle.review_runner.specs.declared.file_error.FileError.{FileError}
-use Rattle.review_runner.specs.declared.refusal.Refusal.{Refusal}
+use Rattle.review_runner.specs.declared.reviews.compiled_policy.CompiledPolicy.{CompiledPolicy}
+use Rattle.review_runner.specs.declared.refusals.file_error.FileError.{FileError}
+use Rattle.review_runner.specs.declared.refusals.refusal.Refusal.{Refusal}
 use Rattle.gatekeeper_runner.specs.Orders.{Order}
 use Rattle.gatekeeper_runner.specs.Starting.{GatesFrom, KeepsFrom, OneUnopened, Starts, no_namespace, no_params, no_policy}
 use Rattle.gatekeeper_runner.specs.declared.keeper.Keeper.{Keeper}

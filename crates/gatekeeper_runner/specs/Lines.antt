@@ -5,24 +5,16 @@ use Rattle.serde_json.specs.Data as json
 use Rattle.serde_json.specs.Find.{get}
 use Rattle.serde_json.specs.Written.{compact_text}
 use Rattle.policy_glue.specs.Objections.{response_text}
-use Rattle.review_runner.specs.Reviews.{document_of}
+use Rattle.policy_glue.specs.Documents.{document_of}
+use Rattle.review_runner.specs.Refusals.{refusal_name}
 use Rattle.review_runner.specs.Saying.{Said}
 use Rattle.review_runner.specs.Standing.{Images}
-use Rattle.review_runner.specs.declared.run_error.RunError.{RunError}
-use Rattle.review_runner.specs.declared.run_error.RunError.TheVariants.{N1, N2, N3, N4, N5, Memory}
+use Rattle.review_runner.specs.declared.refusals.run_error.RunError.{RunError}
+use Rattle.review_runner.specs.declared.refusals.run_error.RunError.TheVariants.{N2, Memory}
 use Rattle.gatekeeper_runner.specs.Together.{SayTogether, Terms}
 use Rattle.gatekeeper_runner.specs.declared.line.Line.{Line}
 
 -- ---- refusals
-
--- how an answer names a refusal
-abbrev pub refusal_name : RunError → List ℕ
-refusal_name (N1 e) = codes "N1"
-refusal_name N2 = codes "N2"
-refusal_name N3 = codes "N3"
-refusal_name N4 = codes "N4"
-refusal_name N5 = codes "N5"
-refusal_name Memory = codes "memory"
 
 -- the text that a JSON value is, where it is one
 abbrev pub text_in : json.Data → Option (List ℕ)

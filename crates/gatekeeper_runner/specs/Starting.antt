@@ -4,13 +4,13 @@ use Rattle.std.specs.declared.alloc.Global.{Global}
 use Rattle.clap.specs.Words.{Text}
 use Rattle.review_runner.specs.Debugging.{IsReadingGiven}
 use Rattle.review_runner.specs.Deciding.{IsPolicy, IsRefused}
-use Rattle.review_runner.specs.declared.compiled_policy.CompiledPolicy.{CompiledPolicy}
+use Rattle.review_runner.specs.declared.reviews.compiled_policy.CompiledPolicy.{CompiledPolicy}
 use Rattle.review_runner.specs.FileSystem.{FileSystem, IsReading}
 use Rattle.review_runner.specs.Refusals.{file_refusal}
-use Rattle.review_runner.specs.declared.file_error.FileError.{FileError}
-use Rattle.review_runner.specs.declared.policy_refusal.PolicyRefusal.{PolicyRefusal}
-use Rattle.review_runner.specs.declared.refusal.Refusal.{Refusal}
-use Rattle.review_runner.specs.declared.refusal.Refusal.TheVariants.{Memory, Policy}
+use Rattle.review_runner.specs.declared.refusals.file_error.FileError.{FileError}
+use Rattle.review_runner.specs.declared.refusals.policy_refusal.PolicyRefusal.{PolicyRefusal}
+use Rattle.review_runner.specs.declared.refusals.refusal.Refusal.{Refusal}
+use Rattle.review_runner.specs.declared.refusals.refusal.Refusal.TheVariants.{Memory, Policy}
 use Rattle.gatekeeper_runner.specs.Orders.{Order}
 use Rattle.gatekeeper_runner.specs.Together.{AreGates, IsGateOf, Terms, terms_of}
 use Rattle.gatekeeper_runner.specs.declared.keeper.Keeper.{Keeper}

@@ -5,8 +5,8 @@ use Rattle.policy_glue.specs.OneImage.{OneImage}
 use Rattle.review_runner.specs.Deciding.{Documents, IsPolicyOf}
 use Rattle.review_runner.specs.Saying.{Said, Says}
 use Rattle.review_runner.specs.Standing.{Images, StandsBy}
-use Rattle.review_runner.specs.declared.compiled_policy.CompiledPolicy.{CompiledPolicy}
-use Rattle.review_runner.specs.declared.run_error.RunError.{RunError}
+use Rattle.review_runner.specs.declared.reviews.compiled_policy.CompiledPolicy.{CompiledPolicy}
+use Rattle.review_runner.specs.declared.refusals.run_error.RunError.{RunError}
 use Rattle.gatekeeper_runner.specs.declared.keeper.Keeper.{Keeper}
 
 -- what every line is answered under: the documents of the policies in their order, the other documents, the steps

@@ -9,11 +9,8 @@ use crate::order::Order;
 use clap::ArgMatches;
 use clap::error::ErrorKind;
 use review_runner::OrderError;
-use review_runner::values::{name_in, number_in};
+use review_runner::values::{name_in, steps_in};
 use std::alloc::{AllocError, Global};
-
-// the steps of a program where the words give no number
-const DEFAULT_STEPS: u64 = 10_000_000;
 
 /// Reads the words of a command line, the program's own name first.
 ///
@@ -40,7 +37,7 @@ fn order_from(alloc: Global, matches: &ArgMatches) -> Result<Order, AllocError>
     let policies = names_in(alloc, matches, "policy")?;
     let namespace = name_in(alloc, matches, "namespace")?;
     let params = name_in(alloc, matches, "params")?;
-    let steps = number_in(matches, "steps").unwrap_or(DEFAULT_STEPS);
+    let steps = steps_in(matches);
     Ok(Order {
         policies,
         namespace,

@@ -12,7 +12,7 @@ use crate::order::Order;
 use crate::ordering::order_of;
 use crate::starting::start;
 use debugger::{Sink, Source};
-use review_runner::program::{say, texts_of};
+use review_runner::program::{ended, texts_of};
 use review_runner::{Files, OrderError, Refusal};
 use std::alloc::Global;
 use std::process::ExitCode;
@@ -31,13 +31,8 @@ pub fn exit_code<F: Files, R: Source, W: Sink, E: Sink>(
 ) -> ExitCode
     ensures { Ends OneImage (given_of words) (system (F.known files.old) (stream (R.left input.old) (R.failed input.old)) (stream (W.taken output.old) (W.failed output.old))) (system (F.known files.new) (stream (R.left input.new) (R.failed input.new)) (stream (W.taken output.new) (W.failed output.new))) (stream (E.taken errors.old) (E.failed errors.old)) (stream (E.taken errors.new) (E.failed errors.new)) (exit_status result) }
 {
-    match ending(alloc, words, files, input, output) {
-        Ok(status) => ExitCode::from(status),
-        Err(refusal) => {
-            say(alloc, refusal, errors);
-            ExitCode::from(refusal.status())
-        }
-    }
+    let ending = ending(alloc, words, files, input, output);
+    ended(alloc, ending, errors)
 }
 
 /// Answers the lines, and answers the status.

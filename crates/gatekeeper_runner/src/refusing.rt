@@ -1,9 +1,9 @@
 //! The texts of refusals.
 ghost use Rattle.std.specs.Prelude.{◌≡◌, option_map, IfOk, IsErr, Some};
 ghost use Rattle.serde_json.specs.View.{view};
-ghost use Rattle.review_runner.specs.Reviews.{document_of};
-ghost use Rattle.review_runner.specs.declared.run_error.RunError.TheVariants.{Memory};
-ghost use Rattle.gatekeeper_runner.specs.Lines.{refusal_name, refusal_text, refusal_tree, uid_shown};
+ghost use Rattle.policy_glue.specs.Documents.{document_of};
+ghost use Rattle.review_runner.specs.declared.refusals.run_error.RunError.TheVariants.{Memory};
+ghost use Rattle.gatekeeper_runner.specs.Lines.{refusal_text, refusal_tree, uid_shown};
 
 use review_runner::RunError;
 use review_runner::document::document;
@@ -34,7 +34,7 @@ pub fn refusal_text(
 ) -> Result<Vec<u8>, AllocError>
     ensures { IfOk result (λ text. text.items ≡ refusal_text error (option_map (λ s. s.now) uid.entry)) }
 {
-    let tree = refusal_tree(alloc, refusal_name(error), uid)?;
+    let tree = refusal_tree(alloc, error.name(), uid)?;
     tree.to_vec(alloc)
 }
 
@@ -44,19 +44,6 @@ fn refusal_tree(alloc: Global, name: &str, uid: Option<&str>) -> Result<Value, A
     match uid {
         Some(uid) => json!(in alloc; {"refused": name, "uid": uid}),
         None => json!(in alloc; {"refused": name}),
-    }
-}
-
-fn refusal_name(error: RunError) -> &'static str
-    ensures { result.now ≡ refusal_name error }
-{
-    match error {
-        RunError::N1(_) => "N1",
-        RunError::N2 => "N2",
-        RunError::N3 => "N3",
-        RunError::N4 => "N4",
-        RunError::N5 => "N5",
-        RunError::Memory => "memory",
     }
 }
 

@@ -10,7 +10,7 @@ use crate::denial::Denial;
 use crate::failure_policy::FailurePolicy;
 use crate::reason::Reason;
 use crate::validation::Validation;
-use crate::verdict::Verdict;
+use crate::verdict::{ERRS, FAILS, Verdict};
 use std::alloc::{AllocError, Global};
 
 /// The denials of a verdict on these validations, in their order.
@@ -57,7 +57,7 @@ fn denial_of<'a>(
 fn denies(failure_policy: FailurePolicy, word: u64) -> bool
     ensures { result ≡ denies_word failure_policy word }
 {
-    word == 1 || word == 2 && matches!(failure_policy, FailurePolicy::Fail)
+    word == FAILS || word == ERRS && matches!(failure_policy, FailurePolicy::Fail)
 }
 
 fn add<'a>(denials: &mut Vec<Denial<'a>>, denial: Option<Denial<'a>>) -> Result<(), AllocError>

@@ -1,6 +1,6 @@
 //! Why a policy's expression is refused.
 
-ghost use Rattle.std.specs.Prelude.{◌≡◌, Some};
+ghost use Rattle.std.specs.Prelude.{◌≡◌, ◌≤◌, ◌++◌, codes, decimal, length, IfSome, None, Some};
 ghost use Rattle.policy_glue.specs.CompileErrors.{expression_text, from_macros, from_reader, in_part};
 ghost use Rattle.policy_glue.specs.declared.expression_error.ExpressionError.TheVariants.{Memory, Untyped};
 
@@ -29,6 +29,33 @@ pub enum ExpressionError {
 }
 
 impl ExpressionError {
+    /// The refusal's number, and the byte where a text is refused.
+    pub fn code(self) -> (&'static str, Option<usize>)
+        ensures at { IfSome result.1 (λ place. expression_text self ≡ result.0.now ++ (codes " at " ++ decimal place)) }
+        ensures alone { result.1 ≡ None → expression_text self ≡ result.0.now }
+        ensures length { length result.0.now ≤ 6 }
+    {
+        match self {
+            ExpressionError::Unread(ReadError::P1(place)) => ("P1", Some(place)),
+            ExpressionError::Unread(ReadError::P2(place)) => ("P2", Some(place)),
+            ExpressionError::Unread(ReadError::P3(place)) => ("P3", Some(place)),
+            ExpressionError::Unread(ReadError::P4(place)) => ("P4", Some(place)),
+            ExpressionError::Unread(ReadError::P5(place)) => ("P5", Some(place)),
+            ExpressionError::Unread(ReadError::P6(place)) => ("P6", Some(place)),
+            ExpressionError::Unexpanded(MacroError::M1) => ("M1", None),
+            ExpressionError::Unexpanded(MacroError::M2) => ("M2", None),
+            ExpressionError::Unexpanded(MacroError::M3) => ("M3", None),
+            ExpressionError::Untyped(TypeError::Y1) => ("Y1", None),
+            ExpressionError::Untyped(TypeError::Y2) => ("Y2", None),
+            ExpressionError::Untyped(TypeError::Y3) => ("Y3", None),
+            ExpressionError::G1 => ("G1", None),
+            ExpressionError::G2 => ("G2", None),
+            ExpressionError::Unread(ReadError::Memory)
+            | ExpressionError::Unexpanded(MacroError::Memory)
+            | ExpressionError::Memory => ("memory", None),
+        }
+    }
+
     /// The refusal of the part at this place of its list.
     pub(crate) fn at(self, part: PartKind, place: usize) -> CompileError
         ensures { result ≡ in_part part place self }
@@ -45,24 +72,9 @@ impl fmt::Display for ExpressionError {
     ghost output = { λ e. Some (expression_text e) };
 
     fn fmt<W: fmt::Write>(&self, f: &mut fmt::Formatter<W>) -> fmt::Result {
-        match *self {
-            ExpressionError::Unread(ReadError::P1(place)) => write!(f, "P1 at {place}"),
-            ExpressionError::Unread(ReadError::P2(place)) => write!(f, "P2 at {place}"),
-            ExpressionError::Unread(ReadError::P3(place)) => write!(f, "P3 at {place}"),
-            ExpressionError::Unread(ReadError::P4(place)) => write!(f, "P4 at {place}"),
-            ExpressionError::Unread(ReadError::P5(place)) => write!(f, "P5 at {place}"),
-            ExpressionError::Unread(ReadError::P6(place)) => write!(f, "P6 at {place}"),
-            ExpressionError::Unexpanded(MacroError::M1) => f.write_str("M1"),
-            ExpressionError::Unexpanded(MacroError::M2) => f.write_str("M2"),
-            ExpressionError::Unexpanded(MacroError::M3) => f.write_str("M3"),
-            ExpressionError::Untyped(TypeError::Y1) => f.write_str("Y1"),
-            ExpressionError::Untyped(TypeError::Y2) => f.write_str("Y2"),
-            ExpressionError::Untyped(TypeError::Y3) => f.write_str("Y3"),
-            ExpressionError::G1 => f.write_str("G1"),
-            ExpressionError::G2 => f.write_str("G2"),
-            ExpressionError::Unread(ReadError::Memory)
-            | ExpressionError::Unexpanded(MacroError::Memory)
-            | ExpressionError::Memory => f.write_str("memory"),
+        match self.code() {
+            (code, Some(place)) => write!(f, "{code} at {place}"),
+            (code, None) => f.write_str(code),
         }
     }
 }

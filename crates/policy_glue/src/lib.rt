@@ -36,6 +36,7 @@ pub use cel_reader::ReadError;
 pub use cel_types::TypeError;
 pub use compile_error::CompileError;
 pub use compiling::compile;
+pub use documents::{document, is_the_text};
 pub use expression_error::ExpressionError;
 pub use objecting::objection_of;
 pub use objection::Objection;

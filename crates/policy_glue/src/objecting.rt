@@ -11,7 +11,7 @@ use crate::objection::Objection;
 use crate::parts::Parts;
 use crate::policy::Policy;
 use crate::reason::Reason;
-use crate::verdict::Verdict;
+use crate::verdict::{DENIED, REJECTED, Verdict};
 use std::alloc::{AllocError, Global};
 
 /// What a verdict of the policy says against the request, and nothing where it allows it. The error says
@@ -35,8 +35,8 @@ fn objection_told(
     ensures { IfOk result (λ said. option_map objection_view said ≡ objection_told verdict.now.outcome (denials_in parts.now verdict.now)) }
 {
     match verdict.outcome {
-        2 => Ok(Some(undecided(alloc)?)),
-        3 => Ok(Some(denied(alloc, parts, verdict)?)),
+        REJECTED => Ok(Some(undecided(alloc)?)),
+        DENIED => Ok(Some(denied(alloc, parts, verdict)?)),
         _ => Ok(None),
     }
 }

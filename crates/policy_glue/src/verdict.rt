@@ -22,6 +22,24 @@ pub(crate) const FIRST_RESULT: u64 = 2;
 /// The word from which on there is one for the text of each message.
 pub(crate) const FIRST_MESSAGE: u64 = 66;
 
+/// The outcome of a policy of which a condition is false.
+pub(crate) const SKIPPED: u64 = 1;
+
+/// The outcome of a policy of which a condition could not be decided, under `Fail`.
+pub(crate) const REJECTED: u64 = 2;
+
+/// The outcome of a policy of which a validation denies.
+pub(crate) const DENIED: u64 = 3;
+
+/// The outcome of a policy of which no validation denies.
+pub(crate) const ADMITTED: u64 = 4;
+
+/// What is kept of a validation that is false.
+pub(crate) const FAILS: u64 = 1;
+
+/// What is kept of a validation that is an error.
+pub(crate) const ERRS: u64 = 2;
+
 /// What a program decided, in the words of its verdict.
 #[derive(Debug, Drop)]
 pub struct Verdict<'v> {

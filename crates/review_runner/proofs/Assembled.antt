@@ -19,9 +19,9 @@ use Rattle.policy_glue.specs.OneImage.{OneImage}
 use Rattle.review_runner.specs.FileSystem.{Reading}
 use Rattle.review_runner.specs.Making.{Assembled, FileBy, MadeBy, MayRunOut, file_from, no_file, no_program, no_text, program}
 use Rattle.review_runner.specs.Refusals.{load_refusal, program_refusal}
-use Rattle.review_runner.specs.declared.refusal.Refusal.{Refusal}
-use Rattle.review_runner.specs.declared.refusal.Refusal.TheVariants.{Program}
-use Rattle.review_runner.specs.declared.source_kind.SourceKind.TheVariants.{ProgramText}
+use Rattle.review_runner.specs.declared.refusals.refusal.Refusal.{Refusal}
+use Rattle.review_runner.specs.declared.refusals.refusal.Refusal.TheVariants.{Program}
+use Rattle.review_runner.specs.declared.images.source_kind.SourceKind.TheVariants.{ProgramText}
 
 -- ---- the image's file
 

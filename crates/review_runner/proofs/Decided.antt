@@ -48,11 +48,11 @@ use Rattle.policy_glue.specs.declared.failure_policy.FailurePolicy.{FailurePolic
 use Rattle.review_runner.specs.Deciding.{Answer, Documents, IsAnswered, IsPolicy, Reviews, answer_of, answer_view, is_allowed, decision, started, values_given}
 use Rattle.review_runner.specs.Saying.{IsSaid, IsSaidBy, Said, Says, SaysFrom, answer_by, is_silent, said_of, said_view}
 use Rattle.review_runner.specs.Standing.{Images, Runs, Stands, StandsBy, this}
-use Rattle.review_runner.specs.declared.said.Said.{Said as CodeSaid}
+use Rattle.review_runner.specs.declared.reviews.said.Said.{Said as CodeSaid}
 use Rattle.review_runner.specs.Reviews.{Gives, Parts, document_given, documents_from, documents_given, parts_given, root_refusal, uid_in, uid_of}
-use Rattle.review_runner.specs.declared.reply.Reply.{Reply}
-use Rattle.review_runner.specs.declared.run_error.RunError.{RunError}
-use Rattle.review_runner.specs.declared.run_error.RunError.TheVariants.{N1, N2, N3, N4, N5, Memory}
+use Rattle.review_runner.specs.declared.reviews.reply.Reply.{Reply}
+use Rattle.review_runner.specs.declared.refusals.run_error.RunError.{RunError}
+use Rattle.review_runner.specs.declared.refusals.run_error.RunError.TheVariants.{N1, N2, N3, N4, N5, Memory}
 use Rattle.review_runner.proofs.RootContents.{are_five, are_started, contents_are, has_values, refused_documents, refused_roots, uid_is}
 
 -- ---- findings

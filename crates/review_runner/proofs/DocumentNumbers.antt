@@ -15,7 +15,7 @@ use Rattle.serde_json.specs.Data as json
 use Rattle.serde_json.specs.Find.{get, get_member}
 use Rattle.serde_json.specs.Read.{float_of, is_integer, max_depth, number_from, number_of, of_items, of_json, of_members}
 use Rattle.bpf_machine.specs.Starts.{FitsNumber, HasNumbers, HaveNumbers, MembersHaveNumbers}
-use Rattle.review_runner.specs.Reviews.{document_of}
+use Rattle.policy_glue.specs.Documents.{document_of}
 
 -- ---- numbers
 

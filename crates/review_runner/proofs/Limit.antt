@@ -27,8 +27,8 @@ use Rattle.review_runner.specs.Commands.{celbpf_app, faults, entered}
 use Rattle.review_runner.specs.Number.{number_of, number_written, writes_u64}
 use Rattle.review_runner.specs.Order.{Ordered, IsWithinLimits, assemble_in, compile_in, debug_in, list_in, order_in, order_view, review_in, run_image_in}
 use Rattle.review_runner.specs.Order.{task_named}
-use Rattle.review_runner.specs.declared.order.Order.{Order}
-use Rattle.review_runner.specs.declared.order_error.OrderError.{OrderError}
+use Rattle.review_runner.specs.declared.command_line.order.Order.{Order}
+use Rattle.review_runner.specs.declared.refusals.order_error.OrderError.{OrderError}
 use Rattle.review_runner.proofs.Kept.{AtOption, Each, Keeps, defaults_keep, found, nothing}
 use Rattle.review_runner.proofs.Kept.{settle_keeps, walk_keeps}
 

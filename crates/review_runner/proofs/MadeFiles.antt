@@ -10,13 +10,13 @@ use Rattle.review_runner.specs.Performing.{MakesFile, PerformsBy, WritesImage, f
 use Rattle.review_runner.specs.PolicyFiles.{CompiledFrom, image, no_image, no_file as no_policy}
 use Rattle.review_runner.specs.Refusals.{file_refusal}
 use Rattle.review_runner.specs.declared.answer.Answer.{Answer}
-use Rattle.review_runner.specs.declared.file_error.FileError.{FileError}
-use Rattle.review_runner.specs.declared.file_error.FileError.TheVariants.{Failed}
-use Rattle.review_runner.specs.declared.file_error.FileError.TheVariants as file_error
-use Rattle.review_runner.specs.declared.refusal.Refusal.{Refusal}
-use Rattle.review_runner.specs.declared.refusal.Refusal.TheVariants.{Memory}
-use Rattle.review_runner.specs.declared.source_kind.SourceKind.{SourceKind}
-use Rattle.review_runner.specs.declared.source_kind.SourceKind.TheVariants.{PolicyDocument, ProgramText}
+use Rattle.review_runner.specs.declared.refusals.file_error.FileError.{FileError}
+use Rattle.review_runner.specs.declared.refusals.file_error.FileError.TheVariants.{Failed}
+use Rattle.review_runner.specs.declared.refusals.file_error.FileError.TheVariants as file_error
+use Rattle.review_runner.specs.declared.refusals.refusal.Refusal.{Refusal}
+use Rattle.review_runner.specs.declared.refusals.refusal.Refusal.TheVariants.{Memory}
+use Rattle.review_runner.specs.declared.images.source_kind.SourceKind.{SourceKind}
+use Rattle.review_runner.specs.declared.images.source_kind.SourceKind.TheVariants.{PolicyDocument, ProgramText}
 use Rattle.review_runner.proofs.Assembled.{may_run_out as text_may}
 
 -- ---- the image's file

@@ -25,11 +25,11 @@ use Rattle.review_runner.specs.Deciding.{Answer, Case, Documents, IsPolicy, IsRe
 use Rattle.review_runner.specs.OneAnswer.{HasOneAnswer, IsAnswerTo}
 use Rattle.review_runner.specs.Reviews.{uid_in}
 use Rattle.review_runner.specs.Standing.{Runs, Stands, StandsBy, stands}
-use Rattle.review_runner.specs.declared.policy_refusal.PolicyRefusal.{PolicyRefusal}
-use Rattle.review_runner.specs.declared.policy_refusal.PolicyRefusal.TheVariants.{Unread, Uncompiled}
-use Rattle.review_runner.specs.declared.policy_refusal.PolicyRefusal.TheVariants as policy_refusal
-use Rattle.review_runner.specs.declared.run_error.RunError.{RunError}
-use Rattle.review_runner.specs.declared.run_error.RunError.TheVariants.{N1, N2, N3, N4, N5, Memory}
+use Rattle.review_runner.specs.declared.refusals.policy_refusal.PolicyRefusal.{PolicyRefusal}
+use Rattle.review_runner.specs.declared.refusals.policy_refusal.PolicyRefusal.TheVariants.{Unread, Uncompiled}
+use Rattle.review_runner.specs.declared.refusals.policy_refusal.PolicyRefusal.TheVariants as policy_refusal
+use Rattle.review_runner.specs.declared.refusals.run_error.RunError.{RunError}
+use Rattle.review_runner.specs.declared.refusals.run_error.RunError.TheVariants.{N1, N2, N3, N4, N5, Memory}
 
 ok_same : {A E : Type 0} (r : Result A E) (x y : A) → r ≡ Ok x → r ≡ Ok y → x ≡ y
 ok_same r x y is also = cc

@@ -8,9 +8,9 @@ use Rattle.review_runner.specs.Order.{Task, assemble, compile, debug, list, revi
 use Rattle.review_runner.specs.Output.{Outcome, Output, Report, output_by, output_of, refused}
 use Rattle.review_runner.specs.Performing.{IsDone, LacksMemory, Performs, PerformsBy, WritesImage, failed, lacks_memory, nothing, only_reads, performs, written}
 use Rattle.review_runner.specs.declared.done.Done.{Done}
-use Rattle.review_runner.specs.declared.file_error.FileError.TheVariants.{Failed}
-use Rattle.review_runner.specs.declared.refusal.Refusal.{Refusal}
-use Rattle.review_runner.specs.declared.refusal.Refusal.TheVariants.{Memory}
+use Rattle.review_runner.specs.declared.refusals.file_error.FileError.TheVariants.{Failed}
+use Rattle.review_runner.specs.declared.refusals.refusal.Refusal.{Refusal}
+use Rattle.review_runner.specs.declared.refusals.refusal.Refusal.TheVariants.{Memory}
 use Rattle.review_runner.proofs.MadeFiles.{same_files}
 
 -- ---- files

@@ -14,12 +14,12 @@ use Rattle.review_runner.specs.Performing.{PerformsBy}
 use Rattle.review_runner.specs.Program.{AnswersOrder, AsksNothing, Does, DoesTask, Ending, Says, System, Writes, WritesPart}
 use Rattle.review_runner.specs.Program.{cut, ending_line, no_memory, no_words, not_taken, nothing, refused, session, task, whole}
 use Rattle.review_runner.specs.Refusals.{order_refusal}
-use Rattle.review_runner.specs.declared.order.Order.{Order}
-use Rattle.review_runner.specs.declared.order_error.OrderError.{OrderError}
-use Rattle.review_runner.specs.declared.order_error.OrderError.TheVariants.{U1}
-use Rattle.review_runner.specs.declared.order_error.OrderError.TheVariants as order_error
-use Rattle.review_runner.specs.declared.refusal.Refusal.{Refusal}
-use Rattle.review_runner.specs.declared.refusal.Refusal.TheVariants.{File}
+use Rattle.review_runner.specs.declared.command_line.order.Order.{Order}
+use Rattle.review_runner.specs.declared.refusals.order_error.OrderError.{OrderError}
+use Rattle.review_runner.specs.declared.refusals.order_error.OrderError.TheVariants.{U1}
+use Rattle.review_runner.specs.declared.refusals.order_error.OrderError.TheVariants as order_error
+use Rattle.review_runner.specs.declared.refusals.refusal.Refusal.{Refusal}
+use Rattle.review_runner.specs.declared.refusals.refusal.Refusal.TheVariants.{File}
 
 -- ---- outputs
 

@@ -14,11 +14,11 @@ use Rattle.review_runner.specs.Performing.{Listed, PerformsBy, lacks_memory, lis
 use Rattle.review_runner.specs.Refusals.{file_refusal, load_refusal}
 use Rattle.review_runner.specs.Running.{run_of, run_of_file}
 use Rattle.review_runner.specs.declared.answer.Answer.{Answer}
-use Rattle.review_runner.specs.declared.file_error.FileError.{FileError}
-use Rattle.review_runner.specs.declared.file_error.FileError.TheVariants.{Failed}
-use Rattle.review_runner.specs.declared.file_error.FileError.TheVariants as file_error
-use Rattle.review_runner.specs.declared.refusal.Refusal.{Refusal}
-use Rattle.review_runner.specs.declared.refusal.Refusal.TheVariants.{Words, Image, File, Text, Program, Policy, Run, Input, Output, Memory}
+use Rattle.review_runner.specs.declared.refusals.file_error.FileError.{FileError}
+use Rattle.review_runner.specs.declared.refusals.file_error.FileError.TheVariants.{Failed}
+use Rattle.review_runner.specs.declared.refusals.file_error.FileError.TheVariants as file_error
+use Rattle.review_runner.specs.declared.refusals.refusal.Refusal.{Refusal}
+use Rattle.review_runner.specs.declared.refusals.refusal.Refusal.TheVariants.{Words, Image, File, Text, Program, Policy, Run, Input, Output, Memory}
 
 -- ---- answers
 

@@ -5,30 +5,13 @@ use Rattle.std.specs.Cmp.Lexicographic.{slice_cmp}
 use Rattle.std.specs.Map.{remove_entry}
 use Rattle.std.specs.BTreeMap.{is_at}
 use Rattle.std.specs.Ordering.{match_ordering}
-use Rattle.std.specs.Str.{IsUtf8, is_utf8}
 use Rattle.std.proofs.lemmas.Map.Text.{is_eq-slice_cmp}
 use Rattle.std.proofs.lemmas.Slice.Eq.{bytes_eq-Decides}
-use Rattle.std.proofs.lemmas.Str.{IsUtf8-from_is_utf8, is_utf8-from_IsUtf8}
 use Rattle.serde_json.specs.Data as json
 use Rattle.serde_json.specs.Find.{get_member}
-use Rattle.serde_json.specs.Read.{read}
 use Rattle.serde_json.specs.View.{view, members_view}
 use Rattle.serde_json.specs.declared.value.Value.{Value}
-use Rattle.review_runner.specs.Reviews.{document_of, member_or_null, parts_of, without}
-
--- ---- documents
-
-pub document_read : (bytes : List ℕ) (d : json.Data) → IsUtf8 bytes → read bytes ≡ Some d → Some d ≡ document_of bytes
-unfolding document_of
-document_read bytes d utf8 is = rw (is_utf8-from_IsUtf8 bytes utf8) (sym is)
-
-none_by : (bytes : List ℕ) (b : Bool) → is_utf8 bytes ≡ b → (IsUtf8 bytes → read bytes ≡ None) → None ≡ (if b then read bytes else None)
-none_by bytes true is none = sym (none (IsUtf8-from_is_utf8 bytes is))
-none_by bytes false is none = refl
-
-pub document_refused : (bytes : List ℕ) → (IsUtf8 bytes → read bytes ≡ None) → None ≡ document_of bytes
-unfolding document_of
-document_refused bytes none = none_by bytes (is_utf8 bytes) refl none
+use Rattle.review_runner.specs.Reviews.{member_or_null, parts_of, without}
 
 -- ---- members
 

@@ -13,9 +13,10 @@ use Rattle.cel_macros.specs.Environment.{Roots}
 use Rattle.bpf_machine.specs.Starts.{AreDocuments, HasNumbers, MembersHaveNumbers, StartsAreTables}
 use Rattle.codegen_base.specs.Contexts.{HasValues}
 use Rattle.review_runner.specs.Deciding.{started, values_of_roots}
-use Rattle.review_runner.specs.Reviews.{Parts, accepted, contents_from, contents_given, document_given, document_of, documents_from, documents_given, is_review, is_text, members_in, null_parts, parts_given, parts_in, parts_of, request_of, root_refusal, roots_from, text_or_empty, uid_in, uid_of, without}
+use Rattle.policy_glue.specs.Documents.{document_of}
+use Rattle.review_runner.specs.Reviews.{Parts, accepted, contents_from, contents_given, document_given, documents_from, documents_given, is_review, is_text, members_in, null_parts, parts_given, parts_in, parts_of, request_of, root_refusal, roots_from, text_or_empty, uid_in, uid_of, without}
 use Rattle.review_runner.specs.RootValues.{AreOfRoots, DocumentsHaveValues, GivenHaveValues}
-use Rattle.review_runner.specs.declared.run_error.RunError.{RunError}
+use Rattle.review_runner.specs.declared.refusals.run_error.RunError.{RunError}
 use Rattle.review_runner.proofs.DocumentNumbers.{document_fits, get_fits, member_fits}
 use Rattle.review_runner.proofs.Reviewed.{member_kept}
 

@@ -10,9 +10,9 @@ use Rattle.policy_glue.specs.Verdict.{Verdict}
 use Rattle.review_runner.specs.Deciding.{Answer, Documents, answer_view}
 use Rattle.review_runner.specs.Saying.{Said}
 use Rattle.review_runner.specs.Standing.{Stands, StandsBy, Images, this}
-use Rattle.review_runner.specs.declared.reply.Reply.{Reply}
-use Rattle.review_runner.specs.declared.run_error.RunError.{RunError}
-use Rattle.review_runner.specs.declared.run_error.RunError.TheVariants.{N1, N2, N3, N4, N5, Memory}
+use Rattle.review_runner.specs.declared.reviews.reply.Reply.{Reply}
+use Rattle.review_runner.specs.declared.refusals.run_error.RunError.{RunError}
+use Rattle.review_runner.specs.declared.refusals.run_error.RunError.TheVariants.{N1, N2, N3, N4, N5, Memory}
 
 -- ---- an image that is the one
 

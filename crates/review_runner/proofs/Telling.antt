@@ -31,7 +31,8 @@ use Rattle.review_runner.specs.Debugging as debugging
 use Rattle.review_runner.specs.Opening.{opened_by}
 use Rattle.review_runner.specs.RootValues.{GivenHaveValues}
 use Rattle.review_runner.specs.Standing.{Runs}
-use Rattle.review_runner.specs.Telling.{IsDecided, TellsVerdict, VerdictIsTold, session_files, shown_after, start, world_after}
+use Rattle.review_runner.specs.PolicyFiles.{held_with}
+use Rattle.review_runner.specs.Telling.{IsDecided, TellsVerdict, VerdictIsTold, shown_after, start, world_after}
 use Rattle.review_runner.proofs.Decided.{compiled_length, few_findings}
 use Rattle.review_runner.proofs.ImageKept.{image_of_start}
 use Rattle.review_runner.proofs.OneReview.{roots_once}
@@ -128,8 +129,8 @@ module _ (have : GivenHaveValues) (d : Documents) (run : Runs d) where
   tells : (seen : List Line) → IsDecided run seen → TellsVerdict run seen
   tells seen is = told seen is.goes_on (decides seen is)
 
-starts : (d : Documents) (run : Runs d) (file : List ℕ) → image_in file ≡ Ok run.image → start_of (Ok (session_files file d)) ≡ Ok (start run)
-starts d run file holds = ap (λ (r : Result loader.Contents LoadError). started_on (opened_by r) (session_files file d)) holds ∙ ap (debugging.started run.image) run.case.are_given
+starts : (d : Documents) (run : Runs d) (file : List ℕ) → image_in file ≡ Ok run.image → start_of (Ok (held_with file d)) ≡ Ok (start run)
+starts d run file holds = ap (λ (r : Result loader.Contents LoadError). started_on (opened_by r) (held_with file d)) holds ∙ ap (debugging.started run.image) run.case.are_given
 
 pub verdict_is_told : GivenHaveValues → VerdictIsTold
 verdict_is_told have = record { starts = starts; tells = tells have }

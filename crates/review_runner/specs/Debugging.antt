@@ -15,11 +15,11 @@ use Rattle.review_runner.specs.Opening.{IsUnrefused, opened_by}
 use Rattle.review_runner.specs.Order.{DocumentFiles}
 use Rattle.review_runner.specs.Refusals.{file_refusal, run_refusal}
 use Rattle.review_runner.specs.Reviews.{contents_given}
-use Rattle.review_runner.specs.declared.file_error.FileError.{FileError}
-use Rattle.review_runner.specs.declared.held_files.HeldFiles.{HeldFiles}
-use Rattle.review_runner.specs.declared.refusal.Refusal.{Refusal}
-use Rattle.review_runner.specs.declared.refusal.Refusal.TheVariants.{Words, Image, File, Text, Program, Policy, Run, Input, Output, Memory}
-use Rattle.review_runner.specs.declared.run_error.RunError.{RunError}
+use Rattle.review_runner.specs.declared.refusals.file_error.FileError.{FileError}
+use Rattle.review_runner.specs.declared.documents.held_files.HeldFiles.{HeldFiles}
+use Rattle.review_runner.specs.declared.refusals.refusal.Refusal.{Refusal}
+use Rattle.review_runner.specs.declared.refusals.refusal.Refusal.TheVariants.{Words, Image, File, Text, Program, Policy, Run, Input, Output, Memory}
+use Rattle.review_runner.specs.declared.refusals.run_error.RunError.{RunError}
 
 -- ---- files
 
@@ -39,20 +39,20 @@ IsReadingGiven known (Some name) (Ok None) = ⊥
 IsReadingGiven known (Some name) (Err e) = IsReading known name (Err e)
 IsReadingGiven known None reading = reading ≡ Ok None
 
--- what the reads of the image's file and of the documents' may answer
+-- what the reads of the file of an image or a policy and of the documents' may answer
 pub record Readings (known : Option FileSystem) (name : List ℕ) (files : DocumentFiles) : Type 0 where
-  pub image : Reading
+  pub subject : Reading
   pub review : ReadingGiven
   pub namespace : ReadingGiven
   pub params : ReadingGiven
-  pub is_image : IsReading known name image
+  pub is_subject : IsReading known name subject
   pub is_review : IsReadingGiven known files.review review
   pub is_namespace : IsReadingGiven known files.namespace namespace
   pub is_params : IsReadingGiven known files.params params
 
 -- the bytes of the files
 pub record Held : Type 0 where
-  pub image : List ℕ
+  pub subject : List ℕ
   pub review : Option (List ℕ)
   pub namespace : Option (List ℕ)
   pub params : Option (List ℕ)
@@ -60,7 +60,7 @@ pub record Held : Type 0 where
 -- the bytes of the code's files
 abbrev pub held_view : HeldFiles → Held
 held_view h = record {
-  image = h.image.items;
+  subject = h.subject.items;
   review = option_map (λ b. b.items) h.review;
   namespace = option_map (λ b. b.items) h.namespace;
   params = option_map (λ b. b.items) h.params;
@@ -73,23 +73,23 @@ held_of (Err e) = Err e
 
 -- those bytes, or the first read that failed, in the order of the words
 abbrev pub held_by : Reading → ReadingGiven → ReadingGiven → ReadingGiven → Result Held FileError
-held_by (Ok image) (Ok review) (Ok namespace) (Ok params) =
-    Ok (record { image = image; review = review; namespace = namespace; params = params })
-held_by (Ok image) (Ok review) (Ok namespace) (Err e) = Err e
-held_by (Ok image) (Ok review) (Err e) params = Err e
-held_by (Ok image) (Err e) namespace params = Err e
+held_by (Ok subject) (Ok review) (Ok namespace) (Ok params) =
+    Ok (record { subject = subject; review = review; namespace = namespace; params = params })
+held_by (Ok subject) (Ok review) (Ok namespace) (Err e) = Err e
+held_by (Ok subject) (Ok review) (Err e) params = Err e
+held_by (Ok subject) (Err e) namespace params = Err e
 held_by (Err e) review namespace params = Err e
 
 -- the files of these names hold this, or a read failed
 pub record HoldsFiles (known : Option FileSystem) (name : List ℕ) (files : DocumentFiles) (held : Result Held FileError) : Type 0 where
   pub readings : Readings known name files
-  pub are : held_by readings.image readings.review readings.namespace readings.params ≡ held
+  pub are : held_by readings.subject readings.review readings.namespace readings.params ≡ held
 
 -- ---- the start
 
 -- the image that the files hold, or why there is none
 abbrev pub image_of : Result Held FileError → Result Contents Refusal
-image_of (Ok held) = opened_by (image_in held.image)
+image_of (Ok held) = opened_by (image_in held.subject)
 image_of (Err e) = Err (file_refusal e)
 
 -- the state at the start of this image on these values, or why there are none
@@ -104,7 +104,7 @@ started_on (Err r) held = Err r
 
 -- the state at the start of a session with these files, or the first refusal: of the files, of the image, of the documents
 abbrev pub start_of : Result Held FileError → Result State Refusal
-start_of (Ok held) = started_on (opened_by (image_in held.image)) held
+start_of (Ok held) = started_on (opened_by (image_in held.subject)) held
 start_of (Err e) = Err (file_refusal e)
 
 -- the start is the one that is due; or memory ran out, where neither a file nor the image is refused

@@ -15,12 +15,12 @@ use Rattle.review_runner.specs.FileSystem.{FileSystem, IsReading, Reading}
 use Rattle.review_runner.specs.PolicyFiles.{CompiledFrom}
 use Rattle.review_runner.specs.Refusals.{file_refusal, load_refusal}
 use Rattle.review_runner.specs.Standing.{Images}
-use Rattle.review_runner.specs.declared.file_error.FileError.{FileError}
-use Rattle.review_runner.specs.declared.file_error.FileError.TheVariants.{Failed}
-use Rattle.review_runner.specs.declared.refusal.Refusal.{Refusal}
-use Rattle.review_runner.specs.declared.refusal.Refusal.TheVariants.{Memory, Program, Text}
-use Rattle.review_runner.specs.declared.source_kind.SourceKind.{SourceKind}
-use Rattle.review_runner.specs.declared.source_kind.SourceKind.TheVariants.{PolicyDocument, ProgramText}
+use Rattle.review_runner.specs.declared.refusals.file_error.FileError.{FileError}
+use Rattle.review_runner.specs.declared.refusals.file_error.FileError.TheVariants.{Failed}
+use Rattle.review_runner.specs.declared.refusals.refusal.Refusal.{Refusal}
+use Rattle.review_runner.specs.declared.refusals.refusal.Refusal.TheVariants.{Memory, Program, Text}
+use Rattle.review_runner.specs.declared.images.source_kind.SourceKind.{SourceKind}
+use Rattle.review_runner.specs.declared.images.source_kind.SourceKind.TheVariants.{PolicyDocument, ProgramText}
 
 -- ---- from a program's text
 

@@ -5,12 +5,12 @@ use Rattle.std.specs.Str.{bytes_eq}
 use Rattle.clap.specs.Words.{Row, Text, first_of, one_of}
 use Rattle.review_runner.specs.Number.{number_of}
 use Rattle.review_runner.specs.Commands.{faults, entered}
-use Rattle.review_runner.specs.declared.document_names.DocumentNames.{DocumentNames}
-use Rattle.review_runner.specs.declared.review_names.ReviewNames.{ReviewNames}
-use Rattle.review_runner.specs.declared.order.Order.{Order}
-use Rattle.review_runner.specs.declared.order.Order.TheVariants as code
-use Rattle.review_runner.specs.declared.order_error.OrderError.{OrderError}
-use Rattle.review_runner.specs.declared.order_error.OrderError.TheVariants.{U1, Memory}
+use Rattle.review_runner.specs.declared.documents.document_names.DocumentNames.{DocumentNames}
+use Rattle.review_runner.specs.declared.documents.review_names.ReviewNames.{ReviewNames}
+use Rattle.review_runner.specs.declared.command_line.order.Order.{Order}
+use Rattle.review_runner.specs.declared.command_line.order.Order.TheVariants as code
+use Rattle.review_runner.specs.declared.refusals.order_error.OrderError.{OrderError}
+use Rattle.review_runner.specs.declared.refusals.order_error.OrderError.TheVariants.{U1, Memory}
 
 -- the file names of the documents of a review, which may be left out
 pub record DocumentFiles : Type 0 where

@@ -8,7 +8,7 @@ use Rattle.review_runner.specs.Refusals.{file_refusal, load_refusal, refusal_lin
 use Rattle.review_runner.specs.Running.{Shown, run_of_file}
 use Rattle.review_runner.specs.declared.answer.Answer.{Answer}
 use Rattle.review_runner.specs.declared.done.Done.{Done}
-use Rattle.review_runner.specs.declared.refusal.Refusal.{Refusal}
+use Rattle.review_runner.specs.declared.refusals.refusal.Refusal.{Refusal}
 
 -- ---- outcomes
 

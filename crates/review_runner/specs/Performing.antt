@@ -9,11 +9,11 @@ use Rattle.review_runner.specs.Order.{Task, assemble, compile, debug, list, revi
 use Rattle.review_runner.specs.Output.{Outcome, Output, output_by, run_image_outcome, succeeded}
 use Rattle.review_runner.specs.PolicyFiles.{ReviewsFiles}
 use Rattle.review_runner.specs.Standing.{Images}
-use Rattle.review_runner.specs.declared.file_error.FileError.TheVariants.{Failed}
-use Rattle.review_runner.specs.declared.refusal.Refusal.{Refusal}
-use Rattle.review_runner.specs.declared.refusal.Refusal.TheVariants.{File, Memory}
-use Rattle.review_runner.specs.declared.source_kind.SourceKind.{SourceKind}
-use Rattle.review_runner.specs.declared.source_kind.SourceKind.TheVariants.{PolicyDocument, ProgramText}
+use Rattle.review_runner.specs.declared.refusals.file_error.FileError.TheVariants.{Failed}
+use Rattle.review_runner.specs.declared.refusals.refusal.Refusal.{Refusal}
+use Rattle.review_runner.specs.declared.refusals.refusal.Refusal.TheVariants.{File, Memory}
+use Rattle.review_runner.specs.declared.images.source_kind.SourceKind.{SourceKind}
+use Rattle.review_runner.specs.declared.images.source_kind.SourceKind.TheVariants.{PolicyDocument, ProgramText}
 
 -- ---- single orders
 

@@ -1,23 +1,22 @@
 -- Policies and reviews in files.
-use Rattle.std.specs.Prelude.{◌≡◌, ℕ, Bool, true, false, List, [], ◌∷◌, ◌++◌, Option, option_map, Result, Ok, Err}
+use Rattle.std.specs.Prelude.{◌≡◌, ℕ, Bool, true, false, List, [], ◌∷◌, ◌++◌, Option, Some, Result, Ok, Err}
 use Rattle.loader.specs.Contents.{Contents}
 use Rattle.loader.specs.Format.{file_of}
 use Rattle.policy_glue.specs.Compiled.{IsCompiled}
 use Rattle.policy_glue.specs.Policy.{Rules}
 use Rattle.policy_glue.specs.Reading.{policy_in}
-use Rattle.review_runner.specs.Debugging.{IsReadingGiven, ReadingGiven}
+use Rattle.review_runner.specs.Debugging.{Held, HoldsFiles}
 use Rattle.review_runner.specs.Deciding.{Answer, Documents, IsRefused, Reviews}
-use Rattle.review_runner.specs.FileSystem.{FileSystem, Reading, IsReading}
-use Rattle.review_runner.specs.Order.{ReviewFiles}
+use Rattle.review_runner.specs.FileSystem.{FileSystem, Reading}
+use Rattle.review_runner.specs.Order.{DocumentFiles, ReviewFiles}
 use Rattle.review_runner.specs.Output.{Outcome, Report}
 use Rattle.review_runner.specs.Refusals.{file_refusal, run_refusal}
 use Rattle.review_runner.specs.Standing.{Images, StandsBy}
-use Rattle.review_runner.specs.declared.file_error.FileError.{FileError}
-use Rattle.review_runner.specs.declared.held_review.HeldReview.{HeldReview}
-use Rattle.review_runner.specs.declared.policy_refusal.PolicyRefusal.{PolicyRefusal}
-use Rattle.review_runner.specs.declared.refusal.Refusal.{Refusal}
-use Rattle.review_runner.specs.declared.refusal.Refusal.TheVariants.{Policy}
-use Rattle.review_runner.specs.declared.run_error.RunError.{RunError}
+use Rattle.review_runner.specs.declared.refusals.file_error.FileError.{FileError}
+use Rattle.review_runner.specs.declared.refusals.policy_refusal.PolicyRefusal.{PolicyRefusal}
+use Rattle.review_runner.specs.declared.refusals.refusal.Refusal.{Refusal}
+use Rattle.review_runner.specs.declared.refusals.refusal.Refusal.TheVariants.{Policy}
+use Rattle.review_runner.specs.declared.refusals.run_error.RunError.{RunError}
 
 -- ---- images
 
@@ -30,44 +29,22 @@ pub data CompiledFrom (meant : Images) : Reading → Result (List ℕ) Refusal �
 
 -- ---- reviews
 
--- what the reads of the files may answer
-pub record ReviewReadings (known : Option FileSystem) (files : ReviewFiles) : Type 0 where
-  pub policy : Reading
-  pub review : Reading
-  pub namespace : ReadingGiven
-  pub params : ReadingGiven
-  pub is_policy : IsReading known files.policy policy
-  pub is_review : IsReading known files.review review
-  pub is_namespace : IsReadingGiven known files.namespace namespace
-  pub is_params : IsReadingGiven known files.params params
+-- what the files of an image or a policy, and of a review's documents hold
+abbrev pub held_with : List ℕ → Documents → Held
+held_with subject d = record { subject = subject; review = Some d.review; namespace = d.namespace; params = d.params }
 
--- the code's documents
-abbrev pub documents_view : HeldReview → Documents
-documents_view h = record {
-  policy = h.policy.items;
-  review = h.review.items;
-  namespace = option_map (λ b. b.items) h.namespace;
-  params = option_map (λ b. b.items) h.params;
-}
+-- the same of a policy and a review, or why it is not read
+abbrev pub held_of_review : Result Documents FileError → Result Held FileError
+held_of_review (Ok d) = Ok (held_with d.policy d)
+held_of_review (Err e) = Err e
 
--- the same of what the code answers
-abbrev pub documents_of : Result HeldReview FileError → Result Documents FileError
-documents_of (Ok h) = Ok (documents_view h)
-documents_of (Err e) = Err e
-
--- those documents, or the first read that failed, in the order of the words
-abbrev pub documents_by : Reading → Reading → ReadingGiven → ReadingGiven → Result Documents FileError
-documents_by (Ok policy) (Ok review) (Ok namespace) (Ok params) =
-    Ok (record { policy = policy; review = review; namespace = namespace; params = params })
-documents_by (Ok policy) (Ok review) (Ok namespace) (Err e) = Err e
-documents_by (Ok policy) (Ok review) (Err e) params = Err e
-documents_by (Ok policy) (Err e) namespace params = Err e
-documents_by (Err e) review namespace params = Err e
+-- the names of the files of a review's documents, the first of which is there
+abbrev pub named_files : ReviewFiles → DocumentFiles
+named_files files = record { review = Some files.review; namespace = files.namespace; params = files.params }
 
 -- the files of these names hold these documents, or a read failed
-pub record HoldsReview (known : Option FileSystem) (files : ReviewFiles) (held : Result Documents FileError) : Type 0 where
-  pub readings : ReviewReadings known files
-  pub are : documents_by readings.policy readings.review readings.namespace readings.params ≡ held
+abbrev pub HoldsReview : Option FileSystem → ReviewFiles → Result Documents FileError → Type 0
+HoldsReview known files held = HoldsFiles known files.policy (named_files files) (held_of_review held)
 
 -- 0 where the response allows the request, and 1 where it does not
 abbrev pub answer_status : Bool → ℕ

@@ -15,20 +15,20 @@ use Rattle.policy_glue.specs.declared.policy_error.PolicyError.TheVariants as po
 use Rattle.loader.specs.declared.load_error.LoadError.{LoadError}
 use Rattle.loader.specs.declared.load_error.LoadError.TheVariants.{L1, L2, L3, L4, L5}
 use Rattle.loader.specs.declared.load_error.LoadError.TheVariants as load_error
-use Rattle.review_runner.specs.declared.file_error.FileError.{FileError}
-use Rattle.review_runner.specs.declared.file_error.FileError.TheVariants.{Failed}
-use Rattle.review_runner.specs.declared.file_error.FileError.TheVariants as file_error
-use Rattle.review_runner.specs.declared.order_error.OrderError.{OrderError}
-use Rattle.review_runner.specs.declared.order_error.OrderError.TheVariants.{U1}
-use Rattle.review_runner.specs.declared.order_error.OrderError.TheVariants as order_error
-use Rattle.review_runner.specs.declared.run_error.RunError.{RunError}
-use Rattle.review_runner.specs.declared.policy_refusal.PolicyRefusal.{PolicyRefusal}
-use Rattle.review_runner.specs.declared.policy_refusal.PolicyRefusal.TheVariants.{Unread, Uncompiled}
-use Rattle.review_runner.specs.declared.policy_refusal.PolicyRefusal.TheVariants as policy_refusal
-use Rattle.review_runner.specs.declared.run_error.RunError.TheVariants.{N1, N2, N3, N4, N5}
-use Rattle.review_runner.specs.declared.run_error.RunError.TheVariants as run_error
-use Rattle.review_runner.specs.declared.refusal.Refusal.{Refusal}
-use Rattle.review_runner.specs.declared.refusal.Refusal.TheVariants.{Words, Image, File, Text, Program, Policy, Run, Input, Output, Memory}
+use Rattle.review_runner.specs.declared.refusals.file_error.FileError.{FileError}
+use Rattle.review_runner.specs.declared.refusals.file_error.FileError.TheVariants.{Failed}
+use Rattle.review_runner.specs.declared.refusals.file_error.FileError.TheVariants as file_error
+use Rattle.review_runner.specs.declared.refusals.order_error.OrderError.{OrderError}
+use Rattle.review_runner.specs.declared.refusals.order_error.OrderError.TheVariants.{U1}
+use Rattle.review_runner.specs.declared.refusals.order_error.OrderError.TheVariants as order_error
+use Rattle.review_runner.specs.declared.refusals.run_error.RunError.{RunError}
+use Rattle.review_runner.specs.declared.refusals.policy_refusal.PolicyRefusal.{PolicyRefusal}
+use Rattle.review_runner.specs.declared.refusals.policy_refusal.PolicyRefusal.TheVariants.{Unread, Uncompiled}
+use Rattle.review_runner.specs.declared.refusals.policy_refusal.PolicyRefusal.TheVariants as policy_refusal
+use Rattle.review_runner.specs.declared.refusals.run_error.RunError.TheVariants.{N1, N2, N3, N4, N5}
+use Rattle.review_runner.specs.declared.refusals.run_error.RunError.TheVariants as run_error
+use Rattle.review_runner.specs.declared.refusals.refusal.Refusal.{Refusal}
+use Rattle.review_runner.specs.declared.refusals.refusal.Refusal.TheVariants.{Words, Image, File, Text, Program, Policy, Run, Input, Output, Memory}
 
 -- ---- refusals of their own names
 
@@ -122,14 +122,19 @@ policy_text (Unread e) = document_text e
 policy_text (Uncompiled e) = compile_text e
 policy_text policy_refusal.Memory = codes "memory"
 
--- the number of a review that is not answered, with the policy's refusal
+-- the number of a review that is not answered
+abbrev pub refusal_name : RunError → List ℕ
+refusal_name (N1 e) = codes "N1"
+refusal_name N2 = codes "N2"
+refusal_name N3 = codes "N3"
+refusal_name N4 = codes "N4"
+refusal_name N5 = codes "N5"
+refusal_name run_error.Memory = codes "memory"
+
+-- the same with the policy's refusal
 abbrev pub run_text : RunError → List ℕ
 run_text (N1 e) = codes "N1 " ++ policy_text e
-run_text N2 = codes "N2"
-run_text N3 = codes "N3"
-run_text N4 = codes "N4"
-run_text N5 = codes "N5"
-run_text run_error.Memory = codes "memory"
+run_text e = refusal_name e
 
 -- the text of a refusal
 abbrev pub refusal_text : Refusal → List ℕ

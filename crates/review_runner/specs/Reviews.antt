@@ -1,25 +1,21 @@
 -- A review (AdmissionReview, admission.k8s.io/v1), the roots that its documents give, and why they are refused.
 use Rattle.std.specs.Prelude.{◌≡◌, ℕ, ◌&&◌, ◌||◌, Bool, true, false, List, [], ◌∷◌, Option, Some, None, option_map, option_and_then}
 use Rattle.std.specs.Prelude.{unwrap_or, Result, Ok, Err, codes, nat_eq, if◌then◌else◌}
-use Rattle.std.specs.Str.{bytes_eq, is_utf8}
+use Rattle.std.specs.Str.{bytes_eq}
 use Rattle.serde_json.specs.Data as json
 use Rattle.serde_json.specs.Find.{get, get_member}
-use Rattle.serde_json.specs.Read.{read}
 use Rattle.serde_json.specs.View.{view}
 use Rattle.value_store.specs.Placing.{Contents}
 use Rattle.value_store.specs.Roots.{start_contents}
 use Rattle.value_store.specs.declared.table_error.TableError.{TableError}
 use Rattle.value_store.specs.declared.table_error.TableError.TheVariants.{V1, V2, V3}
 use Rattle.value_store.specs.declared.table_error.TableError.TheVariants as table_error
-use Rattle.review_runner.specs.declared.review_document.Review.{Review}
-use Rattle.review_runner.specs.declared.run_error.RunError.{RunError}
-use Rattle.review_runner.specs.declared.run_error.RunError.TheVariants.{N1, N2, N3, N4, N5, Memory}
+use Rattle.policy_glue.specs.Documents.{document_of, is_the_text}
+use Rattle.review_runner.specs.declared.reviews.review_document.Review.{Review}
+use Rattle.review_runner.specs.declared.refusals.run_error.RunError.{RunError}
+use Rattle.review_runner.specs.declared.refusals.run_error.RunError.TheVariants.{N1, N2, N3, N4, N5, Memory}
 
 -- ---- documents
-
--- what a document says as `serde_json` reads it (RFC 8259), and nothing where it is no JSON text
-unfoldable pub document_of : List ℕ → Option json.Data
-document_of bytes = if is_utf8 bytes then read bytes else None
 
 -- a document that is not given is null
 abbrev pub document_given : Option (List ℕ) → Option json.Data
@@ -32,11 +28,6 @@ document_given None = Some json.null
 abbrev pub is_text : Option json.Data → Bool
 is_text (Some (json.string s)) = true
 is_text _ = false
-
--- this very text is there
-abbrev pub is_the_text : Option json.Data → List ℕ → Bool
-is_the_text (Some (json.string s)) text = bytes_eq s text
-is_the_text _ text = false
 
 -- the document is one of this API and kind
 abbrev pub is_review : json.Data → Bool

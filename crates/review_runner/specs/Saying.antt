@@ -10,9 +10,9 @@ use Rattle.policy_glue.specs.Policy.{Rules}
 use Rattle.policy_glue.specs.Verdict.{Verdict}
 use Rattle.review_runner.specs.Deciding.{Answer, Case, Documents, IsPolicy, IsRefused, IsStopped, IsUnended, decision, values_given}
 use Rattle.review_runner.specs.Reviews.{uid_in}
-use Rattle.review_runner.specs.declared.run_error.RunError.{RunError}
-use Rattle.review_runner.specs.declared.run_error.RunError.TheVariants.{N1, N2, N3, N4, N5, Memory}
-use Rattle.review_runner.specs.declared.said.Said.{Said as CodeSaid}
+use Rattle.review_runner.specs.declared.refusals.run_error.RunError.{RunError}
+use Rattle.review_runner.specs.declared.refusals.run_error.RunError.TheVariants.{N1, N2, N3, N4, N5, Memory}
+use Rattle.review_runner.specs.declared.reviews.said.Said.{Said as CodeSaid}
 
 -- what a policy says against a request, if anything, and the request's uid
 pub record Said : Type 0 where

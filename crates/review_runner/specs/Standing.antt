@@ -11,8 +11,8 @@ use Rattle.policy_glue.specs.Layout.{outcome_word}
 use Rattle.policy_glue.specs.Policy.{Rules}
 use Rattle.policy_glue.specs.Verdict.{Verdict}
 use Rattle.review_runner.specs.Deciding.{Case, Documents, decision, started}
-use Rattle.review_runner.specs.declared.run_error.RunError.{RunError}
-use Rattle.review_runner.specs.declared.run_error.RunError.TheVariants.{N1, N2, N3, N4, N5, Memory}
+use Rattle.review_runner.specs.declared.refusals.run_error.RunError.{RunError}
+use Rattle.review_runner.specs.declared.refusals.run_error.RunError.TheVariants.{N1, N2, N3, N4, N5, Memory}
 
 -- ---- images
 

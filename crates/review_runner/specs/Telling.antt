@@ -1,5 +1,5 @@
 -- What a session with the image of a policy, on the documents of a review, tells of the policy's verdict.
-use Rattle.std.specs.Prelude.{◌≡◌, ℕ, suc, ◌*◌, ◌≤◌, ◌⊎◌, false, List, [], ◌∷◌, ◌++◌, map, count_by, codes, decimal, Some, Ok}
+use Rattle.std.specs.Prelude.{◌≡◌, ℕ, suc, ◌*◌, ◌≤◌, ◌⊎◌, false, List, [], ◌∷◌, ◌++◌, map, count_by, codes, decimal, Ok}
 use Rattle.guest_memory.specs.declared.fault.Fault.TheVariants.{F8}
 use Rattle.loader.specs.Format.{image_in}
 use Rattle.value_store.specs.Value.{ValueOrError}
@@ -13,7 +13,8 @@ use Rattle.debugger.specs.Answers.{Line, World}
 use Rattle.debugger.specs.Session.{granted, talk_of}
 use Rattle.debugger.specs.Verdict.{word_line}
 use Rattle.review_runner.specs.Deciding.{Documents, IsBeyond, decision, started, work}
-use Rattle.review_runner.specs.Debugging.{Held, start_of}
+use Rattle.review_runner.specs.Debugging.{start_of}
+use Rattle.review_runner.specs.PolicyFiles.{held_with}
 use Rattle.review_runner.specs.Standing.{Runs, stands}
 
 -- ---- the answer to `w`
@@ -42,10 +43,6 @@ AreReferences values (x ∷ xs) (h ∷ hs) = IsMessageWord values h x.message ×
 AreReferences values _ _ = ⊥
 
 -- ---- sessions
-
--- the files of a session: that of an image, and those of a review's documents
-abbrev pub session_files : List ℕ → Documents → Held
-session_files file d = record { image = file; review = Some d.review; namespace = d.namespace; params = d.params }
 
 module _ {d : Documents} (run : Runs d) where
   -- the state at its start
@@ -81,5 +78,5 @@ module _ {d : Documents} (run : Runs d) where
 -- whatever lines were answered before, of whatever moves forward and back
 pub record VerdictIsTold : Type 0 where
   pub starts : (d : Documents) (run : Runs d) (file : List ℕ) → image_in file ≡ Ok run.image
-      → start_of (Ok (session_files file d)) ≡ Ok (start run)
+      → start_of (Ok (held_with file d)) ≡ Ok (start run)
   pub tells : (d : Documents) (run : Runs d) (lines : List Line) → IsDecided run lines → TellsVerdict run lines

@@ -8,15 +8,15 @@ ghost use Rattle.review_runner.specs.Output.{outcome_of, output_by, output_of, r
 ghost use Rattle.review_runner.specs.Performing.{IsDone, only_reads, PerformsBy};
 
 use crate::answer::Answer;
+use crate::command_line::order::Order;
+use crate::documents::files::Files;
 use crate::done::Done;
-use crate::files::Files;
-use crate::listing::list_file;
-use crate::making::make_file;
-use crate::order::Order;
-use crate::refusal::Refusal;
-use crate::review_files::review_files;
-use crate::running::run_image;
-use crate::source_kind::SourceKind;
+use crate::images::listing::list_file;
+use crate::images::making::make_file;
+use crate::images::running::run_image;
+use crate::images::source_kind::SourceKind;
+use crate::refusals::refusal::Refusal;
+use crate::reviews::review_files::review_files;
 use bpf_machine::Status;
 use std::alloc::{AllocError, Global};
 

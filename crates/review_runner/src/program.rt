@@ -3,17 +3,17 @@ ghost use Rattle.std.specs.Prelude.{◌≡◌, false, Err, IfOk, map, string_byt
 ghost use Rattle.std.specs.Process.{exit_status};
 ghost use Rattle.policy_glue.specs.OneImage.{OneImage};
 ghost use Rattle.review_runner.specs.Order.{is_session, order_view, Ordered};
-ghost use Rattle.review_runner.specs.Program.{given_of, system, AnswersOrder, Does, DoesTask, Ends, Says};
+ghost use Rattle.review_runner.specs.Program.{ending_status, given_of, system, AnswersOrder, Does, DoesTask, Ends, Says};
 ghost use Rattle.debugger.specs.Streams.{stream};
 
-use crate::debugging::debug;
-use crate::files::Files;
-use crate::order::Order;
-use crate::order_error::OrderError;
+use crate::command_line::order::Order;
+use crate::command_line::reader::order;
+use crate::documents::files::Files;
+use crate::images::debugging::debug;
 use crate::performing::outcome;
-use crate::reader::order;
-use crate::refusal::Refusal;
-use crate::refusal_line::refusal_line;
+use crate::refusals::order_error::OrderError;
+use crate::refusals::refusal::Refusal;
+use crate::refusals::refusal_line::refusal_line;
 use debugger::{Failed, Sink, Source, write_all};
 use std::alloc::{AllocError, Global};
 use std::process::ExitCode;
@@ -32,7 +32,17 @@ pub fn exit_code<F: Files, R: Source, W: Sink, E: Sink>(
 ) -> ExitCode
     ensures { Ends OneImage (given_of words) (system (F.known files.old) (stream (R.left input.old) (R.failed input.old)) (stream (W.taken output.old) (W.failed output.old))) (system (F.known files.new) (stream (R.left input.new) (R.failed input.new)) (stream (W.taken output.new) (W.failed output.new))) (stream (E.taken errors.old) (E.failed errors.old)) (stream (E.taken errors.new) (E.failed errors.new)) (exit_status result) }
 {
-    match ending(alloc, words, files, input, output) {
+    let ending = ending(alloc, words, files, input, output);
+    ended(alloc, ending, errors)
+}
+
+/// The code that the program ends with. A refusal is one line of standard error; if that cannot be
+/// written, the code is the same.
+pub fn ended<E: Sink>(alloc: Global, ending: Result<u8, Refusal>, errors: &mut E) -> ExitCode
+    ensures status { exit_status result ≡ ending_status ending }
+    ensures says { Says (stream (E.taken errors.old) (E.failed errors.old)) (stream (E.taken errors.new) (E.failed errors.new)) ending }
+{
+    match ending {
         Ok(status) => ExitCode::from(status),
         Err(refusal) => {
             say(alloc, refusal, errors);

@@ -7,30 +7,12 @@ ghost use Rattle.policy_glue.specs.Layout.{most_validations, outcome_word};
 ghost use Rattle.policy_glue.specs.Verdict.{undecided as outcome_undecided};
 
 use crate::failure_policy::FailurePolicy;
-use crate::verdict::{FIRST_MESSAGE, VERDICT};
+use crate::verdict::{ADMITTED, DENIED, ERRS, FAILS, FIRST_MESSAGE, REJECTED, SKIPPED, VERDICT};
 use Register::{R0, R1, R2, R6};
 use codegen_base::helpers::{KIND, TEXT_KIND};
 use codegen_base::instructions::{add, call, copy, load_at, load_wide, put, skip_if, store_at};
 use codegen_base::references::{NO, YES};
 use insn_codec::{Comparison, Insn, Register, Size};
-
-/// The outcome of a policy of which a condition is false.
-const SKIPPED: i32 = 1;
-
-/// The outcome of a policy of which a condition could not be decided, under `Fail`.
-const REJECTED: i32 = 2;
-
-/// The outcome of a policy of which a validation denies.
-const DENIED: i32 = 3;
-
-/// The outcome of a policy of which no validation denies.
-const ADMITTED: i32 = 4;
-
-/// What is kept of a validation that is false.
-const FAILS: i32 = 1;
-
-/// What is kept of a validation that is an error.
-const ERRS: i32 = 2;
 
 /// The word of the verdict in which the denials are counted.
 const DENIALS: u64 = 1;
@@ -54,8 +36,8 @@ fn undecided(failure_policy: FailurePolicy) -> i32
     ensures { result ≡ pos (outcome_word (outcome_undecided failure_policy)) }
 {
     match failure_policy {
-        FailurePolicy::Fail => REJECTED,
-        FailurePolicy::Ignore => SKIPPED,
+        FailurePolicy::Fail => REJECTED as i32,
+        FailurePolicy::Ignore => SKIPPED as i32,
     }
 }
 
@@ -69,7 +51,7 @@ pub(super) fn condition_tail(failure_policy: FailurePolicy) -> [Insn; 8]
         put(R2, undecided(failure_policy)),
         verdict_word(0),
         skip_if(Comparison::Ne, R0, NO, 3),
-        put(R0, SKIPPED),
+        put(R0, SKIPPED as i32),
         store_at(R1, R0),
         Insn::Exit,
         store_at(R1, R2),
@@ -130,9 +112,9 @@ pub(super) fn denial_code(failure_policy: FailurePolicy, i: usize) -> [Insn; 8]
     [
         verdict_word(DENIALS),
         skip_if(Comparison::Eq, R0, NO, 2),
-        put_result(i, ERRS),
+        put_result(i, ERRS as i32),
         leave_error(failure_policy, DENIAL_SLOTS - LEAVE_SLOT),
-        put_result(i, FAILS),
+        put_result(i, FAILS as i32),
         load_at(R2, R1),
         add(R2, 1),
         store_at(R1, R2),
@@ -168,9 +150,9 @@ pub(super) fn outcome_tail() -> [Insn; 6]
             src: R1,
             offset: 8 * DENIALS as i16,
         },
-        put(R0, ADMITTED),
+        put(R0, ADMITTED as i32),
         skip_if(Comparison::Eq, R2, 0, 1),
-        put(R0, DENIED),
+        put(R0, DENIED as i32),
         store_at(R1, R0),
     ]
 }

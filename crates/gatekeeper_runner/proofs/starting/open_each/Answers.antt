@@ -1,5 +1,5 @@
 use Rattle.std.proofs.Common.{◌∙◌, Err, refl}
-use Rattle.review_runner.specs.declared.refusal.Refusal.TheVariants.{Memory}
+use Rattle.review_runner.specs.declared.refusals.refusal.Refusal.TheVariants.{Memory}
 use Rattle.gatekeeper_runner.specs.Starting.{no_memory}
 use Rattle.gatekeeper_runner.proofs.Opened.{opening_fails, opening_next, opening_start}
 use Rattle.gatekeeper_runner.proofs.starting.open_each.Goals as goal

@@ -1,0 +1,16 @@
+use Rattle.std.proofs.Common.{◌∙◌, ap}
+use Rattle.std.specs.Str.Parse.{ParsesUnsigned, ExplainsUnsignedError, HasUnsignedDigitsIfOk}
+use Rattle.clap.specs.Words.{found_of, one_text}
+use Rattle.clap.proofs.WalkLemmas.{one_text-rows}
+use Rattle.review_runner.specs.Number.{number_of}
+use Rattle.review_runner.proofs.Number.{of_a_value}
+use Rattle.review_runner.proofs.command_line.values.number_in.Goals as goal
+
+pub returns : goal.returns
+returns c =
+    let found = found_of c.args.matches.now in
+    of_a_value
+    (λ t r. ParsesUnsigned 64 10 t r × ExplainsUnsignedError 10 t r × HasUnsignedDigitsIfOk t r)
+    (one_text found c.args.id.now) c.get_one.result c.get_one.ensures.none c.get_one.ensures.value
+    (λ t x read. read.0)
+    ∙ ap number_of (one_text-rows found c.args.id.now)

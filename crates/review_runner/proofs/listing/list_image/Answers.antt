@@ -1,7 +1,0 @@
-use Rattle.std.proofs.Common.{ap, Vec, ℕ}
-use Rattle.std.specs.declared.alloc.Global.{Global}
-use Rattle.review_runner.proofs.Readings.{listing_was}
-use Rattle.review_runner.proofs.listing.list_image.Goals as goal
-
-pub returns-in-Ok : goal.returns-in-Ok
-returns-in-Ok c = listing_was _ _ _ _ _ c.code.ensures.value c.in-Ok.ensures.1 (ap (λ (v : Vec ℕ Global). v.items) c.into_bytes.ensures.value) c.succeeded.ensures

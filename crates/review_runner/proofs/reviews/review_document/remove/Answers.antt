@@ -1,0 +1,11 @@
+use Rattle.std.proofs.Common.{option_map, ap, ◌∙◌}
+use Rattle.serde_json.specs.View.{members_view, view}
+use Rattle.serde_json.proofs.Views.{view-lookup}
+use Rattle.review_runner.proofs.Reviewed.{view-remove_entry}
+use Rattle.review_runner.proofs.reviews.review_document.remove.Goals as goal
+
+pub returns-clause-value : goal.returns-clause-value
+returns-clause-value c = ap (option_map view) c.remove.ensures.value ∙ view-lookup c.args.key.now c.args.members.now.entries
+
+pub returns-clause-rest : goal.returns-clause-rest
+returns-clause-rest c = ap members_view c.remove.ensures.entries ∙ view-remove_entry c.args.key.now c.args.members.now.entries

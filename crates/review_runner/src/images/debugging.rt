@@ -1,0 +1,77 @@
+//! Sessions with the image in a file.
+ghost use Rattle.std.specs.Prelude.{◌≡◌, Ok};
+ghost use Rattle.bpf_machine.specs.State.{start_state};
+ghost use Rattle.review_runner.specs.Debugging.{held_of, held_view, DebugsByResult, HoldsFiles, Starts};
+ghost use Rattle.review_runner.specs.Order.{files_view};
+ghost use Rattle.debugger.specs.Streams.{stream};
+
+use crate::documents::document_names::DocumentNames;
+use crate::documents::files::Files;
+use crate::documents::held_files::{HeldFiles, read_files};
+use crate::refusals::file_error::FileError;
+use crate::refusals::refusal::Refusal;
+use crate::reviews::root_values::roots;
+use debugger::{Sink, Source, session};
+use loader::Image;
+use std::alloc::Global;
+use value_store::ValueStore;
+use value_table::Table;
+
+/// A session with the image in the file of this name, on the roots of the documents in files: reads
+/// command lines from `r` and writes the answers to `w`. The files are read, in the order of the
+/// words, before any of them is tested, and the image and then the documents before anything is read
+/// from `r`.
+///
+/// # Errors
+///
+/// `File`, `Image` and `Run` where there is nothing to debug, `Input` and `Output` where the
+/// session broke off, and `Memory` before its first line.
+pub fn debug<F: Files, R: Source, W: Sink>(
+    alloc: Global,
+    image: &str,
+    documents: &DocumentNames,
+    files: &mut F,
+    r: &mut R,
+    w: &mut W,
+) -> Result<(), Refusal>
+    ensures debugs { DebugsByResult (F.known files.old) image.now (files_view documents.now) (stream (R.left r.old) (R.failed r.old)) (stream (R.left r.new) (R.failed r.new)) (stream (W.taken w.old) (W.failed w.old)) (stream (W.taken w.new) (W.failed w.new)) result }
+    ensures known { F.known files.new ≡ F.known files.old }
+{
+    let held = read_documents(alloc, image, documents, files)?;
+    let (image, table) = start(alloc, &held)?;
+    Ok(session(alloc, image, table, r, w)?)
+}
+
+/// What the files of the image and of the documents hold.
+fn read_documents<F: Files>(
+    alloc: Global,
+    image: &str,
+    documents: &DocumentNames,
+    files: &mut F,
+) -> Result<HeldFiles, FileError>
+    ensures held { HoldsFiles (F.known files.old) image.now (files_view documents.now) (held_of result) }
+    ensures known { F.known files.new ≡ F.known files.old }
+{
+    read_files(
+        alloc,
+        image,
+        documents.review.as_deref(),
+        &documents.namespace,
+        &documents.params,
+        files,
+    )
+}
+
+/// The image in its file, and the roots of the documents in theirs.
+fn start(alloc: Global, held: &HeldFiles) -> Result<(Image, Table), Refusal>
+    ensures { Starts (λ p. start_state p.0 (record { values = ⟦<Table as ValueStore>⟧.values p.1; charge = ⟦<Table as ValueStore>⟧.charge p.1 })) (Ok (held_view held.now)) result }
+{
+    let image = Image::read(alloc, &held.subject)?;
+    let table = roots(
+        alloc,
+        held.review.as_deref(),
+        held.namespace.as_deref(),
+        held.params.as_deref(),
+    )?;
+    Ok((image, table))
+}

@@ -1,0 +1,183 @@
+//! Policies that are compiled once and decide many reviews.
+ghost use Rattle.std.specs.Prelude.{◌≡◌, ℕ, List, option_map, IfOk, string_bytes};
+ghost use Rattle.serde_json.specs.View.{view};
+ghost use Rattle.bpf_machine.specs.State.{start_state};
+ghost use Rattle.bpf_machine.specs.Starts.{StartsAreTables};
+ghost use Rattle.bpf_machine.specs.States.{StatesAreKept};
+ghost use Rattle.bpf_machine.specs.Trace.{state_after};
+ghost use Rattle.value_store.specs.Laws.{StartIsCanonical};
+ghost use Rattle.policy_glue.specs.OneImage.{OneImage};
+ghost use Rattle.review_runner.specs.Deciding.{answer_view, CompilesDocument, IsPolicyOf, Reviews};
+ghost use Rattle.review_runner.specs.Reviews.{uid_of};
+ghost use Rattle.review_runner.specs.Saying.{said_value, said_view, IsSaidBy, Says, SaysFrom};
+ghost use Rattle.review_runner.specs.Standing.{this, StandsBy};
+
+use crate::refusals::policy_refusal::PolicyRefusal;
+use crate::refusals::run_error::RunError;
+use crate::reviews::compiled_policy::compiled;
+use crate::reviews::reply::Reply;
+use crate::reviews::root_values::root_documents;
+use crate::reviews::said::Said;
+use bpf_machine::laws::{starts_are_tables, states_are_kept};
+use bpf_machine::{Machine, Program, Status};
+use guest_memory::Guest;
+use policy_glue::{Policy, Verdict, objection_of};
+use serde_json::Value;
+use std::alloc::{AllocError, Global};
+use std::marker::Model;
+use value_store::ValueStore;
+use value_store::laws::values_are_as_said;
+use value_table::Table;
+
+/// A policy that is compiled and decoded once and decides any number of reviews. No decision changes
+/// it, nor one that fails for want of memory.
+#[derive(Drop)]
+pub struct Gate {
+    alloc: Global,
+    policy: Policy,
+    program: Program,
+}
+
+impl Model for Gate {
+    ghost use Rattle.review_runner.specs.declared.reviews.compiled_policy.CompiledPolicy.{CompiledPolicy};
+
+    ghost Value = { CompiledPolicy };
+
+    ghost view = { λ g. record { policy = g.policy; image = g.program } };
+}
+
+impl Gate {
+    /// The gate of the policy (ValidatingAdmissionPolicy, `admissionregistration.k8s.io/v1`) in a
+    /// document.
+    ///
+    /// # Errors
+    ///
+    /// Why the policy gives no image. `Memory` where memory runs out, which says nothing of the policy.
+    pub fn new(alloc: Global, policy: &[u8]) -> Result<Gate, PolicyRefusal>
+        ensures compiles { CompilesDocument policy.now result }
+        // Which image it has, of those that decide as the policy does.
+        ensures one { IfOk result (λ g. OneImage g.policy g.image) }
+    {
+        let compiled = compiled(alloc, policy)?;
+        let program = Program::new(alloc, compiled.image)?;
+        Ok(Gate {
+            alloc,
+            policy: compiled.policy,
+            program,
+        })
+    }
+
+    /// The response to a review (AdmissionReview, `admission.k8s.io/v1`) under the policy, whose program
+    /// may take at most `n` steps. Roots whose documents are not given are null.
+    ///
+    /// # Errors
+    ///
+    /// The first refusal: of the documents `N2` and `N3` as `roots` has them; `N4` exactly where the
+    /// program still runs after `n` steps, `N5` exactly where it was stopped before. `Memory` where
+    /// memory runs out, which says nothing of the rest.
+    pub fn decide(
+        &self,
+        review: &[u8],
+        namespace: Option<&[u8]>,
+        params: Option<&[u8]>,
+        n: u64,
+    ) -> Result<Reply, RunError>
+        // It answers as `review` does under each policy document that gives this gate.
+        ensures reviews { (policy : List ℕ) → IsPolicyOf policy self.now → Reviews (record { policy = policy; review = review.now; namespace = option_map (λ b. b.now) namespace.entry; params = option_map (λ b. b.now) params.entry }) n (answer_view result) }
+        // And its image stands as the answer says.
+        ensures runs { (policy : List ℕ) → IsPolicyOf policy self.now → StandsBy (this self.now.image) (record { policy = policy; review = review.now; namespace = option_map (λ b. b.now) namespace.entry; params = option_map (λ b. b.now) params.entry }) n (answer_view result) }
+    {
+        let said = self.say(review, namespace, params, n)?;
+        Ok(said.reply(self.alloc)?)
+    }
+
+    /// What the policy says of a review, in the terms of `decide`.
+    ///
+    /// # Errors
+    ///
+    /// The first refusal, as `decide` has them.
+    pub fn say(
+        &self,
+        review: &[u8],
+        namespace: Option<&[u8]>,
+        params: Option<&[u8]>,
+        n: u64,
+    ) -> Result<Said, RunError>
+        ensures says { (policy : List ℕ) → IsPolicyOf policy self.now → Says (record { policy = policy; review = review.now; namespace = option_map (λ b. b.now) namespace.entry; params = option_map (λ b. b.now) params.entry }) n (said_view result) }
+        ensures runs { (policy : List ℕ) → IsPolicyOf policy self.now → StandsBy (this self.now.image) (record { policy = policy; review = review.now; namespace = option_map (λ b. b.now) namespace.entry; params = option_map (λ b. b.now) params.entry }) n (said_view result) }
+    {
+        starts_stand();
+        let documents = root_documents(self.alloc, Some(review), namespace, params)?;
+        // The table takes the documents, and what it refuses counts before want of memory for the uid.
+        let uid = String::from_str(self.alloc, uid_of(&documents[4]));
+        let table = Table::of_documents(self.alloc, documents)?;
+        let uid = uid?;
+        let machine = ran(self.alloc, &self.program, table, n)?;
+        said(self.alloc, &self.policy, &machine, uid)
+    }
+}
+
+/// What is known of every start on roots, and of every state behind it.
+fn starts_stand()
+    ensures tables { StartsAreTables }
+    ensures canonical { StartIsCanonical }
+    ensures states { StatesAreKept }
+{
+    starts_are_tables();
+    values_are_as_said();
+    states_are_kept();
+}
+
+/// The machine where a run of at most `n` steps stands.
+fn ran(
+    alloc: Global,
+    program: &Program,
+    table: Table,
+    n: u64,
+) -> Result<Machine<Table, Guest>, AllocError>
+    ensures { IfOk result (λ m. m ≡ state_after n (start_state program.now (record { values = ⟦<Table as ValueStore>⟧.values table; charge = ⟦<Table as ValueStore>⟧.charge table }))) }
+{
+    let mut machine = Machine::<Table, Guest>::of_program(alloc, program.copy()?, table)?;
+    machine.run(n)?;
+    Ok(machine)
+}
+
+/// The uid of a request, which has one.
+fn uid_of(request: &Value) -> &str
+    ensures { result.now ≡ uid_of (view request.now) }
+{
+    match request.get("uid") {
+        Some(Value::String(uid)) => uid.as_str(),
+        _ => "",
+    }
+}
+
+/// What is said to the request with this uid, by the state in which the policy's program stands.
+fn said(
+    alloc: Global,
+    policy: &Policy,
+    machine: &Machine<Table, Guest>,
+    uid: String,
+) -> Result<Said, RunError>
+    ensures { SaysFrom policy.now machine.now (string_bytes uid) (said_view result) }
+{
+    match machine.status() {
+        Status::Exited(_) => Ok(said_by(alloc, policy, machine, uid)?),
+        Status::Fault(_) => Err(RunError::N5),
+        Status::Running => Err(RunError::N4),
+    }
+}
+
+/// What is said by the verdict that the policy's program has left.
+fn said_by(
+    alloc: Global,
+    policy: &Policy,
+    machine: &Machine<Table, Guest>,
+    uid: String,
+) -> Result<Said, AllocError>
+    ensures { IfOk result (λ x. IsSaidBy policy.now machine.now (string_bytes uid) (said_value x)) }
+{
+    let verdict = Verdict::of(machine.memory(), machine.values(), policy);
+    let objection = objection_of(alloc, policy, &verdict)?;
+    Ok(Said { objection, uid })
+}

@@ -1,0 +1,35 @@
+//! Reviews under policies.
+ghost use Rattle.std.specs.Prelude.{option_map};
+ghost use Rattle.policy_glue.specs.OneImage.{OneImage};
+ghost use Rattle.review_runner.specs.Deciding.{answer_view, Reviews};
+ghost use Rattle.review_runner.specs.Standing.{StandsBy};
+
+use crate::refusals::run_error::RunError;
+use crate::reviews::gate::Gate;
+use crate::reviews::reply::Reply;
+use std::alloc::Global;
+
+/// The response to a review (AdmissionReview, `admission.k8s.io/v1`) under a policy
+/// (ValidatingAdmissionPolicy, `admissionregistration.k8s.io/v1`), whose program may take at most `n`
+/// steps. Roots whose documents are not given are null.
+///
+/// # Errors
+///
+/// The first refusal: `N1` of the policy; of the documents `N2` and `N3` as `roots` has them; `N4`
+/// exactly where the program still runs after `n` steps, `N5` exactly where it was stopped before.
+/// `Memory` where memory runs out, which says nothing of the rest.
+pub fn review(
+    alloc: Global,
+    policy: &[u8],
+    review: &[u8],
+    namespace: Option<&[u8]>,
+    params: Option<&[u8]>,
+    n: u64,
+) -> Result<Reply, RunError>
+    ensures reviews { Reviews (record { policy = policy.now; review = review.now; namespace = option_map (λ b. b.now) namespace.entry; params = option_map (λ b. b.now) params.entry }) n (answer_view result) }
+    // And the policy's one image stands as the answer says.
+    ensures runs { StandsBy OneImage (record { policy = policy.now; review = review.now; namespace = option_map (λ b. b.now) namespace.entry; params = option_map (λ b. b.now) params.entry }) n (answer_view result) }
+{
+    let gate = Gate::new(alloc, policy)?;
+    gate.decide(review, namespace, params, n)
+}
