@@ -16,14 +16,8 @@ pub record ListHere (o : Option ValueOrError) (n : ℕ) : Type 0 where
   pub count : n ≡ length (list_of items)
 
 list_here : (o : Option ValueOrError) (n : ℕ) → Some (sees_list n) ≡ option_map seen o → ListHere o n
-list_here None n e = absurd (cc)
-list_here (Some error) n e = absurd (cc)
-list_here (Some (value kind.null)) n e = absurd (cc)
-list_here (Some (value (kind.boolean b))) n e = absurd (cc)
-list_here (Some (value (kind.int m))) n e = absurd (cc)
-list_here (Some (value (kind.text s))) n e = absurd (cc)
 list_here (Some (value (kind.list is))) n e = record { items = is; is = refl; count = cc }
-list_here (Some (value (kind.map es))) n e = absurd (cc)
+list_here _ n e = absurd (cc)
 
 pub record MapHere (o : Option ValueOrError) (n : ℕ) : Type 0 where
   pub entries : Entries
@@ -31,56 +25,32 @@ pub record MapHere (o : Option ValueOrError) (n : ℕ) : Type 0 where
   pub count : n ≡ length (keys_of entries)
 
 map_here : (o : Option ValueOrError) (n : ℕ) → Some (sees_map n) ≡ option_map seen o → MapHere o n
-map_here None n e = absurd (cc)
-map_here (Some error) n e = absurd (cc)
-map_here (Some (value kind.null)) n e = absurd (cc)
-map_here (Some (value (kind.boolean b))) n e = absurd (cc)
-map_here (Some (value (kind.int m))) n e = absurd (cc)
-map_here (Some (value (kind.text s))) n e = absurd (cc)
-map_here (Some (value (kind.list is))) n e = absurd (cc)
 map_here (Some (value (kind.map es))) n e = record { entries = es; is = refl; count = cc }
+map_here _ n e = absurd (cc)
 
 pub record IntHere (o : Option ValueOrError) : Type 0 where
   pub number : ℤ
   pub is : o ≡ Some (value (kind.int number))
 
 int_here : (o : Option ValueOrError) (z : ℤ) → Some (sees_int z) ≡ option_map seen o → IntHere o
-int_here None z e = absurd (cc)
-int_here (Some error) z e = absurd (cc)
-int_here (Some (value kind.null)) z e = absurd (cc)
-int_here (Some (value (kind.boolean b))) z e = absurd (cc)
 int_here (Some (value (kind.int m))) z e = record { number = m; is = refl }
-int_here (Some (value (kind.text s))) z e = absurd (cc)
-int_here (Some (value (kind.list is))) z e = absurd (cc)
-int_here (Some (value (kind.map es))) z e = absurd (cc)
+int_here _ z e = absurd (cc)
 
 pub record TextHere (o : Option ValueOrError) : Type 0 where
   pub bytes : List ℕ
   pub is : o ≡ Some (value (kind.text bytes))
 
 text_here : (o : Option ValueOrError) (s : List ℕ) → Some (sees_text s) ≡ option_map seen o → TextHere o
-text_here None s e = absurd (cc)
-text_here (Some error) s e = absurd (cc)
-text_here (Some (value kind.null)) s e = absurd (cc)
-text_here (Some (value (kind.boolean b))) s e = absurd (cc)
-text_here (Some (value (kind.int m))) s e = absurd (cc)
 text_here (Some (value (kind.text t))) s e = record { bytes = t; is = refl }
-text_here (Some (value (kind.list is))) s e = absurd (cc)
-text_here (Some (value (kind.map es))) s e = absurd (cc)
+text_here _ s e = absurd (cc)
 
 pub record BoolHere (o : Option ValueOrError) : Type 0 where
   pub truth : Bool
   pub is : o ≡ Some (value (kind.boolean truth))
 
 bool_here : (o : Option ValueOrError) (b : Bool) → Some (sees_bool b) ≡ option_map seen o → BoolHere o
-bool_here None b e = absurd (cc)
-bool_here (Some error) b e = absurd (cc)
-bool_here (Some (value kind.null)) b e = absurd (cc)
 bool_here (Some (value (kind.boolean c))) b e = record { truth = c; is = refl }
-bool_here (Some (value (kind.int m))) b e = absurd (cc)
-bool_here (Some (value (kind.text s))) b e = absurd (cc)
-bool_here (Some (value (kind.list is))) b e = absurd (cc)
-bool_here (Some (value (kind.map es))) b e = absurd (cc)
+bool_here _ b e = absurd (cc)
 
 some_within : {A : Type 0} (xs : List A) (i : ℕ) → i < length xs → IsSome (slice_get xs i)
 some_within [] i e = absurd (omega arith)

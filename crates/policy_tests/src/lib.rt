@@ -2,14 +2,4 @@
 #![tactic(auto)]
 
 #[cfg(test)]
-mod code_tests;
-#[cfg(test)]
-mod compile_tests;
-#[cfg(test)]
-mod document_tests;
-#[cfg(test)]
-mod error_tests;
-#[cfg(test)]
-mod policy_texts;
-#[cfg(test)]
-mod verdict_tests;
+mod tests;

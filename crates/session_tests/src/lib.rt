@@ -2,14 +2,4 @@
 #![tactic(auto)]
 
 #[cfg(test)]
-mod doubles;
-#[cfg(test)]
-mod error_tests;
-#[cfg(test)]
-mod history_tests;
-#[cfg(test)]
-mod session_tests;
-#[cfg(test)]
-mod stream_tests;
-#[cfg(test)]
-mod verdict_tests;
+mod tests;

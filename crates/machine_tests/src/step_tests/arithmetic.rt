@@ -33,239 +33,115 @@ fn wrong_row(alloc: Global, rows: &[Row]) -> Result<Option<usize>, Fail> {
     Ok(None)
 }
 
-/// Add, sub, mul, div, sdiv, or, and, lsh, rsh, mod, smod, xor, mov, arsh.
-const IMMEDIATES_OF_64: [Row; 14] = [
+/// Add, sub, mul, div, sdiv, or, and, lsh, rsh, mod, smod, xor, mov, arsh: the opcode of 64 bits with an
+/// immediate, the offset and the immediate, R1 and R2, and what R1 becomes by the immediate and by R2, of
+/// 64 bits and of the low halves.
+const OPERATIONS: [((u8, u8, i32), (u64, u64), [u64; 2], [u64; 2]); 14] = [
     (
-        0xffff_ffff_ffff_fff0,
-        0,
-        0x0701_0000_ffff_ffff,
-        0xffff_ffff_ffff_ffef,
-    ),
-    (5, 0, 0x1701_0000_0700_0000, 0xffff_ffff_ffff_fffe),
-    (
-        0x1_0000_0003,
-        0,
-        0x2701_0000_feff_ffff,
-        0xffff_fffd_ffff_fffa,
+        (0x07, 0, -1),
+        (0xffff_ffff_ffff_fff0, 0x20),
+        [0xffff_ffff_ffff_ffef, 0x10],
+        [0xffff_ffef, 0x10],
     ),
     (
-        0x8000_0000_0000_0009,
-        0,
-        0x3701_0000_0200_0000,
-        0x4000_0000_0000_0004,
+        (0x17, 0, 7),
+        (5, 0x1_0000_0007),
+        [0xffff_ffff_ffff_fffe, 0xffff_fffe_ffff_fffe],
+        [0xffff_fffe, 0xffff_fffe],
     ),
     (
-        0xffff_fff2_ffff_fff3,
-        0,
-        0x3701_0100_fcff_ffff,
-        0x3_4000_0003,
+        (0x27, 0, -2),
+        (0x1_0000_0003, 0x8000_0001_0000_0002),
+        [0xffff_fffd_ffff_fffa, 0x8000_0005_0000_0006],
+        [0xffff_fffa, 6],
     ),
     (
-        0xf00_0000_0000_000f,
-        0,
-        0x4701_0000_00ff_ffff,
-        0xffff_ffff_ffff_ff0f,
+        (0x37, 0, 2),
+        (0x8000_0000_0000_0009, 0x1_0000_0002),
+        [0x4000_0000_0000_0004, 0x7fff_ffff],
+        [4, 4],
     ),
     (
-        0xff00_ff00_ff00_ff00,
-        0,
-        0x5701_0000_00f0_ffff,
-        0xff00_ff00_ff00_f000,
-    ),
-    (0x1_8000_0001, 0, 0x6701_0000_0400_0000, 0x18_0000_0010),
-    (0x8000_0001_8000_0000, 0, 0x7701_0000_2400_0000, 0x800_0000),
-    (0x1_0000_000d, 0, 0x9701_0000_0400_0000, 1),
-    (
-        0xffff_ffff_ffff_fff3,
-        0,
-        0x9701_0100_0300_0000,
-        0xffff_ffff_ffff_ffff,
+        (0x37, 1, -4),
+        (0xffff_fff2_ffff_fff3, 3),
+        [0x3_4000_0003, 0xffff_fffb_aaaa_aaa7],
+        [3, 0xffff_fffc],
     ),
     (
-        0xaaaa_aaaa_aaaa_aaaa,
-        0,
-        0xa701_0000_ffff_ffff,
-        0x5555_5555_5555_5555,
+        (0x47, 0, -256),
+        (0xf00_0000_0000_000f, 0x10_0000_00f0),
+        [0xffff_ffff_ffff_ff0f, 0xf00_0010_0000_00ff],
+        [0xffff_ff0f, 0xff],
     ),
-    (7, 0, 0xb701_0000_feff_ffff, 0xffff_ffff_ffff_fffe),
     (
-        0x8000_0000_8000_0000,
-        0,
-        0xc701_0000_0400_0000,
-        0xf800_0000_0800_0000,
+        (0x57, 0, -4096),
+        (0xff00_ff00_ff00_ff00, 0xff0_0ff0_0ff0_0ff0),
+        [0xff00_ff00_ff00_f000, 0xf00_0f00_0f00_0f00],
+        [0xff00_f000, 0xf00_0f00],
+    ),
+    (
+        (0x67, 0, 4),
+        (0x1_8000_0001, 0x21),
+        [0x18_0000_0010, 0x2_0000_0000],
+        [0x10, 2],
+    ),
+    (
+        (0x77, 0, 36),
+        (0x8000_0001_8000_0000, 0x21),
+        [0x800_0000, 0x4000_0000],
+        [0x800_0000, 0x4000_0000],
+    ),
+    ((0x97, 0, 4), (0x1_0000_000d, 0x1_0000_0005), [1, 8], [1, 3]),
+    (
+        (0x97, 1, 3),
+        (0xffff_ffff_ffff_fff3, 0x1_0000_0005),
+        [0xffff_ffff_ffff_ffff, 0xffff_ffff_ffff_fff3],
+        [0xffff_ffff, 0xffff_fffd],
+    ),
+    (
+        (0xa7, 0, -1),
+        (0xaaaa_aaaa_aaaa_aaaa, 0xffff_0000_ffff_0000),
+        [0x5555_5555_5555_5555, 0x5555_aaaa_5555_aaaa],
+        [0x5555_5555, 0x5555_aaaa],
+    ),
+    (
+        (0xb7, 0, -2),
+        (7, 0x1234_5678_9abc_def0),
+        [0xffff_ffff_ffff_fffe, 0x1234_5678_9abc_def0],
+        [0xffff_fffe, 0x9abc_def0],
+    ),
+    (
+        (0xc7, 0, 4),
+        (0x8000_0000_8000_0000, 0x23),
+        [0xf800_0000_0800_0000, 0xffff_ffff_f000_0000],
+        [0xf800_0000, 0xf000_0000],
     ),
 ];
 
-#[test]
-fn on_64_bits_with_an_immediate(rt: HostRuntime) -> Result<(), Fail> {
-    assert_eq!(rt; wrong_row(rt.alloc(), &IMMEDIATES_OF_64)?, None);
-    Ok(())
+/// The slots of an operation by an immediate and by R2, of 64 bits and of 32.
+fn slots(opcode: u8, offset: u8, imm: i32) -> [u64; 4] {
+    let [a, b, c, d] = imm.to_le_bytes();
+    let [whole, half] = [opcode, opcode ^ 3];
+    [
+        u64::from_be_bytes([whole, 0x01, offset, 0, a, b, c, d]),
+        u64::from_be_bytes([whole | 8, 0x21, offset, 0, 0, 0, 0, 0]),
+        u64::from_be_bytes([half, 0x01, offset, 0, a, b, c, d]),
+        u64::from_be_bytes([half | 8, 0x21, offset, 0, 0, 0, 0, 0]),
+    ]
 }
 
-/// The same operations with R2, which stands beside R1.
-const REGISTERS_OF_64: [Row; 14] = [
-    (0xffff_ffff_ffff_fff0, 0x20, 0x0f21_0000_0000_0000, 0x10),
-    (
-        5,
-        0x1_0000_0007,
-        0x1f21_0000_0000_0000,
-        0xffff_fffe_ffff_fffe,
-    ),
-    (
-        0x1_0000_0003,
-        0x8000_0001_0000_0002,
-        0x2f21_0000_0000_0000,
-        0x8000_0005_0000_0006,
-    ),
-    (
-        0x8000_0000_0000_0009,
-        0x1_0000_0002,
-        0x3f21_0000_0000_0000,
-        0x7fff_ffff,
-    ),
-    (
-        0xffff_fff2_ffff_fff3,
-        3,
-        0x3f21_0100_0000_0000,
-        0xffff_fffb_aaaa_aaa7,
-    ),
-    (
-        0xf00_0000_0000_000f,
-        0x10_0000_00f0,
-        0x4f21_0000_0000_0000,
-        0xf00_0010_0000_00ff,
-    ),
-    (
-        0xff00_ff00_ff00_ff00,
-        0xff0_0ff0_0ff0_0ff0,
-        0x5f21_0000_0000_0000,
-        0xf00_0f00_0f00_0f00,
-    ),
-    (0x1_8000_0001, 0x21, 0x6f21_0000_0000_0000, 0x2_0000_0000),
-    (
-        0x8000_0001_8000_0000,
-        0x21,
-        0x7f21_0000_0000_0000,
-        0x4000_0000,
-    ),
-    (0x1_0000_000d, 0x1_0000_0005, 0x9f21_0000_0000_0000, 8),
-    (
-        0xffff_ffff_ffff_fff3,
-        0x1_0000_0005,
-        0x9f21_0100_0000_0000,
-        0xffff_ffff_ffff_fff3,
-    ),
-    (
-        0xaaaa_aaaa_aaaa_aaaa,
-        0xffff_0000_ffff_0000,
-        0xaf21_0000_0000_0000,
-        0x5555_aaaa_5555_aaaa,
-    ),
-    (
-        7,
-        0x1234_5678_9abc_def0,
-        0xbf21_0000_0000_0000,
-        0x1234_5678_9abc_def0,
-    ),
-    (
-        0x8000_0000_8000_0000,
-        0x23,
-        0xcf21_0000_0000_0000,
-        0xffff_ffff_f000_0000,
-    ),
-];
-
 #[test]
-fn on_64_bits_with_a_register(rt: HostRuntime) -> Result<(), Fail> {
-    assert_eq!(rt; wrong_row(rt.alloc(), &REGISTERS_OF_64)?, None);
-    Ok(())
-}
-
-/// The same operations on the low halves.
-const IMMEDIATES_OF_32: [Row; 14] = [
-    (0xffff_ffff_ffff_fff0, 0, 0x0401_0000_ffff_ffff, 0xffff_ffef),
-    (5, 0, 0x1401_0000_0700_0000, 0xffff_fffe),
-    (0x1_0000_0003, 0, 0x2401_0000_feff_ffff, 0xffff_fffa),
-    (0x8000_0000_0000_0009, 0, 0x3401_0000_0200_0000, 4),
-    (0xffff_fff2_ffff_fff3, 0, 0x3401_0100_fcff_ffff, 3),
-    (0xf00_0000_0000_000f, 0, 0x4401_0000_00ff_ffff, 0xffff_ff0f),
-    (0xff00_ff00_ff00_ff00, 0, 0x5401_0000_00f0_ffff, 0xff00_f000),
-    (0x1_8000_0001, 0, 0x6401_0000_0400_0000, 0x10),
-    (0x8000_0001_8000_0000, 0, 0x7401_0000_2400_0000, 0x800_0000),
-    (0x1_0000_000d, 0, 0x9401_0000_0400_0000, 1),
-    (0xffff_ffff_ffff_fff3, 0, 0x9401_0100_0300_0000, 0xffff_ffff),
-    (0xaaaa_aaaa_aaaa_aaaa, 0, 0xa401_0000_ffff_ffff, 0x5555_5555),
-    (7, 0, 0xb401_0000_feff_ffff, 0xffff_fffe),
-    (0x8000_0000_8000_0000, 0, 0xc401_0000_0400_0000, 0xf800_0000),
-];
-
-#[test]
-fn on_32_bits_with_an_immediate(rt: HostRuntime) -> Result<(), Fail> {
-    assert_eq!(rt; wrong_row(rt.alloc(), &IMMEDIATES_OF_32)?, None);
-    Ok(())
-}
-
-/// The same operations on the low halves of R1 and R2.
-const REGISTERS_OF_32: [Row; 14] = [
-    (0xffff_ffff_ffff_fff0, 0x20, 0x0c21_0000_0000_0000, 0x10),
-    (5, 0x1_0000_0007, 0x1c21_0000_0000_0000, 0xffff_fffe),
-    (
-        0x1_0000_0003,
-        0x8000_0001_0000_0002,
-        0x2c21_0000_0000_0000,
-        6,
-    ),
-    (
-        0x8000_0000_0000_0009,
-        0x1_0000_0002,
-        0x3c21_0000_0000_0000,
-        4,
-    ),
-    (0xffff_fff2_ffff_fff3, 3, 0x3c21_0100_0000_0000, 0xffff_fffc),
-    (
-        0xf00_0000_0000_000f,
-        0x10_0000_00f0,
-        0x4c21_0000_0000_0000,
-        0xff,
-    ),
-    (
-        0xff00_ff00_ff00_ff00,
-        0xff0_0ff0_0ff0_0ff0,
-        0x5c21_0000_0000_0000,
-        0xf00_0f00,
-    ),
-    (0x1_8000_0001, 0x21, 0x6c21_0000_0000_0000, 2),
-    (
-        0x8000_0001_8000_0000,
-        0x21,
-        0x7c21_0000_0000_0000,
-        0x4000_0000,
-    ),
-    (0x1_0000_000d, 0x1_0000_0005, 0x9c21_0000_0000_0000, 3),
-    (
-        0xffff_ffff_ffff_fff3,
-        0x1_0000_0005,
-        0x9c21_0100_0000_0000,
-        0xffff_fffd,
-    ),
-    (
-        0xaaaa_aaaa_aaaa_aaaa,
-        0xffff_0000_ffff_0000,
-        0xac21_0000_0000_0000,
-        0x5555_aaaa,
-    ),
-    (7, 0x1234_5678_9abc_def0, 0xbc21_0000_0000_0000, 0x9abc_def0),
-    (
-        0x8000_0000_8000_0000,
-        0x23,
-        0xcc21_0000_0000_0000,
-        0xf000_0000,
-    ),
-];
-
-#[test]
-fn on_32_bits_with_a_register(rt: HostRuntime) -> Result<(), Fail> {
-    assert_eq!(rt; wrong_row(rt.alloc(), &REGISTERS_OF_32)?, None);
+fn operations(rt: HostRuntime) -> Result<(), Fail> {
+    for ((opcode, offset, imm), (dst, operand), [imm_64, reg_64], [imm_32, reg_32]) in OPERATIONS {
+        let [first, second, third, fourth] = slots(opcode, offset, imm);
+        let rows = [
+            (dst, operand, first, imm_64),
+            (dst, operand, second, reg_64),
+            (dst, operand, third, imm_32),
+            (dst, operand, fourth, reg_32),
+        ];
+        assert_eq!(rt; wrong_row(rt.alloc(), &rows)?, None, "{opcode}");
+    }
     Ok(())
 }
 

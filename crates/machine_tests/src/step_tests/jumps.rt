@@ -1,4 +1,5 @@
 use super::{EXIT, answer, answers, machine, run_answer, run_machine, wide};
+use Fault::{F1, F5, F7};
 use bpf_machine::Status;
 use guest_memory::Fault;
 use insn_codec::Register;
@@ -81,38 +82,20 @@ fn branches(rt: HostRuntime) -> Result<(), Fail> {
     Ok(())
 }
 
-/// An immediate of a comparison is extended by its sign: 64-bit `==` and `>` with -2.
-const NEGATIVE: [(u64, [u8; 8], bool); 5] = [
-    (
-        0xffff_ffff_ffff_fffe,
-        [0x15, 1, 1, 0, 0xfe, 0xff, 0xff, 0xff],
-        true,
-    ),
-    (
-        0x0000_0000_ffff_fffe,
-        [0x15, 1, 1, 0, 0xfe, 0xff, 0xff, 0xff],
-        false,
-    ),
-    (
-        0x0000_0001_ffff_fffe,
-        [0x16, 1, 1, 0, 0xfe, 0xff, 0xff, 0xff],
-        true,
-    ),
-    (
-        0x0000_0001_0000_0000,
-        [0x25, 1, 1, 0, 0xfe, 0xff, 0xff, 0xff],
-        false,
-    ),
-    (
-        0x0000_0001_0000_0000,
-        [0x65, 1, 1, 0, 0xfe, 0xff, 0xff, 0xff],
-        true,
-    ),
+/// Words, opcodes of `==` and `>` of 64 bits and of 32 with the immediate -2, which is extended by its
+/// sign, and whether they jump.
+const NEGATIVE: [(u64, u8, bool); 5] = [
+    (0xffff_ffff_ffff_fffe, 0x15, true),
+    (0x0000_0000_ffff_fffe, 0x15, false),
+    (0x0000_0001_ffff_fffe, 0x16, true),
+    (0x0000_0001_0000_0000, 0x25, false),
+    (0x0000_0001_0000_0000, 0x65, true),
 ];
 
 #[test]
 fn branches_on_a_negative_immediate(rt: HostRuntime) -> Result<(), Fail> {
-    for (row, (dst, jump, taken)) in NEGATIVE.into_iter().enumerate() {
+    for (row, (dst, opcode, taken)) in NEGATIVE.into_iter().enumerate() {
+        let jump = [opcode, 1, 1, 0, 0xfe, 0xff, 0xff, 0xff];
         let is_taken = is_taken(rt.alloc(), dst, 0, jump)?;
         assert!(rt; is_taken == taken, "row {row}");
     }
@@ -132,34 +115,22 @@ const JUMPS: [(&[u64], (u64, Status), (i64, usize)); 9] = [
         (2, 0),
     ),
     (&[0x0500_ffff_0000_0000], (9, Status::Running), (0, 0)),
-    (
-        &[0x0500_0500_0000_0000],
-        (2, Status::Fault(Fault::F1)),
-        (6, 0),
-    ),
-    (
-        &[0x0500_fdff_0000_0000],
-        (2, Status::Fault(Fault::F1)),
-        (-2, 0),
-    ),
+    (&[0x0500_0500_0000_0000], (2, Status::Fault(F1)), (6, 0)),
+    (&[0x0500_fdff_0000_0000], (2, Status::Fault(F1)), (-2, 0)),
     (
         &[0x0600_0000_ffff_ff7f],
-        (2, Status::Fault(Fault::F1)),
+        (2, Status::Fault(F1)),
         (0x8000_0000, 0),
     ),
     (
         &[0x8500_0000_1800_0000, EXIT],
-        (1, Status::Fault(Fault::F5)),
+        (1, Status::Fault(F5)),
         (0, 0),
     ),
-    (
-        &[0x8510_0000_ffff_ffff],
-        (8, Status::Fault(Fault::F7)),
-        (0, 7),
-    ),
+    (&[0x8510_0000_ffff_ffff], (8, Status::Fault(F7)), (0, 7)),
     (
         &[0x8510_0000_0000_0080],
-        (2, Status::Fault(Fault::F1)),
+        (2, Status::Fault(F1)),
         (-0x7fff_ffff, 1),
     ),
 ];

@@ -1,0 +1,79 @@
+//! Macros that are expanded, and why others are not, worked by hand.
+
+use super::cells;
+use MacroError::{M1, M2, M3};
+use cel_macros::{MacroError, expand};
+use cel_reader::read;
+use std::alloc::Global;
+use std::test::Fail;
+
+/// Texts, and why they are not expanded.
+const REFUSED: [(&str, Option<MacroError>); 22] = [
+    ("[1].all(x)", Some(M1)),
+    ("has()", Some(M1)),
+    ("[1].all(x, true, true)", Some(M1)),
+    ("[1].map(x)", Some(M1)),
+    ("[1].map(x, 1, 2, 3)", Some(M1)),
+    ("[1].all(1, true)", Some(M2)),
+    ("[1].all(object, true)", Some(M2)),
+    ("[1].exists(oldObject, true)", Some(M2)),
+    ("[1].exists_one(params, true)", Some(M2)),
+    ("[1].filter(namespaceObject, true)", Some(M2)),
+    ("[1].map(request, true)", Some(M2)),
+    ("[1].map(variables, true, 1)", Some(M2)),
+    ("has(object)", Some(M3)),
+    ("has(has())", Some(M3)),
+    ("has() + has(object)", Some(M1)),
+    ("{1: has()}", Some(M1)),
+    ("[1].all(x, has())", Some(M1)),
+    ("true ? 1 : [has(x)]", Some(M3)),
+    ("[1].all((x), true)", None),
+    ("has((object.x))", None),
+    ("all(1)", None),
+    ("f(1, x.g(2)[y])", None),
+];
+
+/// A row a line: a text, a broken bar and its expanded expression.
+const EXPANDED: &str = r#"variables.v¦Variable("v")
+(variables).v.x¦Select(Variable("v"), "x")
+variables['v']¦Index(Name("variables"), Literal(Text("v")))
+has(x.y)¦Has(Name("x"), "y")
+has(variables.y)¦Has(Name("variables"), "y")
+x.has(y)¦Method(Name("x"), "has", [Name("y")])
+size(x)¦Call("size", [Name("x")])
+x.all(i, true)¦Fold(All, "i", Name("x"), Literal(Bool(true)))
+x.exists_one(i, i)¦Fold(ExistsOne, "i", Name("x"), Name("i"))
+x.map(i, null)¦Fold(Map, "i", Name("x"), Literal(Null))
+x.map(i, i, 1)¦FoldMap("i", Name("x"), Name("i"), Literal(Int(1)))
+[x.filter(i, !i)]¦List([Fold(Filter, "i", Name("x"), Unary(Not, Name("i")))])
+{'a': x.exists(i, i)}¦Map([(Literal(Text("a")), Fold(Exists, "i", Name("x"), Name("i")))])"#;
+
+/// Why the text is not expanded.
+fn refusal(alloc: Global, text: &str) -> Result<Option<MacroError>, Fail> {
+    let tree = read(alloc, text)?;
+    Ok(expand(alloc, tree).err())
+}
+
+/// The expanded expression in words.
+fn spelled(alloc: Global, text: &str) -> Result<String, Fail> {
+    let tree = read(alloc, text)?;
+    let core = expand(alloc, tree)?;
+    Ok(format!(in alloc; "{core:?}")?)
+}
+
+#[test]
+fn refuses_macros(rt: HostRuntime) -> Result<(), Fail> {
+    for (text, cause) in &REFUSED {
+        assert_eq!(rt; refusal(rt.alloc(), text)?, *cause, "row {text}");
+    }
+    Ok(())
+}
+
+#[test]
+fn expands_macros(rt: HostRuntime) -> Result<(), Fail> {
+    for line in EXPANDED.lines() {
+        let (text, tree) = cells(line);
+        assert_eq!(rt; spelled(rt.alloc(), text)?.as_str(), tree, "row {text}");
+    }
+    Ok(())
+}

@@ -1,0 +1,148 @@
+//! Measures, worked by hand.
+
+use super::{core, repeated};
+use cel_measures::{depth, need, nodes};
+use cel_types::{CelType, Scope};
+use std::alloc::{AllocError, Global};
+use std::test::Fail;
+
+/// Texts, their nodes and their needs.
+const MEASURED: [(&str, u64, u64); 38] = [
+    ("1", 1, 1),
+    ("variables.v", 1, 1),
+    ("((object))", 1, 1),
+    ("object.spec.replicas", 3, 1),
+    ("has(object.x)", 2, 1),
+    ("object[1 + 1]", 5, 3),
+    ("-(1 + 1)", 4, 2),
+    ("!!true", 3, 1),
+    ("(1 + 1) + 1", 5, 2),
+    ("1 + (1 + 1)", 5, 3),
+    ("true ? 1 : 1 + 1", 6, 2),
+    ("1 + 1 == 2 ? 1 : 2", 8, 2),
+    ("size('a')", 2, 1),
+    ("size(1 + 1)", 4, 2),
+    ("'a'.size()", 2, 1),
+    ("'a'.contains('b')", 3, 2),
+    ("('a' + 'b').contains('c')", 5, 2),
+    ("'a'.contains('b' + 'c')", 5, 3),
+    ("[]", 1, 1),
+    ("[1, 1 + 1, 1]", 6, 3),
+    ("{}", 1, 1),
+    ("{'a': 1}", 3, 3),
+    ("{'a' + 'b': 1}", 5, 3),
+    ("{'a': 1 + 1, 'b': 1}", 7, 4),
+    ("[1].all(x, true)", 4, 6),
+    ("[1].map(x, x > 0, x)", 7, 7),
+    ("[1].map(x, true, x + 1)", 7, 7),
+    ("[1].map(x, x) == [1]", 7, 6),
+    ("[1] == [1].map(x, x)", 7, 7),
+    ("(1 + (1 + 1)).f", 6, 3),
+    ("has((1 + (1 + 1)).f)", 6, 3),
+    ("(1 + (1 + 1))[0]", 7, 3),
+    ("(1 + (1 + 1)).contains('c')", 7, 3),
+    ("true ? 1 + (1 + 1) : 1", 8, 3),
+    ("{1 + (1 + 1): 1}", 7, 4),
+    ("{'a': 1, 'b': 1 + 1}", 7, 4),
+    (
+        "(1 + (1 + (1 + (1 + (1 + (1 + (1 + 1))))))).all(x, true)",
+        17,
+        8,
+    ),
+    (
+        "(1 + (1 + (1 + (1 + (1 + (1 + (1 + 1))))))).map(x, true, x)",
+        18,
+        8,
+    ),
+];
+
+/// Texts, and the depth of a variable with this expression, where `v` has depth 1 and `w` has 3.
+const DEPTHS: [(&str, u64); 25] = [
+    ("1", 1),
+    ("object.v", 1),
+    ("variables.v", 2),
+    ("variables.w.f", 4),
+    ("variables.v + variables.w", 4),
+    ("variables.w + variables.v", 4),
+    ("variables.w ? 1 : variables.v", 4),
+    ("size(variables.v)", 2),
+    ("'a'.contains(variables.w)", 4),
+    ("[1, variables.v, variables.w]", 4),
+    ("{'a': variables.w, variables.v: 1}", 4),
+    ("[1].map(x, variables.v == x, variables.w)", 4),
+    ("has(variables.w.f)", 4),
+    ("!variables.w", 4),
+    ("object[variables.w]", 4),
+    ("variables.w['a']", 4),
+    ("variables.w.size()", 4),
+    ("true ? variables.w : variables.v", 4),
+    ("true ? variables.v : variables.w", 4),
+    ("{variables.w: variables.v}", 4),
+    ("{'a': 1, 'b': variables.w}", 4),
+    ("variables.w.all(x, variables.v)", 4),
+    ("[1].all(x, variables.w)", 4),
+    ("variables.w.map(x, true, 1)", 4),
+    ("[1].map(x, variables.w, 1)", 4),
+];
+
+/// The nodes and the need of the text's expression.
+fn measures(alloc: Global, text: &str) -> Option<(u64, u64)> {
+    let core = core(alloc, text)?;
+    Some((nodes(&core), need(&core)))
+}
+
+/// The scope of the rows.
+fn scope(alloc: Global) -> Result<Scope, AllocError> {
+    let mut scope = Scope::new(alloc);
+    scope.add("v", CelType::Bool, 1)?;
+    scope.add("w", CelType::Dyn, 3)?;
+    Ok(scope)
+}
+
+/// The depth of a variable with the text's expression.
+fn depth_of(alloc: Global, text: &str) -> Option<u64> {
+    let core = core(alloc, text)?;
+    let scope = scope(alloc).ok()?;
+    Some(depth(&core, &scope))
+}
+
+#[test]
+fn counts_nodes_and_words(rt: HostRuntime) {
+    for (text, nodes, need) in &MEASURED {
+        assert_eq!(rt;
+            measures(rt.alloc(), text),
+            Some((*nodes, *need)),
+            "row {text}"
+        );
+    }
+}
+
+#[test]
+fn measures_depths(rt: HostRuntime) {
+    for (text, depth) in &DEPTHS {
+        assert_eq!(rt; depth_of(rt.alloc(), text), Some(*depth), "row {text}");
+    }
+}
+
+/// The text of so many plus signs, nested to the right.
+fn sums(alloc: Global, signs: usize) -> Result<String, AllocError> {
+    let close = ")".repeat(alloc, signs)?;
+    let mut text = repeated(alloc, "1+(", signs, "1")?;
+    text.push_str(close.as_str())?;
+    text.push_str(" == 1")?;
+    Ok(text)
+}
+
+#[test]
+fn measures_sums_to_the_right(rt: HostRuntime) -> Result<(), Fail> {
+    let text = sums(rt.alloc(), 59)?;
+    assert_eq!(rt; measures(rt.alloc(), text.as_str()), Some((121, 60)));
+    Ok(())
+}
+
+#[test]
+fn measures_long_conjunctions(rt: HostRuntime) -> Result<(), Fail> {
+    let text = repeated(rt.alloc(), "true && ", 254, "true")?;
+    assert_eq!(rt; measures(rt.alloc(), text.as_str()), Some((509, 2)));
+    Ok(())
+}

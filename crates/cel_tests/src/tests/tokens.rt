@@ -1,0 +1,100 @@
+//! Tokens of texts, and why others have none, worked by hand.
+
+use super::repeated;
+use ReadError::{P1, P2, P3, P6};
+use cel_tokens::{ReadError, Token, tokens};
+use std::alloc::{AllocError, Global};
+use std::test::Fail;
+
+/// Texts, and their tokens: place, end and kind of each.
+const READ: [(&str, &str); 14] = [
+    ("--1", "0-1 Mark 1-3 Int(-1) "),
+    ("1-1", "0-1 Int(1) 1-2 Mark 2-3 Int(1) "),
+    ("object.metadata", "0-6 Name 6-7 Mark 7-15 Name "),
+    ("[,]", "0-1 Mark 1-2 Mark 2-3 Mark "),
+    ("R'\\d'", "0-5 Text(\"\\\\d\") "),
+    ("'\\X41'", "0-6 Text(\"A\") "),
+    ("'\u{e9}\\u00e9'", "0-10 Text(\"\u{e9}\u{e9}\") "),
+    ("\"\\377\"", "0-6 Text(\"\u{ff}\") "),
+    ("- // x\n 0x1F", "0-12 Int(-31) "),
+    ("0x", "0-1 Int(0) 1-2 Name "),
+    ("x in -1", "0-1 Name 2-4 Name 5-7 Int(-1) "),
+    (")-1", "0-1 Mark 1-2 Mark 2-3 Int(1) "),
+    ("-9223372036854775808", "0-20 Int(-9223372036854775808) "),
+    ("<=<", "0-2 Mark 2-3 Mark "),
+];
+
+/// Texts that have no tokens, and why.
+const REFUSED: [(&str, ReadError); 12] = [
+    ("a # b", P1(2)),
+    ("a | b", P1(2)),
+    ("\u{e9}", P1(0)),
+    ("'ab", P2(0)),
+    (" r'a", P2(1)),
+    ("'\\400'", P2(0)),
+    ("'\\ud800'", P2(0)),
+    ("1 '\\x4'", P2(2)),
+    ("'a\nb'", P2(0)),
+    ("-(9223372036854775808)", P3(2)),
+    ("9223372036854775808", P3(0)),
+    ("- 9223372036854775809", P3(2)),
+];
+
+/// The token in words.
+fn words(alloc: Global, token: &Token) -> Result<String, AllocError> {
+    format!(in alloc; "{}-{} {:?} ", token.place, token.end, token.kind)
+}
+
+/// The tokens in words.
+fn spelled(alloc: Global, tokens: &[Token]) -> Result<String, AllocError> {
+    let mut out = String::new(alloc);
+    for token in tokens {
+        out.push_str(words(alloc, token)?.as_str())?;
+    }
+    Ok(out)
+}
+
+/// Why the text has no tokens.
+fn refusal(alloc: Global, text: &str) -> Option<ReadError> {
+    tokens(alloc, text).err()
+}
+
+#[test]
+fn reads_texts(rt: HostRuntime) -> Result<(), Fail> {
+    for (text, words) in &READ {
+        let found = tokens(rt.alloc(), text)?;
+        let found = spelled(rt.alloc(), found.as_slice())?;
+        assert_eq!(rt; found.as_str(), *words, "row {text}");
+    }
+    Ok(())
+}
+
+#[test]
+fn refuses_texts(rt: HostRuntime) {
+    for (text, cause) in &REFUSED {
+        assert_eq!(rt; refusal(rt.alloc(), text), Some(*cause), "row {text}");
+    }
+}
+
+/// How often a text stands before another, and why both have no tokens.
+const LIMITS: [(&str, usize, &str, Option<ReadError>); 6] = [
+    ("(", 4_096, "", None),
+    ("(", 65_536, "", Some(P6(4_096))),
+    ("(", 4_096, " 'a", Some(P6(4_097))),
+    ("(", 4_096, " #", Some(P1(4_097))),
+    (" ", 65_536, "", None),
+    (" ", 65_537, "", Some(P6(65_536))),
+];
+
+#[test]
+fn keeps_the_limits(rt: HostRuntime) -> Result<(), Fail> {
+    for (unit, count, more, cause) in &LIMITS {
+        let text = repeated(rt.alloc(), unit, *count, more)?;
+        assert_eq!(rt;
+            refusal(rt.alloc(), text.as_str()),
+            *cause,
+            "row {count} {more}"
+        );
+    }
+    Ok(())
+}

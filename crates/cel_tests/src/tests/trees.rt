@@ -1,0 +1,145 @@
+//! Trees of texts, and why others have none, worked by hand.
+
+use super::{cells, repeated};
+use ReadError::{P1, P2, P3, P4, P5, P6};
+use cel_reader::{ReadError, read};
+use std::alloc::Global;
+use std::test::Fail;
+
+/// A row a line: a text, a broken bar and its tree.
+const TREES: &str = r#"--1¦Unary(Negate, Literal(Int(-1)))
+-9223372036854775808¦Literal(Int(-9223372036854775808))
+R'\d'¦Literal(Text("\\d"))
+'\X41'¦Literal(Text("A"))
+true¦Literal(Bool(true))
+false¦Literal(Bool(false))
+null¦Literal(Null)
+x // end¦Name("x")
+((x))¦Name("x")
+f()¦Call("f", [])
+f(1, x)¦Call("f", [Literal(Int(1)), Name("x")])
+object.metadata.namespace¦Select(Select(Name("object"), "metadata"), "namespace")
+a.m()¦Method(Name("a"), "m", [])
+a.if(b)[1]¦Index(Method(Name("a"), "if", [Name("b")]), Literal(Int(1)))
+[]¦List([])
+[,]¦List([])
+[1,]¦List([Literal(Int(1))])
+[1, [2]]¦List([Literal(Int(1)), List([Literal(Int(2))])])
+{}¦Map([])
+{,}¦Map([])
+{'a': 1, b: 2,}¦Map([(Literal(Text("a")), Literal(Int(1))), (Name("b"), Literal(Int(2)))])
+!!x¦Unary(Not, Unary(Not, Name("x")))
+1-1¦Binary(Subtract, Literal(Int(1)), Literal(Int(1)))
+1 < 2 < 3¦Binary(Less, Binary(Less, Literal(Int(1)), Literal(Int(2))), Literal(Int(3)))
+a - (b - c)¦Binary(Subtract, Name("a"), Binary(Subtract, Name("b"), Name("c")))
+a || b && c¦Binary(Or, Name("a"), Binary(And, Name("b"), Name("c")))
+a && b || c¦Binary(Or, Binary(And, Name("a"), Name("b")), Name("c"))
+a + b * c¦Binary(Add, Name("a"), Binary(Multiply, Name("b"), Name("c")))
+-a.b / c¦Binary(Divide, Unary(Negate, Select(Name("a"), "b")), Name("c"))
+a % b¦Binary(Remainder, Name("a"), Name("b"))
+a <= b + c¦Binary(LessEqual, Name("a"), Binary(Add, Name("b"), Name("c")))
+a > b¦Binary(Greater, Name("a"), Name("b"))
+a >= b¦Binary(GreaterEqual, Name("a"), Name("b"))
+a == b¦Binary(Equal, Name("a"), Name("b"))
+a != b¦Binary(NotEqual, Name("a"), Name("b"))
+a in b¦Binary(In, Name("a"), Name("b"))
+a ? b : c ? d : e¦Ternary(Name("a"), Name("b"), Ternary(Name("c"), Name("d"), Name("e")))
+(a ? b : c) ? d : e¦Ternary(Ternary(Name("a"), Name("b"), Name("c")), Name("d"), Name("e"))"#;
+
+/// Texts that are no expression, and why.
+const REFUSED: [(&str, ReadError); 36] = [
+    ("namespace", P4(0)),
+    ("f(1,)", P4(4)),
+    ("!-x", P4(1)),
+    ("-!x", P4(1)),
+    ("a.b.", P4(4)),
+    ("a.  ", P4(4)),
+    ("object.spec. <= 3", P4(13)),
+    ("a.in", P4(2)),
+    ("while(1)", P4(0)),
+    ("true(1)", P4(4)),
+    ("in", P4(0)),
+    ("", P4(0)),
+    ("  ", P4(2)),
+    ("1 2", P4(2)),
+    ("(1", P4(2)),
+    ("(1]", P4(2)),
+    ("a[1", P4(3)),
+    ("a[", P4(2)),
+    ("a[]", P4(2)),
+    ("f(,)", P4(2)),
+    ("f(1 2)", P4(4)),
+    ("[,1]", P4(2)),
+    ("[1,,]", P4(3)),
+    ("[1 2]", P4(3)),
+    ("{,1}", P4(2)),
+    ("{'a'}", P4(4)),
+    ("{'a': 1 2}", P4(8)),
+    ("a ? b", P4(5)),
+    ("a ? b ? c : d : e", P4(6)),
+    ("a ? b :", P4(7)),
+    ("-(9223372036854775808)", P3(2)),
+    ("9223372036854775808", P3(0)),
+    ("a # b", P1(2)),
+    ("'ab", P2(0)),
+    ("'\\400'", P2(0)),
+    ("'\\ud800'", P2(0)),
+];
+
+/// At the limits and beyond them: a unit, how often it stands, what follows it, and why the text is no expression.
+const LIMITS: [(&str, usize, &str, Option<ReadError>); 14] = [
+    ("(", 101, "", Some(P5(100))),
+    ("[", 101, "", Some(P5(100))),
+    ("{1:", 101, "", Some(P5(300))),
+    ("f(", 101, "", Some(P5(201))),
+    ("a.f(", 101, "", Some(P5(403))),
+    ("a[", 101, "", Some(P5(201))),
+    ("a?a:", 101, "a", Some(P5(401))),
+    ("a?a:", 100, "a", None),
+    ("[", 100, "", Some(P4(100))),
+    ("(", 100, "1(", Some(P4(101))),
+    ("(", 65_536, "", Some(P6(4_096))),
+    ("(", 4_096, "", Some(P5(100))),
+    ("!", 4_095, "true", None),
+    (" ", 65_537, "", Some(P6(65_536))),
+];
+
+/// The tree of the text in words.
+fn spelled(alloc: Global, text: &str) -> Result<String, Fail> {
+    let tree = read(alloc, text)?;
+    Ok(format!(in alloc; "{tree:?}")?)
+}
+
+#[test]
+fn reads_texts(rt: HostRuntime) -> Result<(), Fail> {
+    for line in TREES.lines() {
+        let (text, tree) = cells(line);
+        assert_eq!(rt; spelled(rt.alloc(), text)?.as_str(), tree, "row {text}");
+    }
+    Ok(())
+}
+
+/// Why the text is no expression.
+fn refusal(alloc: Global, text: &str) -> Option<ReadError> {
+    read(alloc, text).err()
+}
+
+#[test]
+fn refuses_texts(rt: HostRuntime) {
+    for (text, cause) in &REFUSED {
+        assert_eq!(rt; refusal(rt.alloc(), text), Some(*cause), "row {text}");
+    }
+}
+
+#[test]
+fn keeps_the_limits(rt: HostRuntime) -> Result<(), Fail> {
+    for (unit, count, more, cause) in &LIMITS {
+        let text = repeated(rt.alloc(), unit, *count, more)?;
+        assert_eq!(rt;
+            refusal(rt.alloc(), text.as_str()),
+            *cause,
+            "row {unit} {count}"
+        );
+    }
+    Ok(())
+}

@@ -1,0 +1,11 @@
+//! The tables, a file each.
+
+mod errors;
+mod images;
+mod instructions;
+mod lines;
+mod listings;
+mod memory;
+mod scans;
+mod sources;
+mod words;

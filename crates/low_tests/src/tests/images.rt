@@ -1,0 +1,185 @@
+//! Files and parts that were made by hand.
+
+use LoadError::{L1, L2, L3, L4, L5};
+use loader::{Image, LoadError};
+use std::alloc::{AllocError, Global};
+use std::test::Fail;
+
+/// A program of three slots, `r0 = 5`, `r0 += 2` and `exit`, without constants.
+const PROGRAM: &[u8] =
+    b"CELBPF01\x03\0\0\0\0\0\0\0\xb7\0\0\0\x05\0\0\0\x07\0\0\0\x02\0\0\0\x95\0\0\0\0\0\0\0";
+
+/// The same as an image of version 2.
+const SECOND: &[u8] =
+    b"CELBPF02\x03\0\0\0\0\0\0\0\xb7\0\0\0\x05\0\0\0\x07\0\0\0\x02\0\0\0\x95\0\0\0\0\0\0\0";
+
+/// Files that hold no image, and why.
+const REFUSED: [(&[u8], LoadError); 12] = [
+    (b"", L1),
+    (b"CELBPF01\x01\0\0\0\0\0\0", L1),
+    (b"CELBPF03\x01\0\0\0\0\0\0\0\x95\0\0\0\0\0\0\0", L2),
+    (b"CELBPF00\x01\0\0\0\0\0\0\0\x95\0\0\0\0\0\0\0", L2),
+    (b"CELBPF02\0\0\0\0\0\0\0\0", L3),
+    (b"CELBPF01\0\0\0\0\0\0\0\0", L3),
+    (b"CELBPF01\x01\0\x01\0\0\0\0\0", L3),
+    (b"CELBPF01\0\0\0\0\xff\xff\xff\xff", L3),
+    (b"CELBPF01\x01\0\0\0\x01\0\x10\0", L4),
+    (b"CELBPF01\x01\0\0\0\0\0\0\0\x95\0\0\0\0\0\0", L5),
+    (b"CELBPF01\x01\0\0\0\0\0\0\0\x95\0\0\0\0\0\0\0\0", L5),
+    (b"CELBPF01\x01\0\0\0\x01\0\0\0\x95\0\0\0\0\0\0\0", L5),
+];
+
+/// Why the file holds no image.
+fn refusal(alloc: Global, file: &[u8]) -> Option<LoadError> {
+    Image::read(alloc, file).err()
+}
+
+#[test]
+fn refuses_files(rt: HostRuntime) {
+    for (file, cause) in &REFUSED {
+        assert_eq!(rt; refusal(rt.alloc(), file), Some(*cause));
+    }
+}
+
+/// The image of `r0 = 5` and `exit`, and one byte more.
+const LONGER: &[u8] = b"CELBPF01\x02\0\0\0\0\0\0\0\xb7\0\0\0\x05\0\0\0\x95\0\0\0\0\0\0\0\0";
+
+/// From the first of two lengths to before the second, what the beginnings of that file are refused for.
+const BEGINNINGS: [(usize, usize, Option<LoadError>); 4] = [
+    (0, 16, Some(L1)),
+    (16, 32, Some(L5)),
+    (32, 33, None),
+    (33, 34, Some(L5)),
+];
+
+/// Whether the beginnings of these lengths are refused so.
+fn are_refused(alloc: Global, from: usize, to: usize, cause: Option<LoadError>) -> bool {
+    for length in from..to {
+        match LONGER.get(..length) {
+            Some(file) if refusal(alloc, file) == cause => {}
+            _ => return false,
+        }
+    }
+    true
+}
+
+#[test]
+fn refuses_beginnings(rt: HostRuntime) {
+    for (from, to, cause) in &BEGINNINGS {
+        assert!(rt; are_refused(rt.alloc(), *from, *to, *cause), "from {from}");
+    }
+}
+
+/// Whether the image has this version, these parts and this file.
+fn has_parts(
+    image: &Image,
+    version: u8,
+    code: &[u8],
+    constants: &[u8],
+    file: &[u8],
+) -> Result<bool, AllocError> {
+    let written = image.write()?;
+    let parts = image.code() == code && image.constants() == constants;
+    Ok(image.version() == version && parts && written.as_slice() == file)
+}
+
+/// The image of this version and these parts.
+fn made(alloc: Global, version: u8, code: &[u8], constants: &[u8]) -> Result<Image, LoadError> {
+    let code = Vec::from_slice(alloc, code)?;
+    let constants = Vec::from_slice(alloc, constants)?;
+    if version == 2 {
+        Image::new_2(code, constants)
+    } else {
+        Image::new(code, constants)
+    }
+}
+
+#[test]
+fn reads_and_writes_a_program(rt: HostRuntime) -> Result<(), Fail> {
+    for (version, file) in [(1, PROGRAM), (2, SECOND)] {
+        let image = Image::read(rt.alloc(), file)?;
+        assert!(rt;
+            has_parts(&image, version, &PROGRAM[16..], b"", file)?,
+            "version {version}"
+        );
+    }
+    Ok(())
+}
+
+/// Versions, and the file of an image of `exit` and three constants.
+const FILES: [(u8, &[u8]); 2] = [
+    (1, b"CELBPF01\x01\0\0\0\x03\0\0\0\x95\0\0\0\0\0\0\0abc"),
+    (2, b"CELBPF02\x01\0\0\0\x03\0\0\0\x95\0\0\0\0\0\0\0abc"),
+];
+
+/// Whether the image of `exit` and three constants has this file, and its copy too.
+fn are_made(alloc: Global, version: u8, file: &[u8]) -> Result<[bool; 2], Fail> {
+    let exit = &PROGRAM[32..];
+    let image = made(alloc, version, exit, b"abc")?;
+    let copy = image.copy()?;
+    Ok([
+        has_parts(&image, version, exit, b"abc", file)?,
+        has_parts(&copy, version, exit, b"abc", file)?,
+    ])
+}
+
+#[test]
+fn makes_images_of_parts(rt: HostRuntime) -> Result<(), Fail> {
+    for (version, file) in &FILES {
+        assert_eq!(rt;
+            are_made(rt.alloc(), *version, file)?,
+            [true, true],
+            "{version}"
+        );
+    }
+    Ok(())
+}
+
+/// So many zeros.
+fn zeros(alloc: Global, length: usize) -> Result<Vec<u8>, AllocError> {
+    Ok(vec![in alloc; 0; length]?)
+}
+
+/// Why zeros of these lengths are no parts of an image, of either version.
+fn refusals(
+    alloc: Global,
+    code_length: usize,
+    constants_length: usize,
+) -> Result<[Option<LoadError>; 2], AllocError> {
+    let first = Image::new(zeros(alloc, code_length)?, zeros(alloc, constants_length)?).err();
+    let second = Image::new_2(zeros(alloc, code_length)?, zeros(alloc, constants_length)?).err();
+    Ok([first, second])
+}
+
+/// Lengths of code and constants that are no parts, and why.
+const LENGTHS: [(usize, usize, LoadError); 5] = [
+    (12, 0, L5),
+    (524_292, 1_048_577, L5),
+    (0, 0, L3),
+    (524_296, 1_048_577, L3),
+    (524_288, 1_048_577, L4),
+];
+
+#[test]
+fn refuses_parts(rt: HostRuntime) -> Result<(), Fail> {
+    for (code_length, constants_length, cause) in &LENGTHS {
+        let found = refusals(rt.alloc(), *code_length, *constants_length)?;
+        assert_eq!(rt; found, [Some(*cause), Some(*cause)]);
+    }
+    Ok(())
+}
+
+/// The file of the longest parts.
+fn longest_file(alloc: Global) -> Result<Vec<u8>, LoadError> {
+    let image = Image::new(zeros(alloc, 524_288)?, zeros(alloc, 1_048_576)?)?;
+    Ok(image.write()?)
+}
+
+#[test]
+fn takes_the_longest_parts(rt: HostRuntime) -> Result<(), Fail> {
+    let file = longest_file(rt.alloc())?;
+    let image = Image::read(rt.alloc(), file.as_slice())?;
+    assert_eq!(rt; image.code().len(), 524_288);
+    assert_eq!(rt; image.constants().len(), 1_048_576);
+    Ok(())
+}

@@ -1,0 +1,146 @@
+//! Lines that were written by hand.
+use insn_codec::{
+    AluOp, AtomicOp, Comparison, Insn, Operand, Register, SignedSize, Size, Statement, Width,
+    no_line_feed, statement_is_spelled,
+};
+use std::alloc::{AllocError, Global};
+use std::test::Fail;
+
+/// Statements, how many slots each has, and its line.
+const LINES: [(Statement, u64, &str); 10] = [
+    (
+        Statement::Insn(Insn::Alu {
+            op: AluOp::Mov,
+            width: Width::W64,
+            dst: Register::R0,
+            operand: Operand::Imm(-2147483648),
+        }),
+        1,
+        "mov64 r0, -2147483648",
+    ),
+    (
+        Statement::Insn(Insn::Branch {
+            comparison: Comparison::Slt,
+            width: Width::W32,
+            dst: Register::R1,
+            operand: Operand::Reg(Register::R10),
+            offset: 0,
+        }),
+        1,
+        "jslt32 r1, r10, +0",
+    ),
+    (Statement::Insn(Insn::JumpLong { offset: -1 }), 1, "ja32 -1"),
+    (
+        Statement::Insn(Insn::LoadSigned {
+            size: SignedSize::H,
+            dst: Register::R3,
+            src: Register::R4,
+            offset: -32768,
+        }),
+        1,
+        "ldxsh r3, [r4-32768]",
+    ),
+    (
+        Statement::Insn(Insn::StoreImm {
+            size: Size::Dw,
+            dst: Register::R5,
+            offset: 32767,
+            imm: 0,
+        }),
+        1,
+        "stdw [r5+32767], 0",
+    ),
+    (
+        Statement::Insn(Insn::Atomic {
+            op: AtomicOp::FetchAdd,
+            width: Width::W64,
+            dst: Register::R10,
+            offset: -8,
+            src: Register::R1,
+        }),
+        1,
+        "atomic_fetch_add64 [r10-8], r1",
+    ),
+    (
+        Statement::Insn(Insn::Atomic {
+            op: AtomicOp::CompareExchange,
+            width: Width::W32,
+            dst: Register::R2,
+            offset: 0,
+            src: Register::R3,
+        }),
+        1,
+        "atomic_cmpxchg32 [r2+0], r3",
+    ),
+    (
+        Statement::Insn(Insn::LoadWide {
+            dst: Register::R1,
+            value: 0x9122_3344_5566_77af,
+        }),
+        2,
+        "lddw r1, 0x91223344556677af",
+    ),
+    (Statement::Slot(0), 1, ".slot 0x0000000000000000"),
+    (Statement::Slot(u64::MAX), 1, ".slot 0xffffffffffffffff"),
+];
+
+/// Each atomic operation and its word.
+const ATOMIC_WORDS: [(AtomicOp, &str); 10] = [
+    (AtomicOp::Add, "atomic_add"),
+    (AtomicOp::Or, "atomic_or"),
+    (AtomicOp::And, "atomic_and"),
+    (AtomicOp::Xor, "atomic_xor"),
+    (AtomicOp::FetchAdd, "atomic_fetch_add"),
+    (AtomicOp::FetchOr, "atomic_fetch_or"),
+    (AtomicOp::FetchAnd, "atomic_fetch_and"),
+    (AtomicOp::FetchXor, "atomic_fetch_xor"),
+    (AtomicOp::Exchange, "atomic_xchg"),
+    (AtomicOp::CompareExchange, "atomic_cmpxchg"),
+];
+
+/// The atomic instruction at `[r1+0]` with R2.
+fn atomic(op: AtomicOp, width: Width) -> Insn {
+    Insn::Atomic {
+        op,
+        width,
+        dst: Register::R1,
+        offset: 0,
+        src: Register::R2,
+    }
+}
+
+/// Whether the statement has this line.
+fn has_line(alloc: Global, statement: Statement, line: &str) -> Result<bool, AllocError> {
+    statement.in_range();
+    Ok(statement.to_string(alloc)?.as_str() == line)
+}
+
+/// Whether the atomic instruction begins with this word and these bits.
+fn is_line(alloc: Global, op: AtomicOp, width: Width, word: &str, bits: u8) -> Result<bool, Fail> {
+    let line = format!(in alloc; "{word}{bits} [r1+0], r2")?;
+    Ok(has_line(alloc, Statement::Insn(atomic(op, width)), line.as_str())?)
+}
+
+#[test]
+fn each_atomic_operation_has_its_lines(rt: HostRuntime) -> Result<(), Fail> {
+    for (op, word) in ATOMIC_WORDS {
+        assert!(rt; is_line(rt.alloc(), op, Width::W32, word, 32)?);
+        assert!(rt; is_line(rt.alloc(), op, Width::W64, word, 64)?);
+    }
+    Ok(())
+}
+
+#[test]
+fn each_statement_has_its_line(rt: HostRuntime) -> Result<(), Fail> {
+    for (statement, slots, line) in &LINES {
+        assert!(rt; has_line(rt.alloc(), *statement, line)?);
+        assert!(rt; statement.slots() == *slots);
+    }
+    Ok(())
+}
+
+#[test]
+fn laws_can_be_called(_rt: HostRuntime) {
+    no_line_feed();
+    statement_is_spelled();
+}

@@ -1,0 +1,153 @@
+//! Texts that are no program.
+use super::{around, refusal_of};
+use std::test::Fail;
+
+/// Lines of no form.
+const FORMLESS: [&str; 62] = [
+    ":",
+    "9a:",
+    "a b:",
+    "a-b:",
+    " a:",
+    "a: ",
+    "a::",
+    "a:b",
+    "ä:",
+    "\n",
+    " exit",
+    "exit ",
+    "exit\r",
+    "Exit",
+    "neg64",
+    "neg64 ",
+    "neg64 r1, r2",
+    "mov r0, 5",
+    "mov64 r0,5",
+    "mov64  r0, 5",
+    "mov64 r0 , 5",
+    "mov64 r0, 5 ",
+    "mov64 r0, 5, 6",
+    "mov64 r11, 1",
+    "mov64 r00, 1",
+    "mov64 r0, +1",
+    "mov64 r0, 01",
+    "mov64 r0, -0",
+    "mov64 r0, 0x1",
+    "mov64 r0, ",
+    "mov64 r11, 99999999999",
+    "mov64 r0, 000000000000000000000000000000000000000000000000000000000000000000001",
+    "ja 1",
+    "ja +01",
+    "ja -0",
+    "ja +",
+    "ja a b",
+    "jeq64 r1, r2",
+    "jeq64 r1, r2, +1, +2",
+    "jeq64 r1, 99999999999, 1",
+    "call +1",
+    "call a",
+    "stb [r1], 0",
+    "stb [r1+1, 0",
+    "stb r1+1], 0",
+    "stb [r1 +1], 0",
+    "stb [r1+-1], 0",
+    "stb [r1+32768], r2",
+    "stxb [r1+32768], 5",
+    "ldxb r1, [+1]",
+    "ldxsdw r1, [r2+1]",
+    "lddw r0, 5",
+    "lddw r0, 0x0000000G00000000",
+    "lddw r0, 0x0000000A00000000",
+    "atomic_add16 [r1+0], r2",
+    "atomic_sub64 [r1+0], r2",
+    "atomic_fetch_xchg64 [r1+0], r2",
+    "atomic_add64 [r1], r2",
+    "atomic_add64 [r1+0], 5",
+    "atomic_add64 r1, [r2+0]",
+    ".slot 0x12",
+    ".slot 0x00000000000000001",
+];
+
+/// Lines with a number out of its range.
+const OUT_OF_RANGE: [&str; 16] = [
+    "mov64 r0, 2147483648",
+    "mov64 r0, -2147483649",
+    "mov64 r0, 100000000000000000000000000000000000000000000000000000000000000000000",
+    "ja +32768",
+    "ja -32769",
+    "ja32 +2147483648",
+    "call 2147483648",
+    "call_local -2147483649",
+    "jeq64 r1, 2147483648, a",
+    "jeq64 r1, 2147483648, +1",
+    "jeq64 r1, r2, +32768",
+    "ldxb r1, [r2-32769]",
+    "stb [r1+32768], 0",
+    "stb [r1+1], 2147483648",
+    "stxb [r1+32768], r2",
+    "atomic_add64 [r1-32769], r2",
+];
+
+/// Texts with the number and the line of the first reason.
+const REASONS: [(&str, u8, usize); 18] = [
+    ("\n", 1, 1),
+    ("exit\n\nexit\n", 1, 2),
+    ("exit\r\n", 1, 1),
+    (" exit", 1, 1),
+    ("mov64 r0,5", 1, 1),
+    ("mov64 r0, 05", 1, 1),
+    ("mov64 r11, 2147483648", 1, 1),
+    ("1a:", 1, 1),
+    ("mov64 r0, 2147483648", 2, 1),
+    ("exit\nja +32768", 2, 2),
+    ("ja away", 3, 1),
+    ("a:\nja A", 3, 2),
+    ("a:\na:", 4, 2),
+    ("a:\nexit\nja a\na:\nexit", 4, 4),
+    ("ja away\nmov64 r0,5", 1, 2),
+    ("ja away\na:\na:\n", 4, 3),
+    ("ja a\nja b\na:", 3, 2),
+    ("a:\nmov64 r0, 2147483648\na:", 2, 2),
+];
+
+/// Lines between which stand as many lines `exit`, with the number and the line of the reason.
+const FAR: [(&str, usize, &str, u8, usize); 7] = [
+    ("ja away\n", 32_768, "away:", 5, 1),
+    ("jeq64 r1, r2, away\n", 32_768, "away:", 5, 1),
+    ("back:\n", 32_768, "ja back", 5, 32_770),
+    ("", 65_537, "", 6, 65_537),
+    ("a:\n", 65_536, "exit\nmov64 r0,5", 6, 65_538),
+    ("a:\n", 65_536, "a:", 4, 65_538),
+    ("", 65_535, "lddw r0, 0x0000000000000005", 6, 65_536),
+];
+
+#[test]
+fn lines_have_no_form(rt: HostRuntime) {
+    for line in FORMLESS.iter() {
+        assert_eq!(rt; refusal_of(rt.alloc(), line), (1, 1), "{line}");
+    }
+}
+
+#[test]
+fn numbers_are_out_of_range(rt: HostRuntime) {
+    for line in OUT_OF_RANGE.iter() {
+        assert_eq!(rt; refusal_of(rt.alloc(), line), (2, 1), "{line}");
+    }
+}
+
+#[test]
+fn the_first_reason_is_told(rt: HostRuntime) {
+    for (text, reason, line) in REASONS.iter() {
+        assert_eq!(rt; refusal_of(rt.alloc(), text), (*reason, *line), "{text}");
+    }
+}
+
+#[test]
+fn far_lines_are_told(rt: HostRuntime) -> Result<(), Fail> {
+    for (first, exits, last, reason, line) in FAR.iter() {
+        let text = around(rt.alloc(), first, *exits, last)?;
+        let found = refusal_of(rt.alloc(), text.as_str());
+        assert_eq!(rt; found, (*reason, *line), "{first}{last}");
+    }
+    Ok(())
+}

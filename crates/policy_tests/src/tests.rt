@@ -1,0 +1,38 @@
+//! What the tables share.
+
+use serde_json::Value;
+use std::alloc::{AllocError, Global};
+
+mod code;
+mod compiling;
+mod documents;
+mod errors;
+mod verdicts;
+
+/// These texts, one behind the other.
+pub fn joined(alloc: Global, texts: &[&str]) -> Result<String, AllocError> {
+    let mut all = String::new(alloc);
+    for text in texts {
+        all.push_str(text)?;
+    }
+    Ok(all)
+}
+
+/// What stands before the specification in a policy.
+const HEAD: &str =
+    r#"{"apiVersion":"admissionregistration.k8s.io/v1","kind":"ValidatingAdmissionPolicy","spec":"#;
+
+/// The policy with this specification.
+pub fn policy_text(alloc: Global, spec: &str) -> Result<String, AllocError> {
+    joined(alloc, &[HEAD, spec, "}"])
+}
+
+/// Five null roots.
+pub fn nulls() -> [Value; 5] {
+    Default::default()
+}
+
+/// A line of a table of texts: what stands before its broken bar, and behind it.
+pub fn cells(line: &str) -> (&str, &str) {
+    line.split_once('¦').unwrap_or((line, ""))
+}

@@ -1,0 +1,176 @@
+//! Expressions, and variables with them, as programs that run on five null roots.
+
+use super::running::{
+    core, declare, end, refusal, take, take_next, take_variable, variable_refusal,
+};
+use crate::tests::nulls;
+use bpf_machine::Status;
+use cel_types::Scope;
+use codegen::{CodeError, Emitter};
+use serde_json::Value;
+use std::alloc::{AllocError, Global};
+use std::test::Fail;
+
+/// More steps than any of these programs takes.
+const STEPS: u64 = 10_000;
+
+/// Texts, and the reference with which their programs exit: 0 the error, 2 false, 3 true.
+const ROWS: [(&str, u64); 14] = [
+    ("1/0 == 1 || true", 3),
+    ("true && 1/0 == 1", 0),
+    ("[0,2].exists(x, 4/x == 2)", 3),
+    ("[0,2].exists_one(x, 4/x == 2)", 0),
+    ("[].all(x, x)", 3),
+    ("9223372036854775807 + 1", 0),
+    ("-9223372036854775808 / -1", 0),
+    ("(false ? 1/0 : 7) == 7", 3),
+    ("[1].map(x, x > 0, x + 1) == [2]", 3),
+    ("{'b':true}.b && true", 3),
+    ("{'a':1,'a':2} == {}", 0),
+    ("'a' in {'a':null}", 3),
+    ("size('é') == 1", 3),
+    ("{'b':1,'a':2}.map(k, k) == ['a','b']", 3),
+];
+
+/// Variables in order, each with its name.
+const VARIABLES: [(&str, &str); 4] = [
+    ("two", "1 + 1"),
+    ("wrong", "1/0"),
+    ("three", "variables.two + 1"),
+    ("texts", "['a', 'b'].map(x, x + 'c')"),
+];
+
+/// Texts over these variables, and the reference with which their programs exit.
+const USES: [(&str, u64); 6] = [
+    ("variables.three == 3 && variables.two == 2", 3),
+    ("variables.wrong == 1", 0),
+    ("variables.wrong == 1 || variables.wrong == 2 || true", 3),
+    ("[1, 2, 3].all(x, x <= variables.three)", 3),
+    ("variables.texts == ['ac', 'bc']", 3),
+    ("[1].exists(x, variables.three == x)", 2),
+];
+
+/// How the program of the text's expression ends.
+fn end_of(alloc: Global, text: &str) -> Option<Status> {
+    let mut emitter = Emitter::new(alloc);
+    if !take(alloc, text, &Scope::new(alloc), &mut emitter) {
+        return None;
+    }
+    end(alloc, emitter, &nulls(), STEPS)
+}
+
+/// Takes the variables, and says whether they were taken.
+fn take_variables(alloc: Global, scope: &mut Scope, emitter: &mut Emitter) -> bool {
+    for (name, of) in &VARIABLES {
+        if !take_variable(alloc, name, of, scope, emitter) {
+            return false;
+        }
+    }
+    true
+}
+
+/// How the program of the text's expression ends, with the variables.
+fn end_with_variables(alloc: Global, text: &str) -> Option<Status> {
+    let mut emitter = Emitter::new(alloc);
+    let mut scope = Scope::new(alloc);
+    if !take_variables(alloc, &mut scope, &mut emitter)
+        || !take(alloc, text, &scope, &mut emitter)
+    {
+        return None;
+    }
+    end(alloc, emitter, &nulls(), STEPS)
+}
+
+/// The text of so many plus signs, nested to the right.
+fn sums(alloc: Global, signs: usize) -> Result<String, AllocError> {
+    let mut text = "1+(".repeat(alloc, signs)?;
+    text.push_str("1")?;
+    text.push_str(")".repeat(alloc, signs)?.as_str())?;
+    text.push_str(" == 1")?;
+    Ok(text)
+}
+
+/// What is answered of the text, where it is an expression.
+fn answer(alloc: Global, text: &str) -> Option<Option<CodeError>> {
+    let core = core(alloc, text)?;
+    let mut emitter = Emitter::new(alloc);
+    Some(refusal(alloc, &core, &Scope::new(alloc), &mut emitter))
+}
+
+/// Takes a variable without a refusal, declares it with the depth 6, and says whether it did.
+fn take_deep_variable(alloc: Global, scope: &mut Scope, emitter: &mut Emitter) -> bool {
+    match take_next(alloc, "1", &*scope, emitter) {
+        Some((found, _)) => declare(scope, "v", found, 6),
+        None => false,
+    }
+}
+
+/// What is answered of a variable that is the one of depth 6.
+fn answer_to_depth(alloc: Global) -> Option<CodeError> {
+    let mut emitter = Emitter::new(alloc);
+    let mut scope = Scope::new(alloc);
+    if !take_deep_variable(alloc, &mut scope, &mut emitter) {
+        return None;
+    }
+    let core = core(alloc, "variables.v")?;
+    variable_refusal(alloc, &core, &scope, &mut emitter)
+}
+
+/// An object with ten thousand items.
+fn object_of_items(alloc: Global) -> Option<Value> {
+    let mut text = String::from_str(alloc, "{\"items\":[1").ok()?;
+    let twos = ",2".repeat(alloc, 9_999).ok()?;
+    text.push_str(twos.as_str()).ok()?;
+    text.push_str("]}").ok()?;
+    Value::from_str(alloc, text.as_str()).ok()
+}
+
+/// How the search for the first item of many ends.
+fn end_of_search(alloc: Global) -> Option<Status> {
+    let object = object_of_items(alloc)?;
+    let roots = [object, Value::Null, Value::Null, Value::Null, Value::Null];
+    let mut emitter = Emitter::new(alloc);
+    let text = "object.items.exists(x, x == 1)";
+    if !take(alloc, text, &Scope::new(alloc), &mut emitter) {
+        return None;
+    }
+    end(alloc, emitter, &roots, 1_024)
+}
+
+#[test]
+fn expressions_leave_their_values(rt: HostRuntime) {
+    for (text, reference) in &ROWS {
+        let found = end_of(rt.alloc(), text);
+        assert_eq!(rt; found, Some(Status::Exited(*reference)), "row {text}");
+    }
+}
+
+#[test]
+fn variables_leave_their_values(rt: HostRuntime) {
+    for (text, reference) in &USES {
+        let found = end_with_variables(rt.alloc(), text);
+        assert_eq!(rt; found, Some(Status::Exited(*reference)), "row {text}");
+    }
+}
+
+#[test]
+fn words_are_bounded(rt: HostRuntime) -> Result<(), Fail> {
+    let fits = sums(rt.alloc(), 59)?;
+    assert_eq!(rt; answer(rt.alloc(), fits.as_str()), Some(None));
+    let long = sums(rt.alloc(), 60)?;
+    assert_eq!(rt;
+        answer(rt.alloc(), long.as_str()),
+        Some(Some(CodeError::G1))
+    );
+    Ok(())
+}
+
+#[test]
+fn depths_are_bounded(rt: HostRuntime) {
+    assert_eq!(rt; answer_to_depth(rt.alloc()), Some(CodeError::G2));
+}
+
+#[test]
+fn exists_leaves_at_the_first_item(rt: HostRuntime) {
+    assert_eq!(rt; end_of_search(rt.alloc()), Some(Status::Exited(3)));
+}

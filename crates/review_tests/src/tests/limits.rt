@@ -1,0 +1,140 @@
+//! Policies and reviews at the limits of what is taken.
+
+use super::{ALLOWED, DEFAULT_STEPS, answers, comes_to, is_refused, policy_of, printed, reviewed};
+use std::alloc::{AllocError, Global};
+use std::test::Fail;
+
+/// A text of pieces: one between two others, each of which is repeated so often, and what stands
+/// before and behind all.
+type Pieces<'a> = (&'a str, &'a str, usize, &'a str, &'a str, &'a str);
+
+fn text_of(alloc: Global, pieces: Pieces<'_>) -> Result<String, AllocError> {
+    let (head, before, n, middle, behind, tail) = pieces;
+    let mut text = String::from_str(alloc, head)?;
+    text.push_str(before.repeat(alloc, n)?.as_str())?;
+    text.push_str(middle)?;
+    text.push_str(behind.repeat(alloc, n)?.as_str())?;
+    text.push_str(tail)?;
+    Ok(text)
+}
+
+/// What stands before and behind the expression of the one validation of a specification.
+const HEAD: &str = r#"{"validations":[{"expression":""#;
+
+const TAIL: &str = r#""}]}"#;
+
+const SUM_TAIL: &str = r#" == 1"}]}"#;
+
+/// What stands before validations, one of them, and one before others.
+const LIST: &str = "{\"validations\":[";
+
+const VALIDATION: &str = r#"{"expression":"true"}"#;
+
+const BEFORE: &str = r#"{"expression":"true"},"#;
+
+const KIND_HEAD: &str = r#"{"validations":[{"expression":"true"}],"paramKind":{"a":"#;
+
+/// A policy's specification, and why it is refused. Its first list in `paramKind` is four levels
+/// deep in the document, of which 127 are read.
+const POLICIES: [(Pieces<'static>, Option<&str>); 10] = [
+    (
+        (HEAD, "(", 101, "true", ")", TAIL),
+        Some("K6 validation 0 P5 at 100"),
+    ),
+    ((HEAD, "1+(", 58, "1+1", ")", SUM_TAIL), None),
+    (
+        (HEAD, "1+(", 59, "1+1", ")", SUM_TAIL),
+        Some("K6 validation 0 G1"),
+    ),
+    ((HEAD, "true && ", 254, "true", "", TAIL), None),
+    ((HEAD, "true && ", 255, "true", "", TAIL), Some("G3")),
+    ((HEAD, "1*", 250, "1", "", SUM_TAIL), None),
+    ((LIST, BEFORE, 63, VALIDATION, "", "]}"), None),
+    ((LIST, BEFORE, 64, VALIDATION, "", "]}"), Some("K5")),
+    ((KIND_HEAD, "[", 124, "", "]", "}}"), None),
+    ((KIND_HEAD, "[", 200, "", "]", "}}"), Some("K1")),
+];
+
+#[test]
+fn compiles_to_the_limits(rt: HostRuntime) -> Result<(), Fail> {
+    for (row, &(pieces, refusal)) in POLICIES.iter().enumerate() {
+        let spec = text_of(rt.alloc(), pieces)?;
+        let policy = policy_of(rt.alloc(), spec.as_str())?;
+        assert!(rt; comes_to(rt.alloc(), &policy, refusal)?, "row {row}");
+    }
+    Ok(())
+}
+
+/// A specification with this many validations, each with a text of 62,000 bytes that no other has.
+fn with_texts(alloc: Global, n: u64) -> Result<String, AllocError> {
+    let letters = "a".repeat(alloc, 61_998)?;
+    let mut spec = String::from_str(alloc, LIST)?;
+    for i in 0..n {
+        let comma = if i == 0 { "" } else { "," };
+        let validation = format!(in alloc;
+            "{comma}{{\"expression\":\"'{:02}{letters}' == 'a'\"}}",
+            i
+        )?;
+        spec.push_str(validation.as_str())?;
+    }
+    spec.push_str("]}")?;
+    Ok(spec)
+}
+
+#[test]
+fn compiles_many_texts(rt: HostRuntime) -> Result<(), Fail> {
+    for (n, refusal) in [(16, None), (17, Some("G4"))] {
+        let spec = with_texts(rt.alloc(), n)?;
+        let policy = policy_of(rt.alloc(), spec.as_str())?;
+        assert!(rt; comes_to(rt.alloc(), &policy, refusal)?, "{n}");
+    }
+    Ok(())
+}
+
+const HOLDS: &str = r#"{"validations":[{"expression":"true"}]}"#;
+
+const HAS_ONE: &str = r#"{"validations":[{"expression":"object.items.exists(x, x == 1)"}]}"#;
+
+const DOUBLES: &str = r#"{"validations":[{"expression":"object.a + object.a == object.a"}]}"#;
+
+/// A policy's specification, the object under review, the most steps, the status, and the refusal,
+/// which is empty where the request is allowed.
+const REVIEWS: [(&str, Pieces<'static>, u64, u8, &str); 3] = [
+    (
+        HAS_ONE,
+        ("{\"items\":[1", ",2", 9_999, "", "", "]}"),
+        1024,
+        0,
+        "",
+    ),
+    (
+        DOUBLES,
+        ("{\"a\":\"", "a", 9_000_000, "", "", "\"}"),
+        DEFAULT_STEPS,
+        4,
+        "celbpf: N5\n",
+    ),
+    (
+        HOLDS,
+        ("{\"a\":", "[", 200, "", "]", "}"),
+        DEFAULT_STEPS,
+        3,
+        "celbpf: N2\n",
+    ),
+];
+
+#[test]
+fn reviews_to_the_limits(rt: HostRuntime) -> Result<(), Fail> {
+    let allowed = printed(rt.alloc(), ALLOWED)?;
+    for (row, &(spec, pieces, steps, status, line)) in REVIEWS.iter().enumerate() {
+        let object = text_of(rt.alloc(), pieces)?;
+        let done = reviewed(rt.alloc(), spec, object.as_str(), steps)?;
+        let is_as_said = if line.is_empty() {
+            answers(&done, status, &allowed)
+        } else {
+            is_refused(&done, status, line)
+        };
+        assert!(rt; is_as_said, "row {row}");
+    }
+    Ok(())
+}

@@ -1,0 +1,131 @@
+//! Documents of reviews, and the values of their roots.
+
+use RunError::{N2, N3};
+use review_runner::{RunError, roots};
+use std::alloc::{AllocError, Global};
+use std::test::Fail;
+use value_store::ValueStore;
+
+/// A review of an object, its head, and what stands behind its object.
+const REVIEW: &[u8] =
+    br#"{"apiVersion":"admission.k8s.io/v1","kind":"AdmissionReview","request":{"uid":"u1","object":{"spec":{"replicas":5}}}}"#;
+
+const HEAD: &[u8] =
+    br#"{"apiVersion":"admission.k8s.io/v1","kind":"AdmissionReview","request":{"uid":"u1","object":"#;
+
+const TAIL: &[u8] = b"}}";
+
+/// Why these documents are refused.
+fn refusal(
+    alloc: Global,
+    review: Option<&[u8]>,
+    namespace: Option<&[u8]>,
+    params: Option<&[u8]>,
+) -> Option<RunError> {
+    roots(alloc, review, namespace, params).err()
+}
+
+/// The review of an object with this text.
+fn review_of(alloc: Global, object: &[u8]) -> Result<Vec<u8>, AllocError> {
+    let mut review = Vec::from_slice(alloc, HEAD)?;
+    review.extend_from_slice(object)?;
+    review.extend_from_slice(TAIL)?;
+    Ok(review)
+}
+
+/// What stands at a reference among the roots of the review.
+fn shown(alloc: Global, h: u64) -> Result<String, Fail> {
+    let table = roots(alloc, Some(REVIEW), None, None)?;
+    if h < table.len() {
+        return Ok(table.json(h)?);
+    }
+    Err("no such reference")?
+}
+
+#[test]
+fn shows_roots(rt: HostRuntime) -> Result<(), Fail> {
+    for (h, text) in [
+        (4, "{\"spec\":{\"replicas\":5}}"),
+        (5, "null"),
+        (6, "null"),
+        (8, "{\"uid\":\"u1\"}"),
+    ] {
+        assert_eq!(rt; shown(rt.alloc(), h)?.as_str(), text);
+    }
+    Ok(())
+}
+
+/// Objects of reviews, and whether they are refused.
+const OBJECTS: [(&[u8], Option<RunError>); 5] = [
+    (b"{}", None),
+    (b"null", None),
+    (b"{\"spec\":{\"replicas\":1.5}}", Some(N2)),
+    (b"1", Some(N2)),
+    (b"{", Some(N2)),
+];
+
+#[test]
+fn refuses_reviews(rt: HostRuntime) -> Result<(), Fail> {
+    for &(object, cause) in OBJECTS.iter() {
+        let review = review_of(rt.alloc(), object)?;
+        assert_eq!(rt; refusal(rt.alloc(), Some(&review), None, None), cause);
+    }
+    Ok(())
+}
+
+/// Documents beside the review, and whether they are refused.
+const OTHERS: [(&[u8], Option<RunError>); 4] = [
+    (b"{}", None),
+    (b"1", Some(N3)),
+    (b"{\"a\":-0}", Some(N3)),
+    (b"\xff", Some(N3)),
+];
+
+#[test]
+fn refuses_namespaces_and_params(rt: HostRuntime) -> Result<(), Fail> {
+    for &(other, cause) in OTHERS.iter() {
+        assert_eq!(rt; refusal(rt.alloc(), Some(REVIEW), Some(other), None), cause);
+        assert_eq!(rt; refusal(rt.alloc(), None, None, Some(other)), cause);
+    }
+    assert_eq!(rt;
+        refusal(rt.alloc(), Some(b"{}"), Some(b"1"), None),
+        Some(N2)
+    );
+    Ok(())
+}
+
+/// Lists nested so deep, with an object around them.
+fn nested(alloc: Global, depth: usize) -> Result<Vec<u8>, AllocError> {
+    let mut object = Vec::from_slice(alloc, b"{\"a\":")?;
+    for _ in 0..depth {
+        object.push(b'[')?;
+    }
+    for _ in 0..depth {
+        object.push(b']')?;
+    }
+    object.push(b'}')?;
+    Ok(object)
+}
+
+/// The review has the object three levels deep, and 127 are read.
+#[test]
+fn refuses_deep_reviews(rt: HostRuntime) -> Result<(), Fail> {
+    for (depth, cause) in [(124, None), (125, Some(N2)), (200, Some(N2))] {
+        let review = review_of(rt.alloc(), &nested(rt.alloc(), depth)?)?;
+        assert_eq!(rt; refusal(rt.alloc(), Some(&review), None, None), cause);
+    }
+    Ok(())
+}
+
+/// An object whose text has 16,777,216 bytes.
+#[test]
+fn refuses_large_reviews(rt: HostRuntime) -> Result<(), Fail> {
+    let mut object = Vec::from_slice(rt.alloc(), b"{\"a\":\"")?;
+    for _ in 0..16_777_216u64 {
+        object.push(b'a')?;
+    }
+    object.extend_from_slice(b"\"}")?;
+    let review = review_of(rt.alloc(), &object)?;
+    assert_eq!(rt; refusal(rt.alloc(), Some(&review), None, None), Some(N2));
+    Ok(())
+}

@@ -1,0 +1,21 @@
+//! What the tables share.
+
+use std::alloc::{AllocError, Global};
+
+mod assembling;
+mod doubles;
+mod drawn_images;
+mod errors;
+mod gatekeeper;
+mod orders;
+mod performing;
+mod programs;
+mod running;
+
+/// The line of standard error for a refusal; none for an empty one.
+pub fn refusal_line(alloc: Global, refusal: &str) -> Result<String, AllocError> {
+    if refusal.is_empty() {
+        return Ok(String::new(alloc));
+    }
+    format!(in alloc; "celbpf: {refusal}\n")
+}

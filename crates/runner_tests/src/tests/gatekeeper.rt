@@ -1,0 +1,161 @@
+//! The gatekeeper whole, over files and streams in memory.
+
+use super::doubles::{CutShort, Policies};
+use super::programs::{is_text, words};
+use super::refusal_line;
+use debugger::{Counting, Source};
+use gatekeeper_runner::exit_code;
+use std::alloc::{AllocError, Global};
+use std::process::ExitCode;
+use std::test::Fail;
+
+const FEW: &str = "gatekeeper --policy few";
+
+const NO_POLICY: &str = "gatekeeper --policy missing --policy none";
+
+const NO_NAMESPACE: &str = "gatekeeper --policy few --namespace missing";
+
+/// Reviews of 3 and of 5 replicas.
+const TWO: &str =
+    r#"{"apiVersion":"admission.k8s.io/v1","kind":"AdmissionReview","request":{"uid":"u1","object":{"spec":{"replicas":3}}}}
+{"apiVersion":"admission.k8s.io/v1","kind":"AdmissionReview","request":{"uid":"u2","object":{"spec":{"replicas":5}}}}
+"#;
+
+/// The answers under `few` to the first of them, and to both.
+const ONE_ANSWER: &str =
+    r#"{"apiVersion":"admission.k8s.io/v1","kind":"AdmissionReview","response":{"allowed":true,"uid":"u1"}}
+"#;
+
+const TWO_ANSWERS: &str =
+    r#"{"apiVersion":"admission.k8s.io/v1","kind":"AdmissionReview","response":{"allowed":true,"uid":"u1"}}
+{"apiVersion":"admission.k8s.io/v1","kind":"AdmissionReview","response":{"allowed":false,"status":{"code":422,"message":"failed expression: object.spec.replicas <= 3","reason":"Invalid"},"uid":"u2"}}
+"#;
+
+/// A review of 1.5 replicas, an empty line, a document that is no review, one that is no JSON, and a review of 2
+/// replicas whose line has no end.
+const REST: &str =
+    r#"{"apiVersion":"admission.k8s.io/v1","kind":"AdmissionReview","request":{"uid":"u3","object":{"spec":{"replicas":1.5}}}}
+
+{"kind":"Scale","request":{"uid":"u4"}}
+no
+{"apiVersion":"admission.k8s.io/v1","kind":"AdmissionReview","request":{"uid":"u5","object":{"spec":{"replicas":2}}}}"#;
+
+/// The words, the input, the status, standard output and the refusal.
+const ROWS: [(&str, &str, u8, &str, &str); 10] = [
+    (FEW, TWO, 0, TWO_ANSWERS, ""),
+    (
+        FEW,
+        REST,
+        0,
+        r#"{"refused":"N2","uid":"u3"}
+{"refused":"N2","uid":"u4"}
+{"refused":"N2"}
+{"apiVersion":"admission.k8s.io/v1","kind":"AdmissionReview","response":{"allowed":true,"uid":"u5"}}
+"#,
+        "",
+    ),
+    (
+        "gatekeeper --policy few --policy even",
+        TWO,
+        0,
+        r#"{"apiVersion":"admission.k8s.io/v1","kind":"AdmissionReview","response":{"allowed":false,"status":{"code":403,"message":"odd","reason":"Forbidden"},"uid":"u1"}}
+{"apiVersion":"admission.k8s.io/v1","kind":"AdmissionReview","response":{"allowed":false,"status":{"code":422,"message":"failed expression: object.spec.replicas <= 3; odd","reason":"Invalid"},"uid":"u2"}}
+"#,
+        "",
+    ),
+    (
+        "gatekeeper --policy even --policy few",
+        TWO,
+        0,
+        r#"{"apiVersion":"admission.k8s.io/v1","kind":"AdmissionReview","response":{"allowed":false,"status":{"code":403,"message":"odd","reason":"Forbidden"},"uid":"u1"}}
+{"apiVersion":"admission.k8s.io/v1","kind":"AdmissionReview","response":{"allowed":false,"status":{"code":403,"message":"odd; failed expression: object.spec.replicas <= 3","reason":"Forbidden"},"uid":"u2"}}
+"#,
+        "",
+    ),
+    (
+        "gatekeeper --policy few --policy even --steps 1",
+        TWO,
+        0,
+        "{\"refused\":\"N4\",\"uid\":\"u1\"}\n{\"refused\":\"N4\",\"uid\":\"u2\"}\n",
+        "",
+    ),
+    (
+        "gatekeeper --params none --policy few",
+        TWO,
+        0,
+        "{\"refused\":\"N3\",\"uid\":\"u1\"}\n{\"refused\":\"N3\",\"uid\":\"u2\"}\n",
+        "",
+    ),
+    ("gatekeeper --policy few --policy none", TWO, 3, "", "K1"),
+    (NO_POLICY, TWO, 3, "", "file"),
+    (NO_NAMESPACE, TWO, 3, "", "file"),
+    ("gatekeeper", TWO, 2, "", "U1"),
+];
+
+/// Whether the program with these words and this input ends with the status and both outputs, where standard output
+/// has this room.
+fn ends<R: Source>(
+    alloc: Global,
+    line: &str,
+    input: &mut R,
+    room: usize,
+    due: (u8, &[u8], &str),
+) -> Result<bool, AllocError> {
+    let mut out = [0u8; 512];
+    let mut err = [0u8; 32];
+    let (front, _) = out.split_at_mut(room.min(512));
+    let code = exit_code(
+        alloc,
+        Ok(words(alloc, line)?),
+        &mut Policies,
+        input,
+        &mut Counting::new(&mut *front),
+        &mut Counting::new(&mut err[..]),
+    );
+    Ok(code == ExitCode::from(due.0) && is_text(&out, due.1) && is_text(&err, due.2.as_bytes()))
+}
+
+#[test]
+fn answers_each_line(rt: HostRuntime) -> Result<(), Fail> {
+    for (row, &(line, input, status, out, refusal)) in ROWS.iter().enumerate() {
+        let mut input = Counting::new(input.as_bytes());
+        let err = refusal_line(rt.alloc(), refusal)?;
+        let due = (status, out.as_bytes(), err.as_str());
+        assert!(rt; ends(rt.alloc(), line, &mut input, 512, due)?, "row {row}");
+    }
+    Ok(())
+}
+
+#[test]
+fn ends_where_a_read_fails(rt: HostRuntime) -> Result<(), Fail> {
+    for end in 0..=TWO.len() {
+        let left = &TWO.as_bytes()[..end];
+        let lines = left.iter().filter(|&&b| b == b'\n').count();
+        let said = match lines {
+            0 => "",
+            1 => ONE_ANSWER,
+            _ => TWO_ANSWERS,
+        };
+        let mut input = Counting::new(CutShort { left });
+        let due = (3, said.as_bytes(), "celbpf: S1\n");
+        assert!(rt;
+            ends(rt.alloc(), FEW, &mut input, 512, due)?,
+            "at byte {end}"
+        );
+    }
+    Ok(())
+}
+
+#[test]
+fn ends_where_a_write_fails(rt: HostRuntime) -> Result<(), Fail> {
+    let answers = TWO_ANSWERS.as_bytes();
+    for room in 0..answers.len() {
+        let mut input = Counting::new(TWO.as_bytes());
+        let due = (3, &answers[..room], "celbpf: S2\n");
+        assert!(rt;
+            ends(rt.alloc(), FEW, &mut input, room, due)?,
+            "room for {room}"
+        );
+    }
+    Ok(())
+}

@@ -1,0 +1,15 @@
+//! What the tables share.
+
+use serde_json::Value;
+
+mod doubles;
+mod errors;
+mod histories;
+mod sessions;
+mod streams;
+mod verdicts;
+
+/// Five null roots.
+pub fn nulls() -> [Value; 5] {
+    Default::default()
+}
