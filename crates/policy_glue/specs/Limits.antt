@@ -27,7 +27,7 @@ message_nodes None = 0
 abbrev pub rule_nodes : RuleTree → ℕ
 rule_nodes r = part_nodes r.expression + message_nodes r.message
 
--- of the whole
+-- the nodes of a whole policy
 unfoldable pub policy_nodes : PolicyTree → ℕ
 policy_nodes p =
     1 + sum_by (λ v. part_nodes v.expression) p.variables + sum_by part_nodes p.conditions + sum_by rule_nodes p.validations

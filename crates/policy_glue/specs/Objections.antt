@@ -21,6 +21,7 @@ objection_view o = record { message = string_bytes o.message; reason = o.reason 
 abbrev pub undecided : Objection
 undecided = record { message = codes "match conditions not decided"; reason = Invalid }
 
+-- of denials the messages are joined, and the reason is that of the first
 abbrev pub denied : List Denial → Objection
 denied ds = record { message = joined (map denial_text ds); reason = first_reason ds }
 
@@ -35,6 +36,7 @@ objection_by Admitted ds = None
 abbrev pub objection_of : Rules → Verdict → Option Objection
 objection_of p verdict = objection_by verdict.outcome (denials_of p.failure_policy p.validations verdict.findings)
 
+-- the response is allowed where nothing is said against the request, else denied for what is said
 abbrev pub objected_tree : Option Objection → List ℕ → json.Data
 objected_tree None uid = allowed_tree uid
 objected_tree (Some o) uid = denied_tree uid o.message o.reason
