@@ -73,10 +73,6 @@ pub first_refused : (text : List ℕ) (e : AsmError) → FirstPass (lines_of tex
 first_refused text Memory h = h
 first_refused text _ h = refused h.0
 
-pub only_first : (text : List ℕ) (e : AsmError) → FirstPass (lines_of text) (Err e) → (t : Result (List ℕ) AsmError) → Assembles (lines_of text) t → IsAnswer t (Err e)
-only_first text Memory h t a = tt
-only_first text error h t a = only_refused (lines_of text) error t h.1 a
-
 -- where each line reads in one way, both passes have one answer
 pub one_answer : OneReading → (lines : List (List ℕ)) (r s : Result (List ℕ) AsmError) → Assembles lines r → Assembles lines s → r ≡ s
 one_answer one lines r s (refused {error = error} scans) b = sym (only_refused lines error s (λ t k. one_scan one [] lines t (Err error) k scans) b)

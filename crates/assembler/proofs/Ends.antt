@@ -19,9 +19,6 @@ same_fronts [] (y ∷ ys) a b l e = absurd (omega (arith, ap length e, length-ap
 same_fronts (x ∷ xs) [] a b l e = absurd (omega (arith, ap length e, length-append xs a))
 same_fronts (x ∷ xs) (y ∷ ys) a b l e = let h = heads x y (xs ++ a) (ys ++ b) e in let t = same_fronts xs ys a b l (tails x y (xs ++ a) (ys ++ b) e) in cc
 
-pub same_ends : (xs ys a b : List ℕ) → length a ≡ length b → xs ++ a ≡ ys ++ b → a ≡ b
-same_ends xs ys a b l e = append_cancel_left ys a b (sym (ap (λ t. t ++ a) (same_fronts xs ys a b l e)) ∙ e)
-
 -- what is read behind a front is read of the whole
 pub behind : {X : Type 0} (r : Option X) (word front text : List ℕ) (f : X → List ℕ) → word ≡ front ++ text
     → MatchOption r ((x : X) → text ≡ f x → ⊥) (λ x. text ≡ f x) → MatchOption r ((x : X) → word ≡ front ++ f x → ⊥) (λ x. word ≡ front ++ f x)

@@ -36,21 +36,18 @@ wider (negsuc n) h = omega (arith, h)
 
 pub in_range_by : (j : Jump) (z : ℤ) → JumpInRange j → FitsSigned w32 z → reaches j z ≡ true → IsStatement (jump_by j z)
 in_range_by Near z h f e = fits_of z e
-in_range_by Long z h f e = f
-in_range_by CallLocal z h f e = f
 in_range_by (Branch comparison width dst operand) z h f e = (h, fits_of z e)
+in_range_by _ z h f e = f
 
 pub reaches_of : (j : Jump) (z : ℤ) → IsStatement (jump_by j z) → reaches j z ≡ true
 reaches_of Near z h = of_fits z h
-reaches_of Long z h = refl
-reaches_of CallLocal z h = refl
 reaches_of (Branch comparison width dst operand) z h = of_fits z h.1
+reaches_of _ z h = refl
 
 pub offset_fits : (j : Jump) (z : ℤ) → IsStatement (jump_by j z) → FitsSigned w32 z
 offset_fits Near z h = wider z h
-offset_fits Long z h = h
-offset_fits CallLocal z h = h
 offset_fits (Branch comparison width dst operand) z h = wider z h.1
+offset_fits _ z h = h
 
 -- the line of a jump by an offset
 

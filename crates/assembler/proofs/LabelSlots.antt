@@ -8,14 +8,12 @@ use Rattle.assembler.specs.Items.{Item, statement, label, jump, item_slots, slot
 use Rattle.assembler.specs.Labels.{IsFree, names, label_slot_from, label_slot}
 
 pub free_in : (before : List Item) (labels : List ℕ → Option ℕ) (i : Item) → HasSlots labels before → IsFree before i → IsFreeIn labels i
-free_in before labels (statement x) has free = tt
 free_in before labels (label name) has free = has name ∙ free
-free_in before labels (jump j name) has free = tt
+free_in before labels _ has free = tt
 
 pub free_of : (before : List Item) (labels : List ℕ → Option ℕ) (i : Item) → HasSlots labels before → IsFreeIn labels i → IsFree before i
-free_of before labels (statement x) has free = tt
 free_of before labels (label name) has free = sym (has name) ∙ free
-free_of before labels (jump j name) has free = tt
+free_of before labels _ has free = tt
 
 pub slots_snoc : (before : List Item) (i : Item) → slots_of (before ++ (i ∷ [])) ≡ slots_of before + item_slots i
 slots_snoc [] i = omega arith

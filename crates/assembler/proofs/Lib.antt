@@ -8,11 +8,9 @@ pub mod FirstLine
 pub mod Forms
 pub mod Halves
 pub mod Injective
-pub mod ItemKinds
 pub mod JumpLines
 pub mod LabelSlots
 pub mod Lacking
-pub mod LineReads
 pub mod Listed
 pub mod NameBytes
 pub mod Named

@@ -93,9 +93,8 @@ free_from labels items front is name (Some slot) g e p =
     absurd (longer h.0 h.1.0 (label name) (ap (λ x. length x) (same ∙ h.1.1)))
 
 pub free_of_map : (labels : List ℕ → Option ℕ) (items front is : List Item) (i : Item) → GivesSlots labels items → items ≡ front ++ i ∷ is → IsFree front i
-free_of_map labels items front is (statement x) g e = tt
-free_of_map labels items front is (jump j name) g e = tt
 free_of_map labels items front is (label name) g e = free_from labels items front is name (label_slot front name) g e refl
+free_of_map labels items front is _ g e = tt
 
 -- where there is such a map, no label is named twice
 pub once_of : (labels : List ℕ → Option ℕ) (items front is : List Item) → GivesSlots labels items → items ≡ front ++ is → Once front is

@@ -1,5 +1,5 @@
 -- A mnemonic and operands are those of one item.
-use Rattle.std.proofs.Common.{◌≡◌, ℕ, suc, ℤ, pos, negsuc, List, [], ◌∷◌, ◌++◌, Some, inl, inr, refl, sym, ◌∙◌, ap, subst}
+use Rattle.std.proofs.Common.{◌≡◌, ℕ, suc, ℤ, pos, negsuc, List, [], ◌∷◌, ◌++◌, Some, inl, inr, refl, sym, ◌∙◌, ap, subst, Option, None}
 use Rattle.assembler.specs.declared.lines.jump.Jump.{Jump}
 use Rattle.assembler.specs.declared.lines.jump.Jump.TheVariants.{Near, Long, CallLocal, Branch}
 use Rattle.assembler.specs.Jumps.{jump_by, jump_mnemonic, jump_operands}
@@ -15,12 +15,51 @@ use Rattle.insn_codec.specs.declared.mnemonic.Mnemonic.{Mnemonic}
 use Rattle.insn_codec.specs.declared.mnemonic.Mnemonic.TheVariants as mnemonic
 use Rattle.assembler.proofs.Digits.{wide_injective}
 use Rattle.assembler.proofs.Injective.{name_no_offset, offset_injective, operand_injective, register_injective, signed_injective}
-use Rattle.assembler.proofs.ItemKinds.{of_alu, of_atomic, of_byte_swap, of_call, of_load, of_load_signed, of_load_wide, of_neg, of_sign_extend, of_slot, of_store, of_store_imm}
 use Rattle.std.proofs.lemmas.List.{append_cancel_right}
 use Rattle.assembler.proofs.Ends.{tails}
 use Rattle.assembler.proofs.JumpLines.{IsOfJump, JumpsBy, of_jump, operands_are}
 use Rattle.assembler.proofs.Lacking.{apart, lacks_append, lacks_gone, split_same}
 use Rattle.assembler.proofs.NameBytes.{lacks_decimal, lacks_operand, lacks_place, lacks_register}
+
+-- what an item of the mnemonic is; of a jump nothing is said, and `exit` has no operands
+abbrev Shape : Mnemonic → Item → Type 0
+Shape (mnemonic.Alu op width) i = (dst : Register) × (operand : Operand) × (i ≡ statement (statement_kind.Insn (insn.Alu op width dst operand)))
+Shape (mnemonic.Neg width) i = (dst : Register) × (i ≡ statement (statement_kind.Insn (insn.Neg width dst)))
+Shape (mnemonic.SignExtend extension) i = (dst : Register) × (src : Register) × (i ≡ statement (statement_kind.Insn (insn.SignExtend extension dst src)))
+Shape (mnemonic.ByteSwap order width) i = (dst : Register) × (i ≡ statement (statement_kind.Insn (insn.ByteSwap order width dst)))
+Shape mnemonic.Call i = (helper : ℤ) × (i ≡ statement (statement_kind.Insn (insn.Call helper)))
+Shape (mnemonic.Load size) i = (dst : Register) × (src : Register) × (offset : ℤ) × (i ≡ statement (statement_kind.Insn (insn.Load size dst src offset)))
+Shape (mnemonic.LoadSigned size) i = (dst : Register) × (src : Register) × (offset : ℤ) × (i ≡ statement (statement_kind.Insn (insn.LoadSigned size dst src offset)))
+Shape (mnemonic.StoreImm size) i = (dst : Register) × (offset : ℤ) × (imm : ℤ) × (i ≡ statement (statement_kind.Insn (insn.StoreImm size dst offset imm)))
+Shape (mnemonic.Store size) i = (dst : Register) × (offset : ℤ) × (src : Register) × (i ≡ statement (statement_kind.Insn (insn.Store size dst offset src)))
+Shape (mnemonic.Atomic op width) i = (dst : Register) × (offset : ℤ) × (src : Register) × (i ≡ statement (statement_kind.Insn (insn.Atomic op width dst offset src)))
+Shape mnemonic.LoadWide i = (dst : Register) × (value : ℕ) × (i ≡ statement (statement_kind.Insn (insn.LoadWide dst value)))
+Shape mnemonic.Slot i = (word : ℕ) × (i ≡ statement (statement_kind.Slot word))
+Shape mnemonic.Exit i = ⊥
+Shape _ i = Unit {0}
+
+abbrev ShapeOf : Option Mnemonic → Item → Type 0
+ShapeOf None i = Unit {0}
+ShapeOf (Some m) i = Shape m i
+
+shaped : (i : Item) → ShapeOf (item_mnemonic i) i
+shaped (statement (statement_kind.Insn (insn.Alu op width dst operand))) = (dst, operand, refl)
+shaped (statement (statement_kind.Insn (insn.Neg width dst))) = (dst, refl)
+shaped (statement (statement_kind.Insn (insn.SignExtend extension dst src))) = (dst, src, refl)
+shaped (statement (statement_kind.Insn (insn.ByteSwap order width dst))) = (dst, refl)
+shaped (statement (statement_kind.Insn (insn.Call helper))) = (helper, refl)
+shaped (statement (statement_kind.Insn (insn.Load size dst src offset))) = (dst, src, offset, refl)
+shaped (statement (statement_kind.Insn (insn.LoadSigned size dst src offset))) = (dst, src, offset, refl)
+shaped (statement (statement_kind.Insn (insn.StoreImm size dst offset imm))) = (dst, offset, imm, refl)
+shaped (statement (statement_kind.Insn (insn.Store size dst offset src))) = (dst, offset, src, refl)
+shaped (statement (statement_kind.Insn (insn.Atomic op width dst offset src))) = (dst, offset, src, refl)
+shaped (statement (statement_kind.Insn (insn.LoadWide dst value))) = (dst, value, refl)
+shaped (statement (statement_kind.Slot word)) = (word, refl)
+shaped (jump jump_kind.Near name) = tt
+shaped _ = tt
+
+shape_of : (m : Mnemonic) (i : Item) → item_mnemonic i ≡ Some m → Shape m i
+shape_of m i e = subst (λ o. ShapeOf o i) e (shaped i)
 
 -- equal operands of what two items are
 between : (i j v w : Item) → i ≡ v → j ≡ w → item_operands i ≡ item_operands j → item_operands v ≡ item_operands w
@@ -98,79 +137,53 @@ same_jump m is i k a b h g e =
     let s = jumps_same p.0 q.0 t.0 u.0 (p.1 ∙ sym q.1) (sym t.1 ∙ e ∙ u.1) in
     same_target p.0 q.0 i k p.2 q.2 h g s.0 s.1
 
-no_exit : (i : Item) → item_mnemonic i ≡ Some mnemonic.Exit → ⊥
-no_exit (statement (statement_kind.Insn insn.Exit)) e = absurd cc
-no_exit (jump jump_kind.Near name) e = absurd cc
-no_exit _ e = absurd cc
-
--- a mnemonic and operands are those of one item
-pub same_code : (m : Mnemonic) (i j : Item) → item_mnemonic i ≡ Some m → item_mnemonic j ≡ Some m → HasLine i → HasLine j → item_operands i ≡ item_operands j → i ≡ j
-same_code (mnemonic.Alu op width) i j a b h k e =
-    let p = of_alu op width i a in
-    let q = of_alu op width j b in
+same_shaped : (m : Mnemonic) (i j : Item) → Shape m i → Shape m j → item_mnemonic i ≡ Some m → item_mnemonic j ≡ Some m → HasLine i → HasLine j → item_operands i ≡ item_operands j → i ≡ j
+same_shaped (mnemonic.Alu op width) i j p q a b h k e =
     let t = register_listed p.0 q.0 (operand_text p.1) (operand_text q.1) (between i j _ _ p.2 q.2 e) in
     let o = operand_injective p.1 q.1 t.1 in
     p.2 ∙ (λ x. statement (statement_kind.Insn (insn.Alu op width (t.0 x) (o x)))) ∙ sym q.2
-same_code (mnemonic.Neg width) i j a b h k e =
-    let p = of_neg width i a in
-    let q = of_neg width j b in
+same_shaped (mnemonic.Neg width) i j p q a b h k e =
     p.1 ∙ ap (λ r. statement (statement_kind.Insn (insn.Neg width r))) (register_injective p.0 q.0 (between i j _ _ p.1 q.1 e)) ∙ sym q.1
-same_code (mnemonic.SignExtend extension) i j a b h k e =
-    let p = of_sign_extend extension i a in
-    let q = of_sign_extend extension j b in
+same_shaped (mnemonic.SignExtend extension) i j p q a b h k e =
     let t = register_listed p.0 q.0 (register_text p.1) (register_text q.1) (between i j _ _ p.2 q.2 e) in
     let s = register_injective p.1 q.1 t.1 in
     p.2 ∙ (λ x. statement (statement_kind.Insn (insn.SignExtend extension (t.0 x) (s x)))) ∙ sym q.2
-same_code (mnemonic.ByteSwap order width) i j a b h k e =
-    let p = of_byte_swap order width i a in
-    let q = of_byte_swap order width j b in
+same_shaped (mnemonic.ByteSwap order width) i j p q a b h k e =
     p.1 ∙ ap (λ r. statement (statement_kind.Insn (insn.ByteSwap order width r))) (register_injective p.0 q.0 (between i j _ _ p.1 q.1 e)) ∙ sym q.1
-same_code mnemonic.Ja i j a b h k e = same_jump mnemonic.Ja tt i j a b h k e
-same_code mnemonic.JaLong i j a b h k e = same_jump mnemonic.JaLong tt i j a b h k e
-same_code (mnemonic.Branch comparison width) i j a b h k e = same_jump (mnemonic.Branch comparison width) tt i j a b h k e
-same_code mnemonic.Call i j a b h k e =
-    let p = of_call i a in
-    let q = of_call j b in
+same_shaped mnemonic.Ja i j p q a b h k e = same_jump mnemonic.Ja tt i j a b h k e
+same_shaped mnemonic.JaLong i j p q a b h k e = same_jump mnemonic.JaLong tt i j a b h k e
+same_shaped (mnemonic.Branch comparison width) i j p q a b h k e = same_jump (mnemonic.Branch comparison width) tt i j a b h k e
+same_shaped mnemonic.Call i j p q a b h k e =
     p.1 ∙ ap (λ n. statement (statement_kind.Insn (insn.Call n))) (signed_injective p.0 q.0 (between i j _ _ p.1 q.1 e)) ∙ sym q.1
-same_code mnemonic.CallLocal i j a b h k e = same_jump mnemonic.CallLocal tt i j a b h k e
-same_code mnemonic.Exit i j a b h k e = absurd (no_exit i a)
-same_code (mnemonic.Load size) i j a b h k e =
-    let p = of_load size i a in
-    let q = of_load size j b in
+same_shaped mnemonic.CallLocal i j p q a b h k e = same_jump mnemonic.CallLocal tt i j a b h k e
+same_shaped mnemonic.Exit i j p q a b h k e = absurd p
+same_shaped (mnemonic.Load size) i j p q a b h k e =
     let t = register_listed p.0 q.0 (place_text p.1 p.2) (place_text q.1 q.2) (between i j _ _ p.3 q.3 e) in
     let s = place_same p.1 q.1 p.2 q.2 t.1 in
     p.3 ∙ (λ x. statement (statement_kind.Insn (insn.Load size (t.0 x) (s.0 x) (s.1 x)))) ∙ sym q.3
-same_code (mnemonic.LoadSigned size) i j a b h k e =
-    let p = of_load_signed size i a in
-    let q = of_load_signed size j b in
+same_shaped (mnemonic.LoadSigned size) i j p q a b h k e =
     let t = register_listed p.0 q.0 (place_text p.1 p.2) (place_text q.1 q.2) (between i j _ _ p.3 q.3 e) in
     let s = place_same p.1 q.1 p.2 q.2 t.1 in
     p.3 ∙ (λ x. statement (statement_kind.Insn (insn.LoadSigned size (t.0 x) (s.0 x) (s.1 x)))) ∙ sym q.3
-same_code (mnemonic.StoreImm size) i j a b h k e =
-    let p = of_store_imm size i a in
-    let q = of_store_imm size j b in
+same_shaped (mnemonic.StoreImm size) i j p q a b h k e =
     let t = place_listed p.0 q.0 p.1 q.1 (signed_decimal p.2) (signed_decimal q.2) (between i j _ _ p.3 q.3 e) in
     let n = signed_injective p.2 q.2 t.2 in
     p.3 ∙ (λ x. statement (statement_kind.Insn (insn.StoreImm size (t.0 x) (t.1 x) (n x)))) ∙ sym q.3
-same_code (mnemonic.Store size) i j a b h k e =
-    let p = of_store size i a in
-    let q = of_store size j b in
+same_shaped (mnemonic.Store size) i j p q a b h k e =
     let t = place_listed p.0 q.0 p.1 q.1 (register_text p.2) (register_text q.2) (between i j _ _ p.3 q.3 e) in
     let s = register_injective p.2 q.2 t.2 in
     p.3 ∙ (λ x. statement (statement_kind.Insn (insn.Store size (t.0 x) (t.1 x) (s x)))) ∙ sym q.3
-same_code (mnemonic.Atomic op width) i j a b h k e =
-    let p = of_atomic op width i a in
-    let q = of_atomic op width j b in
+same_shaped (mnemonic.Atomic op width) i j p q a b h k e =
     let t = place_listed p.0 q.0 p.1 q.1 (register_text p.2) (register_text q.2) (between i j _ _ p.3 q.3 e) in
     let s = register_injective p.2 q.2 t.2 in
     p.3 ∙ (λ x. statement (statement_kind.Insn (insn.Atomic op width (t.0 x) (t.1 x) (s x)))) ∙ sym q.3
-same_code mnemonic.LoadWide i j a b h k e =
-    let p = of_load_wide i a in
-    let q = of_load_wide j b in
+same_shaped mnemonic.LoadWide i j p q a b h k e =
     let t = register_listed p.0 q.0 (wide_text p.1) (wide_text q.1) (between i j _ _ p.2 q.2 e) in
     let w = wide_injective p.1 q.1 (subst (λ x. HasLine x) p.2 h) (subst (λ x. HasLine x) q.2 k) t.1 in
     p.2 ∙ (λ x. statement (statement_kind.Insn (insn.LoadWide (t.0 x) (w x)))) ∙ sym q.2
-same_code mnemonic.Slot i j a b h k e =
-    let p = of_slot i a in
-    let q = of_slot j b in
+same_shaped mnemonic.Slot i j p q a b h k e =
     p.1 ∙ ap (λ w. statement (statement_kind.Slot w)) (wide_injective p.0 q.0 (subst (λ x. HasLine x) p.1 h) (subst (λ x. HasLine x) q.1 k) (between i j _ _ p.1 q.1 e)) ∙ sym q.1
+
+-- a mnemonic and operands are those of one item
+pub same_code : (m : Mnemonic) (i j : Item) → item_mnemonic i ≡ Some m → item_mnemonic j ≡ Some m → HasLine i → HasLine j → item_operands i ≡ item_operands j → i ≡ j
+same_code m i j a b h k e = same_shaped m i j (shape_of m i a) (shape_of m j b) a b h k e

@@ -1,7 +1,6 @@
 -- What a word is not.
 use Rattle.std.proofs.Common.{◌≡◌, ◌≢◌, ℕ, List, ◌++◌, length, refl, sym, ◌∙◌}
 use Rattle.std.specs.Prelude.{codes}
-use Rattle.std.proofs.lemmas.List.{append_cancel_left}
 use Rattle.insn_codec.specs.Mnemonics.{alu_text, atomic_text, comparison_text, mnemonic_text, width_text}
 use Rattle.insn_codec.specs.declared.alu_op.AluOp.{AluOp}
 use Rattle.insn_codec.specs.declared.atomic_op.AtomicOp.{AtomicOp}
@@ -38,10 +37,6 @@ no_name word name width e neg alu comparisons _ i p = i
 pub no_atomic_front : (word : List ℕ) → ((rest : List ℕ) → word ≡ codes "atomic_" ++ rest → ⊥) → (m : Mnemonic) → IsAtomic m → word ≡ mnemonic_text m → ⊥
 no_atomic_front word none (Atomic op width) i e = none (atomic_text op ++ width_text width) e
 no_atomic_front word none _ i e = i
-
-pub no_atomic_rest : (word text : List ℕ) → word ≡ codes "atomic_" ++ text → ((op : AtomicOp) (width : Width) → text ≡ atomic_text op ++ width_text width → ⊥) → (m : Mnemonic) → IsAtomic m → word ≡ mnemonic_text m → ⊥
-no_atomic_rest word text is none (Atomic op width) i e = none op width (append_cancel_left (codes "atomic_") text (atomic_text op ++ width_text width) (sym is ∙ e))
-no_atomic_rest word text is none _ i e = i
 
 pub no_operation : (text name : List ℕ) (width : Width) → text ≡ name ++ width_text width → ((op : AtomicOp) → name ≡ atomic_text op → ⊥) → (op : AtomicOp) (w : Width) → text ≡ atomic_text op ++ width_text w → ⊥
 no_operation text name width is none op w e = none op (same_name text name (atomic_text op) width w is e)

@@ -8,9 +8,10 @@ use Rattle.insn_codec.specs.declared.statement.Statement.TheVariants as statemen
 use Rattle.assembler.specs.Items.{HasLine, IsName, Item, item_text, statement, label, jump}
 use Rattle.assembler.specs.Forms.{Lacks, item_mnemonic, item_operands, operand_list}
 use Rattle.insn_codec.specs.Mnemonics.{mnemonic_text}
+use Rattle.insn_codec.specs.Statements.{statement_mnemonic}
+use Rattle.assembler.specs.Jumps.{jump_mnemonic}
 use Rattle.assembler.specs.declared.lines.jump.Jump.TheVariants as jump_kind
 use Rattle.insn_codec.specs.declared.mnemonic.Mnemonic.{Mnemonic}
-use Rattle.insn_codec.specs.declared.mnemonic.Mnemonic.TheVariants as mnemonic
 use Rattle.assembler.proofs.Halves.{line_halves}
 use Rattle.std.proofs.lemmas.List.{append_cancel_right}
 use Rattle.assembler.proofs.Lacking.{apart, lacks_append, lacks_by, lacks_gone, split_same}
@@ -23,28 +24,10 @@ exit = statement (statement_kind.Insn insn.Exit)
 
 -- an item has operands, or it is the exit, or a label
 pub kind_of : (i : Item) → ((m : Mnemonic) × (item_mnemonic i ≡ Some m)) ⊎ ((i ≡ exit) ⊎ ((name : List ℕ) × (i ≡ label name)))
-kind_of (statement (statement_kind.Insn (insn.Alu op width dst operand))) = inl (mnemonic.Alu op width, refl)
-kind_of (statement (statement_kind.Insn (insn.Neg width dst))) = inl (mnemonic.Neg width, refl)
-kind_of (statement (statement_kind.Insn (insn.SignExtend extension dst src))) = inl (mnemonic.SignExtend extension, refl)
-kind_of (statement (statement_kind.Insn (insn.ByteSwap order width dst))) = inl (mnemonic.ByteSwap order width, refl)
-kind_of (statement (statement_kind.Insn (insn.Jump offset))) = inl (mnemonic.Ja, refl)
-kind_of (statement (statement_kind.Insn (insn.JumpLong offset))) = inl (mnemonic.JaLong, refl)
-kind_of (statement (statement_kind.Insn (insn.Branch comparison width dst operand offset))) = inl (mnemonic.Branch comparison width, refl)
-kind_of (statement (statement_kind.Insn (insn.Call helper))) = inl (mnemonic.Call, refl)
-kind_of (statement (statement_kind.Insn (insn.CallLocal offset))) = inl (mnemonic.CallLocal, refl)
 kind_of (statement (statement_kind.Insn insn.Exit)) = inr (inl refl)
-kind_of (statement (statement_kind.Insn (insn.Load size dst src offset))) = inl (mnemonic.Load size, refl)
-kind_of (statement (statement_kind.Insn (insn.LoadSigned size dst src offset))) = inl (mnemonic.LoadSigned size, refl)
-kind_of (statement (statement_kind.Insn (insn.StoreImm size dst offset imm))) = inl (mnemonic.StoreImm size, refl)
-kind_of (statement (statement_kind.Insn (insn.Store size dst offset src))) = inl (mnemonic.Store size, refl)
-kind_of (statement (statement_kind.Insn (insn.Atomic op width dst offset src))) = inl (mnemonic.Atomic op width, refl)
-kind_of (statement (statement_kind.Insn (insn.LoadWide dst value))) = inl (mnemonic.LoadWide, refl)
-kind_of (statement (statement_kind.Slot word)) = inl (mnemonic.Slot, refl)
+kind_of (statement x) = inl (statement_mnemonic x, refl)
 kind_of (label name) = inr (inr (name, refl))
-kind_of (jump jump_kind.Near name) = inl (mnemonic.Ja, refl)
-kind_of (jump jump_kind.Long name) = inl (mnemonic.JaLong, refl)
-kind_of (jump jump_kind.CallLocal name) = inl (mnemonic.CallLocal, refl)
-kind_of (jump (jump_kind.Branch comparison width dst operand) name) = inl (mnemonic.Branch comparison width, refl)
+kind_of (jump j name) = inl (jump_mnemonic j, refl)
 
 name_lacks : (c : ℕ) → is_plain c ≡ false → (name : List ℕ) → IsName name → Lacks c name
 name_lacks c f name h = plain_lacks c f name (name_plain name h)

@@ -1,4 +1,4 @@
-use Rattle.assembler.proofs.Answering.{answered, first_refused, labels_fit, only_answer, only_first}
+use Rattle.assembler.proofs.Answering.{answered, first_refused, labels_fit, only_answer}
 use Rattle.assembler.proofs.assembling.assemble.Goals as goal
 
 pub emit-requires-clause-labels : goal.emit-requires-clause-labels
@@ -6,9 +6,6 @@ emit-requires-clause-labels c = labels_fit _ c.in-Ok.scanned c.in-Ok.ensures
 
 pub returns-in-Err-clause-answers : goal.returns-in-Err-clause-answers
 returns-in-Err-clause-answers c = first_refused c.args.text.now c.in-Err.error c.in-Err.ensures
-
-pub returns-in-Err-clause-only : goal.returns-in-Err-clause-only
-returns-in-Err-clause-only c = only_first c.args.text.now c.in-Err.error c.in-Err.ensures
 
 pub returns-clause-answers : goal.returns-clause-answers
 returns-clause-answers c = answered c.args.text.now c.in-Ok.scanned _ c.emit.result c.as_slice.ensures.value c.in-Ok.ensures c.emit.ensures.emits c.emit.ensures.some

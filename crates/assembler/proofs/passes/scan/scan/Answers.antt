@@ -1,6 +1,5 @@
 use Rattle.std.proofs.Common.{arith, inr, map}
 use Rattle.std.specs.BTreeMap.{get_by_text}
-use Rattle.std.proofs.lemmas.Result.{err_from_is_err_and}
 use Rattle.assembler.proofs.LabelSlots.{slots_after_label}
 use Rattle.assembler.proofs.Scanning.{all_scanned, begun, count, full_refused, goes_on, items_snoc, label_refused, read_refused, slots_step}
 use Rattle.assembler.specs.Items.{item_of}
@@ -29,8 +28,3 @@ lines-preserved c =
 
 pub returns : goal.returns
 returns c = (all_scanned (map item_of c.lines.lines.items) _ _ c.lines.invariant.4 c.in_default.ensures.found, omega (arith, c.lines.invariant.0, c.lines.invariant.1), c.lines.invariant.3)
-
-pub returns-in_err-push : goal.returns-in_err-push
-returns-in_err-push c =
-    let p = err_from_is_err_and c.from_residual.result c.from_residual.ensures.1 in
-    rw (p.1, p.2) (begun c.in-Ok.line c.in-Some.front.now _ _ _ c.lines.invariant.5 c.in-Some.ensures.found c.in-Ok.ensures)
