@@ -30,46 +30,17 @@ const REVIEW_VALUES: [(u64, &str); 5] = [
 const NULLS: [&str; 5] = ["null", "null", "null", "null", "null"];
 
 /// Roots that are refused, and why.
+#[rattlefmt::skip]
 const REFUSED: [([&str; 5], TableError); 9] = [
     (["1", "null", "null", "null", "null"], TableError::V1(4)),
     (["null", "null", "[]", "null", "null"], TableError::V1(6)),
     (["null", "null", "null", "null", "\"\""], TableError::V1(8)),
-    (
-        ["null", "{\"a\":1.5}", "null", "null", "null"],
-        TableError::V2(5),
-    ),
-    (
-        ["null", "null", "null", "{\"a\":-0}", "null"],
-        TableError::V2(7),
-    ),
-    (
-        [
-            "{\"a\":9223372036854775808}",
-            "null",
-            "null",
-            "null",
-            "null",
-        ],
-        TableError::V2(4),
-    ),
-    (
-        [
-            "{\"a\":[{\"b\":-9223372036854775809}]}",
-            "null",
-            "null",
-            "null",
-            "null",
-        ],
-        TableError::V2(4),
-    ),
-    (
-        ["{\"a\":1.5}", "true", "null", "null", "null"],
-        TableError::V2(4),
-    ),
-    (
-        ["null", "true", "{\"a\":1.5}", "null", "null"],
-        TableError::V1(5),
-    ),
+    (["null", "{\"a\":1.5}", "null", "null", "null"], TableError::V2(5)),
+    (["null", "null", "null", "{\"a\":-0}", "null"], TableError::V2(7)),
+    (["{\"a\":9223372036854775808}", "null", "null", "null", "null"], TableError::V2(4)),
+    (["{\"a\":[{\"b\":-9223372036854775809}]}", "null", "null", "null", "null"], TableError::V2(4)),
+    (["{\"a\":1.5}", "true", "null", "null", "null"], TableError::V2(4)),
+    (["null", "true", "{\"a\":1.5}", "null", "null"], TableError::V1(5)),
 ];
 
 /// Texts, and what they are as JSON.

@@ -16,29 +16,22 @@ fn has_words<E: Display>(alloc: Global, error: &E, words: &str) -> Result<bool, 
 }
 
 /// The errors of a text, with their words.
+#[rattlefmt::skip]
 const READ_ERRORS: [(ReadError, &str); 7] = [
     (P1(3), "no token begins at byte 3"),
-    (
-        P2(4),
-        "the text literal at byte 4 is not ended, or has a wrong escape",
-    ),
+    (P2(4), "the text literal at byte 4 is not ended, or has a wrong escape"),
     (P3(5), "the int at byte 5 is outside 64 bits"),
     (P4(6), "no expression has what stands at byte 6"),
-    (
-        P5(7),
-        "more than 100 brackets and conditions are open at byte 7",
-    ),
+    (P5(7), "more than 100 brackets and conditions are open at byte 7"),
     (P6(8), "the text is too long at byte 8"),
     (ReadError::Memory, "out of memory"),
 ];
 
 /// The errors of macros, with their words.
+#[rattlefmt::skip]
 const MACRO_ERRORS: [(MacroError, &str); 4] = [
     (M1, "a macro has another number of arguments"),
-    (
-        M2,
-        "an iteration name is no plain identifier, a root's name or `variables`",
-    ),
+    (M2, "an iteration name is no plain identifier, a root's name or `variables`"),
     (M3, "the argument of `has` selects no field"),
     (MacroError::Memory, "out of memory"),
 ];

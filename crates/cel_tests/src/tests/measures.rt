@@ -7,6 +7,7 @@ use std::alloc::{AllocError, Global};
 use std::test::Fail;
 
 /// Texts, their nodes and their needs.
+#[rattlefmt::skip]
 const MEASURED: [(&str, u64, u64); 38] = [
     ("1", 1, 1),
     ("variables.v", 1, 1),
@@ -44,16 +45,8 @@ const MEASURED: [(&str, u64, u64); 38] = [
     ("true ? 1 + (1 + 1) : 1", 8, 3),
     ("{1 + (1 + 1): 1}", 7, 4),
     ("{'a': 1, 'b': 1 + 1}", 7, 4),
-    (
-        "(1 + (1 + (1 + (1 + (1 + (1 + (1 + 1))))))).all(x, true)",
-        17,
-        8,
-    ),
-    (
-        "(1 + (1 + (1 + (1 + (1 + (1 + (1 + 1))))))).map(x, true, x)",
-        18,
-        8,
-    ),
+    ("(1 + (1 + (1 + (1 + (1 + (1 + (1 + 1))))))).all(x, true)", 17, 8),
+    ("(1 + (1 + (1 + (1 + (1 + (1 + (1 + 1))))))).map(x, true, x)", 18, 8),
 ];
 
 /// Texts, and the depth of a variable with this expression, where `v` has depth 1 and `w` has 3.

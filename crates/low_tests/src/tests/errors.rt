@@ -26,16 +26,14 @@ const LOAD_ERRORS: [(LoadError, &str); 6] = [
 ];
 
 /// The errors of a source, with their words.
+#[rattlefmt::skip]
 const ASM_ERRORS: [(AsmError, &str); 7] = [
     (A1(3), "line 3 is no instruction, slot or label"),
     (A2(4), "line 4 has a number that is out of range"),
     (A3(5), "line 5 jumps to a label that no line names"),
     (A4(6), "line 6 names a label a second time"),
     (A5(7), "line 7 jumps to a label that is too far away"),
-    (
-        A6(8),
-        "line 8 is past the 65536 slots that a program can have",
-    ),
+    (A6(8), "line 8 is past the 65536 slots that a program can have"),
     (AsmError::Memory, "out of memory"),
 ];
 

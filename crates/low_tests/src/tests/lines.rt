@@ -7,17 +7,9 @@ use std::alloc::{AllocError, Global};
 use std::test::Fail;
 
 /// Statements, how many slots each has, and its line.
+#[rattlefmt::skip]
 const LINES: [(Statement, u64, &str); 10] = [
-    (
-        Statement::Insn(Insn::Alu {
-            op: AluOp::Mov,
-            width: Width::W64,
-            dst: Register::R0,
-            operand: Operand::Imm(-2147483648),
-        }),
-        1,
-        "mov64 r0, -2147483648",
-    ),
+    (Statement::Insn(Insn::Alu { op: AluOp::Mov, width: Width::W64, dst: Register::R0, operand: Operand::Imm(-2147483648) }), 1, "mov64 r0, -2147483648"),
     (
         Statement::Insn(Insn::Branch {
             comparison: Comparison::Slt,
@@ -30,26 +22,8 @@ const LINES: [(Statement, u64, &str); 10] = [
         "jslt32 r1, r10, +0",
     ),
     (Statement::Insn(Insn::JumpLong { offset: -1 }), 1, "ja32 -1"),
-    (
-        Statement::Insn(Insn::LoadSigned {
-            size: SignedSize::H,
-            dst: Register::R3,
-            src: Register::R4,
-            offset: -32768,
-        }),
-        1,
-        "ldxsh r3, [r4-32768]",
-    ),
-    (
-        Statement::Insn(Insn::StoreImm {
-            size: Size::Dw,
-            dst: Register::R5,
-            offset: 32767,
-            imm: 0,
-        }),
-        1,
-        "stdw [r5+32767], 0",
-    ),
+    (Statement::Insn(Insn::LoadSigned { size: SignedSize::H, dst: Register::R3, src: Register::R4, offset: -32768 }), 1, "ldxsh r3, [r4-32768]"),
+    (Statement::Insn(Insn::StoreImm { size: Size::Dw, dst: Register::R5, offset: 32767, imm: 0 }), 1, "stdw [r5+32767], 0"),
     (
         Statement::Insn(Insn::Atomic {
             op: AtomicOp::FetchAdd,
@@ -72,14 +46,7 @@ const LINES: [(Statement, u64, &str); 10] = [
         1,
         "atomic_cmpxchg32 [r2+0], r3",
     ),
-    (
-        Statement::Insn(Insn::LoadWide {
-            dst: Register::R1,
-            value: 0x9122_3344_5566_77af,
-        }),
-        2,
-        "lddw r1, 0x91223344556677af",
-    ),
+    (Statement::Insn(Insn::LoadWide { dst: Register::R1, value: 0x9122_3344_5566_77af }), 2, "lddw r1, 0x91223344556677af"),
     (Statement::Slot(0), 1, ".slot 0x0000000000000000"),
     (Statement::Slot(u64::MAX), 1, ".slot 0xffffffffffffffff"),
 ];

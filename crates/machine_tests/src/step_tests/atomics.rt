@@ -16,6 +16,7 @@ const SRC: u64 = 0x0ff0_0000_8000_00fe;
 const LOW: u64 = 0x8000_0003;
 
 /// Instructions on the word at R1, R0 before each, and R0, R2 and the word in memory after it.
+#[rattlefmt::skip]
 const OPERATIONS: [(u64, u64, [u64; 3]); 24] = [
     (0xdb21_0000_0000_0000, 9, [9, SRC, 0x00e0_f0f1_0000_0101]),
     (0xdb21_0000_4000_0000, 9, [9, SRC, 0xfff0_f0f0_8000_00ff]),
@@ -37,20 +38,12 @@ const OPERATIONS: [(u64, u64, [u64; 3]); 24] = [
     (0xc321_0000_5100_0000, 9, [9, LOW, 0xf0f0_f0f0_8000_0002]),
     (0xc321_0000_a100_0000, 9, [9, LOW, 0xf0f0_f0f0_0000_00fd]),
     (0xc321_0000_e100_0000, 9, [9, LOW, 0xf0f0_f0f0_8000_00fe]),
-    (
-        0xc321_0000_f100_0000,
-        0xffff_ffff_8000_0003,
-        [LOW, SRC, 0xf0f0_f0f0_8000_00fe],
-    ),
+    (0xc321_0000_f100_0000, 0xffff_ffff_8000_0003, [LOW, SRC, 0xf0f0_f0f0_8000_00fe]),
     (0xc321_0000_f100_0000, 0x8000_0004, [LOW, SRC, OLD]),
     // The address is R1's before R1 gets the old word.
     (0xdb11_0000_e100_0000, 9, [9, SRC, 0x2_0000_0000]),
     // No alignment is asked: two bytes further the four bytes are 00 80 f0 f0.
-    (
-        0xc321_0200_e100_0000,
-        9,
-        [9, 0xf0f0_8000, 0xf0f0_8000_00fe_0003],
-    ),
+    (0xc321_0200_e100_0000, 9, [9, 0xf0f0_8000, 0xf0f0_8000_00fe_0003]),
 ];
 
 /// The words of R0 and R2 and the word in memory.

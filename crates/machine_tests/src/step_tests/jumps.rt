@@ -103,36 +103,17 @@ fn branches_on_a_negative_immediate(rt: HostRuntime) -> Result<(), Fail> {
 }
 
 /// Slots, the steps made and the status, and then `pc` and how many records are open.
+#[rattlefmt::skip]
 const JUMPS: [(&[u64], (u64, Status), (i64, usize)); 9] = [
-    (
-        &[0x0500_0100_0000_0000, 0xb700_0000_0500_0000, EXIT],
-        (2, Status::Exited(0)),
-        (2, 0),
-    ),
-    (
-        &[0x0600_0000_0100_0000, 0xb700_0000_0500_0000, EXIT],
-        (2, Status::Exited(0)),
-        (2, 0),
-    ),
+    (&[0x0500_0100_0000_0000, 0xb700_0000_0500_0000, EXIT], (2, Status::Exited(0)), (2, 0)),
+    (&[0x0600_0000_0100_0000, 0xb700_0000_0500_0000, EXIT], (2, Status::Exited(0)), (2, 0)),
     (&[0x0500_ffff_0000_0000], (9, Status::Running), (0, 0)),
     (&[0x0500_0500_0000_0000], (2, Status::Fault(F1)), (6, 0)),
     (&[0x0500_fdff_0000_0000], (2, Status::Fault(F1)), (-2, 0)),
-    (
-        &[0x0600_0000_ffff_ff7f],
-        (2, Status::Fault(F1)),
-        (0x8000_0000, 0),
-    ),
-    (
-        &[0x8500_0000_1800_0000, EXIT],
-        (1, Status::Fault(F5)),
-        (0, 0),
-    ),
+    (&[0x0600_0000_ffff_ff7f], (2, Status::Fault(F1)), (0x8000_0000, 0)),
+    (&[0x8500_0000_1800_0000, EXIT], (1, Status::Fault(F5)), (0, 0)),
     (&[0x8510_0000_ffff_ffff], (8, Status::Fault(F7)), (0, 7)),
-    (
-        &[0x8510_0000_0000_0080],
-        (2, Status::Fault(F1)),
-        (-0x7fff_ffff, 1),
-    ),
+    (&[0x8510_0000_0000_0080], (2, Status::Fault(F1)), (-0x7fff_ffff, 1)),
 ];
 
 /// Whether `pc` and how many records are open are these after a run of at most nine steps.

@@ -6,51 +6,17 @@ use std::alloc::Global;
 use std::test::Fail;
 
 /// Slots, the limit of steps, and then the steps made, the status and `pc`.
+#[rattlefmt::skip]
 const RUNS: [(&[u64], u64, (u64, Status), i64); 9] = [
     (&[0xb700_0000_0500_0000, EXIT], 9, (2, Status::Exited(5)), 1),
     (&[0xb700_0000_0500_0000, EXIT], 1, (1, Status::Running), 1),
     (&[0xb700_0000_0500_0000, EXIT], 0, (0, Status::Running), 0),
-    (
-        &[0xb700_0000_0500_0000, 0x0f00_0000_0000_0000, EXIT],
-        9,
-        (3, Status::Exited(10)),
-        2,
-    ),
-    (
-        &[0xb700_0000_ffff_ffff, EXIT],
-        9,
-        (2, Status::Exited(u64::MAX)),
-        1,
-    ),
-    (
-        &[0xb400_0000_ffff_ffff, EXIT],
-        9,
-        (2, Status::Exited(0xffff_ffff)),
-        1,
-    ),
-    (
-        &[0xb700_0000_0500_0000],
-        9,
-        (2, Status::Fault(Fault::F1)),
-        1,
-    ),
-    (
-        &[0x1800_0000_0000_0000],
-        9,
-        (1, Status::Fault(Fault::F2)),
-        0,
-    ),
-    (
-        &[
-            0x0500_0100_0000_0000,
-            0x1800_0000_0500_0000,
-            0x0000_0000_0000_0000,
-            EXIT,
-        ],
-        9,
-        (2, Status::Fault(Fault::F2)),
-        2,
-    ),
+    (&[0xb700_0000_0500_0000, 0x0f00_0000_0000_0000, EXIT], 9, (3, Status::Exited(10)), 2),
+    (&[0xb700_0000_ffff_ffff, EXIT], 9, (2, Status::Exited(u64::MAX)), 1),
+    (&[0xb400_0000_ffff_ffff, EXIT], 9, (2, Status::Exited(0xffff_ffff)), 1),
+    (&[0xb700_0000_0500_0000], 9, (2, Status::Fault(Fault::F1)), 1),
+    (&[0x1800_0000_0000_0000], 9, (1, Status::Fault(Fault::F2)), 0),
+    (&[0x0500_0100_0000_0000, 0x1800_0000_0500_0000, 0x0000_0000_0000_0000, EXIT], 9, (2, Status::Fault(Fault::F2)), 2),
 ];
 
 /// The status, `pc`, R10 and how many records are open after a run.

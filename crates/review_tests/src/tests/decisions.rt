@@ -40,18 +40,11 @@ const UNDECIDED: &str =
 
 /// A policy's specification, the object under review, and how the answers end from the outcome on,
 /// with which the program exits.
+#[rattlefmt::skip]
 const DECISIONS: [(&str, &str, &str); 4] = [
-    (
-        MOST,
-        FIVE,
-        " exited 0x0000000000000003\nverdict 3 1\nvalidation 0 1\n",
-    ),
+    (MOST, FIVE, " exited 0x0000000000000003\nverdict 3 1\nvalidation 0 1\n"),
     (MOST, THREE, " exited 0x0000000000000004\nverdict 4 0\n"),
-    (
-        ERROR_IGNORED,
-        "{}",
-        " exited 0x0000000000000004\nverdict 4 0\nvalidation 0 2\n",
-    ),
+    (ERROR_IGNORED, "{}", " exited 0x0000000000000004\nverdict 4 0\nvalidation 0 2\n"),
     (UNDECIDED, "{}", " exited 0x0000000000000002\nverdict 2 0\n"),
 ];
 

@@ -36,16 +36,11 @@ const KIND_HEAD: &str = r#"{"validations":[{"expression":"true"}],"paramKind":{"
 
 /// A policy's specification, and why it is refused. Its first list in `paramKind` is four levels
 /// deep in the document, of which 127 are read.
+#[rattlefmt::skip]
 const POLICIES: [(Pieces<'static>, Option<&str>); 10] = [
-    (
-        (HEAD, "(", 101, "true", ")", TAIL),
-        Some("K6 validation 0 P5 at 100"),
-    ),
+    ((HEAD, "(", 101, "true", ")", TAIL), Some("K6 validation 0 P5 at 100")),
     ((HEAD, "1+(", 58, "1+1", ")", SUM_TAIL), None),
-    (
-        (HEAD, "1+(", 59, "1+1", ")", SUM_TAIL),
-        Some("K6 validation 0 G1"),
-    ),
+    ((HEAD, "1+(", 59, "1+1", ")", SUM_TAIL), Some("K6 validation 0 G1")),
     ((HEAD, "true && ", 254, "true", "", TAIL), None),
     ((HEAD, "true && ", 255, "true", "", TAIL), Some("G3")),
     ((HEAD, "1*", 250, "1", "", SUM_TAIL), None),
@@ -99,28 +94,11 @@ const DOUBLES: &str = r#"{"validations":[{"expression":"object.a + object.a == o
 
 /// A policy's specification, the object under review, the most steps, the status, and the refusal,
 /// which is empty where the request is allowed.
+#[rattlefmt::skip]
 const REVIEWS: [(&str, Pieces<'static>, u64, u8, &str); 3] = [
-    (
-        HAS_ONE,
-        ("{\"items\":[1", ",2", 9_999, "", "", "]}"),
-        1024,
-        0,
-        "",
-    ),
-    (
-        DOUBLES,
-        ("{\"a\":\"", "a", 9_000_000, "", "", "\"}"),
-        DEFAULT_STEPS,
-        4,
-        "celbpf: N5\n",
-    ),
-    (
-        HOLDS,
-        ("{\"a\":", "[", 200, "", "]", "}"),
-        DEFAULT_STEPS,
-        3,
-        "celbpf: N2\n",
-    ),
+    (HAS_ONE, ("{\"items\":[1", ",2", 9_999, "", "", "]}"), 1024, 0, ""),
+    (DOUBLES, ("{\"a\":\"", "a", 9_000_000, "", "", "\"}"), DEFAULT_STEPS, 4, "celbpf: N5\n"),
+    (HOLDS, ("{\"a\":", "[", 200, "", "]", "}"), DEFAULT_STEPS, 3, "celbpf: N2\n"),
 ];
 
 #[test]

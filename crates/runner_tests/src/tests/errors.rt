@@ -12,11 +12,9 @@ fn has_words<E: Display>(alloc: Global, error: &E, words: &str) -> Result<bool, 
 }
 
 /// The errors of the command line, with their words.
+#[rattlefmt::skip]
 const ORDER_ERRORS: [(OrderError, &str); 2] = [
-    (
-        OrderError::U1,
-        "the command line is not one that celbpf takes",
-    ),
+    (OrderError::U1, "the command line is not one that celbpf takes"),
     (OrderError::Memory, "out of memory"),
 ];
 

@@ -41,6 +41,7 @@ no
 {"apiVersion":"admission.k8s.io/v1","kind":"AdmissionReview","request":{"uid":"u5","object":{"spec":{"replicas":2}}}}"#;
 
 /// The words, the input, the status, standard output and the refusal.
+#[rattlefmt::skip]
 const ROWS: [(&str, &str, u8, &str, &str); 10] = [
     (FEW, TWO, 0, TWO_ANSWERS, ""),
     (
@@ -72,20 +73,8 @@ const ROWS: [(&str, &str, u8, &str, &str); 10] = [
 "#,
         "",
     ),
-    (
-        "gatekeeper --policy few --policy even --steps 1",
-        TWO,
-        0,
-        "{\"refused\":\"N4\",\"uid\":\"u1\"}\n{\"refused\":\"N4\",\"uid\":\"u2\"}\n",
-        "",
-    ),
-    (
-        "gatekeeper --params none --policy few",
-        TWO,
-        0,
-        "{\"refused\":\"N3\",\"uid\":\"u1\"}\n{\"refused\":\"N3\",\"uid\":\"u2\"}\n",
-        "",
-    ),
+    ("gatekeeper --policy few --policy even --steps 1", TWO, 0, "{\"refused\":\"N4\",\"uid\":\"u1\"}\n{\"refused\":\"N4\",\"uid\":\"u2\"}\n", ""),
+    ("gatekeeper --params none --policy few", TWO, 0, "{\"refused\":\"N3\",\"uid\":\"u1\"}\n{\"refused\":\"N3\",\"uid\":\"u2\"}\n", ""),
     ("gatekeeper --policy few --policy none", TWO, 3, "", "K1"),
     (NO_POLICY, TWO, 3, "", "file"),
     (NO_NAMESPACE, TWO, 3, "", "file"),

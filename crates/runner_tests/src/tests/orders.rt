@@ -18,16 +18,13 @@ fn is_run(order: &Result<Order, OrderError>, name: &str, number: u64) -> bool {
 }
 
 /// What is asked for, and the order's file and steps.
+#[rattlefmt::skip]
 const RUNS: [(&str, &str, u64); 8] = [
     ("celbpf run-image a.img", "a.img", 10_000_000),
     ("celbpf run-image a.img --steps 5", "a.img", 5),
     ("celbpf run-image a.img --steps=0", "a.img", 0),
     ("celbpf run-image --steps 9 b.img", "b.img", 9),
-    (
-        "celbpf run-image a.img --steps 1000000000",
-        "a.img",
-        1_000_000_000,
-    ),
+    ("celbpf run-image a.img --steps 1000000000", "a.img", 1_000_000_000),
     ("celbpf run-image a.img --steps +7", "a.img", 7),
     ("celbpf run-image a.img --steps 007", "a.img", 7),
     ("celbpf run-image ", "", 10_000_000),

@@ -19,23 +19,12 @@ fn file(alloc: Global, code: &[u8], constants: &[u8]) -> Result<Vec<u8>, AllocEr
 }
 
 /// Code with constants, and the last line that its run prints.
+#[rattlefmt::skip]
 const CALLS: [(&[u8], &[u8], &[u8]); 6] = [
     // The kind of the truth at reference 3, of none at 9, and no helper.
-    (
-        b"\xb7\x01\0\0\x03\0\0\0\x85\0\0\0\x01\0\0\0\x95\0\0\0\0\0\0\0",
-        b"",
-        b"\nstep 3 pc 2 exited 0x0000000000000002\n",
-    ),
-    (
-        b"\xb7\x01\0\0\x09\0\0\0\x85\0\0\0\x01\0\0\0\x95\0\0\0\0\0\0\0",
-        b"",
-        b"\nstep 2 pc 1 fault F6\n",
-    ),
-    (
-        b"\xb7\x01\0\0\x03\0\0\0\x85\0\0\0\x18\0\0\0\x95\0\0\0\0\0\0\0",
-        b"",
-        b"\nstep 2 pc 1 fault F5\n",
-    ),
+    (b"\xb7\x01\0\0\x03\0\0\0\x85\0\0\0\x01\0\0\0\x95\0\0\0\0\0\0\0", b"", b"\nstep 3 pc 2 exited 0x0000000000000002\n"),
+    (b"\xb7\x01\0\0\x09\0\0\0\x85\0\0\0\x01\0\0\0\x95\0\0\0\0\0\0\0", b"", b"\nstep 2 pc 1 fault F6\n"),
+    (b"\xb7\x01\0\0\x03\0\0\0\x85\0\0\0\x18\0\0\0\x95\0\0\0\0\0\0\0", b"", b"\nstep 2 pc 1 fault F5\n"),
     // The size of a text of one character.
     (
         b"\x18\x01\0\0\0\0\0\0\0\0\0\0\x04\0\0\0\xb7\x02\0\0\x02\0\0\0\x85\0\0\0\x04\0\0\0\xbf\x01\0\0\0\0\0\0\x85\0\0\0\x08\0\0\0\xbf\x01\0\0\0\0\0\0\x85\0\0\0\x02\0\0\0\x95\0\0\0\0\0\0\0",
@@ -57,44 +46,24 @@ const CALLS: [(&[u8], &[u8], &[u8]); 6] = [
 ];
 
 /// Code without constants, and the last line that its run prints.
+#[rattlefmt::skip]
 const RUNS: [(&[u8], &[u8]); 9] = [
     // The wide load lacks its second slot.
     (b"\x18\0\0\0\0\0\0\0", b"\nstep 1 pc 0 fault F2\n"),
     // The jump goes to the second slot of a wide load.
-    (
-        b"\x05\0\x01\0\0\0\0\0\x18\0\0\0\x05\0\0\0\0\0\0\0\0\0\0\0\x95\0\0\0\0\0\0\0",
-        b"\nstep 2 pc 2 fault F2\n",
-    ),
+    (b"\x05\0\x01\0\0\0\0\0\x18\0\0\0\x05\0\0\0\0\0\0\0\0\0\0\0\x95\0\0\0\0\0\0\0", b"\nstep 2 pc 2 fault F2\n"),
     // The load is from the last address.
-    (
-        b"\xb7\x01\0\0\xff\xff\xff\xff\x79\x10\0\0\0\0\0\0",
-        b"\nstep 2 pc 1 fault F3\n",
-    ),
+    (b"\xb7\x01\0\0\xff\xff\xff\xff\x79\x10\0\0\0\0\0\0", b"\nstep 2 pc 1 fault F3\n"),
     // The function calls itself.
     (b"\x85\x10\0\0\xff\xff\xff\xff", b"\nstep 8 pc 0 fault F7\n"),
     // 0x80 as a signed byte, to 64 and to 32 bits.
-    (
-        b"\xb7\x01\0\0\x80\0\0\0\xbf\x10\x08\0\0\0\0\0\x95\0\0\0\0\0\0\0",
-        b"\nstep 3 pc 2 exited 0xffffffffffffff80\n",
-    ),
-    (
-        b"\xb7\x01\0\0\x80\0\0\0\xbc\x10\x08\0\0\0\0\0\x95\0\0\0\0\0\0\0",
-        b"\nstep 3 pc 2 exited 0x00000000ffffff80\n",
-    ),
+    (b"\xb7\x01\0\0\x80\0\0\0\xbf\x10\x08\0\0\0\0\0\x95\0\0\0\0\0\0\0", b"\nstep 3 pc 2 exited 0xffffffffffffff80\n"),
+    (b"\xb7\x01\0\0\x80\0\0\0\xbc\x10\x08\0\0\0\0\0\x95\0\0\0\0\0\0\0", b"\nstep 3 pc 2 exited 0x00000000ffffff80\n"),
     // 0x1234 as two bytes in the other order, and as four.
-    (
-        b"\xb7\0\0\0\x34\x12\0\0\xdc\0\0\0\x10\0\0\0\x95\0\0\0\0\0\0\0",
-        b"\nstep 3 pc 2 exited 0x0000000000003412\n",
-    ),
-    (
-        b"\xb7\0\0\0\x34\x12\0\0\xd7\0\0\0\x20\0\0\0\x95\0\0\0\0\0\0\0",
-        b"\nstep 3 pc 2 exited 0x0000000034120000\n",
-    ),
+    (b"\xb7\0\0\0\x34\x12\0\0\xdc\0\0\0\x10\0\0\0\x95\0\0\0\0\0\0\0", b"\nstep 3 pc 2 exited 0x0000000000003412\n"),
+    (b"\xb7\0\0\0\x34\x12\0\0\xd7\0\0\0\x20\0\0\0\x95\0\0\0\0\0\0\0", b"\nstep 3 pc 2 exited 0x0000000034120000\n"),
     // A move of 32 bits clears the others.
-    (
-        b"\xb4\0\0\0\xff\xff\xff\xff\x95\0\0\0\0\0\0\0",
-        b"\nstep 2 pc 1 exited 0x00000000ffffffff\n",
-    ),
+    (b"\xb4\0\0\0\xff\xff\xff\xff\x95\0\0\0\0\0\0\0", b"\nstep 2 pc 1 exited 0x00000000ffffffff\n"),
 ];
 
 /// Whether the run of this code with these constants prints this line last.

@@ -19,12 +19,10 @@ const SESSION_ERRORS: [(SessionError, &str); 3] = [
 ];
 
 /// The errors of roots, with their words.
+#[rattlefmt::skip]
 const TABLE_ERRORS: [(TableError, &str); 4] = [
     (TableError::V1(3), "root 3 is neither an object nor null"),
-    (
-        TableError::V2(4),
-        "root 4 holds a number that is no integer of 64 bits",
-    ),
+    (TableError::V2(4), "root 4 holds a number that is no integer of 64 bits"),
     (TableError::V3, "the roots are too large"),
     (TableError::Memory, "out of memory"),
 ];

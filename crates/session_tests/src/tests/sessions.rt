@@ -33,6 +33,7 @@ const COUNTS: &[u8] =
     b"\x79\xa1\xf8\xff\0\0\0\0\x07\x01\0\0\x01\0\0\0\x7b\x1a\xf8\xff\0\0\0\0\x05\0\xfc\xff\0\0\0\0";
 
 /// Programs with inputs that break, list and show, and what is written.
+#[rattlefmt::skip]
 const COMMANDS: [(&[u8], &[u8], &[u8]); 15] = [
     (
         COUNTS,
@@ -44,46 +45,18 @@ const COMMANDS: [(&[u8], &[u8], &[u8]); 15] = [
         b"b 1\nd 1\nc 10\nr\n",
         b"break 1\nclear 1\nstep 2 pc 1 exited 0x0000000000000005\nr0 0x0000000000000005\nr1 0x0000000000000000\nr2 0x0000000000000000\nr3 0x0000000000000000\nr4 0x0000000000000000\nr5 0x0000000000000000\nr6 0x0000000000000000\nr7 0x0000000000000000\nr8 0x0000000000000000\nr9 0x0000000000000000\nr10 0x0000000100000200\n",
     ),
-    (
-        CODE,
-        b"b 1\nc 10\nrs 1\nrs 1\nrc\nbogus\n",
-        b"break 1\nstep 1 pc 1 running\nstep 0 pc 0 running\n? range\nstep 0 pc 0 running\n? what\n",
-    ),
-    (
-        CODE,
-        b"b 1\nb 1\nd 1\nc 1\nd 1\nc 1\n",
-        b"break 1\nbreak 1\nclear 1\nstep 1 pc 1 running\nclear 1\nstep 2 pc 1 exited 0x0000000000000005\n",
-    ),
-    (
-        CODE,
-        b"g 0\ng 1000000000\nc 1\nrc\n",
-        b"step 0 pc 0 running\nstep 1000000000 pc 1 exited 0x0000000000000005\n? range\nstep 0 pc 0 running\n",
-    ),
+    (CODE, b"b 1\nc 10\nrs 1\nrs 1\nrc\nbogus\n", b"break 1\nstep 1 pc 1 running\nstep 0 pc 0 running\n? range\nstep 0 pc 0 running\n? what\n"),
+    (CODE, b"b 1\nb 1\nd 1\nc 1\nd 1\nc 1\n", b"break 1\nbreak 1\nclear 1\nstep 1 pc 1 running\nclear 1\nstep 2 pc 1 exited 0x0000000000000005\n"),
+    (CODE, b"g 0\ng 1000000000\nc 1\nrc\n", b"step 0 pc 0 running\nstep 1000000000 pc 1 exited 0x0000000000000005\n? range\nstep 0 pc 0 running\n"),
     (
         CODE,
         b"b 65535\nb 65536\nd 65536\ng 1000000001\nc 0\nc 1000001\nrc x\nb 01\nl 1\nb\n",
         b"break 65535\n? range\n? range\n? range\n? range\n? range\n? what\n? what\n? what\n? what\n",
     ),
-    (
-        CODE,
-        b"l\ns 1\nl\n",
-        b"0 mov64 r0, 5\n1 exit\nstep 1 pc 1 running\n1 exit\n",
-    ),
-    (
-        INSIDE_WIDE,
-        b"l\ns 2\nl\n",
-        b"0 ja +1\n1 lddw r0, 0x0000000000000005\n3 exit\nstep 2 pc 2 fault F2\n2 .slot 0x0000000000000000\n3 exit\n",
-    ),
-    (
-        NINE_EXITS,
-        b"l\n",
-        b"0 exit\n1 exit\n2 exit\n3 exit\n4 exit\n5 exit\n6 exit\n7 exit\n",
-    ),
-    (
-        OPEN_ENDED,
-        b"s 2\nl\n",
-        b"step 2 pc 1 fault F1\n1 outside\n",
-    ),
+    (CODE, b"l\ns 1\nl\n", b"0 mov64 r0, 5\n1 exit\nstep 1 pc 1 running\n1 exit\n"),
+    (INSIDE_WIDE, b"l\ns 2\nl\n", b"0 ja +1\n1 lddw r0, 0x0000000000000005\n3 exit\nstep 2 pc 2 fault F2\n2 .slot 0x0000000000000000\n3 exit\n"),
+    (NINE_EXITS, b"l\n", b"0 exit\n1 exit\n2 exit\n3 exit\n4 exit\n5 exit\n6 exit\n7 exit\n"),
+    (OPEN_ENDED, b"s 2\nl\n", b"step 2 pc 1 fault F1\n1 outside\n"),
     (
         CODE,
         b"s 5\nv 3\nv 0\nv 4\nv 9\nm 0x300000000 2\n",
@@ -145,26 +118,15 @@ fn breaks_and_lists(rt: HostRuntime) -> Result<(), Fail> {
 }
 
 /// Inputs, and what is written.
+#[rattlefmt::skip]
 const TALKS: [(&[u8], &[u8]); 8] = [
-    (
-        b"s 1\nrs 1\nrs 1\ns 0\ns 01\ns 1000001\nx\nq\n",
-        b"step 1 pc 1 running\nstep 0 pc 0 running\n? range\n? range\n? what\n? range\n? what\n",
-    ),
+    (b"s 1\nrs 1\nrs 1\ns 0\ns 01\ns 1000001\nx\nq\n", b"step 1 pc 1 running\nstep 0 pc 0 running\n? range\n? range\n? what\n? range\n? what\n"),
     (b"s 1\nq\ns 1\n", b"step 1 pc 1 running\n"),
     (b"s 2", b"step 2 pc 1 exited 0x0000000000000005\n"),
-    (
-        b"s 1000000\nrs 999999\n",
-        b"step 1000000 pc 1 exited 0x0000000000000005\nstep 1 pc 1 running\n",
-    ),
+    (b"s 1000000\nrs 999999\n", b"step 1000000 pc 1 exited 0x0000000000000005\nstep 1 pc 1 running\n"),
     (b"\n\r\ns  1\n", b"? what\n? what\n? what\n"),
-    (
-        b"s 11111111111111111111111111111111111111111111111111111111111111\n",
-        b"? range\n",
-    ),
-    (
-        b"s 111111111111111111111111111111111111111111111111111111111111111\n",
-        b"? what\n",
-    ),
+    (b"s 11111111111111111111111111111111111111111111111111111111111111\n", b"? range\n"),
+    (b"s 111111111111111111111111111111111111111111111111111111111111111\n", b"? what\n"),
     (
         b"s 1\nr\n",
         b"step 1 pc 1 running\nr0 0x0000000000000005\nr1 0x0000000000000000\nr2 0x0000000000000000\nr3 0x0000000000000000\nr4 0x0000000000000000\nr5 0x0000000000000000\nr6 0x0000000000000000\nr7 0x0000000000000000\nr8 0x0000000000000000\nr9 0x0000000000000000\nr10 0x0000000100000200\n",
@@ -199,15 +161,9 @@ fn goes_back_over_a_store(rt: HostRuntime) -> Result<(), Fail> {
 
 /// Inputs, and what is written where no memory is refused, and where the memory for one of their
 /// lines is.
+#[rattlefmt::skip]
 const REFUSED: [(&[u8], [&[u8]; 3]); 5] = [
-    (
-        b"w\nw\nx\n",
-        [
-            b"verdict 0 0\nverdict 0 0\n? what\n",
-            b"? memory\nverdict 0 0\n? what\n",
-            b"verdict 0 0\n? memory\n? what\n",
-        ],
-    ),
+    (b"w\nw\nx\n", [b"verdict 0 0\nverdict 0 0\n? what\n", b"? memory\nverdict 0 0\n? what\n", b"verdict 0 0\n? memory\n? what\n"]),
     (
         b"v 3\nm 0x300000000 1\nv 0\nf\n",
         [

@@ -20,11 +20,9 @@ const FILLS: &[u8] =
     b"\x18\x01\0\0\0\0\0\0\0\0\0\0\x03\0\0\0\xb7\x02\0\0\xff\xff\xff\xff\x18\x03\0\0\0\x08\0\0\0\0\0\0\x03\0\0\0\x7b\x21\0\0\0\0\0\0\x07\x01\0\0\x08\0\0\0\x5d\x31\xfd\xff\0\0\0\0\x95\0\0\0\0\0\0\0";
 
 /// Versions of the image of `TOLD`, and what is written.
+#[rattlefmt::skip]
 const ROWS: [(u8, &[u8]); 2] = [
-    (
-        1,
-        b"verdict 0 0\nstep 10 pc 10 exited 0x0000000000000000\nverdict 3 1\nvalidation 0 257\nvalidation 63 2\nstep 3 pc 4 running\nverdict 3 1\n? what\n",
-    ),
+    (1, b"verdict 0 0\nstep 10 pc 10 exited 0x0000000000000000\nverdict 3 1\nvalidation 0 257\nvalidation 63 2\nstep 3 pc 4 running\nverdict 3 1\n? what\n"),
     (
         2,
         b"verdict 0 0\nstep 10 pc 10 exited 0x0000000000000000\nverdict 3 1\nvalidation 0 257\nvalidation 63 2\nmessage 0 9\nmessage 63 18446744073709551615\nstep 3 pc 4 running\nverdict 3 1\n? what\n",

@@ -57,25 +57,14 @@ const BROKEN: &[u8] =
 
 /// For each line of that session the first read of a byte that has not ended it and the first that has
 /// ended the next one, and the text before it. The last read finds the end.
+#[rattlefmt::skip]
 const BROKEN_READS: [(u64, u64, &[u8]); 7] = [
     (1, 5, b""),
     (5, 10, b"break 1\n"),
     (10, 15, b"break 1\nstep 1 pc 1 running\n"),
-    (
-        15,
-        20,
-        b"break 1\nstep 1 pc 1 running\nstep 0 pc 0 running\n",
-    ),
-    (
-        20,
-        23,
-        b"break 1\nstep 1 pc 1 running\nstep 0 pc 0 running\n? range\n",
-    ),
-    (
-        23,
-        29,
-        b"break 1\nstep 1 pc 1 running\nstep 0 pc 0 running\n? range\nstep 0 pc 0 running\n",
-    ),
+    (15, 20, b"break 1\nstep 1 pc 1 running\nstep 0 pc 0 running\n"),
+    (20, 23, b"break 1\nstep 1 pc 1 running\nstep 0 pc 0 running\n? range\n"),
+    (23, 29, b"break 1\nstep 1 pc 1 running\nstep 0 pc 0 running\n? range\nstep 0 pc 0 running\n"),
     (29, 30, BROKEN),
 ];
 
