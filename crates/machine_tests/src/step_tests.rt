@@ -1,6 +1,7 @@
 //! Programs whose ends were computed by hand. A slot is written as its eight bytes in storage order.
 use bpf_machine::{Machine, Status};
 use guest_memory::Guest;
+use insn_codec::Register;
 use loader::Image;
 use std::alloc::Global;
 use std::test::Fail;
@@ -71,6 +72,17 @@ fn run_answer(mut machine: Plain, limit: u64) -> Result<(u64, Status), Fail> {
 fn run_machine(mut machine: Plain, limit: u64) -> Result<Plain, Fail> {
     machine.run(limit)?;
     Ok(machine)
+}
+
+/// What a run answers, and then `pc`, R10 and how many records are open.
+type End = ((u64, Status), (i64, u64, usize));
+
+/// The end of a run of at most so many steps.
+fn end_of(alloc: Global, slots: &[u64], limit: u64) -> Result<End, Fail> {
+    let mut machine = machine(alloc, slots, &[])?;
+    let answer = machine.run(limit)?;
+    let r10 = machine.register(Register::R10);
+    Ok((answer, (machine.pc(), r10, machine.records().len())))
 }
 
 /// What a run of at most nine steps answers from the start.

@@ -340,26 +340,16 @@ fn wrong_row(alloc: Global, rows: &[Row]) -> Result<Option<usize>, Fail> {
 }
 
 #[test]
-fn conversions(rt: HostRuntime) -> Result<(), Fail> {
-    assert_eq!(rt; wrong_row(rt.alloc(), &CONVERSIONS)?, None);
-    Ok(())
-}
-
-#[test]
-fn lookups(rt: HostRuntime) -> Result<(), Fail> {
-    assert_eq!(rt; wrong_row(rt.alloc(), &LOOKUPS)?, None);
-    Ok(())
-}
-
-#[test]
-fn comparisons(rt: HostRuntime) -> Result<(), Fail> {
-    assert_eq!(rt; wrong_row(rt.alloc(), &COMPARISONS)?, None);
-    Ok(())
-}
-
-#[test]
-fn building(rt: HostRuntime) -> Result<(), Fail> {
-    assert_eq!(rt; wrong_row(rt.alloc(), &BUILDING)?, None);
+fn words(rt: HostRuntime) -> Result<(), Fail> {
+    let tables = [
+        &CONVERSIONS[..],
+        &LOOKUPS[..],
+        &COMPARISONS[..],
+        &BUILDING[..],
+    ];
+    for (table, rows) in tables.into_iter().enumerate() {
+        assert_eq!(rt; wrong_row(rt.alloc(), rows)?, None, "table {table}");
+    }
     Ok(())
 }
 

@@ -1,4 +1,4 @@
-use super::{EXIT, answer, answers, machine, run_answer, run_machine, wide};
+use super::{EXIT, answer, end_of, machine, run_answer, run_machine, wide};
 use Fault::{F1, F5, F7};
 use bpf_machine::Status;
 use guest_memory::Fault;
@@ -116,24 +116,11 @@ const JUMPS: [(&[u64], (u64, Status), (i64, usize)); 9] = [
     (&[0x8510_0000_0000_0080], (2, Status::Fault(F1)), (-0x7fff_ffff, 1)),
 ];
 
-/// Whether `pc` and how many records are open are these after a run of at most nine steps.
-fn leads_to(alloc: Global, slots: &[u64], place: (i64, usize)) -> Result<bool, Fail> {
-    let machine = run_machine(machine(alloc, slots, &[])?, 9)?;
-    Ok((machine.pc(), machine.records().len()) == place)
-}
-
 #[test]
 fn jumps_and_calls(rt: HostRuntime) -> Result<(), Fail> {
     for (row, jump) in JUMPS.iter().enumerate() {
-        assert!(rt; answers(rt.alloc(), jump.0, jump.1)?, "row {row}");
-    }
-    Ok(())
-}
-
-#[test]
-fn jumps_and_calls_lead_to_slots(rt: HostRuntime) -> Result<(), Fail> {
-    for (row, jump) in JUMPS.iter().enumerate() {
-        assert!(rt; leads_to(rt.alloc(), jump.0, jump.2)?, "row {row}");
+        let (answer, (pc, _, records)) = end_of(rt.alloc(), jump.0, 9)?;
+        assert!(rt; (answer, (pc, records)) == (jump.1, jump.2), "row {row}");
     }
     Ok(())
 }

@@ -1,8 +1,6 @@
-use super::{EXIT, answers, machine, run_answer, run_machine};
+use super::{EXIT, end_of};
 use bpf_machine::Status;
 use guest_memory::Fault;
-use insn_codec::Register;
-use std::alloc::Global;
 use std::test::Fail;
 
 /// Slots, the limit of steps, and then the steps made, the status and `pc`.
@@ -19,40 +17,11 @@ const RUNS: [(&[u64], u64, (u64, Status), i64); 9] = [
     (&[0x0500_0100_0000_0000, 0x1800_0000_0500_0000, 0x0000_0000_0000_0000, EXIT], 9, (2, Status::Fault(Fault::F2)), 2),
 ];
 
-/// The status, `pc`, R10 and how many records are open after a run.
-type Place = (Status, i64, u64, usize);
-
-fn leads_to(alloc: Global, slots: &[u64], limit: u64, place: Place) -> Result<bool, Fail> {
-    let machine = run_machine(machine(alloc, slots, &[])?, limit)?;
-    let r10 = machine.register(Register::R10);
-    Ok((machine.status(), machine.pc(), r10, machine.records().len()) == place)
-}
-
-/// Whether a run of at most so many steps answers this.
-fn answers_within(
-    alloc: Global,
-    slots: &[u64],
-    limit: u64,
-    expected: (u64, Status),
-) -> Result<bool, Fail> {
-    Ok(run_answer(machine(alloc, slots, &[])?, limit)? == expected)
-}
-
 #[test]
 fn runs(rt: HostRuntime) -> Result<(), Fail> {
     for (row, run) in RUNS.iter().enumerate() {
-        let answers = answers_within(rt.alloc(), run.0, run.1, run.2)?;
-        assert!(rt; answers, "row {row}");
-    }
-    Ok(())
-}
-
-#[test]
-fn runs_lead_to_slots(rt: HostRuntime) -> Result<(), Fail> {
-    for (row, run) in RUNS.iter().enumerate() {
-        let place = ((run.2).1, run.3, 0x1_0000_0200, 0);
-        let leads = leads_to(rt.alloc(), run.0, run.1, place)?;
-        assert!(rt; leads, "row {row}");
+        let end = (run.2, (run.3, 0x1_0000_0200, 0));
+        assert!(rt; end_of(rt.alloc(), run.0, run.1)? == end, "row {row}");
     }
     Ok(())
 }
@@ -73,19 +42,12 @@ const INTO_R10: [u64; 10] = [
 
 #[test]
 fn the_frame_pointer_is_read_only(rt: HostRuntime) -> Result<(), Fail> {
-    let end = (Status::Fault(Fault::F9), 0, 0x1_0000_0200, 0);
+    let end = ((1, Status::Fault(Fault::F9)), (0, 0x1_0000_0200, 0));
     for (row, slot) in INTO_R10.into_iter().enumerate() {
-        let stays = leads_to(rt.alloc(), &[slot, 0, EXIT], 9, end)?;
-        assert!(rt; stays, "row {row}");
-    }
-    Ok(())
-}
-
-#[test]
-fn the_frame_pointer_stops_at_once(rt: HostRuntime) -> Result<(), Fail> {
-    let end = (1, Status::Fault(Fault::F9));
-    for (row, slot) in INTO_R10.into_iter().enumerate() {
-        assert!(rt; answers(rt.alloc(), &[slot, 0, EXIT], end)?, "row {row}");
+        assert!(rt;
+            end_of(rt.alloc(), &[slot, 0, EXIT], 9)? == end,
+            "row {row}"
+        );
     }
     Ok(())
 }
