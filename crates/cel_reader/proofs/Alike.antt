@@ -7,7 +7,7 @@ use Rattle.cel_reader.specs.Words.{literal_of}
 use Rattle.cel_reader.specs.Look.{NotAt, NoOperator, NoLiteral, NoSelector, NoIdentifier, Closes, GoesOn, closing_mark, takes_comma}
 use Rattle.cel_reader.specs.declared.level.Level.{Level}
 use Rattle.cel_reader.specs.declared.closing.Closing.{Closing}
-use Rattle.cel_reader.specs.declared.closing.Closing.TheVariants.{Call, List as ListLiteral, Map}
+use Rattle.cel_reader.specs.declared.closing.Closing.TheVariants.{Call}
 
 -- ws ends with x and us with y, and before these they are the same
 pub data Alike : List Word → List Word → List Word → List Word → Type 0 where
@@ -68,37 +68,31 @@ heads [] [] vs w h e = absurd cc
 heads (x ∷ ws) (u ∷ us) vs w h e = let f : x ∷ ws ≡ w ∷ ws = cc in (ws, f)
 heads _ _ vs w h e = absurd h
 
-comma_first : (m : Mark) (ws us : List Word) → ws ≡ mark Comma ∷ us → NotAt m ws → mark Comma ≡ mark m → ⊥
-comma_first m ws us e n f = subst (λ (x : List Word). NotAt m x) e n f
-
 not_comma : (ws us : List Word) → NotAt Comma ws → ws ≡ mark Comma ∷ us → ⊥
-not_comma ws us n e = comma_first Comma ws us e n refl
+not_comma ws us n e = subst (λ (x : List Word). NotAt Comma x) e n refl
 
 -- a list that goes on at a word that is no comma does so before any words
 pub goes_too : (c : Closing) (ws us : List Word) → SameHead ws us → GoesOn c ws → NotAt Comma ws → GoesOn c us
 goes_too c ws us h g n rest (inl e) = let x = heads ws us rest (mark (closing_mark c)) h e in g x.0 (inl x.1)
 goes_too c ws us h g n rest (inr p) = let x = heads ws us (mark (closing_mark c) ∷ rest) (mark Comma) h p.1 in not_comma ws x.0 n x.1
 
-no_closing : (c : Closing) → mark Comma ≡ mark (closing_mark c) → ⊥
-no_closing Call e = absurd cc
-no_closing _ e = absurd cc
+pub comma_closes_none : {P : Type 0} (c : Closing) (x y : List Word) → mark Comma ∷ x ≡ mark (closing_mark c) ∷ y → P
+comma_closes_none Call x y e = absurd cc
+comma_closes_none _ x y e = absurd cc
 
-first_of : (w u : Word) (ws us : List Word) → w ∷ ws ≡ u ∷ us → w ≡ u
-first_of w u ws us e = cc
-
-rest_of : (w u : Word) (ws us : List Word) → w ∷ ws ≡ u ∷ us → ws ≡ us
+pub rest_of : (w u : Word) (ws us : List Word) → w ∷ ws ≡ u ∷ us → ws ≡ us
 rest_of w u ws us e = cc
 
 -- and one that goes on at a comma does so before words of the same head
 pub goes_comma : (c : Closing) (ws us vs : List Word) → GoesOn c ws → ws ≡ mark Comma ∷ us → SameHead us vs → GoesOn c (mark Comma ∷ vs)
-goes_comma c ws us vs g e h rest (inl f) = no_closing c (first_of _ _ _ _ f)
+goes_comma c ws us vs g e h rest (inl f) = comma_closes_none c _ _ f
 goes_comma c ws us vs g e h rest (inr p) =
     let x = heads us vs rest (mark (closing_mark c)) h (rest_of _ _ _ _ p.1) in
     g x.0 (inr (p.0, e ∙ ap (λ (y : List Word). mark Comma ∷ y) x.1))
 
 -- arguments go on at a comma, whatever is behind it
 pub goes_alone : (c : Closing) (vs : List Word) → takes_comma c ≡ false → GoesOn c (mark Comma ∷ vs)
-goes_alone c vs t rest (inl f) = no_closing c (first_of _ _ _ _ f)
+goes_alone c vs t rest (inl f) = comma_closes_none c _ _ f
 goes_alone c vs t rest (inr p) = absurd (let e : true ≡ false = sym p.0 ∙ t in cc)
 
 -- behind the end of a list, other words

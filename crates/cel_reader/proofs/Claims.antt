@@ -1,5 +1,5 @@
 -- What any run of the reader answers where the words are a phrase.
-use Rattle.std.proofs.Common.{◌≡◌, ℕ, suc, List, [], ◌∷◌, Some, refl, sym, ◌∙◌, subst, arith}
+use Rattle.std.proofs.Common.{◌≡◌, ℕ, suc, List, [], ◌∷◌, Some, refl, subst, arith}
 use Rattle.cel_tokens.specs.Token.{Word, mark}
 use Rattle.cel_tokens.specs.declared.mark.Mark.{Mark}
 use Rattle.cel_tokens.specs.declared.mark.Mark.TheVariants.{Dot, OpenParen, OpenBracket}
@@ -49,28 +49,11 @@ Claim c room ws (One a) rest = ClaimOne c room ws a rest
 Claim c room ws (Many items) rest = ClaimMany c room ws items rest
 Claim c room ws (Keyed pairs) rest = ClaimKeyed c room ws pairs rest
 
-pub refused : {P : Type 0} (e : Cause) (p : Phrase) (rest : List Word) → Refused e ≡ Got p rest → P
-refused e p rest f = absurd cc
-
-pub got_one : (a b : Tree) (x y : List Word) → Got (One a) x ≡ Got (One b) y → a ≡ b
-got_one a b x y e = cc
-
-pub got_rest : (p q : Phrase) (x y : List Word) → Got p x ≡ Got q y → x ≡ y
-got_rest p q x y e = cc
-
--- the words behind the first
-pub tails : (us vs : List Word) (w v : Word) → w ∷ us ≡ v ∷ vs → vs ≡ us
-tails us vs w v e = cc
-
--- the words behind the one that an answer ends at
-pub past : (p q : Phrase) (x us vs : List Word) (w v : Word) → Got p x ≡ Got q (v ∷ vs) → x ≡ w ∷ us → us ≡ vs
-past p q x us vs w v e f = let g : w ∷ us ≡ v ∷ vs = sym f ∙ got_rest p q x (v ∷ vs) e in cc
+pub refused : {P : Type 0} {e : Cause} {p : Phrase} {rest : List Word} → Refused e ≡ Got p rest → P
+refused f = absurd cc
 
 pub not_at : (m : Mark) (ws us : List Word) → NotAt m ws → ws ≡ mark m ∷ us → ⊥
 not_at m ws us n e = (subst (λ (x : List Word). NotAt m x) e n) refl
-
-pub same_inner : (room inner : ℕ) → suc room ≡ suc inner → inner ≡ room
-same_inner room inner z = omega arith
 
 pub no_room : {P : Type 0} (room : ℕ) → suc room ≡ 0 → P
 no_room room z = absurd (omega arith)
@@ -99,14 +82,14 @@ suffix_at_stop room ws a n m o (reads.dot_goes {us = us} f r s) = absurd (not_at
 suffix_at_stop room ws a n m o (reads.index_fails {us = us} f r) = absurd (not_at OpenBracket ws us m f)
 suffix_at_stop room ws a n m o (reads.index_goes {us = us} f r s) = absurd (not_at OpenBracket ws us m f)
 
-pub finish_infix : (l : Level) (room : ℕ) (ws rest : List Word) (a : Tree) → ClaimOne (Infix l) room ws a rest → NoOperator l rest → Stops (below l) rest → Always (Row (Infix l)) room ws (One a) rest
-finish_infix l room ws rest a f n m o r = tail_at_stop room rest l a n o (f m o r)
+pub finish_infix : (l : Level) (room : ℕ) (ws rest : List Word) (a : Tree) → ClaimOne (Infix l) room ws a rest → NoOperator l rest × Stops (below l) rest → Always (Row (Infix l)) room ws (One a) rest
+finish_infix l room ws rest a f n o r = tail_at_stop room rest l a n.0 o (f n.1 o r)
 
 pub finish_below : (l : Level) (room : ℕ) (ws rest : List Word) (a : Tree) → ClaimOne (below l) room ws a rest → Stops (below l) rest → Always (Row (below l)) room ws (One a) rest
-finish_below Or room ws rest a f n = finish_infix And room ws rest a f n.0 n.1
-finish_below And room ws rest a f n = finish_infix Relation room ws rest a f n.0 n.1
-finish_below Relation room ws rest a f n = finish_infix Sum room ws rest a f n.0 n.1
-finish_below Sum room ws rest a f n = finish_infix Product room ws rest a f n.0 n.1
+finish_below Or room ws rest a f n = finish_infix And room ws rest a f n
+finish_below And room ws rest a f n = finish_infix Relation room ws rest a f n
+finish_below Relation room ws rest a f n = finish_infix Sum room ws rest a f n
+finish_below Sum room ws rest a f n = finish_infix Product room ws rest a f n
 finish_below Product room ws rest a f n = f n
 
 pub finish_member : (room : ℕ) (ws rest : List Word) (a : Tree) → ClaimOne Member room ws a rest → StopsMember rest → Always (Row Member) room ws (One a) rest

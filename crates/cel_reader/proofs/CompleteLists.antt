@@ -9,30 +9,20 @@ use Rattle.cel_reader.specs.Grammar.{Expression, One, Many, Keyed}
 use Rattle.cel_reader.specs.Reading.{Cause, Outcome, Got, Refused, Step, Row, Enclosed, Listed, Item, Behind, Mapped, Entry, BehindEntry, Reads}
 use Rattle.cel_reader.specs.Reading as reads
 use Rattle.cel_reader.specs.declared.closing.Closing.{Closing}
-use Rattle.cel_reader.specs.declared.closing.Closing.TheVariants.{Call, List as ListLiteral, Map}
+use Rattle.cel_reader.specs.declared.closing.Closing.TheVariants.{Map}
 use Rattle.cel_reader.proofs.FirstWords.{FirstIs, begins, goes_on, no_comma, mark_not_first, closing_not_first}
-use Rattle.cel_reader.proofs.Claims.{Always, Leads, refused, got_one, got_rest, tails, past, not_at, same_inner, no_room, again, turn}
+use Rattle.cel_reader.proofs.Alike.{comma_closes_none, rest_of}
+use Rattle.cel_reader.proofs.Claims.{Always, Leads, refused, not_at, no_room, again, turn}
 
 -- ---- one expression
 
-one_got : (a b : Tree) (x y : List Word) → a ≡ b → x ≡ y → Got (One a) x ≡ Got (One b) y
-one_got a b x y e f = cc
-
 pub at_enclosed : (m : Mark) (room : ℕ) (ws rest : List Word) (a : Tree) → Always (Row Expression) room ws (One a) (mark m ∷ rest) → Always (Enclosed m) (suc room) ws (One a) rest
 at_enclosed m room ws rest a f o (reads.enclosed_deep z) = no_room room z
-at_enclosed m room ws rest a f o (reads.enclosed_fails {inner = inner} {e = e} z r) = refused e (One a) (mark m ∷ rest) (f (Refused e) (again r (same_inner room inner z) refl))
-at_enclosed m room ws rest a f o (reads.enclosed_open {inner = inner} {us = u} {a = b} z r n) =
-    let first : Got (One b) u ≡ Got (One a) (mark m ∷ rest) = f (Got (One b) u) (again r (same_inner room inner z) refl) in
-    absurd (not_at m u rest n (got_rest (One b) (One a) u (mark m ∷ rest) first))
-at_enclosed m room ws rest a f o (reads.enclosed_closed {inner = inner} {us = u} {rest = x} {a = b} z r q) =
-    let first : Got (One b) u ≡ Got (One a) (mark m ∷ rest) = f (Got (One b) u) (again r (same_inner room inner z) refl) in
-    one_got b a x rest (got_one b a u (mark m ∷ rest) first) (past (One b) (One a) u x rest (mark m) (mark m) first q)
+at_enclosed m room ws rest a f o (reads.enclosed_fails z r) = refused (f _ (again r (cc) refl))
+at_enclosed m room ws rest a f o (reads.enclosed_open {us = u} z r n) = let first = f _ (again r (cc) refl) in absurd (not_at m u rest n cc)
+at_enclosed m room ws rest a f o (reads.enclosed_closed z r q) = let first = f _ (again r (cc) refl) in cc
 
 -- ---- where a list ends
-
-comma_closes_none : {P : Type 0} (c : Closing) (x y : List Word) → mark Comma ∷ x ≡ mark (closing_mark c) ∷ y → P
-comma_closes_none Call x y e = absurd cc
-comma_closes_none _ x y e = absurd cc
 
 -- a list ends in one way
 closes_same : (c : Closing) (ws x y : List Word) → Closes c ws x → Closes c ws y → x ≡ y
@@ -44,7 +34,7 @@ closes_same c ws x y (inr p) (inr q) = let g : mark Comma ∷ mark (closing_mark
 -- no list ends at a comma before an expression
 pub comma_goes_on : (c : Closing) (us : List Word) → FirstIs begins us → GoesOn c (mark Comma ∷ us)
 comma_goes_on c us here x (inl e) = comma_closes_none c us x e
-comma_goes_on c us here x (inr p) = mark_not_first (closing_mark c) us x (closing_not_first c) here (sym (tails us (mark (closing_mark c) ∷ x) (mark Comma) (mark Comma) p.1))
+comma_goes_on c us here x (inr p) = mark_not_first (closing_mark c) us x (closing_not_first c) here (rest_of _ _ _ _ p.1)
 
 -- ---- expressions
 
@@ -63,18 +53,16 @@ pub at_items : (c : Closing) (room : ℕ) (ws rest end : List Word) (items : Lis
 at_items c room ws rest end items here ends f o (reads.list_deep z) = no_room room z
 at_items c room ws rest end items here ends f o (reads.list_empty {rest = x} z k) = absurd (goes_on c ws here x k)
 at_items c room ws rest end items here ends f o (reads.list_comma {us = us} z g q) = absurd (not_at Comma ws us (no_comma ws here) q)
-at_items c room ws rest end items here ends f o (reads.list_items {inner = inner} z g n r) = behind_end c room rest end items ends o (f o (again r (same_inner room inner z) refl))
+at_items c room ws rest end items here ends f o (reads.list_items z g n r) = behind_end c room rest end items ends o (f o (again r (cc) refl))
 
 pub at_item : (c : Closing) (room : ℕ) (ws rest : List Word) (items : List Tree) (a : Tree) → Always (Row Expression) room ws (One a) rest → Leads (Item c items) ws (Behind c (items ++ a ∷ [])) rest room
-at_item c room ws rest items a f o (reads.item_fails {e = e} r) = refused e (One a) rest (f (Refused e) r)
-at_item c room ws rest items a f o (reads.item_goes {us = u} {a = i} r b) =
-    let first : Got (One i) u ≡ Got (One a) rest = f (Got (One i) u) r in
-    turn b (ap (λ y. Behind c (items ++ y ∷ [])) (got_one i a u rest first)) (got_rest (One i) (One a) u rest first)
+at_item c room ws rest items a f o (reads.item_fails r) = refused (f _ r)
+at_item c room ws rest items a f o (reads.item_goes r b) = let first = f _ r in turn b (cc) cc
 
 pub at_comma : (c : Closing) (room : ℕ) (us : List Word) (items : List Tree) → FirstIs begins us → Leads (Behind c items) (mark Comma ∷ us) (Item c items) us room
 at_comma c room us items here o (reads.items_end {rest = x} k) = absurd (comma_goes_on c us here x k)
 at_comma c room us items here o (reads.items_misfit g n) = absurd (n refl)
-at_comma c room us items here o (reads.items_go_on {us = u} g q r) = again r refl (tails us u (mark Comma) (mark Comma) q)
+at_comma c room us items here o (reads.items_go_on g q r) = again r refl cc
 
 -- ---- entries
 
@@ -93,23 +81,18 @@ pub at_pairs : (room : ℕ) (ws rest end : List Word) (pairs : List (Tree × Tre
 at_pairs room ws rest end pairs here ends f o (reads.map_deep z) = no_room room z
 at_pairs room ws rest end pairs here ends f o (reads.map_empty {rest = x} z k) = absurd (goes_on Map ws here x k)
 at_pairs room ws rest end pairs here ends f o (reads.map_comma {us = us} z g q) = absurd (not_at Comma ws us (no_comma ws here) q)
-at_pairs room ws rest end pairs here ends f o (reads.map_entries {inner = inner} z g n r) = behind_pairs room rest end pairs ends o (f o (again r (same_inner room inner z) refl))
-
-same_entry : (pairs : List (Tree × Tree)) (i a j b : Tree) → i ≡ a → j ≡ b → BehindEntry (pairs ++ (i, j) ∷ []) ≡ BehindEntry (pairs ++ (a, b) ∷ [])
-same_entry pairs i a j b e f = ap (λ x. BehindEntry (pairs ++ (x, j) ∷ [])) e ∙ ap (λ y. BehindEntry (pairs ++ (a, y) ∷ [])) f
+at_pairs room ws rest end pairs here ends f o (reads.map_entries z g n r) = behind_pairs room rest end pairs ends o (f o (again r (cc) refl))
 
 pub at_entry : (room : ℕ) (ws us rest : List Word) (pairs : List (Tree × Tree)) (a b : Tree) → Always (Row Expression) room ws (One a) (mark Colon ∷ us) → Always (Row Expression) room us (One b) rest → Leads (Entry pairs) ws (BehindEntry (pairs ++ (a, b) ∷ [])) rest room
-at_entry room ws us rest pairs a b f g o (reads.key_fails {e = e} r) = refused e (One a) (mark Colon ∷ us) (f (Refused e) r)
-at_entry room ws us rest pairs a b f g o (reads.key_alone {us = u} {a = i} r n) = absurd (not_at Colon u us n (got_rest (One i) (One a) u (mark Colon ∷ us) (f (Got (One i) u) r)))
-at_entry room ws us rest pairs a b f g o (reads.value_fails {us = u} {vs = v} {a = i} {e = e} r q s) =
-    let first : Got (One i) u ≡ Got (One a) (mark Colon ∷ us) = f (Got (One i) u) r in
-    refused e (One b) rest (g (Refused e) (again s refl (past (One i) (One a) u v us (mark Colon) (mark Colon) first q)))
-at_entry room ws us rest pairs a b f g o (reads.entry_goes {us = u} {vs = v} {xs = x} {a = i} {b = j} r q s t) =
-    let first : Got (One i) u ≡ Got (One a) (mark Colon ∷ us) = f (Got (One i) u) r in
-    let second : Got (One j) x ≡ Got (One b) rest = g (Got (One j) x) (again s refl (past (One i) (One a) u v us (mark Colon) (mark Colon) first q)) in
-    turn t (same_entry pairs i a j b (got_one i a u (mark Colon ∷ us) first) (got_one j b x rest second)) (got_rest (One j) (One b) x rest second)
+at_entry room ws us rest pairs a b f g o (reads.key_fails r) = refused (f _ r)
+at_entry room ws us rest pairs a b f g o (reads.key_alone {us = u} r n) = let first = f _ r in absurd (not_at Colon u us n cc)
+at_entry room ws us rest pairs a b f g o (reads.value_fails r q s) = let first = f _ r in refused (g _ (again s refl cc))
+at_entry room ws us rest pairs a b f g o (reads.entry_goes r q s t) =
+    let first = f _ r in
+    let second = g _ (again s refl cc) in
+    turn t (cc) cc
 
 pub at_pair_comma : (room : ℕ) (us : List Word) (pairs : List (Tree × Tree)) → FirstIs begins us → Leads (BehindEntry pairs) (mark Comma ∷ us) (Entry pairs) us room
 at_pair_comma room us pairs here o (reads.entries_end {rest = x} k) = absurd (comma_goes_on Map us here x k)
 at_pair_comma room us pairs here o (reads.entries_misfit g n) = absurd (n refl)
-at_pair_comma room us pairs here o (reads.entries_go_on {us = u} g q r) = again r refl (tails us u (mark Comma) (mark Comma) q)
+at_pair_comma room us pairs here o (reads.entries_go_on g q r) = again r refl cc

@@ -15,8 +15,8 @@ use Rattle.cel_reader.specs.Reading as reads
 use Rattle.cel_reader.specs.declared.role.Role.{Role}
 use Rattle.cel_reader.specs.declared.role.Role.TheVariants as role
 use Rattle.cel_reader.specs.declared.closing.Closing.TheVariants.{Call, List as ListLiteral}
-use Rattle.cel_reader.proofs.Claims.{Always, refused, tails, not_at, again}
-use Rattle.cel_reader.proofs.CompleteRows.{call_words, no_paren}
+use Rattle.cel_reader.proofs.Claims.{Always, refused, not_at, again}
+use Rattle.cel_reader.proofs.CompleteRows.{no_paren}
 
 -- no mark is a literal
 mark_no_literal : {P : Type 0} (m : Mark) (us vs : List Word) (w : Word) (v : Literal) → mark m ∷ us ≡ w ∷ vs → literal_of w ≡ Some v → P
@@ -35,40 +35,11 @@ name_no_literal n us vs w v is e found =
     let same : name n ≡ w = cc in
     absurd (plain_no_literal (is_name n) (role_of n) v is (ap literal_of same ∙ found))
 
--- ---- what two answers have in common
-
-list_got : (more items : List Tree) (x rest : List Word) → Got (Many more) x ≡ Got (Many items) rest → Got (One (tree.list (trees more))) x ≡ Got (One (tree.list (trees items))) rest
-list_got more items x rest e =
-    let same : more ≡ items = cc in
-    let args : trees more ≡ trees items = ap trees same in
-    cc
-
-map_got : (more pairs : List (Tree × Tree)) (x rest : List Word) → Got (Keyed more) x ≡ Got (Keyed pairs) rest → Got (One (tree.map (entries more))) x ≡ Got (One (tree.map (entries pairs))) rest
-map_got more pairs x rest e =
-    let same : more ≡ pairs = cc in
-    let args : entries more ≡ entries pairs = ap entries same in
-    cc
-
-call_got : (k n : List ℕ) (more items : List Tree) (us u x rest : List Word) → name n ∷ us ≡ name k ∷ u → Got (Many more) x ≡ Got (Many items) rest → Got (One (tree.call k (trees more))) x ≡ Got (One (tree.call n (trees items))) rest
-call_got k n more items us u x rest e f =
-    let same : more ≡ items = cc in
-    let args : trees more ≡ trees items = ap trees same in
-    cc
-
-name_got : (k n : List ℕ) (u rest : List Word) → name n ∷ rest ≡ name k ∷ u → Got (One (tree.name k)) u ≡ Got (One (tree.name n)) rest
-name_got k n u rest e = cc
-
-literal_got : (w k : Word) (v i : Literal) (rest u : List Word) → w ∷ rest ≡ k ∷ u → literal_of w ≡ Some v → literal_of k ≡ Some i → Got (One (tree.literal i)) u ≡ Got (One (tree.literal v)) rest
-literal_got w k v i rest u e is found =
-    let same : w ≡ k = cc in
-    let both : Some v ≡ Some i = sym is ∙ ap literal_of same ∙ found in
-    cc
-
 -- ---- each way that a primary begins
 
 pub at_paren : (room : ℕ) (us rest : List Word) (a : Tree) → Always (Enclosed CloseParen) room us (One a) rest → Always (Row Primary) room (mark OpenParen ∷ us) (One a) rest
 at_paren room us rest a f o (reads.no_primary x y z none free) = absurd (x refl)
-at_paren room us rest a f o (reads.bracket {us = vs} q r) = f o (again r refl (tails us vs (mark OpenParen) (mark OpenParen) q))
+at_paren room us rest a f o (reads.bracket q r) = f o (again r refl cc)
 at_paren room us rest a f o (reads.list_fails q r) = absurd cc
 at_paren room us rest a f o (reads.list_literal q r) = absurd cc
 at_paren room us rest a f o (reads.map_fails q r) = absurd cc
@@ -81,8 +52,8 @@ at_paren room us rest a f o (reads.function_call q i p r) = absurd cc
 pub at_list : (room : ℕ) (us rest : List Word) (items : List Tree) → Always (Listed ListLiteral) room us (Many items) rest → Always (Row Primary) room (mark OpenBracket ∷ us) (One (tree.list (trees items))) rest
 at_list room us rest items f o (reads.no_primary x y z none free) = absurd (y refl)
 at_list room us rest items f o (reads.bracket q r) = absurd cc
-at_list room us rest items f o (reads.list_fails {us = vs} {e = e} q r) = refused e (Many items) rest (f (Refused e) (again r refl (tails us vs (mark OpenBracket) (mark OpenBracket) q)))
-at_list room us rest items f o (reads.list_literal {us = vs} {rest = x} {items = more} q r) = list_got more items x rest (f (Got (Many more) x) (again r refl (tails us vs (mark OpenBracket) (mark OpenBracket) q)))
+at_list room us rest items f o (reads.list_fails q r) = refused (f _ (again r refl cc))
+at_list room us rest items f o (reads.list_literal q r) = let first = f _ (again r refl cc) in cc
 at_list room us rest items f o (reads.map_fails q r) = absurd cc
 at_list room us rest items f o (reads.map_literal q r) = absurd cc
 at_list room us rest items f o (reads.constant {us = vs} {w = k} {v = i} q l) = mark_no_literal OpenBracket us vs k i q l
@@ -95,8 +66,8 @@ at_map room us rest pairs f o (reads.no_primary x y z none free) = absurd (z ref
 at_map room us rest pairs f o (reads.bracket q r) = absurd cc
 at_map room us rest pairs f o (reads.list_fails q r) = absurd cc
 at_map room us rest pairs f o (reads.list_literal q r) = absurd cc
-at_map room us rest pairs f o (reads.map_fails {us = vs} {e = e} q r) = refused e (Keyed pairs) rest (f (Refused e) (again r refl (tails us vs (mark OpenBrace) (mark OpenBrace) q)))
-at_map room us rest pairs f o (reads.map_literal {us = vs} {rest = x} {pairs = more} q r) = map_got more pairs x rest (f (Got (Keyed more) x) (again r refl (tails us vs (mark OpenBrace) (mark OpenBrace) q)))
+at_map room us rest pairs f o (reads.map_fails q r) = refused (f _ (again r refl cc))
+at_map room us rest pairs f o (reads.map_literal q r) = let first = f _ (again r refl cc) in cc
 at_map room us rest pairs f o (reads.constant {us = vs} {w = k} {v = i} q l) = mark_no_literal OpenBrace us vs k i q l
 at_map room us rest pairs f o (reads.identifier q i none) = absurd cc
 at_map room us rest pairs f o (reads.function_fails q i p r) = absurd cc
@@ -109,7 +80,7 @@ at_constant room rest w v is o (reads.list_fails {us = vs} q r) = mark_no_litera
 at_constant room rest w v is o (reads.list_literal {us = vs} q r) = mark_no_literal OpenBracket vs rest w v (sym q) is
 at_constant room rest w v is o (reads.map_fails {us = vs} q r) = mark_no_literal OpenBrace vs rest w v (sym q) is
 at_constant room rest w v is o (reads.map_literal {us = vs} q r) = mark_no_literal OpenBrace vs rest w v (sym q) is
-at_constant room rest w v is o (reads.constant {us = u} {w = k} {v = i} q l) = literal_got w k v i rest u q is l
+at_constant room rest w v is o (reads.constant q l) = cc
 at_constant room rest w v is o (reads.identifier {us = u} {n = n} q i none) = name_no_literal n u rest w v i (sym q) is
 at_constant room rest w v is o (reads.function_fails {us = u} {n = n} q i p r) = name_no_literal n u rest w v i (sym q) is
 at_constant room rest w v is o (reads.function_call {us = u} {n = n} q i p r) = name_no_literal n u rest w v i (sym q) is
@@ -122,7 +93,7 @@ at_identifier room rest n is none o (reads.list_literal q r) = absurd cc
 at_identifier room rest n is none o (reads.map_fails q r) = absurd cc
 at_identifier room rest n is none o (reads.map_literal q r) = absurd cc
 at_identifier room rest n is none o (reads.constant {us = u} {w = w} {v = v} q l) = name_no_literal n (rest) u w v is q l
-at_identifier room rest n is none o (reads.identifier {us = u} {n = k} q i none') = name_got k n u rest q
+at_identifier room rest n is none o (reads.identifier q i none') = cc
 at_identifier room rest n is none o (reads.function_fails {us = u} {vs = v} {n = k} q i p r) = no_paren n k rest u v none q p
 at_identifier room rest n is none o (reads.function_call {us = u} {vs = v} {n = k} q i p r) = no_paren n k rest u v none q p
 
@@ -134,6 +105,6 @@ at_call room us rest n items is f o (reads.list_literal q r) = absurd cc
 at_call room us rest n items is f o (reads.map_fails q r) = absurd cc
 at_call room us rest n items is f o (reads.map_literal q r) = absurd cc
 at_call room us rest n items is f o (reads.constant {us = u} {w = w} {v = v} q l) = name_no_literal n (mark OpenParen ∷ us) u w v is q l
-at_call room us rest n items is f o (reads.identifier {us = u} {n = k} q i none) = absurd (not_at OpenParen u us none (tails (mark OpenParen ∷ us) u (name n) (name k) q))
-at_call room us rest n items is f o (reads.function_fails {us = u} {vs = v} {n = k} {e = e} q i p r) = refused e (Many items) rest (f (Refused e) (again r refl (call_words n k us u v q p)))
-at_call room us rest n items is f o (reads.function_call {us = u} {vs = v} {rest = x} {n = k} {items = more} q i p r) = call_got k n more items (mark OpenParen ∷ us) u x rest q (f (Got (Many more) x) (again r refl (call_words n k us u v q p)))
+at_call room us rest n items is f o (reads.identifier {us = u} q i none) = absurd (not_at OpenParen u us none cc)
+at_call room us rest n items is f o (reads.function_fails q i p r) = refused (f _ (again r refl cc))
+at_call room us rest n items is f o (reads.function_call q i p r) = let first = f _ (again r refl cc) in cc

@@ -1,6 +1,6 @@
 -- Where the reader refuses, some words go on from there to the end of its step; where a bracket or conditional is too
 -- many, with one more than there is room for, and with no more from the word before.
-use Rattle.std.proofs.Common.{◌≡◌, ℕ, zero, suc, ◌≤◌, List, [], ◌∷◌, ◌++◌, pos, true, false, Bool, inl, inr, refl, sym, ◌∙◌, ap, subst, arith, codes}
+use Rattle.std.proofs.Common.{◌≡◌, ℕ, suc, ◌≤◌, List, [], ◌∷◌, ◌++◌, pos, true, false, Bool, inl, inr, refl, sym, ◌∙◌, ap, subst, arith, codes}
 use Rattle.std.proofs.lemmas.List.{append_assoc}
 use Rattle.std.specs.Prelude.{if◌then◌else◌}
 use Rattle.cel_tokens.specs.Token.{Word, name, int, mark}
@@ -17,7 +17,7 @@ use Rattle.cel_reader.specs.declared.level.Level.TheVariants.{Or, And, Relation,
 use Rattle.cel_reader.specs.declared.closing.Closing.{Closing}
 use Rattle.cel_reader.specs.declared.closing.Closing.TheVariants.{Call}
 use Rattle.cel_reader.proofs.Sound.{SoundOne, SoundMany, SoundKeyed, moved, roomy, fitted, ends_call, item_added, pair_added, method_sound, function_sound, list_sound, map_sound, sound}
-use Rattle.cel_reader.proofs.Rooms.{wider}
+use Rattle.cel_reader.proofs.Rooms.{opened, wider}
 use Rattle.cel_reader.proofs.Alike.{Alike, here, over, down, same}
 use Rattle.cel_reader.proofs.Carried.{carried}
 
@@ -118,17 +118,11 @@ nought_or room end = derives.operand Or (derives.operand And (derives.operand Re
 pub nought_whole : (room : ℕ) (end : List Word) → Derives Expression room (int (pos 0) ∷ end) (One nil) end
 nought_whole room end = derives.plain (nought_or room end)
 
-no_room : (room inner : ℕ) → room ≡ suc inner → room ≤ 0 → ⊥
-no_room room inner z h = absurd (omega arith)
-
-less : (room inner m : ℕ) → room ≡ suc inner → room ≤ suc m → inner ≤ m
-less room inner m z h = omega arith
-
 selected_call : (room big : ℕ) (ws vs ends : List Word) (a : Tree) (n : List ℕ) (items : List Tree) → is_selector n ≡ true → room ≤ big → SoundMany (Listed Call) room ws items vs → (us fs : List Word) → fs ≡ name n ∷ us → us ≡ mark OpenParen ∷ ws → (xs : List Word) × Alike vs ends fs xs × SoundOne (Selection a) big xs (tree.method a n (trees items)) ends
-selected_call room zero ws vs ends a n items x h s us fs q f = absurd (no_room room s.0 s.2 h)
-selected_call room (suc m) ws vs ends a n items x h s us fs q f =
-    let d = carried (wider (moved s.3 (ends_call s.1 vs s.4)) m (less room s.0 m s.2 h)) (mark CloseParen ∷ ends) in
-    (name n ∷ mark OpenParen ∷ d.0, down q (down f (over (down refl same) d.1)), λ start k. derives.method_call x k d.2)
+selected_call room big ws vs ends a n items x h s us fs q f =
+    let deeper = opened s.2 big h in
+    let d = carried (wider (moved s.3 (ends_call s.1 vs s.4)) deeper.0 deeper.2) (mark CloseParen ∷ ends) in
+    (name n ∷ mark OpenParen ∷ d.0, down q (down f (over (down refl same) d.1)), λ start k. roomy (derives.method_call x (fitted k deeper.1) d.2) deeper.1)
 
 pub selected : {room big : ℕ} {us vs : List Word} {a b : Tree} → Reads (Selection a) room us (Got (One b) vs) → room ≤ big → (ends : List Word) → (xs : List Word) × Alike vs ends us xs × SoundOne (Selection a) big xs b ends
 selected (reads.selection {n = n} q x g) h ends = (name n ∷ ends, down q same, λ start d. derives.selection x d)

@@ -1,7 +1,7 @@
 -- What a phrase begins with.
 use Rattle.std.proofs.Common.{◌≡◌, ℕ, List, [], ◌∷◌, Bool, true, false, inl, inr, Some, None, refl, sym, ◌∙◌, ap, subst}
 use Rattle.std.specs.Prelude.{◌||◌}
-use Rattle.cel_tokens.specs.Token.{Word, name, int, text, mark}
+use Rattle.cel_tokens.specs.Token.{Word, mark}
 use Rattle.cel_tokens.specs.declared.mark.Mark.{Mark}
 use Rattle.cel_tokens.specs.declared.mark.Mark.TheVariants.{Not, Minus, Comma, OpenParen, OpenBracket, OpenBrace}
 use Rattle.cel_reader.specs.Tree.{Literal}
@@ -10,9 +10,9 @@ use Rattle.cel_reader.specs.Look.{NotAt, GoesOn, closing_mark}
 use Rattle.cel_reader.specs.Grammar.{Class, Expression, Infix, Unary, Prefixed, Member, Primary, Items, OptionalItems, Pairs, OptionalPairs, Phrase, below, Derives}
 use Rattle.cel_reader.specs.Grammar as derives
 use Rattle.cel_reader.specs.declared.level.Level.{Level}
-use Rattle.cel_reader.specs.declared.level.Level.TheVariants.{Or, And, Relation, Sum, Product}
+use Rattle.cel_reader.specs.declared.level.Level.TheVariants.{Or}
 use Rattle.cel_reader.specs.declared.closing.Closing.{Closing}
-use Rattle.cel_reader.specs.declared.closing.Closing.TheVariants.{Call, List as ListLiteral, Map}
+use Rattle.cel_reader.specs.declared.closing.Closing.TheVariants.{Call}
 use Rattle.cel_reader.specs.declared.operator.UnaryOperator.{UnaryOperator}
 use Rattle.cel_reader.specs.declared.operator.UnaryOperator.TheVariants as unary
 
@@ -123,9 +123,3 @@ member_prefix unary.Negate = refl
 
 pub no_prefix : (op : UnaryOperator) (ws : List Word) → FirstIs begins_member ws → NotAt (unary_mark op) ws
 no_prefix op ws x = not_first begins_member (unary_mark op) ws (member_prefix op) x
-
-pub no_not : (ws : List Word) → FirstIs begins_member ws → NotAt Not ws
-no_not ws x = not_first begins_member Not ws refl x
-
-pub no_minus : (ws : List Word) → FirstIs begins_member ws → NotAt Minus ws
-no_minus ws x = not_first begins_member Minus ws refl x

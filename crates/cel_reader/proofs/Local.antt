@@ -69,6 +69,10 @@ lone_list c room inner ws us vs z g e n =
     let x = lone (takes_comma c) c ws us vs refl g e n in
     (x.0, x.2, x.3, subst (λ (y : List Word). Reads (Listed c) room x.0 (Refused (Misfit y))) x.6 (reads.list_comma z x.4 x.5))
 
+-- a step that goes over one word first
+behind : {s : Step} {room : ℕ} {o : Outcome} {rest vs ws us xs : List Word} {w : Word} → ws ≡ w ∷ us → Alike rest vs us xs → Reads s room (w ∷ xs) o → (ys : List Word) × Alike rest vs ws ys × SameHead ws ys × Reads s room ys o
+behind {ws = ws} {us = us} {xs = xs} {w = w} e a r = (w ∷ xs, down e a, head_same w ws us xs e, r)
+
 pub local : {s : Step} {room : ℕ} {ws : List Word} {o : Outcome} → Reads s room ws o → (vs : List Word) → Near o (left o) vs → Again s room ws o vs
 local (reads.expression_fails r) vs n = let t = local r vs n in (t.0, t.1, t.2, reads.expression_fails t.3)
 local (reads.expression_plain {rest = rest} r x) vs n = let t = local r vs n in (t.0, t.1, t.2, reads.expression_plain t.3 (not_at_too Question rest vs n x))
@@ -99,87 +103,53 @@ local (reads.infix_goes r f) vs n =
     let u = local r t.0 t.2 in
     (u.0, over t.1 u.1, u.2, reads.infix_goes u.3 t.3)
 local (reads.tail_stops {ws = ws} {l = l} x) vs n = (vs, same, n, reads.tail_stops (no_operator_too l ws vs n x))
-local (reads.tail_fails {ws = ws} {us = us} op x y f r) vs n =
-    let t = local r vs n in
-    (_, down f t.1, head_same _ ws us t.0 f, reads.tail_fails op x y refl t.3)
-local (reads.tail_goes {ws = ws} {us = us} op x y f r g) vs n =
+local (reads.tail_fails op x y f r) vs n = let t = local r vs n in behind f t.1 (reads.tail_fails op x y refl t.3)
+local (reads.tail_goes op x y f r g) vs n =
     let t = local g vs n in
     let u = local r t.0 t.2 in
-    (_, down f (over t.1 u.1), head_same _ ws us u.0 f, reads.tail_goes op x y refl u.3 t.3)
+    behind f (over t.1 u.1) (reads.tail_goes op x y refl u.3 t.3)
 local (reads.unary_member {ws = ws} x y r) vs n =
     let t = local r vs n in
     (t.0, t.1, t.2, reads.unary_member (not_at_too Not ws t.0 t.2 x) (not_at_too Minus ws t.0 t.2 y) t.3)
-local (reads.unary_fails {ws = ws} {us = us} op e r) vs n =
-    let t = local r vs n in
-    (_, down e t.1, head_same _ ws us t.0 e, reads.unary_fails op refl t.3)
-local (reads.unary_goes {ws = ws} {us = us} op e r) vs n =
-    let t = local r vs n in
-    (_, down e t.1, head_same _ ws us t.0 e, reads.unary_goes op refl t.3)
+local (reads.unary_fails op e r) vs n = let t = local r vs n in behind e t.1 (reads.unary_fails op refl t.3)
+local (reads.unary_goes op e r) vs n = let t = local r vs n in behind e t.1 (reads.unary_goes op refl t.3)
 local (reads.prefixed_member {ws = ws} op x r) vs n =
     let t = local r vs n in
     (t.0, t.1, t.2, reads.prefixed_member op (not_at_too (unary_mark op) ws t.0 t.2 x) t.3)
-local (reads.prefixed_fails {ws = ws} {us = us} op e r) vs n =
-    let t = local r vs n in
-    (_, down e t.1, head_same _ ws us t.0 e, reads.prefixed_fails op refl t.3)
-local (reads.prefixed_goes {ws = ws} {us = us} op e r) vs n =
-    let t = local r vs n in
-    (_, down e t.1, head_same _ ws us t.0 e, reads.prefixed_goes op refl t.3)
+local (reads.prefixed_fails op e r) vs n = let t = local r vs n in behind e t.1 (reads.prefixed_fails op refl t.3)
+local (reads.prefixed_goes op e r) vs n = let t = local r vs n in behind e t.1 (reads.prefixed_goes op refl t.3)
 local (reads.member_fails r) vs n = let t = local r vs n in (t.0, t.1, t.2, reads.member_fails t.3)
 local (reads.member_goes r f) vs n =
     let t = local f vs n in
     let u = local r t.0 t.2 in
     (u.0, over t.1 u.1, u.2, reads.member_goes u.3 t.3)
 local (reads.suffix_stops {ws = ws} x y) vs n = (vs, same, n, reads.suffix_stops (not_at_too Dot ws vs n x) (not_at_too OpenBracket ws vs n y))
-local (reads.dot_fails {ws = ws} {us = us} e r) vs n =
-    let t = local r vs n in
-    (_, down e t.1, head_same _ ws us t.0 e, reads.dot_fails refl t.3)
-local (reads.dot_goes {ws = ws} {us = us} e r f) vs n =
+local (reads.dot_fails e r) vs n = let t = local r vs n in behind e t.1 (reads.dot_fails refl t.3)
+local (reads.dot_goes e r f) vs n =
     let t = local f vs n in
     let u = local r t.0 t.2 in
-    (_, down e (over t.1 u.1), head_same _ ws us u.0 e, reads.dot_goes refl u.3 t.3)
-local (reads.index_fails {ws = ws} {us = us} e r) vs n =
-    let t = local r vs n in
-    (_, down e t.1, head_same _ ws us t.0 e, reads.index_fails refl t.3)
-local (reads.index_goes {ws = ws} {us = us} e r f) vs n =
+    behind e (over t.1 u.1) (reads.dot_goes refl u.3 t.3)
+local (reads.index_fails e r) vs n = let t = local r vs n in behind e t.1 (reads.index_fails refl t.3)
+local (reads.index_goes e r f) vs n =
     let t = local f vs n in
     let u = local r t.0 t.2 in
-    (_, down e (over t.1 u.1), head_same _ ws us u.0 e, reads.index_goes refl u.3 t.3)
+    behind e (over t.1 u.1) (reads.index_goes refl u.3 t.3)
 local (reads.no_selector {ws = ws} x) vs n = (vs, same, n, reads.no_selector (no_selector_too ws vs n x))
-local (reads.selection {ws = ws} {us = us} e x g) vs n = (_, down e same, head_same _ ws us vs e, reads.selection refl x (not_at_too OpenParen us vs n g))
-local (reads.method_fails {ws = ws} {us = us} e x g r) vs n =
-    let t = local r vs n in
-    (_, down e (down g t.1), head_same _ ws us _ e, reads.method_fails refl x refl t.3)
-local (reads.method_call {ws = ws} {us = us} e x g r) vs n =
-    let t = local r vs n in
-    (_, down e (down g t.1), head_same _ ws us _ e, reads.method_call refl x refl t.3)
+local (reads.selection {us = us} e x g) vs n = behind e same (reads.selection refl x (not_at_too OpenParen us vs n g))
+local (reads.method_fails e x g r) vs n = let t = local r vs n in behind e (down g t.1) (reads.method_fails refl x refl t.3)
+local (reads.method_call e x g r) vs n = let t = local r vs n in behind e (down g t.1) (reads.method_call refl x refl t.3)
 local (reads.no_primary {ws = ws} a b c d e) vs n = (vs, same, n, reads.no_primary (not_at_too OpenParen ws vs n a) (not_at_too OpenBracket ws vs n b) (not_at_too OpenBrace ws vs n c) (no_literal_too ws vs n d) (no_identifier_too ws vs n e))
-local (reads.bracket {ws = ws} {us = us} e r) vs n =
-    let t = local r vs n in
-    (_, down e t.1, head_same _ ws us t.0 e, reads.bracket refl t.3)
-local (reads.list_fails {ws = ws} {us = us} e r) vs n =
-    let t = local r vs n in
-    (_, down e t.1, head_same _ ws us t.0 e, reads.list_fails refl t.3)
-local (reads.list_literal {ws = ws} {us = us} e r) vs n =
-    let t = local r vs n in
-    (_, down e t.1, head_same _ ws us t.0 e, reads.list_literal refl t.3)
-local (reads.map_fails {ws = ws} {us = us} e r) vs n =
-    let t = local r vs n in
-    (_, down e t.1, head_same _ ws us t.0 e, reads.map_fails refl t.3)
-local (reads.map_literal {ws = ws} {us = us} e r) vs n =
-    let t = local r vs n in
-    (_, down e t.1, head_same _ ws us t.0 e, reads.map_literal refl t.3)
-local (reads.constant {ws = ws} {us = us} e l) vs n = (_, down e same, head_same _ ws us vs e, reads.constant refl l)
-local (reads.identifier {ws = ws} {us = us} e x g) vs n = (_, down e same, head_same _ ws us vs e, reads.identifier refl x (not_at_too OpenParen us vs n g))
-local (reads.function_fails {ws = ws} {us = us} e x g r) vs n =
-    let t = local r vs n in
-    (_, down e (down g t.1), head_same _ ws us _ e, reads.function_fails refl x refl t.3)
-local (reads.function_call {ws = ws} {us = us} e x g r) vs n =
-    let t = local r vs n in
-    (_, down e (down g t.1), head_same _ ws us _ e, reads.function_call refl x refl t.3)
+local (reads.bracket e r) vs n = let t = local r vs n in behind e t.1 (reads.bracket refl t.3)
+local (reads.list_fails e r) vs n = let t = local r vs n in behind e t.1 (reads.list_fails refl t.3)
+local (reads.list_literal e r) vs n = let t = local r vs n in behind e t.1 (reads.list_literal refl t.3)
+local (reads.map_fails e r) vs n = let t = local r vs n in behind e t.1 (reads.map_fails refl t.3)
+local (reads.map_literal e r) vs n = let t = local r vs n in behind e t.1 (reads.map_literal refl t.3)
+local (reads.constant e l) vs n = behind e same (reads.constant refl l)
+local (reads.identifier {us = us} e x g) vs n = behind e same (reads.identifier refl x (not_at_too OpenParen us vs n g))
+local (reads.function_fails e x g r) vs n = let t = local r vs n in behind e (down g t.1) (reads.function_fails refl x refl t.3)
+local (reads.function_call e x g r) vs n = let t = local r vs n in behind e (down g t.1) (reads.function_call refl x refl t.3)
 local (reads.enclosed_deep z) vs n = (vs, same, tt, reads.enclosed_deep z)
-local (reads.enclosed_fails {ws = ws} {e = e} z r) vs n =
-    let t = local r vs n in
-    (t.0, t.1, near (Refused e) ws t.0 t.2, reads.enclosed_fails z t.3)
+local (reads.enclosed_fails {ws = ws} {e = e} z r) vs n = let t = local r vs n in (t.0, t.1, near (Refused e) ws t.0 t.2, reads.enclosed_fails z t.3)
 local (reads.enclosed_open {us = us} {m = m} z r x) vs n =
     let t = local r vs n in
     (t.0, t.1, t.2, reads.enclosed_open z t.3 (not_at_too m us vs n x))
@@ -187,9 +157,7 @@ local (reads.enclosed_closed {us = us} {rest = rest} z r e) vs n =
     let t = local r _ (head_same _ us rest vs e) in
     (t.0, over (down e same) t.1, t.2, reads.enclosed_closed z t.3 refl)
 local (reads.list_deep z) vs n = (vs, same, tt, reads.list_deep z)
-local (reads.list_empty {ws = ws} {rest = rest} {c = c} z x) vs n =
-    let t = closes_too c ws rest vs x in
-    (t.0, t.1, t.2, reads.list_empty z t.3)
+local (reads.list_empty {ws = ws} {rest = rest} {c = c} z x) vs n = let t = closes_too c ws rest vs x in (t.0, t.1, t.2, reads.list_empty z t.3)
 local (reads.list_comma {room = room} {inner = inner} {ws = ws} {us = us} {c = c} z g e) vs n = lone_list c room inner ws us vs z g e n
 local (reads.list_items {ws = ws} {c = c} {o = o} z g x r) vs n =
     let t = local r vs n in
@@ -199,18 +167,14 @@ local (reads.item_goes r f) vs n =
     let t = local f vs n in
     let u = local r t.0 t.2 in
     (u.0, over t.1 u.1, u.2, reads.item_goes u.3 t.3)
-local (reads.items_end {ws = ws} {rest = rest} {c = c} x) vs n =
-    let t = closes_too c ws rest vs x in
-    (t.0, t.1, t.2, reads.items_end t.3)
+local (reads.items_end {ws = ws} {rest = rest} {c = c} x) vs n = let t = closes_too c ws rest vs x in (t.0, t.1, t.2, reads.items_end t.3)
 local (reads.items_misfit {ws = ws} {c = c} g x) vs n = (vs, same, n, reads.items_misfit (goes_too c ws vs n g x) (not_at_too Comma ws vs n x))
 local (reads.items_go_on {ws = ws} {us = us} {c = c} g e r) vs n =
     let t = local r vs n in
-    (_, down e t.1, head_same _ ws us t.0 e, reads.items_go_on (goes_comma c ws us t.0 g e t.2) refl t.3)
+    behind e t.1 (reads.items_go_on (goes_comma c ws us t.0 g e t.2) refl t.3)
 local (reads.map_deep z) vs n = (vs, same, tt, reads.map_deep z)
-local (reads.map_empty {ws = ws} {rest = rest} z x) vs n =
-    let t = closes_too Map ws rest vs x in
-    (t.0, t.1, t.2, reads.map_empty z t.3)
-local (reads.map_comma {ws = ws} {us = us} z g e) vs n = (_, down e same, head_same _ ws us vs e, reads.map_comma z (goes_comma Map ws us vs g e n) refl)
+local (reads.map_empty {ws = ws} {rest = rest} z x) vs n = let t = closes_too Map ws rest vs x in (t.0, t.1, t.2, reads.map_empty z t.3)
+local (reads.map_comma {ws = ws} {us = us} z g e) vs n = behind e same (reads.map_comma z (goes_comma Map ws us vs g e n) refl)
 local (reads.map_entries {ws = ws} {o = o} z g x r) vs n =
     let t = local r vs n in
     (t.0, t.1, near o ws t.0 t.2, reads.map_entries z (goes_too Map ws t.0 t.2 g x) (not_at_too Comma ws t.0 t.2 x) t.3)
@@ -225,10 +189,8 @@ local (reads.entry_goes {us = us} {vs = xs} r e f g) vs n =
     let u = local f t.0 t.2 in
     let x = local r (mark Colon ∷ u.0) (head_same _ us xs u.0 e) in
     (x.0, over (down e (over t.1 u.1)) x.1, x.2, reads.entry_goes x.3 refl u.3 t.3)
-local (reads.entries_end {ws = ws} {rest = rest} x) vs n =
-    let t = closes_too Map ws rest vs x in
-    (t.0, t.1, t.2, reads.entries_end t.3)
+local (reads.entries_end {ws = ws} {rest = rest} x) vs n = let t = closes_too Map ws rest vs x in (t.0, t.1, t.2, reads.entries_end t.3)
 local (reads.entries_misfit {ws = ws} g x) vs n = (vs, same, n, reads.entries_misfit (goes_too Map ws vs n g x) (not_at_too Comma ws vs n x))
 local (reads.entries_go_on {ws = ws} {us = us} g e r) vs n =
     let t = local r vs n in
-    (_, down e t.1, head_same _ ws us t.0 e, reads.entries_go_on (goes_comma Map ws us t.0 g e t.2) refl t.3)
+    behind e t.1 (reads.entries_go_on (goes_comma Map ws us t.0 g e t.2) refl t.3)

@@ -5,7 +5,7 @@ use Rattle.std.proofs.lemmas.List.{append_assoc, length-append, length-take, len
 use Rattle.cel_tokens.specs.Token.{Word, Lexeme}
 use Rattle.cel_tokens.specs.Lexis.{Lexes}
 use Rattle.cel_tokens.specs.declared.read_error.ReadError.{ReadError}
-use Rattle.cel_tokens.specs.declared.read_error.ReadError.TheVariants.{P1, P2, P3, P4, P5, P6, Memory}
+use Rattle.cel_tokens.specs.declared.read_error.ReadError.TheVariants.{P4, P5, Memory}
 use Rattle.cel_tokens.proofs.OneReading.{one_end}
 use Rattle.cel_reader.specs.Tree.{view}
 use Rattle.cel_reader.specs.Look.{spoken}

@@ -7,7 +7,7 @@ use Rattle.cel_tokens.specs.declared.token.Token.{Token}
 use Rattle.cel_tokens.specs.Lexis.{Lexes}
 use Rattle.cel_tokens.specs.Lexis as tokens
 use Rattle.cel_tokens.specs.declared.read_error.ReadError.{ReadError}
-use Rattle.cel_tokens.specs.declared.read_error.ReadError.TheVariants.{P1, P2, P3, P4, P5, P6, Memory}
+use Rattle.cel_tokens.specs.declared.read_error.ReadError.TheVariants.{P4, P5}
 use Rattle.cel_reader.specs.Tree.{Tree}
 use Rattle.cel_reader.specs.Look.{words}
 use Rattle.cel_reader.specs.Grammar.{Expression, One, Derives}

@@ -10,25 +10,25 @@ got_not_deep : (p : Phrase) (rest us : List Word) → Got p rest ≡ Refused (De
 got_not_deep p rest us e = cc
 
 -- where one bracket may be opened, it may be with more room
-opened : (room inner more : ℕ) → room ≡ suc inner → room ≤ more → (m : ℕ) × (more ≡ suc m) × (inner ≤ m)
-opened room inner zero z h = absurd (omega arith)
-opened room inner (suc m) z h = (m, refl, omega arith)
+pub opened : {room inner : ℕ} → room ≡ suc inner → (more : ℕ) → room ≤ more → (m : ℕ) × (more ≡ suc m) × (inner ≤ m)
+opened z zero h = absurd (omega arith)
+opened z (suc m) h = (m, refl, omega arith)
 
 -- the reader goes the same way with more room, unless it was too deep
 pub roomier : {s : Step} {room : ℕ} {ws : List Word} {o : Outcome} → Reads s room ws o → (more : ℕ) → room ≤ more → ((us : List Word) → o ≡ Refused (Deep us) → ⊥) → Reads s more ws o
 roomier (reads.expression_fails r) more h fits = reads.expression_fails (roomier r more h fits)
 roomier (reads.expression_plain r e) more h fits = reads.expression_plain (roomier r more h fits) e
-roomier (reads.then_fails {room = room} {inner = inner} r e f s) more h fits =
-    let deeper = opened room inner more f h in
+roomier (reads.then_fails r e f s) more h fits =
+    let deeper = opened f more h in
     reads.then_fails (roomier r more h (got_not_deep _ _)) e deeper.1 (roomier s deeper.0 deeper.2 fits)
-roomier (reads.no_colon {room = room} {inner = inner} r e f s g) more h fits =
-    let deeper = opened room inner more f h in
+roomier (reads.no_colon r e f s g) more h fits =
+    let deeper = opened f more h in
     reads.no_colon (roomier r more h (got_not_deep _ _)) e deeper.1 (roomier s deeper.0 deeper.2 (got_not_deep _ _)) g
-roomier (reads.else_fails {room = room} {inner = inner} r e f s g t) more h fits =
-    let deeper = opened room inner more f h in
+roomier (reads.else_fails r e f s g t) more h fits =
+    let deeper = opened f more h in
     reads.else_fails (roomier r more h (got_not_deep _ _)) e deeper.1 (roomier s deeper.0 deeper.2 (got_not_deep _ _)) g (roomier t deeper.0 deeper.2 fits)
-roomier (reads.conditional {room = room} {inner = inner} r e f s g t) more h fits =
-    let deeper = opened room inner more f h in
+roomier (reads.conditional r e f s g t) more h fits =
+    let deeper = opened f more h in
     reads.conditional (roomier r more h (got_not_deep _ _)) e deeper.1 (roomier s deeper.0 deeper.2 (got_not_deep _ _)) g (roomier t deeper.0 deeper.2 (got_not_deep _ _))
 roomier (reads.infix_fails r) more h fits = reads.infix_fails (roomier r more h fits)
 roomier (reads.infix_goes r s) more h fits = reads.infix_goes (roomier r more h (got_not_deep _ _)) (roomier s more h fits)
@@ -62,38 +62,24 @@ roomier (reads.constant e f) more h fits = reads.constant e f
 roomier (reads.identifier e f g) more h fits = reads.identifier e f g
 roomier (reads.function_fails e f g r) more h fits = reads.function_fails e f g (roomier r more h fits)
 roomier (reads.function_call e f g r) more h fits = reads.function_call e f g (roomier r more h (got_not_deep _ _))
-roomier (reads.enclosed_fails {room = room} {inner = inner} e r) more h fits =
-    let deeper = opened room inner more e h in
-    reads.enclosed_fails deeper.1 (roomier r deeper.0 deeper.2 fits)
-roomier (reads.enclosed_open {room = room} {inner = inner} e r f) more h fits =
-    let deeper = opened room inner more e h in
+roomier (reads.enclosed_fails e r) more h fits = let deeper = opened e more h in reads.enclosed_fails deeper.1 (roomier r deeper.0 deeper.2 fits)
+roomier (reads.enclosed_open e r f) more h fits =
+    let deeper = opened e more h in
     reads.enclosed_open deeper.1 (roomier r deeper.0 deeper.2 (got_not_deep _ _)) f
-roomier (reads.enclosed_closed {room = room} {inner = inner} e r f) more h fits =
-    let deeper = opened room inner more e h in
+roomier (reads.enclosed_closed e r f) more h fits =
+    let deeper = opened e more h in
     reads.enclosed_closed deeper.1 (roomier r deeper.0 deeper.2 (got_not_deep _ _)) f
-roomier (reads.list_empty {room = room} {inner = inner} e f) more h fits =
-    let deeper = opened room inner more e h in
-    reads.list_empty deeper.1 f
-roomier (reads.list_comma {room = room} {inner = inner} e f g) more h fits =
-    let deeper = opened room inner more e h in
-    reads.list_comma deeper.1 f g
-roomier (reads.list_items {room = room} {inner = inner} e f g r) more h fits =
-    let deeper = opened room inner more e h in
-    reads.list_items deeper.1 f g (roomier r deeper.0 deeper.2 fits)
+roomier (reads.list_empty e f) more h fits = let deeper = opened e more h in reads.list_empty deeper.1 f
+roomier (reads.list_comma e f g) more h fits = let deeper = opened e more h in reads.list_comma deeper.1 f g
+roomier (reads.list_items e f g r) more h fits = let deeper = opened e more h in reads.list_items deeper.1 f g (roomier r deeper.0 deeper.2 fits)
 roomier (reads.item_fails r) more h fits = reads.item_fails (roomier r more h fits)
 roomier (reads.item_goes r s) more h fits = reads.item_goes (roomier r more h (got_not_deep _ _)) (roomier s more h fits)
 roomier (reads.items_end e) more h fits = reads.items_end e
 roomier (reads.items_misfit e f) more h fits = reads.items_misfit e f
 roomier (reads.items_go_on e f r) more h fits = reads.items_go_on e f (roomier r more h fits)
-roomier (reads.map_empty {room = room} {inner = inner} e f) more h fits =
-    let deeper = opened room inner more e h in
-    reads.map_empty deeper.1 f
-roomier (reads.map_comma {room = room} {inner = inner} e f g) more h fits =
-    let deeper = opened room inner more e h in
-    reads.map_comma deeper.1 f g
-roomier (reads.map_entries {room = room} {inner = inner} e f g r) more h fits =
-    let deeper = opened room inner more e h in
-    reads.map_entries deeper.1 f g (roomier r deeper.0 deeper.2 fits)
+roomier (reads.map_empty e f) more h fits = let deeper = opened e more h in reads.map_empty deeper.1 f
+roomier (reads.map_comma e f g) more h fits = let deeper = opened e more h in reads.map_comma deeper.1 f g
+roomier (reads.map_entries e f g r) more h fits = let deeper = opened e more h in reads.map_entries deeper.1 f g (roomier r deeper.0 deeper.2 fits)
 roomier (reads.key_fails r) more h fits = reads.key_fails (roomier r more h fits)
 roomier (reads.key_alone r e) more h fits = reads.key_alone (roomier r more h (got_not_deep _ _)) e
 roomier (reads.value_fails r e s) more h fits = reads.value_fails (roomier r more h (got_not_deep _ _)) e (roomier s more h fits)

@@ -1,11 +1,11 @@
 -- What the reader reads, the grammar derives.
 use Rattle.std.proofs.Common.{◌≡◌, ℕ, suc, List, [], ◌∷◌, ◌++◌, true, false, ◌⊎◌, inl, inr, refl, sym, ap, subst}
 use Rattle.cel_tokens.specs.Token.{Word, name, mark}
-use Rattle.cel_tokens.specs.declared.mark.Mark.TheVariants.{Colon, Dot, Comma, OpenParen, CloseParen, OpenBracket, CloseBracket, OpenBrace, CloseBrace}
+use Rattle.cel_tokens.specs.declared.mark.Mark.TheVariants.{Colon, Dot, Comma, OpenParen, CloseParen, OpenBracket, OpenBrace}
 use Rattle.cel_reader.specs.Tree as tree
 use Rattle.cel_reader.specs.Tree.{Tree, trees, entries}
 use Rattle.cel_reader.specs.Words.{is_identifier, is_selector}
-use Rattle.cel_reader.specs.Look.{Closes}
+use Rattle.cel_reader.specs.Look.{Closes, closing_mark}
 use Rattle.cel_reader.specs.Grammar.{Class, Expression, Infix, Unary, Prefixed, Member, Primary, Items, OptionalItems, Pairs, OptionalPairs, Phrase, One, Many, Keyed, OptionalComma, Derives}
 use Rattle.cel_reader.specs.Grammar as derives
 use Rattle.cel_reader.specs.Reading.{Outcome, Got, Refused, Step, Row, Tail, Suffix, Selection, Enclosed, Listed, Item, Behind, Mapped, Entry, BehindEntry, Reads}
@@ -82,13 +82,9 @@ pub ends_call : (ws rest : List Word) → Closes Call ws rest → ws ≡ mark Cl
 ends_call ws rest (inl e) = e
 ends_call ws rest (inr p) = absurd (let e : false ≡ true = p.0 in cc)
 
-ends_list : (ws rest : List Word) → Closes ListLiteral ws rest → OptionalComma ws (mark CloseBracket ∷ rest)
-ends_list ws rest (inl e) = inl e
-ends_list ws rest (inr p) = inr p.1
-
-ends_map : (ws rest : List Word) → Closes Map ws rest → OptionalComma ws (mark CloseBrace ∷ rest)
-ends_map ws rest (inl e) = inl e
-ends_map ws rest (inr p) = inr p.1
+ends_list : (c : Closing) (ws rest : List Word) → Closes c ws rest → OptionalComma ws (mark (closing_mark c) ∷ rest)
+ends_list c ws rest (inl e) = inl e
+ends_list c ws rest (inr p) = inr p.1
 
 -- one more item
 pub item_added : (room : ℕ) (start ws us : List Word) (items : List Tree) (a : Tree) → ItemsBefore room start items ws → Derives Expression room ws (One a) us → Derives Items room start (Many (items ++ a ∷ [])) us
@@ -112,10 +108,10 @@ function_sound room ws us vs rest n items e is f x =
     begun (roomy (derives.function_call is (moved x.3 (ends_call x.1 rest x.4))) x.2) front
 
 pub list_sound : (room : ℕ) (ws us rest : List Word) (items : List Tree) → ws ≡ mark OpenBracket ∷ us → SoundMany (Listed ListLiteral) room us items rest → Derives Primary room ws (One (tree.list (trees items))) rest
-list_sound room ws us rest items e x = begun (roomy (derives.list_literal x.3 (ends_list x.1 rest x.4)) x.2) e
+list_sound room ws us rest items e x = begun (roomy (derives.list_literal x.3 (ends_list ListLiteral x.1 rest x.4)) x.2) e
 
 pub map_sound : (room : ℕ) (ws us rest : List Word) (pairs : List (Tree × Tree)) → ws ≡ mark OpenBrace ∷ us → SoundKeyed Mapped room us pairs rest → Derives Primary room ws (One (tree.map (entries pairs))) rest
-map_sound room ws us rest pairs e x = begun (roomy (derives.map_literal x.3 (ends_map x.1 rest x.4)) x.2) e
+map_sound room ws us rest pairs e x = begun (roomy (derives.map_literal x.3 (ends_list Map x.1 rest x.4)) x.2) e
 
 -- what is read is derived
 pub sound : {s : Step} {room : ℕ} {ws : List Word} {o : Outcome} → Reads s room ws o → Sound s room ws o

@@ -5,7 +5,7 @@ use Rattle.cel_tokens.specs.declared.mark.Mark.{Mark}
 use Rattle.cel_tokens.specs.declared.mark.Mark.TheVariants.{Question, Colon, Dot, Comma, OpenParen, CloseParen, OpenBracket, CloseBracket, CloseBrace}
 use Rattle.cel_reader.specs.Words.{operator_of, operator_mark, level_of}
 use Rattle.cel_reader.specs.Look.{NotAt, NoOperator, Closes, closing_mark}
-use Rattle.cel_reader.specs.Grammar.{Class, Expression, Infix, Unary, Prefixed, Member, Primary, Items, OptionalItems, Pairs, OptionalPairs, below}
+use Rattle.cel_reader.specs.Grammar.{Class, Infix, Unary, Prefixed, Member, Primary, below}
 use Rattle.cel_reader.specs.declared.level.Level.{Level}
 use Rattle.cel_reader.specs.declared.level.Level.TheVariants.{Or, And, Relation, Sum, Product}
 use Rattle.cel_reader.specs.declared.closing.Closing.{Closing}
@@ -84,19 +84,10 @@ ends_colon ws = ((λ e. cc), ends_or Colon ws refl ((λ e. cc), (λ e. cc), (λ 
 pub ends_comma : (ws : List Word) → StopsExpression (mark Comma ∷ ws)
 ends_comma ws = ((λ e. cc), ends_or Comma ws refl ((λ e. cc), (λ e. cc), (λ e. cc)))
 
-pub ends_paren : (ws : List Word) → StopsExpression (mark CloseParen ∷ ws)
-ends_paren ws = ((λ e. cc), ends_or CloseParen ws refl ((λ e. cc), (λ e. cc), (λ e. cc)))
-
-pub ends_bracket : (ws : List Word) → StopsExpression (mark CloseBracket ∷ ws)
-ends_bracket ws = ((λ e. cc), ends_or CloseBracket ws refl ((λ e. cc), (λ e. cc), (λ e. cc)))
-
-ends_brace : (ws : List Word) → StopsExpression (mark CloseBrace ∷ ws)
-ends_brace ws = ((λ e. cc), ends_or CloseBrace ws refl ((λ e. cc), (λ e. cc), (λ e. cc)))
-
-ends_closing : (c : Closing) (ws : List Word) → StopsExpression (mark (closing_mark c) ∷ ws)
-ends_closing Call ws = ends_paren ws
-ends_closing ListLiteral ws = ends_bracket ws
-ends_closing Map ws = ends_brace ws
+pub ends_closing : (c : Closing) (ws : List Word) → StopsExpression (mark (closing_mark c) ∷ ws)
+ends_closing Call ws = ((λ e. cc), ends_or CloseParen ws refl ((λ e. cc), (λ e. cc), (λ e. cc)))
+ends_closing ListLiteral ws = ((λ e. cc), ends_or CloseBracket ws refl ((λ e. cc), (λ e. cc), (λ e. cc)))
+ends_closing Map ws = ((λ e. cc), ends_or CloseBrace ws refl ((λ e. cc), (λ e. cc), (λ e. cc)))
 
 -- the end of a list ends its last item
 pub ends_list : (c : Closing) (ws rest : List Word) → Closes c ws rest → StopsExpression ws

@@ -20,43 +20,27 @@ whole_sound room ws rest a r = sound r
 pub more_room : (c : Class) (room more : ℕ) (ws : List Word) (p : Phrase) (rest : List Word) → room ≤ more → Derives c room ws p rest → Derives c more ws p rest
 more_room c room more ws p rest h d = wider d more h
 
-same_tree : (a b : Tree) → Got (One a) [] ≡ Got (One b) [] → a ≡ b
-same_tree a b e = cc
-
 -- all the words have one tree, whatever the room
 pub whole_unique : (room other : ℕ) (ws : List Word) (a b : Tree) → Derives Expression room ws (One a) [] → Derives Expression other ws (One b) [] → a ≡ b
-whole_unique room other ws a b d e = same_tree a b (claim (wider e (room + other) (omega arith)) ends_all (Got (One a) []) (built (wider d (room + other) (omega arith)) ends_all))
+whole_unique room other ws a b d e =
+    let same = claim (wider e (room + other) (omega arith)) ends_all (Got (One a) []) (built (wider d (room + other) (omega arith)) ends_all) in
+    cc
 
 -- a run that was not too deep and did not end in this tree leaves no other derivation, whatever the room
 one_answer : (room other : ℕ) (ws : List Word) (b : Tree) (o : Outcome) → ((left : List Word) → o ≡ Refused (Deep left) → ⊥) → Reads (Row Expression) room ws o → Derives Expression other ws (One b) [] → o ≡ Got (One b) []
 one_answer room other ws b o not r d = claim (wider d (room + other) (omega arith)) ends_all o (roomier r (room + other) (omega arith) not)
 
-misfit_not_deep : (us vs : List Word) → Refused (Misfit us) ≡ Refused (Deep vs) → ⊥
-misfit_not_deep us vs e = cc
-
-misfit_not_got : (us : List Word) (p : Phrase) (rest : List Word) → Refused (Misfit us) ≡ Got p rest → ⊥
-misfit_not_got us p rest e = cc
-
 -- a misfit is one with any room
 pub misfit_never : (room other : ℕ) (ws us : List Word) (a : Tree) → Reads (Row Expression) room ws (Refused (Misfit us)) → Derives Expression other ws (One a) [] → ⊥
-misfit_never room other ws us a r d = misfit_not_got us (One a) [] (one_answer room other ws a (Refused (Misfit us)) (misfit_not_deep us) r d)
-
-got_not_deep : (p : Phrase) (rest left : List Word) → Got p rest ≡ Refused (Deep left) → ⊥
-got_not_deep p rest left e = cc
-
-rest_not_all : (p q : Phrase) (w : Word) (us : List Word) → Got p (w ∷ us) ≡ Got q [] → ⊥
-rest_not_all p q w us e = cc
+misfit_never room other ws us a r d = let same = one_answer room other ws a (Refused (Misfit us)) (λ vs e. cc) r d in cc
 
 -- where the reader leaves words, they belong to no phrase of all the words, whatever the room
 pub rest_never : (room other : ℕ) (ws us : List Word) (w : Word) (a b : Tree) → Reads (Row Expression) room ws (Got (One a) (w ∷ us)) → Derives Expression other ws (One b) [] → ⊥
-rest_never room other ws us w a b r d = rest_not_all (One a) (One b) w us (one_answer room other ws b (Got (One a) (w ∷ us)) (got_not_deep (One a) (w ∷ us)) r d)
-
-deep_not_got : (us : List Word) (p : Phrase) (rest : List Word) → Refused (Deep us) ≡ Got p rest → ⊥
-deep_not_got us p rest e = cc
+rest_never room other ws us w a b r d = let same = one_answer room other ws b (Got (One a) (w ∷ us)) (λ vs e. cc) r d in cc
 
 -- what is too deep for the reader is no phrase with this room
 pub deep_never : (room : ℕ) (ws us : List Word) (a : Tree) → Reads (Row Expression) room ws (Refused (Deep us)) → Derives Expression room ws (One a) [] → ⊥
-deep_never room ws us a r d = deep_not_got us (One a) [] (claim d ends_all (Refused (Deep us)) r)
+deep_never room ws us a r d = let same = claim d ends_all (Refused (Deep us)) r in cc
 
 -- what is too deep has more opening brackets and question marks than the room
 pub deep_openings : (room : ℕ) (ws us : List Word) → Reads (Row Expression) room ws (Refused (Deep us)) → room < openings ws

@@ -1,5 +1,5 @@
 -- What the reader's runs tell of whole texts.
-use Rattle.std.proofs.Common.{◌≡◌, ◌≢◌, ℕ, List, [], ◌∷◌, map, Ok, Err, Result, refl, sym, ◌∙◌, ap, subst, MatchResult}
+use Rattle.std.proofs.Common.{◌≡◌, ◌≢◌, ℕ, List, [], ◌∷◌, map, Ok, Err, Result, refl, sym, ap, subst, MatchResult}
 use Rattle.cel_tokens.specs.Token.{Word, Lexeme, seen}
 use Rattle.cel_tokens.specs.Lexis as tokens
 use Rattle.cel_tokens.specs.Lexis.{Lexes}
@@ -47,25 +47,11 @@ told_text source tokens (Err (P5 place)) l t = (map (seen source) tokens, l, t)
 told_text source tokens (Err Memory) l t = some_taken source (map (seen source) tokens) l (λ e. t (ap (map (λ (x : Lexeme). x.word)) e))
 told_text source tokens _ l t = absurd t
 
--- a text that has these tokens
-abbrev lexed : List Lexeme → Result (List Lexeme) ReadError
-lexed xs = Ok xs
-
--- a text that has none, for this cause
-abbrev unlexed : ReadError → Result (List Lexeme) ReadError
-unlexed e = Err e
-
-same_lexemes : (xs ys : List Lexeme) → lexed xs ≡ lexed ys → xs ≡ ys
-same_lexemes xs ys e = cc
-
 pub one_list : (source : List ℕ) (xs ys : List Lexeme) → Lexes source (Ok xs) → Lexes source (Ok ys) → xs ≡ ys
-one_list source xs ys x y = same_lexemes xs ys (one_end source (Ok xs) (Ok ys) x y)
-
-not_both : (xs : List Lexeme) (e : ReadError) → lexed xs ≡ unlexed e → ⊥
-not_both xs e k = cc
+one_list source xs ys x y = let same = one_end source (Ok xs) (Ok ys) x y in cc
 
 pub not_refused : {P : Type 0} (source : List ℕ) (xs : List Lexeme) (e : ReadError) → Lexes source (Ok xs) → Lexes source (Err e) → P
-not_refused source xs e x y = absurd (not_both xs e (one_end source (Ok xs) (Err e) x y))
+not_refused source xs e x y = let same = one_end source (Ok xs) (Err e) x y in absurd cc
 
 moved : (xs ys : List Lexeme) (a : Tree) → xs ≡ ys → IsExpression 100 (spoken xs) a → IsExpression 100 (spoken ys) a
 moved xs ys a e d = subst (λ (zs : List Lexeme). IsExpression 100 (spoken zs) a) e d
@@ -90,12 +76,9 @@ tokens_fail source _ t = t
 pub told_at : (source bytes : List ℕ) (tokens items : List Token) (r : Result Expr ReadError) → bytes ≡ source → items ≡ tokens → Told (words bytes items) r → Told (words source tokens) r
 told_at source bytes tokens items r e f t = subst (λ (xs : List ℕ). Told (words xs tokens) r) e (subst (λ (ts : List Token). Told (words bytes ts) r) f t)
 
-cons_not_nil : (us : List Word) (w : Word) → w ∷ us ≡ [] → ⊥
-cons_not_nil us w e = cc
-
 -- words of which there is one are not none
 pub some_word : (ws us : List Word) (w : Word) → ws ≡ w ∷ us → ws ≢ []
-some_word ws us w e n = cons_not_nil us w (sym e ∙ n)
+some_word ws us w e n = cc
 
 -- an error that is this one, and an answer that is none
 abbrev failed : (X : Type 0) → ReadError → Result X ReadError

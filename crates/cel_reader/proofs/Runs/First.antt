@@ -2,7 +2,7 @@
 use Rattle.std.proofs.Common.{◌≡◌, ◌≢◌, ℕ, Bool, true, false, List, [], ◌∷◌, Option, Some, None, get_or, inl, inr, ◌⊎◌, refl, sym, ◌∙◌, ap}
 use Rattle.std.proofs.lemmas.Bool.{eqb-true, eqb-false}
 use Rattle.std.specs.Prelude.{◌==◌}
-use Rattle.cel_tokens.specs.Token.{Word, name, int, text, mark}
+use Rattle.cel_tokens.specs.Token.{Word, name, mark}
 use Rattle.cel_tokens.specs.declared.mark.Mark.{Mark}
 use Rattle.cel_tokens.specs.declared.mark.Mark.TheVariants as marks
 use Rattle.cel_tokens.specs.declared.mark.Mark.TheVariants.{Question, Colon, Dot, Comma, Not, Minus, OpenParen, CloseParen, OpenBracket, CloseBracket, OpenBrace, CloseBrace}

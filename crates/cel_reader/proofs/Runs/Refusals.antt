@@ -10,7 +10,7 @@ use Rattle.cel_tokens.specs.Front.{Front, sign_may_follow}
 use Rattle.cel_tokens.specs.Lexis as tokens
 use Rattle.cel_tokens.specs.Lexis.{Cuts, Lexes, lexeme}
 use Rattle.cel_tokens.specs.declared.read_error.ReadError.{ReadError}
-use Rattle.cel_tokens.specs.declared.read_error.ReadError.TheVariants.{P1, P2, P3, P4, P5, P6, Memory}
+use Rattle.cel_tokens.specs.declared.read_error.ReadError.TheVariants.{P1, P2, P3, P4, P5}
 use Rattle.cel_reader.specs.Words.{is_reserved, role_of}
 use Rattle.cel_reader.specs.Look.{spoken}
 use Rattle.cel_reader.specs.Grammar.{Expression, One, Many, Keyed}
