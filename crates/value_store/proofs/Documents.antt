@@ -5,16 +5,13 @@ use Rattle.std.proofs.lemmas.Bool.Decides.{nat_tests}
 use Rattle.serde_json.specs.Data as json
 use Rattle.value_store.specs.Value as kind
 use Rattle.value_store.specs.Plain.{plain_value, plain_items, plain_entries}
+use Rattle.value_store.proofs.Places.{mapped}
 use Rattle.value_store.proofs.Trees.{first_no, second_no}
 use Rattle.value_store.specs.Roots.{value_of, items_value, members_value, is_other, has_other, items_have_other, members_have_other}
 
 number_exact : (n : json.Num) → is_other n ≡ not (is_some (value_of (json.number n)))
 number_exact (json.unsigned n) = grind (arith, nat_tests)
 number_exact _ = refl
-
-mapped : {A B : Type 0} (f : A → B) (o : Option A) → is_some (option_map f o) ≡ is_some o
-mapped f None = refl
-mapped f (Some a) = refl
 
 both : {A B C : Type 0} (f : A → B → C) (o : Option A) (p : Option B) (b c : Bool) → b ≡ not (is_some o) → c ≡ not (is_some p) → (b || c) ≡ not (is_some (option_and_then (λ v. option_map (f v) p) o))
 both f None p b c e g = rw e refl

@@ -15,6 +15,7 @@ use Rattle.value_store.specs.Keys.{Ascend, IsOrdered, AreItemsOrdered, AreEntrie
 use Rattle.value_store.specs.Calls.{value_at, text_at, entries_at, entries_part, part_at, join_of, joined, push_of, pushed, put_of, put_in}
 use Rattle.value_store.specs.Placing.{placed}
 use Rattle.value_store.specs.Laws.{IsOrderedAt, InsertedInOrder, InsertedOnce, KeepsOrder}
+use Rattle.value_store.proofs.Places.{mapped}
 
 -- a key is below each of these
 abbrev pub BelowAll : List ℕ → List (List ℕ) → Type 0
@@ -69,10 +70,6 @@ has_by false v o e = refl
 below_has_not : (key : List ℕ) (es : Entries) → BelowAll key (keys_of es) → has_key key es ≡ false
 below_has_not key no_entries h = refl
 below_has_not key (entry k v more) h = has_by (bytes_eq k key) v (find key more) (apart key k (ap is_eq h.0)) ∙ below_has_not key more h.1
-
-mapped : {A B : Type 0} (f : A → B) (o : Option A) → is_some (option_map f o) ≡ is_some o
-mapped f None = refl
-mapped f (Some a) = refl
 
 same_key : (j k : List ℕ) → is_eq (slice_cmp nat_cmp j k) ≡ true → bytes_eq k j ≡ true
 same_key j k e = (bytes_eq-Decides k j).1 (sym ((bytes_eq-Decides j k).0 (sym (is_eq-slice_cmp j k) ∙ e)))

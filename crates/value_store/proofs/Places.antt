@@ -22,7 +22,7 @@ pub find_place : (key : List ℕ) (es : Entries) → find key es ≡ option_and_
 find_place key no_entries = refl
 find_place key (entry k v more) = chosen (bytes_eq k key) v (values_of more) (find key more) (place_of_key key more) (find_place key more)
 
-mapped : {A B : Type 0} (f : A → B) (o : Option A) → is_some (option_map f o) ≡ is_some o
+pub mapped : {A B : Type 0} (f : A → B) (o : Option A) → is_some (option_map f o) ≡ is_some o
 mapped f None = refl
 mapped f (Some a) = refl
 
@@ -36,8 +36,7 @@ has_key_place key no_entries = refl
 has_key_place key (entry k v more) = both (bytes_eq k key) v (find key more) (place_of_key key more) (has_key_place key more)
 
 some_mapped : {A B : Type 0} (f : A → B) (o : Option A) → IsSome o → IsSome (option_map f o)
-some_mapped f (Some a) e = refl
-some_mapped f None e = e
+some_mapped f o e = mapped f o ∙ e
 
 fits_by : (o : Ordering) (key : List ℕ) (x : Value) (k : List ℕ) (v : Value) (more : Entries) (rest : Option Entries) → is_eq o ≡ false → IsSome rest → IsSome (inserted_by o key x k v more rest)
 fits_by Less key x k v more rest e there = refl

@@ -20,10 +20,9 @@ get_front (v ∷ vs) ws (suc r) h = get_front vs ws r (omega arith)
 
 pub same_more : (vs ws : List Value) (same : List ℕ) → AreSame vs same → AreSame (vs ++ ws) same
 same_more vs ws same h =
-    let l = length-append vs ws in
     let long = h.long in
     record {
-      long = omega (arith, l, long);
+      long = omega (arith, length-append vs ws, long);
       below = h.below;
       equal = λ i d lt.
           let low = h.below i d lt in
@@ -69,12 +68,10 @@ pub heap_put : (old new : Heap) (mid : List Cell) (c : Cell) → IsHeap old → 
 heap_put old new mid c h e words fits same cells k indexes =
     let kept = grown_kept old.backings new.backings [] old.cells e h.cells in
     let all : new.cells ≡ old.cells ++ c ∷ [] = cells ∙ ap (λ xs. xs ++ c ∷ []) same in
-    let l = length-append old.cells (c ∷ []) in
-    let n = ap length all in
     record {
       cells = rw all (cells_one new.backings [] old.cells c (cells_kept old.backings new.backings [] old.cells e h.cells) (rw kept k));
       same = rw (values_put old new.backings new.cells mid c h e same cells, words) (same_more (heap_values old) (meaning new.backings (heap_values old) c.content ∷ []) old.same.items h.same);
-      room = omega (arith, l, n, fits);
+      room = omega (arith, length-append old.cells (c ∷ []), ap length all, fits);
       indexes = rw (values_put old new.backings new.cells mid c h e same cells, indexes) (indexes_kept old.backings new.backings (heap_values old) (meaning new.backings (heap_values old) c.content ∷ []) old.indexes.all.items e h.indexes);
     }
 

@@ -20,9 +20,8 @@ pub item_at : {A : Type 0} (xss : List (List A)) (ys : List A) (i j k : ℕ) (e 
     → get_or (joined xss ++ ys) k d ≡ get_or (get_or xss i e) j d
 item_at [] ys i j k e d h low less is = absurd (omega arith)
 item_at {A} (xs ∷ xss) ys zero j k e d h low less is =
-    let f = h.0 in
     let same : k ≡ j = omega arith in
-    ap (λ zs. get_or zs k d) (append_assoc xs (joined xss) ys) ∙ get_or_append_left xs (joined xss ++ ys) d k (omega (arith, f, same, less))
+    ap (λ zs. get_or zs k d) (append_assoc xs (joined xss) ys) ∙ get_or_append_left xs (joined xss ++ ys) d k (omega (arith, h.0, same, less))
     ∙ ap (λ n. get_or xs n d) same
 item_at {A} (xs ∷ xss) ys (suc i) j k e d h low less is =
     ap (λ zs. get_or zs k d) (append_assoc xs (joined xss) ys) ∙ get_or-append_right xs (joined xss ++ ys) 256 k d h.0 (omega (arith, is))
@@ -41,6 +40,4 @@ closed xss yss xs e = append-nil (joined yss) ∙ ap joined e ∙ joined_one xss
 pub chunks_closed : {A : Type 0} (xss yss : List (List A)) (xs : List A) → yss ≡ xss ++ xs ∷ [] → length xs ≡ 256 → length xss < 1125899906842624 → AreChunks xss xs
     → AreChunks yss []
 chunks_closed xss yss xs e long few h =
-    let n = length-append xss (xs ∷ []) in
-    let m = ap length e in
-    record { full = rw e (full_one xss xs h.full long); few = omega (arith, n, m, few); short = omega arith }
+    record { full = rw e (full_one xss xs h.full long); few = omega (arith, length-append xss (xs ∷ []), ap length e, few); short = omega arith }

@@ -21,9 +21,8 @@ word_of same here next d e inside = let is = slice_get-get_or same here d inside
 way_is : (same : List ℕ) (place further d : ℕ) → LeadDown same → place < length same → further ≡ way_down (slice_get same place) place
     → get_or same place d ≡ further
 way_is same place further d down inside e =
-    let low = down place d inside in
     let is : further ≡ min (get_or same place d) place = e ∙ ap (λ (o : Option ℕ). way_down o place) (slice_get-get_or same place d inside) in
-    omega (arith, low, is)
+    omega (arith, down place d inside, is)
 
 module _ (old now : List ℕ) (place here next further : ℕ) (so_far : Shortens old now place) (low : here ≤ place) (is : next ≡ way_down (slice_get now here) here) (less : next < here) (beyond : further ≡ way_down (slice_get now next) next) where
   word_is : slice_get now here ≡ Some next

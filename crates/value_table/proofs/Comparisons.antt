@@ -4,7 +4,7 @@ use Rattle.std.specs.Prelude.{Decides, is_some, option_map}
 use Rattle.std.proofs.lemmas.List.{get_or_append_left}
 use Rattle.std.proofs.Math.Seq.{get_or-append_seam}
 use Rattle.std.specs.Bool.{one_answer}
-use Rattle.std.proofs.lemmas.Option.{slice_get-get_or}
+use Rattle.std.proofs.lemmas.Option.{same_Some, slice_get-get_or}
 use Rattle.value_store.specs.Value as kind
 use Rattle.value_store.specs.Value.{Value}
 use Rattle.value_store.specs.Equality.{equal}
@@ -59,19 +59,9 @@ word_added vs same more n h e l is =
 
 -- ---- members
 
-pub below_more : (i m : ℕ) (rs : List ℕ) → i ≤ m → AreBelow i rs → AreBelow m rs
-below_more i m [] h b = tt
-below_more i m (r ∷ rs) h b = (let l = b.0 in omega arith, below_more i m rs h b.1)
-
-pub range_within : (lists : List (List ℕ)) (i m b n : ℕ) → i ≤ m → IsRange lists i b n → IsRange lists m b n
-range_within lists i m b n h r = record { inside = r.inside; long = r.long; below = below_more i m (refs_at lists b n) h r.below }
-
-some_same : {A : Type 0} {a b : A} → Some a ≡ Some b → a ≡ b
-some_same e = cc
-
 -- a map has a text as a key where the key has a place
 pub key_member : (x m : Value) (key : List ℕ) (o : Option ℕ) → x ≡ kind.text key → Some o ≡ option_map (place_of_key key) (entries_part m)
     → Some (is_some o) ≡ member x m
 key_member x (kind.map es) key o e f =
-    ap (λ p. Some (is_some p)) (some_same f) ∙ ap (λ b. Some b) (sym (has_key_place key es)) ∙ ap (λ v. member v (kind.map es)) (sym e)
+    ap (λ p. Some (is_some p)) (same_Some _ _ f) ∙ ap (λ b. Some b) (sym (has_key_place key es)) ∙ ap (λ v. member v (kind.map es)) (sym e)
 key_member x _ key o e f = absurd (cc)

@@ -27,17 +27,11 @@ list_measured bs vs rs x n m m' xc count h fx deep long =
     let more = items_more vs rs x in
     let xd : xc.depth ≡ depth_of (value_in vs x) = fx.depth ∙ ap depth_of (sym fx.is) in
     let xj : xc.json ≡ json_length (value_in vs x) = fx.json ∙ ap json_length (sym fx.is) in
-    let pd = push_depth (items_at vs rs) (value_in vs x) in
     let text = push_long (items_at vs rs) (value_in vs x) n (items_length vs rs ∙ count) in
-    let md = h.depth in
-    let ms = h.shallow in
-    let mj = h.json in
-    let s = fx.shallow in
-    let i = fx.inside in
     record {
-      depth = rw more (omega (arith, deep, xd, md, pd));
-      shallow = omega (arith, deep, ms, s, i);
-      json = rw more (omega (arith, long, mj, xj, text));
+      depth = rw more (omega (arith, deep, xd, h.depth, push_depth (items_at vs rs) (value_in vs x)));
+      shallow = omega (arith, deep, h.shallow, fx.shallow, fx.inside);
+      json = rw more (omega (arith, long, h.json, xj, text));
     }
 
 with_last : {A : Type 0} (x : A) (xs : List A) → with_one (length xs) x xs ≡ xs ++ x ∷ []
@@ -54,30 +48,20 @@ map_measured bs bytes vs ks rs k x n kj m m' xc kc rc h fx key deep long =
     let xj : xc.json ≡ json_length (value_in vs x) = fx.json ∙ ap json_length (sym fx.is) in
     let pd = depth_one bytes vs ks rs k x (length ks) same (omega arith) in
     let text = put_long bytes vs ks rs k x (length ks) n same kc (omega arith) in
-    let md = h.depth in
-    let ms = h.shallow in
-    let mj = h.json in
-    let s = fx.shallow in
-    let i = fx.inside in
     record {
-      depth = rw more (omega (arith, deep, xd, md, pd));
-      shallow = omega (arith, deep, ms, s, i);
-      json = rw more (omega (arith, long, mj, key, xj, text));
+      depth = rw more (omega (arith, deep, xd, h.depth, pd));
+      shallow = omega (arith, deep, h.shallow, fx.shallow, fx.inside);
+      json = rw more (omega (arith, long, h.json, key, xj, text));
     }
 
-pub text_in : (bytes : List ℕ) (ks : List Part) (i : ℕ) (d : Part) → AreTexts bytes ks → i < length ks → IsText bytes (get_or ks i d)
-text_in bytes [] i d h lt = absurd (omega arith)
-text_in bytes (k ∷ ks) zero d h lt = h.0
-text_in bytes (k ∷ ks) (suc i) d h lt = text_in bytes ks i d h.1 (omega arith)
-
 -- the cells of wholes
-pub list_gathered : (cs : Backings) (vs : List Value) (rs : List ℕ) (b : ℕ) (m : Measure) → Holds cs.lists b (length rs) rs → AreBelow (length vs) rs → IsMeasure (length vs) (kind.list (items_at vs rs)) m → IsOrdered (kind.list (items_at vs rs))
+pub list_gathered : (cs : Backings) (vs : List Value) (xs rs : List ℕ) (b : ℕ) (m : Measure) → xs ≡ rs → Holds cs.lists b (length xs) xs → AreBelow (length vs) rs → IsMeasure (length vs) (kind.list (items_at vs rs)) m → IsOrdered (kind.list (items_at vs rs))
     → Made cs vs (record { content = cell.List b (length rs); depth = m.depth; json = m.json }) (Some (kind.list (items_at vs rs)))
-list_gathered cs vs rs b m h below measure ordered =
-    let whole = h.long in
+list_gathered cs vs xs rs b m all held below measure ordered =
+    let h = subst (λ (ys : List ℕ). Holds cs.lists b (length ys) ys) all held in
     record {
       cell = record {
-        content = record { inside = h.inside; long = omega (arith, whole); below = subst (AreBelow (length vs)) (sym h.items) below };
+        content = record { inside = h.inside; long = omega (arith, h.long); below = subst (AreBelow (length vs)) (sym h.items) below };
         depth = rw h.items measure.depth;
         shallow = measure.shallow;
         json = rw h.items measure.json;
@@ -86,17 +70,17 @@ list_gathered cs vs rs b m h below measure ordered =
       value = ap (λ xs. Some (kind.list (items_at vs xs))) (sym h.items);
     }
 
-pub map_gathered : (bs cs : Backings) (vs : List Value) (ks : List Part) (rs : List ℕ) (row b : ℕ) (m : Measure) → cs.bytes ≡ bs.bytes → HoldsKeys cs.keys row (length rs) ks → Holds cs.lists b (length rs) rs → AreTexts bs.bytes ks → AreBelow (length vs) rs
+pub map_gathered : (bs cs : Backings) (vs : List Value) (ks : List Part) (xs rs : List ℕ) (row b : ℕ) (m : Measure) → cs.bytes ≡ bs.bytes → length ks ≡ length rs → xs ≡ rs → HoldsKeys cs.keys row (length ks) ks → Holds cs.lists b (length xs) xs → AreTexts bs.bytes ks → AreBelow (length vs) rs
     → IsMeasure (length vs) (kind.map (entries_at bs.bytes vs ks rs)) m → IsOrdered (kind.map (entries_at bs.bytes vs ks rs)) → Made cs vs (record { content = cell.Map row b (length rs); depth = m.depth; json = m.json }) (Some (kind.map (entries_at bs.bytes vs ks rs)))
-map_gathered bs cs vs ks rs row b m same hk hr texts below measure ordered =
-    let whole = hr.long in
-    let row_end = hk.inside in
+map_gathered bs cs vs ks xs rs row b m same pairs all keys held texts below measure ordered =
+    let hk = subst (λ (n : ℕ). HoldsKeys cs.keys row n ks) pairs keys in
+    let hr = subst (λ (ys : List ℕ). Holds cs.lists b (length ys) ys) all held in
     let here : entries_at cs.bytes vs (keys_at cs.keys row (length rs)) (refs_at cs.lists b (length rs)) ≡ entries_at bs.bytes vs ks rs = rw (same, hk.are, hr.items) refl in
     record {
       cell = record {
         content = (
-          record { inside = hr.inside; long = omega (arith, whole); below = subst (AreBelow (length vs)) (sym hr.items) below },
-          record { inside = omega (arith, row_end); texts = rw (same, hk.are) texts },
+          record { inside = hr.inside; long = omega (arith, hr.long); below = subst (AreBelow (length vs)) (sym hr.items) below },
+          record { inside = omega (arith, hk.inside); texts = rw (same, hk.are) texts },
         );
         depth = rw here measure.depth;
         shallow = measure.shallow;

@@ -37,10 +37,7 @@ stands_if vs ws v (Err e) a = tt
 
 pub stands_on : (vs ws : List Value) (r : ℕ) (v : Value) → HasGrown vs ws → Stands vs r v → Stands ws r v
 stands_on vs ws r v g s =
-    let low = s.inside in
-    let l = length-append vs g.0 in
-    let n = ap length g.1 in
-    record { inside = omega (arith, low, l, n); is = ap (λ xs. value_in xs r) g.1 ∙ value_stable vs g.0 r s.inside ∙ s.is }
+    record { inside = omega (arith, s.inside, length-append vs g.0, ap length g.1); is = ap (λ xs. value_in xs r) g.1 ∙ value_stable vs g.0 r s.inside ∙ s.is }
 
 -- ---- lists
 
@@ -133,11 +130,10 @@ members_step all us vs keys keys' places places' r key d rest k e up s m =
     let n = ap length up.1 in
     let one = ap length k ∙ length-append keys (key ∷ []) in
     let two = ap length e ∙ length-append places (r ∷ []) in
-    let same = m.pairs in
     record {
       keys_are = ap (λ ks. ks ++ keys_of (plain_entries rest)) k ∙ append_assoc keys (key ∷ []) (keys_of (plain_entries rest)) ∙ m.keys_are;
       values_are = ap (λ ws. ws ++ left) more ∙ append_assoc (values_at us places) (plain_value d ∷ []) left ∙ m.values_are;
-      pairs = omega (arith, one, two, same);
+      pairs = omega (arith, one, two, m.pairs);
       below = subst (AreBelow (length vs)) (sym e) (below_append (length vs) places (r ∷ []) (below_le (length us) (length vs) places (omega (arith, l, n)) m.below) (s.inside, tt));
       whole = second_no (has_other d) _ m.whole;
       ordered = m.ordered.1;

@@ -19,16 +19,13 @@ use Rattle.value_table.specs.declared.backings.Backings.{Backings}
 
 pub range_kept : {A : Type 0} (xs rest : List A) (a b : ℕ) → a ≤ b → b ≤ length xs → slice_range (xs ++ rest) a b ≡ slice_range xs a b
 range_kept {A} xs rest a b le lt =
-    let d = length-drop a xs in
-    ap (take (b - a)) (drop-append-le a xs rest (omega arith)) ∙ take-append-le (b - a) (drop a xs) rest (omega (arith, d))
+    ap (take (b - a)) (drop-append-le a xs rest (omega arith)) ∙ take-append-le (b - a) (drop a xs) rest (omega (arith, length-drop a xs))
 
 pub text_kept : (bytes rest : List ℕ) (p : Part) → IsText bytes p → (part_of (bytes ++ rest) p ≡ part_of bytes p) × IsText (bytes ++ rest) p
 text_kept bytes rest p h =
     let e = range_kept bytes rest p.from p.to h.0 h.1 in
-    let l = length-append bytes rest in
     let order = h.0 in
-    let inside = h.1 in
-    (e, (order, omega (arith, l, inside), rw e h.2, rw e h.3))
+    (e, (order, omega (arith, length-append bytes rest, h.1), rw e h.2, rw e h.3))
 
 pub texts_kept : (bytes rest : List ℕ) (ks : List Part) → AreTexts bytes ks → AreTexts (bytes ++ rest) ks
 texts_kept bytes rest [] h = tt
@@ -105,10 +102,7 @@ cells_one bs vs (d ∷ xs) c h k = (h.0, cells_one bs (vs ++ meaning bs vs d.con
 
 pub length_grown : (bs : Backings) (vs : List Value) (xs : List Cell) → length (grown bs vs xs) ≡ length vs + length xs
 length_grown bs vs [] = omega arith
-length_grown bs vs (d ∷ xs) =
-    let e = length_grown bs (vs ++ meaning bs vs d.content ∷ []) xs in
-    let l = length-append vs (meaning bs vs d.content ∷ []) in
-    omega (arith, e, l)
+length_grown bs vs (d ∷ xs) = omega (arith, length_grown bs (vs ++ meaning bs vs d.content ∷ []) xs, length-append vs (meaning bs vs d.content ∷ []))
 
 pub count_values : (bs : Backings) (xs : List Cell) → length (grown bs [] xs) ≡ length xs
 count_values bs xs = length_grown bs [] xs ∙ zero-add (length xs)
@@ -143,11 +137,10 @@ here bs vs xs c h =
     let g = grows bs (vs ++ meaning bs vs c.content ∷ []) xs in
     let all : grown bs vs (c ∷ xs) ≡ vs ++ meaning bs vs c.content ∷ g.0 = g.1 ∙ append_assoc vs (meaning bs vs c.content ∷ []) g.0 in
     let same : meaning bs (vs ++ meaning bs vs c.content ∷ g.0) c.content ≡ meaning bs vs c.content = meaning_stable bs vs (meaning bs vs c.content ∷ g.0) c.content h.0.content in
-    let l = length-append vs (meaning bs vs c.content ∷ g.0) in
     let one : length (meaning bs vs c.content ∷ g.0) ≡ suc (length g.0) = refl in
     subst (λ ws. Found bs ws (length vs) c) (sym all)
     (record {
-      inside = omega (arith, l, one);
+      inside = omega (arith, length-append vs (meaning bs vs c.content ∷ g.0), one);
       is = get_or-append_seam vs (meaning bs vs c.content) g.0 kind.null ∙ sym same;
       content = h.0.content;
       depth = h.0.depth ∙ ap depth_of (sym same);

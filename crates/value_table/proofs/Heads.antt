@@ -64,7 +64,7 @@ parts_long bs i j c d f g e = fits_long (head bs c) (head bs d) (length (parts b
 
 -- ---- what is built of two heads and parts is equal only where these are
 
-list_back : (vs : List Value) → list_of (items_of vs) ≡ vs
+pub list_back : (vs : List Value) → list_of (items_of vs) ≡ vs
 list_back [] = refl
 list_back (v ∷ vs) = ap (λ ws. v ∷ ws) (list_back vs)
 
@@ -73,7 +73,7 @@ keys_back [] vs e = refl
 keys_back (k ∷ ks) [] e = absurd (omega arith)
 keys_back (k ∷ ks) (v ∷ vs) e = ap (λ ls. k ∷ ls) (keys_back ks vs (omega arith))
 
-values_back : (ks : List (List ℕ)) (vs : List Value) → length ks ≡ length vs → values_of (entries_of ks vs) ≡ vs
+pub values_back : (ks : List (List ℕ)) (vs : List Value) → length ks ≡ length vs → values_of (entries_of ks vs) ≡ vs
 values_back [] [] e = refl
 values_back (k ∷ ks) (v ∷ vs) e = ap (λ ws. v ∷ ws) (values_back ks vs (omega arith))
 values_back _ _ e = absurd (omega arith)
@@ -119,15 +119,20 @@ meaning_apart bs vs i j c d f g e =
 
 -- ---- the keys of a map
 
+-- a map has as many keys as values
+pub map_long : (bs : Backings) (i k b n : ℕ) → IsContent bs i (cell.Map k b n) → length (keys_at bs.keys k n) ≡ length (refs_at bs.lists b n)
+map_long bs i k b n h = range_long bs.keys k n h.1.inside ∙ sym (taken_long (slice_index_or bs.lists b []) n h.0.long)
+
+pub map_fits : (bs : Backings) (vs : List Value) (i k b n : ℕ) → IsContent bs i (cell.Map k b n)
+    → length (texts_of bs.bytes (keys_at bs.keys k n)) ≡ length (values_at vs (refs_at bs.lists b n))
+map_fits bs vs i k b n h =
+    let ks = keys_at bs.keys k n in
+    let rs = refs_at bs.lists b n in
+    length-map ks (part_of bs.bytes) ∙ map_long bs i k b n h ∙ sym (length-map rs (value_in vs))
+
 pub map_keys : (bs : Backings) (vs : List Value) (i k b n : ℕ) → IsContent bs i (cell.Map k b n)
     → keys_of (entries_at bs.bytes vs (keys_at bs.keys k n) (refs_at bs.lists b n)) ≡ texts_of bs.bytes (keys_at bs.keys k n)
 map_keys bs vs i k b n h =
     let ks = keys_at bs.keys k n in
     let rs = refs_at bs.lists b n in
-    let keys = length-map ks (part_of bs.bytes) ∙ range_long bs.keys k n h.1.inside in
-    let values = length-map rs (value_in vs) ∙ taken_long (slice_index_or bs.lists b []) n h.0.long in
-    ap keys_of (entries_built bs.bytes vs ks rs) ∙ keys_back (texts_of bs.bytes ks) (values_at vs rs) (keys ∙ sym values)
-
--- a map has as many keys as values
-pub map_long : (bs : Backings) (i k b n : ℕ) → IsContent bs i (cell.Map k b n) → length (keys_at bs.keys k n) ≡ length (refs_at bs.lists b n)
-map_long bs i k b n h = range_long bs.keys k n h.1.inside ∙ sym (taken_long (slice_index_or bs.lists b []) n h.0.long)
+    ap keys_of (entries_built bs.bytes vs ks rs) ∙ keys_back (texts_of bs.bytes ks) (values_at vs rs) (map_fits bs vs i k b n h)

@@ -24,7 +24,8 @@ use Rattle.value_table.specs.declared.index.Index.{Index}
 use Rattle.value_table.specs.declared.backings.Backings.{Backings}
 use Rattle.value_table.proofs.Growth.{value_stable, found, count_values}
 use Rattle.value_table.proofs.Walks.{below_here}
-use Rattle.value_table.proofs.Comparisons.{meanings_of, below_more}
+use Rattle.value_table.proofs.Listed.{below_le, below_append}
+use Rattle.value_table.proofs.Comparisons.{meanings_of}
 
 -- ---- the least place of a text
 
@@ -118,10 +119,6 @@ skips_from vs x rs n k s o h e f = skips vs x rs n k h ∙ ap (λ i. has_item x 
 
 -- ---- one more item
 
-below_push : (i : ℕ) (rs : List ℕ) (r : ℕ) → AreBelow i rs → r < i → AreBelow i (rs ++ r ∷ [])
-below_push i [] r h l = (l, tt)
-below_push i (s ∷ rs) r h l = (h.0, below_push i rs r h.1 l)
-
 pub covers_more : (vs : List Value) (rs : List ℕ) (old new : Index) (d : ℕ) (k : List ℕ) → Covers vs rs old → old.count < length rs
     → get_or rs old.count d < length vs → new.count ≡ old.count + 1 → k ≡ looked_up_by (value_in vs (get_or rs old.count d))
     → ((ts : List (List ℕ)) → IsIndex old ts → IsIndex new (ts ++ k ∷ [])) → Covers vs rs new
@@ -132,7 +129,7 @@ covers_more vs rs old new d k h inside low n is more =
     ap (texts_at vs) t ∙ map-append (λ s. looked_up_by (value_in vs s)) (take old.count rs) (r ∷ [])
     ∙ ap (λ l. texts_at vs (take old.count rs) ++ l ∷ []) (sym is)
     in
-    record { long = omega (arith, n, inside); below = subst (AreBelow (length vs)) (sym t) (below_push (length vs) (take old.count rs) r h.below low); index = subst (IsIndex new) (sym u) (more _ h.index) }
+    record { long = omega (arith, n, inside); below = subst (AreBelow (length vs)) (sym t) (below_append (length vs) (take old.count rs) (r ∷ []) h.below (low, tt)); index = subst (IsIndex new) (sym u) (more _ h.index) }
 
 -- an item of a backing
 pub item_at : (lists : List (List ℕ)) (i b n k d : ℕ) → IsRange lists i b n → k < n → (get_or (refs_at lists b n) k d ≡ get_or (slice_index_or lists b []) k d) × (get_or (slice_index_or lists b []) k d < i) × (k < length (slice_index_or lists b []))
@@ -170,7 +167,7 @@ indexed_kept bs cs vs ws x e h =
       inside = omega arith;
       covers = record {
         long = rw m.1 (omega arith);
-        below = subst (AreBelow (length (vs ++ ws))) (sym t) (below_more (length vs) (length (vs ++ ws)) (take x.count old) (omega arith) h.covers.below);
+        below = subst (AreBelow (length (vs ++ ws))) (sym t) (below_le (length vs) (length (vs ++ ws)) (take x.count old) (omega arith) h.covers.below);
         index = subst (IsIndex x) (sym u) h.covers.index;
       };
     }

@@ -53,7 +53,7 @@ join_depth : (is js : Items) → items_depth (items_join is js) ≡ max (items_d
 join_depth no_items js = omega arith
 join_depth (item w is) js = let e = join_depth is js in omega (arith, e)
 
-if_made : (P : Value → Type 0) (o : Option Value) (v : Value) → o ≡ Some v → IfSome o P → P v
+pub if_made : (P : Value → Type 0) (o : Option Value) (v : Value) → o ≡ Some v → IfSome o P → P v
 if_made P o v e h = subst (λ (p : Option Value). IfSome p P) e h
 
 -- what a list's cell stands for
@@ -84,8 +84,7 @@ list_found bs vs l b n c f e =
 pub list_brackets : (bs : Backings) (vs : List Value) (l b n : ℕ) (c : Cell) → Found bs vs l c → c.content ≡ cell.List b n → 2 ≤ c.json
 list_brackets bs vs l b n c f e =
     let j : c.json ≡ json_length (kind.list (items_at vs (refs_at bs.lists b n))) = f.json ∙ ap (λ t. json_length (meaning bs vs t)) e in
-    let least = list_long (items_at vs (refs_at bs.lists b n)) in
-    omega (arith, j, least)
+    omega (arith, j, list_long (items_at vs (refs_at bs.lists b n)))
 
 pub list_pushed : (bs cs : Backings) (vs : List Value) (l x b n c d j : ℕ) (lc xc : Cell) → Found bs vs l lc → Found bs vs x xc → lc.content ≡ cell.List b n → Holds cs.lists c (n + 1) (refs_at bs.lists b n ++ x ∷ []) → d ≡ max lc.depth (xc.depth + 1) → j ≡ saturated (lc.json + commas n 1 + xc.json)
     → Made cs vs (record { content = cell.List c (n + 1); depth = d; json = j }) (push_of (value_in vs l) (value_in vs x))
@@ -96,23 +95,17 @@ list_pushed bs cs vs l x b n c d j lc xc fl fx e h deep long =
     let due : push_of (value_in vs l) (value_in vs x) ≡ Some (kind.list (items_push (items_at vs rs) (value_in vs x))) = ap (λ v. push_of v (value_in vs x)) f.is in
     let xd : xc.depth ≡ depth_of (value_in vs x) = fx.depth ∙ ap depth_of (sym fx.is) in
     let whole = h.long in
-    let ld = f.depth in
-    let pd = push_depth (items_at vs rs) (value_in vs x) in
-    let s1 = f.shallow in
-    let s2 = fx.shallow in
-    let i1 = f.inside in
     let i2 = fx.inside in
     let lj : lc.json ≡ json_length (kind.list (items_at vs rs)) = fl.json ∙ ap (λ t. json_length (meaning bs vs t)) e in
     let xj : xc.json ≡ json_length (value_in vs x) = fx.json ∙ ap json_length (sym fx.is) in
-    let text = push_long (items_at vs rs) (value_in vs x) n f.count in
     let low : AreBelow (length vs) rs = below_le l (length vs) rs (omega arith) f.range.below in
     let order : IsOrdered (kind.list (items_push (items_at vs rs) (value_in vs x))) = if_made IsOrdered _ _ due (push_ordered (value_in vs l) (value_in vs x) f.ordered (rw fx.is fx.ordered)) in
     record {
       cell = record {
         content = record { inside = h.inside; long = omega (arith, whole); below = subst (AreBelow (length vs)) (sym h.items) (below_append (length vs) rs (x ∷ []) low (i2, tt)) };
-        depth = rw here (omega (arith, deep, xd, ld, pd));
-        shallow = omega (arith, deep, s1, s2, i1, i2);
-        json = rw here (omega (arith, long, lj, xj, text));
+        depth = rw here (omega (arith, deep, xd, f.depth, push_depth (items_at vs rs) (value_in vs x)));
+        shallow = omega (arith, deep, f.shallow, fx.shallow, f.inside, i2);
+        json = rw here (omega (arith, long, lj, xj, push_long (items_at vs rs) (value_in vs x) n f.count));
         ordered = rw here order;
       };
       value = due ∙ ap (λ is. Some (kind.list is)) (sym here);
@@ -128,17 +121,8 @@ lists_joined bs cs vs l x b n b' n' c d j lc xc fl fx e e' h deep long =
     let here : items_at vs (refs_at cs.lists c (n + n')) ≡ items_join (items_at vs rs) (items_at vs ss) = ap (items_at vs) h.items ∙ items_both vs rs ss in
     let due : join_of (value_in vs l) (value_in vs x) ≡ Some (kind.list (items_join (items_at vs rs) (items_at vs ss))) = ap₂ join_of f.is g.is in
     let whole = h.long in
-    let ld = f.depth in
-    let xd = g.depth in
-    let pd = join_depth (items_at vs rs) (items_at vs ss) in
-    let s1 = f.shallow in
-    let s2 = g.shallow in
-    let i1 = f.inside in
-    let i2 = g.inside in
     let lj : lc.json ≡ json_length (kind.list (items_at vs rs)) = fl.json ∙ ap (λ t. json_length (meaning bs vs t)) e in
     let xj : xc.json ≡ json_length (kind.list (items_at vs ss)) = fx.json ∙ ap (λ t. json_length (meaning bs vs t)) e' in
-    let text = join_long (items_at vs rs) (items_at vs ss) n n' f.count g.count in
-    let least = list_long (items_at vs ss) in
     let least' = list_long (items_at vs rs) in
     let low : AreBelow (length vs) rs = below_le l (length vs) rs (omega arith) f.range.below in
     let low' : AreBelow (length vs) ss = below_le x (length vs) ss (omega arith) g.range.below in
@@ -146,9 +130,9 @@ lists_joined bs cs vs l x b n b' n' c d j lc xc fl fx e e' h deep long =
     record {
       cell = record {
         content = record { inside = h.inside; long = omega (arith, whole); below = subst (AreBelow (length vs)) (sym h.items) (below_append (length vs) rs ss low low') };
-        depth = rw here (omega (arith, deep, xd, ld, pd));
-        shallow = omega (arith, deep, s1, s2, i1, i2);
-        json = rw here (omega (arith, long, lj, xj, text, least, least'));
+        depth = rw here (omega (arith, deep, g.depth, f.depth, join_depth (items_at vs rs) (items_at vs ss)));
+        shallow = omega (arith, deep, f.shallow, g.shallow, f.inside, g.inside);
+        json = rw here (omega (arith, long, lj, xj, join_long (items_at vs rs) (items_at vs ss) n n' f.count g.count, list_long (items_at vs ss), least'));
         ordered = rw here order;
       };
       value = due ∙ ap (λ is. Some (kind.list is)) (sym here);

@@ -7,7 +7,7 @@ use Rattle.std.specs.Cmp.Lexicographic.{slice_cmp}
 use Rattle.std.specs.List.Sorted.{IsStrictlySortedBy}
 use Rattle.std.proofs.lemmas.Map.Text.{is_eq-slice_cmp}
 use Rattle.std.proofs.lemmas.Slice.Eq.{bytes_eq-Decides}
-use Rattle.std.proofs.lemmas.Option.{get_or_from_slice_get}
+use Rattle.std.proofs.lemmas.Option.{same_Some, get_or_from_slice_get}
 use Rattle.value_store.specs.Keys.{Ascend, IsOrdered}
 use Rattle.value_store.specs.Value.{Value, map, Entries, no_entries, entry, keys_of}
 use Rattle.value_store.specs.Calls.{entries_part}
@@ -43,13 +43,10 @@ passed key k p e = rw e refl
 first : (key k : List ℕ) (p : Option ℕ) → bytes_eq k key ≡ true → (if bytes_eq k key then Some 0 else option_map suc p) ≡ Some 0
 first key k p e = rw e refl
 
-some_same : {A : Type 0} {a b : A} → Some a ≡ Some b → a ≡ b
-some_same e = cc
-
 at_place : (key : List ℕ) (ks : List (List ℕ)) (i : ℕ) → Ascend ks → i < length ks → slice_get ks i ≡ Some key → place_among key ks ≡ Some i
 unfolding IsStrictlySortedBy
 at_place key [] i a h e = absurd (omega arith)
-at_place key (k ∷ ks) zero a h e = first key k (place_among key ks) ((bytes_eq-Decides k key).1 (some_same e))
+at_place key (k ∷ ks) zero a h e = first key k (place_among key ks) ((bytes_eq-Decides k key).1 (same_Some _ _ e))
 at_place key (k ∷ ks) (suc i) a h e =
     let here = get_or_from_slice_get (k ∷ ks) (suc i) key [] e in
     let below = ascend_at (k ∷ ks) 0 (suc i) [] [] a (omega arith) h in

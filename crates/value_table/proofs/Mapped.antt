@@ -29,7 +29,7 @@ use Rattle.value_table.specs.declared.backings.Backings.{Backings}
 use Rattle.value_table.proofs.Lookups.{place_by_keys, found_place}
 use Rattle.value_table.proofs.Heads.{range_long}
 use Rattle.value_table.proofs.TextLengths.{put_long}
-use Rattle.value_table.proofs.Listed.{Made, below_le}
+use Rattle.value_table.proofs.Listed.{Made, below_le, if_made}
 
 -- ---- an entry put at its gap
 
@@ -73,9 +73,6 @@ depth_one bytes vs (j ∷ ks) (r ∷ rs) k x zero e l = omega arith
 depth_one bytes vs (j ∷ ks) (r ∷ rs) k x (suc p) e l = let h = depth_one bytes vs ks rs k x p (omega arith) (omega arith) in omega (arith, h)
 depth_one bytes vs _ _ k x _ e l = absurd (omega arith)
 
-if_made : (P : Value → Type 0) (o : Option Value) (v : Value) → o ≡ Some v → IfSome o P → P v
-if_made P o v e h = subst (λ (p : Option Value). IfSome p P) e h
-
 -- the cell of a map with one more entry
 pub map_put : (bs cs : Backings) (vs : List Value) (m k x row b n row' b' i d j : ℕ) (mc kc xc : Cell) (key : Part) → Found bs vs m mc → Found bs vs k kc
     → Found bs vs x xc → mc.content ≡ cell.Map row b n → kc.content ≡ cell.Text key
@@ -107,9 +104,6 @@ map_put bs cs vs m k x row b n row' b' i d j mc kc xc key fm fk fx em ek long ga
     let text = put_long bs.bytes vs ks rs key x i n long (range_long bs.keys row n content.1.inside) (omega (arith, inside, count)) in
     let whole = hr.long in
     let row_end = hk.inside in
-    let s1 = fm.shallow in
-    let s2 = fx.shallow in
-    let i1 = fm.inside in
     let i2 = fx.inside in
     let low : AreBelow (length vs) rs = below_le m (length vs) rs (omega arith) content.0.below in
     let ordered : IsOrdered (kind.map old) = subst IsOrdered (ap (meaning bs vs) em) fm.ordered in
@@ -122,7 +116,7 @@ map_put bs cs vs m k x row b n row' b' i d j mc kc xc key fm fk fx em ek long ga
           record { inside = omega (arith, row_end); texts = rw (same, hk.are) (texts_one bs.bytes ks key i content.1.texts (subst (IsContent bs k) ek fk.content)) },
         );
         depth = rw here (omega (arith, deep, xd, md, depths));
-        shallow = omega (arith, deep, s1, s2, i1, i2);
+        shallow = omega (arith, deep, fm.shallow, fx.shallow, fm.inside, i2);
         json = rw here (omega (arith, json, mj, kj, xj, text));
         ordered = rw here order;
       };

@@ -89,13 +89,11 @@ pub record Grows (t : Heap) (qs : List ℕ) (h : Heap) : Type 0 where
 
 pub grows_by : (t : Heap) (qs : List ℕ) (h : Heap) (ws : List Value) → AreReferences t qs → IsHeap h → heap_values h ≡ heap_values t ++ ws → Grows t qs h
 grows_by t qs h ws a k e =
-    let l = length-append (heap_values t) ws in
-    let n = ap length e in
     let same : values_at (heap_values h) qs ≡ values_at (heap_values t) qs = ap (λ vs. values_at vs qs) e ∙ values_stable (heap_values t) ws qs a.places in
     record {
       sound = record {
         heap = k;
-        places = below_le _ _ qs (omega (arith, l, n)) a.places;
+        places = below_le _ _ qs (omega (arith, length-append (heap_values t) ws, ap length e)) a.places;
         first = record { more = a.first.more; is = ap (λ vs. error ∷ vs) same ∙ a.first.is };
       };
       values = ap (λ vs. error ∷ vs) same;
@@ -114,9 +112,7 @@ grows_due t qs h (Some v) r a k s e = grows_added t qs h v r a k e
 pub place_added : (vs ws : List Value) (v : Value) (i : ℕ) → Adds vs v (Ok i) ws → (i < length ws) × (value_in ws i ≡ v)
 place_added vs ws v i e =
     let at = e.0 in
-    let l = length-append vs (v ∷ []) in
-    let n = ap length e.1 in
-    (omega (arith, at, l, n), rw (e.1, at) (get_or-append_seam vs v [] kind.null))
+    (omega (arith, at, length-append vs (v ∷ []), ap length e.1), rw (e.1, at) (get_or-append_seam vs v [] kind.null))
 
 pub place_due : (vs ws : List Value) (due : Option Value) (i : ℕ) → IsSome due → IfSome due (λ v. Adds vs v (Ok i) ws) → i < length ws
 place_due vs ws None i s e = absurd (cc)

@@ -17,42 +17,29 @@ use Rattle.value_table.specs.declared.part.Part.{Part}
 push_behind : (is : Items) (v : Value) → length (items_text true (items_push is v)) ≡ length (items_text true is) + (1 + length (json_text v))
 push_behind no_items v = let l = length-append (json_text v) (items_text true no_items) in omega (arith, l)
 push_behind (item w is) v =
-    let h = push_behind is v in
-    let l = length-append (json_text w) (items_text true (items_push is v)) in
-    let m = length-append (json_text w) (items_text true is) in
-    omega (arith, h, l, m)
+    omega (arith, push_behind is v, length-append (json_text w) (items_text true (items_push is v)), length-append (json_text w) (items_text true is))
 
 pub push_long : (is : Items) (v : Value) (n : ℕ) → length (list_of is) ≡ n
     → length (json_text (list (items_push is v))) ≡ length (json_text (list is)) + commas n 1 + length (json_text v)
 push_long no_items v zero e = let l = length-append (json_text v) (items_text true no_items) in omega (arith, l)
 push_long (item w is) v (suc n) e =
-    let h = push_behind is v in
-    let l = length-append (json_text w) (items_text true (items_push is v)) in
-    let m = length-append (json_text w) (items_text true is) in
-    omega (arith, h, l, m)
+    omega (arith, push_behind is v, length-append (json_text w) (items_text true (items_push is v)), length-append (json_text w) (items_text true is))
 push_long _ v _ e = absurd (omega (arith, e))
 
 join_behind : (is js : Items) → length (items_text true (items_join is js)) + 1 ≡ length (items_text true is) + length (items_text true js)
 join_behind no_items js = omega arith
 join_behind (item w is) js =
-    let h = join_behind is js in
-    let l = length-append (json_text w) (items_text true (items_join is js)) in
-    let m = length-append (json_text w) (items_text true is) in
-    omega (arith, h, l, m)
+    omega (arith, join_behind is js, length-append (json_text w) (items_text true (items_join is js)), length-append (json_text w) (items_text true is))
 
 pub join_long : (is js : Items) (n m : ℕ) → length (list_of is) ≡ n → length (list_of js) ≡ m
     → length (json_text (list (items_join is js))) + 2 ≡ length (json_text (list is)) + commas n m + length (json_text (list js))
 join_long no_items js zero m e f = omega arith
 join_long (item w is) no_items (suc n) zero e f =
-    let h = join_behind is no_items in
-    let l = length-append (json_text w) (items_text true (items_join is no_items)) in
     let k = length-append (json_text w) (items_text true is) in
-    omega (arith, h, l, k)
+    omega (arith, join_behind is no_items, length-append (json_text w) (items_text true (items_join is no_items)), k)
 join_long (item w is) (item v js) (suc n) (suc m) e f =
-    let h = join_behind is (item v js) in
-    let l = length-append (json_text w) (items_text true (items_join is (item v js))) in
     let k = length-append (json_text w) (items_text true is) in
-    omega (arith, h, l, k)
+    omega (arith, join_behind is (item v js), length-append (json_text w) (items_text true (items_join is (item v js))), k)
 join_long (item w is) _ (suc n) _ e f = absurd (omega (arith, f))
 join_long _ js _ m e f = absurd (omega (arith, e))
 
@@ -62,32 +49,24 @@ behind_long (item v is) = omega arith
 
 pub list_long : (is : Items) → 2 ≤ length (json_text (list is))
 list_long no_items = omega arith
-list_long (item v is) =
-    let l = length-append (json_text v) (items_text true is) in
-    let h = behind_long is in
-    omega (arith, l, h)
+list_long (item v is) = omega (arith, length-append (json_text v) (items_text true is), behind_long is)
 
 -- ---- maps
 
 entry_behind : (later : List ℕ) (key : List ℕ) (v : Value)
     → length (quoted key ++ (58 ∷ (json_text v ++ later))) ≡ length (quoted key) + 1 + length (json_text v) + length later
-entry_behind later key v =
-    let l = length-append (quoted key) (58 ∷ (json_text v ++ later)) in
-    let m = length-append (json_text v) later in
-    omega (arith, l, m)
+entry_behind later key v = omega (arith, length-append (quoted key) (58 ∷ (json_text v ++ later)), length-append (json_text v) later)
 
 put_behind : (bytes : List ℕ) (vs : List Value) (ks : List Part) (rs : List ℕ) (k : Part) (x i : ℕ) → length ks ≡ length rs → i ≤ length ks
     → length (entries_text true (entries_at bytes vs (with_one i k ks) (with_one i x rs))) ≡ length (entries_text true (entries_at bytes vs ks rs)) + 2 + length (quoted (part_of bytes k)) + length (json_text (value_in vs x))
 put_behind bytes vs [] [] k x zero e h = let l = entry_behind (entries_text true no_entries) (part_of bytes k) (value_in vs x) in omega (arith, l)
 put_behind bytes vs [] [] k x (suc i) e h = absurd (omega (arith, h))
 put_behind bytes vs (p ∷ ks) (r ∷ rs) k x zero e h =
-    let l = entry_behind (entries_text true (entries_at bytes vs (p ∷ ks) (r ∷ rs))) (part_of bytes k) (value_in vs x) in
-    omega (arith, l)
+    omega (arith, entry_behind (entries_text true (entries_at bytes vs (p ∷ ks) (r ∷ rs))) (part_of bytes k) (value_in vs x))
 put_behind bytes vs (p ∷ ks) (r ∷ rs) k x (suc i) e h =
     let more = put_behind bytes vs ks rs k x i (omega (arith, e)) (omega (arith, h)) in
-    let l = entry_behind (entries_text true (entries_at bytes vs (with_one i k ks) (with_one i x rs))) (part_of bytes p) (value_in vs r) in
     let m = entry_behind (entries_text true (entries_at bytes vs ks rs)) (part_of bytes p) (value_in vs r) in
-    omega (arith, more, l, m)
+    omega (arith, more, entry_behind (entries_text true (entries_at bytes vs (with_one i k ks) (with_one i x rs))) (part_of bytes p) (value_in vs r), m)
 put_behind bytes vs _ _ k x i e h = absurd (omega (arith, e))
 
 pub put_long : (bytes : List ℕ) (vs : List Value) (ks : List Part) (rs : List ℕ) (k : Part) (x i n : ℕ) → length ks ≡ length rs → length ks ≡ n → i ≤ length ks
@@ -97,13 +76,11 @@ put_long bytes vs [] [] k x zero (suc n) e c h = absurd (omega (arith, c))
 put_long bytes vs [] [] k x (suc i) n e c h = absurd (omega (arith, h))
 put_long bytes vs (p ∷ ks) (r ∷ rs) k x i zero e c h = absurd (omega (arith, c))
 put_long bytes vs (p ∷ ks) (r ∷ rs) k x zero (suc n) e c h =
-    let l = entry_behind (entries_text true (entries_at bytes vs (p ∷ ks) (r ∷ rs))) (part_of bytes k) (value_in vs x) in
-    omega (arith, l)
+    omega (arith, entry_behind (entries_text true (entries_at bytes vs (p ∷ ks) (r ∷ rs))) (part_of bytes k) (value_in vs x))
 put_long bytes vs (p ∷ ks) (r ∷ rs) k x (suc i) (suc n) e c h =
     let more = put_behind bytes vs ks rs k x i (omega (arith, e)) (omega (arith, h)) in
-    let l = entry_behind (entries_text true (entries_at bytes vs (with_one i k ks) (with_one i x rs))) (part_of bytes p) (value_in vs r) in
     let m = entry_behind (entries_text true (entries_at bytes vs ks rs)) (part_of bytes p) (value_in vs r) in
-    omega (arith, more, l, m)
+    omega (arith, more, entry_behind (entries_text true (entries_at bytes vs (with_one i k ks) (with_one i x rs))) (part_of bytes p) (value_in vs r), m)
 put_long bytes vs _ _ k x i n e c h = absurd (omega (arith, e))
 
 -- ---- ints
@@ -124,9 +101,7 @@ decimal_long n h = elim (cases_lt n 10) [
       ap length (decimal_digit n one) ∙ sym (ap (λ r. 1 + rest_digits r) zero_left)
   | inr more ↦
       let rest = rest_is (n / 10) (omega arith) in
-      let all = ap length (decimal_step n more h) in
-      let l = length-append (decimal (n / 10)) ((48 + n % 10) ∷ []) in
-      omega (arith, rest, all, l)
+      omega (arith, rest, ap length (decimal_step n more h), length-append (decimal (n / 10)) ((48 + n % 10) ∷ []))
 ]
 
 -- the last digit is one, and each step of ten one more

@@ -1,7 +1,7 @@
 -- What a walk over the parts of two cells goes by.
 use Rattle.std.proofs.Common.{◌≡◌, ℕ, zero, suc, ◌<◌, List, [], ◌∷◌, length, get_or, Some, slice_get, sym, ap, ◌∙◌, subst, arith}
 use Rattle.std.specs.Prelude.{unwrap_or}
-use Rattle.std.proofs.lemmas.Option.{slice_get-get_or, unwrap_or-slice_get, get_or_from_slice_get}
+use Rattle.std.proofs.lemmas.Option.{same_Some, slice_get-get_or, unwrap_or-slice_get, get_or_from_slice_get}
 use Rattle.value_store.specs.Value as kind
 use Rattle.value_store.specs.Value.{Value}
 use Rattle.value_table.specs.Meaning.{value_in, meaning}
@@ -57,16 +57,13 @@ same_place bs vs cs r s m h k same =
 
 -- ---- the cells at two places
 
-some_same : {v w : Value} → Some v ≡ Some w → v ≡ w
-some_same e = cc
-
 met : (bs : Backings) (vs : List Value) (cs : List Cell) (x y : ℕ) (c d : Cell) → AreContents bs cs → AreMeanings bs vs cs → slice_get cs x ≡ Some c
     → slice_get cs y ≡ Some d → slice_get vs x ≡ slice_get vs y
     → Alike bs vs c.content d.content
 met bs vs cs x y c d s m h k e =
     let v = m x c h in
     let w = m y d k in
-    let same : meaning bs vs c.content ≡ meaning bs vs d.content = some_same (sym v ∙ e ∙ w) in
+    let same : meaning bs vs c.content ≡ meaning bs vs d.content = same_Some _ _ (sym v ∙ e ∙ w) in
     meaning_apart bs vs x y c.content d.content (s x c h) (s y d k) same
 
 -- equal values have one head

@@ -18,6 +18,5 @@ returns-clause-chunks g c = λ h.
     let new = c.add.new.full.value.items in
     let chunk : c.in_ok-chunk.chunk ≡ last = c.in_ok-chunk.ensures ∙ c.deref-3.ensures.value in
     let put = c.in_ok-add.ensures.ok ∙ ap (λ xs. old ++ xs ∷ []) chunk in
-    let n = ap vec_len c.deref.ensures in
-    let few : length old < 1125899906842624 = omega (arith, n, c.len.ensures, c.if-len-ge-MOST.false, c.args.full.now.value.ok.0) in
+    let few : length old < 1125899906842624 = omega (arith, ap vec_len c.deref.ensures, c.len.ensures, c.if-len-ge-MOST.false, c.args.full.now.value.ok.0) in
     subst (λ ys. AreChunks new ys) (sym c.clear.ensures.items) (chunks_closed old new last put c.requires few h)

@@ -19,24 +19,19 @@ add_items-loop-item-preserved t c =
     let step = c.in-Some.ensures.steps in
     let go = subst (λ ys. ItemsStand all (heap_values l.heap) l.places.items (items_view ys)) step.0 l.invariant.items in
     let pushed : c.push.new.self.items ≡ l.places.items ++ c.in_ok-add_document.field-0 ∷ [] = search rules in
-    let before = l.invariant.long in
-    let one = ap length step.0 in
-    let less = step.1 in
     record {
       heap = c.add_document.ensures.heap;
       grown = grown_more _ _ _ l.invariant.grown c.add_document.ensures.grown;
       items = items_step all _ _ l.places.items c.push.new.self.items c.in_ok-add_document.field-0 (view c.in-Some.item) (items_view (into_iter_items c.next.new.self)) pushed c.add_document.ensures.grown c.in_ok-add_document.ensures.value go;
-      long = omega (arith, before, one, less);
+      long = omega (arith, l.invariant.long, ap length step.0, step.1);
     }
 
 pub add_items-add_list-requires-clause-ordered : goal.add_items-add_list-requires-clause-ordered
 add_items-add_list-requires-clause-ordered t c =
     let l = c.loop-item in
     let from = c.into_iter-item-iterator.result in
-    let long = l.invariant.long in
     let step = c.in-None.ensures.steps in
-    let left = step.0 in
-    let none : into_iter_items l.item-iterator ≡ [] = nil_from_length _ (omega (arith, long, left)) in
+    let none : into_iter_items l.item-iterator ≡ [] = nil_from_length _ (omega (arith, l.invariant.long, step.0)) in
     let go = subst (λ ys. ItemsStand (plain_items (items_view (into_iter_items from))) (heap_values l.heap) l.places.items (items_view ys)) none l.invariant.items in
     let is : items_at (heap_values l.heap) l.places.items ≡ plain_items (items_view c.args.items.items) = items_end _ (heap_values l.heap) l.places.items go ∙ ap (λ ys. plain_items (items_view ys)) c.into_iter-item-iterator.ensures.into_iter_gives.0 in
     rw c.deref.ensures.value (rw is c.requires.ordered)
@@ -49,10 +44,8 @@ add_items-returns-clause-value t c =
     let l = c.loop-item in
     let vs = heap_values l.heap in
     let from = c.into_iter-item-iterator.result in
-    let long = l.invariant.long in
     let step = c.in-None.ensures.steps in
-    let left = step.0 in
-    let none : into_iter_items l.item-iterator ≡ [] = nil_from_length _ (omega (arith, long, left)) in
+    let none : into_iter_items l.item-iterator ≡ [] = nil_from_length _ (omega (arith, l.invariant.long, step.0)) in
     let go = subst (λ ys. ItemsStand (plain_items (items_view (into_iter_items from))) vs l.places.items (items_view ys)) none l.invariant.items in
     let is : items_at vs l.places.items ≡ plain_items (items_view c.args.items.items) = items_end _ vs l.places.items go ∙ ap (λ ys. plain_items (items_view ys)) c.into_iter-item-iterator.ensures.into_iter_gives.0 in
     let all : items_at vs c.deref.result.now ≡ plain_items (items_view c.args.items.items) = ap (items_at vs) c.deref.ensures.value ∙ is in

@@ -10,14 +10,11 @@ loop-rest-init c =
 
 pub loop-rest-preserved : goal.loop-rest-preserved
 loop-rest-preserved c =
-    let h = c.loop-rest.invariant.counted in
     let r = rest_step c.loop-rest.rest (omega arith) (omega arith) in
     let s = length-decimal-le 20 c.args.n (omega arith) (omega arith) (omega arith) in
-    let a = c.saturating_add-count.ensures in
-    record { counted = omega (arith, h, r, s, a); small = omega arith }
+    record { counted = omega (arith, c.loop-rest.invariant.counted, r, s, c.saturating_add-count.ensures); small = omega arith }
 
 pub returns-clause-short : goal.returns-clause-short
 returns-clause-short c =
-    let h = c.loop-rest.invariant.counted in
     let s = length-decimal-le 20 c.args.n (omega arith) (omega arith) (omega arith) in
-    omega (arith, h, s)
+    omega (arith, c.loop-rest.invariant.counted, s)

@@ -22,11 +22,8 @@ loop-place-preserved g c =
     let high = c.loop-place-test.true in
     let fits = c.requires.inside in
     let len = inv.len in
-    let n = c.push_reserved.ensures.len in
-    let more = c.push_reserved.ensures.capacity in
-    let same = inv.capacity in
     record {
       items = repeated c.args.items.now.items c.loop-place.items.items c.push_reserved.new.self.items c.args.from c.loop-place.place c.index-item.result.now low (omega (arith, high, fits)) inv.items c.index-item.ensures c.push_reserved.ensures.items;
-      len = omega (arith, len, n, low);
-      capacity = omega (arith, more, same);
+      len = omega (arith, len, c.push_reserved.ensures.len, low);
+      capacity = omega (arith, c.push_reserved.ensures.capacity, inv.capacity);
     }

@@ -20,8 +20,7 @@ returns-in-Equal c =
     let keys = c.args.keys.now in
     let ts = texts_of c.args.bytes.now keys in
     let lt : m < length keys = omega arith in
-    let n = length-map keys (part_of c.args.bytes.now) in
-    let lts : m < length ts = omega (arith, n) in
+    let lts : m < length ts = omega (arith, length-map keys (part_of c.args.bytes.now)) in
     let is : c.text.result.now ≡ get_or ts m [] = c.text.ensures ∙ sym (get_or-map (part_of c.args.bytes.now) keys m _ [] lt) in
     let same = exact_bytes c.args.key.now c.text.result.now (sym c.cmp.ensures ∙ c.in-Equal.is) in
     record { inside = lts; is = slice_get-get_or ts m [] lts ∙ ap (λ t. Some t) (sym (same ∙ is)) }
@@ -48,12 +47,11 @@ loop-from-preserved c =
     let keys = c.args.keys.now in
     let ts = texts_of c.args.bytes.now keys in
     let lt : m < length keys = omega arith in
-    let n = length-map keys (part_of c.args.bytes.now) in
     let is : c.text.result.now ≡ get_or ts m [] = c.text.ensures ∙ sym (get_or-map (part_of c.args.bytes.now) keys m _ [] lt) in
     let here : slice_cmp nat_cmp c.args.key.now (get_or ts m []) ≡ Greater = ap (slice_cmp nat_cmp c.args.key.now) (sym is) ∙ sym c.cmp.ensures ∙ c.in-Greater.is in
     record {
       order = omega arith;
       inside = omega arith;
-      before = λ j d l. above_all ts c.args.key.now m j [] d c.requires.ordered (omega (arith, n)) here l;
+      before = λ j d l. above_all ts c.args.key.now m j [] d c.requires.ordered (omega (arith, length-map keys (part_of c.args.bytes.now))) here l;
       behind = c.loop-from.invariant.behind;
     }

@@ -1,4 +1,4 @@
-use Rattle.std.proofs.Common.{◌≡◌, ℕ, List, true≢false, refl, subst, sym, ap, ◌∙◌, arith}
+use Rattle.std.proofs.Common.{◌≡◌, ◌<◌, ℕ, List, length, get_or, true≢false, refl, subst, sym, ap, ◌∙◌, arith}
 use Rattle.std.proofs.lemmas.List.{take_all}
 use Rattle.value_table.specs.Meaning.{value_in}
 use Rattle.value_table.specs.Heads.{values_at}
@@ -6,54 +6,49 @@ use Rattle.value_table.proofs.Maps.{map_more, map_part}
 use Rattle.value_table.proofs.Classes.{Unites, both_found, root_stays, unites}
 use Rattle.value_table.proofs.Walks.{same_value, same_place, same_heads, same_parts, same_cells, same_long, part_before}
 use Rattle.value_table.proofs.equality.walk.+equal.Goals as goal
-use Rattle.value_table.proofs.equality.walk.+equal.Goals.{else-start-xs-via-then-start-xs+else-not-equal, else-start-xs-via-else-start-xs}
+use Rattle.value_table.proofs.equality.walk.+equal.Goals.{After-parts_of-ys, else-start-xs-via-then-start-xs+else-not-equal, else-start-xs-via-else-start-xs}
+
+-- two cells with one head have as many parts
+parts_long : {t : ℕ} (c : After-parts_of-ys t) → length c.parts_of-xs.result.now ≡ length c.parts_of-ys.result.now
+parts_long c = same_long _ c.args.cells.now _ _ _ _ _ _ c.parts_of-xs.ensures c.parts_of-ys.ensures c.requires.contents c.at-left.ensures.value c.at-right.ensures.value (c.alike.ensures.0 c.if-not-alike.false)
+
+-- and these stand before them
+parts_low : {t : ℕ} (c : After-parts_of-ys t) (k : ℕ) → k < length c.parts_of-xs.result.now
+    → (get_or c.parts_of-xs.result.now k 0 < c.representative-x.result) × (get_or c.parts_of-ys.result.now k 0 < c.representative-y.result)
+parts_low c k h =
+    (part_before _ c.args.cells.now _ _ _ k 0 c.parts_of-xs.ensures c.requires.contents c.at-left.ensures.value h,
+     part_before _ c.args.cells.now _ _ _ k 0 c.parts_of-ys.ensures c.requires.contents c.at-right.ensures.value (omega (arith, h, parts_long c)))
 
 pub returns-then-not-alike : goal.returns-then-not-alike
 returns-then-not-alike t c = λ vs m s.
     let x = c.representative-x.ensures.value vs s in
     let y = c.representative-y.ensures.value vs x.0 in
-    let lx = c.at-left.ensures.value in
-    let ly = c.at-right.ensures.value in
     let first = c.representative-x.ensures.classes s.below in
     let found = both_found c.args.same.now c.representative-x.new.same c.representative-y.new.same c.args.a c.args.b c.representative-x.result c.representative-y.result first (c.representative-y.ensures.classes first.shorter.down) in
     record {
       known = y.0;
-      right = (λ h. absurd (true≢false (sym h)), λ e. sym c.if-not-alike.true ∙ c.alike.ensures.1 (same_heads _ vs c.args.cells.now _ _ _ _ c.requires.contents m lx ly (x.1 ∙ e ∙ sym y.1)));
+      right = (λ h. absurd (true≢false (sym h)), λ e. sym c.if-not-alike.true ∙ c.alike.ensures.1 (same_heads _ vs c.args.cells.now _ _ _ _ c.requires.contents m c.at-left.ensures.value c.at-right.ensures.value (x.1 ∙ e ∙ sym y.1)));
       stay = found.stay;
       others = found.others;
       one = λ h. absurd (true≢false (sym h));
     }
 
 pub bounds-ys-start : goal.bounds-ys-start
-bounds-ys-start t c =
-    let lx = c.at-left.ensures.value in
-    let ly = c.at-right.ensures.value in
-    let l = same_long _ c.args.cells.now _ _ _ _ _ _ c.parts_of-xs.ensures c.parts_of-ys.ensures c.requires.contents lx ly (c.alike.ensures.0 c.if-not-alike.false) in
-    omega arith
+bounds-ys-start t c = let l = parts_long (goal.at.bounds-ys-start t c).After-parts_of-ys in omega arith
 
 pub bounds-ys-i : goal.bounds-ys-i
-bounds-ys-i t c =
-    let lx = c.at-left.ensures.value in
-    let ly = c.at-right.ensures.value in
-    let l = same_long _ c.args.cells.now _ _ _ _ _ _ c.parts_of-xs.ensures c.parts_of-ys.ensures c.requires.contents lx ly (c.alike.ensures.0 c.if-not-alike.false) in
-    omega arith
+bounds-ys-i t c = let l = parts_long (goal.at.bounds-ys-i t c).After-parts_of-ys in omega arith
 
 pub equal-requires : goal.equal-requires
 equal-requires t c =
-    let lx = c.at-left.ensures.value in
-    let ly = c.at-right.ensures.value in
-    let l = same_long _ c.args.cells.now _ _ _ _ _ _ c.parts_of-xs.ensures c.parts_of-ys.ensures c.requires.contents lx ly (c.alike.ensures.0 c.if-not-alike.false) in
-    let p = part_before _ c.args.cells.now _ _ _ c.start-start.result 0 c.parts_of-xs.ensures c.requires.contents lx (omega arith) in
-    let q = part_before _ c.args.cells.now _ _ _ c.start-start.result 0 c.parts_of-ys.ensures c.requires.contents ly (omega arith) in
+    let l = parts_long (goal.at.equal-requires t c).After-parts_of-ys in
+    let low = parts_low (goal.at.equal-requires t c).After-parts_of-ys c.start-start.result (omega arith) in
     (omega arith, (c.requires.contents, (omega arith, omega arith)))
 
 pub equal-requires-in-loop-i : goal.equal-requires-in-loop-i
 equal-requires-in-loop-i t c =
-    let lx = c.at-left.ensures.value in
-    let ly = c.at-right.ensures.value in
-    let l = same_long _ c.args.cells.now _ _ _ _ _ _ c.parts_of-xs.ensures c.parts_of-ys.ensures c.requires.contents lx ly (c.alike.ensures.0 c.if-not-alike.false) in
-    let p = part_before _ c.args.cells.now _ _ _ c.loop-i.i 0 c.parts_of-xs.ensures c.requires.contents lx (omega arith) in
-    let q = part_before _ c.args.cells.now _ _ _ c.loop-i.i 0 c.parts_of-ys.ensures c.requires.contents ly (omega arith) in
+    let l = parts_long (goal.at.equal-requires-in-loop-i t c).After-parts_of-ys in
+    let low = parts_low (goal.at.equal-requires-in-loop-i t c).After-parts_of-ys c.loop-i.i (omega arith) in
     (omega arith, (c.requires.contents, (omega arith, omega arith)))
 
 pub returns-then-not-equal : goal.returns-then-not-equal
@@ -63,16 +58,13 @@ returns-then-not-equal t c = λ vs m s.
     let first = c.representative-x.ensures.classes s.below in
     let found = both_found c.args.same.now c.representative-x.new.same c.representative-y.new.same c.args.a c.args.b c.representative-x.result c.representative-y.result first (c.representative-y.ensures.classes first.shorter.down) in
     let sub = c.equal.ensures vs m y.0 in
-    let lx = c.at-left.ensures.value in
-    let ly = c.at-right.ensures.value in
-    let l = same_long _ c.args.cells.now _ _ _ _ _ _ c.parts_of-xs.ensures c.parts_of-ys.ensures c.requires.contents lx ly (c.alike.ensures.0 c.if-not-alike.false) in
-    let p = part_before _ c.args.cells.now _ _ _ c.start-start.result 0 c.parts_of-xs.ensures c.requires.contents lx (omega arith) in
-    let q = part_before _ c.args.cells.now _ _ _ c.start-start.result 0 c.parts_of-ys.ensures c.requires.contents ly (omega arith) in
+    let l = parts_long (goal.at.returns-then-not-equal t c).After-parts_of-ys in
+    let low = parts_low (goal.at.returns-then-not-equal t c).After-parts_of-ys c.start-start.result (omega arith) in
     let xs = c.parts_of-xs.result.now in
     let ys = c.parts_of-ys.result.now in
     record {
       known = sub.known;
-      right = (λ h. absurd (true≢false (sym h)), λ e. sym c.if-not-equal.true ∙ sub.right.1 (same_place _ vs c.args.cells.now _ _ m (omega arith) (omega arith) (map_part (value_in vs) xs ys c.start-start.result 0 0 (omega arith) (same_parts _ vs c.args.cells.now _ _ _ _ _ _ c.parts_of-xs.ensures c.parts_of-ys.ensures c.requires.contents m lx ly (x.1 ∙ e ∙ sym y.1)))));
+      right = (λ h. absurd (true≢false (sym h)), λ e. sym c.if-not-equal.true ∙ sub.right.1 (same_place _ vs c.args.cells.now _ _ m (omega arith) (omega arith) (map_part (value_in vs) xs ys c.start-start.result 0 0 (omega arith) (same_parts _ vs c.args.cells.now _ _ _ _ _ _ c.parts_of-xs.ensures c.parts_of-ys.ensures c.requires.contents m c.at-left.ensures.value c.at-right.ensures.value (x.1 ∙ e ∙ sym y.1)))));
       stay = λ ws t. found.stay ws (sub.stay ws t);
       others = λ i d above behind. sub.others i d (omega arith) (omega arith) ∙ found.others i d above behind;
       one = λ h. absurd (true≢false (sym h));
@@ -85,24 +77,19 @@ loop-i-init t c = λ vs m s.
     let first = c.representative-x.ensures.classes s.below in
     let found = both_found c.args.same.now c.representative-x.new.same c.representative-y.new.same c.args.a c.args.b c.representative-x.result c.representative-y.result first (c.representative-y.ensures.classes first.shorter.down) in
     let long = c.representative-y.auto.same ∙ c.representative-x.auto.same in
-    let lx = c.at-left.ensures.value in
-    let ly = c.at-right.ensures.value in
-    let l = same_long _ c.args.cells.now _ _ _ _ _ _ c.parts_of-xs.ensures c.parts_of-ys.ensures c.requires.contents lx ly (c.alike.ensures.0 c.if-not-alike.false) in
     let low_x = c.representative-x.ensures.not_above in
     let low_y = c.representative-y.ensures.not_above in
     elim c.else-start-xs.branch [
       | else-start-xs-via-then-start-xs+else-not-equal w ↦
-          let inside = w.if-start-xs.true in
-          let p = part_before _ c.args.cells.now _ _ _ c.start-start.result 0 c.parts_of-xs.ensures c.requires.contents lx (omega (arith, inside)) in
-          let q = part_before _ c.args.cells.now _ _ _ c.start-start.result 0 c.parts_of-ys.ensures c.requires.contents ly (omega (arith, inside, l)) in
+          let low = parts_low (goal.at.loop-i-init t c).After-parts_of-ys c.start-start.result (omega (arith, w.if-start-xs.true)) in
           let sub = w.equal.ensures vs m y.0 in
           let is : c.else-start-xs.same ≡ w.equal.new.same = w.same-is in
           rw is (record {
             known = sub.known;
             values = refl;
             stay = λ ws t. found.stay ws (sub.stay ws t);
-            others = λ i d above behind. sub.others i d (omega (arith, above, behind, p, q, low_x, low_y)) (omega (arith, above, behind, p, q, low_x, low_y)) ∙ found.others i d above behind;
-            root = root_stays c.representative-y.new.same w.equal.new.same _ w.equal.auto.same (λ d. sub.others _ d (omega (arith, p, q)) (omega (arith, p, q))) found.root;
+            others = λ i d above behind. sub.others i d (omega (arith, above, behind, low.0, low.1, low_x, low_y)) (omega (arith, above, behind, low.0, low.1, low_x, low_y)) ∙ found.others i d above behind;
+            root = root_stays c.representative-y.new.same w.equal.new.same _ w.equal.auto.same (λ d. sub.others _ d (omega (arith, low.0, low.1)) (omega (arith, low.0, low.1))) found.root;
             long = w.equal.auto.same ∙ long;
           })
       | else-start-xs-via-else-start-xs w ↦
@@ -116,16 +103,13 @@ returns-then-not-equal-2 t c = λ vs m s.
     let y = c.representative-y.ensures.value vs x.0 in
     let inv = c.loop-i.invariant vs m s in
     let sub = c.equal-in-loop-i.ensures vs m inv.known in
-    let lx = c.at-left.ensures.value in
-    let ly = c.at-right.ensures.value in
-    let l = same_long _ c.args.cells.now _ _ _ _ _ _ c.parts_of-xs.ensures c.parts_of-ys.ensures c.requires.contents lx ly (c.alike.ensures.0 c.if-not-alike.false) in
-    let p = part_before _ c.args.cells.now _ _ _ c.loop-i.i 0 c.parts_of-xs.ensures c.requires.contents lx (omega arith) in
-    let q = part_before _ c.args.cells.now _ _ _ c.loop-i.i 0 c.parts_of-ys.ensures c.requires.contents ly (omega arith) in
+    let l = parts_long (goal.at.returns-then-not-equal-2 t c).After-parts_of-ys in
+    let low = parts_low (goal.at.returns-then-not-equal-2 t c).After-parts_of-ys c.loop-i.i (omega arith) in
     let xs = c.parts_of-xs.result.now in
     let ys = c.parts_of-ys.result.now in
     record {
       known = sub.known;
-      right = (λ h. absurd (true≢false (sym h)), λ e. sym c.if-not-equal-2.true ∙ sub.right.1 (same_place _ vs c.args.cells.now _ _ m (omega arith) (omega arith) (map_part (value_in vs) xs ys c.loop-i.i 0 0 (omega arith) (same_parts _ vs c.args.cells.now _ _ _ _ _ _ c.parts_of-xs.ensures c.parts_of-ys.ensures c.requires.contents m lx ly (x.1 ∙ e ∙ sym y.1)))));
+      right = (λ h. absurd (true≢false (sym h)), λ e. sym c.if-not-equal-2.true ∙ sub.right.1 (same_place _ vs c.args.cells.now _ _ m (omega arith) (omega arith) (map_part (value_in vs) xs ys c.loop-i.i 0 0 (omega arith) (same_parts _ vs c.args.cells.now _ _ _ _ _ _ c.parts_of-xs.ensures c.parts_of-ys.ensures c.requires.contents m c.at-left.ensures.value c.at-right.ensures.value (x.1 ∙ e ∙ sym y.1)))));
       stay = λ ws t. inv.stay ws (sub.stay ws t);
       others = λ i d above behind. sub.others i d (omega arith) (omega arith) ∙ inv.others i d above behind;
       one = λ h. absurd (true≢false (sym h));
@@ -135,13 +119,10 @@ pub loop-i-preserved : goal.loop-i-preserved
 loop-i-preserved t c = λ vs m s.
     let inv = c.loop-i.invariant vs m s in
     let sub = c.equal-in-loop-i.ensures vs m inv.known in
-    let lx = c.at-left.ensures.value in
-    let ly = c.at-right.ensures.value in
-    let l = same_long _ c.args.cells.now _ _ _ _ _ _ c.parts_of-xs.ensures c.parts_of-ys.ensures c.requires.contents lx ly (c.alike.ensures.0 c.if-not-alike.false) in
+    let l = parts_long (goal.at.loop-i-preserved t c).After-parts_of-ys in
     let xs = c.parts_of-xs.result.now in
     let ys = c.parts_of-ys.result.now in
-    let p = part_before _ c.args.cells.now _ _ _ c.loop-i.i 0 c.parts_of-xs.ensures c.requires.contents lx (omega arith) in
-    let q = part_before _ c.args.cells.now _ _ _ c.loop-i.i 0 c.parts_of-ys.ensures c.requires.contents ly (omega arith) in
+    let low = parts_low (goal.at.loop-i-preserved t c).After-parts_of-ys c.loop-i.i (omega arith) in
     let long = inv.long in
     record {
       known = sub.known;
@@ -157,13 +138,11 @@ returns t c = λ vs m s.
     let x = c.representative-x.ensures.value vs s in
     let y = c.representative-y.ensures.value vs x.0 in
     let inv = c.loop-i.invariant vs m s in
-    let lx = c.at-left.ensures.value in
-    let ly = c.at-right.ensures.value in
-    let l = same_long _ c.args.cells.now _ _ _ _ _ _ c.parts_of-xs.ensures c.parts_of-ys.ensures c.requires.contents lx ly (c.alike.ensures.0 c.if-not-alike.false) in
+    let l = parts_long (goal.at.returns t c).After-parts_of-ys in
     let xs = c.parts_of-xs.result.now in
     let ys = c.parts_of-ys.result.now in
     let values : values_at vs xs ≡ values_at vs ys = ap (values_at vs) (sym (take_all c.loop-i.i xs (omega arith))) ∙ inv.values ∙ ap (values_at vs) (take_all c.loop-i.i ys (omega arith)) in
-    let e = same_cells _ vs c.args.cells.now _ _ _ _ _ _ c.parts_of-xs.ensures c.parts_of-ys.ensures m lx ly (c.alike.ensures.0 c.if-not-alike.false) values in
+    let e = same_cells _ vs c.args.cells.now _ _ _ _ _ _ c.parts_of-xs.ensures c.parts_of-ys.ensures m c.at-left.ensures.value c.at-right.ensures.value (c.alike.ensures.0 c.if-not-alike.false) values in
     let low_x = c.representative-x.ensures.not_above in
     let low_y = c.representative-y.ensures.not_above in
     let together = subst (λ (new : List ℕ). Unites c.loop-i.same new c.representative-x.result c.representative-y.result) (sym c.unite.ensures.word) (unites c.loop-i.same c.representative-x.result c.representative-y.result inv.known.below inv.root) in

@@ -1,9 +1,8 @@
 use Rattle.std.proofs.Common.{◌≡◌, ap, sym, ◌∙◌, drop, length, subst, refl, arith}
 use Rattle.std.proofs.lemmas.List.{with_items_is}
-use Rattle.value_table.specs.Heaps.{AreBelow, AreSame}
+use Rattle.value_table.specs.Heaps.{AreBelow}
 use Rattle.value_table.specs.Meaning.{value_in, items_at, refs_at}
 use Rattle.value_table.specs.Heap.{heap_values}
-use Rattle.value_table.specs.Equality.{AreMeanings}
 use Rattle.value_store.specs.Lookup.{has_item}
 use Rattle.value_table.proofs.Growth.{count_values}
 use Rattle.value_table.proofs.Comparisons.{contents_of, meanings_of}
@@ -13,13 +12,11 @@ use Rattle.value_table.proofs.heap.Heap.has_item.Goals as goal
 pub is_among-requires-clause-contents : goal.is_among-requires-clause-contents
 is_among-requires-clause-contents c =
     let heap = c.start-start.new.self in
-    (contents_of heap.backings heap.cells c.start-start.ensures.heap.cells)
+    contents_of heap.backings heap.cells c.start-start.ensures.heap.cells
 
 pub is_among-requires-clause-value : goal.is_among-requires-clause-value
 is_among-requires-clause-value c =
-    let n = count_values c.args.self.now.backings c.args.self.now.cells in
-    let m = ap length c.start-start.ensures.cells in
-    (omega (arith, n, m))
+    omega (arith, count_values c.args.self.now.backings c.args.self.now.cells, ap length c.start-start.ensures.cells)
 
 pub is_among-requires-clause-places : goal.is_among-requires-clause-places
 is_among-requires-clause-places c =
@@ -32,9 +29,7 @@ pub returns-clause-heap : goal.returns-clause-heap
 returns-clause-heap c =
     let heap = c.start-start.new.self in
     let h = c.start-start.ensures.heap in
-    let m : AreMeanings heap.backings (heap_values heap) heap.cells = (meanings_of heap.backings heap.cells h.cells) in
-    let s : AreSame (heap_values heap) c.deref_mut.result.now = rw c.deref_mut.ensures.value h.same in
-    let after = c.is_among.ensures (heap_values heap) m s in
+    let after = c.is_among.ensures (heap_values heap) (meanings_of heap.backings heap.cells h.cells) (rw c.deref_mut.ensures.value h.same) in
     record { cells = h.cells; same = rw (with_items_is heap.same c.is_among.new.same (c.is_among.auto.same ∙ c.deref_mut.ensures.len)) after.0; room = h.room; indexes = h.indexes }
 
 pub returns-clause-answer : goal.returns-clause-answer
@@ -43,9 +38,7 @@ returns-clause-answer c =
     let old = c.args.self.now in
     let h = c.start-start.ensures.heap in
     let v : heap_values heap ≡ heap_values old = rw (c.start-start.ensures.backings, c.start-start.ensures.cells) refl in
-    let m : AreMeanings heap.backings (heap_values heap) heap.cells = (meanings_of heap.backings heap.cells h.cells) in
-    let s : AreSame (heap_values heap) c.deref_mut.result.now = rw c.deref_mut.ensures.value h.same in
-    let after = c.is_among.ensures (heap_values heap) m s in
+    let after = c.is_among.ensures (heap_values heap) (meanings_of heap.backings heap.cells h.cells) (rw c.deref_mut.ensures.value h.same) in
     let there = ap (λ vs. has_item (value_in vs c.args.x) (items_at vs (drop c.start-start.result c.first.result.now))) v in
     let here = c.first.ensures ∙ ap (λ bs. refs_at bs.lists c.args.backing c.args.count) c.start-start.ensures.backings in
     let left = ap (λ rs. has_item (value_in (heap_values heap) c.args.x) (items_at (heap_values heap) rs)) (rest_is c.start-start.result c.first.result.now) in

@@ -6,15 +6,12 @@ use Rattle.value_table.proofs.heap.Heap.key.Goals as goal
 pub bounds-keys-i : goal.bounds-keys-i
 bounds-keys-i c =
     let n = key_inside c.args.self.now.backings (heap_values c.args.self.now) c.args.place c.in-Map.keys c.in-Map.field-1 c.in-Map.count c.args.i c.cell.result c.cell.ensures.found c.in-Map.is c.requires.key in
-    let l = ap length c.keys.ensures in
-    omega (arith, n, l)
+    omega (arith, n, ap length c.keys.ensures)
 
 pub offset_bounds-keys-i : goal.offset_bounds-keys-i
 offset_bounds-keys-i c =
     let n = key_inside c.args.self.now.backings (heap_values c.args.self.now) c.args.place c.in-Map.keys c.in-Map.field-1 c.in-Map.count c.args.i c.cell.result c.cell.ensures.found c.in-Map.is c.requires.key in
-    let l = ap length c.keys.ensures in
-    let t = c.keys.type_inv.1 in
-    omega (arith, n, l, t)
+    omega (arith, n, ap length c.keys.ensures, c.keys.type_inv.1)
 
 pub returns-clause-text : goal.returns-clause-text
 returns-clause-text c =

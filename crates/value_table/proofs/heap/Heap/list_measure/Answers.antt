@@ -4,7 +4,7 @@ use Rattle.value_store.specs.Value.{list}
 use Rattle.value_table.specs.Meaning.{items_at}
 use Rattle.value_table.specs.Heap.{heap_values}
 use Rattle.value_table.specs.Measures.{IsMeasure}
-use Rattle.value_table.proofs.Looked.{get_below}
+use Rattle.value_table.proofs.Walks.{below_here}
 use Rattle.value_table.proofs.Gathered.{list_measured}
 use Rattle.value_table.proofs.heap.Heap.list_measure.Goals as goal
 
@@ -12,7 +12,7 @@ pub loop-place-init : goal.loop-place-init
 loop-place-init c = record { measure = record { depth = refl; shallow = omega arith; json = refl }; count = refl }
 
 pub cell-item-requires-clause-inside : goal.cell-item-requires-clause-inside
-cell-item-requires-clause-inside c = get_below _ c.args.places.now c.loop-place.place-index 0 c.requires.items (omega arith)
+cell-item-requires-clause-inside c = below_here _ c.args.places.now c.loop-place.place-index 0 c.requires.items (omega arith)
 
 pub loop-place-preserved : goal.loop-place-preserved
 loop-place-preserved c =
@@ -23,18 +23,14 @@ loop-place-preserved c =
     let inside : i < length ps = omega arith in
     let count = l.invariant.count in
     let item = c.cell-item.result in
-    let a = c.saturating_add.ensures in
-    let b = c.max.ensures in
     let s = c.cell-item.ensures.found.shallow in
-    let n = c.cell-item.ensures.short in
-    let deep : c.max.result ≡ max l.measure.depth (item.depth + 1) = omega (arith, a, b, s, n) in
+    let deep : c.max.result ≡ max l.measure.depth (item.depth + 1) = omega (arith, c.saturating_add.ensures, c.max.ensures, s, c.cell-item.ensures.short) in
     let more = take_more ps i 0 inside in
     let next = list_measured c.args.self.now.backings vs (take i ps) (get_or ps i 0) l.count l.measure (record { depth = c.max.result; json = c.pushed_length.result }) item (length-take-le i ps (omega arith) ∙ sym count) l.invariant.measure c.cell-item.ensures.found deep c.pushed_length.ensures in
-    let up = c.saturating_add-count.ensures in
     let short = c.loop-place.auto.place-index-end in
     record {
       measure = subst (λ rs. IsMeasure (length vs) (list (items_at vs rs)) (record { depth = c.max.result; json = c.pushed_length.result })) (sym more) next;
-      count = omega (arith, up, count, inside);
+      count = omega (arith, c.saturating_add-count.ensures, count, inside);
     }
 
 pub returns : goal.returns

@@ -8,8 +8,8 @@ use Rattle.value_table.specs.Heap.{heap_values}
 use Rattle.value_table.specs.Measures.{IsMeasure}
 use Rattle.value_table.specs.declared.part.Part.{Part}
 use Rattle.value_table.specs.declared.measure.Measure.{Measure}
-use Rattle.value_table.proofs.Looked.{get_below}
-use Rattle.value_table.proofs.Gathered.{map_measured, text_in}
+use Rattle.value_table.proofs.Walks.{below_here, text_here}
+use Rattle.value_table.proofs.Gathered.{map_measured}
 use Rattle.value_table.proofs.heap.Heap.map_measure.Goals as goal
 
 -- what an index past the end would give
@@ -20,7 +20,7 @@ pub loop-i-init : goal.loop-i-init
 loop-i-init c = record { measure = record { depth = refl; shallow = omega arith; json = refl } }
 
 pub cell-value-requires-clause-inside : goal.cell-value-requires-clause-inside
-cell-value-requires-clause-inside c = let pairs = c.requires.pairs in get_below _ c.args.places.now c.loop-i.i 0 c.requires.values (omega (arith, pairs))
+cell-value-requires-clause-inside c = let pairs = c.requires.pairs in below_here _ c.args.places.now c.loop-i.i 0 c.requires.values (omega (arith, pairs))
 
 pub loop-i-preserved : goal.loop-i-preserved
 loop-i-preserved c =
@@ -31,17 +31,13 @@ loop-i-preserved c =
     let ks = c.args.keys.now in
     let ps = c.args.places.now in
     let i = l.i in
-    let pairs = c.requires.pairs in
     let inside : i < length ks = omega arith in
-    let below : i < length ps = omega (arith, pairs, inside) in
+    let below : i < length ps = omega (arith, c.requires.pairs, inside) in
     let k = get_or ks i none in
     let value = c.cell-value.result in
-    let a = c.saturating_add.ensures in
-    let b = c.max.ensures in
     let s = c.cell-value.ensures.found.shallow in
-    let n = c.cell-value.ensures.short in
-    let deep : c.max.result ≡ max l.measure.depth (value.depth + 1) = omega (arith, a, b, s, n) in
-    let key : k.json ≡ saturated (length (quoted (part_of bytes k))) = (text_in bytes ks i none c.requires.texts inside).3 in
+    let deep : c.max.result ≡ max l.measure.depth (value.depth + 1) = omega (arith, c.saturating_add.ensures, c.max.ensures, s, c.cell-value.ensures.short) in
+    let key : k.json ≡ saturated (length (quoted (part_of bytes k))) = (text_here bytes ks i none c.requires.texts inside).3 in
     let made : Measure = record { depth = c.max.result; json = c.put_length.result } in
     let next = map_measured heap.backings bytes vs (take i ks) (take i ps) k (get_or ps i 0) i k.json l.measure made value (length-take-le i ks (omega arith)) (length-take-le i ps (omega (arith, below))) l.invariant.measure c.cell-value.ensures.found key deep c.put_length.ensures in
     record {

@@ -1,6 +1,6 @@
 use Rattle.std.proofs.Common.{subst, arith}
 use Rattle.value_table.specs.Heaps.{IsContent}
-use Rattle.value_table.proofs.Comparisons.{range_within}
+use Rattle.value_table.proofs.Looked.{widen}
 use Rattle.value_table.proofs.heap.Heap.member.Goals as goal
 
 pub has_item-requires-clause-items : goal.has_item-requires-clause-items
@@ -8,4 +8,4 @@ has_item-requires-clause-items c =
     let heap = c.complete_words.new.self in
     let f = c.cell.ensures.found in
     let inside = f.inside in
-    range_within heap.backings.lists c.args.c _ c.in-List.backing c.in-List.count (omega arith) (subst (IsContent heap.backings c.args.c) c.in-List.is f.content)
+    widen heap.backings.lists c.args.c _ c.in-List.backing c.in-List.count (omega arith) (subst (IsContent heap.backings c.args.c) c.in-List.is f.content)

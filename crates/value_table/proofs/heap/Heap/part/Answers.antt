@@ -6,15 +6,12 @@ use Rattle.value_table.proofs.heap.Heap.part.Goals as goal
 pub bounds-parts_of-i : goal.bounds-parts_of-i
 bounds-parts_of-i c =
     let n = part_inside c.args.self.now.backings (heap_values c.args.self.now) c.args.place c.args.i c.cell-content.result c.cell-content.ensures.found c.requires.part in
-    let l = ap length c.parts_of.ensures in
-    omega (arith, n, l)
+    omega (arith, n, ap length c.parts_of.ensures)
 
 pub offset_bounds-parts_of-i : goal.offset_bounds-parts_of-i
 offset_bounds-parts_of-i c =
     let n = part_inside c.args.self.now.backings (heap_values c.args.self.now) c.args.place c.args.i c.cell-content.result c.cell-content.ensures.found c.requires.part in
-    let l = ap length c.parts_of.ensures in
-    let t = c.parts_of.type_inv.1 in
-    omega (arith, n, l, t)
+    omega (arith, n, ap length c.parts_of.ensures, c.parts_of.type_inv.1)
 
 pub returns-clause-inside : goal.returns-clause-inside
 returns-clause-inside c =

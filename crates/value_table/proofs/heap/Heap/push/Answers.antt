@@ -4,17 +4,13 @@ use Rattle.value_table.proofs.Listed.{list_pushed}
 use Rattle.value_table.proofs.heap.Heap.push.Goals as goal
 
 pub overflow_add-cell : goal.overflow_add-cell
-overflow_add-cell c = let s = c.push_item.ensures.short in omega (arith, s)
+overflow_add-cell c = omega (arith, c.push_item.ensures.short)
 
 pub returns-clause-heap : goal.returns-clause-heap
 returns-clause-heap c =
     let l = c.cell-list.result in
     let x = c.cell-item.result in
-    let a = c.saturating_add.ensures in
-    let b = c.max-depth.ensures in
-    let s = c.cell-item.ensures.found.shallow in
-    let n = c.cell-item.ensures.short in
-    let deep : c.max-depth.result ≡ max l.depth (x.depth + 1) = omega (arith, a, b, s, n) in
+    let deep : c.max-depth.result ≡ max l.depth (x.depth + 1) = omega (arith, c.saturating_add.ensures, c.max-depth.ensures, c.cell-item.ensures.found.shallow, c.cell-item.ensures.short) in
     let made = list_pushed c.args.self.now.backings c.push_item.new.self _ c.args.l c.args.x c.in-List.backing c.in-List.count c.in_ok-pushed.pushed _ c.pushed_length-json.result l x c.cell-list.ensures.found c.cell-item.ensures.found c.in-List.is c.in_ok-pushed.ensures.items deep c.pushed_length-json.ensures in
     heap_put c.args.self.now _ _ _ c.requires.heap c.push_item.ensures.grown c.room_for_cell.ensures.words c.in_ok-cells.ensures.word c.in_ok-cells.ensures.cells c.append.ensures.items made.cell refl
 
@@ -22,11 +18,7 @@ pub returns-clause-added : goal.returns-clause-added
 returns-clause-added c =
     let l = c.cell-list.result in
     let x = c.cell-item.result in
-    let a = c.saturating_add.ensures in
-    let b = c.max-depth.ensures in
-    let s = c.cell-item.ensures.found.shallow in
-    let n = c.cell-item.ensures.short in
-    let deep : c.max-depth.result ≡ max l.depth (x.depth + 1) = omega (arith, a, b, s, n) in
+    let deep : c.max-depth.result ≡ max l.depth (x.depth + 1) = omega (arith, c.saturating_add.ensures, c.max-depth.ensures, c.cell-item.ensures.found.shallow, c.cell-item.ensures.short) in
     let made = list_pushed c.args.self.now.backings c.push_item.new.self _ c.args.l c.args.x c.in-List.backing c.in-List.count c.in_ok-pushed.pushed _ c.pushed_length-json.result l x c.cell-list.ensures.found c.cell-item.ensures.found c.in-List.is c.in_ok-pushed.ensures.items deep c.pushed_length-json.ensures in
     due_adds c.args.self.now _ _ _ _ c.append.result _ made.value c.requires.heap c.push_item.ensures.grown c.in_ok-cells.ensures.cells c.append.ensures.items c.append.ensures.place
 
