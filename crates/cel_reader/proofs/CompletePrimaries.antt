@@ -1,9 +1,8 @@
 -- The reader's answers at primaries.
-use Rattle.std.proofs.Common.{◌≡◌, ℕ, List, ◌∷◌, Bool, true, false, Some, None, refl, sym, ◌∙◌, ap}
+use Rattle.std.proofs.Common.{◌≡◌, ℕ, List, ◌∷◌, Bool, true, false, Some, None, refl, sym, ◌∙◌}
 use Rattle.std.specs.Prelude.{◌&&◌}
 use Rattle.cel_tokens.specs.Bytes.{is_name}
 use Rattle.cel_tokens.specs.Token.{Word, name, mark}
-use Rattle.cel_tokens.specs.declared.mark.Mark.{Mark}
 use Rattle.cel_tokens.specs.declared.mark.Mark.TheVariants.{OpenParen, CloseParen, OpenBracket, OpenBrace}
 use Rattle.cel_reader.specs.Tree as tree
 use Rattle.cel_reader.specs.Tree.{Tree, Literal, trees, entries}
@@ -18,22 +17,13 @@ use Rattle.cel_reader.specs.declared.closing.Closing.TheVariants.{Call, List as 
 use Rattle.cel_reader.proofs.Claims.{Always, refused, not_at, again}
 use Rattle.cel_reader.proofs.CompleteRows.{no_paren}
 
--- no mark is a literal
-mark_no_literal : {P : Type 0} (m : Mark) (us vs : List Word) (w : Word) (v : Literal) → mark m ∷ us ≡ w ∷ vs → literal_of w ≡ Some v → P
-mark_no_literal m us vs w v e is =
-    let same : mark m ≡ w = cc in
-    let found : None ≡ Some v = ap literal_of same ∙ is in
-    absurd cc
-
 -- no identifier is a literal
 plain_no_literal : (named : Bool) (r : Role) (v : Literal) → (named && may_stand_free r) ≡ true → literal_role r ≡ Some v → ⊥
 plain_no_literal true role.Plain v e f = let g : None ≡ Some v = f in cc
 plain_no_literal _ _ v e f = let g : false ≡ true = e in cc
 
 name_no_literal : {P : Type 0} (n : List ℕ) (us vs : List Word) (w : Word) (v : Literal) → is_identifier n ≡ true → name n ∷ us ≡ w ∷ vs → literal_of w ≡ Some v → P
-name_no_literal n us vs w v is e found =
-    let same : name n ≡ w = cc in
-    absurd (plain_no_literal (is_name n) (role_of n) v is (ap literal_of same ∙ found))
+name_no_literal n us vs w v is e found = absurd (plain_no_literal (is_name n) (role_of n) v is cc)
 
 -- ---- each way that a primary begins
 
@@ -44,7 +34,7 @@ at_paren room us rest a f o (reads.list_fails q r) = absurd cc
 at_paren room us rest a f o (reads.list_literal q r) = absurd cc
 at_paren room us rest a f o (reads.map_fails q r) = absurd cc
 at_paren room us rest a f o (reads.map_literal q r) = absurd cc
-at_paren room us rest a f o (reads.constant {us = vs} {w = k} {v = i} q l) = mark_no_literal OpenParen us vs k i q l
+at_paren room us rest a f o (reads.constant q l) = absurd cc
 at_paren room us rest a f o (reads.identifier q i none) = absurd cc
 at_paren room us rest a f o (reads.function_fails q i p r) = absurd cc
 at_paren room us rest a f o (reads.function_call q i p r) = absurd cc
@@ -56,7 +46,7 @@ at_list room us rest items f o (reads.list_fails q r) = refused (f _ (again r re
 at_list room us rest items f o (reads.list_literal q r) = let first = f _ (again r refl cc) in cc
 at_list room us rest items f o (reads.map_fails q r) = absurd cc
 at_list room us rest items f o (reads.map_literal q r) = absurd cc
-at_list room us rest items f o (reads.constant {us = vs} {w = k} {v = i} q l) = mark_no_literal OpenBracket us vs k i q l
+at_list room us rest items f o (reads.constant q l) = absurd cc
 at_list room us rest items f o (reads.identifier q i none) = absurd cc
 at_list room us rest items f o (reads.function_fails q i p r) = absurd cc
 at_list room us rest items f o (reads.function_call q i p r) = absurd cc
@@ -68,18 +58,18 @@ at_map room us rest pairs f o (reads.list_fails q r) = absurd cc
 at_map room us rest pairs f o (reads.list_literal q r) = absurd cc
 at_map room us rest pairs f o (reads.map_fails q r) = refused (f _ (again r refl cc))
 at_map room us rest pairs f o (reads.map_literal q r) = let first = f _ (again r refl cc) in cc
-at_map room us rest pairs f o (reads.constant {us = vs} {w = k} {v = i} q l) = mark_no_literal OpenBrace us vs k i q l
+at_map room us rest pairs f o (reads.constant q l) = absurd cc
 at_map room us rest pairs f o (reads.identifier q i none) = absurd cc
 at_map room us rest pairs f o (reads.function_fails q i p r) = absurd cc
 at_map room us rest pairs f o (reads.function_call q i p r) = absurd cc
 
 pub at_constant : (room : ℕ) (rest : List Word) (w : Word) (v : Literal) → literal_of w ≡ Some v → Always (Row Primary) room (w ∷ rest) (One (tree.literal v)) rest
 at_constant room rest w v is o (reads.no_primary x y z none free) = absurd (let g : None ≡ Some v = sym none ∙ is in cc)
-at_constant room rest w v is o (reads.bracket {us = vs} q r) = mark_no_literal OpenParen vs rest w v (sym q) is
-at_constant room rest w v is o (reads.list_fails {us = vs} q r) = mark_no_literal OpenBracket vs rest w v (sym q) is
-at_constant room rest w v is o (reads.list_literal {us = vs} q r) = mark_no_literal OpenBracket vs rest w v (sym q) is
-at_constant room rest w v is o (reads.map_fails {us = vs} q r) = mark_no_literal OpenBrace vs rest w v (sym q) is
-at_constant room rest w v is o (reads.map_literal {us = vs} q r) = mark_no_literal OpenBrace vs rest w v (sym q) is
+at_constant room rest w v is o (reads.bracket q r) = absurd cc
+at_constant room rest w v is o (reads.list_fails q r) = absurd cc
+at_constant room rest w v is o (reads.list_literal q r) = absurd cc
+at_constant room rest w v is o (reads.map_fails q r) = absurd cc
+at_constant room rest w v is o (reads.map_literal q r) = absurd cc
 at_constant room rest w v is o (reads.constant q l) = cc
 at_constant room rest w v is o (reads.identifier {us = u} {n = n} q i none) = name_no_literal n u rest w v i (sym q) is
 at_constant room rest w v is o (reads.function_fails {us = u} {n = n} q i p r) = name_no_literal n u rest w v i (sym q) is

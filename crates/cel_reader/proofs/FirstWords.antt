@@ -1,5 +1,6 @@
 -- What a phrase begins with.
 use Rattle.std.proofs.Common.{◌≡◌, ℕ, List, [], ◌∷◌, Bool, true, false, inl, inr, Some, None, refl, sym, ◌∙◌, ap, subst}
+use Rattle.std.proofs.lemmas.Bool.{or_left}
 use Rattle.std.specs.Prelude.{◌||◌}
 use Rattle.cel_tokens.specs.Token.{Word, mark}
 use Rattle.cel_tokens.specs.declared.mark.Mark.{Mark}
@@ -51,13 +52,9 @@ Front OptionalItems ws = Unit {0}
 Front OptionalPairs ws = Unit {0}
 Front _ ws = FirstIs begins ws
 
-either_way : (a b : Bool) → a ≡ true → (a || b) ≡ true
-either_way true b e = refl
-either_way false b e = absurd (let f : false ≡ true = e in cc)
-
 begins_too : (ws : List Word) → FirstIs begins_member ws → FirstIs begins ws
 begins_too [] x = x
-begins_too (mark m ∷ ws) x = either_way (opens_member m) (is_prefix m) x
+begins_too (mark m ∷ ws) x = or_left (opens_member m) (is_prefix m) x
 begins_too _ x = refl
 
 below_begins : (l : Level) (ws : List Word) → Front (below l) ws → FirstIs begins ws

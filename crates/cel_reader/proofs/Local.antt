@@ -70,7 +70,8 @@ lone_list c room inner ws us vs z g e n =
     (x.0, x.2, x.3, subst (λ (y : List Word). Reads (Listed c) room x.0 (Refused (Misfit y))) x.6 (reads.list_comma z x.4 x.5))
 
 -- a step that goes over one word first
-behind : {s : Step} {room : ℕ} {o : Outcome} {rest vs ws us xs : List Word} {w : Word} → ws ≡ w ∷ us → Alike rest vs us xs → Reads s room (w ∷ xs) o → (ys : List Word) × Alike rest vs ws ys × SameHead ws ys × Reads s room ys o
+behind : {s : Step} {room : ℕ} {o : Outcome} {rest vs ws us xs : List Word} {w : Word} → ws ≡ w ∷ us → Alike rest vs us xs → Reads s room (w ∷ xs) o
+    → (ys : List Word) × Alike rest vs ws ys × SameHead ws ys × Reads s room ys o
 behind {ws = ws} {us = us} {xs = xs} {w = w} e a r = (w ∷ xs, down e a, head_same w ws us xs e, r)
 
 pub local : {s : Step} {room : ℕ} {ws : List Word} {o : Outcome} → Reads s room ws o → (vs : List Word) → Near o (left o) vs → Again s room ws o vs

@@ -46,12 +46,9 @@ Stops Member ws = StopsMember ws
 Stops Primary ws = NotAt OpenParen ws
 Stops _ ws = StopsExpression ws
 
-same_operator : (op other : BinaryOperator) → Some op ≡ Some other → op ≡ other
-same_operator op other e = cc
-
 -- an operator of one level is none of another
 other_level : (k l : Level) (w : Word) (ws : List Word) (op : BinaryOperator) → operator_of w ≡ Some op → level_of op ≡ k → (k ≡ l → ⊥) → NoOperator l (w ∷ ws)
-other_level k l w ws op e level differ = λ other f g. differ (sym level ∙ ap level_of (same_operator op other (sym e ∙ f)) ∙ g)
+other_level k l w ws op e level differ = λ other f g. differ cc
 
 -- an operator is no other mark
 operator_not : (m : Mark) (w : Word) (op : BinaryOperator) → operator_of w ≡ Some op → operator_mark m ≡ None → w ≡ mark m → ⊥

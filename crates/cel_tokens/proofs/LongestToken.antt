@@ -156,8 +156,8 @@ plain_front : (signed : Bool) (a : ℕ) (bs : List ℕ) → is_blank a ≡ false
     → is_letter a ≡ false → is_digit_of 10 a ≡ false
     → (a == 45) ≡ false → front signed (a ∷ bs) ≡ front_mark (mark_at (a ∷ bs))
 unfolding front
-plain_front true a bs k s q r l d m = rw (begins_here a bs k s, no_text a bs q r, l, d, m) refl
-plain_front false a bs k s q r l d m = rw (begins_here a bs k s, no_text a bs q r, l, d) refl
+plain_front true a bs k s q r l d m = rw (begins_here a bs (k, s), no_text a bs q r, l, d, m) refl
+plain_front false a bs k s q r l d m = rw (begins_here a bs (k, s), no_text a bs q r, l, d) refl
 
 -- a byte that begins a mark, whatever follows
 abbrev BeginsMark : ℕ → Type 0
@@ -204,7 +204,7 @@ prefix_is_plain b r = (grind (arith, nat_tests), grind (arith, nat_tests), grind
 text_front : (signed raw : Bool) (quote b n : ℕ) (bs said : List ℕ) → is_blank b ≡ false → (b == 47) ≡ false → opening (b ∷ bs) ≡ Some (raw, quote)
     → Says raw quote (drop (opening_len raw) (b ∷ bs)) n said → front signed (b ∷ bs) ≡ front.word (opening_len raw + n) (text said)
 unfolding front
-text_front signed raw quote b n bs said k s o p = rw (begins_here b bs k s, o, (says_its_pieces raw quote (drop (opening_len raw) (b ∷ bs)) n said).1 p) refl
+text_front signed raw quote b n bs said k s o p = rw (begins_here b bs (k, s), o, (says_its_pieces raw quote (drop (opening_len raw) (b ∷ bs)) n said).1 p) refl
 
 more_says : {raw : Bool} {quote : ℕ} {bytes said : List ℕ} → Says raw quote bytes (length bytes) said → (rest : List ℕ)
     → Says raw quote (bytes ++ rest) (length bytes) said

@@ -90,25 +90,28 @@ one k code bs n x e =
     let s : (code, 1) ≡ x = cc in
     subst (Named (k ∷ bs)) s (omega arith, n)
 
+-- what stands behind a test, whichever way it goes
+choose : (bytes : List ℕ) (t : Bool) (o p : Option (ℕ × ℕ)) → (t ≡ true → NamedIf bytes o) → NamedIf bytes p → NamedIf bytes (if t then o else p)
+choose bytes true o p f g = f refl
+choose bytes false o p f g = g
+
+-- or whichever of two tests holds
+choose_either : (bytes : List ℕ) (t more : Bool) (o p : Option (ℕ × ℕ)) → (t ≡ true → NamedIf bytes o)
+    → NamedIf bytes (if more then o else p) → NamedIf bytes (if t || more then o else p)
+choose_either bytes true more o p f g = f refl
+choose_either bytes false more o p f g = g
+
+-- a byte that is this letter
+read_as : (b k : ℕ) (bs : List ℕ) (o : Option (ℕ × ℕ)) → NamedIf (k ∷ bs) o → (b == k) ≡ true → NamedIf (b ∷ bs) o
+read_as b k bs o i t = subst (λ c. NamedIf (c ∷ bs) o) (sym (equal_here b k t)) i
+
 -- one letter, else what comes behind it in the table
-letter_by : (b k code : ℕ) (bs : List ℕ) (o : Option (ℕ × ℕ)) → Names (k ∷ []) code → NamedIf (b ∷ bs) o → (t : Bool) → (b == k) ≡ t → NamedIf (b ∷ bs) (if t then Some (code, 1) else o)
-letter_by b k code bs o n i true t = subst (λ c. NamedIf (c ∷ bs) (Some (code, 1))) (sym (equal_here b k t)) (one k code bs n)
-letter_by b k code bs o n i false t = i
-
 letter : (b k code : ℕ) (bs : List ℕ) (o : Option (ℕ × ℕ)) → Names (k ∷ []) code → NamedIf (b ∷ bs) o → NamedIf (b ∷ bs) (if b == k then Some (code, 1) else o)
-letter b k code bs o n i = letter_by b k code bs o n i (b == k) refl
+letter b k code bs o n i = choose (b ∷ bs) (b == k) _ o (read_as b k bs _ (one k code bs n)) i
 
--- a mark that stands for itself, else what comes behind it
-itself_by : (b k : ℕ) (bs : List ℕ) (more : Bool) (o : Option (ℕ × ℕ)) → Names (k ∷ []) k → NamedIf (b ∷ bs) (if more then Some (b, 1) else o) → (t : Bool) → (b == k) ≡ t → NamedIf (b ∷ bs) (if t || more then Some (b, 1) else o)
-itself_by b k bs more o n i true t = subst (λ c. NamedIf (c ∷ bs) (Some (c, 1))) (sym (equal_here b k t)) (one k k bs n)
-itself_by b k bs more o n i false t = i
-
-itself : (b k : ℕ) (bs : List ℕ) (more : Bool) (o : Option (ℕ × ℕ)) → Names (k ∷ []) k → NamedIf (b ∷ bs) (if more then Some (b, 1) else o) → NamedIf (b ∷ bs) (if (b == k) || more then Some (b, 1) else o)
-itself b k bs more o n i = itself_by b k bs more o n i (b == k) refl
-
-last_by : (b k : ℕ) (bs : List ℕ) → Names (k ∷ []) k → (t : Bool) → (b == k) ≡ t → NamedIf (b ∷ bs) (if t then Some (b, 1) else None)
-last_by b k bs n true t = subst (λ c. NamedIf (c ∷ bs) (Some (c, 1))) (sym (equal_here b k t)) (one k k bs n)
-last_by b k bs n false t = λ x e. absurd cc
+-- a mark that stands for itself
+itself : (b k : ℕ) (bs : List ℕ) → Names (k ∷ []) k → (b == k) ≡ true → NamedIf (b ∷ bs) (Some (b, 1))
+itself b k bs n t = subst (λ c. NamedIf (c ∷ bs) (Some (c, 1))) (sym (equal_here b k t)) (one k k bs n)
 
 simple_named : (b : ℕ) (bs : List ℕ) → NamedIf (b ∷ bs) (simple b)
 simple_named b bs =
@@ -119,22 +122,18 @@ simple_named b bs =
     (letter b 114 13 bs _ carriage_return
     (letter b 116 9 bs _ tab
     (letter b 118 11 bs _ vertical_tab
-    (itself b 92 bs _ None backslash (itself b 63 bs _ None question_mark (itself b 34 bs _ None double_quote (itself b 39 bs _ None single_quote (last_by b 96 bs back_quote (b == 96) refl)))))))))))
+    (choose_either (b ∷ bs) (b == 92) _ _ None (itself b 92 bs backslash)
+    (choose_either (b ∷ bs) (b == 63) _ _ None (itself b 63 bs question_mark)
+    (choose_either (b ∷ bs) (b == 34) _ _ None (itself b 34 bs double_quote)
+    (choose_either (b ∷ bs) (b == 39) _ _ None (itself b 39 bs single_quote)
+    (choose (b ∷ bs) (b == 96) _ None (itself b 96 bs back_quote) (λ x e. absurd cc))))))))))))
 
-two_named : (b : ℕ) (bs : List ℕ) → (b ≡ 120) ⊎ (b ≡ 88) → NamedIf (b ∷ bs) (numeric 16 2 3 bs)
-two_named b bs h x e =
-    let g = given 16 2 3 bs x e in
-    subst (Named (b ∷ bs)) (sym g.3) (omega (arith, g.0), two_hex b (take 2 bs) h g.1)
-
-four_named : (b : ℕ) (bs : List ℕ) → b ≡ 117 → NamedIf (b ∷ bs) (numeric 16 4 5 bs)
-four_named b bs h x e =
-    let g = given 16 4 5 bs x e in
-    subst (λ c. Named (c ∷ bs) x) (sym h) (subst (Named (117 ∷ bs)) (sym g.3) (omega (arith, g.0), four_hex (take 4 bs) g.1 g.2))
-
-eight_named : (b : ℕ) (bs : List ℕ) → b ≡ 85 → NamedIf (b ∷ bs) (numeric 16 8 9 bs)
-eight_named b bs h x e =
-    let g = given 16 8 9 bs x e in
-    subst (λ c. Named (c ∷ bs) x) (sym h) (subst (Named (85 ∷ bs)) (sym g.3) (omega (arith, g.0), eight_hex (take 8 bs) g.1 g.2))
+-- a letter and so many hex digits
+hex_named : (b count : ℕ) (bs : List ℕ) → ((ds : List ℕ) → AreDigits 16 count ds → is_code_point (number 16 ds) ≡ true → Names (b ∷ ds) (number 16 ds))
+    → NamedIf (b ∷ bs) (numeric 16 count (suc count) bs)
+hex_named b count bs names x e =
+    let g = given 16 count (suc count) bs x e in
+    subst (Named (b ∷ bs)) (sym g.3) (omega (arith, g.0), names (take count bs) g.1 g.2)
 
 -- three octal digits of which the first is at most 3 are at most 377
 low_digit : (b : ℕ) → (nat_lt 47 b && nat_lt b 52) ≡ true → digit_value b ≤ 3
@@ -161,11 +160,6 @@ octal_named b bs h x e =
     let g = given 8 3 3 (b ∷ bs) x e in
     subst (Named (b ∷ bs)) (sym g.3) (g.0, octal (take 3 (b ∷ bs)) g.1 (at_most_377 b bs h g.1))
 
--- what stands behind a test, whichever way it goes
-choose : (bytes : List ℕ) (t : Bool) (o p : Option (ℕ × ℕ)) → (t ≡ true → NamedIf bytes o) → NamedIf bytes p → NamedIf bytes (if t then o else p)
-choose bytes true o p f g = f refl
-choose bytes false o p f g = g
-
 x_by : (b : ℕ) (t : Bool) → (b == 120) ≡ t → (t || (b == 88)) ≡ true → (b ≡ 120) ⊎ (b ≡ 88)
 x_by b true t h = inl (equal_here b 120 t)
 x_by b false t h = inr (equal_here b 88 h)
@@ -177,9 +171,9 @@ escape_named : (bytes : List ℕ) → NamedIf bytes (escape bytes)
 unfolding escape
 escape_named [] = λ x e. absurd cc
 escape_named (b ∷ bs) =
-    choose (b ∷ bs) ((b == 120) || (b == 88)) _ _ (λ t. two_named b bs (x_here b t))
-    (choose (b ∷ bs) (b == 117) _ _ (λ t. four_named b bs (equal_here b 117 t))
-    (choose (b ∷ bs) (b == 85) _ _ (λ t. eight_named b bs (equal_here b 85 t))
+    choose (b ∷ bs) ((b == 120) || (b == 88)) _ _ (λ t. hex_named b 2 bs (λ ds d c. two_hex b ds (x_here b t) d))
+    (choose (b ∷ bs) (b == 117) _ _ (read_as b 117 bs _ (hex_named 117 4 bs four_hex))
+    (choose (b ∷ bs) (b == 85) _ _ (read_as b 85 bs _ (hex_named 85 8 bs eight_hex))
     (choose (b ∷ bs) (nat_lt 47 b && nat_lt b 52) _ _ (octal_named b bs) (simple_named b bs))))
 
 -- ---- what is named is computed

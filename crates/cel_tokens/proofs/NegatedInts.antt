@@ -16,7 +16,7 @@ use Rattle.cel_tokens.specs.Longest.{AllPass, IsDecimal}
 use Rattle.cel_tokens.specs.SignedInts.{Spells, IsInt, FollowsSign}
 use Rattle.cel_tokens.specs.SignedInts.Spells.{decimal, hex}
 use Rattle.cel_tokens.proofs.Runs.{run_on, run_within}
-use Rattle.cel_tokens.proofs.NoLonger.{begins_here, digit_is_no_slash, digit_is_no_blank, no_text, int_len, hex_len}
+use Rattle.cel_tokens.proofs.NoLonger.{begins_here, digit_is_token, no_text, int_len, hex_len}
 use Rattle.cel_tokens.proofs.LongestGap.{goes_on, is_longest_gap}
 
 -- ---- the int at the front is the longest
@@ -129,7 +129,7 @@ int_digit bytes n v i = subst (λ (xs : List ℕ). digit_begins xs ≡ true) (ta
 
 pub stops_at_digit : (bytes : List ℕ) → digit_begins bytes ≡ true → between false bytes ≡ 0
 stops_at_digit [] d = absurd cc
-stops_at_digit (b ∷ bs) d = begins_here b bs (digit_is_no_blank b d) (digit_is_no_slash b d)
+stops_at_digit (b ∷ bs) d = begins_here b bs (digit_is_token b d)
 
 pub gap_is : (bytes : List ℕ) (gap n v : ℕ) → FollowsSign bytes gap n v → between false bytes ≡ gap
 gap_is bytes gap n v f =
@@ -156,7 +156,7 @@ signed_front gap rest = int_front (gap + 1) (int_at rest).0 (int_of true (int_at
 front_minus : (signed : Bool) (bytes : List ℕ) → front signed (45 ∷ bytes) ≡ (if signed && digit_begins (drop (between false bytes) bytes) then signed_front (between false bytes) (drop (between false bytes) bytes) else front.word 1 (mark Minus))
 unfolding front
 front_minus signed bytes =
-    rw (begins_here 45 bytes refl refl, no_text 45 bytes refl refl, behind_minus bytes, minus_mark bytes) refl
+    rw (begins_here 45 bytes (refl, refl), no_text 45 bytes refl refl, behind_minus bytes, minus_mark bytes) refl
 
 pub plain_minus : (bytes : List ℕ) → front false (45 ∷ bytes) ≡ front.word 1 (mark Minus)
 plain_minus bytes = front_minus false bytes

@@ -23,42 +23,32 @@ no_comment : (b : ℕ) (bs : List ℕ) → (b == 47) ≡ false → opens_comment
 no_comment b [] e = refl
 no_comment b (c ∷ bs) e = rw e refl
 
-letter_is_no_slash : (b : ℕ) → is_letter b ≡ true → (b == 47) ≡ false
-letter_is_no_slash b h = grind (arith, nat_tests)
-
-letter_is_no_blank : (b : ℕ) → is_letter b ≡ true → is_blank b ≡ false
-letter_is_no_blank b h = grind (arith, nat_tests)
+-- no letter begins what stands between tokens
+letter_is_token : (b : ℕ) → is_letter b ≡ true → (is_blank b ≡ false) × ((b == 47) ≡ false)
+letter_is_token b h = (grind (arith, nat_tests), grind (arith, nat_tests))
 
 letter_is_name_byte : (b : ℕ) → is_letter b ≡ true → is_name_byte b ≡ true
 letter_is_name_byte b h = rw h refl
 
-pub begins_here : (b : ℕ) (bs : List ℕ) → is_blank b ≡ false → (b == 47) ≡ false → between false (b ∷ bs) ≡ 0
-begins_here b bs k s = between_off false b bs (rw (k, no_comment b bs s) refl)
+pub begins_here : (b : ℕ) (bs : List ℕ) → (is_blank b ≡ false) × ((b == 47) ≡ false) → between false (b ∷ bs) ≡ 0
+begins_here b bs k = between_off false b bs (rw (k.0, no_comment b bs k.1) refl)
 
 name_front : (signed : Bool) (b : ℕ) (bs : List ℕ) → is_letter b ≡ true → opening (b ∷ bs) ≡ None → front signed (b ∷ bs) ≡ front.word (run is_name_byte (b ∷ bs)) (name (take (run is_name_byte (b ∷ bs)) (b ∷ bs)))
 unfolding front
 name_front signed b bs l o =
-    rw (begins_here b bs (letter_is_no_blank b l) (letter_is_no_slash b l), o, l) refl
+    rw (begins_here b bs (letter_is_token b l), o, l) refl
 
 pub no_longer_name : (signed : Bool) (first rest : List ℕ) → IsName first → opening (first ++ rest) ≡ None → Takes signed first rest
 no_longer_name signed [] rest a o = absurd a
 no_longer_name signed (b ∷ bs) rest a o =
     (run is_name_byte (b ∷ (bs ++ rest)), _, name_front signed b (bs ++ rest) a.0 o, run_prefix is_name_byte (b ∷ bs) rest (letter_is_name_byte b a.0, a.1))
 
-pub digit_is_no_slash : (b : ℕ) → is_digit_of 10 b ≡ true → (b == 47) ≡ false
-digit_is_no_slash b h = grind (arith, nat_tests)
+pub digit_is_token : (b : ℕ) → is_digit_of 10 b ≡ true → (is_blank b ≡ false) × ((b == 47) ≡ false)
+digit_is_token b h = (grind (arith, nat_tests), grind (arith, nat_tests))
 
-pub digit_is_no_blank : (b : ℕ) → is_digit_of 10 b ≡ true → is_blank b ≡ false
-digit_is_no_blank b h = grind (arith, nat_tests)
-
-digit_is_no_letter : (b : ℕ) → is_digit_of 10 b ≡ true → is_letter b ≡ false
-digit_is_no_letter b h = grind (arith, nat_tests)
-
-digit_is_no_quote : (b : ℕ) → is_digit_of 10 b ≡ true → is_quote b ≡ false
-digit_is_no_quote b h = grind (arith, nat_tests)
-
-digit_is_no_prefix : (b : ℕ) → is_digit_of 10 b ≡ true → is_raw_prefix b ≡ false
-digit_is_no_prefix b h = grind (arith, nat_tests)
+-- no digit begins a text or a name
+digit_is_no_letter : (b : ℕ) → is_digit_of 10 b ≡ true → (is_quote b ≡ false) × (is_raw_prefix b ≡ false) × (is_letter b ≡ false)
+digit_is_no_letter b h = (grind (arith, nat_tests), grind (arith, nat_tests), grind (arith, nat_tests))
 
 digit_is_no_x : (b : ℕ) → is_digit_of 10 b ≡ true → (b == 120) ≡ false
 digit_is_no_x b h = grind (arith, nat_tests)
@@ -70,7 +60,8 @@ no_text b (c ∷ bs) q r = rw (q, r) refl
 int_front_is : (signed : Bool) (b : ℕ) (bs : List ℕ) → is_digit_of 10 b ≡ true → front signed (b ∷ bs) ≡ front_int false 0 (b ∷ bs)
 unfolding front
 int_front_is signed b bs d =
-    rw (begins_here b bs (digit_is_no_blank b d) (digit_is_no_slash b d), no_text b bs (digit_is_no_quote b d) (digit_is_no_prefix b d), digit_is_no_letter b d, d) refl
+    let n = digit_is_no_letter b d in
+    rw (begins_here b bs (digit_is_token b d), no_text b bs n.0 n.1, n.2, d) refl
 
 and_false : (x y : Bool) → (x && (false && y)) ≡ false
 and_false true y = refl

@@ -1,5 +1,5 @@
 -- Addresses in hex digits.
-use Rattle.std.proofs.Common.{◌≡◌, ℕ, zero, suc, ◌+◌, ◌-◌, ◌*◌, ◌/◌, ◌%◌, ◌^◌, ◌<◌, ◌≤◌, Bool, true, false, ◌&&◌, ◌||◌, List, [], ◌∷◌, ◌++◌, nat_eq, nat_le, nat_lt, if◌then◌else◌, refl, ap, ◌∙◌, append_assoc, arith, add-one, lit<}
+use Rattle.std.proofs.Common.{◌≡◌, ℕ, zero, suc, ◌+◌, ◌-◌, ◌*◌, ◌/◌, ◌%◌, ◌^◌, ◌<◌, ◌≤◌, Bool, true, false, ◌&&◌, ◌||◌, List, [], ◌∷◌, ◌++◌, nat_eq, nat_le, nat_lt, if◌then◌else◌, refl, ap, ◌∙◌, append_assoc, arith, subst, add-one, lit<}
 use Rattle.std.proofs.Math.Nat.{pow-le-pow_right, pow-suc}
 use Rattle.std.proofs.lemmas.Bool.Decides.{nat_tests}
 use Rattle.insn_codec.specs.Lines.{hex_digit, hex_digits}
@@ -27,36 +27,6 @@ pub record IsDigit (c v : ℕ) : Type 0 where
   pub digit : hex_digit v ≡ c
   pub no_space : nat_eq c 32 ≡ false
 
-digit_by : (c : ℕ) (decimal letter : Bool) → is_digit c ≡ decimal → nat_le 97 c && nat_le c 102 ≡ letter → decimal || letter ≡ true → IsDigit c (if decimal then c - 48 else c - 87)
-digit_by c true letter is other some =
-    let low : 48 ≤ c = grind (arith, nat_tests) in
-    let high : c ≤ 57 = grind (arith, nat_tests) in
-    let small : nat_lt (c - 48) 10 ≡ true = grind (arith, nat_tests) in
-    let back : 48 + (c - 48) ≡ c = omega (arith, low) in
-    record {
-      is_hex = rw is refl;
-      value = rw is refl;
-      below = omega (arith, high);
-      digit = rw small back;
-      no_space = grind (arith, nat_tests);
-    }
-digit_by c false true is other some =
-    let low : 97 ≤ c = grind (arith, nat_tests) in
-    let high : c ≤ 102 = grind (arith, nat_tests) in
-    let large : nat_lt (c - 87) 10 ≡ false = grind (arith, nat_tests) in
-    let back : 87 + (c - 87) ≡ c = omega (arith, low) in
-    record {
-      is_hex = rw (is, other) refl;
-      value = rw is refl;
-      below = omega (arith, high);
-      digit = rw large back;
-      no_space = grind (arith, nat_tests);
-    }
-digit_by c false false is other some = cc
-
-pub digit_is : (c : ℕ) → is_hex_digit c ≡ true → IsDigit c (hex_value c)
-digit_is c some = digit_by c (is_digit c) (nat_le 97 c && nat_le c 102) refl refl some
-
 decimal_digit : (v : ℕ) → v < 10 → IsDigit (48 + v) v
 decimal_digit v small =
     let is : is_digit (48 + v) ≡ true = grind (arith, nat_tests) in
@@ -83,6 +53,22 @@ letter_digit v large small =
       digit = rw test refl;
       no_space = grind (arith, nat_tests);
     }
+
+digit_by : (c : ℕ) (decimal letter : Bool) → is_digit c ≡ decimal → nat_le 97 c && nat_le c 102 ≡ letter → decimal || letter ≡ true → IsDigit c (if decimal then c - 48 else c - 87)
+digit_by c true letter is other some =
+    let low : 48 ≤ c = grind (arith, nat_tests) in
+    let high : c ≤ 57 = grind (arith, nat_tests) in
+    let back : 48 + (c - 48) ≡ c = omega (arith, low) in
+    subst (λ (d : ℕ). IsDigit d (c - 48)) back (decimal_digit (c - 48) (omega (arith, high)))
+digit_by c false true is other some =
+    let low : 97 ≤ c = grind (arith, nat_tests) in
+    let high : c ≤ 102 = grind (arith, nat_tests) in
+    let back : 87 + (c - 87) ≡ c = omega (arith, low) in
+    subst (λ (d : ℕ). IsDigit d (c - 87)) back (letter_digit (c - 87) (omega (arith, low)) (omega (arith, high)))
+digit_by c false false is other some = cc
+
+pub digit_is : (c : ℕ) → is_hex_digit c ≡ true → IsDigit c (hex_value c)
+digit_is c some = digit_by c (is_digit c) (nat_le 97 c && nat_le c 102) refl refl some
 
 of_value : (v : ℕ) (small : Bool) → nat_lt v 10 ≡ small → v < 16 → IsDigit (if small then 48 + v else 87 + v) v
 of_value v true is below = let few : v < 10 = grind (arith, nat_tests) in decimal_digit v few

@@ -16,7 +16,7 @@ use Rattle.debugger.specs.Breakpoints.{has_breakpoint, with_breakpoint, without_
 use Rattle.debugger.specs.Answers.{World, Answer, is_slot, in_range, can_go_on, can_go_back, can_go_to, break_text, clear_text, sets_breakpoints, moves_to, out_of_range, says, answer_of, may_be_refused, answer_to}
 use Rattle.debugger.specs.Told.{Answers}
 use Rattle.debugger.specs.declared.command.Command.{Command}
-use Rattle.debugger.specs.declared.command.Command.TheVariants.{SetBreakpoint, ClearBreakpoint, Forward, Back, Go, Continue, ReverseContinue, Registers, ValueAt, MemoryAt, Frames, Listing, Verdict, Quit, Unknown}
+use Rattle.debugger.specs.declared.command.Command.TheVariants.{SetBreakpoint, ClearBreakpoint, Forward, Back, Go, Continue, ValueAt, MemoryAt}
 
 -- what is chosen by a test that no number above 1,000,000,000 passes
 by_range : {A : Type 0} (test : ℕ → Bool) → ((m : ℕ) → 1000000000 < m → test m ≡ false) → (f : ℕ → A) (other : A) (n : ℕ) → (if test (capped n) then f (capped n) else other) ≡ (if test n then f n else other)

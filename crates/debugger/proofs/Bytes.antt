@@ -2,8 +2,7 @@
 use Rattle.std.proofs.Common.{◌≡◌, ℕ, ◌+◌, ◌-◌, ◌≤◌, List, [], ◌∷◌, ◌++◌, take, drop, get_or, length, Option, Some, sym, ap, ◌∙◌, append_assoc, append-nil, arith, subst}
 use Rattle.std.proofs.lemmas.Grind.{common_steps}
 use Rattle.std.proofs.Math.Seq.{take-add}
-use Rattle.std.proofs.lemmas.List.{take_all}
-use Rattle.debugger.specs.Streams.{AddsBytes, GivesBytes, KeepsBytes}
+use Rattle.debugger.specs.Streams.{AddsBytes, GivesBytes}
 
 -- a read of no byte into a buffer of one
 pub no_byte : (left : List ℕ) (after : Option (List ℕ)) (n : ℕ) (buffer : List ℕ) → GivesBytes left after 1 n buffer → n ≡ 0 → (left ≡ []) × (after ≡ Some [])
@@ -23,15 +22,13 @@ first_byte left after n buffer gives one =
     let front : take 1 buffer ≡ take 1 left = subst (λ (k : ℕ). take k buffer ≡ take k left) one gives.front in
     (front_is left buffer some front, gives.rest ∙ ap (λ (k : ℕ). Some (drop k left)) one)
 
-rest_of : (bytes : List ℕ) (i : ℕ) → take (length bytes - i) (drop i bytes) ≡ drop i bytes
-rest_of bytes i = grind (arith, common_steps)
-
 pub adds_none : (old : Option (List ℕ)) (bytes : List ℕ) → AddsBytes old old (take 0 bytes)
 adds_none old bytes before known = known ∙ ap Some (sym (append-nil before))
 
 -- the first i bytes, and then n of those that are left
 pub adds_more : (old known new : Option (List ℕ)) (bytes : List ℕ) (i n : ℕ) → AddsBytes old known (take i bytes) → AddsBytes known new (take n (take (length bytes - i) (drop i bytes))) → AddsBytes old new (take (i + n) bytes)
 adds_more old known new bytes i n so_far more before is =
+    let rest : take (length bytes - i) (drop i bytes) ≡ drop i bytes = grind (arith, common_steps) in
     more (before ++ take i bytes) (so_far before is)
-    ∙ ap (λ (piece : List ℕ). Some ((before ++ take i bytes) ++ take n piece)) (rest_of bytes i)
+    ∙ ap (λ (piece : List ℕ). Some ((before ++ take i bytes) ++ take n piece)) rest
     ∙ ap Some (append_assoc before (take i bytes) (take n (drop i bytes)) ∙ ap (λ (piece : List ℕ). before ++ piece) (sym (take-add i n bytes)))

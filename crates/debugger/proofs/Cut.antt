@@ -33,29 +33,26 @@ pub cut-plain : (input : List ℕ) (i b : ℕ) → drop i input ≡ b ∷ drop 1
 cut-plain input i b first plain = cut-more input i b first ∙ cut_byte-plain (cut (take i input)) b plain
 
 -- these pieces behind lines that have ended
-behind : List (List ℕ) → Pieces → Pieces
+abbrev behind : List (List ℕ) → Pieces → Pieces
 behind lines p = (lines ++ p.0, p.1)
 
 byte_behind : (feed : Bool) (lines : List (List ℕ)) (p : Pieces) (b : ℕ) → cond feed ((lines ++ p.0) ++ p.1 ∷ [], []) (lines ++ p.0, p.1 ++ b ∷ []) ≡ behind lines (cond feed (p.0 ++ p.1 ∷ [], []) (p.0, p.1 ++ b ∷ []))
-unfolding behind
 byte_behind true lines p b = λ i. (append_assoc lines p.0 (p.1 ∷ []) i, [])
 byte_behind false lines p b = refl
 
 cut_behind : (bytes : List ℕ) (lines : List (List ℕ)) (p : Pieces) → fold cut_byte (behind lines p) bytes ≡ behind lines (fold cut_byte p bytes)
-unfolding behind
 cut_behind [] lines p = refl
 cut_behind (b ∷ bytes) lines p = ap (λ (q : Pieces). fold cut_byte q bytes) (byte_behind (nat_eq b 10) lines p b) ∙ cut_behind bytes lines (cut_byte p b)
 
 -- more bytes go on with the last line, and leave those before it
 cut-append : (front more : List ℕ) → cut (front ++ more) ≡ behind (cut front).0 (fold cut_byte ([], (cut front).1) more)
-unfolding cut behind
+unfolding cut
 cut-append front more =
     fold-append cut_byte ([], []) front more
     ∙ (λ i. fold cut_byte (sym (append-nil (cut front).0) i, (cut front).1) more)
     ∙ cut_behind more (cut front).0 ([], (cut front).1)
 
 pub lines-append : (front more : List ℕ) → (later : List (List ℕ)) × ((cut (front ++ more)).0 ≡ (cut front).0 ++ later)
-unfolding behind
 lines-append front more = ((fold cut_byte ([], (cut front).1) more).0, ap (λ (p : Pieces). p.0) (cut-append front more))
 
 -- whole lines
@@ -63,11 +60,11 @@ abbrev pub Whole : List ℕ → Type 0
 Whole text = (cut text).1 ≡ []
 
 pub lines-whole : (front more : List ℕ) → Whole front → (cut (front ++ more)).0 ≡ (cut front).0 ++ (cut more).0
-unfolding cut behind
+unfolding cut
 lines-whole front more whole = ap (λ (p : Pieces). p.0) (cut-append front more) ∙ ap (λ (rest : List ℕ). (cut front).0 ++ (fold cut_byte ([], rest) more).0) whole
 
 pub whole-append : (front more : List ℕ) → Whole front → Whole more → Whole (front ++ more)
-unfolding cut behind
+unfolding cut
 whole-append front more whole next = ap (λ (p : Pieces). p.1) (cut-append front more) ∙ ap (λ (rest : List ℕ). (fold cut_byte ([], rest) more).1) whole ∙ next
 
 pub whole-feed : (line : List ℕ) → Whole (line ++ 10 ∷ [])
@@ -79,7 +76,6 @@ with_rest-behind lines more [] = refl
 with_rest-behind lines more (b ∷ bs) = append_assoc lines more ((b ∷ bs) ∷ [])
 
 pub input_lines-append : (part rest : List ℕ) → (more : List (List ℕ)) × (input_lines (part ++ rest) ≡ (cut part).0 ++ more)
-unfolding behind
 input_lines-append part rest =
     let p = fold cut_byte ([], (cut part).1) rest in
     (with_rest p.0 p.1, ap (λ (q : Pieces). with_rest q.0 q.1) (cut-append part rest) ∙ with_rest-behind (cut part).0 p.0 p.1)

@@ -111,9 +111,6 @@ written-more : (before so_far text said : List ℕ) (written new : Option (List 
 written-more before so_far text said written new old e same =
     e (before ++ so_far) old ∙ ap Some (append_assoc before so_far text) ∙ ap (λ (t : List ℕ). Some (before ++ (so_far ++ t))) (sym same)
 
-on_in : (w : World) (slots : List ℕ) (k : ℕ) → w ≡ world_at slots k false → w.ended ≡ false
-on_in w slots k is = ap (λ (v : World). v.ended) is
-
 -- the talk after one more line
 record Said (s : State) (before : List ℕ) (lines : List (List ℕ)) (line : List ℕ) (next : World) (new : Option (List ℕ)) : Type 0 where
   talk : Talk
@@ -125,7 +122,7 @@ record Said (s : State) (before : List ℕ) (lines : List (List ℕ)) (line : Li
 said_line : (s : State) (input before : List ℕ) (i : ℕ) (left written new : Option (List ℕ)) (line slots : List ℕ) (k : ℕ) (next : World) → Going s input before i left written line slots k → HeardLine s (world_at slots k false) line next written new → Said s before (cut (take i input)).0 (cut (take i input)).1 next new
 said_line s input before i left written new line slots k next g h =
     let whole = (cut (take i input)).1 in
-    let on = on_in g.talk.world slots k g.world_is in
+    let on = ap (λ (v : World). v.ended) g.world_is in
     let a = answers_here s g.talk.world (world_at slots k false) next line whole h.text g.world_is g.rest h.answers in
     record {
       talk = with_answer s g.talk (whole, a.mark);
@@ -152,10 +149,6 @@ going_line s input before i b left after written new line more slots later k j e
       within = one_within input i b one.0;
     }
 
--- what may be read is the first i bytes, and what may be read behind them
-readable-split : (input : List ℕ) (limit i : ℕ) → readable input ≡ take limit input → i ≤ limit → readable input ≡ take i input ++ take (limit - i) (drop i input)
-readable-split input limit i all low = all ∙ sym (take-split limit i input low)
-
 -- a line that ends the session
 pub told_quit : (s : State) (input before : List ℕ) (i b : ℕ) (left after written new : Option (List ℕ)) (line slots later : List ℕ) (k j limit : ℕ) (ended : Bool) → Going s input before i left written line slots k → ((bytes : List ℕ) → left ≡ Some bytes → GivesByte bytes after (Some b)) → b ≡ 10 → HeardLine s (world_at slots k false) line (world_at later j ended) written new → ended ≡ true → readable input ≡ take limit input → i < limit → ToldAll s input before after new
 told_quit s input before i b left after written new line slots later k j limit ended g gives feed h off all below =
@@ -163,7 +156,8 @@ told_quit s input before i b left after written new line slots later k j limit e
     let c = cut-feed input i b one.0 feed in
     let said = said_line s input before i left written new line slots k (world_at later j ended) g h in
     let rest = input_lines-append (take (i + 1) input) (take (limit - (i + 1)) (drop (i + 1) input)) in
-    let lines = ap input_lines (readable-split input limit (i + 1) all (omega (arith, below))) ∙ rest.1 ∙ ap (λ (p : Pieces). p.0 ++ rest.0) c in
+    let split = all ∙ sym (take-split limit (i + 1) input (omega (arith, below))) in
+    let lines = ap input_lines split ∙ rest.1 ∙ ap (λ (p : Pieces). p.0 ++ rest.0) c in
     record {
       read = i + 1;
       all_read = record {
@@ -194,7 +188,7 @@ part_told : (s : State) (input before : List ℕ) (i read : ℕ) (left after wri
 part_told s input before i read left after written new line slots k g h all gone inside ends =
     let whole = (cut (take i input)).1 in
     let a = answers_here s g.talk.world (world_at slots k false) h.next line whole h.text g.world_is g.rest h.answers in
-    let on = on_in g.talk.world slots k g.world_is in
+    let on = ap (λ (v : World). v.ended) g.world_is in
     let so_far = ap (λ (t : Talk). t.text) (sym g.lines.talk_is) in
     record {
       read = read;

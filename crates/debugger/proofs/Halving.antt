@@ -46,48 +46,30 @@ has_none slot slots i ordered is =
     let said = searched slots slot (Err i) is (rises slots ordered) in
     let other : (k : ℕ) → k < length slots → nat_eq (get_or slots k 0) slot ≡ false = λ k within.
     elim (cases_lt k i) [
-      | inl low ↦
-          let less = said.1 k low in
-          grind (arith, nat_tests, less)
-      | inr high ↦
-          let less = said.2 k high within in
-          grind (arith, nat_tests, less)
+      | inl low ↦ grind (arith, nat_tests, said.1 k low)
+      | inr high ↦ grind (arith, nat_tests, said.2 k high within)
     ] in
     list_any_none (λ s. nat_eq s slot) slots (All-from_get_or (λ s. nat_eq s slot ≡ false) slots 0 other)
 
 pub place_found : (slot : ℕ) (slots : List ℕ) (i : ℕ) → in_order slots ≡ true → IsBinarySearchResult (λ s. nat_cmp s slot) slots (Err i) → place_of slot slots ≡ i
 place_found slot slots i ordered is =
     let said = searched slots slot (Err i) is (rises slots ordered) in
-    let below : (k : ℕ) → k < i → nat_lt (get_or slots k 0) slot ≡ true = λ k low.
-    let less = said.1 k low in
-    grind (arith, nat_tests, less) in
-    let beyond : i < length slots → nat_lt (get_or slots i 0) slot ≡ false = λ within.
-    let less = said.2 i (omega arith) within in
-    grind (arith, nat_tests, less) in
+    let below : (k : ℕ) → k < i → nat_lt (get_or slots k 0) slot ≡ true = λ k low. grind (arith, nat_tests, said.1 k low) in
+    let beyond : i < length slots → nat_lt (get_or slots i 0) slot ≡ false = λ within. grind (arith, nat_tests, said.2 i (omega arith) within) in
     prefix_len_is (λ s. nat_lt s slot) slots i 0 said.0 below beyond
 
 -- where the slot is found, nothing is to be set
 pub set_found : (slot : ℕ) (slots : List ℕ) (i : ℕ) → in_order slots ≡ true → IsBinarySearchResult (λ s. nat_cmp s slot) slots (Ok i) → slots ≡ with_breakpoint slot slots
-set_found slot slots i ordered is =
-    let has = has_found slot slots i ordered is in
-    rw has refl
+set_found slot slots i ordered is = rw (has_found slot slots i ordered is) refl
 
 -- where it is not found, it goes where the search says
 pub set_none : (slot : ℕ) (slots : List ℕ) (i : ℕ) → in_order slots ≡ true → IsBinarySearchResult (λ s. nat_cmp s slot) slots (Err i) → insert slots i slot ≡ with_breakpoint slot slots
-set_none slot slots i ordered is =
-    let none = has_none slot slots i ordered is in
-    let place = place_found slot slots i ordered is in
-    rw (none, place) refl
+set_none slot slots i ordered is = rw (has_none slot slots i ordered is, place_found slot slots i ordered is) refl
 
 pub stays_ordered : (slot : ℕ) (slots : List ℕ) (i : ℕ) → in_order slots ≡ true → IsBinarySearchResult (λ s. nat_cmp s slot) slots (Err i) → in_order (insert slots i slot) ≡ true
 stays_ordered slot slots i ordered is =
     let none = has_none slot slots i ordered is in
-    let place = place_found slot slots i ordered is in
-    subst (λ (n : ℕ). in_order (insert slots n slot) ≡ true) place (insert_in_order slot slots none ordered)
-
--- the same of the slots that were lent to the search
-pub in_slots : (slot : ℕ) (lent slots : List ℕ) (r : Result ℕ ℕ) → lent ≡ slots → IsBinarySearchResult (λ s. nat_cmp s slot) lent r → IsBinarySearchResult (λ s. nat_cmp s slot) slots r
-in_slots slot lent slots r same is = subst (λ (l : List ℕ). IsBinarySearchResult (λ s. nat_cmp s slot) l r) same is
+    subst (λ (n : ℕ). in_order (insert slots n slot) ≡ true) (place_found slot slots i ordered is) (insert_in_order slot slots none ordered)
 
 pub none_refused : {T E : Type 0} (r : Result T E) (slot : ℕ) (slots : List ℕ) → has_breakpoint slot slots ≡ false → OnErr r (has_breakpoint slot slots ≡ false)
 none_refused (Ok x) slot slots none = tt

@@ -6,9 +6,6 @@ use Rattle.insn_codec.specs.Statements.{statement_slots}
 use Rattle.bpf_machine.specs.Decoding.{slot_count}
 use Rattle.debugger.specs.Listing.{listing_line, listing_lines, statement_at}
 
-pub lines_start : (count slot : ℕ) (code text : List ℕ) → text ≡ [] → text ++ listing_lines count code slot ≡ listing_lines count code slot
-lines_start count slot code text none = rw none refl
-
 beyond : (count slot : ℕ) (code : List ℕ) → slot_count code ≤ slot → listing_lines count code slot ≡ []
 unfolding listing_lines
 beyond zero slot code out = refl
@@ -18,12 +15,9 @@ beyond (suc count) slot code out = let no : nat_lt slot (slot_count code) ≡ fa
 pub lines_end : (count slot : ℕ) (code text whole : List ℕ) → slot_count code ≤ slot → text ++ listing_lines count code slot ≡ whole → text ≡ whole
 lines_end count slot code text whole out e = sym (append-nil text) ∙ ap (λ (rest : List ℕ). text ++ rest) (sym (beyond count slot code out)) ∙ e
 
-none_more : (slot : ℕ) (code : List ℕ) → listing_lines 0 code slot ≡ []
-unfolding listing_lines
-none_more slot code = refl
-
 pub lines_full : (count slot : ℕ) (code text whole : List ℕ) → count ≡ 0 → text ++ listing_lines count code slot ≡ whole → text ≡ whole
-lines_full count slot code text whole all e = sym (append-nil text) ∙ ap (λ (rest : List ℕ). text ++ rest) (sym (none_more slot code)) ∙ ap (λ (n : ℕ). text ++ listing_lines n code slot) (sym all) ∙ e
+unfolding listing_lines
+lines_full count slot code text whole all e = sym (append-nil text) ∙ ap (λ (n : ℕ). text ++ listing_lines n code slot) (sym all) ∙ e
 
 one_more_line : (count slot : ℕ) (code : List ℕ) → slot < slot_count code → listing_lines (suc count) code slot ≡ listing_line code slot ++ listing_lines count code (slot + statement_slots (statement_at code slot))
 unfolding listing_lines

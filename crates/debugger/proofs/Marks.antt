@@ -1,8 +1,9 @@
 -- Sessions in which no line answers `? memory`.
-use Rattle.std.proofs.Common.{◌≡◌, ℕ, Bool, true, false, ◌||◌, List, [], ◌∷◌, ◌++◌, map, fold, refl, sym, ap, ◌∙◌, append_assoc, append-nil, codes, Option, Some, Result, Ok, Err}
+use Rattle.std.proofs.Common.{◌≡◌, ℕ, Bool, true, false, List, [], ◌∷◌, ◌++◌, map, fold, refl, sym, ap, ◌∙◌, append_assoc, append-nil, codes, Option, Some, Result, Ok, Err}
 use Rattle.std.specs.Prelude.{OnOk, if◌then◌else◌}
 use Rattle.std.specs.List.{list_any}
 use Rattle.std.specs.Str.{bytes_eq}
+use Rattle.std.proofs.lemmas.Bool.{or_parts, or_right}
 use Rattle.std.proofs.lemmas.List.Folds.{list_any-append}
 use Rattle.std.proofs.lemmas.List.{append_cancel_left}
 use Rattle.bpf_machine.specs.State.{State}
@@ -16,19 +17,11 @@ use Rattle.debugger.proofs.Cut.{Whole, lines-append, lines-whole, whole-append}
 use Rattle.debugger.proofs.Going.{hear-on, hear-off}
 use Rattle.debugger.proofs.Whole.{answers_in_lines}
 
-or_left : (a b : Bool) → a || b ≡ false → a ≡ false
-or_left true b none = cc
-or_left false b none = refl
-
-or_right : (a b : Bool) → b ≡ true → a || b ≡ true
-or_right true b some = refl
-or_right false b some = some
-
 -- a text whose beginning says it says it
 beginning_says : (front more : List ℕ) → says_memory (front ++ more) ≡ false → says_memory front ≡ false
 beginning_says front more none =
     let later = lines-append front more in
-    or_left (says_memory front) _ (sym (list_any-append (bytes_eq (codes "? memory")) (cut front).0 later.0) ∙ ap (list_any (bytes_eq (codes "? memory"))) (sym later.1) ∙ none)
+    (or_parts (says_memory front) _ (sym (list_any-append (bytes_eq (codes "? memory")) (cut front).0 later.0) ∙ ap (list_any (bytes_eq (codes "? memory"))) (sym later.1) ∙ none)).0
 
 -- a refused line says it
 refusal_says : (text : List ℕ) → Whole text → says_memory (text ++ codes "? memory\n") ≡ true
@@ -79,22 +72,17 @@ talk_granted s t (l ∷ marked) whole none =
     talk_granted s (hear s t l) marked (hear_whole s t l t.world.ended refl whole) none
     ∙ ap (λ (u : Talk). fold (hear s) u (map granted (lines_of marked))) (hear_granted s t l t.world.ended refl whole here)
 
-first_whole : Whole []
-unfolding cut
-first_whole = refl
-
 pub tells_all : TellsAll
+unfolding cut
 tells_all s lines t h none =
     sym h.talk_is
-    ∙ talk_granted s first_talk h.marked first_whole (ap (λ (u : Talk). says_memory u.text) h.talk_is ∙ none)
+    ∙ talk_granted s first_talk h.marked refl (ap (λ (u : Talk). says_memory u.text) h.talk_is ∙ none)
     ∙ ap (λ (ls : List (List ℕ)). talk_of s (map granted ls)) h.lines_are
-
-some_is : {A : Type 0} (x y : A) → Some x ≡ Some y → x ≡ y
-some_is x y e = cc
 
 -- what a session wrote that wrote no `? memory`
 pub says_text : (s : State) (input before written : List ℕ) (left after : Option (List ℕ)) (result : Result (Unit {0}) SessionError) → ByResult s input before left after result → after ≡ Some (before ++ written) → says_memory written ≡ false → OnOk result (written ≡ session_text s input)
 says_text s input before written left after (Ok u) told is none =
-    let same : written ≡ told.talk.text = append_cancel_left before written told.talk.text (some_is _ _ (sym is ∙ told.all_written)) in
+    let whole : before ++ written ≡ before ++ told.talk.text = let e = sym is ∙ told.all_written in cc in
+    let same : written ≡ told.talk.text = append_cancel_left before written told.talk.text whole in
     same ∙ ap (λ (t : Talk). t.text) (tells_all s (input_lines (readable input)) told.talk told.all_lines (ap says_memory (sym same) ∙ none))
 says_text s input before written left after (Err e) told is none = tt

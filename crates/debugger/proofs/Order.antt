@@ -8,7 +8,7 @@ use Rattle.debugger.specs.Commands.{command_of}
 use Rattle.debugger.specs.Rows.{StaysInOrder}
 use Rattle.debugger.specs.Session.{Talk, first_talk, hear, with_answer}
 use Rattle.debugger.specs.declared.command.Command.{Command}
-use Rattle.debugger.specs.declared.command.Command.TheVariants.{SetBreakpoint, ClearBreakpoint, Forward, Back, Go, Continue, ReverseContinue, Registers, ValueAt, MemoryAt, Frames, Listing, Verdict, Quit, Unknown}
+use Rattle.debugger.specs.declared.command.Command.TheVariants.{SetBreakpoint, ClearBreakpoint, Forward, Back, Go, Continue}
 use Rattle.debugger.proofs.Quit.{either}
 use Rattle.debugger.proofs.Slots.{sets_and_clears}
 

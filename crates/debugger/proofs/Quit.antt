@@ -1,5 +1,6 @@
 -- Lines that end a session.
-use Rattle.std.proofs.Common.{◌≡◌, ℕ, Bool, true, false, ◌||◌, ◌&&◌, List, [], ◌∷◌, ◌++◌, refl, sym, ◌∙◌, codes}
+use Rattle.std.proofs.Common.{◌≡◌, ℕ, Bool, true, false, ◌||◌, ◌&&◌, List, [], ◌∷◌, ◌++◌, refl, sym, ap, ◌∙◌, codes}
+use Rattle.std.proofs.Math.Bool.{or-false}
 use Rattle.std.specs.Prelude.{if◌then◌else◌}
 use Rattle.std.proofs.lemmas.List.Folds.{list_any-append}
 use Rattle.bpf_machine.specs.State.{State}
@@ -9,19 +10,19 @@ use Rattle.debugger.specs.Breakpoints.{with_breakpoint, without_breakpoint}
 use Rattle.debugger.specs.Commands.{command_of, is_quit}
 use Rattle.debugger.specs.Session.{has_quit}
 use Rattle.debugger.specs.declared.command.Command.{Command}
-use Rattle.debugger.specs.declared.command.Command.TheVariants.{SetBreakpoint, ClearBreakpoint, Forward, Back, Go, Continue, ReverseContinue, Registers, ValueAt, MemoryAt, Frames, Listing, Verdict, Quit, Unknown}
+use Rattle.debugger.specs.declared.command.Command.TheVariants.{SetBreakpoint, ClearBreakpoint, Forward, Back, Go, Continue, Quit}
 
 -- what holds on both sides of a test
 pub either : {A : Type 0} (P : A → Type 0) (b : Bool) (x y : A) → P x → P y → P (if b then x else y)
 either P true x y first second = first
 either P false x y first second = second
 
-Ends : Bool → Answer → Type 0
+abbrev Ends : Bool → Answer → Type 0
 Ends ended a = a.next.ended ≡ ended
 
 -- only `q` ends a session
 answer_of-ended : (s : State) (w : World) (c : Command) → w.ended ≡ false → (answer_of s w c).next.ended ≡ is_quit c
-unfolding answer_of Ends
+unfolding answer_of
 answer_of-ended s w (SetBreakpoint n) on = either (Ends false) (is_slot n) (sets_breakpoints w (with_breakpoint n w.breakpoints) (break_text n)) (out_of_range w) on on
 answer_of-ended s w (ClearBreakpoint n) on = either (Ends false) (is_slot n) (sets_breakpoints w (without_breakpoint n w.breakpoints) (clear_text n)) (out_of_range w) on on
 answer_of-ended s w (Forward n) on = either (Ends false) (can_go_on w.place n) _ (out_of_range w) on on
@@ -46,11 +47,6 @@ pub answer_to-ended : (s : State) (w : World) (line : List ℕ) (mark : Bool) �
 unfolding answer_to
 answer_to-ended s w line mark on = ended_by s w (command_of line) mark (is_refused s w (line, mark)) refl on
 
-or_last : (front last : Bool) → front ≡ false → front || (last || false) ≡ last
-or_last true last none = cc
-or_last false true none = refl
-or_last false false none = refl
-
 -- one line more
 pub quit-push : (lines : List (List ℕ)) (line : List ℕ) → has_quit lines ≡ false → has_quit (lines ++ line ∷ []) ≡ is_quit (command_of line)
-quit-push lines line none = list_any-append (λ (l : List ℕ). is_quit (command_of l)) lines (line ∷ []) ∙ or_last (has_quit lines) (is_quit (command_of line)) none
+quit-push lines line none = list_any-append (λ (l : List ℕ). is_quit (command_of l)) lines (line ∷ []) ∙ ap (λ (front : Bool). front || (is_quit (command_of line) || false)) none ∙ or-false (is_quit (command_of line))

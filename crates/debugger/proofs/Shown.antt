@@ -1,11 +1,9 @@
 -- Bytes of memory that are read one by one, and their lines.
-use Rattle.std.proofs.Common.{◌≡◌, ℕ, zero, suc, ◌+◌, ◌-◌, ◌*◌, ◌/◌, ◌%◌, ◌^◌, ◌<◌, ◌≤◌, Bool, true, false, ◌&&◌, List, [], ◌∷◌, ◌++◌, length, map, take, drop, Option, Some, None, Ok, nat_eq, nat_le, if◌then◌else◌, refl, sym, ap, subst, ◌∙◌, append_assoc, append-nil, arith, inl, inr, length-drop}
+use Rattle.std.proofs.Common.{◌≡◌, ℕ, zero, suc, ◌+◌, ◌-◌, ◌*◌, ◌/◌, ◌%◌, ◌^◌, ◌<◌, ◌≤◌, Bool, true, false, ◌&&◌, List, [], ◌∷◌, ◌++◌, length, map, take, drop, Option, Some, None, Ok, nat_eq, nat_le, if◌then◌else◌, refl, sym, ap, subst, ◌∙◌, arith, inl, inr}
 use Rattle.std.specs.Prelude.{◌⊎◌, option_map, codes}
-use Rattle.std.proofs.Math.Nat.{pow-suc}
 use Rattle.std.proofs.Math.Seq.{take-add}
 use Rattle.std.proofs.lemmas.Bool.Decides.{nat_tests}
-use Rattle.std.proofs.lemmas.Bool.{cases_lt}
-use Rattle.std.proofs.lemmas.List.{drop-drop, take_all}
+use Rattle.std.proofs.lemmas.List.{drop-drop}
 use Rattle.guest_memory.specs.Access.{at_region, constants_of, lent_at, place_of, read_at, read_of, region_of}
 use Rattle.guest_memory.specs.Memory.{Memory, Region, Stack, Scratch, Verdict, Constants, base_of, bytes_in}
 use Rattle.guest_memory.specs.Word.{part, word_of}
@@ -29,23 +27,15 @@ place_by base len address n at false is h = cc
 place_some : (base len address n at : ℕ) → place_of base len address n ≡ Some at → (base ≤ address) × (address + n ≤ base + len) × (at ≡ address - base)
 place_some base len address n at h = place_by base len address n at _ refl h
 
-inside : (base len address n : ℕ) → base ≤ address → address + n ≤ base + len → nat_le base address && nat_le (address + n) (base + len) ≡ true
-inside base len address n low high = grind (arith, nat_tests)
-
 place_here : (base len address n : ℕ) → base ≤ address → address + n ≤ base + len → place_of base len address n ≡ Some (address - base)
-place_here base len address n low high = rw (inside base len address n low high) refl
-
-past : (a b : Bool) → b ≡ false → a && b ≡ false
-past true b is = is
-past false b is = refl
-
-behind : (base len address n : ℕ) → base + len < address + n → nat_le base address && nat_le (address + n) (base + len) ≡ false
-behind base len address n high =
-    let test : nat_le (address + n) (base + len) ≡ false = grind (arith, nat_tests) in
-    past (nat_le base address) (nat_le (address + n) (base + len)) test
+place_here base len address n low high =
+    let test : nat_le base address && nat_le (address + n) (base + len) ≡ true = grind (arith, nat_tests) in
+    rw test refl
 
 place_none : (base len address n : ℕ) → base + len < address + n → place_of base len address n ≡ None
-place_none base len address n high = rw (behind base len address n high) refl
+place_none base len address n high =
+    let test : nat_le base address && nat_le (address + n) (base + len) ≡ false = grind (arith, nat_tests) in
+    rw test refl
 
 -- n bytes that stand in a region stand in no other
 pub region_here : (r : Region) (m : Memory) (address n : ℕ) → HasRegions m → 0 < n → StandsIn r m address n → region_of m address n ≡ Some (r, address - base_of r)
@@ -71,24 +61,18 @@ unfoldable pub Says : Memory → ℕ → ℕ → Option (Region × ℕ) → Type
 Says m address n (Some (r, at)) = StandsIn r m address n × (at ≡ address - base_of r)
 Says m address n None = Unit {0}
 
-says_here : (r : Region) (m : Memory) (address n at : ℕ) → place_of (base_of r) (length (bytes_in r m)) address n ≡ Some at → Says m address n (Some (r, at))
-unfolding Says
-says_here r m address n at h = let p = place_some _ _ _ _ _ h in (record { low = p.0; high = p.1 }, p.2)
-
 says_next : (r : Region) (m : Memory) (address n : ℕ) (p : Option ℕ) (next : Option (Region × ℕ)) → place_of (base_of r) (length (bytes_in r m)) address n ≡ p → Says m address n next → Says m address n (at_region r p next)
-says_next r m address n (Some at) next h there = says_here r m address n at h
+unfolding Says
+says_next r m address n (Some at) next h there = let p = place_some _ _ _ _ _ h in (record { low = p.0; high = p.1 }, p.2)
 says_next r m address n None next h there = there
 
-says_none : (m : Memory) (address n : ℕ) → Says m address n None
-unfolding Says
-says_none m address n = tt
-
 pub region_says : (m : Memory) (address n : ℕ) → Says m address n (region_of m address n)
+unfolding Says
 region_says m address n =
     says_next Stack m address n _ _ refl
     (says_next Scratch m address n _ _ refl
     (says_next Verdict m address n _ _ refl
-    (says_next Constants m address n _ _ refl (says_none m address n))))
+    (says_next Constants m address n _ _ refl tt)))
 
 -- ---- single bytes
 
@@ -135,15 +119,7 @@ Begun m address n bytes = ((n ≡ 0) × (bytes ≡ [])) ⊎ Row m address n byte
 
 -- a byte behind others is in their region
 same_region : (r s : Region) (m : Memory) (address n : ℕ) → HasRegions m → 0 < n → StandsIn r m address n → StandsIn s m (address + n) 1 → s ≡ r
-same_region r s m address n is some row byte =
-    let low = row.low in
-    let high = row.high in
-    let first = byte.low in
-    let last = byte.high in
-    let stack = is.stack in
-    let scratch = is.scratch in
-    let verdict = is.verdict in
-    by r s low high first last
+same_region r s m address n is some row byte = by r s row.low row.high byte.low byte.high
   where
     by : (r s : Region) → base_of r ≤ address → address + n ≤ base_of r + length (bytes_in r m) → base_of s ≤ address + n → address + n + 1 ≤ base_of s + length (bytes_in s m) → s ≡ r
     by Stack Stack a b c d = refl
@@ -242,20 +218,12 @@ none_by m address n i (Some (r, at)) is less none missing says =
     absurd (missing (omega (arith, end, less)) byte.0 byte.1)
 none_by m address n i None is less none missing says = refl
 
--- one of the bytes is missing
-pub row_none : (m : Memory) (address n i : ℕ) → HasRegions m → i < n → constants_of m address n ≡ None → (address + i < 2 ^ 64 → (b : ℕ) → read_of m (address + i) B ≡ Ok b → ⊥) → None ≡ bytes_from m address n
+lent_from : (m : Memory) (address n : ℕ) (lent : List ℕ) (p : Option ℕ) → HasRegions m → 0 < n → place_of (base_of Constants) (length m.constants) address n ≡ p → lent_at m n p ≡ Some lent → Some lent ≡ bytes_from m address n
 unfolding bytes_from
-row_none m address n i is less none missing = none_by m address n i (region_of m address n) is less none missing (region_says m address n)
-
-lent_by : (m : Memory) (address n at : ℕ) (lent : List ℕ) → HasRegions m → 0 < n → place_of (base_of Constants) (length m.constants) address n ≡ Some at → Some (part m.constants at n) ≡ Some lent → Some lent ≡ bytes_from m address n
-unfolding bytes_from
-lent_by m address n at lent is some place has =
+lent_from m address n lent (Some at) is some place has =
     let p = place_some _ _ _ _ _ place in
     let stands : StandsIn Constants m address n = record { low = p.0; high = p.1 } in
     sym has ∙ ap (λ (k : ℕ). Some (part m.constants k n)) p.2 ∙ rw (region_here Constants m address n is some stands) refl
-
-lent_from : (m : Memory) (address n : ℕ) (lent : List ℕ) (p : Option ℕ) → HasRegions m → 0 < n → place_of (base_of Constants) (length m.constants) address n ≡ p → lent_at m n p ≡ Some lent → Some lent ≡ bytes_from m address n
-lent_from m address n lent (Some at) is some place has = lent_by m address n at lent is some place has
 lent_from m address n lent None is some place has = cc
 
 -- bytes that are lent
@@ -268,11 +236,8 @@ row_lent m address n lent is some has =
 
 -- ---- answers
 
-pub count_some : (n : ℕ) → is_count n ≡ true → 0 < n
-count_some n is = grind (arith, nat_tests)
-
-pub count_most : (n : ℕ) → is_count n ≡ true → n ≤ 256
-count_most n is = grind (arith, nat_tests)
+pub count_within : (n : ℕ) → is_count n ≡ true → (0 < n) × (n ≤ 256)
+count_within n is = (grind (arith, nat_tests), grind (arith, nat_tests))
 
 pub shows : (m : Memory) (address n : ℕ) (bytes : Option (List ℕ)) (text : List ℕ) → is_count n ≡ true → bytes ≡ bytes_from m address n → text ≡ memory_text address bytes → text ≡ memory_text address (shown_bytes m address n)
 shows m address n bytes text few is text_is = text_is ∙ ap (memory_text address) is ∙ rw few refl
@@ -325,9 +290,6 @@ pub record ReadsLow (m : Memory) (address n : ℕ) (bytes : List ℕ) : Type 0 w
   pub begun : Begun m address n words
   pub are : bytes ≡ low words
 
-pub low_none : (m : Memory) (address n : ℕ) (bytes : List ℕ) → n ≡ 0 → bytes ≡ [] → ReadsLow m address n bytes
-low_none m address n bytes none empty = record { words = []; begun = inl (none, refl); are = empty }
-
 low_push : (words : List ℕ) (w : ℕ) → low words ++ w % 256 ∷ [] ≡ low (words ++ w ∷ [])
 low_push [] w = refl
 low_push (x ∷ xs) w = ap (λ (t : List ℕ). x % 256 ∷ t) (low_push xs w)
@@ -344,8 +306,11 @@ low_all m address n i bytes has some all r =
     let begun : Begun m address n r.words = subst (λ (k : ℕ). Begun m address k r.words) all r.begun in
     ap Some r.are ∙ ap (option_map low) (row_is m address n r.words has some begun)
 
+-- one of the bytes is missing
 pub low_missing : (m : Memory) (address n i : ℕ) → HasRegions m → i < n → constants_of m address n ≡ None → (address + i < 2 ^ 64 → (b : ℕ) → read_of m (address + i) B ≡ Ok b → ⊥) → None ≡ option_map low (bytes_from m address n)
-low_missing m address n i has less none missing = ap (option_map low) (row_none m address n i has less none missing)
+unfolding bytes_from
+low_missing m address n i has less none missing =
+    ap (option_map low) (none_by m address n i (region_of m address n) has less none missing (region_says m address n))
 
 pub shows_low : (m : Memory) (address n : ℕ) (bytes : Option (List ℕ)) (text : List ℕ) → is_count n ≡ true → bytes ≡ option_map low (bytes_from m address n) → text ≡ memory_text address bytes → text ≡ memory_text address (shown_bytes m address n)
 shows_low m address n bytes text few is text_is = text_is ∙ ap (memory_text address) is ∙ low_text address (bytes_from m address n) ∙ rw few refl

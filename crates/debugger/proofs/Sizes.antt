@@ -10,7 +10,7 @@ use Rattle.guest_memory.specs.declared.fault.Fault as fault
 use Rattle.guest_memory.specs.declared.size.Size as memory
 use Rattle.helper_table.specs.Outcome.{CallEnd, Halts, Leaves}
 use Rattle.insn_codec.specs.declared.insn.Insn.{Insn}
-use Rattle.insn_codec.specs.declared.insn.Insn.TheVariants.{Alu, Neg, SignExtend, ByteSwap, Jump, JumpLong, Branch, Call, CallLocal, Exit, Load, LoadSigned, StoreImm, Store, Atomic, LoadWide}
+use Rattle.insn_codec.specs.declared.insn.Insn.TheVariants.{Jump, JumpLong, Call, CallLocal, Exit, Load, LoadSigned, StoreImm, Store, Atomic}
 use Rattle.insn_codec.specs.declared.atomic_op.AtomicOp.{AtomicOp}
 use Rattle.insn_codec.specs.declared.register.Register.{Register}
 use Rattle.insn_codec.specs.declared.signed_size.SignedSize.{SignedSize}
@@ -29,13 +29,10 @@ use Rattle.bpf_machine.specs.Step.{by_status, executed, next_state, stepped}
 use Rattle.bpf_machine.specs.Trace.{state_after}
 use Rattle.bpf_machine.specs.declared.frame.Frame.{Frame}
 use Rattle.bpf_machine.specs.declared.status.Status.{Status}
-use Rattle.bpf_machine.specs.declared.status.Status.TheVariants.{Running, Exited, Fault}
+use Rattle.bpf_machine.specs.declared.status.Status.TheVariants.{Running}
 use Rattle.debugger.specs.Inspection.{HasRegions, IsSized, StaysSized}
+use Rattle.debugger.proofs.Quit.{either}
 use Rattle.debugger.proofs.Shown.{Says, region_says}
-
-either : (b : Bool) (s t : State) → IsSized s → IsSized t → IsSized (if b then s else t)
-either true s t first second = first
-either false s t first second = second
 
 -- ---- memory
 
@@ -120,7 +117,7 @@ module _ (s : State) (is : IsSized s) where
   untaken_sized (Some r) old = is
 
   exchanged_sized : (op : AtomicOp) (width : Width) (src : Register) (place : ℕ) (r : Result ℕ fault.Fault) → IsSized (exchanged op width src place r s)
-  exchanged_sized op width src place (Ok old) = either _ _ _ (taken_sized _ _ _ (λ m e. write_sized s.memory m _ _ _ is.regions e)) (untaken_sized _ _)
+  exchanged_sized op width src place (Ok old) = either IsSized _ _ _ (taken_sized _ _ _ (λ m e. write_sized s.memory m _ _ _ is.regions e)) (untaken_sized _ _)
   exchanged_sized op width src place (Err f) = is
 
   where_sized : (r : Result (Unit {0}) fault.Fault) (after : State) → IsSized after → IsSized (where_stores r after s)
@@ -134,12 +131,12 @@ module _ (s : State) (is : IsSized s) where
   executed_sized (Call helper) = answered_sized _
   executed_sized (CallLocal offset) = called_sized offset _ refl
   executed_sized Exit = returned_sized (newest s.records)
-  executed_sized (Load size dst src offset) = either _ _ _ is (loaded_sized dst _)
-  executed_sized (LoadSigned size dst src offset) = either _ _ _ is (signed_sized size dst _)
+  executed_sized (Load size dst src offset) = either IsSized _ _ _ is (loaded_sized dst _)
+  executed_sized (LoadSigned size dst src offset) = either IsSized _ _ _ is (signed_sized size dst _)
   executed_sized (StoreImm size dst offset imm) = stored_sized _ (λ m e. write_sized s.memory m _ _ _ is.regions e)
   executed_sized (Store size dst offset src) = stored_sized _ (λ m e. write_sized s.memory m _ _ _ is.regions e)
-  executed_sized (Atomic op width dst offset src) = either _ _ _ is (where_sized _ _ (exchanged_sized op width src _ _))
-  executed_sized _ = either _ _ _ is is
+  executed_sized (Atomic op width dst offset src) = either IsSized _ _ _ is (where_sized _ _ (exchanged_sized op width src _ _))
+  executed_sized _ = either IsSized _ _ _ is is
 
   stepped_sized : (o : Option (Option Insn)) → IsSized (stepped o s)
   stepped_sized (Some (Some i)) = executed_sized i

@@ -1,5 +1,5 @@
 -- Texts that are made piece by piece.
-use Rattle.std.proofs.Common.{◌≡◌, ℕ, zero, suc, ◌+◌, ◌-◌, ◌/◌, ◌%◌, ◌^◌, ◌<◌, ◌≤◌, List, [], ◌∷◌, ◌++◌, length, decimal, refl, sym, ap, ◌∙◌, append_assoc, append-nil, arith, lit<, add-one}
+use Rattle.std.proofs.Common.{◌≡◌, ℕ, zero, suc, ◌+◌, ◌-◌, ◌/◌, ◌%◌, ◌^◌, ◌<◌, ◌≤◌, List, [], ◌∷◌, ◌++◌, length, decimal, refl, sym, ap, ◌∙◌, append_assoc, arith, lit<, add-one}
 use Rattle.std.proofs.lemmas.List.{length_push}
 use Rattle.std.proofs.lemmas.Fmt.{decimal_digit, decimal_step, length-decimal-le}
 use Rattle.std.specs.Prelude.{slice_index}
@@ -27,13 +27,6 @@ decimal_short n fits = length-decimal-le 20 n (lit< tt) (omega (arith, fits)) fi
 pub decimal_two : (n : ℕ) → n < 100 → length (decimal n) ≤ 2
 decimal_two n small = length-decimal-le 2 n (lit< tt) (omega (arith, small)) (omega (arith, small))
 
-pub decimal_first : (n : ℕ) → n < 10 → length (decimal n) ≡ 1
-decimal_first n small = ap length (decimal_digit n small)
-
-pub hex_none : (old : List ℕ) (k w : ℕ) → k ≡ 0 → old ≡ old ++ hex_digits k w
-unfolding hex_digits
-hex_none old k w none = rw none (sym (append-nil old))
-
 pub hex_more : (old mid new : List ℕ) (k w d : ℕ) → 0 < k → mid ≡ old ++ hex_digits (k - 1) (w / 16) → d ≡ hex_digit (w % 16) → new ≡ mid ++ d ∷ [] → new ≡ old ++ hex_digits k w
 unfolding hex_digits
 hex_more old mid new zero w d some front digit last = absurd (omega (arith, some))
@@ -45,10 +38,6 @@ pub hex_length : (k w : ℕ) → length (hex_digits k w) ≡ k
 unfolding hex_digits
 hex_length zero w = refl
 hex_length (suc k) w = length_push (hex_digits k (w / 16)) (hex_digit (w % 16)) ∙ ap (λ (j : ℕ). j + 1) (hex_length k (w / 16)) ∙ omega arith
-
-pub registers_none : (s : State) (text : List ℕ) → text ≡ [] → text ≡ register_lines 0 s
-unfolding register_lines
-registers_none s text e = e
 
 pub registers_more : (s : State) (n w : ℕ) (text new : List ℕ) → w ≡ slice_index s.registers n → text ≡ register_lines n s → new ≡ text ++ register_line n w → new ≡ register_lines (n + 1) s
 unfolding register_lines

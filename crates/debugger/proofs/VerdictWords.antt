@@ -1,12 +1,12 @@
 -- The words of the verdict region, and their lines.
-use Rattle.std.proofs.Common.{◌≡◌, ℕ, suc, ◌+◌, ◌-◌, ◌*◌, ◌≤◌, List, [], ◌++◌, Some, Result, Ok, Err, refl, sym, ap, ◌∙◌, append_assoc, append-nil, arith, add-one, codes}
+use Rattle.std.proofs.Common.{◌≡◌, ℕ, ◌+◌, ◌-◌, ◌*◌, ◌≤◌, List, ◌++◌, Some, Result, Ok, Err, sym, ap, ◌∙◌, append_assoc, arith, add-one}
 use Rattle.guest_memory.specs.Access.{read_of, region_of}
 use Rattle.guest_memory.specs.Memory.{Memory, Verdict}
 use Rattle.guest_memory.specs.Word.{part, word_of}
 use Rattle.guest_memory.specs.declared.size.Size.TheVariants.{Dw}
 use Rattle.guest_memory.specs.declared.fault.Fault.{Fault}
 use Rattle.debugger.specs.Inspection.{HasRegions}
-use Rattle.debugger.specs.Verdict.{message_lines, verdict_line, verdict_lines, verdict_word, word_line, word_lines}
+use Rattle.debugger.specs.Verdict.{verdict_word, word_line, word_lines}
 use Rattle.debugger.proofs.Shown.{region_here}
 
 -- a place of the verdict region can be read
@@ -29,10 +29,6 @@ pub word_there : (m : Memory) (at : ℕ) (f : Fault) → HasRegions m → at + 8
 word_there m at f is inside read =
     let both : (let r : Result ℕ Fault = Err f in r ≡ Ok (verdict_word m at)) = read ∙ word_read m at is inside in
     cc
-
-pub words_none : (name text : List ℕ) (m : Memory) (from : ℕ) → text ≡ text ++ word_lines name m from 0
-unfolding word_lines
-words_none name text m from = sym (append-nil text)
 
 pub words_more : (name old text new : List ℕ) (m : Memory) (from i word : ℕ) → word ≡ verdict_word m (from + 8 * i) → text ≡ old ++ word_lines name m from i → new ≡ text ++ word_line name i word → new ≡ old ++ word_lines name m from (i + 1)
 unfolding word_lines

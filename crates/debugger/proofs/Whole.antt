@@ -10,7 +10,6 @@ use Rattle.bpf_machine.specs.State.{State}
 use Rattle.bpf_machine.specs.Text.{move_line, register_line, register_lines, registers_text, status_text, word_text}
 use Rattle.bpf_machine.specs.Trace.{state_after}
 use Rattle.bpf_machine.specs.declared.status.Status.{Status}
-use Rattle.history.specs.Search.{first_stop, last_stop}
 use Rattle.debugger.specs.Answers.{Answer, World, answer_of, answer_to, break_text, can_go_back, can_go_on, can_go_to, clear_text, is_refused, is_slot, moves_to, out_of_range, says, sets_breakpoints}
 use Rattle.debugger.specs.Breakpoints.{with_breakpoint, without_breakpoint}
 use Rattle.debugger.specs.Commands.{command_of}
@@ -35,65 +34,45 @@ record Fed (text : List ℕ) : Type 0 where
 feed : Fed (10 ∷ [])
 feed = record { line = []; is_fed = refl }
 
-behind : (front text : List ℕ) → Fed text → Fed (front ++ text)
-behind front text f = record { line = front ++ f.line; is_fed = ap (λ (t : List ℕ). front ++ t) f.is_fed ∙ sym (append_assoc front f.line (10 ∷ [])) }
+behind : (front : List ℕ) {text : List ℕ} → Fed text → Fed (front ++ text)
+behind front f = record { line = front ++ f.line; is_fed = ap (λ (t : List ℕ). front ++ t) f.is_fed ∙ sym (append_assoc front f.line (10 ∷ [])) }
 
-fed_whole : (text : List ℕ) → Fed text → Whole text
-fed_whole text f = ap (λ (t : List ℕ). (cut t).1) f.is_fed ∙ whole-feed f.line
-
-none_whole : Whole []
-unfolding cut
-none_whole = refl
-
-range_whole : Whole (codes "? range\n")
-unfolding cut
-range_whole = refl
-
-what_whole : Whole (codes "? what\n")
-unfolding cut
-what_whole = refl
-
-memory_whole : Whole (codes "? memory\n")
-unfolding cut
-memory_whole = refl
+fed_whole : {text : List ℕ} → Fed text → Whole text
+fed_whole f = ap (λ (t : List ℕ). (cut t).1) f.is_fed ∙ whole-feed f.line
 
 break_whole : (slot : ℕ) → Whole (break_text slot)
 unfolding break_text
-break_whole slot = fed_whole (codes "break " ++ (decimal slot ++ 10 ∷ [])) (behind (codes "break ") _ (behind (decimal slot) _ feed))
+break_whole slot = fed_whole (behind (codes "break ") (behind (decimal slot) feed))
 
 clear_whole : (slot : ℕ) → Whole (clear_text slot)
 unfolding clear_text
-clear_whole slot = fed_whole (codes "clear " ++ (decimal slot ++ 10 ∷ [])) (behind (codes "clear ") _ (behind (decimal slot) _ feed))
+clear_whole slot = fed_whole (behind (codes "clear ") (behind (decimal slot) feed))
 
 move_whole : (k : ℕ) (pc : ℤ) (status : Status) → Whole (move_line k pc status)
 unfolding move_line
-move_whole k pc status = fed_whole (codes "step " ++ (decimal k ++ (codes " pc " ++ (signed_decimal pc ++ (codes " " ++ (status_text status ++ 10 ∷ [])))))) (behind (codes "step ") _ (behind (decimal k) _ (behind (codes " pc ") _ (behind (signed_decimal pc) _ (behind (codes " ") _ (behind (status_text status) _ feed))))))
+move_whole k pc status = fed_whole (behind (codes "step ") (behind (decimal k) (behind (codes " pc ") (behind (signed_decimal pc) (behind (codes " ") (behind (status_text status) feed))))))
 
 register_whole : (number w : ℕ) → Whole (register_line number w)
 unfolding register_line
-register_whole number w = fed_whole (codes "r" ++ (decimal number ++ (codes " " ++ (word_text w ++ 10 ∷ [])))) (behind (codes "r") _ (behind (decimal number) _ (behind (codes " ") _ (behind (word_text w) _ feed))))
+register_whole number w = fed_whole (behind (codes "r") (behind (decimal number) (behind (codes " ") (behind (word_text w) feed))))
 
 lines_whole : (n : ℕ) (s : State) → Whole (register_lines n s)
-unfolding register_lines
-lines_whole zero s = none_whole
+unfolding register_lines cut
+lines_whole zero s = refl
 lines_whole (suc n) s = whole-append (register_lines n s) (register_line n (slice_index s.registers n)) (lines_whole n s) (register_whole n (slice_index s.registers n))
-
-registers_whole : (s : State) → Whole (registers_text s)
-unfolding registers_text
-registers_whole s = lines_whole 11 s
 
 line_whole : (code : List ℕ) (slot : ℕ) → Whole (listing_line code slot)
 unfolding listing_line
-line_whole code slot = fed_whole (decimal slot ++ (codes " " ++ (statement_text (statement_at code slot) ++ 10 ∷ []))) (behind (decimal slot) _ (behind (codes " ") _ (behind (statement_text (statement_at code slot)) _ feed)))
+line_whole code slot = fed_whole (behind (decimal slot) (behind (codes " ") (behind (statement_text (statement_at code slot)) feed)))
 
 listing_whole : (count : ℕ) (code : List ℕ) (slot : ℕ) → Whole (listing_lines count code slot)
-unfolding listing_lines
-listing_whole zero code slot = none_whole
-listing_whole (suc count) code slot = either Whole (nat_lt slot (slot_count code)) (listing_line code slot ++ listing_lines count code (slot + statement_slots (statement_at code slot))) [] (whole-append (listing_line code slot) _ (line_whole code slot) (listing_whole count code (slot + statement_slots (statement_at code slot)))) none_whole
+unfolding listing_lines cut
+listing_whole zero code slot = refl
+listing_whole (suc count) code slot = either Whole (nat_lt slot (slot_count code)) (listing_line code slot ++ listing_lines count code (slot + statement_slots (statement_at code slot))) [] (whole-append (listing_line code slot) _ (line_whole code slot) (listing_whole count code (slot + statement_slots (statement_at code slot)))) refl
 
 outside_whole : (pc : ℤ) → Whole (outside_line pc)
 unfolding outside_line
-outside_whole pc = fed_whole (signed_decimal pc ++ codes " outside\n") (behind (signed_decimal pc) _ (record { line = codes " outside"; is_fed = refl }))
+outside_whole pc = fed_whole (behind (signed_decimal pc) (record { line = codes " outside"; is_fed = refl }))
 
 at_whole : (code : List ℕ) (pc : ℤ) → Whole (listing_at code pc)
 at_whole code (pos slot) = either Whole (is_inside code (pos slot)) (listing_lines 8 code slot) (outside_line (pos slot)) (listing_whole 8 code slot) (outside_whole (pos slot))
@@ -101,87 +80,79 @@ at_whole code (negsuc n) = outside_whole (negsuc n)
 
 value_whole : (h : ℕ) (text : List ℕ) → Whole (value_line h text)
 unfolding value_line
-value_whole h text = fed_whole (codes "value " ++ (decimal h ++ (codes " " ++ (text ++ 10 ∷ [])))) (behind (codes "value ") _ (behind (decimal h) _ (behind (codes " ") _ (behind text _ feed))))
+value_whole h text = fed_whole (behind (codes "value ") (behind (decimal h) (behind (codes " ") (behind text feed))))
 
 stored_whole : (h : ℕ) (v : Option ValueOrError) → Whole (value_text h v)
+unfolding cut
 stored_whole h (Some v) = value_whole h (shown_text v)
-stored_whole h None = range_whole
+stored_whole h None = refl
 
 memory_line-whole : (address : ℕ) (bytes : List ℕ) → Whole (memory_line address bytes)
 unfolding memory_line
-memory_line-whole address bytes = fed_whole (word_text address ++ (digits_of_bytes bytes ++ 10 ∷ [])) (behind (word_text address) _ (behind (digits_of_bytes bytes) _ feed))
+memory_line-whole address bytes = fed_whole (behind (word_text address) (behind (digits_of_bytes bytes) feed))
 
 memory_lines-whole : (count address : ℕ) (bytes : List ℕ) → Whole (memory_lines count address bytes)
-unfolding memory_lines
+unfolding memory_lines cut
 memory_lines-whole (suc count) address (b ∷ bs) = whole-append (memory_line address (take 16 (b ∷ bs))) _ (memory_line-whole address (take 16 (b ∷ bs))) (memory_lines-whole count (address + 16) (drop 16 (b ∷ bs)))
-memory_lines-whole _ address _ = none_whole
+memory_lines-whole _ address _ = refl
 
 bytes_whole : (address : ℕ) (bytes : Option (List ℕ)) → Whole (memory_text address bytes)
+unfolding cut
 bytes_whole address (Some bytes) = memory_lines-whole 16 address bytes
-bytes_whole address None = range_whole
+bytes_whole address None = refl
 
 frame_whole : (f : Frame) → Whole (frame_line f)
 unfolding frame_line
-frame_whole f = fed_whole (codes "return " ++ (signed_decimal f.return_pc ++ (saved_text f ++ 10 ∷ []))) (behind (codes "return ") _ (behind (signed_decimal f.return_pc) _ (behind (saved_text f) _ feed)))
+frame_whole f = fed_whole (behind (codes "return ") (behind (signed_decimal f.return_pc) (behind (saved_text f) feed)))
 
 frame_lines-whole : (records : List Frame) → Whole (frame_lines records)
-unfolding frame_lines
-frame_lines-whole [] = none_whole
+unfolding frame_lines cut
+frame_lines-whole [] = refl
 frame_lines-whole (f ∷ newer) = whole-append (frame_lines newer) (frame_line f) (frame_lines-whole newer) (frame_whole f)
-
-depth_whole : (n : ℕ) → Whole (codes "depth " ++ (decimal n ++ 10 ∷ []))
-depth_whole n = fed_whole (codes "depth " ++ (decimal n ++ 10 ∷ [])) (behind (codes "depth ") _ (behind (decimal n) _ feed))
 
 frames_whole : (records : List Frame) → Whole (frames_text records)
 unfolding frames_text
 frames_whole records = subst Whole (append_assoc (codes "depth ") (decimal (length records) ++ 10 ∷ []) (frame_lines records) ∙ ap (λ (t : List ℕ). codes "depth " ++ t) (append_assoc (decimal (length records)) (10 ∷ []) (frame_lines records)))
-    (whole-append (codes "depth " ++ (decimal (length records) ++ 10 ∷ [])) (frame_lines records) (depth_whole (length records)) (frame_lines-whole records))
+    (whole-append (codes "depth " ++ (decimal (length records) ++ 10 ∷ [])) (frame_lines records) (fed_whole (behind (codes "depth ") (behind (decimal (length records)) feed))) (frame_lines-whole records))
 
 word_whole : (name : List ℕ) (i word : ℕ) → Whole (word_line name i word)
-unfolding word_line
+unfolding word_line cut
 word_whole name i word =
-    either Whole (nat_eq word 0) [] (name ++ (codes " " ++ (decimal i ++ (codes " " ++ (decimal word ++ 10 ∷ []))))) none_whole
-    (fed_whole (name ++ (codes " " ++ (decimal i ++ (codes " " ++ (decimal word ++ 10 ∷ []))))) (behind name _ (behind (codes " ") _ (behind (decimal i) _ (behind (codes " ") _ (behind (decimal word) _ feed))))))
+    either Whole (nat_eq word 0) [] (name ++ (codes " " ++ (decimal i ++ (codes " " ++ (decimal word ++ 10 ∷ []))))) refl
+    (fed_whole (behind name (behind (codes " ") (behind (decimal i) (behind (codes " ") (behind (decimal word) feed))))))
 
 words_whole : (name : List ℕ) (m : Memory) (from count : ℕ) → Whole (word_lines name m from count)
-unfolding word_lines
-words_whole name m from zero = none_whole
+unfolding word_lines cut
+words_whole name m from zero = refl
 words_whole name m from (suc i) = whole-append (word_lines name m from i) (word_line name i (verdict_word m (from + 8 * i))) (words_whole name m from i) (word_whole name i (verdict_word m (from + 8 * i)))
 
-outcome_whole : (m : Memory) → Whole (verdict_line m)
-unfolding verdict_line
-outcome_whole m = fed_whole (codes "verdict " ++ (decimal (verdict_word m 0) ++ (codes " " ++ (decimal (verdict_word m 8) ++ 10 ∷ [])))) (behind (codes "verdict ") _ (behind (decimal (verdict_word m 0)) _ (behind (codes " ") _ (behind (decimal (verdict_word m 8)) _ feed))))
-
 verdict_whole : (version : ℕ) (m : Memory) → Whole (verdict_lines version m)
-unfolding verdict_lines
+unfolding verdict_lines verdict_line cut
 verdict_whole version m =
-    whole-append (verdict_line m) _ (outcome_whole m) (whole-append (word_lines (codes "validation") m 16 64) (message_lines version m) (words_whole (codes "validation") m 16 64)
-    (either Whole (nat_eq version 2) (word_lines (codes "message") m 528 64) [] (words_whole (codes "message") m 528 64) none_whole))
+    whole-append (verdict_line m) _ (fed_whole (behind (codes "verdict ") (behind (decimal (verdict_word m 0)) (behind (codes " ") (behind (decimal (verdict_word m 8)) feed))))) (whole-append (word_lines (codes "validation") m 16 64) (message_lines version m) (words_whole (codes "validation") m 16 64)
+    (either Whole (nat_eq version 2) (word_lines (codes "message") m 528 64) [] (words_whole (codes "message") m 528 64) refl))
 
 abbrev Lined : Answer → Type 0
 Lined a = Whole a.text
 
-moves_whole : (s : State) (w : World) (k : ℕ) → Lined (moves_to s w k)
-moves_whole s w k = move_whole k (state_after k s).pc (state_after k s).status
-
 answer_of-whole : (s : State) (w : World) (c : Command) → Lined (answer_of s w c)
-unfolding answer_of
-answer_of-whole s w (SetBreakpoint n) = either Lined (is_slot n) (sets_breakpoints w (with_breakpoint n w.breakpoints) (break_text n)) (out_of_range w) (break_whole n) range_whole
-answer_of-whole s w (ClearBreakpoint n) = either Lined (is_slot n) (sets_breakpoints w (without_breakpoint n w.breakpoints) (clear_text n)) (out_of_range w) (clear_whole n) range_whole
-answer_of-whole s w (Forward n) = either Lined (can_go_on w.place n) _ (out_of_range w) (moves_whole s w _) range_whole
-answer_of-whole s w (Back n) = either Lined (can_go_back w.place n) _ (out_of_range w) (moves_whole s w _) range_whole
-answer_of-whole s w (Go k) = either Lined (can_go_to k) (moves_to s w k) (out_of_range w) (moves_whole s w k) range_whole
-answer_of-whole s w (Continue n) = either Lined (can_go_on w.place n) _ (out_of_range w) (moves_whole s w (first_stop w.breakpoints s w.place n)) range_whole
-answer_of-whole s w ReverseContinue = moves_whole s w (last_stop w.breakpoints s w.place)
-answer_of-whole s w Registers = registers_whole (state_after w.place s)
+unfolding answer_of registers_text cut
+answer_of-whole s w (SetBreakpoint n) = either Lined (is_slot n) (sets_breakpoints w (with_breakpoint n w.breakpoints) (break_text n)) (out_of_range w) (break_whole n) refl
+answer_of-whole s w (ClearBreakpoint n) = either Lined (is_slot n) (sets_breakpoints w (without_breakpoint n w.breakpoints) (clear_text n)) (out_of_range w) (clear_whole n) refl
+answer_of-whole s w (Forward n) = either Lined (can_go_on w.place n) _ (out_of_range w) (move_whole _ _ _) refl
+answer_of-whole s w (Back n) = either Lined (can_go_back w.place n) _ (out_of_range w) (move_whole _ _ _) refl
+answer_of-whole s w (Go k) = either Lined (can_go_to k) (moves_to s w k) (out_of_range w) (move_whole _ _ _) refl
+answer_of-whole s w (Continue n) = either Lined (can_go_on w.place n) _ (out_of_range w) (move_whole _ _ _) refl
+answer_of-whole s w ReverseContinue = move_whole _ _ _
+answer_of-whole s w Registers = lines_whole 11 (state_after w.place s)
 answer_of-whole s w (ValueAt h) = stored_whole h (value_at (state_after w.place s) h)
 answer_of-whole s w (MemoryAt address n) = bytes_whole address (shown_bytes (state_after w.place s).memory address n)
 answer_of-whole s w Frames = frames_whole (state_after w.place s).records
 answer_of-whole s w Listing = at_whole (state_after w.place s).image.code (state_after w.place s).pc
 answer_of-whole s w Verdict = verdict_whole (version_number (state_after w.place s).image.version) (state_after w.place s).memory
-answer_of-whole s w Quit = none_whole
-answer_of-whole s w Unknown = what_whole
+answer_of-whole s w Quit = refl
+answer_of-whole s w Unknown = refl
 
 pub answers_in_lines : AnswersInLines
-unfolding answer_to
-answers_in_lines s w l = either Lined (is_refused s w l) (says w (codes "? memory\n")) (answer_of s w (command_of l.0)) memory_whole (answer_of-whole s w (command_of l.0))
+unfolding answer_to cut
+answers_in_lines s w l = either Lined (is_refused s w l) (says w (codes "? memory\n")) (answer_of s w (command_of l.0)) refl (answer_of-whole s w (command_of l.0))

@@ -2,7 +2,9 @@
 use Rattle.std.proofs.Common.{◌≡◌, ◌≢◌, ℕ, zero, suc, ◌+◌, ◌-◌, ◌*◌, ◌/◌, ◌%◌, ◌^◌, ◌<◌, ◌≤◌, Bool, true, false, ◌&&◌, List, [], ◌∷◌, ◌++◌, length, length-append, length-drop, take, drop, Option, Some, None, decimal, nat_eq, nat_le, nat_lt, codes, refl, sym, ap, ◌∙◌, inl, inr, subst, arith, append_assoc, append-nil, add-one, lit<}
 use Rattle.std.specs.Prelude.{◌⊎◌, slice_index, if◌then◌else◌}
 use Rattle.std.specs.Str.{bytes_eq}
+use Rattle.std.proofs.Math.Bool.{and-false}
 use Rattle.std.proofs.Math.Nat.{pow-le-pow_right, pow-suc}
+use Rattle.std.proofs.lemmas.Bool.{and_parts}
 use Rattle.std.proofs.lemmas.Bool.Decides.{nat_tests}
 use Rattle.std.proofs.lemmas.Fmt.{decimal_digit, decimal_step_wide, decimal_by_steps_wide}
 use Rattle.std.proofs.lemmas.List.{take-append-drop}
@@ -33,11 +35,10 @@ below_all : (k n : ℕ) → k ≤ 64 → n < 10 ^ k → n < 10 ^ 64
 below_all k n low small = let more : 10 ^ k ≤ 10 ^ 64 = pow-le-pow_right {n = 10} (lit< tt) low in omega (arith, more)
 
 -- what digits behind those of m write
-Writes : List ℕ → ℕ → Type 0
+abbrev Writes : List ℕ → ℕ → Type 0
 Writes ds n = (ds ≡ decimal n) × (n < 10 ^ 64)
 
 written_by : (c : ℕ) (ds : List ℕ) (k m n : ℕ) (digit : Bool) → is_digit c ≡ digit → 0 < m → m < 10 ^ k → k + length (c ∷ ds) ≤ 64 → ((more : 0 < m * 10 + (c - 48)) → m * 10 + (c - 48) < 10 ^ (k + 1) → read_digits (m * 10 + (c - 48)) ds ≡ Some n → Writes (decimal (m * 10 + (c - 48)) ++ ds) n) → (if digit then read_digits (m * 10 + (c - 48)) ds else None) ≡ Some n → Writes (decimal m ++ c ∷ ds) n
-unfolding Writes
 written_by c ds k m n true is some small long rest read =
     let more = below_more k m c small is in
     let one = decimal-more m c some (below_all (k + 1) (m * 10 + (c - 48)) (omega (arith, long)) more) is in
@@ -46,7 +47,6 @@ written_by c ds k m n true is some small long rest read =
 written_by c ds k m n false is some small long rest read = cc
 
 digits_written : (ds : List ℕ) (k m n : ℕ) → 0 < m → m < 10 ^ k → k + length ds ≤ 64 → read_digits m ds ≡ Some n → Writes (decimal m ++ ds) n
-unfolding Writes
 digits_written [] k m n some small long read =
     let same : m ≡ n = cc in
     (append-nil (decimal m) ∙ ap decimal same, subst (λ (j : ℕ). j < 10 ^ 64) same (below_all k m (omega (arith, long)) small))
@@ -54,7 +54,6 @@ digits_written (c ∷ ds) k m n some small long read = written_by c ds k m n (is
 
 -- the first digit
 first_written : (c : ℕ) (ds : List ℕ) (n : ℕ) (digit zero_first : Bool) → is_digit c ≡ digit → nat_eq c 48 ≡ zero_first → nat_lt 1 (length (c ∷ ds)) && zero_first ≡ false → length (c ∷ ds) ≤ 64 → (if digit then read_digits (0 * 10 + (c - 48)) ds else None) ≡ Some n → Writes (c ∷ ds) n
-unfolding Writes
 first_written c ds n false zero_first is first alone short read = cc
 first_written c [] n true zero_first is first alone short read =
     let low : 48 ≤ c = grind (arith, nat_tests) in
@@ -126,33 +125,18 @@ reads_more n ds large r =
       alone = λ none. absurd (omega (arith, none, large));
     }
 
-decimals_read : (n : ℕ) → n < 10 ^ 64 → Reads n (decimal n)
-decimals_read = decimal_by_steps_wide Reads reads_one reads_more
-
-and_false : (b : Bool) → b && false ≡ false
-and_false true = refl
-and_false false = refl
-
 first_or_alone : (n : ℕ) (ds : List ℕ) → Reads n ds → leads_with_zero ds ≡ false
 first_or_alone zero ds r = let one = r.alone refl in rw one refl
-first_or_alone (suc n) ds r = let other = r.first (omega arith) in rw other (and_false (nat_lt 1 (length ds)))
+first_or_alone (suc n) ds r = let other = r.first (omega arith) in rw other (and-false (nat_lt 1 (length ds)))
 
 -- decimals are read as their number
 number_read : (n : ℕ) → n < 10 ^ 64 → number_of (decimal n) ≡ Some n
 unfolding number_of
 number_read n small =
-    let r = decimals_read n small in
+    let r = decimal_by_steps_wide Reads reads_one reads_more n small in
     let some : nat_eq (length (decimal n)) 0 ≡ false = let more = r.some in grind (arith, nat_tests) in
     let lead = first_or_alone n (decimal n) r in
     rw (some, lead) r.value
-
-and_left : (a b : Bool) → a && b ≡ true → a ≡ true
-and_left true b both = refl
-and_left false b both = both
-
-and_right : (a b : Bool) → a && b ≡ true → b ≡ true
-and_right true b both = both
-and_right false b both = cc
 
 -- the text of a word that begins a line
 begins : (word line : List ℕ) → begins_with word line ≡ true → line ≡ word ++ drop (length word) line
@@ -163,7 +147,7 @@ is_unknown Unknown = inl refl
 is_unknown _ = inr (λ e. cc)
 
 -- a line asks for this command, or for none
-Found : List ℕ → Command → Type 0
+abbrev Found : List ℕ → Command → Type 0
 Found line c = (c ≡ Unknown) ⊎ IsLine c line
 
 by_test : (line : List ℕ) (b : Bool) (x y : Command) → (b ≡ true → Found line x) → Found line y → Found line (if b then x else y)
@@ -171,27 +155,20 @@ by_test line true x y first second = first refl
 by_test line false x y first second = second
 
 found_number : (line word : List ℕ) (command : ℕ → Command) → length line ≤ 64 → ((n : ℕ) → IsNumbered word n line → IsLine (command n) line) → (o : Option ℕ) → number_of (drop (length word) line) ≡ o → begins_with word line ≡ true → Found line (numbered command o)
-unfolding Found Writes
 found_number line word command short form None read same_word = inl refl
 found_number line word command short form (Some n) read same_word =
     let w = number_written (drop (length word) line) n (omega (arith, short, length-drop (length word) line)) read in
     inr (form n (record { fits = w.1; is = begins word line same_word ∙ ap (λ (ds : List ℕ). word ++ ds) w.0 }))
 
 found_word : (line word : List ℕ) (c : Command) → (line ≡ word → IsLine c line) → bytes_eq line word ≡ true → Found line c
-unfolding Found
 found_word line word c form same_word = inr (form ((bytes_eq-Decides line word).0 same_word))
 
-none_found : (line : List ℕ) → Found line Unknown
-unfolding Found
-none_found line = inl refl
-
 -- the line that began with these digits of an address
-Begun : List ℕ → ℕ → ℕ → List ℕ → Type 0
+abbrev Begun : List ℕ → ℕ → ℕ → List ℕ → Type 0
 Begun line d a rest = line ≡ codes "m 0x" ++ (hex_digits d a ++ rest)
 
 -- a number behind an address
 found_count : (line : List ℕ) (d a c : ℕ) (cs : List ℕ) → length line ≤ 64 → d ≤ 16 → a < 16 ^ d → Begun line d a (c ∷ cs) → nat_eq c 32 && nat_lt 0 d ≡ true → (o : Option ℕ) → number_of cs ≡ o → Found line (numbered (MemoryAt a) o)
-unfolding Found Begun Writes
 found_count line d a c cs short few fits begun ends None read = inl refl
 found_count line d a c cs short few fits begun ends (Some n) read =
     let space : c ≡ 32 = grind (arith, nat_tests) in
@@ -210,29 +187,24 @@ found_count line d a c cs short few fits begun ends (Some n) read =
     })
 
 found_address : (line : List ℕ) (d a : ℕ) (rest : List ℕ) → length line ≤ 64 → d ≤ 16 → a < 16 ^ d → Begun line d a rest → Found line (read_address d a rest)
-unfolding Begun
-found_address line d a [] short few fits begun = none_found line
+found_address line d a [] short few fits begun = inl refl
 found_address line d a (c ∷ cs) short few fits begun =
     by_test line _ _ _ (λ ends. found_count line d a c cs short few fits begun ends _ refl)
     (by_test line _ _ _ (λ goes.
-    let digit : is_hex_digit c ≡ true = and_left (is_hex_digit c) (nat_lt d 16) goes in
-    let more : d < 16 = let test = and_right (is_hex_digit c) (nat_lt d 16) goes in grind (arith, nat_tests) in
-    let i = digit_is c digit in
+    let tests = and_parts (is_hex_digit c) (nat_lt d 16) goes in
+    let more : d < 16 = grind (arith, nat_tests, tests.1) in
+    let i = digit_is c tests.0 in
     let small : a * 16 + hex_value c < 16 ^ suc d = subst (λ (k : ℕ). a * 16 + hex_value c < 16 ^ k) (add-one d) (below_digit d a (hex_value c) fits i.below) in
     found_address line (suc d) (a * 16 + hex_value c) cs short (omega (arith, more)) small
     (begun ∙ ap (λ (t : List ℕ). codes "m 0x" ++ t) (sym (append_assoc (hex_digits d a) (c ∷ []) cs) ∙ ap (λ (t : List ℕ). t ++ cs) (sym (hex_digits-more d a c (hex_value c) i)))))
-    (none_found line))
-
-address_begun : (line : List ℕ) → begins_with (codes "m 0x") line ≡ true → Begun line 0 0 (drop 4 line)
-unfolding Begun hex_digits
-address_begun line same = begins (codes "m 0x") line same
+    (inl refl))
 
 shown_found : (line : List ℕ) → length line ≤ 64 → Found line (shown_form_of line)
-unfolding shown_form_of
+unfolding shown_form_of hex_digits
 shown_found line short =
     by_test line _ _ _ (found_number line (codes "v ") ValueAt short (λ n is. is) _ refl)
-    (by_test line _ _ _ (λ same. found_address line 0 0 (drop 4 line) short (omega arith) (omega arith) (address_begun line same))
-    (none_found line))
+    (by_test line _ _ _ (λ same. found_address line 0 0 (drop 4 line) short (omega arith) (omega arith) (begins (codes "m 0x") line same))
+    (inl refl))
 
 move_found : (line : List ℕ) → length line ≤ 64 → Found line (move_form_of line)
 unfolding move_form_of
@@ -262,7 +234,6 @@ form_found line short =
     (numbered_found line short))))))
 
 short_by : (line : List ℕ) (b : Bool) → nat_le (length line) 64 ≡ b → (if b then form_of line else Unknown) ≢ Unknown → Asks line (if b then form_of line else Unknown)
-unfolding Found
 short_by line true is known =
     let short : length line ≤ 64 = grind (arith, nat_tests) in
     elim (form_found line short) [ inl none ↦ absurd (known none) | inr found ↦ record { is_line = found; short = short } ]

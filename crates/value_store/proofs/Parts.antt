@@ -52,8 +52,7 @@ item_within zero (json.item d ds) e is whole =
     record { whole = ap has_other (sym same) ∙ first_no _ _ whole; shallow = omega arith }
 item_within (suc i) (json.item d ds) e is whole =
     let rest = item_within i ds e is (second_no (has_other d) _ whole) in
-    let deep = rest.shallow in
-    record { whole = rest.whole; shallow = omega arith }
+    record { whole = rest.whole; shallow = omega (arith, rest.shallow) }
 
 record AmongMembers (e : json.Data) (ms : json.Members) : Type 0 where
   whole : has_other e ≡ false
@@ -67,8 +66,7 @@ member_within zero (json.member k d ms) e is whole =
     record { whole = ap has_other (sym same) ∙ first_no _ _ whole; shallow = omega arith }
 member_within (suc i) (json.member k d ms) e is whole =
     let rest = member_within i ms e is (second_no (has_other d) _ whole) in
-    let deep = rest.shallow in
-    record { whole = rest.whole; shallow = omega arith }
+    record { whole = rest.whole; shallow = omega (arith, rest.shallow) }
 
 pub part_within : (i : ℕ) (d e : json.Data) → part_of i d ≡ Some e → has_other d ≡ false → Within e d
 part_within i (json.array ds) e is whole = let known = item_within i ds e is whole in let deep = known.shallow in record { whole = known.whole; shallow = omega arith }

@@ -28,11 +28,10 @@ bytes_more old bytes rest e = record { bytes = (rest, e); keys = ([], sym (appen
 pub items_pushed : (old : Backings) (lists : List (List ℕ)) (b : ℕ) (ws : List ℕ) → lists ≡ slice_set old.lists b (get_or old.lists b [] ++ ws)
     → Extends old (record old { lists = lists })
 items_pushed old lists b ws e =
-    let l = length-set old.lists b (get_or old.lists b [] ++ ws) in
     record {
       bytes = ([], sym (append-nil old.bytes));
       keys = ([], sym (append-nil old.keys));
-      lists = rw e (omega arith);
+      lists = rw e (omega (arith, length-set old.lists b (get_or old.lists b [] ++ ws)));
       items = λ c h. rw e (more_set old.lists b c ws h);
     }
 
@@ -48,9 +47,7 @@ length_one xs n place x low long =
     omega (arith, length-take n xs, length-take place ys, length-drop place ys, length-append (take place ys) (x ∷ drop place ys), low, long)
 
 whole_behind : (bs ws : List ℕ) (a b : ℕ) → a ≡ length bs → b ≡ length (bs ++ ws) → slice_range (bs ++ ws) a b ≡ ws
-whole_behind bs ws a b p q =
-    let l = length-append bs ws in
-    rw (p, drop-append_seam bs ws) (take_all (b - length bs) ws (omega arith))
+whole_behind bs ws a b p q = rw (p, drop-append_seam bs ws) (take_all (b - length bs) ws (omega (arith, length-append bs ws)))
 
 -- two texts behind all others, as one
 pub texts_joined : (bs ms ns : List ℕ) (p q : Part) (from to json : ℕ) → IsText bs p → IsText bs q → ms ≡ bs ++ part_of bs p → ns ≡ ms ++ part_of ms q

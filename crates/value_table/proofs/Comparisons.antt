@@ -12,8 +12,8 @@ use Rattle.value_store.proofs.Equal.{equal_decides}
 use Rattle.value_store.specs.Lookup.{has_item, member, place_of_key}
 use Rattle.value_store.specs.Calls.{entries_part}
 use Rattle.value_store.proofs.Places.{has_key_place}
-use Rattle.value_table.specs.Meaning.{value_in, items_at, refs_at, grown}
-use Rattle.value_table.specs.Heaps.{AreBelow, IsRange, AreCells, AreSame}
+use Rattle.value_table.specs.Meaning.{value_in, items_at, grown}
+use Rattle.value_table.specs.Heaps.{AreCells, AreSame}
 use Rattle.value_table.specs.Equality.{AreContents, AreMeanings}
 use Rattle.value_table.specs.declared.cell.Cell.{Cell}
 use Rattle.value_table.specs.declared.backings.Backings.{Backings}

@@ -1,5 +1,5 @@
 -- Lists and maps of parts that stand.
-use Rattle.std.proofs.Common.{◌≡◌, ℕ, zero, suc, ◌+◌, ◌<◌, List, [], ◌∷◌, ◌++◌, length, get_or, refl, sym, ap, ap₂, ◌∙◌, arith, subst, max, Some}
+use Rattle.std.proofs.Common.{◌≡◌, ℕ, ◌+◌, List, [], ◌∷◌, ◌++◌, length, refl, sym, ap, ap₂, ◌∙◌, arith, subst, max, Some}
 use Rattle.value_store.specs.Value as kind
 use Rattle.value_store.specs.Value.{Value}
 use Rattle.value_store.specs.Size.{depth_of}
@@ -7,7 +7,7 @@ use Rattle.value_store.specs.Plain.{saturated}
 use Rattle.json.specs.Print.{quoted}
 use Rattle.value_store.specs.Keys.{IsOrdered}
 use Rattle.value_table.specs.Meaning.{part_of, value_in, items_at, entries_at, refs_at, keys_at}
-use Rattle.value_table.specs.Heaps.{IsText, AreTexts, AreBelow, Found, Holds}
+use Rattle.value_table.specs.Heaps.{AreTexts, AreBelow, Found, Holds}
 use Rattle.value_table.specs.Lengths.{json_length, commas}
 use Rattle.value_table.specs.Measures.{IsMeasure}
 use Rattle.value_table.specs.Entries.{with_one, HoldsKeys}

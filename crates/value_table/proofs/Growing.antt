@@ -4,7 +4,6 @@ use Rattle.std.specs.Prelude.{IfOk}
 use Rattle.std.proofs.lemmas.List.{map-append}
 use Rattle.std.specs.declared.alloc.AllocError.{AllocError}
 use Rattle.serde_json.specs.Data as json
-use Rattle.value_store.specs.Value as kind
 use Rattle.value_store.specs.Value.{Value, Items, no_items, item, items_push, items_join, Entries, no_entries, entry, keys_of, values_of}
 use Rattle.value_store.specs.Keys.{AreItemsOrdered, AreEntriesOrdered}
 use Rattle.value_store.specs.Roots.{has_other, items_have_other, members_have_other}

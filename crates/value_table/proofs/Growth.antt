@@ -24,8 +24,7 @@ range_kept {A} xs rest a b le lt =
 pub text_kept : (bytes rest : List ℕ) (p : Part) → IsText bytes p → (part_of (bytes ++ rest) p ≡ part_of bytes p) × IsText (bytes ++ rest) p
 text_kept bytes rest p h =
     let e = range_kept bytes rest p.from p.to h.0 h.1 in
-    let order = h.0 in
-    (e, (order, omega (arith, length-append bytes rest, h.1), rw e h.2, rw e h.3))
+    (e, (h.0, omega (arith, length-append bytes rest, h.1), rw e h.2, rw e h.3))
 
 pub texts_kept : (bytes rest : List ℕ) (ks : List Part) → AreTexts bytes ks → AreTexts (bytes ++ rest) ks
 texts_kept bytes rest [] h = tt
@@ -42,11 +41,8 @@ refs_kept bs cs i b n e h = let m = e.items b h.inside in rw m.1 (take-append-le
 range_stays : (bs cs : Backings) (i b n : ℕ) → Extends bs cs → IsRange bs.lists i b n → IsRange cs.lists i b n
 range_stays bs cs i b n e h =
     let m = e.items b h.inside in
-    let l = length-append (get_or bs.lists b []) m.0 in
-    let low = h.inside in
-    let fits = h.long in
-    let long = e.lists in
-    record { inside = omega arith; long = rw m.1 (omega arith); below = rw (refs_kept bs cs i b n e h) h.below }
+    let longer = length-append (get_or bs.lists b []) m.0 in
+    record { inside = omega (arith, h.inside, e.lists); long = rw m.1 (omega (arith, h.long, longer)); below = rw (refs_kept bs cs i b n e h) h.below }
 
 keys_kept : (bs cs : Backings) (k n : ℕ) → Extends bs cs → AreKeys bs.bytes bs.keys k n → keys_at cs.keys k n ≡ keys_at bs.keys k n
 keys_kept bs cs k n e h = let m = e.keys in rw m.1 (range_kept bs.keys m.0 k (k + n) (omega arith) h.inside)
@@ -54,9 +50,7 @@ keys_kept bs cs k n e h = let m = e.keys in rw m.1 (range_kept bs.keys m.0 k (k 
 keys_stay : (bs cs : Backings) (k n : ℕ) → Extends bs cs → AreKeys bs.bytes bs.keys k n → AreKeys cs.bytes cs.keys k n
 keys_stay bs cs k n e h =
     let m = e.keys in
-    let l = length-append bs.keys m.0 in
-    let fits = h.inside in
-    let long : k + n ≤ length cs.keys = rw m.1 (omega arith) in
+    let long : k + n ≤ length cs.keys = rw m.1 (omega (arith, h.inside, length-append bs.keys m.0)) in
     record { inside = long; texts = rw (keys_kept bs cs k n e h, e.bytes.1) (texts_kept bs.bytes e.bytes.0 (keys_at bs.keys k n) h.texts) }
 
 pub meaning_kept : (bs cs : Backings) (i : ℕ) (vs : List Value) (c : Content) → Extends bs cs → IsContent bs i c → meaning cs vs c ≡ meaning bs vs c

@@ -136,15 +136,11 @@ pub item_at : (lists : List (List ℕ)) (i b n k d : ℕ) → IsRange lists i b 
 item_at lists i b n k d h l =
     let all = slice_index_or lists b [] in
     let same = get_or-take n all k d l in
-    let long = h.long in
-    let m = length-take-le n all long in
+    let m = length-take-le n all h.long in
     (same, subst (λ r. r < i) same (below_here i (take n all) k d h.below (omega arith)), omega arith)
 
 pub ref_below : (lists : List (List ℕ)) (i b n k d : ℕ) → IsRange lists i b n → k < n → get_or (refs_at lists b n) k d < i
-ref_below lists i b n k d h l =
-    let long = h.long in
-    let m = length-take-le n (slice_index_or lists b []) long in
-    below_here i (refs_at lists b n) k d h.below (omega arith)
+ref_below lists i b n k d h l = below_here i (refs_at lists b n) k d h.below (omega (arith, length-take-le n (slice_index_or lists b []) h.long))
 
 -- ---- indexes stay when backings and values grow
 
@@ -156,17 +152,13 @@ indexed_kept : (bs cs : Backings) (vs ws : List Value) (x : Index) → Extends b
 indexed_kept bs cs vs ws x e h =
     let m = e.items x.backing h.inside in
     let old = get_or bs.lists x.backing [] in
-    let l = length-append old m.0 in
-    let v = length-append vs ws in
-    let long = h.covers.long in
-    let lists = e.lists in
-    let inside = h.inside in
-    let t : take x.count (get_or cs.lists x.backing []) ≡ take x.count old = ap (take x.count) m.1 ∙ take-append-le x.count old m.0 long in
+    let longer = length-append vs ws in
+    let t : take x.count (get_or cs.lists x.backing []) ≡ take x.count old = ap (take x.count) m.1 ∙ take-append-le x.count old m.0 h.covers.long in
     let u = ap (texts_at (vs ++ ws)) t ∙ texts_kept vs ws (take x.count old) h.covers.below in
     record {
-      inside = omega arith;
+      inside = omega (arith, h.inside, e.lists);
       covers = record {
-        long = rw m.1 (omega arith);
+        long = rw m.1 (omega (arith, h.covers.long, length-append old m.0));
         below = subst (AreBelow (length (vs ++ ws))) (sym t) (below_le (length vs) (length (vs ++ ws)) (take x.count old) (omega arith) h.covers.below);
         index = subst (IsIndex x) (sym u) h.covers.index;
       };
@@ -190,9 +182,9 @@ pub entered : (bs : Backings) (vs : List Value) (old new : Index) (i b n : ℕ) 
 entered bs vs old new i b n k h range long at lt same more is put =
     let it = item_at bs.lists i b n old.count 0 range lt in
     let low = it.1 in
-    let inside = range.inside in
     let c : Covers vs (get_or bs.lists b []) old = subst (λ j. Covers vs (get_or bs.lists j []) old) at h.covers in
     let d = covers_more vs (get_or bs.lists b []) old new 0 k c it.2 (omega arith) more (is ∙ ap (λ r. looked_up_by (value_in vs r)) it.0) put in
+    let inside = range.inside in
     record { inside = omega arith; covers = subst (λ j. Covers vs (get_or bs.lists j []) new) (sym (same ∙ at)) d }
 
 -- what a search passes

@@ -1,14 +1,14 @@
 -- What is seen of cells.
-use Rattle.std.proofs.Common.{◌≡◌, ℕ, zero, suc, ◌+◌, ◌-◌, ◌<◌, ◌≤◌, List, [], ◌∷◌, length, get_or, drop, map, refl, sym, ap, ◌∙◌, arith, subst, Some, slice_get, length-drop}
+use Rattle.std.proofs.Common.{◌≡◌, ℕ, zero, suc, ◌<◌, ◌≤◌, List, [], ◌∷◌, length, get_or, map, refl, sym, ap, ◌∙◌, arith, subst, Some, slice_get}
 use Rattle.std.specs.Prelude.{IsSome, option_map}
 use Rattle.std.proofs.lemmas.List.{length-map}
 use Rattle.std.proofs.lemmas.Option.{slice_get-map, slice_get-get_or}
 use Rattle.value_store.specs.Value as kind
 use Rattle.value_store.specs.Value.{Value, list_of, keys_of, values_of}
 use Rattle.value_store.specs.Calls.{parts_of}
-use Rattle.value_table.specs.Meaning.{part_of, value_in, items_at, entries_at, refs_at, keys_at, meaning, grown, key_in}
+use Rattle.value_table.specs.Meaning.{part_of, value_in, entries_at, refs_at, keys_at, meaning, grown, key_in}
 use Rattle.value_table.specs.Heads.{parts, texts_of, values_at}
-use Rattle.value_table.specs.Heaps.{AreBelow, IsText, IsRange, AreKeys, IsContent, Found}
+use Rattle.value_table.specs.Heaps.{IsText, IsRange, IsContent, Found}
 use Rattle.value_table.specs.declared.part.Part.{Part}
 use Rattle.value_table.specs.declared.content.Content.{Content}
 use Rattle.value_table.specs.declared.content.Content.TheVariants as cell
@@ -23,7 +23,8 @@ use Rattle.value_store.specs.Seen.{seen, sees_list, sees_map}
 meaning_parts : (bs : Backings) (vs : List Value) (i : ℕ) (c : Content) → IsContent bs i c → parts_of (meaning bs vs c) ≡ map (value_in vs) (parts bs c)
 meaning_parts bs vs i (cell.List b n) h = ap parts_of (meaning_built bs vs (cell.List b n)) ∙ list_back (values_at vs (refs_at bs.lists b n))
 meaning_parts bs vs i (cell.Map k b n) h =
-    ap parts_of (meaning_built bs vs (cell.Map k b n)) ∙ values_back (texts_of bs.bytes (keys_at bs.keys k n)) (values_at vs (refs_at bs.lists b n)) (map_fits bs vs i k b n h)
+    ap parts_of (meaning_built bs vs (cell.Map k b n))
+    ∙ values_back (texts_of bs.bytes (keys_at bs.keys k n)) (values_at vs (refs_at bs.lists b n)) (map_fits bs vs i k b n h)
 meaning_parts bs vs i _ h = refl
 
 -- the parts of a value are the values of its cell's parts

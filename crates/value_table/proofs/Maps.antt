@@ -12,5 +12,4 @@ same_long f xs ys s = sym (length-map xs f) ∙ ap length s ∙ length-map ys f
 
 pub map_part : {A B : Type 0} (f : A → B) (xs ys : List A) (i : ℕ) (d e : A) → i < length xs → map f xs ≡ map f ys → f (get_or xs i d) ≡ f (get_or ys i e)
 map_part f xs ys i d e h s =
-    let l = same_long f xs ys s in
-    sym (get_or-map f xs i d (f d) h) ∙ ap (λ zs. get_or zs i (f d)) s ∙ get_or-map f ys i e (f d) (omega arith)
+    sym (get_or-map f xs i d (f d) h) ∙ ap (λ zs. get_or zs i (f d)) s ∙ get_or-map f ys i e (f d) (omega (arith, same_long f xs ys s))

@@ -1,11 +1,11 @@
-use Rattle.std.proofs.Common.{◌≡◌, ◌+◌, ℕ, refl, arith, ap, length, ◌∙◌}
+use Rattle.std.proofs.Common.{◌≡◌, ◌+◌, ℕ, [], inl, refl, arith, ap, length, ◌∙◌}
 use Rattle.std.proofs.lemmas.List.{length_push}
-use Rattle.debugger.proofs.Shown.{low_all, low_missing, low_more, low_none}
+use Rattle.debugger.proofs.Shown.{low_all, low_missing, low_more}
 use Rattle.debugger.proofs.inspecting.read_bytes.Goals as goal
 
 pub loop-i-init : goal.loop-i-init
 loop-i-init g c = record {
-  reads = low_none _ _ _ _ refl c.new-bytes.ensures.items;
+  reads = record { words = []; begun = inl (refl, refl); are = c.new-bytes.ensures.items };
   many = ap length c.new-bytes.ensures.items;
   room = c.new-bytes.ensures.capacity;
 }

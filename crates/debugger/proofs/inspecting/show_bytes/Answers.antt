@@ -1,21 +1,21 @@
 use Rattle.std.proofs.Common.{ℕ, List, Some, None, length, arith, refl, sym, ap, ◌∙◌, rules}
-use Rattle.debugger.proofs.Shown.{count_most, count_some, row_lent, shows, shows_low}
+use Rattle.debugger.proofs.Shown.{count_within, row_lent, shows, shows_low}
 use Rattle.debugger.proofs.inspecting.show_bytes.Goals as goal
 
 pub memory_lines-requires : goal.memory_lines-requires
 memory_lines-requires g c =
-    let most = count_most c.args.n (search rules) in
+    let most = (count_within c.args.n (search rules)).1 in
     let length_is = c.lent_is_bytes.ensures.length_is _ _ _ _ (sym c.in-Some.ensures) in
     omega (arith, most, length_is)
 
 pub memory_lines-requires-in-Some-read_bytes : goal.memory_lines-requires-in-Some-read_bytes
 memory_lines-requires-in-Some-read_bytes g c =
-    let most = count_most c.args.n (search rules) in
+    let most = (count_within c.args.n (search rules)).1 in
     let same = ap length c.as_slice.ensures in
     omega (arith, most, same, c.in-Some-read_bytes.ensures.length)
 
 pub returns-in-Some : goal.returns-in-Some
-returns-in-Some g c = shows _ _ _ _ _ (search rules) (row_lent _ _ _ _ c.requires (count_some c.args.n (search rules)) (sym c.in-Some.ensures)) c.memory_lines.ensures
+returns-in-Some g c = shows _ _ _ _ _ (search rules) (row_lent _ _ _ _ c.requires (count_within c.args.n (search rules)).0 (sym c.in-Some.ensures)) c.memory_lines.ensures
 
 pub returns-in-Some-read_bytes : goal.returns-in-Some-read_bytes
 returns-in-Some-read_bytes g c = shows_low _ _ _ (Some c.as_slice.result.now) _ (search rules) (ap (λ (t : List ℕ). Some t) c.as_slice.ensures ∙ c.in-Some-read_bytes.ensures.bytes) c.memory_lines-in-Some-read_bytes.ensures

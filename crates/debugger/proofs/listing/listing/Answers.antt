@@ -1,9 +1,9 @@
-use Rattle.std.proofs.Common.{arith}
-use Rattle.debugger.proofs.Lines.{lines_end, lines_full, lines_more, lines_start}
+use Rattle.std.proofs.Common.{refl, arith}
+use Rattle.debugger.proofs.Lines.{lines_end, lines_full, lines_more}
 use Rattle.debugger.proofs.listing.listing.Goals as goal
 
 pub loop-listed-init : goal.loop-listed-init
-loop-listed-init c = record { text = lines_start _ _ _ _ c.new-text.ensures.bytes }
+loop-listed-init c = record { text = rw c.new-text.ensures.bytes refl }
 
 pub returns-then-slot-slots : goal.returns-then-slot-slots
 returns-then-slot-slots c = lines_end _ _ _ _ _ c.if-slot-slots.true c.loop-listed.invariant.text

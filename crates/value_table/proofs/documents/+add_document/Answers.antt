@@ -30,8 +30,7 @@ pub add_items-add_list-requires-clause-ordered : goal.add_items-add_list-require
 add_items-add_list-requires-clause-ordered t c =
     let l = c.loop-item in
     let from = c.into_iter-item-iterator.result in
-    let step = c.in-None.ensures.steps in
-    let none : into_iter_items l.item-iterator ≡ [] = nil_from_length _ (omega (arith, l.invariant.long, step.0)) in
+    let none : into_iter_items l.item-iterator ≡ [] = nil_from_length _ (omega (arith, l.invariant.long, c.in-None.ensures.steps.0)) in
     let go = subst (λ ys. ItemsStand (plain_items (items_view (into_iter_items from))) (heap_values l.heap) l.places.items (items_view ys)) none l.invariant.items in
     let is : items_at (heap_values l.heap) l.places.items ≡ plain_items (items_view c.args.items.items) = items_end _ (heap_values l.heap) l.places.items go ∙ ap (λ ys. plain_items (items_view ys)) c.into_iter-item-iterator.ensures.into_iter_gives.0 in
     rw c.deref.ensures.value (rw is c.requires.ordered)
@@ -44,8 +43,7 @@ add_items-returns-clause-value t c =
     let l = c.loop-item in
     let vs = heap_values l.heap in
     let from = c.into_iter-item-iterator.result in
-    let step = c.in-None.ensures.steps in
-    let none : into_iter_items l.item-iterator ≡ [] = nil_from_length _ (omega (arith, l.invariant.long, step.0)) in
+    let none : into_iter_items l.item-iterator ≡ [] = nil_from_length _ (omega (arith, l.invariant.long, c.in-None.ensures.steps.0)) in
     let go = subst (λ ys. ItemsStand (plain_items (items_view (into_iter_items from))) vs l.places.items (items_view ys)) none l.invariant.items in
     let is : items_at vs l.places.items ≡ plain_items (items_view c.args.items.items) = items_end _ vs l.places.items go ∙ ap (λ ys. plain_items (items_view ys)) c.into_iter-item-iterator.ensures.into_iter_gives.0 in
     let all : items_at vs c.deref.result.now ≡ plain_items (items_view c.args.items.items) = ap (items_at vs) c.deref.ensures.value ∙ is in

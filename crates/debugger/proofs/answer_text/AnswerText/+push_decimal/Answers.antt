@@ -1,10 +1,11 @@
 use Rattle.std.proofs.Common.{◌/◌, length, decimal, arith, ap, ◌∙◌}
 use Rattle.std.proofs.lemmas.List.{length-append}
-use Rattle.debugger.proofs.Texts.{decimal_one, decimal_more, decimal_room, decimal_first}
+use Rattle.std.proofs.lemmas.Fmt.{decimal_digit}
+use Rattle.debugger.proofs.Texts.{decimal_one, decimal_more, decimal_room}
 use Rattle.debugger.proofs.answer_text.AnswerText.+push_decimal.Goals as goal
 
 pub push_byte-requires : goal.push_byte-requires
-push_byte-requires t c = let one = decimal_first c.args.n (omega (arith, c.if-n-lt10.true)) in omega (arith, one, c.requires)
+push_byte-requires t c = let one = ap length (decimal_digit c.args.n (omega (arith, c.if-n-lt10.true))) in omega (arith, one, c.requires)
 
 pub returns-then-n-lt10 : goal.returns-then-n-lt10
 returns-then-n-lt10 t c = decimal_one _ _ _ (omega (arith, c.if-n-lt10.true)) c.push_byte.ensures

@@ -1,11 +1,12 @@
-use Rattle.std.proofs.Common.{◌-◌, ◌/◌, length, arith, ap, ◌∙◌}
+use Rattle.std.proofs.Common.{◌-◌, ◌/◌, length, arith, ap, sym, append-nil, ◌∙◌}
 use Rattle.std.proofs.lemmas.List.{length-append}
 use Rattle.insn_codec.specs.Lines.{hex_digits}
-use Rattle.debugger.proofs.Texts.{hex_none, hex_more, hex_length}
+use Rattle.debugger.proofs.Texts.{hex_more, hex_length}
 use Rattle.debugger.proofs.answer_text.AnswerText.+push_hex.Goals as goal
 
 pub returns-then-count-eq0 : goal.returns-then-count-eq0
-returns-then-count-eq0 t c = hex_none _ _ _ c.if-count-eq0.true
+unfolding hex_digits
+returns-then-count-eq0 t c = rw c.if-count-eq0.true (sym (append-nil _))
 
 pub push_byte-requires : goal.push_byte-requires
 push_byte-requires t c =

@@ -1,11 +1,13 @@
 use Rattle.std.proofs.Common.{ℕ, ◌∙◌, length, arith, ap}
 use Rattle.std.specs.Prelude.{slice_index}
-use Rattle.debugger.proofs.Texts.{registers_none, registers_more, registers_all}
+use Rattle.bpf_machine.specs.Text.{register_lines}
+use Rattle.debugger.proofs.Texts.{registers_more, registers_all}
 use Rattle.debugger.proofs.answer_text.AnswerText.push_registers.Goals as goal
 
 pub loop-number-init : goal.loop-number-init
+unfolding register_lines
 loop-number-init g c = record {
-  text = registers_none _ _ c.requires;
+  text = c.requires;
   length = let none = ap length c.requires in omega (arith, none);
 }
 

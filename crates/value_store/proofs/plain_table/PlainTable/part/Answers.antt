@@ -30,6 +30,4 @@ pub returns-clause-shallow : goal.returns-clause-shallow
 returns-clause-shallow c =
     let tree = c.value.result.now in
     let found = sym c.part.ensures ∙ ap (option_map (λ (v : Bor document.Value). view v.now)) c.unwrap.ensures in
-    let shallow = (part_within c.args.i (view tree.document) (view c.unwrap.result.now) found tree.whole).shallow in
-    let deep = tree.deep in
-    omega (arith, c.value.ensures.shallow)
+    omega (arith, tree.deep, (part_within c.args.i (view tree.document) (view c.unwrap.result.now) found tree.whole).shallow, c.value.ensures.shallow)

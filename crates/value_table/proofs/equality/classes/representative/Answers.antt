@@ -22,6 +22,5 @@ pub returns-clause-classes : goal.returns-clause-classes
 returns-clause-classes c = λ down.
     let inv = c.loop-next.invariant in
     let so_far = inv.shorter down in
-    let is = inv.next_is in
-    let last : c.loop-next.here ≤ way_down (slice_get c.loop-next.same c.loop-next.here) c.loop-next.here = omega arith in
+    let last : c.loop-next.here ≤ way_down (slice_get c.loop-next.same c.loop-next.here) c.loop-next.here = omega (arith, inv.next_is) in
     record { shorter = so_far; ends = ends_at c.loop-next.same c.loop-next.here so_far.down last }

@@ -10,14 +10,17 @@ use Rattle.value_table.proofs.equality.walk.+equal.Goals.{After-parts_of-ys, els
 
 -- two cells with one head have as many parts
 parts_long : {t : ℕ} (c : After-parts_of-ys t) → length c.parts_of-xs.result.now ≡ length c.parts_of-ys.result.now
-parts_long c = same_long _ c.args.cells.now _ _ _ _ _ _ c.parts_of-xs.ensures c.parts_of-ys.ensures c.requires.contents c.at-left.ensures.value c.at-right.ensures.value (c.alike.ensures.0 c.if-not-alike.false)
+parts_long c =
+    same_long _ c.args.cells.now _ _ _ _ _ _ c.parts_of-xs.ensures c.parts_of-ys.ensures c.requires.contents
+    c.at-left.ensures.value c.at-right.ensures.value (c.alike.ensures.0 c.if-not-alike.false)
 
 -- and these stand before them
 parts_low : {t : ℕ} (c : After-parts_of-ys t) (k : ℕ) → k < length c.parts_of-xs.result.now
     → (get_or c.parts_of-xs.result.now k 0 < c.representative-x.result) × (get_or c.parts_of-ys.result.now k 0 < c.representative-y.result)
-parts_low c k h =
-    (part_before _ c.args.cells.now _ _ _ k 0 c.parts_of-xs.ensures c.requires.contents c.at-left.ensures.value h,
-     part_before _ c.args.cells.now _ _ _ k 0 c.parts_of-ys.ensures c.requires.contents c.at-right.ensures.value (omega (arith, h, parts_long c)))
+parts_low c k h = (
+  part_before _ c.args.cells.now _ _ _ k 0 c.parts_of-xs.ensures c.requires.contents c.at-left.ensures.value h,
+  part_before _ c.args.cells.now _ _ _ k 0 c.parts_of-ys.ensures c.requires.contents c.at-right.ensures.value (omega (arith, h, parts_long c)),
+)
 
 pub returns-then-not-alike : goal.returns-then-not-alike
 returns-then-not-alike t c = λ vs m s.
@@ -41,13 +44,11 @@ bounds-ys-i t c = let l = parts_long (goal.at.bounds-ys-i t c).After-parts_of-ys
 
 pub equal-requires : goal.equal-requires
 equal-requires t c =
-    let l = parts_long (goal.at.equal-requires t c).After-parts_of-ys in
     let low = parts_low (goal.at.equal-requires t c).After-parts_of-ys c.start-start.result (omega arith) in
     (omega arith, (c.requires.contents, (omega arith, omega arith)))
 
 pub equal-requires-in-loop-i : goal.equal-requires-in-loop-i
 equal-requires-in-loop-i t c =
-    let l = parts_long (goal.at.equal-requires-in-loop-i t c).After-parts_of-ys in
     let low = parts_low (goal.at.equal-requires-in-loop-i t c).After-parts_of-ys c.loop-i.i (omega arith) in
     (omega arith, (c.requires.contents, (omega arith, omega arith)))
 
@@ -58,7 +59,6 @@ returns-then-not-equal t c = λ vs m s.
     let first = c.representative-x.ensures.classes s.below in
     let found = both_found c.args.same.now c.representative-x.new.same c.representative-y.new.same c.args.a c.args.b c.representative-x.result c.representative-y.result first (c.representative-y.ensures.classes first.shorter.down) in
     let sub = c.equal.ensures vs m y.0 in
-    let l = parts_long (goal.at.returns-then-not-equal t c).After-parts_of-ys in
     let low = parts_low (goal.at.returns-then-not-equal t c).After-parts_of-ys c.start-start.result (omega arith) in
     let xs = c.parts_of-xs.result.now in
     let ys = c.parts_of-ys.result.now in
@@ -103,7 +103,6 @@ returns-then-not-equal-2 t c = λ vs m s.
     let y = c.representative-y.ensures.value vs x.0 in
     let inv = c.loop-i.invariant vs m s in
     let sub = c.equal-in-loop-i.ensures vs m inv.known in
-    let l = parts_long (goal.at.returns-then-not-equal-2 t c).After-parts_of-ys in
     let low = parts_low (goal.at.returns-then-not-equal-2 t c).After-parts_of-ys c.loop-i.i (omega arith) in
     let xs = c.parts_of-xs.result.now in
     let ys = c.parts_of-ys.result.now in
@@ -152,8 +151,7 @@ returns t c = λ vs m s.
       stay = λ ws t. inv.stay ws (together.stay ws t);
       others = λ i d above behind. together.others i d (omega arith) ∙ inv.others i d above behind;
       one = λ h all ws t.
-          let long = inv.long in
           let at_x = c.representative-x.ensures.value ws (inv.stay ws (together.stay ws t)) in
           let at_y = c.representative-y.ensures.value ws at_x.0 in
-          sym at_x.1 ∙ together.one (omega arith) ws t ∙ at_y.1;
+          sym at_x.1 ∙ together.one (omega (arith, inv.long)) ws t ∙ at_y.1;
     }

@@ -1,4 +1,4 @@
-use Rattle.std.proofs.Common.{◌≡◌, List, ℕ, length, subst, refl}
+use Rattle.std.proofs.Common.{refl}
 use Rattle.value_table.specs.Heap.{heap_values}
 use Rattle.value_table.proofs.Adding.{heap_put, due_adds}
 use Rattle.value_table.proofs.Gathered.{list_gathered}

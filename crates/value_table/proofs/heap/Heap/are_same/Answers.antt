@@ -33,7 +33,8 @@ returns-clause-answer c =
     let heap = c.args.self.now in
     let after = compared (goal.at.returns-clause-answer c).After-equal in
     let n = count_values heap.backings heap.cells in
-    answer_is heap.backings (heap_values heap) heap.cells c.args.a c.args.b c.equal.result (meanings_of heap.backings heap.cells c.requires.heap.cells) (omega arith) (omega arith) after.right
+    answer_is heap.backings (heap_values heap) heap.cells c.args.a c.args.b c.equal.result
+    (meanings_of heap.backings heap.cells c.requires.heap.cells) (omega arith) (omega arith) after.right
 
 pub returns-clause-stay : goal.returns-clause-stay
 returns-clause-stay c =
@@ -45,4 +46,5 @@ pub returns-clause-one : goal.returns-clause-one
 returns-clause-one c = λ found.
     let heap = c.args.self.now in
     let after = compared (goal.at.returns-clause-one c).After-equal in
-    rw (with_items_is heap.same c.equal.new.same (c.equal.auto.same ∙ c.deref_mut.ensures.len)) (after.one found (omega (arith, c.requires.words, ap length c.deref_mut.ensures.value)))
+    rw (with_items_is heap.same c.equal.new.same (c.equal.auto.same ∙ c.deref_mut.ensures.len))
+    (after.one found (omega (arith, c.requires.words, ap length c.deref_mut.ensures.value)))

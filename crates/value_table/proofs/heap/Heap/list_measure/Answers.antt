@@ -27,10 +27,9 @@ loop-place-preserved c =
     let deep : c.max.result ≡ max l.measure.depth (item.depth + 1) = omega (arith, c.saturating_add.ensures, c.max.ensures, s, c.cell-item.ensures.short) in
     let more = take_more ps i 0 inside in
     let next = list_measured c.args.self.now.backings vs (take i ps) (get_or ps i 0) l.count l.measure (record { depth = c.max.result; json = c.pushed_length.result }) item (length-take-le i ps (omega arith) ∙ sym count) l.invariant.measure c.cell-item.ensures.found deep c.pushed_length.ensures in
-    let short = c.loop-place.auto.place-index-end in
     record {
       measure = subst (λ rs. IsMeasure (length vs) (list (items_at vs rs)) (record { depth = c.max.result; json = c.pushed_length.result })) (sym more) next;
-      count = omega (arith, c.saturating_add-count.ensures, count, inside);
+      count = omega (arith, c.loop-place.auto.place-index-end, c.saturating_add-count.ensures, count, inside);
     }
 
 pub returns : goal.returns

@@ -10,7 +10,8 @@ pub returns-clause-heap : goal.returns-clause-heap
 returns-clause-heap c =
     let l = c.cell-list.result in
     let x = c.cell-item.result in
-    let deep : c.max-depth.result ≡ max l.depth (x.depth + 1) = omega (arith, c.saturating_add.ensures, c.max-depth.ensures, c.cell-item.ensures.found.shallow, c.cell-item.ensures.short) in
+    let deep : c.max-depth.result ≡ max l.depth (x.depth + 1) =
+    omega (arith, c.saturating_add.ensures, c.max-depth.ensures, c.cell-item.ensures.found.shallow, c.cell-item.ensures.short) in
     let made = list_pushed c.args.self.now.backings c.push_item.new.self _ c.args.l c.args.x c.in-List.backing c.in-List.count c.in_ok-pushed.pushed _ c.pushed_length-json.result l x c.cell-list.ensures.found c.cell-item.ensures.found c.in-List.is c.in_ok-pushed.ensures.items deep c.pushed_length-json.ensures in
     heap_put c.args.self.now _ _ _ c.requires.heap c.push_item.ensures.grown c.room_for_cell.ensures.words c.in_ok-cells.ensures.word c.in_ok-cells.ensures.cells c.append.ensures.items made.cell refl
 
@@ -18,7 +19,8 @@ pub returns-clause-added : goal.returns-clause-added
 returns-clause-added c =
     let l = c.cell-list.result in
     let x = c.cell-item.result in
-    let deep : c.max-depth.result ≡ max l.depth (x.depth + 1) = omega (arith, c.saturating_add.ensures, c.max-depth.ensures, c.cell-item.ensures.found.shallow, c.cell-item.ensures.short) in
+    let deep : c.max-depth.result ≡ max l.depth (x.depth + 1) =
+    omega (arith, c.saturating_add.ensures, c.max-depth.ensures, c.cell-item.ensures.found.shallow, c.cell-item.ensures.short) in
     let made = list_pushed c.args.self.now.backings c.push_item.new.self _ c.args.l c.args.x c.in-List.backing c.in-List.count c.in_ok-pushed.pushed _ c.pushed_length-json.result l x c.cell-list.ensures.found c.cell-item.ensures.found c.in-List.is c.in_ok-pushed.ensures.items deep c.pushed_length-json.ensures in
     due_adds c.args.self.now _ _ _ _ c.append.result _ made.value c.requires.heap c.push_item.ensures.grown c.in_ok-cells.ensures.cells c.append.ensures.items c.append.ensures.place
 

@@ -57,7 +57,8 @@ made c ts tx =
     let gap = subst (λ s. IsGap (texts_of bs.bytes ks) s c.in-Err.gap) tx (subst (λ t. IsGap t c.text.result.now c.in-Err.gap) ts c.in-Err.ensures) in
     let fm = c.cell-map.ensures.found in
     let long = map_long bs c.args.m c.in-Map.row c.in-Map.backing c.in-Map.count (subst (IsContent bs c.args.m) c.in-Map.is fm.content) in
-    let deep : c.max-depth.result ≡ max c.cell-map.result.depth (c.cell-value.result.depth + 1) = omega (arith, c.saturating_add.ensures, c.max-depth.ensures, c.cell-value.ensures.found.shallow, c.cell-value.ensures.short) in
+    let deep : c.max-depth.result ≡ max c.cell-map.result.depth (c.cell-value.result.depth + 1) =
+    omega (arith, c.saturating_add.ensures, c.max-depth.ensures, c.cell-value.ensures.found.shallow, c.cell-value.ensures.short) in
     map_put bs c.put_entry.new.self (heap_values heap) c.args.m c.args.k c.args.x c.in-Map.row c.in-Map.backing c.in-Map.count c.in_ok-entry.entry.0 c.in_ok-entry.entry.1 c.in-Err.gap c.max-depth.result c.put_length-json.result
     c.cell-map.result c.cell-name.result c.cell-value.result c.in-Text.key fm c.cell-name.ensures.found c.cell-value.ensures.found c.in-Map.is c.in-Text.is long gap c.put_entry.ensures.bytes c.in_ok-entry.ensures.items c.in_ok-entry.ensures.keys deep c.put_length-json.ensures
 

@@ -6,7 +6,7 @@ use Rattle.value_table.proofs.table.TableValueStore.alias_key.Goals.{After-push_
 
 made : (c : After-push_reserved)
     → Puts c.args.self.now.values (key_at (slice_get c.args.self.now.values c.args.h) c.args.i)
-      c.next_reference-reference.result c.add_part.new.self c.push_reserved.new.self.0
+    c.next_reference-reference.result c.add_part.new.self c.push_reserved.new.self.0
 made c =
     let before = ap (λ t. t.values) c.self.view_is in
     let key = key_is c.self.inside.heap c.self.inside.places _ c.args.h c.place-map.result c.args.i _ before c.place-map.ensures c.key-key.ensures.value in

@@ -8,7 +8,7 @@ use Rattle.value_table.proofs.table.TableValueStore.join.Goals.{After-push_reser
 
 made : (c : After-push_reserved)
     → Puts c.args.self.now.values (joined (slice_get c.args.self.now.values c.args.a) (slice_get c.args.self.now.values c.args.b))
-      c.next_reference-reference.result c.join.new.self c.push_reserved.new.self.0
+    c.next_reference-reference.result c.join.new.self c.push_reserved.new.self.0
 made c =
     let before = ap (λ t. t.values) c.self.view_is in
     let same = joined_is c.self.inside.heap c.self.inside.places _ c.args.a c.args.b _ _ before c.place-first.ensures c.place-second.ensures in

@@ -8,7 +8,7 @@ use Rattle.value_table.proofs.table.TableValueStore.push.Goals.{After-push_reser
 
 made : (c : After-push_reserved)
     → Puts c.args.self.now.values (pushed (slice_get c.args.self.now.values c.args.l) (slice_get c.args.self.now.values c.args.x))
-      c.next_reference-reference.result c.push.new.self c.push_reserved.new.self.0
+    c.next_reference-reference.result c.push.new.self c.push_reserved.new.self.0
 made c =
     let before = ap (λ t. t.values) c.self.view_is in
     let same = pushed_is c.self.inside.heap c.self.inside.places _ c.args.l c.args.x _ _ before c.place-list.ensures c.place-item.ensures in

@@ -8,8 +8,8 @@ use Rattle.value_table.proofs.table.TableValueStore.put.Goals.{After-push_reserv
 
 made : (c : After-push_reserved)
     → Puts c.args.self.now.values
-      (put_in (slice_get c.args.self.now.values c.args.m) (slice_get c.args.self.now.values c.args.k) (slice_get c.args.self.now.values c.args.x))
-      c.next_reference-reference.result c.put.new.self c.push_reserved.new.self.0
+    (put_in (slice_get c.args.self.now.values c.args.m) (slice_get c.args.self.now.values c.args.k) (slice_get c.args.self.now.values c.args.x))
+    c.next_reference-reference.result c.put.new.self c.push_reserved.new.self.0
 made c =
     let before = ap (λ t. t.values) c.self.view_is in
     let vs = heap_values c.self.inside.heap in
