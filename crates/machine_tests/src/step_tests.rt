@@ -74,15 +74,18 @@ fn run_machine(mut machine: Plain, limit: u64) -> Result<Plain, Fail> {
     Ok(machine)
 }
 
-/// What a run answers, and then `pc`, R10 and how many records are open.
-type End = ((u64, Status), (i64, u64, usize));
+/// What a run answers, and then the status, `pc`, R10 and how many records are open.
+type End = ((u64, Status), (Status, i64, u64, usize));
 
 /// The end of a run of at most so many steps.
 fn end_of(alloc: Global, slots: &[u64], limit: u64) -> Result<End, Fail> {
     let mut machine = machine(alloc, slots, &[])?;
     let answer = machine.run(limit)?;
     let r10 = machine.register(Register::R10);
-    Ok((answer, (machine.pc(), r10, machine.records().len())))
+    Ok((
+        answer,
+        (machine.status(), machine.pc(), r10, machine.records().len()),
+    ))
 }
 
 /// What a run of at most nine steps answers from the start.

@@ -119,7 +119,7 @@ const JUMPS: [(&[u64], (u64, Status), (i64, usize)); 9] = [
 #[test]
 fn jumps_and_calls(rt: HostRuntime) -> Result<(), Fail> {
     for (row, jump) in JUMPS.iter().enumerate() {
-        let (answer, (pc, _, records)) = end_of(rt.alloc(), jump.0, 9)?;
+        let (answer, (_, pc, _, records)) = end_of(rt.alloc(), jump.0, 9)?;
         assert!(rt; (answer, (pc, records)) == (jump.1, jump.2), "row {row}");
     }
     Ok(())

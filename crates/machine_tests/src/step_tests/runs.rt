@@ -20,7 +20,7 @@ const RUNS: [(&[u64], u64, (u64, Status), i64); 9] = [
 #[test]
 fn runs(rt: HostRuntime) -> Result<(), Fail> {
     for (row, run) in RUNS.iter().enumerate() {
-        let end = (run.2, (run.3, 0x1_0000_0200, 0));
+        let end = (run.2, ((run.2).1, run.3, 0x1_0000_0200, 0));
         assert!(rt; end_of(rt.alloc(), run.0, run.1)? == end, "row {row}");
     }
     Ok(())
@@ -42,7 +42,8 @@ const INTO_R10: [u64; 10] = [
 
 #[test]
 fn the_frame_pointer_is_read_only(rt: HostRuntime) -> Result<(), Fail> {
-    let end = ((1, Status::Fault(Fault::F9)), (0, 0x1_0000_0200, 0));
+    let stopped = Status::Fault(Fault::F9);
+    let end = ((1, stopped), (stopped, 0, 0x1_0000_0200, 0));
     for (row, slot) in INTO_R10.into_iter().enumerate() {
         assert!(rt;
             end_of(rt.alloc(), &[slot, 0, EXIT], 9)? == end,
