@@ -68,13 +68,13 @@ heads [] [] vs w h e = absurd cc
 heads (x ∷ ws) (u ∷ us) vs w h e = let f : x ∷ ws ≡ w ∷ ws = cc in (ws, f)
 heads _ _ vs w h e = absurd h
 
-not_comma : (ws us : List Word) → NotAt Comma ws → ws ≡ mark Comma ∷ us → ⊥
-not_comma ws us n e = subst (λ (x : List Word). NotAt Comma x) e n refl
+pub not_at : (m : Mark) (ws us : List Word) → NotAt m ws → ws ≡ mark m ∷ us → ⊥
+not_at m ws us n e = subst (λ (x : List Word). NotAt m x) e n refl
 
 -- a list that goes on at a word that is no comma does so before any words
 pub goes_too : (c : Closing) (ws us : List Word) → SameHead ws us → GoesOn c ws → NotAt Comma ws → GoesOn c us
 goes_too c ws us h g n rest (inl e) = let x = heads ws us rest (mark (closing_mark c)) h e in g x.0 (inl x.1)
-goes_too c ws us h g n rest (inr p) = let x = heads ws us (mark (closing_mark c) ∷ rest) (mark Comma) h p.1 in not_comma ws x.0 n x.1
+goes_too c ws us h g n rest (inr p) = let x = heads ws us (mark (closing_mark c) ∷ rest) (mark Comma) h p.1 in not_at Comma ws x.0 n x.1
 
 pub comma_closes_none : {P : Type 0} (c : Closing) (x y : List Word) → mark Comma ∷ x ≡ mark (closing_mark c) ∷ y → P
 comma_closes_none Call x y e = absurd cc

@@ -1,10 +1,10 @@
 -- What is derived is read by some run of the reader.
-use Rattle.std.proofs.Common.{ℕ, suc, List, [], ◌∷◌, inl, refl}
+use Rattle.std.proofs.Common.{◌≡◌, ℕ, suc, List, [], ◌∷◌, true, inl, inr, refl}
 use Rattle.cel_tokens.specs.Token.{Word, mark}
-use Rattle.cel_tokens.specs.declared.mark.Mark.TheVariants.{Question, Colon, OpenParen}
+use Rattle.cel_tokens.specs.declared.mark.Mark.TheVariants.{Question, Colon, Comma, OpenParen}
 use Rattle.cel_reader.specs.Tree.{Tree}
-use Rattle.cel_reader.specs.Look.{NotAt, NoOperator, Closes}
-use Rattle.cel_reader.specs.Grammar.{Class, Expression, Infix, Unary, Prefixed, Member, Primary, Items, OptionalItems, Pairs, OptionalPairs, Phrase, One, Many, Keyed, below, Derives}
+use Rattle.cel_reader.specs.Look.{NotAt, NoOperator, Closes, GoesOn, closing_mark, takes_comma}
+use Rattle.cel_reader.specs.Grammar.{Class, Expression, Infix, Unary, Prefixed, Member, Primary, Items, OptionalItems, Pairs, OptionalPairs, Phrase, One, Many, Keyed, below, OptionalComma, Derives}
 use Rattle.cel_reader.specs.Grammar as derives
 use Rattle.cel_reader.specs.Reading.{Outcome, Got, Row, Tail, Suffix, Listed, Item, Behind, Mapped, Entry, BehindEntry, Reads}
 use Rattle.cel_reader.specs.Reading as reads
@@ -13,10 +13,9 @@ use Rattle.cel_reader.specs.declared.level.Level.TheVariants.{Or, And, Relation,
 use Rattle.cel_reader.specs.declared.closing.Closing.{Closing}
 use Rattle.cel_reader.specs.declared.closing.Closing.TheVariants.{Call, List as ListLiteral, Map}
 use Rattle.cel_reader.specs.declared.operator.UnaryOperator.TheVariants as unary
-use Rattle.cel_reader.proofs.FirstWords.{first, goes_on, no_comma, no_prefix}
+use Rattle.cel_reader.proofs.FirstWords.{FirstIs, begins, first, goes_on, no_comma, no_prefix, mark_not_first, closing_not_first}
+use Rattle.cel_reader.proofs.Alike.{comma_closes_none, rest_of}
 use Rattle.cel_reader.proofs.Stops.{StopsExpression, StopsMember, Stops, ends_operand, ends_question, ends_colon, ends_comma, ends_closing, ends_list}
-use Rattle.cel_reader.proofs.CompleteLists.{comma_goes_on}
-use Rattle.cel_reader.proofs.Complete.{closes_list}
 
 -- a run of the row, from a run of what comes behind its phrase
 abbrev BuiltOne : Class → ℕ → List Word → Tree → List Word → Type 0
@@ -55,6 +54,15 @@ ended_below Product room ws rest a f n = f n
 
 ended_member : (room : ℕ) (ws rest : List Word) (a : Tree) → BuiltOne Member room ws a rest → StopsMember rest → Reads (Row Member) room ws (Got (One a) rest)
 ended_member room ws rest a f n = f (Got (One a) rest) n.2 (reads.suffix_stops n.0 n.1)
+
+-- no list ends at a comma before an expression
+comma_goes_on : (c : Closing) (us : List Word) → FirstIs begins us → GoesOn c (mark Comma ∷ us)
+comma_goes_on c us here x (inl e) = comma_closes_none c us x e
+comma_goes_on c us here x (inr p) = mark_not_first (closing_mark c) us x (closing_not_first c) here (rest_of _ _ _ _ p.1)
+
+closes_list : (c : Closing) (ws rest : List Word) → takes_comma c ≡ true → OptionalComma ws (mark (closing_mark c) ∷ rest) → Closes c ws rest
+closes_list c ws rest takes (inl e) = inl e
+closes_list c ws rest takes (inr e) = inr (takes, e)
 
 pub built : {c : Class} {room : ℕ} {ws : List Word} {p : Phrase} {rest : List Word} → Derives c room ws p rest → Built c room ws p rest
 built (derives.plain {room = room} {ws = ws} {rest = rest} {a = a} d) = λ n. reads.expression_plain (ended_infix Or room ws rest a (built d) n.1) n.0

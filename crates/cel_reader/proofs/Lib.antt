@@ -7,12 +7,9 @@ pub mod Rooms
 pub mod Openings
 pub mod FirstWords
 pub mod Stops
-pub mod Claims
-pub mod CompleteRows
-pub mod CompletePrimaries
-pub mod CompleteLists
-pub mod Complete
 pub mod Built
+pub mod Looks
+pub mod Plans
 pub mod Theorems
 pub mod Alike
 pub mod Local

@@ -39,8 +39,7 @@ token_step source signed at n so_far w r f l d =
     cut_token n w f l (subst (λ (xs : List ℕ). Cuts (sign_may_follow w) (so_far ++ (lexeme at n w ∷ [])) (at + n) xs r) (sym (drop-drop n at source)) d)
 
 moved : (sign sign' : Bool) (new new' : List Lexeme) (next next' : ℕ) (source : List ℕ) (r : Result (List Lexeme) ReadError) → sign ≡ sign' → new ≡ new' → next ≡ next' → Cuts sign new next (drop next source) r → Cuts sign' new' next' (drop next' source) r
-moved sign sign' new new' next next' source r a b c d =
-    subst (λ (y : ℕ). Cuts sign' new' y (drop y source) r) c (subst (λ (y : List Lexeme). Cuts sign' y next (drop next source) r) b (subst (λ (y : Bool). Cuts y new next (drop next source) r) a d))
+moved sign sign' new new' next next' source r h0 h1 h2 h3 = grind arith
 
 same_word : (at n : ℕ) (source : List ℕ) (kind : Kind) → word_of (take (at + n - at) (drop at source)) kind ≡ word_of (take n (drop at source)) kind
 same_word at n source kind = let e : at + n - at ≡ n = omega arith in ap (λ (y : ℕ). word_of (take y (drop at source)) kind) e

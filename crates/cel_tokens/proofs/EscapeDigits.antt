@@ -1,11 +1,9 @@
 -- Digits of escapes.
-use Rattle.std.proofs.Common.{◌≡◌, ℕ, suc, zero, ◌+◌, ◌-◌, ◌^◌, ◌<◌, ◌≤◌, List, [], ◌∷◌, length, take, refl, sym, ◌∙◌, arith, Bool, true, false, Option, Some, None}
+use Rattle.std.proofs.Common.{◌≡◌, ℕ, suc, zero, ◌+◌, ◌-◌, ◌^◌, ◌<◌, ◌≤◌, List, [], ◌∷◌, length, take, refl, arith, Bool, true, false, Option, Some, None}
 use Rattle.std.specs.Prelude.{cond, leb, min, if◌then◌else◌, ◌==◌, ◌||◌, ◌&&◌, nat_lt}
 use Rattle.std.specs.Char.{IsScalar}
 use Rattle.std.proofs.lemmas.Bool.Decides.{nat_tests}
 use Rattle.std.proofs.lemmas.List.{length-take, get_or-take}
-use Rattle.std.proofs.lemmas.Bool.{cases_lt}
-use mathlib.Core.Logic.{inl, inr}
 use Rattle.std.proofs.Common.{get_or}
 use Rattle.cel_tokens.specs.Bytes.{run, is_digit_of}
 use Rattle.cel_tokens.specs.Texts.{digits, code_point, is_code_point}
@@ -21,30 +19,20 @@ too_short base count bytes h =
     not_so_many (run (is_digit_of base) (take count bytes)) count _ (omega (arith, a, b))
 
 either : (a b : Bool) → cond a true b ≡ true → (a || b) ≡ true
-either true b h = refl
-either false b h = h
+either a b h0 = grind arith
 
 pub scalar_is : (n : ℕ) → IsScalar n → code_point n ≡ Some n
 scalar_is n h = let e : is_code_point n ≡ true = either (nat_lt n 55296) (leb 57344 n && nat_lt n 1114112) h in rw e refl
 
-above : (n : ℕ) → 0x110000 ≤ n → is_code_point n ≡ false
-above n h = grind (arith, nat_tests)
-
-none_above : (n : ℕ) → 0x110000 ≤ n → code_point n ≡ None
-none_above n h = rw (above n h) refl
-
 pub kept_code : (m : ℕ) → code_point (min m (2 ^ 64 - 1)) ≡ code_point m
-kept_code m =
-    elim (cases_lt m (2 ^ 64)) [ inl h ↦ let e : min m (2 ^ 64 - 1) ≡ m = omega arith in rw e refl | inr h ↦ none_above (min m (2 ^ 64 - 1)) (omega arith) ∙ sym (none_above m (omega arith)) ]
+kept_code m = grind arith
 
 -- where every byte passes, each does
 head_passes : (b : Bool) (m k : ℕ) → (if b then m + 1 else 0) ≡ suc k → b ≡ true
-head_passes true m k e = refl
-head_passes false m k e = absurd (omega (arith, e))
+head_passes b m k h0 = grind arith
 
 rest_passes : (b : Bool) (m k : ℕ) → (if b then m + 1 else 0) ≡ suc k → m ≡ k
-rest_passes true m k e = omega (arith, e)
-rest_passes false m k e = absurd (omega (arith, e))
+rest_passes b m k h0 = grind arith
 
 pub run_all : (p : ℕ → Bool) (xs : List ℕ) (i : ℕ) → run p xs ≡ length xs → i < length xs → p (get_or xs i 0) ≡ true
 unfolding run

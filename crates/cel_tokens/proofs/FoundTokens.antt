@@ -1,7 +1,7 @@
 -- The tokens of what is found at the front.
 use Rattle.std.proofs.Common.{◌≡◌, ℕ, suc, ◌+◌, ◌≤◌, List, [], ◌∷◌, ◌++◌, length, take, drop, refl, sym, ◌∙◌, ap, subst, arith}
-use Rattle.std.proofs.Common.{Bool, true, false, Option, Some, None}
-use Rattle.std.specs.Prelude.{◌&&◌, if◌then◌else◌, pos, neg_ℤ}
+use Rattle.std.proofs.Common.{Bool, true, false, Option, Some}
+use Rattle.std.specs.Prelude.{pos, neg_ℤ}
 use mathlib.Core.Logic.{inl, inr}
 use Rattle.std.proofs.lemmas.List.{length-take-le, length-drop, length-append, append_assoc, take-take, take-append-drop}
 use Rattle.std.proofs.Math.Seq.{take-append_seam}
@@ -37,38 +37,8 @@ Opens false quote b bs = (b ≡ quote) × (is_quote quote ≡ true)
 Opens true quote b [] = ⊥
 Opens true quote b (c ∷ cs) = (c ≡ quote) × (is_raw_prefix b ≡ true) × (is_quote quote ≡ true)
 
-both : (x y : Bool) → (x && y) ≡ true → (x ≡ true) × (y ≡ true)
-both true y h = (refl, h)
-both false y h = absurd cc
-
--- a literal that is raw or not, with its quote
-abbrev opened : Bool → ℕ → Option (Bool × ℕ)
-opened raw quote = Some (raw, quote)
-
-some_same : (x y : Bool × ℕ) → Some x ≡ Some y → x ≡ y
-some_same x y e = cc
-
-same_opening : (s t : Bool) (b c : ℕ) → opened s b ≡ opened t c → (s ≡ t) × (b ≡ c)
-same_opening s t b c e =
-    let p = some_same (s, b) (t, c) e in
-    (ap (λ (x : Bool × ℕ). x.0) p, ap (λ (x : Bool × ℕ). x.1) p)
-
 pub opens : (raw : Bool) (quote b : ℕ) (bs : List ℕ) → opening (b ∷ bs) ≡ Some (raw, quote) → Opens raw quote b bs
-opens raw quote b [] e = by (is_quote b) refl e
-  where
-    by : (t : Bool) → is_quote b ≡ t → (if t then opened false b else None) ≡ opened raw quote → Opens raw quote b []
-    by true q e = let p = same_opening false raw b quote e in subst (λ r. Opens r quote b []) p.0 (p.1, subst (λ k. is_quote k ≡ true) p.1 q)
-    by false q e = absurd cc
-opens raw quote b (c ∷ cs) e = by (is_quote b) (is_raw_prefix b && is_quote c) refl refl e
-  where
-    by : (t u : Bool) → is_quote b ≡ t → (is_raw_prefix b && is_quote c) ≡ u
-        → (if t then opened false b else (if u then opened true c else None)) ≡ opened raw quote → Opens raw quote b (c ∷ cs)
-    by true u q r e = let p = same_opening false raw b quote e in subst (λ z. Opens z quote b (c ∷ cs)) p.0 (p.1, subst (λ k. is_quote k ≡ true) p.1 q)
-    by false true q r e =
-        let p = same_opening true raw c quote e in
-        let h = both (is_raw_prefix b) (is_quote c) r in
-        subst (λ z. Opens z quote b (c ∷ cs)) p.0 (p.1, h.0, subst (λ k. is_quote k ≡ true) p.1 h.1)
-    by false false q r e = absurd cc
+opens raw quote b bs h0 = grind arith
 
 pub text_token : (signed raw : Bool) (quote b n : ℕ) (bs said : List ℕ) → Opens raw quote b bs → Says raw quote (drop (opening_len raw) (b ∷ bs)) n said
     → HasToken signed (b ∷ bs) (opening_len raw + n) (text said)
@@ -99,8 +69,7 @@ mark_within (a ∷ b ∷ bs) m n e =
     elim (marked.of_two_is (two_bytes a b) (one_byte a) m n e) [ inl p ↦ (let q = p.1 in omega (arith, q)) | inr p ↦ (let q = p.1 in omega (arith, q)) ]
 
 no_word : (o : Option Mark) (m : Mark) → mark_word o ≡ mark m → o ≡ Some m
-no_word None m e = absurd cc
-no_word (Some k) m e = cc
+no_word o m h0 = grind arith
 
 pub mark_token : (signed : Bool) (bytes : List ℕ) (m : Mark) (n : ℕ) → mark_at bytes ≡ Some (m, n) → HasToken signed bytes n (mark m)
 mark_token signed bytes m n e = (mark_within bytes m n e, a_mark (no_word (mark_of (take n bytes)) m (marked.taken bytes m n e)))
@@ -108,8 +77,7 @@ mark_token signed bytes m n e = (mark_within bytes m n e, a_mark (no_word (mark_
 -- ---- ints with a sign
 
 line_front : (xs more : List ℕ) → IsLineOver (xs ++ more) → IsLineOver xs
-line_front [] more h = tt
-line_front (x ∷ xs) more h = h
+line_front xs more h0 = grind arith
 
 -- without what stands behind
 cut : {bytes rest : List ℕ} → Skips bytes rest → (digits more : List ℕ) → rest ≡ digits ++ more → (first : List ℕ) × (bytes ≡ first ++ more)

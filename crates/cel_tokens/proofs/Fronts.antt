@@ -1,6 +1,6 @@
 -- The definition of what stands at the front, without cases on the text.
-use Rattle.std.proofs.Common.{◌≡◌, ℕ, ◌<◌, ◌≤◌, List, [], ◌∷◌, length, get_or, refl, arith, Bool, true, false}
-use Rattle.std.specs.Prelude.{if◌then◌else◌, nat_lt, ◌==◌, Result, Ok, Err, OnErr}
+use Rattle.std.proofs.Common.{◌≡◌, ℕ, ◌<◌, ◌≤◌, List, length, get_or, refl, arith, Bool, true, false}
+use Rattle.std.specs.Prelude.{if◌then◌else◌, nat_lt, ◌==◌, Result, OnErr}
 use Rattle.std.proofs.lemmas.Bool.Decides.{nat_tests}
 use Rattle.cel_tokens.specs.Bytes.{between}
 use Rattle.std.specs.Str.{IsUtf8}
@@ -12,13 +12,11 @@ use Rattle.cel_tokens.specs.Front.{front, front_word, over, space}
 
 pub front_nil : (signed : Bool) (xs : List ℕ) → length xs ≤ 0 → front signed xs ≡ over
 unfolding front
-front_nil signed [] h = refl
-front_nil signed (x ∷ xs) h = absurd (omega arith)
+front_nil signed xs h0 = grind arith
 
 pub front_is : (signed : Bool) (xs : List ℕ) → 0 < length xs → front signed xs ≡ (if nat_lt 0 (between false xs) then space (between false xs) else front_word signed (get_or xs 0 0) xs (opening xs))
 unfolding front
-front_is signed [] h = absurd (omega arith)
-front_is signed (x ∷ xs) h = refl
+front_is signed xs h0 = grind arith
 
 pub front_over : (signed : Bool) (xs : List ℕ) (b : Bool) → b ≡ (length xs == 0) → b ≡ true → front signed xs ≡ over
 front_over signed xs b e t = front_nil signed xs (grind (arith, nat_tests))
@@ -47,5 +45,4 @@ opened bytes true quote q u =
 
 -- what holds whatever is answered
 pub in_any_case : {T E P : Type 0} (r : Result T E) → P → OnErr r P
-in_any_case (Ok x) p = tt
-in_any_case (Err e) p = p
+in_any_case r h0 = grind arith

@@ -1,12 +1,9 @@
 -- Each int of a text's tokens has 64 bits.
-use Rattle.std.proofs.Common.{◌≡◌, ℕ, List, [], ◌∷◌, drop, Bool, true, false, Option, Some, None, refl, arith, subst}
-use Rattle.std.specs.Prelude.{if◌then◌else◌, ◌&&◌, nat_lt, ℤ, pos, negsuc, All, IfSome, IfOk, Result, Ok, FitsSigned}
-use Rattle.std.specs.Int.{w64}
+use Rattle.std.proofs.Common.{◌≡◌, ℕ, List, [], ◌∷◌, drop, Bool, true, false, Option, Some, None, arith, subst}
+use Rattle.std.specs.Prelude.{if◌then◌else◌, ◌&&◌, nat_lt, All, IfOk, Result, Ok}
 use Rattle.std.proofs.lemmas.List.Elements.{All-nil, All-push}
-use Rattle.std.proofs.lemmas.Bool.Decides.{nat_tests}
 use Rattle.cel_tokens.specs.Token.{Word, Lexeme}
 use Rattle.cel_tokens.specs.Bytes.{is_letter, is_digit_of, between}
-use Rattle.cel_tokens.specs.Ints.{fits64, with_sign, int_of, int_at}
 use Rattle.cel_tokens.specs.Marks.{mark_at}
 use Rattle.cel_tokens.specs.Texts.{opening, opening_len, content}
 use Rattle.cel_tokens.specs.Front as front
@@ -23,29 +20,16 @@ Fits (front.word n w) = IntFits w
 Fits _ = Unit {0}
 
 either : (b : Bool) (x y : Front) → Fits x → Fits y → Fits (if b then x else y)
-either true x y f g = f
-either false x y f g = g
-
-by_test : (z : ℤ) (b : Bool) → fits64 z ≡ b → IfSome (if b then Some z else None) (FitsSigned w64)
-by_test z false e = tt
-by_test (pos n) true e = record { sfits = grind (arith, nat_tests) }
-by_test (negsuc n) true e = record { sfits = grind (arith, nat_tests) }
-
-int_fits : (before len : ℕ) (o : Option ℤ) → IfSome o (FitsSigned w64) → Fits (int_front before len o)
-int_fits before len None f = tt
-int_fits before len (Some z) f = f
+either b x y h0 h1 = grind arith
 
 ints_fit : (minus : Bool) (before : ℕ) (digits : List ℕ) → Fits (front_int minus before digits)
-ints_fit minus before digits =
-    int_fits before (int_at digits).0 (int_of minus (int_at digits).1) (by_test (with_sign minus (int_at digits).1) (fits64 (with_sign minus (int_at digits).1)) refl)
+ints_fit minus before digits = grind arith
 
 mark_fits : (o : Option (Mark × ℕ)) → Fits (front_mark o)
-mark_fits None = tt
-mark_fits (Some x) = tt
+mark_fits o = grind arith
 
 text_fits : (before : ℕ) (o : Option (ℕ × List ℕ)) → Fits (front_text before o)
-text_fits before None = tt
-text_fits before (Some x) = tt
+text_fits before o = grind arith
 
 plain_fits : (signed : Bool) (b : ℕ) (bytes : List ℕ) → Fits (front_plain signed b bytes)
 plain_fits signed b bytes =

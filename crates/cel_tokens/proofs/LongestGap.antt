@@ -15,8 +15,7 @@ line_end_blank : (b : ℕ) → is_line_end b ≡ true → is_blank b ≡ true
 line_end_blank b h = grind (arith, nat_tests)
 
 no_true : (b : Bool) → not b ≡ true → b ≡ false
-no_true true e = absurd cc
-no_true false e = refl
+no_true b h0 = grind arith
 
 nothing : (c : Bool) → between c [] ≡ 0
 unfolding between
@@ -70,8 +69,7 @@ none_longer s = let e = goes_on s in omega (arith, e)
 -- ---- what is computed is a stretch
 
 within_test : (t : Bool) (m n : ℕ) → m ≤ n → (if t then m + 1 else 0) ≤ n + 1
-within_test true m n h = omega arith
-within_test false m n h = omega arith
+within_test t m n h0 = grind arith
 
 pub within : (c : Bool) (bytes : List ℕ) → between c bytes ≤ length bytes
 unfolding between
@@ -120,8 +118,7 @@ equal_here : (b k : ℕ) → (b == k) ≡ true → b ≡ k
 equal_here b k e = grind (arith, nat_tests)
 
 both : (x y : Bool) → (x && y) ≡ true → (x ≡ true) × (y ≡ true)
-both true y h = (refl, h)
-both false y h = absurd cc
+both x y h0 = grind arith
 
 -- the comment's rest behind a byte of these, if there is one
 abbrev AfterOne : List ℕ → Type 0

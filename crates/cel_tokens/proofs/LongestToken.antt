@@ -2,7 +2,6 @@
 use Rattle.std.proofs.Common.{◌≡◌, ℕ, suc, ◌+◌, ◌<◌, ◌≤◌, List, [], ◌∷◌, ◌++◌, length, take, drop, refl, sym, ◌∙◌, ap, subst, arith, Bool, true, false}
 use Rattle.std.proofs.Common.{Option, Some, None}
 use Rattle.std.specs.Prelude.{◌⊎◌, ◌==◌, ◌&&◌, if◌then◌else◌, ℤ}
-use mathlib.Core.Logic.{inl, inr}
 use Rattle.std.proofs.lemmas.Bool.Decides.{nat_tests}
 use Rattle.std.proofs.lemmas.List.{length-append, length-take-le, append_assoc, take-append-drop, take-append-le}
 use Rattle.std.proofs.Math.Seq.{drop-append_seam}
@@ -41,16 +40,13 @@ AtLeast bytes k _ = ⊥
 
 int_takes : (bytes : List ℕ) (k before : ℕ) (o : Option ℤ) → k ≤ before + (int_at (drop before bytes)).0
     → AtLeast bytes k (int_front before (int_at (drop before bytes)).0 o)
-int_takes bytes k before None h = h
-int_takes bytes k before (Some z) h = h
+int_takes bytes k before o h0 = grind arith
 
 text_takes : (bytes : List ℕ) (k before : ℕ) (o : Option (ℕ × List ℕ)) → k ≤ before → AtLeast bytes k (front_text before o)
-text_takes bytes k before None h = tt
-text_takes bytes k before (Some x) h = omega (arith, h)
+text_takes bytes k before o h0 = grind arith
 
 opens_some : (raw : Bool) → 1 ≤ opening_len raw
-opens_some true = omega arith
-opens_some false = omega arith
+opens_some raw = grind arith
 
 name_byte : (b : ℕ) → is_letter b ≡ true → is_name_byte b ≡ true
 name_byte b l = rw l refl
@@ -74,11 +70,7 @@ taken signed first rest t = subst (AtLeast (first ++ rest) (length first)) (sym 
 -- ---- names
 
 no_raw_text : (b c : ℕ) (bs : List ℕ) → is_quote b ≡ false → is_quote c ≡ false → opening (b ∷ c ∷ bs) ≡ None
-no_raw_text b c bs p q = by (is_raw_prefix b) refl
-  where
-    by : (t : Bool) → is_raw_prefix b ≡ t → opening (b ∷ c ∷ bs) ≡ None
-    by true e = rw (p, e, q) refl
-    by false e = rw (p, e) refl
+no_raw_text b c bs h0 h1 = grind arith
 
 name_byte_is_no_quote : (b : ℕ) → is_name_byte b ≡ true → is_quote b ≡ false
 name_byte_is_no_quote b h = grind (arith, nat_tests)
@@ -94,8 +86,7 @@ name_takes signed (b ∷ c ∷ bs) rest a =
 
 either : (signed : Bool) (first rest : List ℕ) → length first ≤ (int_at (first ++ rest)).0
     → (front signed (first ++ rest) ≡ front.wide_int 0) ⊎ Takes signed first rest → TakesAll signed first rest
-either signed first rest l (inl e) = subst (AtLeast (first ++ rest) (length first)) (sym e) (omega (arith, l))
-either signed first rest l (inr t) = taken signed first rest t
+either signed first rest h0 h1 = grind arith
 
 int_takes_all : (signed : Bool) {bytes : List ℕ} {value : ℕ} → Spells bytes value → (rest : List ℕ) → TakesAll signed bytes rest
 int_takes_all signed (decimal ds a) rest = either signed ds rest (no_longer (decimal ds a) rest) (no_longer_int signed ds rest a)
@@ -115,8 +106,7 @@ pub some_behind : {bytes rest : List ℕ} → Skips bytes rest → 0 < length re
 some_behind {bytes} {rest} s h = let g = skipped s in omega (arith, h, ap length g.1, length-append g.0 rest)
 
 line_grown : (xs more : List ℕ) → 0 < length xs → IsLineOver xs → IsLineOver (xs ++ more)
-line_grown [] more l h = absurd (omega (arith, l))
-line_grown (x ∷ xs) more l h = h
+line_grown xs more h0 h1 = grind arith
 
 grown : {bytes rest : List ℕ} → Skips bytes rest → (more : List ℕ) → 0 < length rest → Skips (bytes ++ more) (rest ++ more)
 grown none more l = none
@@ -126,8 +116,7 @@ grown (comment inside after {rest} a h s) more l =
     (comment inside (after ++ more) a (line_grown after more (some_behind s l) h) (grown s more l))
 
 pub some_digits : {digits : List ℕ} {value : ℕ} → Spells digits value → 0 < length digits
-some_digits (decimal [] a) = absurd a
-some_digits _ = omega arith
+some_digits h0 = grind arith
 
 signed_takes : {bytes digits : List ℕ} {value : ℕ} → Skips bytes digits → Spells digits value → (rest : List ℕ) → TakesAll true (45 ∷ bytes) rest
 signed_takes {bytes} {digits} s p rest =
@@ -167,8 +156,7 @@ both_here : (a b k l : ℕ) → ((a == k) && (b == l)) ≡ true → a ≡ k
 both_here a b k l e = grind (arith, nat_tests)
 
 chosen : {P : Type 0} (t : Bool) (k m : Mark) (o : Option Mark) → (t ≡ true → P) → (o ≡ Some m → P) → (if t then Some k else o) ≡ Some m → P
-chosen true k m o f g e = f refl
-chosen false k m o f g e = g e
+chosen t k m o h0 h1 h2 = grind arith
 
 at : (a b k l : ℕ) → BeginsMark k → ((a == k) && (b == l)) ≡ true → BeginsMark a
 at a b k l h e = subst BeginsMark (sym (both_here a b k l e)) h
@@ -183,8 +171,7 @@ two_begin a b m e =
     (chosen ((a == 33) && (b == 61)) _ m _ (at a b 33 61 (λ s bs. plain_front s 33 bs refl refl refl refl refl refl refl)) (λ f. absurd cc)))))) e
 
 of_two_takes : (bytes : List ℕ) (o : Option Mark) (m : Mark) → AtLeast bytes 1 (front_mark (of_two o (Some m)))
-of_two_takes bytes None m = omega arith
-of_two_takes bytes (Some k) m = omega arith
+of_two_takes bytes o m = grind arith
 
 mark_takes : (signed : Bool) (bytes rest : List ℕ) (m : Mark) → mark_of bytes ≡ Some m → TakesAll signed bytes rest
 mark_takes signed (a ∷ []) [] m e = takes_one signed a [] (front signed (a ∷ [])) (case.found signed a []) (λ l. rw e (omega arith))
@@ -212,8 +199,7 @@ more_says {raw} {quote} {bytes} s rest =
     says_alike s (bytes ++ rest) (omega (arith, length-append bytes rest), take-append-le (length bytes) bytes rest (omega arith))
 
 pub quoted : (quote : ℕ) (bs : List ℕ) → is_quote quote ≡ true → opening (quote ∷ bs) ≡ Some (false, quote)
-quoted quote [] q = rw q refl
-quoted quote (c ∷ cs) q = rw q refl
+quoted quote bs h0 = grind arith
 
 pub raw_quoted : (prefix quote : ℕ) (bs : List ℕ) → is_raw_prefix prefix ≡ true → is_quote quote ≡ true → opening (prefix ∷ quote ∷ bs) ≡ Some (true, quote)
 raw_quoted prefix quote bs r q = let p = prefix_is_plain prefix r in rw (p.2, r, q) refl

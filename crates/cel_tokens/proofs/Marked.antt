@@ -1,5 +1,6 @@
 -- The bytes of a mark say which it is.
-use Rattle.std.proofs.Common.{◌≡◌, ℕ, List, [], ◌∷◌, take, Option, Some, None, sym, subst, ap, inl, inr}
+use Rattle.std.proofs.Common.{arith}
+use Rattle.std.proofs.Common.{◌≡◌, ℕ, List, [], ◌∷◌, take, Option, Some, sym, subst, ap, inl, inr}
 use Rattle.std.specs.Prelude.{◌⊎◌}
 use Rattle.cel_tokens.specs.Front.{front_mark}
 use Rattle.cel_tokens.specs.Front as front
@@ -8,16 +9,10 @@ use Rattle.cel_tokens.specs.Token.{mark, mark_word}
 use Rattle.cel_tokens.specs.declared.mark.Mark.{Mark}
 
 pub of_one_is : (o : Option Mark) (m : Mark) (n : ℕ) → of_one o ≡ Some (m, n) → (o ≡ Some m) × (n ≡ 1)
-of_one_is None m n e = absurd (cc)
-of_one_is (Some x) m n e =
-    let p : (m, n) ≡ (x, 1) = cc in
-    (ap (λ (q : Mark × ℕ). Some q.0) (sym p), ap (λ (q : Mark × ℕ). q.1) p)
+of_one_is o m n h0 = grind arith
 
 pub of_two_is : (two one : Option Mark) (m : Mark) (n : ℕ) → of_two two one ≡ Some (m, n) → ((two ≡ Some m) × (n ≡ 2)) ⊎ ((one ≡ Some m) × (n ≡ 1))
-of_two_is None one m n e = inr (of_one_is one m n e)
-of_two_is (Some x) one m n e =
-    let p : (m, n) ≡ (x, 2) = cc in
-    inl (ap (λ (q : Mark × ℕ). Some q.0) (sym p), ap (λ (q : Mark × ℕ). q.1) p)
+of_two_is two one m n h0 = grind arith
 
 pub taken : (bytes : List ℕ) (m : Mark) (n : ℕ) → mark_at bytes ≡ Some (m, n) → mark_word (mark_of (take n bytes)) ≡ mark m
 taken [] m n e = absurd (cc)

@@ -31,12 +31,10 @@ run_passes p (x ∷ xs) a =
     omega (arith, i, r)
 
 passes_head : (b : Bool) (m k : ℕ) → (if b then m + 1 else 0) ≡ suc k → b ≡ true
-passes_head true m k e = refl
-passes_head false m k e = absurd (omega (arith, e))
+passes_head b m k h0 = grind arith
 
 passes_rest : (b : Bool) (m k : ℕ) → (if b then m + 1 else 0) ≡ suc k → m ≡ k
-passes_rest true m k e = omega (arith, e)
-passes_rest false m k e = absurd (omega (arith, e))
+passes_rest b m k h0 = grind arith
 
 pub all_pass : (p : ℕ → Bool) (xs : List ℕ) → run p xs ≡ length xs → AllPass p xs
 unfolding run
@@ -51,10 +49,7 @@ Given base count len bytes x =
     (count ≤ length bytes) × AreDigits base count (take count bytes) × (is_code_point (number base (take count bytes)) ≡ true) × (x ≡ (number base (take count bytes), len))
 
 given_code : (base count len : ℕ) (bytes : List ℕ) (x : ℕ × ℕ) → (count ≤ length bytes) → AreDigits base count (take count bytes) → (n : ℕ) → n ≡ number base (take count bytes) → (t : Bool) → is_code_point n ≡ t → option_map (λ m. (m, len)) (if t then Some n else None) ≡ Some x → Given base count len bytes x
-given_code base count len bytes x l d n q true t e =
-    let s : (n, len) ≡ x = cc in
-    (l, d, subst (λ m. is_code_point m ≡ true) q t, sym s ∙ ap (λ m. (m, len)) q)
-given_code base count len bytes x l d n q false t e = absurd cc
+given_code base count len bytes x h0 h1 n h2 t h3 h4 = grind arith
 
 given_run : (base count len : ℕ) (bytes : List ℕ) (x : ℕ × ℕ) (r : ℕ) → run (is_digit_of base) (take count bytes) ≡ r → (t : Bool) → (r == count) ≡ t → option_map (λ m. (m, len)) (option_and_then code_point (if t then Some (number base (take count bytes)) else None)) ≡ Some x → Given base count len bytes x
 given_run base count len bytes x r e true t f =
@@ -86,9 +81,7 @@ NamedIf bytes o = (x : ℕ × ℕ) → o ≡ Some x → Named bytes x
 
 -- one letter
 one : (k code : ℕ) (bs : List ℕ) → Names (k ∷ []) code → NamedIf (k ∷ bs) (Some (code, 1))
-one k code bs n x e =
-    let s : (code, 1) ≡ x = cc in
-    subst (Named (k ∷ bs)) s (omega arith, n)
+one k code bs h0 = grind arith
 
 -- what stands behind a test, whichever way it goes
 choose : (bytes : List ℕ) (t : Bool) (o p : Option (ℕ × ℕ)) → (t ≡ true → NamedIf bytes o) → NamedIf bytes p → NamedIf bytes (if t then o else p)
@@ -161,8 +154,7 @@ octal_named b bs h x e =
     subst (Named (b ∷ bs)) (sym g.3) (g.0, octal (take 3 (b ∷ bs)) g.1 (at_most_377 b bs h g.1))
 
 x_by : (b : ℕ) (t : Bool) → (b == 120) ≡ t → (t || (b == 88)) ≡ true → (b ≡ 120) ⊎ (b ≡ 88)
-x_by b true t h = inl (equal_here b 120 t)
-x_by b false t h = inr (equal_here b 88 h)
+x_by b t h0 h1 = grind arith
 
 x_here : (b : ℕ) → ((b == 120) || (b == 88)) ≡ true → (b ≡ 120) ⊎ (b ≡ 88)
 x_here b h = x_by b (b == 120) refl h
@@ -222,14 +214,7 @@ first_octal a b c h d = let v : digit_value a ≤ 3 = omega (arith, h) in first_
 
 octal_here : (b : ℕ) (bs : List ℕ) → (48 ≤ b) × (b ≤ 51) → escape (b ∷ bs) ≡ numeric 8 3 3 (b ∷ bs)
 unfolding escape
-octal_here b bs h =
-    let x : (b == 120) ≡ false = grind (arith, nat_tests, h.0, h.1) in
-    let y : (b == 88) ≡ false = grind (arith, nat_tests, h.0, h.1) in
-    let u : (b == 117) ≡ false = grind (arith, nat_tests, h.0, h.1) in
-    let v : (b == 85) ≡ false = grind (arith, nat_tests, h.0, h.1) in
-    let l : nat_lt 47 b ≡ true = grind (arith, nat_tests, h.0, h.1) in
-    let r : nat_lt b 52 ≡ true = grind (arith, nat_tests, h.0, h.1) in
-    rw (x, y, u, v, l, r) refl
+octal_here b bs h0 = grind arith
 
 octal_computed : (ds : List ℕ) → AreDigits 8 3 ds → number 8 ds ≤ 255 → Computed ds (number 8 ds)
 octal_computed (a ∷ b ∷ c ∷ []) d h rest =

@@ -1,12 +1,12 @@
 -- A minus and the int behind it are one token, where the minus may be a sign.
-use Rattle.std.proofs.Common.{◌≡◌, ℕ, suc, zero, ◌+◌, ◌^◌, ◌<◌, ◌≤◌, List, [], ◌∷◌, ◌++◌, length, take, drop, refl, sym, ◌∙◌, ap, subst, arith, Bool, true, false}
+use Rattle.std.proofs.Common.{◌≡◌, ℕ, suc, ◌+◌, ◌^◌, ◌<◌, ◌≤◌, List, [], ◌∷◌, ◌++◌, length, take, drop, refl, sym, ◌∙◌, ap, subst, arith, Bool, true, false}
 use Rattle.std.specs.Prelude.{◌⊎◌, ◌==◌, ◌&&◌, if◌then◌else◌, ℤ, pos, neg_ℤ}
 use mathlib.Core.Logic.{inl, inr}
 use Rattle.std.proofs.lemmas.Bool.Decides.{nat_tests}
 use Rattle.std.proofs.lemmas.Bool.{cases_lt}
 use Rattle.std.proofs.lemmas.List.{length-take-le, length-drop, take-append-drop}
 use Rattle.cel_tokens.specs.declared.mark.Mark.TheVariants.{Minus}
-use Rattle.cel_tokens.specs.Token.{Word, int, mark}
+use Rattle.cel_tokens.specs.Token.{int, mark}
 use Rattle.cel_tokens.specs.Bytes.{is_digit_of, run, between}
 use Rattle.cel_tokens.specs.Marks.{mark_at}
 use Rattle.cel_tokens.specs.Ints.{number, int_at, int_of, digit_begins, hex_begins, spelled, fits64}
@@ -22,10 +22,7 @@ use Rattle.cel_tokens.proofs.LongestGap.{goes_on, is_longest_gap}
 -- ---- the int at the front is the longest
 
 passes_by : (p : ℕ → Bool) (x : ℕ) (xs : List ℕ) → AllPass p (take (run p xs) xs) → (t : Bool) → p x ≡ t → AllPass p (take (if t then run p xs + 1 else 0) (x ∷ xs))
-passes_by p x xs a true t =
-    let q : run p xs + 1 ≡ suc (run p xs) = omega arith in
-    rw q (t, a)
-passes_by p x xs a false t = tt
+passes_by p x xs h0 t h1 = grind arith
 
 -- as many bytes as pass, pass
 pub front_passes : (p : ℕ → Bool) (xs : List ℕ) → AllPass p (take (run p xs) xs)
@@ -53,8 +50,7 @@ equal_here : (b k : ℕ) → (b == k) ≡ true → b ≡ k
 equal_here b k e = grind (arith, nat_tests)
 
 both : (x y : Bool) → (x && y) ≡ true → (x ≡ true) × (y ≡ true)
-both true y h = (refl, h)
-both false y h = absurd cc
+both x y h0 = grind arith
 
 -- what begins with 0x and a hex digit
 hex_spells : (bytes : List ℕ) → hex_begins bytes ≡ true → Spells (take ((spelled 16 (drop 2 bytes)).0 + 2) bytes) (spelled 16 (drop 2 bytes)).1
@@ -98,17 +94,8 @@ int_is bytes d = (within_by bytes (hex_begins bytes) refl, spells_by bytes d (he
 
 -- ---- there is one
 
-from_decimal : {xs : List ℕ} {n : ℕ} → Spells xs n → IsDecimal xs → number 10 xs ≡ n
-from_decimal (decimal ds b) a = refl
-from_decimal (hex d ds b) a = let w : false ≡ true = a.1.0 in absurd cc
-
-from_hex : {xs : List ℕ} {n : ℕ} → Spells xs n → (d : ℕ) (ds : List ℕ) → xs ≡ 48 ∷ 120 ∷ d ∷ ds → number 16 (d ∷ ds) ≡ n
-from_hex (decimal xs b) d ds e = let w : false ≡ true = (subst IsDecimal e b).1.0 in absurd cc
-from_hex (hex c cs b) d ds e = ap (λ (xs : List ℕ). number 16 (drop 2 xs)) (sym e)
-
 pub same_value : {xs : List ℕ} {m n : ℕ} → Spells xs m → Spells xs n → m ≡ n
-same_value (decimal ds a) s = from_decimal s a
-same_value (hex d ds a) s = from_hex s d ds refl
+same_value h0 h1 = grind arith
 
 one_int : (bytes : List ℕ) (m n v w : ℕ) → IsInt bytes m v → IsInt bytes n w → (m ≡ n) × (v ≡ w)
 one_int bytes m n v w i j =
@@ -118,9 +105,7 @@ one_int bytes m n v w i j =
     (e, same_value (subst (λ k. Spells (take k bytes) v) e i.1) j.1)
 
 pub first_digit : {first : List ℕ} {value : ℕ} → Spells first value → (rest : List ℕ) → digit_begins (first ++ rest) ≡ true
-first_digit (decimal [] a) rest = absurd a
-first_digit (decimal (b ∷ bs) a) rest = a.0
-first_digit (hex d ds a) rest = refl
+first_digit h0 rest = grind arith
 
 pub int_digit : (bytes : List ℕ) (n v : ℕ) → IsInt bytes n v → digit_begins bytes ≡ true
 int_digit bytes n v i = subst (λ (xs : List ℕ). digit_begins xs ≡ true) (take-append-drop n bytes) (first_digit i.1 (drop n bytes))
@@ -142,13 +127,10 @@ gap_is bytes gap n v f =
 -- ---- what a minus begins
 
 minus_mark : (bytes : List ℕ) → front.front_mark (mark_at (45 ∷ bytes)) ≡ front.word 1 (mark Minus)
-minus_mark [] = refl
-minus_mark (c ∷ cs) = refl
+minus_mark bytes = grind arith
 
 behind_minus : (bytes : List ℕ) → drop (between false bytes + 1) (45 ∷ bytes) ≡ drop (between false bytes) bytes
-behind_minus bytes =
-    let q : between false bytes + 1 ≡ suc (between false bytes) = omega arith in
-    ap (λ n. drop n (45 ∷ bytes)) q
+behind_minus bytes = grind arith
 
 abbrev signed_front : ℕ → List ℕ → front.Front
 signed_front gap rest = int_front (gap + 1) (int_at rest).0 (int_of true (int_at rest).1)
@@ -174,12 +156,10 @@ sign_front bytes gap n v f =
 -- ---- 64 bits
 
 fits : (v : ℕ) → v ≤ 2 ^ 63 → fits64 (neg_ℤ (pos v)) ≡ true
-fits zero h = refl
-fits (suc k) h = grind (arith, nat_tests)
+fits v h0 = grind arith
 
 is_wide : (v : ℕ) → 2 ^ 63 < v → fits64 (neg_ℤ (pos v)) ≡ false
-is_wide zero h = absurd (omega arith)
-is_wide (suc k) h = grind (arith, nat_tests)
+is_wide v h0 = grind arith
 
 negated : (bytes : List ℕ) (gap n v : ℕ) → FollowsSign bytes gap n v → v ≤ 2 ^ 63 → front true (45 ∷ bytes) ≡ front.word (gap + 1 + n) (int (neg_ℤ (pos v)))
 negated bytes gap n v f h = sign_front bytes gap n v f ∙ (rw (fits v h) refl)
@@ -213,34 +193,11 @@ Negated bytes len z = (gap n value : ℕ) × FollowsSign bytes gap n value × (l
 abbrev Wide : List ℕ → ℕ → Type 0
 Wide bytes before = (gap n value : ℕ) × FollowsSign bytes gap n value × (before ≡ 1 + gap) × (2 ^ 63 < value)
 
-word_len : (m n : ℕ) (v w : Word) → front.word m v ≡ front.word n w → m ≡ n
-word_len m n v w e = cc
-
-word_int : (m n : ℕ) (y z : ℤ) → front.word m (int y) ≡ front.word n (int z) → y ≡ z
-word_int m n y z e = cc
-
-wide_before : (m n : ℕ) → front.wide_int m ≡ front.wide_int n → m ≡ n
-wide_before m n e = cc
-
-mark_is_no_int : {P : Type 0} (n : ℕ) (z : ℤ) → front.word 1 (mark Minus) ≡ front.word n (int z) → P
-mark_is_no_int n z e = absurd cc
-
-word_is_not_wide : {P : Type 0} (n m : ℕ) (w : Word) → front.word n w ≡ front.wide_int m → P
-word_is_not_wide n m w e = absurd cc
-
 is_negated : (bytes : List ℕ) (x : front.Front) (len : ℕ) (z : ℤ) → Begun bytes x → x ≡ front.word len (int z) → Negated bytes len z
-is_negated bytes x len z (inl (gap, n, v, f, h, e)) q =
-    let w = word_len (gap + 1 + n) len (int (neg_ℤ (pos v))) (int z) (sym e ∙ q) in
-    (gap, n, v, f, omega (arith, w), sym (word_int (gap + 1 + n) len (neg_ℤ (pos v)) z (sym e ∙ q)), h)
-is_negated bytes x len z (inr (inl (gap, n, v, f, h, e))) q = word_is_not_wide len (gap + 1) (int z) (sym q ∙ e)
-is_negated bytes x len z (inr (inr e)) q = mark_is_no_int len z (sym e ∙ q)
+is_negated bytes x len z h0 h1 = grind arith
 
 is_too_wide : (bytes : List ℕ) (x : front.Front) (before : ℕ) → Begun bytes x → x ≡ front.wide_int before → Wide bytes before
-is_too_wide bytes x before (inl (gap, n, v, f, h, e)) q = word_is_not_wide (gap + 1 + n) before (int (neg_ℤ (pos v))) (sym e ∙ q)
-is_too_wide bytes x before (inr (inl (gap, n, v, f, h, e))) q =
-    let w = wide_before (gap + 1) before (sym e ∙ q) in
-    (gap, n, v, f, omega (arith, w), h)
-is_too_wide bytes x before (inr (inr e)) q = word_is_not_wide 1 before (mark Minus) (sym e ∙ q)
+is_too_wide bytes x before h0 h1 = grind arith
 
 negated_back : (bytes : List ℕ) (len : ℕ) (z : ℤ) → Negated bytes len z → front true (45 ∷ bytes) ≡ front.word len (int z)
 negated_back bytes len z (gap, n, v, f, l, e, h) =

@@ -1,9 +1,8 @@
 -- No longer name and no longer int stands where a token is.
-use Rattle.std.proofs.Common.{◌≡◌, ℕ, ◌+◌, ◌≤◌, List, [], ◌∷◌, ◌++◌, length, take, refl, arith, Bool, true, false, None, Some, Option}
-use Rattle.std.specs.Prelude.{◌⊎◌, ◌==◌, ◌&&◌, if◌then◌else◌, ℤ, drop}
+use Rattle.std.proofs.Common.{◌≡◌, ℕ, ◌+◌, ◌≤◌, List, [], ◌∷◌, ◌++◌, length, take, refl, arith, Bool, true, false, None, Option}
+use Rattle.std.specs.Prelude.{◌⊎◌, ◌==◌, if◌then◌else◌, ℤ, drop}
 use Rattle.std.proofs.lemmas.Bool.Decides.{nat_tests}
-use mathlib.Core.Logic.{inl, inr}
-use Rattle.cel_tokens.specs.Token.{Word, name, int}
+use Rattle.cel_tokens.specs.Token.{Word, name}
 use Rattle.cel_tokens.specs.Bytes.{is_letter, is_name_byte, is_digit_of, is_blank, opens_comment, between, run}
 use Rattle.cel_tokens.specs.Ints.{int_at, int_of, hex_begins, spelled}
 use Rattle.cel_tokens.specs.Texts.{opening, is_quote, is_raw_prefix}
@@ -20,8 +19,7 @@ run_prefix p (x ∷ xs) ys a =
     omega (arith, r, i)
 
 no_comment : (b : ℕ) (bs : List ℕ) → (b == 47) ≡ false → opens_comment (b ∷ bs) ≡ false
-no_comment b [] e = refl
-no_comment b (c ∷ bs) e = rw e refl
+no_comment b bs h0 = grind arith
 
 -- no letter begins what stands between tokens
 letter_is_token : (b : ℕ) → is_letter b ≡ true → (is_blank b ≡ false) × ((b == 47) ≡ false)
@@ -54,8 +52,7 @@ digit_is_no_x : (b : ℕ) → is_digit_of 10 b ≡ true → (b == 120) ≡ false
 digit_is_no_x b h = grind (arith, nat_tests)
 
 pub no_text : (b : ℕ) (bs : List ℕ) → is_quote b ≡ false → is_raw_prefix b ≡ false → opening (b ∷ bs) ≡ None
-no_text b [] q r = rw q refl
-no_text b (c ∷ bs) q r = rw (q, r) refl
+no_text b bs h0 h1 = grind arith
 
 int_front_is : (signed : Bool) (b : ℕ) (bs : List ℕ) → is_digit_of 10 b ≡ true → front signed (b ∷ bs) ≡ front_int false 0 (b ∷ bs)
 unfolding front
@@ -63,17 +60,11 @@ int_front_is signed b bs d =
     let n = digit_is_no_letter b d in
     rw (begins_here b bs (digit_is_token b d), no_text b bs n.0 n.1, n.2, d) refl
 
-and_false : (x y : Bool) → (x && (false && y)) ≡ false
-and_false true y = refl
-and_false false y = refl
-
 no_hex : (b c : ℕ) (bs : List ℕ) → (c == 120) ≡ false → hex_begins (b ∷ c ∷ bs) ≡ false
-no_hex b c [] e = refl
-no_hex b c (d ∷ bs) e = rw e (and_false (b == 48) (is_digit_of 16 d))
+no_hex b c bs h0 = grind arith
 
 either_way : (h : Bool) (m n : ℕ × ℕ) → 1 ≤ m.0 → 1 ≤ n.0 → 1 ≤ (if h then m else n).0
-either_way true m n a b = a
-either_way false m n a b = b
+either_way h m n h0 h1 = grind arith
 
 pub int_len : (b : ℕ) (bs rest : List ℕ) → is_digit_of 10 b ≡ true → AllPass (is_digit_of 10) bs → length (b ∷ bs) ≤ (int_at ((b ∷ bs) ++ rest)).0
 int_len b [] rest d a =
@@ -82,8 +73,7 @@ int_len b (c ∷ bs) rest d a =
     rw (no_hex b c (bs ++ rest) (digit_is_no_x c a.0)) (run_prefix (is_digit_of 10) (b ∷ c ∷ bs) rest (d, a))
 
 found : (len k : ℕ) (o : Option ℤ) (x : front.Front) → x ≡ int_front 0 len o → k ≤ len → (x ≡ front.wide_int 0) ⊎ ((n : ℕ) × (w : Word) × (x ≡ front.word n w) × (k ≤ n))
-found len k None x e h = inl e
-found len k (Some z) x e h = inr (0 + len, int z, e, omega arith)
+found len k o x h0 h1 = grind arith
 
 pub no_longer_int : (signed : Bool) (first rest : List ℕ) → IsDecimal first → (front signed (first ++ rest) ≡ front.wide_int 0) ⊎ Takes signed first rest
 no_longer_int signed [] rest a = absurd a

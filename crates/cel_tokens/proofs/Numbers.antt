@@ -1,9 +1,8 @@
 -- The number that digits spell, kept within 64 bits.
-use Rattle.std.proofs.Common.{◌≡◌, ℕ, suc, zero, ◌+◌, ◌*◌, ◌-◌, ◌^◌, ◌<◌, ◌≤◌, List, [], ◌∷◌, length, get_or, drop, refl, sym, ◌∙◌, arith, drop-cons, Bool, true, false, None}
+use Rattle.std.proofs.Common.{◌≡◌, ℕ, suc, zero, ◌+◌, ◌*◌, ◌-◌, ◌^◌, ◌<◌, ◌≤◌, List, [], ◌∷◌, length, get_or, drop, refl, arith, drop-cons, Bool}
 use Rattle.std.proofs.Math.Nat.{le-mul_of_pos_right}
 use Rattle.std.proofs.lemmas.Bool.{cases_lt}
-use Rattle.std.specs.Prelude.{min, nat_lt}
-use Rattle.std.proofs.lemmas.Bool.Decides.{nat_tests}
+use Rattle.std.specs.Prelude.{min}
 use mathlib.Core.Logic.{inl, inr}
 use Rattle.std.specs.Char.{digit_value}
 use Rattle.cel_tokens.specs.Ints.{number_from, int_of}
@@ -49,15 +48,6 @@ number_more base v m xs n b h =
     let e : min (min (v * base) m + digit_value (get_or xs n 0)) m ≡ min (v * base + digit_value (get_or xs n 0)) m = omega arith in
     rw (e, step base v xs n h) (kept base (v * base + digit_value (get_or xs n 0)) m (drop (n + 1) xs) b)
 
-not_below : (n : ℕ) → 2 ^ 63 ≤ n → nat_lt n (2 ^ 63) ≡ false
-not_below n h = grind (arith, nat_tests)
-
-none_beyond : (minus : Bool) (n : ℕ) → 2 ^ 64 - 1 ≤ n → int_of minus n ≡ None
-none_beyond false n h = rw (not_below n (omega arith)) refl
-none_beyond true zero h = absurd (omega arith)
-none_beyond true (suc k) h = rw (not_below k (omega arith)) refl
-
 -- an int is the same whether its value was kept within 64 bits or not
 pub kept_int : (minus : Bool) (m : ℕ) → int_of minus (min m (2 ^ 64 - 1)) ≡ int_of minus m
-kept_int minus m =
-    elim (cases_lt m (2 ^ 64)) [ inl h ↦ let e : min m (2 ^ 64 - 1) ≡ m = omega arith in rw e refl | inr h ↦ none_beyond minus (min m (2 ^ 64 - 1)) (omega arith) ∙ sym (none_beyond minus m (omega arith)) ]
+kept_int minus m = grind arith

@@ -1,14 +1,12 @@
 -- A text ends in one way, and its tokens within the limits are its tokens.
 use Rattle.std.proofs.Common.{◌≡◌, ℕ, ◌+◌, ◌<◌, ◌≤◌, List, [], ◌∷◌, ◌++◌, length, drop, refl, sym, ◌∙◌, ap, arith, Bool, true, Result, Ok, Err, subst, append_assoc, append-nil, length-append}
 use Rattle.std.specs.Prelude.{◌⊎◌, ◌↔◌}
-use mathlib.Core.Logic.{inl, inr}
 use Rattle.cel_tokens.specs.Token.{Lexeme}
 use Rattle.cel_tokens.specs.Front as front
 use Rattle.cel_tokens.specs.Front.{front, sign_may_follow}
 use Rattle.cel_tokens.specs.Lexis.{Cuts, Begins, Tokens, IsTokens, Lexes, lexeme}
 use Rattle.cel_tokens.specs.Lexis.Cuts.{over, space, token, nothing, wrong_text, wide_int, too_many}
 use Rattle.cel_tokens.specs.Lexis.Tokens.{over as no_more, space as then_space, token as then_token}
-use Rattle.cel_tokens.specs.Lexis.Begins.{a_word}
 use Rattle.cel_tokens.specs.Lexis.Lexes.{too_long, read}
 use Rattle.cel_tokens.specs.declared.read_error.ReadError.{ReadError}
 use Rattle.cel_tokens.specs.declared.read_error.ReadError.TheVariants.{P1, P2, P3, P6}
@@ -27,30 +25,14 @@ Case so_far signed place rest r front.wrong_text = Within so_far place r (r ≡ 
 Case so_far signed place rest r (front.wide_int n) = Within so_far place r (r ≡ Err (P3 (place + n)))
 Case so_far signed place rest r front.nothing = r ≡ Err (P1 place)
 
-begun : (so_far : List Lexeme) (signed : Bool) (place : ℕ) (rest : List ℕ) (f : front.Front) → Begins f → 4096 ≤ length so_far → Case so_far signed place rest (Err (P6 place)) f
-begun so_far signed place rest f (a_word n w) h = inr (h, refl)
-begun so_far signed place rest f _ h = inr (h, refl)
-
 case_of : {so_far : List Lexeme} {signed : Bool} {place : ℕ} {rest : List ℕ} {r : Result (List Lexeme) ReadError} → Cuts signed so_far place rest r → Case so_far signed place rest r (front signed rest)
-case_of {so_far} {signed} {place} {rest} {r} (over f) = subst (Case so_far signed place rest r) (sym f) refl
-case_of {so_far} {signed} {place} {rest} {r} (space n f d) = subst (Case so_far signed place rest r) (sym f) d
-case_of {so_far} {signed} {place} {rest} {r} (token n w f l d) = subst (Case so_far signed place rest r) (sym f) (inl (l, d))
-case_of {so_far} {signed} {place} {rest} {r} (nothing f) = subst (Case so_far signed place rest r) (sym f) refl
-case_of {so_far} {signed} {place} {rest} {r} (wrong_text f l) = subst (Case so_far signed place rest r) (sym f) (inl (l, refl))
-case_of {so_far} {signed} {place} {rest} {r} (wide_int n f l) = subst (Case so_far signed place rest r) (sym f) (inl (l, refl))
-case_of {so_far} {signed} {place} {rest} {r} (too_many b h) = begun so_far signed place rest (front signed rest) b h
+case_of h0 = grind arith
 
 inside : (so_far : List Lexeme) (place : ℕ) (r : Result (List Lexeme) ReadError) (P : Type 0) → length so_far < 4096 → Within so_far place r P → P
-inside so_far place r P l (inl x) = x.1
-inside so_far place r P l (inr x) = absurd (omega (arith, l, x.0))
-
-outside : (so_far : List Lexeme) (place : ℕ) (r : Result (List Lexeme) ReadError) (P : Type 0) → 4096 ≤ length so_far → Within so_far place r P → r ≡ Err (P6 place)
-outside so_far place r P l (inl x) = absurd (omega (arith, l, x.0))
-outside so_far place r P l (inr x) = x.1
+inside so_far place r P h0 h1 = grind arith
 
 only_full : (so_far : List Lexeme) (signed : Bool) (place : ℕ) (rest : List ℕ) (r : Result (List Lexeme) ReadError) (f : front.Front) → Begins f → 4096 ≤ length so_far → Case so_far signed place rest r f → r ≡ Err (P6 place)
-only_full so_far signed place rest r f (a_word n w) h c = outside so_far place r _ h c
-only_full so_far signed place rest r f _ h c = outside so_far place r _ h c
+only_full so_far signed place rest r f h0 h1 h2 = grind arith
 
 at_front : {so_far : List Lexeme} {signed : Bool} {place : ℕ} {rest : List ℕ} {r : Result (List Lexeme) ReadError} (found : front.Front) → front signed rest ≡ found → Cuts signed so_far place rest r → Case so_far signed place rest r found
 at_front {so_far} {signed} {place} {rest} {r} found f c = subst (Case so_far signed place rest r) f (case_of c)
@@ -80,9 +62,7 @@ Next signed place rest ls (front.word n w) =
 Next signed place rest ls _ = ⊥
 
 next_of : {signed : Bool} {place : ℕ} {rest : List ℕ} {ls : List Lexeme} → Tokens signed place rest ls → Next signed place rest ls (front signed rest)
-next_of {signed} {place} {rest} {ls} (no_more f) = subst (Next signed place rest ls) (sym f) refl
-next_of {signed} {place} {rest} {ls} (then_space n f d) = subst (Next signed place rest ls) (sym f) d
-next_of {signed} {place} {rest} {ls} (then_token {more = more} n w f d) = subst (Next signed place rest ls) (sym f) (more, refl, d)
+next_of h0 = grind arith
 
 next_at : {signed : Bool} {place : ℕ} {rest : List ℕ} {ls : List Lexeme} (found : front.Front) → front signed rest ≡ found → Tokens signed place rest ls → Next signed place rest ls found
 next_at {signed} {place} {rest} {ls} found f t = subst (Next signed place rest ls) f (next_of t)

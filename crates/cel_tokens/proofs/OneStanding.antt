@@ -1,7 +1,7 @@
 -- One thing stands at the front of a text.
 use Rattle.std.proofs.Common.{◌≡◌, ℕ, suc, ◌+◌, ◌≤◌, List, [], ◌∷◌, take, drop, refl, sym, ◌∙◌, ap, subst, arith, Bool, true, false}
 use Rattle.std.proofs.lemmas.List.{length-drop}
-use Rattle.cel_tokens.specs.Token.{Word, int, text}
+use Rattle.cel_tokens.specs.Token.{Word, int}
 use Rattle.cel_tokens.specs.Front as front
 use Rattle.cel_tokens.specs.Gaps.{IsGap}
 use Rattle.cel_tokens.specs.SignedInts.{IsInt}
@@ -58,8 +58,7 @@ at_end signed bytes y e g = by y (subst (λ xs. StandsAtFront signed xs y) e g)
 
 -- a text literal is opened, and none stands there
 no_text : (signed : Bool) (bytes : List ℕ) (n : ℕ) (w : Word) → StandsAtFront signed bytes (front.word n w) → StandsAtFront signed bytes front.wrong_text → ⊥
-no_text signed bytes n (text said) f g = g.2 n said f.1.0
-no_text signed bytes n _ f g = f.2 g.1
+no_text signed bytes n w h0 h1 = grind arith
 
 -- an int that does not fit is no word
 no_wide : {P : Type 0} (signed : Bool) (bytes : List ℕ) (n before : ℕ) (w : Word) → StandsAtFront signed bytes (front.word n w)

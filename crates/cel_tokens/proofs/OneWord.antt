@@ -98,8 +98,7 @@ two_sign : (a b : ℕ) (m : Mark) → two_bytes a b ≡ Some m → IsSign a × (
 two_sign a b m e = ((grind (arith, nat_tests), grind (arith, nat_tests), grind (arith, nat_tests)), grind (arith, nat_tests))
 
 sign_whatever : (t : Bool) → kind_by false false false t false false ≡ Sign
-sign_whatever true = refl
-sign_whatever false = refl
+sign_whatever t = grind arith
 
 mark_kind : (bytes : List ℕ) (m : Mark) → mark_of bytes ≡ Some m → kind bytes ≡ Sign
 mark_kind [] m e = refl
@@ -108,8 +107,7 @@ mark_kind (a ∷ b ∷ []) m e = let p = two_sign a b m e in rw (p.0.0, p.0.1, p
 mark_kind (a ∷ b ∷ c ∷ bs) m e = absurd cc
 
 signed_kind : (bytes : List ℕ) → 0 < length bytes → kind (45 ∷ bytes) ≡ Signed
-signed_kind [] h = absurd (omega (arith, h))
-signed_kind (c ∷ cs) h = refl
+signed_kind bytes h0 = grind arith
 
 prefix_plain : (b : ℕ) → is_raw_prefix b ≡ true → (is_quote b ≡ false) × (is_letter b ≡ true)
 prefix_plain b r = (grind (arith, nat_tests), grind (arith, nat_tests))

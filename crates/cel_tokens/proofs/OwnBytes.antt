@@ -49,8 +49,7 @@ piece_alike raw b xs ys x e a = by (is_line_end b) (not raw && (b == 92)) e
 
 -- a literal takes a byte at least
 says_some : {raw : Bool} {quote n : ℕ} {xs said : List ℕ} → Says raw quote xs n said → 1 ≤ n
-says_some closing = omega arith
-says_some (one_piece x d e s) = let l = says_some s in omega (arith, l)
+says_some h0 = grind arith
 
 -- and no more than there are
 pub says_within : {raw : Bool} {quote n : ℕ} {xs said : List ℕ} → Says raw quote xs n said → n ≤ length xs
@@ -61,9 +60,7 @@ says_within (one_piece {b = b} {bs = bs} x d e s) =
     omega (arith, h, k, length-drop x.0 (b ∷ bs))
 
 first_alike : (n b c : ℕ) (xs ys : List ℕ) → 1 ≤ n → Alike n (b ∷ xs) (c ∷ ys) → c ≡ b
-first_alike n b c xs ys h a =
-    let e = (alike_fewer 1 n (b ∷ xs) (c ∷ ys) h a).1 in
-    cc
+first_alike n b c xs ys h0 h1 = grind arith
 
 pub says_alike : {raw : Bool} {quote n : ℕ} {xs said : List ℕ} → Says raw quote xs n said → (ys : List ℕ) → Alike n xs ys → Says raw quote ys n said
 says_alike {raw} {quote} (closing {rest = rest}) [] a = let l = a.0 in absurd (omega (arith, l))

@@ -1,26 +1,18 @@
 -- A plain stretch of a text literal stands for itself.
 use Rattle.std.proofs.Common.{◌≡◌, ℕ, suc, ◌+◌, List, [], ◌∷◌, ◌++◌, take, drop, refl, sym, ◌∙◌, ap, subst, arith, Bool, true, false, Some}
-use Rattle.std.specs.Prelude.{◌≢◌, ◌==◌, ◌-◌, cond, option_and_then}
+use Rattle.std.specs.Prelude.{◌≢◌, ◌-◌, cond, option_and_then}
 use Rattle.std.specs.Str.{IsUtf8}
 use Rattle.std.proofs.lemmas.Bool.Decides.{nat_tests}
 use Rattle.std.proofs.lemmas.List.{append-nil, append_assoc, drop-drop, take-append-drop}
 use Rattle.text_kernels.specs.Scans.{is_plain, skip_plain_of}
-use Rattle.cel_tokens.specs.Bytes.{is_line_end}
 use Rattle.cel_tokens.specs.Texts.{content, piece, is_quote}
 use Rattle.cel_tokens.proofs.Contents.{ended, goes_on, utf8_step}
-
-plain_ends_no_line : (b : ℕ) → is_plain b ≡ true → is_line_end b ≡ false
-plain_ends_no_line b h = grind (arith, nat_tests)
-
-plain_is_no_backslash : (b : ℕ) → is_plain b ≡ true → (b == 92) ≡ false
-plain_is_no_backslash b h = grind (arith, nat_tests)
 
 plain_is_no_quote : (b quote : ℕ) → is_quote quote ≡ true → is_plain b ≡ true → b ≢ quote
 plain_is_no_quote b quote q h = grind (arith, nat_tests)
 
 plain_piece : (raw : Bool) (b : ℕ) (bs : List ℕ) → is_plain b ≡ true → piece raw (b ∷ bs) ≡ Some (1, b ∷ [])
-plain_piece true b bs h = rw (plain_ends_no_line b h) refl
-plain_piece false b bs h = rw (plain_ends_no_line b h, plain_is_no_backslash b h) refl
+plain_piece raw b bs h0 = grind arith
 
 -- the same place and the same text, written in another way
 placed : (raw : Bool) (quote m n : ℕ) (said new rest : List ℕ) → m ≡ n → said ≡ new → content raw quote 0 m said rest ≡ content raw quote 0 n new rest

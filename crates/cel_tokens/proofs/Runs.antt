@@ -29,8 +29,7 @@ pub run_stops : (p : ℕ → Bool) (xs : List ℕ) (n : ℕ) → n < length xs �
 run_stops p xs n h e = rw (drop-cons xs n 0) (run_off p (get_or xs n 0) (drop (suc n) xs) e)
 
 within_step : (b : Bool) (m n : ℕ) → m ≤ n → (if b then m + 1 else 0) ≤ n + 1
-within_step true m n h = omega arith
-within_step false m n h = omega arith
+within_step b m n h0 = grind arith
 
 pub run_within : (p : ℕ → Bool) (xs : List ℕ) → run p xs ≤ length xs
 unfolding run
@@ -69,8 +68,7 @@ tail_is xs n = take_all (length xs - n) (drop n xs) (omega (arith, length-drop n
 
 -- where the first byte passes, some do
 run_head : (b : Bool) (m : ℕ) → b ≡ true → 1 ≤ (if b then m + 1 else 0)
-run_head true m e = omega arith
-run_head false m e = cc
+run_head b m h0 = grind arith
 
 pub run_first : (p : ℕ → Bool) (xs : List ℕ) → 0 < length xs → p (get_or xs 0 0) ≡ true → 1 ≤ run p xs
 unfolding run

@@ -1,29 +1,19 @@
 -- What is computed of a text literal is what its pieces say.
 use Rattle.std.proofs.Common.{◌≡◌, ℕ, suc, zero, ◌+◌, ◌-◌, ◌<◌, ◌≤◌, List, [], ◌∷◌, ◌++◌, length, drop, refl, sym, ◌∙◌, ap, subst, arith, Bool, true, false, Option, Some, None}
-use Rattle.std.specs.Prelude.{◌≢◌, ◌==◌, ◌&&◌, if◌then◌else◌, not, option_and_then, IfSome}
+use Rattle.std.specs.Prelude.{◌≢◌, ◌==◌, option_and_then, IfSome}
 use Rattle.std.proofs.lemmas.Bool.{cases_lt}
 use mathlib.Core.Logic.{inl, inr}
 use Rattle.std.proofs.lemmas.Bool.Decides.{nat_tests}
 use Rattle.std.proofs.lemmas.List.{append-nil, append_assoc, length-drop}
-use Rattle.cel_tokens.specs.Bytes.{is_line_end}
-use Rattle.cel_tokens.specs.Texts.{content, piece, escape, escaped}
+use Rattle.cel_tokens.specs.Texts.{content, piece}
 use Rattle.cel_tokens.specs.TextLiterals.{Says}
 use Rattle.cel_tokens.specs.TextLiterals.Says.{closing, one_piece}
 use Rattle.cel_tokens.proofs.Contents.{ended, closes, goes_on, skipped, more_at}
 
 -- ---- a piece takes a byte at least
 
-some_if : (P : ℕ × List ℕ → Type 0) (b : Bool) (o p : Option (ℕ × List ℕ)) → IfSome o P → IfSome p P → IfSome (if b then o else p) P
-some_if P true o p f g = f
-some_if P false o p f g = g
-
-some_escaped : (o : Option (ℕ × ℕ)) → IfSome (escaped o) (λ x. 1 ≤ x.0)
-some_escaped None = tt
-some_escaped (Some x) = omega arith
-
 takes_some : (raw : Bool) (b : ℕ) (bs : List ℕ) → IfSome (piece raw (b ∷ bs)) (λ x. 1 ≤ x.0)
-takes_some raw b bs =
-    some_if (λ x. 1 ≤ x.0) (is_line_end b) _ _ tt (some_if (λ x. 1 ≤ x.0) (not raw && (b == 92)) _ _ (some_escaped (escape bs)) (omega arith))
+takes_some raw b bs = grind arith
 
 pub low : (raw : Bool) (b : ℕ) (bs : List ℕ) (x : ℕ × List ℕ) → piece raw (b ∷ bs) ≡ Some x → 1 ≤ x.0
 low raw b bs x e = subst (λ (o : Option (ℕ × List ℕ)). IfSome o (λ x. 1 ≤ x.0)) e (takes_some raw b bs)
@@ -31,12 +21,10 @@ low raw b bs x e = subst (λ (o : Option (ℕ × List ℕ)). IfSome o (λ x. 1 �
 -- ---- what the pieces say is computed
 
 some_left : {raw : Bool} {quote n : ℕ} {ys said : List ℕ} → Says raw quote ys n said → 0 < length ys
-some_left closing = omega arith
-some_left (one_piece x d e s) = omega arith
+some_left h0 = grind arith
 
 behind : (k b : ℕ) (bs : List ℕ) → 1 ≤ k → drop (k - 1) bs ≡ drop k (b ∷ bs)
-behind zero b bs h = absurd (omega arith)
-behind (suc k) b bs h = let e : suc k - 1 ≡ k = omega arith in ap (λ y. drop y bs) e
+behind k b bs h0 = grind arith
 
 abbrev literal : ℕ → List ℕ → Option (ℕ × List ℕ)
 literal k xs = Some (k, xs)

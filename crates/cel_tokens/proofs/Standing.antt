@@ -1,11 +1,10 @@
 -- What is found at the front of a text stands there.
 use Rattle.std.proofs.Common.{◌≡◌, ℕ, suc, ◌+◌, ◌≤◌, List, [], ◌∷◌, take, drop, refl, sym, ap, subst, arith}
 use Rattle.std.proofs.Common.{Bool, true, false, Option, Some, None}
-use Rattle.std.specs.Prelude.{if◌then◌else◌, ℤ, pos, negsuc, neg_ℤ, FitsSigned}
+use Rattle.std.specs.Prelude.{if◌then◌else◌, ℤ, pos, neg_ℤ, FitsSigned}
 use Rattle.std.specs.Int.{w64}
 use mathlib.Core.Logic.{inl, inr}
 use Rattle.std.proofs.lemmas.Bool.{cases_lt}
-use Rattle.std.proofs.lemmas.Bool.Decides.{nat_tests}
 use Rattle.std.proofs.lemmas.List.{take-append-drop}
 use Rattle.cel_tokens.specs.declared.mark.Mark.{Mark}
 use Rattle.cel_tokens.specs.Token.{Word, int, text, mark}
@@ -29,7 +28,7 @@ use Rattle.cel_tokens.proofs.IntsFit.{found_fits}
 use Rattle.cel_tokens.proofs.FrontCases as case
 use Rattle.cel_tokens.proofs.FrontCases.{Found}
 use Rattle.cel_tokens.proofs.FoundTokens.{Opens, opens, text_token, name_token, mark_token, signed_token}
-use Rattle.cel_tokens.proofs.LongestToken.{longest, longest_wide, none_begins, text_found, quoted, raw_quoted}
+use Rattle.cel_tokens.proofs.LongestToken.{longest, longest_wide, none_begins, text_found}
 
 -- ---- text literals
 
@@ -39,8 +38,7 @@ opens_text true quote b [] o = absurd o
 opens_text true quote b (c ∷ cs) o = by_prefix o.1 (subst (λ k. is_quote k ≡ true) (sym o.0) o.2)
 
 opens_none : {bytes : List ℕ} → OpensText bytes → opening bytes ≡ None → ⊥
-opens_none (by_quote {quote = quote} {bytes = bytes} q) e = let f = quoted quote bytes q in absurd cc
-opens_none (by_prefix {prefix = prefix} {quote = quote} {bytes = bytes} r q) e = let f = raw_quoted prefix quote bytes r q in absurd cc
+opens_none h0 h1 = grind arith
 
 -- a literal at the front is found
 no_text : (signed : Bool) (bytes : List ℕ) → front signed bytes ≡ front.wrong_text → (n : ℕ) (said : List ℕ) → HasToken signed bytes n (text said) → ⊥
@@ -67,8 +65,7 @@ text_stands signed raw quote b bs (Some (len, said)) p c g e =
     word_stands signed (b ∷ bs) (opening_len raw + len) (text said) e g (λ t. tt) (text_token signed raw quote b len bs said p s)
 
 no_fit : (z : ℤ) → fits64 z ≡ false → FitsSigned w64 z → ⊥
-no_fit (pos n) e f = let s = f.sfits in grind (arith, nat_tests)
-no_fit (negsuc n) e f = let s = f.sfits in grind (arith, nat_tests)
+no_fit z h0 h1 = grind arith
 
 int_stands : (signed t : Bool) (bytes : List ℕ) (before n value : ℕ) (z : ℤ) → fits64 z ≡ t → opening bytes ≡ None → bare bytes → DigitsAt bytes before
     → IsInt (drop before bytes) n value → HasToken signed bytes (before + n) (int z) → front signed bytes ≡ int_front before n (if t then Some z else None)

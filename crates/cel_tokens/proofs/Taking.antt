@@ -1,4 +1,5 @@
 -- A text that has tokens takes memory.
+use Rattle.std.proofs.Common.{arith}
 use Rattle.std.proofs.Common.{◌≡◌, ◌≢◌, ℕ, ◌≤◌, List, [], length, drop, true, Bool, Result, Ok, Err, refl}
 use Rattle.std.specs.Prelude.{◌⊎◌, IfOk}
 use mathlib.Core.Logic.{inl, inr}
@@ -15,8 +16,7 @@ abbrev Taken : Bool → List ℕ → Result (List Lexeme) ReadError → Type 0
 Taken signed rest r = IfOk r (λ xs. (xs ≡ []) ⊎ TakesMemory signed rest)
 
 takes : (signed : Bool) (rest : List ℕ) (r : Result (List Lexeme) ReadError) → TakesMemory signed rest → Taken signed rest r
-takes signed rest (Ok xs) t = inr t
-takes signed rest (Err e) t = tt
+takes signed rest r h0 = grind arith
 
 behind : (signed : Bool) (n : ℕ) (rest : List ℕ) (r : Result (List Lexeme) ReadError) → front signed rest ≡ front.space n → Taken signed (drop n rest) r → Taken signed rest r
 behind signed n rest (Ok xs) f (inl e) = inl e
@@ -34,17 +34,14 @@ abbrev Found : List ℕ → Result (List Lexeme) ReadError → Type 0
 Found source r = IfOk r (λ xs. (xs ≡ []) ⊎ ((length source ≤ 65536) × TakesMemory true source))
 
 within : (source : List ℕ) (r : Result (List Lexeme) ReadError) → length source ≤ 65536 → Taken true source r → Found source r
-within source (Ok xs) l (inl e) = inl e
-within source (Ok xs) l (inr t) = inr (l, t)
-within source (Err e) l t = tt
+within source r h0 h1 = grind arith
 
 found : {source : List ℕ} {r : Result (List Lexeme) ReadError} → Lexes source r → Found source r
 found (lexis.Lexes.too_long l) = tt
 found (lexis.Lexes.read {source = source} {r = r} l d) = within source r l (cut_takes d refl)
 
 other : {P : Type 0} (xs : List Lexeme) → xs ≢ [] → (xs ≡ []) ⊎ P → P
-other xs n (inl e) = absurd (n e)
-other xs n (inr p) = p
+other xs h0 h1 = grind arith
 
 pub some_taken : (source : List ℕ) (lexemes : List Lexeme) → Lexes source (Ok lexemes) → lexemes ≢ [] → (length source ≤ 65536) × TakesMemory true source
 some_taken source lexemes d n = other lexemes n (found d)
