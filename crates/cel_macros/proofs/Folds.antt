@@ -5,16 +5,15 @@ use Rattle.cel_macros.specs.declared.macros.Macro.{Macro}
 use Rattle.cel_macros.specs.declared.macros.Macro.TheVariants.{All, Exists, ExistsOne, Filter, Map}
 use Rattle.cel_macros.specs.Macros.{over_range, map_over_range}
 use Rattle.cel_macros.specs.FoldMeaning.{folded, folded_map}
-use Rattle.cel_macros.proofs.Conjunctions.{folds_all}
-use Rattle.cel_macros.proofs.Disjunctions.{folds_exists}
+use Rattle.cel_macros.proofs.Quantified.{folds_behind}
 use Rattle.cel_macros.proofs.Kept.{folds_exists_one, folds_filter, folds_map, folds_map_where}
-use Rattle.std.specs.Prelude.{ℕ, true}
-use Rattle.cel_macros.specs.Logic.{truth}
+use Rattle.std.specs.Prelude.{ℕ, true, false}
+use Rattle.cel_macros.specs.Logic.{Yes, No, truth}
 
 pub folds_mean : (m : Macro) (n : List ℕ) (f : List ℕ → Value → ValueOrError) (r : Option (List Value)) → folded m (f n) r ≡ over_range (Some m) (Some n) f r
 folds_mean m n f None = refl
-folds_mean All n f (Some items) = folds_all (f n) items
-folds_mean Exists n f (Some items) = folds_exists (f n) items
+folds_mean All n f (Some items) = folds_behind false (f n) Yes items
+folds_mean Exists n f (Some items) = folds_behind true (f n) No items
 folds_mean ExistsOne n f (Some items) = folds_exists_one (f n) items
 folds_mean Filter n f (Some items) = folds_filter (f n) items
 folds_mean Map n f (Some items) = folds_map (f n) items

@@ -1,5 +1,4 @@
-pub mod Conjunctions
-pub mod Disjunctions
+pub mod Quantified
 pub mod Kept
 pub mod Folds
 pub mod Expansion

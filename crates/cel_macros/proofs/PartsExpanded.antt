@@ -1,15 +1,14 @@
 -- What expansion makes of a call and a method, from their expanded parts.
-use Rattle.std.proofs.Common.{◌≡◌, ℕ, ◌<◌, ◌≤◌, Bool, true, false, List, [], ◌∷◌, ◌++◌, length, get_or, Option, Some, None, is_some, map, refl, sym, ap, ◌∙◌, arith, true≢false}
-use Rattle.std.proofs.lemmas.List.{map-append}
+use Rattle.std.proofs.Common.{◌≡◌, ℕ, ◌<◌, ◌≤◌, Bool, true, false, List, [], ◌∷◌, length, get_or, Option, Some, None, is_some, map, refl, sym, ap, ◌∙◌, arith, true≢false}
 use Rattle.cel_reader.specs.declared.expr.Expr.{Expr}
 use Rattle.cel_reader.specs.Tree as tree
 use Rattle.cel_reader.specs.Tree.{Tree, Trees, no_trees, more_trees, view, trees, entries}
 use Rattle.cel_macros.specs.declared.macros.Macro.{Macro}
 use Rattle.cel_macros.specs.Macros.{macro_named, is_map, is_has, is_variables, name_of, field_name}
-use Rattle.cel_macros.specs.CoreTree.{CoreTree, CoreTrees, no_cores, more_cores, more_core_entries, name, call, method, fold_map, selection, call_or_has, method_or_fold, method_or_fold_map, expanded, expanded_operand, expanded_trees, expanded_entries}
+use Rattle.cel_macros.specs.CoreTree.{CoreTree, more_cores, more_core_entries, name, call, selection, call_or_has, method_or_fold, method_or_fold_map, expanded, expanded_operand, expanded_trees, expanded_entries}
 use Rattle.cel_macros.specs.declared.core_tree.Core.{Core}
 use Rattle.cel_macros.specs.CoreView.{core_view, cores, core_entries}
-use Rattle.cel_macros.specs.Expanding.{core_name, core_selection, has_or_call, call_with, call_of, method_of, IsPair, IsTriple, IsOther, IsFoldMap, expanded_pair}
+use Rattle.cel_macros.specs.Expanding.{core_name, core_selection, has_or_call, call_with, call_of, method_of, IsPair, IsTriple, IsOther, expanded_pair}
 use Rattle.cel_macros.proofs.Expansion.{variables_back}
 
 -- ---- an expanded expression is a name, or a selection, where the plain one is
@@ -98,15 +97,11 @@ named (name i) e = (i, refl)
 named _ e = absurd (true≢false (sym e))
 
 pub pair_shape : (items : List Core) (x : Core) → 2 ≤ length items → length items < 3 → x ≡ get_or items 0 x → is_some (core_name (core_view x)) ≡ true → IsPair (map core_view items)
-pair_shape (a ∷ b ∷ []) x h g e t =
-    let n = named (core_view x) t in
-    (n.0, core_view b, λ j. (ap core_view (sym e) ∙ n.1) j ∷ core_view b ∷ [])
+pair_shape (a ∷ b ∷ []) x h g e t = grind arith
 pair_shape _ x h g e t = absurd (omega arith)
 
 pub triple_shape : (items : List Core) (x : Core) → 3 ≤ length items → length items < 4 → x ≡ get_or items 0 x → is_some (core_name (core_view x)) ≡ true → IsTriple (map core_view items)
-triple_shape (a ∷ b ∷ d ∷ []) x h g e t =
-    let n = named (core_view x) t in
-    (n.0, core_view b, core_view d, λ j. (ap core_view (sym e) ∙ n.1) j ∷ core_view b ∷ core_view d ∷ [])
+triple_shape (a ∷ b ∷ d ∷ []) x h g e t = grind arith
 triple_shape _ x h g e t = absurd (omega arith)
 
 pub other_few : (items : List Core) → length items < 2 → IsOther (map core_view items)

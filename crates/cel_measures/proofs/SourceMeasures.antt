@@ -1,6 +1,7 @@
 -- Each measure of the source is that of the expansion: the tables give the measures of each form.
 use Rattle.std.proofs.Common.{◌≡◌, ℕ, ◌+◌, max, List, refl, ap}
 use Rattle.std.specs.Prelude.{map as each}
+use Rattle.cel_macros.specs.CoreTree as core
 use Rattle.cel_macros.specs.CoreTree.{CoreTree, CoreTrees, CoreEntries, no_cores, more_cores, no_core_entries, more_core_entries}
 use Rattle.cel_measures.specs.Measures.{nodes, nodes_of, entries_nodes, need, call_need, needs, needs_behind}
 use Rattle.cel_measures.specs.Measures.{entries_need, deepest, deepest_of, entries_deepest}
@@ -22,23 +23,11 @@ entry_nodes (more_core_entries k v more) = ap (λ n. nodes k + nodes v + n) (ent
 
 nodes_table : IsBy nodes_by nodes
 unfolding nodes
-nodes_table = record {
-  literal = λ l. refl;
-  name = λ n. refl;
-  variable = λ v. refl;
-  select = λ a f. refl;
-  has = λ a f. refl;
-  index = λ a k. refl;
-  call = λ n arguments. ap (λ k. 1 + k) (total_nodes arguments);
-  method = λ a n arguments. ap (λ k. 1 + nodes a + k) (total_nodes arguments);
-  unary = λ op a. refl;
-  binary = λ op a b. refl;
-  ternary = λ c a b. refl;
-  list = λ items. ap (λ k. 1 + k) (total_nodes items);
-  map = λ es. ap (λ k. 1 + k) (entry_nodes es);
-  fold = λ w n r p. refl;
-  fold_map = λ n r p t. refl;
-}
+nodes_table (core.call n arguments) = ap (λ k. 1 + k) (total_nodes arguments)
+nodes_table (core.method a n arguments) = ap (λ k. 1 + nodes a + k) (total_nodes arguments)
+nodes_table (core.list items) = ap (λ k. 1 + k) (total_nodes items)
+nodes_table (core.map es) = ap (λ k. 1 + k) (entry_nodes es)
+nodes_table _ = refl
 
 pub same_nodes : SameNodes
 same_nodes e = source_same nodes_by nodes nodes_table e
@@ -67,23 +56,11 @@ a_call _ = refl
 
 need_table : IsBy need_by need
 unfolding need
-need_table = record {
-  literal = λ l. refl;
-  name = λ n. refl;
-  variable = λ v. refl;
-  select = λ a f. refl;
-  has = λ a f. refl;
-  index = λ a k. refl;
-  call = λ n arguments. a_call arguments;
-  method = λ a n arguments. ap (λ k. max (need a) k) (greatest_behind arguments);
-  unary = λ op a. refl;
-  binary = λ op a b. refl;
-  ternary = λ c a b. refl;
-  list = λ items. ap (λ k. 1 + k) (greatest_need items);
-  map = λ es. ap (λ k. max 1 k) (entry_need es);
-  fold = λ w n r p. refl;
-  fold_map = λ n r p t. refl;
-}
+need_table (core.call n arguments) = a_call arguments
+need_table (core.method a n arguments) = ap (λ k. max (need a) k) (greatest_behind arguments)
+need_table (core.list items) = ap (λ k. 1 + k) (greatest_need items)
+need_table (core.map es) = ap (λ k. max 1 k) (entry_need es)
+need_table _ = refl
 
 pub same_need : SameNeed
 same_need e = source_same need_by need need_table e
@@ -106,23 +83,11 @@ module _ (s : List (List ℕ × ℕ)) where
 
   depth_table : IsBy (deepest_by s) deep
   unfolding deepest
-  depth_table = record {
-    literal = λ l. refl;
-    name = λ n. refl;
-    variable = λ v. refl;
-    select = λ a f. refl;
-    has = λ a f. refl;
-    index = λ a k. refl;
-    call = λ n arguments. greatest_deep arguments;
-    method = λ a n arguments. ap (λ k. max (deepest a s) k) (greatest_deep arguments);
-    unary = λ op a. refl;
-    binary = λ op a b. refl;
-    ternary = λ c a b. refl;
-    list = λ items. greatest_deep items;
-    map = λ es. entry_deep es;
-    fold = λ w n r p. refl;
-    fold_map = λ n r p t. refl;
-  }
+  depth_table (core.call n arguments) = greatest_deep arguments
+  depth_table (core.method a n arguments) = ap (λ k. max (deepest a s) k) (greatest_deep arguments)
+  depth_table (core.list items) = greatest_deep items
+  depth_table (core.map es) = entry_deep es
+  depth_table _ = refl
 
 pub same_depth : SameDepth
 same_depth e s = ap (λ k. 1 + k) (source_same (deepest_by s) (deep s) (depth_table s) e)

@@ -3,7 +3,7 @@ use Rattle.std.proofs.Common.{◌≡◌, ◌⊎◌, inl, inr, ℕ, Bool, true, f
 use Rattle.std.proofs.Common.{if◌then◌else◌, bytes_eq, Contains, suc, arith}
 use Rattle.std.specs.List.{list_any, AllByRecursion}
 use Rattle.cel_reader.specs.Tree as tree
-use Rattle.cel_reader.specs.Tree.{Tree, Trees, no_trees, more_trees}
+use Rattle.cel_reader.specs.Tree.{Tree, no_trees, more_trees}
 use Rattle.cel_reader.specs.declared.operator.BinaryOperator.{BinaryOperator}
 use Rattle.cel_reader.specs.declared.operator.BinaryOperator.TheVariants as binary
 use Rattle.cel_reader.specs.declared.operator.UnaryOperator.TheVariants as unary
@@ -32,16 +32,13 @@ use Rattle.cel_types.proofs.RowTyped.{on_none, on_one, on_two, on_three, select_
 -- ---- what a test says of a row's types
 
 either : (a b : Bool) → (a || b) ≡ true → (a ≡ true) ⊎ (b ≡ true)
-either true b h = inl refl
-either false b h = inr h
+either a b h = grind arith
 
 left : (a b : Bool) → (a && b) ≡ true → a ≡ true
-left true b h = refl
-left false b h = h
+left a b h = grind arith
 
 right : (a b : Bool) → (a && b) ≡ true → b ≡ true
-right true b h = h
-right false b h = absurd (true≢false (sym h))
+right a b h = grind arith
 
 dyn_may : (k x : CelType) → x ≡ type.Dyn → MayBe k x
 dyn_may k x e = subst (λ (t : CelType). MayBe k t) (sym e) dynamic
@@ -68,15 +65,7 @@ may : (k x : CelType) → allowed (k ∷ []) x ≡ true → MayBe k x
 may k x h = let found = one k [] x h in only k found.0 x found.1 found.2
 
 agreeing : (x y : CelType) → agree x y ≡ true → (x ≡ y) ⊎ ((x ≡ type.Dyn) ⊎ (y ≡ type.Dyn))
-agreeing x y h = by (either (same_type x y) (same_type x type.Dyn || same_type y type.Dyn) h)
-  where
-    dyns : (same_type x type.Dyn ≡ true) ⊎ (same_type y type.Dyn ≡ true) → (x ≡ type.Dyn) ⊎ (y ≡ type.Dyn)
-    dyns (inl e) = inl (same_is x type.Dyn e)
-    dyns (inr e) = inr (same_is y type.Dyn e)
-
-    by : (same_type x y ≡ true) ⊎ ((same_type x type.Dyn || same_type y type.Dyn) ≡ true) → (x ≡ y) ⊎ ((x ≡ type.Dyn) ⊎ (y ≡ type.Dyn))
-    by (inl e) = inl (same_is x y e)
-    by (inr e) = inr (dyns (either (same_type x type.Dyn) (same_type y type.Dyn) e))
+agreeing x y h = grind arith
 
 any : (x y : CelType) → agree x y ≡ true → MayAgree x y
 any x y h = by (agreeing x y h)
@@ -87,19 +76,10 @@ any x y h = by (agreeing x y h)
     by (inr (inr e)) = (x, known, dyn_may x y e)
 
 two : (k : CelType) (ks : List CelType) (x y : CelType) → (both_allowed (k ∷ ks) x y && agree x y) ≡ true → MayBothBeOne (k ∷ ks) x y
-two k ks x y h =
-    let both = left (both_allowed (k ∷ ks) x y) (agree x y) h in
-    by (one k ks x (left (allowed (k ∷ ks) x) (allowed (k ∷ ks) y) both)) (one k ks y (right (allowed (k ∷ ks) x) (allowed (k ∷ ks) y) both))
-    (agreeing x y (right (both_allowed (k ∷ ks) x y) (agree x y) h))
-  where
-    by : MayBeOne (k ∷ ks) x → MayBeOne (k ∷ ks) y → (x ≡ y) ⊎ ((x ≡ type.Dyn) ⊎ (y ≡ type.Dyn)) → MayBothBeOne (k ∷ ks) x y
-    by a b (inl e) = (a.0, a.1, a.2, subst (λ (t : CelType). MayBe a.0 t) e a.2)
-    by a b (inr (inl e)) = (b.0, b.1, dyn_may b.0 x e, b.2)
-    by a b (inr (inr e)) = (a.0, a.1, a.2, dyn_may a.0 y e)
+two k ks x y h = grind (arith, left, one, right, agreeing, dyn_may)
 
 both : (k x y : CelType) → both_allowed (k ∷ []) x y ≡ true → MayBe k x × MayBe k y
-both k x y h =
-    (may k x (left (allowed (k ∷ []) x) (allowed (k ∷ []) y) h), may k y (right (allowed (k ∷ []) x) (allowed (k ∷ []) y) h))
+both k x y h = grind (arith, may, left, right)
 
 keys : (ts : List CelType) → text_keys ts ≡ true → HasTextKeys ts
 keys [] h = no_keys
@@ -130,21 +110,17 @@ Answered s e ts (refused y) = y ≡ cause e
 
 module _ (s : Scope) (e : Tree) (due : NoOverload ≡ cause e) where
   by_row : (ts : List CelType) (b : Bool) (t : CelType) → (b ≡ true → IsRow s e ts t) → Answered s e ts (row b t)
-  by_row ts true t step = step refl
-  by_row ts false t step = due
+  by_row ts b t step = grind arith
 
   by_one : (f : CelType → Typing) (ts : List CelType) → ((x : CelType) → Answered s e (x ∷ []) (f x)) → Answered s e ts (on_one f ts)
-  by_one f (x ∷ []) step = step x
-  by_one f _ step = due
+  by_one f ts step = grind arith
 
   by_two : (f : CelType → CelType → Typing) (ts : List CelType) → ((x y : CelType) → Answered s e (x ∷ y ∷ []) (f x y)) → Answered s e ts (on_two f ts)
-  by_two f (x ∷ y ∷ []) step = step x y
-  by_two f _ step = due
+  by_two f ts step = grind arith
 
   by_three : (f : CelType → CelType → CelType → Typing) (ts : List CelType) → ((x y z : CelType) → Answered s e (x ∷ y ∷ z ∷ []) (f x y z))
       → Answered s e ts (on_three f ts)
-  by_three f (x ∷ y ∷ z ∷ []) step = step x y z
-  by_three f _ step = due
+  by_three f ts step = grind arith
 
 literal_rows : (s : Scope) (l : tree.Literal) (ts : List CelType) → Answered s (tree.literal l) ts (on_none (typed (literal_type l)) NoOverload ts)
 literal_rows s l [] = a_literal l

@@ -1,5 +1,5 @@
 -- The type of an expression, or its fault, is the one that the rows of the table give it.
-use Rattle.std.proofs.Common.{◌≡◌, ◌⊎◌, inl, inr, ℕ, Bool, true, false, ◌&&◌, List, [], ◌∷◌, Option, Some, None, is_some, map, refl, sym, ap, ◌∙◌, subst}
+use Rattle.std.proofs.Common.{◌≡◌, ◌⊎◌, inl, inr, ℕ, Bool, ◌&&◌, List, [], ◌∷◌, Option, Some, None, is_some, map, refl, sym, ap, ◌∙◌, subst}
 use Rattle.std.proofs.Common.{if◌then◌else◌, arith}
 use Rattle.std.specs.Bool.{⊤}
 use Rattle.std.specs.List.{list_all}
@@ -58,44 +58,37 @@ over_entries (more_entries k v more) s f = by (typing k s) (λ t. over_entries m
 
 selection_over : (b : Bool) (a : Tree) (f : List ℕ) (s : Scope)
     → selected_type b f (typing a s) s ≡ over_parts (if b then [] else in_scope s (a ∷ [])) (select_node b f s)
-selection_over true a f s = refl
-selection_over false a f s = refl
+selection_over b a f s = grind arith
 
 has_over : (b : Bool) (a : Tree) (f : List ℕ) (g : Option Function) (s : Scope)
     → call_type b (Some f) g (typing a s) (typing (tree.select a f) s)
     ≡ over_parts (in_scope s ((if b then a else tree.select a f) ∷ [])) (on_one (λ x. call_type b (Some f) g (typed x) (typed x)))
-has_over true a f g s = refl
-has_over false a f g s = refl
+has_over b a f g s = grind arith
 
 call_over : (b : Bool) (g : Option Function) (x y : Typing) → call_type b None g x y ≡ with_type y (λ t. call_type b None g (typed t) (typed t))
-call_over true g x y = refl
-call_over false g x y = refl
+call_over b g x y = grind arith
 
 fold_over : (m : Option Macro) (a p : Tree) (i : List ℕ) (s : Scope)
     → fold_type m (Some i) (typing a s) (λ n. typing p (within n s)) (typing a s ∷ typing (tree.name i) s ∷ typing p s ∷ [])
     ≡ over_parts ((s, a) ∷ (if is_some m then in_scope (within i s) (p ∷ []) else in_scope s (tree.name i ∷ p ∷ []))) (fold_node m (Some i))
-fold_over (Some m) a p i s = refl
-fold_over None a p i s = refl
+fold_over m a p i s = grind arith
 
 no_fold : (m : Option Macro) (a x p : Tree) (s : Scope)
     → fold_type m None (typing a s) (λ n. typing p (within n s)) (typing a s ∷ typing x s ∷ typing p s ∷ [])
     ≡ over_parts (in_scope s (a ∷ x ∷ p ∷ [])) (fold_node m None)
-no_fold (Some m) a x p s = refl
-no_fold None a x p s = refl
+no_fold m a x p s = grind arith
 
 fold_map_over : (b : Bool) (a p t : Tree) (i : List ℕ) (s : Scope)
     → fold_map_type b (Some i) (typing a s) (λ n. typing p (within n s)) (λ n. typing t (within n s))
     (typing a s ∷ typing (tree.name i) s ∷ typing p s ∷ typing t s ∷ [])
     ≡ over_parts ((s, a) ∷ (if b then in_scope (within i s) (p ∷ t ∷ []) else in_scope s (tree.name i ∷ p ∷ t ∷ []))) (fold_map_node b (Some i))
-fold_map_over true a p t i s = refl
-fold_map_over false a p t i s = refl
+fold_map_over b a p t i s = grind arith
 
 no_fold_map : (b : Bool) (a x p t : Tree) (s : Scope)
     → fold_map_type b None (typing a s) (λ n. typing p (within n s)) (λ n. typing t (within n s))
     (typing a s ∷ typing x s ∷ typing p s ∷ typing t s ∷ [])
     ≡ over_parts (in_scope s (a ∷ x ∷ p ∷ t ∷ [])) (fold_map_node b None)
-no_fold_map true a x p t s = refl
-no_fold_map false a x p t s = refl
+no_fold_map b a x p t s = grind arith
 
 no_method : (a : Tree) (items : Trees) (s : Scope)
     → with_types (typing a s ∷ typings items s) (refused NoOverload) ≡ over_parts (in_scope s (a ∷ tree_list items)) (λ ts. refused NoOverload)
@@ -144,8 +137,7 @@ typed_only e = grind arith
 
 -- a node that no row takes has its cause
 no_row : (s : Scope) (e : Tree) (ts : List CelType) → ((t : CelType) → IsRow s e ts t → ⊥) → (r : Typing) → Answered s e ts r → r ≡ refused (cause e)
-no_row s e ts none (typed t) h = absurd (none t h)
-no_row s e ts none (refused y) h = ap refused h
+no_row s e ts none h0 h = grind arith
 
 mutual
   fault_refused : {s : Scope} {e : Tree} {y : TypeFault} → Fault s e y → typing e s ≡ refused y
@@ -187,13 +179,11 @@ from_parts s e h = by (walked (parts_of s e) h)
     by (inr m) = subst (λ (r : Typing). Gives s e r) (sym (by_parts e s ∙ among_refused m.1 (node s e))) (in_part m.1)
 
 chosen : (b : Bool) (ps qs : List (Scope × Tree)) → AllGiven ps → AllGiven qs → AllGiven (if b then ps else qs)
-chosen true ps qs h k = h
-chosen false ps qs h k = k
+chosen b ps qs h k = grind arith
 
 operand : (b : Bool) (a : Tree) (f : List ℕ) (s : Scope) → Gives s a (typing a s) → Gives s (tree.select a f) (typing (tree.select a f) s)
     → AllGiven (in_scope s ((if b then a else tree.select a f) ∷ []))
-operand true a f s h k = (h, tt)
-operand false a f s h k = (k, tt)
+operand b a f s h k = grind arith
 
 mutual
   given : (e : Tree) (s : Scope) → Gives s e (typing e s)
@@ -246,8 +236,7 @@ same_refused : {y z : TypeFault} → refused y ≡ refused z → y ≡ z
 same_refused e = grind arith
 
 either_given : (s : Scope) (e : Tree) (r : Typing) → Gives s e r → ((t : CelType) × Has s e t) ⊎ ((y : TypeFault) × Fault s e y)
-either_given s e (typed t) h = inl (t, h)
-either_given s e (refused y) h = inr (y, h)
+either_given s e r h = grind arith
 
 pub one_type_or_fault : OneTypeOrFault
 one_type_or_fault = record {

@@ -1,28 +1,27 @@
 -- The type of a node, or its fault, by the types of its parts; and that it is the type of each row that takes them.
-use Rattle.std.proofs.Common.{◌≡◌, ℕ, Bool, true, false, ◌&&◌, ◌||◌, List, [], ◌∷◌, Option, Some, None, refl, sym, ap, ◌∙◌, subst}
+use Rattle.std.proofs.Common.{◌≡◌, ℕ, Bool, true, false, ◌&&◌, ◌||◌, List, [], ◌∷◌, Option, Some, refl, ap, ◌∙◌}
 use Rattle.std.proofs.Common.{if◌then◌else◌, Contains, arith}
-use lib.Pointwise.{bytes_decides}
-use Rattle.std.specs.List.{list_any, AllByRecursion}
+use Rattle.std.specs.List.{AllByRecursion}
 use Rattle.cel_reader.specs.Tree as tree
-use Rattle.cel_reader.specs.Tree.{Tree, Trees, no_trees, more_trees}
+use Rattle.cel_reader.specs.Tree.{Tree, no_trees, more_trees}
 use Rattle.cel_reader.specs.declared.operator.BinaryOperator.{BinaryOperator}
 use Rattle.cel_reader.specs.declared.operator.BinaryOperator.TheVariants as binary
 use Rattle.cel_macros.specs.Functions.{Function, Size, String, Dyn, function_named, test_named}
 use Rattle.cel_macros.specs.declared.macros.Macro.{Macro}
 use Rattle.cel_macros.specs.declared.macros.Macro.TheVariants.{All, Exists, ExistsOne}
-use Rattle.cel_macros.specs.Macros.{macro_named, is_map, is_has, has_name, is_variables, name_of, field_name}
+use Rattle.cel_macros.specs.Macros.{macro_named, is_map, is_has, is_variables, name_of, field_name}
 use Rattle.cel_types.specs.declared.cel_type.CelType.{CelType}
 use Rattle.cel_types.specs.declared.cel_type.CelType.TheVariants as type
 use Rattle.cel_types.specs.Types.{TypeFault, UnknownName, NoOverload, MisplacedVariables, Typing, typed, refused, same_type, allowed, agree, known_of}
 use Rattle.cel_types.specs.Types.{both_allowed, row}
 use Rattle.cel_types.specs.Scope.{Scope, name_type, type_or_fault, variable_type}
-use Rattle.cel_types.specs.TypeTable.{literal_type, field_row, index_row, unary_row, binary_row, logic_row, order_row, equality_row, member_row}
-use Rattle.cel_types.specs.TypeTable.{arithmetic_row, ternary_row, function_row, method_row, test_row, is_range, macro_row, map_row}
+use Rattle.cel_types.specs.TypeTable.{literal_type, field_row, index_row, unary_row, binary_row, order_row, member_row}
+use Rattle.cel_types.specs.TypeTable.{ternary_row, function_row, method_row, test_row, is_range, macro_row, map_row}
 use Rattle.cel_types.specs.TypeTable.{map_literal_row}
 use Rattle.cel_types.specs.Typing.{call_type}
-use Rattle.cel_types.specs.TypeRows.{MayBe, known, dynamic, MayBeOne, MayBothBeOne, MayAgree, HasTextKeys, no_keys, next_key, IsRow, a_literal, a_name}
+use Rattle.cel_types.specs.TypeRows.{MayBe, known, dynamic, MayBeOne, MayBothBeOne, MayAgree, HasTextKeys, no_keys, next_key, IsRow, a_name}
 use Rattle.cel_types.specs.TypeRows.{a_variable, a_field, a_has, an_item, an_entry, a_not, a_negation, a_sum, an_arithmetic, an_equality, an_order, a_member}
-use Rattle.cel_types.specs.TypeRows.{a_key, a_logic, a_choice, a_list, a_map, a_size, a_size_method, a_string, a_dyn, a_test, a_quantifier, a_filter}
+use Rattle.cel_types.specs.TypeRows.{a_key, a_logic, a_choice, a_map, a_size, a_size_method, a_string, a_dyn, a_test, a_quantifier, a_filter}
 use Rattle.cel_types.specs.TypeRows.{a_transform, a_filtered_transform}
 use Rattle.std.proofs.lemmas.List.Elements.{All-contains, All-from_recursion}
 use Rattle.std.proofs.lemmas.List.Folds.{list_any_at}
@@ -83,31 +82,19 @@ node s _ ts = refused NoOverload
 -- ---- what a row asks for, as a test
 
 or_right : (a b : Bool) → b ≡ true → (a || b) ≡ true
-or_right true b h = refl
-or_right false b h = h
+or_right a b h = grind arith
 
 same_self : (k : CelType) → same_type k k ≡ true
-same_self type.Bool = refl
-same_self _ = refl
+same_self k = grind arith
 
 allowed_of : (ks : List CelType) {x : CelType} → MayBeOne ks x → allowed ks x ≡ true
-allowed_of ks {x} m = by m.2 (list_any_at (same_type m.0) ks m.1.0 m.0 m.1.1 (ap (same_type m.0) m.1.2 ∙ same_self m.0))
-  where
-    by : {k y : CelType} → MayBe k y → list_any (same_type k) ks ≡ true → allowed ks y ≡ true
-    by (known {k}) listed = or_right (same_type k type.Dyn) (list_any (same_type k) ks) listed
-    by dynamic listed = refl
+allowed_of ks m = grind (arith, list_any_at, same_self, or_right)
 
 may : {k x : CelType} → MayBe k x → allowed (k ∷ []) x ≡ true
 may {k} m = allowed_of (k ∷ []) (k, (0, omega arith, refl), m)
 
 agree_of : {x y : CelType} → MayAgree x y → agree x y ≡ true
-agree_of m = by m.1 m.2
-  where
-    by : {k x y : CelType} → MayBe k x → MayBe k y → agree x y ≡ true
-    by (known {k}) known = λ j. same_self k j || (same_type k type.Dyn || same_type k type.Dyn)
-    by (known {k}) dynamic = or_right (same_type k type.Dyn) _ (or_right (same_type k type.Dyn) true refl)
-    by dynamic (known {k}) = or_right (same_type type.Dyn k) true refl
-    by dynamic dynamic = refl
+agree_of m = grind arith
 
 both_of : (ks : List CelType) {x y : CelType} → MayBothBeOne ks x y → (both_allowed ks x y && agree x y) ≡ true
 both_of ks m = λ j. (allowed_of ks (m.0, m.1, m.2) j && allowed_of ks (m.0, m.1, m.3) j) && agree_of (m.0, m.2, m.3) j
@@ -128,11 +115,7 @@ keys_of (next_key m more) = λ j. may m j && keys_of more j
 -- `has` is no function
 no_has : (n : List ℕ) (f : Function) (b : Bool) → is_has n ≡ b → function_named n ≡ Some f → b ≡ false
 unfolding is_has function_named
-no_has n f true e h = absurd (told (subst (λ m. function_named m ≡ Some f) (sym ((bytes_decides has_name n).0 e)) h))
-  where
-    told : None ≡ Some f → ⊥
-    told e = grind arith
-no_has n f false e h = refl
+no_has n f b e h = grind arith
 
 item_typed : {x y : CelType} → MayBe type.List x → MayBe type.Int y → index_row x y ≡ typed type.Dyn
 item_typed known m = one_typed type.Dyn (may m)
@@ -163,10 +146,7 @@ grouped os x y r h {o} c = All-contains (λ p. binary_row p x y ≡ r) os o (All
 
 quantified : (r x : CelType) (m : Macro) → Contains (All ∷ Exists ∷ ExistsOne ∷ []) m
     → macro_row m r x ≡ row (is_range r && allowed (type.Bool ∷ []) x) type.Bool
-quantified r x m c = All-contains P (All ∷ Exists ∷ ExistsOne ∷ []) m (All-from_recursion P (All ∷ Exists ∷ ExistsOne ∷ []) (refl, (refl, (refl, tt)))) c
-  where
-    P : Macro → Type 0
-    P m = macro_row m r x ≡ row (is_range r && allowed (type.Bool ∷ []) x) type.Bool
+quantified r x m c = grind arith
 
 -- the type of a row is that of its node
 pub row_typed : (s : Scope) {e : Tree} {ts : List CelType} {t : CelType} → IsRow s e ts t → node s e ts ≡ typed t
@@ -180,18 +160,14 @@ row_typed s (an_entry l m) = entry_typed l m
 row_typed s (a_not m) = one_typed type.Bool (may m)
 row_typed s (a_negation m) = one_typed type.Int (may m)
 row_typed s (a_sum {a} {b} {x} {y} m) = one_typed (known_of x y) (both_of (type.Int ∷ type.String ∷ type.List ∷ []) m)
-row_typed s (an_arithmetic {o} {a} {b} {x} {y} c l m) =
-    grouped (binary.Subtract ∷ binary.Multiply ∷ binary.Divide ∷ binary.Remainder ∷ []) x y (arithmetic_row x y) (refl, (refl, (refl, (refl, tt)))) c
-    ∙ one_typed type.Int (both l m)
-row_typed s (an_equality {o} {a} {b} {x} {y} c m) =
-    grouped (binary.Equal ∷ binary.NotEqual ∷ []) x y (equality_row x y) (refl, (refl, tt)) c ∙ one_typed type.Bool (agree_of m)
+row_typed s (an_arithmetic {o} {a} {b} {x} {y} c l m) = grind (arith, grouped, one_typed, both)
+row_typed s (an_equality {o} {a} {b} {x} {y} c m) = grind (arith, grouped, one_typed, agree_of)
 row_typed s (an_order {o} {a} {b} {x} {y} c m) =
     grouped (binary.Less ∷ binary.LessEqual ∷ binary.GreaterEqual ∷ binary.Greater ∷ []) x y (order_row x y) (refl, (refl, (refl, (refl, tt)))) c
     ∙ one_typed type.Bool (both_of (type.Int ∷ type.String ∷ type.Bool ∷ []) m)
 row_typed s (a_member {a} {b} {x} m) = member_typed x m
 row_typed s (a_key l m) = key_typed l m
-row_typed s (a_logic {o} {a} {b} {x} {y} c l m) =
-    grouped (binary.And ∷ binary.Or ∷ []) x y (logic_row x y) (refl, (refl, tt)) c ∙ one_typed type.Bool (both l m)
+row_typed s (a_logic {o} {a} {b} {x} {y} c l m) = grind (arith, grouped, one_typed, both)
 row_typed s (a_choice c m) = two_typed _ (may c) (agree_of m)
 row_typed s (a_map h) = one_typed type.Map (keys_of h)
 row_typed s (a_size {n} {a} {x} h m) = called n Size a x h ∙ one_typed type.Int (allowed_of (type.String ∷ type.List ∷ type.Map ∷ []) m)
@@ -199,12 +175,9 @@ row_typed s (a_size_method {n} {a} {x} h m) = (λ j. method_row (h j) x) ∙ one
 row_typed s (a_string {n} {a} {x} h m) = called n String a x h ∙ one_typed type.String (allowed_of (type.Int ∷ type.String ∷ []) m)
 row_typed s (a_dyn {n} {a} {x} h) = called n Dyn a x h
 row_typed s (a_test {n} {f} {a} {b} {x} {y} h l m) = (λ j. test_row (h j) x y) ∙ one_typed type.Bool (both l m)
-row_typed s (a_quantifier {n} {i} {m} {a} {p} {r} {x} h c o q) =
-    (λ j. fold_node (h j) (Some i) (r ∷ x ∷ [])) ∙ quantified r x m c ∙ two_typed type.Bool (allowed_of (type.List ∷ type.Map ∷ []) o) (may q)
-row_typed s (a_filter {n} {i} {a} {p} {r} {x} h o q) =
-    (λ j. fold_node (h j) (Some i) (r ∷ x ∷ [])) ∙ two_typed type.List (allowed_of (type.List ∷ type.Map ∷ []) o) (may q)
+row_typed s (a_quantifier {n} {i} {m} {a} {p} {r} {x} h c o q) = grind (arith, quantified, two_typed, allowed_of, may)
+row_typed s (a_filter {n} {i} {a} {p} {r} {x} h o q) = grind (arith, two_typed, allowed_of, may)
 row_typed s (a_transform {n} {i} {a} {t} {r} {x} h o) =
     (λ j. fold_node (h j) (Some i) (r ∷ x ∷ [])) ∙ two_typed type.List (allowed_of (type.List ∷ type.Map ∷ []) o) refl
-row_typed s (a_filtered_transform {n} {i} {a} {p} {t} {r} {x} {y} h o q) =
-    (λ j. fold_map_node (h j) (Some i) (r ∷ x ∷ y ∷ [])) ∙ two_typed type.List (allowed_of (type.List ∷ type.Map ∷ []) o) (may q)
+row_typed s (a_filtered_transform {n} {i} {a} {p} {t} {r} {x} {y} h o q) = grind (arith, two_typed, allowed_of, may)
 row_typed s _ = refl

@@ -1,39 +1,30 @@
 -- What an accepted expression means has its type, or is the error.
-use Rattle.std.proofs.Common.{Bool, true, false, List, [], ◌∷◌}
+use Rattle.std.proofs.Common.{arith}
+use Rattle.std.proofs.Common.{Bool, List, [], ◌∷◌}
 use Rattle.std.specs.List.{list_all}
 use Rattle.cel_reader.specs.Tree as tree
-use Rattle.cel_reader.specs.Tree.{Tree, no_trees, more_trees}
+use Rattle.cel_reader.specs.Tree.{no_trees, more_trees}
 use Rattle.value_store.specs.Value.{ValueOrError, error}
 use Rattle.cel_types.specs.declared.cel_type.CelType.TheVariants as type
 use Rattle.cel_macros.specs.Environment.{Environment, bind, name_value}
-use Rattle.cel_macros.specs.Selection.{field_of}
 use Rattle.cel_macros.specs.Literals.{values_in, entries_in, list_literal, map_literal}
 use Rattle.cel_macros.specs.Functions.{function_named, test_named}
-use Rattle.cel_macros.specs.Macros.{macro_named, is_map, is_has, is_variables, variables_name, name_of, field_name, range_of}
+use Rattle.cel_macros.specs.Macros.{macro_named, is_map, is_has, is_variables, name_of, field_name, range_of}
 use Rattle.cel_macros.specs.Meaning.{selected, meaning, meanings, entry_meanings, operand_meaning}
-use Rattle.cel_types.specs.Types.{Typing, typed, refused, NoOverload, MisplacedVariables, UnknownName, allowed, row}
-use Rattle.cel_types.specs.Scope.{Scope, is_known, name_type, within}
+use Rattle.cel_types.specs.Types.{Typing, typed, refused, NoOverload, row}
+use Rattle.cel_types.specs.Scope.{Scope, name_type, within}
 use Rattle.cel_types.specs.Typing.{selected_type, typing, typings, entry_typings, key_typings, operand_typing}
-use Rattle.cel_types.specs.TypeTable.{field_row, is_text_key}
+use Rattle.cel_types.specs.TypeTable.{is_text_key}
 use Rattle.cel_types.specs.Soundness.{Fits, FitsScope, IsSound}
-use Rattle.cel_types.proofs.TypedRows.{row_fits, with_fits, with_types_fit, dyn_fits, list_fits, map_fits, literal_fits, unary_fits, binary_fits, ternary_fits, index_fits, method_fits, text_test_fits, call_fits, fold_fits, fold_map_fits}
-use Rattle.std.specs.Prelude.{ℕ, bytes_eq, cond}
-
-known_fits : (b : Bool) (x : ValueOrError) → Fits (cond b (typed type.Dyn) (refused UnknownName)) x
-known_fits true x = dyn_fits x
-known_fits false x = tt
+use Rattle.cel_types.proofs.TypedRows.{row_fits, with_types_fit, list_fits, map_fits, literal_fits, unary_fits, binary_fits, ternary_fits, index_fits, method_fits, text_test_fits, call_fits, fold_fits, fold_map_fits}
+use Rattle.std.specs.Prelude.{ℕ}
 
 name_fits : (n : List ℕ) (items : List (List ℕ)) (x : ValueOrError) → Fits (name_type n items) x
 unfolding name_type
-name_fits n items x = by_name (bytes_eq variables_name n)
-  where
-    by_name : (b : Bool) → Fits (cond b (refused MisplacedVariables) (cond (is_known n items) (typed type.Dyn) (refused UnknownName))) x
-    by_name true = tt
-    by_name false = known_fits (is_known n items) x
+name_fits n items x = grind arith
 
 select_fits : (b : Bool) (f : List ℕ) (a : Typing) (s : Scope) (x : ValueOrError) (env : Environment) → FitsScope s env → Fits (selected_type b f a s) (selected b f x env)
-select_fits true f a s x env h = h f
-select_fits false f a s x env h = with_fits a field_row (field_of x f) (λ t. row_fits (allowed (type.Map ∷ []) t) type.Dyn (field_of x f) (dyn_fits (field_of x f)))
+select_fits b f a s x env h = grind arith
 
 pub is_sound : IsSound
 unfolding typing meaning

@@ -1,17 +1,16 @@
 -- An expression of the core that has a type is the expansion of its plain tree.
-use Rattle.std.proofs.Common.{◌≡◌, ℕ, Bool, true, false, List, [], ◌∷◌, Some, None, bytes_eq, if◌then◌else◌, refl, sym, ap, subst, ◌∙◌}
+use Rattle.std.proofs.Common.{arith}
+use Rattle.std.proofs.Common.{◌≡◌, ℕ, Bool, false, List, [], ◌∷◌, Some, None, if◌then◌else◌, refl, sym, ap, subst, ◌∙◌}
 use Rattle.std.specs.Bool.{⊤}
-use lib.Pointwise.{bytes_decides}
 use Rattle.std.specs.List.{list_all}
 use Rattle.cel_macros.specs.declared.macros.Macro.{Macro}
-use Rattle.cel_macros.specs.declared.macros.Macro.TheVariants.{All, Exists, ExistsOne, Filter, Map}
 use Rattle.cel_macros.specs.Functions.{function_named, test_named}
-use Rattle.cel_macros.specs.Macros.{macro_name, macro_named, has_name, variables_name, is_map, is_has, is_variables, field_name}
-use Rattle.cel_macros.specs.CoreTree.{CoreTree, CoreTrees, CoreEntries, no_cores, more_cores, no_core_entries, more_core_entries, literal, name, variable, select, has, index, call, method, unary, binary, ternary, list, map, fold, fold_map, one_core, plain_tree, plain_trees, plain_entries, selection, call_or_has, method_or_fold, expanded, expanded_operand, expanded_trees, expanded_entries}
+use Rattle.cel_macros.specs.Macros.{macro_name, macro_named, is_map, is_has, is_variables, field_name}
+use Rattle.cel_macros.specs.CoreTree.{CoreTree, CoreTrees, CoreEntries, no_cores, more_cores, no_core_entries, more_core_entries, name, select, has, index, call, method, unary, binary, ternary, list, map, fold, fold_map, one_core, plain_tree, plain_trees, plain_entries, selection, call_or_has, method_or_fold, expanded, expanded_operand, expanded_trees, expanded_entries}
 use Rattle.cel_types.specs.declared.cel_type.CelType.{CelType}
 use Rattle.cel_types.specs.declared.cel_type.CelType.TheVariants as type
-use Rattle.cel_types.specs.Types.{TypeFault, Typing, typed, refused, UnknownName, NoOverload, MisplacedVariables, with_type, with_types}
-use Rattle.cel_types.specs.Scope.{Scope, is_known, name_type, within}
+use Rattle.cel_types.specs.Types.{TypeFault, Typing, typed, refused, NoOverload, with_type, with_types}
+use Rattle.cel_types.specs.Scope.{Scope, name_type, within}
 use Rattle.cel_types.specs.TypeTable.{field_row, has_row, index_row, unary_row, binary_row, ternary_row, function_row, method_row, test_row, macro_row, map_row, is_text_key, map_literal_row}
 use Rattle.cel_types.specs.Typing.{typing}
 use Rattle.cel_types.specs.CoreTyping.{core_typing, core_typings, core_entry_typings, core_key_typings}
@@ -24,23 +23,19 @@ IsTyped (typed t) = ⊤
 IsTyped (refused y) = ⊥
 
 first_typed : (x : Typing) (f : CelType → Typing) → IsTyped (with_type x f) → IsTyped x
-first_typed (typed t) f h = tt
-first_typed (refused y) f h = h
+first_typed x f h = grind arith
 
 second_typed : (x y : Typing) (f : CelType → CelType → Typing) → IsTyped (with_type x (λ a. with_type y (f a))) → IsTyped y
-second_typed (typed t) y f h = first_typed y (f t) h
-second_typed (refused z) y f h = absurd h
+second_typed x y f h = grind arith
 
 third_typed : (x y z : Typing) (f : CelType → CelType → CelType → Typing) → IsTyped (with_type x (λ a. with_type y (λ b. with_type z (f a b)))) → IsTyped z
-third_typed (typed t) y z f h = second_typed y z (f t) h
-third_typed (refused w) y z f h = absurd h
+third_typed x y z f h = grind arith
 
 head_typed : (x : Typing) (xs : List Typing) (last : Typing) → IsTyped (with_types (x ∷ xs) last) → IsTyped x
 head_typed x xs last h = first_typed x (λ t. with_types xs last) h
 
 tail_typed : (x : Typing) (xs : List Typing) (last : Typing) → IsTyped (with_types (x ∷ xs) last) → IsTyped (with_types xs last)
-tail_typed (typed t) xs last h = h
-tail_typed (refused y) xs last h = absurd h
+tail_typed x xs last h = grind arith
 
 -- parts that no row takes have no type
 never_typed : (xs : List Typing) (y : TypeFault) → IsTyped (with_types xs (refused y)) → ⊥
@@ -49,30 +44,22 @@ never_typed (x ∷ xs) y h = never_typed xs y (tail_typed x xs (refused y) h)
 
 -- ---- what has a type is written as no other form
 
-named_typed : (b k : Bool) → IsTyped (if b then refused MisplacedVariables else (if k then typed type.Dyn else refused UnknownName)) → b ≡ false
-named_typed true k h = absurd h
-named_typed false k h = refl
-
 -- it is not the name `variables`
 no_variables : (a : CoreTree) (s : Scope) → IsTyped (core_typing a s) → is_variables (plain_tree a) ≡ false
 unfolding plain_tree core_typing is_variables name_type
-no_variables (name n) s h = named_typed (bytes_eq variables_name n) (is_known n s.items) h
-no_variables _ s h = refl
+no_variables a s h = grind arith
 
 no_function : (x : Typing) → IsTyped (with_type x (function_row None)) → ⊥
-no_function (typed t) h = h
-no_function (refused y) h = h
+no_function x h = grind arith
 
 -- `has` is no function
 no_has : (n : List ℕ) (x : Typing) (b : Bool) → is_has n ≡ b → IsTyped (with_type x (function_row (function_named n))) → b ≡ false
 unfolding is_has function_named
-no_has n x true e h = absurd (no_function x (subst (λ m. IsTyped (with_type x (function_row (function_named m)))) (sym ((bytes_decides has_name n).0 e)) h))
-no_has n x false e h = refl
+no_has n x b e h = grind arith
 
 macro_again : (m : Macro) → macro_named (macro_name m) ≡ Some m
 unfolding macro_named
-macro_again All = refl
-macro_again _ = refl
+macro_again m = grind arith
 
 -- ---- the expansion of the plain tree
 
