@@ -1,12 +1,12 @@
 -- Parts of bounded values, and values that are made of them.
 use Rattle.std.proofs.Common.{◌≡◌, ◌+◌, ◌≤◌, ℕ, zero, suc, Bool, true, false, List, length, Option, Some, None, refl, subst, arith}
-use Rattle.std.specs.Prelude.{slice_get, option_map, option_and_then, bytes_eq, if◌then◌else◌}
+use Rattle.std.specs.Prelude.{IfSome, slice_get, option_map, option_and_then, bytes_eq, if◌then◌else◌}
 use Rattle.std.specs.Cmp.Lexicographic.{slice_cmp}
 use Rattle.std.specs.Ordering.{nat_cmp}
-use Rattle.std.specs.declared.cmp.Ordering.{Ordering}
 use Rattle.std.specs.declared.cmp.Ordering.TheVariants.{Less, Equal, Greater}
+use Rattle.value_store.proofs.Keys.{inserted_if}
 use Rattle.value_store.specs.Calls.{join_of, joined, key_at, part_at, push_of, pushed, put_in, put_of, text_at, value_at}
-use Rattle.value_store.specs.Lookup.{find, inserted, inserted_by}
+use Rattle.value_store.specs.Lookup.{find, inserted}
 use Rattle.value_store.specs.Value.{Value, null, boolean, int, text, list, map, Items, no_items, item, Entries, no_entries, entry, ValueOrError, error, value, list_of, keys_of, values_of, items_push, items_join}
 use Rattle.helper_table.specs.Lookups.{value_under}
 use Rattle.helper_table.specs.Tables.{IsBounded, AreItemsBounded, AreEntriesBounded, IsResultBounded}
@@ -113,33 +113,24 @@ record IsLonger (n : ℕ) (old new : Entries) : Type 0 where
   length_is : length (keys_of new) ≡ length (keys_of old) + 1
   bounded : AreEntriesBounded n new
 
-entered_by : (n : ℕ) (order : Ordering) (key k : List ℕ) (x v : Value) (more new : Entries) (rest : Option Entries) → length key ≤ n → IsBounded n x → AreEntriesBounded n (entry k v more)
-    → ((es : Entries) → rest ≡ Some es → IsLonger n more es) → inserted_by order key x k v more rest ≡ Some new → IsLonger n (entry k v more) new
-entered_by n Less key k x v more new rest short b all later e =
-    let same : entry key x (entry k v more) ≡ new = cc in
-    subst (λ (es : Entries). IsLonger n (entry k v more) es) same (record { length_is = omega arith; bounded = (short, b, all) })
-entered_by n Greater key k x v more new (Some es) short b all later e =
-    let same : entry k v es ≡ new = cc in
-    let longer = later es refl in
-    subst (λ (fs : Entries). IsLonger n (entry k v more) fs) same (record { length_is = omega (arith, longer.length_is); bounded = (all.0, all.1, longer.bounded) })
-entered_by n _ key k x v more new _ short b all later e = absurd (cc)
+inserted_bounded : (n : ℕ) (key : List ℕ) (x : Value) (es : Entries) → length key ≤ n → IsBounded n x → AreEntriesBounded n es
+    → IfSome (inserted key x es) (IsLonger n es)
+inserted_bounded n key x no_entries short b all = record { length_is = refl; bounded = (short, b, tt) }
+inserted_bounded n key x (entry k v more) short b all =
+    inserted_if (IsLonger n (entry k v more)) (IsLonger n more) (slice_cmp nat_cmp key k) key x k v more (inserted key x more)
+    (record { length_is = omega arith; bounded = (short, b, all) })
+    (λ es longer. record { length_is = omega (arith, longer.length_is); bounded = (all.0, all.1, longer.bounded) })
+    (inserted_bounded n key x more short b all.2)
 
-inserted_bounded : (n : ℕ) (key : List ℕ) (x : Value) (es new : Entries) → length key ≤ n → IsBounded n x → AreEntriesBounded n es → inserted key x es ≡ Some new → IsLonger n es new
-inserted_bounded n key x no_entries new short b all e =
-    let same : entry key x no_entries ≡ new = cc in
-    subst (λ (es : Entries). IsLonger n no_entries es) same (record { length_is = refl; bounded = (short, b, tt) })
-inserted_bounded n key x (entry k v more) new short b all e =
-    entered_by n (slice_cmp nat_cmp key k) key k x v more new (inserted key x more) short b all (λ es h. inserted_bounded n key x more es short b all.2 h) e
-
-map_bounded : (n : ℕ) (es : Entries) (o : Option Entries) (u : Value) → length (keys_of es) ≤ n → ((new : Entries) → o ≡ Some new → IsLonger n es new) → option_map map o ≡ Some u → IsBounded (n + 2) u
-map_bounded n es None u short longer e = absurd (cc)
-map_bounded n es (Some new) u short longer e =
+map_bounded : (n : ℕ) (es : Entries) (o : Option Entries) (u : Value) → length (keys_of es) ≤ n → IfSome o (IsLonger n es) → option_map map o ≡ Some u
+    → IsBounded (n + 2) u
+map_bounded n es None u short is e = absurd (cc)
+map_bounded n es (Some new) u short is e =
     let same : map new ≡ u = cc in
-    let is = longer new refl in
     subst (IsBounded (n + 2)) same ((omega (arith, short, is.length_is)), looser_entries new n (n + 2) (omega arith) is.bounded)
 
 put_bounded : (n : ℕ) (es : Entries) (key : List ℕ) (v u : Value) → IsBounded n (map es) → length key ≤ n → IsBounded n v → put_of es key v ≡ Some u → IsBounded (n + 2) u
-put_bounded n es key v u b short c e = map_bounded n es (inserted key v es) u b.0 (λ new h. inserted_bounded n key v es new short c b.1 h) e
+put_bounded n es key v u b short c e = map_bounded n es (inserted key v es) u b.0 (inserted_bounded n key v es short c b.1) e
 
 put_value : (n : ℕ) (es : Entries) (key : List ℕ) (x : ValueOrError) (u : Value) → IsBounded n (map es) → length key ≤ n → IsResultBounded n x → option_and_then (put_of es key) (value_at (Some x)) ≡ Some u → IsBounded (n + 2) u
 put_value n es key error u b short c e = absurd (cc)

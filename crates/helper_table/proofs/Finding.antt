@@ -1,6 +1,6 @@
 -- A text stands in another exactly where the search finds it.
-use Rattle.std.proofs.Common.{◌≡◌, ℕ, zero, suc, List, [], ◌∷◌, length, take, Option, Some, None, Bool, true, false, ◌||◌, refl, sym, ap, ◌⊎◌, inl, inr, ⊎_elim, arith, length-take}
-use Rattle.std.proofs.lemmas.Bool.{cases_Bool}
+use Rattle.std.proofs.Common.{◌≡◌, ℕ, zero, suc, List, [], ◌∷◌, length, take, Option, Some, None, true, sym, ap, ⊎_elim, arith, length-take}
+use Rattle.std.proofs.lemmas.Bool.{cases_Bool, or_cases, or_left, or_right}
 use Rattle.std.specs.List.{starts_with}
 use Rattle.std.specs.Prelude.{is_some, nat_eq}
 use lib.Pointwise.{bytes_decides}
@@ -26,24 +26,12 @@ later b bs needle k at = OccursAt-from_part (b ∷ bs) needle (suc k) (let h = a
 earlier : (b : ℕ) (bs needle : List ℕ) (k : ℕ) → OccursAt (b ∷ bs) needle (suc k) → OccursAt bs needle k
 earlier b bs needle k at = OccursAt-from_part bs needle k (let h = at.fits in omega arith) (OccursAt-part (b ∷ bs) needle (suc k) at)
 
-either : (p q : Bool) → (p || q) ≡ true → (p ≡ true) ⊎ (q ≡ true)
-either true q e = inl refl
-either false q e = inr e
-
 stands : (hay needle : List ℕ) → contains hay needle ≡ true → Stands hay needle
 stands [] needle e = record { place = 0; at = starts_at [] needle e }
 stands (b ∷ bs) needle e =
     ⊎_elim (λ first. record { place = 0; at = starts_at (b ∷ bs) needle first })
     (λ rest. let found = stands bs needle rest in record { place = suc found.place; at = later b bs needle found.place found.at })
-    (either (starts_with nat_eq (b ∷ bs) needle) (contains bs needle) e)
-
-or_right : (p q : Bool) → q ≡ true → (p || q) ≡ true
-or_right true q e = refl
-or_right false q e = e
-
-or_left : (p q : Bool) → p ≡ true → (p || q) ≡ true
-or_left true q e = refl
-or_left false q e = absurd (cc)
+    (or_cases (starts_with nat_eq (b ∷ bs) needle) (contains bs needle) e)
 
 contains_if : (hay needle : List ℕ) (k : ℕ) → OccursAt hay needle k → contains hay needle ≡ true
 contains_if [] needle zero at = starts_if [] needle at

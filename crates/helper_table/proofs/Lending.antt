@@ -1,7 +1,7 @@
 -- A row on the bytes of a range, and texts of such bytes.
-use Rattle.std.proofs.Common.{◌≡◌, ℕ, List, length, Option, Some, None, Bool, true, false, refl, ap, ◌∙◌}
+use Rattle.std.proofs.Common.{◌≡◌, ℕ, List, length, Option, Some, None, sym, ap, ◌∙◌}
+use Rattle.std.proofs.lemmas.Bool.{cond-true, cond-false, false_from_ne_true}
 use Rattle.std.proofs.lemmas.Str.{is_utf8-from_IsUtf8, IsUtf8-from_is_utf8}
-use Rattle.std.specs.Prelude.{if◌then◌else◌}
 use Rattle.std.specs.Str.{is_utf8, IsUtf8}
 use Rattle.guest_memory.specs.declared.fault.Fault.{Fault}
 use Rattle.guest_memory.specs.declared.fault.Fault.TheVariants.{F3}
@@ -18,18 +18,10 @@ pub by_no_range : (f : Fault) (o : Option (List ℕ)) (row : List ℕ → Outcom
 by_no_range f None row e = ap Refused e.0
 by_no_range f (Some lent) row e = let h : Some lent ≡ None = e.1 in absurd (cc)
 
-chosen : (test : Bool) (o p : Outcome) → test ≡ true → o ≡ (if test then o else p)
-chosen true o p e = refl
-chosen false o p e = absurd (cc)
-
-other : (test : Bool) (o p : Outcome) → (test ≡ true → ⊥) → p ≡ (if test then o else p)
-other true o p e = absurd (e refl)
-other false o p e = refl
-
 pub text_of_utf8 : (t bytes : List ℕ) → t ≡ bytes → IsUtf8 bytes → Named (text t) (length t) ≡ text_const_row bytes
 unfolding text_const_row
-text_of_utf8 t bytes e utf8 = ap (λ b. Named (text b) (length b)) e ∙ chosen (is_utf8 bytes) _ _ (is_utf8-from_IsUtf8 bytes utf8)
+text_of_utf8 t bytes e utf8 = ap (λ b. Named (text b) (length b)) e ∙ sym (cond-true (is_utf8 bytes) _ _ (is_utf8-from_IsUtf8 bytes utf8))
 
 pub no_text : (bytes : List ℕ) → ¬ IsUtf8 bytes → Plain 0 0 ≡ text_const_row bytes
 unfolding text_const_row
-no_text bytes fails = other (is_utf8 bytes) _ _ (λ is. fails (IsUtf8-from_is_utf8 bytes is))
+no_text bytes fails = sym (cond-false (is_utf8 bytes) _ _ (false_from_ne_true _ (λ is. fails (IsUtf8-from_is_utf8 bytes is))))

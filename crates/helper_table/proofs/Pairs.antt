@@ -2,8 +2,6 @@
 use Rattle.std.proofs.Common.{◌≡◌, Option, Some, None, Bool, true, false, ◌&&◌, refl, ap, ◌∙◌}
 use Rattle.std.specs.Prelude.{option_map, is_some}
 use Rattle.value_store.specs.Calls.{equal_at, less_at, member_at, pushed, push_of}
-use Rattle.value_store.specs.Lookup.{member}
-use Rattle.value_store.specs.Order.{less}
 use Rattle.value_store.specs.Seen.{Seen, seen, sees_error}
 use Rattle.value_store.specs.Value.{Value, null, boolean, int, text, list, map, ValueOrError, error, value}
 use Rattle.helper_table.specs.Kinds.{is_value, is_list, have_order, may_be_in}
@@ -32,47 +30,28 @@ equal_same (value v) (value w) = (λ i. a_value v i && a_value w i)
 pub equal_pair : (a b : Option ValueOrError) (s t : Seen) → option_map seen a ≡ Some s → option_map seen b ≡ Some t → (is_value s && is_value t) ≡ is_some (equal_at a b)
 equal_pair = pair (λ s t. is_value s && is_value t) equal_at equal_same
 
-unordered_error : (v : Value) → have_order (seen (value v)) sees_error ≡ false
-unordered_error null = refl
-unordered_error _ = refl
-
-order_same : (v w : Value) → have_order (seen (value v)) (seen (value w)) ≡ is_some (less v w)
-order_same (boolean a) (boolean b) = refl
-order_same (int y) (int z) = refl
-order_same (text s) (text t) = refl
-order_same _ _ = refl
-
 less_same : (x y : ValueOrError) → have_order (seen x) (seen y) ≡ is_some (less_at (Some x) (Some y))
 less_same error y = refl
-less_same (value v) error = unordered_error v
-less_same (value v) (value w) = order_same v w
+less_same (value (boolean a)) (value (boolean b)) = refl
+less_same (value (int y)) (value (int z)) = refl
+less_same (value (text s)) (value (text t)) = refl
+less_same (value null) error = refl
+less_same (value (list is)) error = refl
+less_same (value (map es)) error = refl
+less_same _ _ = refl
 
 pub less_pair : (a b : Option ValueOrError) (s t : Seen) → option_map seen a ≡ Some s → option_map seen b ≡ Some t → have_order s t ≡ is_some (less_at a b)
 less_pair = pair have_order less_at less_same
 
-in_same : (v w : Value) → may_be_in (seen (value v)) (seen (value w)) ≡ is_some (member v w)
-in_same null (list is) = refl
-in_same (boolean b) (list is) = refl
-in_same (int z) (list is) = refl
-in_same (text s) (list is) = refl
-in_same (list ms) (list is) = refl
-in_same (map ms) (list is) = refl
-in_same (text s) (map es) = refl
-in_same _ _ = refl
-
-not_in_error : (v : Value) → may_be_in (seen (value v)) sees_error ≡ false
-not_in_error null = refl
-not_in_error _ = refl
-
-no_error_in : (w : Value) → may_be_in sees_error (seen (value w)) ≡ false
-no_error_in null = refl
-no_error_in _ = refl
-
 member_same : (x y : ValueOrError) → may_be_in (seen x) (seen y) ≡ is_some (member_at (Some x) (Some y))
-member_same error error = refl
-member_same error (value w) = no_error_in w
-member_same (value v) error = not_in_error v
-member_same (value v) (value w) = in_same v w
+member_same error (value null) = refl
+member_same (value null) (value (list is)) = refl
+member_same (value (boolean b)) (value (list is)) = refl
+member_same (value (int z)) (value (list is)) = refl
+member_same (value (text s)) (value (list is)) = refl
+member_same (value (list ms)) (value (list is)) = refl
+member_same (value (map ms)) (value (list is)) = refl
+member_same _ _ = refl
 
 pub member_pair : (a b : Option ValueOrError) (s t : Seen) → option_map seen a ≡ Some s → option_map seen b ≡ Some t → may_be_in s t ≡ is_some (member_at a b)
 member_pair = pair may_be_in member_at member_same

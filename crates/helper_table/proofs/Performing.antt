@@ -1,13 +1,13 @@
 -- What stands after a plan was followed.
-use Rattle.std.proofs.Common.{◌≡◌, ◌+◌, ◌<◌, ◌≤◌, ℕ, List, Option, Some, None, Bool, true, false, ◌&&◌, refl, sym, ap, ◌∙◌, arith}
-use Rattle.std.proofs.lemmas.Bool.{and_from, le-leb, leb-true}
-use Rattle.std.specs.Prelude.{Result, Ok, Err, IfSome, is_some, nat_le, if◌then◌else◌}
+use Rattle.std.proofs.Common.{◌≡◌, ◌+◌, ◌<◌, ◌≤◌, ℕ, List, Option, Some, None, true, false, ◌&&◌, refl, sym, ap, ◌∙◌, arith}
+use Rattle.std.proofs.lemmas.Bool.{and_from, cond-true, cond-false, le-leb, lt-leb}
+use Rattle.std.specs.Prelude.{Result, Ok, Err, IfSome, is_some, nat_le}
 use Rattle.std.specs.declared.alloc.AllocError.{AllocError}
 use Rattle.guest_memory.specs.declared.fault.Fault.TheVariants.{F8}
 use Rattle.value_store.specs.Calls.{Places}
 use Rattle.value_store.specs.Placing.{charge_limit}
 use Rattle.value_store.specs.Value.{Value, ValueOrError}
-use Rattle.helper_table.specs.Outcome.{Outcome, Plain, Named, Refused, named, needs_room, is_left, answer_among, charged, CallEnd, Leaves, Halts}
+use Rattle.helper_table.specs.Outcome.{Outcome, Plain, Named, Refused, named, needs_room, is_left, answer_among, charged, Leaves, Halts}
 use Rattle.helper_table.specs.Plans.{outcome_by, Does}
 use Rattle.helper_table.specs.declared.action.Action.{Action}
 use Rattle.helper_table.specs.declared.action.Action.TheVariants as action
@@ -35,37 +35,27 @@ plan_adds vs (action.Push l x) added = named_adds _ added
 plan_adds vs (action.Put m k x) added = named_adds _ added
 plan_adds vs _ added = refl
 
-leaves : (test : Bool) (e : CallEnd) → test ≡ true → (if test then e else Halts F8) ≡ e
-leaves true e t = refl
-leaves false e t = absurd (cc)
-
-halts : (test : Bool) (e : CallEnd) → test ≡ false → (if test then e else Halts F8) ≡ Halts F8
-halts true e t = absurd (cc)
-halts false e t = refl
-
-not_within : (a b : ℕ) (test : Bool) → nat_le a b ≡ test → b < a → test ≡ false
-not_within a b true e h = absurd (let l = leb-true a b e in omega arith)
-not_within a b false e h = refl
-
 module _ (old new : List ValueOrError) (charge added : ℕ) where
   fits : (a : ℕ) → a ≡ added → charge + (1 + added) ≤ charge_limit → nat_le (charge + (1 + a)) charge_limit ≡ true
   fits a same within = le-leb _ _ (omega arith)
 
   passes : (a : ℕ) → a ≡ added → charge_limit < charge + (1 + added) → nat_le (charge + (1 + a)) charge_limit ≡ false
-  passes a same over = not_within _ _ _ refl (omega arith)
+  passes a same over = lt-leb _ _ (omega arith)
 
   -- within the limit
   pub performed : (o : Outcome) (word : ℕ) → Adds o added → Does o (Ok word) old new → charge + (1 + added) ≤ charge_limit → charged (answer_among old o) charge ≡ Leaves word (record { values = new; charge = charge + (1 + added) })
   performed (Plain w a) word same does within =
-      leaves _ _ (fits a same within) ∙ (let p = sym does.0 in let q = sym does.1 in λ i. Leaves (p i) (record { values = q i; charge = charge + (1 + same i) }))
+      cond-true _ _ _ (fits a same within)
+      ∙ (let p = sym does.0 in let q = sym does.1 in λ i. Leaves (p i) (record { values = q i; charge = charge + (1 + same i) }))
   performed (Named v a) word same does within =
-      leaves _ _ (fits a same within) ∙ (let p = sym does.0 in let q = sym does.1 in λ i. Leaves (p i) (record { values = q i; charge = charge + (1 + same i) }))
+      cond-true _ _ _ (fits a same within)
+      ∙ (let p = sym does.0 in let q = sym does.1 in λ i. Leaves (p i) (record { values = q i; charge = charge + (1 + same i) }))
   performed (Refused f) word same does within = absurd same
 
   -- over the limit
   pub refused : (o : Outcome) → Adds o added → charge_limit < charge + (1 + added) → charged (answer_among old o) charge ≡ Halts F8
-  refused (Plain w a) same over = halts _ _ (passes a same over)
-  refused (Named v a) same over = halts _ _ (passes a same over)
+  refused (Plain w a) same over = cond-false _ _ _ (passes a same over)
+  refused (Named v a) same over = cond-false _ _ _ (passes a same over)
   refused (Refused f) same over = absurd same
 
   -- no memory
@@ -76,5 +66,5 @@ module _ (old new : List ValueOrError) (charge added : ℕ) where
 
   pub takes : (o : Outcome) (e : AllocError) → Adds o added → Does o (Err e) old new → charge + (1 + added) ≤ charge_limit → (needs_room o && is_left (charged (answer_among old o) charge)) ≡ true
   takes (Plain w a) e same does within = absurd does
-  takes (Named v a) e same does within = and_from _ _ does.0 (ap is_left (leaves _ _ (fits a same within)))
+  takes (Named v a) e same does within = and_from _ _ does.0 (ap is_left (cond-true _ _ _ (fits a same within)))
   takes (Refused f) e same does within = absurd same

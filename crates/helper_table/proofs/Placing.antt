@@ -32,20 +32,15 @@ more vs y free = record {
 }
 
 pub placed_extends : PlacedExtends
-placed_extends vs (int n) = more vs (value (int n)) (λ h. tt)
-placed_extends vs (text s) = more vs (value (text s)) (λ h. tt)
-placed_extends vs (list is) = more vs (value (list is)) (λ h. tt)
-placed_extends vs (map es) = more vs (value (map es)) (λ h. tt)
-placed_extends vs _ = same vs
+placed_extends vs null = same vs
+placed_extends vs (boolean b) = same vs
+placed_extends vs v = more vs (value v) (λ h. tt)
 
 named_among : (vs rest : List ValueOrError) → vs ≡ first_values ++ rest → (v : Value) → Names (placed vs v) (place vs v) (value v)
 named_among vs rest e null = ap (λ l. slice_get l 1) e
 named_among vs rest e (boolean false) = ap (λ l. slice_get l 2) e
 named_among vs rest e (boolean true) = ap (λ l. slice_get l 3) e
-named_among vs rest e (int n) = seam vs (value (int n))
-named_among vs rest e (text s) = seam vs (value (text s))
-named_among vs rest e (list is) = seam vs (value (list is))
-named_among vs rest e (map es) = seam vs (value (map es))
+named_among vs rest e v = seam vs (value v)
 
 pub placed_is_named : PlacedIsNamed
 placed_is_named old v store = named_among old.values store.more store.values_are v
@@ -59,8 +54,6 @@ longer : (vs rest : List ValueOrError) (y : ValueOrError) → vs ≡ first_value
 longer vs rest y e = record { rest = rest ++ y ∷ []; is = ap (λ l. l ++ y ∷ []) e }
 
 pub begins : (vs rest : List ValueOrError) → vs ≡ first_values ++ rest → (v : Value) → Begins (placed vs v)
-begins vs rest e (int n) = longer vs rest (value (int n)) e
-begins vs rest e (text s) = longer vs rest (value (text s)) e
-begins vs rest e (list is) = longer vs rest (value (list is)) e
-begins vs rest e (map es) = longer vs rest (value (map es)) e
-begins vs rest e _ = record { rest = rest; is = e }
+begins vs rest e null = record { rest = rest; is = e }
+begins vs rest e (boolean b) = record { rest = rest; is = e }
+begins vs rest e v = longer vs rest (value v) e

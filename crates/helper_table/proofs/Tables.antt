@@ -1,11 +1,13 @@
 -- Calls answer words, and leave tables.
 use Rattle.std.proofs.Common.{◌≡◌, ◌+◌, ◌<◌, ◌≤◌, ◌^◌, ℕ, zero, suc, Bool, true, false, not, List, [], ◌∷◌, ◌++◌, length, Option, Some, None, refl, subst, lit<, arith, rules}
+use Rattle.std.proofs.lemmas.Bool.{cond_both}
 use Rattle.std.proofs.lemmas.Int.{ints}
-use Rattle.std.proofs.lemmas.List.Elements.{All-append, All-cons, All-head, All-nil, All-tail}
+use Rattle.std.proofs.lemmas.List.Elements.{All-append, All-cons, All-get_or, All-head, All-nil, All-tail}
+use Rattle.std.proofs.lemmas.Option.{get_or_from_slice_get, slice_get_within}
 use Rattle.std.specs.Int.{w64, cast_signed, cast_unsigned}
 use Rattle.std.specs.List.{starts_with, ends_with}
 use Rattle.std.specs.Str.{is_utf8}
-use Rattle.std.specs.Prelude.{All, FitsSigned, ℤ, pos, negsuc, slice_get, slice_index, nat_eq, nat_le, option_map, option_and_then, if◌then◌else◌}
+use Rattle.std.specs.Prelude.{All, FitsSigned, ℤ, pos, negsuc, slice_get, slice_index, nat_eq, nat_le, option_map, option_and_then}
 use Rattle.guest_memory.specs.declared.fault.Fault.TheVariants.{F8}
 use Rattle.value_store.specs.Calls.{entries_at, equal_at, joined, less_at, member_at, part_at, pushed, put_in, text_at}
 use Rattle.value_store.specs.Lookup.{has_key}
@@ -14,17 +16,18 @@ use Rattle.value_store.specs.Seen.{Seen, sees_error, sees_null, sees_bool, sees_
 use Rattle.value_store.specs.Size.{depth_of}
 use Rattle.value_store.specs.Value.{Value, null, boolean, int, text, list, map, Items, ValueOrError, error, value, list_of}
 use Rattle.helper_table.proofs.Bounded.{joined_items, key_text_bounded, looser, looser_items, looser_result, part_bounded, pushed_bounded, put_in_bounded, under_bounded}
-use Rattle.helper_table.proofs.Following.{outcome_follows}
+use Rattle.helper_table.proofs.Entering.{unless}
+use Rattle.helper_table.proofs.Following.{Left, left, outcome_follows}
 use Rattle.helper_table.proofs.Lists.{few_code_points}
 use Rattle.helper_table.specs.Building.{depth_limit, entered, grown, is_key, join_row, list_new_row, map_new_row, push_row, put_row, sequence}
 use Rattle.helper_table.specs.Calls.{bytes_at, on_lent, on_operand, on_range, on_value, on_values, r1, r2, r3, row_numbered, row_of}
-use Rattle.helper_table.specs.Comparisons.{contains, contains_row, ends_row, equal_row, less_row, member_row, on_texts, starts_row, text_row}
+use Rattle.helper_table.specs.Comparisons.{contains, contains_row, ends_row, equal_row, less_row, member_row, on_texts, starts_row}
 use Rattle.helper_table.specs.Conversions.{decimal_of, int_new_row, int_of_row, kind_number, kind_row, not_row, text_const_row, text_of_int_row}
 use Rattle.helper_table.specs.Laws.{Follows}
 use Rattle.helper_table.specs.Lookups.{count_row, field_row, has_row, index_row, item_or_key, item_row, part_by, size_row, value_under}
 use Rattle.helper_table.specs.Numbers.{of_number}
 use Rattle.helper_table.specs.Operands.{int_part, place_part, text_part, truth_part}
-use Rattle.helper_table.specs.Outcome.{Outcome, Plain, Named, Refused, Leaves, Halts, answer_among, charged, found, truth}
+use Rattle.helper_table.specs.Outcome.{Outcome, Plain, Named, Refused, Leaves, answer_among, charged, found, truth}
 use Rattle.helper_table.specs.Tables.{AreItemsBounded, IsBounded, IsResultBounded, IsTable, TablesAreKept}
 use Rattle.helper_table.specs.declared.helper.Helper.{Helper}
 use Rattle.helper_table.specs.declared.helper.Helper.TheVariants as helper
@@ -46,9 +49,8 @@ found_fits n (Some v) b = looser v n (n + 1) (omega arith) (b v refl)
 -- ---- operands
 
 found_value : (n : ℕ) (vs : List ValueOrError) (h : ℕ) (x : ValueOrError) → All (IsResultBounded n) vs → slice_get vs h ≡ Some x → IsResultBounded n x
-found_value n [] h x all e = absurd (cc)
-found_value n (y ∷ vs) zero x all e = let same : y ≡ x = cc in subst (IsResultBounded n) same (All-head (IsResultBounded n) y vs all)
-found_value n (y ∷ vs) (suc h) x all e = found_value n vs h x (All-tail (IsResultBounded n) y vs all) e
+found_value n vs h x all e =
+    subst (IsResultBounded n) (get_or_from_slice_get vs h x x e) (All-get_or (IsResultBounded n) vs h x (slice_get_within vs h x e) all)
 
 argument : (args : List ℕ) (i : ℕ) → All (λ w. w < 2 ^ 64) args → slice_index args i < 2 ^ 64
 argument [] i all = lit< tt
@@ -71,15 +73,11 @@ module _ (n : ℕ) (vs : List ValueOrError) (all : All (IsResultBounded n) vs) w
   values_fit : (a b : ℕ) (row : ValueOrError → ValueOrError → Outcome) → ((x y : ValueOrError) → IsResultBounded n x → IsResultBounded n y → IsFit n (row x y)) → IsFit n (on_values vs a b row)
   values_fit a b row is = value_fits a (λ x. on_value vs b (row x)) (λ x bx. value_fits b (row x) (λ y by. is x y bx by))
 
--- ---- conversions
+-- ---- words
 
 kind_small : (s : Seen) → kind_number s < 2 ^ 64
 kind_small sees_error = lit< tt
 kind_small _ = lit< tt
-
-kind_fits : (n : ℕ) (x : ValueOrError) → IsFit n (kind_row x)
-unfolding kind_row
-kind_fits n x = kind_small (seen x)
 
 int_small : (z : ℤ) → FitsSigned w64 z → cast_unsigned w64 z < 2 ^ 64
 int_small (pos m) h = omega arith
@@ -93,39 +91,11 @@ int_of_fits n _ b = lit< tt
 signed_fits : (w : ℕ) → w < 2 ^ 64 → FitsSigned w64 (cast_signed w64 w)
 signed_fits w h = search (rules, ints)
 
-int_new_fits : (n w : ℕ) → w < 2 ^ 64 → IsFit n (int_new_row w)
-unfolding int_new_row
-int_new_fits n w h = signed_fits w h
-
-utf8_fits : (n : ℕ) (b : Bool) (bytes : List ℕ) → IsFit n (if b then Named (text bytes) (length bytes) else Plain 0 0)
-utf8_fits n true bytes = omega arith
-utf8_fits n false bytes = lit< tt
-
-text_const_fits : (n : ℕ) (bytes : List ℕ) → IsFit n (text_const_row bytes)
-unfolding text_const_row
-text_const_fits n bytes = utf8_fits n (is_utf8 bytes) bytes
-
 decimal_fits : (n : ℕ) (o : Option ℤ) → IsFit n (decimal_of o)
 decimal_fits n (Some z) = omega arith
 decimal_fits n None = lit< tt
 
-text_of_int_fits : (n : ℕ) (x : ValueOrError) → IsFit n (text_of_int_row x)
-unfolding text_of_int_row
-text_of_int_fits n x = decimal_fits n (int_part (seen x))
-
-not_fits : (n : ℕ) (x : ValueOrError) → IsFit n (not_row x)
-unfolding not_row
-not_fits n x = truth_fits n (option_map not (truth_part (seen x)))
-
--- ---- lookups
-
-field_fits : (n : ℕ) (m : ValueOrError) (key : List ℕ) → IsResultBounded n m → IsFit n (field_row m key)
-unfolding field_row
-field_fits n m key b = found_fits n (value_under (Some m) key) (λ v e. under_bounded n m key v b e)
-
-has_fits : (n : ℕ) (m : ValueOrError) (key : List ℕ) → IsFit n (has_row m key)
-unfolding has_row
-has_fits n m key = truth_fits n (option_map (has_key key) (entries_at (Some m)))
+-- ---- parts
 
 then_bounded : {A : Type 0} (n : ℕ) (f : A → Option Value) (o : Option A) (v : Value) → ((a : A) → f a ≡ Some v → IsBounded n v) → option_and_then f o ≡ Some v → IsBounded n v
 then_bounded n f None v is e = absurd (cc)
@@ -136,18 +106,10 @@ by_bounded n (sees_list m) k x v b e = then_bounded n (part_at (Some x)) (place_
 by_bounded n (sees_map m) k x v b e = then_bounded n (value_under (Some x)) (text_part k) v (λ key h. under_bounded n x key v b h) e
 by_bounded n _ k x v b e = absurd (cc)
 
-index_fits : (n : ℕ) (x k : ValueOrError) → IsResultBounded n x → IsFit n (index_row x k)
-unfolding index_row
-index_fits n x k b = found_fits n (part_by (seen x) (seen k) (Some x)) (λ v e. by_bounded n (seen x) (seen k) x v b e)
-
 at_bounded : (n : ℕ) (s : Seen) (i : ℕ) (x : ValueOrError) (v : Value) → IsResultBounded n x → item_or_key s i (Some x) ≡ Some v → IsBounded n v
 at_bounded n (sees_list m) i x v b e = part_bounded n x i v b e
 at_bounded n (sees_map m) i x v b e = key_text_bounded n x i v b e
 at_bounded n _ i x v b e = absurd (cc)
-
-item_fits : (n : ℕ) (x : ValueOrError) (i : ℕ) → IsResultBounded n x → IsFit n (item_row x i)
-unfolding item_row
-item_fits n x i b = found_fits n (item_or_key (seen x) i (Some x)) (λ v e. at_bounded n (seen x) i x v b e)
 
 module _ (n : ℕ) (small : n ≤ charge_limit) where
   size_fits : (x : ValueOrError) → IsResultBounded n x → IsFit n (size_row x)
@@ -163,23 +125,6 @@ module _ (n : ℕ) (small : n ≤ charge_limit) where
   count_fits (value (map es)) b = omega (arith, b.0, small)
   count_fits _ b = lit< tt
 
--- ---- comparisons
-
-equal_fits : (n : ℕ) (x y : ValueOrError) → IsFit n (equal_row x y)
-unfolding equal_row
-equal_fits n x y = truth_fits n (equal_at (Some x) (Some y))
-
-less_fits : (n : ℕ) (x y : ValueOrError) → IsFit n (less_row x y)
-unfolding less_row
-less_fits n x y = truth_fits n (less_at (Some x) (Some y))
-
-member_fits : (n : ℕ) (x y : ValueOrError) → IsFit n (member_row x y)
-unfolding member_row
-member_fits n x y = truth_fits n (member_at (Some x) (Some y))
-
-test_fits : (n : ℕ) (test : List ℕ → List ℕ → Bool) (x y : ValueOrError) → IsFit n (text_row test x y)
-test_fits n test x y = truth_fits n (on_texts test (text_part (seen x)) (text_part (seen y)))
-
 -- ---- texts, lists and maps that are made
 
 sequence_fits : (n : ℕ) (o : Option Value) → ((is : Items) → o ≡ Some (list is) → AreItemsBounded n is) → IsFit n (sequence o)
@@ -187,57 +132,60 @@ sequence_fits n (Some (text s)) b = omega arith
 sequence_fits n (Some (list is)) b = (omega arith, looser_items is n (n + (1 + length (list_of is))) (omega arith) (b is refl))
 sequence_fits n _ b = lit< tt
 
-join_fits : (n : ℕ) (x y : ValueOrError) → IsResultBounded n x → IsResultBounded n y → IsFit n (join_row x y)
-unfolding join_row
-join_fits n x y b c = sequence_fits n (joined (Some x) (Some y)) (λ is e. joined_items n x y is b c e)
-
-within_depth : (n : ℕ) (b : Bool) (v : Value) → IsBounded (n + 2) v → IsFit n (if b then Named v 1 else Refused F8)
-within_depth n true v h = h
-within_depth n false v h = tt
-
 grown_fits : (n : ℕ) (o : Option Value) → ((v : Value) → o ≡ Some v → IsBounded (n + 2) v) → IsFit n (grown o)
 grown_fits n None b = lit< tt
-grown_fits n (Some v) b = within_depth n (nat_le (depth_of v) depth_limit) v (b v refl)
-
-push_fits : (n : ℕ) (x y : ValueOrError) → IsResultBounded n x → IsResultBounded n y → IsFit n (push_row x y)
-unfolding push_row
-push_fits n x y b c = grown_fits n (pushed (Some x) (Some y)) (λ v e. pushed_bounded n x y v b c e)
-
-new_key : (n : ℕ) (b : Bool) (o : Option Value) (v : Value) → (o ≡ Some v → IsBounded n v) → (if b then None else o) ≡ Some v → IsBounded n v
-new_key n true o v is e = absurd (cc)
-new_key n false o v is e = is e
+grown_fits n (Some v) b = cond_both (nat_le (depth_of v) depth_limit) (Named v 1) (Refused F8) (IsFit n) (λ _. b v refl) (λ _. tt)
 
 put_fits : (n : ℕ) (m k x : ValueOrError) → IsResultBounded n m → IsResultBounded n k → IsResultBounded n x → IsFit n (put_row m k x)
 unfolding put_row
 put_fits n m k x b c d =
-    grown_fits n (entered (Some m) (Some k) (Some x)) (λ v e. new_key (n + 2) (is_key (entries_at (Some m)) (text_at (Some k))) (put_in (Some m) (Some k) (Some x)) v (λ h. put_in_bounded n m k x v b c d h) e)
+    grown_fits n (entered (Some m) (Some k) (Some x))
+    (λ v e. put_in_bounded n m k x v b c d (unless (is_key (entries_at (Some m)) (text_at (Some k))) (put_in (Some m) (Some k) (Some x)) v e))
 
 -- ---- calls
 
 module _ (n : ℕ) (small : n ≤ charge_limit) (vs : List ValueOrError) (all : All (IsResultBounded n) vs) (args : List ℕ) (words : All (λ w. w < 2 ^ 64) args) (constants : List ℕ) where
   row_fits : (h : Helper) → IsFit n (row_of h args vs constants)
-  unfolding row_of list_new_row map_new_row starts_row ends_row contains_row
-  row_fits helper.Kind = value_fits n vs all (r1 args) kind_row (λ x b. kind_fits n x)
+  unfolding row_of kind_row int_new_row text_const_row text_of_int_row not_row field_row has_row index_row item_row equal_row less_row member_row starts_row ends_row contains_row join_row list_new_row map_new_row push_row
+  row_fits helper.Kind = value_fits n vs all (r1 args) kind_row (λ x b. kind_small (seen x))
   row_fits helper.IntOf = value_fits n vs all (r1 args) int_of_row (int_of_fits n)
-  row_fits helper.IntNew = int_new_fits n (r1 args) (argument args 0 words)
-  row_fits helper.TextConst = lent_fits n (bytes_at constants (r1 args) (r2 args)) text_const_row (text_const_fits n)
-  row_fits helper.Field = value_fits n vs all (r1 args) (λ m. on_range constants (r2 args) (r3 args) (field_row m)) (λ m b. lent_fits n (bytes_at constants (r2 args) (r3 args)) (field_row m) (λ key. field_fits n m key b))
-  row_fits helper.Has = value_fits n vs all (r1 args) (λ m. on_range constants (r2 args) (r3 args) (has_row m)) (λ m b. lent_fits n (bytes_at constants (r2 args) (r3 args)) (has_row m) (has_fits n m))
-  row_fits helper.Index = values_fit n vs all (r1 args) (r2 args) index_row (λ x k b c. index_fits n x k b)
+  row_fits helper.IntNew = signed_fits (r1 args) (argument args 0 words)
+  row_fits helper.TextConst =
+      lent_fits n (bytes_at constants (r1 args) (r2 args)) text_const_row
+      (λ bytes. cond_both (is_utf8 bytes) (Named (text bytes) (length bytes)) (Plain 0 0) (IsFit n) (λ _. omega arith) (λ _. lit< tt))
+  row_fits helper.Field =
+      value_fits n vs all (r1 args) (λ m. on_range constants (r2 args) (r3 args) (field_row m))
+      (λ m b. lent_fits n (bytes_at constants (r2 args) (r3 args)) (field_row m)
+      (λ key. found_fits n (value_under (Some m) key) (λ v e. under_bounded n m key v b e)))
+  row_fits helper.Has =
+      value_fits n vs all (r1 args) (λ m. on_range constants (r2 args) (r3 args) (has_row m))
+      (λ m b. lent_fits n (bytes_at constants (r2 args) (r3 args)) (has_row m) (λ key. truth_fits n (option_map (has_key key) (entries_at (Some m)))))
+  row_fits helper.Index =
+      values_fit n vs all (r1 args) (r2 args) index_row
+      (λ x k b c. found_fits n (part_by (seen x) (seen k) (Some x)) (λ v e. by_bounded n (seen x) (seen k) x v b e))
   row_fits helper.Size = value_fits n vs all (r1 args) size_row (size_fits n small)
-  row_fits helper.Equal = values_fit n vs all (r1 args) (r2 args) equal_row (λ x y b c. equal_fits n x y)
-  row_fits helper.Less = values_fit n vs all (r1 args) (r2 args) less_row (λ x y b c. less_fits n x y)
-  row_fits helper.Join = values_fit n vs all (r1 args) (r2 args) join_row (join_fits n)
-  row_fits helper.Starts = values_fit n vs all (r1 args) (r2 args) (text_row (starts_with nat_eq)) (λ x y b c. test_fits n (starts_with nat_eq) x y)
-  row_fits helper.Ends = values_fit n vs all (r1 args) (r2 args) (text_row (ends_with nat_eq)) (λ x y b c. test_fits n (ends_with nat_eq) x y)
-  row_fits helper.Contains = values_fit n vs all (r1 args) (r2 args) (text_row contains) (λ x y b c. test_fits n contains x y)
-  row_fits helper.Member = values_fit n vs all (r1 args) (r2 args) member_row (λ x y b c. member_fits n x y)
-  row_fits helper.Push = values_fit n vs all (r1 args) (r2 args) push_row (push_fits n)
-  row_fits helper.Put = value_fits n vs all (r1 args) (λ m. on_values vs (r2 args) (r3 args) (put_row m)) (λ m b. values_fit n vs all (r2 args) (r3 args) (put_row m) (λ k x c d. put_fits n m k x b c d))
-  row_fits helper.Item = value_fits n vs all (r1 args) (λ x. item_row x (r2 args)) (λ x b. item_fits n x (r2 args) b)
+  row_fits helper.Equal = values_fit n vs all (r1 args) (r2 args) equal_row (λ x y b c. truth_fits n (equal_at (Some x) (Some y)))
+  row_fits helper.Less = values_fit n vs all (r1 args) (r2 args) less_row (λ x y b c. truth_fits n (less_at (Some x) (Some y)))
+  row_fits helper.Join =
+      values_fit n vs all (r1 args) (r2 args) join_row (λ x y b c. sequence_fits n (joined (Some x) (Some y)) (λ is e. joined_items n x y is b c e))
+  row_fits helper.Starts =
+      values_fit n vs all (r1 args) (r2 args) starts_row (λ x y b c. truth_fits n (on_texts (starts_with nat_eq) (text_part (seen x)) (text_part (seen y))))
+  row_fits helper.Ends =
+      values_fit n vs all (r1 args) (r2 args) ends_row (λ x y b c. truth_fits n (on_texts (ends_with nat_eq) (text_part (seen x)) (text_part (seen y))))
+  row_fits helper.Contains =
+      values_fit n vs all (r1 args) (r2 args) contains_row (λ x y b c. truth_fits n (on_texts contains (text_part (seen x)) (text_part (seen y))))
+  row_fits helper.Member = values_fit n vs all (r1 args) (r2 args) member_row (λ x y b c. truth_fits n (member_at (Some x) (Some y)))
+  row_fits helper.Push =
+      values_fit n vs all (r1 args) (r2 args) push_row (λ x y b c. grown_fits n (pushed (Some x) (Some y)) (λ v e. pushed_bounded n x y v b c e))
+  row_fits helper.Put =
+      value_fits n vs all (r1 args) (λ m. on_values vs (r2 args) (r3 args) (put_row m))
+      (λ m b. values_fit n vs all (r2 args) (r3 args) (put_row m) (λ k x c d. put_fits n m k x b c d))
+  row_fits helper.Item =
+      value_fits n vs all (r1 args) (λ x. item_row x (r2 args))
+      (λ x b. found_fits n (item_or_key (seen x) (r2 args) (Some x)) (λ v e. at_bounded n (seen x) (r2 args) x v b e))
   row_fits helper.Count = value_fits n vs all (r1 args) count_row (count_fits n small)
-  row_fits helper.TextOfInt = value_fits n vs all (r1 args) text_of_int_row (λ x b. text_of_int_fits n x)
-  row_fits helper.Not = value_fits n vs all (r1 args) not_row (λ x b. not_fits n x)
+  row_fits helper.TextOfInt = value_fits n vs all (r1 args) text_of_int_row (λ x b. decimal_fits n (int_part (seen x)))
+  row_fits helper.Not = value_fits n vs all (r1 args) not_row (λ x b. truth_fits n (option_map not (truth_part (seen x))))
   row_fits _ = (omega arith, tt)
 
   numbered_fits : (o : Option Helper) → IsFit n (row_numbered o args vs constants)
@@ -254,27 +202,15 @@ one_more : (m : ℕ) (vs : List ValueOrError) (v : Value) → All (IsResultBound
 one_more m vs v all b = All-append (IsResultBounded m) vs (value v ∷ []) all (All-cons (IsResultBounded m) (value v) [] b (All-nil (IsResultBounded m)))
 
 placed_bounded : (m : ℕ) (vs : List ValueOrError) (v : Value) → All (IsResultBounded m) vs → IsBounded m v → All (IsResultBounded m) (placed vs v)
-placed_bounded m vs (int z) all b = one_more m vs (int z) all b
-placed_bounded m vs (text s) all b = one_more m vs (text s) all b
-placed_bounded m vs (list is) all b = one_more m vs (list is) all b
-placed_bounded m vs (map es) all b = one_more m vs (map es) all b
-placed_bounded m vs _ all b = all
+placed_bounded m vs null all b = all
+placed_bounded m vs (boolean t) all b = all
+placed_bounded m vs v all b = one_more m vs v all b
 
 place_small : (vs : List ValueOrError) (v : Value) → length vs < 2 ^ 64 → place vs v < 2 ^ 64
 place_small vs null h = lit< tt
 place_small vs (boolean false) h = lit< tt
 place_small vs (boolean true) h = lit< tt
 place_small vs _ h = h
-
--- a call that left something stayed within the limit, and left its word and its values
-record Left (test : Bool) (w word : ℕ) (contents new : Contents) : Type 0 where
-  within : test ≡ true
-  word_is : w ≡ word
-  is : contents ≡ new
-
-left : (test : Bool) (w word : ℕ) (contents new : Contents) → (if test then Leaves w contents else Halts F8) ≡ Leaves word new → Left test w word contents new
-left true w word contents new e = record { within = refl; word_is = cc; is = cc }
-left false w word contents new e = absurd (cc)
 
 module _ (old new : Contents) (word : ℕ) (table : IsTable old) where
   keeps : (us : List ValueOrError) (w added : ℕ) → w < 2 ^ 64 → All (IsResultBounded (old.charge + (1 + added))) us → Follows old new

@@ -4,6 +4,8 @@ use Rattle.std.specs.List.{starts_with, ends_with}
 use Rattle.value_store.specs.Calls.{equal_at, less_at, member_at}
 use Rattle.value_store.specs.Seen.{seen}
 use Rattle.value_store.specs.Value.{ValueOrError}
+use Rattle.helper_table.specs.declared.text_test.TextTest.{TextTest}
+use Rattle.helper_table.specs.declared.text_test.TextTest.TheVariants.{Starts, Ends, Contains}
 use Rattle.helper_table.specs.Operands.{text_part}
 use Rattle.helper_table.specs.Outcome.{Outcome, truth}
 
@@ -41,6 +43,12 @@ ends_row = text_row (ends_with nat_eq)
 abbrev pub contains : List ℕ → List ℕ → Bool
 contains [] part = starts_with nat_eq [] part
 contains (b ∷ bs) part = starts_with nat_eq (b ∷ bs) part || contains bs part
+
+-- what a test asks of two texts
+abbrev pub test_of : TextTest → List ℕ → List ℕ → Bool
+test_of Starts = starts_with nat_eq
+test_of Ends = ends_with nat_eq
+test_of Contains = contains
 
 -- whether the first of two texts contains the second
 unfoldable pub contains_row : ValueOrError → ValueOrError → Outcome

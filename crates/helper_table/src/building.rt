@@ -1,11 +1,13 @@
 //! The helpers that make texts, lists and maps.
-ghost use Rattle.std.specs.Prelude.{◌≡◌, ◌&&◌, ◌+◌, ◌<◌, ◌≤◌, ◌^◌, List, Some, is_some, max, nat_le, option_map, slice_get, length};
-ghost use Rattle.helper_table.specs.Building.{sequence, grown, entered, depth_at, depth_limit, join_row, list_new_row, map_new_row, push_row, put_row};
+ghost use Rattle.std.specs.Prelude.{◌≡◌, ◌&&◌, ◌+◌, ◌<◌, ◌≤◌, ◌^◌, List, Some, true, max, nat_le, option_map, slice_get, length, if◌then◌else◌};
+ghost use Rattle.guest_memory.specs.declared.fault.Fault.TheVariants.{F8};
+ghost use Rattle.helper_table.specs.Building.{sequence, depth_at, depth_limit, join_row, list_new_row, map_new_row, push_row, put_row};
 ghost use Rattle.helper_table.specs.Calls.{on_value, on_values};
 ghost use Rattle.helper_table.specs.Kinds.{can_join, is_list, is_value, is_absent, is_new_key};
 ghost use Rattle.helper_table.specs.Operands.{text_part};
+ghost use Rattle.helper_table.specs.Outcome.{Plain, Refused};
 ghost use Rattle.helper_table.specs.Plans.{means, CanFollow, outcome_by, CanDo};
-ghost use Rattle.value_store.specs.Calls.{entries_at, joined, pushed};
+ghost use Rattle.value_store.specs.Calls.{entries_at, joined};
 ghost use Rattle.value_store.specs.Seen.{seen, shown, seen_size};
 ghost use Rattle.value_store.specs.Value.{ValueOrError};
 
@@ -23,17 +25,10 @@ const DEPTH_LIMIT: u64 = 255;
 fn can_join(x: Shape<'_>, y: Shape<'_>) -> bool
     ensures { result ≡ can_join (shown x.entry) (shown y.entry) }
 {
-    match x {
-        Shape::Text(_) => match y {
-            Shape::Text(_) => true,
-            _ => false,
-        },
-        Shape::List(_) => match y {
-            Shape::List(_) => true,
-            _ => false,
-        },
-        _ => false,
-    }
+    matches!(
+        (x, y),
+        (Shape::Text(_), Shape::Text(_)) | (Shape::List(_), Shape::List(_))
+    )
 }
 
 /// Bytes, items or entries.
@@ -61,10 +56,7 @@ fn join_plan(a: u64, b: u64, x: Shape<'_>, y: Shape<'_>) -> Plan<'static>
             added: size(x) + size(y),
         }
     } else {
-        Plan {
-            action: Action::Word(0),
-            added: 0,
-        }
+        Plan::word(0)
     }
 }
 
@@ -84,10 +76,7 @@ pub(crate) fn list_new() -> Result<Plan<'static>, Fault>
     ensures means { (vs : List ValueOrError) → means vs result ≡ list_new_row }
     ensures can { (vs : List ValueOrError) → CanFollow vs result }
 {
-    Ok(Plan {
-        action: Action::List,
-        added: 0,
-    })
+    Ok(Plan::free(Action::List))
 }
 
 /// Helper 18: an empty map.
@@ -96,10 +85,7 @@ pub(crate) fn map_new() -> Result<Plan<'static>, Fault>
     ensures means { (vs : List ValueOrError) → means vs result ≡ map_new_row }
     ensures can { (vs : List ValueOrError) → CanFollow vs result }
 {
-    Ok(Plan {
-        action: Action::Map,
-        added: 0,
-    })
+    Ok(Plan::free(Action::Map))
 }
 
 /// Whether a list or a map with a value more is within the depth.
@@ -117,18 +103,15 @@ fn is_within_depth<V: ValueStore>(table: &V, c: u64, x: u64) -> bool
 fn can_push(list: Shape<'_>, item: Shape<'_>) -> bool
     ensures { result ≡ is_list (shown list.entry) && is_value (shown item.entry) }
 {
-    match list {
-        Shape::List(_) => is_value(item),
-        _ => false,
-    }
+    matches!(list, Shape::List(_)) && is_value(item)
 }
 
-#[tactic(auto, using(crate::proofs::Depths::pushes, crate::proofs::Depths::pushes_not, crate::proofs::Depths::push_too_deep))]
-fn push_plan(l: u64, x: u64, can_push: bool, is_within: bool) -> Result<Plan<'static>, Fault>
-    ensures means { (vs : List ValueOrError) → can_push ≡ is_some (pushed (slice_get vs l) (slice_get vs x)) → is_within ≡ nat_le (max (depth_at (slice_get vs l)) (1 + depth_at (slice_get vs x))) depth_limit → means vs result ≡ grown (pushed (slice_get vs l) (slice_get vs x)) }
-    ensures can { (vs : List ValueOrError) → can_push ≡ is_some (pushed (slice_get vs l) (slice_get vs x)) → CanFollow vs result }
+/// What adds to a list or a map, if it can: 1 more is charged also where nothing is added.
+fn growth(action: Action<'static>, can_grow: bool, is_within: bool) -> Result<Plan<'static>, Fault>
+    ensures means { (vs : List ValueOrError) → means vs result ≡ (if can_grow then if is_within then outcome_by vs action.entry 1 else Refused F8 else Plain 0 1) }
+    ensures can { (vs : List ValueOrError) → (can_grow ≡ true → CanDo vs action.entry) → CanFollow vs result }
 {
-    if !can_push {
+    if !can_grow {
         return Ok(Plan {
             action: Action::Word(0),
             added: 1,
@@ -137,10 +120,7 @@ fn push_plan(l: u64, x: u64, can_push: bool, is_within: bool) -> Result<Plan<'st
     if !is_within {
         return Err(Fault::F8);
     }
-    Ok(Plan {
-        action: Action::Push(l, x),
-        added: 1,
-    })
+    Ok(Plan { action, added: 1 })
 }
 
 /// Helper 17: a list with a value behind its items.
@@ -150,7 +130,11 @@ pub(crate) fn push<V: ValueStore>(table: &V, l: u64, x: u64) -> Result<Plan<'sta
 {
     let list = operand(table, l)?;
     let item = operand(table, x)?;
-    push_plan(l, x, can_push(list, item), is_within_depth(table, l, x))
+    growth(
+        Action::Push(l, x),
+        can_push(list, item),
+        is_within_depth(table, l, x),
+    )
 }
 
 /// A text that is not yet a key of a map.
@@ -167,10 +151,7 @@ fn is_new_key<V: ValueStore>(table: &V, m: u64, key: Shape<'_>) -> bool
 fn is_absent(test: Option<bool>) -> bool
     ensures { result ≡ is_absent test }
 {
-    match test {
-        Some(holds) => !holds,
-        None => false,
-    }
+    matches!(test, Some(false))
 }
 
 /// A text that is not yet a key of a map, and a value.
@@ -178,26 +159,6 @@ fn can_put<V: ValueStore>(table: &V, m: u64, key: Shape<'_>, value: Shape<'_>) -
     ensures { result ≡ is_new_key (entries_at (slice_get (V.values table.now) m)) (text_part (shown key.entry)) && is_value (shown value.entry) }
 {
     is_new_key(table, m, key) && is_value(value)
-}
-
-#[tactic(auto, using(crate::proofs::Entering::puts, crate::proofs::Entering::puts_not, crate::proofs::Entering::put_too_deep, crate::proofs::Entering::put_there))]
-fn put_plan(m: u64, k: u64, x: u64, can_put: bool, is_within: bool) -> Result<Plan<'static>, Fault>
-    ensures means { (vs : List ValueOrError) → can_put ≡ is_some (entered (slice_get vs m) (slice_get vs k) (slice_get vs x)) → is_within ≡ nat_le (max (depth_at (slice_get vs m)) (1 + depth_at (slice_get vs x))) depth_limit → means vs result ≡ grown (entered (slice_get vs m) (slice_get vs k) (slice_get vs x)) }
-    ensures can { (vs : List ValueOrError) → can_put ≡ is_some (entered (slice_get vs m) (slice_get vs k) (slice_get vs x)) → CanFollow vs result }
-{
-    if !can_put {
-        return Ok(Plan {
-            action: Action::Word(0),
-            added: 1,
-        });
-    }
-    if !is_within {
-        return Err(Fault::F8);
-    }
-    Ok(Plan {
-        action: Action::Put(m, k, x),
-        added: 1,
-    })
 }
 
 /// Helper 19: a map with a text at a value, where the text is not yet one of its keys.
@@ -208,10 +169,8 @@ pub(crate) fn put<V: ValueStore>(table: &V, m: u64, k: u64, x: u64) -> Result<Pl
     let _map = operand(table, m)?;
     let key = operand(table, k)?;
     let value = operand(table, x)?;
-    put_plan(
-        m,
-        k,
-        x,
+    growth(
+        Action::Put(m, k, x),
         can_put(table, m, key, value),
         is_within_depth(table, m, x),
     )

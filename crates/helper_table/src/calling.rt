@@ -8,12 +8,13 @@ ghost use Rattle.value_store.specs.Placing.{Contents};
 
 use crate::action::Action;
 use crate::building::{join, list_new, map_new, push, put};
-use crate::comparisons::{contains, ends, equal, less, member, starts};
+use crate::comparisons::{equal, less, member, test_texts};
 use crate::conversions::{int_new, int_of, kind, not, text_const, text_of_int};
 use crate::helper::Helper;
 use crate::helper_end::HelperEnd;
 use crate::lookups::{count, field, has, index, item, size};
 use crate::plan::Plan;
+use crate::text_test::TextTest;
 use guest_memory::{Fault, Regions};
 use itoa::Buffer;
 use std::alloc::AllocError;
@@ -23,7 +24,7 @@ use value_store::ValueStore;
 const CHARGE_LIMIT: u64 = 16_777_216;
 
 /// What the row of a helper says of these arguments.
-#[tactic(auto, unfolding(crate::specs::Calls::row_of))]
+#[tactic(auto, unfolding(crate::specs::Calls::row_of, crate::specs::Comparisons::starts_row, crate::specs::Comparisons::ends_row, crate::specs::Comparisons::contains_row))]
 fn plan_of<'a, V: ValueStore, M: Regions>(
     helper: Helper,
     args: [u64; 5],
@@ -48,9 +49,9 @@ fn plan_of<'a, V: ValueStore, M: Regions>(
         Helper::Equal => equal(table, a, b),
         Helper::Less => less(table, a, b),
         Helper::Join => join(table, a, b),
-        Helper::Starts => starts(table, a, b),
-        Helper::Ends => ends(table, a, b),
-        Helper::Contains => contains(table, a, b),
+        Helper::Starts => test_texts(table, TextTest::Starts, a, b),
+        Helper::Ends => test_texts(table, TextTest::Ends, a, b),
+        Helper::Contains => test_texts(table, TextTest::Contains, a, b),
         Helper::Member => member(table, a, b),
         Helper::ListNew => list_new(),
         Helper::Push => push(table, a, b),

@@ -1,8 +1,7 @@
 //! The helpers that compare two values, and answer a truth.
-ghost use Rattle.std.specs.Prelude.{◌≡◌, ◌&&◌, slice_get, is_some, nat_eq};
-ghost use Rattle.std.specs.List.{starts_with, ends_with};
+ghost use Rattle.std.specs.Prelude.{◌≡◌, ◌&&◌, slice_get, is_some};
 ghost use Rattle.helper_table.specs.Calls.{on_values};
-ghost use Rattle.helper_table.specs.Comparisons.{on_texts, contains, equal_row, less_row, member_row, starts_row, ends_row, contains_row};
+ghost use Rattle.helper_table.specs.Comparisons.{equal_row, less_row, member_row, on_texts, test_of, text_row};
 ghost use Rattle.helper_table.specs.Kinds.{is_value, have_order, may_be_in};
 ghost use Rattle.helper_table.specs.Operands.{text_part};
 ghost use Rattle.helper_table.specs.Plans.{means, CanFollow};
@@ -10,8 +9,9 @@ ghost use Rattle.value_store.specs.Calls.{equal_at, less_at, member_at};
 ghost use Rattle.value_store.specs.Seen.{shown};
 
 use crate::action::Action;
-use crate::operands::{is_value, operand, truth_word};
+use crate::operands::{is_value, operand};
 use crate::plan::Plan;
+use crate::text_test::TextTest;
 use guest_memory::Fault;
 use memchr::memmem;
 use value_store::{Shape, ValueStore};
@@ -45,31 +45,19 @@ pub(crate) fn equal<V: ValueStore>(table: &mut V, a: u64, b: u64) -> Result<Plan
     let y = operand(table, b)?;
     let both = are_values(x, y);
     let truth = equality(table, a, b, both);
-    Ok(Plan {
-        action: Action::Word(truth_word(truth)),
-        added: 0,
-    })
+    Ok(Plan::truth(truth))
 }
 
 /// Two ints, two texts or two truths.
 fn have_order(x: Shape<'_>, y: Shape<'_>) -> bool
     ensures { result ≡ have_order (shown x.entry) (shown y.entry) }
 {
-    match x {
-        Shape::Bool(_) => match y {
-            Shape::Bool(_) => true,
-            _ => false,
-        },
-        Shape::Int(_) => match y {
-            Shape::Int(_) => true,
-            _ => false,
-        },
-        Shape::Text(_) => match y {
-            Shape::Text(_) => true,
-            _ => false,
-        },
-        _ => false,
-    }
+    matches!(
+        (x, y),
+        (Shape::Bool(_), Shape::Bool(_))
+            | (Shape::Int(_), Shape::Int(_))
+            | (Shape::Text(_), Shape::Text(_))
+    )
 }
 
 /// The order of two operands, if they have one.
@@ -94,22 +82,16 @@ pub(crate) fn less<V: ValueStore>(table: &V, a: u64, b: u64) -> Result<Plan<'sta
     let x = operand(table, a)?;
     let y = operand(table, b)?;
     let truth = order(table, a, b, have_order(x, y));
-    Ok(Plan {
-        action: Action::Word(truth_word(truth)),
-        added: 0,
-    })
+    Ok(Plan::truth(truth))
 }
 
 /// A value for a list, a text for a map.
 fn may_be_in(x: Shape<'_>, c: Shape<'_>) -> bool
     ensures { result ≡ may_be_in (shown x.entry) (shown c.entry) }
 {
-    match c {
-        Shape::List(_) => is_value(x),
-        Shape::Map(_) => match x {
-            Shape::Text(_) => true,
-            _ => false,
-        },
+    match (x, c) {
+        (_, Shape::List(_)) => is_value(x),
+        (Shape::Text(_), Shape::Map(_)) => true,
         _ => false,
     }
 }
@@ -141,84 +123,46 @@ pub(crate) fn member<V: ValueStore>(table: &mut V, x: u64, c: u64) -> Result<Pla
     let container = operand(table, c)?;
     let may_be = may_be_in(item, container);
     let truth = membership(table, x, c, may_be);
-    Ok(Plan {
-        action: Action::Word(truth_word(truth)),
-        added: 0,
-    })
+    Ok(Plan::truth(truth))
 }
 
-fn begins_with(text: Shape<'_>, part: Shape<'_>) -> Option<bool>
-    ensures { result ≡ on_texts (starts_with nat_eq) (text_part (shown text.entry)) (text_part (shown part.entry)) }
-{
-    match text {
-        Shape::Text(s) => match part {
-            Shape::Text(t) => Some(s.as_bytes().starts_with(t.as_bytes())),
-            _ => None,
-        },
-        _ => None,
-    }
-}
-
-/// Helper 12: whether a text begins with another.
-pub(crate) fn starts<V: ValueStore>(table: &V, a: u64, b: u64) -> Result<Plan<'static>, Fault>
-    ensures means { means (V.values table.now) result ≡ on_values (V.values table.now) a b starts_row }
-    ensures can { CanFollow (V.values table.now) result }
-{
-    let text = operand(table, a)?;
-    let part = operand(table, b)?;
-    Ok(Plan {
-        action: Action::Word(truth_word(begins_with(text, part))),
-        added: 0,
-    })
-}
-
-fn finishes_with(text: Shape<'_>, part: Shape<'_>) -> Option<bool>
-    ensures { result ≡ on_texts (ends_with nat_eq) (text_part (shown text.entry)) (text_part (shown part.entry)) }
-{
-    match text {
-        Shape::Text(s) => match part {
-            Shape::Text(t) => Some(s.as_bytes().ends_with(t.as_bytes())),
-            _ => None,
-        },
-        _ => None,
-    }
-}
-
-/// Helper 13: whether a text ends with another.
-pub(crate) fn ends<V: ValueStore>(table: &V, a: u64, b: u64) -> Result<Plan<'static>, Fault>
-    ensures means { means (V.values table.now) result ≡ on_values (V.values table.now) a b ends_row }
-    ensures can { CanFollow (V.values table.now) result }
-{
-    let text = operand(table, a)?;
-    let part = operand(table, b)?;
-    Ok(Plan {
-        action: Action::Word(truth_word(finishes_with(text, part))),
-        added: 0,
-    })
-}
-
+/// Whether a test holds of two texts.
 #[tactic(auto, using(crate::proofs::Finding::finds_part))]
-fn has_part(text: Shape<'_>, part: Shape<'_>) -> Option<bool>
-    ensures { result ≡ on_texts contains (text_part (shown text.entry)) (text_part (shown part.entry)) }
+fn holds(test: TextTest, text: &[u8], part: &[u8]) -> bool
+    ensures { result ≡ test_of test text.now part.now }
 {
-    match text {
-        Shape::Text(s) => match part {
-            Shape::Text(t) => Some(memmem::find(s.as_bytes(), t.as_bytes()).is_some()),
-            _ => None,
-        },
+    match test {
+        TextTest::Starts => text.starts_with(part),
+        TextTest::Ends => text.ends_with(part),
+        TextTest::Contains => memmem::find(text, part).is_some(),
+    }
+}
+
+/// What a test says of two texts, if they are.
+fn on_texts(test: TextTest, x: Shape<'_>, y: Shape<'_>) -> Option<bool>
+    ensures { result ≡ on_texts (test_of test) (text_part (shown x.entry)) (text_part (shown y.entry)) }
+{
+    match (x, y) {
+        (Shape::Text(text), Shape::Text(part)) => Some(holds(
+            test,
+            text.as_bytes(),
+            part.as_bytes(),
+        )),
         _ => None,
     }
 }
 
-/// Helper 14: whether a text stands in another.
-pub(crate) fn contains<V: ValueStore>(table: &V, a: u64, b: u64) -> Result<Plan<'static>, Fault>
-    ensures means { means (V.values table.now) result ≡ on_values (V.values table.now) a b contains_row }
+/// Helpers 12 to 14: whether a text starts with another, ends with it, or contains it.
+pub(crate) fn test_texts<V: ValueStore>(
+    table: &V,
+    test: TextTest,
+    a: u64,
+    b: u64,
+) -> Result<Plan<'static>, Fault>
+    ensures means { means (V.values table.now) result ≡ on_values (V.values table.now) a b (text_row (test_of test)) }
     ensures can { CanFollow (V.values table.now) result }
 {
     let text = operand(table, a)?;
     let part = operand(table, b)?;
-    Ok(Plan {
-        action: Action::Word(truth_word(has_part(text, part))),
-        added: 0,
-    })
+    Ok(Plan::truth(on_texts(test, text, part)))
 }

@@ -8,7 +8,7 @@ ghost use Rattle.value_store.specs.Seen.{shown};
 ghost use Rattle.value_store.specs.Value.{ValueOrError};
 
 use crate::action::Action;
-use crate::operands::{operand, range, truth_word};
+use crate::operands::{operand, range};
 use crate::plan::Plan;
 use guest_memory::{Fault, Regions};
 use itoa::Buffer;
@@ -35,10 +35,7 @@ pub(crate) fn kind<V: ValueStore>(table: &V, h: u64) -> Result<Plan<'static>, Fa
     ensures can { CanFollow (V.values table.now) result }
 {
     let shape = operand(table, h)?;
-    Ok(Plan {
-        action: Action::Word(kind_number(shape)),
-        added: 0,
-    })
+    Ok(Plan::word(kind_number(shape)))
 }
 
 fn int_word(shape: Shape<'_>) -> u64
@@ -57,10 +54,7 @@ pub(crate) fn int_of<V: ValueStore>(table: &V, h: u64) -> Result<Plan<'static>, 
     ensures can { CanFollow (V.values table.now) result }
 {
     let shape = operand(table, h)?;
-    Ok(Plan {
-        action: Action::Word(int_word(shape)),
-        added: 0,
-    })
+    Ok(Plan::word(int_word(shape)))
 }
 
 /// Helper 3: the int that a word is, read as signed.
@@ -84,10 +78,7 @@ fn text_plan(bytes: &[u8]) -> Plan<'_>
             action: Action::Text(text),
             added: text.len() as u64,
         },
-        Err(_) => Plan {
-            action: Action::Word(0),
-            added: 0,
-        },
+        Err(_) => Plan::word(0),
     }
 }
 
@@ -110,10 +101,7 @@ fn decimal_plan(shape: Shape<'_>) -> Plan<'static>
             action: Action::Decimal(n),
             added: Buffer::new().format(n).len() as u64,
         },
-        _ => Plan {
-            action: Action::Word(0),
-            added: 0,
-        },
+        _ => Plan::word(0),
     }
 }
 
@@ -143,8 +131,5 @@ pub(crate) fn not<V: ValueStore>(table: &V, h: u64) -> Result<Plan<'static>, Fau
     ensures can { CanFollow (V.values table.now) result }
 {
     let shape = operand(table, h)?;
-    Ok(Plan {
-        action: Action::Word(truth_word(other_truth(shape))),
-        added: 0,
-    })
+    Ok(Plan::truth(other_truth(shape)))
 }

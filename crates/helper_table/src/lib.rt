@@ -13,6 +13,7 @@ pub mod laws;
 mod lookups;
 mod operands;
 mod plan;
+mod text_test;
 
 pub use calling::call;
 pub use helper_end::HelperEnd;

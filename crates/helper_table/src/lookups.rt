@@ -11,7 +11,7 @@ ghost use Rattle.value_store.specs.Seen.{seen, shown, seen_size, sees_list, sees
 ghost use Rattle.value_store.specs.Value.{ValueOrError};
 
 use crate::action::Action;
-use crate::operands::{is_map, operand, place_part, range, truth_word};
+use crate::operands::{is_map, operand, place_part, range};
 use crate::plan::Plan;
 use guest_memory::{Fault, Regions};
 use text_kernels::code_points;
@@ -35,14 +35,8 @@ fn part_under<V: ValueStore>(table: &V, m: u64, key: &[u8]) -> Plan<'static>
     ensures can { CanDo (V.values table.now) result.action }
 {
     match place_under(table, m, key) {
-        Some(place) => Plan {
-            action: Action::Part(m, place),
-            added: 0,
-        },
-        None => Plan {
-            action: Action::Word(0),
-            added: 0,
-        },
+        Some(place) => Plan::free(Action::Part(m, place)),
+        None => Plan::word(0),
     }
 }
 
@@ -87,10 +81,7 @@ pub(crate) fn has<V: ValueStore, M: Regions>(
 {
     let _shape = operand(table, m)?;
     let key = range(memory, addr, len)?;
-    Ok(Plan {
-        action: Action::Word(truth_word(has_key(table, m, key))),
-        added: 0,
-    })
+    Ok(Plan::truth(has_key(table, m, key)))
 }
 
 /// A list's item at a place, to be placed.
@@ -100,23 +91,8 @@ fn item_plan(l: u64, count: u64, place: Option<u64>) -> Plan<'static>
     ensures can { (vs : List ValueOrError) → option_map seen (slice_get vs l) ≡ Some (sees_list count) → CanDo vs result.action }
 {
     match place {
-        Some(i) => {
-            if i < count {
-                Plan {
-                    action: Action::Part(l, i),
-                    added: 0,
-                }
-            } else {
-                Plan {
-                    action: Action::Word(0),
-                    added: 0,
-                }
-            }
-        }
-        None => Plan {
-            action: Action::Word(0),
-            added: 0,
-        },
+        Some(i) if i < count => Plan::free(Action::Part(l, i)),
+        _ => Plan::word(0),
     }
 }
 
@@ -127,15 +103,9 @@ fn key_plan(m: u64, count: u64, i: u64) -> Plan<'static>
     ensures can { (vs : List ValueOrError) → option_map seen (slice_get vs m) ≡ Some (sees_map count) → CanDo vs result.action }
 {
     if i < count {
-        Plan {
-            action: Action::Key(m, i),
-            added: 0,
-        }
+        Plan::free(Action::Key(m, i))
     } else {
-        Plan {
-            action: Action::Word(0),
-            added: 0,
-        }
+        Plan::word(0)
     }
 }
 
@@ -154,15 +124,9 @@ fn part_plan<V: ValueStore>(
         Shape::List(count) => item_plan(x, count, place_part(place)),
         Shape::Map(_) => match place {
             Shape::Text(key) => part_under(table, x, key.as_bytes()),
-            _ => Plan {
-                action: Action::Word(0),
-                added: 0,
-            },
+            _ => Plan::word(0),
         },
-        _ => Plan {
-            action: Action::Word(0),
-            added: 0,
-        },
+        _ => Plan::word(0),
     }
 }
 
@@ -197,14 +161,8 @@ fn size_plan(size: Option<u64>) -> Plan<'static>
     ensures can { (vs : List ValueOrError) → CanDo vs result.action }
 {
     match size {
-        Some(size) => Plan {
-            action: Action::Int(size as i64),
-            added: 0,
-        },
-        None => Plan {
-            action: Action::Word(0),
-            added: 0,
-        },
+        Some(size) => Plan::free(Action::Int(size as i64)),
+        None => Plan::word(0),
     }
 }
 
@@ -226,10 +184,7 @@ fn item_or_key_plan(h: u64, shape: Shape<'_>, i: u64) -> Plan<'static>
     match shape {
         Shape::List(count) => item_plan(h, count, Some(i)),
         Shape::Map(count) => key_plan(h, count, i),
-        _ => Plan {
-            action: Action::Word(0),
-            added: 0,
-        },
+        _ => Plan::word(0),
     }
 }
 
@@ -259,8 +214,5 @@ pub(crate) fn count<V: ValueStore>(table: &V, h: u64) -> Result<Plan<'static>, F
     ensures can { CanFollow (V.values table.now) result }
 {
     let shape = operand(table, h)?;
-    Ok(Plan {
-        action: Action::Word(count_word(shape)),
-        added: 0,
-    })
+    Ok(Plan::word(count_word(shape)))
 }

@@ -4,7 +4,6 @@ ghost use Rattle.guest_memory.specs.declared.fault.Fault.TheVariants.{F3};
 ghost use Rattle.helper_table.specs.Calls.{bytes_at};
 ghost use Rattle.helper_table.specs.Kinds.{has_entries, is_value};
 ghost use Rattle.helper_table.specs.Operands.{place_of, place_part};
-ghost use Rattle.helper_table.specs.Outcome.{truth_word};
 ghost use Rattle.helper_table.specs.Plans.{Sees};
 ghost use Rattle.value_store.specs.Calls.{entries_at};
 ghost use Rattle.value_store.specs.Seen.{shown, seen_size};
@@ -19,10 +18,7 @@ pub(crate) fn operand<V: ValueStore>(table: &V, h: u64) -> Result<Shape<'_>, Fau
     ensures short { IfOk result (λ shape. seen_size (shown shape) < 2 ^ 63) }
     ensures inside { OnOk result (h < length (V.values table.now)) }
 {
-    match table.at(h) {
-        Some(shape) => Ok(shape),
-        None => Err(Fault::F6),
-    }
+    table.at(h).ok_or(Fault::F6)
 }
 
 /// The bytes of a range of constants. The error is `F3` where one of them lies outside.
@@ -30,21 +26,7 @@ pub(crate) fn operand<V: ValueStore>(table: &V, h: u64) -> Result<Shape<'_>, Fau
 pub(crate) fn range<M: Regions>(memory: &M, addr: u64, len: u64) -> Result<&[u8], Fault>
     ensures { let lent = bytes_at (M.bytes memory.now).constants addr len in MatchResult result (λ bytes. lent ≡ Some bytes.now) (λ f. (f ≡ F3) × (lent ≡ None)) }
 {
-    match memory.constants(addr, len) {
-        Some(bytes) => Ok(bytes),
-        None => Err(Fault::F3),
-    }
-}
-
-/// The reference of a truth, where there is none that of the error.
-pub(crate) fn truth_word(truth: Option<bool>) -> u64
-    ensures { result ≡ truth_word truth }
-{
-    match truth {
-        Some(false) => 2,
-        Some(true) => 3,
-        None => 0,
-    }
+    memory.constants(addr, len).ok_or(Fault::F3)
 }
 
 /// Whether a map stands at a reference.
@@ -61,10 +43,7 @@ pub(crate) fn is_map<V: ValueStore>(table: &V, h: u64) -> bool
 pub(crate) fn has_entries(shape: Shape<'_>) -> bool
     ensures { result ≡ has_entries (shown shape.entry) }
 {
-    match shape {
-        Shape::Map(_) => true,
-        _ => false,
-    }
+    matches!(shape, Shape::Map(_))
 }
 
 /// The place that an int is, if it is one.
@@ -88,8 +67,5 @@ pub(crate) fn place_of(i: i64) -> Option<u64>
 pub(crate) fn is_value(shape: Shape<'_>) -> bool
     ensures { result ≡ is_value (shown shape.entry) }
 {
-    match shape {
-        Shape::Error => false,
-        _ => true,
-    }
+    !matches!(shape, Shape::Error)
 }

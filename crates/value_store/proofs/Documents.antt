@@ -2,11 +2,11 @@
 use Rattle.std.proofs.Common.{◌≡◌, Option, Some, None, Bool, refl, sym, ap, ◌∙◌, arith, ap₂, true, false}
 use Rattle.std.specs.Prelude.{is_some, not, ◌||◌, ◌^◌, ℕ, nat_le, nat_lt, option_map, option_and_then}
 use Rattle.std.proofs.lemmas.Bool.Decides.{nat_tests}
+use Rattle.std.proofs.lemmas.Bool.{or_parts}
 use Rattle.serde_json.specs.Data as json
 use Rattle.value_store.specs.Value as kind
 use Rattle.value_store.specs.Plain.{plain_value, plain_items, plain_entries}
 use Rattle.value_store.proofs.Places.{mapped}
-use Rattle.value_store.proofs.Trees.{first_no, second_no}
 use Rattle.value_store.specs.Roots.{value_of, items_value, members_value, is_other, has_other, items_have_other, members_have_other}
 
 number_exact : (n : json.Num) → is_other n ≡ not (is_some (value_of (json.number n)))
@@ -56,11 +56,11 @@ mutual
 
   whole_items : (ds : json.Items) → items_have_other ds ≡ false → items_value ds ≡ Some (plain_items ds)
   whole_items json.no_items e = refl
-  whole_items (json.item d ds) e = joined_by kind.item _ _ _ _ (whole_value d (first_no _ _ e)) (whole_items ds (second_no (has_other d) _ e))
+  whole_items (json.item d ds) e = joined_by kind.item _ _ _ _ (whole_value d (or_parts _ _ e).0) (whole_items ds (or_parts (has_other d) _ e).1)
 
   whole_members : (ms : json.Members) → members_have_other ms ≡ false → members_value ms ≡ Some (plain_entries ms)
   whole_members json.no_members e = refl
-  whole_members (json.member k d ms) e = joined_by (kind.entry k) _ _ _ _ (whole_value d (first_no _ _ e)) (whole_members ms (second_no (has_other d) _ e))
+  whole_members (json.member k d ms) e = joined_by (kind.entry k) _ _ _ _ (whole_value d (or_parts _ _ e).0) (whole_members ms (or_parts (has_other d) _ e).1)
 
 refused_by : (o : Option kind.Value) → true ≡ not (is_some o) → o ≡ None
 refused_by None e = refl

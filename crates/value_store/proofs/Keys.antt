@@ -1,5 +1,6 @@
 -- Keys in byte order, in maps that are looked into, lengthened and placed.
-use Rattle.std.proofs.Common.{◌≡◌, ℕ, zero, suc, List, [], ◌∷◌, ◌++◌, Option, Some, None, Ordering, Less, Equal, Greater, nat_cmp, Bool, true, false, bytes_eq, refl, sym, ap, ◌∙◌, subst}
+use Rattle.std.proofs.Common.{◌≡◌, ℕ, zero, suc, List, [], ◌∷◌, ◌++◌, Option, Some, None, Ordering, Less, Equal, Greater, nat_cmp, true, false, bytes_eq, refl, sym, ap, ◌∙◌, subst}
+use Rattle.std.proofs.lemmas.Bool.{cond-false, cond-true, false_from_ne_true}
 use Rattle.std.proofs.lemmas.Cmp.{nat_list_cmp_total}
 use Rattle.std.proofs.lemmas.Map.Text.{is_eq-slice_cmp}
 use Rattle.std.proofs.lemmas.Slice.Eq.{bytes_eq-Decides}
@@ -7,10 +8,10 @@ use Rattle.std.specs.Cmp.Lexicographic.{slice_cmp}
 use Rattle.std.specs.List.{AllByRecursion}
 use Rattle.std.specs.List.Sorted.{IsStrictlySortedBy}
 use Rattle.std.specs.Ordering.{is_eq, ordering_reverse}
-use Rattle.std.specs.Prelude.{IfSome, is_some, not, option_map, option_and_then, slice_get, if◌then◌else◌}
+use Rattle.std.specs.Prelude.{IfSome, is_some, not, option_map, option_and_then, slice_get}
 use Rattle.value_store.specs.Value as kind
 use Rattle.value_store.specs.Value.{Value, Items, no_items, item, Entries, no_entries, entry, ValueOrError, error, value, keys_of, values_of, list_of, items_push, items_join}
-use Rattle.value_store.specs.Lookup.{find, has_key, inserted, inserted_by}
+use Rattle.value_store.specs.Lookup.{has_key, inserted, inserted_by}
 use Rattle.value_store.specs.Keys.{Ascend, IsOrdered, AreItemsOrdered, AreEntriesOrdered, IsResultOrdered, AreOrdered}
 use Rattle.value_store.specs.Calls.{value_at, text_at, entries_at, entries_part, part_at, join_of, joined, push_of, pushed, put_of, put_in}
 use Rattle.value_store.specs.Placing.{placed}
@@ -28,16 +29,19 @@ below_rest : (j k : List ℕ) (ks : List (List ℕ)) → slice_cmp nat_cmp j k �
 below_rest j k [] e h = tt
 below_rest j k (l ∷ ks) e h = (nat_list_cmp_total.trans j k l e h.0, below_rest j k ks e h.1)
 
-below_by : (o : Ordering) (first key : List ℕ) (x : Value) (k : List ℕ) (v : Value) (more : Entries) (rest : Option Entries) → slice_cmp nat_cmp first key ≡ Less → slice_cmp nat_cmp first k ≡ Less → BelowAll first (keys_of more)
-    → IfSome rest (λ es. BelowAll first (keys_of es)) → IfSome (inserted_by o key x k v more rest) (λ es. BelowAll first (keys_of es))
-below_by Less first key x k v more rest a b c d = (a, (b, c))
-below_by Greater first key x k v more (Some es) a b c d = (b, d)
-below_by _ first key x k v more _ a b c d = tt
+-- what each case of an insertion gives, where what the rest gives is known
+pub inserted_if : (P Q : Entries → Type 0) (o : Ordering) (key : List ℕ) (x : Value) (k : List ℕ) (v : Value) (more : Entries) (rest : Option Entries)
+    → P (entry key x (entry k v more)) → ((es : Entries) → Q es → P (entry k v es)) → IfSome rest Q → IfSome (inserted_by o key x k v more rest) P
+inserted_if P Q Less key x k v more rest here later q = here
+inserted_if P Q Greater key x k v more (Some es) here later q = later es q
+inserted_if P Q _ key x k v more _ here later q = tt
 
 -- what is below the key and all entries is below them all together
 below_inserted : (first key : List ℕ) (x : Value) (es : Entries) → slice_cmp nat_cmp first key ≡ Less → BelowAll first (keys_of es) → IfSome (inserted key x es) (λ more. BelowAll first (keys_of more))
 below_inserted first key x no_entries a b = (a, tt)
-below_inserted first key x (entry k v more) a b = below_by (slice_cmp nat_cmp key k) first key x k v more (inserted key x more) a b.0 b.1 (below_inserted first key x more a b.1)
+below_inserted first key x (entry k v more) a b =
+    let all = λ (es : Entries). BelowAll first (keys_of es) in
+    inserted_if all all (slice_cmp nat_cmp key k) key x k v more (inserted key x more) (a, b) (λ es c. (b.0, c)) (below_inserted first key x more a b.1)
 
 ascends_by : (o : Ordering) (key : List ℕ) (x : Value) (k : List ℕ) (v : Value) (more : Entries) (rest : Option Entries) → slice_cmp nat_cmp key k ≡ o → Ascend (k ∷ keys_of more)
     → (slice_cmp nat_cmp k key ≡ Less → IfSome rest (λ es. BelowAll k (keys_of es))) → IfSome rest (λ es. Ascend (keys_of es)) → IfSome (inserted_by o key x k v more rest) (λ es. Ascend (keys_of es))
@@ -54,37 +58,23 @@ inserted_in_order key x (entry k v more) up =
 
 -- a key below all is none of them
 apart : (j k : List ℕ) → is_eq (slice_cmp nat_cmp j k) ≡ false → bytes_eq k j ≡ false
-apart j k e = differ (bytes_eq k j) refl
-  where
-    differ : (b : Bool) → bytes_eq k j ≡ b → b ≡ false
-    differ true f =
-        let same = sym ((bytes_eq-Decides k j).0 f) in
-        let own = (bytes_eq-Decides j k).1 same in
-        absurd (let off = sym (is_eq-slice_cmp j k) ∙ e in cc)
-    differ false f = refl
-
-has_by : (b : Bool) (v : Value) (o : Option Value) → b ≡ false → is_some (if b then Some v else o) ≡ is_some o
-has_by true v o e = absurd (cc)
-has_by false v o e = refl
+apart j k e =
+    false_from_ne_true _ (λ same. let own = (bytes_eq-Decides j k).1 (sym ((bytes_eq-Decides k j).0 same)) in let off = sym (is_eq-slice_cmp j k) ∙ e in cc)
 
 below_has_not : (key : List ℕ) (es : Entries) → BelowAll key (keys_of es) → has_key key es ≡ false
 below_has_not key no_entries h = refl
-below_has_not key (entry k v more) h = has_by (bytes_eq k key) v (find key more) (apart key k (ap is_eq h.0)) ∙ below_has_not key more h.1
+below_has_not key (entry k v more) h = ap is_some (cond-false (bytes_eq k key) _ _ (apart key k (ap is_eq h.0))) ∙ below_has_not key more h.1
 
 same_key : (j k : List ℕ) → is_eq (slice_cmp nat_cmp j k) ≡ true → bytes_eq k j ≡ true
 same_key j k e = (bytes_eq-Decides k j).1 (sym ((bytes_eq-Decides j k).0 (sym (is_eq-slice_cmp j k) ∙ e)))
 
-found_by : (b : Bool) (v : Value) (o : Option Value) → b ≡ true → is_some (if b then Some v else o) ≡ true
-found_by true v o e = refl
-found_by false v o e = absurd (cc)
-
 once_by : (o : Ordering) (key : List ℕ) (x : Value) (k : List ℕ) (v : Value) (more : Entries) (rest : Option Entries) → slice_cmp nat_cmp key k ≡ o → BelowAll k (keys_of more)
     → is_some rest ≡ not (has_key key more) → is_some (inserted_by o key x k v more rest) ≡ not (has_key key (entry k v more))
 once_by Less key x k v more rest e above later =
-    sym (ap not (has_by (bytes_eq k key) v (find key more) (apart key k (ap is_eq e)) ∙ below_has_not key more (below_rest key k (keys_of more) e above)))
-once_by Equal key x k v more rest e above later = sym (ap not (found_by (bytes_eq k key) v (find key more) (same_key key k (ap is_eq e))))
+    sym (ap not (ap is_some (cond-false (bytes_eq k key) _ _ (apart key k (ap is_eq e))) ∙ below_has_not key more (below_rest key k (keys_of more) e above)))
+once_by Equal key x k v more rest e above later = sym (ap not (ap is_some (cond-true (bytes_eq k key) _ _ (same_key key k (ap is_eq e)))))
 once_by Greater key x k v more rest e above later =
-    mapped (entry k v) rest ∙ later ∙ sym (ap not (has_by (bytes_eq k key) v (find key more) (apart key k (ap is_eq e))))
+    mapped (entry k v) rest ∙ later ∙ sym (ap not (ap is_some (cond-false (bytes_eq k key) _ _ (apart key k (ap is_eq e)))))
 
 pub inserted_once : InsertedOnce
 unfolding IsStrictlySortedBy
@@ -131,15 +121,11 @@ pub push_ordered : (v w : Value) → IsOrdered v → IsOrdered w → IfSome (pus
 push_ordered (kind.list is) w a b = push_items is w a b
 push_ordered _ w a b = tt
 
-entries_by : (o : Ordering) (key : List ℕ) (x : Value) (k : List ℕ) (v : Value) (more : Entries) (rest : Option Entries) → IsOrdered x → AreEntriesOrdered (entry k v more) → IfSome rest AreEntriesOrdered
-    → IfSome (inserted_by o key x k v more rest) AreEntriesOrdered
-entries_by Less key x k v more rest a b c = (a, b)
-entries_by Greater key x k v more (Some es) a b c = (b.0, c)
-entries_by _ key x k v more _ a b c = tt
-
 entries_inserted : (key : List ℕ) (x : Value) (es : Entries) → IsOrdered x → AreEntriesOrdered es → IfSome (inserted key x es) AreEntriesOrdered
 entries_inserted key x no_entries a b = (a, tt)
-entries_inserted key x (entry k v more) a b = entries_by (slice_cmp nat_cmp key k) key x k v more (inserted key x more) a b (entries_inserted key x more a b.1)
+entries_inserted key x (entry k v more) a b =
+    let each = AreEntriesOrdered in
+    inserted_if each each (slice_cmp nat_cmp key k) key x k v more (inserted key x more) (a, b) (λ es c. (b.0, c)) (entries_inserted key x more a b.1)
 
 as_map : (o : Option Entries) → IfSome o (λ es. Ascend (keys_of es)) → IfSome o AreEntriesOrdered → IfSome (option_map kind.map o) IsOrdered
 as_map None a b = tt
@@ -179,11 +165,9 @@ one_more [] x a b = (b, tt)
 one_more (v ∷ vs) x a b = (a.0, one_more vs x a.1 b)
 
 place_one : (vs : List ValueOrError) (v : Value) → AreOrdered vs → IsOrdered v → AreOrdered (placed vs v)
-place_one vs (kind.int n) a b = one_more vs (value (kind.int n)) a b
-place_one vs (kind.text s) a b = one_more vs (value (kind.text s)) a b
-place_one vs (kind.list is) a b = one_more vs (value (kind.list is)) a b
-place_one vs (kind.map es) a b = one_more vs (value (kind.map es)) a b
-place_one vs _ a b = a
+place_one vs kind.null a b = a
+place_one vs (kind.boolean t) a b = a
+place_one vs v a b = one_more vs (value v) a b
 
 pub keeps_order : KeepsOrder
 keeps_order = record { part = part; key = λ h i. a_text (option_and_then (λ es. slice_get (keys_of es) i) (entries_at h)); join = join_two; push = push_two; put = put_three; place = place_one }

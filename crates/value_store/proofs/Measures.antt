@@ -1,5 +1,6 @@
 -- Sizes and depths of lists and maps, from those of their parts, over plain variables.
 use Rattle.std.proofs.Common.{◌≡◌, ◌<◌, ◌≤◌, ℕ, ◌+◌, ◌-◌, ◌^◌, List, length, Option, Some, None, Bool, true, false, refl, sym, ap, subst, ◌∙◌, arith}
+use Rattle.std.proofs.lemmas.Bool.{cond-false, cond-true}
 use Rattle.std.specs.Prelude.{IsSome, OnSome, max, min, if◌then◌else◌, ◌||◌}
 use Rattle.serde_json.specs.Data as json
 use Rattle.value_store.specs.Size.{size_of, depth_of, items_size, items_depth, entries_size, entries_depth}
@@ -47,14 +48,6 @@ reached M a e = omega arith
 
 deepened : (M a : ℕ) → a ≤ M → 1 ≤ a → a ≡ min (max a (1 + 0)) M
 deepened M a e f = omega arith
-
-refused : (b : Bool) (m : Measure) → b ≡ true → None ≡ (if b then None else Some m)
-refused true m e = refl
-refused false m e = cc
-
-taken : (b : Bool) (m k : Measure) → b ≡ false → m ≡ k → Some m ≡ (if b then None else Some k)
-taken true m k e f = cc
-taken false m k e f = ap Some f
 
 measured : (b : Bool) (p m : Measure) → Some p ≡ (if b then None else Some m) → (b ≡ false) × (p ≡ m)
 measured true p m e = cc
@@ -108,17 +101,17 @@ members_step all k d ds m p go e =
 
 pub items_fail : (all : json.Items) (d : json.Data) (ds : json.Items) (m : Measure) → ItemsMeasured all (json.item d ds) m → None ≡ measure_of d → None ≡ measure_of (json.array all)
 unfolding measure_of
-items_fail all d ds m go e = refused (items_have_other all) _ (go.other_is ∙ ap (λ b. b || items_have_other ds) (no_part d e))
+items_fail all d ds m go e = sym (cond-true (items_have_other all) _ _ (go.other_is ∙ ap (λ b. b || items_have_other ds) (no_part d e)))
 
 pub members_fail : (all : json.Members) (k : List ℕ) (d : json.Data) (ds : json.Members) (m : Measure) → MembersMeasured all (json.member k d ds) m → None ≡ measure_of d → None ≡ measure_of (json.object all)
 unfolding measure_of
-members_fail all k d ds m go e = refused (members_have_other all) _ (go.other_is ∙ ap (λ b. b || members_have_other ds) (no_part d e))
+members_fail all k d ds m go e = sym (cond-true (members_have_other all) _ _ (go.other_is ∙ ap (λ b. b || members_have_other ds) (no_part d e)))
 
 whole : {other : Bool} {size depth : ℕ} (m : Measure) → Measuring other size depth false 0 0 m → Some m ≡ (if other then None else Some (record { size = saturated (1 + size); depth = saturated (1 + depth) }))
-whole {size = size} {depth = depth} m go =
+whole {other = other} {size = size} {depth = depth} m go =
     let size_is : m.size ≡ saturated (1 + size) = reached (2 ^ 64 - 1) m.size go.size_fits ∙ go.size_is in
     let depth_is : m.depth ≡ saturated (1 + depth) = deepened (2 ^ 64 - 1) m.depth go.depth_fits go.deep ∙ go.depth_is in
-    taken _ m _ go.other_is (λ i. record { size = size_is i; depth = depth_is i })
+    ap Some (λ i. record { size = size_is i; depth = depth_is i }) ∙ sym (cond-false other _ _ go.other_is)
 
 pub items_end : (all : json.Items) (m : Measure) → ItemsMeasured all json.no_items m → Some m ≡ measure_of (json.array all)
 unfolding measure_of
@@ -128,14 +121,10 @@ pub members_end : (all : json.Members) (m : Measure) → MembersMeasured all jso
 unfolding measure_of
 members_end all m go = whole m go
 
-is_some_of : (b : Bool) (m : Measure) → b ≡ false → IsSome (if b then None else Some m)
-is_some_of true m e = absurd (cc)
-is_some_of false m e = refl
-
 -- a whole document has a measure, and its depth where that fits 64 bits
 pub measured_some : (d : json.Data) → has_other d ≡ false → IsSome (measure_of d)
 unfolding measure_of
-measured_some d e = is_some_of (has_other d) _ e
+measured_some d e = rw e refl
 
 uncapped : (M p d : ℕ) → p ≡ min d M → d ≤ M → p ≡ d
 uncapped M p d e f = omega arith

@@ -1,6 +1,6 @@
 -- Two lists, or two maps, part by part.
-use Rattle.std.proofs.Common.{◌≡◌, ◌≢◌, suc, List, [], ◌∷◌, length, Bool, true, false, refl, ap}
-use Rattle.std.specs.Prelude.{◌&&◌}
+use Rattle.std.proofs.Common.{◌≡◌, ◌≢◌, suc, List, [], ◌∷◌, length, Bool, false, refl, ap}
+use Rattle.std.proofs.lemmas.Bool.{and_right}
 use Rattle.serde_json.specs.View.{view, items_view, members_view}
 use Rattle.serde_json.specs.declared.value.Value as document
 use Rattle.serde_json.proofs.Views.{Entry}
@@ -13,11 +13,7 @@ same_items_of xs ys = items_equal (plain_items (items_view xs)) (plain_items (it
 abbrev pub same_members_of : List Entry → List Entry → Bool
 same_members_of xs ys = entries_equal (plain_entries (members_view xs)) (plain_entries (members_view ys))
 
-and_no : (b c : Bool) → c ≡ false → (b && c) ≡ false
-and_no true c e = e
-and_no false c e = refl
-
 pub other_length : (xs ys : List document.Value) → (length xs ≢ length ys) → same_items_of xs ys ≡ false
 other_length [] [] n = absurd (n refl)
-other_length (x ∷ xs) (y ∷ ys) n = and_no (equal (plain_value (view x)) (plain_value (view y))) _ (other_length xs ys (λ e. n (ap suc e)))
+other_length (x ∷ xs) (y ∷ ys) n = and_right (equal (plain_value (view x)) (plain_value (view y))) _ (other_length xs ys (λ e. n (ap suc e)))
 other_length _ _ n = refl

@@ -1,6 +1,7 @@
 -- What stands at a place of a list or map.
 use Rattle.std.proofs.Common.{◌≡◌, ◌≤◌, ℕ, zero, suc, List, [], ◌∷◌, length, Option, Some, None, false, Bor, slice_get, option_map, refl, sym, ap, ◌∙◌, subst, arith}
 use Rattle.std.specs.Prelude.{IsSome, option_and_then}
+use Rattle.std.proofs.lemmas.Bool.{or_parts}
 use Rattle.serde_json.specs.Data as json
 use Rattle.serde_json.specs.Find.{get_item}
 use Rattle.serde_json.specs.View.{view, items_view, members_view}
@@ -12,7 +13,6 @@ use Rattle.value_store.specs.Size.{depth_of, items_depth, entries_depth}
 use Rattle.value_store.specs.Calls.{parts_of}
 use Rattle.value_store.specs.Roots.{has_other, items_have_other, members_have_other}
 use Rattle.value_store.specs.Plain.{plain_value, plain_items, plain_entries, nth_member, part_of}
-use Rattle.value_store.proofs.Trees.{first_no, second_no}
 
 item_value : (i : ℕ) (ds : json.Items) → option_map plain_value (get_item i ds) ≡ slice_get (list_of (plain_items ds)) i
 item_value i json.no_items = refl
@@ -49,9 +49,9 @@ item_within i json.no_items e is whole = absurd (cc)
 item_within zero (json.item d ds) e is whole =
     let same : d ≡ e = cc in
     let deep = ap (λ x. depth_of (plain_value x)) same in
-    record { whole = ap has_other (sym same) ∙ first_no _ _ whole; shallow = omega arith }
+    record { whole = ap has_other (sym same) ∙ (or_parts _ _ whole).0; shallow = omega arith }
 item_within (suc i) (json.item d ds) e is whole =
-    let rest = item_within i ds e is (second_no (has_other d) _ whole) in
+    let rest = item_within i ds e is (or_parts (has_other d) _ whole).1 in
     record { whole = rest.whole; shallow = omega (arith, rest.shallow) }
 
 record AmongMembers (e : json.Data) (ms : json.Members) : Type 0 where
@@ -63,9 +63,9 @@ member_within i json.no_members e is whole = absurd (cc)
 member_within zero (json.member k d ms) e is whole =
     let same : d ≡ e = cc in
     let deep = ap (λ x. depth_of (plain_value x)) same in
-    record { whole = ap has_other (sym same) ∙ first_no _ _ whole; shallow = omega arith }
+    record { whole = ap has_other (sym same) ∙ (or_parts _ _ whole).0; shallow = omega arith }
 member_within (suc i) (json.member k d ms) e is whole =
-    let rest = member_within i ms e is (second_no (has_other d) _ whole) in
+    let rest = member_within i ms e is (or_parts (has_other d) _ whole).1 in
     record { whole = rest.whole; shallow = omega (arith, rest.shallow) }
 
 pub part_within : (i : ℕ) (d e : json.Data) → part_of i d ≡ Some e → has_other d ≡ false → Within e d

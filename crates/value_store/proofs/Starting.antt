@@ -1,7 +1,7 @@
 -- The values of the roots, one root after another.
-use Rattle.std.proofs.Common.{◌≡◌, ◌≤◌, ◌<◌, ℕ, suc, ◌+◌, ◌-◌, ◌^◌, List, [], ◌∷◌, ◌++◌, map, Option, Some, None, Result, Ok, Err, Bool, true, false, refl, sym, ap, ap₂, ◌∙◌, subst, arith, append_assoc}
+use Rattle.std.proofs.Common.{◌≡◌, ◌≤◌, ◌<◌, ℕ, suc, ◌+◌, ◌-◌, ◌^◌, List, [], ◌∷◌, ◌++◌, map, Option, Some, None, Result, Ok, Err, Bool, true, false, inl, inr, refl, sym, ap, ap₂, ◌∙◌, subst, arith, append_assoc}
 use Rattle.std.specs.Prelude.{min, max, nat_le, if◌then◌else◌, IsOk}
-use Rattle.std.proofs.lemmas.Bool.Decides.{nat_tests}
+use Rattle.std.proofs.lemmas.Bool.{cases_lt, cond-false, cond-true, cond_both, le-leb, lt-leb}
 use Rattle.serde_json.specs.Data as json
 use Rattle.serde_json.specs.View.{view}
 use Rattle.serde_json.specs.declared.value.Value as document
@@ -107,23 +107,20 @@ pub record Started (ds : List json.Data) : Type 0 where
   pub welcome : Welcome ds
   pub is : start_contents ds ≡ Ok (record { values = first_values ++ map value (map plain_value ds); charge = sizes (map plain_value ds) })
 
-small_by : (b : Bool) (vs : List Value) → nat_le (sizes vs) charge_limit ≡ b → IsOk (within_limit vs) → sizes vs ≤ charge_limit
-small_by true vs e ok = grind (arith, nat_tests)
-small_by false vs e ok = let none = ap (λ b. if b then Ok (record { values = first_values ++ map value vs; charge = sizes vs }) else Err V3) e in absurd (no_store _ none ok)
-  where
-    no_store : (r : Result Contents TableError) → r ≡ Err V3 → IsOk r → ⊥
-    no_store (Ok x) e ok = cc
-    no_store (Err x) e ok = cc
+small_sizes : (vs : List Value) → IsOk (within_limit vs) → sizes vs ≤ charge_limit
+small_sizes vs ok = elim (cases_lt charge_limit (sizes vs)) [
+  | inl over ↦
+      (let no = subst (λ (r : Result Contents TableError). IsOk r) (cond-false (nat_le (sizes vs) charge_limit) _ (Err V3) (lt-leb _ _ over)) ok in absurd (cc))
+  | inr within ↦ within
+]
 
 within_is : (vs : List Value) → sizes vs ≤ charge_limit → within_limit vs ≡ Ok (record { values = first_values ++ map value vs; charge = sizes vs })
-within_is vs small =
-    let yes : nat_le (sizes vs) 16777216 ≡ true = grind (arith, nat_tests) in
-    ap (λ b. if b then Ok (record { values = first_values ++ map value vs; charge = sizes vs }) else Err V3) yes
+within_is vs small = cond-true (nat_le (sizes vs) charge_limit) _ (Err V3) (le-leb _ _ small)
 
 started_by : (ds : List json.Data) (r : Result (List Value) TableError) → roots_of 4 ds ≡ r → IsOk (contents_of r) → Started ds
 started_by ds (Ok vs) e ok =
     let known = roots_known 4 ds vs e in
-    let small = small_by (nat_le (sizes vs) charge_limit) vs refl ok in
+    let small = small_sizes vs ok in
     record {
       welcome = record { whole = known.whole; small = subst (λ ws. sizes ws ≤ charge_limit) known.values_are small };
       is = ap contents_of e ∙ within_is vs small ∙ ap (λ ws. Ok (record { values = first_values ++ map value ws; charge = sizes ws })) known.values_are;
@@ -183,16 +180,10 @@ no_memory_roots : (place : ℕ) (ds : List json.Data) → roots_of place ds ≡ 
 no_memory_roots place [] e = cc
 no_memory_roots place (d ∷ ds) e = no_memory_then (root_of place d) (roots_of (suc place) ds) (no_memory_root (is_root d) place (value_of d)) (no_memory_roots (suc place) ds) e
 
-no_memory_within : (b : Bool) (c : Contents) → (if b then Ok c else Err V3) ≡ Err Memory → ⊥
-no_memory_within true c e = cc
-no_memory_within false c e = cc
-
 no_memory_contents : (r : Result (List Value) TableError) → (r ≡ Err Memory → ⊥) → charge_in (contents_of r) ≡ Err Memory → ⊥
-no_memory_contents (Ok vs) f e = no_memory_charge _ (no_memory_within (nat_le (sizes vs) charge_limit) _) e
-  where
-    no_memory_charge : (r : Result Contents TableError) → (r ≡ Err Memory → ⊥) → charge_in r ≡ Err Memory → ⊥
-    no_memory_charge (Ok c) f e = cc
-    no_memory_charge (Err x) f e = f (ap Err (cc))
+no_memory_contents (Ok vs) f e =
+    let contents : Contents = record { values = first_values ++ map value vs; charge = sizes vs } in
+    cond_both (nat_le (sizes vs) charge_limit) (Ok contents) (Err V3) (λ r. charge_in r ≡ Err Memory → ⊥) (λ _ h. cc) (λ _ h. cc) e
 no_memory_contents (Err x) f e = f (ap Err (cc))
 
 refused_is : (r : Result Contents TableError) (x : TableError) → Err x ≡ charge_in r → r ≡ Err x
@@ -201,10 +192,8 @@ refused_is (Err y) x e = ap Err (cc)
 
 -- a refusal is answered as it is due
 pub refused : {S : Type 0} (contents : S → Contents) (ds : List json.Data) (x : TableError) → Err x ≡ charge_in (start_contents ds) → Starts contents (start_contents ds) (Err x)
-refused contents ds (V1 place) e = refused_is (start_contents ds) (V1 place) e
-refused contents ds (V2 place) e = refused_is (start_contents ds) (V2 place) e
-refused contents ds V3 e = refused_is (start_contents ds) V3 e
 refused contents ds Memory e = absurd (no_memory_contents (roots_of 4 ds) (no_memory_roots 4 ds) (sym e))
+refused contents ds x e = refused_is (start_contents ds) x e
 
 -- ---- one root
 

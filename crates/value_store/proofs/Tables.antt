@@ -2,6 +2,7 @@
 use Rattle.std.proofs.Common.{◌≡◌, ◌≤◌, ℕ, zero, suc, ◌+◌, List, [], ◌∷◌, ◌++◌, length, Bool, true, false, Bor, Option, Some, None, slice_get, refl, ap, ap₂, ◌∙◌, arith, length-append}
 use Rattle.std.specs.List.{AllZip}
 use Rattle.std.specs.Prelude.{max, IfSome, option_map, if◌then◌else◌}
+use Rattle.std.proofs.lemmas.List.{map-append}
 use Rattle.std.proofs.lemmas.Option.{slice_get-map}
 use Rattle.value_store.specs.Value.{null, boolean, ValueOrError, error, value}
 use Rattle.value_store.specs.Size.{result_depth}
@@ -21,8 +22,7 @@ deepest-append [] v = omega arith
 deepest-append (w ∷ vs) v = let f = deepest-append vs v in omega arith
 
 pub stored-append : (ns : List Node) (n : Node) → stored_values (ns ++ n ∷ []) ≡ stored_values ns ++ stored n ∷ []
-stored-append [] n = refl
-stored-append (m ∷ ns) n = ap (λ vs. stored m ∷ vs) (stored-append ns n)
+stored-append ns n = map-append stored ns (n ∷ [])
 
 pub record Begins (vs : List ValueOrError) : Type 0 where
   pub more : List ValueOrError

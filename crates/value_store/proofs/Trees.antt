@@ -1,6 +1,8 @@
 -- Documents that are made of others, and their values.
-use Rattle.std.proofs.Common.{◌≡◌, ℕ, ◌+◌, List, [], ◌∷◌, ◌++◌, Bool, true, false, Option, Some, None, map, Vec, BTreeMap, Global, String, refl, sym, ap, ap₂, ◌∙◌, subst, arith}
-use Rattle.std.specs.Prelude.{IsSome, max, ◌||◌, option_map, option_and_then}
+use Rattle.std.proofs.Common.{◌≡◌, ℕ, ◌+◌, List, [], ◌∷◌, ◌++◌, false, Option, Some, None, map, Vec, BTreeMap, Global, String, refl, sym, ap, ap₂, ◌∙◌, subst, arith}
+use Rattle.std.proofs.lemmas.Bool.{or_from, or_parts}
+use Rattle.std.proofs.lemmas.List.{map-append}
+use Rattle.std.specs.Prelude.{IsSome, max, option_map, option_and_then}
 use Rattle.std.specs.declared.cmp.Ordering.{Ordering}
 use Rattle.std.specs.declared.cmp.Ordering.TheVariants.{Less, Equal, Greater}
 use Rattle.std.specs.Ordering.{nat_cmp, match_ordering}
@@ -32,45 +34,30 @@ items_of-append : (ds es : List json.Data) → items_of (ds ++ es) ≡ joined (i
 items_of-append [] es = refl
 items_of-append (d ∷ ds) es = ap (json.item d) (items_of-append ds es)
 
-map_view-append : (xs ys : List document.Value) → map view (xs ++ ys) ≡ map view xs ++ map view ys
-map_view-append [] ys = refl
-map_view-append (x ∷ xs) ys = ap (λ ds. view x ∷ ds) (map_view-append xs ys)
-
 items_view-append : (xs ys : List document.Value) → items_view (xs ++ ys) ≡ joined (items_view xs) (items_view ys)
-items_view-append xs ys = ap items_of (map_view-append xs ys) ∙ items_of-append (map view xs) (map view ys)
-
-pub neither : (b c : Bool) → b ≡ false → c ≡ false → (b || c) ≡ false
-neither b c e f = ap (λ a. a || c) e ∙ f
-
-pub first_no : (b c : Bool) → (b || c) ≡ false → b ≡ false
-first_no true c e = e
-first_no false c e = refl
-
-pub second_no : (b c : Bool) → (b || c) ≡ false → c ≡ false
-second_no true c e = absurd (cc)
-second_no false c e = e
+items_view-append xs ys = ap items_of (map-append view xs ys) ∙ items_of-append (map view xs) (map view ys)
 
 joined_whole : (ds es : json.Items) → items_have_other ds ≡ false → items_have_other es ≡ false → items_have_other (joined ds es) ≡ false
 joined_whole json.no_items es e f = f
-joined_whole (json.item d ds) es e f = neither _ _ (first_no _ _ e) (joined_whole ds es (second_no (has_other d) _ e) f)
+joined_whole (json.item d ds) es e f = or_from _ _ (or_parts _ _ e).0 (joined_whole ds es (or_parts (has_other d) _ e).1 f)
 
 joined_value : (ds es : json.Items) → plain_items (joined ds es) ≡ items_join (plain_items ds) (plain_items es)
 joined_value json.no_items es = refl
 joined_value (json.item d ds) es = ap (kind.item (plain_value d)) (joined_value ds es)
 
-one_deeper : (n d : ℕ) → n ≡ d → n + 1 ≡ 1 + max d 0
-one_deeper n d e = omega arith
-
 join_push : (is : kind.Items) (v : kind.Value) → items_join is (kind.item v kind.no_items) ≡ items_push is v
 join_push kind.no_items v = refl
 join_push (kind.item w is) v = ap (kind.item w) (join_push is v)
 
-max_assoc : (a b c : ℕ) → max a (max b c) ≡ max (max a b) c
-max_assoc a b c = omega arith
+-- the depth of a list with one more item
+pub push_depth : (is : kind.Items) (v : kind.Value) → items_depth (items_push is v) ≡ max (items_depth is) (depth_of v)
+push_depth kind.no_items v = omega arith
+push_depth (kind.item w is) v = let e = push_depth is v in omega (arith, e)
 
-join_depth : (is js : kind.Items) → items_depth (items_join is js) ≡ max (items_depth is) (items_depth js)
+-- the depth of two lists that are joined
+pub join_depth : (is js : kind.Items) → items_depth (items_join is js) ≡ max (items_depth is) (items_depth js)
 join_depth kind.no_items js = omega arith
-join_depth (kind.item v is) js = ap (max (depth_of v)) (join_depth is js) ∙ max_assoc (depth_of v) (items_depth is) (items_depth js)
+join_depth (kind.item v is) js = let e = join_depth is js in omega (arith, e)
 
 list_depth : (is js : kind.Items) → max (1 + items_depth is) (1 + items_depth js) ≡ depth_of (kind.list (items_join is js))
 list_depth is js = let e = join_depth is js in omega arith
@@ -103,8 +90,10 @@ push_list v u x a b m n first second is whole1 whole2 deep1 deep2 =
     let d : view a ≡ json.array (items_view v.items) = sym first ∙ view-Array v in
     let r : view (document.Array u) ≡ json.array (joined (items_view v.items) (json.item (view b) json.no_items)) =
     view-Array u ∙ ap (λ xs. json.array (items_view xs)) is ∙ ap json.array (items_view-append v.items (x ∷ [])) ∙ ap (λ y. json.array (joined (items_view v.items) (json.item y json.no_items))) second in
-    let g = lists (items_view v.items) (json.item (view b) json.no_items) (sym (ap has_other d) ∙ whole1) (neither _ false whole2 refl) in
-    let deep : max m (n + 1) ≡ max (1 + items_depth (plain_items (items_view v.items))) (1 + max (depth_of (plain_value (view b))) 0) = ap₂ max (deep1 ∙ ap (λ y. depth_of (plain_value y)) d) (one_deeper n (depth_of (plain_value (view b))) deep2) in
+    let g = lists (items_view v.items) (json.item (view b) json.no_items) (sym (ap has_other d) ∙ whole1) (or_from _ false whole2 refl) in
+    let old = deep1 ∙ ap (λ y. depth_of (plain_value y)) d in
+    let deep : max m (n + 1) ≡ max (1 + items_depth (plain_items (items_view v.items))) (1 + max (depth_of (plain_value (view b))) 0) =
+    omega (arith, old, deep2) in
     record {
       whole = ap has_other r ∙ g.whole;
       deep = deep ∙ g.deep ∙ ap (λ y. depth_of (plain_value y)) (sym r);
@@ -129,18 +118,15 @@ put_value k d (json.member l e ms) there = put_value_by (slice_cmp nat_cmp k l) 
 
 put_whole_by : (o : Ordering) (k : List ℕ) (d : json.Data) (l : List ℕ) (e : json.Data) (ms more : json.Members) → has_other d ≡ false → has_other e ≡ false → members_have_other ms ≡ false → members_have_other more ≡ false
     → members_have_other (match_ordering o (json.member k d (json.member l e ms)) (json.member l d ms) (json.member l e more)) ≡ false
-put_whole_by Less k d l e ms more a b c f = neither _ _ a (neither _ _ b c)
-put_whole_by Equal k d l e ms more a b c f = neither _ _ a c
-put_whole_by Greater k d l e ms more a b c f = neither _ _ b f
+put_whole_by Less k d l e ms more a b c f = or_from _ _ a (or_from _ _ b c)
+put_whole_by Equal k d l e ms more a b c f = or_from _ _ a c
+put_whole_by Greater k d l e ms more a b c f = or_from _ _ b f
 
 put_whole : (k : List ℕ) (d : json.Data) (ms : json.Members) → has_other d ≡ false → members_have_other ms ≡ false → members_have_other (json.put k d ms) ≡ false
-put_whole k d json.no_members a b = neither _ false a refl
+put_whole k d json.no_members a b = or_from _ false a refl
 put_whole k d (json.member l e ms) a b =
-    let rest = second_no (has_other e) _ b in
-    put_whole_by (slice_cmp nat_cmp k l) k d l e ms (json.put k d ms) a (first_no _ _ b) rest (put_whole k d ms a rest)
-
-swapped : (d e r : ℕ) → max e (max d r) ≡ max d (max e r)
-swapped d e r = omega arith
+    let rest = (or_parts (has_other e) _ b).1 in
+    put_whole_by (slice_cmp nat_cmp k l) k d l e ms (json.put k d ms) a (or_parts _ _ b).0 rest (put_whole k d ms a rest)
 
 put_depth_by : (o : Ordering) (k : List ℕ) (d : json.Data) (l : List ℕ) (e : json.Data) (ms more : json.Members) (rest : Option kind.Entries)
     → (IsSome rest → entries_depth (plain_entries more) ≡ max (depth_of (plain_value d)) (entries_depth (plain_entries ms))) → IsSome (inserted_by o k (plain_value d) l (plain_value e) (plain_entries ms) rest)
@@ -149,14 +135,11 @@ put_depth_by : (o : Ordering) (k : List ℕ) (d : json.Data) (l : List ℕ) (e :
 put_depth_by Less k d l e ms more rest f there = refl
 put_depth_by Equal k d l e ms more rest f there = absurd (cc)
 put_depth_by Greater k d l e ms more rest f there =
-    ap (max (depth_of (plain_value e))) (f (some_inside (kind.entry l (plain_value e)) rest there)) ∙ swapped (depth_of (plain_value d)) (depth_of (plain_value e)) (entries_depth (plain_entries ms))
+    let deep = f (some_inside (kind.entry l (plain_value e)) rest there) in omega (arith, deep)
 
 put_depth : (k : List ℕ) (d : json.Data) (ms : json.Members) → IsSome (inserted k (plain_value d) (plain_entries ms)) → entries_depth (plain_entries (json.put k d ms)) ≡ max (depth_of (plain_value d)) (entries_depth (plain_entries ms))
 put_depth k d json.no_members there = refl
 put_depth k d (json.member l e ms) there = put_depth_by (slice_cmp nat_cmp k l) k d l e ms (json.put k d ms) (inserted k (plain_value d) (plain_entries ms)) (put_depth k d ms) there
-
-map_deeper : (m n d r : ℕ) → m ≡ 1 + r → n ≡ d → max m (n + 1) ≡ 1 + max d r
-map_deeper m n d r e f = omega arith
 
 abbrev pub put_at : List ℕ → kind.Value → kind.Value → Option kind.Value
 put_at key x m = option_and_then (λ es. put_of es key x) (entries_part m)
@@ -171,8 +154,9 @@ put_map v u key x a b m n first second is whole1 whole2 deep1 deep2 there =
     let r : view (document.Object u) ≡ json.object (json.put key (view b) ms) = view-Object u ∙ ap json.object is ∙ ap (λ y. json.object (json.put key y ms)) second in
     let here : IsSome (option_map kind.map (inserted key (plain_value (view b)) (plain_entries ms))) = subst (λ y. IsSome (put_at key (plain_value (view b)) (plain_value y))) d there in
     let fits = some_inside kind.map (inserted key (plain_value (view b)) (plain_entries ms)) here in
-    let deeper : max m (n + 1) ≡ 1 + entries_depth (plain_entries (json.put key (view b) ms)) =
-    map_deeper m n (depth_of (plain_value (view b))) (entries_depth (plain_entries ms)) (deep1 ∙ ap (λ y. depth_of (plain_value y)) d) deep2 ∙ ap (λ y. 1 + y) (sym (put_depth key (view b) ms fits)) in
+    let deep = put_depth key (view b) ms fits in
+    let old = deep1 ∙ ap (λ y. depth_of (plain_value y)) d in
+    let deeper : max m (n + 1) ≡ 1 + entries_depth (plain_entries (json.put key (view b) ms)) = omega (arith, deep, old, deep2) in
     record {
       whole = ap has_other r ∙ put_whole key (view b) ms whole2 (sym (ap has_other d) ∙ whole1);
       deep = deeper ∙ ap (λ y. depth_of (plain_value y)) (sym r);

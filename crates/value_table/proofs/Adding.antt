@@ -1,6 +1,9 @@
 -- A heap with one more cell, and one whose backings have grown.
 use Rattle.std.proofs.Common.{◌≡◌, ℕ, zero, suc, ◌+◌, ◌<◌, ◌≤◌, List, [], ◌∷◌, ◌++◌, length, refl, sym, ap, ◌∙◌, arith, length-append, append-nil, slice_get, subst, Option, Some, Ok}
+use Rattle.std.proofs.lemmas.List.{get_or_append_left}
+use Rattle.std.proofs.lemmas.Option.{slice_get-get_or}
 use Rattle.std.specs.Prelude.{slice_index_or, vec_capacity, IfSome, option_map}
+use Rattle.value_store.specs.Value as kind
 use Rattle.value_store.specs.Value.{Value}
 use Rattle.value_table.specs.Meaning.{meaning, grown}
 use Rattle.value_table.specs.Heaps.{IsCell, AreSame, Extends, Adds}
@@ -14,20 +17,12 @@ use Rattle.value_table.proofs.Growth.{grown_kept, cells_kept, grown_one, cells_o
 use Rattle.value_table.proofs.Indexed.{indexes_kept}
 
 get_front : (vs ws : List Value) (r : ℕ) → r < length vs → slice_get (vs ++ ws) r ≡ slice_get vs r
-get_front [] ws r h = absurd (omega arith)
-get_front (v ∷ vs) ws zero h = refl
-get_front (v ∷ vs) ws (suc r) h = get_front vs ws r (omega arith)
+get_front vs ws r h =
+    slice_get-get_or (vs ++ ws) r kind.null (omega (arith, h, length-append vs ws)) ∙ ap Some (get_or_append_left vs ws kind.null r h)
+    ∙ sym (slice_get-get_or vs r kind.null h)
 
 pub same_more : (vs ws : List Value) (same : List ℕ) → AreSame vs same → AreSame (vs ++ ws) same
-same_more vs ws same h =
-    let long = h.long in
-    record {
-      long = omega (arith, length-append vs ws, long);
-      below = h.below;
-      equal = λ i d lt.
-          let low = h.below i d lt in
-          get_front vs ws (slice_index_or same i d) (omega (arith, low, lt, long)) ∙ h.equal i d lt ∙ sym (get_front vs ws i (omega (arith, lt, long)));
-    }
+same_more vs ws same h = grind (arith, length-append, get_front)
 
 pub values_added : (bs : Backings) (xs ys : List Cell) (c : Cell) → ys ≡ xs ++ c ∷ [] → grown bs [] ys ≡ grown bs [] xs ++ meaning bs (grown bs [] xs) c.content ∷ []
 values_added bs xs ys c e = rw e (grown_one bs [] xs c)
@@ -42,11 +37,7 @@ values_before old new b = rw (b.backings, b.cells)
 
 -- where it is refused
 pub heap_before : (old new : Heap) → IsHeap old → IsAsBefore old new → vec_capacity old.same ≤ vec_capacity new.same → new.indexes ≡ old.indexes → IsHeap new
-heap_before old new h b longer indexes =
-    let v = values_before old new b in
-    let room = h.room in
-    let n = ap length b.cells in
-    record { cells = rw (b.backings, b.cells) h.cells; same = rw (v, b.words) h.same; room = omega (arith, room, n, longer); indexes = rw (b.backings, b.cells, indexes) h.indexes }
+heap_before old new h b longer indexes = grind arith
 
 -- backings that have grown alone
 pub values_grown : (old : Heap) (bs : Backings) (cells : List Cell) → IsHeap old → Extends old.backings bs → cells ≡ old.cells → grown bs [] cells ≡ heap_values old
@@ -90,10 +81,4 @@ get_last (x ∷ xs) c = get_last xs c
 pub shared_put : (old : Heap) (bs : Backings) (ys mid : List Cell) (c lc : Cell) (l b n p i : ℕ) → slice_get old.cells l ≡ Some lc → lc.content ≡ cell.List b n → c.content ≡ cell.List p (n + 1) → ys ≡ mid ++ c ∷ [] → i ≡ length mid
     → (n ≡ length (slice_index_or old.backings.lists b []) → (p ≡ b) × (length bs.lists ≡ length old.backings.lists))
     → (b' n' : ℕ) → content_at old.cells l ≡ Some (cell.List b' n') → n' ≡ length (slice_index_or old.backings.lists b' []) → (content_at ys i ≡ Some (cell.List b' (n' + 1))) × (length bs.lists ≡ length old.backings.lists)
-shared_put old bs ys mid c lc l b n p i get is made cells at shared b' n' e end =
-    let one : Some (cell.List b n) ≡ Some (cell.List b' n') = ap Some (sym is) ∙ sym (ap (option_map (λ d. d.content)) get) ∙ e in
-    let same_b : b ≡ b' = cc in
-    let same_n : n ≡ n' = cc in
-    let s = shared (same_n ∙ end ∙ ap (λ k. length (slice_index_or old.backings.lists k [])) (sym same_b)) in
-    let last : slice_get ys i ≡ Some c = ap (λ xs. slice_get xs i) cells ∙ ap (slice_get (mid ++ c ∷ [])) at ∙ get_last mid c in
-    (ap (option_map (λ d. d.content)) last ∙ ap Some (made ∙ rw (s.0, same_b, same_n) refl), s.1)
+shared_put old bs ys mid c lc l b n p i get is made cells at shared h h1 e end = grind (arith, slice_get, get_last)

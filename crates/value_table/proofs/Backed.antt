@@ -37,14 +37,10 @@ items_pushed old lists b ws e =
 
 -- a backing behind the others
 pub items_behind : (old new : List (List ℕ)) (b n : ℕ) (xs : List ℕ) → b ≡ length old → length xs ≡ n → new ≡ old ++ xs ∷ [] → Holds new b n xs
-items_behind old new b n xs at long e =
-    let here : get_or new b [] ≡ xs = rw (e, at) (get_or-append_seam old xs [] []) in
-    record { inside = omega (arith, length-append old (xs ∷ []), ap length e, at); long = rw here long; items = rw here (take_all n xs (omega (arith, long))) }
+items_behind old new b n xs at long e = grind (arith, get_or, get_or-append_seam, length-append, take_all)
 
 pub length_one : (xs : List ℕ) (n place x : ℕ) → place ≤ n → n ≤ length xs → length (with_one place x (take n xs)) ≡ n + 1
-length_one xs n place x low long =
-    let ys = take n xs in
-    omega (arith, length-take n xs, length-take place ys, length-drop place ys, length-append (take place ys) (x ∷ drop place ys), low, long)
+length_one xs n place x low long = grind (arith, take, length-take, length-drop, length-append, drop)
 
 whole_behind : (bs ws : List ℕ) (a b : ℕ) → a ≡ length bs → b ≡ length (bs ++ ws) → slice_range (bs ++ ws) a b ≡ ws
 whole_behind bs ws a b p q = rw (p, drop-append_seam bs ws) (take_all (b - length bs) ws (omega (arith, length-append bs ws)))

@@ -19,10 +19,7 @@ full_one (ys ∷ xss) xs h e = (h.0, full_one xss xs h.1 e)
 pub item_at : {A : Type 0} (xss : List (List A)) (ys : List A) (i j k : ℕ) (e : List A) (d : A) → AreFull xss → i < length xss → j < 256 → k ≡ 256 * i + j
     → get_or (joined xss ++ ys) k d ≡ get_or (get_or xss i e) j d
 item_at [] ys i j k e d h low less is = absurd (omega arith)
-item_at {A} (xs ∷ xss) ys zero j k e d h low less is =
-    let same : k ≡ j = omega arith in
-    ap (λ zs. get_or zs k d) (append_assoc xs (joined xss) ys) ∙ get_or_append_left xs (joined xss ++ ys) d k (omega (arith, h.0, same, less))
-    ∙ ap (λ n. get_or xs n d) same
+item_at {A} (xs ∷ xss) ys zero j k e d h low less is = grind (arith, get_or, append_assoc, get_or_append_left)
 item_at {A} (xs ∷ xss) ys (suc i) j k e d h low less is =
     ap (λ zs. get_or zs k d) (append_assoc xs (joined xss) ys) ∙ get_or-append_right xs (joined xss ++ ys) 256 k d h.0 (omega (arith, is))
     ∙ item_at xss ys i j (k - 256) e d h.1 (omega (arith, low)) less (omega (arith, is))
@@ -39,5 +36,4 @@ closed xss yss xs e = append-nil (joined yss) ∙ ap joined e ∙ joined_one xss
 
 pub chunks_closed : {A : Type 0} (xss yss : List (List A)) (xs : List A) → yss ≡ xss ++ xs ∷ [] → length xs ≡ 256 → length xss < 1125899906842624 → AreChunks xss xs
     → AreChunks yss []
-chunks_closed xss yss xs e long few h =
-    record { full = rw e (full_one xss xs h.full long); few = omega (arith, length-append xss (xs ∷ []), ap length e, few); short = omega arith }
+chunks_closed xss yss xs e long few h = grind (arith, full_one, length-append)

@@ -12,17 +12,14 @@ use Rattle.value_table.specs.Heaps.{AreSame}
 -- ---- one step of the way down
 
 way_some : (o : Option ℕ) (here next : ℕ) → next ≡ way_down o here → next < here → o ≡ Some next
-way_some (Some w) here next e less = ap Some (omega arith)
-way_some None here next e less = absurd (omega arith)
+way_some o here next e less = grind arith
 
 word_of : (same : List ℕ) (here next d : ℕ) → slice_get same here ≡ Some next → here < length same → get_or same here d ≡ next
 word_of same here next d e inside = let is = slice_get-get_or same here d inside in cc
 
 way_is : (same : List ℕ) (place further d : ℕ) → LeadDown same → place < length same → further ≡ way_down (slice_get same place) place
     → get_or same place d ≡ further
-way_is same place further d down inside e =
-    let is : further ≡ min (get_or same place d) place = e ∙ ap (λ (o : Option ℕ). way_down o place) (slice_get-get_or same place d inside) in
-    omega (arith, down place d inside, is)
+way_is same place further d down inside e = grind (arith, min, get_or, slice_get-get_or)
 
 module _ (old now : List ℕ) (place here next further : ℕ) (so_far : Shortens old now place) (low : here ≤ place) (is : next ≡ way_down (slice_get now here) here) (less : next < here) (beyond : further ≡ way_down (slice_get now next) next) where
   word_is : slice_get now here ≡ Some next
@@ -44,12 +41,7 @@ module _ (old now : List ℕ) (place here next further : ℕ) (so_far : Shortens
   new_word d = get_or-set_same now here further d inside
 
   down_more : LeadDown (set now here further)
-  down_more i d within =
-      let long = length-set now here further in
-      elim (cases_eq i here) [
-        | inl same ↦ subst (λ (j : ℕ). get_or (set now here further) j d ≤ j) (sym same) (let word = new_word d in let n = next_is d in let under = so_far.down next d (let h = inside in omega arith) in omega arith)
-        | inr other ↦ (let word = other_word i d other in let under = so_far.down i d (omega arith) in omega arith)
-      ]
+  down_more i d within = grind (arith, length-set, cases_eq, get_or, set, new_word, next_is, inside, other_word)
 
   -- what is the same along the new words is so along those before
   same_before : (vs : List Value) → AreSame vs (set now here further) → AreSame vs now
@@ -83,27 +75,14 @@ module _ (old now : List ℕ) (place here next further : ℕ) (so_far : Shortens
 
 -- the way ends where it does not go further down
 pub ends_at : (same : List ℕ) (here : ℕ) → LeadDown same → here ≤ way_down (slice_get same here) here → IsRoot same here
-ends_at same here down last d inside = way_is same here here d down inside (let most = way_most (slice_get same here) here in omega arith)
-  where
-    way_most : (o : Option ℕ) (place : ℕ) → way_down o place ≤ place
-    way_most (Some w) place = omega arith
-    way_most None place = omega arith
+ends_at same here down last d inside = grind (arith, way_is, inside, slice_get)
 
 -- ---- two classes made one
 
 -- a root points at another place
 module _ (old : List ℕ) (root target : ℕ) (down : LeadDown old) (is : IsRoot old root) where
   pub pointed_stay : ClassesStay old (set old root target)
-  pointed_stay vs s = record {
-    long = let long = length-set old root target in let most = s.long in omega arith;
-    below = down;
-    equal = λ i d within.
-        let long = length-set old root target in
-        elim (cases_eq i root) [
-          | inl same ↦ ap (λ (j : ℕ). slice_get vs (get_or old j d)) same ∙ ap (slice_get vs) (is d (omega arith)) ∙ ap (slice_get vs) (sym same)
-          | inr other ↦ ap (slice_get vs) (sym (get_or-set_other old root i target d other)) ∙ s.equal i d (omega arith)
-        ];
-  }
+  pointed_stay vs s = grind (arith, length-set, cases_eq, slice_get, get_or, get_or-set_other)
 
   pub pointed_one : root < length old → AreOneClass (set old root target) target root
   pointed_one inside vs s =
@@ -132,8 +111,7 @@ unites_by false old a b e down root =
     record { stay = pointed_stay old a b down is; one = λ inside vs s. sym (pointed_one old a b down is (omega arith) vs s); others = λ i d above. get_or-set_other old a i b d (λ same. omega arith) }
 
 pub unites : (old : List ℕ) (a b : ℕ) → LeadDown old → IsRoot old (max a b) → Unites old (united old a b) a b
-unites old a b down root =
-    subst (λ (less : Bool). Unites old (if less then set old b a else set old a b) a b) refl (unites_by (nat_lt a b) old a b refl down root)
+unites old a b down root = grind (arith, set, unites_by)
 
 -- ---- parts that were compared so far
 
@@ -153,18 +131,10 @@ pub record BothFound (old now : List ℕ) (a b x y : ℕ) : Type 0 where
   pub root : IsRoot now (max x y)
 
 larger_root : (same : List ℕ) (x y : ℕ) → IsRoot same x → IsRoot same y → IsRoot same (max x y)
-larger_root same x y left right =
-    elim (cases_lt x y) [
-      | inl less ↦ (let larger : y ≡ max x y = omega arith in subst (IsRoot same) larger right)
-      | inr more ↦ (let larger : x ≡ max x y = omega arith in subst (IsRoot same) larger left)
-    ]
+larger_root same x y left right = grind arith
 
 pub both_found : (old middle now : List ℕ) (a b x y : ℕ) → Finds old middle a x → Finds middle now b y → BothFound old now a b x y
-both_found old middle now a b x y first second = record {
-  stay = λ vs s. first.shorter.stay vs (second.shorter.stay vs s);
-  others = λ i d above behind. second.shorter.others i d behind ∙ first.shorter.others i d above;
-  root = larger_root now x y (second.shorter.roots x first.ends) second.ends;
-}
+both_found old middle now a b x y first second = grind arith
 
 -- a root stays one where its word does
 pub root_stays : (old new : List ℕ) (i : ℕ) → length new ≡ length old → ((d : ℕ) → get_or new i d ≡ get_or old i d) → IsRoot old i → IsRoot new i
@@ -172,13 +142,4 @@ root_stays old new i long same root d inside = same d ∙ root d (omega arith)
 
 -- words that are put behind others leave the classes
 pub words_before : (same more all : List ℕ) → all ≡ same ++ more → ClassesStay same all
-words_before same more all is vs s =
-    let long = length-append same more in
-    let whole = ap length is in
-    let word : (i d : ℕ) → i < length same → get_or all i d ≡ get_or same i d = λ i d inside. ap (λ (words : List ℕ). get_or words i d) is
-    ∙ get_or_append_left same more d i inside in
-    record {
-      long = let most = s.long in omega arith;
-      below = λ i d inside. subst (λ (w : ℕ). w ≤ i) (word i d inside) (s.below i d (omega arith));
-      equal = λ i d inside. ap (slice_get vs) (sym (word i d inside)) ∙ s.equal i d (omega arith);
-    }
+words_before same more all is vs s = grind (arith, length-append, get_or, inside, get_or_append_left, slice_get)

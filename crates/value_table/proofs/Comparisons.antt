@@ -62,6 +62,4 @@ word_added vs same more n h e l is =
 -- a map has a text as a key where the key has a place
 pub key_member : (x m : Value) (key : List ℕ) (o : Option ℕ) → x ≡ kind.text key → Some o ≡ option_map (place_of_key key) (entries_part m)
     → Some (is_some o) ≡ member x m
-key_member x (kind.map es) key o e f =
-    ap (λ p. Some (is_some p)) (same_Some _ _ f) ∙ ap (λ b. Some b) (sym (has_key_place key es)) ∙ ap (λ v. member v (kind.map es)) (sym e)
-key_member x _ key o e f = absurd (cc)
+key_member x m key o e f = grind (arith, same_Some, has_key_place)

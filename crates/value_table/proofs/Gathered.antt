@@ -16,23 +16,15 @@ use Rattle.value_table.specs.declared.content.Content.TheVariants as cell
 use Rattle.value_table.specs.declared.cell.Cell.{Cell}
 use Rattle.value_table.specs.declared.measure.Measure.{Measure}
 use Rattle.value_table.specs.declared.backings.Backings.{Backings}
-use Rattle.value_table.proofs.Listed.{Made, items_length, items_more, push_depth}
+use Rattle.value_store.proofs.Trees.{push_depth}
+use Rattle.value_table.proofs.Listed.{Made, items_length, items_more}
 use Rattle.value_table.proofs.Mapped.{depth_one}
 use Rattle.value_table.proofs.TextLengths.{push_long, put_long}
 
 -- the measure of a list with one more item
 pub list_measured : (bs : Backings) (vs : List Value) (rs : List ℕ) (x n : ℕ) (m m' : Measure) (xc : Cell) → length rs ≡ n → IsMeasure (length vs) (kind.list (items_at vs rs)) m → Found bs vs x xc
     → m'.depth ≡ max m.depth (xc.depth + 1) → m'.json ≡ saturated (m.json + commas n 1 + xc.json) → IsMeasure (length vs) (kind.list (items_at vs (rs ++ x ∷ []))) m'
-list_measured bs vs rs x n m m' xc count h fx deep long =
-    let more = items_more vs rs x in
-    let xd : xc.depth ≡ depth_of (value_in vs x) = fx.depth ∙ ap depth_of (sym fx.is) in
-    let xj : xc.json ≡ json_length (value_in vs x) = fx.json ∙ ap json_length (sym fx.is) in
-    let text = push_long (items_at vs rs) (value_in vs x) n (items_length vs rs ∙ count) in
-    record {
-      depth = rw more (omega (arith, deep, xd, h.depth, push_depth (items_at vs rs) (value_in vs x)));
-      shallow = omega (arith, deep, h.shallow, fx.shallow, fx.inside);
-      json = rw more (omega (arith, long, h.json, xj, text));
-    }
+list_measured bs vs rs x n m m' xc count h fx deep long = grind (arith, items_more, push_long, items_length, push_depth)
 
 with_last : {A : Type 0} (x : A) (xs : List A) → with_one (length xs) x xs ≡ xs ++ x ∷ []
 with_last x [] = refl
@@ -57,35 +49,8 @@ map_measured bs bytes vs ks rs k x n kj m m' xc kc rc h fx key deep long =
 -- the cells of wholes
 pub list_gathered : (cs : Backings) (vs : List Value) (xs rs : List ℕ) (b : ℕ) (m : Measure) → xs ≡ rs → Holds cs.lists b (length xs) xs → AreBelow (length vs) rs → IsMeasure (length vs) (kind.list (items_at vs rs)) m → IsOrdered (kind.list (items_at vs rs))
     → Made cs vs (record { content = cell.List b (length rs); depth = m.depth; json = m.json }) (Some (kind.list (items_at vs rs)))
-list_gathered cs vs xs rs b m all held below measure ordered =
-    let h = subst (λ (ys : List ℕ). Holds cs.lists b (length ys) ys) all held in
-    record {
-      cell = record {
-        content = record { inside = h.inside; long = omega (arith, h.long); below = subst (AreBelow (length vs)) (sym h.items) below };
-        depth = rw h.items measure.depth;
-        shallow = measure.shallow;
-        json = rw h.items measure.json;
-        ordered = rw h.items ordered;
-      };
-      value = ap (λ xs. Some (kind.list (items_at vs xs))) (sym h.items);
-    }
+list_gathered cs vs xs rs b m all held below measure ordered = grind arith
 
 pub map_gathered : (bs cs : Backings) (vs : List Value) (ks : List Part) (xs rs : List ℕ) (row b : ℕ) (m : Measure) → cs.bytes ≡ bs.bytes → length ks ≡ length rs → xs ≡ rs → HoldsKeys cs.keys row (length ks) ks → Holds cs.lists b (length xs) xs → AreTexts bs.bytes ks → AreBelow (length vs) rs
     → IsMeasure (length vs) (kind.map (entries_at bs.bytes vs ks rs)) m → IsOrdered (kind.map (entries_at bs.bytes vs ks rs)) → Made cs vs (record { content = cell.Map row b (length rs); depth = m.depth; json = m.json }) (Some (kind.map (entries_at bs.bytes vs ks rs)))
-map_gathered bs cs vs ks xs rs row b m same pairs all keys held texts below measure ordered =
-    let hk = subst (λ (n : ℕ). HoldsKeys cs.keys row n ks) pairs keys in
-    let hr = subst (λ (ys : List ℕ). Holds cs.lists b (length ys) ys) all held in
-    let here : entries_at cs.bytes vs (keys_at cs.keys row (length rs)) (refs_at cs.lists b (length rs)) ≡ entries_at bs.bytes vs ks rs = rw (same, hk.are, hr.items) refl in
-    record {
-      cell = record {
-        content = (
-          record { inside = hr.inside; long = omega (arith, hr.long); below = subst (AreBelow (length vs)) (sym hr.items) below },
-          record { inside = omega (arith, hk.inside); texts = rw (same, hk.are) texts },
-        );
-        depth = rw here measure.depth;
-        shallow = measure.shallow;
-        json = rw here measure.json;
-        ordered = rw here ordered;
-      };
-      value = ap (λ es. Some (kind.map es)) (sym here);
-    }
+map_gathered bs cs vs ks xs rs row b m same pairs all keys held texts below measure ordered = grind arith

@@ -1,6 +1,7 @@
 -- Documents become values one by one.
 use Rattle.std.proofs.Common.{◌≡◌, ℕ, false, List, [], ◌∷◌, ◌++◌, length, refl, sym, ap, ap₂, ◌∙◌, arith, length-append, append_assoc, append-nil, subst, Result, Ok, Err}
 use Rattle.std.specs.Prelude.{IfOk}
+use Rattle.std.proofs.lemmas.Bool.{or_parts}
 use Rattle.std.proofs.lemmas.List.{map-append}
 use Rattle.std.specs.declared.alloc.AllocError.{AllocError}
 use Rattle.serde_json.specs.Data as json
@@ -8,14 +9,13 @@ use Rattle.value_store.specs.Value.{Value, Items, no_items, item, items_push, it
 use Rattle.value_store.specs.Keys.{AreItemsOrdered, AreEntriesOrdered}
 use Rattle.value_store.specs.Roots.{has_other, items_have_other, members_have_other}
 use Rattle.value_store.specs.Plain.{plain_value, plain_items, plain_entries}
-use Rattle.value_store.proofs.Trees.{second_no}
 use Rattle.value_table.specs.Meaning.{part_of, value_in, items_at, entries_at}
 use Rattle.value_table.specs.Heaps.{Adds, IsText, AreTexts, AreBelow, Extends}
 use Rattle.value_table.specs.Heads.{texts_of, values_at, entries_of}
 use Rattle.value_table.specs.declared.part.Part.{Part}
 use Rattle.value_table.specs.declared.backings.Backings.{Backings}
 use Rattle.value_table.specs.Growing.{HasGrown, Stands}
-use Rattle.value_table.proofs.Growth.{value_stable, items_stable, text_kept, texts_kept}
+use Rattle.value_table.proofs.Growth.{value_stable, mapped_stable, items_stable, text_kept, texts_kept}
 use Rattle.value_table.proofs.Listed.{below_le, below_append, items_more}
 use Rattle.value_table.proofs.Heads.{entries_built}
 use Rattle.value_table.proofs.Named.{place_added}
@@ -24,19 +24,16 @@ pub grown_more : (us vs ws : List Value) → HasGrown us vs → HasGrown vs ws �
 grown_more us vs ws a b = (a.0 ++ b.0, b.1 ∙ ap (λ xs. xs ++ b.0) a.1 ∙ append_assoc us a.0 b.0)
 
 pub grown_added : (vs ws : List Value) (v : Value) (r : Result ℕ AllocError) → Adds vs v r ws → HasGrown vs ws
-grown_added vs ws v (Ok i) a = (v ∷ [], a.1)
-grown_added vs ws v (Err e) a = ([], a ∙ sym (append-nil vs))
+grown_added vs ws v r a = grind (arith, append-nil)
 
 pub stands_added : (vs ws : List Value) (v : Value) (i : ℕ) → Adds vs v (Ok i) ws → Stands ws i v
 stands_added vs ws v i a = let p = place_added vs ws v i a in record { inside = p.0; is = p.1 }
 
 pub stands_if : (vs ws : List Value) (v : Value) (r : Result ℕ AllocError) → Adds vs v r ws → IfOk r (λ i. Stands ws i v)
-stands_if vs ws v (Ok i) a = stands_added vs ws v i a
-stands_if vs ws v (Err e) a = tt
+stands_if vs ws v r a = grind (arith, stands_added)
 
 pub stands_on : (vs ws : List Value) (r : ℕ) (v : Value) → HasGrown vs ws → Stands vs r v → Stands ws r v
-stands_on vs ws r v g s =
-    record { inside = omega (arith, s.inside, length-append vs g.0, ap length g.1); is = ap (λ xs. value_in xs r) g.1 ∙ value_stable vs g.0 r s.inside ∙ s.is }
+stands_on vs ws r v g s = grind (arith, length-append, value_stable)
 
 -- ---- lists
 
@@ -66,7 +63,7 @@ items_step all us vs places places' r d rest e up s g =
       is = ap (λ ps. items_join (items_at vs ps) (plain_items rest)) e ∙ ap (λ is. items_join is (plain_items rest)) more
           ∙ join_pushed (items_at us places) (plain_value d) (plain_items rest) ∙ g.is;
       below = subst (AreBelow (length vs)) (sym e) (below_append (length vs) places (r ∷ []) (below_le (length us) (length vs) places (omega (arith, l, n)) g.below) (s.inside, tt));
-      whole = second_no (has_other d) _ g.whole;
+      whole = (or_parts (has_other d) _ g.whole).1;
       ordered = g.ordered.1;
     }
 
@@ -91,12 +88,7 @@ texts_append bytes (j ∷ ks) k h t = (h.0, texts_append bytes ks k h.1 t)
 pub keys_step : (bs cs : Backings) (keys keys' : List (List ℕ)) (parts parts' : List Part) (k : Part) (key : List ℕ) → keys' ≡ keys ++ key ∷ []
     → parts' ≡ parts ++ k ∷ [] → Extends bs cs → IsText cs.bytes k → part_of cs.bytes k ≡ key → KeysStand keys bs.bytes parts
     → KeysStand keys' cs.bytes parts'
-keys_step bs cs keys keys' parts parts' k key d e up t is g =
-    let same : texts_of cs.bytes parts ≡ texts_of bs.bytes parts = ap (λ xs. texts_of xs parts) up.bytes.1 ∙ texts_same bs.bytes up.bytes.0 parts g.texts in
-    record {
-      are = ap (texts_of cs.bytes) e ∙ map-append (part_of cs.bytes) parts (k ∷ []) ∙ ap₂ (λ ts x. ts ++ x ∷ []) (same ∙ g.are) is ∙ sym d;
-      texts = subst (AreTexts cs.bytes) (sym e) (texts_append cs.bytes parts k (subst (λ xs. AreTexts xs parts) (sym up.bytes.1) (texts_kept bs.bytes up.bytes.0 parts g.texts)) t);
-    }
+keys_step bs cs keys keys' parts parts' k key d e up t is g = grind (arith, texts_same, map-append, ap₂, texts_append, texts_kept)
 
 -- the entries with these keys
 pub entries_stand : (bytes : List ℕ) (us vs : List Value) (keys all : List (List ℕ)) (parts : List Part) (places : List ℕ) → keys ≡ all
@@ -114,15 +106,11 @@ pub record MembersStand (all : Entries) (vs : List Value) (keys : List (List ℕ
   pub whole : members_have_other rest ≡ false
   pub ordered : AreEntriesOrdered (plain_entries rest)
 
-values_on : (us more : List Value) (rs : List ℕ) → AreBelow (length us) rs → values_at (us ++ more) rs ≡ values_at us rs
-values_on us more [] b = refl
-values_on us more (r ∷ rs) b = ap₂ (λ v vs. v ∷ vs) (value_stable us more r b.0) (values_on us more rs b.1)
-
 pub members_step : (all : Entries) (us vs : List Value) (keys keys' : List (List ℕ)) (places places' : List ℕ) (r : ℕ) (key : List ℕ) (d : json.Data) (rest : json.Members) → keys' ≡ keys ++ key ∷ [] → places' ≡ places ++ r ∷ [] → HasGrown us vs → Stands vs r (plain_value d)
     → MembersStand all us keys places (json.member key d rest) → MembersStand all vs keys' places' rest
 members_step all us vs keys keys' places places' r key d rest k e up s m =
     let left = values_of (plain_entries rest) in
-    let kept : values_at vs places ≡ values_at us places = ap (λ ws. values_at ws places) up.1 ∙ values_on us up.0 places m.below in
+    let kept : values_at vs places ≡ values_at us places = ap (λ ws. values_at ws places) up.1 ∙ mapped_stable (λ v. v) us up.0 places m.below in
     let more : values_at vs places' ≡ values_at us places ++ plain_value d ∷ [] = ap (values_at vs) e ∙ map-append (value_in vs) places (r ∷ [])
     ∙ ap₂ (λ ws v. ws ++ v ∷ []) kept s.is in
     let l = length-append us up.0 in
@@ -134,7 +122,7 @@ members_step all us vs keys keys' places places' r key d rest k e up s m =
       values_are = ap (λ ws. ws ++ left) more ∙ append_assoc (values_at us places) (plain_value d ∷ []) left ∙ m.values_are;
       pairs = omega (arith, one, two, m.pairs);
       below = subst (AreBelow (length vs)) (sym e) (below_append (length vs) places (r ∷ []) (below_le (length us) (length vs) places (omega (arith, l, n)) m.below) (s.inside, tt));
-      whole = second_no (has_other d) _ m.whole;
+      whole = (or_parts (has_other d) _ m.whole).1;
       ordered = m.ordered.1;
     }
 
@@ -144,5 +132,4 @@ entries_back (entry k v es) = ap (entry k v) (entries_back es)
 
 pub members_end : (all : Entries) (vs : List Value) (keys : List (List ℕ)) (places : List ℕ) → MembersStand all vs keys places json.no_members
     → entries_of keys (values_at vs places) ≡ all
-members_end all vs keys places m =
-    ap₂ entries_of (sym (append-nil keys) ∙ m.keys_are) (sym (append-nil (values_at vs places)) ∙ m.values_are) ∙ entries_back all
+members_end all vs keys places m = grind (arith, ap₂, append-nil, entries_back)

@@ -1,5 +1,5 @@
 -- Values stay when backings grow and when values come behind them.
-use Rattle.std.proofs.Common.{◌≡◌, ℕ, zero, suc, ◌+◌, ◌-◌, ◌<◌, ◌≤◌, List, [], ◌∷◌, ◌++◌, length, get_or, take, drop, refl, sym, ap, ◌∙◌, arith, length-append, append_assoc, append-nil, subst, zero-add, length-drop, Some, slice_get}
+use Rattle.std.proofs.Common.{◌≡◌, ℕ, zero, suc, ◌+◌, ◌-◌, ◌<◌, ◌≤◌, List, [], ◌∷◌, ◌++◌, length, get_or, take, drop, map, refl, sym, ap, ap₂, ◌∙◌, arith, length-append, append_assoc, append-nil, subst, zero-add, length-drop, Some, slice_get}
 use Rattle.std.specs.Prelude.{slice_range}
 use Rattle.std.proofs.lemmas.List.{take-append-le, drop-append-le, get_or_append_left}
 use Rattle.std.proofs.Math.Seq.{get_or-append_seam}
@@ -18,13 +18,10 @@ use Rattle.value_table.specs.declared.backings.Backings.{Backings}
 -- ---- parts of what has grown
 
 pub range_kept : {A : Type 0} (xs rest : List A) (a b : ℕ) → a ≤ b → b ≤ length xs → slice_range (xs ++ rest) a b ≡ slice_range xs a b
-range_kept {A} xs rest a b le lt =
-    ap (take (b - a)) (drop-append-le a xs rest (omega arith)) ∙ take-append-le (b - a) (drop a xs) rest (omega (arith, length-drop a xs))
+range_kept xs rest a b le lt = grind (arith, take, drop-append-le, take-append-le, drop, length-drop)
 
 pub text_kept : (bytes rest : List ℕ) (p : Part) → IsText bytes p → (part_of (bytes ++ rest) p ≡ part_of bytes p) × IsText (bytes ++ rest) p
-text_kept bytes rest p h =
-    let e = range_kept bytes rest p.from p.to h.0 h.1 in
-    (e, (h.0, omega (arith, length-append bytes rest, h.1), rw e h.2, rw e h.3))
+text_kept bytes rest p h = grind (arith, range_kept, length-append)
 
 pub texts_kept : (bytes rest : List ℕ) (ks : List Part) → AreTexts bytes ks → AreTexts (bytes ++ rest) ks
 texts_kept bytes rest [] h = tt
@@ -48,10 +45,7 @@ keys_kept : (bs cs : Backings) (k n : ℕ) → Extends bs cs → AreKeys bs.byte
 keys_kept bs cs k n e h = let m = e.keys in rw m.1 (range_kept bs.keys m.0 k (k + n) (omega arith) h.inside)
 
 keys_stay : (bs cs : Backings) (k n : ℕ) → Extends bs cs → AreKeys bs.bytes bs.keys k n → AreKeys cs.bytes cs.keys k n
-keys_stay bs cs k n e h =
-    let m = e.keys in
-    let long : k + n ≤ length cs.keys = rw m.1 (omega (arith, h.inside, length-append bs.keys m.0)) in
-    record { inside = long; texts = rw (keys_kept bs cs k n e h, e.bytes.1) (texts_kept bs.bytes e.bytes.0 (keys_at bs.keys k n) h.texts) }
+keys_stay bs cs k n e h = grind (arith, length-append, keys_kept, texts_kept)
 
 pub meaning_kept : (bs cs : Backings) (i : ℕ) (vs : List Value) (c : Content) → Extends bs cs → IsContent bs i c → meaning cs vs c ≡ meaning bs vs c
 meaning_kept bs cs i vs (cell.Text p) e h = rw e.bytes.1 (ap kind.text (text_kept bs.bytes e.bytes.0 p h).0)
@@ -68,9 +62,7 @@ content_kept bs cs i (cell.Map k b n) e h = (range_stays bs cs i b n e h.0, keys
 content_kept bs cs i _ e h = tt
 
 cell_kept : (bs cs : Backings) (vs : List Value) (c : Cell) → Extends bs cs → IsCell bs vs c → IsCell cs vs c
-cell_kept bs cs vs c e h =
-    let m = meaning_kept bs cs (length vs) vs c.content e h.content in
-    record { content = content_kept bs cs (length vs) c.content e h.content; depth = h.depth ∙ ap depth_of (sym m); shallow = h.shallow; json = h.json ∙ ap json_length (sym m); ordered = rw m h.ordered }
+cell_kept bs cs vs c e h = grind (arith, meaning_kept, content_kept)
 
 -- every old value stays when backings grow
 pub grown_kept : (bs cs : Backings) (vs : List Value) (xs : List Cell) → Extends bs cs → AreCells bs vs xs → grown cs vs xs ≡ grown bs vs xs
@@ -106,6 +98,12 @@ count_values bs xs = length_grown bs [] xs ∙ zero-add (length xs)
 pub value_stable : (vs ws : List Value) (r : ℕ) → r < length vs → value_in (vs ++ ws) r ≡ value_in vs r
 value_stable vs ws r h = get_or_append_left vs ws kind.null r h
 
+-- what is told of the values at places below is told of them still
+pub mapped_stable : {A : Type 0} (f : Value → A) (vs ws : List Value) (rs : List ℕ) → AreBelow (length vs) rs
+    → map (λ r. f (value_in (vs ++ ws) r)) rs ≡ map (λ r. f (value_in vs r)) rs
+mapped_stable f vs ws [] h = refl
+mapped_stable f vs ws (r ∷ rs) h = ap₂ (λ x xs. x ∷ xs) (ap f (value_stable vs ws r h.0)) (mapped_stable f vs ws rs h.1)
+
 pub items_stable : (vs ws : List Value) (rs : List ℕ) → AreBelow (length vs) rs → items_at (vs ++ ws) rs ≡ items_at vs rs
 items_stable vs ws [] h = refl
 items_stable vs ws (r ∷ rs) h = rw (value_stable vs ws r h.0, items_stable vs ws rs h.1)
@@ -116,9 +114,7 @@ entries_stable bytes vs ws (k ∷ ks) (r ∷ rs) h = rw (value_stable vs ws r h.
 entries_stable bytes vs ws _ _ h = refl
 
 pub meaning_stable : (bs : Backings) (vs ws : List Value) (c : Content) → IsContent bs (length vs) c → meaning bs (vs ++ ws) c ≡ meaning bs vs c
-meaning_stable bs vs ws (cell.List b n) h = ap kind.list (items_stable vs ws (refs_at bs.lists b n) h.below)
-meaning_stable bs vs ws (cell.Map k b n) h = ap kind.map (entries_stable bs.bytes vs ws (keys_at bs.keys k n) (refs_at bs.lists b n) h.0.below)
-meaning_stable bs vs ws _ h = refl
+meaning_stable bs vs ws c h = grind (arith, items_stable, entries_stable)
 
 pub grows : (bs : Backings) (vs : List Value) (xs : List Cell) → (more : List Value) × (grown bs vs xs ≡ vs ++ more)
 grows bs vs [] = ([], sym (append-nil vs))

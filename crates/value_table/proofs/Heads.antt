@@ -1,7 +1,7 @@
 -- A value's head and the values of its parts are its own.
 use Rattle.std.proofs.Common.{◌≡◌, ◌≤◌, ℕ, ◌+◌, ◌-◌, List, [], ◌∷◌, length, take, drop, refl, sym, ap, ap₂, ◌∙◌, subst, arith, length-drop, length-take}
 use Rattle.std.specs.Prelude.{⊤, slice_index_or, slice_range}
-use Rattle.std.proofs.lemmas.List.{length-map}
+use Rattle.std.proofs.lemmas.List.{length-map, nil_from_length}
 use Rattle.value_store.specs.Value as kind
 use Rattle.value_store.specs.Value.{Value, Items, Entries, items_of, list_of, keys_of, values_of}
 use Rattle.value_table.specs.Meaning.{part_of, value_in, items_at, entries_at, refs_at, keys_at, meaning}
@@ -24,9 +24,7 @@ entries_built bytes vs (k ∷ ks) (r ∷ rs) = ap (kind.entry (part_of bytes k) 
 entries_built bytes vs _ _ = refl
 
 pub meaning_built : (bs : Backings) (vs : List Value) (c : Content) → meaning bs vs c ≡ built (head bs c) (values_at vs (parts bs c))
-meaning_built bs vs (cell.List b n) = ap kind.list (items_built vs (refs_at bs.lists b n))
-meaning_built bs vs (cell.Map k b n) = ap kind.map (entries_built bs.bytes vs (keys_at bs.keys k n) (refs_at bs.lists b n))
-meaning_built bs vs _ = refl
+meaning_built bs vs c = grind (arith, items_built, entries_built)
 
 -- ---- a head says how many parts there are
 
@@ -47,16 +45,10 @@ pub taken_long : {A : Type 0} (xs : List A) (n : ℕ) → n ≤ length xs → le
 taken_long xs n h = length-take n xs ∙ omega arith
 
 pub fits : (bs : Backings) (i : ℕ) (c : Content) → IsContent bs i c → Fits (head bs c) (length (parts bs c))
-fits bs i (cell.List b n) h = sym (taken_long (slice_index_or bs.lists b []) n h.long)
-fits bs i (cell.Map k b n) h =
-    length-map (keys_at bs.keys k n) (part_of bs.bytes) ∙ range_long bs.keys k n h.1.inside ∙ sym (taken_long (slice_index_or bs.lists b []) n h.0.long)
-fits bs i _ h = (tt, refl)
+fits bs i c h = grind (arith, taken_long, length-map, range_long)
 
 fits_long : (h k : Head) (m n : ℕ) → Fits h m → Fits k n → h ≡ k → m ≡ n
-fits_long (simple v) (simple w) m n f g e = f.1 ∙ sym g.1
-fits_long (items o) (items p) m n f g e = let k : o ≡ p = cc in sym f ∙ k ∙ g
-fits_long (entries ks) (entries ls) m n f g e = let k : ks ≡ ls = cc in sym f ∙ ap length k ∙ g
-fits_long _ _ m n f g e = absurd (cc)
+fits_long h k m n f g e = grind arith
 
 pub parts_long : (bs : Backings) (i j : ℕ) (c d : Content) → IsContent bs i c → IsContent bs j d → head bs c ≡ head bs d
     → length (parts bs c) ≡ length (parts bs d)
@@ -84,12 +76,8 @@ same_items is js e = cc
 same_entries : (es fs : Entries) → kind.map es ≡ kind.map fs → es ≡ fs
 same_entries es fs e = cc
 
-none : (vs : List Value) → length vs ≡ 0 → vs ≡ []
-none [] e = refl
-none (v ∷ vs) e = absurd (omega arith)
-
 apart : (h k : Head) (vs ws : List Value) → Fits h (length vs) → Fits k (length ws) → built h vs ≡ built k ws → (h ≡ k) × (vs ≡ ws)
-apart (simple v) (simple w) vs ws f g e = (ap simple e, none vs f.1 ∙ sym (none ws g.1))
+apart (simple v) (simple w) vs ws f g e = (ap simple e, nil_from_length vs f.1 ∙ sym (nil_from_length ws g.1))
 apart (items m) (items n) vs ws f g e =
     let is = same_items (items_of vs) (items_of ws) e in
     let same : vs ≡ ws = sym (list_back vs) ∙ ap list_of is ∙ list_back ws in
@@ -112,10 +100,7 @@ pub record Alike (bs : Backings) (vs : List Value) (c d : Content) : Type 0 wher
 
 pub meaning_apart : (bs : Backings) (vs : List Value) (i j : ℕ) (c d : Content) → IsContent bs i c → IsContent bs j d → meaning bs vs c ≡ meaning bs vs d
     → Alike bs vs c d
-meaning_apart bs vs i j c d f g e =
-    let fit = λ (k : ℕ) (a : Content) (s : IsContent bs k a). subst (Fits (head bs a)) (sym (length-map (parts bs a) (value_in vs))) (fits bs k a s) in
-    let both = apart (head bs c) (head bs d) (values_at vs (parts bs c)) (values_at vs (parts bs d)) (fit i c f) (fit j d g) (sym (meaning_built bs vs c) ∙ e ∙ meaning_built bs vs d) in
-    record { heads = both.0; values = both.1 }
+meaning_apart bs vs i j c d f g e = grind (arith, length-map, fits, apart, meaning_built)
 
 -- ---- the keys of a map
 

@@ -1,12 +1,12 @@
 -- What an index knows of items, and what a search passes by it.
-use Rattle.std.proofs.Common.{◌≡◌, ℕ, zero, suc, ◌+◌, ◌-◌, ◌<◌, ◌≤◌, min, List, [], ◌∷◌, ◌++◌, length, get_or, take, drop, set, Bool, true, false, cond, bytes_eq, Option, Some, None, slice_get, refl, sym, ap, ◌∙◌, subst, arith, true≢false, length-append, length-drop}
+use Rattle.std.proofs.Common.{◌≡◌, ℕ, zero, suc, ◌+◌, ◌<◌, ◌≤◌, min, List, [], ◌∷◌, ◌++◌, length, get_or, take, drop, set, Bool, true, false, cond, bytes_eq, Option, Some, None, slice_get, refl, sym, ap, ◌∙◌, subst, arith, true≢false, length-append}
 use Rattle.std.specs.Prelude.{if◌then◌else◌, option_map, is_some, nat_le, ◌||◌, slice_index_or}
 use Rattle.std.specs.BTreeMap.{get_by_text}
 use Rattle.std.specs.Map.{update}
 use Rattle.std.proofs.Math.Seq.{drop-nil}
 use Rattle.std.proofs.lemmas.Bool.{false_from_ne_true}
 use Rattle.std.proofs.lemmas.Bool.Decides.{nat_tests}
-use Rattle.std.proofs.lemmas.List.{take_more, take-append-le, map-append, get_or-take, length-take-le, take_all}
+use Rattle.std.proofs.lemmas.List.{take_more, take-append-le, map-append, get_or-take, length-take-le}
 use Rattle.std.proofs.lemmas.Option.{slice_get-get_or}
 use Rattle.std.proofs.lemmas.Slice.Eq.{bytes_eq-Decides as bytes_decides}
 use Rattle.value_store.specs.Value.{Value}
@@ -22,7 +22,7 @@ use Rattle.value_table.specs.Index.{looked_up_by, texts_at, IsIndex, Covers, IsI
 use Rattle.value_table.specs.declared.cell.Cell.{Cell}
 use Rattle.value_table.specs.declared.index.Index.{Index}
 use Rattle.value_table.specs.declared.backings.Backings.{Backings}
-use Rattle.value_table.proofs.Growth.{value_stable, found, count_values}
+use Rattle.value_table.proofs.Growth.{mapped_stable, found, count_values}
 use Rattle.value_table.proofs.Walks.{below_here}
 use Rattle.value_table.proofs.Listed.{below_le, below_append}
 use Rattle.value_table.proofs.Comparisons.{meanings_of}
@@ -38,10 +38,7 @@ place_if b n = if b then Some n else None
 
 push_step : (b c : Bool) (o : Option ℕ) (n : ℕ)
     → (if b then Some 0 else option_map suc (or_else o (place_if c n))) ≡ or_else (if b then Some 0 else option_map suc o) (place_if c (suc n))
-push_step true c o n = refl
-push_step false c (Some p) n = refl
-push_step false true None n = refl
-push_step false false None n = refl
+push_step b c o n = grind arith
 
 place_push : (t k : List ℕ) (ts : List (List ℕ)) → place_among t (ts ++ k ∷ []) ≡ or_else (place_among t ts) (place_if (bytes_eq k t) (length ts))
 place_push t k [] = refl
@@ -50,14 +47,11 @@ place_push t k (u ∷ ts) =
 
 -- one that stands there already
 none_more : (o : Option ℕ) (b : Bool) (n : ℕ) → (b ≡ true → is_some o ≡ true) → or_else o (place_if b n) ≡ o
-none_more None true n h = absurd (true≢false (sym (h refl)))
-none_more _ _ n h = refl
+none_more o b n h = grind arith
 
 -- and one that does not
 one_more : (o : Option ℕ) (b : Bool) (n : ℕ) → (b ≡ true → is_some o ≡ false) → cond b (Some n) o ≡ or_else o (place_if b n)
-one_more (Some p) true n h = absurd (true≢false (h refl))
-one_more None true n h = refl
-one_more _ _ n h = refl
+one_more o b n h = grind arith
 
 same_text : (k t : List ℕ) (ts : List (List ℕ)) (b : Bool) → is_some (place_among k ts) ≡ b → bytes_eq k t ≡ true → is_some (place_among t ts) ≡ b
 same_text k t ts b e same = ap (λ u. is_some (place_among u ts)) (sym ((bytes_decides k t).0 same)) ∙ e
@@ -67,32 +61,18 @@ counted ts k m n e f = let l = length-append ts (k ∷ []) in omega (arith, e, f
 
 pub index_kept : (old new : Index) (ts : List (List ℕ)) (k : List ℕ) → IsIndex old ts → new.count ≡ old.count + 1 → new.places ≡ old.places
     → is_some (get_by_text old.places k) ≡ true → IsIndex new (ts ++ k ∷ [])
-index_kept old new ts k h n same there =
-    let here = ap is_some (sym (h.least k)) ∙ there in
-    record {
-      count = counted ts k old.count new.count h.count n;
-      least = λ t. ap (λ m. get_by_text m t) same ∙ h.least t
-          ∙ sym (place_push t k ts ∙ none_more (place_among t ts) (bytes_eq k t) (length ts) (same_text k t ts true here));
-    }
+index_kept old new ts k h n same there = grind (arith, counted, place_push, none_more, bytes_eq, same_text)
 
 pub index_more : (old new : Index) (ts : List (List ℕ)) (k : List ℕ) → IsIndex old ts → new.count ≡ old.count + 1
     → ((t : List ℕ) → get_by_text new.places t ≡ update bytes_eq (λ u. get_by_text old.places u) k (Some old.count) t)
     → is_some (get_by_text old.places k) ≡ false
     → IsIndex new (ts ++ k ∷ [])
-index_more old new ts k h n put none =
-    let here = ap is_some (sym (h.least k)) ∙ none in
-    record {
-      count = counted ts k old.count new.count h.count n;
-      least = λ t.
-          put t ∙ ap (λ o. cond (bytes_eq k t) (Some old.count) o) (h.least t) ∙ ap (λ c. cond (bytes_eq k t) (Some c) (place_among t ts)) h.count
-          ∙ one_more (place_among t ts) (bytes_eq k t) (length ts) (same_text k t ts false here) ∙ sym (place_push t k ts);
-    }
+index_more old new ts k h n put none = grind (arith, counted, bytes_eq, one_more, same_text, place_push)
 
 -- ---- items before the first one with the same text
 
 differs : (x v : Value) → bytes_eq (looked_up_by v) (looked_up_by x) ≡ false → equal x v ≡ false
-differs x v e =
-    false_from_ne_true (equal x v) (λ same. true≢false (sym ((bytes_decides (looked_up_by v) (looked_up_by x)).1 (ap looked_up_by (sym ((equal_decides x v).0 same)))) ∙ e))
+differs x v e = grind (arith, false_from_ne_true, true≢false, bytes_decides, equal_decides)
 
 abbrev pub start_of : Option ℕ → ℕ → ℕ
 start_of (Some p) n = min p n
@@ -101,9 +81,7 @@ start_of None n = n
 skip_step : (b : Bool) (vs : List Value) (x : Value) (r : ℕ) (rs : List ℕ) (o : Option ℕ) (n : ℕ) → (b ≡ false → equal x (value_in vs r) ≡ false)
     → has_item x (items_at vs rs) ≡ has_item x (items_at vs (drop (start_of o n) rs))
     → equal x (value_in vs r) || has_item x (items_at vs rs) ≡ has_item x (items_at vs (drop (start_of (if b then Some 0 else option_map suc o) (suc n)) (r ∷ rs)))
-skip_step true vs x r rs o n h e = let z : min 0 (suc n) ≡ 0 = omega arith in rw z refl
-skip_step false vs x r rs (Some p) n h e = let z : min (suc p) (suc n) ≡ suc (min p n) = omega arith in rw (z, h refl) e
-skip_step false vs x r rs None n h e = rw (h refl) e
+skip_step b vs x r rs o n h e = grind arith
 
 skips : (vs : List Value) (x : Value) (rs : List ℕ) (n k : ℕ) → n ≤ k
     → has_item x (items_at vs (take n rs)) ≡ has_item x (items_at vs (drop (start_of (place_among (looked_up_by x) (texts_at vs (take k rs))) n) (take n rs)))
@@ -133,20 +111,12 @@ covers_more vs rs old new d k h inside low n is more =
 
 -- an item of a backing
 pub item_at : (lists : List (List ℕ)) (i b n k d : ℕ) → IsRange lists i b n → k < n → (get_or (refs_at lists b n) k d ≡ get_or (slice_index_or lists b []) k d) × (get_or (slice_index_or lists b []) k d < i) × (k < length (slice_index_or lists b []))
-item_at lists i b n k d h l =
-    let all = slice_index_or lists b [] in
-    let same = get_or-take n all k d l in
-    let m = length-take-le n all h.long in
-    (same, subst (λ r. r < i) same (below_here i (take n all) k d h.below (omega arith)), omega arith)
+item_at lists i b n k d h l = grind (arith, get_or-take, length-take-le, below_here, take)
 
 pub ref_below : (lists : List (List ℕ)) (i b n k d : ℕ) → IsRange lists i b n → k < n → get_or (refs_at lists b n) k d < i
 ref_below lists i b n k d h l = below_here i (refs_at lists b n) k d h.below (omega (arith, length-take-le n (slice_index_or lists b []) h.long))
 
 -- ---- indexes stay when backings and values grow
-
-texts_kept : (vs ws : List Value) (rs : List ℕ) → AreBelow (length vs) rs → texts_at (vs ++ ws) rs ≡ texts_at vs rs
-texts_kept vs ws [] h = refl
-texts_kept vs ws (r ∷ rs) h = rw (value_stable vs ws r h.0, texts_kept vs ws rs h.1)
 
 indexed_kept : (bs cs : Backings) (vs ws : List Value) (x : Index) → Extends bs cs → IsIndexed bs vs x → IsIndexed cs (vs ++ ws) x
 indexed_kept bs cs vs ws x e h =
@@ -154,7 +124,7 @@ indexed_kept bs cs vs ws x e h =
     let old = get_or bs.lists x.backing [] in
     let longer = length-append vs ws in
     let t : take x.count (get_or cs.lists x.backing []) ≡ take x.count old = ap (take x.count) m.1 ∙ take-append-le x.count old m.0 h.covers.long in
-    let u = ap (texts_at (vs ++ ws)) t ∙ texts_kept vs ws (take x.count old) h.covers.below in
+    let u = ap (texts_at (vs ++ ws)) t ∙ mapped_stable looked_up_by vs ws (take x.count old) h.covers.below in
     record {
       inside = omega (arith, h.inside, e.lists);
       covers = record {
@@ -166,13 +136,7 @@ indexed_kept bs cs vs ws x e h =
 
 -- a new one
 pub new_indexed : (bs : Backings) (vs : List Value) (x : Index) (b : ℕ) → b < length bs.lists → x.backing ≡ b → IsIndex x [] → IsIndexed bs vs x
-new_indexed bs vs x b inside is h =
-    let n = h.count in
-    let t : take x.count (get_or bs.lists x.backing []) ≡ [] = ap (λ c. take c (get_or bs.lists x.backing [])) n in
-    record {
-      inside = omega (arith, is, inside);
-      covers = record { long = omega (arith, n); below = subst (AreBelow (length vs)) (sym t) tt; index = subst (λ rs. IsIndex x (texts_at vs rs)) (sym t) h };
-    }
+new_indexed bs vs x b inside is h = grind arith
 
 -- one with one more text
 pub entered : (bs : Backings) (vs : List Value) (old new : Index) (i b n : ℕ) (k : List ℕ) → IsIndexed bs vs old → IsRange bs.lists i b n → length vs ≡ i
@@ -181,7 +145,6 @@ pub entered : (bs : Backings) (vs : List Value) (old new : Index) (i b n : ℕ) 
     → IsIndexed bs vs new
 entered bs vs old new i b n k h range long at lt same more is put =
     let it = item_at bs.lists i b n old.count 0 range lt in
-    let low = it.1 in
     let c : Covers vs (get_or bs.lists b []) old = subst (λ j. Covers vs (get_or bs.lists j []) old) at h.covers in
     let d = covers_more vs (get_or bs.lists b []) old new 0 k c it.2 (omega arith) more (is ∙ ap (λ r. looked_up_by (value_in vs r)) it.0) put in
     let inside = range.inside in
@@ -200,10 +163,6 @@ pub below_drop : (i s : ℕ) (rs : List ℕ) → AreBelow i rs → AreBelow i (d
 below_drop i zero rs h = h
 below_drop i (suc s) [] h = tt
 below_drop i (suc s) (r ∷ rs) h = below_drop i s rs h.1
-
--- what is left of items
-pub rest_is : (s : ℕ) (rs : List ℕ) → take (length rs - s) (drop s rs) ≡ drop s rs
-rest_is s rs = let l = length-drop s rs in take_all (length rs - s) (drop s rs) (omega (arith, l))
 
 abbrev Each : Backings → List Value → List Index → Type 0
 Each bs vs xs = (i : ℕ) (x : Index) → slice_get xs i ≡ Some x → IsIndexed bs vs x

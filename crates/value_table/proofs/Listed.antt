@@ -8,6 +8,7 @@ use Rattle.value_store.specs.Keys.{IsOrdered}
 use Rattle.value_store.specs.Plain.{saturated}
 use Rattle.value_store.specs.Calls.{push_of, join_of}
 use Rattle.value_store.proofs.Keys.{push_ordered, join_ordered}
+use Rattle.value_store.proofs.Trees.{push_depth, join_depth}
 use Rattle.value_table.specs.Meaning.{value_in, items_at, refs_at, meaning}
 use Rattle.value_table.specs.Heaps.{AreBelow, IsRange, IsContent, IsCell, Found, Holds}
 use Rattle.value_table.specs.Lengths.{json_length, commas}
@@ -21,9 +22,6 @@ use Rattle.value_table.specs.declared.backings.Backings.{Backings}
 pub record Made (bs : Backings) (vs : List Value) (c : Cell) (due : Option Value) : Type 0 where
   pub cell : IsCell bs vs c
   pub value : due ≡ Some (meaning bs vs c.content)
-
-pub list_new : (cs : Backings) (vs : List Value) (b n : ℕ) (rs : List ℕ) → Holds cs.lists b n rs → IsCell cs vs (record { content = cell.List b 0; depth = 1; json = 2 })
-list_new cs vs b n rs h = record { content = record { inside = h.inside; long = omega arith; below = tt }; depth = refl; shallow = omega arith; json = refl; ordered = tt }
 
 pub items_length : (vs : List Value) (rs : List ℕ) → length (list_of (items_at vs rs)) ≡ length rs
 items_length vs [] = refl
@@ -45,14 +43,6 @@ items_both : (vs : List Value) (rs ss : List ℕ) → items_at vs (rs ++ ss) ≡
 items_both vs [] ss = refl
 items_both vs (r ∷ rs) ss = ap (item (value_in vs r)) (items_both vs rs ss)
 
-pub push_depth : (is : Items) (v : Value) → items_depth (items_push is v) ≡ max (items_depth is) (depth_of v)
-push_depth no_items v = omega arith
-push_depth (item w is) v = let e = push_depth is v in omega (arith, e)
-
-join_depth : (is js : Items) → items_depth (items_join is js) ≡ max (items_depth is) (items_depth js)
-join_depth no_items js = omega arith
-join_depth (item w is) js = let e = join_depth is js in omega (arith, e)
-
 pub if_made : (P : Value → Type 0) (o : Option Value) (v : Value) → o ≡ Some v → IfSome o P → P v
 if_made P o v e h = subst (λ (p : Option Value). IfSome p P) e h
 
@@ -67,24 +57,11 @@ pub record ListFound (bs : Backings) (vs : List Value) (l b n deep : ℕ) : Type
   pub count : length (list_of (items_at vs (refs_at bs.lists b n))) ≡ n
 
 pub list_found : (bs : Backings) (vs : List Value) (l b n : ℕ) (c : Cell) → Found bs vs l c → c.content ≡ cell.List b n → ListFound bs vs l b n c.depth
-list_found bs vs l b n c f e =
-    let m : meaning bs vs c.content ≡ kind.list (items_at vs (refs_at bs.lists b n)) = ap (meaning bs vs) e in
-    let range : IsRange bs.lists l b n = subst (IsContent bs l) e f.content in
-    record {
-      inside = f.inside;
-      range = range;
-      is = f.is ∙ m;
-      depth = f.depth ∙ ap depth_of m;
-      shallow = f.shallow;
-      ordered = rw f.is f.ordered;
-      count = items_length vs (refs_at bs.lists b n) ∙ taken_long (slice_index_or bs.lists b []) n range.long;
-    }
+list_found bs vs l b n c f e = grind (arith, items_length, taken_long)
 
 -- a list's text has its two brackets
 pub list_brackets : (bs : Backings) (vs : List Value) (l b n : ℕ) (c : Cell) → Found bs vs l c → c.content ≡ cell.List b n → 2 ≤ c.json
-list_brackets bs vs l b n c f e =
-    let j : c.json ≡ json_length (kind.list (items_at vs (refs_at bs.lists b n))) = f.json ∙ ap (λ t. json_length (meaning bs vs t)) e in
-    omega (arith, j, list_long (items_at vs (refs_at bs.lists b n)))
+list_brackets bs vs l b n c f e = grind (arith, list_long)
 
 pub list_pushed : (bs cs : Backings) (vs : List Value) (l x b n c d j : ℕ) (lc xc : Cell) → Found bs vs l lc → Found bs vs x xc → lc.content ≡ cell.List b n → Holds cs.lists c (n + 1) (refs_at bs.lists b n ++ x ∷ []) → d ≡ max lc.depth (xc.depth + 1) → j ≡ saturated (lc.json + commas n 1 + xc.json)
     → Made cs vs (record { content = cell.List c (n + 1); depth = d; json = j }) (push_of (value_in vs l) (value_in vs x))

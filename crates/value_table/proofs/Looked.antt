@@ -67,9 +67,7 @@ map_here bs cs p k b n c f e =
 
 pub seen_list : (bs : Backings) (vs : List Value) (p b n r : ℕ) (c : Cell) → Found bs vs p c → c.content ≡ cell.List b n → r ≡ n
     → sees_list r ≡ seen (kind.value (value_in vs p))
-seen_list bs vs p b n r c f e q =
-    let here = list_found bs vs p b n c f e in
-    ap sees_list (q ∙ sym here.count) ∙ ap (λ v. seen (kind.value v)) (sym here.is)
+seen_list bs vs p b n r c f e q = grind (arith, list_found)
 
 pub seen_map : (bs : Backings) (vs : List Value) (p k b n r : ℕ) (c : Cell) → Found bs vs p c → c.content ≡ cell.Map k b n → r ≡ n
     → sees_map r ≡ seen (kind.value (value_in vs p))

@@ -1,10 +1,11 @@
 -- The place of a key that a search finds.
-use Rattle.std.proofs.Common.{◌≡◌, ℕ, zero, suc, ◌≤◌, ◌<◌, List, [], ◌∷◌, ◌⊎◌, inl, inr, length, get_or, Option, Some, None, slice_get, Bool, true, false, true≢false, refl, sym, ap, ◌∙◌, subst, arith}
+use Rattle.std.proofs.Common.{◌≡◌, ℕ, zero, suc, ◌<◌, List, [], ◌∷◌, inl, inr, length, get_or, Option, Some, None, slice_get, false, true≢false, refl, sym, ap, ◌∙◌, subst, arith}
 use Rattle.std.specs.Prelude.{bytes_eq, if◌then◌else◌, option_map}
 use Rattle.std.specs.declared.cmp.Ordering.TheVariants.{Less}
 use Rattle.std.specs.Ordering.{nat_cmp, is_eq}
 use Rattle.std.specs.Cmp.Lexicographic.{slice_cmp}
 use Rattle.std.specs.List.Sorted.{IsStrictlySortedBy}
+use Rattle.std.proofs.lemmas.Bool.{cases_lt, cond-false, cond-true, false_from_ne_true}
 use Rattle.std.proofs.lemmas.Map.Text.{is_eq-slice_cmp}
 use Rattle.std.proofs.lemmas.Slice.Eq.{bytes_eq-Decides}
 use Rattle.std.proofs.lemmas.Option.{same_Some, get_or_from_slice_get}
@@ -28,30 +29,23 @@ place_by_keys key (entry k v es) = ap (λ p. if bytes_eq k key then Some 0 else 
 
 -- ---- keys that are not equal
 
-unequal : (a b : List ℕ) (o : Bool) → bytes_eq a b ≡ o → (a ≡ b → ⊥) → o ≡ false
-unequal a b true e f = absurd (f ((bytes_eq-Decides a b).0 e))
-unequal a b false e f = refl
+unequal : (a b : List ℕ) → (a ≡ b → ⊥) → bytes_eq a b ≡ false
+unequal a b f = false_from_ne_true _ (λ e. f ((bytes_eq-Decides a b).0 e))
 
 ordered_apart : (a b : List ℕ) → is_eq (slice_cmp nat_cmp a b) ≡ false → a ≡ b → ⊥
 ordered_apart a b e s = true≢false (sym ((bytes_eq-Decides a b).1 s) ∙ sym (is_eq-slice_cmp a b) ∙ e)
 
 -- ---- a key that is there
 
-passed : (key k : List ℕ) (p : Option ℕ) → bytes_eq k key ≡ false → (if bytes_eq k key then Some 0 else option_map suc p) ≡ option_map suc p
-passed key k p e = rw e refl
-
-first : (key k : List ℕ) (p : Option ℕ) → bytes_eq k key ≡ true → (if bytes_eq k key then Some 0 else option_map suc p) ≡ Some 0
-first key k p e = rw e refl
-
 at_place : (key : List ℕ) (ks : List (List ℕ)) (i : ℕ) → Ascend ks → i < length ks → slice_get ks i ≡ Some key → place_among key ks ≡ Some i
 unfolding IsStrictlySortedBy
 at_place key [] i a h e = absurd (omega arith)
-at_place key (k ∷ ks) zero a h e = first key k (place_among key ks) ((bytes_eq-Decides k key).1 (same_Some _ _ e))
+at_place key (k ∷ ks) zero a h e = cond-true (bytes_eq k key) _ _ ((bytes_eq-Decides k key).1 (same_Some _ _ e))
 at_place key (k ∷ ks) (suc i) a h e =
     let here = get_or_from_slice_get (k ∷ ks) (suc i) key [] e in
     let below = ascend_at (k ∷ ks) 0 (suc i) [] [] a (omega arith) h in
     let less : slice_cmp nat_cmp k key ≡ Less = ap (slice_cmp nat_cmp k) (sym here) ∙ below in
-    passed key k (place_among key ks) (unequal k key (bytes_eq k key) refl (ordered_apart k key (ap is_eq less))) ∙ ap (option_map suc) (at_place key ks i a.1 (omega arith) e)
+    cond-false (bytes_eq k key) _ _ (unequal k key (ordered_apart k key (ap is_eq less))) ∙ ap (option_map suc) (at_place key ks i a.1 (omega arith) e)
 
 pub found_place : (key : List ℕ) (ks : List (List ℕ)) (i : ℕ) → Ascend ks → IsAt ks key i → place_among key ks ≡ Some i
 found_place key ks i a h = at_place key ks i a h.inside h.is
@@ -62,15 +56,10 @@ no_place : (key : List ℕ) (ks : List (List ℕ)) → ((j : ℕ) (d : List ℕ)
 no_place key [] f = refl
 no_place key (k ∷ ks) f =
     let apart = λ (s : k ≡ key). ordered_apart key k (f 0 [] (omega arith)) (sym s) in
-    passed key k (place_among key ks) (unequal k key (bytes_eq k key) refl apart) ∙ ap (option_map suc) (no_place key ks (λ j d h. f (suc j) d (omega arith)))
-
-either : (i j : ℕ) → (j < i) ⊎ (i ≤ j)
-either zero j = inr (omega arith)
-either (suc i) zero = inl (omega arith)
-either (suc i) (suc j) = elim (either i j) [ inl h ↦ inl (omega arith) | inr h ↦ inr (omega arith) ]
+    cond-false (bytes_eq k key) _ _ (unequal k key apart) ∙ ap (option_map suc) (no_place key ks (λ j d h. f (suc j) d (omega arith)))
 
 pub missing_place : (key : List ℕ) (ks : List (List ℕ)) (i : ℕ) → IsGap ks key i → place_among key ks ≡ None
-missing_place key ks i g = no_place key ks (λ j d h. elim (either i j) [ inl b ↦ ap is_eq (g.before j d b) | inr b ↦ ap is_eq (g.behind j d b h) ])
+missing_place key ks i g = no_place key ks (λ j d h. elim (cases_lt j i) [ inl b ↦ ap is_eq (g.before j d b) | inr b ↦ ap is_eq (g.behind j d b h) ])
 
 -- ---- the map of a cell
 

@@ -131,8 +131,7 @@ map_new cs vs b n rs h = record { content = (record { inside = h.inside; long = 
 -- ---- a key that a map has cannot be put
 
 there : (o : Option Entries) → IsSome (option_map kind.map o) → is_some o ≡ true
-there None h = absurd (cc)
-there (Some es) h = refl
+there o h = grind arith
 
 pub taken : (es : Entries) (key : List ℕ) (v : Value) (i : ℕ) → Ascend (keys_of es) → IsAt (keys_of es) key i → IsSome (put_of es key v) → ⊥
 taken es key v i a at h =

@@ -1,6 +1,7 @@
 -- The tokens of a row of parts.
-use Rattle.std.proofs.Common.{◌≡◌, ℕ, zero, suc, ◌≤◌, ◌<◌, List, [], ◌∷◌, ◌++◌, length, get_or, drop, refl, sym, ap, ◌∙◌, subst, arith, append_assoc, append-nil}
-use Rattle.std.proofs.lemmas.List.{length-map}
+use Rattle.std.proofs.Common.{◌≡◌, ℕ, zero, suc, ◌<◌, List, [], ◌∷◌, ◌++◌, length, get_or, drop, refl, sym, ap, ◌∙◌, subst, arith, append_assoc, append-nil}
+use Rattle.std.proofs.Math.Seq.{drop-nil}
+use Rattle.std.proofs.lemmas.List.{length-map, nil_from_length}
 use Rattle.json.specs.Token as json
 use Rattle.json.specs.Token.{Token}
 use Rattle.value_store.specs.Value.{Value, items_of}
@@ -13,10 +14,6 @@ use Rattle.value_table.specs.declared.content.Content.{Content}
 use Rattle.value_table.specs.declared.backings.Backings.{Backings}
 use Rattle.value_table.proofs.Heads.{Fits, fits, meaning_built}
 
-drop_nil : {A : Type 0} (i : ℕ) → drop {A = A} i [] ≡ []
-drop_nil zero = refl
-drop_nil (suc i) = refl
-
 pub row_step : (bytes : List ℕ) (vs : List Value) (ns : List Part) (ps : List ℕ) (i : ℕ) → i < length ps
     → row_tokens (texts_of bytes (drop i ns)) (values_at vs (drop i ps))
     ≡ name_tokens (texts_of bytes (drop i ns)) ++ (value_tokens (value_in vs (get_or ps i 0)) ++ row_tokens (texts_of bytes (drop (suc i) ns)) (values_at vs (drop (suc i) ps)))
@@ -24,7 +21,7 @@ row_step bytes vs ns [] i h = absurd (omega arith)
 row_step bytes vs [] (p ∷ ps) zero h = refl
 row_step bytes vs (n ∷ ns) (p ∷ ps) zero h = refl
 row_step bytes vs [] (p ∷ ps) (suc i) h =
-    subst (λ (ks : List Part). row_tokens (texts_of bytes ks) (values_at vs (drop i ps)) ≡ name_tokens (texts_of bytes ks) ++ (value_tokens (value_in vs (get_or ps i 0)) ++ row_tokens [] (values_at vs (drop (suc i) ps)))) (drop_nil i) (row_step bytes vs [] ps i (omega arith))
+    subst (λ (ks : List Part). row_tokens (texts_of bytes ks) (values_at vs (drop i ps)) ≡ name_tokens (texts_of bytes ks) ++ (value_tokens (value_in vs (get_or ps i 0)) ++ row_tokens [] (values_at vs (drop (suc i) ps)))) (drop-nil i) (row_step bytes vs [] ps i (omega arith))
 row_step bytes vs (n ∷ ns) (p ∷ ps) (suc i) h = row_step bytes vs ns ps i (omega arith)
 
 items_row : (vs : List Value) → items_tokens (items_of vs) ≡ row_tokens [] vs
@@ -36,30 +33,15 @@ entries_row [] [] e = refl
 entries_row (k ∷ ks) (v ∷ vs) e = ap (λ t. json.key k ∷ (value_tokens v ++ t)) (entries_row ks vs (omega arith))
 entries_row _ _ e = absurd (omega arith)
 
-none : (vs : List Value) → length vs ≡ 0 → vs ≡ []
-none [] e = refl
-none (v ∷ vs) e = absurd (omega arith)
-
 built_tokens : (h : Head) (vs : List Value) → Fits h (length vs) → value_tokens (built h vs) ≡ opening h ++ (row_tokens (head_keys h) vs ++ closing h)
-built_tokens (simple v) vs f = sym (append-nil (value_tokens v)) ∙ ap (λ ws. value_tokens v ++ (row_tokens [] ws ++ [])) (sym (none vs f.1))
-built_tokens (items n) vs f = ap (λ t. json.begin_array ∷ (t ++ json.end_array ∷ [])) (items_row vs)
-built_tokens (entries ks) vs f = ap (λ t. json.begin_object ∷ (t ++ json.end_object ∷ [])) (entries_row ks vs f)
+built_tokens h vs f = grind (arith, append-nil, nil_from_length, items_row, entries_row)
 
 pub meaning_tokens : (bs : Backings) (vs : List Value) (i : ℕ) (c : Content) → IsContent bs i c
     → value_tokens (meaning bs vs c) ≡ opening (head bs c) ++ (row_tokens (head_keys (head bs c)) (values_at vs (parts bs c)) ++ closing (head bs c))
-meaning_tokens bs vs i c h =
-    ap value_tokens (meaning_built bs vs c)
-    ∙ built_tokens (head bs c) (values_at vs (parts bs c)) (subst (Fits (head bs c)) (sym (length-map (parts bs c) (value_in vs))) (fits bs i c h))
+meaning_tokens bs vs i c h = grind (arith, meaning_built, built_tokens, length-map, fits)
 
 pub step_tokens : (w0 w1 w2 n v r rest : List Token) → w1 ≡ w0 ++ n → w2 ≡ w1 ++ v → rest ≡ n ++ (v ++ r) → w2 ++ r ≡ w0 ++ rest
-step_tokens w0 w1 w2 n v r rest p q e =
-    ap (λ t. t ++ r) (q ∙ ap (λ t. t ++ v) p) ∙ append_assoc (w0 ++ n) v r ∙ append_assoc w0 n (v ++ r) ∙ ap (λ t. w0 ++ t) (sym e)
+step_tokens w0 w1 w2 n v r rest p q e = grind (arith, append_assoc)
 
 pub end_tokens : (w0 w w' o r c v : List Token) → w ++ [] ≡ w0 ++ (o ++ r) → w' ≡ w ++ c → v ≡ o ++ (r ++ c) → w' ≡ w0 ++ v
-end_tokens w0 w w' o r c v p q e =
-    q ∙ ap (λ t. t ++ c) (sym (append-nil w) ∙ p) ∙ append_assoc w0 (o ++ r) c ∙ ap (λ t. w0 ++ t) (append_assoc o r c ∙ sym e)
-
-pub drop_end : {A : Type 0} (xs : List A) (i : ℕ) → length xs ≤ i → drop i xs ≡ []
-drop_end [] i h = drop_nil i
-drop_end (x ∷ xs) zero h = absurd (omega arith)
-drop_end (x ∷ xs) (suc i) h = drop_end xs i (omega arith)
+end_tokens w0 w w' o r c v p q e = grind (arith, append-nil, append_assoc)

@@ -1,21 +1,18 @@
 -- A step of a search among keys in byte order.
-use Rattle.std.proofs.Common.{◌≡◌, ℕ, zero, suc, ◌+◌, ◌≤◌, ◌<◌, List, [], ◌∷◌, ◌⊎◌, inl, inr, length, get_or, refl, sym, ap, ◌∙◌, subst, arith}
+use Rattle.std.proofs.Common.{◌≡◌, ℕ, zero, suc, ◌+◌, ◌≤◌, ◌<◌, List, [], ◌∷◌, ◌⊎◌, inl, inr, length, get_or, sym, ap, ◌∙◌, subst, arith}
 use Rattle.std.specs.List.{AllByRecursion}
 use Rattle.std.specs.List.Sorted.{IsStrictlySortedBy}
 use Rattle.std.specs.declared.cmp.Ordering.{Ordering}
 use Rattle.std.specs.declared.cmp.Ordering.TheVariants.{Less, Greater}
 use Rattle.std.specs.Ordering.{nat_cmp, ordering_reverse}
 use Rattle.std.specs.Cmp.Lexicographic.{slice_cmp}
+use Rattle.std.proofs.lemmas.Bool.{cases_lt}
+use Rattle.std.proofs.lemmas.List.{get_or_default}
 use Rattle.std.proofs.lemmas.Cmp.{nat_list_cmp_total}
 use Rattle.value_store.specs.Keys.{Ascend}
 
 abbrev order : List ℕ → List ℕ → Ordering
 order a b = slice_cmp nat_cmp a b
-
-pub any_default : {A : Type 0} (xs : List A) (i : ℕ) (d e : A) → i < length xs → get_or xs i d ≡ get_or xs i e
-any_default [] i d e h = absurd (omega arith)
-any_default (x ∷ xs) zero d e h = refl
-any_default (x ∷ xs) (suc i) d e h = any_default xs i d e (omega arith)
 
 all_at : (k : List ℕ) (ks : List (List ℕ)) (j : ℕ) (d : List ℕ) → AllByRecursion (λ l. order k l ≡ Less) ks → j < length ks → order k (get_or ks j d) ≡ Less
 all_at k [] j d h l = absurd (omega arith)
@@ -33,30 +30,16 @@ reversed : (a b : List ℕ) (o : Ordering) → order a b ≡ o → order b a ≡
 reversed a b o e = nat_list_cmp_total.antisymm b a ∙ ap ordering_reverse e
 
 above_step : (ks : List (List ℕ)) (key : List ℕ) (m j : ℕ) (d e : List ℕ) → Ascend ks → m < length ks → order key (get_or ks m d) ≡ Greater → j < m → order key (get_or ks j e) ≡ Greater
-above_step ks key m j d e h l g k =
-    let low = ascend_at ks j m e d h k l in
-    let under = nat_list_cmp_total.trans (get_or ks j e) (get_or ks m d) key low (reversed key (get_or ks m d) Greater g) in
-    reversed (get_or ks j e) key Less under
+above_step ks key m j d e h l g k = grind (arith, ascend_at, nat_list_cmp_total, get_or, reversed)
 
 -- below a place, or at it
 pub up_to : (m j : ℕ) → j < m + 1 → (j < m) ⊎ (m ≡ j)
-up_to zero zero k = inr refl
-up_to zero (suc j) k = absurd (omega arith)
-up_to (suc m) zero k = inl (omega arith)
-up_to (suc m) (suc j) k = elim (up_to m j (omega arith)) [ inl n ↦ inl (omega arith) | inr n ↦ inr (ap suc n) ]
+up_to m j k = elim (cases_lt j m) [ inl n ↦ inl n | inr n ↦ inr (omega arith) ]
 
 -- a key above the one at m is above all up to it
 pub above_all : (ks : List (List ℕ)) (key : List ℕ) (m j : ℕ) (d e : List ℕ) → Ascend ks → m < length ks → order key (get_or ks m d) ≡ Greater → j < m + 1 → order key (get_or ks j e) ≡ Greater
-above_all ks key m j d e h l g k =
-    elim (up_to m j k) [
-      | inl n ↦ above_step ks key m j d e h l g n
-      | inr n ↦ subst (λ i. order key (get_or ks i e) ≡ Greater) n (ap (order key) (any_default ks m e d l) ∙ g)
-    ]
+above_all ks key m j d e h l g k = grind (arith, up_to, above_step, get_or, get_or_default)
 
 -- a key below the one at m is below all from it on
 pub below_all : (ks : List (List ℕ)) (key : List ℕ) (m j : ℕ) (d e : List ℕ) → Ascend ks → m < length ks → order key (get_or ks m d) ≡ Less → m ≤ j → j < length ks → order key (get_or ks j e) ≡ Less
-below_all ks key m j d e h l g k n =
-    elim (up_to j m (omega arith)) [
-      | inl o ↦ nat_list_cmp_total.trans key (get_or ks m d) (get_or ks j e) g (ascend_at ks m j d e h o n)
-      | inr o ↦ subst (λ i. order key (get_or ks i e) ≡ Less) (sym o) (ap (order key) (any_default ks m e d l) ∙ g)
-    ]
+below_all ks key m j d e h l g k n = grind (arith, up_to, nat_list_cmp_total, get_or, ascend_at, get_or_default)

@@ -1,6 +1,8 @@
 -- The references that a table starts with.
-use Rattle.std.proofs.Common.{◌≡◌, ℕ, List, [], ◌∷◌, ◌++◌, map, sym, ap, ap₂, refl, ◌∙◌, append-nil, append_assoc, false, true, Ok}
+use Rattle.std.proofs.Common.{arith}
+use Rattle.std.proofs.Common.{◌≡◌, ℕ, List, [], ◌∷◌, ◌++◌, map, sym, ap, ap₂, ◌∙◌, append-nil, append_assoc, false, true, Ok}
 use Rattle.std.specs.List.{AllByRecursion}
+use Rattle.std.proofs.lemmas.List.{map-append}
 use Rattle.serde_json.specs.Data as json
 use Rattle.serde_json.specs.View.{view}
 use Rattle.serde_json.specs.declared.value.Value as document
@@ -29,21 +31,12 @@ judged ds n e o = let start = started ds (charged_ok (start_contents ds) n e) in
 
 -- the error, null, false and true
 pub start_first : (h : Heap) (ps : List ℕ) (a b c : ℕ) → IsHeap h → ps ≡ a ∷ b ∷ c ∷ [] → Stands (heap_values h) a kind.null → Stands (heap_values h) b (kind.boolean false) → Stands (heap_values h) c (kind.boolean true) → StartsWith h ps first_values
-start_first h ps a b c k e x y z =
-    let l = x.inside in
-    let m = y.inside in
-    let n = z.inside in
-    let all : named (heap_values h) ps ≡ first_values = ap (named (heap_values h)) e ∙ ap (λ v. error ∷ value v ∷ value (value_in (heap_values h) b) ∷ value (value_in (heap_values h) c) ∷ []) x.is
-    ∙ ap (λ v. error ∷ value kind.null ∷ value v ∷ value (value_in (heap_values h) c) ∷ []) y.is ∙ ap (λ v. error ∷ value kind.null ∷ value (kind.boolean false) ∷ value v ∷ []) z.is in
-    record { sound = record { heap = k; places = rw e (l, (m, (n, tt))); first = record { more = []; is = all ∙ sym (append-nil first_values) } }; values = all }
+start_first h ps a b c k e x y z = grind arith
 
 mapped_end : (ys : List document.Value) (x : document.Value) → map value (map plain_value (map view (ys ++ x ∷ []))) ≡ map value (map plain_value (map view ys)) ++ value (plain_value (view x)) ∷ []
-mapped_end [] x = refl
-mapped_end (y ∷ ys) x = ap (λ vs. value (plain_value (view y)) ∷ vs) (mapped_end ys x)
+mapped_end ys x = simp map-append
 
 -- one more root
 pub root_step : (ys zs : List document.Value) (x : document.Value) (mid new : List ValueOrError) (v : Value) → zs ≡ ys ++ x ∷ [] → mid ≡ first_values ++ map value (map plain_value (map view ys)) → v ≡ plain_value (view x) → new ≡ mid ++ value v ∷ []
     → new ≡ first_values ++ map value (map plain_value (map view zs))
-root_step ys zs x mid new v t m e n =
-    n ∙ ap₂ (λ vs w. vs ++ value w ∷ []) m e ∙ append_assoc first_values (map value (map plain_value (map view ys))) (value (plain_value (view x)) ∷ [])
-    ∙ ap (λ vs. first_values ++ vs) (sym (mapped_end ys x)) ∙ ap (λ ws. first_values ++ map value (map plain_value (map view ws))) (sym t)
+root_step ys zs x mid new v t m e n = grind (arith, ap₂, append_assoc, mapped_end)

@@ -22,8 +22,7 @@ push_behind (item w is) v =
 pub push_long : (is : Items) (v : Value) (n : ℕ) → length (list_of is) ≡ n
     → length (json_text (list (items_push is v))) ≡ length (json_text (list is)) + commas n 1 + length (json_text v)
 push_long no_items v zero e = let l = length-append (json_text v) (items_text true no_items) in omega (arith, l)
-push_long (item w is) v (suc n) e =
-    omega (arith, push_behind is v, length-append (json_text w) (items_text true (items_push is v)), length-append (json_text w) (items_text true is))
+push_long (item w is) v (suc n) e = grind (arith, push_behind, length-append)
 push_long _ v _ e = absurd (omega (arith, e))
 
 join_behind : (is js : Items) → length (items_text true (items_join is js)) + 1 ≡ length (items_text true is) + length (items_text true js)
@@ -34,12 +33,8 @@ join_behind (item w is) js =
 pub join_long : (is js : Items) (n m : ℕ) → length (list_of is) ≡ n → length (list_of js) ≡ m
     → length (json_text (list (items_join is js))) + 2 ≡ length (json_text (list is)) + commas n m + length (json_text (list js))
 join_long no_items js zero m e f = omega arith
-join_long (item w is) no_items (suc n) zero e f =
-    let k = length-append (json_text w) (items_text true is) in
-    omega (arith, join_behind is no_items, length-append (json_text w) (items_text true (items_join is no_items)), k)
-join_long (item w is) (item v js) (suc n) (suc m) e f =
-    let k = length-append (json_text w) (items_text true is) in
-    omega (arith, join_behind is (item v js), length-append (json_text w) (items_text true (items_join is (item v js))), k)
+join_long (item w is) no_items (suc n) zero e f = grind (arith, length-append, join_behind)
+join_long (item w is) (item v js) (suc n) (suc m) e f = grind (arith, length-append, join_behind)
 join_long (item w is) _ (suc n) _ e f = absurd (omega (arith, f))
 join_long _ js _ m e f = absurd (omega (arith, e))
 
@@ -61,8 +56,7 @@ put_behind : (bytes : List ℕ) (vs : List Value) (ks : List Part) (rs : List �
     → length (entries_text true (entries_at bytes vs (with_one i k ks) (with_one i x rs))) ≡ length (entries_text true (entries_at bytes vs ks rs)) + 2 + length (quoted (part_of bytes k)) + length (json_text (value_in vs x))
 put_behind bytes vs [] [] k x zero e h = let l = entry_behind (entries_text true no_entries) (part_of bytes k) (value_in vs x) in omega (arith, l)
 put_behind bytes vs [] [] k x (suc i) e h = absurd (omega (arith, h))
-put_behind bytes vs (p ∷ ks) (r ∷ rs) k x zero e h =
-    omega (arith, entry_behind (entries_text true (entries_at bytes vs (p ∷ ks) (r ∷ rs))) (part_of bytes k) (value_in vs x))
+put_behind bytes vs (p ∷ ks) (r ∷ rs) k x zero e h = grind (arith, entry_behind)
 put_behind bytes vs (p ∷ ks) (r ∷ rs) k x (suc i) e h =
     let more = put_behind bytes vs ks rs k x i (omega (arith, e)) (omega (arith, h)) in
     let m = entry_behind (entries_text true (entries_at bytes vs ks rs)) (part_of bytes p) (value_in vs r) in
@@ -75,12 +69,8 @@ put_long bytes vs [] [] k x zero zero e c h = let l = entry_behind (entries_text
 put_long bytes vs [] [] k x zero (suc n) e c h = absurd (omega (arith, c))
 put_long bytes vs [] [] k x (suc i) n e c h = absurd (omega (arith, h))
 put_long bytes vs (p ∷ ks) (r ∷ rs) k x i zero e c h = absurd (omega (arith, c))
-put_long bytes vs (p ∷ ks) (r ∷ rs) k x zero (suc n) e c h =
-    omega (arith, entry_behind (entries_text true (entries_at bytes vs (p ∷ ks) (r ∷ rs))) (part_of bytes k) (value_in vs x))
-put_long bytes vs (p ∷ ks) (r ∷ rs) k x (suc i) (suc n) e c h =
-    let more = put_behind bytes vs ks rs k x i (omega (arith, e)) (omega (arith, h)) in
-    let m = entry_behind (entries_text true (entries_at bytes vs ks rs)) (part_of bytes p) (value_in vs r) in
-    omega (arith, more, entry_behind (entries_text true (entries_at bytes vs (with_one i k ks) (with_one i x rs))) (part_of bytes p) (value_in vs r), m)
+put_long bytes vs (p ∷ ks) (r ∷ rs) k x zero (suc n) e c h = grind (arith, entry_behind)
+put_long bytes vs (p ∷ ks) (r ∷ rs) k x (suc i) (suc n) e c h = grind (arith, put_behind, entry_behind)
 put_long bytes vs _ _ k x i n e c h = absurd (omega (arith, e))
 
 -- ---- ints
@@ -91,18 +81,10 @@ rest_digits zero = 0
 rest_digits (suc n) = length (decimal (suc n))
 
 rest_is : (n : ℕ) → 0 < n → rest_digits n ≡ length (decimal n)
-rest_is zero h = absurd (omega arith)
-rest_is (suc n) h = refl
+rest_is n h = grind arith
 
 pub decimal_long : (n : ℕ) → n < 2 ^ 64 → length (decimal n) ≡ 1 + rest_digits (n / 10)
-decimal_long n h = elim (cases_lt n 10) [
-  | inl one ↦
-      let zero_left : n / 10 ≡ 0 = omega arith in
-      ap length (decimal_digit n one) ∙ sym (ap (λ r. 1 + rest_digits r) zero_left)
-  | inr more ↦
-      let rest = rest_is (n / 10) (omega arith) in
-      omega (arith, rest, ap length (decimal_step n more h), length-append (decimal (n / 10)) ((48 + n % 10) ∷ []))
-]
+decimal_long n h = grind (arith, cases_lt, decimal_digit, rest_is, decimal_step, length-append, decimal)
 
 -- the last digit is one, and each step of ten one more
 pub rest_step : (n : ℕ) → 0 < n → n < 2 ^ 64 → rest_digits n ≡ 1 + rest_digits (n / 10)

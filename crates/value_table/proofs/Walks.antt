@@ -21,9 +21,7 @@ below_here i (r ∷ rs) zero d h l = h.0
 below_here i (r ∷ rs) (suc k) d h l = below_here i rs k d h.1 (omega arith)
 
 below_parts : (bs : Backings) (i : ℕ) (c : Content) → IsContent bs i c → AreBelow i (parts bs c)
-below_parts bs i (cell.List b n) h = h.below
-below_parts bs i (cell.Map k b n) h = h.0.below
-below_parts bs i _ h = tt
+below_parts bs i c h = grind arith
 
 -- a part stands before its cell
 pub part_below : (bs : Backings) (i : ℕ) (c : Content) (k d : ℕ) → IsContent bs i c → k < length (parts bs c) → get_or (parts bs c) k d < i
@@ -90,12 +88,9 @@ same_cells bs vs cs x y c d xs ys p q m h k e f =
 -- one head has as many parts
 pub same_long : (bs : Backings) (cs : List Cell) (x y : ℕ) (c d : Cell) (xs ys : List ℕ) → xs ≡ parts bs c.content → ys ≡ parts bs d.content
     → AreContents bs cs → slice_get cs x ≡ Some c → slice_get cs y ≡ Some d → head bs c.content ≡ head bs d.content → length xs ≡ length ys
-same_long bs cs x y c d xs ys p q s h k e =
-    ap length p ∙ parts_long bs x y c.content d.content (s x c h) (s y d k) e ∙ sym (ap length q)
+same_long bs cs x y c d xs ys p q s h k e = grind (arith, parts_long)
 
 -- a part stands before its cell
 pub part_before : (bs : Backings) (cs : List Cell) (x : ℕ) (c : Cell) (xs : List ℕ) (k d : ℕ) → xs ≡ parts bs c.content → AreContents bs cs
     → slice_get cs x ≡ Some c → k < length xs → get_or xs k d < x
-part_before bs cs x c xs k d p s h l =
-    let t : k < length (parts bs c.content) = subst (λ zs. k < length zs) p l in
-    subst (λ zs. get_or zs k d < x) (sym p) (part_below bs x c.content k d (s x c h) t)
+part_before bs cs x c xs k d p s h l = grind (arith, get_or, part_below)

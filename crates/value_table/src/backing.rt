@@ -28,9 +28,7 @@ impl<T: Copy> Backing<T> {
     pub(crate) fn new(alloc: Global) -> Result<Backing<T>, AllocError>
         ensures { IfOk result (λ b. b ≡ []) }
     {
-        let Ok(items) = Rc::new(alloc, Vec::new(alloc)) else {
-            return Err(AllocError);
-        };
+        let items = Rc::new(alloc, Vec::new(alloc)).ok().ok_or(AllocError)?;
         Ok(Backing { items })
     }
 
@@ -62,9 +60,7 @@ impl<T: Copy> Backing<T> {
         }
         let alloc = *self.items.allocator();
         let copy = copied(alloc, &self.items[..], more)?;
-        let Ok(items) = Rc::new(alloc, copy) else {
-            return Err(AllocError);
-        };
+        let items = Rc::new(alloc, copy).ok().ok_or(AllocError)?;
         self.items = items;
         Ok(())
     }
@@ -86,9 +82,7 @@ impl<T: Copy> Backing<T> {
     {
         let alloc = self.alloc();
         let copy = copied(alloc, &self.items[..count], more)?;
-        let Ok(items) = Rc::new(alloc, copy) else {
-            return Err(AllocError);
-        };
+        let items = Rc::new(alloc, copy).ok().ok_or(AllocError)?;
         Ok(Backing { items })
     }
 
@@ -97,9 +91,7 @@ impl<T: Copy> Backing<T> {
         ensures { IfOk result (λ b. b ≡ items.now) }
     {
         let copy = copied(alloc, items, 0)?;
-        let Ok(items) = Rc::new(alloc, copy) else {
-            return Err(AllocError);
-        };
+        let items = Rc::new(alloc, copy).ok().ok_or(AllocError)?;
         Ok(Backing { items })
     }
 
@@ -109,9 +101,7 @@ impl<T: Copy> Backing<T> {
     {
         let mut both = copied(alloc, first, second.len())?;
         both.extend_from_slice(second)?;
-        let Ok(items) = Rc::new(alloc, both) else {
-            return Err(AllocError);
-        };
+        let items = Rc::new(alloc, both).ok().ok_or(AllocError)?;
         Ok(Backing { items })
     }
 
@@ -128,9 +118,7 @@ impl<T: Copy> Backing<T> {
         let mut copy = copied(alloc, &items[..place], items.len())?;
         copy.push(item)?;
         copy.extend_from_slice(&items[place..])?;
-        let Ok(items) = Rc::new(alloc, copy) else {
-            return Err(AllocError);
-        };
+        let items = Rc::new(alloc, copy).ok().ok_or(AllocError)?;
         Ok(Backing { items })
     }
 

@@ -37,9 +37,7 @@ impl<T: Copy> Chunks<T> {
     pub(crate) fn new(alloc: Global) -> Result<Chunks<T>, AllocError>
         ensures { IfOk result (λ c. c.0 ≡ []) }
     {
-        let Ok(full) = Rc::new(alloc, Vec::new(alloc)) else {
-            return Err(AllocError);
-        };
+        let full = Rc::new(alloc, Vec::new(alloc)).ok().ok_or(AllocError)?;
         Ok(Chunks {
             full,
             last: Vec::new(alloc),
@@ -101,6 +99,7 @@ impl<T: Copy> Chunks<T> {
         requires { 0 < self.old.1 }
         ensures items { self.new.0 ≡ self.old.0 ++ item ∷ [] }
         ensures place { result ≡ length self.old.0 }
+        ensures short { result < 2 ^ 63 }
     {
         let place = self.len() as u64;
         self.last.push_reserved(item);

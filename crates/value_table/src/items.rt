@@ -7,7 +7,6 @@ ghost use Rattle.value_table.specs.Meaning.{value_in, list_part};
 ghost use Rattle.value_table.specs.Heaps.{Adds};
 ghost use Rattle.value_table.specs.Heap.{heap_values, IsHeap, IsAsBefore, SharesBacking};
 
-use crate::backing::Backing;
 use crate::cell::Cell;
 use crate::content::Content;
 use crate::heap::{Heap, room_for_cell};
@@ -22,15 +21,7 @@ impl Heap {
         ensures added { Adds (heap_values self.old) (list no_items) result (heap_values self.new) }
         ensures kept { OnErr result (IsAsBefore self.old self.new) }
     {
-        let items = Backing::new(self.cells.alloc())?;
-        let cells = room_for_cell(&mut self.cells, &mut self.same)?;
-        let backing = self.backings.add_items(items)?;
-        let cell = Cell {
-            content: Content::List(backing, 0),
-            depth: 1,
-            json: 2,
-        };
-        Ok(cells.append(cell))
+        self.add_list(&[])
     }
 
     /// The list at `l` with the value at `x` behind its last item.

@@ -29,9 +29,7 @@ impl Lists {
     pub(crate) fn new(alloc: Global) -> Result<Lists, AllocError>
         ensures { IfOk result (λ b. b ≡ []) }
     {
-        let Ok(backings) = Rc::new(alloc, Vec::new(alloc)) else {
-            return Err(AllocError);
-        };
+        let backings = Rc::new(alloc, Vec::new(alloc)).ok().ok_or(AllocError)?;
         Ok(Lists { backings })
     }
 

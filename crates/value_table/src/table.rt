@@ -160,19 +160,15 @@ impl ValueStore for Table {
     }
 
     fn place_int(&mut self, n: i64) -> Result<u64, AllocError> {
-        let reference = next_reference(&self.places);
         let places = self.places.room()?;
         let place = self.heap.add_int(n)?;
-        places.push_reserved(place);
-        Ok(reference)
+        Ok(places.append(place) + 1)
     }
 
     fn place_text(&mut self, s: &str) -> Result<u64, AllocError> {
-        let reference = next_reference(&self.places);
         let places = self.places.room()?;
         let place = self.heap.add_text(s)?;
-        places.push_reserved(place);
-        Ok(reference)
+        Ok(places.append(place) + 1)
     }
 
     fn alias(&mut self, h: u64, i: u64) -> Result<u64, AllocError> {
@@ -191,58 +187,46 @@ impl ValueStore for Table {
     fn alias_key(&mut self, h: u64, i: u64) -> Result<u64, AllocError> {
         let map = place(&self.heap, &self.places, h);
         let key = self.heap.key(map, i);
-        let reference = next_reference(&self.places);
         let places = self.places.room()?;
         let place = self.heap.add_part(key)?;
-        places.push_reserved(place);
-        Ok(reference)
+        Ok(places.append(place) + 1)
     }
 
     fn join(&mut self, a: u64, b: u64) -> Result<u64, AllocError> {
         let first = place(&self.heap, &self.places, a);
         let second = place(&self.heap, &self.places, b);
-        let reference = next_reference(&self.places);
         let places = self.places.room()?;
         let place = self.heap.join(first, second)?;
-        places.push_reserved(place);
-        Ok(reference)
+        Ok(places.append(place) + 1)
     }
 
     fn new_list(&mut self) -> Result<u64, AllocError> {
-        let reference = next_reference(&self.places);
         let places = self.places.room()?;
         let place = self.heap.new_list()?;
-        places.push_reserved(place);
-        Ok(reference)
+        Ok(places.append(place) + 1)
     }
 
     fn new_map(&mut self) -> Result<u64, AllocError> {
-        let reference = next_reference(&self.places);
         let places = self.places.room()?;
         let place = self.heap.new_map()?;
-        places.push_reserved(place);
-        Ok(reference)
+        Ok(places.append(place) + 1)
     }
 
     fn push(&mut self, l: u64, x: u64) -> Result<u64, AllocError> {
         let list = place(&self.heap, &self.places, l);
         let item = place(&self.heap, &self.places, x);
-        let reference = next_reference(&self.places);
         let places = self.places.room()?;
         let place = self.heap.push(list, item)?;
-        places.push_reserved(place);
-        Ok(reference)
+        Ok(places.append(place) + 1)
     }
 
     fn put(&mut self, m: u64, k: u64, x: u64) -> Result<u64, AllocError> {
         let map = place(&self.heap, &self.places, m);
         let key = place(&self.heap, &self.places, k);
         let value = place(&self.heap, &self.places, x);
-        let reference = next_reference(&self.places);
         let places = self.places.room()?;
         let place = self.heap.put(map, key, value)?;
-        places.push_reserved(place);
-        Ok(reference)
+        Ok(places.append(place) + 1)
     }
 
     fn copy(&self) -> Result<Self, AllocError> {

@@ -1,5 +1,7 @@
 use Rattle.std.proofs.Common.{sym, ◌∙◌}
+use Rattle.std.specs.Prelude.{slice_get}
 use Rattle.value_store.specs.Calls.{pushed}
+use Rattle.helper_table.proofs.Depths.{grows, push_depth_at}
 use Rattle.helper_table.proofs.Pairs.{push_pair}
 use Rattle.helper_table.proofs.Seeing.{by_operands}
 use Rattle.helper_table.specs.Building.{grown, push_row}
@@ -8,10 +10,14 @@ use Rattle.helper_table.proofs.building.push.Goals as goal
 pub returns-clause-means : goal.returns-clause-means
 unfolding push_row
 returns-clause-means g c =
-    let can = c.can_push.ensures ∙ push_pair _ _ _ _ c.in_ok-list.ensures.sees c.in_ok-item.ensures.sees in
-    c.push_plan.ensures.means _ can c.is_within_depth.ensures
-    ∙ sym (by_operands _ _ _ _ (λ s t o p. grown (pushed o p)) c.in_ok-list.ensures.sees c.in_ok-item.ensures.sees)
+    let vs = g.V.ValueStore.values c.args.table.now in
+    let l = slice_get vs c.args.l in
+    let x = slice_get vs c.args.x in
+    let can = c.can_push.ensures ∙ push_pair l x _ _ c.in_ok-list.ensures.sees c.in_ok-item.ensures.sees in
+    c.growth.ensures.means vs
+    ∙ grows (pushed l x) (pushed l x) _ _ _ (λ w e. e) (λ there. record { is = push_depth_at l x }) can c.is_within_depth.ensures
+    ∙ sym (by_operands l x _ _ (λ s t o p. grown (pushed o p)) c.in_ok-list.ensures.sees c.in_ok-item.ensures.sees)
 
 pub returns-clause-can : goal.returns-clause-can
 returns-clause-can g c =
-    c.push_plan.ensures.can _ (c.can_push.ensures ∙ push_pair _ _ _ _ c.in_ok-list.ensures.sees c.in_ok-item.ensures.sees)
+    c.growth.ensures.can _ (λ can. sym (c.can_push.ensures ∙ push_pair _ _ _ _ c.in_ok-list.ensures.sees c.in_ok-item.ensures.sees) ∙ can)

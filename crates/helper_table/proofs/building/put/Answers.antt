@@ -1,6 +1,8 @@
 use Rattle.std.proofs.Common.{sym, ◌∙◌}
 use Rattle.std.specs.Prelude.{Some, slice_get}
-use Rattle.helper_table.proofs.Entering.{enters}
+use Rattle.value_store.specs.Calls.{put_in}
+use Rattle.helper_table.proofs.Depths.{grows}
+use Rattle.helper_table.proofs.Entering.{enters, enters_by, is_put, put_there}
 use Rattle.helper_table.proofs.Seeing.{by_operand, by_operands}
 use Rattle.helper_table.specs.Building.{entered, grown, put_row}
 use Rattle.helper_table.specs.Calls.{on_operand}
@@ -14,11 +16,16 @@ returns-clause-means g c =
     let key = slice_get vs c.args.k in
     let part = slice_get vs c.args.x in
     let can = c.can_put.ensures ∙ enters map key part _ _ c.in_ok-key.ensures.sees c.in_ok-value.ensures.sees in
-    c.put_plan.ensures.means vs can c.is_within_depth.ensures
+    c.growth.ensures.means vs
+    ∙ grows (put_in map key part) (entered map key part) _ _ _ (is_put map key part) (enters_by map key part) can c.is_within_depth.ensures
     ∙ sym (by_operand map _ (λ s o. on_operand key (λ y. on_operand part (λ z. grown (entered o (Some y) (Some z))))) c.in_ok-_map.ensures.sees
     ∙ by_operands key part _ _ (λ s t o p. grown (entered map o p)) c.in_ok-key.ensures.sees c.in_ok-value.ensures.sees)
 
 pub returns-clause-can : goal.returns-clause-can
 returns-clause-can g c =
     let vs = g.V.ValueStore.values c.args.table.now in
-    c.put_plan.ensures.can vs (c.can_put.ensures ∙ enters (slice_get vs c.args.m) (slice_get vs c.args.k) (slice_get vs c.args.x) _ _ c.in_ok-key.ensures.sees c.in_ok-value.ensures.sees)
+    let map = slice_get vs c.args.m in
+    let key = slice_get vs c.args.k in
+    let part = slice_get vs c.args.x in
+    let same = c.can_put.ensures ∙ enters map key part _ _ c.in_ok-key.ensures.sees c.in_ok-value.ensures.sees in
+    c.growth.ensures.can vs (λ can. put_there map key part (sym same ∙ can))

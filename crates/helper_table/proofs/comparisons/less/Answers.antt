@@ -1,12 +1,12 @@
 use Rattle.std.proofs.Common.{sym, ap, ◌∙◌}
 use Rattle.value_store.specs.Calls.{less_at}
-use Rattle.helper_table.proofs.Seeing.{by_operands}
+use Rattle.helper_table.proofs.Seeing.{by_operands, worded}
 use Rattle.helper_table.specs.Comparisons.{less_row}
-use Rattle.helper_table.specs.Outcome.{Plain, truth}
+use Rattle.helper_table.specs.Outcome.{truth}
 use Rattle.helper_table.proofs.comparisons.less.Goals as goal
 
 pub returns-clause-means : goal.returns-clause-means
 unfolding less_row
 returns-clause-means g c =
-    ap (λ word. Plain word 0) c.truth_word.ensures ∙ ap truth c.order-truth.ensures
+    worded _ _ _ _ c.truth.ensures.action c.truth.ensures.added ∙ ap truth c.order-truth.ensures
     ∙ sym (by_operands _ _ _ _ (λ s t o p. truth (less_at o p)) c.in_ok-x.ensures.sees c.in_ok-y.ensures.sees)

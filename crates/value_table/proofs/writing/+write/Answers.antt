@@ -1,10 +1,11 @@
 use Rattle.std.proofs.Common.{◌≡◌, ◌++◌, add-one, sym, ap, ap₂, ◌∙◌, arith}
+use Rattle.std.proofs.lemmas.List.{drop_all}
 use Rattle.std.proofs.lemmas.Option.{get_or_from_slice_get}
 use Rattle.value_store.specs.Value as kind
 use Rattle.value_table.specs.Heads.{head, parts, texts_of, values_at}
 use Rattle.value_table.specs.Tokens.{value_tokens, opening, closing, row_tokens, head_keys}
 use Rattle.value_table.proofs.Walks.{part_before}
-use Rattle.value_table.proofs.Rows.{row_step, meaning_tokens, step_tokens, end_tokens, drop_end}
+use Rattle.value_table.proofs.Rows.{row_step, meaning_tokens, step_tokens, end_tokens}
 use Rattle.value_table.proofs.writing.+write.Goals as goal
 
 pub write-requires : goal.write-requires
@@ -29,7 +30,7 @@ returns-clause-tokens t c = λ vs m.
     let names = c.names-names.result.now in
     let ps = c.parts_of-parts.result.now in
     let inv = c.loop-i.invariant.tokens vs m in
-    let gone = drop_end ps c.loop-i.i (omega arith) in
+    let gone = drop_all c.loop-i.i ps (omega arith) in
     let here = rw gone at inv in
     let content = c.at-cell.result.content in
     let meant = meaning_tokens bs vs c.args.place content (c.requires.contents c.args.place c.at-cell.result c.at-cell.ensures.value) in

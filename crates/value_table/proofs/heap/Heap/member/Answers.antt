@@ -7,5 +7,4 @@ pub has_item-requires-clause-items : goal.has_item-requires-clause-items
 has_item-requires-clause-items c =
     let heap = c.complete_words.new.self in
     let f = c.cell.ensures.found in
-    let inside = f.inside in
     widen heap.backings.lists c.args.c _ c.in-List.backing c.in-List.count (omega arith) (subst (IsContent heap.backings c.args.c) c.in-List.is f.content)

@@ -1,0 +1,12 @@
+//! The tests of two texts.
+
+/// What is asked of two texts.
+#[derive(Clone, Copy)]
+pub(crate) enum TextTest {
+    /// The first starts with the second.
+    Starts,
+    /// The first ends with the second.
+    Ends,
+    /// The first contains the second.
+    Contains,
+}
