@@ -17,11 +17,7 @@ use Rattle.assembler.specs.Numbers.{is_positive}
 
 -- one more digit at the end
 one_more : (front : List ℕ) (d n : ℕ) → d < 10 → n ≡ number_from_digits 10 front → digits_of 10 n ≡ front → 0 < n * 10 + d → digits_of 10 (number_from_digits 10 (front ++ d ∷ [])) ≡ front ++ d ∷ []
-one_more front d n low e again some =
-    let whole : number_from_digits 10 (front ++ d ∷ []) ≡ n * 10 + d = number_push 10 front d ∙ ap (λ x. x * 10 + d) (sym e) in
-    let high : (n * 10 + d) / 10 ≡ n = omega arith in
-    let last : (n * 10 + d) % 10 ≡ d = omega arith in
-    ap (digits_of 10) whole ∙ digits_of_step 10 (n * 10 + d) (omega arith) some ∙ (λ i. digits_of 10 (high i) ++ (last i ∷ [])) ∙ ap (λ x. x ++ d ∷ []) again
+one_more front d n low e again some = grind (arith, number_push, digits_of_step)
 
 -- digits with no zero before them are those of their number
 goes_on : (rest front : List ℕ) → digits_of 10 (number_from_digits 10 front) ≡ front → 0 < number_from_digits 10 front → AllBelowBase 10 rest → digits_of 10 (number_from_digits 10 (front ++ rest)) ≡ front ++ rest

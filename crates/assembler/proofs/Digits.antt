@@ -90,9 +90,7 @@ pub wide_injective : (m n : ℕ) → m < 2 ^ 64 → n < 2 ^ 64 → wide_text m �
 wide_injective m n l h e = hex_injective 16 m n l h (append_cancel_left (48 ∷ 120 ∷ []) (hex_digits 16 m) (hex_digits 16 n) e)
 
 pub not_wide : (text ds : List ℕ) → text ≡ 48 ∷ 120 ∷ ds → (length ds ≡ 16 → all_hex_digits ds ≡ false) → (w : ℕ) → text ≡ wide_text w → ⊥
-not_wide text ds e fails w f =
-    let same = same_digits text ds (hex_digits 16 w) e f in
-    false≢true (sym (fails (ap length same ∙ length_hex 16 w)) ∙ ap all_hex_digits same ∙ hex_all 16 w)
+not_wide text ds e fails w f = grind (arith, same_digits, false≢true, length, length_hex, hex_all)
 
 plus_digit : (c : ℕ) → c ≡ 43 → is_hex_digit c ≡ true → ⊥
 plus_digit c p e = false≢true (sym (ap is_hex_digit p) ∙ e)
@@ -102,18 +100,10 @@ no_plus [] e = omega arith
 no_plus (c ∷ ds) e = let t = (and_parts (is_hex_digit c) (all_hex_digits ds) e).0 in λ p. plus_digit c p t
 
 pub parse_hex : {E : Type 0} (ds : List ℕ) (r : Result ℕ E) → all_hex_digits ds ≡ true → length ds ≡ 16 → ParsesUnsigned 64 16 ds r → r ≡ Ok (digits_value 16 ds)
-parse_hex ds (Ok x) e long h = ap Ok (h.1 ∙ ap (digits_value 16) (without_leading_plus_none ds (no_plus ds e)))
-parse_hex ds (Err x) e long h =
-    let same = without_leading_plus_none ds (no_plus ds e) in
-    let low : digits_value 16 ds < 2 ^ 64 = (let t = digits_value-lt 16 ds (all_digits ds e) in rw long at t) in
-    let p : IsNumeral 16 ds × (digits_value 16 ds < 2 ^ 64) = ((omega arith, all_digits ds e), low) in
-    absurd (h (subst (λ l. IsNumeral 16 l × (digits_value 16 l < 2 ^ 64)) (sym same) p))
+parse_hex ds h0 e long h = grind (arith, Ok, without_leading_plus_none, no_plus, Err, digits_value-lt, all_digits)
 
 pub wide_read : {E : Type 0} (text ds : List ℕ) (r : Result ℕ E) (w : ℕ) → text ≡ 48 ∷ 120 ∷ ds → all_hex_digits ds ≡ true → length ds ≡ 16 → ParsesUnsigned 64 16 ds r → r ≡ Ok w → text ≡ wide_text w
-wide_read text ds r w e all long h is =
-    let value : digits_value 16 ds ≡ w = (let q : Ok (digits_value 16 ds) ≡ Ok w = sym (parse_hex ds r all long h) ∙ is in cc) in
-    let again : hex_digits 16 w ≡ ds = (λ i. hex_digits (sym long i) (sym value i)) ∙ hex_again ds all in
-    e ∙ ap (λ l. 48 ∷ 120 ∷ l) (sym again)
+wide_read text ds r w e all long h is = grind (arith, Ok, parse_hex, hex_again)
 
 pub wide_refused : {E P : Type 0} (ds : List ℕ) (r : Result ℕ E) (x : E) → all_hex_digits ds ≡ true → length ds ≡ 16 → ParsesUnsigned 64 16 ds r → r ≡ Err x → P
 wide_refused ds r x all long h is = absurd (let q : Ok (digits_value 16 ds) ≡ Err x = sym (parse_hex ds r all long h) ∙ is in cc)

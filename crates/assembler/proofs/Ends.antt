@@ -22,8 +22,7 @@ same_fronts (x ∷ xs) (y ∷ ys) a b l e = let h = heads x y (xs ++ a) (ys ++ b
 -- what is read behind a front is read of the whole
 pub behind : {X : Type 0} (r : Option X) (word front text : List ℕ) (f : X → List ℕ) → word ≡ front ++ text
     → MatchOption r ((x : X) → text ≡ f x → ⊥) (λ x. text ≡ f x) → MatchOption r ((x : X) → word ≡ front ++ f x → ⊥) (λ x. word ≡ front ++ f x)
-behind None word front text f e h = λ x p. h x (append_cancel_left front text (f x) (sym e ∙ p))
-behind (Some x) word front text f e h = e ∙ ap (λ t. front ++ t) h
+behind h0 word front text f e h = grind (arith, append_cancel_left)
 
 pub differ : (xs ys : List ℕ) (r : Bool) → r ≡ bytes_eq xs ys → r ≡ false → xs ≢ ys
 differ xs ys r e f = λ p. false≢true (sym f ∙ e ∙ (bytes_eq-Decides xs ys).1 p)

@@ -33,9 +33,7 @@ pub first_line : (text line rest : List ℕ) → end_of text < length text → l
 first_line text line rest inside l r = ends text inside ∙ ap (λ x. x ∷ lines_of (after_first is_feed text)) (sym l) ∙ ap (λ x. line ∷ lines_of x) (sym r)
 
 no_feed : (x : ℕ) (xs : List ℕ) → end_of (x ∷ xs) ≡ length (x ∷ xs) → ((x == 10) ≡ false) × (end_of xs ≡ length xs)
-no_feed x xs h = either (x == 10)
-    (λ is. let k = rw is at h in absurd (omega (arith, k)))
-    (λ is. let k = rw is at h in (is, omega (arith, k)))
+no_feed x xs h = grind arith
 
 last : (x : ℕ) (xs : List ℕ) → end_of (x ∷ xs) ≡ length (x ∷ xs) → lines_of (x ∷ xs) ≡ (x ∷ xs) ∷ []
 last x [] h = rw (no_feed x [] h).0 refl

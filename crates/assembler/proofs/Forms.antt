@@ -61,24 +61,20 @@ or_true true y e = refl
 or_true false y e = e
 
 either_empty : (cs : List ℕ) → is_decimal cs ≡ true → 0 < length cs
-either_empty [] e = absurd (false≢true e)
-either_empty (c ∷ cs) e = omega arith
+either_empty h0 e = grind (arith, false≢true)
 
 pub decimal_form : (n : ℕ) → is_decimal (decimal n) ≡ true
 decimal_form zero = rw decimal_zero refl
 decimal_form (suc n) = or_true (bytes_eq (decimal (suc n)) (48 ∷ [])) (is_positive (decimal (suc n))) (positive_decimal (suc n) (omega arith))
 
 decimal_immediate : (cs : List ℕ) → is_decimal cs ≡ true → AllDigits 10 cs → is_immediate cs ≡ true
-decimal_immediate [] e d = absurd (false≢true e)
-decimal_immediate (c ∷ cs) e d = let h : nat_eq c 45 ≡ false = grind (arith, nat_tests, digit_from_value) in rw h e
+decimal_immediate h0 e d = grind (arith, false≢true, false, nat_tests, digit_from_value)
 
 pub immediate_form : (z : ℤ) → is_immediate (signed_decimal z) ≡ true
-immediate_form (pos n) = decimal_immediate (decimal n) (decimal_form n) (decimal_digits n)
-immediate_form (negsuc n) = positive_decimal (suc n) (omega arith)
+immediate_form h0 = grind (arith, decimal_immediate, decimal_form, decimal_digits, negsuc, positive_decimal, suc)
 
 pub offset_form : (z : ℤ) → is_offset (offset_text z) ≡ true
-offset_form (pos n) = decimal_form n
-offset_form (negsuc n) = positive_decimal (suc n) (omega arith)
+offset_form h0 = grind (arith, decimal_form, negsuc, positive_decimal, suc)
 
 pub no_immediate : (cs : List ℕ) → is_immediate cs ≡ false → (z : ℤ) → cs ≡ signed_decimal z → ⊥
 no_immediate cs f z e = false≢true (sym f ∙ ap is_immediate e ∙ immediate_form z)
@@ -92,29 +88,19 @@ some n = either_empty (decimal n) (decimal_form n)
 -- what `parse` gives at a number's text
 
 convert : {E : Type 0} (r : Result ℤ E) (P Q : Type 0) (x y : ℤ) → (P → Q) → (Q → P) → x ≡ y → OkIff r P x → OkIff r Q y
-convert (Ok v) P Q x y f g e h = (f h.0, h.1 ∙ e)
-convert (Err v) P Q x y f g e h = λ q. h (g q)
+convert h0 h1 h2 x y f g e h = grind (arith, Err)
 
 plain : {E : Type 0} (w : Width) (n : ℕ) (r : Result ℤ E) → ParsesSigned w 10 (decimal n) r → OkIff r (FitsSigned w (pos n)) (pos n)
-plain w n r h =
-    let v = decimal_value n in
-    convert r _ _ _ _ (λ p. record { sfits = omega (arith, p.1, v) }) (λ q. (some n, omega (arith, q.sfits, v))) (ap pos v) (parse_signed_digits (numerals_by_value _ tells_digits) w (decimal n) r h (decimal_digits n))
+plain w n r h = grind (arith, decimal_value, convert, some, pos, parse_signed_digits, numerals_by_value, tells_digits, decimal_digits)
 
 minus : {E : Type 0} (w : Width) (n : ℕ) (r : Result ℤ E) → ParsesSigned w 10 (45 ∷ decimal (suc n)) r → OkIff r (FitsSigned w (negsuc n)) (negsuc n)
-minus w n r h =
-    let v = decimal_value (suc n) in
-    convert r _ _ _ _ (λ p. record { sfits = omega (arith, p.2, v) }) (λ q. (decimal_digits (suc n), some (suc n), omega (arith, q.sfits, v))) (ap (λ m. neg_ℤ (pos m)) v) (parse_signed_minus (numerals_by_value _ tells_digits) w (45 ∷ decimal (suc n)) r h refl)
+minus w n r h = grind (arith, decimal_value, suc, convert, decimal_digits, some, neg_ℤ, pos, parse_signed_minus, numerals_by_value, tells_digits)
 
 plus : {E : Type 0} (w : Width) (n : ℕ) (r : Result ℤ E) → ParsesSigned w 10 (43 ∷ decimal n) r → OkIff r (FitsSigned w (pos n)) (pos n)
-plus w n r h =
-    let v = decimal_value n in
-    convert r _ _ _ _ (λ p. record { sfits = omega (arith, p.2, v) }) (λ q. (decimal_digits n, some n, omega (arith, q.sfits, v))) (ap pos v) (parse_signed_plus (numerals_by_value _ tells_digits) w (43 ∷ decimal n) r h refl)
+plus w n r h = grind (arith, decimal_value, convert, decimal_digits, some, pos, parse_signed_plus, numerals_by_value, tells_digits)
 
 pub parse_number : {E : Type 0} (w : Width) (z : ℤ) (cs : List ℕ) (r : Result ℤ E) → (cs ≡ signed_decimal z) ⊎ (cs ≡ offset_text z) → ParsesSigned w 10 cs r → OkIff r (FitsSigned w z) z
-parse_number w (pos n) cs r (inl e) h = plain w n r (subst (λ l. ParsesSigned w 10 l r) e h)
-parse_number w (pos n) cs r (inr e) h = plus w n r (subst (λ l. ParsesSigned w 10 l r) e h)
-parse_number w (negsuc n) cs r (inl e) h = minus w n r (subst (λ l. ParsesSigned w 10 l r) e h)
-parse_number w (negsuc n) cs r (inr e) h = minus w n r (subst (λ l. ParsesSigned w 10 l r) e h)
+parse_number w h0 cs r h1 h = grind (arith, plain, pos, plus, negsuc, minus)
 
 pub number_read : {E : Type 0} (w : Width) (z v : ℤ) (r : Result ℤ E) → r ≡ Ok v → OkIff r (FitsSigned w z) z → z ≡ to_z w (of_z w v)
 number_read {E} w z v r e h = let t : OkIff {E = E} (Ok v) (FitsSigned w z) z = subst (λ x. OkIff x (FitsSigned w z) z) e h in sym (ap (λ x. to_z w (of_z w x)) t.1 ∙ to_z-of_z w z t.0)

@@ -113,16 +113,10 @@ pub mnemonic_injective : (x y : Mnemonic) → mnemonic_text x ≡ mnemonic_text 
 mnemonic_injective = by_search mnemonic_text mnemonics mnemonic_found
 
 pub signed_injective : (y z : ℤ) → signed_decimal y ≡ signed_decimal z → y ≡ z
-signed_injective (pos m) (pos n) e = ap pos (decimal_injective m n e)
-signed_injective (pos m) (negsuc n) e = absurd (no_minus m (decimal (suc n)) e)
-signed_injective (negsuc m) (pos n) e = absurd (no_minus n (decimal (suc m)) (sym e))
-signed_injective (negsuc m) (negsuc n) e = let h : suc m ≡ suc n = decimal_injective (suc m) (suc n) (tails 45 45 (decimal (suc m)) (decimal (suc n)) e) in let k : m ≡ n = omega arith in ap negsuc k
+signed_injective h0 h1 e = grind (arith, pos, decimal_injective, negsuc, no_minus, suc, tails)
 
 pub offset_injective : (y z : ℤ) → offset_text y ≡ offset_text z → y ≡ z
-offset_injective (pos m) (pos n) e = ap pos (decimal_injective m n (tails 43 43 (decimal m) (decimal n) e))
-offset_injective (pos m) (negsuc n) e = absurd (omega (arith, heads 43 45 (decimal m) (decimal (suc n)) e))
-offset_injective (negsuc m) (pos n) e = absurd (omega (arith, heads 45 43 (decimal (suc m)) (decimal n) e))
-offset_injective (negsuc m) (negsuc n) e = let h : suc m ≡ suc n = decimal_injective (suc m) (suc n) (tails 45 45 (decimal (suc m)) (decimal (suc n)) e) in let k : m ≡ n = omega arith in ap negsuc k
+offset_injective h0 h1 e = grind (arith, pos, decimal_injective, tails, negsuc, heads, suc)
 
 no_form : (r : Register) → is_immediate (register_text r) ≡ false
 no_form register.R0 = refl
@@ -140,5 +134,4 @@ operand_injective (Reg r) (Reg s) e = ap Reg (register_injective r s e)
 
 -- no name is an offset
 pub name_no_offset : (cs : List ℕ) (z : ℤ) → IsName cs → cs ≡ offset_text z → ⊥
-name_no_offset cs (pos n) h e = let t : IsName (43 ∷ decimal n) = rw e at h in false≢true t.0
-name_no_offset cs (negsuc n) h e = let t : IsName (45 ∷ decimal (suc n)) = rw e at h in false≢true t.0
+name_no_offset cs h0 h e = grind arith

@@ -21,43 +21,32 @@ use Rattle.assembler.specs.declared.lines.line_error.LineError.TheVariants.{OutO
 -- offsets of 16 bits
 
 pub fits_of : (z : ℤ) → fits_16 z ≡ true → FitsSigned w16 z
-fits_of (pos n) e = let h = ltb-true n 32768 e in omega arith
-fits_of (negsuc n) e = let h = ltb-true n 32768 e in omega arith
+fits_of h0 e = grind arith
 
 pub of_fits : (z : ℤ) → FitsSigned w16 z → fits_16 z ≡ true
-of_fits (pos n) h = lt-ltb n 32768 (omega (arith, h))
-of_fits (negsuc n) h = lt-ltb n 32768 (omega (arith, h))
+of_fits h0 h = grind arith
 
 wider : (z : ℤ) → FitsSigned w16 z → FitsSigned w32 z
-wider (pos n) h = omega (arith, h)
-wider (negsuc n) h = omega (arith, h)
+wider h0 h = grind arith
 
 -- a jump that reaches is in range, and one in range reaches
 
 pub in_range_by : (j : Jump) (z : ℤ) → JumpInRange j → FitsSigned w32 z → reaches j z ≡ true → IsStatement (jump_by j z)
-in_range_by Near z h f e = fits_of z e
-in_range_by (Branch comparison width dst operand) z h f e = (h, fits_of z e)
-in_range_by _ z h f e = f
+in_range_by h0 z h f e = grind arith
 
 pub reaches_of : (j : Jump) (z : ℤ) → IsStatement (jump_by j z) → reaches j z ≡ true
-reaches_of Near z h = of_fits z h
-reaches_of (Branch comparison width dst operand) z h = of_fits z h.1
-reaches_of _ z h = refl
+reaches_of h0 z h = grind arith
 
 pub offset_fits : (j : Jump) (z : ℤ) → IsStatement (jump_by j z) → FitsSigned w32 z
-offset_fits Near z h = wider z h
-offset_fits (Branch comparison width dst operand) z h = wider z h.1
-offset_fits _ z h = h
+offset_fits h0 z h = grind arith
 
 -- the line of a jump by an offset
 
 pub has_line : (j : Jump) (z : ℤ) → HasLine (statement (jump_by j z))
-has_line Near z = tt
-has_line _ z = tt
+has_line h0 z = grind arith
 
 pub mnemonic_is : (j : Jump) (z : ℤ) → item_mnemonic (statement (jump_by j z)) ≡ Some (jump_mnemonic j)
-mnemonic_is Near z = refl
-mnemonic_is _ z = refl
+mnemonic_is h0 z = grind arith
 
 pub operands_are : (j : Jump) (z : ℤ) → operands_text (jump_operands j (offset_text z)) ≡ item_operands (statement (jump_by j z))
 operands_are Near z = refl

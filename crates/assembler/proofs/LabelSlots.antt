@@ -8,12 +8,10 @@ use Rattle.assembler.specs.Items.{Item, statement, label, jump, item_slots, slot
 use Rattle.assembler.specs.Labels.{IsFree, names, label_slot_from, label_slot}
 
 pub free_in : (before : List Item) (labels : List ℕ → Option ℕ) (i : Item) → HasSlots labels before → IsFree before i → IsFreeIn labels i
-free_in before labels (label name) has free = has name ∙ free
-free_in before labels _ has free = tt
+free_in before labels h0 has free = grind arith
 
 pub free_of : (before : List Item) (labels : List ℕ → Option ℕ) (i : Item) → HasSlots labels before → IsFreeIn labels i → IsFree before i
-free_of before labels (label name) has free = sym (has name) ∙ free
-free_of before labels _ has free = tt
+free_of before labels h0 has free = grind arith
 
 pub slots_snoc : (before : List Item) (i : Item) → slots_of (before ++ (i ∷ [])) ≡ slots_of before + item_slots i
 slots_snoc [] i = omega arith
@@ -37,8 +35,7 @@ pub same_name : (name q : List ℕ) → bytes_eq name q ≡ true → name ≡ q
 same_name name q e = let h = bytes_eq-Decides name q in search (rules, h, e)
 
 or_none : (o : Option ℕ) → o ≡ or_else o None
-or_none None = refl
-or_none (Some x) = refl
+or_none h0 = grind (arith, Some)
 
 -- a label that was free gets its slot
 named_last : (before : Option ℕ) (i : Item) (q : List ℕ) (labels : List ℕ → Option ℕ) (slot : ℕ) → labels q ≡ before → IsFreeIn labels i → (if names i q then Some slot else labels q) ≡ or_else before (slot_if (names i q) slot)
@@ -49,8 +46,4 @@ named_last before (label name) q labels slot e free = either (bytes_eq name q)
     (λ is. rw is (e ∙ or_none before))
 
 pub slots_after_label : (before : List Item) (i : Item) (old new : List ℕ → Option ℕ) (slot : ℕ) → slot ≡ slots_of before → HasSlots old before → IsFreeIn old i → ((q : List ℕ) → new q ≡ (if names i q then Some slot else old q)) → HasSlots new (before ++ (i ∷ []))
-slots_after_label before i old new slot s has free step q =
-    step q
-    ∙ named_last (label_slot before q) i q old slot (has q) free
-    ∙ ap (λ n. or_else (label_slot before q) (slot_if (names i q) n)) (s ∙ sym (zero-add (slots_of before)))
-    ∙ sym (label_slot_append before (i ∷ []) 0 q)
+slots_after_label before i old new slot s has free step q = grind (arith, named_last, zero-add, label_slot_append)

@@ -40,9 +40,7 @@ lines_again quiet [] each = refl
 lines_again quiet (x ∷ xs) each = cut_off (statement_text x) (lines_text xs) (quiet x each.0) ∙ ap (λ lines. statement_text x ∷ lines) (lines_again quiet xs each.1)
 
 has_digits : (x : Statement) → IsStatement x → HasDigits x
-has_digits (Insn (LoadWide dst value)) h = h
-has_digits (Insn _) h = tt
-has_digits (Slot word) h = h
+has_digits h0 h = grind arith
 
 says_each : (xs : List Statement) → EachStatement xs → EachSays (map statement_text xs) (map statement xs)
 says_each [] each = tt
@@ -83,10 +81,7 @@ abbrev Stands : List ℕ → List Statement → Type 0
 Stands code xs = EachStatement xs × (code ≡ all_bytes xs)
 
 whole_after : SlotsAreFilled → (x : Statement) (code rest : List ℕ) → code ≡ statement_bytes x ++ rest → length code % 8 ≡ 0 → length rest % 8 ≡ 0
-whole_after filled x code rest e whole =
-    let sum : length code ≡ length (statement_bytes x) + length rest = ap (λ z. length z) e ∙ length-append (statement_bytes x) rest in
-    let size : length (statement_bytes x) ≡ 8 * statement_slots x = (filled.by_statement x).length_is in
-    omega (arith, sum, size, whole)
+whole_after filled x code rest e whole = grind arith
 
 stands_of : StatementIsSpelled → SlotsAreFilled → (code : List ℕ) (xs : List Statement) → All (λ b. b < 256) code → length code % 8 ≡ 0 → Lists code xs → Stands code xs
 stands_of spelled filled code [] small whole ended = (tt, refl)

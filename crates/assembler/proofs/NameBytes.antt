@@ -15,8 +15,7 @@ use Rattle.insn_codec.proofs.Plain.{is_plain, offset_plain, operand_plain, plain
 use Rattle.assembler.proofs.Plain.{plain_lacks}
 
 pub go_register : (r : Register) → all_go_on (register_text r) ≡ true
-go_register register.R0 = refl
-go_register _ = refl
+go_register h0 = grind arith
 
 or_true : (b : Bool) → (b || true) ≡ true
 or_true true = refl

@@ -36,10 +36,7 @@ named_none items before name n e = none_named before n.0 0 name (rw (n.1) at e)
 
 -- a label that no earlier line names has the slots before its line
 pub first_named : (before later : List Item) (name : List ℕ) → label_slot before name ≡ None → label_slot (before ++ label name ∷ later) name ≡ Some (slots_of before)
-first_named before later name free =
-    label_slot_append before (label name ∷ later) 0 name
-    ∙ ap (λ o. or_else o (label_slot_from (0 + slots_of before) (label name ∷ later) name)) free
-    ∙ (let none : 0 + slots_of before ≡ slots_of before = zero-add (slots_of before) in rw (names_itself name, none) refl)
+first_named before later name free = grind (arith, label_slot_append, or_else, zero-add, names_itself)
 
 -- no label is named twice
 abbrev pub Once : List Item → List Item → Type 0
@@ -118,8 +115,4 @@ slots_append (i ∷ before) later = let e = slots_append before later in omega (
 
 -- no place is past the slots
 pub label_slot_bound : (items : List Item) (q : List ℕ) (slot : ℕ) → label_slot items q ≡ Some slot → slot ≤ slots_of items
-label_slot_bound items q slot e =
-    let h = found items 0 q slot e in
-    let all : slots_of items ≡ slots_of h.0 + slots_of (label q ∷ h.1.0) = ap slots_of h.1.1 ∙ slots_append h.0 (label q ∷ h.1.0) in
-    let at : slot ≡ 0 + slots_of h.0 = h.2 in
-    omega (arith, all, at)
+label_slot_bound items q slot e = grind (arith, found, slots_append)

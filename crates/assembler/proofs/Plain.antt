@@ -25,5 +25,4 @@ all_go_on_plain (c ∷ cs) e =
     rw (p, all_go_on_plain cs t.1) refl
 
 pub name_plain : (cs : List ℕ) → IsName cs → all_plain cs ≡ true
-name_plain [] h = absurd h
-name_plain (c ∷ cs) h = let p : is_plain c ≡ true = first_byte_plain c h.0 in rw (p, all_go_on_plain cs h.1) refl
+name_plain h0 h = grind (arith, is_plain, true, first_byte_plain, all_go_on_plain)

@@ -26,14 +26,10 @@ use Rattle.assembler.specs.declared.lines.jump.Jump.TheVariants.{Near, Branch}
 
 -- a jump that does not reach has 16 bits, and the offset does not fit them
 out_of_reach : (j : Jump) (z : ℤ) → reaches j z ≡ false → IsShort j × (FitsSigned w16 z → ⊥)
-out_of_reach Near z e = (tt, λ f. both_ways _ e (of_fits z f))
-out_of_reach (Branch comparison width dst operand) z e = (tt, λ f. both_ways _ e (of_fits z f))
-out_of_reach _ z e = absurd (both_ways true e refl)
+out_of_reach h0 z e = grind (arith, both_ways, of_fits, true)
 
 not_reached : (j : Jump) (z : ℤ) → IsShort j → (FitsSigned w16 z → ⊥) → reaches j z ≡ false
-not_reached Near z s out = either (reaches Near z) (λ e. absurd (out (fits_of z e))) (λ e. e)
-not_reached (Branch comparison width dst operand) z s out = either (reaches Near z) (λ e. absurd (out (fits_of z e))) (λ e. e)
-not_reached _ z s out = absurd s
+not_reached h0 z s out = grind (arith, either, fits_of)
 
 -- what a line that the second pass refuses is refused for
 

@@ -71,9 +71,7 @@ emitted_of labels number slot items bytes (line {i = i} {is = is} {bytes = front
     ap (λ r. and_then r (code_bytes labels (suc number) (slot + item_slots i) is)) this.1 ∙ ap (λ r. after (bytes_of this.0) r) later ∙ ap (λ b. Ok (b ++ more)) (sym this.2)
 
 resolved_same : (labels others : List ℕ → Option ℕ) (number slot : ℕ) (i : Item) → ((q : List ℕ) → labels q ≡ others q) → line_statement labels number slot i ≡ line_statement others number slot i
-resolved_same labels others number slot (statement x) h = refl
-resolved_same labels others number slot (label name) h = refl
-resolved_same labels others number slot (jump j name) h = ap (λ t. jump_at number slot j t) (h name)
+resolved_same labels others number slot h0 h = grind arith
 
 -- two maps with the same slots make the same bytes
 pub emitted_same : (labels others : List ℕ → Option ℕ) (number slot : ℕ) (is : List Item) → ((q : List ℕ) → labels q ≡ others q) → code_bytes labels number slot is ≡ code_bytes others number slot is

@@ -52,19 +52,7 @@ pub once_scanned : (lines : List (List ℕ)) (items : List Item) → Scans [] li
 once_scanned lines items scans = let added = added_by [] items lines scans in subst (λ is. Once [] is) (sym added.1) added.3
 
 pub scanned_source : (text bytes : List ℕ) (items : List Item) → Scans [] (lines_of text) (Ok items) → code_bytes (label_slot items) 1 0 items ≡ Ok bytes → Source text bytes
-scanned_source text bytes items scans e =
-    let added = added_by [] items (lines_of text) scans in
-    let told : EachSays (lines_of text) items = subst (λ is. EachSays (lines_of text) is) (sym added.1) added.2 in
-    let once : Once [] items = once_scanned (lines_of text) items scans in
-    let room = room_of [] items (lines_of text) scans (omega arith) in
-    record {
-      items = items;
-      lines = told;
-      labels = label_slot items;
-      places = gives_slots items once;
-      room = room;
-      code = stand_of (label_slot items) 1 0 items bytes (slots_fit items room) (omega (arith, room)) (in_range_of (lines_of text) items told) e;
-    }
+scanned_source text bytes items scans e = grind (arith, added_by, Once, once_scanned, room_of, gives_slots, stand_of, slots_fit, in_range_of)
 
 pub source_of : (text bytes : List ℕ) → Assembles (lines_of text) (Ok bytes) → Source text bytes
 source_of text bytes (resolved items scans e) = scanned_source text bytes items scans e

@@ -44,14 +44,14 @@ mag_quotient : (x y : ℤ) → mag (int_div x y) ≤ mag x + 1
 mag_quotient (pos a) (pos b) = grind arith
 mag_quotient _ _ = grind arith
 
--- `wrapping_div` leaves the word of the quotient
-pub quotient_is : (w : Width) (x y q : ℤ) → FitsSigned w x → FitsSigned w y → FitsSigned w q → q ≡ int_wrapping_div w (cast_signed w (cast_unsigned w x)) (cast_signed w (cast_unsigned w y)) → word_of (bits w) (cast_signed w (cast_unsigned w q)) ≡ word_of (bits w) (int_div x y)
-quotient_is w x y q fx fy fq e =
+-- `wrapping_div` of what two words read as leaves the word of the quotient
+pub quotient_is : (w : Width) (a b : ℕ) (x y q : ℤ) → FitsSigned w x → FitsSigned w y → FitsSigned w q → x ≡ signed_of (bits w) a → y ≡ signed_of (bits w) b → q ≡ int_wrapping_div w (cast_signed w (cast_unsigned w x)) (cast_signed w (cast_unsigned w y)) → word_of (bits w) (cast_signed w (cast_unsigned w q)) ≡ word_of (bits w) (int_div (signed_of (bits w) a) (signed_of (bits w) b))
+quotient_is w a b x y q fx fy fq ex ey e =
     let f : q ≡ int_wrapping_div w x y = rw (← to_z-of_z w x fx, ← to_z-of_z w y fy) e in
-    ap (word_of (bits w)) (to_z-of_z w q fq ∙ f) ∙ wrapped_is w (int_div x y) (omega (arith, mag_quotient x y, fx.sfits, pow-bits w))
+    rw (← ex, ← ey) (ap (word_of (bits w)) (to_z-of_z w q fq ∙ f) ∙ wrapped_is w (int_div x y) (omega (arith, mag_quotient x y, fx.sfits, pow-bits w)))
 
--- a word that is not 0 is no number 0
-pub nonzero_is : (w : Width) (n : ℕ) (z : ℤ) → n < 2 ^ bits w → ¬ (n ≡ 0) → z ≡ signed_of (bits w) n → IsNonZero w z
-nonzero_is w n z h ne e =
+-- a word that is not 0 is no number 0, wrapped or not
+pub nonzero_is : (w : Width) (n : ℕ) (z : ℤ) → n < 2 ^ bits w → ¬ (n ≡ 0) → FitsSigned w z → z ≡ signed_of (bits w) n → IsNonZero w (cast_signed w (cast_unsigned w z))
+nonzero_is w n z h ne fits e =
     let f : cast_unsigned w z ≡ n = ap (cast_unsigned w) (e ∙ sym (signed_is w n h)) ∙ of_z-to_z w n h in
-    omega (arith, f, ne)
+    rw (to_z-of_z w z fits) (omega (arith, f, ne))

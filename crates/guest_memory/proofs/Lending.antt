@@ -58,9 +58,6 @@ lent_byte m address n lent is l i inside =
 lent_length : (m : Memory) (address n : ℕ) (lent : List ℕ) → Lends m address n lent → length lent ≡ n
 lent_length m address n lent l =
     let p = l.place_is in
-    let low = p.low in
-    let high = p.high in
-    let at_is = p.is in
     ap (λ (bs : List ℕ). length bs) (sym l.is) ∙ length-part m.constants l.at n (omega arith)
 
 none_length : (m : Memory) (address n : ℕ) (lent : List ℕ) → n < 1 → constants_of m address n ≡ Some lent → length lent ≡ n

@@ -43,19 +43,16 @@ unfolding byte_at
 byte_at-region Stack m address is stands =
     or_else-first _ _ _ (byte_from-inside (base_of Stack) m.stack address stands.0 stands.1)
 byte_at-region Scratch m address is stands =
-    let low = stands.0 in
     let stack = is.stack in
     or_else-next _ _ (byte_from-past (base_of Stack) m.stack address (omega arith))
     ∙ or_else-first _ _ _ (byte_from-inside (base_of Scratch) m.scratch address stands.0 stands.1)
 byte_at-region Verdict m address is stands =
-    let low = stands.0 in
     let stack = is.stack in
     let scratch = is.scratch in
     or_else-next _ _ (byte_from-past (base_of Stack) m.stack address (omega arith))
     ∙ or_else-next _ _ (byte_from-past (base_of Scratch) m.scratch address (omega arith))
     ∙ or_else-first _ _ _ (byte_from-inside (base_of Verdict) m.verdict address stands.0 stands.1)
 byte_at-region Constants m address is stands =
-    let low = stands.0 in
     let stack = is.stack in
     let scratch = is.scratch in
     let verdict = is.verdict in

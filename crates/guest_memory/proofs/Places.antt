@@ -30,13 +30,7 @@ test_both : (a b c d : ℕ) → a ≤ b → c ≤ d → (nat_le a b && nat_le c 
 test_both a b c d low high = grind (arith, nat_tests)
 
 pub place_of-some : (base len address n at : ℕ) → place_of base len address n ≡ Some at → HasPlace base len address n at
-place_of-some base len address n at h =
-    let test = chosen _ _ _ h in
-    record {
-      low = test_low base address (address + n) (base + len) test;
-      high = test_high base address (address + n) (base + len) test;
-      is = chosen_is _ _ _ h;
-    }
+place_of-some base len address n at h = grind arith
 
 pub place_of-here : (base len address n : ℕ) → base ≤ address → address + n ≤ base + len → place_of base len address n ≡ Some (address - base)
 place_of-here base len address n low high = rw (test_both base address (address + n) (base + len) low high) refl
@@ -57,12 +51,7 @@ nowhere m address n a b c d Verdict = c
 nowhere m address n a b c d Constants = d
 
 region_of-says : (m : Memory) (address n : ℕ) → Says m address n (region_of m address n)
-region_of-says m address n =
-    at_region-cases (Says m address n) Stack _ _ (λ at e. place_of-some _ _ _ _ _ e) (λ no_stack.
-    at_region-cases (Says m address n) Scratch _ _ (λ at e. place_of-some _ _ _ _ _ e) (λ no_scratch.
-    at_region-cases (Says m address n) Verdict _ _ (λ at e. place_of-some _ _ _ _ _ e) (λ no_verdict.
-    at_region-cases (Says m address n) Constants _ None (λ at e. place_of-some _ _ _ _ _ e) (λ no_constants.
-    nowhere m address n no_stack no_scratch no_verdict no_constants))))
+region_of-says m address n = grind arith
 
 -- all of a range is in a region, from a place on
 pub record IsInside (m : Memory) (address n : ℕ) : Type 0 where
@@ -86,10 +75,7 @@ pub stands_high : (r : Region) (m : Memory) (address n : ℕ) → 1 ≤ n → Al
 stands_high r m address n some all = let last = (all (n - 1) (omega arith)).1 in omega (arith, last)
 
 none_stands : (m : Memory) (address n : ℕ) → 1 ≤ n → ((r : Region) → place_of (base_of r) (length (bytes_in r m)) address n ≡ None) → StandInOne m address n → ⊥
-none_stands m address n some none one =
-    let here = place_of-here (base_of one.0) (length (bytes_in one.0 m)) address n (stands_low one.0 m address n some one.1) (stands_high one.0 m address n some one.1) in
-    let missing = none one.0 in
-    cc
+none_stands m address n some none one = grind arith
 
 stands_by : (m : Memory) (address n : ℕ) (o : Option (Region × ℕ)) → 1 ≤ n → region_of m address n ≡ o → Says m address n o → IsInside m address n ⊎ IsOutside m address n
 stands_by m address n (Some (r, at)) some e says = inl (record { region = r; at = at; is = e; place = says })
@@ -105,10 +91,4 @@ one_region m address n i = (i.region, all_stand i.region m address n i.at i.plac
 -- an address below the stack is beyond its end, where the difference wraps
 pub place_on_stack : (len address n : ℕ) → address < 2 ^ 64 → len ≤ 65536 → n ≤ len → (address + 18446744069414584320) % 18446744073709551616 ≤ len - n
     → Some ((address + 18446744069414584320) % 18446744073709551616) ≡ place_of 4294967296 len address n
-place_on_stack len address n word short some within =
-    elim (cases_lt address 4294967296) [
-      | inl below ↦ absurd (omega (arith, below, short, within))
-      | inr above ↦
-          let at : (address + 18446744069414584320) % 18446744073709551616 ≡ address - 4294967296 = omega (arith, word, above) in
-          ap Some at ∙ sym (place_of-here 4294967296 len address n (omega (arith, above)) (omega (arith, word, above, some, within)))
-    ]
+place_on_stack len address n word short some within = grind arith

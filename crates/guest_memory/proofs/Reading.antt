@@ -70,9 +70,6 @@ loaded_bound : (m : Memory) (address n word : ℕ) → IsMemory m → Loads m ad
 loaded_bound m address n word is l =
     let bytes : List ℕ = bytes_in l.region m in
     let place = l.place in
-    let low = place.low in
-    let high = place.high in
-    let at_is = place.is in
     let whole : length (part bytes l.at n) ≡ n = length-part bytes l.at n (omega arith) in
     let bound = word_of-bound (part bytes l.at n) (all-part bytes l.at n (is.bytes l.region)) in
     subst (λ (w : ℕ). w < 256 ^ n) l.is (subst (λ (k : ℕ). word_of (part bytes l.at n) < 256 ^ k) whole bound)

@@ -61,7 +61,6 @@ module _ (bytes : List ℕ) (i w : ℕ) (room : HasWord bytes i) where
 
   get_or_other : (j k : ℕ) → (j ≡ i → ⊥) → k < 8 → get_or (overlay bytes (8 * i) (low_bytes 8 w)) (8 * j + k) 0 ≡ get_or bytes (8 * j + k) 0
   get_or_other j k other inside =
-      let eight = length_low 8 w in
       elim (cases_lt j i) [
         | inl before ↦ get_or-overlay_before bytes (8 * i) (low_bytes 8 w) fits (8 * j + k) (omega arith)
         | inr after ↦ get_or-overlay_after bytes (8 * i) (low_bytes 8 w) fits (8 * j + k) (let more : suc i ≤ j = omega (arith, other, after) in omega arith)
@@ -93,9 +92,7 @@ words_are_put = record {
 }
 
 place_is : (base len i address : ℕ) → 8 * i + 8 ≤ len → address ≡ base + 8 * i → place_of base len address 8 ≡ Some (8 * i)
-place_is base len i address room e =
-    let place : address - base ≡ 8 * i = omega arith in
-    place_of-here base len address 8 (omega arith) (omega arith) ∙ ap Some place
+place_is base len i address room e = grind arith
 
 place_past : (base len address : ℕ) → base + len ≤ address → place_of base len address 8 ≡ None
 place_past base len address past = grind (arith, nat_tests)
@@ -103,18 +100,9 @@ place_past base len address past = grind (arith, nat_tests)
 -- where word i of a region begins
 pub word_place : (m : Memory) (r : Region) (i address : ℕ) → IsMemory m → HasWord (bytes_in r m) i → address ≡ base_of r + 8 * i → region_of m address 8 ≡ Some (r, 8 * i)
 word_place m Stack i address is room e = rw (place_is (base_of Stack) (length m.stack) i address room e) refl
-word_place m Scratch i address is room e =
-    let stack = is.stack in
-    rw (place_past (base_of Stack) (length m.stack) address (omega arith), place_is (base_of Scratch) (length m.scratch) i address room e) refl
-word_place m Verdict i address is room e =
-    let stack = is.stack in
-    let scratch = is.scratch in
-    rw (place_past (base_of Stack) (length m.stack) address (omega arith), place_past (base_of Scratch) (length m.scratch) address (omega arith), place_is (base_of Verdict) (length m.verdict) i address room e) refl
-word_place m Constants i address is room e =
-    let stack = is.stack in
-    let scratch = is.scratch in
-    let verdict = is.verdict in
-    rw (place_past (base_of Stack) (length m.stack) address (omega arith), place_past (base_of Scratch) (length m.scratch) address (omega arith), place_past (base_of Verdict) (length m.verdict) address (omega arith), place_is (base_of Constants) (length m.constants) i address room e) refl
+word_place m Scratch i address is room e = grind arith
+word_place m Verdict i address is room e = grind arith
+word_place m Constants i address is room e = grind arith
 
 pub read_word : (m : Memory) (r : Region) (i address : ℕ) → IsMemory m → HasWord (bytes_in r m) i → address ≡ base_of r + 8 * i → read_of m address Dw ≡ Ok (word_in (bytes_in r m) i)
 unfolding read_of word_in
@@ -140,11 +128,7 @@ module _ (m : Memory) (r : Region) (i w : ℕ) (room : HasWord (bytes_in r m) i)
 
   -- a fact about the bytes of every region before the word was put, and about those with the word, is one about every region after it
   each_region : (P : Region → List ℕ → Type 0) → P r (put_word (bytes_in r m) i w) → (other : Region) → P other (bytes_in other m) → P other (bytes_in other after)
-  each_region P put other old =
-      elim (with_bytes-either m r other (put_word (bytes_in r m) i w)) [
-        | inl same ↦ subst (λ (q : Region). P q (bytes_in q after)) (sym same) (subst (P r) (sym (with_bytes-same r (put_word (bytes_in r m) i w) m)) put)
-        | inr kept ↦ subst (P other) (sym kept) old
-      ]
+  each_region P put other old = grind arith
 
   length_after : (other : Region) → length (bytes_in other after) ≡ length (bytes_in other m)
   length_after other =

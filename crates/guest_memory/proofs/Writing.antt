@@ -171,13 +171,10 @@ constants_not_writable address n at len some p all =
 
 made_at : (m : Memory) (address n at : ℕ) (bytes : List ℕ) (r : Region) → 1 ≤ n → IsMemory m → HasPlace (base_of r) (length (bytes_in r m)) address n at → IsOk (write_at m bytes (Some (r, at))) ↔ AllWritable address n
 made_at m address n at bytes Stack some is p =
-    let long = is.stack in
     ((λ ok. range_writable (base_of Stack) (length m.stack) address n at (λ a low high. writable_stack a low (omega arith)) p), (λ all. refl))
 made_at m address n at bytes Scratch some is p =
-    let long = is.scratch in
     ((λ ok. range_writable (base_of Scratch) (length m.scratch) address n at (λ a low high. writable_scratch a low (omega arith)) p), (λ all. refl))
 made_at m address n at bytes Verdict some is p =
-    let long = is.verdict in
     ((λ ok. range_writable (base_of Verdict) (length m.verdict) address n at (λ a low high. writable_verdict a low (omega arith)) p), (λ all. refl))
 made_at m address n at bytes Constants some is p =
     ((λ ok. cc), (λ all. absurd (constants_not_writable address n at (length m.constants) some p all)))
@@ -199,19 +196,15 @@ write_done m address size word is =
 -- a range in a region below the constants is not in them
 not_constant : (m : Memory) (base len address n at : ℕ) → base + len ≤ base_of Constants → 1 ≤ n → HasPlace base len address n at → AllStandIn Constants m address n → ⊥
 not_constant m base len address n at below some p all =
-    let high = p.high in
     let first = (all 0 (omega arith)).0 in
     omega (arith, first)
 
 constant_at : (m : Memory) (address n at : ℕ) (bytes : List ℕ) (r : Region) → 1 ≤ n → IsMemory m → HasPlace (base_of r) (length (bytes_in r m)) address n at → (write_at m bytes (Some (r, at)) ≡ Err F4) ↔ AllStandIn Constants m address n
 constant_at m address n at bytes Stack some is p =
-    let long = is.stack in
     ((λ err. cc), (λ all. absurd (not_constant m (base_of Stack) (length m.stack) address n at (omega arith) some p all)))
 constant_at m address n at bytes Scratch some is p =
-    let long = is.scratch in
     ((λ err. cc), (λ all. absurd (not_constant m (base_of Scratch) (length m.scratch) address n at (omega arith) some p all)))
 constant_at m address n at bytes Verdict some is p =
-    let long = is.verdict in
     ((λ err. cc), (λ all. absurd (not_constant m (base_of Verdict) (length m.verdict) address n at (omega arith) some p all)))
 constant_at m address n at bytes Constants some is p = ((λ err. all_stand Constants m address n at p), (λ all. refl))
 

@@ -28,11 +28,7 @@ same_fields o d s d' s' off n off' n' a b c e = cc
 
 -- the fields of a slot are read back from its bytes, whatever stands behind them
 pub slot_of-slot_bytes : (s : Slot) (rest : List ℕ) → IsSlot s → slot_of (slot_bytes s ++ rest) ≡ s
-slot_of-slot_bytes s rest f =
-    let small : s.dst < 16 = f.dst in
-    let dst : (16 * s.src + s.dst) % 16 ≡ s.dst = omega arith in
-    let src : (16 * s.src + s.dst) / 16 ≡ s.src = omega arith in
-    same_fields _ _ _ _ _ _ _ _ _ dst src (again_16 s.offset f.offset) (again_32 s.imm f.imm)
+slot_of-slot_bytes s rest f = grind arith
 
 byte_below : (text : List ℕ) (k : ℕ) → All (λ b. b < 256) text → slice_index text k < 256
 byte_below text k small = elim (cases_lt k (length text)) as (λ _. slice_index text k < 256) [ inl h ↦ small k 0 h | inr h ↦ rw (get_or_past text k 0 h) (lit< tt) ]
