@@ -1,5 +1,5 @@
 -- Addresses in hex digits.
-use Rattle.std.proofs.Common.{◌≡◌, ℕ, zero, suc, ◌+◌, ◌-◌, ◌*◌, ◌/◌, ◌%◌, ◌^◌, ◌<◌, ◌≤◌, Bool, true, false, ◌&&◌, ◌||◌, List, [], ◌∷◌, ◌++◌, nat_eq, nat_le, nat_lt, if◌then◌else◌, refl, ap, ◌∙◌, append_assoc, arith, subst, add-one, lit<}
+use Rattle.std.proofs.Common.{◌≡◌, ℕ, zero, suc, ◌+◌, ◌-◌, ◌*◌, ◌/◌, ◌%◌, ◌^◌, ◌<◌, ◌≤◌, Bool, true, false, ◌&&◌, ◌||◌, List, [], ◌∷◌, ◌++◌, nat_eq, nat_le, nat_lt, if◌then◌else◌, refl, ap, ◌∙◌, append_assoc, arith, add-one}
 use Rattle.std.proofs.Math.Nat.{pow-le-pow_right, pow-suc}
 use Rattle.std.proofs.lemmas.Bool.Decides.{nat_tests}
 use Rattle.insn_codec.specs.Lines.{hex_digit, hex_digits}
@@ -14,10 +14,7 @@ below_digit d a v small digit =
 
 -- 16 digits have 64 bits
 pub below_word : (d a : ℕ) → d ≤ 16 → a < 16 ^ d → a < 2 ^ 64
-below_word d a few small =
-    let most : 16 ^ d ≤ 16 ^ 16 = pow-le-pow_right {n = 16} (lit< tt) few in
-    let word : 16 ^ 16 ≡ 2 ^ 64 = refl in
-    omega (arith, most, word, small)
+below_word d a few small = grind (arith, nat_tests, pow-le-pow_right)
 
 -- a digit, and its number
 pub record IsDigit (c v : ℕ) : Type 0 where
@@ -28,51 +25,16 @@ pub record IsDigit (c v : ℕ) : Type 0 where
   pub no_space : nat_eq c 32 ≡ false
 
 decimal_digit : (v : ℕ) → v < 10 → IsDigit (48 + v) v
-decimal_digit v small =
-    let is : is_digit (48 + v) ≡ true = grind (arith, nat_tests) in
-    let test : nat_lt v 10 ≡ true = grind (arith, nat_tests) in
-    let back : 48 + v - 48 ≡ v = omega arith in
-    record {
-      is_hex = rw is refl;
-      value = rw is back;
-      below = omega (arith, small);
-      digit = rw test refl;
-      no_space = grind (arith, nat_tests);
-    }
-
-letter_digit : (v : ℕ) → 10 ≤ v → v < 16 → IsDigit (87 + v) v
-letter_digit v large small =
-    let is : is_digit (87 + v) ≡ false = grind (arith, nat_tests) in
-    let letter : nat_le 97 (87 + v) && nat_le (87 + v) 102 ≡ true = grind (arith, nat_tests) in
-    let test : nat_lt v 10 ≡ false = grind (arith, nat_tests) in
-    let back : 87 + v - 87 ≡ v = omega arith in
-    record {
-      is_hex = rw (is, letter) refl;
-      value = rw is back;
-      below = small;
-      digit = rw test refl;
-      no_space = grind (arith, nat_tests);
-    }
+decimal_digit v small = grind (arith, nat_tests)
 
 digit_by : (c : ℕ) (decimal letter : Bool) → is_digit c ≡ decimal → nat_le 97 c && nat_le c 102 ≡ letter → decimal || letter ≡ true → IsDigit c (if decimal then c - 48 else c - 87)
-digit_by c true letter is other some =
-    let low : 48 ≤ c = grind (arith, nat_tests) in
-    let high : c ≤ 57 = grind (arith, nat_tests) in
-    let back : 48 + (c - 48) ≡ c = omega (arith, low) in
-    subst (λ (d : ℕ). IsDigit d (c - 48)) back (decimal_digit (c - 48) (omega (arith, high)))
-digit_by c false true is other some =
-    let low : 97 ≤ c = grind (arith, nat_tests) in
-    let high : c ≤ 102 = grind (arith, nat_tests) in
-    let back : 87 + (c - 87) ≡ c = omega (arith, low) in
-    subst (λ (d : ℕ). IsDigit d (c - 87)) back (letter_digit (c - 87) (omega (arith, low)) (omega (arith, high)))
-digit_by c false false is other some = cc
+digit_by c decimal letter is other some = grind (arith, nat_tests)
 
 pub digit_is : (c : ℕ) → is_hex_digit c ≡ true → IsDigit c (hex_value c)
 digit_is c some = digit_by c (is_digit c) (nat_le 97 c && nat_le c 102) refl refl some
 
 of_value : (v : ℕ) (small : Bool) → nat_lt v 10 ≡ small → v < 16 → IsDigit (if small then 48 + v else 87 + v) v
-of_value v true is below = let few : v < 10 = grind (arith, nat_tests) in decimal_digit v few
-of_value v false is below = let many : 10 ≤ v = grind (arith, nat_tests) in letter_digit v many below
+of_value v small is below = grind (arith, nat_tests)
 
 -- the digit of a number below 16
 pub digit_of : (v : ℕ) → v < 16 → IsDigit (hex_digit v) v
@@ -81,19 +43,11 @@ digit_of v below = of_value v (nat_lt v 10) refl below
 -- the digits of a number and one more
 pub hex_digits-more : (d a c v : ℕ) → IsDigit c v → hex_digits (suc d) (a * 16 + v) ≡ hex_digits d a ++ c ∷ []
 unfolding hex_digits
-hex_digits-more d a c v i =
-    let below = i.below in
-    let front : (a * 16 + v) / 16 ≡ a = omega (arith, below) in
-    let last : (a * 16 + v) % 16 ≡ v = omega (arith, below) in
-    let digit : hex_digit ((a * 16 + v) % 16) ≡ c = ap hex_digit last ∙ i.digit in
-    λ j. hex_digits d (front j) ++ digit j ∷ []
+hex_digits-more d a c v i = grind (arith, nat_tests)
 
 -- one digit is read
 digit_read : (d a c v : ℕ) (rest : List ℕ) → IsDigit c v → d < 16 → read_address d a (c ∷ rest) ≡ read_address (suc d) (a * 16 + v) rest
-digit_read d a c v rest i few =
-    let more : nat_lt d 16 ≡ true = grind (arith, nat_tests) in
-    let value = i.value in
-    rw (i.no_space, i.is_hex, more) (ap (λ (w : ℕ). read_address (suc d) (a * 16 + w) rest) value)
+digit_read d a c v rest i few = grind (arith, nat_tests)
 
 -- the digits of an address are read as it
 pub address_read : (d a : ℕ) (rest : List ℕ) → d ≤ 16 → a < 16 ^ d → read_address 0 0 (hex_digits d a ++ rest) ≡ read_address d a rest

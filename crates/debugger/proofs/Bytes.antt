@@ -1,26 +1,17 @@
 -- Bytes that are read one by one, and written in pieces.
-use Rattle.std.proofs.Common.{◌≡◌, ℕ, ◌+◌, ◌-◌, ◌≤◌, List, [], ◌∷◌, ◌++◌, take, drop, get_or, length, Option, Some, sym, ap, ◌∙◌, append_assoc, append-nil, arith, subst}
+use Rattle.std.proofs.Common.{◌≡◌, ℕ, ◌+◌, ◌-◌, List, [], ◌∷◌, ◌++◌, take, drop, get_or, length, Option, Some, sym, ap, ◌∙◌, append_assoc, append-nil, arith}
+use Rattle.std.proofs.lemmas.Bool.Decides.{nat_tests}
 use Rattle.std.proofs.lemmas.Grind.{common_steps}
 use Rattle.std.proofs.Math.Seq.{take-add}
 use Rattle.debugger.specs.Streams.{AddsBytes, GivesBytes}
 
 -- a read of no byte into a buffer of one
 pub no_byte : (left : List ℕ) (after : Option (List ℕ)) (n : ℕ) (buffer : List ℕ) → GivesBytes left after 1 n buffer → n ≡ 0 → (left ≡ []) × (after ≡ Some [])
-no_byte left after n buffer gives none =
-    let empty : left ≡ [] = gives.end none (omega arith) in
-    (empty, gives.rest ∙ ap (λ (k : ℕ). Some (drop k left)) none ∙ ap Some empty)
-
-front_is : (left buffer : List ℕ) → 1 ≤ length left → take 1 buffer ≡ take 1 left → left ≡ get_or buffer 0 0 ∷ drop 1 left
-front_is [] buffer some same = absurd (omega (arith, some))
-front_is (x ∷ xs) [] some same = cc
-front_is (x ∷ xs) (b ∷ bs) some same = cc
+no_byte left after n buffer gives none = grind (arith, nat_tests)
 
 -- a read of one byte
 pub first_byte : (left : List ℕ) (after : Option (List ℕ)) (n : ℕ) (buffer : List ℕ) → GivesBytes left after 1 n buffer → n ≡ 1 → (left ≡ get_or buffer 0 0 ∷ drop 1 left) × (after ≡ Some (drop 1 left))
-first_byte left after n buffer gives one =
-    let some : 1 ≤ length left = omega (arith, one, gives.within) in
-    let front : take 1 buffer ≡ take 1 left = subst (λ (k : ℕ). take k buffer ≡ take k left) one gives.front in
-    (front_is left buffer some front, gives.rest ∙ ap (λ (k : ℕ). Some (drop k left)) one)
+first_byte left after n buffer gives one = grind (arith, nat_tests)
 
 pub adds_none : (old : Option (List ℕ)) (bytes : List ℕ) → AddsBytes old old (take 0 bytes)
 adds_none old bytes before known = known ∙ ap Some (sym (append-nil before))

@@ -1,5 +1,5 @@
 -- How an input's lines grow byte by byte.
-use Rattle.std.proofs.Common.{◌≡◌, ℕ, zero, suc, ◌+◌, ◌-◌, ◌<◌, ◌≤◌, Bool, true, false, List, [], ◌∷◌, ◌++◌, length, take, drop, fold, nat_eq, cond, refl, sym, ap, ◌∙◌, arith, append_assoc, append-nil, length-drop, length-take}
+use Rattle.std.proofs.Common.{◌≡◌, ℕ, suc, ◌+◌, ◌-◌, ◌<◌, ◌≤◌, Bool, false, List, [], ◌∷◌, ◌++◌, length, take, drop, fold, nat_eq, cond, refl, sym, ap, ◌∙◌, arith, append_assoc, append-nil, length-drop, length-take}
 use Rattle.std.proofs.Math.Seq.{take-add}
 use Rattle.std.proofs.lemmas.List.{drop-drop}
 use Rattle.std.proofs.lemmas.List.Sums.{fold_push, fold-append}
@@ -15,8 +15,7 @@ cut-none = refl
 
 cut-more : (input : List ℕ) (i b : ℕ) → drop i input ≡ b ∷ drop 1 (drop i input) → cut (take (i + 1) input) ≡ cut_byte (cut (take i input)) b
 unfolding cut
-cut-more input i b first =
-    ap (fold cut_byte ([], [])) (take-add i 1 input ∙ ap (λ (more : List ℕ). take i input ++ take 1 more) first) ∙ fold_push cut_byte ([], []) (take i input) b
+cut-more input i b first = grind (arith, nat_tests, fold_push, take-add)
 
 cut_byte-feed : (p : Pieces) (b : ℕ) → b ≡ 10 → cut_byte p b ≡ (p.0 ++ p.1 ∷ [], [])
 cut_byte-feed p b feed = rw feed refl
@@ -37,8 +36,7 @@ abbrev behind : List (List ℕ) → Pieces → Pieces
 behind lines p = (lines ++ p.0, p.1)
 
 byte_behind : (feed : Bool) (lines : List (List ℕ)) (p : Pieces) (b : ℕ) → cond feed ((lines ++ p.0) ++ p.1 ∷ [], []) (lines ++ p.0, p.1 ++ b ∷ []) ≡ behind lines (cond feed (p.0 ++ p.1 ∷ [], []) (p.0, p.1 ++ b ∷ []))
-byte_behind true lines p b = λ i. (append_assoc lines p.0 (p.1 ∷ []) i, [])
-byte_behind false lines p b = refl
+byte_behind feed lines p b = grind (arith, nat_tests, append_assoc)
 
 cut_behind : (bytes : List ℕ) (lines : List (List ℕ)) (p : Pieces) → fold cut_byte (behind lines p) bytes ≡ behind lines (fold cut_byte p bytes)
 cut_behind [] lines p = refl
@@ -61,19 +59,18 @@ Whole text = (cut text).1 ≡ []
 
 pub lines-whole : (front more : List ℕ) → Whole front → (cut (front ++ more)).0 ≡ (cut front).0 ++ (cut more).0
 unfolding cut
-lines-whole front more whole = ap (λ (p : Pieces). p.0) (cut-append front more) ∙ ap (λ (rest : List ℕ). (cut front).0 ++ (fold cut_byte ([], rest) more).0) whole
+lines-whole front more whole = grind (arith, nat_tests, cut-append)
 
 pub whole-append : (front more : List ℕ) → Whole front → Whole more → Whole (front ++ more)
 unfolding cut
-whole-append front more whole next = ap (λ (p : Pieces). p.1) (cut-append front more) ∙ ap (λ (rest : List ℕ). (fold cut_byte ([], rest) more).1) whole ∙ next
+whole-append front more whole next = grind (arith, nat_tests, cut-append)
 
 pub whole-feed : (line : List ℕ) → Whole (line ++ 10 ∷ [])
 unfolding cut
 whole-feed line = ap (λ (p : Pieces). p.1) (fold_push cut_byte ([], []) line 10)
 
 with_rest-behind : (lines more : List (List ℕ)) (rest : List ℕ) → with_rest (lines ++ more) rest ≡ lines ++ with_rest more rest
-with_rest-behind lines more [] = refl
-with_rest-behind lines more (b ∷ bs) = append_assoc lines more ((b ∷ bs) ∷ [])
+with_rest-behind lines more rest = grind (arith, nat_tests, append_assoc)
 
 pub input_lines-append : (part rest : List ℕ) → (more : List (List ℕ)) × (input_lines (part ++ rest) ≡ (cut part).0 ++ more)
 input_lines-append part rest =
@@ -81,12 +78,10 @@ input_lines-append part rest =
     (with_rest p.0 p.1, ap (λ (q : Pieces). with_rest q.0 q.1) (cut-append part rest) ∙ with_rest-behind (cut part).0 p.0 p.1)
 
 with_rest-none : (lines : List (List ℕ)) (n : ℕ) (rest : List ℕ) → take (suc n) rest ≡ [] → with_rest lines rest ≡ lines
-with_rest-none lines n [] none = refl
-with_rest-none lines n (c ∷ cs) none = cc
+with_rest-none lines n rest none = grind (arith, nat_tests)
 
 with_rest-some : (lines : List (List ℕ)) (n : ℕ) (rest : List ℕ) → 0 < length (take n rest) → with_rest lines rest ≡ lines ++ rest ∷ []
-with_rest-some lines (suc n) (c ∷ cs) some = refl
-with_rest-some lines _ _ some = absurd (omega (arith, some))
+with_rest-some lines n rest some = grind (arith, nat_tests)
 
 -- where the last line has ended, and where it has not
 pub input_lines-ended : (input : List ℕ) → take 65 (cut input).1 ≡ [] → input_lines input ≡ (cut input).0
@@ -99,8 +94,7 @@ pub take-split : (limit i : ℕ) (input : List ℕ) → i ≤ limit → take i i
 take-split limit i input before = let whole : i + (limit - i) ≡ limit = omega (arith, before) in sym (take-add i (limit - i) input) ∙ ap (λ (n : ℕ). take n input) whole
 
 take-none : (n : ℕ) → take {A = ℕ} n [] ≡ []
-take-none zero = refl
-take-none (suc n) = refl
+take-none n = grind (arith, nat_tests)
 
 -- where nothing is left
 pub take-end : (input : List ℕ) (i limit : ℕ) → drop i input ≡ [] → i ≤ limit → take limit input ≡ take i input
@@ -123,7 +117,7 @@ readable-is input = refl
 
 -- a place of the input that is not behind the last byte that may be read
 pub readable-within : (input : List ℕ) (limit i : ℕ) → readable input ≡ take limit input → i ≤ limit → i ≤ length input → i ≤ length (readable input)
-readable-within input limit i all low inside = let long = ap length all ∙ length-take limit input in omega (arith, long, inside, low)
+readable-within input limit i all low inside = grind (arith, nat_tests, length-take)
 
 -- the place behind the last byte that may be read
 pub readable-end : (input : List ℕ) (i : ℕ) → i ≤ length input → readable input ≡ take i input → i ≡ length (readable input)

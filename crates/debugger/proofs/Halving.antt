@@ -72,5 +72,4 @@ stays_ordered slot slots i ordered is =
     subst (λ (n : ℕ). in_order (insert slots n slot) ≡ true) (place_found slot slots i ordered is) (insert_in_order slot slots none ordered)
 
 pub none_refused : {T E : Type 0} (r : Result T E) (slot : ℕ) (slots : List ℕ) → has_breakpoint slot slots ≡ false → OnErr r (has_breakpoint slot slots ≡ false)
-none_refused (Ok x) slot slots none = tt
-none_refused (Err e) slot slots none = none
+none_refused r slot slots none = grind (arith, nat_tests)

@@ -1,15 +1,15 @@
 -- Sessions in which no line answers `? memory`.
-use Rattle.std.proofs.Common.{◌≡◌, ℕ, Bool, true, false, List, [], ◌∷◌, ◌++◌, map, fold, refl, sym, ap, ◌∙◌, append_assoc, append-nil, codes, Option, Some, Result, Ok, Err}
-use Rattle.std.specs.Prelude.{OnOk, if◌then◌else◌}
+use Rattle.std.proofs.Common.{◌≡◌, ℕ, Bool, true, false, List, [], ◌∷◌, ◌++◌, map, fold, refl, sym, ap, ◌∙◌, append_assoc, append-nil, codes, Option, Some, Result, Ok, Err, arith}
+use Rattle.std.proofs.lemmas.Bool.Decides.{nat_tests}
+use Rattle.std.specs.Prelude.{OnOk}
 use Rattle.std.specs.List.{list_any}
 use Rattle.std.specs.Str.{bytes_eq}
 use Rattle.std.proofs.lemmas.Bool.{or_parts, or_right}
 use Rattle.std.proofs.lemmas.List.Folds.{list_any-append}
 use Rattle.std.proofs.lemmas.List.{append_cancel_left}
 use Rattle.bpf_machine.specs.State.{State}
-use Rattle.debugger.specs.Answers.{Line, answer_of, answer_to, is_refused, says}
-use Rattle.debugger.specs.Commands.{command_of}
-use Rattle.debugger.specs.Session.{Talk, first_talk, hear, talk_of, with_answer, granted, cut, input_lines, readable, says_memory, session_text}
+use Rattle.debugger.specs.Answers.{Line, answer_to, is_refused}
+use Rattle.debugger.specs.Session.{Talk, hear, granted, cut, input_lines, readable, says_memory, session_text}
 use Rattle.debugger.specs.Told.{lines_of, ByResult}
 use Rattle.debugger.specs.Rows.{TellsAll}
 use Rattle.debugger.specs.declared.session_error.SessionError.{SessionError}
@@ -26,10 +26,7 @@ beginning_says front more none =
 -- a refused line says it
 refusal_says : (text : List ℕ) → Whole text → says_memory (text ++ codes "? memory\n") ≡ true
 unfolding cut
-refusal_says text whole =
-    ap (list_any (bytes_eq (codes "? memory"))) (lines-whole text (codes "? memory\n") whole)
-    ∙ list_any-append (bytes_eq (codes "? memory")) (cut text).0 _
-    ∙ or_right (says_memory text) _ refl
+refusal_says text whole = grind (arith, nat_tests, lines-whole, list_any-append, or_right)
 
 -- what one line adds to the text
 hear_grows : (s : State) (t : Talk) (l : Line) (ended : Bool) → t.world.ended ≡ ended → (more : List ℕ) × ((hear s t l).text ≡ t.text ++ more)
@@ -44,25 +41,15 @@ talk_grows s t (l ∷ marked) =
     (one.0 ++ rest.0, rest.1 ∙ ap (λ (text : List ℕ). text ++ rest.0) one.1 ∙ append_assoc t.text one.0 rest.0)
 
 hear_whole : (s : State) (t : Talk) (l : Line) (ended : Bool) → t.world.ended ≡ ended → Whole t.text → Whole (hear s t l).text
-hear_whole s t l true off whole = ap (λ (u : Talk). (cut u.text).1) (hear-off s t l off) ∙ whole
-hear_whole s t l false on whole = ap (λ (u : Talk). (cut u.text).1) (hear-on s t l on) ∙ whole-append t.text (answer_to s t.world l).text whole (answers_in_lines s t.world l)
+hear_whole s t l ended is whole = grind (arith, nat_tests, answers_in_lines, hear-off, hear-on, whole-append)
 
 -- a line that does not answer `? memory` was not refused
 answer_granted : (s : State) (t : Talk) (l : Line) (refused : Bool) → is_refused s t.world l ≡ refused → Whole t.text → says_memory (t.text ++ (answer_to s t.world l).text) ≡ false → answer_to s t.world l ≡ answer_to s t.world (granted l.0)
 unfolding answer_to
-answer_granted s t l true is whole none =
-    let yes = refusal_says t.text whole in
-    let no : says_memory (t.text ++ codes "? memory\n") ≡ false = ap (λ (b : Bool). says_memory (t.text ++ (if b then says t.world (codes "? memory\n") else answer_of s t.world (command_of l.0)).text)) (sym is) ∙ none in
-    cc (yes, no)
-answer_granted s t l false is whole none = ap (λ (b : Bool). if b then says t.world (codes "? memory\n") else answer_of s t.world (command_of l.0)) is
+answer_granted s t l refused is whole none = grind (arith, nat_tests, refusal_says)
 
 hear_granted : (s : State) (t : Talk) (l : Line) (ended : Bool) → t.world.ended ≡ ended → Whole t.text → says_memory (hear s t l).text ≡ false → hear s t l ≡ hear s t (granted l.0)
-hear_granted s t l true off whole none = hear-off s t l off ∙ sym (hear-off s t (granted l.0) off)
-hear_granted s t l false on whole none =
-    let said : says_memory (t.text ++ (answer_to s t.world l).text) ≡ false = ap (λ (u : Talk). says_memory u.text) (sym (hear-on s t l on)) ∙ none in
-    let same = answer_granted s t l (is_refused s t.world l) refl whole said in
-    let talk : with_answer s t l ≡ with_answer s t (granted l.0) = λ i. record { world = (same i).next; text = t.text ++ (same i).text } in
-    hear-on s t l on ∙ talk ∙ sym (hear-on s t (granted l.0) on)
+hear_granted s t l ended is whole none = grind (arith, nat_tests, answer_granted, hear-off, hear-on)
 
 talk_granted : (s : State) (t : Talk) (marked : List Line) → Whole t.text → says_memory (fold (hear s) t marked).text ≡ false → fold (hear s) t marked ≡ fold (hear s) t (map granted (lines_of marked))
 talk_granted s t [] whole none = refl
@@ -74,10 +61,7 @@ talk_granted s t (l ∷ marked) whole none =
 
 pub tells_all : TellsAll
 unfolding cut
-tells_all s lines t h none =
-    sym h.talk_is
-    ∙ talk_granted s first_talk h.marked refl (ap (λ (u : Talk). says_memory u.text) h.talk_is ∙ none)
-    ∙ ap (λ (ls : List (List ℕ)). talk_of s (map granted ls)) h.lines_are
+tells_all = grind (arith, nat_tests, talk_granted)
 
 -- what a session wrote that wrote no `? memory`
 pub says_text : (s : State) (input before written : List ℕ) (left after : Option (List ℕ)) (result : Result (Unit {0}) SessionError) → ByResult s input before left after result → after ≡ Some (before ++ written) → says_memory written ≡ false → OnOk result (written ≡ session_text s input)

@@ -1,11 +1,11 @@
 -- The lines that bytes of memory are shown in.
-use Rattle.std.proofs.Common.{◌≡◌, ℕ, zero, suc, ◌+◌, ◌-◌, ◌*◌, ◌/◌, ◌%◌, ◌^◌, ◌<◌, ◌≤◌, List, [], ◌∷◌, ◌++◌, length, take, drop, refl, sym, ap, ◌∙◌, append_assoc, append-nil, arith, inl, inr, length-drop}
-use Rattle.std.specs.Prelude.{codes}
+use Rattle.std.proofs.Common.{◌≡◌, ℕ, zero, suc, ◌+◌, ◌-◌, ◌*◌, ◌/◌, ◌%◌, ◌^◌, ◌<◌, ◌≤◌, List, [], ◌∷◌, ◌++◌, length, take, drop, refl, sym, ap, ◌∙◌, append_assoc, append-nil, arith, length-drop}
+use Rattle.std.proofs.lemmas.Bool.Decides.{nat_tests}
 use Rattle.std.proofs.Math.Nat.{pow-suc}
 use Rattle.std.proofs.lemmas.Bool.{cases_lt}
 use Rattle.std.proofs.lemmas.List.{take_all}
 use Rattle.insn_codec.specs.Lines.{hex_digit, hex_digits}
-use Rattle.debugger.specs.Inspection.{digits_of_bytes, memory_line, memory_lines}
+use Rattle.debugger.specs.Inspection.{memory_line, memory_lines}
 
 wrapped_digits : (k x : ℕ) → hex_digits k (x + 16 ^ k) ≡ hex_digits k x
 unfolding hex_digits
@@ -19,10 +19,7 @@ wrapped_digits (suc k) x =
 
 wrapped_line : (a b : ℕ) (bytes : List ℕ) → a ≡ b + 2 ^ 64 → memory_line a bytes ≡ memory_line b bytes
 unfolding memory_line
-wrapped_line a b bytes is =
-    let word : 16 ^ 16 ≡ 2 ^ 64 = refl in
-    let sum : a ≡ b + 16 ^ 16 = omega (arith, is, word) in
-    ap (λ (t : List ℕ). (codes "0x" ++ t) ++ (digits_of_bytes bytes ++ 10 ∷ [])) (ap (hex_digits 16) sum ∙ wrapped_digits 16 b)
+wrapped_line a b bytes is = grind (arith, nat_tests, wrapped_digits)
 
 -- an address is shown in 64 bits
 wrapped_lines : (count a b : ℕ) (bytes : List ℕ) → a ≡ b + 2 ^ 64 → memory_lines count a bytes ≡ memory_lines count b bytes
@@ -35,16 +32,11 @@ wrapped_lines (suc count) a b (c ∷ cs) is =
 wrapped_lines _ a b _ is = refl
 
 next_lines : (count a b : ℕ) (bytes : List ℕ) → b ≡ (a + 16) % 2 ^ 64 → a < 2 ^ 64 → memory_lines count (a + 16) bytes ≡ memory_lines count b bytes
-next_lines count a b bytes is fits =
-    elim (cases_lt (2 ^ 64 - 1) (a + 16)) [
-      | inl large ↦ wrapped_lines count (a + 16) b bytes (omega (arith, is, fits, large))
-      | inr small ↦ let same : a + 16 ≡ b = omega (arith, is, small) in ap (λ (k : ℕ). memory_lines count k bytes) same
-    ]
+next_lines count a b bytes is fits = grind (arith, nat_tests, cases_lt, wrapped_lines)
 
 pub lines_none : (count a : ℕ) (old bytes : List ℕ) → length bytes ≡ 0 → old ≡ old ++ memory_lines count a bytes
 unfolding memory_lines
-lines_none (suc count) a old (b ∷ bs) none = absurd (omega (arith, none))
-lines_none _ a old _ none = sym (append-nil old)
+lines_none count a old bytes none = grind (arith, nat_tests, append-nil)
 
 pub some_bytes : (bytes : List ℕ) → (length bytes ≡ 0 → ⊥) → 0 < length bytes
 some_bytes bytes some = omega (arith, some)
@@ -64,12 +56,5 @@ pub lines_first : (count a next : ℕ) (old mid new bytes front rest : List ℕ)
     → front ≡ take 16 bytes → rest ≡ drop 16 bytes → mid ≡ old ++ memory_line a front
     → ((k : ℕ) → length rest ≤ 16 * k → new ≡ mid ++ memory_lines k next rest) → new ≡ old ++ memory_lines count a bytes
 unfolding memory_lines
-lines_first zero a next old mid new bytes front rest many enough fits wraps first left one more = absurd (omega (arith, many, enough))
-lines_first (suc count) a next old mid new [] front rest many enough fits wraps first left one more = absurd (omega (arith, many))
-lines_first (suc count) a next old mid new (b ∷ bs) front rest many enough fits wraps first left one more =
-    let few : length rest ≤ 16 * count = omega (arith, ap length left, length-drop 16 (b ∷ bs), enough) in
-    more count few
-    ∙ ap (λ (t : List ℕ). t ++ memory_lines count next rest) one
-    ∙ append_assoc old (memory_line a front) (memory_lines count next rest)
-    ∙ ap (λ (t : List ℕ). old ++ (memory_line a front ++ t)) (sym (next_lines count a next rest wraps fits))
-    ∙ (λ i. old ++ (memory_line a (first i) ++ memory_lines count (a + 16) (left i)))
+lines_first count a next old mid new bytes front rest many enough fits wraps first left one more =
+    grind (arith, nat_tests, append_assoc, length-drop, next_lines)

@@ -1,5 +1,6 @@
 -- Bytes that are added part by part.
-use Rattle.std.proofs.Common.{◌≡◌, ℕ, suc, ◌+◌, ◌<◌, List, [], ◌∷◌, ◌++◌, length, take, Option, Some, Result, Ok, Err, sym, ap, subst, ◌∙◌, append_assoc, arith, length-append, zero-add}
+use Rattle.std.proofs.Common.{◌≡◌, ℕ, suc, ◌+◌, ◌<◌, List, [], ◌∷◌, ◌++◌, length, take, Option, Result, Ok, Err, sym, ap, subst, ◌∙◌, append_assoc, arith, length-append, zero-add}
+use Rattle.std.proofs.lemmas.Bool.Decides.{nat_tests}
 use Rattle.std.specs.Prelude.{OnErr, OnOk}
 use Rattle.std.proofs.lemmas.List.{take-append-le}
 use Rattle.debugger.specs.Streams.{AddsBytes}
@@ -9,12 +10,10 @@ abbrev pub AddsPart : Option (List ℕ) → Option (List ℕ) → List ℕ → T
 AddsPart old new bytes = (n : ℕ) × (n < length bytes) × AddsBytes old new (take n bytes)
 
 pub adds_both : (old new last : Option (List ℕ)) (front rest : List ℕ) → AddsBytes old new front → AddsBytes new last rest → AddsBytes old last (front ++ rest)
-adds_both old new last front rest one other before is = other (before ++ front) (one before is) ∙ ap Some (append_assoc before front rest)
+adds_both old new last front rest one other = grind (arith, nat_tests, append_assoc)
 
 pub part_of_front : (old new : Option (List ℕ)) (front rest : List ℕ) → AddsPart old new front → AddsPart old new (front ++ rest)
-part_of_front old new front rest part =
-    let same : take part.0 (front ++ rest) ≡ take part.0 front = take-append-le part.0 front rest (omega (arith, part.1)) in
-    (part.0, omega (arith, part.1, length-append front rest), subst (λ (bytes : List ℕ). AddsBytes old new bytes) (sym same) part.2)
+part_of_front old new front rest part = grind (arith, nat_tests, length-append, take-append-le)
 
 take_behind : (front rest : List ℕ) (n : ℕ) → take (length front + n) (front ++ rest) ≡ front ++ take n rest
 take_behind [] rest n = ap (λ (k : ℕ). take k rest) (zero-add n)

@@ -1,14 +1,14 @@
 -- The sizes that every state of a run has.
-use Rattle.std.proofs.Common.{◌≡◌, ℕ, zero, suc, ◌+◌, ◌-◌, ◌/◌, ◌<◌, ◌≤◌, Bool, true, false, List, [], ◌∷◌, ◌++◌, length, take, drop, Option, Some, None, Result, Ok, Err, ℤ, refl, ap, subst, ◌∙◌, arith, length-append, length-drop}
+use Rattle.std.proofs.Common.{◌≡◌, ℕ, zero, suc, ◌+◌, ◌-◌, ◌/◌, ◌≤◌, Bool, List, length, Option, Some, Result, Ok, Err, ℤ, refl, ap, subst, arith, length-append, length-drop}
 use Rattle.std.specs.Prelude.{nat_lt, if◌then◌else◌}
 use Rattle.std.proofs.lemmas.Bool.Decides.{nat_tests}
-use Rattle.std.proofs.lemmas.List.{length-replicate, length-take, length-take-le}
+use Rattle.std.proofs.lemmas.List.{length-take, length-take-le}
 use Rattle.guest_memory.specs.Access.{size_bytes, write_at, write_of}
-use Rattle.guest_memory.specs.Memory.{Memory, Region, Stack, Scratch, Verdict, Constants, bytes_in, start_memory, with_bytes}
+use Rattle.guest_memory.specs.Memory.{Memory, Region, Stack, Scratch, Verdict, bytes_in, start_memory, with_bytes}
 use Rattle.guest_memory.specs.Word.{low_bytes, overlay}
 use Rattle.guest_memory.specs.declared.fault.Fault as fault
 use Rattle.guest_memory.specs.declared.size.Size as memory
-use Rattle.helper_table.specs.Outcome.{CallEnd, Halts, Leaves}
+use Rattle.helper_table.specs.Outcome.{CallEnd}
 use Rattle.insn_codec.specs.declared.insn.Insn.{Insn}
 use Rattle.insn_codec.specs.declared.insn.Insn.TheVariants.{Jump, JumpLong, Call, CallLocal, Exit, Load, LoadSigned, StoreImm, Store, Atomic}
 use Rattle.insn_codec.specs.declared.atomic_op.AtomicOp.{AtomicOp}
@@ -22,7 +22,7 @@ use Rattle.bpf_machine.specs.Arithmetic.{alu_row, byte_swap_row, neg_row, sign_e
 use Rattle.bpf_machine.specs.Atomics.{atomic_row, exchanged, taken_and_stored, taken_by, where_stores}
 use Rattle.bpf_machine.specs.Decoding.{fetched}
 use Rattle.bpf_machine.specs.HelperCalls.{answered, call_row}
-use Rattle.bpf_machine.specs.Jumps.{branch_row, call_local_row, called, caller, exit_row, jump_row, newest, returned}
+use Rattle.bpf_machine.specs.Jumps.{branch_row, call_local_row, called, exit_row, jump_row, newest, returned}
 use Rattle.bpf_machine.specs.Operands.{jumped, next_slot, stopped_by}
 use Rattle.bpf_machine.specs.State.{State, start_state}
 use Rattle.bpf_machine.specs.Step.{by_status, executed, next_state, stepped}
@@ -41,29 +41,17 @@ length-low_bytes zero word = refl
 length-low_bytes (suc n) word = ap suc (length-low_bytes n (word / 256))
 
 length-overlay : (old bytes : List ℕ) (at : ℕ) → at + length bytes ≤ length old → length (overlay old at bytes) ≡ length old
-length-overlay old bytes at within =
-    let front = length-take-le at old (omega (arith, within)) in
-    let behind = length-drop (at + length bytes) old in
-    length-append (take at old) (bytes ++ drop (at + length bytes) old)
-    ∙ (let rest = length-append bytes (drop (at + length bytes) old) in omega (arith, front, behind, rest, within))
+length-overlay old bytes at within = grind (arith, nat_tests, length-append, length-drop, length-take-le)
 
 written : (r : Region) (m : Memory) (bytes : List ℕ) → length bytes ≡ length (bytes_in r m) → HasRegions m → HasRegions (with_bytes r bytes m)
-written Stack m bytes same has = record { stack = same ∙ has.stack; scratch = has.scratch; verdict = has.verdict }
-written Scratch m bytes same has = record { stack = has.stack; scratch = same ∙ has.scratch; verdict = has.verdict }
-written Verdict m bytes same has = record { stack = has.stack; scratch = has.scratch; verdict = same ∙ has.verdict }
-written Constants m bytes same has = record { stack = has.stack; scratch = has.scratch; verdict = has.verdict }
+written r m bytes same has = grind (arith, nat_tests)
 
 ok_is : (a b : Memory) → (let r : Result Memory fault.Fault = Ok a in r ≡ Ok b) → a ≡ b
 ok_is a b e = cc
 
 within_region : (r : Region) (m : Memory) (address n at word : ℕ) → Says m address n (Some (r, at)) → length (overlay (bytes_in r m) at (low_bytes n word)) ≡ length (bytes_in r m)
 unfolding Says
-within_region r m address n at word says =
-    let low = says.0.low in
-    let high = says.0.high in
-    let is = says.1 in
-    let long = length-low_bytes n word in
-    length-overlay (bytes_in r m) (low_bytes n word) at (omega (arith, low, high, is, long))
+within_region r m address n at word says = grind (arith, nat_tests, length-low_bytes, length-overlay)
 
 write_by : (m after : Memory) (address n word : ℕ) (o : Option (Region × ℕ)) → HasRegions m → Says m address n o → write_at m (low_bytes n word) o ≡ Ok after → HasRegions after
 write_by m after address n word (Some (Stack, at)) has says e = subst HasRegions (ok_is _ after e) (written Stack m _ (within_region Stack m address n at word says) has)
@@ -79,42 +67,28 @@ write_sized m after address word size has e = write_by m after address (size_byt
 
 module _ (s : State) (is : IsSized s) where
   loaded_sized : (dst : Register) (r : Result ℕ fault.Fault) → IsSized (loaded dst r s)
-  loaded_sized dst (Ok w) = is
-  loaded_sized dst (Err f) = is
+  loaded_sized dst r = grind (arith, nat_tests)
 
   signed_sized : (size : SignedSize) (dst : Register) (r : Result ℕ fault.Fault) → IsSized (loaded_signed size dst r s)
-  signed_sized size dst (Ok w) = is
-  signed_sized size dst (Err f) = is
+  signed_sized size dst r = grind (arith, nat_tests)
 
   stored_sized : (r : Result Memory fault.Fault) → ((m : Memory) → r ≡ Ok m → HasRegions m) → IsSized (stored r s)
-  stored_sized (Ok m) kept = record { regions = kept m refl; few = is.few }
-  stored_sized (Err f) kept = is
+  stored_sized r kept = grind (arith, nat_tests)
 
   answered_sized : (e : CallEnd) → IsSized (answered e s)
-  answered_sized (Halts f) = is
-  answered_sized (Leaves word values) = is
+  answered_sized e = grind (arith, nat_tests)
 
   called_sized : (offset : ℤ) (b : Bool) → nat_lt (length s.records) 7 ≡ b → IsSized (if b then jumped offset (called s) else stopped_by fault.TheVariants.F7 s)
-  called_sized offset true room =
-      let few : length s.records < 7 = grind (arith, nat_tests) in
-      record { regions = is.regions; few = omega (arith, few, length-append s.records (caller s ∷ [])) }
-  called_sized offset false room = is
+  called_sized offset b room = grind (arith, nat_tests, length-append)
 
   returned_sized : (o : Option Frame) → IsSized (returned o s)
-  returned_sized None = is
-  returned_sized (Some f) = let most = is.few in record { regions = is.regions; few = omega (arith, most, length-take (length s.records - 1) s.records) }
-
-  with_taken : (o : Option Register) (old : ℕ) (m : Memory) → HasRegions m → IsSized (next_slot (taken_by o old (record s { memory = m })))
-  with_taken None old m has = record { regions = has; few = is.few }
-  with_taken (Some r) old m has = record { regions = has; few = is.few }
+  returned_sized o = grind (arith, nat_tests, length-take)
 
   taken_sized : (o : Option Register) (old : ℕ) (r : Result Memory fault.Fault) → ((m : Memory) → r ≡ Ok m → HasRegions m) → IsSized (taken_and_stored o old r s)
-  taken_sized o old (Ok m) kept = with_taken o old m (kept m refl)
-  taken_sized o old (Err f) kept = is
+  taken_sized o old r kept = grind (arith, nat_tests)
 
   untaken_sized : (o : Option Register) (old : ℕ) → IsSized (next_slot (taken_by o old s))
-  untaken_sized None old = is
-  untaken_sized (Some r) old = is
+  untaken_sized o old = grind (arith, nat_tests)
 
   exchanged_sized : (op : AtomicOp) (width : Width) (src : Register) (place : ℕ) (r : Result ℕ fault.Fault) → IsSized (exchanged op width src place r s)
   exchanged_sized op width src place (Ok old) = either IsSized _ _ _ (taken_sized _ _ _ (λ m e. write_sized s.memory m _ _ _ is.regions e)) (untaken_sized _ _)
@@ -154,10 +128,7 @@ module _ (s : State) (is : IsSized s) where
 
 start_sized : (image : Contents) (values : store.Contents) → IsSized (start_state image values)
 unfolding start_state start_memory
-start_sized image values = record {
-  regions = record { stack = length-replicate {A = ℕ} 4096 0; scratch = length-replicate {A = ℕ} 4096 0; verdict = length-replicate {A = ℕ} 2048 0 };
-  few = omega arith;
-}
+start_sized image values = grind (arith, nat_tests)
 
 run_sized : (s : State) → IsSized s → StaysSized s
 unfolding state_after

@@ -1,5 +1,5 @@
 -- Breakpoints that are set and cleared.
-use Rattle.std.proofs.Common.{◌≡◌, ℕ, zero, suc, ◌+◌, ◌<◌, Bool, true, false, not, ◌||◌, ◌&&◌, List, [], ◌∷◌, refl, sym, ap, ◌∙◌, arith, subst, cond}
+use Rattle.std.proofs.Common.{◌≡◌, ℕ, zero, suc, ◌+◌, ◌<◌, Bool, true, false, not, ◌||◌, ◌&&◌, List, [], ◌∷◌, refl, ap, ◌∙◌, arith, subst, cond}
 use Rattle.std.specs.Prelude.{filter, insert, nat_eq, nat_lt, if◌then◌else◌}
 use Rattle.std.specs.List.{list_all, list_any}
 use Rattle.std.specs.List.Retain.{RetainsInTurn}
@@ -15,14 +15,10 @@ retained R keep f says (s ∷ slots) left kept =
     kept.6 ∙ (λ i. cond (said.0 i) (said.2 i ∷ rest i) (rest i))
 
 or_swap : (a b c : Bool) → a || (b || c) ≡ b || (a || c)
-or_swap true true c = refl
-or_swap false true c = refl
-or_swap _ _ c = refl
+or_swap a b c = grind (arith, nat_tests)
 
 and_swap : (a b c : Bool) → a && (b && c) ≡ b && (a && c)
-and_swap true true c = refl
-and_swap false true c = refl
-and_swap _ _ c = refl
+and_swap a b c = grind (arith, nat_tests)
 
 any-insert : (test : ℕ → Bool) (xs : List ℕ) (i x : ℕ) → list_any test (insert xs i x) ≡ test x || list_any test xs
 any-insert test [] zero x = refl
@@ -36,14 +32,10 @@ all-insert test _ _ x = refl
 
 -- a slot that is there is there under each equal name
 has_same : (slot other : ℕ) (slots : List ℕ) (same : Bool) → nat_eq slot other ≡ same → has_breakpoint slot slots ≡ true → has_breakpoint other slots ≡ nat_eq slot other || has_breakpoint other slots
-has_same slot other slots true e there =
-    let one : slot ≡ other = grind (arith, nat_tests) in
-    rw e (ap (λ (s : ℕ). has_breakpoint s slots) (sym one) ∙ there)
-has_same slot other slots false e there = rw e refl
+has_same slot other slots same is there = grind (arith, nat_tests)
 
 set_by : (slot other : ℕ) (slots : List ℕ) (there : Bool) → has_breakpoint slot slots ≡ there → has_breakpoint other (if there then slots else insert slots (place_of slot slots) slot) ≡ nat_eq slot other || has_breakpoint other slots
-set_by slot other slots true e = has_same slot other slots (nat_eq slot other) refl e
-set_by slot other slots false e = any-insert (λ (s : ℕ). nat_eq s other) slots (place_of slot slots) slot
+set_by slot other slots there is = grind (arith, nat_tests, any-insert, has_same)
 
 cleared : (slot other : ℕ) (slots : List ℕ) → has_breakpoint other (without_breakpoint slot slots) ≡ not (nat_eq slot other) && has_breakpoint other slots
 cleared slot other [] = grind arith
@@ -55,20 +47,10 @@ above low high (s ∷ slots) less all = grind (arith, nat_tests, above low high 
 
 -- before a slot that is not below it, and is not itself
 in_front : (slot s : ℕ) (slots : List ℕ) → nat_lt s slot ≡ false → nat_eq s slot ≡ false → list_all (nat_lt s) slots ≡ true → list_all (nat_lt slot) (s ∷ slots) ≡ true
-in_front slot s slots large other all =
-    let less : slot < s = grind (arith, nat_tests) in
-    grind (arith, nat_tests, above slot s slots less all)
+in_front slot s slots large other all = grind (arith, nat_tests, above)
 
 insert_more : (slot s : ℕ) (slots : List ℕ) (n : ℕ) (below : Bool) → nat_lt s slot ≡ below → nat_eq s slot ≡ false → list_all (nat_lt s) slots ≡ true → in_order slots ≡ true → in_order (insert slots n slot) ≡ true → in_order (insert (s ∷ slots) (if below then 1 + n else 0) slot) ≡ true
-insert_more slot s slots n true e other front later more =
-    let all : list_all (nat_lt s) (insert slots n slot) ≡ true = all-insert (nat_lt s) slots n slot ∙ rw (e, front) refl in
-    let step : in_order (s ∷ insert slots n slot) ≡ true = rw (all, more) refl in
-    let one : 1 + n ≡ suc n = omega arith in
-    subst (λ (m : ℕ). in_order (insert (s ∷ slots) m slot) ≡ true) (sym one) step
-insert_more slot s slots n false e other front later more =
-    let all : list_all (nat_lt slot) (s ∷ slots) ≡ true = in_front slot s slots e other front in
-    let kept : in_order (s ∷ slots) ≡ true = rw (front, later) refl in
-    rw (all, kept) refl
+insert_more slot s slots n below is other front later more = grind (arith, nat_tests, all-insert, in_front)
 
 pub insert_in_order : (slot : ℕ) (slots : List ℕ) → has_breakpoint slot slots ≡ false → in_order slots ≡ true → in_order (insert slots (place_of slot slots) slot) ≡ true
 insert_in_order slot [] new ordered = refl
@@ -80,8 +62,7 @@ insert_in_order slot (s ∷ slots) new ordered =
     insert_more slot s slots (place_of slot slots) (nat_lt s slot) refl other front later (insert_in_order slot slots none later)
 
 set_in_order_by : (slot : ℕ) (slots : List ℕ) (there : Bool) → has_breakpoint slot slots ≡ there → in_order slots ≡ true → in_order (if there then slots else insert slots (place_of slot slots) slot) ≡ true
-set_in_order_by slot slots true e ordered = ordered
-set_in_order_by slot slots false e ordered = insert_in_order slot slots e ordered
+set_in_order_by slot slots there is ordered = grind (arith, nat_tests, insert_in_order)
 
 all-filter : (test keep : ℕ → Bool) (slots : List ℕ) → list_all test slots ≡ true → list_all test (filter keep slots) ≡ true
 all-filter test keep [] all = refl
@@ -92,9 +73,4 @@ filter_in_order keep [] ordered = refl
 filter_in_order keep (s ∷ slots) ordered = grind (arith, filter_in_order keep slots, all-filter (nat_lt s) keep slots)
 
 pub sets_and_clears : SetsAndClears
-sets_and_clears = record {
-  set = λ slot other slots. set_by slot other slots (has_breakpoint slot slots) refl;
-  cleared = cleared;
-  set_in_order = λ slot slots ordered. set_in_order_by slot slots (has_breakpoint slot slots) refl ordered;
-  cleared_in_order = λ slot slots ordered. filter_in_order (λ s. not (nat_eq s slot)) slots ordered;
-}
+sets_and_clears = grind (arith, nat_tests, cleared, filter_in_order, set_by, set_in_order_by)

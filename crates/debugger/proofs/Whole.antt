@@ -1,30 +1,26 @@
 -- Answers are whole lines.
-use Rattle.std.proofs.Common.{◌≡◌, ℕ, zero, suc, ◌+◌, ℤ, pos, negsuc, List, [], ◌∷◌, ◌++◌, decimal, length, take, drop, Option, Some, None, refl, sym, ap, subst, ◌∙◌, append_assoc, codes}
+use Rattle.std.proofs.Common.{◌≡◌, ℕ, zero, suc, ◌+◌, ℤ, pos, negsuc, List, [], ◌∷◌, ◌++◌, decimal, length, take, drop, Option, refl, sym, ap, subst, ◌∙◌, append_assoc, codes, arith}
 use Rattle.std.specs.Fmt.{signed_decimal}
 use Rattle.std.specs.Prelude.{◌*◌, nat_eq, nat_lt, slice_index}
 use Rattle.guest_memory.specs.Memory.{Memory}
-use Rattle.loader.specs.Contents.{version_number}
 use Rattle.insn_codec.specs.Statements.{statement_slots, statement_text}
 use Rattle.bpf_machine.specs.Decoding.{slot_count}
 use Rattle.bpf_machine.specs.State.{State}
 use Rattle.bpf_machine.specs.Text.{move_line, register_line, register_lines, registers_text, status_text, word_text}
-use Rattle.bpf_machine.specs.Trace.{state_after}
 use Rattle.bpf_machine.specs.declared.status.Status.{Status}
-use Rattle.debugger.specs.Answers.{Answer, World, answer_of, answer_to, break_text, can_go_back, can_go_on, can_go_to, clear_text, is_refused, is_slot, moves_to, out_of_range, says, sets_breakpoints}
-use Rattle.debugger.specs.Breakpoints.{with_breakpoint, without_breakpoint}
+use Rattle.debugger.specs.Answers.{Answer, World, answer_of, answer_to, break_text, clear_text, is_refused, says}
 use Rattle.debugger.specs.Commands.{command_of}
 use Rattle.bpf_machine.specs.declared.frame.Frame.{Frame}
-use Rattle.value_store.specs.Json.{shown_text}
 use Rattle.value_store.specs.Value.{ValueOrError}
-use Rattle.debugger.specs.Inspection.{digits_of_bytes, frame_line, frame_lines, frames_text, memory_line, memory_lines, memory_text, saved_text, shown_bytes, value_at, value_line, value_text}
-use Rattle.debugger.specs.Listing.{is_inside, listing_at, listing_line, listing_lines, outside_line, statement_at}
+use Rattle.debugger.specs.Inspection.{digits_of_bytes, frame_line, frame_lines, frames_text, memory_line, memory_lines, memory_text, saved_text, value_line, value_text}
+use Rattle.debugger.specs.Listing.{listing_at, listing_line, listing_lines, outside_line, statement_at}
 use Rattle.debugger.specs.Rows.{AnswersInLines}
 use Rattle.debugger.specs.Verdict.{message_lines, verdict_line, verdict_lines, verdict_word, word_line, word_lines}
 use Rattle.debugger.specs.Session.{cut}
 use Rattle.debugger.specs.declared.command.Command.{Command}
-use Rattle.debugger.specs.declared.command.Command.TheVariants.{SetBreakpoint, ClearBreakpoint, Forward, Back, Go, Continue, ReverseContinue, Registers, ValueAt, MemoryAt, Frames, Listing, Verdict, Quit, Unknown}
 use Rattle.debugger.proofs.Cut.{Whole, whole-append, whole-feed}
 use Rattle.debugger.proofs.Quit.{either}
+use Rattle.std.proofs.lemmas.Bool.Decides.{nat_tests}
 
 -- a text that a line feed ends
 record Fed (text : List ℕ) : Type 0 where
@@ -75,8 +71,7 @@ unfolding outside_line
 outside_whole pc = fed_whole (behind (signed_decimal pc) (record { line = codes " outside"; is_fed = refl }))
 
 at_whole : (code : List ℕ) (pc : ℤ) → Whole (listing_at code pc)
-at_whole code (pos slot) = either Whole (is_inside code (pos slot)) (listing_lines 8 code slot) (outside_line (pos slot)) (listing_whole 8 code slot) (outside_whole (pos slot))
-at_whole code (negsuc n) = outside_whole (negsuc n)
+at_whole code pc = grind (arith, nat_tests, listing_whole, negsuc, outside_whole, pos)
 
 value_whole : (h : ℕ) (text : List ℕ) → Whole (value_line h text)
 unfolding value_line
@@ -84,8 +79,7 @@ value_whole h text = fed_whole (behind (codes "value ") (behind (decimal h) (beh
 
 stored_whole : (h : ℕ) (v : Option ValueOrError) → Whole (value_text h v)
 unfolding cut
-stored_whole h (Some v) = value_whole h (shown_text v)
-stored_whole h None = refl
+stored_whole h v = grind (arith, nat_tests, value_whole)
 
 memory_line-whole : (address : ℕ) (bytes : List ℕ) → Whole (memory_line address bytes)
 unfolding memory_line
@@ -98,8 +92,7 @@ memory_lines-whole _ address _ = refl
 
 bytes_whole : (address : ℕ) (bytes : Option (List ℕ)) → Whole (memory_text address bytes)
 unfolding cut
-bytes_whole address (Some bytes) = memory_lines-whole 16 address bytes
-bytes_whole address None = refl
+bytes_whole address bytes = grind (arith, nat_tests, memory_lines-whole)
 
 frame_whole : (f : Frame) → Whole (frame_line f)
 unfolding frame_line
@@ -137,21 +130,8 @@ Lined a = Whole a.text
 
 answer_of-whole : (s : State) (w : World) (c : Command) → Lined (answer_of s w c)
 unfolding answer_of registers_text cut
-answer_of-whole s w (SetBreakpoint n) = either Lined (is_slot n) (sets_breakpoints w (with_breakpoint n w.breakpoints) (break_text n)) (out_of_range w) (break_whole n) refl
-answer_of-whole s w (ClearBreakpoint n) = either Lined (is_slot n) (sets_breakpoints w (without_breakpoint n w.breakpoints) (clear_text n)) (out_of_range w) (clear_whole n) refl
-answer_of-whole s w (Forward n) = either Lined (can_go_on w.place n) _ (out_of_range w) (move_whole _ _ _) refl
-answer_of-whole s w (Back n) = either Lined (can_go_back w.place n) _ (out_of_range w) (move_whole _ _ _) refl
-answer_of-whole s w (Go k) = either Lined (can_go_to k) (moves_to s w k) (out_of_range w) (move_whole _ _ _) refl
-answer_of-whole s w (Continue n) = either Lined (can_go_on w.place n) _ (out_of_range w) (move_whole _ _ _) refl
-answer_of-whole s w ReverseContinue = move_whole _ _ _
-answer_of-whole s w Registers = lines_whole 11 (state_after w.place s)
-answer_of-whole s w (ValueAt h) = stored_whole h (value_at (state_after w.place s) h)
-answer_of-whole s w (MemoryAt address n) = bytes_whole address (shown_bytes (state_after w.place s).memory address n)
-answer_of-whole s w Frames = frames_whole (state_after w.place s).records
-answer_of-whole s w Listing = at_whole (state_after w.place s).image.code (state_after w.place s).pc
-answer_of-whole s w Verdict = verdict_whole (version_number (state_after w.place s).image.version) (state_after w.place s).memory
-answer_of-whole s w Quit = refl
-answer_of-whole s w Unknown = refl
+answer_of-whole s w c =
+    grind (arith, nat_tests, at_whole, break_whole, bytes_whole, clear_whole, frames_whole, lines_whole, move_whole, stored_whole, verdict_whole)
 
 pub answers_in_lines : AnswersInLines
 unfolding answer_to cut

@@ -1,8 +1,7 @@
 -- The lines of commands, and how they are read.
-use Rattle.std.proofs.Common.{◌≡◌, ◌≢◌, ℕ, zero, suc, ◌+◌, ◌-◌, ◌*◌, ◌/◌, ◌%◌, ◌^◌, ◌<◌, ◌≤◌, Bool, true, false, ◌&&◌, List, [], ◌∷◌, ◌++◌, length, length-append, length-drop, take, drop, Option, Some, None, decimal, nat_eq, nat_le, nat_lt, codes, refl, sym, ap, ◌∙◌, inl, inr, subst, arith, append_assoc, append-nil, add-one, lit<}
+use Rattle.std.proofs.Common.{◌≡◌, ◌≢◌, ℕ, suc, ◌+◌, ◌-◌, ◌*◌, ◌/◌, ◌%◌, ◌^◌, ◌<◌, ◌≤◌, Bool, true, false, ◌&&◌, List, [], ◌∷◌, ◌++◌, length, length-append, length-drop, drop, Option, Some, None, decimal, nat_eq, nat_le, nat_lt, codes, refl, sym, ap, ◌∙◌, inl, inr, subst, arith, append_assoc, append-nil, add-one, lit<}
 use Rattle.std.specs.Prelude.{◌⊎◌, slice_index, if◌then◌else◌}
 use Rattle.std.specs.Str.{bytes_eq}
-use Rattle.std.proofs.Math.Bool.{and-false}
 use Rattle.std.proofs.Math.Nat.{pow-le-pow_right, pow-suc}
 use Rattle.std.proofs.lemmas.Bool.{and_parts}
 use Rattle.std.proofs.lemmas.Bool.Decides.{nat_tests}
@@ -14,16 +13,11 @@ use Rattle.debugger.specs.Commands.{begins_with, command_of, form_of, hex_value,
 use Rattle.debugger.proofs.Addresses.{address_ended, address_read, below_digit, digit_is, hex_digits-more}
 use Rattle.debugger.specs.CommandLines.{Asks, CommandsHaveLines, IsLine, IsNumbered}
 use Rattle.debugger.specs.declared.command.Command.{Command}
-use Rattle.debugger.specs.declared.command.Command.TheVariants.{SetBreakpoint, ClearBreakpoint, Forward, Back, Go, Continue, ReverseContinue, Registers, ValueAt, MemoryAt, Frames, Listing, Verdict, Quit, Unknown}
+use Rattle.debugger.specs.declared.command.Command.TheVariants.{SetBreakpoint, ClearBreakpoint, Forward, Back, Go, Continue, ValueAt, MemoryAt, Unknown}
 
 -- a number and one more digit
 decimal-more : (m c : ℕ) → 0 < m → m * 10 + (c - 48) < 10 ^ 64 → is_digit c ≡ true → decimal (m * 10 + (c - 48)) ≡ decimal m ++ c ∷ []
-decimal-more m c some small digit =
-    let low : 48 ≤ c = grind (arith, nat_tests) in
-    let high : c ≤ 57 = grind (arith, nat_tests) in
-    let front : (m * 10 + (c - 48)) / 10 ≡ m = omega (arith, low, high) in
-    let last : 48 + (m * 10 + (c - 48)) % 10 ≡ c = omega (arith, low, high) in
-    decimal_step_wide (m * 10 + (c - 48)) (omega (arith, some)) small ∙ (λ i. decimal (front i) ++ last i ∷ [])
+decimal-more m c some small digit = grind (arith, nat_tests, decimal_step_wide)
 
 below_more : (k m c : ℕ) → m < 10 ^ k → is_digit c ≡ true → m * 10 + (c - 48) < 10 ^ (k + 1)
 below_more k m c small digit =
@@ -90,26 +84,17 @@ record Reads (n : ℕ) (ds : List ℕ) : Type 0 where
   alone : n ≡ 0 → length ds ≡ 1
 
 read_digit : (m d : ℕ) → d < 10 → read_digits m ((48 + d) ∷ []) ≡ Some (m * 10 + d)
-read_digit m d small =
-    let digit : is_digit (48 + d) ≡ true = grind (arith, nat_tests) in
-    let value : 48 + d - 48 ≡ d = omega arith in
-    rw digit (ap (λ (e : ℕ). Some (m * 10 + e)) value)
+read_digit m d small = grind (arith, nat_tests)
 
 read_by : (digit : Bool) (m k c : ℕ) (ds rest : List ℕ) → ((j : ℕ) → read_digits j ds ≡ Some k → read_digits j (ds ++ rest) ≡ read_digits k rest) → (if digit then read_digits (m * 10 + (c - 48)) ds else None) ≡ Some k → (if digit then read_digits (m * 10 + (c - 48)) (ds ++ rest) else None) ≡ read_digits k rest
-read_by true m k c ds rest go read = go (m * 10 + (c - 48)) read
-read_by false m k c ds rest go read = cc
+read_by digit m k c ds rest go read = grind (arith, nat_tests)
 
 read_on : (ds rest : List ℕ) (m k : ℕ) → read_digits m ds ≡ Some k → read_digits m (ds ++ rest) ≡ read_digits k rest
 read_on [] rest m k read = let same : m ≡ k = cc in ap (λ (j : ℕ). read_digits j rest) same
 read_on (c ∷ ds) rest m k read = read_by (is_digit c) m k c ds rest (λ j. read_on ds rest j k) read
 
 reads_one : (n : ℕ) → n < 10 → Reads n ((48 + n) ∷ [])
-reads_one n small = record {
-  some = omega arith;
-  value = read_digit 0 n small ∙ (let same : 0 * 10 + n ≡ n = omega arith in ap Some same);
-  first = λ more. grind (arith, nat_tests);
-  alone = λ none. refl;
-}
+reads_one n small = grind (arith, nat_tests)
 
 first-append : (ds rest : List ℕ) → 0 < length ds → slice_index (ds ++ rest) 0 ≡ slice_index ds 0
 first-append [] rest some = absurd (omega (arith, some))
@@ -126,8 +111,7 @@ reads_more n ds large r =
     }
 
 first_or_alone : (n : ℕ) (ds : List ℕ) → Reads n ds → leads_with_zero ds ≡ false
-first_or_alone zero ds r = let one = r.alone refl in rw one refl
-first_or_alone (suc n) ds r = let other = r.first (omega arith) in rw other (and-false (nat_lt 1 (length ds)))
+first_or_alone n ds r = grind (arith, nat_tests)
 
 -- decimals are read as their number
 number_read : (n : ℕ) → n < 10 ^ 64 → number_of (decimal n) ≡ Some n
@@ -140,19 +124,17 @@ number_read n small =
 
 -- the text of a word that begins a line
 begins : (word line : List ℕ) → begins_with word line ≡ true → line ≡ word ++ drop (length word) line
-begins word line same_word = sym (take-append-drop (length word) line) ∙ ap (λ (front : List ℕ). front ++ drop (length word) line) (sym ((bytes_eq-Decides word (take (length word) line)).0 same_word))
+begins word line same_word = grind (arith, nat_tests, bytes_eq-Decides, take-append-drop)
 
 is_unknown : (c : Command) → (c ≡ Unknown) ⊎ (c ≢ Unknown)
-is_unknown Unknown = inl refl
-is_unknown _ = inr (λ e. cc)
+is_unknown c = grind (arith, nat_tests)
 
 -- a line asks for this command, or for none
 abbrev Found : List ℕ → Command → Type 0
 Found line c = (c ≡ Unknown) ⊎ IsLine c line
 
 by_test : (line : List ℕ) (b : Bool) (x y : Command) → (b ≡ true → Found line x) → Found line y → Found line (if b then x else y)
-by_test line true x y first second = first refl
-by_test line false x y first second = second
+by_test line b x y first second = grind (arith, nat_tests)
 
 found_number : (line word : List ℕ) (command : ℕ → Command) → length line ≤ 64 → ((n : ℕ) → IsNumbered word n line → IsLine (command n) line) → (o : Option ℕ) → number_of (drop (length word) line) ≡ o → begins_with word line ≡ true → Found line (numbered command o)
 found_number line word command short form None read same_word = inl refl
@@ -224,20 +206,10 @@ numbered_found line short =
 
 form_found : (line : List ℕ) → length line ≤ 64 → Found line (form_of line)
 unfolding form_of
-form_found line short =
-    by_test line _ _ _ (found_word line (codes "q") Quit (λ is. is))
-    (by_test line _ _ _ (found_word line (codes "r") Registers (λ is. is))
-    (by_test line _ _ _ (found_word line (codes "rc") ReverseContinue (λ is. is))
-    (by_test line _ _ _ (found_word line (codes "l") Listing (λ is. is))
-    (by_test line _ _ _ (found_word line (codes "f") Frames (λ is. is))
-    (by_test line _ _ _ (found_word line (codes "w") Verdict (λ is. is))
-    (numbered_found line short))))))
+form_found line short = grind (arith, nat_tests, by_test, found_word, numbered_found)
 
 short_by : (line : List ℕ) (b : Bool) → nat_le (length line) 64 ≡ b → (if b then form_of line else Unknown) ≢ Unknown → Asks line (if b then form_of line else Unknown)
-short_by line true is known =
-    let short : length line ≤ 64 = grind (arith, nat_tests) in
-    elim (form_found line short) [ inl none ↦ absurd (known none) | inr found ↦ record { is_line = found; short = short } ]
-short_by line false is known = absurd (known refl)
+short_by line b is known = grind (arith, nat_tests, form_found)
 
 -- what a line is read as, it asks for
 asks_for : (line : List ℕ) → command_of line ≢ Unknown → Asks line (command_of line)
@@ -264,9 +236,7 @@ reads_form _ line l = ap form_of l
 
 reads_asked : (line : List ℕ) (c : Command) → Asks line c → command_of line ≡ c
 unfolding command_of
-reads_asked line c a =
-    let test : nat_le (length line) 64 ≡ true = let short = a.short in grind (arith, nat_tests) in
-    rw test (reads_form c line a.is_line)
+reads_asked line c a = grind (arith, nat_tests, reads_form)
 
 known_of : (line : List ℕ) (c : Command) → Asks line c → c ≢ Unknown
 known_of line c a is = subst (λ (d : Command). IsLine d line) is a.is_line

@@ -7,12 +7,12 @@ ghost use Rattle.debugger.specs.Answers.{break_text, clear_text};
 ghost use Rattle.debugger.specs.Listing.{outside_line};
 ghost use Rattle.bpf_machine.specs.Text.{hex_digit, hex_digits, move_line, register_line, register_lines, registers_text, status_text, word_text};
 
+use arrayvec::ArrayVec;
 use bpf_machine::Status;
 use guest_memory::Fault;
 use history::Emulator;
 use insn_codec::Register;
-use smallvec::SmallVec;
-use std::alloc::Global;
+use itoa::Buffer;
 use std::marker::Model;
 
 mod inspection;
@@ -21,27 +21,25 @@ mod inspection;
 /// the 16 lines of 67 bytes each that show 256 bytes of memory.
 #[derive(Drop)]
 pub struct AnswerText {
-    bytes: SmallVec<u8, 1072>,
+    bytes: ArrayVec<u8, 1072>,
 }
 
 impl Model for AnswerText {
-    ghost use Rattle.std.specs.Prelude.{◌≡◌, ℕ, List};
+    ghost use Rattle.std.specs.Prelude.{ℕ, List};
     ghost use Rattle.std.specs.Coded.{codes};
 
     ghost Value = { List ℕ };
 
     ghost view = { λ t. t.bytes.items };
-
-    ghost invariant = { λ t. t.bytes.capacity ≡ 1072 };
 }
 
 impl AnswerText {
     /// No text. It takes no memory.
-    pub fn new(alloc: Global) -> AnswerText
+    pub fn new() -> AnswerText
         ensures { result ≡ [] }
     {
         AnswerText {
-            bytes: SmallVec::new(alloc),
+            bytes: ArrayVec::new(),
         }
     }
 
@@ -54,9 +52,10 @@ impl AnswerText {
     /// Appends these bytes.
     pub fn push_bytes(&mut self, bytes: &[u8])
         requires { length self.old + length bytes.now ≤ 1072 }
-        ensures { self.new ≡ self.old ++ bytes.now }
+        ensures text { self.new ≡ self.old ++ bytes.now }
+        ensures length { length self.new ≡ length self.old + length bytes.now }
     {
-        match self.bytes.extend_from_slice(bytes) {
+        match self.bytes.try_extend_from_slice(bytes) {
             Ok(()) => {}
             Err(_) => unreachable!(),
         }
@@ -64,28 +63,17 @@ impl AnswerText {
 
     fn push_byte(&mut self, byte: u8)
         requires { length self.old < 1072 }
-        ensures { self.new ≡ self.old ++ byte ∷ [] }
+        ensures text { self.new ≡ self.old ++ byte ∷ [] }
+        ensures length { length self.new ≡ length self.old + 1 }
     {
-        self.bytes.push_reserved(byte);
-    }
-
-    /// Appends a number's decimal digits.
-    fn push_decimal(&mut self, n: u64)
-        requires { length self.old + length (decimal n) ≤ 1072 }
-        ensures { self.new ≡ self.old ++ decimal n }
-    {
-        if n < 10 {
-            self.push_byte(48 + n as u8);
-            return;
-        }
-        self.push_decimal(n / 10);
-        self.push_byte(48 + (n % 10) as u8);
+        self.bytes.push(byte);
     }
 
     /// Appends the lowest `count` hex digits of a word.
     fn push_hex(&mut self, count: u32, word: u64)
         requires { length self.old + count ≤ 1072 }
-        ensures { self.new ≡ self.old ++ hex_digits count word }
+        ensures text { self.new ≡ self.old ++ hex_digits count word }
+        ensures length { length self.new ≡ length self.old + count }
     {
         if count == 0 {
             return;
@@ -100,31 +88,16 @@ impl AnswerText {
         ensures text { self.new ≡ self.old ++ decimal n }
         ensures length { length self.new ≤ length self.old + 20 }
     {
-        self.push_decimal(n);
-    }
-
-    /// Appends a number of at most two digits.
-    fn push_small(&mut self, n: u64)
-        requires small { n < 100 }
-        requires room { length self.old ≤ 1070 }
-        ensures text { self.new ≡ self.old ++ decimal n }
-        ensures length { length self.new ≤ length self.old + 2 }
-    {
-        self.push_decimal(n);
+        self.push_bytes(Buffer::new().format(n).as_bytes());
     }
 
     /// Appends a number with `-` where it is negative.
     fn push_signed(&mut self, n: i64)
-        requires { length self.old ≤ 1051 }
+        requires { length self.old ≤ 1052 }
         ensures text { self.new ≡ self.old ++ signed_decimal n }
-        ensures length { length self.new ≤ length self.old + 21 }
+        ensures length { length self.new ≤ length self.old + 20 }
     {
-        if n < 0 {
-            self.push_byte(b'-');
-            self.push_number(n.unsigned_abs());
-            return;
-        }
-        self.push_number(n.unsigned_abs());
+        self.push_bytes(Buffer::new().format(n).as_bytes());
     }
 
     /// Appends a word as `0x` and 16 hex digits.
@@ -217,12 +190,12 @@ impl AnswerText {
     #[tactic(auto, unfolding(bpf_machine::specs::Text::register_line))]
     fn push_register(&mut self, number: u8, word: u64)
         requires number { number < 11 }
-        requires room { length self.old ≤ 233 }
+        requires room { length self.old ≤ 1031 }
         ensures text { self.new ≡ self.old ++ register_line number word }
-        ensures length { length self.new ≤ length self.old + 23 }
+        ensures length { length self.new ≤ length self.old + 41 }
     {
         self.push_bytes(b"r");
-        self.push_small(u64::from(number));
+        self.push_number(u64::from(number));
         self.push_bytes(b" ");
         self.push_word(word);
         self.push_byte(b'\n');

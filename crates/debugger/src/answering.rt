@@ -92,17 +92,17 @@ fn obey<H: History>(
     ensures fits { Fits (state_after (H.place h.old) (H.origin h.old)) command }
 {
     match command {
-        Command::SetBreakpoint(slot) => set_breakpoint(alloc, breakpoints, slot),
-        Command::ClearBreakpoint(slot) => Ok(clear_breakpoint(alloc, breakpoints, slot)),
-        Command::Forward(n) => forward(alloc, h, n),
-        Command::Back(n) => back(alloc, h, n),
-        Command::Go(k) => go_to(alloc, h, k),
-        Command::Continue(n) => continue_on(alloc, h, breakpoints.as_slice(), n),
-        Command::ReverseContinue => continue_back(alloc, h, breakpoints.as_slice()),
-        Command::Registers => Ok(registers(alloc, h.machine())),
-        Command::ValueAt(at) => show_value(alloc, h.machine(), at),
-        Command::MemoryAt(address, n) => Ok(show_memory(alloc, h.machine(), address, n)),
-        Command::Frames => Ok(show_frames(alloc, h.machine())),
+        Command::SetBreakpoint(slot) => set_breakpoint(breakpoints, slot),
+        Command::ClearBreakpoint(slot) => Ok(clear_breakpoint(breakpoints, slot)),
+        Command::Forward(n) => forward(h, n),
+        Command::Back(n) => back(h, n),
+        Command::Go(k) => go_to(h, k),
+        Command::Continue(n) => continue_on(h, breakpoints.as_slice(), n),
+        Command::ReverseContinue => continue_back(h, breakpoints.as_slice()),
+        Command::Registers => Ok(registers(h.machine())),
+        Command::ValueAt(at) => show_value(h.machine(), at),
+        Command::MemoryAt(address, n) => Ok(show_memory(h.machine(), address, n)),
+        Command::Frames => Ok(show_frames(h.machine())),
         Command::Listing => list(alloc, h.machine()),
         Command::Verdict => show_verdict(alloc, h.machine()),
         Command::Quit => Ok(Reply::Fixed(b"")),
@@ -110,20 +110,16 @@ fn obey<H: History>(
     }
 }
 
-fn registers<E: Emulator>(alloc: Global, machine: &E) -> Reply
+fn registers<E: Emulator>(machine: &E) -> Reply
     ensures { reply_text result ≡ registers_text (E.state machine.now) }
 {
-    let mut text = AnswerText::new(alloc);
+    let mut text = AnswerText::new();
     text.push_registers(machine);
     Reply::Text(text)
 }
 
 /// Sets a breakpoint at a slot that code can have.
-fn set_breakpoint(
-    alloc: Global,
-    breakpoints: &mut Breakpoints,
-    slot: u64,
-) -> Result<Reply, AllocError>
+fn set_breakpoint(breakpoints: &mut Breakpoints, slot: u64) -> Result<Reply, AllocError>
     ensures slots { OnOk result (breakpoints.new ≡ (if is_slot slot then with_breakpoint slot breakpoints.old else breakpoints.old)) }
     ensures text { IfOk result (λ reply. reply_text reply ≡ (if is_slot slot then break_text slot else codes "? range\n")) }
     ensures refused { OnErr result (is_slot slot && not (has_breakpoint slot breakpoints.old) ≡ true) }
@@ -133,13 +129,13 @@ fn set_breakpoint(
         return Ok(Reply::Fixed(b"? range\n"));
     }
     breakpoints.set(slot)?;
-    let mut text = AnswerText::new(alloc);
+    let mut text = AnswerText::new();
     text.push_break(slot);
     Ok(Reply::Text(text))
 }
 
 /// Takes the breakpoint at a slot that code can have away, if there is one.
-fn clear_breakpoint(alloc: Global, breakpoints: &mut Breakpoints, slot: u64) -> Reply
+fn clear_breakpoint(breakpoints: &mut Breakpoints, slot: u64) -> Reply
     ensures slots { breakpoints.new ≡ (if is_slot slot then without_breakpoint slot breakpoints.old else breakpoints.old) }
     ensures text { reply_text result ≡ (if is_slot slot then clear_text slot else codes "? range\n") }
 {
@@ -147,7 +143,7 @@ fn clear_breakpoint(alloc: Global, breakpoints: &mut Breakpoints, slot: u64) -> 
         return Reply::Fixed(b"? range\n");
     }
     breakpoints.clear(slot);
-    let mut text = AnswerText::new(alloc);
+    let mut text = AnswerText::new();
     text.push_clear(slot);
     Reply::Text(text)
 }

@@ -7,15 +7,15 @@ ghost use Rattle.debugger.specs.Replies.{reply_text};
 
 use crate::answer_text::AnswerText;
 use crate::reply::Reply;
+use arrayvec::ArrayVec;
 use guest_memory::laws::lent_is_bytes;
 use guest_memory::{Regions, Size};
 use history::Emulator;
-use smallvec::SmallVec;
-use std::alloc::{AllocError, Global};
+use std::alloc::AllocError;
 use value_store::ValueStore;
 
 /// What stands at a reference, if it is one.
-pub fn show_value<E: Emulator>(alloc: Global, machine: &E, h: u64) -> Result<Reply, AllocError>
+pub fn show_value<E: Emulator>(machine: &E, h: u64) -> Result<Reply, AllocError>
     ensures text { IfOk result (λ reply. reply_text reply ≡ value_text h (value_at (E.state machine.now) h)) }
     ensures refused { OnErr result (is_some (value_at (E.state machine.now) h) ≡ true) }
     ensures fits { length (E.state machine.now).values.values < 2 ^ 64 }
@@ -25,29 +25,29 @@ pub fn show_value<E: Emulator>(alloc: Global, machine: &E, h: u64) -> Result<Rep
         return Ok(Reply::Fixed(b"? range\n"));
     }
     let json = values.json(h)?;
-    Ok(value_line(alloc, h, json))
+    Ok(value_line(h, json))
 }
 
 /// The line of a reference at which this text stands.
 #[tactic(auto, unfolding(crate::specs::Inspection::value_line))]
-fn value_line(alloc: Global, h: u64, json: String) -> Reply
+fn value_line(h: u64, json: String) -> Reply
     ensures { reply_text result ≡ value_line h (string_bytes json) }
 {
-    let mut head = AnswerText::new(alloc);
+    let mut head = AnswerText::new();
     head.push_value(h);
     Reply::Value(head, json)
 }
 
 /// From an address on, 1 to 256 bytes, if all of them stand in one region.
-pub fn show_memory<E: Emulator>(alloc: Global, machine: &E, address: u64, n: u64) -> Reply
+pub fn show_memory<E: Emulator>(machine: &E, address: u64, n: u64) -> Reply
     requires { IsSized (E.state machine.now) }
     ensures { reply_text result ≡ memory_text address (shown_bytes (E.state machine.now).memory address n) }
 {
-    show_bytes(alloc, machine.memory(), address, n)
+    show_bytes(machine.memory(), address, n)
 }
 
 /// The same of a memory.
-fn show_bytes<M: Regions>(alloc: Global, memory: &M, address: u64, n: u64) -> Reply
+fn show_bytes<M: Regions>(memory: &M, address: u64, n: u64) -> Reply
     requires { HasRegions (M.bytes memory.now) }
     ensures { reply_text result ≡ memory_text address (shown_bytes (M.bytes memory.now) address n) }
 {
@@ -56,9 +56,9 @@ fn show_bytes<M: Regions>(alloc: Global, memory: &M, address: u64, n: u64) -> Re
         return Reply::Fixed(b"? range\n");
     }
     match memory.constants(address, n) {
-        Some(bytes) => Reply::Text(memory_lines(alloc, address, bytes)),
-        None => match read_bytes(alloc, memory, address, n) {
-            Some(bytes) => Reply::Text(memory_lines(alloc, address, bytes.as_slice())),
+        Some(bytes) => Reply::Text(memory_lines(address, bytes)),
+        None => match read_bytes(memory, address, n) {
+            Some(bytes) => Reply::Text(memory_lines(address, bytes.as_slice())),
             None => Reply::Fixed(b"? range\n"),
         },
     }
@@ -71,22 +71,17 @@ fn is_count(n: u64) -> bool
 }
 
 /// The lines of these bytes, of which the first has this address.
-fn memory_lines(alloc: Global, address: u64, bytes: &[u8]) -> AnswerText
+fn memory_lines(address: u64, bytes: &[u8]) -> AnswerText
     requires { length bytes.now ≤ 256 }
     ensures { result ≡ memory_lines 16 address bytes.now }
 {
-    let mut text = AnswerText::new(alloc);
+    let mut text = AnswerText::new();
     text.push_memory(address, bytes);
     text
 }
 
 /// From an address on, this many bytes, if all of them stand in one region other than the constants.
-fn read_bytes<M: Regions>(
-    alloc: Global,
-    memory: &M,
-    address: u64,
-    n: u64,
-) -> Option<SmallVec<u8, 256>>
+fn read_bytes<M: Regions>(memory: &M, address: u64, n: u64) -> Option<ArrayVec<u8, 256>>
     requires memory { HasRegions (M.bytes memory.now) }
     requires some { 0 < n }
     requires few { n ≤ 256 }
@@ -94,10 +89,10 @@ fn read_bytes<M: Regions>(
     ensures bytes { option_map (λ b. b.items) result ≡ option_map (map (λ word. word % 256)) (bytes_from (M.bytes memory.now) address n) }
     ensures length { IfSome result (λ b. length b.items ≡ n) }
 {
-    let mut bytes: SmallVec<u8, 256> = SmallVec::new(alloc);
+    let mut bytes = ArrayVec::new();
     for i in 0..n {
         match byte_behind(memory, address, i) {
-            Some(byte) => bytes.push_reserved(byte),
+            Some(byte) => bytes.push(byte),
             None => return None,
         }
     }
@@ -117,11 +112,11 @@ fn byte_behind<M: Regions>(memory: &M, address: u64, i: u64) -> Option<u8>
 }
 
 /// The records of the calls that have not returned.
-pub fn show_frames<E: Emulator>(alloc: Global, machine: &E) -> Reply
+pub fn show_frames<E: Emulator>(machine: &E) -> Reply
     requires { IsSized (E.state machine.now) }
     ensures { reply_text result ≡ frames_text (E.state machine.now).records }
 {
-    let mut text = AnswerText::new(alloc);
+    let mut text = AnswerText::new();
     text.push_frames(machine.records());
     Reply::Text(text)
 }

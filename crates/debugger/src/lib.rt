@@ -9,7 +9,6 @@ mod counting;
 mod failed;
 mod inspecting;
 pub mod laws;
-mod line_start;
 mod listing;
 mod moves;
 mod reply;

@@ -23,7 +23,7 @@ pub fn list<E: Emulator>(alloc: Global, machine: &E) -> Result<Reply, AllocError
     match slot_inside(code, pc) {
         Some(slot) => Ok(Reply::Lines(listing(alloc, code, slot)?)),
         None => {
-            let mut text = AnswerText::new(alloc);
+            let mut text = AnswerText::new();
             text.push_outside(pc);
             Ok(Reply::Text(text))
         }

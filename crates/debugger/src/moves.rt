@@ -7,10 +7,10 @@ ghost use Rattle.debugger.specs.Replies.{Moves};
 use crate::answer_text::AnswerText;
 use crate::reply::Reply;
 use history::{Emulator, History};
-use std::alloc::{AllocError, Global};
+use std::alloc::AllocError;
 
 /// Goes `n` steps on.
-pub fn forward<H: History>(alloc: Global, h: &mut H, n: u64) -> Result<Reply, AllocError>
+pub fn forward<H: History>(h: &mut H, n: u64) -> Result<Reply, AllocError>
     ensures moves { Moves (H.origin h.old) (can_go_on (H.place h.old) n) (H.place h.old) (H.place h.old + n) (H.place h.new) result }
     ensures origin { H.origin h.new ≡ H.origin h.old }
 {
@@ -18,11 +18,11 @@ pub fn forward<H: History>(alloc: Global, h: &mut H, n: u64) -> Result<Reply, Al
     if !can_go_on(now, n) {
         return Ok(Reply::Fixed(b"? range\n"));
     }
-    move_to(alloc, h, now + n)
+    move_to(h, now + n)
 }
 
 /// Goes `n` steps back.
-pub fn back<H: History>(alloc: Global, h: &mut H, n: u64) -> Result<Reply, AllocError>
+pub fn back<H: History>(h: &mut H, n: u64) -> Result<Reply, AllocError>
     ensures moves { Moves (H.origin h.old) (can_go_back (H.place h.old) n) (H.place h.old) (H.place h.old - n) (H.place h.new) result }
     ensures origin { H.origin h.new ≡ H.origin h.old }
 {
@@ -30,27 +30,22 @@ pub fn back<H: History>(alloc: Global, h: &mut H, n: u64) -> Result<Reply, Alloc
     if !can_go_back(now, n) {
         return Ok(Reply::Fixed(b"? range\n"));
     }
-    move_to(alloc, h, now - n)
+    move_to(h, now - n)
 }
 
 /// Goes to step `k`.
-pub fn go_to<H: History>(alloc: Global, h: &mut H, k: u64) -> Result<Reply, AllocError>
+pub fn go_to<H: History>(h: &mut H, k: u64) -> Result<Reply, AllocError>
     ensures moves { Moves (H.origin h.old) (can_go_to k) (H.place h.old) k (H.place h.new) result }
     ensures origin { H.origin h.new ≡ H.origin h.old }
 {
     if !can_go_to(k) {
         return Ok(Reply::Fixed(b"? range\n"));
     }
-    move_to(alloc, h, k)
+    move_to(h, k)
 }
 
 /// Goes on to the next stop, at most `n` steps.
-pub fn continue_on<H: History>(
-    alloc: Global,
-    h: &mut H,
-    stops: &[u64],
-    n: u64,
-) -> Result<Reply, AllocError>
+pub fn continue_on<H: History>(h: &mut H, stops: &[u64], n: u64) -> Result<Reply, AllocError>
     ensures moves { Moves (H.origin h.old) (can_go_on (H.place h.old) n) (H.place h.old) (first_stop stops.now (H.origin h.old) (H.place h.old) n) (H.place h.new) result }
     ensures origin { H.origin h.new ≡ H.origin h.old }
 {
@@ -59,29 +54,25 @@ pub fn continue_on<H: History>(
         return Ok(Reply::Fixed(b"? range\n"));
     }
     let place = h.first(now + n, stops)?;
-    move_to(alloc, h, place)
+    move_to(h, place)
 }
 
 /// Goes back to the last breakpoint before.
-pub fn continue_back<H: History>(
-    alloc: Global,
-    h: &mut H,
-    stops: &[u64],
-) -> Result<Reply, AllocError>
+pub fn continue_back<H: History>(h: &mut H, stops: &[u64]) -> Result<Reply, AllocError>
     ensures moves { Moves (H.origin h.old) true (H.place h.old) (last_stop stops.now (H.origin h.old) (H.place h.old)) (H.place h.new) result }
     ensures origin { H.origin h.new ≡ H.origin h.old }
 {
     let place = h.last(stops)?;
-    move_to(alloc, h, place)
+    move_to(h, place)
 }
 
 /// Moves to step `k`, and answers with its line. The room for the line is there before anything
 /// moves.
-fn move_to<H: History>(alloc: Global, h: &mut H, k: u64) -> Result<Reply, AllocError>
+fn move_to<H: History>(h: &mut H, k: u64) -> Result<Reply, AllocError>
     ensures moves { Moves (H.origin h.old) true (H.place h.old) k (H.place h.new) result }
     ensures origin { H.origin h.new ≡ H.origin h.old }
 {
-    let mut text = AnswerText::new(alloc);
+    let mut text = AnswerText::new();
     h.go(k)?;
     let machine = h.machine();
     text.push_move(k, machine.pc(), machine.status());

@@ -1,5 +1,5 @@
 //! Sessions.
-ghost use Rattle.std.specs.Prelude.{◌≡◌, ◌<◌, ℕ, List, [], length, false, Some, Err, Ok, IfErr, OnErr, OnOk};
+ghost use Rattle.std.specs.Prelude.{◌≡◌, ◌<◌, ◌++◌, ◌∷◌, ℕ, List, [], length, take, false, Some, Err, Ok, IfErr, OnErr, OnOk};
 ghost use Rattle.bpf_machine.specs.State.{start_state};
 ghost use Rattle.debugger.specs.Answers.{world_at, World};
 ghost use Rattle.debugger.specs.Inspection.{StaysSized};
@@ -8,11 +8,11 @@ ghost use Rattle.debugger.specs.Told.{ByResult, FailsByResult, HeardLine, HeardP
 
 use crate::answering::hear_line;
 use crate::breakpoints::Breakpoints;
-use crate::line_start::LineStart;
 use crate::session_error::SessionError;
 use crate::sink::Sink;
 use crate::source::Source;
 use crate::transfer::next_byte;
+use arrayvec::ArrayVec;
 use bpf_machine::Machine;
 use guest_memory::Guest;
 use history::{History, Past};
@@ -71,7 +71,7 @@ fn session_over<H: History, R: Source, W: Sink>(
     ensures no_memory { result ≡ Err SessionError.Memory → ⊥ }
 {
     let mut breakpoints = Breakpoints::new(alloc);
-    let mut line = LineStart::new(alloc);
+    let mut line = ArrayVec::new();
     hear_lines(alloc, h, &mut breakpoints, &mut line, r, w)
 }
 
@@ -80,14 +80,14 @@ fn hear_lines<H: History, R: Source, W: Sink>(
     alloc: Global,
     h: &mut H,
     breakpoints: &mut Breakpoints,
-    line: &mut LineStart,
+    line: &mut ArrayVec<u8, 65>,
     r: &mut R,
     w: &mut W,
 ) -> Result<(), SessionError>
     requires place { H.place h.old ≡ 0 }
     requires states { StaysSized (H.origin h.old) }
     requires no_breakpoint { breakpoints.old ≡ [] }
-    requires no_byte { line.old ≡ [] }
+    requires no_byte { line.old.items ≡ [] }
     ensures told { (input before : List ℕ) → R.left r.old ≡ Some input → W.taken w.old ≡ Some before → ByResult (H.origin h.old) input before (R.left r.new) (W.taken w.new) result }
     ensures fails { FailsByResult (R.failed r.old) (R.failed r.new) (W.failed w.old) (W.failed w.new) result }
     ensures no_memory { result ≡ Err SessionError.Memory → ⊥ }
@@ -109,11 +109,21 @@ fn hear_lines<H: History, R: Source, W: Sink>(
                     line.clear();
                     continue;
                 }
-                line.push(b);
+                keep_start(line, b);
             }
         }
     }
     hear_last(alloc, h, breakpoints, w, line.as_slice())
+}
+
+/// Keeps a line's next byte up to the 65th: a line of more than 64 bytes has no form, whatever its
+/// other bytes are.
+fn keep_start(line: &mut ArrayVec<u8, 65>, byte: u8)
+    ensures { line.new.items ≡ take 65 (line.old.items ++ byte ∷ []) }
+{
+    if line.len() < 65 {
+        line.push(byte);
+    }
 }
 
 /// Answers the line behind the last line feed, if it has a byte.

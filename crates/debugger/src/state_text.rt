@@ -17,9 +17,9 @@ pub fn registers_and_move<V: ValueStore, M: Regions>(
 ) -> Result<Vec<u8>, AllocError>
     ensures { IfOk result (λ text. text.items ≡ registers_text machine.now ++ move_text step machine.now) }
 {
-    let mut registers = AnswerText::new(alloc);
+    let mut registers = AnswerText::new();
     registers.push_registers(machine);
-    let mut line = AnswerText::new(alloc);
+    let mut line = AnswerText::new();
     line.push_move(step, machine.pc(), machine.status());
     let mut text = Vec::from_slice(alloc, registers.as_slice())?;
     text.extend_from_slice(line.as_slice())?;

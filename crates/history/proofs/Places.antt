@@ -1,8 +1,10 @@
 -- Places at which a machine is kept.
 use Rattle.std.proofs.Common.{◌≡◌, ◌≢◌, ◌%◌, ◌++◌, append-nil, drop, ℕ, zero, suc, ◌+◌, ◌-◌, ◌<◌, ◌≤◌, Bool, true, false, not, List, [], ◌∷◌, length, refl, sym, ap, ◌∙◌, arith, subst, map, Option, Some, None, option_map, get_or, inl, inr, ◌⊎◌}
+use Rattle.std.proofs.lemmas.Grind.{common_steps}
+use Rattle.std.proofs.lemmas.Bool.Decides.{nat_tests}
 use Rattle.std.proofs.lemmas.Bool.{cases_lt}
 use Rattle.std.proofs.lemmas.List.{drop-append-le, drop-drop, drop-map, get_or-map, get_or_default, length-append, length-drop, length-map, map-append, append_assoc}
-use Rattle.std.proofs.lemmas.List.Elements.{All-append, All-cons, All-drop, All-nil, All-push, All-same}
+use Rattle.std.proofs.lemmas.List.Elements.{Contains-append_cases, Contains-append_left, Contains-append_right, All-append, All-drop, All-nil, All-push, All-same}
 use Rattle.circular_buffer.specs.Buffer.{keep_last}
 use Rattle.std.proofs.lemmas.Option.{get_or_from_slice_get, slice_get_within}
 use Rattle.std.specs.List.{All, Contains, slice_get}
@@ -21,27 +23,28 @@ none_first ps k p i low = absurd (omega (arith, low))
 
 -- one place more
 none_more : (ps : List ℕ) (n k p q r : ℕ) → NoneNearer ps n k p → get_or ps n 0 ≡ q → p ≤ r → (q ≤ k → q ≤ r) → NoneNearer ps (n + 1) k r
-none_more ps n k p q r none is more next i low here =
-    elim (cases_lt i n) [
-      | inl before ↦ omega (arith, none i before here, more)
-      | inr not_before ↦
-          let last : i ≡ n = omega (arith, low, not_before) in
-          let same : get_or ps i 0 ≡ q = ap (λ (j : ℕ). get_or ps j 0) last ∙ is in
-          omega (arith, same, next (omega (arith, same, here)))
-    ]
-
-contains_tail : (ps : List ℕ) (x q : ℕ) → Contains ps q → Contains (x ∷ ps) q
-contains_tail ps x q c = (suc c.0, omega (arith, c.1), c.2)
-
-contains_head : (ps : List ℕ) (x : ℕ) → Contains (x ∷ ps) x
-contains_head ps x = (0, omega arith, refl)
+none_more ps n k p q r none is more next = grind (arith, nat_tests)
 
 contains_split : (ps : List ℕ) (x q k : ℕ) → k < length (x ∷ ps) → get_or (x ∷ ps) k q ≡ q → (x ≡ q) ⊎ Contains ps q
-contains_split ps x q zero low is = inl is
-contains_split ps x q (suc k) low is = inr (k, omega (arith, low), is)
+contains_split ps x q k low is = grind (arith, nat_tests)
 
 contains_cases : (ps : List ℕ) (x q : ℕ) → Contains (x ∷ ps) q → (x ≡ q) ⊎ Contains ps q
 contains_cases ps x q c = contains_split ps x q c.0 c.1 c.2
+
+-- one element more in a list, and one less
+contains_more : (front ps : List ℕ) (x q : ℕ) → Contains (front ++ ps) q → Contains (front ++ x ∷ ps) q
+contains_more front ps x q c =
+    elim (Contains-append_cases front ps q c) [
+      | inl before ↦ Contains-append_left front (x ∷ ps) q before
+      | inr behind ↦ Contains-append_right front (x ∷ ps) q (Contains-append_right (x ∷ []) ps q behind)
+    ]
+
+contains_less : (front ps : List ℕ) (x q : ℕ) → Contains (front ++ x ∷ ps) q → (x ≡ q) ⊎ Contains (front ++ ps) q
+contains_less front ps x q c =
+    elim (Contains-append_cases front (x ∷ ps) q c) [
+      | inl before ↦ inr (Contains-append_left front ps q before)
+      | inr behind ↦ elim (contains_cases ps x q behind) [ inl same ↦ inl same | inr rest ↦ inr (Contains-append_right front ps q rest) ]
+    ]
 
 -- the place of a machine that is kept is one of the places
 contains_place : {C : Type 0} (place : C → ℕ) (cs : List C) (i : ℕ) (c : C) → slice_get cs i ≡ Some c → Contains (map place cs) (place c)
@@ -56,40 +59,21 @@ place_at place cs i c is =
 
 -- all places looked at, and the start
 pub nearest_is : (ps : List ℕ) (n k p : ℕ) → Contains (0 ∷ ps) p → p ≤ k → NoneNearer ps n k p → length ps ≤ n → IsNearest (0 ∷ ps) k p
-nearest_is ps n k p among low none whole = record {
-  among = among;
-  at_most = low;
-  greatest = λ q c here.
-      elim (contains_cases ps 0 q c) [
-        | inl start ↦ omega (arith, start)
-        | inr other ↦
-            let same : get_or ps other.0 0 ≡ q = get_or_default ps other.0 0 q other.1 ∙ other.2 in
-            let low : get_or ps other.0 0 ≤ p = none other.0 (omega (arith, other.1, whole)) (omega (arith, same, here)) in
-            omega (arith, same, low)
-      ];
-}
+nearest_is ps n k p among low none whole = grind (arith, nat_tests, contains_cases, get_or_default)
 
 -- one more place at hand
 pub nearest_with : (ps : List ℕ) (k p t r : ℕ) → IsNearest (0 ∷ ps) k p → (r ≡ p) ⊎ (r ≡ t) → r ≤ k → p ≤ r → (t ≤ k → t ≤ r) → IsNearest (0 ∷ t ∷ ps) k r
 nearest_with ps k p t r nearest one low more next = record {
   among =
       elim one [
-        | inl same ↦
-            elim (contains_cases ps 0 p nearest.among) [
-              | inl start ↦ subst (λ (q : ℕ). Contains (0 ∷ t ∷ ps) q) (start ∙ sym same) (contains_head (t ∷ ps) 0)
-              | inr other ↦ subst (λ (q : ℕ). Contains (0 ∷ t ∷ ps) q) (sym same) (contains_tail (t ∷ ps) 0 p (contains_tail ps t p other))
-            ]
-        | inr same ↦ subst (λ (q : ℕ). Contains (0 ∷ t ∷ ps) q) (sym same) (contains_tail (t ∷ ps) 0 t (contains_head ps t))
+        | inl same ↦ subst (Contains (0 ∷ t ∷ ps)) (sym same) (contains_more (0 ∷ []) ps t p nearest.among)
+        | inr same ↦ (1, omega arith, sym same)
       ];
   at_most = low;
   greatest = λ q c here.
-      elim (contains_cases (t ∷ ps) 0 q c) [
-        | inl start ↦ omega (arith, start)
-        | inr other ↦
-            elim (contains_cases ps t q other) [
-              | inl same ↦ let behind : t ≤ r = next (omega (arith, same, here)) in omega (arith, same, behind)
-              | inr kept ↦ let behind : q ≤ p = nearest.greatest q (contains_tail ps 0 q kept) here in omega (arith, behind, more)
-            ]
+      elim (contains_less (0 ∷ []) ps t q c) [
+        | inl same ↦ let behind : t ≤ r = next (omega (arith, same, here)) in omega (arith, same, behind)
+        | inr kept ↦ omega (arith, nearest.greatest q kept here, more)
       ];
 }
 
@@ -107,7 +91,7 @@ nearest_step ps k t p nearest =
 
 nearest_some : (ps : List ℕ) (k : ℕ) → (p : ℕ) × IsNearest (0 ∷ ps) k p
 nearest_some [] k =
-    (0, nearest_is [] 0 k 0 (contains_head [] 0) (omega arith) (none_first [] k 0) (omega arith))
+    (0, nearest_is [] 0 k 0 (0, omega arith, refl) (omega arith) (none_first [] k 0) (omega arith))
 nearest_some (t ∷ ps) k =
     let rest = nearest_some ps k in
     nearest_step ps k t rest.0 rest.1
@@ -138,7 +122,7 @@ is_reached s t n k here reaches before = ap (λ (u : State). is_running u.status
 pub replay_none : (h : Trail) (k : ℕ) → h.place ≤ k → Reaches h.origin h.place k → IsReplay h k 0
 replay_none h k low reaches =
     let some = nearest_some (h.place ∷ h.checkpoints) k in
-    let behind : h.place ≤ some.0 = some.1.greatest h.place (contains_tail (h.place ∷ h.checkpoints) 0 h.place (contains_head h.checkpoints h.place)) low in
+    let behind : h.place ≤ some.0 = some.1.greatest h.place (1, omega arith, refl) low in
     record {
       from = some.0;
       nearest = some.1;
@@ -162,13 +146,10 @@ next_place s t u k here some step =
     step ∙ ap next_state here ∙ sym (state_after-more (k - 1) s) ∙ ap (λ (i : ℕ). state_after i s) next
 
 pub not_running : (b c : Bool) → b ≡ not c → b ≡ true → c ≡ false
-not_running b true is said = let stops : b ≡ false = is in cc
-not_running b false is said = refl
+not_running b c is said = grind (arith, nat_tests)
 
 pub before_next : (s u : State) (k : ℕ) → u ≡ state_after k s → u ≡ state_after (k + 1 - 1) s
-before_next s u k here =
-    let same : k ≡ k + 1 - 1 = omega arith in
-    here ∙ ap (λ (i : ℕ). state_after i s) same
+before_next s u k here = grind (arith, nat_tests)
 
 -- the first state is at place 0
 pub start_is : (s t : State) (n : ℕ) → n ≡ 0 → t ≡ s → t ≡ state_after n s
@@ -182,8 +163,7 @@ places_on s t u k n m here run is =
 
 -- the machine that a replay ended with is the one at place k
 pub shown_again : (s u t : State) (n k : ℕ) → u ≡ s → t ≡ state_after n s → n ≤ k → Reaches s n k → t ≡ state_after k u
-shown_again s u t n k origin here within reaches =
-    stands s t n k here (within, is_reached s t n k here reaches) ∙ ap (state_after k) (sym origin)
+shown_again s u t n k origin here within reaches = grind (arith, nat_tests, is_reached, stands)
 
 -- the item that is read is one of those that are kept
 pub contains_at : {C : Type 0} (place : C → ℕ) (cs : List C) (ps : List ℕ) (i : ℕ) (a b c : C) → map place cs ≡ ps → slice_get cs i ≡ Some b → (c ≡ a) ⊎ (c ≡ b) → Contains (0 ∷ ps) (place a) → Contains (0 ∷ ps) (place c)
@@ -192,12 +172,11 @@ contains_at place cs ps i a b c whole is one among =
       | inl same ↦ subst (λ (n : ℕ). Contains (0 ∷ ps) n) (ap place (sym same)) among
       | inr same ↦
           let kept : Contains ps (place b) = subst (λ (qs : List ℕ). Contains qs (place b)) whole (contains_place place cs i b is) in
-          subst (λ (n : ℕ). Contains (0 ∷ ps) n) (ap place (sym same)) (contains_tail ps 0 (place b) kept)
+          subst (λ (n : ℕ). Contains (0 ∷ ps) n) (ap place (sym same)) (Contains-append_right (0 ∷ []) ps (place b) kept)
     ]
 
 pub none_more_at : {C : Type 0} (place : C → ℕ) (cs : List C) (ps : List ℕ) (i k p : ℕ) (b c : C) → map place cs ≡ ps → slice_get cs i ≡ Some b → NoneNearer ps i k p → p ≤ place c → (place b ≤ k → place b ≤ place c) → NoneNearer ps (i + 1) k (place c)
-none_more_at place cs ps i k p b c whole is none more next =
-    none_more ps i k p (place b) (place c) none (ap (λ (qs : List ℕ). get_or qs i 0) (sym whole) ∙ place_at place cs i b is) more next
+none_more_at place cs ps i k p b c whole is none more next = grind (arith, nat_tests, none_more, place_at)
 
 pub all_places : {C : Type 0} (place : C → ℕ) (cs : List C) (ps : List ℕ) (n : ℕ) → map place cs ≡ ps → length cs ≤ n → length ps ≤ n
 all_places place cs ps n whole long = omega (arith, long, length-map cs place, ap length whole)
@@ -207,8 +186,7 @@ pub all_at : {C : Type 0} (P : C → Type 0) (cs : List C) (i : ℕ) (c : C) →
 all_at P cs i c all is = subst P (get_or_from_slice_get cs i c c is) (all i c (slice_get_within cs i c is))
 
 pub one_of : {C : Type 0} (P : C → Type 0) (a b c : C) → (c ≡ a) ⊎ (c ≡ b) → P a → P b → P c
-one_of P a b c one first second =
-    elim one [ inl same ↦ subst P (sym same) first | inr same ↦ subst P (sym same) second ]
+one_of P a b c one first second = grind (arith, nat_tests)
 
 pub none_past : {C : Type 0} (cs : List C) (i : ℕ) → slice_get cs i ≡ None → i < length cs → ⊥
 none_past [] i none low = omega (arith, low)
@@ -224,27 +202,14 @@ read_none now r cs i read is = sym read ∙ ap (option_map now) is
 
 -- the places of the machines that are kept with one more
 pub places_kept : {C : Type 0} (place : C → ℕ) (cs : List C) (c : C) (ps : List ℕ) (room : ℕ) → map place cs ≡ ps → room ≡ 64 → map place (keep_last room (cs ++ c ∷ [])) ≡ with_place ps (place c)
-places_kept place cs c ps room is full =
-    let more : map place (cs ++ c ∷ []) ≡ ps ++ place c ∷ [] = map-append place cs (c ∷ []) ∙ ap (λ (xs : List ℕ). xs ++ place c ∷ []) is in
-    ap (λ (n : ℕ). map place (keep_last n (cs ++ c ∷ []))) full
-    ∙ sym (drop-map place (length (cs ++ c ∷ []) - 64) (cs ++ c ∷ []))
-    ∙ ap (λ (n : ℕ). drop (n - 64) (map place (cs ++ c ∷ []))) (sym (length-map (cs ++ c ∷ []) place))
-    ∙ ap (λ (xs : List ℕ). keep_last 64 xs) more
+places_kept place cs c ps room is full = grind (arith, common_steps, drop-map, length-map, map-append)
 
 -- a checkpoint is due where the nearest one stands elsewhere
 pub is_due : (ps : List ℕ) (k p : ℕ) → k % 1024 ≡ 0 → IsNearest (0 ∷ ps) k p → p ≢ k → IsDue ps k
 is_due ps k p round nearest other = (round, λ c. other (omega (arith, nearest.at_most, nearest.greatest k c (omega arith))))
 
--- nothing was added, and nothing is gone
-gives_none : (gave_up : Bool) (ps qs : List ℕ) → qs ≡ ps → GivesUp gave_up ps qs
-gives_none gave_up ps qs same = record { gone = 0; rest = same; within = omega arith; none = λ told. refl }
-
 pub spared_all : (a b : Kept) → b ≡ a → IsSpared a b
-spared_all a b same = record {
-  origin = ap (λ (k : Kept). k.origin) same;
-  gives_up = gives_none b.gave_up a.places b.places (ap (λ (k : Kept). k.places) same);
-  told = λ none. ap (λ (k : Kept). k.gave_up) (sym same) ∙ none;
-}
+spared_all a b same = grind (arith, nat_tests)
 
 -- what was only given up is kept
 spared_keeps : (gave_up : Bool) (ps qs : List ℕ) → GivesUp gave_up ps qs → Keeps gave_up ps qs
@@ -264,32 +229,14 @@ pub kept_all : (a b : Kept) → b ≡ a → IsKept a b
 kept_all a b same = kept_spared a b (spared_all a b same)
 
 keeps_one : (gave_up : Bool) (ps qs : List ℕ) (k : ℕ) → k % 1024 ≡ 0 → qs ≡ with_place ps k → Keeps gave_up ps qs
-keeps_one gave_up ps qs k round is = record {
-  added = k ∷ [];
-  rounds = All-cons (λ (i : ℕ). i % 1024 ≡ 0) k [] round (All-nil (λ (i : ℕ). i % 1024 ≡ 0));
-  gone = length (ps ++ k ∷ []) - 64;
-  rest = is;
-  within = omega arith;
-  room = λ told. omega arith;
-}
+keeps_one gave_up ps qs k round is = grind (arith, nat_tests)
 
 -- one after another
 spared_gives : (f g : Bool) (ps qs rs : List ℕ) → (g ≡ false → f ≡ false) → GivesUp f ps qs → GivesUp g qs rs → GivesUp g ps rs
-spared_gives f g ps qs rs told a b =
-    let long : length qs ≡ length ps - a.gone = ap (λ (xs : List ℕ). length xs) a.rest ∙ length-drop a.gone ps in
-    record {
-      gone = a.gone + b.gone;
-      rest = b.rest ∙ ap (λ (xs : List ℕ). drop b.gone xs) a.rest ∙ drop-drop b.gone a.gone ps;
-      within = omega (arith, a.within, b.within, long);
-      none = λ none. omega (arith, a.none (told none), b.none none);
-    }
+spared_gives f g ps qs rs told a b = grind (arith, nat_tests, drop-drop, length-drop)
 
 pub spared_on : (a b c : Kept) → IsSpared a b → IsSpared b c → IsSpared a c
-spared_on a b c first second = record {
-  origin = second.origin ∙ first.origin;
-  gives_up = spared_gives b.gave_up c.gave_up a.places b.places c.places second.told first.gives_up second.gives_up;
-  told = λ none. first.told (second.told none);
-}
+spared_on a b c first second = grind (arith, nat_tests, spared_gives)
 
 keeps_on : (f g : Bool) (ps qs rs : List ℕ) → (g ≡ false → f ≡ false) → Keeps f ps qs → Keeps g qs rs → Keeps g ps rs
 keeps_on f g ps qs rs told a b =
@@ -307,11 +254,7 @@ keeps_on f g ps qs rs told a b =
     }
 
 pub kept_on : (a b c : Kept) → IsKept a b → IsKept b c → IsKept a c
-kept_on a b c first second = record {
-  origin = second.origin ∙ first.origin;
-  keeps = keeps_on b.gave_up c.gave_up a.places b.places c.places second.told first.keeps second.keeps;
-  told = λ none. first.told (second.told none);
-}
+kept_on a b c first second = grind (arith, nat_tests, keeps_on)
 
 -- since these places were those of that run
 pub keeps_since : (ps : List ℕ) (a b : Kept) → a.places ≡ ps → IsKept a b → Keeps b.gave_up ps b.places
@@ -328,7 +271,7 @@ kept_one a b c k round spared origin places told =
 
 -- a machine's own place is the nearest to itself
 pub own_place : (ps : List ℕ) (t p : ℕ) → IsNearest (0 ∷ t ∷ ps) t p → p ≡ t
-own_place ps t p nearest = omega (arith, nearest.at_most, nearest.greatest t (contains_tail (t ∷ ps) 0 t (contains_head ps t)) (omega arith))
+own_place ps t p nearest = omega (arith, nearest.at_most, nearest.greatest t (1, omega arith, refl) (omega arith))
 
 -- one step on from place k
 pub step_on : (s t u : State) (k m : ℕ) → t ≡ state_after k s → u ≡ next_state t → m ≡ k + 1 → u ≡ state_after m s
@@ -337,28 +280,8 @@ step_on s t u k m here step is = step ∙ ap next_state here ∙ sym (state_afte
 -- a place that is not the nearest may be given up
 nearest_without_split : (ps : List ℕ) (k t x r p : ℕ) → IsNearest (0 ∷ t ∷ x ∷ ps) k r → r ≢ x → IsNearest (0 ∷ t ∷ ps) k p → r ≡ p
 nearest_without_split ps k t x r p nearest other is =
-    let there : Contains (0 ∷ t ∷ ps) r =
-    elim (contains_cases (t ∷ x ∷ ps) 0 r nearest.among) [
-      | inl start ↦ subst (λ (q : ℕ). Contains (0 ∷ t ∷ ps) q) start (contains_head (t ∷ ps) 0)
-      | inr behind ↦
-          elim (contains_cases (x ∷ ps) t r behind) [
-            | inl same ↦ subst (λ (q : ℕ). Contains (0 ∷ t ∷ ps) q) same (contains_tail (t ∷ ps) 0 t (contains_head ps t))
-            | inr kept ↦
-                elim (contains_cases ps x r kept) [
-                  | inl same ↦ absurd (other (sym same))
-                  | inr rest ↦ contains_tail (t ∷ ps) 0 r (contains_tail ps t r rest)
-                ]
-          ]
-    ] in
-    let here : Contains (0 ∷ t ∷ x ∷ ps) p =
-    elim (contains_cases (t ∷ ps) 0 p is.among) [
-      | inl start ↦ subst (λ (q : ℕ). Contains (0 ∷ t ∷ x ∷ ps) q) start (contains_head (t ∷ x ∷ ps) 0)
-      | inr behind ↦
-          elim (contains_cases ps t p behind) [
-            | inl same ↦ subst (λ (q : ℕ). Contains (0 ∷ t ∷ x ∷ ps) q) same (contains_tail (t ∷ x ∷ ps) 0 t (contains_head (x ∷ ps) t))
-            | inr kept ↦ contains_tail (t ∷ x ∷ ps) 0 p (contains_tail (x ∷ ps) t p (contains_tail ps x p kept))
-          ]
-    ] in
+    let there : Contains (0 ∷ t ∷ ps) r = elim (contains_less (0 ∷ t ∷ []) ps x r nearest.among) [ inl same ↦ absurd (other (sym same)) | inr rest ↦ rest ] in
+    let here : Contains (0 ∷ t ∷ x ∷ ps) p = contains_more (0 ∷ t ∷ []) ps x p is.among in
     omega (arith, is.greatest r there nearest.at_most, nearest.greatest p here is.at_most)
 
 -- the nearest of these places is that of those

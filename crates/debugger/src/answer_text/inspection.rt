@@ -71,7 +71,7 @@ impl AnswerText {
         ensures { self.new ≡ frames_text records.now }
     {
         self.push_bytes(b"depth ");
-        self.push_small(records.len() as u64);
+        self.push_number(records.len() as u64);
         self.push_byte(b'\n');
         self.push_frame_lines(records);
     }

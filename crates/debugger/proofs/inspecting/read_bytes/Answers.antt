@@ -1,13 +1,11 @@
-use Rattle.std.proofs.Common.{◌≡◌, ◌+◌, ℕ, [], inl, refl, arith, ap, length, ◌∙◌}
-use Rattle.std.proofs.lemmas.List.{length_push}
+use Rattle.std.proofs.Common.{◌≡◌, ◌+◌, ℕ, [], refl, arith, ap, length, ◌∙◌}
 use Rattle.debugger.proofs.Shown.{low_all, low_missing, low_more}
 use Rattle.debugger.proofs.inspecting.read_bytes.Goals as goal
 
 pub loop-i-init : goal.loop-i-init
 loop-i-init g c = record {
-  reads = record { words = []; begun = inl (refl, refl); are = c.new-bytes.ensures.items };
-  many = ap length c.new-bytes.ensures.items;
-  room = c.new-bytes.ensures.capacity;
+  reads = record { words = []; begun = refl; are = c.new-bytes.ensures };
+  many = ap length c.new-bytes.ensures;
 }
 
 pub returns-in-None-clause-bytes : goal.returns-in-None-clause-bytes
@@ -15,9 +13,8 @@ returns-in-None-clause-bytes g c = low_missing _ _ _ c.loop-i.i c.requires.memor
 
 pub loop-i-preserved : goal.loop-i-preserved
 loop-i-preserved g c = record {
-  reads = low_more _ _ _ _ _ _ c.requires.memory c.loop-i.invariant.reads c.in-Some.ensures.found c.push_reserved.ensures.items;
-  many = ap length c.push_reserved.ensures.items ∙ length_push _ _ ∙ ap (λ (n : ℕ). n + 1) c.loop-i.invariant.many;
-  room = c.push_reserved.ensures.capacity ∙ c.loop-i.invariant.room;
+  reads = low_more _ _ _ _ _ _ c.requires.memory c.loop-i.invariant.reads c.in-Some.ensures.found c.push.ensures.items;
+  many = c.push.ensures.len ∙ ap (λ (n : ℕ). n + 1) c.loop-i.invariant.many;
 }
 
 pub returns-clause-bytes : goal.returns-clause-bytes

@@ -6,5 +6,4 @@ abbrev pub invariant-loop-i : goal.invariant-loop-i
 invariant-loop-i g l = record {
   reads : ReadsLow (g.M.Regions.bytes l.memory) l.address l.i l.bytes.items;
   many : length l.bytes.items ≡ l.i;
-  room : l.bytes.capacity ≡ 256;
 }

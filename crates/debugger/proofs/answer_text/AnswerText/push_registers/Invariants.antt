@@ -5,5 +5,5 @@ use Rattle.debugger.proofs.answer_text.AnswerText.push_registers.Given as goal
 abbrev pub invariant-loop-number : goal.invariant-loop-number
 invariant-loop-number g l = record {
   text : l.self ≡ register_lines l.number (g.E.Emulator.state l.machine);
-  length : length l.self ≤ 23 * l.number;
+  length : length l.self ≤ 41 * l.number;
 }
