@@ -41,12 +41,12 @@ pub record EntriesReady (s : Setting) (scope : List Variable) (texts : List (Lis
   pub texts_stand : TextsStand c.constants texts (texts_of_entries es)
   pub may : deep ≡ true → s.is_deep ≡ true
 
--- where all is ready, the items are pushed, and the entries put, within 128 steps a visit and 16 times what is spent
+-- where all is ready, the items are pushed, and the entries put, within 120 steps a visit and 15 times what is spent
 abbrev pub ItemsPart : Setting → List Variable → List (List ℕ) → ℕ → Context → ℕ → CoreTrees → List ValueOrError → Cost → Type 0
-ItemsPart s scope texts depth c k es xs t = ItemsReady s scope texts c depth k es t.is_deep → (p : ℕ) → ItemsGive s p (items_code es texts (routines scope) c.words k p) c depth k xs (128 * t.visits) (16 * spent_by t)
+ItemsPart s scope texts depth c k es xs t = ItemsReady s scope texts c depth k es t.is_deep → (p : ℕ) → ItemsGive s p (items_code es texts (routines scope) c.words k p) c depth k xs (120 * t.visits) (15 * spent_by t)
 
 abbrev pub EntriesPart : Setting → List Variable → List (List ℕ) → ℕ → Context → ℕ → CoreEntries → List (ValueOrError × ValueOrError) → Cost → Type 0
-EntriesPart s scope texts depth c k es xs t = EntriesReady s scope texts c depth k es t.is_deep → (p : ℕ) → EntriesGive s p (entries_code es texts (routines scope) c.words k p) c depth k xs (128 * t.visits) (16 * spent_by t)
+EntriesPart s scope texts depth c k es xs t = EntriesReady s scope texts c depth k es t.is_deep → (p : ℕ) → EntriesGive s p (entries_code es texts (routines scope) c.words k p) c depth k xs (120 * t.visits) (15 * spent_by t)
 
 module _ (s : Setting) (scope : List Variable) (texts : List (List ℕ)) (depth : ℕ) (c : Context) (k : ℕ) where
   -- the code at a slot, with words from another one on
@@ -73,12 +73,7 @@ module _ (s : Setting) (scope : List Variable) (texts : List (List ℕ)) (depth 
 
   pub list_part : (es : CoreTrees) (xs : List ValueOrError) (t : Cost) → ItemsPart s scope texts depth c k es xs t → Part s scope texts depth c k (core.list es) (list_literal xs) (node (list_literal xs) and t)
   unfolding code_of need deepest texts_of IsAccepted
-  list_part es xs t items ready p =
-      let room = ready.room in
-      let least = result_size_least (list_literal xs) in
-      gives_within s p _ c depth k (list_literal xs) _ _ _ _ (omega arith) (omega arith)
-      (list_gives.whole s p k (items_code es texts (routines scope) c.words k (p + 2)) c depth xs _ _ (omega arith)
-      (items (record { accepted = ready.accepted; frames = ready.frames; low = omega arith; room = omega arith; texts_stand = ready.texts_stand; may = ready.may }) _))
+  list_part es xs t items ready p = grind (arith, result_size_least, gives_within, list_gives)
 
   pub entries_none : EntriesPart s scope texts depth c k no_core_entries [] nothing
   unfolding code_of
@@ -104,9 +99,4 @@ module _ (s : Setting) (scope : List Variable) (texts : List (List ℕ)) (depth 
 
   pub map_part : (es : CoreEntries) (xs : List (ValueOrError × ValueOrError)) (t : Cost) → EntriesPart s scope texts depth c k es xs t → Part s scope texts depth c k (core.map es) (map_literal xs) (node (map_literal xs) and t)
   unfolding code_of need deepest texts_of IsAccepted
-  map_part es xs t entries ready p =
-      let room = ready.room in
-      let least = result_size_least (map_literal xs) in
-      gives_within s p _ c depth k (map_literal xs) _ _ _ _ (omega arith) (omega arith)
-      (map_gives.whole s p k (entries_code es texts (routines scope) c.words k (p + 2)) c depth xs _ _ (omega arith)
-      (entries (record { accepted = ready.accepted; frames = ready.frames; low = omega arith; room = omega arith; texts_stand = ready.texts_stand; may = ready.may }) _))
+  map_part es xs t entries ready p = grind (arith, result_size_least, gives_within, map_gives)

@@ -1,5 +1,5 @@
 -- Operators, where the code of their operands gives theirs within their budgets.
-use Rattle.std.proofs.Common.{◌≡◌, ℕ, ◌+◌, ◌*◌, ◌<◌, ◌≤◌, ◌||◌, List, ◌++◌, Some, refl, subst, arith}
+use Rattle.std.proofs.Common.{ℕ, ◌+◌, ◌*◌, ◌<◌, ◌≤◌, ◌||◌, List, ◌++◌, Some, refl, arith}
 use Rattle.cel_reader.specs.declared.operator.BinaryOperator.{BinaryOperator}
 use Rattle.cel_reader.specs.declared.operator.BinaryOperator.TheVariants as op
 use Rattle.cel_reader.specs.declared.operator.UnaryOperator.{UnaryOperator}
@@ -31,7 +31,7 @@ use Rattle.codegen_base.proofs.Logic.{logic_gives}
 use Rattle.codegen_base.proofs.Multiplications.{products_give}
 use Rattle.codegen_base.proofs.Negation.{negation_gives}
 use Rattle.codegen.specs.Code.Expressions.{binary_tail, code_of, leaf_of, texts_of}
-use Rattle.codegen.specs.Computes.{Computes, Ready, routines}
+use Rattle.codegen.specs.Computes.{ComputesPart, Ready, routines}
 use Rattle.codegen.specs.Cost.{Cost, ◌and◌, node}
 use Rattle.codegen.specs.Accepted.{IsAccepted}
 use Rattle.codegen.proofs.Budgets.{absorbing, one, two}
@@ -62,13 +62,12 @@ module _ (s : Setting) (scope : List Variable) (texts : List (List ℕ)) (depth 
     -- both are ready where the whole is
     pub record Sides : Type 0 where
       pub low : k < 60
-      pub left : (p : ℕ) → Computes s p (code a k p) c depth k x t
-      pub right : (p : ℕ) → Computes s p (code b (k + 1) p) c depth (k + 1) y u
+      pub left : (p : ℕ) → ComputesPart s p (code a k p) c depth k x t
+      pub right : (p : ℕ) → ComputesPart s p (code b (k + 1) p) c depth (k + 1) y u
 
     sides : (o : BinaryOperator) (z : ValueOrError) → Ready s scope texts c depth k (core.binary o a b) (node z and t and u).is_deep → Sides
     unfolding need deepest texts_of IsAccepted
     sides o z ready =
-        let room = ready.room in
         let accepted = ready.accepted in
         record {
           low = omega arith;
@@ -77,17 +76,15 @@ module _ (s : Setting) (scope : List Variable) (texts : List (List ℕ)) (depth 
         }
 
     -- an operator by the piece behind its operands
-    by_tail : (tail : List Insn) (r q : Register) (z : ValueOrError) (n m : ℕ) → AreApart r q → n ≤ 117 → m ≤ 120 + 16 * result_size z → Sides → (p : ℕ) → ((i : ℕ) → k < 64 → Combines s i tail r q c depth k x y z n m) → Computes s p (operands_code (leaf_of a c.words) (code a k p) (leaf_of b c.words) (code b (k + 1) (p + kept_size (leaf_of a c.words) (code a k p))) k r q ++ tail) c depth k z (node z and t and u)
+    by_tail : (tail : List Insn) (r q : Register) (z : ValueOrError) (n m : ℕ) → AreApart r q → n ≤ 109 → m ≤ 112 + 15 * result_size z → Sides → (p : ℕ) → ((i : ℕ) → k < 64 → Combines s i tail r q c depth k x y z n m) → ComputesPart s p (operands_code (leaf_of a c.words) (code a k p) (leaf_of b c.words) (code b (k + 1) (p + kept_size (leaf_of a c.words) (code a k p))) k r q ++ tail) c depth k z (node z and t and u)
     by_tail tail r q z n m apart hn hm both p combines = let low = both.low in two s c depth k p (leaf_of a c.words) (code a k p) (leaf_of b c.words) _ tail r q x y z n m t u low apart hn hm (named (omega arith)) (both.left p) (named_right (omega arith)) (both.right _) (combines _ (omega arith))
 
     -- the right side of an operator that may leave it out
     abbrev right_code : ℕ → List Insn
     right_code p = code b (k + 1) (p + (size (code a k p) + 2))
 
-    right_two : (p : ℕ) → Sides → Computes s (p + size (code a k p) + 2) (right_code p) c depth (k + 1) y u
-    right_two p both =
-        let place : p + (size (code a k p) + 2) ≡ p + size (code a k p) + 2 = omega arith in
-        subst (λ (i : ℕ). Computes s i (right_code p) c depth (k + 1) y u) place (both.right _)
+    right_two : (p : ℕ) → Sides → ComputesPart s (p + size (code a k p) + 2) (right_code p) c depth (k + 1) y u
+    right_two p both = grind arith
 
     pub binary_part : (o : BinaryOperator) → Part s scope texts depth c k (core.binary o a b) (binary_of o x y) (node (binary_of o x y) and t and u)
     unfolding code_of binary_tail

@@ -1,13 +1,10 @@
 -- The code of an expression that an image has room for can be spelled: the numbers of its instructions are in range.
-use Rattle.std.proofs.Common.{◌≡◌, ℕ, ◌+◌, ◌*◌, ◌^◌, ◌<◌, ◌≤◌, List, [], ◌∷◌, ◌++◌, length, suc, Option, Some, None, Bool, true, false, refl, ap, subst, arith}
-use Rattle.std.proofs.lemmas.Int.{ints}
-use Rattle.std.specs.Prelude.{bytes_eq, if◌then◌else◌, unwrap_or, option_map, FitsSigned, pos, ◌-ℤ◌}
-use Rattle.std.specs.Int.{w32}
+use Rattle.std.proofs.Common.{◌≡◌, ℕ, ◌+◌, ◌*◌, ◌^◌, ◌<◌, ◌≤◌, List, [], ◌∷◌, ◌++◌, length, suc, Option, Some, Bool, arith}
+use Rattle.std.specs.Prelude.{bytes_eq, if◌then◌else◌, unwrap_or, option_map}
 use Rattle.std.specs.List.{AllByRecursion}
-use Rattle.insn_codec.specs.declared.alu_op.AluOp.TheVariants.{Sdiv, Smod}
 use Rattle.insn_codec.specs.declared.insn.Insn.{Insn}
 use Rattle.insn_codec.specs.declared.register.Register.{Register}
-use Rattle.insn_codec.specs.declared.register.Register.TheVariants.{R1, R2, R6, R7}
+use Rattle.insn_codec.specs.declared.register.Register.TheVariants.{R1, R2}
 use Rattle.cel_reader.specs.Tree as tree
 use Rattle.cel_reader.specs.WellFormed.{IsWellFormedLiteral}
 use Rattle.cel_reader.specs.declared.operator.BinaryOperator.{BinaryOperator}
@@ -17,18 +14,17 @@ use Rattle.cel_reader.specs.declared.operator.UnaryOperator.TheVariants as unary
 use Rattle.cel_macros.specs.CoreTree as core
 use Rattle.cel_macros.specs.CoreTree.{CoreTree, CoreTrees, CoreEntries, no_cores, more_cores, no_core_entries, more_core_entries, plain_entries, plain_tree, plain_trees}
 use Rattle.cel_macros.specs.Environment.{lookup}
-use Rattle.cel_macros.specs.Functions.{Function, Size, String, Dyn, function_named, TextTest, test_named}
+use Rattle.cel_macros.specs.Functions.{Function, function_named, TextTest, test_named}
 use Rattle.cel_measures.specs.Measures.{nodes, nodes_of, entries_nodes, need, needs, entries_need}
 use Rattle.cel_measures.specs.Saturated.{saturated}
 use Rattle.cel_types.specs.Declarations.{Declaration}
-use Rattle.codegen_base.specs.Code.Logic.{no_ref, not_tail, yes_ref}
 use Rattle.codegen_base.specs.Pieces.{AreInsns, size}
-use Rattle.codegen_base.specs.Code.Arithmetic.{negation_tail}
 use Rattle.codegen_base.specs.Code.Calls.{kept_size, operand_code, operands_code}
-use Rattle.codegen_base.specs.Code.Selection.{index_tail, size_tail, string_tail, test_tail}
+use Rattle.codegen_base.specs.Code.Selection.{index_tail}
+use Rattle.codegen_base.specs.Paths.{Kept, Path, with_name}
 use Rattle.codegen_base.specs.declared.leaf.Leaf.{Leaf}
-use Rattle.codegen_base.proofs.Insns.{MayBeNear, absorbing_insns, difference_insns, divided_insns, entry_insns, equal_insns, field_insns, has_insns, index_insns, insns_append, int_insns, item_insns, less_insns, list_insns, macro_insns, map_insns, map_where_insns, member_insns, name_insns, name_near, negation_insns, not_insns, not_less_insns, null_insns, operand_insns, operands_insns, product_insns, size_insns, string_insns, sum_insns, ternary_insns, test_insns, text_insns, truth_insns, unequal_insns, use_insns}
-use Rattle.codegen.specs.Code.Expressions.{binary_code, binary_tail, code_of, entries_code, function_code, items_code, leaf_of, left_size, method_function_code, no_code, routine_named, test_code, unary_code, variable_code}
+use Rattle.codegen_base.proofs.Insns.{MayBeNear, absorbing_insns, difference_insns, divided_insns, entry_insns, equal_insns, field_insns, has_insns, index_insns, insns_append, item_insns, less_insns, list_insns, macro_insns, map_insns, map_where_insns, member_insns, name_insns, name_near, negation_insns, not_insns, not_less_insns, operand_insns, operands_insns, product_insns, size_insns, string_insns, sum_insns, ternary_insns, test_insns, unequal_insns}
+use Rattle.codegen.specs.Code.Expressions.{binary_code, binary_tail, code_of, entries_code, function_code, items_code, leaf_of, left_size, method_function_code, no_code, routine_named, test_code, unary_code, variable_code, field_leaf, kept_or}
 use Rattle.codegen.specs.Code.Literals.{address_of, literal_code, literal_leaf}
 use Rattle.codegen.specs.Constants.{place_of}
 use Rattle.codegen.specs.HasLiterals.{EntriesHaveLiterals, HasLiterals, HaveLiterals}
@@ -36,51 +32,35 @@ use Rattle.codegen.specs.Surroundings.{routines_of}
 use Rattle.codegen.proofs.Lengths.{short_code}
 
 -- iteration names stand in words of the frame
-abbrev pub AreWithin : List (List ℕ × ℕ) → Type 0
-AreWithin words = (n : List ℕ) (k : ℕ) → lookup n words ≡ Some k → k < 64
+abbrev pub AreWithin : Kept → Type 0
+AreWithin words = (n : List ℕ) (k : ℕ) → lookup n words.items ≡ Some k → k < 64
 
 within_by : (found : Bool) (j k i : ℕ) (o : Option ℕ) → j < 64 → (o ≡ Some i → i < 64) → (if found then Some j else o) ≡ Some i → i < 64
-within_by true j k i o low later e = let same : j ≡ i = ap (λ (p : Option ℕ). unwrap_or p 0) e in omega arith
-within_by false j k i o low later e = later e
+within_by found j k i o low later e = grind arith
 
-within_more : (n : List ℕ) (j : ℕ) (words : List (List ℕ × ℕ)) → j < 64 → AreWithin words → AreWithin ((n, j) ∷ words)
-within_more n j words low rest m i e = within_by (bytes_eq n m) j 0 i (lookup m words) low (rest m i) e
+within_more : (n : List ℕ) (j : ℕ) (words : Kept) → j < 64 → AreWithin words → AreWithin (with_name n j words)
+within_more n j words low rest m i e = within_by (bytes_eq n m) j 0 i (lookup m words.items) low (rest m i) e
 
-address_small : (texts : List (List ℕ)) (t : List ℕ) → address_of texts t < 2 ^ 64
+pub address_small : (texts : List (List ℕ)) (t : List ℕ) → address_of texts t < 2 ^ 64
 address_small texts t = let most = unwrap_or (option_map saturated (place_of t texts)) 0 in omega arith
 
 no_insns : AreInsns no_code
 no_insns = (omega arith, tt)
 
 literal_insns : (texts : List (List ℕ)) (l : tree.Literal) → IsWellFormedLiteral l → AreInsns (literal_code texts l)
-literal_insns texts tree.null h = null_insns
-literal_insns texts (tree.truth b) h = truth_insns b
-literal_insns texts (tree.int z) h = int_insns z h
-literal_insns texts (tree.text t) h = text_insns (address_of texts t) (length t) (address_small texts t)
+literal_insns texts l h = grind arith
 
 literal_near : (l : tree.Literal) → MayBeNear (literal_leaf l)
-literal_near tree.null = omega arith
-literal_near (tree.truth true) = omega arith
-literal_near (tree.truth false) = omega arith
-literal_near (tree.int z) = tt
-literal_near (tree.text t) = tt
+literal_near l = grind arith
 
-leaf_near : (e : CoreTree) (ws : List (List ℕ × ℕ)) → AreWithin ws → MayBeNear (leaf_of e ws)
-leaf_near (core.literal l) ws words = literal_near l
-leaf_near (core.name n) ws words = name_near n ws (words n)
-leaf_near (core.variable v) ws words = tt
-leaf_near (core.select a f) ws words = tt
-leaf_near (core.has a f) ws words = tt
-leaf_near (core.index a b) ws words = tt
-leaf_near (core.call n items) ws words = tt
-leaf_near (core.method a n items) ws words = tt
-leaf_near (core.unary op a) ws words = tt
-leaf_near (core.binary op a b) ws words = tt
-leaf_near (core.ternary a b d) ws words = tt
-leaf_near (core.list items) ws words = tt
-leaf_near (core.map es) ws words = tt
-leaf_near (core.fold m n r e) ws words = tt
-leaf_near (core.fold_map n r e t) ws words = tt
+field_near : (path : Option Path) (a : CoreTree) (f : List ℕ) → MayBeNear (field_leaf path a f)
+field_near path a f = grind arith
+
+leaf_near : (e : CoreTree) (ws : Kept) → AreWithin ws → MayBeNear (leaf_of e ws)
+leaf_near e ws words = grind (arith, literal_near, name_near, field_near)
+
+kept_insns : (l : Option Leaf) (code : List Insn) → MayBeNear l → AreInsns code → AreInsns (kept_or l code)
+kept_insns l code near insns = grind arith
 
 -- ---- one operand
 
@@ -89,20 +69,13 @@ module _ (l : Option Leaf) (part : List Insn) (near : MayBeNear l) (a : AreInsns
   one_insns r tail b = insns_append (operand_code l part r) tail (operand_insns l part r near a) b
 
   unary_insns : (op : UnaryOperator) → AreInsns (unary_code op l part)
-  unary_insns unary.Not = one_insns R1 not_tail not_insns
-  unary_insns unary.Negate = one_insns R6 negation_tail negation_insns
+  unary_insns op = grind (arith, one_insns, not_insns, negation_insns)
 
   function_insns : (f : Option Function) → AreInsns (function_code f l part)
-  function_insns (Some Size) = one_insns R1 size_tail size_insns
-  function_insns (Some String) = one_insns R6 string_tail string_insns
-  function_insns (Some Dyn) = a
-  function_insns None = no_insns
+  function_insns f = grind (arith, one_insns, size_insns, string_insns, no_insns)
 
   method_insns : (f : Option Function) → AreInsns (method_function_code f l part)
-  method_insns (Some Size) = one_insns R1 size_tail size_insns
-  method_insns (Some String) = no_insns
-  method_insns (Some Dyn) = no_insns
-  method_insns None = no_insns
+  method_insns f = grind (arith, one_insns, size_insns, no_insns)
 
 -- ---- two operands
 
@@ -112,24 +85,10 @@ module _ (l : Option Leaf) (left : List Insn) (m : Option Leaf) (right : List In
 
   binary_insns : (op : BinaryOperator) → size right ≤ 32700 → AreInsns (binary_code op l left m right k)
   unfolding binary_tail
-  binary_insns binary.Or short = absorbing_insns yes_ref no_ref left right k (omega arith) (omega arith) (omega arith) short a b
-  binary_insns binary.And short = absorbing_insns no_ref yes_ref left right k (omega arith) (omega arith) (omega arith) short a b
-  binary_insns binary.Less short = two_insns R1 R2 _ less_insns
-  binary_insns binary.LessEqual short = two_insns R2 R1 _ not_less_insns
-  binary_insns binary.GreaterEqual short = two_insns R1 R2 _ not_less_insns
-  binary_insns binary.Greater short = two_insns R2 R1 _ less_insns
-  binary_insns binary.Equal short = two_insns R1 R2 _ equal_insns
-  binary_insns binary.NotEqual short = two_insns R1 R2 _ unequal_insns
-  binary_insns binary.In short = two_insns R1 R2 _ member_insns
-  binary_insns binary.Add short = two_insns R6 R7 _ sum_insns
-  binary_insns binary.Subtract short = two_insns R6 R7 _ difference_insns
-  binary_insns binary.Multiply short = two_insns R6 R7 _ product_insns
-  binary_insns binary.Divide short = two_insns R6 R7 _ (divided_insns Sdiv)
-  binary_insns binary.Remainder short = two_insns R6 R7 _ (divided_insns Smod)
+  binary_insns op short = grind (arith, absorbing_insns, two_insns, less_insns, not_less_insns, equal_insns, unequal_insns, member_insns, sum_insns, difference_insns, product_insns, divided_insns)
 
   tested_insns : (t : Option TextTest) → AreInsns (test_code t l left m right k)
-  tested_insns (Some t) = two_insns R1 R2 (test_tail t) (test_insns t)
-  tested_insns None = no_insns
+  tested_insns t = grind (arith, two_insns, test_insns, no_insns)
 
 -- ---- variables
 
@@ -142,75 +101,48 @@ abbrev pub AreLow : List ℕ → Type 0
 AreLow slots = AllByRecursion (λ slot. slot ≤ 0x7fff_ff00) slots
 
 near_by : (here : Bool) (slot m : ℕ) (o : Option (ℕ × ℕ)) (found : ℕ × ℕ) → slot ≤ 0x7fff_ff00 → ((at : ℕ × ℕ) → o ≡ Some at → (at.0 < m) × (at.1 ≤ 0x7fff_ff00)) → (if here then Some (0, slot) else option_map (λ at. (suc at.0, at.1)) o) ≡ Some found → (found.0 < suc m) × (found.1 ≤ 0x7fff_ff00)
-near_by true slot m o found low later e = let same : (0, slot) ≡ found = cc in subst (λ (at : ℕ × ℕ). (at.0 < suc m) × (at.1 ≤ 0x7fff_ff00)) same (omega arith, low)
-near_by false slot m (Some at) found low later e =
-    let same : (suc at.0, at.1) ≡ found = cc in
-    let is = later at refl in
-    let first = is.0 in
-    subst (λ (b : ℕ × ℕ). (b.0 < suc m) × (b.1 ≤ 0x7fff_ff00)) same (omega arith, is.1)
-near_by false slot m None found low later e = absurd (cc)
+near_by here slot m o found low later e = grind arith
 
 pub near_named : (ds : List Declaration) (slots : List ℕ) → AreLow slots → (n : List ℕ) (found : ℕ × ℕ) → routine_named n (routines_of ds slots) ≡ Some found → (found.0 < length slots) × (found.1 ≤ 0x7fff_ff00)
 near_named [] slots low n found e = absurd (cc)
 near_named (d ∷ ds) [] low n found e = absurd (cc)
 near_named (d ∷ ds) (s ∷ slots) low n found e = near_by (bytes_eq d.name n) s (length slots) (routine_named n (routines_of ds slots)) found low.0 (near_named ds slots low.1 n) e
 
-distance_fits : (a b : ℕ) → a ≤ 0x7fff_ff00 → b ≤ 0x8000_0000 → FitsSigned w32 (pos a -ℤ pos b)
-distance_fits a b low high = grind (arith, ints)
-
 variable_insns : (found : Option (ℕ × ℕ)) (p : ℕ) → p + 6 ≤ 0x8000_0000 → ((at : ℕ × ℕ) → found ≡ Some at → (at.0 < 512) × (at.1 ≤ 0x7fff_ff00)) → AreInsns (variable_code found p)
-variable_insns (Some at) p low near = let is = near at refl in use_insns at.0 (pos at.1 -ℤ pos (p + 6)) is.0 (distance_fits at.1 (p + 6) is.1 low)
-variable_insns None p low near = no_insns
+variable_insns found p low near = grind arith
 
 -- a right operand begins close behind the left one's code
 kept_at_most : (l : Option Leaf) (left : List Insn) → kept_size l left ≤ size left + 1
-kept_at_most (Some l) left = omega arith
-kept_at_most None left = omega arith
+kept_at_most l left = grind arith
 
 left_at_most : (op : BinaryOperator) (l : Option Leaf) (left : List Insn) → left_size op l left ≤ size left + 2
-left_at_most binary.Or l left = omega arith
-left_at_most binary.And l left = omega arith
-left_at_most binary.Less l left = let h = kept_at_most l left in omega (arith, h)
-left_at_most binary.LessEqual l left = let h = kept_at_most l left in omega (arith, h)
-left_at_most binary.GreaterEqual l left = let h = kept_at_most l left in omega (arith, h)
-left_at_most binary.Greater l left = let h = kept_at_most l left in omega (arith, h)
-left_at_most binary.Equal l left = let h = kept_at_most l left in omega (arith, h)
-left_at_most binary.NotEqual l left = let h = kept_at_most l left in omega (arith, h)
-left_at_most binary.In l left = let h = kept_at_most l left in omega (arith, h)
-left_at_most binary.Add l left = let h = kept_at_most l left in omega (arith, h)
-left_at_most binary.Subtract l left = let h = kept_at_most l left in omega (arith, h)
-left_at_most binary.Multiply l left = let h = kept_at_most l left in omega (arith, h)
-left_at_most binary.Divide l left = let h = kept_at_most l left in omega (arith, h)
-left_at_most binary.Remainder l left = let h = kept_at_most l left in omega (arith, h)
+left_at_most op l left = grind arith
 
 module _ (ts : List (List ℕ)) (rs : List (List ℕ × ℕ)) (near : AreNear rs) where
-  abbrev code : CoreTree → List (List ℕ × ℕ) → ℕ → ℕ → List Insn
+  abbrev code : CoreTree → Kept → ℕ → ℕ → List Insn
   code e ws k p = code_of e ts rs ws k p
 
   mutual
     unfolding code_of need nodes plain_tree
 
-    pub code_insns : (e : CoreTree) (ws : List (List ℕ × ℕ)) (k p : ℕ) → AreWithin ws → k + need e ≤ 60 → nodes e ≤ 512 → p + 63 * nodes e ≤ 0x8000_0000 → HasLiterals (plain_tree e) → AreInsns (code_of e ts rs ws k p)
+    pub code_insns : (e : CoreTree) (ws : Kept) (k p : ℕ) → AreWithin ws → k + need e ≤ 60 → nodes e ≤ 512 → p + 63 * nodes e ≤ 0x8000_0000 → HasLiterals (plain_tree e) → AreInsns (code_of e ts rs ws k p)
     code_insns (core.literal l) ws k p words room few inside h = literal_insns ts l h
-    code_insns (core.name n) ws k p words room few inside h = name_insns n ws (words n)
+    code_insns (core.name n) ws k p words room few inside h = name_insns n ws.items (words n)
     code_insns (core.variable v) ws k p words room few inside h = variable_insns (routine_named v rs) p (omega arith) (near v)
-    code_insns (core.select a f) ws k p words room few inside h = one_insns (leaf_of a ws) (code a ws k p) (leaf_near a ws words) (code_insns a ws k p words room (omega arith) (omega arith) h) R1 _ (field_insns (address_of ts f) (length f) (address_small ts f))
+    code_insns (core.select a f) ws k p words room few inside h = kept_insns (leaf_of (core.select a f) ws) _ (leaf_near (core.select a f) ws words) (one_insns (leaf_of a ws) (code a ws k p) (leaf_near a ws words) (code_insns a ws k p words room (omega arith) (omega arith) h) R1 _ (field_insns (address_of ts f) (length f) (address_small ts f)))
     code_insns (core.has a f) ws k p words room few inside h = one_insns (leaf_of a ws) (code a ws k p) (leaf_near a ws words) (code_insns a ws k p words room (omega arith) (omega arith) h.0) R1 _ (has_insns (address_of ts f) (length f) (address_small ts f))
     code_insns (core.index a b) ws k p words room few inside h =
         let q = p + kept_size (leaf_of a ws) (code a ws k p) in
         let near_left = kept_at_most (leaf_of a ws) (code a ws k p) in
         let long = short_code a ts rs ws k p in
         two_insns (leaf_of a ws) (code a ws k p) (leaf_of b ws) (code b ws (k + 1) q) k (omega arith) (leaf_near a ws words) (code_insns a ws k p words (omega arith) (omega arith) (omega arith) h.0) (leaf_near b ws words) (code_insns b ws (k + 1) q words (omega arith) (omega arith) (omega arith) h.1) R1 R2 index_tail index_insns
-    code_insns (core.call n no_cores) ws k p words room few inside h = no_insns
     code_insns (core.call n (more_cores a no_cores)) ws k p words room few inside h = function_insns (leaf_of a ws) (code a ws k p) (leaf_near a ws words) (code_insns a ws k p words room (omega arith) (omega arith) h.0) (function_named n)
-    code_insns (core.call n (more_cores a (more_cores b more))) ws k p words room few inside h = no_insns
     code_insns (core.method a n no_cores) ws k p words room few inside h = method_insns (leaf_of a ws) (code a ws k p) (leaf_near a ws words) (code_insns a ws k p words (omega arith) (omega arith) (omega arith) h.0) (function_named n)
     code_insns (core.method a n (more_cores b no_cores)) ws k p words room few inside h =
         let q = p + kept_size (leaf_of a ws) (code a ws k p) in
         let near_left = kept_at_most (leaf_of a ws) (code a ws k p) in
         let long = short_code a ts rs ws k p in
         tested_insns (leaf_of a ws) (code a ws k p) (leaf_of b ws) (code b ws (k + 1) q) k (omega arith) (leaf_near a ws words) (code_insns a ws k p words (omega arith) (omega arith) (omega arith) h.0) (leaf_near b ws words) (code_insns b ws (k + 1) q words (omega arith) (omega arith) (omega arith) h.1.0) (test_named n)
-    code_insns (core.method a n (more_cores b (more_cores x more))) ws k p words room few inside h = no_insns
     code_insns (core.unary op a) ws k p words room few inside h = unary_insns (leaf_of a ws) (code a ws k p) (leaf_near a ws words) (code_insns a ws k p words room (omega arith) (omega arith) h) op
     code_insns (core.binary op a b) ws k p words room few inside h =
         let q = p + left_size op (leaf_of a ws) (code a ws k p) in
@@ -228,13 +160,13 @@ module _ (ts : List (List ℕ)) (rs : List (List ℕ × ℕ)) (near : AreNear rs
     code_insns (core.list items) ws k p words room few inside h = list_insns (items_code items ts rs ws k (p + 2)) k (omega arith) (items_insns items ws k (p + 2) words (omega arith) (omega arith) (omega arith) h)
     code_insns (core.map es) ws k p words room few inside h = map_insns (entries_code es ts rs ws k (p + 2)) k (omega arith) (entries_insns es ws k (p + 2) words (omega arith) (omega arith) (omega arith) h)
     code_insns (core.fold m n r e) ws k p words room few inside h =
-        let ws1 = (n, k + 4) ∷ ws in
+        let ws1 = with_name n (k + 4) ws in
         let q = p + size (code r ws k p) + 17 in
         let long = short_code r ts rs ws k p in
         let long_part = short_code e ts rs ws1 (k + 5) q in
         macro_insns m k (code r ws k p) (code e ws1 (k + 5) q) (omega arith) (omega arith) (code_insns r ws k p words (omega arith) (omega arith) (omega arith) h.0) (code_insns e ws1 (k + 5) q (within_more n (k + 4) ws (omega arith) words) (omega arith) (omega arith) (omega arith) h.1.1.0)
     code_insns (core.fold_map n r e t) ws k p words room few inside h =
-        let ws1 = (n, k + 4) ∷ ws in
+        let ws1 = with_name n (k + 4) ws in
         let q = p + size (code r ws k p) + 17 in
         let u = q + size (code e ws1 (k + 5) q) + 2 in
         let long = short_code r ts rs ws k p in
@@ -242,14 +174,15 @@ module _ (ts : List (List ℕ)) (rs : List (List ℕ × ℕ)) (near : AreNear rs
         let long_second = short_code t ts rs ws1 (k + 5) u in
         let inner = within_more n (k + 4) ws (omega arith) words in
         map_where_insns k (code r ws k p) (code e ws1 (k + 5) q) (code t ws1 (k + 5) u) (omega arith) (omega arith) (code_insns r ws k p words (omega arith) (omega arith) (omega arith) h.0) (code_insns e ws1 (k + 5) q inner (omega arith) (omega arith) (omega arith) h.1.1.0) (code_insns t ws1 (k + 5) u inner (omega arith) (omega arith) (omega arith) h.1.1.1.0)
+    code_insns _ ws k p words room few inside h = no_insns
 
-    items_insns : (items : CoreTrees) (ws : List (List ℕ × ℕ)) (k p : ℕ) → AreWithin ws → k + 1 + needs items ≤ 60 → nodes_of items ≤ 512 → p + 63 * nodes_of items ≤ 0x8000_0000 → HaveLiterals (plain_trees items) → AreInsns (items_code items ts rs ws k p)
+    items_insns : (items : CoreTrees) (ws : Kept) (k p : ℕ) → AreWithin ws → k + 1 + needs items ≤ 60 → nodes_of items ≤ 512 → p + 63 * nodes_of items ≤ 0x8000_0000 → HaveLiterals (plain_trees items) → AreInsns (items_code items ts rs ws k p)
     items_insns no_cores ws k p words room few inside h = tt
     items_insns (more_cores a more) ws k p words room few inside h =
         let long = short_code a ts rs ws (k + 1) p in
         insns_append _ (items_code more ts rs ws k _) (item_insns (code a ws (k + 1) p) k (omega arith) (code_insns a ws (k + 1) p words (omega arith) (omega arith) (omega arith) h.0)) (items_insns more ws k _ words (omega arith) (omega arith) (omega arith) h.1)
 
-    entries_insns : (es : CoreEntries) (ws : List (List ℕ × ℕ)) (k p : ℕ) → AreWithin ws → k + entries_need es ≤ 60 → entries_nodes es ≤ 512 → p + 63 * entries_nodes es ≤ 0x8000_0000 → EntriesHaveLiterals (plain_entries es) → AreInsns (entries_code es ts rs ws k p)
+    entries_insns : (es : CoreEntries) (ws : Kept) (k p : ℕ) → AreWithin ws → k + entries_need es ≤ 60 → entries_nodes es ≤ 512 → p + 63 * entries_nodes es ≤ 0x8000_0000 → EntriesHaveLiterals (plain_entries es) → AreInsns (entries_code es ts rs ws k p)
     entries_insns no_core_entries ws k p words room few inside h = tt
     entries_insns (more_core_entries key v more) ws k p words room few inside h =
         let q = p + size (code key ws (k + 1) p) + 1 in

@@ -8,6 +8,7 @@ use Rattle.value_store.specs.Value.{Value}
 use Rattle.cel_macros.specs.CoreTree.{CoreTree, plain_tree}
 use Rattle.cel_measures.specs.Measures.{deepest, depth, need, nodes}
 use Rattle.cel_types.specs.Declarations.{Declaration, declared, depths_of}
+use Rattle.codegen_base.specs.Paths.{Kept}
 use Rattle.codegen_base.specs.Instructions.{skip}
 use Rattle.codegen_base.specs.Pieces.{AreInsns, Stands, size, slots}
 use Rattle.codegen_base.specs.Scopes.{Returns, Variable, first_use}
@@ -17,7 +18,8 @@ use Rattle.codegen_base.proofs.Pieces.{size-append, size-cons, stands_rest}
 use Rattle.codegen_base.proofs.Returns.{routine_returns}
 use Rattle.codegen_base.proofs.Runs.{looser, to_place}
 use Rattle.codegen.specs.Added.{code_at, has_room, passed, with_counted, with_expression, with_variable}
-use Rattle.codegen.specs.Code.Expressions.{code_of, routine_code, texts_of}
+use Rattle.codegen.specs.Code.Expressions.{texts_of}
+use Rattle.codegen.specs.Code.Whole.{routine_code, whole_code}
 use Rattle.codegen.specs.Computes.{Computes, environment_in}
 use Rattle.codegen.specs.Constants.{with_texts}
 use Rattle.codegen.specs.Cost.{spent_by}
@@ -27,11 +29,11 @@ use Rattle.codegen.specs.HasLiterals.{HasLiterals}
 use Rattle.codegen.specs.Layer.{AreTaken, HasConstants, IsExpression}
 use Rattle.codegen.specs.Surroundings.{routines_of}
 use Rattle.codegen.proofs.Before.{code_before}
-use Rattle.codegen.proofs.CodeInsns.{AreLow, AreNear, code_insns, near_named}
+use Rattle.codegen.proofs.CodeInsns.{AreLow, AreNear, near_named}
 use Rattle.codegen.proofs.Computed.{visited}
 use Rattle.codegen.proofs.Layer.{expression_gives, routines_are, variable_is_taken, variable_joins}
-use Rattle.codegen.proofs.Lengths.{short_code}
 use Rattle.codegen.proofs.Passed.{routine_is_passed}
+use Rattle.codegen.proofs.Whole.{whole_insns, whole_short}
 
 pub low_each : (slots : List ℕ) → All (λ slot. slot ≤ 0x7fff_ff00) slots → AreLow slots
 low_each [] h = tt
@@ -55,25 +57,19 @@ module _ (old : Emitted) (ds : List Declaration) (e : CoreTree) (few : 2 * lengt
     all_taken = sym (length-map (r.scope ++ r.later) (λ (v : Variable). v.routine)) ∙ ap length suits.taken.slots_are
 
     scope_few : old.nodes ≤ 512 → length r.scope ≤ 512
-    scope_few most =
-        let all = all_taken in
-        let both = length-append r.scope r.later in
-        omega (arith, few, most, all, both)
+    scope_few most = grind (arith, all_taken, length-append)
 
   -- ---- its instructions
 
   near : old.nodes ≤ 512 → AreNear routines
-  near most name found is =
-      let here = near_named ds old.routines low name found is in
-      let first = here.0 in
-      (omega (arith, first, few, most), here.1)
+  near most name found is = grind (arith, near_named)
 
-  piece_spells : (p : ℕ) → p + 63 * nodes e ≤ 0x8000_0000 → nodes e ≤ 512 → old.nodes ≤ 512 → AreInsns (code_of e known routines [] 0 p)
-  piece_spells p here short most = code_insns known routines (near most) e [] 0 p (λ n k is. absurd (cc)) (omega (arith, fits)) short here literals
+  piece_spells : (p : ℕ) → p + 6 + 63 * nodes e ≤ 0x8000_0000 → nodes e ≤ 512 → old.nodes ≤ 512 → AreInsns (whole_code e known routines p)
+  piece_spells p here short most = whole_insns known routines (near most) e p fits short here literals
 
   -- the code with all declarations, where the type checker takes the expression with the first of them
   computed : (first rest : List Declaration) (r : Running) (p frame : ℕ) → old.nodes ≤ 512 → ds ≡ first ++ rest → Suits old.routines known first e r → HasRoutines r r.scope → frame + deepest e (depths_of first) ≤ 7
-      → Computes (setting r) p (code_of e known routines [] 0 p) (context r) frame 0 (meaning_in r e) (cost_in r e)
+      → Computes (setting r) p (whole_code e known routines p) (context r) frame 0 (meaning_in r e) (cost_in r e)
   computed first rest r p frame most whole suits scoped near =
       let is = is_expression first r suits in
       let same = code_before known old.routines ds first rest r.scope r.later e p whole suits.taken is in
@@ -84,19 +80,7 @@ module _ (old : Emitted) (ds : List Declaration) (e : CoreTree) (few : 2 * lengt
 
   expression_by : (here : Bool) → has_room (with_counted old e (nodes e)) ≡ here
       → EmitsExpression old (if here then with_piece (with_counted old e (nodes e)) (code_at (with_counted old e (nodes e)) ds e (length old.code)) else with_counted old e (nodes e)) ds e
-  expression_by true room short =
-      let within = leb-true _ _ room in
-      let long = short_code e known routines [] 0 (length old.code) in
-      record {
-        piece = code_of e known routines [] 0 (length old.code);
-        behind = refl;
-        short = omega (arith, long);
-        spells = λ constants are. piece_spells (length old.code) (omega (arith, within, inside)) (omega (arith, within)) (omega (arith, within));
-        gives = λ first rest r frame whole suits scoped near. computed first rest r (length old.code) frame (omega (arith, within)) whole suits scoped near;
-        counted = omega (arith, short);
-        kept = refl;
-      }
-  expression_by false room short = let above = leb-false _ _ room in absurd (omega (arith, above, short))
+  expression_by here room short = grind (arith, leb-true, whole_short, piece_spells, near, computed, leb-false)
 
   pub emits_expression : EmitsExpression old (with_expression old ds e) ds e
   emits_expression = expression_by (has_room (with_counted old e (nodes e))) refl
@@ -108,7 +92,7 @@ module _ (old : Emitted) (ds : List Declaration) (e : CoreTree) (few : 2 * lengt
     slot = next_routine old
 
     abbrev body : List Insn
-    body = code_of e known routines [] 0 slot
+    body = whole_code e known routines slot
 
     abbrev routine : List Insn
     routine = routine_code e known routines (length old.routines) slot
@@ -116,11 +100,11 @@ module _ (old : Emitted) (ds : List Declaration) (e : CoreTree) (few : 2 * lengt
     joined_scope : (r : Running) (name : List ℕ) → old.nodes ≤ 512 → Suits old.routines known ds e r → HasRoutines r (r.scope ++ r.later)
         → Stands r.image.code (length old.code) (passed routine) → HasRoutines r ((r.scope ++ r.later) ++ next_variable old body r.roots r.scope name e ∷ [])
     joined_scope r name most suits scoped stands =
-        subst (λ (rs : List (List ℕ × ℕ)). HasRoutines r ((r.scope ++ r.later) ++ next_variable old (code_of e known rs [] 0 slot) r.roots r.scope name e ∷ [])) (sym (routines_are old.routines ds r.scope r.later suits.taken))
+        subst (λ (rs : List (List ℕ × ℕ)). HasRoutines r ((r.scope ++ r.later) ++ next_variable old (whole_code e known rs slot) r.roots r.scope name e ∷ [])) (sym (routines_are old.routines ds r.scope r.later suits.taken))
         (variable_joins old.constants old.routines ds e slot (is_expression ds r suits) r.image r.is_deep r.roots r.constants r.scope r.later name suits.taken shallow (scope_few ds r suits most) (has_constants ds r suits) scoped suits.may (stands_rest r.image.code (length old.code) (skip (size routine)) routine stands))
 
     -- the routine's steps are within 128 a visit
-    returned : (first rest : List Declaration) (r : Running) (name : List ℕ) (items : List (List ℕ × Value)) (words : List (List ℕ × ℕ)) (frame base : ℕ) → old.nodes ≤ 512
+    returned : (first rest : List Declaration) (r : Running) (name : List ℕ) (items : List (List ℕ × Value)) (words : Kept) (frame base : ℕ) → old.nodes ≤ 512
         → ds ≡ first ++ rest → Suits old.routines known first e r → HasRoutines r r.scope → frame + depth e (depths_of first) ≤ 7 → base ≤ 60
         → Stands r.image.code (length old.code) (passed routine)
         → Returns (setting r) slot (length old.routines) (caller_context r items words name e) frame base (meaning_in r e) (128 * (cost_in r e).visits) (16 * spent_by (cost_in r e))
@@ -142,7 +126,7 @@ module _ (old : Emitted) (ds : List Declaration) (e : CoreTree) (few : 2 * lengt
     variable_by true room short =
         let within = leb-true _ _ room in
         let most : old.nodes ≤ 512 = omega (arith, within) in
-        let long = short_code e known routines [] 0 slot in
+        let long = whole_short e known routines slot in
         let whole = size-append body (memo_tail (length old.routines)) in
         let first = size-cons (skip (size routine)) routine in
         let jump : size routine ≤ 32767 = omega (arith, long, whole, within) in
@@ -156,7 +140,7 @@ module _ (old : Emitted) (ds : List Declaration) (e : CoreTree) (few : 2 * lengt
           returns = λ first rest r name items words frame base whole suits scoped near low stands. returned first rest r name items words frame base most whole suits scoped near low stands;
           joins = λ r name suits scoped stands. joined_scope r name most suits scoped stands;
           taken = λ roots scope name t taken.
-              subst (λ (rs : List (List ℕ × ℕ)). AreTaken (old.routines ++ slot ∷ []) (ds ++ declared name t (depth e (depths_of ds)) ∷ []) (scope ++ next_variable old (code_of e known rs [] 0 slot) roots scope name e ∷ []) []) (sym (routines_are old.routines ds scope [] taken))
+              subst (λ (rs : List (List ℕ × ℕ)). AreTaken (old.routines ++ slot ∷ []) (ds ++ declared name t (depth e (depths_of ds)) ∷ []) (scope ++ next_variable old (whole_code e known rs slot) roots scope name e ∷ []) []) (sym (routines_are old.routines ds scope [] taken))
               (variable_is_taken old.constants old.routines ds e slot roots scope name t taken);
           counted = omega (arith, short);
         }

@@ -9,10 +9,7 @@ use Rattle.codegen_base.proofs.Loops.{loop_size}
 
 -- two instructions between two pieces, and a third piece
 pub absorbing_joined : (left right tail : List Insn) (test kept : Insn) → (((left ++ test ∷ []) ++ kept ∷ []) ++ right) ++ tail ≡ left ++ test ∷ kept ∷ (right ++ tail)
-absorbing_joined left right tail test kept =
-    append_assoc ((left ++ test ∷ []) ++ kept ∷ []) right tail
-    ∙ append_assoc (left ++ test ∷ []) (kept ∷ []) (right ++ tail)
-    ∙ append_assoc left (test ∷ []) (kept ∷ (right ++ tail))
+absorbing_joined left right tail test kept = grind (arith, append_assoc)
 
 -- the parts of a fold
 pub fold_joined : (k n : ℕ) (range : List Insn) (first : Insn) (turn : List Insn) → size (first ∷ []) ≡ 1 → n ≡ size turn + 17 → (((range ++ range_tail k n) ++ first ∷ []) ++ store (k + 3) R0 ∷ []) ++ loop_code k turn ≡ fold_code k range (first ∷ []) turn

@@ -1,5 +1,5 @@
 -- The code of expressions as an emitter makes it.
-use Rattle.std.proofs.Common.{◌≡◌, ℕ, ◌+◌, ◌≤◌, Bool, true, false, List, [], ◌∷◌, ◌++◌, length, append-nil, Option, Some, refl, sym, ap, ◌∙◌, subst, arith, if◌then◌else◌}
+use Rattle.std.proofs.Common.{◌≡◌, ℕ, ◌+◌, ◌≤◌, Bool, true, List, [], ◌∷◌, ◌++◌, length, append-nil, Option, Some, refl, sym, ap, ◌∙◌, subst, arith, if◌then◌else◌}
 use Rattle.std.specs.Prelude.{bytes_eq}
 use Rattle.std.specs.Prelude.{map as each}
 use Rattle.std.specs.List.{zip}
@@ -8,21 +8,22 @@ use Rattle.loader.specs.Contents.{Contents}
 use Rattle.cel_macros.specs.CoreTree.{CoreTree, CoreTrees, CoreEntries, no_cores, more_cores, no_core_entries, more_core_entries, variable, select, has, index, call, method, unary, binary, ternary, list, map, fold, fold_map, plain_tree}
 use Rattle.cel_macros.specs.Environment.{Roots, lookup}
 use Rattle.cel_macros.specs.Meaning.{meaning}
-use Rattle.cel_measures.specs.Measures.{deepest, deepest_of, depth as depth_of, depth_or_none, entries_deepest}
-use Rattle.cel_types.specs.Declarations.{Declaration, declared, depths_of}
+use Rattle.cel_measures.specs.Measures.{deepest, deepest_of, depth_or_none, entries_deepest}
+use Rattle.cel_types.specs.Declarations.{Declaration, depths_of}
 use Rattle.codegen_base.specs.Pieces.{Stands}
+use Rattle.codegen_base.specs.Paths.{nothing_kept}
 use Rattle.codegen_base.specs.Scopes.{Variable, scope_setting}
-use Rattle.codegen.specs.Accepted.{IsAccepted}
-use Rattle.codegen.specs.Code.Expressions.{code_of, routine_code, texts_of}
-use Rattle.codegen.specs.Computes.{Computes, Ready, TextsStand, environment_in, names, nestings, routines, scope_context, variable_of}
+use Rattle.codegen.specs.Code.Expressions.{texts_of}
+use Rattle.codegen.specs.Code.Whole.{routine_code, whole_code}
+use Rattle.codegen.specs.Computes.{Computes, Ready, TextsStand, environment_in, names, nestings, routines, scope_context}
 use Rattle.codegen.specs.Constants.{with_texts}
 use Rattle.codegen.specs.Cost.{IsDeep, cost}
 use Rattle.codegen.specs.Layer.{AreShallow, AreTaken, ExpressionGives, FramesAreEnough, HasConstants, IsExpression, VariableIsTaken, VariableJoins}
 use Rattle.codegen.specs.Surroundings.{routines_of}
 use Rattle.codegen.proofs.Accepted.{names_declared, typed_accepted}
-use Rattle.codegen.proofs.Computed.{code_gives}
 use Rattle.codegen.proofs.Lent.{texts_stand}
 use Rattle.codegen.proofs.Routines.{routine_gives}
+use Rattle.codegen.proofs.Whole.{whole_gives}
 
 -- ---- the routines of a scope's variables
 
@@ -40,8 +41,7 @@ routines_are slots ds scope later taken =
 -- ---- no expression names a deeper variable than there is
 
 shallow_by : (here : Bool) (d : ℕ) (rest : Option ℕ) → d ≤ 6 → depth_or_none rest ≤ 6 → depth_or_none (if here then Some d else rest) ≤ 6
-shallow_by true d rest first later = first
-shallow_by false d rest first later = later
+shallow_by here d rest first later = grind arith
 
 shallow_named : (n : List ℕ) (ds : List Declaration) → AreShallow ds → depth_or_none (lookup n (depths_of ds)) ≤ 6
 shallow_named n [] h = omega arith
@@ -78,17 +78,8 @@ module _ (ds : List Declaration) (shallow : AreShallow ds) where
 -- ---- what is ready
 
 module _ (image : Contents) (deep : Bool) (roots : Roots) (constants : List ℕ) (ds : List Declaration) (scope later : List Variable) (e : CoreTree) (is : IsExpression ds e) (depths : nestings scope ≡ depths_of ds) (may : IsDeep (plain_tree e) (environment_in roots [] scope) → deep ≡ true) (paid : List Variable) where
-  pub ready : (known : List (List ℕ)) → TextsStand constants known (texts_of e) → (frame : ℕ) → frame + deepest e (depths_of ds) ≤ 7 → Ready (scope_setting image deep paid) scope known (scope_context roots [] [] constants (scope ++ later)) frame 0 e (cost (plain_tree e) (environment_in roots [] scope)).is_deep
-  ready known stand frame near =
-      let same : deepest e (nestings scope) ≡ deepest e (depths_of ds) = ap (deepest e) depths in
-      let fits = is.fits in
-      record {
-        accepted = subst (IsAccepted e) (sym (names_declared scope ds depths)) (typed_accepted e ds is.cel_type is.has_type);
-        frames = omega arith;
-        room = omega arith;
-        texts_stand = stand;
-        may = may;
-      }
+  pub ready : (known : List (List ℕ)) → TextsStand constants known (texts_of e) → (frame : ℕ) → frame + deepest e (depths_of ds) ≤ 7 → Ready (scope_setting image deep paid) scope known (scope_context roots [] nothing_kept constants (scope ++ later)) frame 0 e (cost (plain_tree e) (environment_in roots [] scope)).is_deep
+  ready known stand frame near = grind (arith, names_declared, typed_accepted, texts_stand)
 
 -- the texts that were taken stand among the constants
 pub known_stand : (constants : List ℕ) (texts : List (List ℕ)) (e : CoreTree) → HasConstants constants texts e
@@ -101,8 +92,8 @@ frames_are_enough ds e shallow = deepest_within ds shallow e
 pub expression_gives : ExpressionGives
 expression_gives texts slots ds e p is image deep roots constants scope later frame taken near few holds scoped may =
     let known = with_texts texts (texts_of e) in
-    let given = code_gives image deep roots constants scope later known [] [] frame 0 p e scoped few is.literals (ready image deep roots constants ds scope later e is taken.depths_are may scope known (known_stand constants texts e holds) frame near) in
-    subst (λ (rs : List (List ℕ × ℕ)). Computes (scope_setting image deep scope) p (code_of e known rs [] 0 p) (scope_context roots [] [] constants (scope ++ later)) frame 0 (meaning (plain_tree e) (environment_in roots [] scope)) (cost (plain_tree e) (environment_in roots [] scope))) (sym (routines_are slots ds scope later taken)) given
+    let given = whole_gives image deep roots constants scope later known frame p e scoped few is.literals (ready image deep roots constants ds scope later e is taken.depths_are may scope known (known_stand constants texts e holds) frame near) in
+    subst (λ (rs : List (List ℕ × ℕ)). Computes (scope_setting image deep scope) p (whole_code e known rs p) (scope_context roots [] nothing_kept constants (scope ++ later)) frame 0 (meaning (plain_tree e) (environment_in roots [] scope)) (cost (plain_tree e) (environment_in roots [] scope))) (sym (routines_are slots ds scope later taken)) given
 
 pub variable_joins : VariableJoins
 variable_joins texts slots ds e p is image deep roots constants scope later n taken shallow few holds scoped may stands =
@@ -113,12 +104,4 @@ variable_joins texts slots ds e p is image deep roots constants scope later n ta
     (subst (λ (rs : List (List ℕ × ℕ)). Stands image.code p (routine_code e known rs (length (scope ++ later)) p)) (routines_are slots ds scope later taken) here)
 
 pub variable_is_taken : VariableIsTaken
-variable_is_taken texts slots ds e p roots scope n t taken =
-    let v = variable_of roots scope (with_texts texts (texts_of e)) n e p in
-    let before : each (λ v. v.routine) scope ≡ slots = ap (each (λ v. v.routine)) (sym (append-nil scope)) ∙ taken.slots_are in
-    record {
-      slots_are = ap (each (λ v. v.routine)) (append-nil (scope ++ v ∷ [])) ∙ map-append (λ (u : Variable). u.routine) scope (v ∷ [])
-          ∙ ap (λ (ns : List ℕ). ns ++ p ∷ []) before;
-      depths_are = map-append (λ (u : Variable). (u.name, u.nesting)) scope (v ∷ []) ∙ (λ i. taken.depths_are i ++ (n, depth_of e (taken.depths_are i)) ∷ [])
-          ∙ sym (map-append (λ (d : Declaration). (d.name, d.depth)) ds (declared n t (depth_of e (depths_of ds)) ∷ []));
-    }
+variable_is_taken texts slots ds e p roots scope n t taken = grind (arith, append-nil, map-append)

@@ -1,8 +1,7 @@
 -- A text among the constants is lent by its address and length.
 use Rattle.std.proofs.Common.{◌≡◌, ℕ, ◌+◌, ◌-◌, ◌≤◌, Bool, true, false, Option, Some, None, List, ◌∷◌, [], ◌++◌, length, take, drop, refl, sym, subst, ap, ◌∙◌, arith, append_assoc, length-append, if◌then◌else◌}
-use Rattle.std.specs.Prelude.{nat_eq, nat_le, bytes_eq, option_map}
+use Rattle.std.specs.Prelude.{bytes_eq, option_map}
 use Rattle.std.specs.Cmp.Lexicographic.{bytes_decides}
-use Rattle.std.proofs.lemmas.Bool.{le-leb, ne_eqb}
 use Rattle.std.proofs.lemmas.List.{take_all, take-append-le, drop-drop, drop_at}
 use Rattle.guest_memory.specs.Access.{constants_of}
 use Rattle.guest_memory.specs.Memory.{start_memory}
@@ -47,15 +46,7 @@ text_stands t (s ∷ more) rest n h =
 
 lent_by : (t constants : List ℕ) (n : ℕ) → StandsAt t constants n → bytes_at constants (0x4_0000_0000 + n) (length t) ≡ Some t
 unfolding constants_of start_memory
-lent_by [] constants n h = refl
-lent_by (x ∷ xs) constants n h =
-    let t = x ∷ xs in
-    let w = h.within in
-    let low : nat_le 0x4_0000_0000 (0x4_0000_0000 + n) ≡ true = le-leb 0x4_0000_0000 (0x4_0000_0000 + n) (omega arith) in
-    let high : nat_le (0x4_0000_0000 + n + length t) (0x4_0000_0000 + length constants) ≡ true = le-leb (0x4_0000_0000 + n + length t) (0x4_0000_0000 + length constants) (omega (arith, w)) in
-    let at : 0x4_0000_0000 + n - 0x4_0000_0000 ≡ n = omega arith in
-    let some : nat_eq (length t) 0 ≡ false = ne_eqb (length t) 0 (λ e. omega arith) in
-    rw (some, low, high) (ap (λ m. Some (take (length t) (drop m constants))) at ∙ ap Some h.is)
+lent_by t constants n h = grind arith
 
 address_is : (t : List ℕ) (texts : List (List ℕ)) (n : ℕ) → n ≤ 1048576 → place_of t texts ≡ Some n → address_of texts t ≡ 0x4_0000_0000 + n
 address_is t texts n small h = rw h (omega arith)

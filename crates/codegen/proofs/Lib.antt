@@ -16,6 +16,7 @@ pub mod Calls
 pub mod Binaries
 pub mod Macros
 pub mod Ranges
+pub mod Paths
 pub mod Aggregates
 pub mod Expanded
 pub mod Uses
@@ -27,3 +28,4 @@ pub mod CodeInsns
 pub mod Passed
 pub mod Finished
 pub mod Emitting
+pub mod Whole

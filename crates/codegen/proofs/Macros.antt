@@ -1,20 +1,19 @@
 -- Code of macros within the budgets of their parts.
-use Rattle.std.proofs.Common.{◌≡◌, ℕ, zero, suc, ◌+◌, ◌<◌, ◌≤◌, Bool, true, false, ◌||◌, List, [], ◌∷◌, Option, Some, None, refl, ap, ◌∙◌, arith}
+use Rattle.std.proofs.Common.{◌≡◌, ℕ, zero, suc, ◌+◌, ◌<◌, ◌≤◌, Bool, true, ◌||◌, List, [], ◌∷◌, Option, Some, refl, ap, ◌∙◌, arith}
 use Rattle.std.specs.Prelude.{slice_get}
 use Rattle.insn_codec.specs.declared.insn.Insn.{Insn}
 use Rattle.value_store.specs.Size.{result_size}
 use Rattle.value_store.specs.Value.{Value, ValueOrError, value, null}
 use Rattle.cel_macros.specs.declared.macros.Macro.{Macro}
-use Rattle.cel_macros.specs.declared.macros.Macro.TheVariants.{Filter, Map}
 use Rattle.cel_macros.specs.FoldMeaning.{folded, folded_map}
 use Rattle.cel_macros.specs.Logic.{Truth, Yes, chosen, truth}
 use Rattle.cel_macros.specs.Macros.{range_of}
-use Rattle.codegen.specs.Computes.{Computes}
+use Rattle.codegen.specs.Computes.{ComputesPart}
 use Rattle.codegen.specs.Cost.{Cost, ◌and◌, each_item, items_cost, kept, kept_by, node, nothing, one_item, spent_by}
 use Rattle.codegen_base.specs.Code.Folds.{macro_code, map_where_code}
 use Rattle.codegen_base.specs.Contexts.{Context}
 use Rattle.codegen_base.specs.Engine.{Setting}
-use Rattle.codegen_base.specs.Gives.Macros.{IsItem, each_spent, each_visits, holds_too_deep, is_too_deep, items_spent, items_visits}
+use Rattle.codegen_base.specs.Gives.Macros.{IsItem, each_spent, each_visits, holds_too_deep, items_spent, items_visits}
 use Rattle.codegen_base.specs.Loops.{with_item}
 use Rattle.codegen_base.specs.Pieces.{size}
 use Rattle.codegen_base.proofs.Macros.All.{macro_gives}
@@ -26,12 +25,10 @@ size_least (value null) = omega arith
 size_least _ = omega arith
 
 second_side : (a b : Bool) → b ≡ true → (a || b) ≡ true
-second_side true b e = refl
-second_side false b e = e
+second_side a b e = grind arith
 
 first_side : (a b : Bool) → a ≡ true → (a || b) ≡ true
-first_side true b e = refl
-first_side false b e = absurd (cc)
+first_side a b e = grind arith
 
 pub right_deep : (a b : Cost) → b.is_deep ≡ true → (a and b).is_deep ≡ true
 right_deep a b e = second_side a.is_deep b.is_deep e
@@ -44,16 +41,14 @@ module _ (f : Value → Cost) where
   each_visits_are (v ∷ vs) = ap (λ (n : ℕ). 1 + (f v).visits + n) (each_visits_are vs)
 
   pub visits_are : (o : Option (List Value)) → (items_cost f o).visits ≡ items_visits (λ v. (f v).visits) o
-  visits_are (Some vs) = each_visits_are vs
-  visits_are None = refl
+  visits_are o = grind (arith, each_visits_are)
 
   each_spent_is : (vs : List Value) → spent_by (each_item f vs) ≡ each_spent (λ v. spent_by (f v)) vs
   each_spent_is [] = refl
   each_spent_is (v ∷ vs) = let more = each_spent_is vs in omega arith
 
   pub spent_is : (o : Option (List Value)) → spent_by (items_cost f o) ≡ items_spent (λ v. spent_by (f v)) o
-  spent_is (Some vs) = each_spent_is vs
-  spent_is None = refl
+  spent_is o = grind (arith, each_spent_is)
 
   -- what is deep at an item is so in the whole
   each_deep : (vs : List Value) (i : ℕ) (v : Value) → slice_get vs i ≡ Some v → (f v).is_deep ≡ true → (each_item f vs).is_deep ≡ true
@@ -62,44 +57,21 @@ module _ (f : Value → Cost) where
   each_deep (w ∷ vs) (suc i) v at deep = right_deep (one_item and f w) (each_item f vs) (each_deep vs i v at deep)
 
   pub item_deep : (r : ValueOrError) (v : Value) → IsItem r v → (f v).is_deep ≡ true → (items_cost f (range_of r)).is_deep ≡ true
-  item_deep r v inside deep =
-      ap (λ (o : Option (List Value)). (items_cost f o).is_deep) inside.range_is ∙ each_deep inside.items inside.place v inside.item_is deep
+  item_deep r v inside deep = grind (arith, each_deep)
 
 -- items that cost alike
 module _ (f g : Value → ℕ) (same : (v : Value) → f v ≡ g v) where
-  each_visits_same : (vs : List Value) → each_visits f vs ≡ each_visits g vs
-  each_visits_same [] = refl
-  each_visits_same (v ∷ vs) =
-      let one = same v in
-      let more = each_visits_same vs in
-      omega arith
-
   items_visits_same : (o : Option (List Value)) → items_visits f o ≡ items_visits g o
-  items_visits_same (Some vs) = each_visits_same vs
-  items_visits_same None = refl
-
-  each_spent_same : (vs : List Value) → each_spent f vs ≡ each_spent g vs
-  each_spent_same [] = refl
-  each_spent_same (v ∷ vs) =
-      let one = same v in
-      let more = each_spent_same vs in
-      omega arith
+  items_visits_same o = grind arith
 
   items_spent_same : (o : Option (List Value)) → items_spent f o ≡ items_spent g o
-  items_spent_same (Some vs) = each_spent_same vs
-  items_spent_same None = refl
+  items_spent_same o = grind arith
 
 -- ---- macros with one part
 
 -- an item that is to be held and is too deep
-filter_deep : (t : Truth) (v : Value) → chosen t (is_too_deep (value v)) false false ≡ true → (chosen t (kept (value v)) nothing nothing).is_deep ≡ true
-filter_deep Yes v e = e
-filter_deep _ v e = absurd (cc)
-
 kept_deep : (m : Macro) (v : Value) (x : ValueOrError) → holds_too_deep m v x ≡ true → (kept_by m v x).is_deep ≡ true
-kept_deep Filter v x e = filter_deep (truth x) v e
-kept_deep Map v x e = e
-kept_deep _ v x e = absurd (cc)
+kept_deep m v x e = grind arith
 
 -- what each item costs, when its part costs this
 abbrev pub item_cost : Macro → (Value → ValueOrError) → (Value → Cost) → Value → Cost
@@ -107,10 +79,10 @@ item_cost m f part v = part v and kept_by m v (f v)
 
 pub macro_computes : (m : Macro) (s : Setting) (p k depth : ℕ) (range part : List Insn) (c : Context) (n : List ℕ) (r : ValueOrError) (f : Value → ValueOrError) (whole : Cost) (each : Value → Cost)
     → k < 56
-    → Computes s p range c depth k r whole
-    → ((v : Value) → IsItem r v → Computes s (p + size range + 17) part (with_item c k n v) depth (k + 5) (f v) (each v))
+    → ComputesPart s p range c depth k r whole
+    → ((v : Value) → IsItem r v → ComputesPart s (p + size range + 17) part (with_item c k n v) depth (k + 5) (f v) (each v))
     → ((items_cost (item_cost m f each) (range_of r)).is_deep ≡ true → s.is_deep ≡ true)
-    → Computes s p (macro_code m k range part) c depth k (folded m f (range_of r)) (node (folded m f (range_of r)) and whole and items_cost (item_cost m f each) (range_of r))
+    → ComputesPart s p (macro_code m k range part) c depth k (folded m f (range_of r)) (node (folded m f (range_of r)) and whole and items_cost (item_cost m f each) (range_of r))
 macro_computes m s p k depth range part c n r f whole each low gives_range gives_part may =
     let g = item_cost m f each in
     let visits = visits_are g (range_of r) in
@@ -128,12 +100,10 @@ abbrev pub where_cost : (Value → ValueOrError) → (Value → ValueOrError) �
 where_cost t f first second v = first v and chosen (truth (t v)) (second v and kept (f v)) nothing nothing
 
 chosen_visits : (t : Truth) (a b : Cost) → a.visits + chosen t b.visits 0 0 ≡ (a and chosen t b nothing nothing).visits
-chosen_visits Yes a b = refl
-chosen_visits _ a b = refl
+chosen_visits t a b = grind arith
 
 chosen_spent : (t : Truth) (a b : Cost) → spent_by a + chosen t (spent_by b) 0 0 ≡ spent_by (a and chosen t b nothing nothing)
-chosen_spent Yes a b = omega arith
-chosen_spent _ a b = omega arith
+chosen_spent t a b = grind arith
 
 -- what is deep where the predicate is true
 pub chosen_deep : (t : Truth) (a b : Cost) → t ≡ Yes → b.is_deep ≡ true → (a and chosen t b nothing nothing).is_deep ≡ true
@@ -141,11 +111,11 @@ chosen_deep t a b is deep = right_deep a (chosen t b nothing nothing) (ap (λ (u
 
 pub map_where_computes : (s : Setting) (p k depth : ℕ) (range predicate transform : List Insn) (c : Context) (n : List ℕ) (r : ValueOrError) (t f : Value → ValueOrError) (whole : Cost) (first second : Value → Cost)
     → k < 56
-    → Computes s p range c depth k r whole
-    → ((v : Value) → IsItem r v → Computes s (p + size range + 17) predicate (with_item c k n v) depth (k + 5) (t v) (first v))
-    → ((v : Value) → IsItem r v → truth (t v) ≡ Yes → Computes s (p + size range + 17 + size predicate + 2) transform (with_item c k n v) depth (k + 5) (f v) (second v))
+    → ComputesPart s p range c depth k r whole
+    → ((v : Value) → IsItem r v → ComputesPart s (p + size range + 17) predicate (with_item c k n v) depth (k + 5) (t v) (first v))
+    → ((v : Value) → IsItem r v → truth (t v) ≡ Yes → ComputesPart s (p + size range + 17 + size predicate + 2) transform (with_item c k n v) depth (k + 5) (f v) (second v))
     → ((items_cost (where_cost t f first second) (range_of r)).is_deep ≡ true → s.is_deep ≡ true)
-    → Computes s p (map_where_code k range predicate transform) c depth k (folded_map (λ v. truth (t v)) f (range_of r)) (node (folded_map (λ v. truth (t v)) f (range_of r)) and whole and items_cost (where_cost t f first second) (range_of r))
+    → ComputesPart s p (map_where_code k range predicate transform) c depth k (folded_map (λ v. truth (t v)) f (range_of r)) (node (folded_map (λ v. truth (t v)) f (range_of r)) and whole and items_cost (where_cost t f first second) (range_of r))
 map_where_computes s p k depth range predicate transform c n r t f whole first second low gives_range gives_predicate gives_transform may =
     let g = where_cost t f first second in
     let more : Value → Cost = λ v. second v and kept (f v) in

@@ -1,5 +1,5 @@
 -- The code of each construct, where the code of its parts gives theirs within their budgets.
-use Rattle.std.proofs.Common.{◌≡◌, ℕ, ◌+◌, ◌<◌, ◌≤◌, Bool, true, false, ◌||◌, List, [], ◌∷◌, ◌++◌, length, Option, Some, refl, ap, ◌∙◌, subst, arith}
+use Rattle.std.proofs.Common.{◌≡◌, ℕ, ◌+◌, ◌<◌, ◌≤◌, Bool, true, false, ◌||◌, List, [], ◌∷◌, ◌++◌, length, Option, Some, None, refl, ap, ◌∙◌, arith}
 use Rattle.std.proofs.lemmas.Str.{is_utf8-from_IsUtf8}
 use Rattle.cel_reader.specs.Tree as tree
 use Rattle.cel_reader.specs.WellFormed.{IsWellFormedLiteral}
@@ -7,10 +7,10 @@ use Rattle.insn_codec.specs.declared.insn.Insn.{Insn}
 use Rattle.insn_codec.specs.declared.register.Register.TheVariants.{R1, R2, R6}
 use Rattle.value_store.specs.Calls.{joined}
 use Rattle.value_store.specs.Size.{items_size, result_size, size_of as value_size}
-use Rattle.value_store.specs.Value.{Value, ValueOrError, error, value, null, boolean, int, text, list, map, Items, no_items, item, list_of, items_join}
+use Rattle.value_store.specs.Value.{Value, ValueOrError, value, null, boolean, int, text, list, Items, no_items, item, list_of}
 use Rattle.cel_macros.specs.Arithmetic.{sum_of}
 use Rattle.cel_macros.specs.CoreTree as core
-use Rattle.cel_macros.specs.CoreTree.{CoreTree, more_cores, no_cores, one_core}
+use Rattle.cel_macros.specs.CoreTree.{CoreTree}
 use Rattle.cel_macros.specs.Environment.{name_value}
 use Rattle.cel_macros.specs.Functions.{Function, Size, String, Dyn, TextTest, function_of, size_of, string_of, text_test_of}
 use Rattle.cel_macros.specs.Literals.{literal_of}
@@ -26,22 +26,20 @@ use Rattle.codegen_base.specs.Operators.{AreApart, IsLeafOf}
 use Rattle.codegen_base.specs.Pieces.{size}
 use Rattle.codegen_base.specs.Scopes.{Variable}
 use Rattle.codegen_base.specs.declared.leaf.Leaf.{Leaf}
-use Rattle.codegen_base.proofs.Leaves.{leaves_give}
+use Rattle.codegen_base.proofs.Leaves.{leaf_gives, leaves_give}
 use Rattle.codegen_base.proofs.Selection.{selection_gives}
-use Rattle.codegen.specs.Code.Expressions.{code_of, function_code, leaf_of, test_code, texts_of}
+use Rattle.codegen.specs.Code.Expressions.{code_of, function_code, leaf_of, test_code, texts_of, kept_or}
 use Rattle.codegen.specs.Code.Literals.{address_of}
-use Rattle.codegen.specs.Computes.{Computes, Ready, TextsStand, names, nestings, routines}
+use Rattle.codegen.specs.Computes.{ComputesPart, Ready, TextsStand, names, nestings, routines}
 use Rattle.codegen.specs.Cost.{Cost, ◌and◌, literal_cost, name_or_text, node, nothing}
 use Rattle.codegen.specs.Accepted.{IsAccepted}
 use Rattle.codegen.proofs.Budgets.{branches, leaf, one, same, text_within, two}
 
 pub or_left : (a b : Bool) → a ≡ true → (a || b) ≡ true
-or_left true b e = refl
-or_left false b e = absurd (cc)
+or_left a b e = grind arith
 
 pub or_right : (a b : Bool) → b ≡ true → (a || b) ≡ true
-or_right true b e = refl
-or_right false b e = e
+or_right a b e = grind arith
 
 -- the texts of the first part, and of the second
 pub texts_front : (constants : List ℕ) (texts xs ys : List (List ℕ)) → TextsStand constants texts (xs ++ ys) → TextsStand constants texts xs
@@ -56,11 +54,7 @@ texts_back constants texts (x ∷ xs) ys h = texts_back constants texts xs ys h.
 
 item_size : (v : Value) → 1 ≤ value_size v
 item_size null = omega arith
-item_size (boolean b) = omega arith
-item_size (int n) = omega arith
-item_size (text s) = omega arith
-item_size (list is) = omega arith
-item_size (map es) = omega arith
+item_size _ = omega arith
 
 items_many : (is : Items) → length (list_of is) ≤ items_size is
 items_many no_items = omega arith
@@ -68,37 +62,20 @@ items_many (item v more) = let h = item_size v in let rest = items_many more in 
 
 -- where they are no two texts and no two lists, nothing is joined
 text_joined : (t : List ℕ) (w : Value) → joined_length (joined (Some (value (text t))) (Some (value w))) ≤ result_size (sum_of (value (text t)) (value w))
-text_joined t null = omega arith
-text_joined t (boolean b) = omega arith
-text_joined t (int n) = omega arith
-text_joined t (text u) = omega arith
-text_joined t (list is) = omega arith
-text_joined t (map es) = omega arith
+text_joined t w = grind arith
 
 list_joined : (is : Items) (w : Value) → joined_length (joined (Some (value (list is))) (Some (value w))) ≤ result_size (sum_of (value (list is)) (value w))
-list_joined is null = omega arith
-list_joined is (boolean b) = omega arith
-list_joined is (int n) = omega arith
-list_joined is (text u) = omega arith
-list_joined is (list js) = let h = items_many (items_join is js) in omega arith
-list_joined is (map es) = omega arith
+list_joined is w = grind (arith, items_many)
 
 none_joined : (x y : ValueOrError) → joined_length (joined (Some x) (Some y)) ≡ 0 → joined_length (joined (Some x) (Some y)) ≤ result_size (sum_of x y)
 none_joined x y e = omega arith
 
 pub joined_within : (x y : ValueOrError) → joined_length (joined (Some x) (Some y)) ≤ result_size (sum_of x y)
-joined_within error y = none_joined error y refl
-joined_within (value v) error = none_joined (value v) error refl
-joined_within (value null) (value w) = none_joined (value null) (value w) refl
-joined_within (value (boolean b)) (value w) = none_joined (value (boolean b)) (value w) refl
-joined_within (value (int n)) (value w) = none_joined (value (int n)) (value w) refl
-joined_within (value (text t)) (value w) = text_joined t w
-joined_within (value (list is)) (value w) = list_joined is w
-joined_within (value (map es)) (value w) = none_joined (value (map es)) (value w) refl
+joined_within x y = grind (arith, none_joined, text_joined, list_joined)
 
 -- where all is ready, the code gives the value within the budgets, wherever it stands
 abbrev pub Part : Setting → List Variable → List (List ℕ) → ℕ → Context → ℕ → CoreTree → ValueOrError → Cost → Type 0
-Part s scope texts depth c k e x t = Ready s scope texts c depth k e t.is_deep → (p : ℕ) → Computes s p (code_of e texts (routines scope) c.words k p) c depth k x t
+Part s scope texts depth c k e x t = Ready s scope texts c depth k e t.is_deep → (p : ℕ) → ComputesPart s p (code_of e texts (routines scope) c.words k p) c depth k x t
 
 -- where the expression is a leaf, that names the value
 abbrev pub LeafPart : ℕ → Context → ℕ → CoreTree → ValueOrError → Type 0
@@ -134,37 +111,32 @@ module _ (s : Setting) (scope : List Variable) (texts : List (List ℕ)) (depth 
 
   -- it is ready where the whole is
   pub one_ready : (a e : CoreTree) (t u : Bool) (more : List (List ℕ)) → IsAccepted a (names scope) → need a ≤ need e → opened a ≤ opened e → texts_of e ≡ texts_of a ++ more → (t ≡ true → u ≡ true) → Ready s scope texts c depth k e u → Ready s scope texts c depth k a t
-  one_ready a e t u more accepted fits near texts_are deep ready =
-      let room = ready.room in
-      let frames = ready.frames in
-      record {
-        accepted = accepted;
-        frames = omega arith;
-        room = omega arith;
-        texts_stand = texts_front c.constants texts (texts_of a) more (subst (λ (ts : List (List ℕ)). TextsStand c.constants texts ts) texts_are ready.texts_stand);
-        may = λ d. ready.may (deep d);
-      }
+  one_ready a e t u more accepted fits near texts_are deep ready = grind (arith, texts_front)
 
   key_stands : (a : CoreTree) (f : List ℕ) → TextsStand c.constants texts (texts_of a ++ f ∷ []) → HasText c.constants (address_of texts f) f
   key_stands a f h = let last = texts_back c.constants texts (texts_of a) (f ∷ []) h in last.0
 
-  pub select_part : (a : CoreTree) (f : List ℕ) (x : ValueOrError) (t : Cost) → LeafPart depth c k a x → Part s scope texts depth c k a x t → Part s scope texts depth c k (core.select a f) (field_of x f) (node (field_of x f) and (t and name_or_text f))
+  -- a path that is kept is a leaf
+  kept_part : (l : Option Leaf) (piece : List Insn) (x : ValueOrError) (t : Cost) (p : ℕ) → 1 ≤ t.visits → IsLeafOf c depth k l x → ComputesPart s p piece c depth k x t → ComputesPart s p (kept_or l piece) c depth k x t
+  kept_part (Some l) piece x t p some named given = leaf s c depth k p _ x 1 0 t (omega arith) some (omega arith) (leaf_gives s p c depth k l x named)
+  kept_part None piece x t p some named given = given
+
+  pub select_part : (a : CoreTree) (f : List ℕ) (x : ValueOrError) (t : Cost) → LeafPart depth c k (core.select a f) (field_of x f) → LeafPart depth c k a x → Part s scope texts depth c k a x t → Part s scope texts depth c k (core.select a f) (field_of x f) (node (field_of x f) and (t and name_or_text f))
   unfolding code_of need deepest texts_of IsAccepted
-  select_part a f x t named part ready p =
-      let room = ready.room in
+  select_part a f x t own named part ready p =
       let accepted = ready.accepted in
       let first = one_ready a (core.select a f) t.is_deep (t.is_deep || false) (f ∷ []) accepted.1 (omega arith) (omega arith) refl (or_left t.is_deep false) ready in
-      one s c depth k p (leaf_of a c.words) (code a k p) _ R1 x (field_of x f) 3 1 t (node (field_of x f) and (t and name_or_text f)) refl (omega arith) (omega arith) (omega arith) (omega arith) (named (omega arith)) (part first p) (selection_gives.field s _ c depth k x (address_of texts f) f (omega arith) (key_stands a f ready.texts_stand))
+      kept_part (leaf_of (core.select a f) c.words) _ (field_of x f) (node (field_of x f) and (t and name_or_text f)) p (omega arith) (own (omega arith))
+      (one s c depth k p (leaf_of a c.words) (code a k p) _ R1 x (field_of x f) 3 1 t (node (field_of x f) and (t and name_or_text f)) refl (omega arith) (omega arith) (omega arith) (omega arith) (named (omega arith)) (part first p) (selection_gives.field s _ c depth k x (address_of texts f) f (omega arith) (key_stands a f ready.texts_stand)))
 
   pub has_part : (a : CoreTree) (f : List ℕ) (x : ValueOrError) (t : Cost) → LeafPart depth c k a x → Part s scope texts depth c k a x t → Part s scope texts depth c k (core.has a f) (has_of x f) (node (has_of x f) and (t and name_or_text f))
   unfolding code_of need deepest texts_of IsAccepted
   has_part a f x t named part ready p =
-      let room = ready.room in
       let first = one_ready a (core.has a f) t.is_deep (t.is_deep || false) (f ∷ []) ready.accepted (omega arith) (omega arith) refl (or_left t.is_deep false) ready in
       one s c depth k p (leaf_of a c.words) (code a k p) _ R1 x (has_of x f) 3 1 t (node (has_of x f) and (t and name_or_text f)) refl (omega arith) (omega arith) (omega arith) (omega arith) (named (omega arith)) (part first p) (selection_gives.has s _ c depth k x (address_of texts f) f (omega arith) (key_stands a f ready.texts_stand))
 
   -- a function of what a piece gives
-  pub function_part : (g : Function) (l : Option Leaf) (piece : List Insn) (x : ValueOrError) (t : Cost) (p : ℕ) → k ≤ 60 → IsLeafOf c depth k l x → Computes s p piece c depth k x t → Computes s p (function_code (Some g) l piece) c depth k (function_of (Some g) x) (node (function_of (Some g) x) and t)
+  pub function_part : (g : Function) (l : Option Leaf) (piece : List Insn) (x : ValueOrError) (t : Cost) (p : ℕ) → k ≤ 60 → IsLeafOf c depth k l x → ComputesPart s p piece c depth k x t → ComputesPart s p (function_code (Some g) l piece) c depth k (function_of (Some g) x) (node (function_of (Some g) x) and t)
   function_part Size l piece x t p low named part = one s c depth k p l piece _ R1 x (size_of x) 1 1 t (node (size_of x) and t) refl (omega arith) (omega arith) (omega arith) (omega arith) named part (selection_gives.size s _ c depth k x (omega arith))
   function_part String l piece x t p low named part = let short = text_within (string_of x) in one s c depth k p l piece _ R6 x (string_of x) 5 (2 + text_length (string_of x)) t (node (string_of x) and t) refl (omega arith) (omega arith) (omega arith) (omega arith) named part (selection_gives.string s _ c depth k x (omega arith))
   function_part Dyn l piece x t p low named part = same s c depth k p piece x t (node x and t) (omega arith) (omega arith) part
@@ -175,27 +147,17 @@ module _ (s : Setting) (scope : List Variable) (texts : List (List ℕ)) (depth 
   left_ready a b e t u v accepted fits near texts_are deep ready = one_ready a e t v (texts_of b) accepted fits near texts_are (λ d. deep ∙ or_left t u d) ready
 
   pub right_ready : (a b e : CoreTree) (t u v : Bool) → IsAccepted b (names scope) → 1 + need b ≤ need e → opened b ≤ opened e → texts_of e ≡ texts_of a ++ texts_of b → v ≡ (t || u) → Ready s scope texts c depth k e v → Ready s scope texts c depth (k + 1) b u
-  right_ready a b e t u v accepted fits near texts_are deep ready =
-      let room = ready.room in
-      let frames = ready.frames in
-      record {
-        accepted = accepted;
-        frames = omega arith;
-        room = omega arith;
-        texts_stand = texts_back c.constants texts (texts_of a) (texts_of b) (subst (λ (ts : List (List ℕ)). TextsStand c.constants texts ts) texts_are ready.texts_stand);
-        may = λ d. ready.may (deep ∙ or_right t u d);
-      }
+  right_ready a b e t u v accepted fits near texts_are deep ready = grind (arith, texts_back, or_right)
 
   pub index_part : (a b : CoreTree) (x y : ValueOrError) (t u : Cost) → LeafPart depth c k a x → LeafPart depth c (k + 1) b y → Part s scope texts depth c k a x t → Part s scope texts depth c (k + 1) b y u → Part s scope texts depth c k (core.index a b) (index_of x y) (node (index_of x y) and t and u)
   unfolding code_of need deepest texts_of IsAccepted
   index_part a b x y t u named named_right first second ready p =
-      let room = ready.room in
       let accepted = ready.accepted in
       let left = left_ready a b (core.index a b) t.is_deep u.is_deep (t.is_deep || u.is_deep) accepted.0 (omega arith) (omega arith) refl refl ready in
       let right = right_ready a b (core.index a b) t.is_deep u.is_deep (t.is_deep || u.is_deep) accepted.1 (omega arith) (omega arith) refl refl ready in
       two s c depth k p (leaf_of a c.words) (code a k p) (leaf_of b c.words) _ _ R1 R2 x y (index_of x y) 1 1 t u (omega arith) first_two (omega arith) (omega arith) (named (omega arith)) (first left p) (named_right (omega arith)) (second right _) (selection_gives.index s _ k c depth x y (omega arith))
 
-  pub test_part : (g : TextTest) (l : Option Leaf) (left : List Insn) (m : Option Leaf) (right : List Insn) (x y : ValueOrError) (t u : Cost) (p : ℕ) → k < 60 → IsLeafOf c depth k l x → Computes s p left c depth k x t → IsLeafOf c depth (k + 1) m y → Computes s (p + kept_size l left) right c depth (k + 1) y u → Computes s p (test_code (Some g) l left m right k) c depth k (text_test_of (Some g) x y) (node (text_test_of (Some g) x y) and t and u)
+  pub test_part : (g : TextTest) (l : Option Leaf) (left : List Insn) (m : Option Leaf) (right : List Insn) (x y : ValueOrError) (t u : Cost) (p : ℕ) → k < 60 → IsLeafOf c depth k l x → ComputesPart s p left c depth k x t → IsLeafOf c depth (k + 1) m y → ComputesPart s (p + kept_size l left) right c depth (k + 1) y u → ComputesPart s p (test_code (Some g) l left m right k) c depth k (text_test_of (Some g) x y) (node (text_test_of (Some g) x y) and t and u)
   test_part g l left m right x y t u p low named first named_right second =
       two s c depth k p l left m right _ R1 R2 x y (text_test_of (Some g) x y) 1 1 t u low first_two (omega arith) (omega arith) named first named_right second (selection_gives.test g s _ k c depth x y (omega arith))
 

@@ -1,5 +1,5 @@
 -- A routine among other code, which jumps over it.
-use Rattle.std.proofs.Common.{◌≡◌, ℕ, ◌+◌, List, ◌∷◌, ◌++◌, refl, sym, ap, ◌∙◌, arith}
+use Rattle.std.proofs.Common.{◌≡◌, ℕ, ◌+◌, List, ◌∷◌, ◌++◌, refl, arith}
 use Rattle.std.proofs.lemmas.Int.{ints}
 use Rattle.std.specs.Prelude.{pos, ◌+ℤ◌}
 use Rattle.insn_codec.specs.declared.insn.Insn.{Insn}
@@ -19,6 +19,4 @@ routine_is_passed s p piece b has =
 
 -- a jump over two pieces and both of them
 pub passed_is : (body tail made : List Insn) (jump : Insn) (n : ℕ) → jump ≡ skip n → n ≡ size body + size made → made ≡ tail → jump ∷ (body ++ made) ≡ passed (body ++ tail)
-passed_is body tail made jump n is sum same =
-    (λ i. is i ∷ (body ++ same i))
-    ∙ ap (λ m. skip m ∷ (body ++ tail)) (sum ∙ ap (λ l. size body + size l) same ∙ sym (size-append body tail))
+passed_is body tail made jump n is sum same = grind (arith, size-append)

@@ -1,5 +1,5 @@
 -- The first variable of a name among those with a routine.
-use Rattle.std.proofs.Common.{◌≡◌, ℕ, zero, suc, ◌+◌, ◌<◌, ◌≤◌, min, true, false, List, [], ◌∷◌, length, map, drop, get_or, Option, Some, None, option_map, string_bytes, bytes_eq, refl, sym, ap, ◌∙◌, add-one, add-zero, arith}
+use Rattle.std.proofs.Common.{◌≡◌, ℕ, zero, suc, ◌+◌, ◌<◌, ◌≤◌, min, true, false, List, [], ◌∷◌, length, map, drop, get_or, Option, Some, None, option_map, string_bytes, bytes_eq, refl, ap, add-zero, arith}
 use Rattle.cel_types.specs.Declarations.{declaration}
 use Rattle.cel_types.specs.declared.variable.Variable.{Variable}
 use Rattle.codegen.specs.Code.Expressions.{routine_named}
@@ -10,13 +10,11 @@ abbrev pub counted : ℕ → Option (ℕ × ℕ) → Option (ℕ × ℕ)
 counted i found = option_map (λ f. (i + f.0, f.1)) found
 
 later : (i : ℕ) (found : Option (ℕ × ℕ)) → counted i (option_map (λ f. (suc f.0, f.1)) found) ≡ counted (i + 1) found
-later i (Some f) = let e : i + suc f.0 ≡ i + 1 + f.0 = omega arith in ap (λ n. Some (n, f.1)) e
-later i None = refl
+later i found = grind arith
 
 -- what is left from a place on begins with the variable there and its routine
 here : (variables : List Variable) (slots : List ℕ) (i : ℕ) (v : Variable) → i < length variables → i < length slots → v ≡ get_or variables i v → drop i (routines_of (map declaration variables) slots) ≡ (string_bytes v.name, get_or slots i 0) ∷ drop (suc i) (routines_of (map declaration variables) slots)
-here (w ∷ variables) (s ∷ slots) zero v lt in_slots is =
-    ap (λ (u : Variable). (string_bytes u.name, s) ∷ routines_of (map declaration variables) slots) (sym is)
+here (w ∷ variables) (s ∷ slots) zero v lt in_slots is = grind arith
 here (w ∷ variables) (s ∷ slots) (suc i) v lt in_slots is = here variables slots i v (omega arith) (omega arith) is
 here _ _ i v lt in_slots is = absurd (omega arith)
 
@@ -26,11 +24,7 @@ pub found_here : (n : List ℕ) (variables : List Variable) (slots : List ℕ) (
 found_here n variables slots i v lt in_slots is same = rw (here variables slots i v lt in_slots is, same) (ap (λ m. Some (m, get_or slots i 0)) (add-zero i))
 
 pub found_later : (n : List ℕ) (variables : List Variable) (slots : List ℕ) (i : ℕ) (v : Variable) → i < length variables → i < length slots → v ≡ get_or variables i v → bytes_eq (string_bytes v.name) n ≡ false → counted (i + 1) (routine_named n (drop (i + 1) (routines_of (map declaration variables) slots))) ≡ counted i (routine_named n (drop i (routines_of (map declaration variables) slots)))
-found_later n variables slots i v lt in_slots is other =
-    let rest = routine_named n (drop (suc i) (routines_of (map declaration variables) slots)) in
-    let next : counted (i + 1) (routine_named n (drop (i + 1) (routines_of (map declaration variables) slots))) ≡ counted (i + 1) rest = rw add-one refl in
-    let first : counted i (routine_named n (drop i (routines_of (map declaration variables) slots))) ≡ counted i (option_map (λ f. (suc f.0, f.1)) rest) = rw (here variables slots i v lt in_slots is, other) refl in
-    next ∙ sym (later i rest) ∙ sym first
+found_later n variables slots i v lt in_slots is other = grind (arith, here, later)
 
 -- behind the last of them none is left
 none_left : (variables : List Variable) (slots : List ℕ) (i : ℕ) → min (length variables) (length slots) ≤ i

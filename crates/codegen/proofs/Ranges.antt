@@ -1,5 +1,5 @@
 -- Macros as they are written, where the code of their parts gives theirs within their budgets.
-use Rattle.std.proofs.Common.{◌≡◌, ℕ, ◌+◌, Bool, true, ◌||◌, List, ◌∷◌, ◌++◌, Option, Some, refl, ap, ◌∙◌, subst, arith}
+use Rattle.std.proofs.Common.{◌≡◌, ℕ, ◌+◌, Bool, true, ◌||◌, List, ◌++◌, Option, Some, refl, ap, ◌∙◌, subst, arith}
 use Rattle.insn_codec.specs.declared.insn.Insn.{Insn}
 use Rattle.value_store.specs.Value.{Value, ValueOrError}
 use Rattle.cel_macros.specs.CoreTree as core
@@ -10,6 +10,7 @@ use Rattle.cel_macros.specs.Macros.{map_over_range, over_range, range_of}
 use Rattle.cel_macros.specs.declared.macros.Macro.{Macro}
 use Rattle.cel_macros.proofs.Folds.{fold_maps_mean, folds_mean}
 use Rattle.cel_measures.specs.Measures.{deepest, need}
+use Rattle.codegen_base.specs.Paths.{with_name}
 use Rattle.codegen_base.specs.Contexts.{Context}
 use Rattle.codegen_base.specs.Engine.{Setting}
 use Rattle.codegen_base.specs.Loops.{with_item}
@@ -28,7 +29,7 @@ module _ (s : Setting) (scope : List Variable) (texts : List (List ℕ)) (depth 
   range_code e p = code_of e texts (routines scope) c.words k p
 
   abbrev part_code : List ℕ → CoreTree → ℕ → List Insn
-  part_code i e p = code_of e texts (routines scope) ((i, k + 4) ∷ c.words) (k + 5) p
+  part_code i e p = code_of e texts (routines scope) (with_name i (k + 4) c.words) (k + 5) p
 
   -- no other method has two arguments or more
   no_method : (a x : CoreTree) (n : List ℕ) (y : CoreTree) (more : core.CoreTrees) (d : Bool)

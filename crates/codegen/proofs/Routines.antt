@@ -1,11 +1,12 @@
 -- A variable's routine, which makes a scope grow.
 use Rattle.std.proofs.Common.{◌+◌, ◌++◌, [], arith}
+use Rattle.codegen_base.specs.Paths.{nothing_kept}
 use Rattle.codegen_base.proofs.Later.{wider_gives}
 use Rattle.codegen_base.proofs.Scopes.{scope_begins, scope_grows}
-use Rattle.codegen.specs.Code.Expressions.{code_of}
+use Rattle.codegen.specs.Code.Whole.{whole_code}
 use Rattle.codegen.specs.Computes.{routines, scope_context, variable_of}
 use Rattle.codegen.specs.Laws.{RoutineGives}
-use Rattle.codegen.proofs.Computed.{code_gives}
+use Rattle.codegen.proofs.Whole.{whole_gives}
 
 pub routine_gives : RoutineGives
 routine_gives image deep roots constants scope later texts name p e is few literals ready stands =
@@ -13,6 +14,6 @@ routine_gives image deep roots constants scope later texts name p e is few liter
       stands = stands;
       opens = omega arith;
       gives = λ depth room.
-          wider_gives image deep scope later p (code_of e texts (routines scope) [] 0 p) (scope_context roots [] [] constants (scope ++ later)) (depth + 1) 0 _ _ _
-          (code_gives image deep roots constants scope later texts [] [] (depth + 1) 0 p e (scope_begins image deep roots constants scope later is) few literals (record { accepted = ready.accepted; frames = omega arith; room = ready.room; texts_stand = ready.texts_stand; may = ready.may }));
+          wider_gives image deep scope later p (whole_code e texts (routines scope) p) (scope_context roots [] nothing_kept constants (scope ++ later)) (depth + 1) 0 _ _ _
+          (whole_gives image deep roots constants scope later texts (depth + 1) p e (scope_begins image deep roots constants scope later is) few literals (record { accepted = ready.accepted; frames = omega arith; room = ready.room; texts_stand = ready.texts_stand; may = ready.may }));
     })

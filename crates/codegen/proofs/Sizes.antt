@@ -1,13 +1,7 @@
 -- How many slots pieces take.
 use Rattle.std.proofs.Common.{◌≡◌, ℕ, ◌+◌, ◌*◌, ◌≤◌, List, [], ◌∷◌, ◌++◌, length, arith}
-use Rattle.std.specs.Prelude.{pos}
 use Rattle.insn_codec.specs.Spelling.{slot_count}
-use Rattle.insn_codec.specs.declared.comparison.Comparison.TheVariants.{Eq, Ne}
 use Rattle.insn_codec.specs.declared.insn.Insn.{Insn}
-use Rattle.insn_codec.specs.declared.insn.Insn.TheVariants.{Call, LoadWide}
-use Rattle.insn_codec.specs.declared.register.Register.TheVariants.{R0, R1, R2}
-use Rattle.codegen_base.specs.Code.Logic.{no_ref, yes_ref}
-use Rattle.codegen_base.specs.Instructions.{copy, load, put, skip, skip_if, store}
 use Rattle.codegen_base.specs.Pieces.{size}
 use Rattle.codegen_base.proofs.Pieces.{size-append, size-cons}
 use Rattle.codegen_base.specs.Code.Folds.{map_where_turn}
@@ -19,8 +13,7 @@ pub size_append : (a b : List Insn) → size (a ++ b) ≡ size a + size b
 size_append a b = size-append a b
 
 two_at_most : (i : Insn) → slot_count i ≤ 2
-two_at_most (LoadWide r w) = omega arith
-two_at_most _ = omega arith
+two_at_most i = grind arith
 
 -- at most two slots for each instruction
 pub size_by_length : (piece : List Insn) → size piece ≤ 2 * length piece
@@ -31,10 +24,4 @@ pub turn_near : (part tail : List Insn) → size part + size tail ≤ 32300 → 
 turn_near part tail h = let e = size-append part tail in omega (arith, e, h)
 
 pub size_map_where : (transform : List Insn) (k : ℕ) → size (map_where_turn transform k) ≡ size transform + 8
-size_map_where t k =
-    let last = copy R2 R0 ∷ load R1 (k + 3) ∷ Call (pos 17) ∷ skip 1 ∷ put R0 (pos 0) ∷ store (k + 3) R0 ∷ [] in
-    let test = skip_if Ne R0 yes_ref (size t + 4) in
-    let a = size-cons (skip_if Eq R0 no_ref (size t + 7)) (test ∷ (t ++ last)) in
-    let b = size-cons test (t ++ last) in
-    let c = size-append t last in
-    omega (arith, a, b, c)
+size_map_where t k = grind (arith, size-cons, size-append)

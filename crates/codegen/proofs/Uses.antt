@@ -8,6 +8,7 @@ use Rattle.loader.specs.Contents.{Contents}
 use Rattle.value_store.specs.Value.{Value}
 use Rattle.cel_macros.specs.Environment.{Roots, lookup, variable_value}
 use Rattle.cel_measures.specs.Measures.{deepest, depth_or_none}
+use Rattle.codegen_base.specs.Paths.{Kept}
 use Rattle.codegen_base.specs.Contexts.{Gives}
 use Rattle.codegen_base.specs.Scopes.{IsScope, Variable, bindings, place_named, scope_setting}
 use Rattle.codegen_base.proofs.Scopes.{scope_gives}
@@ -46,7 +47,7 @@ found n (u ∷ more) h = by_test n u more (bytes_eq u.name n) refl (found n more
 called_slot : (p r : ℕ) → pos (p + 5) +ℤ pos 1 +ℤ (pos r -ℤ pos (p + 6)) ≡ pos r
 called_slot p r = omega (arith, ints)
 
-pub use_gives : (image : Contents) (deep : Bool) (roots : Roots) (constants : List ℕ) (scope : List Variable) → IsScope image deep roots constants scope → length scope ≤ 512 → (texts : List (List ℕ)) (items : List (List ℕ × Value)) (words : List (List ℕ × ℕ)) (depth k : ℕ) (n : List ℕ) → UseGives (scope_setting image deep scope) scope texts depth (scope_context roots items words constants scope) k n
+pub use_gives : (image : Contents) (deep : Bool) (roots : Roots) (constants : List ℕ) (scope : List Variable) → IsScope image deep roots constants scope → length scope ≤ 512 → (texts : List (List ℕ)) (items : List (List ℕ × Value)) (words : Kept) (depth k : ℕ) (n : List ℕ) → UseGives (scope_setting image deep scope) scope texts depth (scope_context roots items words constants scope) k n
 unfolding code_of deepest IsAccepted
 use_gives image deep roots constants scope is few texts items words depth k n low accepted frames p =
     let f = found n scope accepted in

@@ -16,6 +16,7 @@ use Rattle.cel_measures.specs.Measures.{need, needs, entries_need, nodes, nodes_
 use Rattle.codegen_base.specs.Code.Aggregates.{item_code, entry_code}
 use Rattle.codegen_base.specs.Code.Calls.{kept_size}
 use Rattle.codegen_base.specs.Code.Folds.{map_where_code}
+use Rattle.codegen_base.specs.Paths.{Kept, with_name}
 use Rattle.codegen_base.specs.Pieces.{size}
 use Rattle.codegen.specs.Code.Expressions.{code_of, items_code, entries_code, function_code, leaf_of, method_function_code, test_code, no_code}
 use Rattle.codegen.specs.FrameWords.{words_of, words_step}
@@ -26,7 +27,7 @@ use Rattle.codegen.specs.declared.frame_words.FrameWords.TheVariants.{rolls-With
 use Rattle.codegen.proofs.Lengths.{short_code}
 
 -- code of few nodes is so short that jumps over it fit 16 bits
-pub near_code : (e : CoreTree) (ts : List (List ℕ)) (rs ws : List (List ℕ × ℕ)) (k p : ℕ) (code : List Insn) → code ≡ code_of e ts rs ws k p → size code + 8 ≤ 63 * nodes e
+pub near_code : (e : CoreTree) (ts : List (List ℕ)) (rs : List (List ℕ × ℕ)) (ws : Kept) (k p : ℕ) (code : List Insn) → code ≡ code_of e ts rs ws k p → size code + 8 ≤ 63 * nodes e
 near_code e ts rs ws k p code h = rw h (short_code e ts rs ws k p)
 
 -- a call that gives this code gives what is equal to it
@@ -34,8 +35,8 @@ pub same_code : (r : Result (Vec Insn Global) AllocError) (a b : List Insn) → 
 same_code r a b e h = IfOk-weaker {X = Vec Insn Global} {Y = AllocError} r (λ v. v.items ≡ a) (λ v. v.items ≡ b) (λ v is. is ∙ e) h
 
 -- the words within one macro more
-pub words_within : (name : Bor (List ℕ)) (k : ℕ) (outer : Bor FrameWords) → words_of (frame.Within name k outer) ≡ (name.now, k) ∷ words_of outer.now
-words_within name k outer = ap words_of (sym (rolls-Within name k outer)) ∙ fold-roll-FrameWords (List (List ℕ × ℕ)) words_step _
+pub words_within : (name : Bor (List ℕ)) (k : ℕ) (outer : Bor FrameWords) → words_of (frame.Within name k outer) ≡ with_name name.now k (words_of outer.now)
+words_within name k outer = ap words_of (sym (rolls-Within name k outer)) ∙ fold-roll-FrameWords Kept words_step _
 
 -- what is left from a place on
 here : {A : Type 0} (xs : List A) (i : ℕ) (x : A) → i < length xs → x ≡ get_or xs i x → drop i xs ≡ x ∷ drop (i + 1) xs
@@ -59,20 +60,16 @@ pub entries_need_here : (pairs : List (Core × Core)) (i : ℕ) (x : Core × Cor
 unfolding need
 entries_need_here pairs i x lt is = ap (λ l. entries_need (core_entries (map core_pair l))) (here pairs i x lt is)
 
-module _ (ts : List (List ℕ)) (rs ws : List (List ℕ × ℕ)) (k p : ℕ) where
+module _ (ts : List (List ℕ)) (rs : List (List ℕ × ℕ)) (ws : Kept) (k p : ℕ) where
   pub call_of_one : (n : List ℕ) (items : List Core) (x : Core) (of : List Insn) → 1 ≤ length items → length items < 2 → x ≡ get_or items 0 x → of ≡ code_of (core_view x) ts rs ws k p → function_code (function_named n) (leaf_of (core_view x) ws) of ≡ code_of (core.call n (cores (map core_view items))) ts rs ws k p
   unfolding code_of
-  call_of_one n [] x of some few is h = absurd (omega arith)
-  call_of_one n (y ∷ []) x of some few is h =
-      let whole = h ∙ ap (λ a. code_of (core_view a) ts rs ws k p) is in
-      λ j. function_code (function_named n) (leaf_of (core_view (is j)) ws) (whole j)
-  call_of_one n (y ∷ z ∷ items) x of some few is h = absurd (omega arith)
+  call_of_one n (y ∷ []) x of some few is h = grind arith
+  call_of_one n _ x of some few is h = absurd (omega arith)
 
   pub call_of_others : (n : List ℕ) (items : List Core) → (length items ≡ 1 → ⊥) → no_code ≡ code_of (core.call n (cores (map core_view items))) ts rs ws k p
   unfolding code_of
-  call_of_others n [] other = refl
   call_of_others n (y ∷ []) other = absurd (other refl)
-  call_of_others n (y ∷ z ∷ items) other = refl
+  call_of_others n _ other = refl
 
   pub method_of_none : (a : CoreTree) (n : List ℕ) (items : List Core) (of : List Insn) → length items < 1 → of ≡ code_of a ts rs ws k p → method_function_code (function_named n) (leaf_of a ws) of ≡ code_of (core.method a n (cores (map core_view items))) ts rs ws k p
   unfolding code_of
@@ -81,57 +78,24 @@ module _ (ts : List (List ℕ)) (rs ws : List (List ℕ × ℕ)) (k p : ℕ) whe
 
   pub method_of_one : (a : CoreTree) (n : List ℕ) (items : List Core) (x : Core) (left right : List Insn) → 1 ≤ length items → length items < 2 → x ≡ get_or items 0 x → left ≡ code_of a ts rs ws k p → right ≡ code_of (core_view x) ts rs ws (k + 1) (p + kept_size (leaf_of a ws) left) → test_code (test_named n) (leaf_of a ws) left (leaf_of (core_view x) ws) right k ≡ code_of (core.method a n (cores (map core_view items))) ts rs ws k p
   unfolding code_of
-  method_of_one a n [] x left right some few is hl hr = absurd (omega arith)
-  method_of_one a n (y ∷ []) x left right some few is hl hr =
-      let l = leaf_of a ws in
-      let behind : right ≡ code_of (core_view y) ts rs ws (k + 1) (p + kept_size l (code_of a ts rs ws k p)) = hr ∙ (λ j. code_of (core_view (is j)) ts rs ws (k + 1) (p + kept_size l (hl j))) in
-      λ j. test_code (test_named n) l (hl j) (leaf_of (core_view (is j)) ws) (behind j) k
-  method_of_one a n (y ∷ z ∷ items) x left right some few is hl hr = absurd (omega arith)
+  method_of_one a n (y ∷ []) x left right some few is hl hr = grind arith
+  method_of_one a n _ x left right some few is hl hr = absurd (omega arith)
 
   pub method_of_others : (a : CoreTree) (n : List ℕ) (items : List Core) → 2 ≤ length items → no_code ≡ code_of (core.method a n (cores (map core_view items))) ts rs ws k p
   unfolding code_of
-  method_of_others a n [] many = absurd (omega arith)
-  method_of_others a n (y ∷ []) many = absurd (omega arith)
   method_of_others a n (y ∷ z ∷ items) many = refl
+  method_of_others a n _ many = absurd (omega arith)
 
-  pub fold_map_of : (n : List ℕ) (r e t : CoreTree) (range predicate transform : List Insn) (i j : ℕ) → range ≡ code_of r ts rs ws k p → i ≡ size range → predicate ≡ code_of e ts rs ((n, k + 4) ∷ ws) (k + 5) (p + i + 17) → j ≡ size predicate → transform ≡ code_of t ts rs ((n, k + 4) ∷ ws) (k + 5) (p + i + 17 + j + 2) → map_where_code k range predicate transform ≡ code_of (core.fold_map n r e t) ts rs ws k p
+  pub fold_map_of : (n : List ℕ) (r e t : CoreTree) (range predicate transform : List Insn) (i j : ℕ) → range ≡ code_of r ts rs ws k p → i ≡ size range → predicate ≡ code_of e ts rs (with_name n (k + 4) ws) (k + 5) (p + i + 17) → j ≡ size predicate → transform ≡ code_of t ts rs (with_name n (k + 4) ws) (k + 5) (p + i + 17 + j + 2) → map_where_code k range predicate transform ≡ code_of (core.fold_map n r e t) ts rs ws k p
   unfolding code_of
-  fold_map_of n r e t range predicate transform i j hr hi he hj ht =
-      let inner = (n, k + 4) ∷ ws in
-      let first = code_of r ts rs ws k p in
-      let i_is : i ≡ size first = hi ∙ ap size hr in
-      let second = code_of e ts rs inner (k + 5) (p + size first + 17) in
-      let second_is : predicate ≡ second = he ∙ ap (λ m. code_of e ts rs inner (k + 5) (p + m + 17)) i_is in
-      let j_is : j ≡ size second = hj ∙ ap size second_is in
-      let third_is : transform ≡ code_of t ts rs inner (k + 5) (p + size first + 17 + size second + 2) = ht ∙ (λ x. code_of t ts rs inner (k + 5) (p + i_is x + 17 + j_is x + 2)) in
-      λ x. map_where_code k (hr x) (second_is x) (third_is x)
+  fold_map_of n r e t range predicate transform i j hr hi he hj ht = grind arith
 
   -- one item more of a list
   pub item_more : (parts : List Core) (i : ℕ) (x : Core) (before after item whole : List Insn) (n : ℕ) → i < length parts → x ≡ get_or parts i x → item ≡ code_of (core_view x) ts rs ws (k + 1) p → n ≡ size item → after ≡ before ++ item_code item k → before ++ items_code (cores (map core_view (drop i parts))) ts rs ws k p ≡ whole → after ++ items_code (cores (map core_view (drop (i + 1) parts))) ts rs ws k (p + (n + 4)) ≡ whole
   unfolding code_of
-  item_more parts i x before after item whole n lt is code count grown h =
-      let rest = cores (map core_view (drop (i + 1) parts)) in
-      let made = code_of (core_view x) ts rs ws (k + 1) p in
-      let grown_is : after ≡ before ++ item_code made k = grown ∙ ap (λ l. before ++ item_code l k) code in
-      let count_is : n ≡ size made = count ∙ ap size code in
-      let place_is : p + (n + 4) ≡ p + size made + 4 = omega (arith, count_is) in
-      (λ j. grown_is j ++ items_code rest ts rs ws k (place_is j))
-      ∙ append_assoc before (item_code made k) (items_code rest ts rs ws k (p + size made + 4))
-      ∙ ap (λ l. before ++ items_code (cores (map core_view l)) ts rs ws k p) (sym (here parts i x lt is))
-      ∙ h
+  item_more parts i x before after item whole n lt is code count grown h = grind (arith, append_assoc, here)
 
   -- one entry more of a map
   pub entry_more : (pairs : List (Core × Core)) (i : ℕ) (x : Core × Core) (before after key entry whole : List Insn) (n m : ℕ) → i < length pairs → x ≡ get_or pairs i x → key ≡ code_of (core_view x.0) ts rs ws (k + 1) p → n ≡ size key → entry ≡ code_of (core_view x.1) ts rs ws (k + 2) (p + n + 1) → m ≡ size entry → after ≡ before ++ entry_code key entry k → before ++ entries_code (core_entries (map core_pair (drop i pairs))) ts rs ws k p ≡ whole → after ++ entries_code (core_entries (map core_pair (drop (i + 1) pairs))) ts rs ws k (p + n + 1 + m + 5) ≡ whole
   unfolding code_of
-  entry_more pairs i x before after key entry whole n m lt is first first_count second second_count grown h =
-      let rest = core_entries (map core_pair (drop (i + 1) pairs)) in
-      let a = code_of (core_view x.0) ts rs ws (k + 1) p in
-      let n_is : n ≡ size a = first_count ∙ ap size first in
-      let b = code_of (core_view x.1) ts rs ws (k + 2) (p + size a + 1) in
-      let entry_is : entry ≡ b = second ∙ ap (λ q. code_of (core_view x.1) ts rs ws (k + 2) (p + q + 1)) n_is in
-      let m_is : m ≡ size b = second_count ∙ ap size entry_is in
-      let grown_is : after ≡ before ++ entry_code a b k = grown ∙ (λ j. before ++ entry_code (first j) (entry_is j) k) in
-      (λ j. grown_is j ++ entries_code rest ts rs ws k (p + n_is j + 1 + m_is j + 5))
-      ∙ append_assoc before (entry_code a b k) (entries_code rest ts rs ws k (p + size a + 1 + size b + 5))
-      ∙ ap (λ l. before ++ entries_code (core_entries (map core_pair l)) ts rs ws k p) (sym (here pairs i x lt is))
-      ∙ h
+  entry_more pairs i x before after key entry whole n m lt is first first_count second second_count grown h = grind (arith, append_assoc, here)

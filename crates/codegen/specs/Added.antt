@@ -7,7 +7,8 @@ use Rattle.cel_types.specs.Declarations.{Declaration}
 use Rattle.codegen_base.specs.Instructions.{skip}
 use Rattle.codegen_base.specs.Pieces.{size}
 use Rattle.codegen_base.specs.Variables.{memo_tail}
-use Rattle.codegen.specs.Code.Expressions.{code_of, texts_of}
+use Rattle.codegen.specs.Code.Expressions.{texts_of}
+use Rattle.codegen.specs.Code.Whole.{whole_code}
 use Rattle.codegen.specs.Constants.{with_texts}
 use Rattle.codegen.specs.Emitted.{Emitted, with_nodes, with_piece}
 use Rattle.codegen.specs.Surroundings.{routines_of}
@@ -18,7 +19,7 @@ has_room e = nat_le e.nodes 512
 
 -- an expression's code at a slot, from the start of a frame
 abbrev pub code_at : Emitted → List Declaration → CoreTree → ℕ → List Insn
-code_at e scope tree p = code_of tree e.constants (routines_of scope e.routines) [] 0 p
+code_at e scope tree p = whole_code tree e.constants (routines_of scope e.routines) p
 
 -- a piece among other code, which jumps over it
 abbrev pub passed : List Insn → List Insn

@@ -9,12 +9,14 @@ use Rattle.cel_macros.specs.Environment.{Environment, Roots}
 use Rattle.cel_macros.specs.Meaning.{meaning}
 use Rattle.cel_measures.specs.Measures.{deepest, depth as depth_of, need}
 use Rattle.codegen.specs.Accepted.{IsAccepted}
-use Rattle.codegen.specs.Code.Expressions.{code_of, texts_of}
+use Rattle.codegen.specs.Code.Expressions.{texts_of}
 use Rattle.codegen.specs.Code.Literals.{address_of}
+use Rattle.codegen.specs.Code.Whole.{whole_code}
 use Rattle.codegen.specs.Cost.{Cost, cost, spent_by}
 use Rattle.codegen_base.specs.Contexts.{Context, Gives}
 use Rattle.codegen_base.specs.Engine.{Setting}
 use Rattle.codegen_base.specs.Gives.Selection.{HasText}
+use Rattle.codegen_base.specs.Paths.{Kept}
 use Rattle.codegen_base.specs.Scopes.{Variable, bindings}
 use Rattle.codegen_base.specs.Variables.{used_context}
 
@@ -27,8 +29,12 @@ TextsStand constants texts used = AllByRecursion (λ t. HasText constants (addre
 abbrev pub Computes : Setting → ℕ → List Insn → Context → ℕ → ℕ → ValueOrError → Cost → Type 0
 Computes s p piece c depth k x t = Gives s p piece c depth k x (128 * t.visits - 8) (16 * spent_by t - 8)
 
+-- the same within 120 steps a visit and 15 times what is spent: the rest pays for a path that is kept before the piece
+abbrev pub ComputesPart : Setting → ℕ → List Insn → Context → ℕ → ℕ → ValueOrError → Cost → Type 0
+ComputesPart s p piece c depth k x t = Gives s p piece c depth k x (120 * t.visits - 8) (15 * spent_by t - 8)
+
 -- what names stand for where a scope's variables may be used
-abbrev pub scope_context : Roots → List (List ℕ × Value) → List (List ℕ × ℕ) → List ℕ → List Variable → Context
+abbrev pub scope_context : Roots → List (List ℕ × Value) → Kept → List ℕ → List Variable → Context
 scope_context roots items words constants scope = used_context roots items words constants (bindings scope)
 
 -- the names of a scope's variables
@@ -72,4 +78,4 @@ variable_with body roots scope name e p = record {
 
 -- the same with the expression's code
 abbrev pub variable_of : Roots → List Variable → List (List ℕ) → List ℕ → CoreTree → ℕ → Variable
-variable_of roots scope texts name e p = variable_with (code_of e texts (routines scope) [] 0 p) roots scope name e p
+variable_of roots scope texts name e p = variable_with (whole_code e texts (routines scope) p) roots scope name e p

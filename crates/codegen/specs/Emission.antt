@@ -15,6 +15,7 @@ use Rattle.cel_types.specs.declared.cel_type.CelType.{CelType}
 use Rattle.codegen_base.specs.Body.{Body}
 use Rattle.codegen_base.specs.Contexts.{Context}
 use Rattle.codegen_base.specs.Engine.{Comes, Setting}
+use Rattle.codegen_base.specs.Paths.{Kept, nothing_kept}
 use Rattle.codegen_base.specs.Pieces.{AreInsns, Stands, size, slots}
 use Rattle.codegen_base.specs.Scopes.{IsScope, Returns, Variable, bindings, scope_setting}
 use Rattle.codegen_base.specs.Variables.{used_context}
@@ -42,7 +43,7 @@ setting r = scope_setting r.image r.is_deep r.scope
 
 -- outside of every macro no iteration name is in force
 abbrev pub context : Running → Context
-context r = scope_context r.roots [] [] r.constants (r.scope ++ r.later)
+context r = scope_context r.roots [] nothing_kept r.constants (r.scope ++ r.later)
 
 -- what the expression means there
 abbrev pub meaning_in : Running → CoreTree → ValueOrError
@@ -99,7 +100,7 @@ abbrev pub next_routine : Emitted → ℕ
 next_routine e = length e.code + 1
 
 -- what a caller sees that may use the earlier variables and this one, whatever iteration names are in force
-abbrev pub caller_context : Running → List (List ℕ × Value) → List (List ℕ × ℕ) → List ℕ → CoreTree → Context
+abbrev pub caller_context : Running → List (List ℕ × Value) → Kept → List ℕ → CoreTree → Context
 caller_context r items words name e =
     used_context r.roots items words r.constants (bindings (r.scope ++ r.later) ++ (name, meaning_in r e) ∷ [])
 
@@ -121,7 +122,7 @@ pub record EmitsPassedRoutine (old new : Emitted) (declarations : List Declarati
   pub passes : (s : Setting) (b : Body) → Stands s.image.code (length old.code) piece
       → Comes s 1 0 (length old.code) b (length new.code) (λ last. last ≡ b)
   pub returns : (first rest : List Declaration) (r : Running) (name : List ℕ) (items : List (List ℕ × Value))
-      (words : List (List ℕ × ℕ)) (frame base : ℕ) → declarations ≡ first ++ rest
+      (words : Kept) (frame base : ℕ) → declarations ≡ first ++ rest
       → Suits old.routines new.constants first e r → HasRoutines r r.scope
       → frame + depth e (depths_of first) ≤ 7 → base ≤ 60 → Stands r.image.code (length old.code) piece
       → Returns (setting r) (next_routine old) (length old.routines) (caller_context r items words name e) frame base

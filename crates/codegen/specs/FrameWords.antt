@@ -1,20 +1,32 @@
--- The words of the frame that hold the items of the macros around an expression.
+-- The words of the frame that hold the items of the macros around an expression, or a path outside of them.
 use Rattle.std.specs.Prelude.{ℕ, List, [], ◌∷◌, ◌<◌}
+use Rattle.codegen_base.specs.Paths.{Kept, nothing_kept, with_name, with_path}
+use Rattle.codegen_base.specs.Paths as paths
 use Rattle.codegen.specs.declared.frame_words.FrameWords.{FrameWords}
 use Rattle.codegen.specs.declared.frame_words.FrameWords.TheOpen.{FrameWords-F}
 use Rattle.codegen.specs.declared.frame_words.FrameWords.TheOpen as layer
 use Rattle.codegen.specs.declared.frame_words.FrameWords.TheFolds.{fold-FrameWords}
+use Rattle.codegen.specs.declared.path.Path.{Path}
+
+-- a field of a root as plain data, without where its names lie in memory
+abbrev pub path_view : Path → paths.Path
+path_view p = record { root = p.root.now; field = p.field.now }
 
 -- one layer, with the words of the macros around it
-abbrev pub words_step : FrameWords-F (List (List ℕ × ℕ)) → List (List ℕ × ℕ)
-words_step layer.Outside = []
-words_step (layer.Within n k outer) = (n.now, k) ∷ outer.now
+abbrev pub words_step : FrameWords-F Kept → Kept
+words_step layer.Outside = nothing_kept
+words_step (layer.Keeping path) = with_path (path_view path)
+words_step (layer.Within n k outer) = with_name n.now k outer.now
 
--- each iteration name with its word, the innermost first
-abbrev pub words_of : FrameWords → List (List ℕ × ℕ)
-words_of = fold-FrameWords (List (List ℕ × ℕ)) words_step
+-- each iteration name with its word, the innermost first, and the path that word 0 keeps
+abbrev pub words_of : FrameWords → Kept
+words_of = fold-FrameWords Kept words_step
 
 -- each of them is a word of the frame that a load reaches
-abbrev pub AreWords : List (List ℕ × ℕ) → Type 0
-AreWords [] = Unit {0}
-AreWords (w ∷ more) = (w.1 < 60) × AreWords more
+abbrev pub AreItems : List (List ℕ × ℕ) → Type 0
+AreItems [] = Unit {0}
+AreItems (w ∷ more) = (w.1 < 60) × AreItems more
+
+-- so is each word that holds an item
+abbrev pub AreWords : Kept → Type 0
+AreWords words = AreItems words.items

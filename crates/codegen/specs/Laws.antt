@@ -14,6 +14,7 @@ use Rattle.cel_types.specs.Types.{typed}
 use Rattle.cel_types.specs.declared.cel_type.CelType.{CelType}
 use Rattle.codegen_base.specs.Body.{Body}
 use Rattle.codegen_base.specs.Engine.{Comes, Setting}
+use Rattle.codegen_base.specs.Paths.{Kept, nothing_kept}
 use Rattle.codegen_base.specs.Pieces.{Stands, size}
 use Rattle.codegen_base.specs.Scopes.{IsScope, Variable, scope_setting}
 use Rattle.codegen.specs.Accepted.{IsAccepted}
@@ -22,12 +23,18 @@ use Rattle.codegen.specs.Computes.{Computes, Ready, TextsStand, environment_in, 
 use Rattle.codegen.specs.Constants.{joined, with_texts}
 use Rattle.codegen.specs.Cost.{cost}
 use Rattle.codegen.specs.HasLiterals.{HasLiterals}
-use Rattle.codegen.specs.Code.Expressions.{code_of, routine_code}
+use Rattle.codegen.specs.Code.Expressions.{code_of}
+use Rattle.codegen.specs.Code.Whole.{plain_code, routine_code, whole_code}
 
--- code takes at most 63 slots for each node, and 8 less, so that jumps in the code of 512 nodes fit 16 bits
+-- the code of a part takes at most 63 slots for each node, and 8 less, so that jumps in the code of 512 nodes fit 16 bits
 abbrev pub CodeIsShort : Type 0
-CodeIsShort = (e : CoreTree) (texts : List (List ℕ)) (routines words : List (List ℕ × ℕ)) (k p : ℕ)
+CodeIsShort = (e : CoreTree) (texts : List (List ℕ)) (routines : List (List ℕ × ℕ)) (words : Kept) (k p : ℕ)
     → size (code_of e texts routines words k p) + 8 ≤ 63 * nodes e
+
+-- the code of a whole expression has at most the slots of the code that keeps nothing
+abbrev pub WholeIsShort : Type 0
+WholeIsShort = (e : CoreTree) (texts : List (List ℕ)) (routines : List (List ℕ × ℕ)) (p : ℕ)
+    → size (whole_code e texts routines p) ≤ size (plain_code e texts routines p)
 
 -- what the type checker takes has code, in the scope that it is given
 abbrev pub TypedIsAccepted : Type 0
@@ -41,7 +48,7 @@ TypedIsAccepted = (e : CoreTree) (declared : List Declaration) (t : CelType) →
 abbrev pub CodeGives : Type 0
 CodeGives =
     (image : Contents) (deep : Bool) (roots : Roots) (constants : List ℕ) (scope later : List Variable) (texts : List (List ℕ))
-    (items : List (List ℕ × Value)) (words : List (List ℕ × ℕ)) (depth k p : ℕ) (e : CoreTree)
+    (items : List (List ℕ × Value)) (words : Kept) (depth k p : ℕ) (e : CoreTree)
     → IsScope image deep roots constants scope → length scope ≤ 512 → HasLiterals (plain_tree e)
     → let s = scope_setting image deep scope in let c = scope_context roots items words constants (scope ++ later) in
     let env = environment_in roots items scope in
@@ -54,7 +61,7 @@ RoutineGives =
     (image : Contents) (deep : Bool) (roots : Roots) (constants : List ℕ) (scope later : List Variable) (texts : List (List ℕ))
     (name : List ℕ) (p : ℕ) (e : CoreTree)
     → IsScope image deep roots constants (scope ++ later) → length scope ≤ 512 → HasLiterals (plain_tree e)
-    → let s = scope_setting image deep (scope ++ later) in let c = scope_context roots [] [] constants (scope ++ later) in
+    → let s = scope_setting image deep (scope ++ later) in let c = scope_context roots [] nothing_kept constants (scope ++ later) in
     Ready s scope texts c 1 0 e (cost (plain_tree e) (environment_in roots [] scope)).is_deep
     → Stands image.code p (routine_code e texts (routines scope) (length (scope ++ later)) p)
     → IsScope image deep roots constants ((scope ++ later) ++ variable_of roots scope texts name e p ∷ [])

@@ -13,8 +13,10 @@ use Rattle.cel_types.specs.Declarations.{Declaration, declared, depths_of, scope
 use Rattle.cel_types.specs.Types.{typed}
 use Rattle.cel_types.specs.declared.cel_type.CelType.{CelType}
 use Rattle.codegen_base.specs.Pieces.{Stands}
+use Rattle.codegen_base.specs.Paths.{nothing_kept}
 use Rattle.codegen_base.specs.Scopes.{IsScope, Variable, scope_setting}
-use Rattle.codegen.specs.Code.Expressions.{code_of, routine_code, texts_of}
+use Rattle.codegen.specs.Code.Expressions.{texts_of}
+use Rattle.codegen.specs.Code.Whole.{routine_code, whole_code}
 use Rattle.codegen.specs.Computes.{Computes, environment_in, nestings, scope_context, variable_of}
 use Rattle.codegen.specs.Constants.{joined, with_texts}
 use Rattle.codegen.specs.Cost.{IsDeep, cost}
@@ -54,8 +56,8 @@ GivesMeaning texts slots declarations e p =
     → HasConstants constants texts e
     → IsScope image deep roots constants scope
     → let tree = plain_tree e in let env = environment_in roots [] scope in (IsDeep tree env → deep ≡ true)
-    → Computes (scope_setting image deep scope) p (code_of e (with_texts texts (texts_of e)) (routines_of declarations slots) [] 0 p)
-    (scope_context roots [] [] constants (scope ++ later)) frame 0 (meaning tree env) (cost tree env)
+    → Computes (scope_setting image deep scope) p (whole_code e (with_texts texts (texts_of e)) (routines_of declarations slots) p)
+    (scope_context roots [] nothing_kept constants (scope ++ later)) frame 0 (meaning tree env) (cost tree env)
 
 -- in each image in which the expression's routine stands at slot p, as that of a variable that is no deeper than 6, the
 -- variables that were taken are a scope with this one more

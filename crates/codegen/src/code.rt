@@ -9,6 +9,7 @@ pub(crate) mod literals;
 pub(crate) mod logic;
 pub(crate) mod names;
 pub(crate) mod operators;
+pub(crate) mod paths;
 pub(crate) mod routines;
 pub(crate) mod selection;
 pub(crate) mod variables;

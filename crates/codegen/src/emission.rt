@@ -11,13 +11,11 @@ ghost use Rattle.codegen.specs.Layer.{EmitsMeaning, EmitsRoutine};
 use crate::code_error::CodeError;
 use crate::emitter::Emitter;
 use crate::literals_fit::literals_fit;
+use crate::whole_expression::MOST_WORDS;
 use cel_macros::Core;
 use cel_measures::{depth, need};
 use cel_types::Scope;
 use std::alloc::Global;
-
-/// The most words of its frame that an expression's code may need.
-const MOST_WORDS: u64 = 60;
 
 /// The greatest depth of a variable.
 const GREATEST_DEPTH: u64 = 6;

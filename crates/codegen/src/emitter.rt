@@ -15,10 +15,8 @@ ghost use Rattle.codegen_base.specs.Pieces.{slots, insn_slots, size};
 use crate::code::routines::passed_routine;
 use crate::code_error::CodeError;
 use crate::constants::{byte_count, joined, take_texts};
-use crate::expressions::code_of;
-use crate::frame_words::FrameWords;
-use crate::spot::Spot;
 use crate::surroundings::Surroundings;
+use crate::whole_expression::whole_code;
 use cel_macros::Core;
 use cel_measures::nodes;
 use cel_types::Variable;
@@ -191,7 +189,6 @@ impl Emitter {
     }
 
     /// The expression's code at this slot. The error says that there is no memory for it.
-    #[tactic(auto, using(crate::proofs::Lengths::short_code))]
     fn code_at(
         &self,
         alloc: Global,
@@ -211,8 +208,7 @@ impl Emitter {
             variables: scope,
             routines: self.routines.as_slice(),
         };
-        let spot = Spot { word: 0, slot };
-        code_of(alloc, core, &around, &FrameWords::Outside, spot)
+        whole_code(alloc, core, &around, slot)
     }
 
     /// Puts the piece behind the code. The error says that there is no memory for it.

@@ -15,7 +15,9 @@ ghost use Rattle.codegen.specs.FrameWords.{words_of, AreWords};
 ghost use Rattle.codegen.specs.Surroundings.{piece_of, HasRoom};
 
 use crate::code::calls::{kept_size, operands as operands_code};
-use crate::code::{aggregates, folds, literals, logic, names, operators, selection, variables};
+use crate::code::{
+    aggregates, folds, literals, logic, names, operators, paths, selection, variables,
+};
 use crate::frame_words::FrameWords;
 use crate::instructions::size;
 use crate::part::Part;
@@ -38,6 +40,7 @@ fn leaf_of(core: &Core, words: &FrameWords) -> Option<Leaf>
     match core {
         Core::Literal(literal) => literals::literal_leaf(literal),
         Core::Name(name) => Some(names::name_leaf(name, words)),
+        Core::Select(of, field) => paths::field_leaf(of, field, words),
         _ => None,
     }
 }
@@ -104,6 +107,28 @@ fn operands(
     };
     let second = operand(alloc, right, around, words, behind)?;
     Ok((first, second))
+}
+
+/// A field: a leaf where it is kept.
+#[cycle(code)]
+fn select(
+    alloc: Global,
+    of: &Core,
+    field: &str,
+    around: &Surroundings,
+    words: &FrameWords,
+    spot: Spot,
+) -> Result<Vec<Insn>, AllocError>
+    requires { HasRoom (core.select (core_view of.now) field.now) words.now spot }
+    ensures { IfOk result (λ code. code.items ≡ piece_of (core.select (core_view of.now) field.now) around.now words.now spot) }
+{
+    match paths::field_leaf(of, field, words) {
+        Some(leaf) => names::leaf(alloc, leaf),
+        None => {
+            let of = operand(alloc, of, around, words, spot)?;
+            selection::select(alloc, &of, around.texts, field)
+        }
+    }
 }
 
 /// An index.
@@ -354,10 +379,7 @@ pub(crate) fn code_of(
         Core::Literal(literal) => literals::literal(alloc, around.texts, literal),
         Core::Name(name) => names::leaf(alloc, names::name_leaf(name, words)),
         Core::Variable(name) => variables::variable(alloc, name, around, spot.slot),
-        Core::Select(of, field) => {
-            let of = operand(alloc, of, around, words, spot)?;
-            selection::select(alloc, &of, around.texts, field)
-        }
+        Core::Select(of, field) => select(alloc, of, field, around, words, spot),
         Core::Has(of, field) => {
             let of = operand(alloc, of, around, words, spot)?;
             selection::has(alloc, &of, around.texts, field)

@@ -2,16 +2,18 @@
 
 ghost use Rattle.codegen.specs.CostRows.{CostRows};
 ghost use Rattle.codegen.specs.Layer.{ExpressionGives, FramesAreEnough, VariableIsTaken, VariableJoins};
-ghost use Rattle.codegen.specs.Laws.{CodeGives, CodeIsShort, RoutineGives, RoutineIsPassed, TextsStay, TypedIsAccepted};
+ghost use Rattle.codegen.specs.Laws.{CodeGives, CodeIsShort, RoutineGives, RoutineIsPassed, TextsStay, TypedIsAccepted, WholeIsShort};
 
 /// Expressions that were worked by hand visit and spend so much.
 pub fn costs_stand()
     ensures { CostRows }
 {}
 
-/// The code of an expression is so short that jumps in it fit 16 bits.
+/// The code of an expression is so short that jumps in it fit 16 bits. That of a whole one is as short as
+/// where no field is kept, or shorter.
 pub fn code_is_short()
-    ensures { CodeIsShort }
+    ensures parts { CodeIsShort }
+    ensures whole { WholeIsShort }
 {}
 
 /// What the type checker takes has code.

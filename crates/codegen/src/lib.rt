@@ -12,9 +12,11 @@ mod instructions;
 mod laws;
 mod literals_fit;
 mod part;
+mod path;
 mod spot;
 mod surroundings;
 mod texts;
+mod whole_expression;
 
 pub use code_error::CodeError;
 pub use emission::{expression, variable};

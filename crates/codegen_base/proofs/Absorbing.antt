@@ -7,7 +7,7 @@ use Rattle.insn_codec.specs.declared.comparison.Comparison.TheVariants.{Eq, Ne}
 use Rattle.insn_codec.specs.declared.insn.Insn.{Insn}
 use Rattle.insn_codec.specs.declared.register.Register.TheVariants.{R0, R1}
 use Rattle.insn_codec.specs.declared.width.Width.TheVariants.{W64}
-use Rattle.value_store.specs.Value.{ValueOrError, error, value}
+use Rattle.value_store.specs.Value.{ValueOrError, error}
 use Rattle.cel_macros.specs.FoldMeaning.{is_error}
 use Rattle.cel_macros.specs.Logic.{truth}
 use Rattle.bpf_machine.specs.Words.{compares}
@@ -19,7 +19,6 @@ use Rattle.codegen_base.specs.Pieces.{Stands, slots}
 use Rattle.codegen_base.specs.Words.{word_at}
 use Rattle.codegen_base.proofs.Frames.{shows_registers}
 use Rattle.codegen_base.proofs.Listings.{mov, no, yes}
-use Rattle.codegen_base.proofs.Loops.{either}
 use Rattle.codegen_base.proofs.Runs.{done, looser}
 use Rattle.codegen_base.proofs.Values.{Told, names_error, told}
 
@@ -64,54 +63,24 @@ pub record Absorbing (decides other : ℤ) (f : ValueOrError → ValueOrError �
 abbrev pub is_answer : {decides other : ℤ} {f : ValueOrError → ValueOrError → ValueOrError} → Absorbing decides other f → ValueOrError → Bool
 is_answer op z = is_fine_by (op.side z) (is_error z)
 
-error_is : (x : ValueOrError) → is_error x ≡ true → x ≡ error
-error_is error e = refl
-error_is (value v) e = absurd (cc)
-
 pub told_in : (c : Context) (depth base r : ℕ) (x : ValueOrError) (b : Body) → Fits c depth base b → Names b.values.values r x → Told (truth x) (is_error x) r
 told_in c depth base r x b fits named = told b.values r x fits.values.table.store fits.values.canonical named
 
 pub decides_is : (side : Side) → is_decides side ≡ true → side ≡ Decides
-decides_is Decides e = refl
-decides_is _ e = absurd (cc)
+decides_is side h = grind arith
 
 module _ (decides other : ℤ) (f : ValueOrError → ValueOrError → ValueOrError) (op : Absorbing decides other f) (x y : ValueOrError) where
-  of_answer : {z : ValueOrError} {side : Side} → f x y ≡ z → op.side z ≡ side → is_decides (op.side (f x y)) ≡ is_decides side
-  of_answer e is = ap (λ (a : ValueOrError). is_decides (op.side a)) e ∙ ap is_decides is
-
-  undecided_by : (t u : Side) → op.side x ≡ t → op.side y ≡ u → is_decides t ≡ false → is_decides u ≡ false → is_decides (op.side (f x y)) ≡ false
-  undecided_by Leaves Leaves is_left is_right early h = of_answer (op.both_leave x y is_left is_right) is_right
-  undecided_by Leaves Neither is_left is_right early h = of_answer (op.right_neither x y (ap is_decides is_left) is_right) op.of_error
-  undecided_by Neither u is_left is_right early h = of_answer (op.left_neither x y is_left (ap is_decides is_right ∙ h)) op.of_error
-  undecided_by _ _ is_left is_right early h = absurd (cc)
-
   -- where the left side does not decide, the answer does if the right side does
   pub right_tells : is_decides (op.side x) ≡ false → is_decides (op.side (f x y)) ≡ is_decides (op.side y)
-  right_tells early =
-      either (is_decides (op.side y))
-      (λ is. ap (λ (a : ValueOrError). is_decides (op.side a)) (op.right_decides x y (decides_is (op.side y) is)))
-      (λ is_not. undecided_by (op.side x) (op.side y) refl refl early is_not ∙ sym is_not)
-
-  stays_by : (t : Side) → op.side x ≡ t → is_fine_by t (is_error x) ≡ true → is_decides t ≡ false → op.side y ≡ Leaves → f x y ≡ x
-  stays_by Decides is_left fine early is_right = absurd (cc)
-  stays_by Leaves is_left fine early is_right = op.both_leave x y is_left is_right ∙ sym (op.one_leaves x y is_left is_right)
-  stays_by Neither is_left fine early is_right = op.left_neither x y is_left (ap is_decides is_right) ∙ sym (error_is x fine)
+  right_tells early = grind arith
 
   -- the other truth on the right side leaves an answer on the left as it is
   pub left_stays : is_answer op x ≡ true → is_decides (op.side x) ≡ false → op.side y ≡ Leaves → f x y ≡ x
-  left_stays fine early is_right = stays_by (op.side x) refl fine early is_right
-
-  answer_by_sides : (t u : Side) → op.side x ≡ t → op.side y ≡ u → is_answer op x ≡ true → is_answer op (f x y) ≡ true
-  answer_by_sides Decides u is_left is_right fine = ap (is_answer op) (op.left_decides x y is_left) ∙ fine
-  answer_by_sides _ Leaves is_left is_right fine = ap (is_answer op) (left_stays fine (ap is_decides is_left) is_right) ∙ fine
-  answer_by_sides _ Decides is_left is_right fine =
-      ap (is_answer op) (op.right_decides x y is_right) ∙ ap (λ (side : Side). is_fine_by side (is_error y)) is_right
-  answer_by_sides _ Neither is_left is_right fine =
-      ap (is_answer op) (op.right_neither x y (ap is_decides is_left) is_right) ∙ ap (λ (side : Side). is_fine_by side true) op.of_error
+  left_stays fine early is_right = grind arith
 
   -- and an answer with it makes one
   pub answer_stays : is_answer op x ≡ true → is_answer op (f x y) ≡ true
-  answer_stays fine = answer_by_sides (op.side x) (op.side y) refl refl fine
+  answer_stays fine = grind arith
 
   -- a right side that decides is the answer
   pub right_named : (values : List ValueOrError) (r : ℕ) → Names values r y → is_decides (op.side y) ≡ true → Names values r (f x y)
@@ -122,33 +91,24 @@ module _ (decides other : ℤ) (f : ValueOrError → ValueOrError → ValueOrErr
   abbrev Answered : Type 0
   Answered = Comes s 3 0 (o + 2) (set_register b R1 (word_at depth k b)) (o + 5) (Shows c depth base (f x y) b)
 
+  answer_by : (t u : Side) → op.side x ≡ t → op.side y ≡ u → is_decides t ≡ false → is_decides u ≡ false → Answered
   -- R0 keeps the right side
-  both_runs : op.side x ≡ Leaves → op.side y ≡ Leaves → Answered
-  both_runs is_left is_right =
+  answer_by Leaves Leaves is_left is_right early h =
       looser s 3 0 (omega arith) (omega arith)
       (no has 2 has_left (left.not_leaves ∙ ap (λ (side : Side). not (is_leaves side)) is_left)
       (yes has 3 1 has_right (right.leaves ∙ ap is_leaves is_right)
-      (done s (o + 5) _ _ (shows_registers c depth base b _ refl (f x y) fits (subst (Names b.values.values (b.registers R0)) (sym (op.both_leave x y is_left is_right)) named)))))
-
+      (done s (o + 5) _ _ (shows_registers c depth base b _ refl (f x y) fits (rw (op.both_leave x y is_left is_right) named)))))
   -- R0 gets the error's reference
-  left_runs : op.side x ≡ Neither → is_decides (op.side y) ≡ false → Answered
-  left_runs is_left is_right =
-      looser s 3 0 (omega arith) (omega arith)
-      (yes has 2 1 has_left (left.not_leaves ∙ ap (λ (side : Side). not (is_leaves side)) is_left)
-      (mov has 4 has_error refl
-      (done s (o + 5) _ _ (shows_registers c depth base b _ refl (f x y) fits (subst (Names b.values.values 0) (sym (op.left_neither x y is_left is_right)) (names_error b.values fits.values.table.store))))))
-
-  right_runs : op.side x ≡ Leaves → op.side y ≡ Neither → Answered
-  right_runs is_left is_right =
+  answer_by Leaves Neither is_left is_right early h =
       no has 2 has_left (left.not_leaves ∙ ap (λ (side : Side). not (is_leaves side)) is_left)
       (no has 3 has_right (right.leaves ∙ ap is_leaves is_right)
       (mov has 4 has_error refl
-      (done s (o + 5) _ _ (shows_registers c depth base b _ refl (f x y) fits (subst (Names b.values.values 0) (sym (op.right_neither x y (ap is_decides is_left) is_right)) (names_error b.values fits.values.table.store))))))
-
-  answer_by : (t u : Side) → op.side x ≡ t → op.side y ≡ u → is_decides t ≡ false → is_decides u ≡ false → Answered
-  answer_by Leaves Leaves is_left is_right early h = both_runs is_left is_right
-  answer_by Leaves Neither is_left is_right early h = right_runs is_left is_right
-  answer_by Neither u is_left is_right early h = left_runs is_left (ap is_decides is_right ∙ h)
+      (done s (o + 5) _ _ (shows_registers c depth base b _ refl (f x y) fits (rw (op.right_neither x y (ap is_decides is_left) is_right) (names_error b.values fits.values.table.store))))))
+  answer_by Neither u is_left is_right early h =
+      looser s 3 0 (omega arith) (omega arith)
+      (yes has 2 1 has_left (left.not_leaves ∙ ap (λ (side : Side). not (is_leaves side)) is_left)
+      (mov has 4 has_error refl
+      (done s (o + 5) _ _ (shows_registers c depth base b _ refl (f x y) fits (rw (op.left_neither x y is_left (ap is_decides is_right ∙ h)) (names_error b.values fits.values.table.store))))))
   answer_by _ _ is_left is_right early h = absurd (cc)
 
   pub answer_runs : is_decides (op.side x) ≡ false → is_decides (op.side y) ≡ false → Answered

@@ -25,10 +25,7 @@ address_is depth k shallow below = omega arith
 
 -- the stack has word k of a frame
 pub has_word : (depth k : ℕ) (b : Body) → Framed depth b → k < 64 → HasWord b.memory.stack (stack_index depth k)
-has_word depth k b f below =
-    let shallow = f.shallow in
-    let long = f.memory.stack in
-    omega arith
+has_word depth k b f below = grind arith
 
 -- a region has word i where its first words are so many
 pub has_memo : (i : ℕ) (m : Memory) → IsMemory m → i < 512 → HasWord m.scratch i
@@ -58,10 +55,7 @@ module _ (image : Contents) (p : ℕ) (b : Body) where
   -- a word of a region is loaded through a register that has its address
   pub load_word_does : (r : Region) (i : ℕ) (dst src : Register) → IsMemory b.memory → HasWord (bytes_in r b.memory) i → b.registers src ≡ base_of r + 8 * i → b.registers src < 2 ^ 64 → is_frame_pointer dst ≡ false → load_row Dw dst src (pos 0) (at image p b) ≡ at image (p + 1) (set_register b dst (word_in (bytes_in r b.memory) i))
   unfolding load_row
-  load_word_does r i dst src is below e small free =
-      let same : (b.registers src + 0) % 2 ^ 64 ≡ b.registers src = omega arith in
-      let read = read_word b.memory r i _ is below (same ∙ e) in
-      rw (free, operand_is image p b (Reg src)) (ap (λ (t : Result ℕ Fault). loaded dst t (at image p b)) read ∙ register_set image p b (p + 1) dst (word_in (bytes_in r b.memory) i))
+  load_word_does r i dst src is below e small free = grind (arith, read_word, operand_is, register_set)
 
   -- and stored
   pub store_word_does : (r : Region) (i : ℕ) (dst src : Register) → IsMemory b.memory → (r ≡ Constants → ⊥) → HasWord (bytes_in r b.memory) i → b.registers dst ≡ base_of r + 8 * i → b.registers dst < 2 ^ 64 → store_row Dw dst (pos 0) (Reg src) (at image p b) ≡ at image (p + 1) (record b { memory = with_bytes r (put_word (bytes_in r b.memory) i (b.registers src)) b.memory })

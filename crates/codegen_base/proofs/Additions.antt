@@ -1,5 +1,5 @@
 -- The code of sums and differences gives their meaning.
-use Rattle.std.proofs.Common.{◌≡◌, ℕ, ◌+◌, ◌<◌, List, [], ◌∷◌, ◌++◌, Option, Some, None, refl, sym, ap, ◌∙◌, subst, arith, inl, inr}
+use Rattle.std.proofs.Common.{◌≡◌, ℕ, ◌+◌, ◌<◌, List, [], ◌∷◌, ◌++◌, Option, Some, None, refl, subst, arith}
 use Rattle.std.specs.Prelude.{◌⊎◌, ℤ, pos, ◌+ℤ◌, FitsSigned, slice_get}
 use Rattle.std.specs.Int.{w64}
 use Rattle.std.proofs.lemmas.Int.{ints}
@@ -9,10 +9,9 @@ use Rattle.insn_codec.specs.declared.insn.Insn.{Insn}
 use Rattle.insn_codec.specs.declared.insn.Insn.TheVariants.{Call}
 use Rattle.insn_codec.specs.declared.register.Register.TheVariants.{R0, R1, R2, R6, R7}
 use Rattle.value_store.specs.Calls.{joined}
-use Rattle.value_store.specs.Value.{Value, ValueOrError, error, value, null, boolean, int, text, list, map, Items}
+use Rattle.value_store.specs.Value.{ValueOrError, error}
 use Rattle.cel_macros.specs.Arithmetic.{difference, difference_of, int_or_error, int_part, on_ints, sum_of}
 use Rattle.codegen_base.specs.Body.{Body, set_register}
-use Rattle.codegen_base.specs.Calls.{answered}
 use Rattle.codegen_base.specs.Code.Arithmetic.{difference_code, difference_tail, int_operands, sum_code, sum_tail}
 use Rattle.codegen_base.specs.Contexts.{Context, Fits, Shows}
 use Rattle.codegen_base.specs.Engine.{Setting, Comes}
@@ -22,14 +21,14 @@ use Rattle.codegen_base.specs.Helpers.{join_of, joined_length}
 use Rattle.codegen_base.specs.Instructions as insn
 use Rattle.codegen_base.specs.Operators.{Combines}
 use Rattle.codegen_base.specs.Pieces.{Stands, size, slots}
-use Rattle.codegen_base.proofs.Frames.{keeps_then, shows_registers}
+use Rattle.codegen_base.proofs.Frames.{shows_registers}
 use Rattle.codegen_base.proofs.HelperAnswers.{helpers}
 use Rattle.codegen_base.proofs.Listings.{ask, mov}
 use Rattle.codegen_base.proofs.LoopItems.{all_at}
 use Rattle.codegen_base.proofs.Operands.{are_ints, are_others, int_is}
 use Rattle.codegen_base.proofs.Operators.{shows_placed}
-use Rattle.codegen_base.proofs.Pieces.{size-append, stands_back, stands_front}
-use Rattle.codegen_base.proofs.Runs.{and_then, done, from_place, into, looser, to_place}
+use Rattle.codegen_base.proofs.Pieces.{runs_both, shown_behind, size-append, stands_back, stands_front}
+use Rattle.codegen_base.proofs.Runs.{and_then, done, from_place, looser, to_place}
 use Rattle.codegen_base.proofs.Steps as step
 use Rattle.codegen_base.proofs.Sums.{OnInts, difference_runs, sum_runs}
 use Rattle.codegen_base.proofs.Values.{names_error}
@@ -57,26 +56,20 @@ module _ (f : ℤ → ℤ → ValueOrError) (s : Setting) (p k off : ℕ) (tail 
   of_others none =
       to_place s whole place
       (looser s {n = 6 + 1} {x = 2 + 0} (12 + steps) (4 + charge) (omega arith) (omega arith)
-      (and_then s 1 0 (p + 12 + size tail) (Shows c depth k error b) (are_others s c depth k p off has_operands b fits x y left right (int_part x) (int_part y) refl refl none) (λ b1 g1.
-      from_place s (p + (12 + off)) (omega arith)
+      (and_then s 1 0 (p + 12 + size tail) (Shows c depth k error b) (are_others s c depth k p off has_operands b fits x y left right (int_part x) (int_part y) refl refl none) (λ b1 g.
+      shown_behind s g.keeps
+      (from_place s (p + (12 + off)) (omega arith)
       (to_place s (p + 12 + size tail) (omega arith)
       (mov has_tail off error_at refl
-      (done s (p + 12 + (off + 1)) _ (Shows c depth k error b) (
-      let shown = shows_registers c depth k b1 (set_register b1 R0 0).registers refl error g1.fitting (names_error b1.values g1.fitting.values.table.store) in
-      record { shows = shown.shows; fits = shown.fits; keeps = keeps_then (omega arith) g1.keeps shown.keeps }
-      )))))))
+      (done s (p + 12 + (off + 1)) _ _ (shows_registers c depth k b1 _ refl error g.fitting (names_error b1.values g.fitting.values.table.store)))))))))
 
   of_ints : (m n : ℤ) → int_part x ≡ Some m → int_part y ≡ Some n → Comes s (12 + steps) (4 + charge) p b whole (Shows c depth k (f m n) b)
   of_ints m n is_x is_y =
-      to_place s whole place
-      (and_then s steps charge (p + 12 + size tail) (Shows c depth k (f m n) b) (are_ints s c depth k p off has_operands b fits x y left right m n is_x is_y) (λ b1 g1.
-      into s (Shows c depth k (f m n) b) (λ b2 g2. record { shows = g2.shows; fits = g2.fits; keeps = keeps_then (omega arith) g1.keeps g2.keeps })
-      ((gives m n).runs b1 has_tail g1.fitting g1.first g1.second (int_fits c depth k (b.registers R6) x m b fits left is_x) (int_fits c depth k (b.registers R7) y n b fits right is_y))))
+      runs_both s p (int_operands off) tail steps charge (Shows c depth k (f m n) b) has (λ front. are_ints s c depth k p off has_operands b fits x y left right m n is_x is_y) (λ b1 back g.
+      shown_behind s g.keeps ((gives m n).runs b1 back g.fitting g.first g.second (int_fits c depth k (b.registers R6) x m b fits left is_x) (int_fits c depth k (b.registers R7) y n b fits right is_y)))
 
   by_parts : (m n : Option ℤ) → int_part x ≡ m → int_part y ≡ n → Comes s (12 + steps) (4 + charge) p b whole (Shows c depth k (on_ints f m n) b)
-  by_parts (Some m) (Some n) is_x is_y = of_ints m n is_x is_y
-  by_parts (Some m) None is_x is_y = of_others (inr is_y)
-  by_parts None n is_x is_y = of_others (inl is_x)
+  by_parts m n is_x is_y = grind (arith, of_ints, of_others)
 
   pub ints_run : Comes s (12 + steps) (4 + charge) p b whole (Shows c depth k (on_ints f (int_part x) (int_part y)) b)
   ints_run = by_parts (int_part x) (int_part y) refl refl
@@ -91,49 +84,9 @@ difference_gives s p k c depth x y low =
 
 -- ---- `+`
 
-list_sum : (is : Items) (y : ValueOrError) → sum_of (value (list is)) y ≡ join_of (value (list is)) y
-list_sum is error = refl
-list_sum is (value null) = refl
-list_sum is (value (boolean b)) = refl
-list_sum is (value (int z)) = refl
-list_sum is (value (text s)) = refl
-list_sum is (value (list js)) = refl
-list_sum is (value (map es)) = refl
-
-text_sum : (s : List ℕ) (y : ValueOrError) → sum_of (value (text s)) y ≡ join_of (value (text s)) y
-text_sum s error = refl
-text_sum s (value null) = refl
-text_sum s (value (boolean b)) = refl
-text_sum s (value (int z)) = refl
-text_sum s (value (text t)) = refl
-text_sum s (value (list js)) = refl
-text_sum s (value (map es)) = refl
-
-int_sum : (z : ℤ) (y : ValueOrError) → int_part y ≡ None → sum_of (value (int z)) y ≡ join_of (value (int z)) y
-int_sum z error e = refl
-int_sum z (value null) e = refl
-int_sum z (value (boolean b)) e = refl
-int_sum z (value (int a)) e = absurd (cc)
-int_sum z (value (text t)) e = refl
-int_sum z (value (list js)) e = refl
-int_sum z (value (map es)) e = refl
-
-none_sum : (v : Value) (y : ValueOrError) → sum_of (value v) y ≡ error → join_of (value v) y ≡ error → sum_of (value v) y ≡ join_of (value v) y
-none_sum v y e f = e ∙ sym f
-
 -- all but two ints is joined
 sum_is : (x y : ValueOrError) → (int_part x ≡ None) ⊎ (int_part y ≡ None) → sum_of x y ≡ join_of x y
-sum_is error y none = refl
-sum_is (value null) error none = refl
-sum_is (value null) (value v) none = refl
-sum_is (value (boolean b)) error none = refl
-sum_is (value (boolean b)) (value v) none = refl
-sum_is (value (int z)) y (inl e) = absurd (cc)
-sum_is (value (int z)) y (inr e) = int_sum z y e
-sum_is (value (text s)) y none = text_sum s y
-sum_is (value (list is)) y none = list_sum is y
-sum_is (value (map es)) error none = refl
-sum_is (value (map es)) (value v) none = refl
+sum_is x y none = grind arith
 
 module _ (s : Setting) (p k : ℕ) (c : Context) (depth : ℕ) (x y : ValueOrError) (low : k < 64) (has : Stands s.image.code p sum_code) (b : Body) (fits : Fits c depth k b) (left : Names b.values.values (b.registers R6) x) (right : Names b.values.values (b.registers R7) y) where
   abbrev rest : List Insn
@@ -153,33 +106,26 @@ module _ (s : Setting) (p k : ℕ) (c : Context) (depth : ℕ) (x y : ValueOrErr
       looser s {n = 6 + 3} {x = 2 + (1 + joined_length (joined (Some x) (Some y)) + 0)} 20 cost (omega arith) (omega arith)
       (and_then s 3 (1 + joined_length (joined (Some x) (Some y)) + 0) (p + 25) (Shows c depth k (sum_of x y) b) (are_others s c depth k p 10 has_both b fits x y left right (int_part x) (int_part y) refl refl none) (λ b1 g1.
       let asks = set_register (set_register b1 R1 (b1.registers R6)) R2 (b1.registers R7) in
-      let fits1 = g1.fitting in
-      let a = helpers.join c.environment.roots asks x y fits1.values g1.first g1.second in
-      let last = answered asks a.word a.list (b1.values.charge + (1 + joined_length (joined (Some x) (Some y)))) in
-      from_place s (p + (12 + 10)) (omega arith)
+      let a = helpers.join c.environment.roots asks x y g1.fitting.values g1.first g1.second in
+      shown_behind s g1.keeps
+      (from_place s (p + (12 + 10)) (omega arith)
       (mov has_rest 10 refl refl
       (mov has_rest 11 refl refl
       (ask has_rest 12 refl a.answers (λ paid.
       to_place s (p + 25) (omega arith)
-      (done s (p + 12 + 13) last (Shows c depth k (sum_of x y) b) (
-      let shown = shows_placed c depth k (pos 11) (join_of x y) (1 + joined_length (joined (Some x) (Some y))) b1 asks.registers (omega arith) refl fits1 a paid in
-      record { shows = subst (Names last.values.values (last.registers R0)) (sym (sum_is x y none)) shown.shows; fits = shown.fits; keeps = keeps_then (omega arith) g1.keeps shown.keeps }
-      ))))))))
+      (done s (p + 12 + 13) _ (Shows c depth k (sum_of x y) b1) (rw (sum_is x y none) (shows_placed c depth k (pos 11) (join_of x y) _ b1 asks.registers (omega arith) refl g1.fitting a paid))))))))))
 
   of_summed : (m n : ℤ) → int_part x ≡ Some m → int_part y ≡ Some n → Comes s 20 cost p b (p + 25) (Shows c depth k (int_or_error (m +ℤ n)) b)
   of_summed m n is_x is_y =
-      let Q = Shows c depth k (int_or_error (m +ℤ n)) b in
+      let Q = Shows c depth k (int_or_error (m +ℤ n)) in
       looser s {n = 12 + (7 + 1)} {x = 4 + (1 + 0)} 20 cost (omega arith) (omega arith)
-      (and_then s (7 + 1) (1 + 0) (p + 25) Q (are_ints s c depth k p 10 has_both b fits x y left right m n is_x is_y) (λ b1 g1.
-      and_then s 1 0 (p + 25) Q ((sum_runs s (p + 12) c depth k m n (omega arith)).runs b1 (stands_front s.image.code (p + 12) sum_tail _ has_rest) g1.fitting g1.first g1.second (int_fits c depth k (b.registers R6) x m b fits left is_x) (int_fits c depth k (b.registers R7) y n b fits right is_y)) (λ b2 g2.
+      (and_then s (7 + 1) (1 + 0) (p + 25) (Q b) (are_ints s c depth k p 10 has_both b fits x y left right m n is_x is_y) (λ b1 g1.
+      shown_behind s g1.keeps (and_then s 1 0 (p + 25) (Q b1) ((sum_runs s (p + 12) c depth k m n (omega arith)).runs b1 (stands_front s.image.code (p + 12) sum_tail _ has_rest) g1.fitting g1.first g1.second (int_fits c depth k (b.registers R6) x m b fits left is_x) (int_fits c depth k (b.registers R7) y n b fits right is_y)) (λ b2 g2.
       step.jump s (p + 12 + 9) (p + 25) b2 (pos 3) (has_rest.here 9 _ refl) (omega (arith, ints))
-      (done s (p + 25) b2 Q (record { shows = g2.shows; fits = g2.fits; keeps = keeps_then (omega arith) g1.keeps g2.keeps })))))
+      (done s (p + 25) b2 (Q b1) g2)))))
 
   by_addends : (m n : Option ℤ) → int_part x ≡ m → int_part y ≡ n → Comes s 20 cost p b (p + 25) (Shows c depth k (sum_of x y) b)
-  by_addends (Some m) (Some n) is_x is_y =
-      subst (λ (z : ValueOrError). Comes s 20 cost p b (p + 25) (Shows c depth k z b)) (sym (ap (λ (u : ValueOrError). sum_of u y) (int_is x m is_x) ∙ ap (sum_of (value (int m))) (int_is y n is_y))) (of_summed m n is_x is_y)
-  by_addends (Some m) None is_x is_y = of_joined (inr is_y)
-  by_addends None n is_x is_y = of_joined (inl is_x)
+  by_addends m n is_x is_y = grind (arith, int_is, of_summed, of_joined)
 
   pub sum_run : Comes s 20 cost p b (p + 25) (Shows c depth k (sum_of x y) b)
   sum_run = by_addends (int_part x) (int_part y) refl refl

@@ -1,5 +1,5 @@
 -- What is made part by part in a word of the frame.
-use Rattle.std.proofs.Common.{◌≡◌, ℕ, ◌+◌, ◌<◌, ◌≤◌, List, [], ◌∷◌, ◌++◌, refl, sym, subst, arith, inr}
+use Rattle.std.proofs.Common.{ℕ, ◌+◌, ◌<◌, ◌≤◌, List, [], ◌∷◌, ◌++◌, refl, sym, subst, arith, inr}
 use Rattle.std.specs.Prelude.{ℤ}
 use Rattle.helper_table.specs.Building.{depth_limit}
 use Rattle.helper_table.specs.Laws.{Names}
@@ -19,12 +19,12 @@ use Rattle.codegen_base.specs.Words.{set_word, word_at}
 use Rattle.codegen_base.proofs.Frames.{fits_above, keeps_same, keeps_then, shows_after, stored}
 use Rattle.codegen_base.proofs.Listings.{ask, begins, store}
 use Rattle.codegen_base.proofs.Operators.{shows_placed}
-use Rattle.codegen_base.proofs.Pieces.{size-append, stands_back, stands_front}
-use Rattle.codegen_base.proofs.Runs.{and_then, done, into, looser, to_place}
+use Rattle.codegen_base.proofs.Pieces.{runs_both}
+use Rattle.codegen_base.proofs.Runs.{done, into, looser, to_place}
 use Rattle.codegen_base.proofs.Values.{small_reference}
 
 -- a word in use names what it named
-pub kept_word : {count depth base : ℕ} {a b : Body} (k : ℕ) (x : ValueOrError) → k < base → k < 64 → Keeps count depth base a b → Names a.values.values (word_at depth k a) x → Names b.values.values (word_at depth k b) x
+kept_word : {count depth base : ℕ} {a b : Body} (k : ℕ) (x : ValueOrError) → k < base → k < 64 → Keeps count depth base a b → Names a.values.values (word_at depth k a) x → Names b.values.values (word_at depth k b) x
 kept_word {count} {depth} {base} {a} {b} k x below inside kept named =
     subst (λ (w : ℕ). Names b.values.values w x) (sym (kept.words depth k inside (inr (refl, below)))) (kept.values (word_at depth k a) x named)
 
@@ -58,6 +58,12 @@ pub part_runs : (s : Setting) (p k : ℕ) (part : List Insn) (c : Context) (dept
 part_runs s p k part c depth l x n m b low has made gives =
     into s (Beside c depth k l x b) (λ b1 g1. beside c depth k l x b b1 low made g1) (gives.runs b has (fits_above c depth k (k + 1) b (omega arith) made.fits))
 
+-- what the piece before has kept is kept where something is made behind it
+pub made_behind : (s : Setting) {n m p q depth k : ℕ} {c : Context} {x : ValueOrError} {a b : Body} → Keeps (variable_count c) depth k a b
+    → Comes s n m p b q (MadeFrom c depth k x b) → Comes s n m p b q (MadeFrom c depth k x a)
+made_behind s {depth = depth} {k = k} {c = c} {x = x} {a = a} kept run =
+    into s (MadeFrom c depth k x a) (λ b1 g. record { made = g.made; shows = g.shows; keeps = keeps_then (omega arith) kept g.keeps }) run
+
 -- ---- pieces that make
 
 pub builds_nothing : (s : Setting) (p : ℕ) (c : Context) (depth k : ℕ) → Builds s p [] c depth k (λ x. x) 0 0
@@ -68,12 +74,7 @@ builds_nothing s p c depth k = record {
 pub builds_then : (s : Setting) (p k : ℕ) (first second : List Insn) (c : Context) (depth : ℕ) (f g : ValueOrError → ValueOrError) (n1 x1 n2 x2 : ℕ) → Builds s p first c depth k f n1 x1 → Builds s (p + size first) second c depth k g n2 x2 → Builds s p (first ++ second) c depth k (λ x. g (f x)) (n1 + n2) (x1 + x2)
 builds_then s p k first second c depth f g n1 x1 n2 x2 before after = record {
   runs = λ b x has made named.
-      let q = p + size first in
-      let place : q + size second ≡ p + size (first ++ second) = omega (arith, size-append first second) in
-      let Q = MadeFrom c depth k (g (f x)) b in
-      to_place s _ place
-      (and_then s n2 x2 (q + size second) Q (before.runs b x (stands_front s.image.code p first second has) made named) (λ b1 g1.
-      into s Q (λ b2 g2. record { made = g2.made; shows = g2.shows; keeps = keeps_then (omega arith) g1.keeps g2.keeps }) (after.runs b1 (f x) (stands_back s.image.code p first second has) g1.made g1.shows)));
+      runs_both s p first second n2 x2 (MadeFrom c depth k (g (f x)) b) has (λ front. before.runs b x front made named) (λ b1 back g1. made_behind s g1.keeps (after.runs b1 (f x) back g1.made g1.shows));
 }
 
 -- ---- a literal: an empty list or map, and its parts
@@ -95,12 +96,7 @@ module _ (s : Setting) (p k : ℕ) (helper : ℤ) (empty : ValueOrError) (low : 
   pub literal_runs : (parts : List Insn) (f : ValueOrError → ValueOrError) (n x : ℕ) → ((b : Body) → Fits c depth k b → Places helper b empty 1) → Builds s (p + 2) parts c depth k f n x → Gives s p (head ++ parts) c depth k (f empty) (2 + n) (1 + x)
   literal_runs parts f n x answers builds = record {
     runs = λ b has fits.
-        let code = s.image.code in
-        let q = p + 2 + size parts in
-        let place : q ≡ p + size (head ++ parts) = omega (arith, size-append head parts) in
         let Q = Shows c depth k (f empty) b in
-        to_place s _ place
-        (and_then s n x q Q (head_runs b (stands_front code p head parts has) fits (answers b fits)) (λ b1 g1.
-        into s Q (λ b2 g2. record { shows = g2.shows; fits = g2.made.fits; keeps = keeps_then (omega arith) g1.keeps g2.keeps })
-        (builds.runs b1 empty (stands_back code p head parts has) g1.made g1.shows)));
+        runs_both s p head parts n x Q has (λ front. head_runs b front fits (answers b fits)) (λ b1 back g1.
+        into s Q (λ b2 g2. record { shows = g2.shows; fits = g2.made.fits; keeps = keeps_then (omega arith) g1.keeps g2.keeps }) (builds.runs b1 empty back g1.made g1.shows));
   }

@@ -1,8 +1,7 @@
 -- What local calls, their exits and calls of helpers make of a body.
-use Rattle.std.proofs.Common.{◌≡◌, ℕ, ◌+◌, ◌-◌, ◌%◌, ◌^◌, ◌<◌, List, [], ◌∷◌, ◌++◌, length, take, Option, Some, Bool, refl, ap, ◌∙◌, arith, true, false, length-append}
-use Rattle.std.specs.Prelude.{ℤ, pos, ◌+ℤ◌, slice_get, slice_set, nat_lt, nat_le, if◌then◌else◌}
+use Rattle.std.proofs.Common.{◌≡◌, ℕ, ◌+◌, ◌-◌, ◌^◌, ◌<◌, List, [], ◌∷◌, ◌++◌, length, take, Some, Bool, refl, ap, ◌∙◌, arith, true, false, length-append}
+use Rattle.std.specs.Prelude.{ℤ, pos, ◌+ℤ◌, slice_get, nat_le, if◌then◌else◌}
 use Rattle.std.proofs.Math.Seq.{take-append_seam}
-use Rattle.std.proofs.lemmas.Bool.{lt-ltb}
 use Rattle.guest_memory.specs.declared.fault.Fault.TheVariants.{F8}
 use Rattle.helper_table.specs.Outcome.{HelperAnswer, Halts, Leaves, charged}
 use Rattle.insn_codec.specs.declared.register.Register.TheVariants.{R0, R10}
@@ -11,11 +10,11 @@ use Rattle.value_store.specs.Placing.{charge_limit}
 use Rattle.value_store.specs.Value.{ValueOrError}
 use Rattle.bpf_machine.specs.HelperCalls.{call_row}
 use Rattle.bpf_machine.specs.HelperCalls as machine
-use Rattle.bpf_machine.specs.Jumps.{call_local_row, called, exit_row, newest, returned}
-use Rattle.bpf_machine.specs.Operands.{jumped, stopped_by}
+use Rattle.bpf_machine.specs.Jumps.{call_local_row, exit_row, newest, returned}
+use Rattle.bpf_machine.specs.Operands.{stopped_by}
 use Rattle.bpf_machine.specs.declared.frame.Frame.{Frame}
 use Rattle.bpf_machine.specs.declared.status.Status.TheVariants.{Exited}
-use Rattle.codegen_base.specs.Body.{Body, at, register_words, put_register}
+use Rattle.codegen_base.specs.Body.{Body, at}
 use Rattle.codegen_base.specs.Calls.{Answers, Refuses, answered, entered, frame_at, resumed}
 use Rattle.codegen_base.specs.Words.{Framed}
 
@@ -38,12 +37,7 @@ older frames f =
 module _ (image : Contents) (p : ℕ) (b : Body) where
   pub call_local_does : (depth : ℕ) (offset : ℤ) (q : ℕ) → Framed depth b → depth < 7 → pos p +ℤ pos 1 +ℤ offset ≡ pos q → call_local_row offset (at image p b) ≡ at image q (entered p b)
   unfolding call_local_row
-  call_local_does depth offset q f room e =
-      let long = f.records_are in
-      let pointer = f.pointer_is in
-      let inside : nat_lt (length b.records) 7 ≡ true = lt-ltb (length b.records) 7 (omega arith) in
-      let higher : (b.registers R10 + 512) % 2 ^ 64 ≡ b.registers R10 + 512 = omega arith in
-      rw inside (ap (λ (w : ℕ). jumped offset (record (called (at image p b)) { registers = slice_set (register_words b.registers) 10 w })) higher ∙ ap (λ (pc : ℤ). record (at image q (entered p b)) { pc = pc }) e)
+  call_local_does depth offset q f room e = grind arith
 
   pub exit_ends : b.records ≡ [] → exit_row (at image p b) ≡ record (at image p b) { status = Exited (b.registers R0) }
   unfolding exit_row
@@ -51,12 +45,7 @@ module _ (image : Contents) (p : ℕ) (b : Body) where
 
   pub exit_returns : (caller : Body) (q : ℕ) → b.records ≡ caller.records ++ frame_at q caller ∷ [] → b.registers R10 ≡ caller.registers R10 + 512 → caller.registers R10 < 2 ^ 64 → exit_row (at image p b) ≡ at image (q + 1) (resumed caller b)
   unfolding exit_row
-  exit_returns caller q frames pointer small =
-      let f = frame_at q caller in
-      let lower : (b.registers R10 + (2 ^ 64 - 512)) % 2 ^ 64 ≡ caller.registers R10 = omega arith in
-      ap (λ (o : Option Frame). returned o (at image p b)) (ap newest frames ∙ newest-last caller.records f)
-      ∙ ap (λ (rs : List Frame). record (returned (Some f) (at image p b)) { records = rs }) (ap (λ (rs : List Frame). take (length rs - 1) rs) frames ∙ older caller.records f)
-      ∙ ap (λ (w : ℕ). record (at image (q + 1) (resumed caller b)) { registers = register_words (put_register (resumed caller b).registers R10 w) }) lower
+  exit_returns caller q frames pointer small = grind (arith, newest-last, older)
 
   -- a helper's answer is charged, and stops where that is above the limit
   pub call_answers : (helper : ℤ) (w cost : ℕ) (list : List ValueOrError) → Answers helper b w list cost → call_row helper (at image p b) ≡ (if nat_le (b.values.charge + cost) charge_limit then at image (p + 1) (answered b w list (b.values.charge + cost)) else stopped_by F8 (at image p b))

@@ -1,13 +1,11 @@
 -- The code of comparisons and of membership gives their meaning.
-use Rattle.std.proofs.Common.{◌≡◌, ℕ, ◌+◌, ◌<◌, List, ◌∷◌, Option, Some, None, Bool, true, false, not, refl, subst, arith}
-use Rattle.std.specs.Prelude.{pos, option_map}
+use Rattle.std.proofs.Common.{◌≡◌, ℕ, ◌+◌, ◌<◌, List, ◌∷◌, subst, arith}
+use Rattle.std.specs.Prelude.{pos}
 use Rattle.insn_codec.specs.declared.insn.Insn.{Insn}
 use Rattle.insn_codec.specs.declared.register.Register.{Register}
 use Rattle.insn_codec.specs.declared.register.Register.TheVariants.{R0, R1, R2}
-use Rattle.value_store.specs.Equality.{equal}
-use Rattle.value_store.specs.Order.{less}
-use Rattle.value_store.specs.Value.{ValueOrError, error, value}
-use Rattle.cel_macros.specs.Comparison.{equal_of, greater_equal_of, greater_of, less_equal_of, less_of, member_of, truth_or_error, unequal_of}
+use Rattle.value_store.specs.Value.{ValueOrError}
+use Rattle.cel_macros.specs.Comparison.{equal_of, greater_equal_of, greater_of, less_equal_of, less_of, member_of, unequal_of}
 use Rattle.cel_macros.specs.Logic.{not_of}
 use Rattle.codegen_base.specs.Code.Comparison.{equal_tail, less_tail, not_less_tail, opposite_of, unequal_tail}
 use Rattle.codegen_base.specs.Code.Logic.{not_tail}
@@ -20,33 +18,17 @@ use Rattle.codegen_base.specs.Pieces.{size}
 use Rattle.codegen_base.proofs.HelperAnswers.{helpers}
 use Rattle.codegen_base.proofs.Operators.{call_on_result, calls_give, combines_then}
 
--- the opposite of a test's answer
-not_test : (o : Option Bool) → not_of (truth_or_error o) ≡ truth_or_error (option_map not o)
-not_test (Some true) = refl
-not_test (Some false) = refl
-not_test None = refl
-
 unequal_is : (x y : ValueOrError) → not_of (equal_of x y) ≡ unequal_of x y
-unequal_is error y = refl
-unequal_is (value v) error = refl
-unequal_is (value v) (value w) = not_test (Some (equal v w))
+unequal_is x y = grind arith
 
 greater_is : (x y : ValueOrError) → less_of y x ≡ greater_of x y
-greater_is error error = refl
-greater_is error (value w) = refl
-greater_is (value v) error = refl
-greater_is (value v) (value w) = refl
+greater_is x y = grind arith
 
 less_equal_is : (x y : ValueOrError) → not_of (less_of y x) ≡ less_equal_of x y
-less_equal_is error error = refl
-less_equal_is error (value w) = refl
-less_equal_is (value v) error = refl
-less_equal_is (value v) (value w) = not_test (less w v)
+less_equal_is x y = grind arith
 
 greater_equal_is : (x y : ValueOrError) → not_of (less_of x y) ≡ greater_equal_of x y
-greater_equal_is error y = refl
-greater_equal_is (value v) error = refl
-greater_equal_is (value v) (value w) = not_test (less v w)
+greater_equal_is x y = grind arith
 
 -- a tail whose meaning has another form
 same_tail : (s : Setting) (p k : ℕ) (tail : List Insn) (r q : Register) (c : Context) (depth : ℕ) (x y z w : ValueOrError) (n m : ℕ) → z ≡ w → Combines s p tail r q c depth k x y z n m → Combines s p tail r q c depth k x y w n m

@@ -1,7 +1,7 @@
 -- What runs take for the first uses of variables: stretches of a run add up, and more variables or calls take no less.
-use Rattle.std.proofs.Common.{◌≡◌, ℕ, suc, ◌+◌, ◌≤◌, List, [], ◌∷◌, ◌++◌, length, Bool, true, false, refl, sym, ap, ◌∙◌, arith}
+use Rattle.std.proofs.Common.{◌≡◌, ℕ, suc, ◌+◌, ◌≤◌, List, [], ◌∷◌, ◌++◌, length, Bool, true, false, refl, ap, ◌∙◌, arith}
 use Rattle.std.specs.Prelude.{ℤ, pos, negsuc, ◌+ℤ◌, Some, Option, not, ◌&&◌, ◌||◌, map, nat_eq, if◌then◌else◌}
-use Rattle.std.proofs.lemmas.Bool.{eq-eqb, eqb-true, ne_eqb, true≢false}
+use Rattle.std.proofs.lemmas.Bool.{eq-eqb, eqb-true}
 use Rattle.std.proofs.lemmas.Int.{ints}
 use Rattle.guest_memory.specs.RegionWords.{word_in}
 use Rattle.insn_codec.specs.declared.insn.Insn.{Insn}
@@ -12,8 +12,9 @@ use Rattle.bpf_machine.specs.declared.frame.Frame.{Frame}
 use Rattle.codegen_base.specs.Body.{Body}
 use Rattle.codegen_base.specs.Calls.{frame_at}
 use Rattle.codegen_base.specs.Engine.{OwnBudgets}
-use Rattle.codegen_base.specs.FirstUses.{FirstUse, StayFilled, cost_where, first_uses, is_call_of, is_first_use, is_open, is_slot, pending}
+use Rattle.codegen_base.specs.FirstUses.{FirstUse, StayFilled, cost_where, first_uses, is_call_of, is_first_use, is_open, pending}
 use Rattle.codegen_base.specs.Programs.{total}
+use Rattle.std.proofs.lemmas.Bool.Decides.{nat_tests}
 
 -- ---- sums
 
@@ -50,33 +51,27 @@ module _ (cost : FirstUse → ℕ) where
   cost-total test i (v ∷ vs) = let here = at_most (test i v) (cost v) in let rest = cost-total test (suc i) vs in omega arith
     where
       at_most : (b : Bool) (n : ℕ) → (if b then n else 0) ≤ n
-      at_most true n = omega arith
-      at_most false n = omega arith
+      at_most b n = grind arith
 
 -- ---- one variable
 
 -- the words of a memo at the start, in between and at the end
 both_stretches : (start between end open_now : Bool) (n : ℕ) → (between ≡ true → start ≡ true) → (end ≡ true → between ≡ true)
     → (if start && (not between || false) then n else 0) + (if between && (not end || open_now) then n else 0) ≤ (if start && (not end || open_now) then n else 0)
-both_stretches false true end open_now n first second = absurd (true≢false (sym (first refl)))
-both_stretches start false true open_now n first second = absurd (true≢false (sym (second refl)))
-both_stretches _ _ _ open_now n first second = omega arith
+both_stretches start between end open_now n first second = grind arith
 
 more_open : (start end few more : Bool) (n : ℕ) → (few ≡ true → more ≡ true)
     → (if start && (not end || few) then n else 0) ≤ (if start && (not end || more) then n else 0)
-more_open true true true false n grows = absurd (true≢false (sym (grows refl)))
-more_open _ _ _ _ n grows = omega arith
+more_open start end few more n grows = grind arith
 
 only_empty : (start end open_now : Bool) (n : ℕ) → (if start && (not end || open_now) then n else 0) ≤ (if start then n else 0)
-only_empty true true true n = omega arith
-only_empty _ _ _ n = omega arith
+only_empty start end open_now n = grind arith
 
 still_empty : (old new : List ℕ) → StayFilled old new → (i : ℕ) → nat_eq (word_in new i) 0 ≡ true → nat_eq (word_in old i) 0 ≡ true
 still_empty old new stay i e = eq-eqb (word_in old i) 0 (stay i (eqb-true (word_in new i) 0 e))
 
 none_first : (start open_now : Bool) (n : ℕ) → open_now ≡ false → (if start && (not start || open_now) then n else 0) ≡ 0
-none_first true open_now n none = ap (λ (t : Bool). if t then n else 0) none
-none_first false open_now n none = refl
+none_first start open_now n none = grind arith
 
 -- ---- all variables
 
@@ -93,8 +88,7 @@ module _ (image : Contents) (variables : List FirstUse) (cost : FirstUse → ℕ
       cost-less cost _ _ (λ i v. more_open (nat_eq (word_in old i) 0) (nat_eq (word_in new i) 0) (is_open image v.routine calls) (is_open image v.routine (f ∷ calls)) (cost v) (or_right (is_call_of v.routine f.return_pc (fetched image.code (f.return_pc +ℤ negsuc 0))) (is_open image v.routine calls))) 0 variables
     where
       or_right : (x y : Bool) → y ≡ true → (x || y) ≡ true
-      or_right true y e = refl
-      or_right false y e = e
+      or_right x y e = grind arith
 
   pub uses-pending : (old new : List ℕ) (calls : List Frame) → first_uses image variables cost old new calls ≤ pending variables cost old
   uses-pending old new calls =
@@ -109,22 +103,14 @@ module _ (image : Contents) (variables : List FirstUse) (cost : FirstUse → ℕ
   -- more variables take no less
   pub uses-more : (more : List FirstUse) (old new : List ℕ) (calls : List Frame)
       → first_uses image variables cost old new calls ≤ first_uses image (variables ++ more) cost old new calls
-  uses-more more old new calls =
-      let split = cost-append cost (λ i v. is_first_use (word_in old i) (word_in new i) (is_open image v.routine calls)) 0 variables more in
-      omega arith
+  uses-more more old new calls = grind (arith, cost-append)
 
   -- one that is first used behind these is paid
   pub uses-with : (v : FirstUse) (later : List FirstUse) (old new : List ℕ) (calls : List Frame)
       → is_first_use (word_in old (length variables)) (word_in new (length variables)) (is_open image v.routine calls) ≡ true
       → first_uses image variables cost old new calls + cost v ≤ first_uses image (variables ++ v ∷ later) cost old new calls
   unfolding cost_where
-  uses-with v later old new calls is_first =
-      let test : ℕ → FirstUse → Bool = λ i u. is_first_use (word_in old i) (word_in new i) (is_open image u.routine calls) in
-      let split = cost-append cost test 0 variables (v ∷ later) in
-      let place : 0 + length variables ≡ length variables = omega arith in
-      let here : (if test (0 + length variables) v then cost v else 0) ≡ cost v = ap (λ (i : ℕ). if test i v then cost v else 0) place
-      ∙ ap (λ (t : Bool). if t then cost v else 0) is_first in
-      omega arith
+  uses-with v later old new calls is_first = grind (arith, cost-append)
 
 -- ---- no first use
 
@@ -153,8 +139,7 @@ own_budgets = record {
 
 called_at : (place : ℤ) (slot : ℕ) (found : Option (Option Insn)) (offset : ℤ) → found ≡ Some (Some (CallLocal offset)) → place +ℤ offset ≡ pos slot
     → is_call_of slot place found ≡ true
-called_at place slot found offset is leads =
-    ap (is_call_of slot place) is ∙ ap (is_slot slot) leads ∙ eq-eqb slot slot refl
+called_at place slot found offset is leads = grind arith
 
 -- the record of a call that stands at slot q
 pub call_is_open : (image : Contents) (q slot : ℕ) (b : Body) (offset : ℤ) (calls : List Frame) → fetched image.code (pos q) ≡ Some (Some (CallLocal offset))
@@ -167,11 +152,7 @@ call_is_open image q slot b offset calls here leads =
 
 -- a variable whose memo was empty is first used where its memo is filled, and where its routine is open
 pub used_filled : (old new : ℕ) (open_now : Bool) → old ≡ 0 → (new ≡ 0 → ⊥) → is_first_use old new open_now ≡ true
-used_filled old new open_now empty filled = (λ i. eq-eqb old 0 empty i && (not (ne_eqb new 0 filled i) || open_now))
+used_filled old new open_now empty filled = grind (arith, nat_tests)
 
 pub used_open : (old new : ℕ) (open_now : Bool) → old ≡ 0 → open_now ≡ true → is_first_use old new open_now ≡ true
-used_open old new open_now empty opened = (λ i. eq-eqb old 0 empty i && (not (nat_eq new 0) || opened i)) ∙ or_true (not (nat_eq new 0))
-  where
-    or_true : (x : Bool) → (x || true) ≡ true
-    or_true true = refl
-    or_true false = refl
+used_open old new open_now empty opened = grind (arith, nat_tests)

@@ -11,7 +11,8 @@ use Rattle.value_store.specs.Value.{Value, ValueOrError, value}
 use Rattle.cel_macros.specs.Environment.{Roots, lookup}
 use Rattle.codegen_base.specs.Body.{Body}
 use Rattle.codegen_base.specs.Calls.{answered, entered, frame_at}
-use Rattle.codegen_base.specs.Contexts.{Context, Fits, HasValues, IsHeld, IsMemo, Keeps, Shows, variable_count}
+use Rattle.codegen_base.specs.Contexts.{Context, Fits, HasValues, HoldsPath, IsHeld, IsMemo, Keeps, Shows, variable_count}
+use Rattle.codegen_base.specs.Paths.{Path, path_value}
 use Rattle.codegen_base.specs.Words.{Framed, memo_at, set_memo, set_verdict, set_word, stack_index, word_at}
 use Rattle.codegen_base.proofs.Accesses.{has_memo, has_verdict, has_word}
 use Rattle.codegen_base.proofs.Values.{roots_kept}
@@ -56,6 +57,12 @@ held_on depth base base1 old new (Some k) (Some v) below names h = (below k h.0,
 held_on depth base base1 old new None None below names h = tt
 held_on depth base base1 old new _ _ below names h = h
 
+-- and so with a path
+pub path_on : (path : Option Path) (roots : Roots) (items : List (List ℕ × Value)) (depth base base1 : ℕ) (old new : Body) → ((k : ℕ) → k < base → k < base1)
+    → ((k : ℕ) (u : ValueOrError) → k < base → Names old.values.values (word_at depth k old) u → Names new.values.values (word_at depth k new) u)
+    → HoldsPath path roots items depth base old → HoldsPath path roots items depth base1 new
+path_on path roots items depth base base1 old new below names h x at = let here = h x at in (below 0 here.0, names 0 (path_value x roots items) here.0 here.1)
+
 pub memo_on : (old new : List ValueOrError) (w : ℕ) (x : ValueOrError) → ((r : ℕ) (u : ValueOrError) → Names old r u → Names new r u) → IsMemo old w x
     → IsMemo new w x
 memo_on old new w x grows (inl empty) = inl empty
@@ -76,7 +83,8 @@ stored c depth base k w b fits le below small = record {
     values = fits.values;
     holds = record {
       names = λ n.
-          held_on depth base base b (set_word depth k w b) (lookup n c.words) (lookup n c.environment.items) (λ j h. h) (λ j u inside named. subst (λ (r : ℕ). Names b.values.values r (value u)) (sym (word_kept depth k w b fits.frame below depth j (omega arith) (inr (refl, (λ e. omega arith))))) named) (fits.holds.names n);
+          held_on depth base base b (set_word depth k w b) (lookup n c.words.items) (lookup n c.environment.items) (λ j h. h) (λ j u inside named. subst (λ (r : ℕ). Names b.values.values r (value u)) (sym (word_kept depth k w b fits.frame below depth j (omega arith) (inr (refl, (λ e. omega arith))))) named) (fits.holds.names n);
+      path = path_on c.words.path c.environment.roots c.environment.items depth base base b (set_word depth k w b) (λ j h. h) (λ j u inside named. subst (λ (r : ℕ). Names b.values.values r u) (sym (word_kept depth k w b fits.frame below depth j (omega arith) (inr (refl, (λ e. omega arith))))) named) fits.holds.path;
       memos = fits.holds.memos;
     };
     constants = fits.constants;
@@ -118,7 +126,7 @@ module _ (depth i w : ℕ) (b : Body) (f : Framed depth b) (below : i < 256) whe
   fits_verdict c base fits = record {
     frame = frame_verdict;
     values = fits.values;
-    holds = record { names = λ n. held_on depth base base b (set_verdict i w b) (lookup n c.words) (lookup n c.environment.items) (λ j h. h) (λ j u inside named. named) (fits.holds.names n); memos = fits.holds.memos };
+    holds = record { names = λ n. held_on depth base base b (set_verdict i w b) (lookup n c.words.items) (lookup n c.environment.items) (λ j h. h) (λ j u inside named. named) (fits.holds.names n); path = path_on c.words.path c.environment.roots c.environment.items depth base base b (set_verdict i w b) (λ j h. h) (λ j u inside named. named) fits.holds.path; memos = fits.holds.memos };
     constants = fits.constants;
   }
 
@@ -141,7 +149,7 @@ pub fits_above : (c : Context) (depth base k : ℕ) (b : Body) → base ≤ k �
 fits_above c depth base k b le fits = record {
   frame = fits.frame;
   values = fits.values;
-  holds = record { names = λ n. held_on depth base k b b (lookup n c.words) (lookup n c.environment.items) (λ j h. omega arith) (λ j u inside named. named) (fits.holds.names n); memos = fits.holds.memos };
+  holds = record { names = λ n. held_on depth base k b b (lookup n c.words.items) (lookup n c.environment.items) (λ j h. omega arith) (λ j u inside named. named) (fits.holds.names n); path = path_on c.words.path c.environment.roots c.environment.items depth base k b b (λ j h. omega arith) (λ j u inside named. named) fits.holds.path; memos = fits.holds.memos };
   constants = fits.constants;
 }
 
@@ -153,7 +161,8 @@ fits_below c depth base k old new le low first kept fits = record {
   values = fits.values;
   holds = record {
     names = λ n.
-        held_on depth base base old new (lookup n c.words) (lookup n c.environment.items) (λ j h. h) (λ j u inside named. subst (λ (r : ℕ). Names new.values.values r (value u)) (sym (kept.words depth j (omega arith) (inr (refl, omega arith)))) (kept.values _ (value u) named)) (first.holds.names n);
+        held_on depth base base old new (lookup n c.words.items) (lookup n c.environment.items) (λ j h. h) (λ j u inside named. subst (λ (r : ℕ). Names new.values.values r (value u)) (sym (kept.words depth j (omega arith) (inr (refl, omega arith)))) (kept.values _ (value u) named)) (first.holds.names n);
+    path = path_on c.words.path c.environment.roots c.environment.items depth base base old new (λ j h. h) (λ j u inside named. subst (λ (r : ℕ). Names new.values.values r u) (sym (kept.words depth j (omega arith) (inr (refl, omega arith)))) (kept.values _ u named)) first.holds.path;
     memos = fits.holds.memos;
   };
   constants = fits.constants;
@@ -185,7 +194,7 @@ module _ (c : Context) (depth base : ℕ) (b : Body) (registers : Register → �
       record {
         frame = record { shallow = f.shallow; pointer_is = same ∙ f.pointer_is; records_are = f.records_are; memory = f.memory };
         values = fits.values;
-        holds = record { names = λ n. held_on depth base base b (record b { registers = registers }) (lookup n c.words) (lookup n c.environment.items) (λ j h. h) (λ j u inside named. named) (fits.holds.names n); memos = fits.holds.memos };
+        holds = record { names = λ n. held_on depth base base b (record b { registers = registers }) (lookup n c.words.items) (lookup n c.environment.items) (λ j h. h) (λ j u inside named. named) (fits.holds.names n); path = path_on c.words.path c.environment.roots c.environment.items depth base base b (record b { registers = registers }) (λ j h. h) (λ j u inside named. named) fits.holds.path; memos = fits.holds.memos };
         constants = fits.constants;
       }
 
@@ -217,7 +226,8 @@ module _ (depth base w charge : ℕ) (list : List ValueOrError) (b : Body) (exte
         frame = record { shallow = f.shallow; pointer_is = f.pointer_is; records_are = f.records_are; memory = f.memory };
         values = values_answered c.environment.roots table fits.values;
         holds = record {
-          names = λ n. held_on depth base base b (answered b w list charge) (lookup n c.words) (lookup n c.environment.items) (λ j h. h) (λ j u inside named. extends.kept _ (value u) named) (fits.holds.names n);
+          names = λ n. held_on depth base base b (answered b w list charge) (lookup n c.words.items) (lookup n c.environment.items) (λ j h. h) (λ j u inside named. extends.kept _ (value u) named) (fits.holds.names n);
+          path = path_on c.words.path c.environment.roots c.environment.items depth base base b (answered b w list charge) (λ j h. h) (λ j u inside named. extends.kept _ u named) fits.holds.path;
           memos = λ i x is. memo_on b.values.values list (memo_at i b) x.1 extends.kept (fits.holds.memos i x is);
         };
         constants = fits.constants;

@@ -18,9 +18,6 @@ word z = cast_unsigned w64 z
 abbrev pub number : ℕ → ℤ
 number w = cast_signed w64 w
 
-pub fits_from : (z : ℤ) → FitsSigned w64 z → fits z ≡ true
-fits_from z f = let small = f.sfits in grind (arith, ints)
-
 pub fits_into : (z : ℤ) → fits z ≡ true → FitsSigned w64 z
 fits_into z h = record { sfits = grind (arith, ints) }
 

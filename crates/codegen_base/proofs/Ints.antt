@@ -1,6 +1,6 @@
 -- Ints of 64 bits as words, and when results fit.
 use Rattle.std.proofs.Common.{◌≡◌, ℕ, ◌+◌, ◌-◌, ◌%◌, ◌^◌, ◌<◌, ◌≤◌, true, false, refl, ap, ◌∙◌, rules, arith}
-use Rattle.std.specs.Prelude.{ℤ, pos, negsuc, ◌+ℤ◌, ◌-ℤ◌, FitsSigned, min, unsigned_abs}
+use Rattle.std.specs.Prelude.{ℤ, pos, ◌+ℤ◌, ◌-ℤ◌, FitsSigned, min, unsigned_abs}
 use Rattle.std.specs.Int.{w64, cast_signed, cast_unsigned}
 use Rattle.std.proofs.lemmas.Int.{ints, to_z-of_z, int_rem_euclid_is}
 use Rattle.std.proofs.lemmas.Bool.Decides.{nat_tests}
@@ -15,12 +15,12 @@ use Rattle.insn_codec.specs.declared.alu_op.AluOp.TheVariants as op
 use Rattle.insn_codec.specs.declared.comparison.Comparison.{Comparison}
 use Rattle.insn_codec.specs.declared.comparison.Comparison.TheVariants.{Sge, Sgt, Sle, Slt}
 use Rattle.insn_codec.specs.declared.width.Width.TheVariants.{W64}
-use Rattle.cel_macros.specs.Arithmetic.{fits}
+use Rattle.value_store.specs.Value.{error, value, int}
+use Rattle.cel_macros.specs.Arithmetic.{fits, int_or_error}
 
 -- an int's word
 pub word_small : (z : ℤ) → FitsSigned w64 z → cast_unsigned w64 z < 2 ^ 64
-word_small (pos m) h = omega arith
-word_small (negsuc m) h = omega arith
+word_small z h = grind arith
 
 -- the word of a text's length
 pub length_word : (n : ℕ) → n < 2 ^ 31 → cast_unsigned w64 (pos (min n 0x7fff_ffff)) ≡ n
@@ -35,16 +35,20 @@ pub signed_word : (z : ℤ) → FitsSigned w64 z → signed_of 64 (cast_unsigned
 signed_word z h = signed_is (cast_unsigned w64 z) (word_small z h) ∙ to_z-of_z w64 z h
 
 pub fits_is : (z : ℤ) → FitsSigned w64 z → fits z ≡ true
-fits_is (pos n) h = grind (arith, ints, nat_tests)
-fits_is (negsuc n) h = grind (arith, ints, nat_tests)
+fits_is z h = let small = h.sfits in grind (arith, ints)
 
 pub fits_not : (z : ℤ) → (FitsSigned w64 z → ⊥) → fits z ≡ false
-fits_not (pos n) h = grind (arith, ints, nat_tests)
-fits_not (negsuc n) h = grind (arith, ints, nat_tests)
+fits_not z h = grind (arith, ints, nat_tests)
+
+-- an int is its own result where it fits, and else the error is
+pub exact : (z : ℤ) → fits z ≡ true → value (int z) ≡ int_or_error z
+exact z h = rw h refl
+
+pub over : (z : ℤ) → fits z ≡ false → error ≡ int_or_error z
+over z h = rw h refl
 
 pub signed_fits : (z : ℤ) → FitsSigned w64 z → IsSigned z
-signed_fits (pos n) h = grind (arith, ints)
-signed_fits (negsuc n) h = grind (arith, ints)
+signed_fits z h = grind (arith, ints)
 
 pub cast_fits : (w : ℕ) → w < 2 ^ 64 → FitsSigned w64 (cast_signed w64 w)
 cast_fits w h = search (rules, ints)

@@ -13,13 +13,14 @@ use Rattle.codegen_base.specs.Contexts.{Context, Fits, Gives, IsMemo, Shows}
 use Rattle.codegen_base.specs.Engine.{Setting}
 use Rattle.codegen_base.specs.FirstUses.{FirstUse}
 use Rattle.codegen_base.specs.Scopes.{LaterGives, Variable, WiderGives, bindings, first_use, scope_setting}
+use Rattle.codegen_base.specs.Paths.{Kept}
 use Rattle.codegen_base.specs.Variables.{used_context, with_variables}
 use Rattle.codegen_base.specs.Words.{memo_at}
 use Rattle.codegen_base.proofs.Frames.{memo_on}
 use Rattle.codegen_base.proofs.Runs.{into, wider}
 use Rattle.codegen_base.proofs.Returns.{get_before, get_front}
 
-module _ (image : Contents) (deep : Bool) (roots : Roots) (constants : List ℕ) (scope later : List Variable) (words : List (List ℕ × ℕ)) (items : List (List ℕ × Value)) (depth base : ℕ) where
+module _ (image : Contents) (deep : Bool) (roots : Roots) (constants : List ℕ) (scope later : List Variable) (words : Kept) (items : List (List ℕ × Value)) (depth base : ℕ) where
   abbrev here : Context
   here = used_context roots items words constants (bindings scope)
 
@@ -34,7 +35,7 @@ module _ (image : Contents) (deep : Bool) (roots : Roots) (constants : List ℕ)
   fits_before b fits = record {
     frame = fits.frame;
     values = fits.values;
-    holds = record { names = fits.holds.names; memos = λ i x at. fits.holds.memos i x (ap (λ (vs : List (List ℕ × ValueOrError)). slice_get vs i) bindings_are ∙ get_before (bindings scope) (bindings later) i x at) };
+    holds = record { names = fits.holds.names; path = fits.holds.path; memos = λ i x at. fits.holds.memos i x (ap (λ (vs : List (List ℕ × ValueOrError)). slice_get vs i) bindings_are ∙ get_before (bindings scope) (bindings later) i x at) };
     constants = fits.constants;
   }
 
@@ -52,7 +53,7 @@ module _ (image : Contents) (deep : Bool) (roots : Roots) (constants : List ℕ)
       fits = record {
         frame = shown.fits.frame;
         values = shown.fits.values;
-        holds = record { names = shown.fits.holds.names; memos = memo_after };
+        holds = record { names = shown.fits.holds.names; path = shown.fits.holds.path; memos = memo_after };
         constants = shown.fits.constants;
       };
       keeps = record {

@@ -34,7 +34,7 @@ use Rattle.codegen_base.proofs.Runs.{done, looser, to_place}
 use Rattle.codegen_base.proofs.Values.{names_error, names_no, names_null, names_yes}
 
 -- a leaf that names the value in every body that fits
-leaf_gives : (s : Setting) (p : ℕ) (c : Context) (depth base : ℕ) (l : Leaf) (x : ValueOrError) → IsLeafOf c depth base (Some l) x → Gives s p (leaf_code l) c depth base x 1 0
+pub leaf_gives : (s : Setting) (p : ℕ) (c : Context) (depth base : ℕ) (l : Leaf) (x : ValueOrError) → IsLeafOf c depth base (Some l) x → Gives s p (leaf_code l) c depth base x 1 0
 leaf_gives s p c depth base l x named = record {
   runs = λ b has fits.
       let place : p + 1 ≡ p + size (leaf_code l) = omega (arith, leaf_size l R0) in
@@ -98,11 +98,11 @@ held_named depth base b r root low named None None held = named
 held_named depth base b r root low named (Some k) None held = absurd held
 held_named depth base b r root low named None (Some v) held = absurd held
 
-name_named : (c : Context) (depth base : ℕ) (n : List ℕ) → base ≤ 64 → IsLeafOf c depth base (Some (name_leaf n c.words)) (name_value n c.environment)
+name_named : (c : Context) (depth base : ℕ) (n : List ℕ) → base ≤ 64 → IsLeafOf c depth base (Some (name_leaf n c.words.items)) (name_value n c.environment)
 unfolding name_value
 name_named c depth base n low b fits =
     let roots = c.environment.roots in
-    held_named depth base b (root_reference n) (lookup n (root_bindings roots)) low (root_named roots b.values n fits.values) (lookup n c.words) (lookup n c.environment.items) (fits.holds.names n)
+    held_named depth base b (root_reference n) (lookup n (root_bindings roots)) low (root_named roots b.values n fits.values) (lookup n c.words.items) (lookup n c.environment.items) (fits.holds.names n)
 
 pub leaves_name : LeavesName
 leaves_name = record {
@@ -117,6 +117,6 @@ leaves_give = record {
   truth = λ s p c depth base t low. leaf_gives s p c depth base (truth_leaf t) (value (boolean t)) (truth_named c depth base t);
   int = int_gives;
   text = text_gives;
-  name = λ s p c depth base n low. leaf_gives s p c depth base (name_leaf n c.words) (name_value n c.environment) (name_named c depth base n low);
+  name = λ s p c depth base n low. leaf_gives s p c depth base (name_leaf n c.words.items) (name_value n c.environment) (name_named c depth base n low);
   error = λ s p c depth base low. leaf_gives s p c depth base (Reference (pos 0)) error (λ b fits. names_error b.values fits.values.table.store);
 }

@@ -23,6 +23,7 @@ pub mod LoopItems
 pub mod Loops
 pub mod Loaded
 pub mod Operators
+pub mod Paths
 pub mod Absorbing
 pub mod Logic
 pub mod Insertions

@@ -18,13 +18,13 @@ use Rattle.codegen_base.specs.Engine.{Setting, Comes}
 use Rattle.codegen_base.specs.Gives.Aggregates.{Builds, ItemsGive, ListGives, MadeFrom, MayHold}
 use Rattle.codegen_base.specs.Pieces.{Stands, size}
 use Rattle.codegen_base.specs.Words.{word_at}
-use Rattle.codegen_base.proofs.Aggregates.{Beside, builds_nothing, builds_then, literal_runs, made_stored, part_runs}
-use Rattle.codegen_base.proofs.Frames.{fits_registers, keeps_then}
+use Rattle.codegen_base.proofs.Aggregates.{Beside, builds_nothing, builds_then, literal_runs, made_behind, made_stored, part_runs}
+use Rattle.codegen_base.proofs.Frames.{fits_registers}
 use Rattle.codegen_base.proofs.HelperAnswers.{helpers}
 use Rattle.codegen_base.proofs.Listings.{ask, begins, load, mov, refused, store}
 use Rattle.codegen_base.proofs.Operators.{shows_placed}
-use Rattle.codegen_base.proofs.Pieces.{size-append, stands_back, stands_front}
-use Rattle.codegen_base.proofs.Runs.{and_then, done, into, looser, to_place}
+use Rattle.codegen_base.proofs.Pieces.{runs_both, size-append}
+use Rattle.codegen_base.proofs.Runs.{done, looser}
 
 -- ---- pushing from the first item to the last makes the list
 
@@ -55,8 +55,7 @@ pushes_are is (error ∷ xs) = error_stays xs
 pushes_are is (value v ∷ xs) = pushes_are (items_push is v) xs ∙ push_moved is v (values_in xs)
 
 joined_none : (o : Option (List Value)) → joined_with no_items o ≡ list_or_error o
-joined_none (Some vs) = refl
-joined_none None = refl
+joined_none o = grind arith
 
 pub list_is : (xs : List ValueOrError) → fold_left pushed (value (list no_items)) xs ≡ list_literal xs
 list_is xs = pushes_are no_items xs ∙ joined_none (values_in xs)
@@ -107,14 +106,9 @@ item_builds : (s : Setting) (p k : ℕ) (part : List Insn) (c : Context) (depth 
     → Gives s p part c depth (k + 1) x n m → Builds s p (item_code part k) c depth k (λ l. pushed l x) (n + 4) (m + 2)
 item_builds s p k part c depth x n m low held gives = record {
   runs = λ b l has made named.
-      let code = s.image.code in
-      let q = p + size part in
-      let place : q + 4 ≡ p + size (item_code part k) = omega (arith, size-append part (push_tail k)) in
-      let Q = MadeFrom c depth k (pushed l x) b in
-      to_place s _ place
-      (and_then s 4 2 (q + 4) Q (part_runs s p k part c depth l x n m b (omega arith) (stands_front code p part (push_tail k) has) made gives) (λ b1 g1.
-      into s Q (λ b2 g2. record { made = g2.made; shows = g2.shows; keeps = keeps_then (omega arith) g1.keeps g2.keeps })
-      (push_by s k c depth low l x held (nat_le (result_depth (pushed l x)) depth_limit) q b b1 refl (stands_back code p part (push_tail k) has) g1)));
+      runs_both s p part (push_tail k) 4 2 (MadeFrom c depth k (pushed l x) b) has
+      (λ front. part_runs s p k part c depth l x n m b (omega arith) front made gives)
+      (λ b1 back g. made_behind s g.keeps (push_by s k c depth low l x held (nat_le (result_depth (pushed l x)) depth_limit) (p + size part) b b1 refl back g));
 }
 
 -- ---- the literal

@@ -9,7 +9,7 @@ use Rattle.insn_codec.specs.declared.alu_op.AluOp.TheVariants.{Mov}
 use Rattle.insn_codec.specs.declared.insn.Insn.{Insn}
 use Rattle.insn_codec.specs.declared.operand.Operand.TheVariants.{Imm, Reg}
 use Rattle.insn_codec.specs.declared.register.Register.{Register}
-use Rattle.insn_codec.specs.declared.register.Register.TheVariants.{R0, R1, R2, R3, R4, R5, R6, R7, R8, R9, R10}
+use Rattle.insn_codec.specs.declared.register.Register.TheVariants.{R0, R10}
 use Rattle.insn_codec.specs.declared.width.Width.TheVariants.{W64}
 use Rattle.value_store.specs.Value.{ValueOrError}
 use Rattle.bpf_machine.specs.Decoding.{fetched}
@@ -27,8 +27,9 @@ use Rattle.codegen_base.specs.Words.{Framed, set_word, word_at}
 use Rattle.codegen_base.specs.declared.leaf.Leaf.{Leaf}
 use Rattle.codegen_base.specs.declared.leaf.Leaf.TheVariants.{Reference, Word}
 use Rattle.codegen_base.proofs.Effects.{mov_is}
-use Rattle.codegen_base.proofs.Frames.{fits_above, fits_registers, keeps_registers, keeps_same, keeps_then, shows_after, stored}
-use Rattle.codegen_base.proofs.Pieces.{size-append, size-cons, stands_back, stands_first, stands_front, stands_rest}
+use Rattle.codegen_base.proofs.Frames.{fits_above, keeps_same, keeps_then, shows_after, stored}
+use Rattle.codegen_base.proofs.Listings.{begins, mov}
+use Rattle.codegen_base.proofs.Pieces.{runs_both, size-append, size-cons, stands_back, stands_first, stands_front, stands_rest}
 use Rattle.codegen_base.proofs.Runs.{and_then, done, into, looser, to_place}
 use Rattle.codegen_base.proofs.Steps as step
 use Rattle.codegen_base.proofs.Values.{small_reference}
@@ -42,28 +43,16 @@ unwritten : (word : Register → ℕ) (r q : Register) (w : ℕ) → nat_eq (reg
 unwritten word r q w apart = ap (λ (t : Bool). if t then w else word r) apart
 
 pointer_stays : (word : Register → ℕ) (r : Register) (w : ℕ) → is_frame_pointer r ≡ false → put_register word r w R10 ≡ word R10
-pointer_stays word R0 w free = refl
-pointer_stays word R1 w free = refl
-pointer_stays word R2 w free = refl
-pointer_stays word R3 w free = refl
-pointer_stays word R4 w free = refl
-pointer_stays word R5 w free = refl
-pointer_stays word R6 w free = refl
-pointer_stays word R7 w free = refl
-pointer_stays word R8 w free = refl
-pointer_stays word R9 w free = refl
-pointer_stays word R10 w free = absurd (cc)
+pointer_stays word r w free = grind arith
 
 -- ---- leaves
 
 pub leaf_size : (l : Leaf) (r : Register) → size (leaf_insn l r ∷ []) ≡ 1
-leaf_size (Reference n) r = refl
-leaf_size (Word k) r = refl
+leaf_size l r = grind arith
 
 -- it reads no register
 leaf_stays : (l : Leaf) (depth : ℕ) (b : Body) (registers : Register → ℕ) (x : ValueOrError) → IsLeafIn l depth b x → IsLeafIn l depth (record b { registers = registers }) x
-leaf_stays (Reference n) depth b registers x named = named
-leaf_stays (Word k) depth b registers x named = named
+leaf_stays l depth b registers x named = grind arith
 
 module _ (s : Setting) {n m p' : ℕ} {records : List Frame} {Q : Body → Type 0} (p p1 : ℕ) (b : Body) (depth : ℕ) (r : Register) (x : ValueOrError) where
   pub leaf_step : (l : Leaf) → fetched s.image.code (pos p) ≡ Some (Some (leaf_insn l r)) → Framed depth b → is_frame_pointer r ≡ false → IsLeafIn l depth b x → p1 ≡ p + 1 → ((w : ℕ) → Names b.values.values w x → Reaches s n m p1 (set_register b r w) records p' Q) → Reaches s (suc n) m p b records p' Q
@@ -80,34 +69,21 @@ pub record Loaded (c : Context) (depth base : ℕ) (r : Register) (x : ValueOrEr
   pub keeps : Keeps (variable_count c) depth base old new
 
 loaded : (c : Context) (depth base : ℕ) (r : Register) (x : ValueOrError) (old b : Body) (w : ℕ) → is_frame_pointer r ≡ false → Names b.values.values w x → Fits c depth base b → Keeps (variable_count c) depth base old b → Loaded c depth base r x old (set_register b r w)
-loaded c depth base r x old b w free named fits keeps =
-    let pointer = pointer_stays b.registers r w free in
-    record {
-      named = subst (λ (v : ℕ). Names b.values.values v x) (sym (written b.registers r w)) named;
-      fits = fits_registers c depth base b (put_register b.registers r w) pointer fits;
-      keeps = keeps_then (omega arith) keeps (keeps_registers c depth base b (put_register b.registers r w) pointer (variable_count c));
-    }
+loaded c depth base r x old b w free named fits keeps = grind (arith, written, pointer_stays)
 
 module _ (s : Setting) (p : ℕ) (r : Register) (free : is_frame_pointer r ≡ false) (c : Context) (depth base : ℕ) (x : ValueOrError) (n m : ℕ) where
   pub operand_runs : (l : Option Leaf) (operand : List Insn) → IsLeafOf c depth base l x → Gives s p operand c depth base x n m → (b : Body) → Stands s.image.code p (operand_code l operand r) → Fits c depth base b → Comes s (n + 1) m p b (p + size (operand_code l operand r)) (Loaded c depth base r x b)
   operand_runs (Some l) operand leaf gives b has fits =
-      let Q = Loaded c depth base r x b in
-      let place : p + 1 ≡ p + size (leaf_insn l r ∷ []) = omega (arith, leaf_size l r) in
-      to_place s _ place
+      to_place s _ (omega (arith, leaf_size l r))
       (looser s {n = suc 0} {x = 0} (n + 1) m (omega arith) (omega arith)
       (leaf_step s p (p + 1) b depth r x l (stands_first s.image.code p (leaf_insn l r) [] has) fits.frame free (leaf b fits) refl (λ w named.
-      done s (p + 1) (set_register b r w) Q (loaded c depth base r x b b w free named fits (keeps_same (variable_count c) depth base b)))))
+      done s (p + 1) (set_register b r w) (Loaded c depth base r x b) (loaded c depth base r x b b w free named fits (keeps_same (variable_count c) depth base b)))))
   operand_runs None operand leaf gives b has fits =
-      let code = s.image.code in
-      let q = p + size operand in
-      let last = insn.copy r R0 in
-      let Q = Loaded c depth base r x b in
-      let place : q + 1 ≡ p + size (operand ++ last ∷ []) = omega (arith, size-append operand (last ∷ [])) in
-      to_place s _ place
-      (looser s {n = n + suc 0} {x = m + 0} (n + 1) m (omega arith) (omega arith)
-      (and_then s (suc 0) 0 (q + 1) Q (gives.runs b (stands_front code p operand (last ∷ []) has) fits) (λ b1 g1.
-      step.alu s q (q + 1) b1 Mov W64 r (Reg R0) (b1.registers R0) (stands_first code q last [] (stands_back code p operand (last ∷ []) has)) free (mov_is (b1.registers r) (b1.registers R0)) refl
-      (done s (q + 1) (set_register b1 r (b1.registers R0)) Q (loaded c depth base r x b b1 (b1.registers R0) free g1.shows g1.fits g1.keeps)))))
+      looser s {n = n + suc 0} {x = m + 0} (n + 1) m (omega arith) (omega arith)
+      (runs_both s p operand (insn.copy r R0 ∷ []) (suc 0) 0 (Loaded c depth base r x b) has (λ front. gives.runs b front fits) (λ b1 back g1.
+      begins back
+      (mov back 0 refl free
+      (done s (p + size operand + 1) _ _ (loaded c depth base r x b b1 (b1.registers R0) free g1.shows g1.fits g1.keeps)))))
 
 -- ---- two operands
 
@@ -164,18 +140,14 @@ module _ (s : Setting) (c : Context) (depth k : ℕ) (r q : Register) (apart : A
   -- the right one is a leaf
   right_leaf : (p n1 x1 : ℕ) (l : Option Leaf) (left : List Insn) (m : Leaf) → IsLeafOf c depth k l x → Gives s p left c depth k x n1 x1 → IsLeafOf c depth (k + 1) (Some m) y → (b : Body) → Stands s.image.code p (operand_code l left r ++ leaf_insn m q ∷ []) → Fits c depth k b → Comes s (n1 + 1 + 1) (x1 + 0) p b (p + size (operand_code l left r ++ leaf_insn m q ∷ [])) (LoadedBoth c depth k r q x y b)
   right_leaf p n1 x1 l left m leaf gives right b has fits =
-      let code = s.image.code in
-      let piece = operand_code l left r in
-      let last = leaf_insn m q in
-      let p1 = p + size piece in
-      let place : p1 + 1 ≡ p + size (piece ++ last ∷ []) = omega (arith, size-append piece (last ∷ []), leaf_size m q) in
-      let Q = LoadedBoth c depth k r q x y b in
-      to_place s _ place
-      (and_then s 1 0 (p1 + 1) Q (operand_runs s p r apart.first c depth k x n1 x1 l left leaf gives b (stands_front code p piece (last ∷ []) has) fits) (λ b1 g1.
-      looser s {n = suc 0} {x = 0} 1 0 (omega arith) (omega arith)
-      (leaf_step s p1 (p1 + 1) b1 depth q y m (stands_first code p1 last [] (stands_back code p piece (last ∷ []) has)) g1.fits.frame apart.second (right b1 (fits_above c depth k (k + 1) b1 (omega arith) g1.fits)) refl (λ w named.
+      let p1 = p + size (operand_code l left r) in
+      runs_both s p (operand_code l left r) (leaf_insn m q ∷ []) 1 0 (LoadedBoth c depth k r q x y b) has
+      (λ front. operand_runs s p r apart.first c depth k x n1 x1 l left leaf gives b front fits) (λ b1 back g1.
+      to_place s _ (omega (arith, leaf_size m q))
+      (looser s {n = suc 0} {x = 0} 1 0 (omega arith) (omega arith)
+      (leaf_step s p1 (p1 + 1) b1 depth q y m (stands_first s.image.code p1 (leaf_insn m q) [] back) g1.fits.frame apart.second (right b1 (fits_above c depth k (k + 1) b1 (omega arith) g1.fits)) refl (λ w named.
       let two = loaded c depth k q y b b1 w apart.second named g1.fits g1.keeps in
-      done s (p1 + 1) (set_register b1 q w) Q (record {
+      done s (p1 + 1) (set_register b1 q w) _ (record {
         first = subst (λ (u : ℕ). Names b1.values.values u x) (sym (unwritten b1.registers r q w apart.apart)) g1.named;
         second = two.named;
         fits = two.fits;
@@ -185,18 +157,12 @@ module _ (s : Setting) (c : Context) (depth k : ℕ) (r q : Register) (apart : A
   -- the left one is a leaf, and the right one is none
   left_leaf : (p n2 x2 : ℕ) (l : Leaf) (left right : List Insn) → k < 60 → IsLeafOf c depth k (Some l) x → Gives s (p + 0) right c depth (k + 1) y n2 x2 → (b : Body) → Stands s.image.code p (right ++ insn.copy q R0 ∷ leaf_insn l r ∷ []) → Fits c depth k b → Comes s (n2 + 2) (x2 + 0) p b (p + size (right ++ insn.copy q R0 ∷ leaf_insn l r ∷ [])) (LoadedBoth c depth k r q x y b)
   left_leaf p n2 x2 l left right low leaf gives b has fits =
-      let code = s.image.code in
       let tail = insn.copy q R0 ∷ leaf_insn l r ∷ [] in
       let here : p + 0 ≡ p = omega arith in
-      let q1 = p + size right in
-      let tail_size : size tail ≡ 2 = size-cons (insn.copy q R0) (leaf_insn l r ∷ []) ∙ ap (λ (i : ℕ). 1 + i) (leaf_size l r) in
-      let place : q1 + 2 ≡ p + size (right ++ tail) = omega (arith, size-append right tail, tail_size) in
-      let Q = LoadedBoth c depth k r q x y b in
       let given : Gives s p right c depth (k + 1) y n2 x2 = subst (λ (i : ℕ). Gives s i right c depth (k + 1) y n2 x2) here gives in
-      to_place s _ place
-      (and_then s 2 0 (q1 + 2) Q (given.runs b (stands_front code p right tail has) (fits_above c depth k (k + 1) b (omega arith) fits)) (λ b1 g1.
+      runs_both s p right tail 2 0 (LoadedBoth c depth k r q x y b) has (λ front. given.runs b front (fits_above c depth k (k + 1) b (omega arith) fits)) (λ b1 back g1.
       let shown = shows_after {c = c} {depth = depth} {base = k} {k = k + 1} {x = y} {a = b} {b = b} {d = b1} (omega arith) (omega arith) (keeps_same (variable_count c) depth k b) g1 fits in
-      both_loaded q1 l b b1 (stands_back code p right tail has) (leaf b1 shown.fits) shown))
+      to_place s _ (omega (arith, size-cons (insn.copy q R0) (leaf_insn l r ∷ []), leaf_size l r)) (both_loaded (p + size right) l b b1 back (leaf b1 shown.fits) shown))
 
   -- the left one is kept in word k
   both_kept : (p n1 x1 n2 x2 : ℕ) (left right : List Insn) → k < 60 → Gives s p left c depth k x n1 x1 → Gives s (p + (size left + 1)) right c depth (k + 1) y n2 x2 → (b : Body) → Stands s.image.code p (kept_code None left k ++ (right ++ insn.copy q R0 ∷ leaf_insn (Word k) r ∷ [])) → Fits c depth k b → Comes s (n1 + (1 + (n2 + 2))) (x1 + (x2 + 0)) p b (p + size (kept_code None left k ++ (right ++ insn.copy q R0 ∷ leaf_insn (Word k) r ∷ []))) (LoadedBoth c depth k r q x y b)

@@ -1,5 +1,5 @@
 -- The code of logical operators and of the conditional gives their meaning.
-use Rattle.std.proofs.Common.{◌≡◌, ℕ, suc, ◌+◌, ◌<◌, ◌≤◌, List, [], ◌∷◌, ◌++◌, Bool, true, false, refl, sym, ap, ◌∙◌, subst, arith}
+use Rattle.std.proofs.Common.{◌≡◌, ℕ, suc, ◌+◌, ◌<◌, ◌≤◌, List, [], ◌∷◌, ◌++◌, Bool, true, false, not, refl, sym, ◌∙◌, subst, arith}
 use Rattle.std.specs.Prelude.{ℤ, pos}
 use Rattle.std.proofs.lemmas.Int.{ints}
 use Rattle.helper_table.specs.Laws.{Names}
@@ -9,18 +9,18 @@ use Rattle.insn_codec.specs.declared.insn.Insn.{Insn}
 use Rattle.insn_codec.specs.declared.operand.Operand.TheVariants.{Imm}
 use Rattle.insn_codec.specs.declared.register.Register.TheVariants.{R0}
 use Rattle.insn_codec.specs.declared.width.Width.TheVariants.{W64}
-use Rattle.value_store.specs.Value.{ValueOrError, error, value, null, boolean, int, text, list, map}
+use Rattle.value_store.specs.Value.{ValueOrError, error}
 use Rattle.cel_macros.specs.FoldMeaning.{is_error}
 use Rattle.cel_macros.specs.Logic.{Truth, Yes, No, Other, and_of, chosen, conjunction, disjunction, not_of, of_truth, or_of, ternary_of, truth}
 use Rattle.codegen_base.specs.Body.{Body}
-use Rattle.codegen_base.specs.Code.Logic.{absorbing_code, absorbing_tail, no_ref, ternary_code, yes_ref}
+use Rattle.codegen_base.specs.Code.Logic.{absorbing_tail, no_ref, ternary_code, yes_ref}
 use Rattle.codegen_base.specs.Contexts.{Context, Fits, Gives, Shows}
 use Rattle.codegen_base.specs.Engine.{Setting, Comes}
 use Rattle.codegen_base.specs.Gives.Logic.{AbsorbingGives, LogicGives, TernaryGives}
 use Rattle.codegen_base.specs.Instructions as insn
 use Rattle.codegen_base.specs.Pieces.{Stands, size}
 use Rattle.codegen_base.specs.Words.{word_at}
-use Rattle.codegen_base.proofs.Absorbing.{Absorbing, Decides, Leaves, Neither, Side, Tested, answer_runs, decides_is, is_answer, is_decides, right_named, told_in}
+use Rattle.codegen_base.proofs.Absorbing.{Absorbing, Decides, Leaves, Neither, Side, Tested, answer_runs, decides_is, is_decides, right_named, told_in}
 use Rattle.codegen_base.proofs.Effects.{mov_is}
 use Rattle.codegen_base.proofs.Frames.{keeps_then, shows_registers}
 use Rattle.codegen_base.proofs.HelperAnswers.{helpers}
@@ -28,8 +28,8 @@ use Rattle.codegen_base.proofs.Listings.{begins, load, no, yes}
 use Rattle.codegen_base.proofs.Loops.{either}
 use Rattle.codegen_base.proofs.Loaded.{keeps_left}
 use Rattle.codegen_base.proofs.Operators.{calls_give}
-use Rattle.codegen_base.proofs.Pieces.{size-append, size-cons, stands_back, stands_first, stands_front, stands_rest}
-use Rattle.codegen_base.proofs.Runs.{and_then, done, into, looser, to_place}
+use Rattle.codegen_base.proofs.Pieces.{runs_both, shown_behind, size-append, size-cons, stands_back, stands_first, stands_front, stands_rest}
+use Rattle.codegen_base.proofs.Runs.{and_then, done, looser, to_place}
 use Rattle.codegen_base.proofs.Steps as step
 use Rattle.codegen_base.proofs.Values.{Told, names_error, told}
 
@@ -56,174 +56,64 @@ absorbing_gives decides other f op s p k left right c depth x y n1 x1 n2 x2 low 
       let put = insn.store k R0 in
       let tail = absorbing_tail decides other k in
       let q = p + size left in
-      let h0 = stands_back code p left (leave ∷ put ∷ (right ++ tail)) has in
-      let h1 = stands_rest code q leave (put ∷ (right ++ tail)) h0 in
-      let h2 : Stands code (q + 1) (put ∷ right) = stands_front code (q + 1) (put ∷ right) tail h1 in
-      let place2 : q + 1 + size (put ∷ right) ≡ q + 1 + 1 + size right = omega (arith, size-cons put right) in
-      let h3 : Stands code (q + 1 + 1 + size right) tail = subst (λ (i : ℕ). Stands code i tail) place2 (stands_back code (q + 1) (put ∷ right) tail h1) in
       let two : q + 2 ≡ q + 1 + 1 = omega arith in
       let right1 = subst (λ (i : ℕ). Gives s i right c depth (k + 1) y n2 x2) two gives_right in
       let end = q + 1 + 1 + size right + 5 in
       let Q = Shows c depth k (f x y) b in
-      let place : end ≡ p + size (absorbing_code decides other left right k) = omega (arith, size-append left (leave ∷ put ∷ (right ++ tail)), size-cons leave (put ∷ (right ++ tail)), size-cons put (right ++ tail), size-append right tail) in
-      to_place s _ place
-      (and_then s (2 + (n2 + 5)) x2 end Q (gives_left.runs b (stands_front code p left _ has) fits) (λ b1 g1.
+      runs_both s p left (leave ∷ put ∷ (right ++ tail)) (2 + (n2 + 5)) x2 Q has (λ front. gives_left.runs b front fits) (λ b1 h0 g1.
+      let h1 = stands_rest code q leave (put ∷ (right ++ tail)) h0 in
+      let h2 : Stands code (q + 1) (put ∷ right) = stands_front code (q + 1) (put ∷ right) tail h1 in
+      let place2 : q + 1 + size (put ∷ right) ≡ q + 1 + 1 + size right = omega (arith, size-cons put right) in
+      let h3 : Stands code (q + 1 + 1 + size right) tail = subst (λ (i : ℕ). Stands code i tail) place2 (stands_back code (q + 1) (put ∷ right) tail h1) in
       let seen1 = op.tested x (b1.registers R0) (told_in c depth k (b1.registers R0) x b1 g1.fits g1.shows) in
-      either (is_decides (op.side x))
+      to_place s _ (omega (arith, size-cons leave (put ∷ (right ++ tail)), size-cons put (right ++ tail), size-append right tail))
+      (either (is_decides (op.side x))
       (λ is. looser s (2 + (n2 + 5)) x2 (omega arith) (omega arith) (step.branch_yes s q end b1 Eq W64 R0 (Imm decides) (pos (size right + 6)) (stands_first code q leave _ h0) (seen1.decided ∙ is) (omega (arith, ints))
       (done s end b1 Q (subst (λ (z : ValueOrError). Shows c depth k z b b1) (sym (op.left_decides x y (decides_is (op.side x) is))) g1))))
       (λ is_not. looser s {n = suc (1 + n2 + 5)} {x = x2 + 0} (2 + (n2 + 5)) x2 (omega arith) (omega arith) (step.branch_no s q (q + 1) b1 Eq W64 R0 (Imm decides) (pos (size right + 6)) (stands_first code q leave _ h0) (seen1.decided ∙ is_not) refl
       (and_then s 5 0 end Q (keeps_left s k right c depth x y n2 x2 low (q + 1) b1 h2 g1.fits g1.shows right1) (λ b2 g2.
-      into s Q (λ b3 g3. record { shows = g3.shows; fits = g3.fits; keeps = keeps_then (omega arith) (keeps_then (omega arith) g1.keeps g2.shown.keeps) g3.keeps })
+      shown_behind s (keeps_then (omega arith) g1.keeps g2.shown.keeps)
       (absorbing_runs decides other f op s c depth k k (q + 1 + 1 + size right) h3 (omega arith) b2 g2.shown.fits x y (op.tested x (word_at depth k b2) (told_in c depth k (word_at depth k b2) x b2 g2.shown.fits g2.left)) (op.tested y (b2.registers R0) (told_in c depth k (b2.registers R0) y b2 g2.shown.fits g2.shown.shows)) g2.shown.shows is_not)))))));
 }
 
 -- ---- `&&` and `||`
 
-abbrev and_side : Truth → Side
-and_side Yes = Leaves
-and_side No = Decides
-and_side Other = Neither
+-- what the truth of a side does for `||`, where the flag is true, and for `&&`
+abbrev side_of : Bool → Truth → Side
+side_of true Yes = Decides
+side_of true No = Leaves
+side_of false No = Decides
+side_of false Yes = Leaves
+side_of _ Other = Neither
 
-abbrev or_side : Truth → Side
-or_side Yes = Decides
-or_side No = Leaves
-or_side Other = Neither
+abbrev joined_by : Bool → Truth → Truth → Truth
+joined_by true t u = disjunction t u
+joined_by false t u = conjunction t u
 
-and_tested : (t : Truth) (fails : Bool) (r : ℕ) → Told t fails r → Tested no_ref yes_ref (and_side t) r
-and_tested Yes fails r h = record { decided = h.no; leaves = h.yes; not_leaves = h.not_yes }
-and_tested No fails r h = record { decided = h.no; leaves = h.yes; not_leaves = h.not_yes }
-and_tested Other fails r h = record { decided = h.no; leaves = h.yes; not_leaves = h.not_yes }
+abbrev ref_of : Bool → ℤ
+ref_of true = yes_ref
+ref_of false = no_ref
 
-or_tested : (t : Truth) (fails : Bool) (r : ℕ) → Told t fails r → Tested yes_ref no_ref (or_side t) r
-or_tested Yes fails r h = record { decided = h.yes; leaves = h.no; not_leaves = h.not_no }
-or_tested No fails r h = record { decided = h.yes; leaves = h.no; not_leaves = h.not_no }
-or_tested Other fails r h = record { decided = h.yes; leaves = h.no; not_leaves = h.not_no }
-
--- a value with this truth is the truth
-truth_is : (x : ValueOrError) (t : Truth) → truth x ≡ t → (t ≡ Other → ⊥) → of_truth t ≡ x
-truth_is error t e known = absurd (known (sym e))
-truth_is (value null) t e known = absurd (known (sym e))
-truth_is (value (boolean true)) t e known = ap of_truth (sym e)
-truth_is (value (boolean false)) t e known = ap of_truth (sym e)
-truth_is (value (int z)) t e known = absurd (known (sym e))
-truth_is (value (text u)) t e known = absurd (known (sym e))
-truth_is (value (list is)) t e known = absurd (known (sym e))
-truth_is (value (map es)) t e known = absurd (known (sym e))
-
--- the truth that decides, the other one, and neither, of each operator
-and_decided : (t : Truth) → and_side t ≡ Decides → t ≡ No
-and_decided Yes e = absurd (cc)
-and_decided No e = refl
-and_decided Other e = absurd (cc)
-
-and_left : (t : Truth) → and_side t ≡ Leaves → t ≡ Yes
-and_left Yes e = refl
-and_left No e = absurd (cc)
-and_left Other e = absurd (cc)
-
-and_neither : (t : Truth) → and_side t ≡ Neither → t ≡ Other
-and_neither Yes e = absurd (cc)
-and_neither No e = absurd (cc)
-and_neither Other e = refl
-
-or_decided : (t : Truth) → or_side t ≡ Decides → t ≡ Yes
-or_decided Yes e = refl
-or_decided No e = absurd (cc)
-or_decided Other e = absurd (cc)
-
-or_left : (t : Truth) → or_side t ≡ Leaves → t ≡ No
-or_left Yes e = absurd (cc)
-or_left No e = refl
-or_left Other e = absurd (cc)
-
-or_neither : (t : Truth) → or_side t ≡ Neither → t ≡ Other
-or_neither Yes e = absurd (cc)
-or_neither No e = absurd (cc)
-or_neither Other e = refl
-
-and_no : (t : Truth) → conjunction t No ≡ No
-and_no Yes = refl
-and_no No = refl
-and_no Other = refl
-
-or_yes : (t : Truth) → disjunction t Yes ≡ Yes
-or_yes Yes = refl
-or_yes No = refl
-or_yes Other = refl
-
-and_other_left : (t : Truth) → is_decides (and_side t) ≡ false → conjunction Other t ≡ Other
-and_other_left Yes e = refl
-and_other_left No e = absurd (cc)
-and_other_left Other e = refl
-
-and_other_right : (t : Truth) → is_decides (and_side t) ≡ false → conjunction t Other ≡ Other
-and_other_right Yes e = refl
-and_other_right No e = absurd (cc)
-and_other_right Other e = refl
-
-or_other_left : (t : Truth) → is_decides (or_side t) ≡ false → disjunction Other t ≡ Other
-or_other_left Yes e = absurd (cc)
-or_other_left No e = refl
-or_other_left Other e = refl
-
-or_other_right : (t : Truth) → is_decides (or_side t) ≡ false → disjunction t Other ≡ Other
-or_other_right Yes e = absurd (cc)
-or_other_right No e = refl
-or_other_right Other e = refl
-
-no_left : (t : Truth) → conjunction No t ≡ No
-no_left Yes = refl
-no_left No = refl
-no_left Other = refl
-
-yes_left : (t : Truth) → disjunction Yes t ≡ Yes
-yes_left Yes = refl
-yes_left No = refl
-yes_left Other = refl
-
-pub and_absorbs : Absorbing no_ref yes_ref and_of
-and_absorbs = record {
-  side = λ x. and_side (truth x);
-  of_error = refl;
-  tested = λ x r h. and_tested (truth x) (is_error x) r h;
-  left_decides = λ x y e. let t = and_decided (truth x) e in ap (λ (u : Truth). of_truth (conjunction u (truth y))) t ∙ ap of_truth (no_left (truth y)) ∙ truth_is x No t (λ h. absurd (cc));
-  right_decides = λ x y e. let t = and_decided (truth y) e in ap (λ (u : Truth). of_truth (conjunction (truth x) u)) t ∙ ap of_truth (and_no (truth x)) ∙ truth_is y No t (λ h. absurd (cc));
-  both_leave = λ x y e f. let t = and_left (truth x) e in let u = and_left (truth y) f in ap (λ (w : Truth). of_truth (conjunction w (truth y))) t ∙ ap (λ (w : Truth). of_truth (conjunction Yes w)) u ∙ truth_is y Yes u (λ h. absurd (cc));
-  one_leaves = λ x y e f. sym (truth_is x Yes (and_left (truth x) e) (λ h. absurd (cc))) ∙ truth_is y Yes (and_left (truth y) f) (λ h. absurd (cc));
-  left_neither = λ x y e f. ap (λ (w : Truth). of_truth (conjunction w (truth y))) (and_neither (truth x) e) ∙ ap of_truth (and_other_left (truth y) f);
-  right_neither = λ x y e f. ap (λ (w : Truth). of_truth (conjunction (truth x) w)) (and_neither (truth y) f) ∙ ap of_truth (and_other_right (truth x) e);
+absorbs : (b : Bool) → Absorbing (ref_of b) (ref_of (not b)) (λ x y. of_truth (joined_by b (truth x) (truth y)))
+absorbs b = record {
+  side = λ x. side_of b (truth x);
+  of_error = grind arith;
+  tested = λ x r h. grind arith;
+  left_decides = λ x y e. grind arith;
+  right_decides = λ x y e. grind arith;
+  both_leave = λ x y e f. grind arith;
+  one_leaves = λ x y e f. grind arith;
+  left_neither = λ x y e f. grind arith;
+  right_neither = λ x y e f. grind arith;
 }
 
-pub or_absorbs : Absorbing yes_ref no_ref or_of
-or_absorbs = record {
-  side = λ x. or_side (truth x);
-  of_error = refl;
-  tested = λ x r h. or_tested (truth x) (is_error x) r h;
-  left_decides = λ x y e. let t = or_decided (truth x) e in ap (λ (u : Truth). of_truth (disjunction u (truth y))) t ∙ ap of_truth (yes_left (truth y)) ∙ truth_is x Yes t (λ h. absurd (cc));
-  right_decides = λ x y e. let t = or_decided (truth y) e in ap (λ (u : Truth). of_truth (disjunction (truth x) u)) t ∙ ap of_truth (or_yes (truth x)) ∙ truth_is y Yes t (λ h. absurd (cc));
-  both_leave = λ x y e f. let t = or_left (truth x) e in let u = or_left (truth y) f in ap (λ (w : Truth). of_truth (disjunction w (truth y))) t ∙ ap (λ (w : Truth). of_truth (disjunction No w)) u ∙ truth_is y No u (λ h. absurd (cc));
-  one_leaves = λ x y e f. sym (truth_is x No (or_left (truth x) e) (λ h. absurd (cc))) ∙ truth_is y No (or_left (truth y) f) (λ h. absurd (cc));
-  left_neither = λ x y e f. ap (λ (w : Truth). of_truth (disjunction w (truth y))) (or_neither (truth x) e) ∙ ap of_truth (or_other_left (truth y) f);
-  right_neither = λ x y e f. ap (λ (w : Truth). of_truth (disjunction (truth x) w)) (or_neither (truth y) f) ∙ ap of_truth (or_other_right (truth x) e);
-}
+unfoldable pub and_absorbs : Absorbing no_ref yes_ref and_of
+unfolding absorbs
+and_absorbs = absorbs false
 
--- the truths that decide nothing
-pub true_leaves : is_decides (and_absorbs.side (value (boolean true))) ≡ false
-unfolding and_absorbs
-true_leaves = refl
-
-pub false_leaves : is_decides (or_absorbs.side (value (boolean false))) ≡ false
-unfolding or_absorbs
-false_leaves = refl
-
-pub true_answers : is_answer and_absorbs (value (boolean true)) ≡ true
-unfolding and_absorbs
-true_answers = refl
-
-pub false_answers : is_answer or_absorbs (value (boolean false)) ≡ true
-unfolding or_absorbs
-false_answers = refl
+unfoldable pub or_absorbs : Absorbing yes_ref no_ref or_of
+unfolding absorbs
+or_absorbs = absorbs true
 
 -- ---- the conditional
 
@@ -298,7 +188,7 @@ module _ (s : Setting) (p base : ℕ) (condition one other : List Insn) (c : Con
       let Q = Shows c depth base (ternary_of t x y) b in
       to_place s _ end_is
       (and_then s (2 + (chosen (truth t) n2 n3 0 + 1)) (chosen (truth t) x2 x3 0) end Q (gives_condition.runs b (stands_front s.image.code p condition _ has) fits) (λ b1 g1.
-      into s Q (λ b2 g2. record { shows = g2.shows; fits = g2.fits; keeps = keeps_then (omega arith) g1.keeps g2.keeps })
+      shown_behind s g1.keeps
       (chosen_runs (truth t) refl gives_one gives_other b1 g1.fits (told_in c depth base (b1.registers R0) t b1 g1.fits g1.shows))))
 
 ternary_gives : TernaryGives

@@ -16,7 +16,7 @@ use Rattle.codegen_base.specs.Engine.{Setting, Comes}
 use Rattle.codegen_base.specs.Loops.{AtTurn, with_item}
 use Rattle.codegen_base.specs.Pieces.{size, Stands}
 use Rattle.codegen_base.specs.Words.{word_at}
-use Rattle.codegen_base.proofs.Frames.{held_on}
+use Rattle.codegen_base.proofs.Frames.{held_on, path_on}
 use Rattle.codegen_base.proofs.Runs.{into}
 
 -- ---- a range that is named in a table has few items
@@ -57,7 +57,8 @@ fits_item c depth k n v b fits named = record {
   frame = fits.frame;
   values = fits.values;
   holds = record {
-    names = λ m. held_item depth k b v (bytes_eq n m) (lookup m c.words) (lookup m c.environment.items) named (fits.holds.names m);
+    names = λ m. held_item depth k b v (bytes_eq n m) (lookup m c.words.items) (lookup m c.environment.items) named (fits.holds.names m);
+    path = λ x at. absurd (cc);
     memos = fits.holds.memos;
   };
   constants = fits.constants;
@@ -71,7 +72,8 @@ fits_outside c depth k n v old new low first kept fits = record {
   values = fits.values;
   holds = record {
     names = λ m.
-        held_on depth k (k + 5) old new (lookup m c.words) (lookup m c.environment.items) (λ j inside. omega arith) (λ j u inside named. subst (λ (r : ℕ). Names new.values.values r (value u)) (sym (kept.words depth j (omega arith) (inr (refl, omega arith)))) (kept.values _ (value u) named)) (first.holds.names m);
+        held_on depth k (k + 5) old new (lookup m c.words.items) (lookup m c.environment.items) (λ j inside. omega arith) (λ j u inside named. subst (λ (r : ℕ). Names new.values.values r (value u)) (sym (kept.words depth j (omega arith) (inr (refl, omega arith)))) (kept.values _ (value u) named)) (first.holds.names m);
+    path = path_on c.words.path c.environment.roots c.environment.items depth k (k + 5) old new (λ j inside. omega arith) (λ j u inside named. subst (λ (r : ℕ). Names new.values.values r u) (sym (kept.words depth j (omega arith) (inr (refl, omega arith)))) (kept.values _ u named)) first.holds.path;
     memos = fits.holds.memos;
   };
   constants = fits.constants;

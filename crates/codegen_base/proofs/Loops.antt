@@ -34,23 +34,17 @@ use Rattle.codegen_base.proofs.Values.{names_error, small_reference}
 use Rattle.codegen_base.proofs.LoopItems.{few_items}
 
 pub either : {Q : Type 0} (b : Bool) → (b ≡ true → Q) → (b ≡ false → Q) → Q
-either true f g = f refl
-either false f g = g refl
+either b f g = grind arith
 
 by_range : {Q : Type 0} (o : Option (List Value)) → ((items : List Value) → o ≡ Some items → Q) → (o ≡ None → Q) → Q
-by_range (Some items) f g = f items refl
-by_range None f g = g refl
+by_range o f g = grind arith
 
 -- how many slots a loop and a fold have
 pub loop_size : (k : ℕ) (turn : List Insn) → size (loop_code k turn) ≡ 6 + (size turn + 6)
 loop_size k turn = size-append (loop_head k (size turn + 8)) (turn ++ loop_tail k (size turn + 7)) ∙ ap (λ (n : ℕ). 6 + n) (size-append turn (loop_tail k (size turn + 7)))
 
 pub fold_size : (k : ℕ) (range first turn : List Insn) → size (fold_code k range first turn) ≡ size range + (9 + (size first + (1 + size (loop_code k turn))))
-fold_size k range first turn =
-    let loop = loop_code k turn in
-    let put = Store Dw R10 (word_offset (k + 3)) R0 in
-    let tail = range_tail k (size first + size loop + 4) in
-    size-append range (tail ++ (first ++ (put ∷ loop))) ∙ ap (λ (n : ℕ). size range + n) (size-append tail (first ++ (put ∷ loop)) ∙ ap (λ (n : ℕ). 9 + n) (size-append first (put ∷ loop) ∙ ap (λ (n : ℕ). size first + n) (size-cons put loop)))
+fold_size k range first turn = grind (arith, size-append, size-cons)
 
 -- once the answer is the last, it stays
 fold_last : (f : ValueOrError → Value → ValueOrError) (is_last : ValueOrError → Bool) (acc : ValueOrError) (vs : List Value) → ((a : ValueOrError) (v : Value) → is_last a ≡ true → f a v ≡ a) → is_last acc ≡ true → fold_left f acc vs ≡ acc
@@ -64,16 +58,6 @@ pub record Turns (c : Context) (depth k : ℕ) (range : ValueOrError) (n i : ℕ
   pub count : word_at depth (k + 1) b ≡ n
   pub next : word_at depth (k + 2) b ≡ i
   pub so_far : Names b.values.values (word_at depth (k + 3) b) acc
-
--- only registers have changed
-turns_told : {c : Context} {depth k : ℕ} {range : ValueOrError} {n i : ℕ} {acc : ValueOrError} (b : Body) (registers : Register → ℕ) → registers R10 ≡ b.registers R10 → Turns c depth k range n i acc b → Turns c depth k range n i acc (record b { registers = registers })
-turns_told {c} {depth} {k} b registers same turns = record {
-  fits = fits_registers c depth k b registers same turns.fits;
-  names_range = turns.names_range;
-  count = turns.count;
-  next = turns.next;
-  so_far = turns.so_far;
-}
 
 -- ---- the end of a turn
 
@@ -145,6 +129,10 @@ module _ (s : Setting) (p k depth : ℕ) (turn : List Insn) (c : Context) (range
     pub left : (j : ℕ) (v : Value) → slice_get vs j ≡ Some v → slice_get items (i + j) ≡ Some v
     pub all : i + length vs ≡ length items
 
+  -- only registers have changed
+  told_before : {vs : List Value} {i : ℕ} {acc : ValueOrError} {b0 : Body} (b : Body) (registers : Register → ℕ) → registers R10 ≡ b.registers R10 → Before vs i acc b0 b → Before vs i acc b0 (record b { registers = registers })
+  told_before b registers pointer before = grind arith
+
   has_head : Stands s.image.code p head
   has_head = stands_front s.image.code p head _ has
 
@@ -163,10 +151,7 @@ module _ (s : Setting) (p k depth : ℕ) (turn : List Insn) (c : Context) (range
 
   -- the last place is that of no item
   at_end : (i : ℕ) (acc : ValueOrError) (b0 b : Body) → Before [] i acc b0 b → Turns c depth k range (length items) (length items) acc b
-  at_end i acc b0 b before =
-      let all = before.all in
-      let e : i ≡ length items = omega arith in
-      subst (λ (j : ℕ). Turns c depth k range (length items) j acc b) e before.turns
+  at_end i acc b0 b before = grind arith
 
   -- one turn, with its place in R2, and what comes behind it
   turn_runs : (v : Value) (vs : List Value) (i more more_charge : ℕ) (acc : ValueOrError) (b0 b : Body) → Before (v ∷ vs) i acc b0 b → b.registers R2 ≡ i
@@ -231,14 +216,15 @@ module _ (s : Setting) (p k depth : ℕ) (turn : List Insn) (c : Context) (range
 
   turns_run : (vs : List Value) (acc : ValueOrError) (b0 b : Body) → Before vs 0 acc b0 b → Comes s (loop_steps steps vs) (loop_charge charge vs) p b end (Result b0 vs acc)
   turns_run [] acc b0 b before =
-      let turns = at_end 0 acc b0 b before in
-      let frame = turns.fits.frame in
+      let frame = before.turns.fits.frame in
       let told = set_register (set_register b R1 (word_at depth (k + 1) b)) R2 (word_at depth (k + 2) b) in
+      let before1 = told_before b told.registers refl before in
+      let turns = at_end 0 acc b0 told before1 in
       begins has_head
       (load has_head 0 (k + 1) refl frame (omega arith) refl
       (load has_head 1 (k + 2) refl frame (omega arith) refl
       (step.branch_yes s (p + 2) (tail_place + 5) told Eq W64 R1 (Reg R2) (pos (size turn + 8)) (has_head.here 2 _ refl) (equal_yes _ _ (turns.count ∙ sym turns.next)) (omega (arith, ints))
-      (answers acc b0 told (keeps_then (omega arith) before.keeps (keeps_registers c depth k b told.registers refl (variable_count c))) (turns_told b told.registers refl turns)))))
+      (answers acc b0 told before1.keeps turns))))
   turns_run (v ∷ vs) acc b0 b before =
       let turns = before.turns in
       let all = before.all in
@@ -249,14 +235,7 @@ module _ (s : Setting) (p k depth : ℕ) (turn : List Insn) (c : Context) (range
       (load has_head 0 (k + 1) refl turns.fits.frame (omega arith) refl
       (load has_head 1 (k + 2) refl turns.fits.frame (omega arith) refl
       (no has_head 2 refl (equal_no (word_at depth (k + 1) b) (word_at depth (k + 2) b) (λ e. let count = turns.count in let next = turns.next in omega arith))
-      (turn_runs v vs 0 (next_steps steps vs) (loop_charge charge vs) acc b0 told (record {
-        keeps = keeps_then (omega arith) before.keeps (keeps_registers c depth k b told.registers refl (variable_count c));
-        turns = turns_told b told.registers refl turns;
-        not_last = before.not_last;
-        fine = before.fine;
-        left = before.left;
-        all = before.all;
-      }) turns.next (λ b1 before1 count1 next1.
+      (turn_runs v vs 0 (next_steps steps vs) (loop_charge charge vs) acc b0 told (told_before b told.registers refl before) turns.next (λ b1 before1 count1 next1.
       next_runs vs (0 + 1) (f acc v) b0 b1 before1 count1 next1))))))
 
 -- ---- the range and what comes before the first turn

@@ -8,8 +8,5 @@ pub mod Once
 pub mod AbsorbingTurn
 pub mod PushingTurn
 pub mod OnceTurn
-pub mod Quantifiers
-pub mod Lists
-pub mod ExistsOne
 pub mod MapsWhere
 pub mod All

@@ -1,5 +1,5 @@
 -- The code of a map literal gives the map of its entries, or the error where a key stands twice or is no text, or a part is the error.
-use Rattle.std.proofs.Common.{◌≡◌, ℕ, ◌+◌, max, ◌<◌, ◌≤◌, List, ◌∷◌, ◌++◌, Option, Some, None, Bool, true, false, refl, sym, subst, arith, append_assoc, leb-false, leb-true}
+use Rattle.std.proofs.Common.{◌≡◌, ℕ, ◌+◌, max, ◌<◌, ◌≤◌, List, ◌∷◌, ◌++◌, Option, Some, Bool, true, false, refl, sym, subst, arith, append_assoc, leb-false, leb-true}
 use Rattle.std.specs.Prelude.{is_some, nat_le, pos}
 use Rattle.std.specs.Prelude.{fold as fold_left}
 use Rattle.std.proofs.lemmas.Bool.{le-leb}
@@ -35,8 +35,7 @@ use Rattle.codegen_base.proofs.Runs.{and_then, done, into, looser, to_place}
 -- ---- how deep a map becomes
 
 grown_depth : (o : Option Value) (most : ℕ) → (is_some o ≡ true → Grows o most) → result_depth (value_or_error o) ≤ most
-grown_depth None most grows = omega arith
-grown_depth (Some v) most grows = let g = grows refl in let h = g.is v refl in omega arith
+grown_depth o most grows = grind arith
 
 put_depth : (m k x : ValueOrError) → result_depth (put_of m k x) ≤ max (result_depth m) (1 + result_depth x)
 put_depth m k x = grown_depth (entered (Some m) (Some k) (Some x)) (max (result_depth m) (1 + result_depth x)) (enters_by (Some m) (Some k) (Some x))

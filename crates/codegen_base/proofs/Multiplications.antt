@@ -1,6 +1,6 @@
 -- The code of products, quotients and remainders gives their meaning.
-use Rattle.std.proofs.Common.{◌≡◌, ℕ, ◌+◌, ◌^◌, ◌<◌, ◌≤◌, Bool, true, false, not, inl, inr, refl, sym, ap, ◌∙◌, subst, subst₂, arith}
-use Rattle.std.specs.Prelude.{ℤ, ◌*ℤ◌, if◌then◌else◌}
+use Rattle.std.proofs.Common.{◌≡◌, ℕ, ◌+◌, ◌^◌, ◌<◌, ◌≤◌, true, false, not, inl, inr, refl, sym, ap, ◌∙◌, subst, arith}
+use Rattle.std.specs.Prelude.{ℤ, ◌*ℤ◌}
 use Rattle.std.specs.Int.{w64, cast_signed, cast_unsigned}
 use Rattle.insn_codec.specs.declared.alu_op.AluOp.{AluOp}
 use Rattle.insn_codec.specs.declared.alu_op.AluOp.TheVariants.{Sdiv, Smod}
@@ -19,7 +19,8 @@ use Rattle.codegen_base.specs.Gives.Arithmetic.{ProductsGive}
 use Rattle.codegen_base.specs.Gives.Comparison.{TailGives}
 use Rattle.codegen_base.specs.Pieces.{Stands}
 use Rattle.codegen_base.proofs.Additions.{ints_give}
-use Rattle.codegen_base.proofs.IntWords.{fits_from, least, minus_one}
+use Rattle.codegen_base.proofs.IntWords.{least, minus_one}
+use Rattle.codegen_base.proofs.Ints.{fits_is, over}
 use Rattle.codegen_base.proofs.Listings.{alu, begins, load_wide, mov, no, yes}
 use Rattle.codegen_base.proofs.Loops.{either}
 use Rattle.codegen_base.proofs.Products.{Computes, Divided, IsFar, Multiplied, multiplied, quotient_divided, remainder_divided}
@@ -39,11 +40,7 @@ module _ (s : Setting) (c : Context) (depth k o : ℕ) (low : k ≤ 64) (m n : �
   Q = Shows c depth k (product m n) b
 
   exact_is : (w : ℕ) → w ≡ check.result → fits (m *ℤ n) ≡ true → value (int (cast_signed w64 w)) ≡ product m n
-  exact_is w e h =
-      ap (λ (r : ℕ). value (int (cast_signed w64 r))) e ∙ ap (λ (z : ℤ). value (int z)) (check.exact h) ∙ sym (ap (λ (t : Bool). if t then value (int (m *ℤ n)) else error) h)
-
-  over_is : fits (m *ℤ n) ≡ false → error ≡ product m n
-  over_is h = sym (ap (λ (t : Bool). if t then value (int (m *ℤ n)) else error) h)
+  exact_is w e h = grind arith
 
   module _ (registers : Register → ℕ) (pointer : registers R10 ≡ b.registers R10) (r1 : registers R1 ≡ check.result) where
     -- R1 has the product, which fits
@@ -53,7 +50,7 @@ module _ (s : Setting) (c : Context) (depth k o : ℕ) (low : k ≤ 64) (m n : �
 
     fails : fits (m *ℤ n) ≡ false → Comes s 1 0 (o + 12) (record b { registers = registers }) (o + 13) Q
     unfolding product_tail
-    fails h = answers_error s c depth k o low product_tail has 10 refl refl refl b registers (product m n) pointer fitting (over_is h)
+    fails h = answers_error s c depth k o low product_tail has 10 refl refl refl b registers (product m n) pointer fitting (over (m *ℤ n) h)
 
   -- the product is divided back
   divides : (registers : Register → ℕ) → registers R10 ≡ b.registers R10 → registers R1 ≡ check.result → registers R6 ≡ left → registers R7 ≡ right → compares W64 Eq right 0 ≡ false → IsFar left right → Comes s 5 1 (o + 7) (record b { registers = registers }) (o + 13) Q
@@ -93,10 +90,7 @@ module _ (s : Setting) (c : Context) (depth k o : ℕ) (low : k ≤ 64) (m n : �
 
 pub product_runs : (s : Setting) (p : ℕ) (c : Context) (depth k : ℕ) (m n : ℤ) → k ≤ 64 → OnInts s p product_tail c depth k m n (product m n) 11 1
 unfolding product_tail
-product_runs s p c depth k m n low = record {
-  runs = λ b has fits first second fm fn.
-      product_goes s c depth k p low m n has b fits (subst₂ (λ (u v : ℕ). Multiplied u v (m *ℤ n)) (sym first) (sym second) (multiplied m n (fits_from m fm) (fits_from n fn)));
-}
+product_runs s p c depth k m n low = grind (arith, product_goes, multiplied, fits_is)
 
 -- ---- quotients and remainders
 
@@ -132,10 +126,7 @@ module _ (op : AluOp) (s : Setting) (c : Context) (depth k o : ℕ) (low : k ≤
       (λ far. no has 4 refl far (computes loaded.registers refl refl refl (check.computes some (inr far))))))))))
 
 divided_runs : (op : AluOp) (f : ℤ → ℤ → ValueOrError) → ((m n : ℤ) → fits m ≡ true → fits n ≡ true → Divided op (cast_unsigned w64 m) (cast_unsigned w64 n) (f m n)) → (s : Setting) (p : ℕ) (c : Context) (depth k : ℕ) (m n : ℤ) → k ≤ 64 → OnInts s p (divided_tail op) c depth k m n (f m n) 8 1
-divided_runs op f check s p c depth k m n low = record {
-  runs = λ b has fits first second fm fn.
-      divided_goes op s c depth k p low (f m n) has b fits (subst₂ (λ (u v : ℕ). Divided op u v (f m n)) (sym first) (sym second) (check m n (fits_from m fm) (fits_from n fn)));
-}
+divided_runs op f check s p c depth k m n low = grind (arith, divided_goes, fits_is)
 
 pub quotient_runs : (s : Setting) (p : ℕ) (c : Context) (depth k : ℕ) (m n : ℤ) → k ≤ 64 → OnInts s p (divided_tail Sdiv) c depth k m n (quotient m n) 8 1
 quotient_runs = divided_runs Sdiv quotient quotient_divided

@@ -1,13 +1,12 @@
 -- The code of negatives gives their meaning.
-use Rattle.std.proofs.Common.{◌≡◌, ℕ, suc, ◌+◌, ◌≤◌, List, Option, Some, None, Bool, false, refl, sym, ap, ◌∙◌, subst, arith}
-use Rattle.std.specs.Prelude.{ℤ, pos, neg_ℤ, slice_get, if◌then◌else◌}
+use Rattle.std.proofs.Common.{◌≡◌, ℕ, suc, ◌+◌, ◌≤◌, List, Option, Some, None, false, refl, ap, ◌∙◌, subst, arith}
+use Rattle.std.specs.Prelude.{ℤ, pos, neg_ℤ, slice_get}
 use Rattle.std.specs.Int.{w64, cast_signed}
 use Rattle.helper_table.specs.Conversions.{kind_number}
 use Rattle.helper_table.specs.Laws.{Names}
 use Rattle.insn_codec.specs.declared.comparison.Comparison.TheVariants.{Eq}
 use Rattle.insn_codec.specs.declared.insn.Insn.{Insn}
 use Rattle.insn_codec.specs.declared.insn.Insn.TheVariants.{Neg}
-use Rattle.insn_codec.specs.declared.operand.Operand.TheVariants.{Reg}
 use Rattle.insn_codec.specs.declared.register.Register.{Register}
 use Rattle.insn_codec.specs.declared.register.Register.TheVariants.{R1, R2, R6}
 use Rattle.insn_codec.specs.declared.width.Width.{Width}
@@ -16,9 +15,9 @@ use Rattle.loader.specs.Contents as loader
 use Rattle.value_store.specs.Seen.{seen}
 use Rattle.value_store.specs.Value.{ValueOrError, error, value, int}
 use Rattle.bpf_machine.specs.Arithmetic.{neg_row}
-use Rattle.bpf_machine.specs.Operands.{is_frame_pointer, result_in}
+use Rattle.bpf_machine.specs.Operands.{is_frame_pointer}
 use Rattle.bpf_machine.specs.Words.{compares, negated}
-use Rattle.cel_macros.specs.Arithmetic.{fits, int_or_error, int_part, negation}
+use Rattle.cel_macros.specs.Arithmetic.{int_or_error, int_part, negation}
 use Rattle.codegen_base.specs.Body.{Body, at, set_register}
 use Rattle.codegen_base.specs.Calls.{answered}
 use Rattle.codegen_base.specs.Code.Arithmetic.{least_word, negation_tail}
@@ -27,22 +26,23 @@ use Rattle.codegen_base.specs.Engine.{Setting, Comes}
 use Rattle.codegen_base.specs.Gives.Arithmetic.{NegationGives}
 use Rattle.codegen_base.specs.Pieces.{Stands, slots}
 use Rattle.codegen_base.proofs.Additions.{int_fits}
-use Rattle.codegen_base.proofs.Effects.{does, operand_is, result_is}
+use Rattle.codegen_base.proofs.Effects.{does}
 use Rattle.codegen_base.proofs.Frames.{fits_registers, keeps_registers, keeps_then}
 use Rattle.codegen_base.proofs.HelperAnswers.{helpers}
-use Rattle.codegen_base.proofs.IntWords.{Negated, fits_from, least, negated_is, word}
+use Rattle.codegen_base.proofs.IntWords.{Negated, least, negated_is, word}
+use Rattle.codegen_base.proofs.Ints.{exact, fits_is, over}
 use Rattle.codegen_base.proofs.Listings.{ask, begins, load_wide, mov, no, yes}
 use Rattle.codegen_base.proofs.Loops.{either}
 use Rattle.codegen_base.proofs.Operands.{fits_told, int_is, keeps_told, kind_of_int, kind_of_other}
-use Rattle.codegen_base.proofs.Runs.{into, looser, one}
+use Rattle.codegen_base.proofs.Pieces.{shown_behind}
+use Rattle.codegen_base.proofs.Runs.{looser, one}
 use Rattle.codegen_base.proofs.Sums.{answers_error, answers_int}
 
 -- ---- the instruction
 
 neg_does : (image : loader.Contents) (p : ℕ) (b : Body) (width : Width) (dst : Register) → is_frame_pointer dst ≡ false → neg_row width dst (at image p b) ≡ at image (p + 1) (set_register b dst (negated width (b.registers dst)))
 unfolding neg_row
-neg_does image p b width dst free =
-    ap (λ (w : ℕ). result_in dst (negated width w) (at image p b)) (operand_is image p b (Reg dst)) ∙ result_is image p b dst (negated width (b.registers dst)) free
+neg_does image p b width dst free = grind arith
 
 neg : {s : Setting} {o : ℕ} {piece : List Insn} {n x p' : ℕ} {b : Body} {Q : Body → Type 0} (has : Stands s.image.code o piece) {width : Width} {dst : Register} (k : ℕ) → slice_get (slots piece) k ≡ Some (Some (Neg width dst)) → is_frame_pointer dst ≡ false → Comes s n x (o + (k + 1)) (set_register b dst (negated width (b.registers dst))) p' Q → Comes s (suc n) x (o + k) b p' Q
 neg {s} {o} {piece} {n} {x} {p'} {b} {Q} has {width} {dst} k h free c =
@@ -66,12 +66,11 @@ module _ (s : Setting) (c : Context) (depth base o : ℕ) (low : base ≤ 64) (h
       let t = helpers.kind c.environment.roots asks x fits1.values named in
       let told = answered asks w b.values.values (b.values.charge + 1) in
       let kept = keeps_then (omega arith) (keeps_registers c depth base b asks.registers refl (variable_count c)) (keeps_told c depth base (pos 1) w 1 asks t) in
-      let Q = Shows c depth base error b in
       looser s 11 3 (omega arith) (omega arith) (begins has
       (mov has 0 refl refl
       (ask has 1 refl t.answers (λ paid.
       yes has 2 9 refl (kind_of_other x none)
-      (into s Q (λ b1 g1. record { shows = g1.shows; fits = g1.fits; keeps = keeps_then (omega arith) kept g1.keeps })
+      (shown_behind s kept
       (answers_error s c depth base o low negation_tail has 10 refl refl refl told told.registers error refl (fits_told c depth base (pos 1) w 1 asks t paid fits1) refl))))))
 
   module _ (z : ℤ) (is : int_part x ≡ Some z) where
@@ -79,15 +78,10 @@ module _ (s : Setting) (c : Context) (depth base o : ℕ) (low : base ≤ 64) (h
     holds = subst (Names b.values.values (b.registers R6)) (int_is x z is) named
 
     check : Negated (word z) z
-    check = negated_is z (fits_from z (int_fits c depth base (b.registers R6) x z b fitting named is))
+    check = negated_is z (fits_is z (int_fits c depth base (b.registers R6) x z b fitting named is))
 
     exact_is : compares W64 Eq (word z) least ≡ false → value (int (cast_signed w64 (negated W64 (word z)))) ≡ int_or_error (neg_ℤ z)
-    exact_is h =
-        let exact = check.exact h in
-        ap (λ (n : ℤ). value (int n)) exact.1 ∙ sym (ap (λ (t : Bool). if t then value (int (neg_ℤ z)) else error) exact.0)
-
-    over_is : fits (neg_ℤ z) ≡ false → error ≡ int_or_error (neg_ℤ z)
-    over_is h = sym (ap (λ (t : Bool). if t then value (int (neg_ℤ z)) else error) h)
+    exact_is h = grind (arith, check, exact)
 
     of_int : Comes s 11 3 o b (o + 13) (Shows c depth base (int_or_error (neg_ℤ z)) b)
     unfolding negation_tail
@@ -98,7 +92,6 @@ module _ (s : Setting) (c : Context) (depth base o : ℕ) (low : base ≤ 64) (h
         let told = answered asks w b.values.values (charge + 1) in
         let asks2 = set_register told R1 (b.registers R6) in
         let told2 = answered asks2 (word z) b.values.values (charge + 1 + 1) in
-        let Q = Shows c depth base (int_or_error (neg_ℤ z)) b in
         begins has
         (mov has 0 refl refl
         (ask has 1 refl t.answers (λ paid.
@@ -113,11 +106,11 @@ module _ (s : Setting) (c : Context) (depth base o : ℕ) (low : base ≤ 64) (h
         let last = set_register loaded R1 (negated W64 (word z)) in
         mov has 5 refl refl
         (load_wide has 6 refl refl
-        (into s Q (λ b1 g1. record { shows = g1.shows; fits = g1.fits; keeps = keeps_then (omega arith) kept g1.keeps })
+        (shown_behind s kept
         (either (compares W64 Eq (word z) least)
         (λ lowest. looser s 4 1 (omega arith) (omega arith)
         (yes has 8 3 refl lowest
-        (answers_error s c depth base o low negation_tail has 10 refl refl refl told2 loaded.registers (int_or_error (neg_ℤ z)) refl fits3 (over_is (check.over lowest)))))
+        (answers_error s c depth base o low negation_tail has 10 refl refl refl told2 loaded.registers (int_or_error (neg_ℤ z)) refl fits3 (over (neg_ℤ z) (check.over lowest)))))
         (λ other. no has 8 refl other
         (neg has 9 refl refl
         (answers_int s c depth base o low negation_tail has 10 refl refl refl told2 last.registers (int_or_error (neg_ℤ z)) refl fits3 check.small (exact_is other)))))))))))))
@@ -128,6 +121,4 @@ module _ (s : Setting) (c : Context) (depth base o : ℕ) (low : base ≤ 64) (h
 
 pub negation_gives : NegationGives
 unfolding negation_tail
-negation_gives s p c depth base x low = record {
-  runs = λ b has fits named. by_part s c depth base p low has b fits x named (int_part x) refl;
-}
+negation_gives s p c depth base x low = grind (arith, by_part)

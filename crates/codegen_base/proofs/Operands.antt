@@ -1,5 +1,5 @@
 -- Two operands as ints.
-use Rattle.std.proofs.Common.{◌≡◌, ℕ, ◌+◌, ◌≤◌, Option, Some, None, true, false, refl, ap, subst, arith, inl, inr}
+use Rattle.std.proofs.Common.{◌≡◌, ℕ, ◌+◌, ◌≤◌, Option, Some, None, true, false, refl, subst, arith}
 use Rattle.std.specs.Prelude.{◌⊎◌, ℤ, pos}
 use Rattle.std.specs.Int.{w64, cast_unsigned}
 use Rattle.helper_table.specs.Conversions.{kind_number}
@@ -10,7 +10,7 @@ use Rattle.insn_codec.specs.declared.register.Register.TheVariants.{R1, R6, R7}
 use Rattle.insn_codec.specs.declared.width.Width.TheVariants.{W64}
 use Rattle.value_store.specs.Placing.{charge_limit}
 use Rattle.value_store.specs.Seen.{seen}
-use Rattle.value_store.specs.Value.{ValueOrError, error, value, null, boolean, int, text, list, map}
+use Rattle.value_store.specs.Value.{ValueOrError, value, int}
 use Rattle.cel_macros.specs.Arithmetic.{int_part}
 use Rattle.bpf_machine.specs.Words.{compares}
 use Rattle.codegen_base.specs.Body.{Body, set_register}
@@ -37,25 +37,13 @@ module _ (c : Context) (depth base : ℕ) (helper : ℤ) (w cost : ℕ) (b : Bod
 -- ---- the kind of an int
 
 pub int_is : (x : ValueOrError) (z : ℤ) → int_part x ≡ Some z → x ≡ value (int z)
-int_is error z e = absurd (cc)
-int_is (value null) z e = absurd (cc)
-int_is (value (boolean b)) z e = absurd (cc)
-int_is (value (int a)) z e = let same : a ≡ z = cc in ap (λ (n : ℤ). value (int n)) same
-int_is (value (text s)) z e = absurd (cc)
-int_is (value (list is)) z e = absurd (cc)
-int_is (value (map es)) z e = absurd (cc)
+int_is x z e = grind arith
 
 pub kind_of_int : (x : ValueOrError) (z : ℤ) → int_part x ≡ Some z → compares W64 Ne (kind_number (seen x)) 3 ≡ false
 kind_of_int x z e = rw (int_is x z e) (differs_no 3 3 refl)
 
 pub kind_of_other : (x : ValueOrError) → int_part x ≡ None → compares W64 Ne (kind_number (seen x)) 3 ≡ true
-kind_of_other error e = differs_yes 0 3 (λ h. omega arith)
-kind_of_other (value null) e = differs_yes 1 3 (λ h. omega arith)
-kind_of_other (value (boolean b)) e = differs_yes 2 3 (λ h. omega arith)
-kind_of_other (value (int a)) e = absurd (cc)
-kind_of_other (value (text s)) e = differs_yes 4 3 (λ h. omega arith)
-kind_of_other (value (list is)) e = differs_yes 5 3 (λ h. omega arith)
-kind_of_other (value (map es)) e = differs_yes 6 3 (λ h. omega arith)
+kind_of_other x none = grind (arith, differs_yes)
 
 -- ---- both operands are ints, or not
 
@@ -134,10 +122,7 @@ module _ (s : Setting) (c : Context) (depth k o off : ℕ) (has : Stands s.image
       (done s (o + (12 + off)) told2 AreOthers (record { first = left; second = right; fitting = fits3 paid paid2; keeps = keeps3 paid }))))))))))
 
   pub are_others : (m n : Option ℤ) → int_part x ≡ m → int_part y ≡ n → (m ≡ None) ⊎ (n ≡ None) → Comes s 6 2 o b (o + (12 + off)) AreOthers
-  are_others None n is_x is_y either = first_other is_x
-  are_others (Some m) None is_x is_y either = second_other m is_x is_y
-  are_others (Some m) (Some n) is_x is_y (inl e) = absurd (cc)
-  are_others (Some m) (Some n) is_x is_y (inr e) = absurd (cc)
+  are_others m n is_x is_y either = grind (arith, first_other, second_other)
 
   pub are_ints : (m n : ℤ) → int_part x ≡ Some m → int_part y ≡ Some n → Comes s 12 4 o b (o + 12) (AreInts m n)
   are_ints m n is_x is_y =

@@ -19,8 +19,8 @@ use Rattle.codegen_base.specs.Pieces.{Stands, size}
 use Rattle.codegen_base.proofs.Frames.{fits_answered, fits_registers, keeps_answered, keeps_registers, keeps_then}
 use Rattle.codegen_base.proofs.Listings.{ask, begins, mov}
 use Rattle.codegen_base.proofs.Loaded.{operand_runs, operands_run}
-use Rattle.codegen_base.proofs.Pieces.{size-append, stands_back, stands_front}
-use Rattle.codegen_base.proofs.Runs.{and_then, done, into, looser, to_place}
+use Rattle.codegen_base.proofs.Pieces.{runs_both, shown_behind}
+use Rattle.codegen_base.proofs.Runs.{done, looser}
 
 -- a helper has placed its answer in R0, with other registers than at the start
 pub shows_placed : (c : Context) (depth base : ℕ) (helper : ℤ) (x : ValueOrError) (cost : ℕ) (b : Body) (registers : Register → ℕ) → base ≤ 64 → registers R10 ≡ b.registers R10 → Fits c depth base b → (a : Places helper (record b { registers = registers }) x cost) → b.values.charge + cost ≤ charge_limit → Shows c depth base x b (answered (record b { registers = registers }) a.word a.list (b.values.charge + cost))
@@ -37,61 +37,38 @@ shows_placed c depth base helper x cost b registers low pointer fits a paid =
 pub one_gives : OneGives
 one_gives s p l operand piece r c depth base x z n1 x1 n2 x2 free leaf gives converts = record {
   runs = λ b has fits.
-      let first = operand_code l operand r in
-      let q = p + size first in
-      let place : q + size piece ≡ p + size (first ++ piece) = omega (arith, size-append first piece) in
-      let Q = Shows c depth base z b in
-      to_place s _ place
-      (looser s {n = n1 + 1 + n2} {x = x1 + x2} (n1 + (1 + n2)) (x1 + x2) (omega arith) (omega arith)
-      (and_then s n2 x2 (q + size piece) Q (operand_runs s p r free c depth base x n1 x1 l operand leaf gives b (stands_front s.image.code p first piece has) fits) (λ b1 g1.
-      into s Q (λ b2 g2. record { shows = g2.shows; fits = g2.fits; keeps = keeps_then (omega arith) g1.keeps g2.keeps }) (converts.runs b1 (stands_back s.image.code p first piece has) g1.fits g1.named))));
+      looser s {n = n1 + 1 + n2} {x = x1 + x2} (n1 + (1 + n2)) (x1 + x2) (omega arith) (omega arith)
+      (runs_both s p (operand_code l operand r) piece n2 x2 (Shows c depth base z b) has
+      (λ front. operand_runs s p r free c depth base x n1 x1 l operand leaf gives b front fits)
+      (λ b1 back g. shown_behind s g.keeps (converts.runs b1 back g.fits g.named)));
 }
 
 -- code and a piece behind it that reads R0
 pub result_gives : (s : Setting) (p : ℕ) (first second : List Insn) (c : Context) (depth base : ℕ) (x z : ValueOrError) (n1 x1 n2 x2 : ℕ) → Gives s p first c depth base x n1 x1 → Converts s (p + size first) second R0 c depth base x z n2 x2 → Gives s p (first ++ second) c depth base z (n1 + n2) (x1 + x2)
 result_gives s p first second c depth base x z n1 x1 n2 x2 gives converts = record {
   runs = λ b has fits.
-      let q = p + size first in
-      let place : q + size second ≡ p + size (first ++ second) = omega (arith, size-append first second) in
-      let Q = Shows c depth base z b in
-      to_place s _ place
-      (and_then s n2 x2 (q + size second) Q (gives.runs b (stands_front s.image.code p first second has) fits) (λ b1 g1.
-      into s Q (λ b2 g2. record { shows = g2.shows; fits = g2.fits; keeps = keeps_then (omega arith) g1.keeps g2.keeps }) (converts.runs b1 (stands_back s.image.code p first second has) g1.fits g1.shows)));
+      runs_both s p first second n2 x2 (Shows c depth base z b) has (λ front. gives.runs b front fits) (λ b1 back g. shown_behind s g.keeps (converts.runs b1 back g.fits g.shows));
 }
 
 pub two_gives : TwoGives
 two_gives s p k l left m right piece r q c depth x y z n1 x1 n2 x2 n3 x3 low apart leaf gives_left leaf_right gives_right combines = record {
   runs = λ b has fits.
-      let first = operands_code l left m right k r q in
-      let p1 = p + size first in
-      let place : p1 + size piece ≡ p + size (first ++ piece) = omega (arith, size-append first piece) in
-      let Q = Shows c depth k z b in
-      to_place s _ place
-      (looser s {n = n1 + (1 + (n2 + 2)) + n3} {x = x1 + x2 + x3} (n1 + (1 + (n2 + (2 + n3)))) (x1 + (x2 + x3)) (omega arith) (omega arith)
-      (and_then s n3 x3 (p1 + size piece) Q (operands_run s c depth k r q apart x y p n1 x1 n2 x2 l left m right low leaf gives_left leaf_right gives_right b (stands_front s.image.code p first piece has) fits) (λ b1 g1.
-      into s Q (λ b2 g2. record { shows = g2.shows; fits = g2.fits; keeps = keeps_then (omega arith) g1.keeps g2.keeps }) (combines.runs b1 (stands_back s.image.code p first piece has) g1.fits g1.first g1.second))));
+      looser s {n = n1 + (1 + (n2 + 2)) + n3} {x = x1 + x2 + x3} (n1 + (1 + (n2 + (2 + n3)))) (x1 + (x2 + x3)) (omega arith) (omega arith)
+      (runs_both s p (operands_code l left m right k r q) piece n3 x3 (Shows c depth k z b) has
+      (λ front. operands_run s c depth k r q apart x y p n1 x1 n2 x2 l left m right low leaf gives_left leaf_right gives_right b front fits)
+      (λ b1 back g. shown_behind s g.keeps (combines.runs b1 back g.fits g.first g.second)));
 }
 
 pub converts_then : ConvertsThen
 converts_then s p first second r c depth base x y z n1 x1 n2 x2 before after = record {
   runs = λ b has fits named.
-      let q = p + size first in
-      let place : q + size second ≡ p + size (first ++ second) = omega (arith, size-append first second) in
-      let Q = Shows c depth base z b in
-      to_place s _ place
-      (and_then s n2 x2 (q + size second) Q (before.runs b (stands_front s.image.code p first second has) fits named) (λ b1 g1.
-      into s Q (λ b2 g2. record { shows = g2.shows; fits = g2.fits; keeps = keeps_then (omega arith) g1.keeps g2.keeps }) (after.runs b1 (stands_back s.image.code p first second has) g1.fits g1.shows)));
+      runs_both s p first second n2 x2 (Shows c depth base z b) has (λ front. before.runs b front fits named) (λ b1 back g. shown_behind s g.keeps (after.runs b1 back g.fits g.shows));
 }
 
 pub combines_then : CombinesThen
 combines_then s p k first second r q c depth x y w z n1 x1 n2 x2 before after = record {
   runs = λ b has fits left right.
-      let p1 = p + size first in
-      let place : p1 + size second ≡ p + size (first ++ second) = omega (arith, size-append first second) in
-      let Q = Shows c depth k z b in
-      to_place s _ place
-      (and_then s n2 x2 (p1 + size second) Q (before.runs b (stands_front s.image.code p first second has) fits left right) (λ b1 g1.
-      into s Q (λ b2 g2. record { shows = g2.shows; fits = g2.fits; keeps = keeps_then (omega arith) g1.keeps g2.keeps }) (after.runs b1 (stands_back s.image.code p first second has) g1.fits g1.shows)));
+      runs_both s p first second n2 x2 (Shows c depth k z b) has (λ front. before.runs b front fits left right) (λ b1 back g. shown_behind s g.keeps (after.runs b1 back g.fits g.shows));
 }
 
 -- ---- calls of helpers on what stands in their registers

@@ -16,8 +16,9 @@ use Rattle.value_store.specs.Value.{ValueOrError, error, value, int}
 use Rattle.cel_macros.specs.Arithmetic.{fits, int_or_error, is_zero, quotient, remainder}
 use Rattle.bpf_machine.specs.Words.{alu_result, compares}
 use Rattle.codegen_base.proofs.Effects.{differs_no, differs_yes}
-use Rattle.codegen_base.proofs.IntWords.{different, fits_from, fits_into, from_word, is_nothing, is_something, least, minus_one, not_different, not_equal, number, number_fits, number_word, word, word_small}
+use Rattle.codegen_base.proofs.IntWords.{different, fits_into, from_word, is_nothing, is_something, least, minus_one, not_different, not_equal, number, number_fits, number_word, word, word_small}
 use Rattle.codegen_base.proofs.Effects.{equal_is}
+use Rattle.codegen_base.proofs.Ints.{fits_is}
 use Rattle.codegen_base.proofs.Loops.{either}
 
 -- ---- quotients, and dividing products back
@@ -47,16 +48,7 @@ first_factor (negsuc a) (negsuc b) some =
 
 -- a quotient is no greater than its dividend, and less but for divisors of 1 and -1
 quotient_small : (x y : ℤ) → fits x ≡ true → (x ≡ negsuc (2 ^ 63 - 1) → y ≡ negsuc 0 → ⊥) → fits (int_div x y) ≡ true
-quotient_small (pos a) (pos b) h far = let small = div-le_self a b in grind arith
-quotient_small (pos a) (negsuc b) h far = let small = div-le_self a (suc b) in grind (arith, ints)
-quotient_small (negsuc a) (pos b) h far = let small = div-le_self (suc a) b in grind (arith, ints)
-quotient_small (negsuc a) (negsuc zero) h far =
-    let one = cancel (suc a) 0 in
-    either (nat_lt (suc a) (2 ^ 63)) (λ t. grind arith) (λ f. absurd (far (ap negsuc (grind arith)) refl))
-quotient_small (negsuc a) (negsuc (suc b)) h far =
-    let whole = div-add-mod' (suc a) (suc (suc b)) in
-    let two : ((suc a) / suc (suc b)) * 2 ≤ ((suc a) / suc (suc b)) * suc (suc b) = mul-le-mul_left ((suc a) / suc (suc b)) (omega arith) in
-    grind arith
+quotient_small x y small far = grind (arith, ints, cancel, either)
 
 -- where a quotient of two ints has the word of x, it is x, unless the divisor is -1 and x the least int
 same_quotient : (t x y : ℤ) → fits t ≡ true → fits x ≡ true → (x ≡ negsuc (2 ^ 63 - 1) → y ≡ negsuc 0 → ⊥) → word_of 64 (int_div t y) ≡ word x → int_div t y ≡ x
@@ -139,9 +131,7 @@ module _ (x y : ℤ) (hx : fits x ≡ true) (hy : fits y ≡ true) where
       no_rest (x *ℤ y) (int_rem t y) t whole (int_wrap_fits w64 t (fits_into t (number_fits times)) ∙ times_wraps) (rest_fits some)
 
   back_computed : (y ≡ pos 0 → ⊥) → compares W64 Eq (word y) 0 ≡ false → alu_result W64 Sdiv times (word y) ≡ word_of 64 (int_div (number times) y)
-  back_computed some h =
-      quotient_computed times (word y) times_small (word_small y hy) (not_equal (word y) 0 h)
-      ∙ ap (λ (d : ℤ). word_of 64 (int_div (number times) d)) (number_word y hy)
+  back_computed some h = grind (arith, quotient_computed, times_small, word_small, not_equal, number_word)
 
   back_tells : (f : Bool) → fits (x *ℤ y) ≡ f → compares W64 Eq (word y) 0 ≡ false → IsFar (word x) (word y)
       → compares W64 Ne (alu_result W64 Sdiv times (word y)) (word x) ≡ not f
@@ -188,13 +178,11 @@ pub record Divided (op : AluOp) (a b : ℕ) (v : ValueOrError) : Type 0 where
   pub computes : compares W64 Eq b 0 ≡ false → IsFar a b → Computes op a b v
 
 zero_no : (y : ℤ) → (y ≡ pos 0 → ⊥) → is_zero y ≡ false
-zero_no (pos zero) some = absurd (some refl)
-zero_no (pos (suc n)) some = grind arith
-zero_no (negsuc n) some = refl
+zero_no y some = grind arith
 
 module _ (x y : ℤ) (hx : fits x ≡ true) (hy : fits y ≡ true) where
   remainder_fits : fits (int_rem x y) ≡ true
-  remainder_fits = fits_from (int_rem x y) (record { sfits = omega (arith, mag_rem x y, (fits_into x hx).sfits) })
+  remainder_fits = fits_is (int_rem x y) (record { sfits = omega (arith, mag_rem x y, (fits_into x hx).sfits) })
 
   quotient_is : (y ≡ pos 0 → ⊥) → fits (int_div x y) ≡ true → value (int (int_div x y)) ≡ quotient x y
   quotient_is some h = sym (ap (λ (t : Bool). if t then error else int_or_error (int_div x y)) (zero_no y some) ∙ ap (λ (t : Bool). if t then value (int (int_div x y)) else error) h)
@@ -208,40 +196,32 @@ module _ (x y : ℤ) (hx : fits x ≡ true) (hy : fits y ≡ true) where
   y_is : compares W64 Ne (word y) minus_one ≡ false → y ≡ negsuc 0
   y_is h = from_word y hy minus_one (not_different (word y) minus_one h)
 
-  quotient_computes : compares W64 Eq (word y) 0 ≡ false → IsFar (word x) (word y) → Computes Sdiv (word x) (word y) (quotient x y)
-  quotient_computes h far =
-      let some = is_something y hy h in
-      let small = quotient_small x y hx (far_from x y far) in
-      record {
-        result = word (int_div x y);
-        computed = quotient_computed (word x) (word y) (word_small x hx) (word_small y hy) (not_equal (word y) 0 h)
-            ∙ ap₂ (λ (m n : ℤ). word_of 64 (int_div m n)) (number_word x hx) (number_word y hy) ∙ number_word_of (int_div x y) small;
-        small = word_small (int_div x y) small;
-        exact = ap (λ (z : ℤ). value (int z)) (number_word (int_div x y) small) ∙ quotient_is some small;
-      }
-
-  remainder_computes : compares W64 Eq (word y) 0 ≡ false → IsFar (word x) (word y) → Computes Smod (word x) (word y) (remainder x y)
-  remainder_computes h far =
-      let some = is_something y hy h in
-      let small = quotient_small x y hx (far_from x y far) in
-      record {
-        result = word (int_rem x y);
-        computed = remainder_computed (word x) (word y) (word_small x hx) (word_small y hy) (not_equal (word y) 0 h)
-            ∙ ap₂ (λ (m n : ℤ). word_of 64 (int_rem m n)) (number_word x hx) (number_word y hy) ∙ number_word_of (int_rem x y) remainder_fits;
-        small = word_small (int_rem x y) remainder_fits;
-        exact = ap (λ (z : ℤ). value (int z)) (number_word (int_rem x y) remainder_fits) ∙ remainder_is some small;
-      }
+  -- a division by what is not zero, whose result fits
+  computes : (op : AluOp) (divide : ℤ → ℤ → ℤ) (v : ValueOrError) → alu_result W64 op (word x) (word y) ≡ word_of 64 (divide (number (word x)) (number (word y)))
+      → fits (divide x y) ≡ true → value (int (divide x y)) ≡ v → Computes op (word x) (word y) v
+  computes op divide v computed small is = record {
+    result = word (divide x y);
+    computed = computed ∙ ap₂ (λ (m n : ℤ). word_of 64 (divide m n)) (number_word x hx) (number_word y hy) ∙ number_word_of (divide x y) small;
+    small = word_small (divide x y) small;
+    exact = ap (λ (z : ℤ). value (int z)) (number_word (divide x y) small) ∙ is;
+  }
 
   pub quotient_divided : Divided Sdiv (word x) (word y) (quotient x y)
   quotient_divided = record {
     of_zero = λ h. ap (quotient x) (is_nothing y hy h);
     over = λ h1 h2. ap₂ quotient (x_is h2) (y_is h1);
-    computes = quotient_computes;
+    computes = λ h far.
+        let some = is_something y hy h in
+        let small = quotient_small x y hx (far_from x y far) in
+        computes Sdiv int_div _ (quotient_computed (word x) (word y) (word_small x hx) (word_small y hy) (not_equal (word y) 0 h)) small (quotient_is some small);
   }
 
   pub remainder_divided : Divided Smod (word x) (word y) (remainder x y)
   remainder_divided = record {
     of_zero = λ h. ap (remainder x) (is_nothing y hy h);
     over = λ h1 h2. ap₂ remainder (x_is h2) (y_is h1);
-    computes = remainder_computes;
+    computes = λ h far.
+        let some = is_something y hy h in
+        let small = quotient_small x y hx (far_from x y far) in
+        computes Smod int_rem _ (remainder_computed (word x) (word y) (word_small x hx) (word_small y hy) (not_equal (word y) 0 h)) remainder_fits (remainder_is some small);
   }

@@ -14,12 +14,13 @@ use Rattle.codegen_base.specs.Calls.{entered, resumed}
 use Rattle.codegen_base.specs.Contexts.{Context, Fits, Gives, IsMemo, Shows}
 use Rattle.codegen_base.specs.Engine.{Reaches, Setting}
 use Rattle.codegen_base.specs.FirstUses.{FirstUse, StayFilled}
+use Rattle.codegen_base.specs.Paths.{Kept}
 use Rattle.codegen_base.specs.Pieces.{Stands, size}
 use Rattle.codegen_base.specs.Scopes.{RoutineReturns, Variable, bindings}
 use Rattle.codegen_base.specs.Variables.{memo_tail, routine_context, used_context, with_variables}
 use Rattle.codegen_base.specs.Words.{memo_address, memo_at, set_memo}
 use Rattle.codegen_base.proofs.Effects.{add_is}
-use Rattle.codegen_base.proofs.Frames.{frame_entered, frame_memo, held_on, memo_kept, memo_on, memo_stored}
+use Rattle.codegen_base.proofs.Frames.{frame_entered, frame_memo, held_on, memo_kept, memo_on, memo_stored, path_on}
 use Rattle.codegen_base.proofs.Listings.{alu, begins, load_wide, mov, store_memo}
 use Rattle.codegen_base.proofs.Pieces.{stands_back, stands_front}
 use Rattle.codegen_base.proofs.Runs.{and_back, into}
@@ -44,7 +45,7 @@ abbrev variable_in : Option (List ℕ × ValueOrError) → ValueOrError → Valu
 variable_in (Some y) other = y.1
 variable_in None other = other
 
-module _ (image : Contents) (deep : Bool) (paid : List FirstUse) (constants : List ℕ) (words : List (List ℕ × ℕ)) (roots : Roots) (items : List (List ℕ × Value)) (variables later : List (List ℕ × ValueOrError)) (name : List ℕ) (v : ValueOrError) (body : List Insn) (routine depth base n x : ℕ) (below : length variables < 512) (low : base ≤ 60) (room : depth < 7) (there : Stands image.code routine (body ++ memo_tail (length variables))) where
+module _ (image : Contents) (deep : Bool) (paid : List FirstUse) (constants : List ℕ) (words : Kept) (roots : Roots) (items : List (List ℕ × Value)) (variables later : List (List ℕ × ValueOrError)) (name : List ℕ) (v : ValueOrError) (body : List Insn) (routine depth base n x : ℕ) (below : length variables < 512) (low : base ≤ 60) (room : depth < 7) (there : Stands image.code routine (body ++ memo_tail (length variables))) where
   abbrev index : ℕ
   index = length variables
 
@@ -71,7 +72,7 @@ module _ (image : Contents) (deep : Bool) (paid : List FirstUse) (constants : Li
     fits_entered = record {
       frame = frame_entered depth q caller fits.frame room;
       values = fits.values;
-      holds = record { names = λ m. tt; memos = λ j y is. fits.holds.memos j y (get_before variables ((name, v) ∷ later) j y is) };
+      holds = record { names = λ m. tt; path = λ y at. absurd (cc); memos = λ j y is. fits.holds.memos j y (get_before variables ((name, v) ∷ later) j y is) };
       constants = fits.constants;
     }
 
@@ -122,7 +123,8 @@ module _ (image : Contents) (deep : Bool) (paid : List FirstUse) (constants : Li
             values = g3.fits.values;
             holds = record {
               names = λ m.
-                  held_on depth base base caller last (lookup m words) (lookup m items) (λ k h. h) (λ k u inside named. subst (λ (w : ℕ). Names b3.values.values w (value u)) (sym (g3.keeps.words depth k (omega arith) (inl (omega arith)))) (g3.keeps.values _ (value u) named)) (fits.holds.names m);
+                  held_on depth base base caller last (lookup m words.items) (lookup m items) (λ k h. h) (λ k u inside named. subst (λ (w : ℕ). Names b3.values.values w (value u)) (sym (g3.keeps.words depth k (omega arith) (inl (omega arith)))) (g3.keeps.values _ (value u) named)) (fits.holds.names m);
+              path = path_on words.path roots items depth base base caller last (λ k h. h) (λ k u inside named. subst (λ (w : ℕ). Names b3.values.values w u) (sym (g3.keeps.words depth k (omega arith) (inl (omega arith)))) (g3.keeps.values _ u named)) fits.holds.path;
               memos = holds_memo;
             };
             constants = g3.keeps.constants ∙ fits.constants;

@@ -1,5 +1,5 @@
 -- How runs are put together.
-use Rattle.std.proofs.Common.{◌≡◌, ℕ, suc, ◌+◌, ◌≤◌, List, [], ◌++◌, append-nil, Bool, refl, sym, ap, ◌∙◌, subst, arith, inl, inr}
+use Rattle.std.proofs.Common.{◌≡◌, ℕ, suc, ◌+◌, ◌≤◌, List, [], ◌++◌, append-nil, Bool, refl, sym, ap, ◌∙◌, subst, arith}
 use Rattle.guest_memory.specs.declared.fault.Fault.TheVariants.{F8}
 use Rattle.loader.specs.Contents.{Contents}
 use Rattle.bpf_machine.specs.State.{State}
@@ -19,8 +19,7 @@ state_after-first k t = state_after-more k t ∙ sym (state_after-next k t)
 
 -- a reason to stop at a charge is one at a greater charge
 pub over : (s : Setting) (x y : ℕ) → x ≤ y → IsSpent s x → IsSpent s y
-over s x y le (inl h) = inl (omega arith)
-over s x y le (inr d) = inr d
+over s x y le h = grind arith
 
 -- where the scratch region is as it was no memo was emptied
 unmoved : {old new : List ℕ} → new ≡ old → StayFilled old new
@@ -29,9 +28,7 @@ unmoved {old} {new} e = subst (λ (bytes : List ℕ). StayFilled old bytes) (sym
 module _ (s : Setting) where
   -- the first uses of two stretches are first uses of the whole
   joined_steps : (b b1 : Body) (scratch : List ℕ) (calls : List Frame) → StayFilled b.memory.scratch b1.memory.scratch → StayFilled b1.memory.scratch scratch → steps_to s 0 b b1.memory.scratch [] + steps_to s 0 b1 scratch calls ≤ steps_to s 0 b scratch calls
-  joined_steps b b1 scratch calls first second =
-      let both = uses-join s.image s.variables (λ v. v.steps) b.memory.scratch b1.memory.scratch scratch calls first second in
-      omega arith
+  joined_steps b b1 scratch calls first second = grind (arith, uses-join)
 
   joined_charge : (b b1 : Body) (scratch : List ℕ) (calls : List Frame) → StayFilled b.memory.scratch b1.memory.scratch → StayFilled b1.memory.scratch scratch → first_uses s.image s.variables (λ v. v.charge) b.memory.scratch b1.memory.scratch [] + first_uses s.image s.variables (λ v. v.charge) b1.memory.scratch scratch calls ≤ first_uses s.image s.variables (λ v. v.charge) b.memory.scratch scratch calls
   joined_charge b b1 scratch calls first second = uses-join s.image s.variables (λ v. v.charge) b.memory.scratch b1.memory.scratch scratch calls first second

@@ -8,6 +8,7 @@ use Rattle.loader.specs.Contents.{Contents}
 use Rattle.value_store.specs.Value.{Value, ValueOrError}
 use Rattle.cel_macros.specs.Environment.{Roots, lookup, variable_value}
 use Rattle.codegen_base.specs.Contexts.{Gives}
+use Rattle.codegen_base.specs.Paths.{Kept}
 use Rattle.codegen_base.specs.Pieces.{Stands}
 use Rattle.codegen_base.specs.Scopes.{HasRoutine, IsScope, NoScope, ScopeBegins, ScopeGives, ScopeGrows, Variable, bindings, first_use, place_named, scope_setting}
 use Rattle.codegen_base.specs.Variables.{memo_tail, use_code, used_context, with_variables}
@@ -45,7 +46,7 @@ value_named name scope i v at e = rw (found_value name scope i v at e) refl
 
 -- ---- a use
 
-module _ (image : Contents) (deep : Bool) (roots : Roots) (constants : List ℕ) (words : List (List ℕ × ℕ)) (items : List (List ℕ × Value)) (before later : List Variable) (v : Variable) (p depth base : ℕ) (offset : ℤ) where
+module _ (image : Contents) (deep : Bool) (roots : Roots) (constants : List ℕ) (words : Kept) (items : List (List ℕ × Value)) (before later : List Variable) (v : Variable) (p depth base : ℕ) (offset : ℤ) where
   abbrev all : List Variable
   all = before ++ v ∷ later
 
@@ -64,7 +65,7 @@ module _ (image : Contents) (deep : Bool) (roots : Roots) (constants : List ℕ)
       let given = variable_gives image deep (each first_use before) (each first_use later) constants words roots items (bindings before) (bindings later) v.name v.value v.body v.routine p depth base v.steps v.charge offset (as_many ∙ sym long) (omega arith) low (omega arith) place stands (routine.gives depth room) in
       rw (bindings_are, firsts_are) (subst (λ (n : ℕ). Gives (with_variables image deep (each first_use before ++ first_use v ∷ each first_use later)) p (use_code n offset) (used_context roots items words constants (bindings before ++ (v.name, v.value) ∷ bindings later)) depth base v.value 5 0) long given)
 
-scope_uses : (image : Contents) (deep : Bool) (roots : Roots) (constants : List ℕ) (scope : List Variable) (words : List (List ℕ × ℕ)) (items : List (List ℕ × Value)) (i : ℕ) (v : Variable) (p depth base : ℕ) (offset : ℤ) → IsScope image deep roots constants scope → length scope ≤ 512 → base ≤ 60 → slice_get scope i ≡ Some v → depth + v.nesting ≤ 7 → pos (p + 5) +ℤ pos 1 +ℤ offset ≡ pos v.routine → Gives (scope_setting image deep scope) p (use_code i offset) (used_context roots items words constants (bindings scope)) depth base v.value 5 0
+scope_uses : (image : Contents) (deep : Bool) (roots : Roots) (constants : List ℕ) (scope : List Variable) (words : Kept) (items : List (List ℕ × Value)) (i : ℕ) (v : Variable) (p depth base : ℕ) (offset : ℤ) → IsScope image deep roots constants scope → length scope ≤ 512 → base ≤ 60 → slice_get scope i ≡ Some v → depth + v.nesting ≤ 7 → pos (p + 5) +ℤ pos 1 +ℤ offset ≡ pos v.routine → Gives (scope_setting image deep scope) p (use_code i offset) (used_context roots items words constants (bindings scope)) depth base v.value 5 0
 scope_uses image deep roots constants scope words items i v p depth base offset is few low at room place =
     let inside = slice_get_within scope i v at in
     let parts = split scope i v at in

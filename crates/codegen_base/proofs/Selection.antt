@@ -8,7 +8,7 @@ use Rattle.helper_table.proofs.Placing.{same}
 use Rattle.insn_codec.specs.declared.register.Register.TheVariants.{R0, R1, R2, R3, R6}
 use Rattle.value_store.specs.Placing.{charge_limit}
 use Rattle.value_store.specs.Seen.{seen}
-use Rattle.value_store.specs.Value.{ValueOrError, error, value, null, boolean, int, text, list, map}
+use Rattle.value_store.specs.Value.{ValueOrError, error, value, null, int, text}
 use Rattle.cel_macros.specs.Arithmetic.{int_part}
 use Rattle.cel_macros.specs.Functions.{TextTest, StartsWith, EndsWith, Contains, size_of, string_of, text_test_of}
 use Rattle.cel_macros.specs.Selection.{field_of, has_of, index_of}
@@ -23,19 +23,16 @@ use Rattle.codegen_base.specs.Helpers.{Holding, Keyed, Lends}
 use Rattle.codegen_base.specs.Operators.{Converts}
 use Rattle.codegen_base.specs.Pieces.{Stands}
 use Rattle.codegen_base.proofs.Effects.{differs_no, differs_yes}
-use Rattle.codegen_base.proofs.Frames.{fits_answered, fits_registers, keeps_answered, keeps_registers, keeps_then}
+use Rattle.codegen_base.proofs.Frames.{fits_registers, keeps_answered, keeps_registers, keeps_then}
 use Rattle.codegen_base.proofs.HelperAnswers.{helpers}
 use Rattle.codegen_base.proofs.Listings.{ask, begins, jump, load_wide, mov, no, put_length, yes}
 use Rattle.codegen_base.proofs.Operators.{calls_give, shows_placed}
 use Rattle.codegen_base.proofs.Runs.{done, looser}
+use Rattle.codegen_base.proofs.Operands.{fits_told}
 
 -- a text of the constants is lent to a helper
 lends_text : (c : Context) (depth base : ℕ) (b : Body) (address : ℕ) (key : List ℕ) → Fits c depth base b → HasText c.constants address key → b.registers R2 ≡ address → b.registers R3 ≡ length key → Lends b R2 R3 key
-lends_text c depth base b address key fits h at count = record {
-  bytes_are = rw (fits.constants, at, count) h.bytes_are;
-  address = rw (at) h.address_is_word;
-  count = rw (count) (let few = h.length_is_immediate in omega (arith, few));
-}
+lends_text c depth base b address key fits h at count = grind arith
 
 keyed_gives : (helper : ℤ) (f : ValueOrError → List ℕ → ValueOrError) → Keyed helper f → KeyedGives (call_with_text helper) f 3 1
 keyed_gives helper f keyed s p c depth base x address key low h = record {
@@ -69,9 +66,7 @@ module _ (s : Setting) (p : ℕ) (c : Context) (depth base : ℕ) (low : base �
   asks_fits = fits_registers c depth base b asks.registers refl fits
 
   told_fits : (x : ValueOrError) → Names b.values.values (b.registers R6) x → b.values.charge + 1 ≤ charge_limit → Fits c depth base (told (kind_number (seen x)))
-  told_fits x named paid =
-      let t = helpers.kind c.environment.roots asks x asks_fits.values named in
-      fits_answered depth base (kind_number (seen x)) (b.values.charge + 1) b.values.values asks (same b.values.values) c (t.table paid) asks_fits
+  told_fits x named paid = fits_told c depth base (pos 1) (kind_number (seen x)) 1 asks (helpers.kind c.environment.roots asks x asks_fits.values named) paid asks_fits
 
   told_keeps : (w : ℕ) → Keeps (variable_count c) depth base b (told w)
   told_keeps w = keeps_then (omega arith) (keeps_registers c depth base b asks.registers refl (variable_count c)) (keeps_answered depth base w (b.values.charge + 1) b.values.values asks (same b.values.values) (variable_count c))
@@ -120,13 +115,10 @@ module _ (s : Setting) (p : ℕ) (c : Context) (depth base : ℕ) (low : base �
       looser s {n = 5} {x = 1 + (1 + n + 0)} 5 (2 + n) (omega arith) (omega arith) (made_runs (value (int z)) (value (text (signed_decimal z))) (1 + n) named (λ e. absurd (omega arith)) (λ d values holding. helpers.text_of_int c.environment.roots d z values holding))
 
   string_runs : (x : ValueOrError) → Names b.values.values (b.registers R6) x → Comes s 5 (2 + text_length (string_of x)) p b (p + 7) (Shows c depth base (string_of x) b)
-  string_runs error named = no_text_runs error named (λ e. absurd (omega arith)) refl
-  string_runs (value null) named = no_text_runs (value null) named (λ e. absurd (omega arith)) refl
-  string_runs (value (boolean t)) named = no_text_runs (value (boolean t)) named (λ e. absurd (omega arith)) refl
   string_runs (value (int z)) named = int_runs z named
   string_runs (value (text t)) named = looser s {n = 5} {x = 1} 5 (2 + length t) (omega arith) (omega arith) (text_runs t named)
-  string_runs (value (list is)) named = no_text_runs (value (list is)) named (λ e. absurd (omega arith)) refl
-  string_runs (value (map es)) named = no_text_runs (value (map es)) named (λ e. absurd (omega arith)) refl
+  string_runs (value null) named = no_text_runs (value null) named (λ e. absurd (omega arith)) refl
+  string_runs _ named = no_text_runs _ named (λ e. absurd (omega arith)) refl
 
 string_gives : (s : Setting) (p : ℕ) (c : Context) (depth base : ℕ) (x : ValueOrError) → base ≤ 64 → Converts s p string_tail R6 c depth base x (string_of x) 5 (2 + text_length (string_of x))
 string_gives s p c depth base x low = record { runs = λ b has fits named. string_runs s p c depth base low b has fits x named }

@@ -26,20 +26,12 @@ use Rattle.codegen_base.specs.Instructions as insn
 use Rattle.codegen_base.specs.Pieces.{Stands, size, slots}
 use Rattle.codegen_base.proofs.Frames.{fits_registers, shows_registers}
 use Rattle.codegen_base.proofs.HelperAnswers.{helpers}
-use Rattle.codegen_base.proofs.Ints.{Checked, cast_fits, difference_checked, fits_is, fits_not, signed_fits, signed_is, signed_word, sum_checked, word_small}
+use Rattle.codegen_base.proofs.Ints.{Checked, cast_fits, difference_checked, exact, fits_is, fits_not, over, signed_fits, signed_is, signed_word, sum_checked, word_small}
 use Rattle.codegen_base.proofs.Listings.{alu, ask, begins, jump, mov, no, yes}
 use Rattle.codegen_base.proofs.Loops.{either}
 use Rattle.codegen_base.proofs.Operators.{shows_placed}
 use Rattle.codegen_base.proofs.Runs.{done, looser, to_place}
 use Rattle.codegen_base.proofs.Values.{names_error}
-
--- ---- what a number gives
-
-pub exact : (z : ℤ) → FitsSigned w64 z → value (int z) ≡ int_or_error z
-exact z h = rw (fits_is z h) refl
-
-pub over : (z : ℤ) → (FitsSigned w64 z → ⊥) → error ≡ int_or_error z
-over z h = rw (fits_not z h) refl
 
 -- ---- the piece of two ints, whose words are in R6 and R7
 
@@ -87,12 +79,10 @@ module _ (op : AluOp) (below above : Comparison) (f : ℤ → ℤ → ℤ) (chec
       ap (λ (q : ℤ). f q (signed_of 64 right)) (ap (signed_of 64) first ∙ signed_word m fits_m) ∙ ap (f m) (ap (signed_of 64) second ∙ signed_word n fits_n)
 
   result_fits : signed_of 64 w ≡ f (signed_of 64 left) (signed_of 64 right) → value (int (cast_signed w64 w)) ≡ int_or_error (f m n)
-  result_fits e =
-      let number : cast_signed w64 w ≡ f m n = sym (signed_is w check.small) ∙ e ∙ numbers_are in
-      ap (λ (z : ℤ). value (int z)) number ∙ exact (f m n) (subst (FitsSigned w64) number (cast_fits w check.small))
+  result_fits e = grind (arith, signed_is, check, numbers_are, exact, fits_is, cast_fits)
 
   result_over : (IsSigned (f (signed_of 64 left) (signed_of 64 right)) → ⊥) → error ≡ int_or_error (f m n)
-  result_over no = over (f m n) (λ h. no (subst IsSigned (sym numbers_are) (signed_fits (f m n) h)))
+  result_over no = over (f m n) (fits_not (f m n) (λ h. no (subst IsSigned (sym numbers_are) (signed_fits (f m n) h))))
 
   abbrev registers : Register → ℕ
   registers = (set_register (set_register b R1 left) R1 w).registers

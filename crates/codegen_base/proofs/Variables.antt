@@ -9,6 +9,7 @@ use Rattle.cel_macros.specs.Environment.{Roots}
 use Rattle.codegen_base.specs.Body.{Body, set_register}
 use Rattle.codegen_base.specs.Engine.{Setting, Comes}
 use Rattle.codegen_base.specs.FirstUses.{FirstUse}
+use Rattle.codegen_base.specs.Paths.{Kept}
 use Rattle.codegen_base.specs.Pieces.{Stands}
 use Rattle.codegen_base.specs.Contexts.{Context, Fits, Gives, Shows}
 use Rattle.helper_table.specs.Laws.{Names}
@@ -43,7 +44,7 @@ module _ (s : Setting) (c : Context) (depth base i p : ℕ) (offset : ℤ) (has 
 
 -- ---- the memo is empty
 
-module _ (image : Contents) (deep : Bool) (before behind : List FirstUse) (constants : List ℕ) (words : List (List ℕ × ℕ)) (roots : Roots) (items : List (List ℕ × Value)) (variables later : List (List ℕ × ValueOrError)) (name : List ℕ) (v : ValueOrError) (body : List Insn) (routine p depth base n x : ℕ) (offset : ℤ) (as_many : length before ≡ length variables) (below : length variables < 512) (low : base ≤ 60) (room : depth < 7) (place : pos (p + 5) +ℤ pos 1 +ℤ offset ≡ pos routine) (there : Stands image.code routine (body ++ memo_tail (length variables))) (has : Stands image.code p (use_code (length variables) offset)) where
+module _ (image : Contents) (deep : Bool) (before behind : List FirstUse) (constants : List ℕ) (words : Kept) (roots : Roots) (items : List (List ℕ × Value)) (variables later : List (List ℕ × ValueOrError)) (name : List ℕ) (v : ValueOrError) (body : List Insn) (routine p depth base n x : ℕ) (offset : ℤ) (as_many : length before ≡ length variables) (below : length variables < 512) (low : base ≤ 60) (room : depth < 7) (place : pos (p + 5) +ℤ pos 1 +ℤ offset ≡ pos routine) (there : Stands image.code routine (body ++ memo_tail (length variables))) (has : Stands image.code p (use_code (length variables) offset)) where
   abbrev index : ℕ
   index = length variables
 

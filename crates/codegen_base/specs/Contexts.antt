@@ -9,13 +9,14 @@ use Rattle.value_store.specs.Value.{Value, ValueOrError, value}
 use Rattle.cel_macros.specs.Environment.{Environment, Roots, lookup}
 use Rattle.codegen_base.specs.Body.{Body}
 use Rattle.codegen_base.specs.Engine.{Setting, Comes}
+use Rattle.codegen_base.specs.Paths.{Kept, Path, path_value}
 use Rattle.codegen_base.specs.Pieces.{Stands, size}
 use Rattle.codegen_base.specs.Words.{Framed, memo_at, word_at}
 
--- what names stand for, the word of the frame that holds each iteration name's item, and the bytes of the constants
+-- what names stand for, the words of the frame that hold items and a path's value, and the bytes of the constants
 pub record Context : Type 0 where
   pub environment : Environment
-  pub words : List (List ℕ × ℕ)
+  pub words : Kept
   pub constants : List ℕ
 
 -- the roots stand at the references 4 to 8
@@ -42,9 +43,15 @@ IsHeld depth base b _ _ = ⊥
 abbrev pub IsMemo : List ValueOrError → ℕ → ValueOrError → Type 0
 IsMemo list word x = (word ≡ 0) ⊎ ((r : ℕ) × (word ≡ r + 1) × Names list r x)
 
--- each iteration name's word holds its item, and each variable's memo is empty or filled
+-- a path is kept in word 0, which is in use, and names the path's value or the error
+abbrev pub HoldsPath : Option Path → Roots → List (List ℕ × Value) → ℕ → ℕ → Body → Type 0
+HoldsPath path roots items depth base b = (x : Path) → path ≡ Some x
+    → (0 < base) × Names b.values.values (word_at depth 0 b) (path_value x roots items)
+
+-- each iteration name's word holds its item, word 0 the value of a path that is kept, and each variable's memo is empty or filled
 pub record Holds (c : Context) (depth base : ℕ) (b : Body) : Type 0 where
-  pub names : (n : List ℕ) → IsHeld depth base b (lookup n c.words) (lookup n c.environment.items)
+  pub names : (n : List ℕ) → IsHeld depth base b (lookup n c.words.items) (lookup n c.environment.items)
+  pub path : HoldsPath c.words.path c.environment.roots c.environment.items depth base b
   pub memos : (i : ℕ) (x : List ℕ × ValueOrError) → slice_get c.environment.variables i ≡ Some x → IsMemo b.values.values (memo_at i b) x.1
 
 -- a body from which code for an expression may run: the words of its frame below base are in use

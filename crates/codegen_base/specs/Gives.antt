@@ -6,3 +6,4 @@ pub mod Aggregates
 pub mod Comparison
 pub mod Macros
 pub mod Arithmetic
+pub mod Paths

@@ -4,6 +4,7 @@ pub mod Calls
 pub mod FirstUses
 pub mod Engine
 pub mod Pieces
+pub mod Paths
 pub mod Contexts
 pub mod Loops
 pub mod Variables

@@ -15,6 +15,7 @@ use Rattle.cel_macros.specs.Environment.{bind}
 use Rattle.cel_macros.specs.Macros.{range_of}
 use Rattle.codegen_base.specs.Body.{Body}
 use Rattle.codegen_base.specs.Engine.{Setting, Comes}
+use Rattle.codegen_base.specs.Paths.{with_name}
 use Rattle.codegen_base.specs.Pieces.{size, Stands}
 use Rattle.codegen_base.specs.Contexts.{Context, Fits, Gives, Keeps, Shows, variable_count}
 use Rattle.codegen_base.specs.Words.{word_at, word_offset}
@@ -49,7 +50,7 @@ loop_code k turn = loop_head k (size turn + 8) ++ (turn ++ loop_tail k (size tur
 
 -- the environment inside a loop, where its name stands for an item
 abbrev pub with_item : Context → ℕ → List ℕ → Value → Context
-with_item c k n v = record { environment = bind n v c.environment; words = (n, k + 4) ∷ c.words; constants = c.constants }
+with_item c k n v = record { environment = bind n v c.environment; words = with_name n (k + 4) c.words; constants = c.constants }
 
 -- a body before the piece of a turn runs, for an answer so far and an item
 pub record AtTurn (c : Context) (depth k : ℕ) (acc : ValueOrError) (v : Value) (b : Body) : Type 0 where

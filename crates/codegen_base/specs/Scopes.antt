@@ -12,6 +12,7 @@ use Rattle.codegen_base.specs.Calls.{entered}
 use Rattle.codegen_base.specs.Contexts.{Context, Fits, Gives, Shows}
 use Rattle.codegen_base.specs.Engine.{Reaches, Setting}
 use Rattle.codegen_base.specs.FirstUses.{FirstUse}
+use Rattle.codegen_base.specs.Paths.{Kept}
 use Rattle.codegen_base.specs.Pieces.{Stands}
 use Rattle.codegen_base.specs.Variables.{memo_tail, routine_context, use_code, used_context, with_variables}
 use Rattle.codegen_base.specs.Words.{memo_at}
@@ -69,7 +70,7 @@ place_named n (v ∷ more) = if bytes_eq v.name n then Some 0 else option_map su
 -- the use of a variable, found by its name, gives what the name stands for, with 5 steps of its own, wherever enough frames are left
 abbrev pub ScopeGives : Type 0
 ScopeGives =
-    (image : Contents) (deep : Bool) (roots : Roots) (constants : List ℕ) (scope : List Variable) (words : List (List ℕ × ℕ))
+    (image : Contents) (deep : Bool) (roots : Roots) (constants : List ℕ) (scope : List Variable) (words : Kept)
     (items : List (List ℕ × Value)) (name : List ℕ) (i : ℕ) (v : Variable) (p depth base : ℕ) (offset : ℤ)
     → IsScope image deep roots constants scope → length scope ≤ 512 → base ≤ 60
     → place_named name scope ≡ Some i → slice_get scope i ≡ Some v → depth + v.nesting ≤ 7
@@ -95,7 +96,7 @@ ScopeGrows = (image : Contents) (deep : Bool) (roots : Roots) (constants : List 
 -- what a piece gives in a scope it gives where more variables stand behind it, whose memos it leaves
 abbrev pub LaterGives : Type 0
 LaterGives =
-    (image : Contents) (deep : Bool) (roots : Roots) (constants : List ℕ) (scope later : List Variable) (words : List (List ℕ × ℕ))
+    (image : Contents) (deep : Bool) (roots : Roots) (constants : List ℕ) (scope later : List Variable) (words : Kept)
     (items : List (List ℕ × Value)) (p : ℕ) (piece : List Insn) (depth base : ℕ) (x : ValueOrError) (steps charge : ℕ)
     → Gives (scope_setting image deep scope) p piece (used_context roots items words constants (bindings scope)) depth base x steps charge
     → Gives (scope_setting image deep scope) p piece (used_context roots items words constants (bindings (scope ++ later))) depth base x
@@ -120,7 +121,7 @@ Returns s p i c depth base x steps charge = (q : ℕ) (b : Body) → Fits c dept
 -- more than that takes
 abbrev pub RoutineReturns : Type 0
 RoutineReturns = (image : Contents) (deep : Bool) (paid : List FirstUse) (roots : Roots) (constants : List ℕ) (scope : List Variable)
-    (v : Variable) (words : List (List ℕ × ℕ)) (items : List (List ℕ × Value)) (depth base : ℕ)
+    (v : Variable) (words : Kept) (items : List (List ℕ × Value)) (depth base : ℕ)
     → Stands image.code v.routine (v.body ++ memo_tail (length scope))
     → Gives (with_variables image deep paid) v.routine v.body (routine_context roots (bindings scope) constants) (depth + 1) 0
     v.value v.steps v.charge

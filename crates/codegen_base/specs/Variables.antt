@@ -15,6 +15,7 @@ use Rattle.codegen_base.specs.Contexts.{Context, Gives}
 use Rattle.codegen_base.specs.Engine.{Setting}
 use Rattle.codegen_base.specs.FirstUses.{FirstUse}
 use Rattle.codegen_base.specs.Instructions.{copy}
+use Rattle.codegen_base.specs.Paths.{Kept, nothing_kept}
 use Rattle.codegen_base.specs.Pieces.{Stands}
 use Rattle.codegen_base.specs.Words.{memo_address}
 
@@ -46,17 +47,17 @@ with_variables image deep variables = record { image = image; variables = variab
 -- in a routine, as at the start of a program, no iteration name is in force; the variables before its own can be used
 abbrev pub routine_context : Roots → List (List ℕ × ValueOrError) → List ℕ → Context
 routine_context roots variables constants =
-    record { environment = record { roots = roots; items = []; variables = variables }; words = []; constants = constants }
+    record { environment = record { roots = roots; items = []; variables = variables }; words = nothing_kept; constants = constants }
 
 -- the context of an expression that sees these items and variables
-abbrev pub used_context : Roots → List (List ℕ × Value) → List (List ℕ × ℕ) → List ℕ → List (List ℕ × ValueOrError) → Context
+abbrev pub used_context : Roots → List (List ℕ × Value) → Kept → List ℕ → List (List ℕ × ValueOrError) → Context
 used_context roots items words constants variables =
     record { environment = record { roots = roots; items = items; variables = variables }; words = words; constants = constants }
 
 -- code for a variable's value, with those before it, makes a routine; its use gives the value, with 5 steps of its own, and with
 -- at most 9 more than that code takes where it is the first
 abbrev pub VariableGives : Type 0
-VariableGives = (image : Contents) (deep : Bool) (before behind : List FirstUse) (constants : List ℕ) (words : List (List ℕ × ℕ))
+VariableGives = (image : Contents) (deep : Bool) (before behind : List FirstUse) (constants : List ℕ) (words : Kept)
     (roots : Roots) (items : List (List ℕ × Value)) (variables later : List (List ℕ × ValueOrError)) (name : List ℕ)
     (v : ValueOrError) (body : List Insn) (routine p depth base n x : ℕ) (offset : ℤ)
     → length before ≡ length variables → length variables < 512 → base ≤ 60 → depth < 7

@@ -6,6 +6,7 @@ ghost use Rattle.codegen_base.specs.Gives.Comparison.{ComparisonGives};
 ghost use Rattle.codegen_base.specs.Gives.Leaves.{LeavesGive, LeavesName};
 ghost use Rattle.codegen_base.specs.Gives.Logic.{LogicGives};
 ghost use Rattle.codegen_base.specs.Gives.Macros.{MacroGives, MapWhereGives};
+ghost use Rattle.codegen_base.specs.Gives.Paths.{PathsGive};
 ghost use Rattle.codegen_base.specs.Gives.Selection.{SelectionGives};
 ghost use Rattle.codegen_base.specs.Helpers.{HelpersAnswer};
 ghost use Rattle.codegen_base.specs.Loops.{FoldGives};
@@ -87,6 +88,12 @@ pub fn fold_gives()
 pub fn leaves_give()
     ensures give { LeavesGive }
     ensures name { LeavesName }
+{}
+
+/// Word 0 of the frame, where it keeps a path, is a leaf that names its value; code for the path, a store into the
+/// word, and code that finds the path there make code, behind which the word is free.
+pub fn paths_give()
+    ensures { PathsGive }
 {}
 
 /// Behind the code of an operand stands the code for a field, for whether there is one, for a size and

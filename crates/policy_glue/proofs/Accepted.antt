@@ -1,5 +1,5 @@
 -- What the trees of a policy that is compiled are, as its program asks of them.
-use Rattle.std.proofs.Common.{◌≡◌, ◌≤◌, ◌*◌, ◌++◌, ◌∷◌, [], ℕ, Bool, true, false, List, Option, Some, None, Result, Ok, Err, length, nat_lt, suc, append_assoc, refl, sym, ap, ◌∙◌, subst}
+use Rattle.std.proofs.Common.{◌≡◌, ◌≤◌, ◌*◌, ◌++◌, ◌∷◌, [], ℕ, Bool, false, List, Option, Some, None, Result, Ok, length, nat_lt, suc, append-nil, append_assoc, refl, sym, ap, ◌∙◌, subst, arith}
 use Rattle.std.proofs.lemmas.Bool.{ltb-false}
 use Rattle.std.proofs.lemmas.List.Elements.{All-head, All-tail}
 use Rattle.std.proofs.lemmas.List.Sums.{fold-append}
@@ -30,11 +30,12 @@ use Rattle.policy_glue.specs.Policy.{Named, Rule, Rules}
 use Rattle.policy_glue.specs.ProgramTrees.{HasProgram}
 use Rattle.policy_glue.specs.ProgramTrees as program
 use Rattle.policy_glue.specs.Reading.{IsAccepted}
+use Rattle.policy_glue.proofs.Judged.{guarded, shallow_known}
+use Rattle.policy_glue.proofs.OneExpression.{ok_same}
 use Rattle.policy_glue.specs.Trees.{PolicyTree, RuleTree, VariableTree}
 use Rattle.policy_glue.specs.declared.compile_error.CompileError.{CompileError}
 use Rattle.policy_glue.specs.declared.compile_error.CompileError.TheVariants.{G3, G4}
-use Rattle.policy_glue.specs.declared.expression_error.ExpressionError.{ExpressionError}
-use Rattle.policy_glue.specs.declared.expression_error.ExpressionError.TheVariants.{G1, G2}
+use Rattle.policy_glue.specs.declared.expression_error.ExpressionError.TheVariants.{G1}
 
 -- ---- literals
 
@@ -62,17 +63,13 @@ mutual
 
 -- ---- one expression
 
-need_by : (b : Bool) (t u : CelType) → (if b then Err G1 else (let r : Result CelType ExpressionError = Ok t in r)) ≡ Ok u → b ≡ false
-need_by true t u is = cc
-need_by false t u is = refl
-
 record IsJudged (t : Typing) (n : ℕ) : Type 0 where
   cel_type : CelType
   typed : t ≡ types.typed cel_type
   fits : n ≤ 60
 
 judged_by : (m : Option MacroFault) (t : Typing) (n : ℕ) (u : CelType) → with_macros m t n ≡ Ok u → IsJudged t n
-judged_by None (types.typed t) n u is = record { cel_type = t; typed = refl; fits = ltb-false 60 n (need_by (nat_lt 60 n) t u is) }
+judged_by None (types.typed t) n u is = record { cel_type = t; typed = refl; fits = ltb-false 60 n (guarded (nat_lt 60 n) G1 t u is).0 }
 judged_by _ _ n u is = cc
 
 judged_so : (scope : List Declaration) (a : Tree) (t : CelType) → expression_judged scope a ≡ Ok t → IsJudged (typing a (scope_of scope)) (need (expanded a))
@@ -89,22 +86,7 @@ is_expression scope a t is formed =
       fits = judged.fits;
     }
 
-depth_by : (b : Bool) (t u : CelType) → (if b then Err G2 else (let r : Result CelType ExpressionError = Ok t in r)) ≡ Ok u → (b ≡ false) × (t ≡ u)
-depth_by true t u is = cc
-depth_by false t u is = (refl, cc)
-
-shallow_by : (d : ℕ) (r : Result CelType ExpressionError) (u : CelType) → with_depth d r ≡ Ok u → (d ≤ 6) × (r ≡ Ok u)
-shallow_by d (Err e) u is = cc
-shallow_by d (Ok t) u is = let known = depth_by (nat_lt 6 d) t u is in (ltb-false 6 d known.0, ap Ok known.1)
-
 -- ---- lists: what is taken from here on
-
-append_none : {A : Type 0} (xs : List A) → xs ≡ xs ++ []
-append_none [] = refl
-append_none (x ∷ xs) = ap (λ ys. x ∷ ys) (append_none xs)
-
-ok_is : {A : Type 0} (xs ys : List A) → (let r : Result (List A) CompileError = Ok xs in r) ≡ Ok ys → ys ≡ xs
-ok_is xs ys is = cc
 
 abbrev Each : {B : Type 0} → (B → Type 0) → List B → Type 0
 Each P [] = Unit {0}
@@ -118,7 +100,7 @@ record Rest {A B : Type 0} (P : List B → Type 0) (taken : List B) (ns : List A
 
 rest_of : {A B : Type 0} (P : B → Type 0) (Takes : List B → A → B → Type 0) (Refuses : List B → A → CompileError → Type 0) (each : (taken : List B) (a : A) (b : B) → Takes taken a b → P b) (taken : List B) (ns : List A) (end : Result (List B) CompileError)
     → Ends Takes Refuses taken ns end → (all : List B) → end ≡ Ok all → Rest (Each P) taken ns all
-rest_of P Takes Refuses each taken ns end (over) all is = record { more = []; is = ok_is taken all is ∙ append_none taken; count = refl; holds = tt }
+rest_of P Takes Refuses each taken ns end (over) all is = record { more = []; is = sym (append-nil taken ∙ ok_same taken all is); count = refl; holds = tt }
 rest_of P Takes Refuses each taken ns end (refused e no_part) all is = cc
 rest_of P Takes Refuses each taken ns end (next {part = part} {more = others} {end = last} b takes ends) all is =
     let rest = rest_of P Takes Refuses each (taken ++ b ∷ []) others last ends all is in
@@ -139,7 +121,7 @@ scope_more taken v = fold-append with_variable [] taken (v ∷ [])
 
 variables_of : (taken : List VariableTree) (ns : List Named) (end : Result (List VariableTree) CompileError) → Ends TakesVariable RefusesVariable taken ns end
     → (all : List VariableTree) → end ≡ Ok all → Rest (AreJudged (scope_after taken)) taken ns all
-variables_of taken ns end (over) all is = record { more = []; is = ok_is taken all is ∙ append_none taken; count = refl; holds = tt }
+variables_of taken ns end (over) all is = record { more = []; is = sym (append-nil taken ∙ ok_same taken all is); count = refl; holds = tt }
 variables_of taken ns end (refused e no_part) all is = cc
 variables_of taken ns end (next {part = part} {more = others} {end = last} v takes ends) all is =
     let rest = variables_of (taken ++ v ∷ []) others last ends all is in
@@ -157,10 +139,11 @@ are_variables : (scope : List Declaration) (vs : List VariableTree) → AreJudge
 are_variables scope [] judged formed = tt
 are_variables scope (v ∷ more) judged formed =
     let taken = judged.0.1 in
-    let known = shallow_by (depth_in scope v.expression) (expression_judged scope v.expression) taken.cel_type taken.tree.judged in
+    let known = shallow_known (depth_in scope v.expression) (expression_judged scope v.expression) taken.cel_type taken.tree.judged in
     let first = All-head (λ (w : VariableTree). IsWellFormed w.expression) v more formed in
     let later = All-tail (λ (w : VariableTree). IsWellFormed w.expression) v more formed in
-    (is_expression scope v.expression taken.cel_type known.1 first, known.0, are_variables (with_variable scope v) more judged.1 later)
+    let shallow = ltb-false 6 (depth_in scope v.expression) known.0 in
+    (is_expression scope v.expression taken.cel_type known.1 first, shallow, are_variables (with_variable scope v) more judged.1 later)
 
 abbrev IsOne : List CelType → List Declaration → Tree → Type 0
 IsOne kinds scope a = (text : List ℕ) × IsOneOf kinds scope text a
@@ -195,18 +178,14 @@ limits_by false false is = (refl, refl)
 limits_by _ _ is = cc
 
 within_limits : (t : PolicyTree) → excess t ≡ None → (128 * policy_nodes t ≤ 65536) × (length (joined (policy_texts t)) ≤ 1048576)
-within_limits t is =
-    let known = limits_by (nat_lt 65536 (128 * policy_nodes t)) (nat_lt 1048576 (length (joined (policy_texts t)))) is in
-    (ltb-false 65536 (128 * policy_nodes t) known.0, ltb-false 1048576 (length (joined (policy_texts t))) known.1)
+within_limits t is = grind (arith, is, limits_by, ltb-false)
 
 none_of : (a b c : Bool) → (a || (b || c)) ≡ false → (a ≡ false) × (b ≡ false) × (c ≡ false)
 none_of false false false is = (refl, refl, refl)
 none_of _ _ _ is = cc
 
 few_parts : (p : Rules) → IsAccepted p → (length p.variables ≤ 64) × (length p.validations ≤ 64)
-few_parts p accepted =
-    let known = none_of (nat_lt 64 (length p.conditions)) (nat_lt 64 (length p.variables)) (nat_lt 64 (length p.validations)) accepted.counts in
-    (ltb-false 64 (length p.variables) known.1, ltb-false 64 (length p.validations) known.2)
+few_parts p accepted = grind (arith, none_of, ltb-false)
 
 -- ---- the policy
 
@@ -215,12 +194,9 @@ record IsWhole (p : Rules) (t : PolicyTree) : Type 0 where
   conditions : Rest (Each (IsOne truths [])) [] p.conditions t.conditions
   validations : Rest (Each (IsOneRule (scope_after t.variables))) [] p.validations t.validations
 
-tree_is : (s t : PolicyTree) → (let r : Result PolicyTree CompileError = Ok s in r) ≡ Ok t → s ≡ t
-tree_is s t is = cc
-
 whole_by : (p : Rules) (end : Result PolicyTree CompileError) → PartsEnd p end → (t : PolicyTree) → end ≡ Ok t → IsWhole p t
 whole_by p end (parts.taken vs cs rs variables conditions validations) t is =
-    subst (IsWhole p) (tree_is (record { variables = vs; conditions = cs; validations = rs }) t is) (record {
+    subst (IsWhole p) (ok_same (record { variables = vs; conditions = cs; validations = rs }) t is) (record {
       variables = variables_of [] p.variables (Ok vs) variables vs refl;
       conditions = rest_of (IsOne truths []) TakesCondition RefusesCondition (λ before n a takes. (n.expression, takes)) [] p.conditions (Ok cs) conditions cs refl;
       validations = rest_of (IsOneRule (scope_after vs)) (TakesRule (scope_after vs)) (RefusesRule (scope_after vs)) (λ before n r takes. (n, takes)) [] p.validations (Ok rs) validations rs refl;

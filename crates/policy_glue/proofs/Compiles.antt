@@ -1,12 +1,11 @@
 -- From the parts of a policy that are checked, and the bytes of its program, to its image.
-use Rattle.std.proofs.Common.{◌≡◌, ◌≢◌, ◌<◌, ◌≤◌, ◌*◌, ◌%◌, ◌/◌, ℕ, false, nat_eq, List, [], ◌∷◌, ◌++◌, length, length-append, None, Ok, Err, arith, refl, sym, ap, ◌∙◌, subst}
+use Rattle.std.proofs.Common.{◌≡◌, ◌≢◌, ◌<◌, ◌≤◌, ◌*◌, ℕ, List, [], ◌∷◌, ◌++◌, length, None, Ok, Err, arith, refl, sym, ap, ◌∙◌, subst}
 use Rattle.std.proofs.lemmas.Bool.Decides.{nat_tests}
-use Rattle.std.specs.Prelude.{All, not}
-use Rattle.insn_codec.specs.Spelling.{spelling}
+use Rattle.std.specs.Prelude.{All}
 use Rattle.insn_codec.specs.declared.insn.Insn.{Insn}
 use Rattle.insn_codec.specs.declared.insn.Insn.TheVariants.{Exit}
 use Rattle.loader.specs.Contents as loader
-use Rattle.loader.specs.Format.{image_from, is_bad_count, is_too_long}
+use Rattle.loader.specs.Format.{image_from}
 use Rattle.loader.specs.declared.version.Version.TheVariants.{Second}
 use Rattle.codegen.specs.Constants.{joined}
 use Rattle.codegen_base.proofs.Pieces.{length-spelling, size-append, size-cons}
@@ -31,8 +30,7 @@ use Rattle.policy_glue.proofs.Accepted.{has_program}
 -- ---- refusals
 
 failed : (p : Rules) (e : CompileError) → (e ≢ compile_error.Memory → Compiles p (Err e)) → CompilesTo p (Err e)
-failed p compile_error.Memory why = tt
-failed p _ why = why (λ no. cc)
+failed p e why = grind arith
 
 -- a part is refused
 pub refused_part : (p : Rules) (e : CompileError) → Checks p (Err e) → CompilesTo p (Err e)
@@ -47,12 +45,7 @@ refused_whole p c e checks emits = failed p e (λ some. limits.too_large checks.
 
 length-spellings : (is : List Insn) → length (spellings is) ≡ 8 * size is
 length-spellings [] = refl
-length-spellings (i ∷ is) =
-    let first = length-spelling i in
-    let later = length-spellings is in
-    let whole = size-cons i is in
-    let long = length-append (spelling i) (spellings is) in
-    omega arith
+length-spellings (i ∷ is) = grind (arith, length-spellings is, length-spelling, size-cons)
 
 -- it ends with an exit
 ends_with : (is : List Insn) → 1 ≤ size (is ++ Exit ∷ [])
@@ -65,11 +58,7 @@ some_size f p = ends_with _
 image_by : (code constants : List ℕ) (n : ℕ) → length code ≡ 8 * n → 1 ≤ n → n ≤ 65536 → length constants ≤ 1048576
     → image_from Second code constants ≡ Ok (contents Second code constants)
 unfolding image_from
-image_by code constants n long some most few =
-    let part : not (nat_eq (length code % 8) 0) ≡ false = grind (arith, nat_tests) in
-    let slots : is_bad_count (length code / 8) ≡ false = grind (arith, nat_tests) in
-    let texts : is_too_long (length constants) ≡ false = grind (arith, nat_tests) in
-    rw (part, slots, texts) refl
+image_by code constants n long some most few = grind (arith, nat_tests)
 
 -- ---- the whole
 

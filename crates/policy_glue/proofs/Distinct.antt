@@ -1,5 +1,5 @@
 -- Names that are put into a set, one after another.
-use Rattle.std.proofs.Common.{◌≡◌, ℕ, ◌+◌, ◌<◌, Bool, true, false, not, cond, List, [], ◌∷◌, ◌++◌, map, take, drop, length, get_or, string_bytes, refl, sym, ap, ◌∙◌}
+use Rattle.std.proofs.Common.{◌≡◌, ℕ, ◌+◌, ◌<◌, Bool, true, false, not, cond, List, [], ◌∷◌, ◌++◌, map, take, drop, length, get_or, string_bytes, refl, sym, ap, ◌∙◌, arith}
 use Rattle.std.specs.Prelude.{◌||◌, ◌&&◌}
 use Rattle.std.specs.Borrow.{Bor}
 use Rattle.std.specs.BTreeSet.{BTreeSet, contains, IsEmpty, Updates}
@@ -28,42 +28,26 @@ abbrev pub HasNames : Names → List NamedExpression → Type 0
 HasNames names ns = (key : Bor (List ℕ)) → has_key names key ≡ list_any (λ n. bytes_eq key.now (string_bytes n.name)) ns
 
 and_none : (b : Bool) → b && false ≡ false
-and_none true = refl
-and_none false = refl
+and_none b = grind arith
 
 and_all : (b : Bool) → b && true ≡ b
-and_all true = refl
-and_all false = refl
+and_all b = grind arith
 
 one_more : (here there : Bool) → cond here true there ≡ there || (here || false)
-one_more true true = refl
-one_more false true = refl
-one_more _ _ = refl
+one_more here there = grind arith
 
 shuffle : (a b c d : Bool) → not (a || (b || false)) && (not c && d) ≡ not (b || c) && (not a && d)
-shuffle true false true d = refl
-shuffle false false true d = refl
-shuffle _ _ _ d = refl
+shuffle a b c d = grind arith
 
 -- one more name behind others
 distinct-push : (ns : List Named) (n : Named) → are_distinct (ns ++ n ∷ []) ≡ not (list_any (λ m. bytes_eq n.name m.name) ns) && are_distinct ns
 distinct-push [] n = refl
-distinct-push (m ∷ ns) n =
-    let behind : list_any (λ k. bytes_eq m.name k.name) (ns ++ n ∷ []) ≡ list_any (λ k. bytes_eq m.name k.name) ns || (bytes_eq m.name n.name || false) = list_any-append (λ k. bytes_eq m.name k.name) ns (n ∷ []) in
-    let later : are_distinct (ns ++ n ∷ []) ≡ not (list_any (λ k. bytes_eq n.name k.name) ns) && are_distinct ns = distinct-push ns n in
-    let back : bytes_eq m.name n.name ≡ bytes_eq n.name m.name = nat_list_eq_equiv.symm m.name n.name in
-    (λ i. not (behind i) && later i)
-    ∙ shuffle (list_any (λ k. bytes_eq m.name k.name) ns) (bytes_eq m.name n.name) (list_any (λ k. bytes_eq n.name k.name) ns) (are_distinct ns)
-    ∙ ap (λ b. not (b || list_any (λ k. bytes_eq n.name k.name) ns) && (not (list_any (λ k. bytes_eq m.name k.name) ns) && are_distinct ns)) back
+distinct-push (m ∷ ns) n = grind (arith, distinct-push ns n, list_any-append, nat_list_eq_equiv, shuffle)
 
 twice_by : (n : Named) (ns rest : List Named) (hit : Bool) → list_any (λ m. bytes_eq n.name m.name) ns ≡ hit → not hit && are_distinct ns ≡ false
     → (are_distinct ns ≡ false → are_distinct (ns ++ rest) ≡ false)
     → not (list_any (λ m. bytes_eq n.name m.name) (ns ++ rest)) && are_distinct (ns ++ rest) ≡ false
-twice_by n ns rest true is twice later =
-    let here : list_any (λ m. bytes_eq n.name m.name) (ns ++ rest) ≡ true = list_any-append (λ m. bytes_eq n.name m.name) ns rest
-    ∙ ap (λ b. b || list_any (λ m. bytes_eq n.name m.name) rest) is in
-    ap (λ b. not b && are_distinct (ns ++ rest)) here
-twice_by n ns rest false is twice later = ap (λ b. not (list_any (λ m. bytes_eq n.name m.name) (ns ++ rest)) && b) (later twice) ∙ and_none _
+twice_by n ns rest hit is twice later = grind (arith, list_any-append, and_none)
 
 -- a name that stands twice in front stands twice
 twice_in_front : (ns rest : List Named) → are_distinct ns ≡ false → are_distinct (ns ++ rest) ≡ false

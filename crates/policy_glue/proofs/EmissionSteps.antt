@@ -1,5 +1,6 @@
 -- What is put into an emitter step by step.
 use Rattle.std.proofs.Common.{◌≡◌, ℕ, zero, suc, ◌+◌, ◌-◌, ◌<◌, ◌≤◌, Bool, true, false, List, [], ◌∷◌, ◌++◌, length, map, take, get_or, Option, Some, None, Result, Ok, Err, OnOk, IfOk, refl, sym, ap, ◌∙◌, subst, arith, append_assoc, length-append, append-nil}
+use Rattle.std.proofs.Math.Seq.{take-append_seam}
 use Rattle.std.specs.Prelude.{if◌then◌else◌, slice_get, slice_index_or, slice_set, option_map, fold, replicate}
 use Rattle.std.proofs.lemmas.List.{length-map}
 use Rattle.std.proofs.lemmas.Bool.{leb-true}
@@ -15,7 +16,7 @@ use Rattle.cel_types.specs.Typing.{typing as type_of}
 use Rattle.codegen.specs.Added.{code_at, has_room, with_counted, with_expression}
 use Rattle.codegen.specs.Emitted.{Emitted, with_insn_at, with_nodes, with_piece}
 use Rattle.codegen.specs.Surroundings.{routines_of}
-use Rattle.codegen.proofs.Lengths.{short_code}
+use Rattle.codegen.proofs.Whole.{whole_short}
 use Rattle.codegen_base.specs.Pieces.{insn_slots, size, slots}
 use Rattle.codegen_base.proofs.Pieces.{length-insn_slots, slots-append}
 use Rattle.policy_glue.specs.Checked.{rule_expanded, rule_trees}
@@ -38,12 +39,7 @@ unfolding message_tail
 message_tail_ends i d = refl
 
 pub tail_put : (i : ℕ) (tail : List Insn) (d : Insn) (e e1 e2 : Emitted) → tail ≡ message_tail i → e1 ≡ with_piece e (take 5 tail) → e2 ≡ with_piece e1 (get_or tail 5 d ∷ []) → e2 ≡ with_piece e (message_tail i)
-tail_put i tail d e e1 e2 is first last =
-    last
-    ∙ ap (λ (x : Emitted). with_piece x (get_or tail 5 d ∷ [])) first
-    ∙ pieces_joined e (take 5 tail) (get_or tail 5 d ∷ [])
-    ∙ ap (λ (l : List Insn). with_piece e (take 5 l ++ get_or l 5 d ∷ [])) is
-    ∙ ap (with_piece e) (message_tail_ends i d)
+tail_put i tail d e e1 e2 is first last = grind (arith, pieces_joined, message_tail_ends)
 
 message_tail_last : (i : ℕ) (d : Insn) → slot_count (get_or (message_tail i) 5 d) ≡ 1
 unfolding message_tail
@@ -75,7 +71,7 @@ few_slots e scope tree =
     let counted = with_counted e tree (nodes tree) in
     few_where (has_room counted) counted (code_at counted scope tree (length e.code)) (λ room.
     let within : counted.nodes ≤ 512 = leb-true counted.nodes 512 room in
-    let short = short_code tree counted.constants (routines_of scope counted.routines) [] 0 (length e.code) in
+    let short = whole_short tree counted.constants (routines_of scope counted.routines) (length e.code) in
     omega (arith, within, short))
 
 -- and stands behind the code that was there
@@ -95,9 +91,7 @@ slots_one x one = ap (λ (n : ℕ). Some x ∷ replicate (n - 1) None ++ []) one
 
 get_behind : (xs ys : List (Option Insn)) (k : ℕ) → slice_get (xs ++ ys) (length xs + k) ≡ slice_get ys k
 get_behind [] ys k = ap (slice_get ys) (omega arith)
-get_behind (x ∷ xs) ys k =
-    let same : suc (length xs) + k ≡ suc (length xs + k) = omega arith in
-    ap (slice_get (x ∷ (xs ++ ys))) same ∙ get_behind xs ys k
+get_behind (x ∷ xs) ys k = grind (arith, get_behind xs ys k)
 
 set_behind : (xs ys : List (Option Insn)) (x y : Option Insn) → slice_set (xs ++ x ∷ ys) (length xs) y ≡ xs ++ y ∷ ys
 set_behind [] ys x y = refl
@@ -135,13 +129,7 @@ module _ (f : FailurePolicy) (i : ℕ) (scope : List Declaration) (tree : CoreTr
 
   -- the other jump, when the first one has its way
   pub leave_stands : (e4 : Emitted) (new : Insn) → e4 ≡ with_insn_at e3 (length e.code) new → slice_get e4.code (length e.code + 5) ≡ Some (Some (leave_error f 4))
-  leave_stands e4 new put =
-      let behind = slots (denial_code f i 0) ++ rest in
-      let code : e4.code ≡ e.code ++ Some new ∷ behind =
-      ap (λ (x : Emitted). x.code) put ∙ ap (λ (l : List (Option Insn)). slice_set l (length e.code) (Some new)) stands ∙ set_behind e.code behind (Some jump) (Some new) in
-      ap (λ (l : List (Option Insn)). slice_get l (length e.code + 5)) code
-      ∙ get_behind e.code (Some new ∷ behind) 5
-      ∙ leave_in rest
+  leave_stands e4 new put = grind (arith, stands, set_behind, get_behind, leave_in)
 
   -- all of it is short
   pub few_between : (last : ℕ) → last + 1 ≡ length e3.code → (last - length e.code < 32768) × (length e.code + 5 ≤ last)
@@ -177,15 +165,11 @@ one_more : (ds : List Declaration) (v : VariableTree) → length (with_variable 
 one_more ds v = length-append ds (declared v.name (type_or_any (type_of v.expression (scope_of ds))) (depth_in ds v.expression) ∷ [])
 
 -- a scope with more variables begins with those that were there
-scope_begins : (vs : List VariableTree) (ds : List Declaration) → (more : List Declaration) × (fold with_variable ds vs ≡ ds ++ more)
+pub scope_begins : (vs : List VariableTree) (ds : List Declaration) → (more : List Declaration) × (fold with_variable ds vs ≡ ds ++ more)
 scope_begins [] ds = ([], sym (append-nil ds))
 scope_begins (v ∷ vs) ds =
     let whole = scope_begins vs (with_variable ds v) in
     (_, whole.1 ∙ append_assoc ds _ whole.0)
-
-take_front : {A : Type 0} (xs ys : List A) → take (length xs) (xs ++ ys) ≡ xs
-take_front [] ys = refl
-take_front (x ∷ xs) ys = ap (λ l. x ∷ l) (take_front xs ys)
 
 abbrev FitsAt : List Declaration → CoreTree → Type 0
 FitsAt ds tree = (need tree ≤ 60) × (depth tree (depths_of ds) ≤ 6)
@@ -194,16 +178,13 @@ fits_first : (v : VariableTree) (more : List VariableTree) (ds : List Declaratio
 fits_first v more ds tree are is =
     let here : expanded v.expression ≡ tree = cc in
     let begun = scope_begins (v ∷ more) ds in
-    let front : ds ≡ take (length ds) (fold with_variable ds (v ∷ more)) = sym (ap (take (length ds)) begun.1 ∙ take_front ds begun.0) in
+    let front : ds ≡ take (length ds) (fold with_variable ds (v ∷ more)) = sym (ap (take (length ds)) begun.1 ∙ take-append_seam ds begun.0) in
     subst (λ (s : List Declaration). FitsAt s tree) front (subst (λ (a : CoreTree). FitsAt ds a) here (are.0.fits, are.1))
 
 fits_from : (vs : List VariableTree) (ds : List Declaration) → AreVariables ds vs → (i : ℕ) (tree : CoreTree) → slice_get (variable_trees vs) i ≡ Some tree → FitsAt (take (length ds + i) (fold with_variable ds vs)) tree
 fits_from [] ds are i tree is = absurd (cc)
 fits_from (v ∷ more) ds are zero tree is = subst (λ (n : ℕ). FitsAt (take n (fold with_variable ds (v ∷ more))) tree) (omega arith) (fits_first v more ds tree are is)
-fits_from (v ∷ more) ds are (suc i) tree is =
-    let count = one_more ds v in
-    let rest = fits_from more (with_variable ds v) are.2 i tree is in
-    subst (λ (n : ℕ). FitsAt (take n (fold with_variable (with_variable ds v) more)) tree) (omega (arith, count)) rest
+fits_from (v ∷ more) ds are (suc i) tree is = grind (arith, fits_from more (with_variable ds v) are.2 i tree is, one_more)
 
 pub fit_in_order : (vs : List VariableTree) (declarations : List Declaration) (trees : List CoreTree) → AreVariables [] vs → declarations ≡ scope_after vs → trees ≡ variable_trees vs → FitInOrder declarations trees
 fit_in_order vs declarations trees are scope same =
@@ -214,37 +195,34 @@ length_scope [] ds = omega arith
 length_scope (v ∷ vs) ds = let rest = length_scope vs (with_variable ds v) in let count = one_more ds v in omega (arith, rest, count)
 
 pub as_many : {A B : Type 0} (f : A → Declaration) (g : B → CoreTree) (vs : List VariableTree) (xs : List A) (ys : List B) → map f xs ≡ scope_after vs → map g ys ≡ variable_trees vs → length ys ≤ length xs
-as_many f g vs xs ys scope same =
-    let a = sym (length-map xs f) ∙ ap (λ (l : List Declaration). length l) scope ∙ length_scope vs [] in
-    let b = sym (length-map ys g) ∙ ap (λ (l : List CoreTree). length l) same ∙ length-map vs (λ (v : VariableTree). expanded v.expression) in
-    omega (arith, a, b)
+as_many f g vs xs ys scope same = grind (arith, length-map, length_scope)
 
 -- ---- conditions and validations
 
 first_same : {A : Type 0} (x y : A) (xs ys : List A) → x ∷ xs ≡ y ∷ ys → x ≡ y
 first_same x y xs ys e = cc
 
-rest_same : {A : Type 0} (x y : A) (xs ys : List A) → x ∷ xs ≡ y ∷ ys → xs ≡ ys
-rest_same x y xs ys e = cc
-
 pub conditions_fit : (trees : List Tree) (cores : List Core) → AreConditions trees → map core_view cores ≡ map expanded trees → (k : ℕ) (d : Core) → k < length cores → Fits (core_view (slice_index_or cores k d))
 conditions_fit trees [] are same k d below = absurd (omega arith)
 conditions_fit [] (c ∷ cores) are same k d below = absurd (cc)
-conditions_fit (a ∷ more) (c ∷ cores) are same zero d below = let here = first_same (core_view c) (expanded a) (map core_view cores) (map expanded more) same in subst Fits (sym here) are.0.fits
-conditions_fit (a ∷ more) (c ∷ cores) are same (suc k) d below = let rest = rest_same (core_view c) (expanded a) (map core_view cores) (map expanded more) same in conditions_fit more cores are.1 rest k d (omega arith)
+conditions_fit (a ∷ more) (c ∷ cores) are same zero d below = let here : core_view c ≡ expanded a = cc in subst Fits (sym here) are.0.fits
+conditions_fit (a ∷ more) (c ∷ cores) are same (suc k) d below = conditions_fit more cores are.1 (cc) k d (omega arith)
 
 pub rules_fit : (scope : List Declaration) (rs : List RuleTree) (vs : List CheckedValidation) → AreRules scope rs → map rule_trees vs ≡ map rule_expanded rs → (k : ℕ) (d : CheckedValidation) → k < length vs → Fits (core_view (slice_index_or vs k d).expression)
 rules_fit scope rs [] are same k d below = absurd (omega arith)
 rules_fit scope [] (v ∷ vs) are same k d below = absurd (cc)
-rules_fit scope (r ∷ more) (v ∷ vs) are same zero d below = let here : core_view v.expression ≡ expanded r.expression = ap (λ (p : CoreTree × Option CoreTree). p.0) (first_same (rule_trees v) (rule_expanded r) (map rule_trees vs) (map rule_expanded more) same) in subst Fits (sym here) are.0.fits
-rules_fit scope (r ∷ more) (v ∷ vs) are same (suc k) d below = let rest = rest_same (rule_trees v) (rule_expanded r) (map rule_trees vs) (map rule_expanded more) same in rules_fit scope more vs are.2 rest k d (omega arith)
+rules_fit scope (r ∷ more) (v ∷ vs) are same zero d below =
+    let heads = first_same (rule_trees v) (rule_expanded r) (map rule_trees vs) (map rule_expanded more) same in
+    subst Fits (sym (ap (λ (p : CoreTree × Option CoreTree). p.0) heads)) are.0.fits
+rules_fit scope (r ∷ more) (v ∷ vs) are same (suc k) d below = rules_fit scope more vs are.2 (cc) k d (omega arith)
 
 message_fits : (scope : List Declaration) (m : Option Tree) → IsMessage scope m → MayFit (option_map expanded m)
-message_fits scope (Some a) is = is.fits
-message_fits scope None is = tt
+message_fits scope m is = grind arith
 
 pub messages_fit : (scope : List Declaration) (rs : List RuleTree) (vs : List CheckedValidation) → AreRules scope rs → map rule_trees vs ≡ map rule_expanded rs → (k : ℕ) (d : CheckedValidation) → k < length vs → MayFit (option_map core_view (slice_index_or vs k d).message)
 messages_fit scope rs [] are same k d below = absurd (omega arith)
 messages_fit scope [] (v ∷ vs) are same k d below = absurd (cc)
-messages_fit scope (r ∷ more) (v ∷ vs) are same zero d below = let here : option_map core_view v.message ≡ option_map expanded r.message = ap (λ (p : CoreTree × Option CoreTree). p.1) (first_same (rule_trees v) (rule_expanded r) (map rule_trees vs) (map rule_expanded more) same) in subst MayFit (sym here) (message_fits scope r.message are.1)
-messages_fit scope (r ∷ more) (v ∷ vs) are same (suc k) d below = let rest = rest_same (rule_trees v) (rule_expanded r) (map rule_trees vs) (map rule_expanded more) same in messages_fit scope more vs are.2 rest k d (omega arith)
+messages_fit scope (r ∷ more) (v ∷ vs) are same zero d below =
+    let heads = first_same (rule_trees v) (rule_expanded r) (map rule_trees vs) (map rule_expanded more) same in
+    subst MayFit (sym (ap (λ (p : CoreTree × Option CoreTree). p.1) heads)) (message_fits scope r.message are.1)
+messages_fit scope (r ∷ more) (v ∷ vs) are same (suc k) d below = messages_fit scope more vs are.2 (cc) k d (omega arith)

@@ -1,10 +1,10 @@
 -- The code of a policy's program as it is emitted, where the program is within its limits.
-use Rattle.std.proofs.Common.{◌≡◌, ℕ, suc, ◌+◌, ◌-◌, ◌≤◌, Bool, true, List, [], ◌∷◌, ◌++◌, length, length-append, map, take, append-nil, append_assoc, Option, Some, None, fold, refl, sym, ap, ◌∙◌, subst, arith, if◌then◌else◌}
+use Rattle.std.proofs.Common.{◌≡◌, ℕ, ◌+◌, ◌-◌, ◌≤◌, Bool, true, List, [], ◌∷◌, ◌++◌, length, length-append, map, take, append-nil, append_assoc, Option, Some, None, fold, refl, sym, ap, ◌∙◌, subst, arith, if◌then◌else◌}
 use Rattle.std.specs.Prelude.{option_map, slice_set}
 use Rattle.std.specs.List.{sum_by}
 use Rattle.std.proofs.lemmas.Bool.{le-leb}
-use Rattle.std.proofs.lemmas.List.{take-append-le, take_all}
 use Rattle.std.proofs.lemmas.List.Sums.{sum_by-cons}
+use Rattle.std.proofs.Math.Seq.{take-append_seam}
 use Rattle.insn_codec.specs.declared.insn.Insn.{Insn}
 use Rattle.cel_reader.specs.Tree.{Tree}
 use Rattle.cel_macros.specs.CoreTree.{expanded}
@@ -18,7 +18,7 @@ use Rattle.codegen_base.specs.Variables.{memo_tail}
 use Rattle.codegen_base.proofs.Pieces.{size-append, size-cons, slots-append}
 use Rattle.codegen.specs.Added.{code_at, has_room, passed, with_code, with_expression, with_variable}
 use Rattle.codegen.specs.Added.{with_routine as with_emitted_routine}
-use Rattle.codegen.specs.Code.Expressions.{code_of, routine_code}
+use Rattle.codegen.specs.Code.Whole.{routine_code, whole_code}
 use Rattle.codegen.specs.Emitted.{Emitted, no_code, with_insn_at, with_nodes, with_piece}
 use Rattle.codegen.specs.Surroundings.{routines_of}
 use Rattle.policy_glue.specs.Checked.{rule_expanded}
@@ -32,6 +32,7 @@ use Rattle.policy_glue.specs.ProgramCode.{with_message as with_message_laid}
 use Rattle.policy_glue.specs.ProgramParts.{decided_slots}
 use Rattle.policy_glue.specs.Trees.{PolicyTree, RuleTree, VariableTree}
 use Rattle.policy_glue.specs.declared.failure_policy.FailurePolicy.{FailurePolicy}
+use Rattle.policy_glue.proofs.EmissionSteps.{scope_begins}
 use Rattle.policy_glue.proofs.EmittedCounts.{emitted_before, emitted_of}
 use Rattle.policy_glue.proofs.ProgramRows.{tail_size}
 use Rattle.policy_glue.proofs.ProgramRules.{message_tail_size, result_size}
@@ -77,7 +78,7 @@ same_expression ds e l code n a s few =
       is = ap (λ (x : Emitted). with_expression x ds tree) s.is
           ∙ ap (λ (m : ℕ). with_code (record { code = slots code; constants = texts; nodes = m; routines = l.routines }) ds tree) (nodes_more n k)
           ∙ ap (λ (b : Bool). if b then with_piece counted (code_at counted ds tree (size code)) else counted) (has_room_in code texts (n + k) l.routines few)
-          ∙ ap (λ (p : ℕ). with_piece counted (code_of tree texts (routines_of ds l.routines) [] 0 p)) (sym s.place)
+          ∙ ap (λ (p : ℕ). with_piece counted (whole_code tree texts (routines_of ds l.routines) p)) (sym s.place)
           ∙ piece_put code (tree_code ds l a) texts (n + k) l.routines;
       place = omega arith;
     }
@@ -112,18 +113,10 @@ abbrev taken_declaration : List Declaration → VariableTree → Declaration
 taken_declaration ds v = declared v.name (type_or_any (type_of v.expression (scope_of ds))) (depth_in ds v.expression)
 
 -- the first of the declarations
-begins : (ds : List Declaration) (vs : List VariableTree) → (rest : List Declaration) × (fold with_declared ds vs ≡ ds ++ rest)
-begins ds [] = ([], sym (append-nil ds))
-begins ds (v ∷ vs) =
-    let more = begins (with_declared ds v) vs in
-    let newest = taken_declaration ds v in
-    (newest ∷ more.0, more.1 ∙ append_assoc ds (newest ∷ []) more.0)
-
-take_front : (ds rest : List Declaration) (i : ℕ) → length ds ≡ i → take i (ds ++ rest) ≡ ds
-take_front ds rest i long = take-append-le i ds rest (omega arith) ∙ take_all i ds (omega arith)
-
 first_declared : (all ds : List Declaration) (i : ℕ) (vs : List VariableTree) → fold with_declared ds vs ≡ all → length ds ≡ i → take i all ≡ ds
-first_declared all ds i vs is long = let rest = begins ds vs in ap (take i) (sym is ∙ rest.1) ∙ take_front ds rest.0 i long
+first_declared all ds i vs is long =
+    let rest = scope_begins vs ds in
+    ap (take i) (sym is ∙ rest.1) ∙ ap (λ n. take n (ds ++ rest.0)) (sym long) ∙ take-append_seam ds rest.0
 
 same_variables : (all ds : List Declaration) (i : ℕ) (vs : List VariableTree) (e : Emitted) (l : Laid) (code : List Insn) (n : ℕ) → fold with_declared ds vs ≡ all → length ds ≡ i → n + sum_by (λ v. part_nodes v.expression) vs ≤ 512 → Same e l code n → Same (with_variables all i e (map (λ v. expanded v.expression) vs)) (after_variables ds l vs) (code ++ routines_code (variable_codes ds l vs)) (n + sum_by (λ v. part_nodes v.expression) vs)
 same_variables all ds i [] e l code n is long few s = same_at e l code (code ++ []) n (n + 0) (sym (append-nil code)) (omega arith) s
@@ -168,9 +161,7 @@ same_decided (a ∷ more) before e l code n s = same_piece e l code n decided_ta
 
 set_behind : (xs ys : List (Option Insn)) (k : ℕ) (o : Option Insn) → slice_set (xs ++ ys) (length xs + k) o ≡ xs ++ slice_set ys k o
 set_behind [] ys k o = ap (λ (m : ℕ). slice_set ys m o) (omega arith)
-set_behind (x ∷ xs) ys k o =
-    let same : suc (length xs) + k ≡ suc (length xs + k) = omega arith in
-    ap (λ (m : ℕ). slice_set (x ∷ (xs ++ ys)) m o) same ∙ ap (λ (l : List (Option Insn)). x ∷ l) (set_behind xs ys k o)
+set_behind (x ∷ xs) ys k o = grind (arith, set_behind xs ys k o)
 
 -- the code behind a validation, in which two jumps get their way
 way_put : (f : FailurePolicy) (i n : ℕ) (message : List Insn) → slice_set (slice_set (slots (result_code f i [] ++ message)) 0 (Some (if_true (n + 9)))) 5 (Some (leave_error f (n + 4))) ≡ slots (if_true (n + 9) ∷ (denial_code f i n ++ message))

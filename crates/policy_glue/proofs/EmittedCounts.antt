@@ -1,5 +1,5 @@
 -- The nodes and the texts of a policy's program as it is emitted.
-use Rattle.std.proofs.Common.{◌≡◌, ℕ, ◌+◌, Bool, true, false, List, [], ◌∷◌, ◌++◌, map, take, Option, Some, None, length, if◌then◌else◌, refl, sym, ap, ◌∙◌, subst, arith}
+use Rattle.std.proofs.Common.{◌≡◌, ℕ, ◌+◌, Bool, true, false, List, [], ◌∷◌, ◌++◌, map, take, Option, Some, None, refl, sym, ap, ◌∙◌, arith}
 use Rattle.std.specs.Prelude.{option_map}
 use Rattle.std.specs.List.{sum_by}
 use Rattle.std.proofs.lemmas.List.Sums.{fold-append, sum_by-cons}
@@ -9,7 +9,7 @@ use Rattle.cel_macros.specs.CoreTree.{CoreTree, expanded}
 use Rattle.cel_measures.specs.Measures.{nodes}
 use Rattle.cel_measures.specs.Saturated.{saturated}
 use Rattle.cel_types.specs.Declarations.{Declaration}
-use Rattle.codegen.specs.Added.{code_at, has_room, with_code, with_counted, with_expression, with_variable}
+use Rattle.codegen.specs.Added.{has_room, with_code, with_counted, with_expression, with_variable}
 use Rattle.codegen.specs.Added.{with_routine as with_emitted_routine}
 use Rattle.codegen.specs.Code.Expressions.{texts_of}
 use Rattle.codegen.specs.Constants.{with_text, with_texts}
@@ -18,7 +18,7 @@ use Rattle.policy_glue.specs.Checked.{rule_expanded}
 use Rattle.policy_glue.specs.Checking.{scope_after}
 use Rattle.policy_glue.specs.Emission.{with_condition, with_conditions, with_decided, with_result, with_validation, with_validations, with_variables}
 use Rattle.policy_glue.specs.Limits.{condition_texts, message_nodes, message_texts, part_nodes, policy_nodes, policy_texts, rule_nodes, rule_texts, tree_texts, validation_texts, variable_texts}
-use Rattle.policy_glue.specs.Program.{decided_tail, outcome_tail, result_code}
+use Rattle.policy_glue.specs.Program.{outcome_tail, result_code}
 use Rattle.policy_glue.specs.Trees.{PolicyTree, RuleTree, VariableTree}
 use Rattle.policy_glue.specs.declared.failure_policy.FailurePolicy.{FailurePolicy}
 
@@ -40,8 +40,7 @@ counts_piece e n texts piece c = record { nodes_are = c.nodes_are; texts_are = c
 
 -- where there is no room for code, all is counted alike
 counts_code : (here : Bool) (e : Emitted) (ds : List Declaration) (tree : CoreTree) (n : ℕ) (texts : List (List ℕ)) → has_room e ≡ here → Counts e n texts → Counts (with_code e ds tree) n texts
-counts_code true e ds tree n texts room c = subst (λ (b : Bool). Counts (if b then with_piece e (code_at e ds tree (length e.code)) else e) n texts) (sym room) (counts_piece e n texts (code_at e ds tree (length e.code)) c)
-counts_code false e ds tree n texts room c = subst (λ (b : Bool). Counts (if b then with_piece e (code_at e ds tree (length e.code)) else e) n texts) (sym room) c
+counts_code here e ds tree n texts room c = grind (arith, counts_piece)
 
 counts_routine : (here : Bool) (e : Emitted) (ds : List Declaration) (tree : CoreTree) (n : ℕ) (texts : List (List ℕ)) → has_room e ≡ here → Counts e n texts → Counts (with_emitted_routine e ds tree) n texts
 counts_routine true e ds tree n texts room c = rw room (record { nodes_are = c.nodes_are; texts_are = c.texts_are })
@@ -82,8 +81,7 @@ counts_conditions f e n texts (a ∷ more) c =
     (counts_conditions f (with_condition f e (expanded a)) (n + 1 + nodes (expanded a)) (with_texts texts (tree_texts a)) more (counts_condition f e n texts a c))
 
 counts_decided : (cs : List CoreTree) (e : Emitted) (n : ℕ) (texts : List (List ℕ)) → Counts e n texts → Counts (with_decided e cs) n texts
-counts_decided [] e n texts c = c
-counts_decided (a ∷ more) e n texts c = counts_piece e n texts decided_tail c
+counts_decided cs e n texts c = grind (arith, counts_piece)
 
 counts_result : (f : FailurePolicy) (i : ℕ) (ds : List Declaration) (e : Emitted) (n : ℕ) (texts : List (List ℕ)) (m : Option Tree) → Counts e n texts → Counts (with_result f i ds e (option_map expanded m)) (n + message_nodes m) (with_texts texts (message_texts m))
 counts_result f i ds e n texts None c = record { nodes_are = (let same = c.nodes_are in omega arith); texts_are = c.texts_are }
@@ -93,11 +91,7 @@ counts_result f i ds e n texts (Some a) c =
     record { nodes_are = (let same = counted.nodes_are in omega arith); texts_are = counted.texts_are }
 
 counts_validation : (f : FailurePolicy) (i : ℕ) (ds : List Declaration) (e : Emitted) (n : ℕ) (texts : List (List ℕ)) (r : RuleTree) → Counts e n texts → Counts (with_validation f i ds e (rule_expanded r)) (n + rule_nodes r) (with_texts texts (rule_texts r))
-counts_validation f i ds e n texts r c =
-    let counted = counts_expression (with_nodes e 1) ds (expanded r.expression) (n + 1) texts (counts_nodes e n 1 texts c) in
-    let behind = with_expression (with_nodes e 1) ds (expanded r.expression) in
-    let all = counts_result f i ds behind (n + 1 + nodes (expanded r.expression)) (with_texts texts (tree_texts r.expression)) r.message counted in
-    same_counts (with_validation f i ds e (rule_expanded r)) _ _ _ _ (omega arith) (sym (fold-append with_text texts (tree_texts r.expression) (message_texts r.message))) all
+counts_validation f i ds e n texts r c = grind (arith, counts_expression, counts_nodes, counts_result, same_counts, fold-append)
 
 counts_validations : (f : FailurePolicy) (i : ℕ) (ds : List Declaration) (e : Emitted) (n : ℕ) (texts : List (List ℕ)) (rs : List RuleTree) → Counts e n texts → Counts (with_validations f i ds e (map rule_expanded rs)) (n + sum_by rule_nodes rs) (with_texts texts (validation_texts rs))
 counts_validations f i ds e n texts [] c = same_counts e n (n + 0) texts texts (omega arith) refl c

@@ -1,5 +1,5 @@
 -- What an emitter answers once it has taken a policy.
-use Rattle.std.proofs.Common.{◌≡◌, ℕ, ◌*◌, ◌<◌, ◌≤◌, List, [], ◌∷◌, ◌++◌, length, append-nil, Option, Some, None, refl, inl, inr, sym, ap, ◌∙◌, arith}
+use Rattle.std.proofs.Common.{◌≡◌, ℕ, ◌*◌, ◌<◌, ◌≤◌, List, [], ◌∷◌, ◌++◌, length, append-nil, Some, None, refl, sym, ap, ◌∙◌, arith}
 use Rattle.std.proofs.lemmas.Bool.{cases_lt, le-ltb, lt-ltb}
 use Rattle.insn_codec.specs.Spelling.{spelling}
 use Rattle.insn_codec.specs.declared.insn.Insn.{Insn}
@@ -7,13 +7,13 @@ use Rattle.insn_codec.specs.declared.insn.Insn.TheVariants.{Exit}
 use Rattle.codegen_base.specs.Pieces.{slots, spellings}
 use Rattle.codegen_base.proofs.Pieces.{slots-append}
 use Rattle.codegen.specs.Constants.{joined}
-use Rattle.codegen.specs.Emitted.{HasTooManyTexts, IsTooLong, no_code, slot_spellings, with_nodes, with_piece}
+use Rattle.codegen.specs.Emitted.{HasTooManyTexts, IsTooLong, slot_spellings}
 use Rattle.codegen.proofs.Finished.{slot_spellings-append, slots_spelled}
 use Rattle.policy_glue.specs.Checked.{IsChecked}
 use Rattle.policy_glue.specs.Checking.{scope_after}
-use Rattle.policy_glue.specs.Emission.{emitted, with_conditions, with_decided, with_validations, with_variables}
+use Rattle.policy_glue.specs.Emission.{emitted}
 use Rattle.policy_glue.specs.Limits.{excess, policy_nodes, policy_texts}
-use Rattle.policy_glue.specs.Program.{outcome_tail, policy_code}
+use Rattle.policy_glue.specs.Program.{policy_code}
 use Rattle.policy_glue.specs.ProgramCode.{condition_codes, laid_conditions, laid_routines, nothing_laid, program_of, validation_codes, variable_codes}
 use Rattle.policy_glue.specs.Trees.{PolicyTree}
 use Rattle.policy_glue.specs.declared.checked.Checked.{Checked}
@@ -24,8 +24,7 @@ use Rattle.policy_glue.proofs.EmittedCounts.{emitted_of, policy_counted}
 
 -- what was checked is emitted as the policy's trees
 pub emitted_is : (f : FailurePolicy) (c : Checked) (t : PolicyTree) → IsChecked c t → emitted f c ≡ emitted_of f t
-emitted_is f c t is =
-    λ i. with_piece (with_validations f 0 (is.scope i) (with_decided (with_conditions f (with_variables (is.scope i) 0 (with_nodes no_code 1) (is.variables i)) (is.conditions i)) (is.conditions i)) (is.validations i)) outcome_tail
+emitted_is f c t is = grind arith
 
 -- ---- limits
 
@@ -42,25 +41,13 @@ pub excess_long : (f : FailurePolicy) (t : PolicyTree) → IsTooLong (emitted_of
 excess_long f t h = rw (lt-ltb 65536 (128 * policy_nodes t) (too_long f t h)) refl
 
 not_long : (f : FailurePolicy) (t : PolicyTree) → (IsTooLong (emitted_of f t) → ⊥) → 128 * policy_nodes t ≤ 65536
-not_long f t short =
-    elim (cases_lt 65536 (128 * policy_nodes t)) [
-      | inl more ↦ absurd (short (too_long_is f t more))
-      | inr less ↦ omega arith
-    ]
+not_long f t short = grind (arith, cases_lt, too_long_is)
 
 pub excess_texts : (f : FailurePolicy) (t : PolicyTree) → (IsTooLong (emitted_of f t) → ⊥) → HasTooManyTexts (emitted_of f t) → excess t ≡ Some G4
-excess_texts f t short h =
-    let same = texts_are f t in
-    rw (le-ltb 65536 (128 * policy_nodes t) (not_long f t short), lt-ltb 1048576 (length (joined (policy_texts t))) (omega arith)) refl
+excess_texts f t short h = grind (arith, texts_are, le-ltb, not_long, lt-ltb)
 
 no_excess : (f : FailurePolicy) (t : PolicyTree) → (IsTooLong (emitted_of f t) → ⊥) → (HasTooManyTexts (emitted_of f t) → ⊥) → excess t ≡ None
-no_excess f t short few =
-    let same = texts_are f t in
-    let small : length (joined (policy_texts t)) ≤ 1048576 = elim (cases_lt 1048576 (length (joined (policy_texts t)))) [
-      | inl more ↦ absurd (few (omega arith))
-      | inr less ↦ omega arith
-    ] in
-    rw (le-ltb 65536 (128 * policy_nodes t) (not_long f t short), le-ltb 1048576 (length (joined (policy_texts t))) small) refl
+no_excess f t short few = grind (arith, texts_are, cases_lt, le-ltb, not_long)
 
 -- ---- bytes
 
@@ -78,9 +65,4 @@ with_exit piece =
 -- the bytes that it answers are those of the policy's program, and of its texts
 pub finished : (f : FailurePolicy) (t : PolicyTree) (code constants : List ℕ) → (IsTooLong (emitted_of f t) → ⊥) → (HasTooManyTexts (emitted_of f t) → ⊥) → code ≡ slot_spellings (emitted_of f t).code ++ spelling Exit → constants ≡ joined (emitted_of f t).constants → (excess t ≡ None) × (code ≡ spellings (program_of f t)) × (constants ≡ joined (policy_texts t))
 unfolding program_of
-finished f t code constants short few is are =
-    let room = not_long f t short in (
-      no_excess f t short few,
-      is ∙ ap (λ (os : List (Option Insn)). slot_spellings os ++ spelling Exit) (policy_emitted f t (omega arith)) ∙ with_exit (code_before f t),
-      are ∙ ap joined (policy_counted f t).texts_are,
-    )
+finished f t code constants short few is are = grind (arith, not_long, no_excess, policy_emitted, with_exit, policy_counted, texts_are)

@@ -1,5 +1,7 @@
 -- A list that is filled from the left.
-use Rattle.std.proofs.Common.{◌≡◌, ◌<◌, ◌+◌, ◌⊎◌, inl, inr, ℕ, zero, suc, List, [], ◌∷◌, length, map, set, get_or, Option, Some, None, arith, refl, sym, ap, ◌∙◌, subst}
+use Rattle.std.proofs.Common.{◌≡◌, ◌<◌, ◌+◌, inl, inr, ℕ, zero, suc, List, [], ◌∷◌, length, map, set, get_or, Option, Some, None, arith, refl, sym, ap, ◌∙◌, subst}
+use Rattle.std.proofs.lemmas.Bool.{cases_lt}
+use Rattle.std.proofs.lemmas.List.{length-set}
 use Rattle.std.specs.Prelude.{slice_get}
 use Rattle.policy_glue.specs.Denials.{lent}
 
@@ -18,33 +20,22 @@ set_below (x ∷ xs) zero k y h = absurd (omega arith)
 set_below (x ∷ xs) (suc i) (suc k) y h = set_below xs i k y (omega arith)
 set_below _ _ _ y h = refl
 
-set_size : {A : Type 0} (xs : List A) (i : ℕ) (y : A) → length (set xs i y) ≡ length xs
-set_size (x ∷ xs) (suc i) y = ap suc (set_size xs i y)
-set_size _ _ y = refl
-
 map-set : {A B : Type 0} (g : A → B) (xs : List A) (i : ℕ) (y : A) → map g (set xs i y) ≡ set (map g xs) i (g y)
 map-set g (x ∷ xs) (suc i) y = ap (λ ys. g x ∷ ys) (map-set g xs i y)
 map-set g _ _ y = refl
 
-more_by : {A : Type 0} (f : ℕ → A) (n i k : ℕ) (xs : List A) (y : A) → IsFilled f n i xs → i < length xs → y ≡ f i → (k < i) ⊎ (k ≡ i)
+more_by : {A : Type 0} (f : ℕ → A) (n i k : ℕ) (xs : List A) (y : A) → IsFilled f n i xs → i < length xs → y ≡ f i → k < i + 1
     → slice_get (set xs i y) k ≡ Some (f k)
-more_by f n i k xs y go h is (inl below) = set_below xs i k y below ∙ go.each k below
-more_by f n i k xs y go h is (inr at) = ap (slice_get (set xs i y)) at ∙ set_same xs i y h ∙ ap Some (is ∙ ap f (sym at))
-
-lifted : (k i : ℕ) → (k < i) ⊎ (k ≡ i) → (suc k < suc i) ⊎ (suc k ≡ suc i)
-lifted k i (inl below) = inl (omega arith)
-lifted k i (inr at) = inr (ap suc at)
-
-below_or_at : (k i : ℕ) → k < i + 1 → (k < i) ⊎ (k ≡ i)
-below_or_at zero zero h = inr refl
-below_or_at zero (suc i) h = inl (omega arith)
-below_or_at (suc k) zero h = absurd (omega arith)
-below_or_at (suc k) (suc i) h = lifted k i (below_or_at k i (omega arith))
+more_by f n i k xs y go h is within =
+    elim (cases_lt k i) [
+      | inl below ↦ set_below xs i k y below ∙ go.each k below
+      | inr past ↦ let at : k ≡ i = omega arith in ap (slice_get (set xs i y)) at ∙ set_same xs i y h ∙ ap Some (is ∙ ap f (sym at))
+    ]
 
 pub filled_more : {A : Type 0} (f : ℕ → A) (n i : ℕ) (xs : List A) (y : A) → IsFilled f n i xs → i < n → y ≡ f i → IsFilled f n (i + 1) (set xs i y)
 filled_more f n i xs y go h is = record {
-  size = set_size xs i y ∙ go.size;
-  each = λ k below. more_by f n i k xs y go (subst (λ m. i < m) (sym go.size) h) is (below_or_at k i below);
+  size = length-set xs i y ∙ go.size;
+  each = λ k below. more_by f n i k xs y go (subst (λ m. i < m) (sym go.size) h) is below;
 }
 
 -- the same of what the elements show

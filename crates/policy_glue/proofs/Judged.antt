@@ -1,5 +1,5 @@
 -- The judging of a text, step by step, over plain variables.
-use Rattle.std.proofs.Common.{◌≡◌, ◌≤◌, ◌<◌, ◌++◌, ◌∷◌, [], ℕ, Bool, List, nat_lt, true, false, Option, Some, None, Result, Ok, Err, IsErr, IfSome, arith, refl, sym, ap, ◌∙◌, subst}
+use Rattle.std.proofs.Common.{◌≡◌, ◌≤◌, ◌<◌, ◌++◌, ◌∷◌, [], ℕ, Bool, List, nat_lt, true, false, Option, Some, None, Result, Ok, Err, IsErr, IfSome, arith, refl, sym, ap, ◌∙◌}
 use Rattle.std.proofs.lemmas.Bool.{false≢true, ltb-false}
 use Rattle.std.proofs.lemmas.Bool.Decides.{nat_tests}
 use Rattle.std.specs.Prelude.{if◌then◌else◌}
@@ -21,7 +21,6 @@ use Rattle.cel_types.specs.Types.{Typing, allowed, fault_of}
 use Rattle.cel_types.specs.Typing.{typing}
 use Rattle.cel_types.specs.declared.cel_type.CelType.{CelType}
 use Rattle.cel_types.specs.declared.type_error.TypeError.{TypeError}
-use Rattle.cel_types.specs.declared.type_error.TypeError.TheVariants.{Y1}
 use Rattle.cel_measures.specs.Measures.{depth, need}
 use Rattle.cel_measures.specs.Saturated.{saturated}
 use Rattle.policy_glue.specs.Checked.{ChecksRule, Expands, IsAdded, IsExpanded, Judges, JudgesVariable, Sorts, SortsMessage}
@@ -36,6 +35,7 @@ use Rattle.policy_glue.specs.declared.part_kind.PartKind.TheVariants.{Message, V
 use Rattle.policy_glue.specs.declared.expression_error.ExpressionError.{ExpressionError}
 use Rattle.policy_glue.specs.declared.expression_error.ExpressionError.TheVariants.{G1, G2, Unread, Unexpanded, Untyped}
 use Rattle.policy_glue.specs.declared.expression_error.ExpressionError.TheVariants as expression_error
+use Rattle.policy_glue.proofs.OneExpression.{err_same}
 
 unread_by : (text : List ℕ) (e : ReadError) → Answers text (Err e) → Placed text (Err e) → Expands text (Err (from_reader e))
 unread_by text (P1 place) said at = λ some scope. unread (P1 place) (record { some = λ no. cc; answers = said; placed = at })
@@ -49,8 +49,7 @@ unread_by text read_error.Memory said at = λ some. absurd (some refl)
 -- the text is no expression
 pub unread_is : (text : List ℕ) (e : ReadError) (r : Result Core ExpressionError) → Answers text (Err e) → Placed text (Err e) → IsErr r
     → IsErrAnd r (λ x. x ≡ from_reader e) → Expands text r
-unread_is text e (Ok core) said at err is = absurd (false≢true err)
-unread_is text e (Err x) said at err is = subst (λ y. Expands text (Err y)) (sym is) (unread_by text e said at)
+unread_is text e r said at err is = grind (arith, false≢true, unread_by)
 
 -- a macro is not well formed
 macros_judged : (scope : List Declaration) (a : Tree) (fault : MacroFault) → macro_fault a ≡ Some fault
@@ -66,44 +65,31 @@ fault_by text a NoSelection reads is = λ some scope. judged a _ reads (macros_j
 memory_by : (text : List ℕ) (e : MacroError) → e ≡ macro_error.Memory → Expands text (Err (from_macros e))
 memory_by text e is = λ some. absurd (some (ap from_macros is))
 
-error_is : (x y : MacroError) → (let r : Result Core MacroError = Err x in r ≡ Err y) → x ≡ y
-error_is x y e = cc
-
 refused_by : (text : List ℕ) (a : Tree) (e : MacroError) (m : Option MacroFault) → Reads text a → macro_fault a ≡ m
     → IfSome m (λ fault. (let r : Result Core MacroError = Err e in r ≡ Err (fault_error fault))) → (m ≡ None → e ≡ macro_error.Memory)
     → Expands text (Err (from_macros e))
-refused_by text a e (Some fault) reads is clause only =
-    subst (λ x. Expands text (Err (from_macros x))) (sym (error_is e (fault_error fault) clause)) (fault_by text a fault reads is)
-refused_by text a e None reads is clause only = memory_by text e (only refl)
+refused_by text a e m reads is clause only = grind (arith, err_same, fault_by, memory_by)
 
 pub macros_refused : (text : List ℕ) (a : Tree) (e : MacroError) (r : Result Core ExpressionError) → Reads text a
     → IfSome (macro_fault a) (λ fault. (let r : Result Core MacroError = Err e in r ≡ Err (fault_error fault)))
     → (macro_fault a ≡ None → e ≡ macro_error.Memory)
     → IsErr r → IsErrAnd r (λ x. x ≡ from_macros e) → Expands text r
-macros_refused text a e (Ok core) reads clause only err is = absurd (false≢true err)
-macros_refused text a e (Err x) reads clause only err is =
-    subst (λ y. Expands text (Err y)) (sym is) (refused_by text a e (macro_fault a) reads refl clause only)
+macros_refused text a e r reads clause only err is = grind (arith, false≢true, refused_by)
 
 -- what has no type, or needs too many words
 
 type_error_of : (y : TypeError) → type_error (fault_of y) ≡ y
-type_error_of Y1 = refl
-type_error_of _ = refl
+type_error_of y = grind arith
 
 pub untyped_is : (t : Typing) (n : ℕ) (y : TypeError) (r : Result CelType ExpressionError) → types.refused (fault_of y) ≡ t → IsErr r
     → IsErrAnd r (λ x. x ≡ Untyped y) → r ≡ with_typing t n
-untyped_is t n y (Ok u) is err gives = absurd (false≢true err)
-untyped_is t n y (Err x) is err gives = ap Err (gives ∙ ap Untyped (sym (type_error_of y))) ∙ ap (λ s. with_typing s n) is
+untyped_is t n y r is err gives = grind (arith, false≢true, type_error_of)
 
 pub typed_is : (t : Typing) (n m : ℕ) (u : CelType) → types.typed u ≡ t → m ≡ saturated n → m ≤ 60 → Ok u ≡ with_typing t n
-typed_is t n m u is need fits =
-    let test : nat_lt 60 n ≡ false = grind (arith, nat_tests) in
-    ap (λ b. if b then Err G1 else Ok u) (sym test) ∙ ap (λ s. with_typing s n) is
+typed_is t n m u is need fits = grind (arith, nat_tests)
 
 pub needy_is : (t : Typing) (n m : ℕ) (u : CelType) → types.typed u ≡ t → m ≡ saturated n → 60 < m → Err G1 ≡ with_typing t n
-needy_is t n m u is need above =
-    let test : nat_lt 60 n ≡ true = grind (arith, nat_tests) in
-    ap (λ b. if b then Err G1 else Ok u) (sym test) ∙ ap (λ s. with_typing s n) is
+needy_is t n m u is need above = grind (arith, nat_tests)
 
 -- both together
 expression_is : (scope : List Declaration) (a : Tree) (r : Result CelType ExpressionError) → macro_fault a ≡ None
@@ -114,8 +100,7 @@ expression_is scope a r plain is = ap (λ m. with_macros m (typing a (scope_of s
 pub judged_is : (scope : List Declaration) (text : List ℕ) (core : Core) (t : CelType) → Expands text (Ok core)
     → ((a : Tree) → IsExpanded core a → Ok t ≡ with_typing (typing a (scope_of scope)) (need (expanded a)))
     → Judges (expression_judged scope) text (Ok (core, t))
-judged_is scope text core t expands types =
-    (expands.0, expands.1, record { reads = expands.2; judged = expression_is scope expands.0 (Ok t) expands.3 (types expands.0 expands.1) })
+judged_is scope text core t expands types = grind (arith, expression_is)
 
 pub mistyped_is : (scope : List Declaration) (text : List ℕ) (core : Core) (e : ExpressionError) → Expands text (Ok core)
     → ((a : Tree) → IsExpanded core a → Err e ≡ with_typing (typing a (scope_of scope)) (need (expanded a))) → Judges (expression_judged scope) text (Err e)
@@ -130,14 +115,10 @@ refused_too scope text e (judged a why reads is) = judged a why reads (ap (with_
 
 pub variable_refused : (scope : List Declaration) (text : List ℕ) (e : ExpressionError) (r : Result (Core × CelType) ExpressionError)
     → Judges (expression_judged scope) text (Err e) → IsErr r → IsErrAnd r (λ x. x ≡ e) → Judges (variable_judged scope) text r
-variable_refused scope text e (Ok x) judges err is = absurd (false≢true err)
-variable_refused scope text e (Err x) judges err is =
-    λ some. subst (IsRefused (variable_judged scope) text) (sym is) (refused_too scope text e (judges (λ no. some (is ∙ no))))
+variable_refused scope text e r judges err is = grind (arith, false≢true, refused_too)
 
 deep_by : (d : ℕ) (t : CelType) (r : Result CelType ExpressionError) → r ≡ Ok t → 6 < d → with_depth d r ≡ Err G2
-deep_by d t r is above =
-    let test : nat_lt 6 d ≡ true = grind (arith, nat_tests) in
-    ap (with_depth d) is ∙ ap (λ b. if b then Err G2 else Ok t) test
+deep_by d t r is above = grind (arith, nat_tests)
 
 above_by : (n m : ℕ) → m ≡ saturated n → 6 < m → 6 < n
 above_by n m is above = omega arith
@@ -166,26 +147,24 @@ part_by types other part place scope text G2 judges = λ some. refused G2 (judge
 part_by types other part place scope text expression_error.Memory judges = λ some. absurd (some refl)
 
 pub part_refused : (types : List CelType) (other : CompileError) (part : PartKind) (place : ℕ) (scope : List Declaration) (text : List ℕ) (e : ExpressionError) (x : CompileError) → Judges (expression_judged scope) text (Err e) → x ≡ in_part part place e → Sorts types other part place scope text (Err x)
-part_refused types other part place scope text e x judges is =
-    subst (λ y. Sorts types other part place scope text (Err y)) (sym is) (part_by types other part place scope text e judges)
+part_refused types other part place scope text e x judges is = grind (arith, part_by)
 
 -- ---- a variable in scope
 
-need_known : (b : Bool) (t u : CelType) → (if b then Err G1 else (let r : Result CelType ExpressionError = Ok t in r)) ≡ Ok u → t ≡ u
-need_known true t u is = cc
-need_known false t u is = cc
+-- what passes a guard is what was there
+pub guarded : (b : Bool) (g : ExpressionError) (t u : CelType)
+    → (if b then Err g else (let r : Result CelType ExpressionError = Ok t in r)) ≡ Ok u → (b ≡ false) × (t ≡ u)
+guarded true g t u is = cc
+guarded false g t u is = (refl, cc)
 
 type_known : (m : Option MacroFault) (t : Typing) (n : ℕ) (u : CelType) → with_macros m t n ≡ Ok u → type_or_any t ≡ u
-type_known None (types.typed t) n u is = need_known (nat_lt 60 n) t u is
+type_known None (types.typed t) n u is = (guarded (nat_lt 60 n) G1 t u is).1
 type_known _ _ n u is = cc
 
-deep_known : (b : Bool) (t u : CelType) → (if b then Err G2 else (let r : Result CelType ExpressionError = Ok t in r)) ≡ Ok u → (b ≡ false) × (t ≡ u)
-deep_known true t u is = cc
-deep_known false t u is = (refl, cc)
-
-shallow_known : (d : ℕ) (r : Result CelType ExpressionError) (u : CelType) → with_depth d r ≡ Ok u → (nat_lt 6 d ≡ false) × (r ≡ Ok u)
+-- what passes the guard of depths is shallow, and was there
+pub shallow_known : (d : ℕ) (r : Result CelType ExpressionError) (u : CelType) → with_depth d r ≡ Ok u → (nat_lt 6 d ≡ false) × (r ≡ Ok u)
 shallow_known d (Err e) u is = cc
-shallow_known d (Ok t) u is = let known = deep_known (nat_lt 6 d) t u is in (known.0, ap Ok known.1)
+shallow_known d (Ok t) u is = let known = guarded (nat_lt 6 d) G2 t u is in (known.0, ap Ok known.1)
 
 small_by : (d : ℕ) → nat_lt 6 d ≡ false → saturated d ≡ d
 small_by d is = let within : d ≤ 6 = ltb-false 6 d is in omega arith
@@ -214,8 +193,7 @@ added_is n place old new core t d before after judges depth_is scope_is trees_ar
 
 pub passed_on : {X : Type 0} (Target : Result X CompileError → Type 0) (e : CompileError) (r : Result X CompileError) → Target (Err e) → IsErr r
     → IsErrAnd r (λ x. x ≡ e) → Target r
-passed_on Target e (Ok x) here err is = absurd (false≢true err)
-passed_on Target e (Err x) here err is = subst (λ y. Target (Err y)) (sym is) here
+passed_on Target e r here err is = grind (arith, false≢true)
 
 -- ---- a validation
 

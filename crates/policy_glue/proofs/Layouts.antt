@@ -1,5 +1,5 @@
 -- The words of a layout, as they are read.
-use Rattle.std.proofs.Common.{◌≡◌, ◌<◌, ◌≤◌, ◌+◌, ◌*◌, ℕ, Bool, true, false, List, length, Option, Some, None, nat_lt, nat_eq, arith, refl, sym, ap, ◌∙◌}
+use Rattle.std.proofs.Common.{◌≡◌, ◌<◌, ◌≤◌, ◌+◌, ◌*◌, ℕ, Bool, true, false, List, length, Option, None, nat_lt, arith, refl, sym, ap, ◌∙◌}
 use Rattle.std.proofs.lemmas.Bool.{ltb-false}
 use Rattle.std.proofs.lemmas.Bool.Decides.{nat_tests}
 use Rattle.std.proofs.lemmas.Option.{slice_get_past}
@@ -19,41 +19,29 @@ word_is : (m : Memory) (i : ℕ) → IsMemory m → i < 256 → verdict_word m i
 unfolding verdict_word
 word_is m i is below = ap ok_or_zero (read_word m VerdictRegion i (base_of VerdictRegion + 8 * i) is (has_word m i is below) refl)
 
-result_by : (m : Memory) (x : Option Finding) (i : ℕ) (b : Bool) → (b ≡ true → verdict_word m (first_result + i) ≡ finding_word x) → (b ≡ false → x ≡ None)
-    → (if b then verdict_word m (first_result + i) else 0) ≡ finding_word x
-result_by m x i true here beyond = here refl
-result_by m x i false here beyond = sym (ap finding_word (beyond refl))
+-- where a finding is read it is that one, and elsewhere there is none
+read_by : {A : Type 0} (read : Option Finding → A) (here : A) (x : Option Finding) (b : Bool) → (b ≡ true → here ≡ read x) → (b ≡ false → x ≡ None)
+    → (if b then here else read None) ≡ read x
+read_by read here x true is beyond = is refl
+read_by read here x false is beyond = sym (ap read (beyond refl))
 
 named_by : (values : List ValueOrError) (word : ℕ) (message : Option (List ℕ)) → IsMessageWord values word message → text_named values word ≡ message
-named_by values word (Some t) is =
-    let above : 0 < word = is.0 in
-    let test : nat_eq word 0 ≡ false = grind (arith, nat_tests) in
-    rw test is.1
-named_by values word None is = ap (text_named values) is
-
-message_by : (m : Memory) (values : List ValueOrError) (x : Option Finding) (i : ℕ) (b : Bool) → (b ≡ true → text_named values (verdict_word m (first_message + i)) ≡ message_in x) → (b ≡ false → x ≡ None)
-    → (if b then text_named values (verdict_word m (first_message + i)) else None) ≡ message_in x
-message_by m values x i true here beyond = here refl
-message_by m values x i false here beyond = sym (ap message_in (beyond refl))
+named_by values word message is = grind (arith, nat_tests)
 
 module _ (f : FailurePolicy) (v : Verdict) (values : List ValueOrError) (m : Memory) (count : ℕ) (is : IsMemory m) (within : length v.findings ≤ count) (layout : IsLayout f v values m.verdict) where
   beyond : (i : ℕ) → nat_lt i count ≡ false → slice_get v.findings i ≡ None
   beyond i e = slice_get_past v.findings i (let past = ltb-false i count e in omega arith)
 
   result_is : (i : ℕ) → i < most_validations → result_at m count i ≡ finding_word (slice_get v.findings i)
-  result_is i below = result_by m (slice_get v.findings i) i (nat_lt i count) (λ e. word_is m (first_result + i) is (omega arith) ∙ layout.results i below) (beyond i)
+  result_is i below =
+      read_by finding_word _ (slice_get v.findings i) (nat_lt i count) (λ e. word_is m (first_result + i) is (omega arith) ∙ layout.results i below) (beyond i)
 
   named_is : (i : ℕ) → i < most_validations → text_named values (verdict_word m (first_message + i)) ≡ message_in (slice_get v.findings i)
   named_is i below = ap (text_named values) (word_is m (first_message + i) is (omega arith)) ∙ named_by values (word_in m.verdict (first_message + i)) (message_in (slice_get v.findings i)) (layout.messages i below)
 
   message_is : (i : ℕ) → i < most_validations → message_at m values count i ≡ message_in (slice_get v.findings i)
-  message_is i below = message_by m values (slice_get v.findings i) i (nat_lt i count) (λ e. named_is i below) (beyond i)
+  message_is i below = read_by message_in _ (slice_get v.findings i) (nat_lt i count) (λ e. named_is i below) (beyond i)
 
   -- what is read tells the verdict of which the region has the layout
   pub layout_told : (words : Words) → AreRead m values count words → Tell f v words
-  layout_told words read = record {
-    outcome = read.outcome ∙ word_is m 0 is (omega arith) ∙ layout.outcome;
-    denials = read.denials ∙ word_is m 1 is (omega arith) ∙ layout.denials;
-    results = λ i below. read.results i below ∙ result_is i below;
-    messages = λ i below. read.messages i below ∙ ap Some (message_is i below);
-  }
+  layout_told words read = grind (arith, word_is, result_is, message_is)

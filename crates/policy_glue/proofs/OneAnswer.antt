@@ -1,5 +1,5 @@
 -- A policy has one answer, and one image.
-use Rattle.std.proofs.Common.{◌≡◌, ℕ, List, [], ◌∷◌, ◌++◌, length, Option, Some, None, Result, Ok, Err, refl, sym, ap, ◌∙◌, subst}
+use Rattle.std.proofs.Common.{◌≡◌, ℕ, List, [], ◌∷◌, ◌++◌, length, Option, Some, Result, Ok, Err, refl, sym, ap, ◌∙◌, subst, arith}
 use Rattle.cel_reader.specs.Tree.{Tree}
 use Rattle.cel_types.specs.Declarations.{Declaration}
 use Rattle.policy_glue.specs.OneAnswer.{HasOneAnswer, HasOneImage}
@@ -7,21 +7,14 @@ use Rattle.policy_glue.specs.Checking.{ConditionsEnd, Ends, IsMessage, IsNoneOf,
 use Rattle.policy_glue.specs.Checking as checking
 use Rattle.policy_glue.specs.Limits.{Compiles, excess}
 use Rattle.policy_glue.specs.Limits as limits
-use Rattle.policy_glue.specs.OneImage.{program_image}
 use Rattle.policy_glue.specs.Policy.{Named, Rule, Rules}
 use Rattle.policy_glue.specs.Trees.{PolicyTree, RuleTree, VariableTree}
 use Rattle.policy_glue.specs.declared.compile_error.CompileError.{CompileError}
-use Rattle.policy_glue.specs.declared.compile_error.CompileError.TheVariants.{K6, K7, K9}
-use Rattle.policy_glue.specs.declared.part_kind.PartKind.TheVariants.{Condition, Message, Validation, Variable}
-use Rattle.policy_glue.proofs.OneExpression.{none_once, not_none, not_refused, one_of_once, reads_once, refused_once}
+use Rattle.policy_glue.specs.declared.compile_error.CompileError.TheVariants.{K7, K9}
+use Rattle.policy_glue.specs.declared.part_kind.PartKind.TheVariants.{Condition, Message, Validation}
+use Rattle.policy_glue.proofs.OneExpression.{none_once, not_none, not_refused, ok_is_no_err, ok_same, one_of_once, reads_once, refused_once}
 
 -- ---- answers
-
-taken_is : {A : Type 0} (x y : A) → ◌≡◌ {A = Result A CompileError} (Ok x) (Ok y) → x ≡ y
-taken_is x y is = cc
-
-not_both : {A : Type 0} (x : A) (e : CompileError) → ◌≡◌ {A = Result A CompileError} (Ok x) (Err e) → ⊥
-not_both x e is = cc
 
 refusal_is : {A B : Type 0} (e f : CompileError) → ◌≡◌ {A = Result A CompileError} (Err e) (Err f) → ◌≡◌ {A = Result B CompileError} (Err e) (Err f)
 refusal_is e f is = let same : e ≡ f = cc in ap Err same
@@ -52,8 +45,7 @@ variable_once scope n x y is also =
 
 no_variable_once : (scope : List Declaration) (place : ℕ) (text : List ℕ) (e f : CompileError) → IsNoVariable scope place text e
     → IsNoVariable scope place text f → e ≡ f
-no_variable_once scope place text e f refused also =
-    refused.is ∙ ap (K6 Variable place) (refused_once (variable_judged scope) text refused.cause also.cause refused.because also.because) ∙ sym also.is
+no_variable_once scope place text e f refused also = grind (arith, refused_once)
 
 variables_once : (ns : List Named) (r s : Result (List VariableTree) CompileError) → VariablesEnd ns r → VariablesEnd ns s → r ≡ s
 variables_once ns r s ends also =
@@ -77,16 +69,11 @@ conditions_once ns r s ends also =
 
 module _ (scope : List Declaration) where
   message_once : (text : Option (List ℕ)) (x y : Option Tree) → IsMessage scope text x → IsMessage scope text y → x ≡ y
-  message_once (Some text) (Some a) (Some b) is also = ap Some (one_of_once texts scope text a b is also)
-  message_once (Some text) None y is also = absurd is
-  message_once None (Some a) y is also = absurd is
-  message_once None None None is also = refl
-  message_once _ _ _ is also = absurd also
+  message_once text x y is also = grind (arith, one_of_once)
 
   message_not_none : (place : ℕ) (text : List ℕ) (x : Option Tree) (e : CompileError) → IsMessage scope (Some text) x
       → IsNoneOf texts K9 Message place scope text e → ⊥
-  message_not_none place text (Some a) e is none = not_none texts scope text K9 Message place a e is none
-  message_not_none place text None e is none = is
+  message_not_none place text x e is none = grind (arith, not_none)
 
   rule_once : (n : Rule) (x y : RuleTree) → IsRule scope n x → IsRule scope n y → x ≡ y
   rule_once n x y is also =
@@ -96,8 +83,7 @@ module _ (scope : List Declaration) where
 
   rule_or_none : (place : ℕ) (n : Rule) (x : RuleTree) (e : CompileError) → IsRule scope n x → IsNoRule scope place n e → ⊥
   rule_or_none place n x e is (checking.expression f none) = not_none truths scope n.expression K7 Validation place x.expression f is.expression none
-  rule_or_none place n x e is (checking.message a text f one source none) =
-      message_not_none place text x.message f (subst (λ (t : Option (List ℕ)). IsMessage scope t x.message) source is.message) none
+  rule_or_none place n x e is (checking.message a text f one source none) = grind (arith, message_not_none)
 
   some_same : (s t : List ℕ) (o : Option (List ℕ)) → o ≡ Some s → o ≡ Some t → s ≡ t
   some_same s t o is also = cc
@@ -124,47 +110,26 @@ module _ (scope : List Declaration) where
 module _ (p : Rules) where
   scoped : (vs ws : List VariableTree) (r : Result (List RuleTree) CompileError) → VariablesEnd p.variables (Ok vs) → VariablesEnd p.variables (Ok ws)
       → ValidationsEnd (scope_after vs) p.validations r → ValidationsEnd (scope_after ws) p.validations r
-  scoped vs ws r v w ends =
-      subst (λ (us : List VariableTree). ValidationsEnd (scope_after us) p.validations r) (taken_is vs ws (variables_once p.variables (Ok vs) (Ok ws) v w)) ends
+  scoped vs ws r v w ends = grind (arith, ok_same, variables_once)
 
   rules_once : (vs ws : List VariableTree) (r s : Result (List RuleTree) CompileError) → VariablesEnd p.variables (Ok vs) → VariablesEnd p.variables (Ok ws)
       → ValidationsEnd (scope_after vs) p.validations r → ValidationsEnd (scope_after ws) p.validations s → r ≡ s
   rules_once vs ws r s v w ends also = validations_once (scope_after ws) p.validations r s (scoped vs ws r v w ends) also
 
   no_variables : (vs : List VariableTree) (e : CompileError) → VariablesEnd p.variables (Ok vs) → VariablesEnd p.variables (Err e) → ⊥
-  no_variables vs e v w = not_both vs e (variables_once p.variables (Ok vs) (Err e) v w)
+  no_variables vs e v w = ok_is_no_err vs e (variables_once p.variables (Ok vs) (Err e) v w)
 
   no_conditions : (cs : List Tree) (e : CompileError) → ConditionsEnd p.conditions (Ok cs) → ConditionsEnd p.conditions (Err e) → ⊥
-  no_conditions cs e c d = not_both cs e (conditions_once p.conditions (Ok cs) (Err e) c d)
+  no_conditions cs e c d = ok_is_no_err cs e (conditions_once p.conditions (Ok cs) (Err e) c d)
 
   parts_once : (r s : Result PolicyTree CompileError) → PartsEnd p r → PartsEnd p s → r ≡ s
-  parts_once r s (checking.in_variables e v) (checking.in_variables f w) = refusal_is e f (variables_once p.variables (Err e) (Err f) v w)
-  parts_once r s (checking.in_variables e v) (checking.in_conditions ws f w d) = absurd (no_variables ws e w v)
-  parts_once r s (checking.in_variables e v) (checking.in_validations ws ds f w d y) = absurd (no_variables ws e w v)
-  parts_once r s (checking.in_variables e v) (checking.taken ws ds ys w d y) = absurd (no_variables ws e w v)
-  parts_once r s (checking.in_conditions vs e v c) (checking.in_variables f w) = absurd (no_variables vs f v w)
-  parts_once r s (checking.in_conditions vs e v c) (checking.in_conditions ws f w d) = refusal_is e f (conditions_once p.conditions (Err e) (Err f) c d)
-  parts_once r s (checking.in_conditions vs e v c) (checking.in_validations ws ds f w d y) = absurd (no_conditions ds e d c)
-  parts_once r s (checking.in_conditions vs e v c) (checking.taken ws ds ys w d y) = absurd (no_conditions ds e d c)
-  parts_once r s (checking.in_validations vs cs e v c x) (checking.in_variables f w) = absurd (no_variables vs f v w)
-  parts_once r s (checking.in_validations vs cs e v c x) (checking.in_conditions ws f w d) = absurd (no_conditions cs f c d)
-  parts_once r s (checking.in_validations vs cs e v c x) (checking.in_validations ws ds f w d y) = refusal_is e f (rules_once vs ws (Err e) (Err f) v w x y)
-  parts_once r s (checking.in_validations vs cs e v c x) (checking.taken ws ds ys w d y) =
-      absurd (not_both ys e (sym (rules_once vs ws (Err e) (Ok ys) v w x y)))
-  parts_once r s (checking.taken vs cs xs v c x) (checking.in_variables f w) = absurd (no_variables vs f v w)
-  parts_once r s (checking.taken vs cs xs v c x) (checking.in_conditions ws f w d) = absurd (no_conditions cs f c d)
-  parts_once r s (checking.taken vs cs xs v c x) (checking.in_validations ws ds f w d y) = absurd (not_both xs f (rules_once vs ws (Ok xs) (Err f) v w x y))
-  parts_once r s (checking.taken vs cs xs v c x) (checking.taken ws ds ys w d y) =
-      let variables : vs ≡ ws = taken_is vs ws (variables_once p.variables (Ok vs) (Ok ws) v w) in
-      let conditions : cs ≡ ds = taken_is cs ds (conditions_once p.conditions (Ok cs) (Ok ds) c d) in
-      let validations : xs ≡ ys = taken_is xs ys (rules_once vs ws (Ok xs) (Ok ys) v w x y) in
-      λ i. Ok (record { variables = variables i; conditions = conditions i; validations = validations i })
+  parts_once r s h2 h3 = grind (arith, refusal_is, variables_once, no_variables, conditions_once, no_conditions, rules_once, ok_is_no_err, ok_same)
 
   trees_once : (t u : PolicyTree) → PartsEnd p (Ok t) → PartsEnd p (Ok u) → t ≡ u
-  trees_once t u parts also = taken_is t u (parts_once (Ok t) (Ok u) parts also)
+  trees_once t u parts also = ok_same t u (parts_once (Ok t) (Ok u) parts also)
 
   not_taken : (t : PolicyTree) (e : CompileError) → PartsEnd p (Ok t) → PartsEnd p (Err e) → ⊥
-  not_taken t e parts also = not_both t e (parts_once (Ok t) (Err e) parts also)
+  not_taken t e parts also = ok_is_no_err t e (parts_once (Ok t) (Err e) parts also)
 
   compiled_once : (r s : Result PolicyTree CompileError) → Compiles p r → Compiles p s → r ≡ s
   compiled_once r s (limits.refused e parts) (limits.refused f also) = parts_once (Err e) (Err f) parts also
@@ -182,6 +147,4 @@ pub one_answer : HasOneAnswer
 one_answer p a b is also = compiled_once p a b is also
 
 pub one_image : HasOneImage
-one_image p a b is also =
-    let trees = taken_is is.trees also.trees (compiled_once p (Ok is.trees) (Ok also.trees) is.compiles also.compiles) in
-    is.is ∙ ap (program_image p.failure_policy) trees ∙ sym also.is
+one_image p a b is also = grind (arith, ok_same, compiled_once)

@@ -18,13 +18,14 @@ use Rattle.policy_glue.specs.declared.expression_error.ExpressionError.{Expressi
 use Rattle.policy_glue.specs.declared.expression_error.ExpressionError.TheVariants.{Unread}
 use Rattle.policy_glue.specs.declared.part_kind.PartKind.{PartKind}
 
-ok_same : {A E : Type 0} (x y : A) → ◌≡◌ {A = Result A E} (Ok x) (Ok y) → x ≡ y
+-- answers of one kind have the same within, and none is of two kinds
+pub ok_same : {A E : Type 0} (x y : A) → ◌≡◌ {A = Result A E} (Ok x) (Ok y) → x ≡ y
 ok_same x y is = cc
 
-err_same : {A E : Type 0} (x y : E) → ◌≡◌ {A = Result A E} (Err x) (Err y) → x ≡ y
+pub err_same : {A E : Type 0} (x y : E) → ◌≡◌ {A = Result A E} (Err x) (Err y) → x ≡ y
 err_same x y is = cc
 
-ok_is_no_err : {A E : Type 0} (x : A) (e : E) → ◌≡◌ {A = Result A E} (Ok x) (Err e) → ⊥
+pub ok_is_no_err : {A E : Type 0} (x : A) (e : E) → ◌≡◌ {A = Result A E} (Ok x) (Err e) → ⊥
 ok_is_no_err x e is = cc
 
 -- ---- expressions

@@ -17,7 +17,6 @@ use Rattle.policy_glue.specs.Layout.{outcome_word}
 use Rattle.policy_glue.specs.Program.{condition_tail}
 use Rattle.policy_glue.specs.Verdict.{Finding, Outcome, Skipped, Holds, Fails, Errs, truth_of, undecided}
 use Rattle.policy_glue.specs.declared.failure_policy.FailurePolicy.{FailurePolicy}
-use Rattle.policy_glue.specs.declared.failure_policy.FailurePolicy.TheVariants.{Fail, Ignore}
 use Rattle.policy_glue.proofs.ProgramMarks.{Judges, Marked, marks_registers, outcome_stored, tested}
 use Rattle.policy_glue.proofs.ProgramSteps.{store_verdict}
 use Rattle.policy_glue.proofs.VerdictWords.{message_of, result_of}
@@ -28,12 +27,10 @@ pub record Ends (c : Context) (f : FailurePolicy) (outcome : Outcome) (xs : List
   pub answers : b.registers R0 ≡ outcome_word outcome
 
 pub undecided_is : (f : FailurePolicy) → cast_unsigned w64 (pos (outcome_word (undecided f))) ≡ outcome_word (undecided f)
-undecided_is Fail = refl
-undecided_is Ignore = refl
+undecided_is f = grind arith
 
 pub undecided_small : (f : FailurePolicy) → outcome_word (undecided f) < 2 ^ 64
-undecided_small Fail = omega arith
-undecided_small Ignore = omega arith
+undecided_small f = grind arith
 
 module _ (s : Setting) (c : Context) (f : FailurePolicy) (o w : ℕ) (has : Stands s.image.code o (condition_tail f)) (x : ValueOrError) (b : Body) (judges : Judges c f w [] x b) where
   -- a body with other registers, and then with another outcome

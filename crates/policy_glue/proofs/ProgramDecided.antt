@@ -14,7 +14,7 @@ use Rattle.codegen_base.proofs.Listings.{begins, load_wide, no, yes}
 use Rattle.codegen_base.proofs.Pieces.{size-append, stands_back, stands_front}
 use Rattle.codegen_base.proofs.Runs.{and_then, done, looser, to_place}
 use Rattle.policy_glue.specs.Layout.{outcome_word}
-use Rattle.policy_glue.specs.Program.{condition_tail, conditions_code, decided_code, decided_tail}
+use Rattle.policy_glue.specs.Program.{conditions_code, decided_code, decided_tail}
 use Rattle.policy_glue.specs.ProgramParts.{ConditionsGive, Part, codes_of, conditions_charge, conditions_steps, decided_slots}
 use Rattle.policy_glue.specs.Verdict.{Outcome, Skipped, Truth, decided_before, is_failed, is_held, undecided}
 use Rattle.policy_glue.specs.declared.failure_policy.FailurePolicy.{FailurePolicy}
@@ -34,26 +34,19 @@ pub record Exits (s : Setting) (n x p : ℕ) (b : Body) (Q : Body → Type 0) : 
 
 kept_by : (f : FailurePolicy) (w : ℕ) (held rest : Bool)
     → (if rest then (if held then w else outcome_word (undecided f)) else outcome_word (undecided f)) ≡ (if held && rest then w else outcome_word (undecided f))
-kept_by f w true true = refl
-kept_by f w false true = refl
-kept_by f w _ _ = refl
+kept_by f w held rest = grind arith
 
 stands_is : (f : FailurePolicy) (w : ℕ) (ts : List Truth) → stands_after f w ts ≡ (if list_all is_held ts then w else outcome_word (undecided f))
 stands_is f w [] = refl
 stands_is f w (t ∷ more) = stands_is f (if is_held t then w else outcome_word (undecided f)) more ∙ kept_by f w (is_held t) (list_all is_held more)
 
 outcome_some : (o : Outcome) → outcome_word o ≡ 0 → ⊥
-outcome_some Skipped e = omega arith
-outcome_some _ e = omega arith
+outcome_some o e = grind arith
 
 pub place_is : (f : FailurePolicy) (p : ℕ) (parts : List Part) → place_after p parts ≡ p + size (conditions_code f (codes_of parts))
 unfolding conditions_code
 place_is f p [] = omega arith
-place_is f p (a ∷ more) =
-    let whole = size-append a.code (condition_tail f ++ conditions_code f (codes_of more)) in
-    let tail = size-append (condition_tail f) (conditions_code f (codes_of more)) in
-    let nine = tail_size f in
-    place_is f (p + size a.code + 9) more ∙ omega arith
+place_is f p (a ∷ more) = grind (arith, place_is f (p + size a.code + 9) more, size-append, tail_size)
 
 -- ---- the code behind all conditions
 
@@ -80,8 +73,7 @@ exit_behind code o has = has.here 4 Exit refl
 -- ---- where there are conditions
 
 pub decided_size : (parts : List Part) → size (decided_code (codes_of parts)) ≡ decided_slots parts
-decided_size [] = refl
-decided_size (a ∷ more) = refl
+decided_size parts = grind arith
 
 -- there is nothing to stop where there are none
 tail_is : (parts : List Part) → list_all is_held (truths_of parts) ≡ false → decided_code (codes_of parts) ≡ decided_tail

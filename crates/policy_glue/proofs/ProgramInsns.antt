@@ -10,10 +10,11 @@ use Rattle.cel_types.specs.Declarations.{Declaration}
 use Rattle.codegen_base.specs.Pieces.{AreInsns, size}
 use Rattle.codegen_base.specs.Variables.{memo_tail}
 use Rattle.codegen_base.proofs.Insns.{insns_append, memo_insns}
-use Rattle.codegen.specs.Code.Expressions.{code_of}
+use Rattle.codegen.specs.Code.Whole.{whole_code}
 use Rattle.codegen.specs.Layer.{IsExpression}
 use Rattle.codegen.specs.Surroundings.{routines_of}
-use Rattle.codegen.proofs.CodeInsns.{AreLow, AreNear, code_insns, near_named}
+use Rattle.codegen.proofs.CodeInsns.{AreLow, AreNear, near_named}
+use Rattle.codegen.proofs.Whole.{whole_insns}
 use Rattle.policy_glue.specs.Checking.{scope_after, with_variable}
 use Rattle.policy_glue.specs.Limits.{message_nodes, part_nodes, policy_nodes, rule_nodes}
 use Rattle.policy_glue.specs.Program.{condition_tail, conditions_code, decided_code, denial_code, message_code, message_tail, outcome_tail, policy_code, result_code, routines_code, validation_code, validations_code}
@@ -22,28 +23,23 @@ use Rattle.policy_glue.specs.ProgramParts.{decided_slots}
 use Rattle.policy_glue.specs.ProgramTrees.{AreConditions, AreRules, AreVariables, IsMessage, ProgramIsCode}
 use Rattle.policy_glue.specs.Trees.{RuleTree, VariableTree}
 use Rattle.policy_glue.specs.declared.failure_policy.FailurePolicy.{FailurePolicy}
-use Rattle.policy_glue.specs.declared.failure_policy.FailurePolicy.TheVariants.{Fail, Ignore}
 use Rattle.policy_glue.proofs.ProgramSizes.{message_short, routine_short, tree_short}
 
 -- ---- what stands behind expressions
 
 condition_tail_insns : (f : FailurePolicy) → AreInsns (condition_tail f)
 unfolding condition_tail
-condition_tail_insns Fail = ((omega arith, omega arith), (omega arith, (omega arith, ((omega arith, omega arith), (omega arith, (omega arith, (tt, (omega arith, tt))))))))
-condition_tail_insns Ignore = ((omega arith, omega arith), (omega arith, (omega arith, ((omega arith, omega arith), (omega arith, (omega arith, (tt, (omega arith, tt))))))))
+condition_tail_insns f = grind arith
 
 decided_insns : {A : Type 0} (cs : List A) → AreInsns (decided_code cs)
-decided_insns [] = tt
-decided_insns (a ∷ more) = (omega arith, (omega arith, ((omega arith, omega arith), (tt, tt))))
+decided_insns cs = grind arith
 
 slots_few : {A : Type 0} (cs : List A) → decided_slots cs ≤ 5
-slots_few [] = omega arith
-slots_few (a ∷ more) = omega arith
+slots_few cs = grind arith
 
 denial_insns : (f : FailurePolicy) (i n : ℕ) → i < 64 → n ≤ 32700 → AreInsns (denial_code f i n)
 unfolding denial_code
-denial_insns Fail i n low short = (omega arith, ((omega arith, omega arith), ((omega arith, omega arith), (omega arith, ((omega arith, omega arith), (omega arith, (omega arith, (omega arith, tt))))))))
-denial_insns Ignore i n low short = (omega arith, ((omega arith, omega arith), ((omega arith, omega arith), (omega arith, ((omega arith, omega arith), (omega arith, (omega arith, (omega arith, tt))))))))
+denial_insns f i n low short = grind arith
 
 message_tail_insns : (i : ℕ) → i < 64 → AreInsns (message_tail i)
 unfolding message_tail
@@ -70,8 +66,6 @@ record Low (l : Laid) (n : ℕ) : Type 0 where
 near_all : (ds : List Declaration) (l : Laid) (n : ℕ) → Low l n → AreNear (routines_of ds l.routines)
 near_all ds l n low name found e =
     let is = near_named ds l.routines low.slots name found e in
-    let first = is.0 in
-    let few = low.few in
     (omega arith, is.1)
 
 -- ---- expressions
@@ -79,14 +73,13 @@ near_all ds l n low name found e =
 tree_insns : (scope : List Declaration) (l : Laid) (a : Tree) → IsExpression scope (expanded a) → Low l 0 → l.place + 128 * part_nodes a ≤ 65536 → AreInsns (tree_code scope l a)
 tree_insns scope l a is low inside =
     let fits = is.fits in
-    code_insns (texts_with l a) (routines_of scope l.routines) (near_all scope l 0 low) (expanded a) [] 0 l.place (λ n k e. absurd (cc)) (omega arith) (omega arith) (omega arith) is.literals
+    whole_insns (texts_with l a) (routines_of scope l.routines) (near_all scope l 0 low) (expanded a) l.place fits (omega arith) (omega arith) is.literals
 
 routine_insns : (scope : List Declaration) (l : Laid) (v : VariableTree) (n : ℕ) → IsExpression scope (expanded v.expression) → Low l (suc n) → l.place + 128 * part_nodes v.expression ≤ 65536 → AreInsns (variable_code scope l v)
 routine_insns scope l v n is low inside =
     let fits = is.fits in
-    let few = low.few in
-    insns_append (code_of (expanded v.expression) (texts_with l v.expression) (routines_of scope l.routines) [] 0 (l.place + 1)) (memo_tail (length l.routines))
-    (code_insns (texts_with l v.expression) (routines_of scope l.routines) (near_all scope l (suc n) low) (expanded v.expression) [] 0 (l.place + 1) (λ m k e. absurd (cc)) (omega arith) (omega arith) (omega arith) is.literals)
+    insns_append (whole_code (expanded v.expression) (texts_with l v.expression) (routines_of scope l.routines) (l.place + 1)) (memo_tail (length l.routines))
+    (whole_insns (texts_with l v.expression) (routines_of scope l.routines) (near_all scope l (suc n) low) (expanded v.expression) (l.place + 1) fits (omega arith) (omega arith) is.literals)
     (memo_insns (length l.routines) (omega arith))
 
 -- ---- variables
@@ -187,7 +180,6 @@ program_is_code f p has =
     let conditions = condition_codes (laid_routines p) p.conditions in
     let rules = validation_codes (scope_after p.variables) (laid_conditions p) p.validations in
     let room = has.short in
-    let few_variables = has.few_variables in
     let few_rules = has.few_validations in
     let start : Low nothing_laid (length p.variables) = record { slots = tt; few = omega arith } in
     let first = after_routines [] nothing_laid p.variables start (omega (arith, room)) in

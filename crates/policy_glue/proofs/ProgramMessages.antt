@@ -1,6 +1,6 @@
 -- The code behind the message expression of a validation that denies.
-use Rattle.std.proofs.Common.{◌≡◌, ℕ, ◌+◌, ◌<◌, ◌≤◌, inl, inr, List, [], ◌∷◌, ◌++◌, length, Some, None, true, false, refl, ap, ◌∙◌, subst, sym, arith}
-use Rattle.std.specs.Prelude.{pos, slice_get}
+use Rattle.std.proofs.Common.{◌≡◌, ℕ, ◌+◌, ◌<◌, ◌≤◌, List, [], ◌∷◌, ◌++◌, length, Some, None, true, false, refl, ◌∙◌, arith}
+use Rattle.std.specs.Prelude.{pos}
 use Rattle.std.proofs.lemmas.Bool.{cases_lt}
 use Rattle.helper_table.specs.Conversions.{kind_number}
 use Rattle.helper_table.specs.Laws.{Names}
@@ -53,14 +53,7 @@ kind_of_text y t e = rw e (differs_no 4 4 refl)
 
 -- a text's reference is not the error's
 text_above : (values : Contents) (r : ℕ) (t : List ℕ) → IsStore values → Names values.values r (value (text t)) → 0 < r
-text_above values r t store named =
-    elim (cases_lt 0 r) [
-      | inl above ↦ above
-      | inr not_above ↦
-          let zero : 0 ≡ r = omega arith in
-          let same : Some error ≡ Some (value (text t)) = sym (names_error values store) ∙ ap (slice_get values.values) zero ∙ named in
-          absurd (cc)
-    ]
+text_above values r t store named = grind (arith, cases_lt, names_error)
 
 module _ (s : Setting) (c : Context) (f : FailurePolicy) (xs : List Finding) (x : Finding) (few : length xs < most_validations) (o : ℕ) (has : Stands s.image.code o (message_tail (length xs))) (y : ValueOrError) (b : Body) (marks : Counted s c f xs x few b) (named : Names b.values.values (b.registers R0) y) (is : x.message ≡ text_at (Some y)) where
   abbrev asks : Body
@@ -86,10 +79,7 @@ module _ (s : Setting) (c : Context) (f : FailurePolicy) (xs : List Finding) (x 
   ready = set_register told R1 (verdict_address place)
 
   message_here : (t : List ℕ) → y ≡ value (text t) → IsMessageWord b.values.values (b.registers R0) (message_of (xs ++ x ∷ []) (length xs))
-  message_here t e =
-      let found : Names b.values.values (b.registers R0) (value (text t)) = subst (Names b.values.values (b.registers R0)) e named in
-      let given : message_of (xs ++ x ∷ []) (length xs) ≡ Some t = message_last xs x ∙ is ∙ ap (λ (v : ValueOrError). text_at (Some v)) e in
-      subst (IsMessageWord b.values.values (b.registers R0)) (sym given) (text_above b.values (b.registers R0) t marks.fits.values.table.store found, ap text_at found)
+  message_here t e = grind (arith, message_of, message_last, text_above)
 
   text_runs : (t : List ℕ) → y ≡ value (text t) → Comes s 6 1 o b (o + 7) (Marked c f 0 (xs ++ x ∷ []))
   unfolding message_tail
@@ -116,8 +106,7 @@ module _ (s : Setting) (c : Context) (f : FailurePolicy) (xs : List Finding) (x 
       (done s (o + 7) told (Marked c f 0 (xs ++ x ∷ [])) (marks_told c 0 (count_of f (xs ++ x ∷ [])) (result_of (xs ++ x ∷ [])) (message_of xs) told (told_marks paid) (count_of f (xs ++ x ∷ [])) (result_of (xs ++ x ∷ [])) (message_of (xs ++ x ∷ [])) refl (λ j. refl) (λ j. message_none xs x j (is ∙ none)))))))))
 
   by_kind : TextOr y → Comes s 6 1 o b (o + 7) (Marked c f 0 (xs ++ x ∷ []))
-  by_kind (Text t e) = text_runs t e
-  by_kind (Else none differs) = other_runs none differs
+  by_kind h0 = grind (arith, Text, text_runs, Else, other_runs)
 
   pub message_runs : Comes s 6 1 o b (o + 7) (Marked c f 0 (xs ++ x ∷ []))
   message_runs = by_kind (text_or y)

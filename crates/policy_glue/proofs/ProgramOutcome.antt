@@ -35,8 +35,7 @@ IsCounted true n = 1 ≤ n
 IsCounted false n = n ≡ 0
 
 counted_more : (first rest : Bool) (n : ℕ) → IsCounted rest n → IsCounted (first || rest) ((if first then 1 else 0) + n)
-counted_more false true n is = omega arith
-counted_more _ _ n is = omega arith
+counted_more first rest n is = grind arith
 
 counted : (f : FailurePolicy) (xs : List Finding) → IsCounted (list_any (is_denial f) xs) (count_of f xs)
 counted f [] = refl
@@ -67,7 +66,6 @@ module _ (s : Setting) (c : Context) (f : FailurePolicy) (xs : List Finding) (o 
   outcome_by true some =
       let marks = marks_registers c 0 (count_of f xs) (result_of xs) (message_of xs) b marked denied.registers refl in
       let stored = outcome_stored c 0 (count_of f xs) (result_of xs) (message_of xs) denied marks 3 (omega arith) in
-      let count = marked.words.denials_are in
       begins has
       (load_wide has 0 refl refl
       (load_verdict has 2 0 1 1 refl marked.fits.frame (omega arith) (omega arith) refl refl

@@ -77,12 +77,10 @@ module _ (s : Setting) (c : Context) (f : FailurePolicy) where
         subst (λ (n : ℕ). Stands s.image.code (p + size a.code + n) (conditions_code f (codes_of more))) (tail_size f) behind
 
   or_left : (x y : Bool) → (x || y) ≡ false → x ≡ false
-  or_left false y e = refl
-  or_left true y e = e
+  or_left x y e = grind arith
 
   or_right : (x y : Bool) → (x || y) ≡ false → y ≡ false
-  or_right false y e = e
-  or_right true y e = absurd (true≢false e)
+  or_right x y e = grind arith
 
   pub row_passes : (parts : List Part) (p w : ℕ) (b : Body) → list_any is_failed (truths_of parts) ≡ false → Stands s.image.code p (conditions_code f (codes_of parts)) → ConditionsGive s c p parts → Marked c f w [] b → Comes s (conditions_steps parts) (conditions_charge parts) p b (place_after p parts) (Marked c f (stands_after f w (truths_of parts)) [])
   row_passes [] p w b none has gives marked = done s p b (Marked c f w []) marked

@@ -1,5 +1,5 @@
 -- The validations of a policy, one behind another.
-use Rattle.std.proofs.Common.{◌≡◌, ℕ, ◌+◌, ◌<◌, ◌≤◌, List, [], ◌∷◌, ◌++◌, length, length-append, Option, Some, None, Bool, true, false, refl, ap, ◌∙◌, subst, sym, arith, append_assoc}
+use Rattle.std.proofs.Common.{◌≡◌, ℕ, ◌+◌, ◌<◌, ◌≤◌, List, [], ◌∷◌, ◌++◌, length, length-append, Option, Some, None, Bool, true, false, refl, ap, ◌∙◌, subst, sym, arith, append-nil, append_assoc}
 use Rattle.std.specs.Prelude.{map, option_map, if◌then◌else◌}
 use Rattle.insn_codec.specs.declared.insn.Insn.{Insn}
 use Rattle.value_store.specs.Value.{ValueOrError}
@@ -25,10 +25,6 @@ abbrev pub rules_slots : List RulePart → ℕ
 rules_slots [] = 0
 rules_slots (r ∷ more) = rule_size r + rules_slots more
 
-append_none : (xs : List Finding) → xs ++ [] ≡ xs
-append_none [] = refl
-append_none (x ∷ xs) = ap (λ (ys : List Finding). x ∷ ys) (append_none xs)
-
 -- what stands before the message of a validation
 abbrev pub result_front : FailurePolicy → ℕ → ℕ → List Insn
 result_front f i n = if_true (n + 9) ∷ denial_code f i n
@@ -41,9 +37,7 @@ pub front_size : (f : FailurePolicy) (i n : ℕ) → size (result_front f i n) �
 front_size f i n = size-cons (if_true (n + 9)) (denial_code f i n) ∙ ap (λ (m : ℕ). 1 + m) (denial_size f i n)
 
 pub result_size : (f : FailurePolicy) (i : ℕ) (message : List Insn) → size (result_code f i message) ≡ size message + 10
-result_size f i message =
-    let front = front_size f i (size message) in
-    size-append (result_front f i (size message)) message ∙ omega arith
+result_size f i message = grind (arith, front_size, size-append)
 
 pub message_tail_size : (i : ℕ) → size (message_tail i) ≡ 7
 unfolding message_tail
@@ -56,8 +50,7 @@ abbrev pub value_in : Option Part → Option ValueOrError
 value_in m = option_map (λ a. a.value) m
 
 pub message_code_size : (i : ℕ) (m : Option Part) → size (message_code i (codes_in m)) ≡ message_size m
-message_code_size i None = refl
-message_code_size i (Some m) = let tail = message_tail_size i in size-append m.code (message_tail i) ∙ omega arith
+message_code_size i m = grind (arith, message_tail_size, size-append)
 
 module _ (s : Setting) (c : Context) (f : FailurePolicy) (xs : List Finding) (x : Finding) (few : length xs < most_validations) where
   -- the message of a denial
@@ -86,21 +79,12 @@ module _ (s : Setting) (c : Context) (f : FailurePolicy) (xs : List Finding) (x 
       message_given (o + 10) m b1 behind gives is counted))
 
 rule_code_size : (f : FailurePolicy) (i : ℕ) (r : RulePart) → size (validation_code f i (rule_code r)) ≡ rule_size r
-rule_code_size f i r =
-    let message = message_code i (codes_in r.message) in
-    let whole = size-append r.expression.code (result_code f i message) in
-    let rest = result_size f i message in
-    let long = message_code_size i r.message in
-    omega arith
+rule_code_size f i r = grind (arith, size-append, result_size, message_code_size)
 
 pub rules_size : (f : FailurePolicy) (i : ℕ) (rules : List RulePart) → size (validations_code f i (rule_codes rules)) ≡ rules_slots rules
 unfolding validations_code
 rules_size f i [] = refl
-rules_size f i (r ∷ more) =
-    let whole = size-append (validation_code f i (rule_code r)) (validations_code f (i + 1) (rule_codes more)) in
-    let first = rule_code_size f i r in
-    let rest = rules_size f (i + 1) more in
-    omega arith
+rules_size f i (r ∷ more) = grind (arith, rules_size f (i + 1) more, size-append, rule_code_size)
 
 module _ (s : Setting) (c : Context) (f : FailurePolicy) where
   -- a validation, with its message
@@ -121,7 +105,7 @@ module _ (s : Setting) (c : Context) (f : FailurePolicy) where
   pub rules_run : (rules : List RulePart) (xs : List Finding) (p : ℕ) (b : Body) → length xs + length rules ≤ most_validations → Stands s.image.code p (validations_code f (length xs) (rule_codes rules)) → ValidationsGive f s c p rules → Marked c f 0 xs b → Comes s (validations_steps f rules) (validations_charge f rules) p b (p + rules_slots rules) (Marked c f 0 (xs ++ map (found f) rules))
   unfolding validations_code
   rules_run [] xs p b few has gives marked =
-      to_place s (p + 0) (omega arith) (done s p b (Marked c f 0 (xs ++ [])) (subst (λ (ys : List Finding). Marked c f 0 ys b) (sym (append_none xs)) marked))
+      to_place s (p + 0) (omega arith) (done s p b (Marked c f 0 (xs ++ [])) (subst (λ (ys : List Finding). Marked c f 0 ys b) (sym (append-nil xs)) marked))
   rules_run (r ∷ more) xs p b few has gives marked =
       let first = validation_code f (length xs) (rule_code r) in
       let rest = validations_code f (length xs + 1) (rule_codes more) in

@@ -1,11 +1,10 @@
 -- The program of a policy decides as the policy does, within its budget.
-use Rattle.std.proofs.Common.{◌≡◌, ℕ, suc, ◌+◌, ◌*◌, ◌<◌, ◌≤◌, inl, inr, List, [], ◌∷◌, ◌++◌, length, length-append, append-nil, append_assoc, Bool, true, false, refl, ap, ◌∙◌, subst, sym, arith}
-use Rattle.std.specs.Prelude.{◌||◌, All, map, if◌then◌else◌}
+use Rattle.std.proofs.Common.{◌≡◌, ℕ, suc, ◌+◌, ◌*◌, ◌<◌, ◌≤◌, List, [], ◌∷◌, ◌++◌, length, length-append, append-nil, append_assoc, Bool, true, false, refl, ap, ◌∙◌, subst, sym, arith}
+use Rattle.std.specs.Prelude.{All, map, if◌then◌else◌}
 use Rattle.insn_codec.specs.declared.insn.Insn.{Insn}
 use Rattle.insn_codec.specs.declared.insn.Insn.TheVariants.{Exit}
 use Rattle.loader.specs.Contents as loader
 use Rattle.value_store.specs.Placing.{Contents}
-use Rattle.value_store.specs.Value.{ValueOrError}
 use Rattle.cel_reader.specs.Tree.{Tree}
 use Rattle.cel_macros.specs.Environment.{Environment, Roots}
 use Rattle.cel_types.specs.Declarations.{Declaration}
@@ -13,11 +12,9 @@ use Rattle.bpf_machine.specs.Decoding.{DecodesSpelling}
 use Rattle.bpf_machine.specs.Laws.{stays_stopped}
 use Rattle.bpf_machine.specs.State.{State, start_state}
 use Rattle.bpf_machine.specs.Trace.{state_after}
-use Rattle.bpf_machine.specs.declared.status.Status.TheVariants.{Exited}
 use Rattle.codegen_base.specs.Body.{Body}
 use Rattle.codegen_base.specs.Contexts.{HasValues}
-use Rattle.codegen_base.specs.Engine.{Halts, Left, Over}
-use Rattle.codegen_base.specs.Instructions.{skip}
+use Rattle.codegen_base.specs.Engine.{Halts}
 use Rattle.codegen_base.specs.Pieces.{AreInsns, Stands, size, spellings}
 use Rattle.codegen_base.specs.Programs.{start_body, total}
 use Rattle.codegen_base.specs.Scopes.{Variable, bindings, first_charges, first_steps, scope_setting}
@@ -27,26 +24,24 @@ use Rattle.codegen_base.proofs.Programs.{charges-most}
 use Rattle.codegen_base.proofs.Scopes.{no_scope}
 use Rattle.codegen_base.proofs.Spelled.{spelled_stands}
 use Rattle.codegen.specs.Constants.{joined, with_texts}
-use Rattle.codegen.specs.Cost.{spent_by}
+use Rattle.codegen.specs.Cost.{Cost, spent_by}
 use Rattle.codegen.specs.Layer.{AreTaken}
 use Rattle.policy_glue.specs.Budget.{conditions_cost, is_running, policy_cost, policy_spent, policy_work, rules_cost, runs_on, variables_cost}
 use Rattle.policy_glue.specs.Checking.{scope_after, with_variable}
-use Rattle.policy_glue.specs.Evaluation.{condition_values, decision_of, environment_with, values_of, with_value}
-use Rattle.policy_glue.specs.Evaluation as evaluation
-use Rattle.policy_glue.specs.Layout.{IsLayout, most_validations}
+use Rattle.policy_glue.specs.Evaluation.{decision_of, environment_with, values_of}
+use Rattle.policy_glue.specs.Layout.{most_validations}
 use Rattle.policy_glue.specs.Limits.{condition_texts, policy_texts, tree_texts, validation_texts, variable_texts}
 use Rattle.policy_glue.specs.Program.{policy_code, routines_code}
-use Rattle.policy_glue.specs.ProgramCode.{Laid, after_condition, after_conditions, after_variables, laid_conditions, laid_routines, nothing_laid, program_of, validation_codes, variable_code, variable_codes, with_routine}
+use Rattle.policy_glue.specs.ProgramCode.{Laid, after_condition, after_conditions, after_variables, laid_conditions, laid_routines, nothing_laid, program_of, variable_codes, with_routine}
 use Rattle.policy_glue.specs.ProgramLaws.{LeavesVerdict, conditions_place, passes, program_charge, program_steps, validations_place}
 use Rattle.policy_glue.specs.ProgramParts.{ConditionsGive, Part, RulePart, ValidationsGive, codes_of, decided_slots, rule_codes, rules_given, validations_charge, validations_steps, values_given}
 use Rattle.policy_glue.specs.ProgramTrees.{Decides, HasProgram, ProgramDecides, ProgramIsCode, ProgramStops}
-use Rattle.policy_glue.specs.ProgramTrees as trees
 use Rattle.policy_glue.specs.Trees.{PolicyTree, RuleTree, VariableTree}
 use Rattle.policy_glue.specs.Verdict.{Verdict, decided_before, truth_of, verdict_of}
 use Rattle.policy_glue.specs.declared.failure_policy.FailurePolicy.{FailurePolicy}
 use Rattle.policy_glue.proofs.ProgramDecided.{place_is}
 use Rattle.policy_glue.proofs.ProgramRows.{place_after}
-use Rattle.policy_glue.proofs.ProgramTreeParts.{after_rule, condition_codes_are, condition_parts, condition_values_are, conditions_charge_within, conditions_give, conditions_steps_within, rule_codes_are, rule_parts, rule_values_are, validations_charge_within, validations_give, validations_steps_within}
+use Rattle.policy_glue.proofs.ProgramTreeParts.{after_rule, condition_codes_are, condition_parts, condition_values_are, conditions_give, conditions_within, rule_codes_are, rule_parts, rule_values_are, validations_give, validations_within}
 use Rattle.policy_glue.proofs.ProgramVariables.{Known, charges_within, newest, or_left, or_right, scope_with, steps_within, used_more, values_are, variables_known}
 use Rattle.policy_glue.proofs.ProgramWhole.{policy_decides}
 
@@ -54,11 +49,7 @@ use Rattle.policy_glue.proofs.ProgramWhole.{policy_decides}
 
 variables_place : (vs : List VariableTree) (ds : List Declaration) (l : Laid) → (after_variables ds l vs).place ≡ l.place + size (routines_code (variable_codes ds l vs))
 variables_place [] ds l = omega arith
-variables_place (v ∷ more) ds l =
-    let rest = variables_place more (with_variable ds v) (with_routine ds l v) in
-    let first = size-cons (skip (size (variable_code ds l v))) (variable_code ds l v ++ routines_code (variable_codes (with_variable ds v) (with_routine ds l v) more)) in
-    let both = size-append (variable_code ds l v) (routines_code (variable_codes (with_variable ds v) (with_routine ds l v) more)) in
-    rest ∙ omega arith
+variables_place (v ∷ more) ds l = grind (arith, variables_place more (with_variable ds v) (with_routine ds l v), size-cons, size-append)
 
 variables_used : (all rest : List (List ℕ)) (vs : List VariableTree) (ds : List Declaration) (l : Laid) → all ≡ with_texts l.texts (variable_texts vs ++ rest) → all ≡ with_texts (after_variables ds l vs).texts rest
 variables_used all rest [] ds l used = used
@@ -71,8 +62,7 @@ conditions_place_is roots (a ∷ more) l = conditions_place_is roots more (after
 
 -- the conditions decide something where there are trees
 decided_as_many : (roots : Roots) (l : Laid) (cs : List Tree) → decided_slots cs ≡ decided_slots (condition_parts roots l cs)
-decided_as_many roots l [] = refl
-decided_as_many roots l (a ∷ more) = refl
+decided_as_many roots l cs = grind arith
 
 conditions_used : (all rest : List (List ℕ)) (cs : List Tree) (l : Laid) → all ≡ with_texts l.texts (condition_texts cs ++ rest) → all ≡ with_texts (after_conditions l cs).texts rest
 conditions_used all rest [] l used = used
@@ -130,38 +120,25 @@ module _ (law : DecodesSpelling) (f : FailurePolicy) (p : PolicyTree) (roots : R
 
   decision_is : verdict_of f (values_given conditions) (rules_given rules) ≡ decision_of f p roots
   unfolding decision_of
-  decision_is =
-      ap (λ vs. verdict_of f vs (rules_given rules)) (condition_values_are roots (laid_routines p) p.conditions)
-      ∙ ap (verdict_of f (condition_values roots p.conditions)) (rule_values_are ds (laid_conditions p) env p.validations ∙ ap (λ bs. map (evaluation.rule_value (environment_with roots bs)) p.validations) names_are)
+  decision_is = grind (arith, condition_values_are, rule_values_are, names_are)
 
   whole_is : program_of f p ≡ policy_code f routines (codes_of conditions) (rule_codes rules) ++ Exit ∷ []
   unfolding program_of
-  whole_is =
-      ap (λ cs. policy_code f routines cs (validation_codes ds (laid_conditions p) p.validations) ++ Exit ∷ []) (sym (condition_codes_are roots (laid_routines p) p.conditions))
-      ∙ ap (λ rs. policy_code f routines (codes_of conditions) rs ++ Exit ∷ []) (sym (rule_codes_are ds (laid_conditions p) env p.validations))
+  whole_is = grind (arith, condition_codes_are, rule_codes_are)
 
   -- ---- nothing is deeper than the whole
 
   deep_variables : (variables_cost roots [] p.variables).is_deep ≡ true → deep ≡ true
   unfolding policy_cost
-  deep_variables e =
-      let v = (variables_cost roots [] p.variables).is_deep in
-      let k = (conditions_cost roots p.conditions).is_deep in
-      or_left (v || k) _ (or_left v k e)
+  deep_variables e = grind (arith, or_left)
 
   deep_conditions : (conditions_cost roots p.conditions).is_deep ≡ true → deep ≡ true
   unfolding policy_cost
-  deep_conditions e =
-      let v = (variables_cost roots [] p.variables).is_deep in
-      let k = (conditions_cost roots p.conditions).is_deep in
-      or_left (v || k) _ (or_right v k e)
+  deep_conditions e = grind (arith, or_left, or_right)
 
   deep_rules : (rules_cost (runs_on f p roots) f (environment_with roots (values_of roots p.variables)) p.validations).is_deep ≡ true → deep ≡ true
   unfolding policy_cost
-  deep_rules e =
-      let v = (variables_cost roots [] p.variables).is_deep in
-      let k = (conditions_cost roots p.conditions).is_deep in
-      or_right (v || k) _ e
+  deep_rules e = grind (arith, or_right)
 
   -- ---- the texts
 
@@ -189,13 +166,10 @@ module _ (law : DecodesSpelling) (f : FailurePolicy) (p : PolicyTree) (roots : R
 
   has_routines : Stands image.code 0 (routines_code routines)
   unfolding policy_code
-  has_routines =
-      let stands = subst (Stands image.code 0) whole_is has_whole in
-      stands_front image.code 0 (routines_code routines) _ (stands_front image.code 0 (policy_code f routines (codes_of conditions) (rule_codes rules)) (Exit ∷ []) stands)
+  has_routines = grind (arith, whole_is, has_whole, stands_front)
 
   known : Known image deep roots scope ds (laid_routines p)
   known =
-      let few = has.few_variables in
       variables_known image deep roots (policy_texts p) (condition_texts p.conditions ++ validation_texts p.validations) p.variables [] [] nothing_laid constants_are few_constants used_first deep_variables (omega arith) has.variables has_routines (record { taken = record { slots_are = refl; depths_are = refl }; is = no_scope image deep roots image.constants; shallow = tt })
 
   slots_are : map (λ (v : Variable). v.routine) scope ≡ (laid_routines p).routines
@@ -221,38 +195,33 @@ module _ (law : DecodesSpelling) (f : FailurePolicy) (p : PolicyTree) (roots : R
       omega arith
 
   give_conditions : ConditionsGive (scope_setting image deep scope) (routine_context roots (bindings scope) image.constants) (conditions_place routines) conditions
-  give_conditions =
-      subst (λ (n : ℕ). ConditionsGive (scope_setting image deep scope) (routine_context roots (bindings scope) image.constants) n conditions) first_place (conditions_give image deep roots (policy_texts p) constants_are few_constants scope p.conditions (laid_routines p) (validation_texts p.validations) slots_are has.conditions used_second deep_conditions)
+  give_conditions = grind (arith, first_place, conditions_give, few_constants, slots_are, used_second, deep_conditions)
 
-  deep_running : passes f conditions ≡ true → (rules_cost true f env p.validations).is_deep ≡ true → deep ≡ true
-  deep_running runs e =
-      deep_rules (subst (λ (t : Bool). (rules_cost t f (environment_with roots (values_of roots p.variables)) p.validations).is_deep ≡ true) (sym runs ∙ runs_is) (subst (λ (bs : List (List ℕ × ValueOrError)). (rules_cost true f (environment_with roots bs) p.validations).is_deep ≡ true) names_are e))
+  -- where they run, the validations cost what the policy says
+  cost_is : passes f conditions ≡ true
+      → rules_cost true f env p.validations ≡ rules_cost (runs_on f p roots) f (environment_with roots (values_of roots p.variables)) p.validations
+  cost_is runs = grind (arith, names_are, runs_is)
 
   give_validations : passes f conditions ≡ true → ValidationsGive f (scope_setting image deep scope) (routine_context roots (bindings scope) image.constants) (validations_place f routines conditions) rules
   give_validations runs =
-      subst (λ (n : ℕ). ValidationsGive f (scope_setting image deep scope) (routine_context roots (bindings scope) image.constants) n rules) second_place (validations_give image deep roots (policy_texts p) constants_are few_constants f scope ds known.shallow known.is short_scope p.validations (laid_conditions p) [] taken_later has.validations used_third (deep_running runs))
+      subst (λ (n : ℕ). ValidationsGive f (scope_setting image deep scope) (routine_context roots (bindings scope) image.constants) n rules) second_place
+      (validations_give image deep roots (policy_texts p) constants_are few_constants f scope ds known.shallow known.is short_scope p.validations
+      (laid_conditions p) [] taken_later has.validations used_third (λ e. deep_rules (ap (λ k. k.is_deep) (sym (cost_is runs)) ∙ e)))
 
   -- ---- budgets
 
   rules_paid : (t : Bool) → passes f conditions ≡ t → (if t then validations_steps f rules + 6 else 0) ≤ 128 * (rules_cost (runs_on f p roots) f (environment_with roots (values_of roots p.variables)) p.validations).visits + 6
-  rules_paid false runs = omega arith
-  rules_paid true runs =
-      let within = validations_steps_within f ds (laid_conditions p) env p.validations in
-      let same : (rules_cost true f env p.validations).visits ≡ (rules_cost (runs_on f p roots) f (environment_with roots (values_of roots p.variables)) p.validations).visits = ap (λ bs. (rules_cost true f (environment_with roots bs) p.validations).visits) names_are ∙ ap (λ (t : Bool). (rules_cost t f (environment_with roots (values_of roots p.variables)) p.validations).visits) (sym runs ∙ runs_is) in
-      omega arith
+  rules_paid t runs = grind (arith, validations_within, cost_is)
 
   rules_spent : (t : Bool) → passes f conditions ≡ t → (if t then validations_charge f rules else 0) ≤ 16 * spent_by (rules_cost (runs_on f p roots) f (environment_with roots (values_of roots p.variables)) p.validations)
   rules_spent false runs = omega arith
-  rules_spent true runs =
-      let within = validations_charge_within f ds (laid_conditions p) env p.validations in
-      let same : spent_by (rules_cost true f env p.validations) ≡ spent_by (rules_cost (runs_on f p roots) f (environment_with roots (values_of roots p.variables)) p.validations) = ap (λ bs. spent_by (rules_cost true f (environment_with roots bs) p.validations)) names_are ∙ ap (λ (t : Bool). spent_by (rules_cost t f (environment_with roots (values_of roots p.variables)) p.validations)) (sym runs ∙ runs_is) in
-      omega arith
+  rules_spent true runs = omega (arith, (validations_within f ds (laid_conditions p) env p.validations).1, ap (λ (k : Cost). spent_by k) (cost_is runs))
 
   steps_enough : program_steps f routines conditions rules + total (first_steps scope) < 128 * policy_work f p roots
   unfolding policy_cost
   steps_enough =
       let first = steps_within image deep roots p.variables [] [] nothing_laid in
-      let second = conditions_steps_within roots (laid_routines p) p.conditions in
+      let second = (conditions_within roots (laid_routines p) p.conditions).0 in
       let third = rules_paid (passes f conditions) refl in
       omega arith
 
@@ -260,7 +229,7 @@ module _ (law : DecodesSpelling) (f : FailurePolicy) (p : PolicyTree) (roots : R
   unfolding policy_cost
   charge_enough =
       let first = charges_within image deep roots p.variables [] [] nothing_laid in
-      let second = conditions_charge_within roots (laid_routines p) p.conditions in
+      let second = (conditions_within roots (laid_routines p) p.conditions).1 in
       let third = rules_spent (passes f conditions) refl in
       omega arith
 
@@ -270,13 +239,7 @@ module _ (law : DecodesSpelling) (f : FailurePolicy) (p : PolicyTree) (roots : R
   rules_few = let few = has.few_validations in let long = rules_length ds (laid_conditions p) env p.validations in omega arith
 
   decided : {t : State} → Halts (scope_setting image deep scope) (program_charge f conditions rules) start (LeavesVerdict f (decision_of f p roots)) t → Decides f p roots values t
-  decided {t} (Over calls e frames filled (inl above)) =
-      let most = charges-most image scope start.memory.scratch t.memory.scratch calls in
-      let enough = charge_enough in
-      trees.Over e (inl (omega arith))
-  decided (Over calls e frames filled (inr is_deep)) = trees.Over e (inr is_deep)
-  decided {t} (Left q b e filled within leaves) =
-      trees.Left (ap (λ (u : State). u.status) e ∙ ap Exited leaves.answers) (subst (λ (u : State). IsLayout f (decision_of f p roots) u.values.values u.memory.verdict) (sym e) leaves.layout)
+  decided h0 = grind (arith, charges-most, charge_enough)
 
   pub decides : (m : ℕ) → 128 * policy_work f p roots ≤ m → Decides f p roots values (state_after m (start_state image values))
   decides m enough =
@@ -287,8 +250,7 @@ module _ (law : DecodesSpelling) (f : FailurePolicy) (p : PolicyTree) (roots : R
       decided (subst (λ (v : Verdict). Halts (scope_setting image deep scope) (program_charge f conditions rules) start (LeavesVerdict f v) (state_after m (start_state image values))) decision_is halts)
 
 pub program_decides : DecodesSpelling → ProgramIsCode → ProgramDecides
-program_decides law codes f p roots image values m has code_is constants_are bytes constant_bytes table enough =
-    decides law f p roots image values has (codes f p has) code_is constants_are bytes constant_bytes table m enough
+program_decides law codes f p roots image values m has code_is constants_are bytes constant_bytes table enough = grind (arith, decides)
 
 pub program_stops : ProgramDecides → ProgramStops
 program_stops law f p roots image values k has code_is constants_are bytes constant_bytes table stopped =

@@ -1,24 +1,21 @@
 -- A policy's program has at most 128 slots for each of the policy's nodes.
-use Rattle.std.proofs.Common.{◌≡◌, ℕ, ◌+◌, ◌*◌, ◌≤◌, List, [], ◌∷◌, ◌++◌, length, Option, Some, None, ap, ◌∙◌, arith}
+use Rattle.std.proofs.Common.{◌≡◌, ℕ, ◌+◌, ◌*◌, ◌≤◌, List, [], ◌∷◌, ◌++◌, Option, ap, ◌∙◌, arith}
 use Rattle.std.specs.List.{sum_by}
 use Rattle.std.proofs.lemmas.List.Sums.{sum_by-cons}
 use Rattle.insn_codec.specs.declared.insn.Insn.{Insn}
-use Rattle.insn_codec.specs.declared.insn.Insn.TheVariants.{Exit}
 use Rattle.cel_reader.specs.Tree.{Tree}
 use Rattle.cel_macros.specs.CoreTree.{expanded}
 use Rattle.cel_measures.specs.Measures.{nodes}
 use Rattle.cel_types.specs.Declarations.{Declaration}
 use Rattle.codegen_base.specs.Instructions.{skip}
 use Rattle.codegen_base.specs.Pieces.{size}
-use Rattle.codegen_base.specs.Variables.{memo_tail}
 use Rattle.codegen_base.proofs.Pieces.{size-append, size-cons}
-use Rattle.codegen.specs.Code.Expressions.{code_of}
 use Rattle.codegen.specs.Surroundings.{routines_of}
-use Rattle.codegen.proofs.Lengths.{short_code}
-use Rattle.policy_glue.specs.Checking.{scope_after, with_variable}
+use Rattle.codegen.proofs.Whole.{whole_short}
+use Rattle.policy_glue.specs.Checking.{with_variable}
 use Rattle.policy_glue.specs.Limits.{message_nodes, part_nodes, policy_nodes, rule_nodes}
-use Rattle.policy_glue.specs.Program.{Validation, condition_tail, conditions_code, decided_code, message_code, message_tail, outcome_tail, policy_code, result_code, routines_code, validation_code, validations_code}
-use Rattle.policy_glue.specs.ProgramCode.{Laid, after_condition, before_message, condition_codes, laid_conditions, laid_routines, message_codes, nothing_laid, program_of, texts_with, tree_code, validation_codes, variable_code, variable_codes, with_message, with_routine}
+use Rattle.policy_glue.specs.Program.{Validation, condition_tail, conditions_code, decided_code, message_code, policy_code, routines_code, validation_code, validations_code}
+use Rattle.policy_glue.specs.ProgramCode.{Laid, after_condition, before_message, condition_codes, message_codes, program_of, texts_with, tree_code, validation_codes, variable_code, variable_codes, with_message, with_routine}
 use Rattle.policy_glue.specs.ProgramTrees.{ProgramIsShort}
 use Rattle.policy_glue.specs.Trees.{RuleTree, VariableTree}
 use Rattle.policy_glue.specs.declared.failure_policy.FailurePolicy.{FailurePolicy}
@@ -29,13 +26,10 @@ use Rattle.policy_glue.proofs.ProgramRules.{message_tail_size, result_size}
 -- ---- expressions
 
 pub tree_short : (scope : List Declaration) (l : Laid) (a : Tree) → size (tree_code scope l a) + 8 ≤ 63 * nodes (expanded a)
-tree_short scope l a = short_code (expanded a) (texts_with l a) (routines_of scope l.routines) [] 0 l.place
+tree_short scope l a = whole_short (expanded a) (texts_with l a) (routines_of scope l.routines) l.place
 
 pub routine_short : (scope : List Declaration) (l : Laid) (v : VariableTree) → size (variable_code scope l v) + 2 ≤ 63 * nodes (expanded v.expression)
-routine_short scope l v =
-    let body = short_code (expanded v.expression) (texts_with l v.expression) (routines_of scope l.routines) [] 0 (l.place + 1) in
-    let whole = size-append (code_of (expanded v.expression) (texts_with l v.expression) (routines_of scope l.routines) [] 0 (l.place + 1)) (memo_tail (length l.routines)) in
-    omega (arith, body, whole)
+routine_short scope l v = grind (arith, whole_short, size-append)
 
 -- ---- variables, conditions and validations
 
@@ -66,23 +60,13 @@ conditions_short f l (a ∷ more) =
 
 -- what the conditions decide is short, if there are any
 pub decided_few : {A : Type 0} (cs : List A) → size (decided_code cs) ≤ 5
-decided_few [] = omega arith
-decided_few (a ∷ more) = omega arith
+decided_few cs = grind arith
 
 pub message_short : (scope : List Declaration) (l : Laid) (i : ℕ) (m : Option Tree) → size (message_code i (message_codes scope l m)) ≤ 63 * message_nodes m
-message_short scope l i None = omega arith
-message_short scope l i (Some a) =
-    let whole = size-append (tree_code scope l a) (message_tail i) in
-    let tail = message_tail_size i in
-    let short = tree_short scope l a in
-    omega (arith, whole, tail, short)
+message_short scope l i m = grind (arith, size-append, message_tail_size, tree_short)
 
 pub rule_size : (f : FailurePolicy) (i : ℕ) (v : Validation) → size (validation_code f i v) ≡ size v.0 + (10 + size (message_code i v.1))
-rule_size f i v =
-    let message = message_code i v.1 in
-    let whole = size-append v.0 (result_code f i message) in
-    let result = result_size f i message in
-    omega (arith, whole, result)
+rule_size f i v = grind (arith, size-append, result_size)
 
 pub validations_short : (f : FailurePolicy) (scope : List Declaration) (l : Laid) (i : ℕ) (rs : List RuleTree) → size (validations_code f i (validation_codes scope l rs)) ≤ 128 * sum_by rule_nodes rs
 unfolding validations_code
@@ -103,18 +87,4 @@ validations_short f scope l i (r ∷ more) =
 
 pub program_is_short : ProgramIsShort
 unfolding program_of policy_code policy_nodes
-program_is_short f p =
-    let routines = variable_codes [] nothing_laid p.variables in
-    let conditions = condition_codes (laid_routines p) p.conditions in
-    let rules = validation_codes (scope_after p.variables) (laid_conditions p) p.validations in
-    let whole = size-append (policy_code f routines conditions rules) (Exit ∷ []) in
-    let a = size-append (routines_code routines) (conditions_code f conditions ++ (decided_code conditions ++ (validations_code f 0 rules ++ outcome_tail))) in
-    let b = size-append (conditions_code f conditions) (decided_code conditions ++ (validations_code f 0 rules ++ outcome_tail)) in
-    let c = size-append (decided_code conditions) (validations_code f 0 rules ++ outcome_tail) in
-    let d = size-append (validations_code f 0 rules) outcome_tail in
-    let tail = outcome_tail_size in
-    let decided = decided_few conditions in
-    let first = routines_short [] nothing_laid p.variables in
-    let second = conditions_short f (laid_routines p) p.conditions in
-    let third = validations_short f (scope_after p.variables) (laid_conditions p) 0 p.validations in
-    omega (arith, whole, a, b, c, d, tail, decided, first, second, third)
+program_is_short f p = grind (arith, size-append, outcome_tail_size, decided_few, routines_short, conditions_short, validations_short)

@@ -1,9 +1,8 @@
 -- The conditions and validations of a policy's program: what the code of each gives where it stands.
-use Rattle.std.proofs.Common.{◌≡◌, ℕ, ◌+◌, ◌-◌, ◌*◌, ◌≤◌, List, [], ◌∷◌, ◌++◌, length, append-nil, append_assoc, Option, Some, None, Bool, true, false, refl, ap, ◌∙◌, subst, sym, arith, true≢false}
+use Rattle.std.proofs.Common.{◌≡◌, ℕ, ◌+◌, ◌-◌, ◌*◌, ◌≤◌, List, [], ◌∷◌, ◌++◌, length, append-nil, append_assoc, Option, Some, None, Bool, true, refl, ap, ◌∙◌, subst, sym, arith}
 use Rattle.std.specs.Prelude.{◌||◌, map, option_map}
 use Rattle.insn_codec.specs.declared.insn.Insn.{Insn}
 use Rattle.loader.specs.Contents.{Contents}
-use Rattle.value_store.specs.Value.{ValueOrError}
 use Rattle.cel_reader.specs.Tree.{Tree}
 use Rattle.cel_macros.specs.CoreTree.{expanded, plain_tree}
 use Rattle.cel_macros.specs.Environment.{Environment, Roots}
@@ -63,34 +62,25 @@ condition_codes_are roots l (a ∷ more) = ap (λ (cs : List (List Insn)). tree_
 
 pub condition_values_are : (roots : Roots) (l : Laid) (trees : List Tree) → values_given (condition_parts roots l trees) ≡ condition_values roots trees
 condition_values_are roots l [] = refl
-condition_values_are roots l (a ∷ more) =
-    ap (λ (vs : List ValueOrError). meaning a (environment_with roots []) ∷ vs) (condition_values_are roots (after_condition l a) more)
+condition_values_are roots l (a ∷ more) = grind (arith, condition_values_are roots (after_condition l a) more)
 
 message_code_is : (ds : List Declaration) (l : Laid) (env : Environment) (m : Option Tree)
     → option_map (λ (a : Part). a.code) (message_part ds l env m) ≡ message_codes ds l m
-message_code_is ds l env (Some a) = refl
-message_code_is ds l env None = refl
+message_code_is ds l env m = grind arith
 
 message_value_is : (ds : List Declaration) (l : Laid) (env : Environment) (m : Option Tree)
     → option_map (λ (a : Part). a.value) (message_part ds l env m) ≡ option_map (λ a. meaning a env) m
-message_value_is ds l env (Some a) = refl
-message_value_is ds l env None = refl
+message_value_is ds l env m = grind arith
 
 pub rule_codes_are : (ds : List Declaration) (l : Laid) (env : Environment) (rs : List RuleTree)
     → rule_codes (rule_parts ds l env rs) ≡ validation_codes ds l rs
 rule_codes_are ds l env [] = refl
-rule_codes_are ds l env (r ∷ more) =
-    let first = message_code_is ds (before_message ds l r) env r.message in
-    let rest = rule_codes_are ds (after_rule ds l r) env more in
-    cc
+rule_codes_are ds l env (r ∷ more) = grind (arith, rule_codes_are ds (after_rule ds l r) env more, message_code_is)
 
 pub rule_values_are : (ds : List Declaration) (l : Laid) (env : Environment) (rs : List RuleTree)
     → rules_given (rule_parts ds l env rs) ≡ map (rule_value env) rs
 rule_values_are ds l env [] = refl
-rule_values_are ds l env (r ∷ more) =
-    let first = message_value_is ds (before_message ds l r) env r.message in
-    let rest = rule_values_are ds (after_rule ds l r) env more in
-    cc
+rule_values_are ds l env (r ∷ more) = grind (arith, rule_values_are ds (after_rule ds l r) env more, message_value_is)
 
 -- ---- an expression gives what it means
 
@@ -139,21 +129,16 @@ module _ (image : Contents) (deep : Bool) (roots : Roots) (everything : List (Li
     message_gives : (l : Laid) (m : Option Tree) (rest : List (List ℕ)) (d : Bool) → AreTaken l.routines ds scope [] → IsMessage ds m
         → everything ≡ with_texts l.texts (message_texts m ++ rest) → ((message_cost d env m).is_deep ≡ true → deep ≡ true)
         → MessageGives s c l.place d (message_part ds l env m)
-    message_gives l None rest d taken expression used may = tt
-    message_gives l (Some a) rest false taken expression used may = λ e. absurd (true≢false (sym e))
-    message_gives l (Some a) rest true taken expression used may = λ e. one_gives l a rest taken expression used may
+    message_gives l m rest d taken expression used may = grind (arith, one_gives)
 
     message_place : (l : Laid) (m : Option Tree) → (with_message ds l m).place ≡ l.place + message_size (message_part ds l env m)
-    message_place l (Some a) = omega arith
-    message_place l None = omega arith
+    message_place l m = grind arith
 
     message_used : (l : Laid) (m : Option Tree) → (with_message ds l m).texts ≡ with_texts l.texts (message_texts m)
-    message_used l (Some a) = refl
-    message_used l None = refl
+    message_used l m = grind arith
 
     message_routines : (l : Laid) (m : Option Tree) → (with_message ds l m).routines ≡ l.routines
-    message_routines l (Some a) = refl
-    message_routines l None = refl
+    message_routines l m = grind arith
 
     pub validations_give : (rs : List RuleTree) (l : Laid) (rest : List (List ℕ)) → AreTaken l.routines ds scope [] → AreRules ds rs
         → everything ≡ with_texts l.texts (validation_texts rs ++ rest) → ((rules_cost true f env rs).is_deep ≡ true → deep ≡ true)
@@ -179,42 +164,21 @@ module _ (image : Contents) (deep : Bool) (roots : Roots) (everything : List (Li
         let place : l2.place ≡ l.place + rule_size (rule_part ds l env r) = message_place l1 r.message ∙ omega arith in
         (first, told, subst (λ (p : ℕ). ValidationsGive f s c p (rule_parts ds l2 env more)) place others)
 
--- ---- budgets
+-- ---- budgets: steps, and what is charged
 
-pub conditions_steps_within : (roots : Roots) (l : Laid) (trees : List Tree)
-    → conditions_steps (condition_parts roots l trees) ≤ 128 * (conditions_cost roots trees).visits
-conditions_steps_within roots l [] = omega arith
-conditions_steps_within roots l (a ∷ more) = let rest = conditions_steps_within roots (after_condition l a) more in omega arith
+pub conditions_within : (roots : Roots) (l : Laid) (trees : List Tree)
+    → (conditions_steps (condition_parts roots l trees) ≤ 128 * (conditions_cost roots trees).visits)
+    × (conditions_charge (condition_parts roots l trees) ≤ 16 * spent_by (conditions_cost roots trees))
+conditions_within roots l [] = (omega arith, omega arith)
+conditions_within roots l (a ∷ more) = let rest = conditions_within roots (after_condition l a) more in (omega (arith, rest.0), omega (arith, rest.1))
 
-pub conditions_charge_within : (roots : Roots) (l : Laid) (trees : List Tree)
-    → conditions_charge (condition_parts roots l trees) ≤ 16 * spent_by (conditions_cost roots trees)
-conditions_charge_within roots l [] = omega arith
-conditions_charge_within roots l (a ∷ more) = let rest = conditions_charge_within roots (after_condition l a) more in omega arith
+message_within : (ds : List Declaration) (l : Laid) (env : Environment) (m : Option Tree) (d : Bool)
+    → (message_steps d (message_part ds l env m) ≤ 128 * (message_cost d env m).visits)
+    × (message_charge d (message_part ds l env m) ≤ 16 * spent_by (message_cost d env m))
+message_within ds l env m d = grind arith
 
-message_steps_within : (ds : List Declaration) (l : Laid) (env : Environment) (m : Option Tree) (d : Bool)
-    → message_steps d (message_part ds l env m) ≤ 128 * (message_cost d env m).visits
-message_steps_within ds l env None true = omega arith
-message_steps_within ds l env (Some a) true = omega arith
-message_steps_within ds l env _ _ = omega arith
-
-message_charge_within : (ds : List Declaration) (l : Laid) (env : Environment) (m : Option Tree) (d : Bool)
-    → message_charge d (message_part ds l env m) ≤ 16 * spent_by (message_cost d env m)
-message_charge_within ds l env None true = omega arith
-message_charge_within ds l env (Some a) true = omega arith
-message_charge_within ds l env _ _ = omega arith
-
-pub validations_steps_within : (f : FailurePolicy) (ds : List Declaration) (l : Laid) (env : Environment) (rs : List RuleTree)
-    → validations_steps f (rule_parts ds l env rs) ≤ 128 * (rules_cost true f env rs).visits
-validations_steps_within f ds l env [] = omega arith
-validations_steps_within f ds l env (r ∷ more) =
-    let told = message_steps_within ds (before_message ds l r) env r.message (denies f (truth_of (meaning r.expression env))) in
-    let rest = validations_steps_within f ds (after_rule ds l r) env more in
-    omega arith
-
-pub validations_charge_within : (f : FailurePolicy) (ds : List Declaration) (l : Laid) (env : Environment) (rs : List RuleTree)
-    → validations_charge f (rule_parts ds l env rs) ≤ 16 * spent_by (rules_cost true f env rs)
-validations_charge_within f ds l env [] = omega arith
-validations_charge_within f ds l env (r ∷ more) =
-    let told = message_charge_within ds (before_message ds l r) env r.message (denies f (truth_of (meaning r.expression env))) in
-    let rest = validations_charge_within f ds (after_rule ds l r) env more in
-    omega arith
+pub validations_within : (f : FailurePolicy) (ds : List Declaration) (l : Laid) (env : Environment) (rs : List RuleTree)
+    → (validations_steps f (rule_parts ds l env rs) ≤ 128 * (rules_cost true f env rs).visits)
+    × (validations_charge f (rule_parts ds l env rs) ≤ 16 * spent_by (rules_cost true f env rs))
+validations_within f ds l env [] = (omega arith, omega arith)
+validations_within f ds l env (r ∷ more) = grind (arith, validations_within f ds (after_rule ds l r) env more, message_within)

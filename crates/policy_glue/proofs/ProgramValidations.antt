@@ -16,19 +16,16 @@ use Rattle.policy_glue.specs.Layout.{first_result, most_validations, truth_word}
 use Rattle.policy_glue.specs.Program.{denial_code, error_way, result_code}
 use Rattle.policy_glue.specs.Verdict.{Finding, Truth, Holds, Fails, Errs, denies, is_denial, truth_of}
 use Rattle.policy_glue.specs.declared.failure_policy.FailurePolicy.{FailurePolicy}
-use Rattle.policy_glue.specs.declared.failure_policy.FailurePolicy.TheVariants.{Fail, Ignore}
 use Rattle.policy_glue.proofs.ProgramMarks.{Judges, Marked, Marks, denials_stored, marks_registers, marks_told, result_stored, tested}
 use Rattle.policy_glue.proofs.ProgramSteps.{load_verdict, put_verdict, store_verdict}
 use Rattle.policy_glue.proofs.VerdictWords.{count_more, count_of, count_small, message_none, message_of, result_last, result_none, result_of, result_other}
 
 -- an error that denies goes to the count, and one that does not behind the message
 way_counts : (f : FailurePolicy) (n : ℕ) → denies f Errs ≡ true → error_way f n ≡ 1
-way_counts Fail n e = refl
-way_counts Ignore n e = absurd (true≢false (sym e))
+way_counts f n e = grind arith
 
 way_leaves : (f : FailurePolicy) (n : ℕ) → denies f Errs ≡ false → error_way f n ≡ n
-way_leaves Fail n e = absurd (true≢false e)
-way_leaves Ignore n e = refl
+way_leaves f n e = grind arith
 
 module _ (s : Setting) (c : Context) (f : FailurePolicy) (xs : List Finding) (x : Finding) (few : length xs < most_validations) where
   -- the validation's word is kept, and a denial counted
@@ -62,8 +59,7 @@ module _ (s : Setting) (c : Context) (f : FailurePolicy) (xs : List Finding) (x 
     marks_asked = marks_registers c 0 (count_of f xs) (result_of xs) (message_of xs) b judges.marked asked.registers refl
 
     truth_small : (t : Truth) → truth_word t < 2 ^ 64
-    truth_small Holds = omega arith
-    truth_small _ = omega arith
+    truth_small t = grind arith
 
     marks_worded : (t : Truth) → truth_of v ≡ t → Worded (worded t)
     marks_worded t is_t = result_stored c 0 (count_of f xs) (result_of xs) (message_of xs) asked marks_asked (truth_word t) (truth_small t) (length xs) few (result_of (xs ++ x ∷ [])) (result_last xs x ∙ ap truth_word (is ∙ is_t)) (result_other xs x)

@@ -1,5 +1,5 @@
 -- The variables of a policy's program, one behind another.
-use Rattle.std.proofs.Common.{◌≡◌, ℕ, ◌+◌, ◌-◌, ◌*◌, ◌≤◌, List, [], ◌∷◌, ◌++◌, length, length-append, append-nil, append_assoc, Bool, true, false, refl, ap, ◌∙◌, subst, sym, arith}
+use Rattle.std.proofs.Common.{◌≡◌, ℕ, ◌+◌, ◌-◌, ◌*◌, ◌≤◌, List, [], ◌∷◌, ◌++◌, length, length-append, append-nil, append_assoc, Bool, true, refl, ap, ◌∙◌, subst, sym, arith}
 use Rattle.std.specs.Prelude.{◌||◌, fold}
 use Rattle.std.proofs.lemmas.List.{map-append}
 use Rattle.std.proofs.lemmas.List.Sums.{fold-append}
@@ -7,7 +7,6 @@ use Rattle.loader.specs.Contents.{Contents}
 use Rattle.value_store.specs.Value.{ValueOrError}
 use Rattle.cel_macros.specs.CoreTree.{expanded, plain_tree}
 use Rattle.cel_macros.specs.Environment.{Roots}
-use Rattle.cel_macros.specs.Meaning.{meaning}
 use Rattle.cel_macros.proofs.Expansion.{expansion_plain}
 use Rattle.cel_types.specs.Declarations.{Declaration, scope_of}
 use Rattle.cel_types.specs.Typing.{typing as type_of}
@@ -46,8 +45,7 @@ pub or_left : (x y : Bool) → x ≡ true → (x || y) ≡ true
 or_left x y e = rw e refl
 
 pub or_right : (x y : Bool) → y ≡ true → (x || y) ≡ true
-or_right true y e = refl
-or_right false y e = e
+or_right x y e = grind arith
 
 shallow_more : (ds : List Declaration) (d : Declaration) → AreShallow ds → d.depth ≤ 6 → AreShallow (ds ++ d ∷ [])
 shallow_more [] d h low = (low, tt)
@@ -84,15 +82,11 @@ module _ (image : Contents) (deep : Bool) (roots : Roots) where
 
   -- the expression of a variable costs no more than the whole
   deep_first : (ds : List Declaration) (scope : List Variable) (v : VariableTree) (more : List VariableTree) → ((variables_cost roots (bindings scope) (v ∷ more)).is_deep ≡ true → deep ≡ true) → IsDeep (plain_tree (expanded v.expression)) (environment_in roots [] scope) → deep ≡ true
-  deep_first ds scope v more may e =
-      let here : IsDeep v.expression (environment_with roots (bindings scope)) = subst (λ (a : Tree). IsDeep a (environment_in roots [] scope)) (expansion_plain v.expression) e in
-      may (or_left _ (variables_cost roots (with_value roots (bindings scope) v) more).is_deep here)
+  deep_first ds scope v more may e = grind (arith, expansion_plain, or_left)
 
   -- the name of the newest stands for its value
   pub newest_value : (scope : List Variable) (l : Laid) (v : VariableTree) → bindings (scope ++ newest scope l v ∷ []) ≡ with_value roots (bindings scope) v
-  newest_value scope l v =
-      map-append (λ (u : Variable). (u.name, u.value)) scope (newest scope l v ∷ [])
-      ∙ ap (λ (a : Tree). bindings scope ++ (v.name, meaning a (environment_with roots (bindings scope))) ∷ []) (expansion_plain v.expression)
+  newest_value scope l v = grind (arith, map-append, expansion_plain)
 
   pub variables_known : (all rest : List (List ℕ)) (vs : List VariableTree) (scope : List Variable) (ds : List Declaration) (l : Laid) → image.constants ≡ joined all → length image.constants ≤ 1048576 → all ≡ with_texts l.texts (variable_texts vs ++ rest) → ((variables_cost roots (bindings scope) vs).is_deep ≡ true → deep ≡ true) → length scope + length vs ≤ 512 → AreVariables ds vs → Stands image.code l.place (routines_code (variable_codes ds l vs)) → Known scope ds l → Known (scope_with scope ds l vs) (fold with_variable ds vs) (after_variables ds l vs)
   variables_known all rest [] scope ds l are few used may short expressions stands known = known

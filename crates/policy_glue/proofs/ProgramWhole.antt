@@ -59,9 +59,7 @@ verdict f conditions rules = decided (decided_before f (truths_of conditions)) (
 
 verdict_is : (f : FailurePolicy) (conditions : List Part) (rules : List RulePart) → verdict_of f (values_given conditions) (rules_given rules) ≡ verdict f conditions rules
 unfolding verdict_of
-verdict_is f conditions rules =
-    ap (λ ts. decided (decided_before f ts) (judged_by f (map (finding_of f) (rules_given rules)))) (truths_are conditions)
-    ∙ ap (λ (xs : List Finding). decided (decided_before f (truths_of conditions)) (judged_by f xs)) (findings_are f rules)
+verdict_is f conditions rules = grind (arith, truths_are, truths_of, findings_are)
 
 -- ---- routines are jumped over
 
@@ -176,8 +174,7 @@ module _ (s : Setting) (c : Context) (f : FailurePolicy) (routines : List (List 
       }
 
   pub policy_ends : let v = verdict_of f (values_given conditions) (rules_given rules) in Exits s (program_steps f routines conditions rules) (program_charge f conditions rules) 0 b (Ends c f v.outcome v.findings)
-  policy_ends =
-      rw (verdict_is f conditions rules, truths_are conditions) (ends_by (decided_before f (truths_of conditions)) refl)
+  policy_ends = grind (arith, verdict_is, truths_are, ends_by, truths_of)
 
 -- ---- from the start
 

@@ -1,5 +1,5 @@
 -- What a document says, by what `serde_json` answers.
-use Rattle.std.proofs.Common.{◌≡◌, ℕ, Bool, true, false, List, Some, None, sym, refl}
+use Rattle.std.proofs.Common.{◌≡◌, ℕ, Bool, List, Some, None, sym, refl, arith}
 use Rattle.std.specs.Prelude.{if◌then◌else◌}
 use Rattle.std.specs.Str.{IsUtf8, is_utf8}
 use Rattle.std.proofs.lemmas.Str.{IsUtf8-from_is_utf8, is_utf8-from_IsUtf8}
@@ -12,8 +12,7 @@ unfolding document_of
 document_read bytes d utf8 is = rw (is_utf8-from_IsUtf8 bytes utf8) (sym is)
 
 none_by : (bytes : List ℕ) (b : Bool) → is_utf8 bytes ≡ b → (IsUtf8 bytes → read bytes ≡ None) → None ≡ (if b then read bytes else None)
-none_by bytes true is none = sym (none (IsUtf8-from_is_utf8 bytes is))
-none_by bytes false is none = refl
+none_by bytes b is none = grind (arith, IsUtf8-from_is_utf8)
 
 pub document_refused : (bytes : List ℕ) → (IsUtf8 bytes → read bytes ≡ None) → None ≡ document_of bytes
 unfolding document_of

@@ -1,9 +1,8 @@
 -- The denials that words tell, and those of the verdict that the words tell.
-use Rattle.std.proofs.Common.{◌≡◌, ◌<◌, ◌≤◌, ◌+◌, ℕ, zero, suc, Bool, true, false, List, [], ◌∷◌, ◌++◌, length, Option, Some, arith, refl, sym, ap, ◌∙◌}
-use Rattle.std.proofs.Common.{◌-◌, map, subst, nat_lt, true≢false}
+use Rattle.std.proofs.Common.{◌≡◌, ◌<◌, ◌≤◌, ◌+◌, ℕ, zero, suc, Bool, false, List, [], ◌∷◌, ◌++◌, length, Option, Some, arith, refl, ap, ◌∙◌}
+use Rattle.std.proofs.Common.{◌-◌, map, nat_lt}
 use Rattle.std.proofs.lemmas.Bool.{ltb-false}
 use Rattle.std.specs.Prelude.{◌||◌}
-use Rattle.serde_json.specs.Written.{compact_text}
 use Rattle.policy_glue.specs.Reading.{IsAccepted, most_parts}
 use Rattle.policy_glue.specs.declared.parts.Parts.{Parts}
 use Rattle.std.specs.Prelude.{slice_get, slice_index, if◌then◌else◌}
@@ -11,10 +10,9 @@ use Rattle.policy_glue.specs.Denials.{denial_told, denials_told, lent, told_in}
 use Rattle.policy_glue.specs.Layout.{Words, Tell, finding_word, message_in, most_validations, outcome_word, truth_word}
 use Rattle.policy_glue.specs.Policy.{Rule, Rules, rule_view, rules_view}
 use Rattle.policy_glue.specs.Objections.{Objection, objected_tree, objection_by, objection_of, objection_told, response_text}
-use Rattle.policy_glue.specs.Response.{Denial, denials_of, response_of, review_tree, tree_of}
-use Rattle.policy_glue.specs.Verdict.{Finding, Verdict, Truth, Holds, Fails, Errs, Outcome, Skipped, denies}
+use Rattle.policy_glue.specs.Response.{Denial, denials_of, response_of, tree_of}
+use Rattle.policy_glue.specs.Verdict.{Finding, Verdict, Truth, Outcome, denies}
 use Rattle.policy_glue.specs.declared.failure_policy.FailurePolicy.{FailurePolicy}
-use Rattle.policy_glue.specs.declared.failure_policy.FailurePolicy.TheVariants.{Fail, Ignore}
 
 -- ---- the walk
 
@@ -26,16 +24,11 @@ pub record DenialsGo (f : FailurePolicy) (all rest : List Rule) (words : Words) 
 none_told : (f : FailurePolicy) (rs : List Rule) (words : Words) (i : ℕ) → ((k : ℕ) → i ≤ k → k < i + length rs → slice_index words.results k ≡ 0)
     → denials_told f rs words i ≡ []
 none_told f [] words i zeros = refl
-none_told f (r ∷ rs) words i zeros =
-    ap (λ w. told_in (denial_told f r w (lent (slice_get words.messages i))) ++ denials_told f rs words (i + 1)) (zeros i (omega arith) (omega arith))
-    ∙ none_told f rs words (i + 1) (λ k low high. zeros k (omega arith) (omega arith))
+none_told f (r ∷ rs) words i zeros = grind (arith, none_told f rs words (i + 1) (λ k low high. zeros k (omega arith) (omega arith)))
 
 one_told : (f : FailurePolicy) (r : Rule) (t : Truth) (m : Option (List ℕ)) (more : List Denial)
     → told_in (denial_told f r (truth_word t) m) ++ more ≡ (if denies f t then record { rule = r; message = m } ∷ more else more)
-one_told f r Holds m more = refl
-one_told f r Fails m more = refl
-one_told Fail r Errs m more = refl
-one_told Ignore r Errs m more = refl
+one_told f r t m more = grind arith
 
 -- the words from place i on are those of these findings
 pub record TellFrom (xs : List Finding) (words : Words) (i n : ℕ) : Type 0 where
@@ -72,8 +65,7 @@ denials_from f (r ∷ rs) (x ∷ xs) words i (suc n) short told =
     ∙ one_told f r x.truth x.message (denials_of f rs xs)
 
 said_by : (o : Outcome) (ds : List Denial) → objection_told (outcome_word o) ds ≡ objection_by o ds
-said_by Skipped ds = refl
-said_by _ ds = refl
+said_by o ds = grind arith
 
 zero_plus : (k : ℕ) → 0 + k ≡ k
 zero_plus k = omega arith
@@ -92,8 +84,7 @@ objection_is f rs v words short told =
     ∙ ap (objection_by v.outcome) (denials_from f rs v.findings words 0 most_validations short (from_zero f v words told))
 
 or_right : (a b : Bool) → (a || b) ≡ false → b ≡ false
-or_right true b e = absurd (true≢false e)
-or_right false b e = e
+or_right a b e = grind arith
 
 short_by : (n m : ℕ) → nat_lt m n ≡ false → n ≤ m
 short_by n m e = ltb-false m n e
@@ -105,19 +96,13 @@ few_validations p accepted = short_by (length p.validations) most_validations (o
 pub objected : (parts : Parts) (p : Rules) (v : Verdict) (words : Words) (said : Option Objection) → p ≡ rules_view parts → IsAccepted (rules_view parts)
     → Tell p.failure_policy v words
     → said ≡ objection_told words.outcome (denials_told parts.failure_policy (map rule_view parts.validations.items) words 0) → said ≡ objection_of p v
-objected parts p v words said is accepted told here =
-    here
-    ∙ objection_is parts.failure_policy (map rule_view parts.validations.items) v words (few_validations (rules_view parts) accepted) (subst (λ q. Tell q.failure_policy v words) is told)
-    ∙ ap (λ q. objection_of q v) (sym is)
+objected parts p v words said is accepted told here = grind (arith, objection_is, few_validations)
 
 tree_by : (o : Outcome) (ds : List Denial) (uid : List ℕ) → objected_tree (objection_by o ds) uid ≡ tree_of o ds uid
-tree_by Skipped ds uid = refl
-tree_by _ ds uid = refl
+tree_by o ds uid = grind arith
 
 -- the response by what a verdict says is the one to the verdict
 pub responded : (p : Rules) (v : Verdict) (uid bytes : List ℕ) (said : Option Objection) → said ≡ objection_of p v → bytes ≡ response_text said uid
     → bytes ≡ response_of p v uid
 unfolding response_of response_text
-responded p v uid bytes said here written =
-    written ∙ ap (λ o. compact_text (review_tree (objected_tree o uid))) here
-    ∙ ap (λ t. compact_text (review_tree t)) (tree_by v.outcome (denials_of p.failure_policy p.validations v.findings) uid)
+responded p v uid bytes said here written = grind (arith, tree_by)

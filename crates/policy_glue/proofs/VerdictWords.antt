@@ -1,9 +1,8 @@
 -- The words of a verdict as a program fills them in.
-use Rattle.std.proofs.Common.{◌≡◌, ◌<◌, ◌≤◌, ◌+◌, ◌*◌, ◌^◌, ◌⊎◌, inl, inr, ℕ, zero, suc, List, [], ◌∷◌, ◌++◌, length, Option, Some, None, arith, refl, sym, ap, ◌∙◌, zero-add}
+use Rattle.std.proofs.Common.{◌≡◌, ◌<◌, ◌≤◌, ◌+◌, ◌*◌, ◌^◌, ℕ, zero, suc, List, [], ◌∷◌, ◌++◌, length, Option, Some, None, arith, refl, sym, ap, ◌∙◌}
 use Rattle.std.specs.Prelude.{count_by, slice_get, if◌then◌else◌}
-use Rattle.std.proofs.lemmas.Bool.{cases_lt}
+use Rattle.std.proofs.lemmas.Bool.{cases_eq}
 use Rattle.std.proofs.lemmas.List.Sums.{count_by-le-length, sum_by-append}
-use Rattle.std.proofs.lemmas.Option.{slice_get_past}
 use Rattle.guest_memory.specs.RegionWords.{put_word, word_in}
 use Rattle.guest_memory.proofs.RegionWords.{put_word-other, put_word-same}
 use Rattle.value_store.specs.Calls.{text_at}
@@ -55,39 +54,21 @@ module _ (outcome denials : ℕ) (result : ℕ → ℕ) (message : ℕ → Optio
   }
 
   module _ (k : ℕ) (inside : k < most_validations) where
-    result_by : (more : ℕ → ℕ) → more k ≡ word → ((j : ℕ) → (j ≡ k → ⊥) → more j ≡ result j) → (i : ℕ) → i < most_validations → (i < k) ⊎ (k ≤ i)
-        → word_in (put_word region (first_result + k) word) (first_result + i) ≡ more i
-    result_by more here rest i below (inl before) =
-        other (first_result + k) (first_result + i) (omega arith) (λ e. omega arith) ∙ has.results i below ∙ sym (rest i (λ e. omega arith))
-    result_by more here rest i below (inr behind) =
-        elim (cases_lt k i) [
-          | inl after ↦ other (first_result + k) (first_result + i) (omega arith) (λ e. omega arith) ∙ has.results i below ∙ sym (rest i (λ e. omega arith))
-          | inr not_after ↦
-              let at : i ≡ k = omega arith in
-              ap (λ (j : ℕ). word_in (put_word region (first_result + k) word) (first_result + j)) at ∙ same (first_result + k) (omega arith)
-              ∙ sym (ap more at ∙ here)
-        ]
+    -- one word of a row that stands from `first` on is another now, and of the others is said what was said
+    row_put : (Says : ℕ → ℕ → Type 0) (first : ℕ) → first + most_validations ≤ 256 → Says word k
+        → ((i : ℕ) → i < most_validations → (i ≡ k → ⊥) → Says (word_in region (first + i)) i)
+        → (i : ℕ) → i < most_validations → Says (word_in (put_word region (first + k) word) (first + i)) i
+    row_put Says first room here rest i below = grind (arith, cases_eq, same, other)
 
     pub result_put : (more : ℕ → ℕ) → more k ≡ word → ((j : ℕ) → (j ≡ k → ⊥) → more j ≡ result j)
         → HasWords outcome denials more message values (put_word region (first_result + k) word)
     result_put more here rest = record {
       outcome_is = other (first_result + k) 0 (omega arith) (λ e. omega arith) ∙ has.outcome_is;
       denials_are = other (first_result + k) 1 (omega arith) (λ e. omega arith) ∙ has.denials_are;
-      results = λ i below. result_by more here rest i below (cases_lt i k);
+      results = row_put (λ w i. w ≡ more i) first_result (omega arith) (sym here) (λ i below apart. has.results i below ∙ sym (rest i apart));
       messages = λ i below. message_on values _ _ _ _ (other (first_result + k) (first_message + i) (omega arith) (λ e. omega arith)) refl (has.messages i below);
       others = λ i past below. other (first_result + k) i (omega arith) (λ e. omega arith) ∙ has.others i past below;
     }
-
-    message_by : (more : ℕ → Option (List ℕ)) → IsMessageWord values word (more k) → ((j : ℕ) → (j ≡ k → ⊥) → more j ≡ message j) → (i : ℕ)
-        → i < most_validations → (i < k) ⊎ (k ≤ i) → IsMessageWord values (word_in (put_word region (first_message + k) word) (first_message + i)) (more i)
-    message_by more here rest i below (inl before) = message_on values _ _ _ _ (other (first_message + k) (first_message + i) (omega arith) (λ e. omega arith)) (rest i (λ e. omega arith)) (has.messages i below)
-    message_by more here rest i below (inr behind) =
-        elim (cases_lt k i) [
-          | inl after ↦ message_on values _ _ _ _ (other (first_message + k) (first_message + i) (omega arith) (λ e. omega arith)) (rest i (λ e. omega arith)) (has.messages i below)
-          | inr not_after ↦
-              let at : i ≡ k = omega arith in
-              message_on values _ _ _ _ (ap (λ (j : ℕ). word_in (put_word region (first_message + k) word) (first_message + j)) at ∙ same (first_message + k) (omega arith)) (ap more at) here
-        ]
 
     pub message_put : (more : ℕ → Option (List ℕ)) → IsMessageWord values word (more k) → ((j : ℕ) → (j ≡ k → ⊥) → more j ≡ message j)
         → HasWords outcome denials result more values (put_word region (first_message + k) word)
@@ -95,20 +76,19 @@ module _ (outcome denials : ℕ) (result : ℕ → ℕ) (message : ℕ → Optio
       outcome_is = other (first_message + k) 0 (omega arith) (λ e. omega arith) ∙ has.outcome_is;
       denials_are = other (first_message + k) 1 (omega arith) (λ e. omega arith) ∙ has.denials_are;
       results = λ i below. other (first_message + k) (first_result + i) (omega arith) (λ e. omega arith) ∙ has.results i below;
-      messages = λ i below. message_by more here rest i below (cases_lt i k);
+      messages = row_put (λ w i. IsMessageWord values w (more i)) first_message (omega arith) here
+          (λ i below apart. message_on values _ _ _ _ refl (rest i apart) (has.messages i below));
       others = λ i past below. other (first_message + k) i (omega arith) (λ e. omega arith) ∙ has.others i past below;
     }
 
 -- ---- more values, and the same messages
 
 pub text_is : (x : Option ValueOrError) (t : List ℕ) → text_at x ≡ Some t → x ≡ Some (value (text t))
-text_is (Some (value (text s))) t e = let same : s ≡ t = cc in ap (λ (u : List ℕ). Some (value (text u))) same
-text_is _ t e = absurd (cc)
+text_is x t e = grind (arith, same)
 
 message_grows : (old new : List ValueOrError) (word : ℕ) (m : Option (List ℕ))
     → ((r : ℕ) (x : ValueOrError) → slice_get old r ≡ Some x → slice_get new r ≡ Some x) → IsMessageWord old word m → IsMessageWord new word m
-message_grows old new word None grows is = is
-message_grows old new word (Some t) grows is = (is.0, ap text_at (grows word (value (text t)) (text_is (slice_get old word) t is.1)))
+message_grows old new word m grows is = grind (arith, text_is)
 
 module _ (outcome denials : ℕ) (result : ℕ → ℕ) (message : ℕ → Option (List ℕ)) (values : List ValueOrError) (region : List ℕ) (has : HasWords outcome denials result message values region) where
   pub words_grow : (new : List ValueOrError) → ((r : ℕ) (x : ValueOrError) → slice_get values r ≡ Some x → slice_get new r ≡ Some x)
@@ -154,18 +134,16 @@ result_last xs x = ap finding_word (get_last xs x)
 pub result_other : (xs : List Finding) (x : Finding) (j : ℕ) → (j ≡ length xs → ⊥) → result_of (xs ++ x ∷ []) j ≡ result_of xs j
 result_other xs x j apart = ap finding_word (get_other xs x j apart)
 
+-- one more finding leaves what is read as where there is none
+none_more : {A : Type 0} (read : Option Finding → A) (xs : List Finding) (x : Finding) (j : ℕ)
+    → read (Some x) ≡ read None → read (slice_get (xs ++ x ∷ []) j) ≡ read (slice_get xs j)
+none_more read [] x zero none = none
+none_more read (y ∷ xs) x (suc j) none = none_more read xs x j none
+none_more read _ x _ none = refl
+
 -- a validation that is true leaves the words as they are
 pub result_none : (xs : List Finding) (x : Finding) (j : ℕ) → x.truth ≡ Holds → result_of (xs ++ x ∷ []) j ≡ result_of xs j
-result_none xs x j holds =
-    elim (cases_lt j (length xs)) [
-      | inl before ↦ result_other xs x j (λ e. omega arith)
-      | inr behind ↦ elim (cases_lt (length xs) j) [
-        | inl after ↦ result_other xs x j (λ e. omega arith)
-        | inr not_after ↦
-            let at : j ≡ length xs = omega arith in
-            ap (result_of (xs ++ x ∷ [])) at ∙ result_last xs x ∙ ap truth_word holds ∙ sym (ap finding_word (slice_get_past xs j behind))
-      ]
-    ]
+result_none xs x j holds = none_more finding_word xs x j (ap truth_word holds)
 
 pub message_last : (xs : List Finding) (x : Finding) → message_of (xs ++ x ∷ []) (length xs) ≡ x.message
 message_last xs x = ap message_in (get_last xs x)
@@ -175,23 +153,13 @@ message_other xs x j apart = ap message_in (get_other xs x j apart)
 
 -- without a message the words for messages stay
 pub message_none : (xs : List Finding) (x : Finding) (j : ℕ) → x.message ≡ None → message_of (xs ++ x ∷ []) j ≡ message_of xs j
-message_none xs x j none =
-    elim (cases_lt j (length xs)) [
-      | inl before ↦ message_other xs x j (λ e. omega arith)
-      | inr behind ↦ elim (cases_lt (length xs) j) [
-        | inl after ↦ message_other xs x j (λ e. omega arith)
-        | inr not_after ↦
-            let at : j ≡ length xs = omega arith in
-            ap (message_of (xs ++ x ∷ [])) at ∙ message_last xs x ∙ none ∙ sym (ap message_in (slice_get_past xs j behind))
-      ]
-    ]
+message_none xs x j none = none_more message_in xs x j none
 
 abbrev pub count_of : FailurePolicy → List Finding → ℕ
 count_of f xs = count_by (is_denial f) xs
 
 pub count_more : (f : FailurePolicy) (xs : List Finding) (x : Finding) → count_of f (xs ++ x ∷ []) ≡ count_of f xs + (if is_denial f x then 1 else 0)
-count_more f xs x =
-    sum_by-append (λ y. if is_denial f y then 1 else 0) xs (x ∷ []) ∙ ap (λ (n : ℕ). count_of f xs + n) (zero-add (if is_denial f x then 1 else 0))
+count_more f xs x = grind (arith, sum_by-append)
 
 pub count_small : (f : FailurePolicy) (xs : List Finding) → length xs ≤ most_validations → count_of f xs < 2 ^ 64
 count_small f xs few = let most = count_by-le-length (is_denial f) xs in omega arith

@@ -1,6 +1,6 @@
 -- A walk over the parts of a policy, over plain variables.
-use Rattle.std.proofs.Common.{◌≡◌, ◌+◌, ◌<◌, ◌≤◌, ℕ, zero, suc, List, [], ◌∷◌, ◌++◌, drop, get_or, length, map, Option, Result, Ok, Err, arith, refl, sym, ap, ◌∙◌, subst}
-use Rattle.std.proofs.lemmas.List.{drop_more}
+use Rattle.std.proofs.Common.{◌≡◌, ◌+◌, ◌<◌, ◌≤◌, ℕ, zero, suc, List, [], ◌∷◌, ◌++◌, drop, get_or, length, length-append, map, Option, Result, Ok, Err, arith, refl, sym, ap, ◌∙◌, subst}
+use Rattle.std.proofs.lemmas.List.{drop_more, map-append}
 use Rattle.std.proofs.lemmas.List.Elements.{All-push}
 use Rattle.std.specs.Prelude.{All}
 use Rattle.std.proofs.lemmas.List.Sums.{fold-append}
@@ -20,14 +20,6 @@ use Rattle.policy_glue.specs.declared.part_kind.PartKind.TheVariants.{Condition}
 abbrev Goes : {A B : Type 0} → (List B → A → B → Type 0) → (List B → A → CompileError → Type 0) → List A → List A → List B → Type 0
 Goes {A} {B} Takes Refuses all rest done = (end : Result (List B) CompileError) → Ends Takes Refuses done rest end → Ends Takes Refuses [] all end
 
-map_more : {A B : Type 0} (f : A → B) (xs : List A) (x : A) → map f (xs ++ x ∷ []) ≡ map f xs ++ f x ∷ []
-map_more f [] x = refl
-map_more f (y ∷ ys) x = ap (λ zs. f y ∷ zs) (map_more f ys x)
-
-length_more : {A : Type 0} (xs : List A) (x : A) → length (xs ++ x ∷ []) ≡ length xs + 1
-length_more [] x = refl
-length_more (y ∷ ys) x = let e = length_more ys x in omega arith
-
 -- ---- variables
 
 pub record VariablesGo (all rest : List Named) (place : ℕ) (scope : List Declaration) (trees : List CoreTree) : Type 0 where
@@ -42,10 +34,10 @@ pub variables_step : (all : List Named) (n : Named) (rest : List Named) (place :
     → VariablesGo all (n ∷ rest) place old before → IsAdded n old new before after → VariablesGo all rest (place + 1) new after
 variables_step all n rest place old new before after go added = record {
   taken = go.taken ++ added.variable ∷ [];
-  count = length_more go.taken added.variable ∙ ap (λ k. k + 1) go.count;
+  count = length-append go.taken (added.variable ∷ []) ∙ ap (λ k. k + 1) go.count;
   scope_is = added.scope ∙ ap (λ s. with_variable s added.variable) go.scope_is ∙ sym (fold-append with_variable [] go.taken (added.variable ∷ []));
   trees_are = added.trees ∙ ap (λ ts. ts ++ expanded added.variable.expression ∷ []) go.trees_are
-      ∙ sym (map_more (λ v. expanded v.expression) go.taken added.variable);
+      ∙ sym (map-append (λ v. expanded v.expression) go.taken (added.variable ∷ []));
   formed = All-push (λ (v : VariableTree). IsWellFormed v.expression) go.taken added.variable go.formed added.formed;
   goes = λ end h. go.goes end (next added.variable (subst (λ s. IsVariable s n added.variable) go.scope_is added.taken) h);
 }
@@ -70,8 +62,8 @@ pub record ConditionsGo (all rest : List Named) (place : ℕ) (trees : List Core
 pub conditions_step : (all : List Named) (n : Named) (rest : List Named) (place : ℕ) (scope : List Declaration) (before after : List CoreTree) (tree : CoreTree) (a : Tree) → ConditionsGo all (n ∷ rest) place before → scope ≡ [] → (tree ≡ expanded a) × IsWellFormed a → IsOneOf truths scope n.expression a → after ≡ before ++ tree ∷ [] → ConditionsGo all rest (place + 1) after
 conditions_step all n rest place scope before after tree a go none is takes more = record {
   taken = go.taken ++ a ∷ [];
-  count = length_more go.taken a ∙ ap (λ k. k + 1) go.count;
-  trees_are = more ∙ ap (λ t. before ++ t ∷ []) is.0 ∙ ap (λ ts. ts ++ expanded a ∷ []) go.trees_are ∙ sym (map_more expanded go.taken a);
+  count = length-append go.taken (a ∷ []) ∙ ap (λ k. k + 1) go.count;
+  trees_are = more ∙ ap (λ t. before ++ t ∷ []) is.0 ∙ ap (λ ts. ts ++ expanded a ∷ []) go.trees_are ∙ sym (map-append expanded go.taken (a ∷ []));
   formed = All-push IsWellFormed go.taken a go.formed is.1;
   goes = λ end h. go.goes end (next a (subst (λ s. IsOneOf truths s n.expression a) none takes) h);
 }
@@ -96,8 +88,8 @@ pub record RulesGo (scope : List Declaration) (all rest : List Rule) (place : �
 pub rules_step : (scope : List Declaration) (all : List Rule) (n : Rule) (rest : List Rule) (place : ℕ) (before after : List (CoreTree × Option CoreTree)) (tree : CoreTree × Option CoreTree) (r : RuleTree) → RulesGo scope all (n ∷ rest) place before → tree ≡ rule_expanded r → IsRule scope n r → IsFormedRule r → after ≡ before ++ tree ∷ [] → RulesGo scope all rest (place + 1) after
 rules_step scope all n rest place before after tree r go is takes formed more = record {
   taken = go.taken ++ r ∷ [];
-  count = length_more go.taken r ∙ ap (λ k. k + 1) go.count;
-  trees_are = more ∙ ap (λ t. before ++ t ∷ []) is ∙ ap (λ ts. ts ++ rule_expanded r ∷ []) go.trees_are ∙ sym (map_more rule_expanded go.taken r);
+  count = length-append go.taken (r ∷ []) ∙ ap (λ k. k + 1) go.count;
+  trees_are = more ∙ ap (λ t. before ++ t ∷ []) is ∙ ap (λ ts. ts ++ rule_expanded r ∷ []) go.trees_are ∙ sym (map-append rule_expanded go.taken (r ∷ []));
   formed = All-push IsFormedRule go.taken r go.formed formed;
   goes = λ end h. go.goes end (next r takes h);
 }
@@ -122,4 +114,4 @@ at_end f (x ∷ xs) (suc i) past = at_end f xs i (omega arith)
 
 -- one more behind the others, as the code's values are seen
 pub pushed : {A B : Type 0} (f : A → B) (old new : List A) (x : A) → new ≡ old ++ x ∷ [] → map f new ≡ map f old ++ f x ∷ []
-pushed f old new x is = ap (map f) is ∙ map_more f old x
+pushed f old new x is = ap (map f) is ∙ map-append f old (x ∷ [])

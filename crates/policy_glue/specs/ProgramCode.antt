@@ -6,7 +6,7 @@ use Rattle.cel_reader.specs.Tree.{Tree}
 use Rattle.cel_macros.specs.CoreTree.{expanded}
 use Rattle.cel_types.specs.Declarations.{Declaration}
 use Rattle.codegen_base.specs.Pieces.{size}
-use Rattle.codegen.specs.Code.Expressions.{code_of, routine_code}
+use Rattle.codegen.specs.Code.Whole.{routine_code, whole_code}
 use Rattle.codegen.specs.Constants.{with_texts}
 use Rattle.codegen.specs.Surroundings.{routines_of}
 use Rattle.policy_glue.specs.Checking.{scope_after, with_variable}
@@ -34,7 +34,7 @@ abbrev pub texts_with : Laid → Tree → List (List ℕ)
 texts_with l a = with_texts l.texts (tree_texts a)
 
 abbrev pub tree_code : List Declaration → Laid → Tree → List Insn
-tree_code scope l a = code_of (expanded a) (texts_with l a) (routines_of scope l.routines) [] 0 l.place
+tree_code scope l a = whole_code (expanded a) (texts_with l a) (routines_of scope l.routines) l.place
 
 abbrev pub with_tree : List Declaration → Laid → Tree → Laid
 with_tree scope l a = record l { place = l.place + size (tree_code scope l a); texts = texts_with l a }

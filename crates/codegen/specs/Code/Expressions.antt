@@ -1,7 +1,7 @@
 -- The code of an expression: of each construct the code of its parts, put together. It names texts by their places among
 -- the constants, iteration names by the words of the frame that hold their items, and variables by the slots at which
 -- their routines begin, relative to its own place.
-use Rattle.std.specs.Prelude.{ℕ, suc, ◌+◌, pos, ◌-ℤ◌, List, [], ◌∷◌, ◌++◌, length, Option, Some, None, bytes_eq, option_map, if◌then◌else◌}
+use Rattle.std.specs.Prelude.{ℕ, suc, ◌+◌, pos, ◌-ℤ◌, ◌&&◌, List, [], ◌∷◌, ◌++◌, length, Option, Some, None, bytes_eq, option_map, if◌then◌else◌}
 use Rattle.insn_codec.specs.declared.alu_op.AluOp.TheVariants.{Sdiv, Smod}
 use Rattle.insn_codec.specs.declared.insn.Insn.{Insn}
 use Rattle.cel_reader.specs.Tree as tree
@@ -24,20 +24,33 @@ use Rattle.codegen_base.specs.Code.Aggregates.{item_code, list_code, entry_code,
 use Rattle.codegen_base.specs.Code.Names.{name_code, name_leaf}
 use Rattle.codegen_base.specs.Code.Selection.{field_tail, has_tail, index_tail, size_tail, string_tail, test_tail}
 use Rattle.codegen_base.specs.Code.Folds.{macro_code, map_where_code}
+use Rattle.codegen_base.specs.Paths.{Kept, Path, with_name}
 use Rattle.codegen_base.specs.Pieces.{size}
-use Rattle.codegen_base.specs.Variables.{memo_tail, use_code}
+use Rattle.codegen_base.specs.Variables.{use_code}
 use Rattle.codegen_base.specs.declared.leaf.Leaf.{Leaf}
-use Rattle.codegen_base.specs.declared.leaf.Leaf.TheVariants.{Reference}
+use Rattle.codegen_base.specs.declared.leaf.Leaf.TheVariants.{Reference, Word}
 
--- null, truths and names are leaves
-abbrev pub leaf_of : CoreTree → List (List ℕ × ℕ) → Option Leaf
+-- word 0, where it keeps this field of the expression
+abbrev pub field_leaf : Option Path → CoreTree → List ℕ → Option Leaf
+field_leaf None a f = None
+field_leaf (Some path) (core.name n) f = if bytes_eq n path.root && bytes_eq f path.field then Some (Word 0) else None
+field_leaf (Some path) _ f = None
+
+-- null, truths, names and kept paths are leaves
+abbrev pub leaf_of : CoreTree → Kept → Option Leaf
 leaf_of (core.literal l) ws = literal_leaf l
-leaf_of (core.name n) ws = Some (name_leaf n ws)
+leaf_of (core.name n) ws = Some (name_leaf n ws.items)
+leaf_of (core.select a f) ws = field_leaf ws.path a f
 leaf_of _ ws = None
 
 -- no expression that the type checker takes has such a part
 abbrev pub no_code : List Insn
 no_code = leaf_code (Reference (pos 0))
+
+-- a path that is kept, or its code
+abbrev pub kept_or : Option Leaf → List Insn → List Insn
+kept_or (Some l) code = leaf_code l
+kept_or None code = code
 
 -- an operator before its operand
 abbrev pub unary_code : UnaryOperator → Option Leaf → List Insn → List Insn
@@ -124,14 +137,15 @@ left_size binary.And l left = size left + 2
 left_size _ l left = kept_size l left
 
 -- the code of an expression whose texts stand among ts, whose variables have the routines rs, in order of declaration,
--- and whose iteration names have the words ws: it keeps the words below k of its frame, and stands at slot p
+-- and whose iteration names and paths have the words ws: it keeps the words below k of its frame, and stands at slot p
 unfoldable mutual
-  pub code_of : CoreTree → List (List ℕ) → List (List ℕ × ℕ) → List (List ℕ × ℕ) → ℕ → ℕ → List Insn
+  pub code_of : CoreTree → List (List ℕ) → List (List ℕ × ℕ) → Kept → ℕ → ℕ → List Insn
   code_of (core.literal l) ts rs ws k p = literal_code ts l
-  code_of (core.name n) ts rs ws k p = name_code n ws
+  code_of (core.name n) ts rs ws k p = name_code n ws.items
   code_of (core.variable v) ts rs ws k p = variable_code (routine_named v rs) p
   code_of (core.select a f) ts rs ws k p =
-      operand_code (leaf_of a ws) (code_of a ts rs ws k p) R1 ++ field_tail (address_of ts f) (length f)
+      kept_or (leaf_of (core.select a f) ws)
+      (operand_code (leaf_of a ws) (code_of a ts rs ws k p) R1 ++ field_tail (address_of ts f) (length f))
   code_of (core.has a f) ts rs ws k p = operand_code (leaf_of a ws) (code_of a ts rs ws k p) R1 ++ has_tail (address_of ts f) (length f)
   code_of (core.index a b) ts rs ws k p =
       let first = code_of a ts rs ws k p in
@@ -157,30 +171,26 @@ unfoldable mutual
   code_of (core.map es) ts rs ws k p = map_code (entries_code es ts rs ws k (p + 2)) k
   code_of (core.fold m n r e) ts rs ws k p =
       let range = code_of r ts rs ws k p in
-      macro_code m k range (code_of e ts rs ((n, k + 4) ∷ ws) (k + 5) (p + size range + 17))
+      macro_code m k range (code_of e ts rs (with_name n (k + 4) ws) (k + 5) (p + size range + 17))
   code_of (core.fold_map n r e t) ts rs ws k p =
       let range = code_of r ts rs ws k p in
-      let predicate = code_of e ts rs ((n, k + 4) ∷ ws) (k + 5) (p + size range + 17) in
-      map_where_code k range predicate (code_of t ts rs ((n, k + 4) ∷ ws) (k + 5) (p + size range + 17 + size predicate + 2))
+      let predicate = code_of e ts rs (with_name n (k + 4) ws) (k + 5) (p + size range + 17) in
+      map_where_code k range predicate (code_of t ts rs (with_name n (k + 4) ws) (k + 5) (p + size range + 17 + size predicate + 2))
 
   -- the items of a list in word k
-  pub items_code : CoreTrees → List (List ℕ) → List (List ℕ × ℕ) → List (List ℕ × ℕ) → ℕ → ℕ → List Insn
+  pub items_code : CoreTrees → List (List ℕ) → List (List ℕ × ℕ) → Kept → ℕ → ℕ → List Insn
   items_code no_cores ts rs ws k p = []
   items_code (more_cores a more) ts rs ws k p =
       let item = code_of a ts rs ws (k + 1) p in
       item_code item k ++ items_code more ts rs ws k (p + size item + 4)
 
   -- the entries of a map in word k
-  pub entries_code : CoreEntries → List (List ℕ) → List (List ℕ × ℕ) → List (List ℕ × ℕ) → ℕ → ℕ → List Insn
+  pub entries_code : CoreEntries → List (List ℕ) → List (List ℕ × ℕ) → Kept → ℕ → ℕ → List Insn
   entries_code no_core_entries ts rs ws k p = []
   entries_code (more_core_entries a b more) ts rs ws k p =
       let key = code_of a ts rs ws (k + 1) p in
       let entry = code_of b ts rs ws (k + 2) (p + size key + 1) in
       entry_code key entry k ++ entries_code more ts rs ws k (p + size key + 1 + size entry + 5)
-
--- the routine of variable n, at slot p: its expression, from word 0 of a frame of its own, and its memo
-abbrev pub routine_code : CoreTree → List (List ℕ) → List (List ℕ × ℕ) → ℕ → ℕ → List Insn
-routine_code e ts rs n p = code_of e ts rs [] 0 p ++ memo_tail n
 
 -- the text of a literal, where it is one
 abbrev pub literal_texts : tree.Literal → List (List ℕ)

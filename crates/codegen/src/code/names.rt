@@ -8,7 +8,7 @@ ghost use Rattle.codegen_base.specs.Code.Leaves.{leaf_code, HasWord};
 ghost use Rattle.codegen_base.specs.Code.Names as names;
 ghost use Rattle.codegen_base.specs.Code.Selection.{size_tail, string_tail as string_tail_code};
 ghost use Rattle.codegen.specs.Code.Expressions as specs;
-ghost use Rattle.codegen.specs.FrameWords.{words_of, AreWords};
+ghost use Rattle.codegen.specs.FrameWords.{words_of, AreItems, AreWords};
 
 use crate::code::calls::{operand, operands};
 use crate::code::selection::string_tail;
@@ -24,12 +24,12 @@ use std::alloc::{AllocError, Global};
 
 /// The word that holds the item of this iteration name.
 fn word_named(name: &str, words: &FrameWords) -> Option<usize>
-    requires { AreWords (words_of words.now) }
-    ensures value { result ≡ lookup name.now (words_of words.now) }
+    requires { AreItems (words_of words.now).items }
+    ensures value { result ≡ lookup name.now (words_of words.now).items }
     ensures word { IfSome result (λ k. k < 60) }
 {
     match words {
-        FrameWords::Outside => None,
+        FrameWords::Outside | FrameWords::Keeping(_) => None,
         FrameWords::Within(own, k, outer) => {
             if *own == name {
                 Some(*k)
@@ -42,7 +42,7 @@ fn word_named(name: &str, words: &FrameWords) -> Option<usize>
 
 /// The reference of the root of this name, and the error's where there is none.
 #[tactic(auto, unfolding(codegen_base::specs::Code::Names::root_reference))]
-fn root_reference(name: &str) -> i32
+pub(crate) fn root_reference(name: &str) -> i32
     ensures { result ≡ names.root_reference name.now }
 {
     match name {
@@ -66,7 +66,7 @@ pub(crate) fn leaf(alloc: Global, leaf: Leaf) -> Result<Vec<Insn>, AllocError>
 /// What a name stands for.
 pub(crate) fn name_leaf(name: &str, words: &FrameWords) -> Leaf
     requires { AreWords (words_of words.now) }
-    ensures leaf { result ≡ names.name_leaf name.now (words_of words.now) }
+    ensures leaf { result ≡ names.name_leaf name.now (words_of words.now).items }
     ensures word { HasWord result }
 {
     match word_named(name, words) {

@@ -105,11 +105,11 @@ where_folds p f (Some items) = refl
 where_folds p f None = refl
 
 -- budgets of what runs where a predicate is true
-chosen_steps : (t : Truth) (n : ℕ) → chosen t (step_budget n) 0 0 ≤ 128 * chosen t n 0 0
+chosen_steps : (t : Truth) (n : ℕ) → chosen t (step_budget n) 0 0 ≤ 120 * chosen t n 0 0
 chosen_steps Yes n = omega arith
 chosen_steps _ n = omega arith
 
-chosen_charge : (t : Truth) (n : ℕ) → chosen t (charge_budget n) 0 0 ≤ 16 * chosen t n 0 0
+chosen_charge : (t : Truth) (n : ℕ) → chosen t (charge_budget n) 0 0 ≤ 15 * chosen t n 0 0
 chosen_charge Yes n = omega arith
 chosen_charge _ n = omega arith
 

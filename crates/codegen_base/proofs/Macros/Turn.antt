@@ -27,7 +27,8 @@ pub record BehindPart (c : Context) (depth k : ℕ) (acc : ValueOrError) (v : Va
 
 pub behind : (c : Context) (depth k : ℕ) (acc : ValueOrError) (v : Value) (x : ValueOrError) (b b1 : Body) → k < 56 → Fits c depth k b → Shows c depth (k + 5) x b b1 → Names b.values.values (word_at depth (k + 3) b) acc → Names b.values.values (word_at depth (k + 4) b) (value v) → BehindPart c depth k acc v x b1
 behind c depth k acc v x b b1 low first shown so_far item =
-    let kept : (j : ℕ) (y : ValueOrError) → j < k + 5 → Names b.values.values (word_at depth j b) y → Names b1.values.values (word_at depth j b1) y = λ j y below named. subst (λ (w : ℕ). Names b1.values.values w y) (sym (shown.keeps.words depth j (omega arith) (inr (refl, omega arith)))) (shown.keeps.values _ y named) in
+    let kept : (j : ℕ) (y : ValueOrError) → j < k + 5 → Names b.values.values (word_at depth j b) y → Names b1.values.values (word_at depth j b1) y =
+    λ j y below named. subst (λ (w : ℕ). Names b1.values.values w y) (sym (shown.keeps.words depth j (omega arith) (inr (refl, omega arith)))) (shown.keeps.values _ y named) in
     record {
       outer = fits_below c depth k (k + 5) b b1 (omega arith) (omega arith) first shown.keeps shown.fits;
       fits = shown.fits;

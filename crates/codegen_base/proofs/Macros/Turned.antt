@@ -8,17 +8,13 @@ use Rattle.codegen_base.specs.Body.{Body}
 use Rattle.codegen_base.specs.Contexts.{Context, Fits, Keeps, Shows, variable_count}
 use Rattle.codegen_base.specs.Loops.{Turned}
 use Rattle.codegen_base.specs.Words.{set_word, word_at}
-use Rattle.codegen_base.proofs.Frames.{fits_below, fits_registers, keeps_registers, keeps_same, keeps_stored, keeps_then, stored}
+use Rattle.codegen_base.proofs.Frames.{fits_below, keeps_same, keeps_stored, keeps_then, stored}
 use Rattle.codegen_base.proofs.Values.{small_reference}
 
 module _ {c : Context} {depth k : ℕ} {x : ValueOrError} {b : Body} (low : k < 56) where
   -- the answer stays, and only registers have changed
   pub turned_registers : (registers : Register → ℕ) → registers R10 ≡ b.registers R10 → Fits c depth k b → Names b.values.values (word_at depth (k + 3) b) x → Turned c depth k x b (record b { registers = registers })
-  turned_registers registers same fits named = record {
-    fits = fits_registers c depth k b registers same fits;
-    so_far = named;
-    keeps = keeps_registers c depth (k + 3) b registers same (variable_count c);
-  }
+  turned_registers registers same fits named = grind arith
 
   -- all stays
   pub turned_same : Fits c depth k b → Names b.values.values (word_at depth (k + 3) b) x → Turned c depth k x b b
@@ -38,8 +34,4 @@ module _ {c : Context} {depth k : ℕ} {x : ValueOrError} {b : Body} (low : k < 
 
 -- something was kept before the turn
 pub turned_after : {c : Context} {depth k : ℕ} {x : ValueOrError} {a b d : Body} → Keeps (variable_count c) depth (k + 5) a b → Turned c depth k x b d → Turned c depth k x a d
-turned_after {c} {depth} {k} {x} {a} kept turned = record {
-  fits = turned.fits;
-  so_far = turned.so_far;
-  keeps = keeps_then (omega arith) (keeps_then (omega arith) (keeps_same (variable_count c) depth (k + 3) a) kept) turned.keeps;
-}
+turned_after {c} {depth} {k} {x} {a} kept turned = grind arith

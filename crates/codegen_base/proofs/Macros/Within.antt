@@ -24,8 +24,8 @@ pub fold_within : (s : Setting) (p k depth : ℕ) (range first turn : List Insn)
     → Gives s p range c depth k r (step_budget w) (charge_budget x)
     → Gives s (p + size range + 9) first c depth (k + 3) acc 1 1
     → ((items : List Value) → range_of r ≡ Some items → TurnGives s (p + size range + 17) (p + size (fold_code k range first turn)) turn c depth k items g is_last is_fine steps charge)
-    → ((v : Value) → steps v + 11 ≤ 128 * (1 + visits v))
-    → ((v : Value) → charge v + 1 ≤ 16 * (8 + spent v))
+    → ((v : Value) → steps v + 11 ≤ 120 * (1 + visits v))
+    → ((v : Value) → charge v + 1 ≤ 15 * (8 + spent v))
     → Gives s p (fold_code k range first turn) c depth k (fold_of g acc (range_of r)) (step_budget (1 + w + items_visits visits (range_of r)) - 3) (charge_budget (9 + x + items_spent spent (range_of r)))
 fold_within s p k depth range first turn c r acc g is_last is_fine w x visits spent steps charge low not_last fine one gives_range gives_first turns few paid =
     let place : p + size range + 17 ≡ p + size range + 9 + size first + 7 = omega arith in

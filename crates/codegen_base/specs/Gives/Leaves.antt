@@ -18,7 +18,7 @@ pub record LeavesName : Type 0 where
   pub null : (c : Context) (depth base : ℕ) → IsLeafOf c depth base (Some null_leaf) (value null)
   pub truth : (c : Context) (depth base : ℕ) (b : Bool) → IsLeafOf c depth base (Some (truth_leaf b)) (value (boolean b))
   pub name : (c : Context) (depth base : ℕ) (n : List ℕ) → base ≤ 64
-      → IsLeafOf c depth base (Some (name_leaf n c.words)) (name_value n c.environment)
+      → IsLeafOf c depth base (Some (name_leaf n c.words.items)) (name_value n c.environment)
 
 -- what the code of a literal and of a name gives
 pub record LeavesGive : Type 0 where
@@ -30,5 +30,5 @@ pub record LeavesGive : Type 0 where
   pub text : (s : Setting) (p : ℕ) (c : Context) (depth base : ℕ) (address : ℕ) (t : List ℕ) → base ≤ 64 → HasText c.constants address t
       → is_utf8 t ≡ true → Gives s p (text_code address (length t)) c depth base (value (text t)) 3 (1 + length t)
   pub name : (s : Setting) (p : ℕ) (c : Context) (depth base : ℕ) (n : List ℕ) → base ≤ 64
-      → Gives s p (name_code n c.words) c depth base (name_value n c.environment) 1 0
+      → Gives s p (name_code n c.words.items) c depth base (name_value n c.environment) 1 0
   pub error : (s : Setting) (p : ℕ) (c : Context) (depth base : ℕ) → base ≤ 64 → Gives s p (leaf_code (Reference (pos 0))) c depth base error 1 0

@@ -1,4 +1,4 @@
--- Macros, within budgets: 128 steps for each visit of a node or an item and 16 of charge for each 1 of what was spent,
+-- Macros, within budgets: 120 steps for each visit of a node or an item and 15 of charge for each 1 of what was spent,
 -- less 8 of each for the whole.
 use Rattle.std.specs.Prelude.{◌≡◌, ℕ, ◌+◌, ◌-◌, ◌*◌, ◌<◌, nat_le, Bool, true, false, List, [], ◌∷◌, Option, Some, None, slice_get}
 use Rattle.insn_codec.specs.declared.insn.Insn.{Insn}
@@ -17,11 +17,11 @@ use Rattle.codegen_base.specs.Pieces.{size}
 
 -- the steps that so many visits allow
 abbrev pub step_budget : ℕ → ℕ
-step_budget visits = 128 * visits - 8
+step_budget visits = 120 * visits - 8
 
 -- the charge that so much spent allows
 abbrev pub charge_budget : ℕ → ℕ
-charge_budget spent = 16 * spent - 8
+charge_budget spent = 15 * spent - 8
 
 -- each item is a visit, beside those of its part
 abbrev pub each_visits : (Value → ℕ) → List Value → ℕ

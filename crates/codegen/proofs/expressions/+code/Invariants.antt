@@ -33,6 +33,9 @@ decreases-method l = 5 * nodes (core.method (core_view l.of.now) l.name.now (cor
 abbrev pub decreases-operands : goal.decreases-operands
 decreases-operands l = 5 * nodes (core.index (core_view l.left.now) (core_view l.right.now))
 
+abbrev pub decreases-select : goal.decreases-select
+decreases-select l = 5 * nodes (core.select (core_view l.of.now) l.field.now) + 1
+
 abbrev pub decreases-index : goal.decreases-index
 decreases-index l = 5 * nodes (core.index (core_view l.of.now) (core_view l.at.now)) + 1
 

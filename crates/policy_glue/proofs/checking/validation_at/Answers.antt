@@ -1,4 +1,4 @@
-use Rattle.std.proofs.Common.{Err, Ok, subst}
+use Rattle.std.proofs.Common.{Ok, subst, arith}
 use Rattle.policy_glue.specs.Checked.{ChecksRule, Sorts}
 use Rattle.policy_glue.specs.Checking.{truths}
 use Rattle.policy_glue.specs.Policy.{rule_view}
@@ -8,10 +8,7 @@ use Rattle.policy_glue.proofs.Judged.{passed_on, rule_is, rule_unexpressed, rule
 use Rattle.policy_glue.proofs.checking.validation_at.Goals as goal
 
 pub returns-in_err-expression : goal.returns-in_err-expression
-returns-in_err-expression c =
-    let n = rule_view c.args.validation.now in
-    let sorts = subst (λ text. Sorts truths K7 Validation c.args.place c.args.scope.now text (Err c.in_err-expression.field-0.0)) c.as_str-text.ensures.value c.in_err-expression.ensures in
-    passed_on (ChecksRule c.args.scope.now c.args.place n) c.in_err-expression.field-0.0 c.from_residual.result (rule_unexpressed c.args.scope.now c.args.place n c.in_err-expression.field-0.0 sorts) c.from_residual.ensures.0 c.from_residual.ensures.1
+returns-in_err-expression c = grind (arith, passed_on, rule_unexpressed)
 
 pub returns-in_err-message : goal.returns-in_err-message
 returns-in_err-message c =

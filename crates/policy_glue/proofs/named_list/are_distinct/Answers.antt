@@ -1,4 +1,4 @@
-use Rattle.std.proofs.Common.{◌+◌, ◌∙◌, refl}
+use Rattle.std.proofs.Common.{◌+◌, ◌∙◌, refl, arith}
 use Rattle.policy_glue.proofs.Distinct.{distinct_more, distinct_stop, names_more, names_none}
 use Rattle.policy_glue.proofs.named_list.are_distinct.Goals as goal
 
@@ -13,10 +13,4 @@ returns-then-not-branch c =
     ∙ c.if-not-branch.true)
 
 pub loop-named-preserved : goal.loop-named-preserved
-loop-named-preserved c = record {
-  distinct =
-      distinct_more c.args.list.now c.loop-named.named-index c.named-item.result c.as_str.result c.loop-named.names c.in_ok-insert.field-0 c.loop-named-test.true c.named-item.is c.as_str.ensures.value c.loop-named.invariant.names c.loop-named.invariant.distinct
-      c.in_ok-insert.ensures.added
-      ∙ c.if-not-branch.false;
-  names = names_more c.args.list.now c.loop-named.named-index c.named-item.result c.as_str.result c.loop-named.names c.insert.new.self c.loop-named-test.true c.named-item.is c.as_str.ensures.value c.loop-named.invariant.names c.in_ok-insert.ensures.updates;
-}
+loop-named-preserved c = grind (arith, distinct_more, names_more)

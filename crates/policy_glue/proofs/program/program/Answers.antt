@@ -1,4 +1,4 @@
-use Rattle.std.proofs.Common.{Err, ap}
+use Rattle.std.proofs.Common.{Err, ap, arith}
 use Rattle.codegen.specs.Emitted.{IsTooLong}
 use Rattle.policy_glue.proofs.EmissionEnds.{answers_long, answers_program, answers_texts, no_error}
 use Rattle.policy_glue.proofs.program.program.Goals as goal
@@ -13,6 +13,4 @@ pub returns-in-Err-G3 : goal.returns-in-Err-G3
 returns-in-Err-G3 c = λ t is some. answers_long c.args.failure_policy c.args.checked.now t is c.in_ok-emitter.emitter c.in_ok-emitter.ensures (c.in-Err-G3.ensures.g3.0 (ap Err c.in-Err-G3.field-0-is))
 
 pub returns-in-Err-G4 : goal.returns-in-Err-G4
-returns-in-Err-G4 c = λ t is some.
-    let large = c.in-Err-G4.ensures.g4.0 (ap Err c.in-Err-G4.field-0-is) in
-    answers_texts c.args.failure_policy c.args.checked.now t is c.in_ok-emitter.emitter c.in_ok-emitter.ensures large.0 large.1
+returns-in-Err-G4 c = grind (arith, answers_texts)

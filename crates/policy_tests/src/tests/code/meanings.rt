@@ -152,7 +152,7 @@ const LOGIC: [(&str, u64); 29] = [
 ];
 
 /// Macros.
-const MACROS: [(&str, u64); 32] = [
+const MACROS: [(&str, u64); 34] = [
     ("[0,2].exists(x, 4/x == 2)", 3),
     ("[0,2].exists_one(x, 4/x == 2)", 0),
     ("[1,2].exists_one(x, x == 2)", 3),
@@ -185,10 +185,12 @@ const MACROS: [(&str, u64); 32] = [
     ("dyn('ab').all(x, true)", 0),
     ("[1,2,3].exists_one(x, x == 1)", 3),
     ("dyn([true, 1]).filter(x, x)", 0),
+    ("object.spec.all(k, object.spec.on) && object.spec.on", 3),
+    ("object.spec.filter(k, k == 'on')[0] in object.spec", 3),
 ];
 
 /// Selection, indices and names.
-const SELECTION: [(&str, u64); 24] = [
+const SELECTION: [(&str, u64); 30] = [
     ("object.spec.on && true", 3),
     ("object.spec.replicas <= 3", 2),
     ("object.status", 0),
@@ -213,6 +215,12 @@ const SELECTION: [(&str, u64); 24] = [
     ("dyn([5])['a']", 0),
     ("dyn('abc')[0]", 0),
     ("dyn(1).a", 0),
+    ("object.spec.on && object.spec.replicas > 4", 3),
+    ("params.limit - params.limit == 0", 3),
+    ("object.status.on || object.status.off || object.spec.on", 3),
+    ("object.spec == object.spec", 3),
+    ("has(object.spec.on) && object.spec.on", 3),
+    ("params.limit in [object.spec.replicas, params.limit]", 3),
 ];
 
 /// The roots of the rows.

@@ -1,7 +1,7 @@
 //! Expressions, and variables with them, as programs that run on five null roots.
 
 use super::running::{
-    core, declare, end, refusal, take, take_next, take_variable, variable_refusal,
+    core, declare, end, refusal, slots, take, take_next, take_variable, variable_refusal,
 };
 use crate::tests::nulls;
 use bpf_machine::Status;
@@ -49,6 +49,22 @@ const USES: [(&str, u64); 6] = [
     ("variables.texts == ['ac', 'bc']", 3),
     ("[1].exists(x, variables.three == x)", 2),
 ];
+
+/// Texts over the object `TWO_FIELDS`, the slots of their programs, the steps that these take, and the
+/// reference with which they exit, by hand. A field has 5 slots and takes 4 steps: its map into R1, its
+/// name into R2 and R3, helper 5. An int has 3 slots and takes 2 steps; a store, a copy, a load, any other
+/// helper and the exit have 1 slot and take 1 step each. So the first row keeps `object.spec` (6 slots, 5
+/// steps), evaluates `a` and stores it (6, 5), evaluates `b` (5, 4), has both in their registers (2, 2),
+/// calls helper 10, copies and calls helper 23 (3, 3), and exits (1, 1). The second keeps the error, and
+/// the third, in which `object.spec` stands once, nothing.
+const KEPT: [(&str, usize, u64, u64); 3] = [
+    ("object.spec.a <= object.spec.b", 23, 20, 3),
+    ("object.status.a == object.status.b", 21, 18, 0),
+    ("object.spec.a == 1", 18, 15, 3),
+];
+
+/// The object of these rows.
+const TWO_FIELDS: &str = "{\"spec\":{\"a\":1,\"b\":2}}";
 
 /// How the program of the text's expression ends.
 fn end_of(alloc: Global, text: &str) -> Option<Status> {
@@ -125,16 +141,37 @@ fn object_of_items(alloc: Global) -> Option<Value> {
     Value::from_str(alloc, text.as_str()).ok()
 }
 
+/// An emitter of the text's expression alone.
+fn emitter_of(alloc: Global, text: &str) -> Option<Emitter> {
+    let mut emitter = Emitter::new(alloc);
+    if take(alloc, text, &Scope::new(alloc), &mut emitter) {
+        Some(emitter)
+    } else {
+        None
+    }
+}
+
+/// How the program of the text's expression ends on this object within so many steps.
+fn end_on(alloc: Global, object: Value, text: &str, steps: u64) -> Option<Status> {
+    let roots = [object, Value::Null, Value::Null, Value::Null, Value::Null];
+    end(alloc, emitter_of(alloc, text)?, &roots, steps)
+}
+
 /// How the search for the first item of many ends.
 fn end_of_search(alloc: Global) -> Option<Status> {
     let object = object_of_items(alloc)?;
-    let roots = [object, Value::Null, Value::Null, Value::Null, Value::Null];
-    let mut emitter = Emitter::new(alloc);
-    let text = "object.items.exists(x, x == 1)";
-    if !take(alloc, text, &Scope::new(alloc), &mut emitter) {
-        return None;
-    }
-    end(alloc, emitter, &roots, 1_024)
+    end_on(alloc, object, "object.items.exists(x, x == 1)", 1_024)
+}
+
+/// How the program of the text's expression ends on the object of two fields within so many steps.
+fn end_on_fields(alloc: Global, text: &str, steps: u64) -> Option<Status> {
+    let object = Value::from_str(alloc, TWO_FIELDS).ok()?;
+    end_on(alloc, object, text, steps)
+}
+
+/// How many slots the program of the text's expression has.
+fn slots_of(alloc: Global, text: &str) -> Option<usize> {
+    slots(emitter_of(alloc, text)?)
 }
 
 #[test]
@@ -168,6 +205,17 @@ fn words_are_bounded(rt: HostRuntime) -> Result<(), Fail> {
 #[test]
 fn depths_are_bounded(rt: HostRuntime) {
     assert_eq!(rt; answer_to_depth(rt.alloc()), Some(CodeError::G2));
+}
+
+#[test]
+fn a_field_that_is_kept_is_walked_once(rt: HostRuntime) {
+    for (text, slots, steps, reference) in &KEPT {
+        let before = end_on_fields(rt.alloc(), text, steps - 1);
+        let behind = end_on_fields(rt.alloc(), text, *steps);
+        assert_eq!(rt; slots_of(rt.alloc(), text), Some(*slots), "row {text}");
+        assert_eq!(rt; before, Some(Status::Running), "row {text}");
+        assert_eq!(rt; behind, Some(Status::Exited(*reference)), "row {text}");
+    }
 }
 
 #[test]

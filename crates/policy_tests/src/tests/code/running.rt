@@ -90,6 +90,12 @@ pub(super) fn take_variable(
     }
 }
 
+/// How many slots the code has of what the emitter took, its exit among them.
+pub(super) fn slots(emitter: Emitter) -> Option<usize> {
+    let (code, _) = emitter.finish().ok()?;
+    Some(code.len() / 8)
+}
+
 /// The image of what the emitter took.
 fn image(emitter: Emitter) -> Option<Image> {
     let (code, constants) = emitter.finish().ok()?;

@@ -8,12 +8,7 @@ use Rattle.policy_glue.proofs.EmissionSteps.{few_between, jump_stands, leave_sta
 use Rattle.policy_glue.proofs.program.validations.put_result.Goals as goal
 
 pub if_true-requires-in-Some : goal.if_true-requires-in-Some
-if_true-requires-in-Some c =
-    let single : slot_count c.if_true.result ≡ 1 = ap slot_count c.if_true.ensures in
-    let few = few_between c.args.failure_policy c.args.place c.args.scope.now (core_view c.in-Some.core) c.args.emitter.now c.put.new.self c.put_each.new.emitter c.put_message.new.emitter c.if_true.result c.denial_code.result single c.denial_code.ensures c.in_ok-first.ensures.code c.in_ok-put_each.ensures c.in_ok-last.ensures.added c.in_ok-last.last c.in_ok-last.ensures.last in
-    let at = c.in_ok-first.ensures.ok in
-    let short = few.0 in
-    omega (arith, short, at)
+if_true-requires-in-Some c = grind (arith, few_between)
 
 pub patch-requires : goal.patch-requires
 patch-requires c =

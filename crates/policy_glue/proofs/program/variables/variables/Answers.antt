@@ -1,7 +1,6 @@
-use Rattle.std.proofs.Common.{◌≡◌, ℕ, ◌+◌, ◌≤◌, List, [], ◌∷◌, ◌++◌, drop, map, take, ap, subst, sym, ◌∙◌, arith}
+use Rattle.std.proofs.Common.{◌≡◌, ℕ, ◌+◌, List, [], ◌∷◌, ◌++◌, drop, map, take, ap, sym, ◌∙◌, arith}
 use Rattle.cel_macros.specs.CoreView.{core_view}
-use Rattle.cel_measures.specs.Measures.{depth}
-use Rattle.cel_types.specs.Declarations.{Declaration, declaration, declared, depths_of}
+use Rattle.cel_types.specs.Declarations.{Declaration, declaration, declared}
 use Rattle.codegen.specs.Added.{with_variable}
 use Rattle.codegen.specs.Emitted.{Emitted}
 use Rattle.policy_glue.specs.Emission.{with_variables}
@@ -15,10 +14,7 @@ put_variable-requires-clause-fits c =
     (c.requires.fit c.loop-place.place (core_view core) (at_index core_view c.args.cores.now c.loop-place.place core c.loop-place-test.true c.index-cores-place.is)).0
 
 pub put_variable-requires-clause-shallow : goal.put_variable-requires-clause-shallow
-put_variable-requires-clause-shallow c =
-    let core = c.index-cores-place.result in
-    let shallow = (c.requires.fit c.loop-place.place (core_view core) (at_index core_view c.args.cores.now c.loop-place.place core c.loop-place-test.true c.index-cores-place.is)).1 in
-    subst (λ (ds : List Declaration). depth (core_view core) (depths_of ds) ≤ 6) (sym c.loop-place.invariant.scope) shallow
+put_variable-requires-clause-shallow c = grind (arith, at_index)
 
 pub loop-place-preserved : goal.loop-place-preserved
 loop-place-preserved c =

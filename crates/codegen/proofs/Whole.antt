@@ -1,0 +1,164 @@
+-- The code of a whole expression gives what the expression means, whether a path is kept or not.
+use Rattle.std.proofs.Common.{◌≡◌, ℕ, ◌+◌, ◌*◌, ◌^◌, ◌<◌, ◌≤◌, Bool, true, List, [], ◌∷◌, ◌++◌, length, Option, Some, None, refl, ap, arith, if◌then◌else◌, nat_le}
+use Rattle.insn_codec.specs.declared.insn.Insn.{Insn}
+use Rattle.insn_codec.specs.declared.register.Register.TheVariants.{R0, R1}
+use Rattle.loader.specs.Contents.{Contents}
+use Rattle.cel_macros.specs.CoreTree as core
+use Rattle.cel_macros.specs.CoreTree.{CoreTree, plain_tree}
+use Rattle.cel_macros.specs.Environment.{Environment, Roots}
+use Rattle.cel_macros.specs.Meaning.{meaning}
+use Rattle.cel_measures.specs.Measures.{need, nodes}
+use Rattle.codegen_base.specs.Code.Names.{name_leaf}
+use Rattle.codegen_base.specs.Code.Selection.{field_tail}
+use Rattle.codegen_base.specs.Contexts.{Context}
+use Rattle.codegen_base.specs.Engine.{Setting}
+use Rattle.codegen_base.specs.Gives.Paths.{kept_path_code}
+use Rattle.codegen_base.specs.Gives.Selection.{HasText}
+use Rattle.codegen_base.specs.Instructions.{store}
+use Rattle.codegen_base.specs.Paths.{Path, nothing_kept, with_path}
+use Rattle.codegen_base.specs.Pieces.{AreInsns, size}
+use Rattle.codegen_base.specs.Scopes.{IsScope, Variable, scope_setting}
+use Rattle.codegen_base.proofs.Insns.{field_insns, insns_append, leaf_insns, name_near}
+use Rattle.codegen_base.proofs.Paths.{paths_give}
+use Rattle.codegen.specs.Code.Expressions.{texts_of, texts_of_each}
+use Rattle.codegen.specs.Code.Literals.{address_of}
+use Rattle.codegen.specs.Code.Whole.{code_with, first_path, front_of, keeping_code, path_or, path_within, plain_code, shorter, whole_code}
+use Rattle.codegen.specs.Computes.{Computes, Ready, TextsStand, environment_in, routines, scope_context}
+use Rattle.codegen.specs.Cost.{cost}
+use Rattle.codegen.specs.HasLiterals.{HasLiterals}
+use Rattle.codegen.proofs.Budgets.{gives_within}
+use Rattle.codegen.proofs.CodeInsns.{AreNear, address_small, code_insns}
+use Rattle.codegen.proofs.Computed.{code_gives, part_gives, visited}
+use Rattle.codegen.proofs.Lengths.{short_code}
+use Rattle.codegen.proofs.Parts.{texts_back, texts_front}
+
+-- ---- the path's field is one of the texts
+
+module _ (constants : List ℕ) (texts : List (List ℕ)) (path : Path) where
+  abbrev Stands : Type 0
+  Stands = HasText constants (address_of texts path.field) path.field
+
+  path_stands : (a : CoreTree) (f : List ℕ) (other : Option Path) → path_or a f other ≡ Some path → (other ≡ Some path → Stands)
+      → HasText constants (address_of texts f) f → Stands
+  path_stands a f other is later here = grind arith
+
+  first_stands : (e : CoreTree) → first_path e ≡ Some path → TextsStand constants texts (texts_of e) → Stands
+  unfolding first_path texts_of
+  first_stands (core.select a f) is stand =
+      let below = texts_front constants texts (texts_of a) (f ∷ []) stand in
+      path_stands a f (first_path a) is (λ h. first_stands a h below) (texts_back constants texts (texts_of a) (f ∷ []) stand).0
+  first_stands (core.has a f) is stand = first_stands a is (texts_front constants texts (texts_of a) (f ∷ []) stand)
+  first_stands (core.index a b) is stand = first_stands a is (texts_front constants texts (texts_of a) (texts_of b) stand)
+  first_stands (core.method a n arguments) is stand = first_stands a is (texts_front constants texts (texts_of a) (texts_of_each arguments) stand)
+  first_stands (core.unary op a) is stand = first_stands a is stand
+  first_stands (core.binary op a b) is stand = first_stands a is (texts_front constants texts (texts_of a) (texts_of b) stand)
+  first_stands (core.ternary c a b) is stand = first_stands c is (texts_front constants texts (texts_of c) (texts_of a ++ texts_of b) stand)
+  first_stands (core.fold m n r e) is stand = first_stands r is (texts_front constants texts (texts_of r) (texts_of e) stand)
+  first_stands (core.fold_map n r e t) is stand = first_stands r is (texts_front constants texts (texts_of r) (texts_of e ++ texts_of t) stand)
+  first_stands _ is stand = absurd (cc)
+
+-- ---- the frame has a word more for it
+
+there_is : (here : Bool) (q path : Path) → (if here then Some q else None) ≡ Some path → (here ≡ true) × (Some q ≡ Some path)
+there_is here q path is = grind arith
+
+front_by : (words : ℕ) (o : Option Path) (path : Path) → path_within words o ≡ Some path → (words ≤ 60) × (o ≡ Some path)
+front_by words o path is = grind arith
+
+front_is : (e : CoreTree) (path : Path) → front_of e ≡ Some path → (1 + need e ≤ 60) × (first_path e ≡ Some path)
+front_is e path is = front_by (1 + need e) (first_path e) path is
+
+-- ---- which of both codes it is
+
+module _ (e : CoreTree) (ts : List (List ℕ)) (rs : List (List ℕ × ℕ)) (p : ℕ) where
+  pub whole_plain : None ≡ front_of e → plain_code e ts rs p ≡ whole_code e ts rs p
+  unfolding whole_code
+  whole_plain front = ap (λ (o : Option Path). code_with o e ts rs p) front
+
+  pub whole_keeping : (path : Path) → Some path ≡ front_of e → shorter (plain_code e ts rs p) (keeping_code path e ts rs p) ≡ whole_code e ts rs p
+  unfolding whole_code
+  whole_keeping path front = ap (λ (o : Option Path). code_with o e ts rs p) front
+
+-- what holds of both holds of the shorter one
+chosen : (P : List Insn → Type 0) (b : Bool) (first second : List Insn) → P first → P second → P (if b then first else second)
+chosen P b first second h g = grind arith
+
+shorter_has : (P : List Insn → Type 0) (first second : List Insn) → P first → P second → P (shorter first second)
+shorter_has P first second h g = chosen P (nat_le (size first) (size second)) first second h g
+
+-- ---- its slots
+
+module _ (e : CoreTree) (ts : List (List ℕ)) (rs : List (List ℕ × ℕ)) (p : ℕ) where
+  with_short : (o : Option Path) → size (code_with o e ts rs p) ≤ size (plain_code e ts rs p)
+  with_short o = grind arith
+
+  -- code of a whole expression has at most the slots of the code that keeps nothing
+  pub whole_less : size (whole_code e ts rs p) ≤ size (plain_code e ts rs p)
+  unfolding whole_code
+  whole_less = with_short (front_of e)
+
+  -- code of a whole expression takes at most 63 slots for each node, and 8 less
+  pub whole_short : size (whole_code e ts rs p) + 8 ≤ 63 * nodes e
+  unfolding whole_code
+  whole_short = let plain = short_code e ts rs nothing_kept 0 p in let less = with_short (front_of e) in omega (arith, plain, less)
+
+-- ---- its instructions
+
+path_insns : (path : Path) (address : ℕ) (rest : List Insn) → address < 2 ^ 64 → AreInsns rest → AreInsns (kept_path_code path address rest)
+path_insns path address rest small insns =
+    let root = leaf_insns (name_leaf path.root []) R1 (name_near path.root [] (λ k is. absurd (cc))) in
+    let tail = field_tail address (length path.field) in
+    (root.0, insns_append tail (store 0 R0 ∷ rest) (field_insns address (length path.field) small) (omega arith, insns))
+
+module _ (ts : List (List ℕ)) (rs : List (List ℕ × ℕ)) (near : AreNear rs) (e : CoreTree) (p : ℕ)
+    (fits : need e ≤ 60) (few : nodes e ≤ 512) (inside : p + 6 + 63 * nodes e ≤ 0x8000_0000) (literals : HasLiterals (plain_tree e)) where
+  plain_insns : AreInsns (plain_code e ts rs p)
+  plain_insns = code_insns ts rs near e nothing_kept 0 p (λ n k is. absurd (cc)) (omega (arith, fits)) few (omega (arith, inside)) literals
+
+  with_insns : (o : Option Path) → front_of e ≡ o → AreInsns (code_with o e ts rs p)
+  with_insns o front = grind (arith, plain_insns, front_is, code_insns, shorter_has, path_insns, address_small)
+
+  -- it can be spelled, where a frame has words enough for it, it is of few nodes, and calls from it reach the routines
+  pub whole_insns : AreInsns (whole_code e ts rs p)
+  unfolding whole_code
+  whole_insns = with_insns (front_of e) refl
+
+-- ---- what it gives
+
+module _ (image : Contents) (deep : Bool) (roots : Roots) (constants : List ℕ) (scope later : List Variable) (texts : List (List ℕ))
+    (depth p : ℕ) (e : CoreTree) (is : IsScope image deep roots constants scope) (few : length scope ≤ 512) (literals : HasLiterals (plain_tree e)) where
+  abbrev pub s : Setting
+  s = scope_setting image deep scope
+
+  abbrev pub c : Context
+  c = scope_context roots [] nothing_kept constants (scope ++ later)
+
+  abbrev pub env : Environment
+  env = environment_in roots [] scope
+
+  abbrev pub Meant : List Insn → Type 0
+  Meant piece = Computes s p piece c depth 0 (meaning (plain_tree e) env) (cost (plain_tree e) env)
+
+  module _ (ready : Ready s scope texts c depth 0 e (cost (plain_tree e) env).is_deep) where
+    plain_gives : Meant (plain_code e texts (routines scope) p)
+    plain_gives = code_gives image deep roots constants scope later texts [] nothing_kept depth 0 p e is few literals ready
+
+    with_gives : (o : Option Path) → front_of e ≡ o → Meant (code_with o e texts (routines scope) p)
+    with_gives None front = plain_gives
+    with_gives (Some path) front =
+        let parts = front_is e path front in
+        let room = parts.0 in
+        let rest = part_gives image deep roots constants scope later texts [] (with_path path) depth 1 (p + 6) e is few literals
+        (record { accepted = ready.accepted; frames = ready.frames; room = room; texts_stand = ready.texts_stand; may = ready.may }) in
+        let some = visited (plain_tree e) env in
+        let stands = first_stands constants texts path e parts.1 ready.texts_stand in
+        let address = address_of texts path.field in
+        shorter_has Meant (plain_code e texts (routines scope) p) (keeping_code path e texts (routines scope) p) plain_gives
+        (gives_within s p (keeping_code path e texts (routines scope) p) c depth 0 _ _ _ _ _ (omega (arith, some)) (omega (arith, some))
+        (paths_give.kept s p depth address path _ c.environment constants _ _ _ stands rest))
+
+    -- it gives what the expression means, within 128 steps a visit and 16 times what is spent: of these the parts of an
+    -- expression take 120 and 15, and the path 6 steps and 1 of charge
+    pub whole_gives : Meant (whole_code e texts (routines scope) p)
+    unfolding whole_code
+    whole_gives = with_gives (front_of e) refl

@@ -1,0 +1,8 @@
+//! Fields of roots.
+
+/// A field of a root, as `object.spec`.
+#[derive(Clone, Copy)]
+pub(crate) struct Path<'a> {
+    pub(crate) root: &'a str,
+    pub(crate) field: &'a str,
+}

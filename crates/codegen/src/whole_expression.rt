@@ -1,0 +1,122 @@
+//! The code of whole expressions.
+
+ghost use Rattle.std.specs.Prelude.{◌≡◌, ◌<◌, ◌≤◌, ◌+◌, ◌*◌, option_map, IfOk};
+ghost use Rattle.cel_macros.specs.CoreView.{core_view};
+ghost use Rattle.cel_measures.specs.Measures as measures;
+ghost use Rattle.codegen_base.specs.Pieces.{size as size_of_piece};
+ghost use Rattle.codegen.specs.Code.Whole as specs;
+ghost use Rattle.codegen.specs.FrameWords.{path_view};
+ghost use Rattle.codegen.specs.Surroundings.{routines_within, texts_within};
+
+use crate::code::paths::{first_path, walk};
+use crate::expressions::code_of;
+use crate::frame_words::FrameWords;
+use crate::instructions::{size, store};
+use crate::path::Path;
+use crate::spot::Spot;
+use crate::surroundings::Surroundings;
+use cel_macros::Core;
+use cel_measures::need;
+use insn_codec::{Insn, Register};
+use std::alloc::{AllocError, Global};
+
+/// The most words of its frame that an expression's code may need.
+pub(crate) const MOST_WORDS: u64 = 60;
+
+/// The path that the expression may keep: there is a word of the frame more for it.
+fn front_of(core: &Core) -> Option<Path<'_>>
+    requires { measures.need (core_view core.now) ≤ 60 }
+    ensures { option_map path_view result ≡ specs.front_of (core_view core.now) }
+{
+    match first_path(core) {
+        Some(path) => {
+            if 1 + need(core) <= MOST_WORDS {
+                Some(path)
+            } else {
+                None
+            }
+        }
+        None => None,
+    }
+}
+
+/// The expression's code at this slot that keeps nothing.
+#[tactic(auto, using(crate::proofs::Lengths::short_code))]
+fn plain_code(
+    alloc: Global,
+    core: &Core,
+    around: &Surroundings,
+    slot: usize,
+) -> Result<Vec<Insn>, AllocError>
+    requires need { measures.need (core_view core.now) ≤ 60 }
+    requires nodes { measures.nodes (core_view core.now) ≤ 512 }
+    requires slot { slot ≤ 0x7fff_0001 }
+    ensures code { IfOk result (λ code. code.items ≡ specs.plain_code (core_view core.now) (texts_within around.now) (routines_within around.now) slot) }
+    ensures short { IfOk result (λ code. size_of_piece code.items + 8 ≤ 63 * measures.nodes (core_view core.now)) }
+{
+    let spot = Spot { word: 0, slot };
+    code_of(alloc, core, around, &FrameWords::Outside, spot)
+}
+
+/// The expression's code at this slot, behind the path's and a store that keeps it in word 0.
+#[tactic(auto, using(crate::proofs::Lengths::short_code))]
+fn keeping_code(
+    alloc: Global,
+    path: Path,
+    core: &Core,
+    around: &Surroundings,
+    slot: usize,
+) -> Result<Vec<Insn>, AllocError>
+    requires need { 1 + measures.need (core_view core.now) ≤ 60 }
+    requires nodes { measures.nodes (core_view core.now) ≤ 512 }
+    requires slot { slot ≤ 0x7fff_0001 }
+    ensures code { IfOk result (λ code. code.items ≡ specs.keeping_code (path_view path.entry) (core_view core.now) (texts_within around.now) (routines_within around.now) slot) }
+    ensures short { IfOk result (λ code. size_of_piece code.items < 65536) }
+{
+    let mut code = walk(alloc, around.texts, path)?;
+    code.push(store(0, Register::R0))?;
+    let spot = Spot {
+        word: 1,
+        slot: slot + 6,
+    };
+    let rest = code_of(alloc, core, around, &FrameWords::Keeping(path), spot)?;
+    code.extend_from_slice(&rest)?;
+    Ok(code)
+}
+
+/// The shorter of two pieces, the first one where both are as long.
+fn shorter(first: Vec<Insn>, second: Vec<Insn>) -> Vec<Insn>
+    requires first { size_of_piece first.items < 65536 }
+    requires second { size_of_piece second.items < 65536 }
+    ensures { result.items ≡ specs.shorter first.items second.items }
+{
+    if size(&first) <= size(&second) {
+        first
+    } else {
+        second
+    }
+}
+
+/// The code of a whole expression at this slot, from the start of a frame: it keeps a path where that is
+/// shorter. The error says that there is no memory for it.
+pub(crate) fn whole_code(
+    alloc: Global,
+    core: &Core,
+    around: &Surroundings,
+    slot: usize,
+) -> Result<Vec<Insn>, AllocError>
+    requires need { measures.need (core_view core.now) ≤ 60 }
+    requires nodes { measures.nodes (core_view core.now) ≤ 512 }
+    requires slot { slot ≤ 0x7fff_0001 }
+    ensures code { IfOk result (λ code. code.items ≡ specs.whole_code (core_view core.now) (texts_within around.now) (routines_within around.now) slot) }
+    ensures short { IfOk result (λ code. size_of_piece code.items + 8 ≤ 63 * measures.nodes (core_view core.now)) }
+{
+    let plain = plain_code(alloc, core, around, slot)?;
+    match front_of(core) {
+        Some(path) => {
+            let keeping = keeping_code(alloc, path, core, around, slot)?;
+            Ok(shorter(plain, keeping))
+        }
+        None => Ok(plain),
+    }
+}

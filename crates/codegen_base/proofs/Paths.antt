@@ -1,0 +1,107 @@
+-- A path that word 0 of the frame keeps.
+use Rattle.std.proofs.Common.{◌≡◌, ℕ, suc, ◌+◌, List, [], ◌∷◌, ◌++◌, length, Some, refl, sym, subst, arith}
+use Rattle.helper_table.specs.Laws.{Names}
+use Rattle.insn_codec.specs.declared.insn.Insn.{Insn}
+use Rattle.insn_codec.specs.declared.register.Register.TheVariants.{R0, R1}
+use Rattle.value_store.specs.Value.{ValueOrError}
+use Rattle.cel_macros.specs.Environment.{Environment, name_value}
+use Rattle.codegen_base.specs.Body.{Body}
+use Rattle.codegen_base.specs.Code.Calls.{operand_code}
+use Rattle.codegen_base.specs.Code.Leaves.{leaf_code}
+use Rattle.codegen_base.specs.Code.Names.{name_leaf}
+use Rattle.codegen_base.specs.Code.Selection.{field_tail}
+use Rattle.codegen_base.specs.Contexts.{Context, Fits, Gives, Shows}
+use Rattle.codegen_base.specs.Engine.{Setting, Comes}
+use Rattle.codegen_base.specs.Gives.Paths.{PathsGive, kept_path_code, outside, path_in}
+use Rattle.codegen_base.specs.Gives.Selection.{HasText}
+use Rattle.codegen_base.specs.Instructions as insn
+use Rattle.codegen_base.specs.Paths.{Path, nothing_kept, with_path}
+use Rattle.codegen_base.specs.Pieces.{Stands, size}
+use Rattle.codegen_base.specs.Words.{set_word, word_at}
+use Rattle.codegen_base.proofs.Frames.{fits_above, keeps_then, shows_after, stored}
+use Rattle.codegen_base.proofs.Leaves.{leaves_give, leaves_name}
+use Rattle.codegen_base.proofs.Operators.{one_gives}
+use Rattle.codegen_base.proofs.Pieces.{size-append, size-cons, stands_back, stands_first, stands_front, stands_rest}
+use Rattle.codegen_base.proofs.Runs.{and_then, into, looser, to_place}
+use Rattle.codegen_base.proofs.Selection.{selection_gives}
+use Rattle.codegen_base.proofs.Steps as step
+use Rattle.codegen_base.proofs.Values.{small_reference}
+
+module _ (s : Setting) (depth address : ℕ) (path : Path) (rest : List Insn) (environment : Environment) (constants : List ℕ) (x : ValueOrError) (n m : ℕ) where
+  abbrev c : Context
+  c = outside environment constants nothing_kept
+
+  abbrev c1 : Context
+  c1 = outside environment constants (with_path path)
+
+  fits_keeping : (b : Body) → Fits c depth 0 b → Names b.values.values (word_at depth 0 b) (path_in path c) → Fits c1 depth 1 b
+  fits_keeping b fits named =
+      let above = fits_above c depth 0 1 b (omega arith) fits in
+      record {
+        frame = above.frame;
+        values = above.values;
+        holds = record {
+          names = above.holds.names;
+          path = λ y at. let same : path ≡ y = cc in (omega arith, subst (λ (z : Path). Names b.values.values (word_at depth 0 b) (path_in z c)) same named);
+          memos = above.holds.memos;
+        };
+        constants = above.constants;
+      }
+
+  -- without the path
+  shows_without : (old new : Body) → Shows c1 depth 1 x old new → Shows c depth 1 x old new
+  shows_without old new shown =
+      let fits = shown.fits in
+      record {
+        shows = shown.shows;
+        fits = record {
+          frame = fits.frame;
+          values = fits.values;
+          holds = record { names = fits.holds.names; path = λ y at. absurd (cc); memos = fits.holds.memos };
+          constants = fits.constants;
+        };
+        keeps = shown.keeps;
+      }
+
+  keeps_path : (q : ℕ) (b : Body) → Stands s.image.code q (insn.store 0 R0 ∷ rest) → Fits c depth 0 b → Names b.values.values (b.registers R0) (path_in path c) → Gives s (q + 1) rest c1 depth 1 x n m → Comes s (1 + n) m q b (q + 1 + size rest) (Shows c depth 0 x b)
+  keeps_path q b has fits named gives =
+      let r = b.registers R0 in
+      let stored1 = stored c depth 0 0 r b fits (omega arith) (omega arith) (small_reference b.values r (path_in path c) fits.values.table named) in
+      let b1 = set_word depth 0 r b in
+      let kept : Names b1.values.values (word_at depth 0 b1) (path_in path c) = subst (λ (w : ℕ). Names b.values.values w (path_in path c)) (sym stored1.here) named in
+      looser s {n = suc n} {x = m} (1 + n) m (omega arith) (omega arith)
+      (step.store s q (q + 1) b depth 0 R0 (stands_first s.image.code q (insn.store 0 R0) rest has) fits.frame (omega arith) refl
+      (into s (Shows c depth 0 x b) (λ b2 g2. shows_after (omega arith) (omega arith) stored1.keeps (shows_without b1 b2 g2) stored1.fits)
+      (gives.runs b1 (stands_rest s.image.code q (insn.store 0 R0) rest has) (fits_keeping b1 stored1.fits kept))))
+
+  abbrev front : List Insn
+  front = operand_code (Some (name_leaf path.root [])) (leaf_code (name_leaf path.root [])) R1 ++ field_tail address (length path.field)
+
+  -- the path's own code
+  front_gives : (p : ℕ) → HasText constants address path.field → Gives s p front c depth 0 (path_in path c) 5 1
+  unfolding name_value
+  front_gives p text =
+      let root = name_value path.root environment in
+      one_gives s p (Some (name_leaf path.root [])) (leaf_code (name_leaf path.root [])) (field_tail address (length path.field)) R1 c depth 0 root (path_in path c) 1 0 3 1 refl (leaves_name.name c depth 0 path.root (omega arith)) (leaves_give.name s p c depth 0 path.root (omega arith))
+      (selection_gives.field s _ c depth 0 root address path.field (omega arith) text)
+
+  kept_gives : (p : ℕ) → HasText constants address path.field → Gives s (p + 6) rest c1 depth 1 x n m → Gives s p (kept_path_code path address rest) c depth 0 x (6 + n) (1 + m)
+  kept_gives p text gives = record {
+    runs = λ b has fits.
+        let code = s.image.code in
+        let put = insn.store 0 R0 in
+        let Q = Shows c depth 0 x b in
+        let place : p + 5 + 1 + size rest ≡ p + size (front ++ put ∷ rest) = omega (arith, size-append front (put ∷ rest), size-cons put rest) in
+        let there : p + 6 ≡ p + 5 + 1 = omega arith in
+        to_place s _ place
+        (looser s {n = 5 + (1 + n)} {x = 1 + m} (6 + n) (1 + m) (omega arith) (omega arith)
+        (and_then s (1 + n) m (p + 5 + 1 + size rest) Q ((front_gives p text).runs b (stands_front code p front (put ∷ rest) has) fits) (λ b1 g1.
+        into s Q (λ b2 g2. record { shows = g2.shows; fits = g2.fits; keeps = keeps_then (omega arith) g1.keeps g2.keeps })
+        (keeps_path (p + 5) b1 (stands_back code p front (put ∷ rest) has) g1.fits g1.shows (subst (λ (i : ℕ). Gives s i rest c1 depth 1 x n m) there gives)))));
+  }
+
+pub paths_give : PathsGive
+paths_give = record {
+  names = λ c depth base path kept b fits. (omega arith, (fits.holds.path path kept).1);
+  kept = λ s p depth address path rest environment constants x n m text gives. kept_gives s depth address path rest environment constants x n m p text gives;
+}
