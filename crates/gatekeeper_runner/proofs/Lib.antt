@@ -1,10 +1,8 @@
 mod OneLine
 mod Going
-mod Kept
 mod Saying
 mod Opened
 mod Programs
-mod Started
 mod Shape
 mod SaidOnce
 mod LineOnce

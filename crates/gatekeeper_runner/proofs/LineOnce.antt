@@ -9,6 +9,7 @@ use Rattle.review_runner.specs.declared.refusals.run_error.RunError.TheVariants.
 use Rattle.gatekeeper_runner.specs.Lines.{Answers, answer_text, decided, line_of, no_memory, no_memory_text, passed_over, too_long}
 use Rattle.gatekeeper_runner.specs.SameAnswers.{LinesHaveOneAnswer}
 use Rattle.gatekeeper_runner.specs.Together.{AllSay, SayTogether, SaysAlone, Terms, next, none, under, unsaid, with_next}
+use Rattle.gatekeeper_runner.proofs.Going.{no_answer}
 use Rattle.gatekeeper_runner.proofs.SaidOnce.{says_once}
 
 -- memory was not wanted
@@ -70,19 +71,14 @@ module _ (compiles_once : policy.HasOneAnswer) (reviews_once : HasOneAnswer) (t 
   together_once r s some other is also = ends_once unsaid t.policies r s some other (together_ends r is) (together_ends s also)
 
   answers_same : (a b : List ℕ) → a ≢ no_memory_text → b ≢ no_memory_text → Answers OneImage t line a → Answers OneImage t line b → a ≡ b
-  answers_same a b some other (passed_over is) (passed_over also) = refl
-  answers_same a b some other (passed_over is) (too_long long) = absurd (let zero = ap length is in omega (arith, long, zero))
-  answers_same a b some other (passed_over is) (decided full short why says) = absurd (let zero = ap length is in omega (arith, full, zero))
-  answers_same a b some other (passed_over is) (no_memory full) = absurd (other refl)
-  answers_same a b some other (too_long long) (passed_over is) = absurd (let zero = ap length is in omega (arith, long, zero))
+  answers_same a b some other (no_memory full) last = absurd (some refl)
+  answers_same a b some other first (no_memory full) = absurd (other refl)
+  answers_same a b some other (passed_over is) last = sym (no_answer t line b is last)
+  answers_same a b some other first (passed_over is) = no_answer t line a is first
   answers_same a b some other (too_long long) (too_long also) = refl
   answers_same a b some other (too_long long) (decided full short why says) = absurd (omega (arith, long, short))
-  answers_same a b some other (too_long long) (no_memory full) = absurd (other refl)
-  answers_same a b some other (decided full short why says) (passed_over is) = absurd (let zero = ap length is in omega (arith, full, zero))
   answers_same a b some other (decided full short why says) (too_long long) = absurd (omega (arith, long, short))
   answers_same a b some other (decided full short why says) (decided full2 short2 why2 says2) = ap (λ (r : Result Said RunError). line_of (answer_text line r)) (together_once _ _ why why2 says says2)
-  answers_same a b some other (decided full short why says) (no_memory none_left) = absurd (other refl)
-  answers_same a b some other (no_memory full) last = absurd (some refl)
 
 pub lines_once : policy.HasOneAnswer → HasOneAnswer → LinesHaveOneAnswer
 lines_once compiles reviews t line a b some other is also = answers_same compiles reviews t line a b some other is also

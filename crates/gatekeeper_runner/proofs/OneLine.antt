@@ -1,5 +1,5 @@
 -- The answer to one line.
-use Rattle.std.proofs.Common.{◌≡◌, ℕ, ◌<◌, ◌≤◌, Bool, true, false, List, [], length, take, Option, Some, None, sym, ap, ◌∙◌, subst, append-nil, Result, Ok, Err, true≢false}
+use Rattle.std.proofs.Common.{◌≡◌, ℕ, suc, arith, length-take, ◌<◌, ◌≤◌, Bool, true, false, List, [], length, take, Option, Some, None, sym, ap, ◌∙◌, subst, append-nil, Result, Ok, Err, true≢false}
 use Rattle.std.specs.Prelude.{IfOk, IsErr, nat_lt}
 use Rattle.std.proofs.lemmas.Bool.{ltb-false, ltb-true}
 use Rattle.debugger.specs.Streams.{AddsBytes}
@@ -12,7 +12,6 @@ use Rattle.review_runner.specs.declared.refusals.run_error.RunError.TheVariants.
 use Rattle.gatekeeper_runner.specs.Lines.{Answers, IsKept, decided, line_of, longest_line, passed_over, refusal_text, too_long, uid_shown}
 use Rattle.gatekeeper_runner.specs.Together.{SayTogether, Terms}
 use Rattle.gatekeeper_runner.specs.Told.{Answered, AnsweredPart}
-use Rattle.gatekeeper_runner.proofs.Kept.{kept_long, kept_whole}
 
 module _ (t : Terms) where
   pub all_said : (line text : List ℕ) (said : Said) → 0 < length line → length line ≤ longest_line → SayTogether OneImage t line (Ok said) → text ≡ response_text said.objection said.uid → Answers OneImage t line (line_of text)
@@ -23,29 +22,14 @@ module _ (t : Terms) where
 
   pub was_long : (lacks : Bool) (kept line text : List ℕ) → lacks ≡ false → IsKept lacks kept line → true ≡ nat_lt longest_line (length kept) → text ≡ line_of (refusal_text N2 None) → Answers OneImage t line text
   was_long true kept line text held keeps long is = absurd (cc)
-  was_long false kept line text held keeps long is = subst (Answers OneImage t line) (sym is) (too_long (kept_long longest_line kept line keeps (ltb-true _ _ (sym long))))
+  was_long false kept line text held keeps long is =
+      let many = ap length keeps in
+      let most = length-take (suc longest_line) line in
+      let above = ltb-true longest_line (length kept) (sym long) in
+      subst (Answers OneImage t line) (sym is) (too_long (omega (arith, many, above, most)))
 
-  pub was_short : (lacks : Bool) (kept line text : List ℕ) → lacks ≡ false → IsKept lacks kept line → false ≡ nat_lt longest_line (length kept) → (0 < length kept → length kept ≤ longest_line → Answers OneImage t kept text) → 0 < length line → Answers OneImage t line text
-  was_short true kept line text held keeps short answers some = absurd (cc)
-  was_short false kept line text held keeps short answers some =
-      let few = ltb-false _ _ (sym short) in
-      let same = kept_whole longest_line kept line keeps few in
-      subst (λ (l : List ℕ). Answers OneImage t l text) same (answers (subst (λ (l : List ℕ). 0 < length l) (sym same) some) few)
-
-  pub nothing_written : (line : List ℕ) (old : Option (List ℕ)) → line ≡ [] → Answered OneImage t line old old
-  nothing_written line old none = record { text = []; answers = passed_over none; written = λ before is. is ∙ ap Some (sym (append-nil before)) }
-
-  pub written_whole : (line text given : List ℕ) (old new : Option (List ℕ)) → Answers OneImage t line text → given ≡ text → AddsBytes old new given → Answered OneImage t line old new
-  written_whole line text given old new answers is adds = record { text = text; answers = answers; written = subst (AddsBytes old new) is adds }
-
-  pub written_part : (line text given : List ℕ) (old new : Option (List ℕ)) → Answers OneImage t line text → given ≡ text → (n : ℕ) × (n < length given) × AddsBytes old new (take n given) → AnsweredPart OneImage t line old new
-  written_part line text given old new answers is part = record {
-    text = text;
-    answers = answers;
-    many = part.0;
-    is_cut = subst (λ (x : List ℕ). part.0 < length x) is part.1;
-    written = subst (λ (x : List ℕ). AddsBytes old new (take part.0 x)) is part.2;
-  }
+pub written_part : (t : Terms) (line text : List ℕ) (old new : Option (List ℕ)) → Answers OneImage t line text → (n : ℕ) × (n < length text) × AddsBytes old new (take n text) → AnsweredPart OneImage t line old new
+written_part t line text old new answers part = record { text = text; answers = answers; many = part.0; is_cut = part.1; written = part.2 }
 
 -- where there is a text, memory was not wanted
 pub refuses : {X E : Type 0} (r : Result X E) (P Q : X → Type 0) (e : RunError) → (e ≡ Memory → IsErr r) → ((x : X) → (e ≡ Memory → ⊥) → P x → Q x) → IfOk r P → IfOk r Q

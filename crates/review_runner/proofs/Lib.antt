@@ -7,6 +7,7 @@ pub mod Number
 pub mod Performed
 pub mod Programs
 pub mod Readings
+pub mod Results
 pub mod Shape
 mod Reviewed
 pub mod DocumentNumbers

@@ -1,18 +1,17 @@
 -- The steps of an order whose words are taken are at most 1,000,000,000.
-use Rattle.std.proofs.Common.{◌≡◌, ℕ, ◌≤◌, List, [], ◌∷◌, ◌++◌, Option, Some, None, Result, Ok, Err}
+use Rattle.std.proofs.Common.{◌≡◌, ◌≤◌, List, [], ◌∷◌, ◌++◌, Option, Some, None, Result}
 use Rattle.std.proofs.Common.{IfOk, Bool, true, false, refl, subst, arith, codes}
-use Rattle.std.specs.Prelude.{if◌then◌else◌, find, ◌&&◌, nat_le, unwrap_or, option_map}
+use Rattle.std.specs.Prelude.{if◌then◌else◌, find, unwrap_or, option_map}
 use Rattle.std.specs.Prelude.{option_and_then, slice_get}
 use Rattle.std.specs.Str.{bytes_eq}
 use Rattle.std.specs.Str.Parse.{digits_value, without_leading_plus}
 use Rattle.std.specs.Option.{option_map_or}
 use Rattle.std.proofs.lemmas.Slice.Eq.{bytes_eq-Decides}
-use Rattle.std.proofs.lemmas.Bool.Decides.{nat_tests}
-use Rattle.clap.specs.ValueTests.{is_numeral, is_unsigned_in}
+use Rattle.clap.specs.ValueTests.{is_unsigned_in}
 use Rattle.clap.specs.Kinds.{values_kinds}
 use Rattle.clap.specs.Simple.{App, Shape, built, entered as entered_of, label_of, rows_at}
 use Rattle.clap.specs.Values.{read_as}
-use Rattle.clap.specs.Walk.{Row, Rule, Text, answers_to, at_row, default_rows, has_row, more_values}
+use Rattle.clap.specs.Walk.{Row, Rule, Text, answers_to, at_row, default_rows}
 use Rattle.clap.specs.Walk.{nothing_held, one_of, reading_by, row_text, rows_after, walk, walk_from}
 use Rattle.clap.specs.Walk.{with_default, with_values, without}
 use Rattle.clap.specs.Faults.{entered_fault, level_fault}
@@ -21,10 +20,10 @@ use Rattle.clap.specs.declared.builder.value_parser.Reading.TheVariants as readi
 use Rattle.clap.specs.declared.builder.value_parser.ValueParser.TheVariants as parser
 use Rattle.clap.specs.declared.error.kind.ErrorKind.{ErrorKind}
 use Rattle.clap.specs.declared.parser.matches.ValueSource.{ValueSource}
-use Rattle.clap.specs.declared.parser.matches.ValueSource.TheVariants.{CommandLine, DefaultValue}
+use Rattle.clap.specs.declared.parser.matches.ValueSource.TheVariants.{CommandLine}
 use Rattle.review_runner.specs.Commands.{file_rule, option_rule, required_option_rule, list_app, steps_rule, making_app, with_documents, review_app, deciding_app, running_app, run_image_app, debug_app, bare_app}
 use Rattle.review_runner.specs.Commands.{celbpf_app, faults, entered}
-use Rattle.review_runner.specs.Number.{number_of, number_written, writes_u64}
+use Rattle.review_runner.specs.Number.{number_of, number_written}
 use Rattle.review_runner.specs.Order.{Ordered, IsWithinLimits, assemble_in, compile_in, debug_in, list_in, order_in, order_view, review_in, run_image_in}
 use Rattle.review_runner.specs.Order.{task_named}
 use Rattle.review_runner.specs.declared.command_line.order.Order.{Order}
@@ -68,10 +67,7 @@ same_id a b c e f = subst (λ t. bytes_eq t c ≡ true) ((bytes_eq-Decides a b).
 with_keeps : (id : Text) (how : Reading) (from : ValueSource) (values : List Text) (rows : List Row)
     → (bytes_eq id (codes "steps") ≡ true → Each Within values × (how ≡ reading.AsWritten))
     → RowsOk rows → RowsOk (with_values id how from values rows)
-with_keeps id how from values rows h g =
-    at_row_keeps id (more_values from values) _ rows
-    (λ r e ok. ((λ is. (each_append Within r.values values (ok is).0 (h (same_id r.id id (codes "steps") e is)).0, (ok is).1)), tt))
-    (h, tt) g
+with_keeps id how from values rows h g = grind (arith, Within, each_append, at_row_keeps, same_id)
 
 set_keeps : (id : Text) (how : Reading) (values : List Text) (rows : List Row)
     → (bytes_eq id (codes "steps") ≡ true → Each Within values × (how ≡ reading.AsWritten))
@@ -81,8 +77,7 @@ set_keeps id how values rows h g = with_keeps id how CommandLine values (without
 -- ---- uses and defaults
 
 passed : (b : Bool) (k : ErrorKind) → (if b then [] else k ∷ []) ≡ [] → b ≡ true
-passed true k e = refl
-passed false k e = cc
+passed b k e = grind arith
 
 values_within : (ic : Bool) (vs : List Text)
     → values_kinds ic (parser.Unsigned 0 1000000000) vs ≡ [] → Each Within vs
@@ -92,8 +87,7 @@ values_within ic (v ∷ vs) e = let p = nothing _ _ e in (passed (is_unsigned_in
 default_rows_keep : (id : Text) (how : Reading) (values : List Text) (rows : List Row)
     → (bytes_eq id (codes "steps") ≡ true → Each Within values × (how ≡ reading.AsWritten))
     → RowsOk rows → RowsOk (default_rows id how values rows)
-default_rows_keep id how [] rows h g = g
-default_rows_keep id how (v ∷ vs) rows h g = with_keeps id how DefaultValue (v ∷ vs) rows h g
+default_rows_keep id how values rows h g = grind (arith, with_keeps)
 
 abbrev DefaultOk : Rule → Type 0
 DefaultOk a = bytes_eq a.id (codes "steps") ≡ true → Each Within a.defaults × (reading_by a ≡ reading.AsWritten)
@@ -102,11 +96,7 @@ abbrev DefaultKeeps : Rule → Type 0
 DefaultKeeps a = (rows : List Row) → RowsOk rows → RowsOk (with_default rows a)
 
 default_keeps : (a : Rule) → DefaultOk a → DefaultKeeps a
-default_keeps a h rows g = by (has_row a.id rows)
-  where
-    by : (b : Bool) → RowsOk (if b then rows else default_rows a.id (reading_by a) a.defaults rows)
-    by true = g
-    by false = default_rows_keep a.id (reading_by a) a.defaults rows h g
+default_keeps a h rows g = grind (arith, RowsOk, default_rows_keep)
 
 all_defaults_keep : (c : List Rule) → Each DefaultOk c → Each DefaultKeeps c
 all_defaults_keep [] h = tt
@@ -127,76 +117,7 @@ level_keeps s words ok e =
 
 shapes : Each ShapeOk (built celbpf_app).subs
 unfolding celbpf_app deciding_app running_app bare_app making_app with_documents review_app run_image_app list_app debug_app file_rule option_rule required_option_rule steps_rule
-shapes = (
-  (
-    (
-      (λ vs rows e g. set_keeps _ _ _ rows (λ is. cc) g),
-      (
-        (λ vs rows e g. set_keeps _ _ _ rows (λ is. (values_within false _ (nothing _ _ (nothing _ _ e).1).1, refl)) g),
-        ((λ vs rows e g. g), tt),
-      ),
-    ),
-    ((λ is. cc), ((λ is. ((refl, tt), refl)), ((λ is. cc), tt))),
-  ),
-  (
-    (
-      ((λ vs rows e g. set_keeps _ _ _ rows (λ is. cc) g), ((λ vs rows e g. set_keeps _ _ _ rows (λ is. cc) g), ((λ vs rows e g. set_keeps _ _ _ rows (λ is. cc) g), ((λ vs rows e g. set_keeps _ _ _ rows (λ is. cc) g), ((λ vs rows e g. g), tt))))),
-      ((λ is. cc), ((λ is. cc), ((λ is. cc), ((λ is. cc), ((λ is. cc), tt))))),
-    ),
-    (
-      (
-        (
-          (λ vs rows e g. set_keeps _ _ _ rows (λ is. cc) g),
-          ((λ vs rows e g. set_keeps _ _ _ rows (λ is. cc) g), ((λ vs rows e g. g), tt)),
-        ),
-        ((λ is. cc), ((λ is. cc), ((λ is. cc), tt))),
-      ),
-      (
-        (
-          (
-            (λ vs rows e g. set_keeps _ _ _ rows (λ is. cc) g),
-            (
-              (λ vs rows e g. set_keeps _ _ _ rows (λ is. cc) g),
-              (
-                (λ vs rows e g. set_keeps _ _ _ rows (λ is. cc) g),
-                (
-                  (λ vs rows e g. set_keeps _ _ _ rows (λ is. cc) g),
-                  (
-                    (λ vs rows e g. set_keeps _ _ _ rows (λ is. (values_within false _ (nothing _ _ (nothing _ _ e).1).1, refl)) g),
-                    ((λ vs rows e g. g), tt),
-                  ),
-                ),
-              ),
-            ),
-          ),
-          ((λ is. cc), ((λ is. cc), ((λ is. cc), ((λ is. cc), ((λ is. ((refl, tt), refl)), ((λ is. cc), tt)))))),
-        ),
-        (
-          (
-            (
-              (λ vs rows e g. set_keeps _ _ _ rows (λ is. cc) g),
-              ((λ vs rows e g. set_keeps _ _ _ rows (λ is. cc) g), ((λ vs rows e g. g), tt)),
-            ),
-            ((λ is. cc), ((λ is. cc), ((λ is. cc), tt))),
-          ),
-          (
-            (
-              ((λ vs rows e g. set_keeps _ _ _ rows (λ is. cc) g), ((λ vs rows e g. g), tt)),
-              ((λ is. cc), ((λ is. cc), tt)),
-            ),
-            (
-              (
-                ((λ vs rows e g. with_keeps _ _ CommandLine _ rows (λ is. cc) g), tt),
-                ((λ is. cc), tt),
-              ),
-              tt,
-            ),
-          ),
-        ),
-      ),
-    ),
-  ),
-)
+shapes = grind (arith, with_keeps, set_keeps, values_within, nothing)
 
 -- ---- a command line
 
@@ -210,28 +131,12 @@ found_so Q p (x ∷ xs) h = by (found_so Q p xs h.1) (p x) refl
     by rest true e = (h.0, e)
     by rest false e = rest
 
-both : (a b : Bool) → (a && b) ≡ true → (a ≡ true) × (b ≡ true)
-both true true e = (refl, refl)
-both true false e = cc
-both false b e = cc
-
-at_most : (m n : ℕ) → nat_le m n ≡ true → m ≤ n
-at_most m n e = grind (arith, nat_tests)
-
 small : (v : Text) → Within v → digits_value 10 (without_leading_plus v) ≤ 1000000000
-small v w =
-    let a = both (is_numeral (without_leading_plus v)) _ w in
-    let b = both _ _ a.1 in
-    let c = both _ _ b.1 in
-    at_most _ _ c.1
+small v w = grind arith
 
 written_within : (t : Text) → digits_value 10 t ≤ 1000000000
     → unwrap_or (number_written t) 10000000 ≤ 1000000000
-written_within t h = by (writes_u64 t)
-  where
-    by : (b : Bool) → unwrap_or (if b then Some (digits_value 10 t) else None) 10000000 ≤ 1000000000
-    by true = h
-    by false = omega arith
+written_within t h = grind arith
 
 of_values : (how : Reading) (vs : List Text) → Each Within vs → how ≡ reading.AsWritten
     → unwrap_or (number_of (option_map (read_as how) (slice_get vs 0))) 10000000 ≤ 1000000000
@@ -242,8 +147,7 @@ of_values how (v ∷ vs) h is = rw is (written_within (without_leading_plus v) (
 of_row : (o : Option Row) → AtOption (λ r. RowOk r × (bytes_eq r.id (codes "steps") ≡ true)) o
     → unwrap_or (number_of (option_and_then row_text o)) 10000000 ≤ 1000000000
 unfolding number_of
-of_row None h = omega arith
-of_row (Some r) h = let ok = h.0 h.1 in of_values r.reading r.values ok.0 ok.1
+of_row o h = grind (arith, of_values)
 
 of_rows : (rows : List Row) → RowsOk rows
     → unwrap_or (number_of (one_of (codes "steps") rows)) 10000000 ≤ 1000000000
@@ -251,25 +155,12 @@ of_rows rows g = of_row (find (λ r. bytes_eq r.id (codes "steps")) rows) (found
 
 of_task : (name : Text) (rows : List Row) → RowsOk rows → IsWithinLimits (task_named name rows)
 unfolding compile_in review_in run_image_in assemble_in list_in debug_in
-of_task name rows g = by (bytes_eq name (codes "compile")) (bytes_eq name (codes "review")) (bytes_eq name (codes "run-image")) (bytes_eq name (codes "asm")) (bytes_eq name (codes "list"))
-  where
-    by : (c r a b l : Bool)
-        → IsWithinLimits (if c then compile_in rows else (if r then review_in rows else (if a then run_image_in rows else (if b then assemble_in rows else (if l then list_in rows else debug_in rows)))))
-    by true r a b l = tt
-    by false true a b l = of_rows rows g
-    by false false true b l = of_rows rows g
-    by false false false true l = tt
-    by false false false false true = tt
-    by false false false false false = tt
-
-abbrev TakenIsOk : List Text → Shape → Type 0
-TakenIsOk words s = level_fault s [] nothing_held words false [] ≡ [] → RowsOk (rows_after s.rules [] words)
+of_task name rows g = grind (arith, of_rows)
 
 of_shape : (o : Option Shape) (words : List Text) → AtOption ShapeOk o
     → option_map_or (λ s. level_fault s [] nothing_held words false []) o [] ≡ []
     → AtOption (λ q. RowsOk q.1) (option_map (λ s. rows_at s words) o)
-of_shape None words ok e = tt
-of_shape (Some s) words ok e = level_keeps s words ok e
+of_shape o words ok e = grind (arith, level_keeps)
 
 of_stop : (a : App) (stop : Option (Text × List Text)) → Each ShapeOk a.subs
     → entered_fault a stop ≡ [] → AtOption (λ q. RowsOk q.1) (entered_of a stop)
@@ -282,11 +173,9 @@ of_words words e = let p = nothing _ _ e in of_stop (built celbpf_app) _ shapes 
 
 of_order : (o : Option (Text × List Row)) → AtOption (λ q. RowsOk q.1) o
     → AtOption IsWithinLimits (order_in o)
-of_order None h = tt
-of_order (Some q) h = of_task q.0 q.1 h
+of_order o h = grind (arith, of_task)
 
 -- the answer's order is within the limits
 pub within_limits : (words : List Text) (r : Result Order OrderError) → Ordered words r
     → IfOk r (λ o. IsWithinLimits (order_view o))
-within_limits words (Ok o) h = subst (AtOption IsWithinLimits) h.1 (of_order (entered words) (of_words words h.0))
-within_limits words (Err e) h = tt
+within_limits words r h = grind (arith, of_words, of_order, AtOption)

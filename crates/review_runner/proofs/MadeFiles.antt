@@ -1,13 +1,13 @@
 -- Files that are made from files.
-use Rattle.std.proofs.Common.{◌≡◌, ◌∙◌, ℕ, List, [], Result, Ok, Err, Option, Vec, refl, sym, subst, ap, inl, inr}
+use Rattle.std.proofs.Common.{◌≡◌, ◌∙◌, ℕ, List, [], Result, Ok, Err, Option, Vec, refl, sym, subst, ap, inl, inr, arith}
 use Rattle.std.specs.Prelude.{IsErrAnd}
 use Rattle.std.specs.declared.alloc.Global.{Global}
 use Rattle.policy_glue.specs.OneImage.{OneImage}
 use Rattle.review_runner.specs.FileSystem.{FileSystem, IsReading, IsWriting, KeepsFiles, Reading}
 use Rattle.review_runner.specs.Making.{MadeBy, MadeFrom, MadeOf, MayRunOut, RunsOut, no_file}
 use Rattle.review_runner.specs.Output.{Outcome, Report, outcome_of, succeeded}
-use Rattle.review_runner.specs.Performing.{MakesFile, PerformsBy, WritesImage, failed, lacks_memory, making, nothing, performs, written}
-use Rattle.review_runner.specs.PolicyFiles.{CompiledFrom, image, no_image, no_file as no_policy}
+use Rattle.review_runner.specs.Performing.{MakesFile, PerformsBy, failed, lacks_memory, making, nothing, performs, written}
+use Rattle.review_runner.specs.PolicyFiles.{CompiledFrom, no_file as no_policy}
 use Rattle.review_runner.specs.Refusals.{file_refusal}
 use Rattle.review_runner.specs.declared.answer.Answer.{Answer}
 use Rattle.review_runner.specs.declared.refusals.file_error.FileError.{FileError}
@@ -21,21 +21,13 @@ use Rattle.review_runner.proofs.Assembled.{may_run_out as text_may}
 
 -- ---- the image's file
 
-of_failure : (kind : SourceKind) (e : FileError) → MadeBy OneImage kind (Err e) (Err (file_refusal e))
+-- the file was not read
+pub of_failure : (kind : SourceKind) (e : FileError) → MadeBy OneImage kind (Err e) (Err (file_refusal e))
 of_failure PolicyDocument e = inl no_policy
 of_failure ProgramText e = inl no_file
 
--- the file was not read
-pub of_no_file : (kind : SourceKind) (known : Option FileSystem) (name : List ℕ) (e : FileError) (r : Result (Vec ℕ Global) Refusal) → IsReading known name (Err e)
-    → IsErrAnd r (λ q. q ≡ file_refusal e) → MadeOf OneImage kind known name r
-of_no_file kind known name e (Ok file) read is = absurd is
-of_no_file kind known name e (Err r) read is =
-    record { reading = Err e; is_reading = read; made = subst (λ (q : Refusal). MadeBy OneImage kind (Err e) (Err q)) (sym is) (of_failure kind e) }
-
 policy_may : (reading : Reading) (due : Result (List ℕ) Refusal) (file : List ℕ) → CompiledFrom OneImage reading due → due ≡ Ok file → reading ≡ Err Failed → ⊥
-policy_may reading due file no_policy is fails = cc
-policy_may reading due file (no_image why) is fails = cc
-policy_may reading due file (image said compiled one) is fails = cc
+policy_may reading due file made is fails = grind arith
 
 -- memory may run out once the image's file is made
 may_run_out : (kind : SourceKind) (reading : Reading) (file : List ℕ) → MadeFrom OneImage kind reading (Ok file) → MayRunOut kind reading
@@ -49,9 +41,7 @@ pub same_files : (old new : Option FileSystem) → new ≡ old → KeepsFiles ol
 same_files old new stays f known = (f, stays ∙ known, record { holds = λ name. refl; takes = refl })
 
 was_kept : (old new : Option FileSystem) (name bytes : List ℕ) → IsWriting old name bytes new (Err file_error.Memory) → KeepsFiles old new
-was_kept old new name bytes write f known =
-    let after = write f known in
-    (after.0, after.1, record { holds = λ n. ap (λ (k : FileSystem). k.holds n) after.2; takes = ap (λ (k : FileSystem). k.takes) after.2 })
+was_kept old new name bytes write = grind arith
 
 -- ---- the order
 
@@ -65,22 +55,13 @@ ran_out : (kind : SourceKind) (old new : Option FileSystem) (source target : Lis
 ran_out PolicyDocument old new source target kept runs = lacks_memory (kept, runs)
 ran_out ProgramText old new source target kept runs = lacks_memory (kept, runs)
 
-of_not_made : (kind : SourceKind) (old new : Option FileSystem) (source target : List ℕ) (r : Refusal) (reading : Reading) → IsReading old source reading
-    → MadeBy OneImage kind reading (Err r) → new ≡ old → PerformsBy OneImage old (making kind source target) new (Err r)
-of_not_made kind old new source target r reading read (inl made) stays =
-    performed kind old new source target (Err r)
-    (record { reading = reading; is_reading = read; file = Err r; made = made; writes = subst (λ (k : Option FileSystem). WritesImage old target (Err r) k (Err r)) (sym stays) nothing })
-of_not_made kind old new source target r reading read (inr lacks) stays =
-    subst (λ (q : Refusal). PerformsBy OneImage old (making kind source target) new (Err q)) (sym lacks.0)
-    (ran_out kind old new source target (same_files old new stays) (record { reading = reading; is_reading = read; may = lacks.1 }))
-
 -- there is no image to write
-pub not_made : (kind : SourceKind) (old new : Option FileSystem) (source target : List ℕ) (r : Refusal) (result : Result Answer Refusal) → IsErrAnd result (λ q. q ≡ r)
-    → MadeOf OneImage kind old source (Err r) → new ≡ old → PerformsBy OneImage old (making kind source target) new (outcome_of result)
-not_made kind old new source target r (Ok a) is file stays = absurd is
-not_made kind old new source target r (Err q) is file stays =
-    let file : MadeOf OneImage kind old source (Err q) = subst (λ (s : Refusal). MadeOf OneImage kind old source (Err s)) (sym is) file in
-    of_not_made kind old new source target q file.reading file.is_reading file.made stays
+pub not_made : (kind : SourceKind) (old new : Option FileSystem) (source target : List ℕ) (r : Refusal) (reading : Reading) → IsReading old source reading
+    → MadeBy OneImage kind reading (Err r) → new ≡ old → PerformsBy OneImage old (making kind source target) new (Err r)
+not_made kind old new source target r reading read (inl made) stays =
+    performed kind old new source target (Err r) (record { reading = reading; is_reading = read; file = Err r; made = made; writes = rw stays nothing })
+not_made kind old new source target r reading read (inr lacks) stays =
+    rw lacks.0 (ran_out kind old new source target (same_files old new stays) (record { reading = reading; is_reading = read; may = lacks.1 }))
 
 of_not_written : (kind : SourceKind) (old new : Option FileSystem) (source target : List ℕ) (file : Vec ℕ Global) (e : FileError) → MadeOf OneImage kind old source (Ok file)
     → IsWriting old target file.items new (Err e) → PerformsBy OneImage old (making kind source target) new (Err (file_refusal e))
@@ -90,25 +71,18 @@ of_not_written kind old new source target file file_error.Memory m write =
     ran_out kind old new source target (was_kept old new target file.items write)
     (record { reading = m.reading; is_reading = m.is_reading; may = may_run_out kind m.reading file.items m.made })
 
--- the write took these bytes of known files
-written_to : (old mid new : Option FileSystem) (target given bytes : List ℕ) (answer : Result (Unit {0}) FileError) → mid ≡ old → given ≡ bytes
-    → IsWriting mid target given new answer → IsWriting old target bytes new answer
-written_to old mid new target given bytes answer stays same write =
-    subst (λ (b : List ℕ). IsWriting old target b new answer) same (subst (λ (k : Option FileSystem). IsWriting k target given new answer) stays write)
-
 -- the image was not written
 pub not_written : (kind : SourceKind) (old mid new : Option FileSystem) (source target given : List ℕ) (file : Vec ℕ Global) (e : FileError) (result : Result Answer Refusal)
     → IsErrAnd result (λ q. q ≡ file_refusal e) → MadeOf OneImage kind old source (Ok file) → mid ≡ old → given ≡ file.items
     → IsWriting mid target given new (Err e) → PerformsBy OneImage old (making kind source target) new (outcome_of result)
 not_written kind old mid new source target given file e (Ok a) is made stays same write = absurd is
 not_written kind old mid new source target given file e (Err r) is made stays same write =
-    subst (λ (q : Refusal). PerformsBy OneImage old (making kind source target) new (Err q)) (sym is)
-    (of_not_written kind old new source target file e made (written_to old mid new target given file.items (Err e) stays same write))
+    let write = subst (λ (b : List ℕ). IsWriting old target b new (Err e)) same (subst (λ (k : Option FileSystem). IsWriting k target given new (Err e)) stays write) in
+    subst (λ (q : Refusal). PerformsBy OneImage old (making kind source target) new (Err q)) (sym is) (of_not_written kind old new source target file e made write)
 
 -- the image was written
-pub was_written : (kind : SourceKind) (old mid new : Option FileSystem) (source target given : List ℕ) (file : Vec ℕ Global) (report : Report) → MadeOf OneImage kind old source (Ok file)
-    → mid ≡ old → given ≡ file.items → IsWriting mid target given new (Ok tt) → report ≡ succeeded [] → PerformsBy OneImage old (making kind source target) new (Ok report)
-was_written kind old mid new source target given file report m stays same write done =
+pub was_written : (kind : SourceKind) (old new : Option FileSystem) (source target : List ℕ) (file : Vec ℕ Global) (report : Report) → MadeOf OneImage kind old source (Ok file)
+    → IsWriting old target file.items new (Ok tt) → report ≡ succeeded [] → PerformsBy OneImage old (making kind source target) new (Ok report)
+was_written kind old new source target file report m write done =
     subst (λ (q : Report). PerformsBy OneImage old (making kind source target) new (Ok q)) (sym done)
-    (performed kind old new source target _
-    (record { reading = m.reading; is_reading = m.is_reading; file = Ok file.items; made = m.made; writes = written (written_to old mid new target given file.items (Ok tt) stays same write) }))
+    (performed kind old new source target _ (record { reading = m.reading; is_reading = m.is_reading; file = Ok file.items; made = m.made; writes = written write }))

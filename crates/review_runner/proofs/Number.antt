@@ -2,7 +2,7 @@
 use Rattle.std.proofs.Common.{◌≡◌, ℕ, ◌^◌, ◌<◌, List, [], ◌∷◌, Option, Some, None, Result, Ok, Err}
 use Rattle.std.proofs.Common.{Bool, true, false, refl, ◌∙◌, arith}
 use Rattle.std.specs.Prelude.{nat_lt, ◌&&◌, if◌then◌else◌}
-use Rattle.std.proofs.lemmas.Bool.Decides.{nat_tests}
+use Rattle.std.proofs.lemmas.Bool.{and_from, and_parts, lt-ltb, ltb-true}
 use Rattle.std.specs.Str.Parse.{AllDigits, IsNumeral, ParsesUnsigned, digits_value}
 use Rattle.std.specs.Str.Parse.{without_leading_plus}
 use Rattle.clap.specs.Words.{ReadsOne}
@@ -10,28 +10,14 @@ use Rattle.review_runner.specs.Number.{are_digits, writes_u64, number_written, n
 
 -- ---- a test that is true, and the facts that it tests
 
-and_true : (a b : Bool) → a ≡ true → b ≡ true → (a && b) ≡ true
-and_true a b p q = rw (p, q) refl
-
-of_and_true : (a b : Bool) → (a && b) ≡ true → (a ≡ true) × (b ≡ true)
-of_and_true true true p = (refl, refl)
-of_and_true true false p = cc
-of_and_true false b p = cc
-
-lt_true : (m n : ℕ) → m < n → nat_lt m n ≡ true
-lt_true m n h = grind (arith, nat_tests)
-
-of_lt_true : (m n : ℕ) → nat_lt m n ≡ true → m < n
-of_lt_true m n p = grind (arith, nat_tests)
-
 digits_true : (t : List ℕ) → AllDigits 10 t → are_digits t ≡ true
 digits_true [] h = refl
-digits_true (c ∷ cs) h = and_true _ _ (lt_true _ _ h.0) (digits_true cs h.1)
+digits_true (c ∷ cs) h = and_from _ _ (lt-ltb _ _ h.0) (digits_true cs h.1)
 
 of_digits_true : (t : List ℕ) → are_digits t ≡ true → AllDigits 10 t
 of_digits_true [] p = tt
 of_digits_true (c ∷ cs) p =
-    let parts = of_and_true _ _ p in (of_lt_true _ _ parts.0, of_digits_true cs parts.1)
+    let parts = and_parts _ _ p in (ltb-true _ _ parts.0, of_digits_true cs parts.1)
 
 -- ---- a text without its plus sign
 
@@ -40,8 +26,8 @@ Fits t = IsNumeral 10 t × (digits_value 10 t < 2 ^ 64)
 
 when_it_fits : (t : List ℕ) (v : ℕ) → Fits t → v ≡ digits_value 10 t → Some v ≡ number_written t
 when_it_fits t v h is =
-    let digits = and_true _ _ (digits_true t h.0.1) (lt_true _ _ h.1) in
-    let test : writes_u64 t ≡ true = and_true _ _ (lt_true _ _ h.0.0) digits in
+    let digits = and_from _ _ (digits_true t h.0.1) (lt-ltb _ _ h.1) in
+    let test : writes_u64 t ≡ true = and_from _ _ (lt-ltb _ _ h.0.0) digits in
     rw (test, is) refl
 
 unless_it_fits : (t : List ℕ) → (Fits t → ⊥) → None ≡ number_written t
@@ -51,9 +37,9 @@ unless_it_fits t not_so = by_test (writes_u64 t) refl
         → None ≡ (if b then Some (digits_value 10 t) else None)
     by_test false p = refl
     by_test true p =
-        let outer = of_and_true _ _ p in
-        let inner = of_and_true _ _ outer.1 in
-        absurd (not_so ((of_lt_true _ _ outer.0, of_digits_true t inner.0), of_lt_true _ _ inner.1))
+        let outer = and_parts _ _ p in
+        let inner = and_parts _ _ outer.1 in
+        absurd (not_so ((ltb-true _ _ outer.0, of_digits_true t inner.0), ltb-true _ _ inner.1))
 
 -- ---- what was read, where Read says how clap reads a text
 

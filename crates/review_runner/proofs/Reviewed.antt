@@ -1,6 +1,6 @@
 -- The members of documents, and what is left of them.
-use Rattle.std.proofs.Common.{◌≡◌, ℕ, Bool, true, false, List, [], ◌∷◌, Option, Some, None, String, Global, string_bytes, bytes_eq, cond, is_eq, Ordering, Less, Equal, Greater, nat_cmp, true≢false, refl, sym, ap, ◌∙◌}
-use Rattle.std.specs.Prelude.{codes, if◌then◌else◌, unwrap_or}
+use Rattle.std.proofs.Common.{◌≡◌, ℕ, Bool, false, List, [], ◌∷◌, Option, String, Global, string_bytes, bytes_eq, cond, is_eq, Ordering, nat_cmp, refl, ap, ◌∙◌, arith}
+use Rattle.std.specs.Prelude.{codes, if◌then◌else◌}
 use Rattle.std.specs.Cmp.Lexicographic.{slice_cmp}
 use Rattle.std.specs.Map.{remove_entry}
 use Rattle.std.specs.BTreeMap.{is_at}
@@ -19,8 +19,7 @@ abbrev pub Entry : Type 0
 Entry = String Global × Value
 
 view_cond : (b : Bool) (e : Entry) (es rest : List Entry) (ms : json.Members) → members_view rest ≡ ms → members_view (cond b es (e ∷ rest)) ≡ (if b then members_view es else json.member (string_bytes e.0) (view e.1) ms)
-view_cond true e es rest ms is = refl
-view_cond false e es rest ms is = ap (json.member (string_bytes e.0) (view e.1)) is
+view_cond b e es rest ms is = grind arith
 
 -- the members without that of a key
 pub view-remove_entry : (key : List ℕ) (es : List Entry) → members_view (remove_entry (is_at (λ k. slice_cmp nat_cmp key (string_bytes k))) es) ≡ without key (members_view es)
@@ -30,16 +29,11 @@ view-remove_entry key (e ∷ es) =
     ∙ ap (λ (b : Bool). if b then members_view es else json.member (string_bytes e.0) (view e.1) (without key (members_view es))) (is_eq-slice_cmp key (string_bytes e.0))
 
 either : (o : Ordering) (a b : Option json.Data) → is_eq o ≡ false → match_ordering o a b a ≡ a
-either Less a b e = refl
-either Equal a b e = absurd (true≢false e)
-either Greater a b e = refl
+either o a b e = grind arith
 
 kept_by : (key other k : List ℕ) (d : json.Data) (ms : json.Members) (b : Bool) → bytes_eq key k ≡ b → bytes_eq other key ≡ false → get_member other (without key ms) ≡ get_member other ms
     → get_member other (if b then ms else json.member k d (without key ms)) ≡ get_member other (json.member k d ms)
-kept_by key other k d ms true is apart later =
-    let same : key ≡ k = (bytes_eq-Decides key k).0 is in
-    sym (either (slice_cmp nat_cmp other k) (get_member other ms) (Some d) (is_eq-slice_cmp other k ∙ ap (bytes_eq other) (sym same) ∙ apart))
-kept_by key other k d ms false is apart later = ap (λ (r : Option json.Data). match_ordering (slice_cmp nat_cmp other k) r (Some d) r) later
+kept_by key other k d ms b is apart later = grind (arith, either, is_eq-slice_cmp, bytes_eq-Decides)
 
 -- the other keys have what they had
 pub member_kept : (key other : List ℕ) (ms : json.Members) → bytes_eq other key ≡ false → get_member other (without key ms) ≡ get_member other ms
@@ -51,8 +45,4 @@ pub parts_taken : (ms after : json.Members) (now before request : json.Data) →
     → before ≡ member_or_null (codes "oldObject") after → request ≡ json.object (without (codes "oldObject") after)
     → record { object = now; old_object = before; request = request } ≡ parts_of ms
 unfolding parts_of
-parts_taken ms after now before request first rest second last =
-    let other : before ≡ member_or_null (codes "oldObject") ms =
-    second ∙ ap (member_or_null (codes "oldObject")) rest ∙ ap (λ (o : Option json.Data). unwrap_or o json.null) (member_kept (codes "object") (codes "oldObject") ms refl) in
-    let left : request ≡ json.object (without (codes "oldObject") (without (codes "object") ms)) = last ∙ ap (λ (more : json.Members). json.object (without (codes "oldObject") more)) rest in
-    λ i. record { object = first i; old_object = other i; request = left i }
+parts_taken ms after now before request first rest second last = grind (arith, member_kept)

@@ -28,36 +28,21 @@ record HaveNumbers (p : Parts) : Type 0 where
   request : HasNumbers p.request
 
 without_when : (b : Bool) (k : List ℕ) (d : json.Data) (ms more : json.Members) → HasNumbers d → MembersHaveNumbers ms → MembersHaveNumbers more → MembersHaveNumbers (if b then ms else json.member k d more)
-without_when true k d ms more own rest later = rest
-without_when false k d ms more own rest later = (own, later)
+without_when b k d ms more own rest later = grind arith
 
 without_fits : (key : List ℕ) (ms : json.Members) → MembersHaveNumbers ms → MembersHaveNumbers (without key ms)
 without_fits key json.no_members has = tt
 without_fits key (json.member k d ms) has = without_when (bytes_eq key k) k d ms (without key ms) has.0 has.1 (without_fits key ms has.1)
 
 null_or : (o : Option json.Data) → ((d : json.Data) → o ≡ Some d → HasNumbers d) → HasNumbers (unwrap_or o json.null)
-null_or None fits = tt
-null_or (Some d) fits = fits d refl
+null_or o fits = grind arith
 
 parts_fit : (ms : json.Members) → MembersHaveNumbers ms → HaveNumbers (parts_of ms)
 unfolding parts_of
-parts_fit ms has = record {
-  object = null_or (get_member (codes "object") ms) (λ d is. member_fits (codes "object") ms d has is);
-  old_object = null_or (get_member (codes "oldObject") ms) (λ d is. member_fits (codes "oldObject") ms d has is);
-  request = without_fits (codes "oldObject") (without (codes "object") ms) (without_fits (codes "object") ms has);
-}
-
-kept_when : (b : Bool) (ms out : json.Members) → MembersHaveNumbers ms → (if b then Some ms else None) ≡ Some out → MembersHaveNumbers out
-kept_when true ms out has e = let same : ms ≡ out = cc in subst MembersHaveNumbers same has
-kept_when false ms out has e = absurd (cc)
+parts_fit ms has = grind (arith, without_fits, null_or, member_fits)
 
 members_fit : (d : json.Data) (ms : json.Members) → HasNumbers d → members_in d ≡ Some ms → MembersHaveNumbers ms
-members_fit json.null ms has e = absurd (cc)
-members_fit (json.boolean b) ms has e = absurd (cc)
-members_fit (json.number n) ms has e = absurd (cc)
-members_fit (json.string s) ms has e = absurd (cc)
-members_fit (json.array ds) ms has e = absurd (cc)
-members_fit (json.object own) ms has e = kept_when (is_text (get_member (codes "uid") own)) own ms has e
+members_fit d ms has e = grind arith
 
 request_by : (o : Option json.Data) (ms : json.Members) → ((d : json.Data) → o ≡ Some d → HasNumbers d) → option_and_then members_in o ≡ Some ms → MembersHaveNumbers ms
 request_by None ms fits e = absurd (cc)
@@ -71,8 +56,7 @@ request_fits : (d : json.Data) (ms : json.Members) → HasNumbers d → request_
 request_fits d ms has e = request_when (is_review d) (get (codes "request") d) ms (λ r is. get_fits (codes "request") d r has is) e
 
 parts_by : (o : Option json.Members) (p : Parts) → ((ms : json.Members) → o ≡ Some ms → MembersHaveNumbers ms) → option_map parts_of o ≡ Some p → HaveNumbers p
-parts_by None p fits e = absurd (cc)
-parts_by (Some ms) p fits e = let same : parts_of ms ≡ p = cc in subst HaveNumbers same (parts_fit ms (fits ms refl))
+parts_by o p fits e = grind (arith, parts_fit)
 
 review_by : (o : Option json.Data) (p : Parts) → ((d : json.Data) → o ≡ Some d → HasNumbers d) → option_and_then parts_in o ≡ Some p → HaveNumbers p
 review_by None p fits e = absurd (cc)
@@ -82,8 +66,7 @@ review_fits : (review : List ℕ) (p : Parts) → parts_given (Some review) ≡ 
 review_fits review p e = review_by (document_of review) p (document_fits review) e
 
 other_fits : (o : Option (List ℕ)) (d : json.Data) → document_given o ≡ Some d → HasNumbers d
-other_fits (Some bytes) d e = document_fits bytes d e
-other_fits None d e = let same : json.null ≡ d = cc in subst HasNumbers same tt
+other_fits o d e = grind (arith, document_fits)
 
 -- five documents, with their numbers
 pub record AreFive (ds : List json.Data) : Type 0 where
@@ -92,18 +75,11 @@ pub record AreFive (ds : List json.Data) : Type 0 where
 
 five_by : (a : Option Parts) (b c : Option json.Data) (ds : List json.Data) → ((p : Parts) → a ≡ Some p → HaveNumbers p) → ((d : json.Data) → b ≡ Some d → HasNumbers d) → ((d : json.Data) → c ≡ Some d → HasNumbers d)
     → documents_from a b c ≡ Ok ds → AreFive ds
-five_by None b c ds first second third e = absurd (cc)
-five_by (Some p) None c ds first second third e = absurd (cc)
-five_by (Some p) (Some n) None ds first second third e = absurd (cc)
-five_by (Some p) (Some n) (Some q) ds first second third e =
-    let same : roots_from p n q ≡ ds = cc in
-    let parts = first p refl in
-    subst AreFive same (record { five = refl; documents = (parts.object, (parts.old_object, (third q refl, (second n refl, (parts.request, tt))))) })
+five_by a b c ds first second third e = grind arith
 
 -- null roots, where no review is given, have no numbers
 given_fits : (review : Option (List ℕ)) (p : Parts) → parts_given review ≡ Some p → HaveNumbers p
-given_fits (Some review) p e = review_fits review p e
-given_fits None p e = let same : null_parts ≡ p = cc in subst HaveNumbers same (record { object = tt; old_object = tt; request = tt })
+given_fits review p e = grind (arith, review_fits)
 
 pub are_five : (review namespace params : Option (List ℕ)) (ds : List json.Data) → documents_given review namespace params ≡ Ok ds → AreFive ds
 unfolding documents_given
@@ -118,34 +94,22 @@ uid_kept ms =
     ∙ ap text_or_empty (member_kept (codes "object") (codes "uid") ms refl)
 
 uid_parts : (o : Option json.Members) (p : Parts) → option_map parts_of o ≡ Some p → uid_of p.request ≡ text_or_empty (option_and_then (get_member (codes "uid")) o)
-uid_parts None p e = absurd (cc)
-uid_parts (Some ms) p e = let same : parts_of ms ≡ p = cc in ap (λ (q : Parts). uid_of q.request) (sym same) ∙ uid_kept ms
+uid_parts o p e = grind (arith, uid_kept)
 
 uid_review : (o : Option json.Data) (p : Parts) → option_and_then parts_in o ≡ Some p → uid_of p.request ≡ text_or_empty (option_and_then (get_member (codes "uid")) (option_and_then request_of o))
-uid_review None p e = absurd (cc)
-uid_review (Some d) p e = uid_parts (request_of d) p e
+uid_review o p e = grind (arith, uid_parts)
 
 uid_by : (a : Option Parts) (b c : Option json.Data) (ds : List json.Data) (request : json.Data) (uid : List ℕ) → ((p : Parts) → a ≡ Some p → uid_of p.request ≡ uid) → documents_from a b c ≡ Ok ds → slice_get ds 4 ≡ Some request → uid_of request ≡ uid
-uid_by None b c ds request uid is e at = absurd (cc)
-uid_by (Some p) None c ds request uid is e at = absurd (cc)
-uid_by (Some p) (Some n) None ds request uid is e at = absurd (cc)
-uid_by (Some p) (Some n) (Some q) ds request uid is e at =
-    let same : roots_from p n q ≡ ds = cc in
-    let there : Some p.request ≡ Some request = subst (λ (xs : List json.Data). slice_get xs 4 ≡ Some request) (sym same) at in
-    let own : p.request ≡ request = cc in
-    ap uid_of (sym own) ∙ is p refl
+uid_by a b c ds request uid is e at = grind arith
 
 pub uid_is : (review : List ℕ) (namespace params : Option (List ℕ)) (ds : List json.Data) (request : json.Data) → documents_given (Some review) namespace params ≡ Ok ds → slice_get ds 4 ≡ Some request → uid_of request ≡ uid_in review
 unfolding documents_given uid_in
-uid_is review namespace params ds request e at =
-    uid_by (parts_given (Some review)) (document_given namespace) (document_given params) ds request _ (uid_review (document_of review)) e at
+uid_is review namespace params ds request e at = grind (arith, uid_review, uid_by)
 
 -- ---- the contents
 
 more_roots : (count : ℕ) (r : Result Value TableError) (rest : Result (List Value) TableError) (vs : List Value) → ((ws : List Value) → rest ≡ Ok ws → length ws ≡ count) → root_then r rest ≡ Ok vs → length vs ≡ suc count
-more_roots count (Err e) rest vs later h = absurd (cc)
-more_roots count (Ok v) (Err e) vs later h = absurd (cc)
-more_roots count (Ok v) (Ok ws) vs later h = let same : v ∷ ws ≡ vs = cc in ap length (sym same) ∙ ap suc (later ws refl)
+more_roots count r rest vs later h = grind arith
 
 as_many : (place : ℕ) (ds : List json.Data) (vs : List Value) → roots_of place ds ≡ Ok vs → length vs ≡ length ds
 as_many place [] vs e = let same : [] ≡ vs = cc in ap length (sym same)
@@ -156,13 +120,8 @@ record AreRoots (vs : List Value) : Type 0 where
   are : vs ≡ values_of_roots roots
 
 five_roots : (vs : List Value) → length vs ≡ 5 → AreRoots vs
-five_roots [] e = absurd (omega (arith, e))
-five_roots (a ∷ []) e = absurd (omega (arith, e))
-five_roots (a ∷ b ∷ []) e = absurd (omega (arith, e))
-five_roots (a ∷ b ∷ c ∷ []) e = absurd (omega (arith, e))
-five_roots (a ∷ b ∷ c ∷ d ∷ []) e = absurd (omega (arith, e))
 five_roots (a ∷ b ∷ c ∷ d ∷ f ∷ []) e = record { roots = record { object = a; old_object = b; params = c; namespace_object = d; request = f }; are = refl }
-five_roots (a ∷ b ∷ c ∷ d ∷ f ∷ g ∷ more) e = absurd (omega (arith, e))
+five_roots vs e = absurd (omega (arith, e))
 
 -- the contents are those at the start of some roots
 pub record AreStarted (values : Contents) : Type 0 where
@@ -170,10 +129,7 @@ pub record AreStarted (values : Contents) : Type 0 where
   pub are : values ≡ started roots
 
 limited : (test : Bool) (vs : List Value) (values : Contents) → AreRoots vs → (if test then Ok (record { values = first_values ++ map value vs; charge = sizes vs }) else Err V3) ≡ Ok values → AreStarted values
-limited false vs values own e = absurd (cc)
-limited true vs values own e =
-    let same : record { values = first_values ++ map value vs; charge = sizes vs } ≡ values = cc in
-    record { roots = own.roots; are = sym same ∙ ap (λ (ws : List Value). record { values = first_values ++ map value ws; charge = sizes ws }) own.are }
+limited test vs values own e = grind arith
 
 started_by : (r : Result (List Value) TableError) (values : Contents) → ((vs : List Value) → r ≡ Ok vs → length vs ≡ 5) → contents_of r ≡ Ok values → AreStarted values
 started_by (Err e) values five h = absurd (cc)
@@ -191,8 +147,7 @@ has_values tables canonical ds r five e = record {
 }
 
 was_accepted : (r : Result Contents TableError) (values : Contents) → accepted r ≡ Ok values → r ≡ Ok values
-was_accepted (Ok contents) values e = let same : contents ≡ values = cc in ap Ok same
-was_accepted (Err e) values is = absurd (cc)
+was_accepted r values e = grind arith
 
 -- five documents that are not refused give the contents of roots
 pub roots_have_values : StartsAreTables → StartIsCanonical → DocumentsHaveValues
@@ -202,8 +157,7 @@ roots_have_values tables canonical ds values five documents e =
     record { roots = own.roots; are = own.are; has = subst (HasValues own.roots) (sym own.are) has }
 
 values_of_documents : (r : Result (List json.Data) RunError) (values : Contents) → contents_from r ≡ Ok values → ((ds : List json.Data) → r ≡ Ok ds → start_contents ds ≡ Ok values → AreOfRoots values) → AreOfRoots values
-values_of_documents (Err e) values is then_have = absurd (cc)
-values_of_documents (Ok ds) values is then_have = then_have ds refl (was_accepted (start_contents ds) values is)
+values_of_documents r values is then_have = grind arith
 
 pub given_have_values : StartsAreTables → StartIsCanonical → GivenHaveValues
 unfolding contents_given

@@ -1,8 +1,6 @@
 -- What a session on the image of a policy tells of the policy's verdict.
-use Rattle.std.proofs.Common.{◌≡◌, ℕ, ◌≤◌, Bool, true, false, List, [], ◌∷◌, ◌++◌, length, Option, Some, None, Result, Ok, Err, refl, sym, ap, ◌∙◌, subst, arith, codes, inl, inr, ltb-false}
-use Rattle.std.specs.Prelude.{◌||◌, nat_lt, if◌then◌else◌}
+use Rattle.std.proofs.Common.{◌≡◌, ℕ, ◌≤◌, false, List, [], ◌∷◌, ◌++◌, length, Some, Result, Ok, refl, sym, ap, ◌∙◌, subst, arith, codes, inl, inr}
 use Rattle.std.proofs.lemmas.List.Sums.{fold_push}
-use Rattle.serde_json.specs.Data as json
 use Rattle.loader.specs.Contents as loader
 use Rattle.loader.specs.Contents.{version_number}
 use Rattle.loader.specs.Format.{image_in}
@@ -15,14 +13,13 @@ use Rattle.codegen_base.specs.Contexts.{HasValues}
 use Rattle.policy_glue.specs.Compiled.{IsProgram}
 use Rattle.policy_glue.specs.Policy.{Rules}
 use Rattle.policy_glue.specs.ProgramTrees.{Decides, Over, Left}
-use Rattle.policy_glue.specs.Reading.{has_broken_message, has_head, has_no_validation, has_too_many, judged_form, most_parts, policy_in, policy_of, policy_said, rules_in}
+use Rattle.policy_glue.specs.Reading.{policy_in, policy_of}
 use Rattle.policy_glue.specs.Documents as policy
 use Rattle.policy_glue.specs.Trees.{PolicyTree}
 use Rattle.policy_glue.specs.declared.failure_policy.FailurePolicy.{FailurePolicy}
-use Rattle.policy_glue.specs.declared.policy_error.PolicyError.TheVariants.{K2, K4, K5, K8}
 use Rattle.debugger.specs.Answers.{Line, World, answer_of, answer_to}
 use Rattle.debugger.specs.Commands.{command_of, form_of}
-use Rattle.debugger.specs.Session.{Talk, first_talk, granted, hear, talk_of, with_answer}
+use Rattle.debugger.specs.Session.{Talk, granted, hear, talk_of, with_answer}
 use Rattle.debugger.specs.Verdict.{verdict_lines, verdict_text}
 use Rattle.debugger.specs.declared.command.Command.TheVariants.{Verdict}
 use Rattle.review_runner.specs.Deciding.{Documents, decision, started}
@@ -40,35 +37,9 @@ use Rattle.review_runner.proofs.ToldLines as lines
 
 -- ---- the number of findings
 
-or_right : (a b : Bool) → (a || b) ≡ false → b ≡ false
-or_right true b e = absurd (cc)
-or_right false b e = e
-
-few_by : (p : Rules) → has_too_many p ≡ false → length p.validations ≤ 64
-few_by p counts = ltb-false most_parts (length p.validations) (or_right (nat_lt most_parts (length p.variables)) _ (or_right (nat_lt most_parts (length p.conditions)) _ counts))
-
-few_judged : (a b c : Bool) (p q : Rules) → (b ≡ false → length p.validations ≤ 64) → (if a then Err K4 else (if b then Err K5 else (if c then Err K8 else Ok p))) ≡ Ok q → length q.validations ≤ 64
-few_judged true b c p q few e = absurd (cc)
-few_judged false true c p q few e = absurd (cc)
-few_judged false false true p q few e = absurd (cc)
-few_judged false false false p q few e = let same : p ≡ q = cc in subst (λ (r : Rules). length r.validations ≤ 64) same (few refl)
-
-few_formed : (o : Option Rules) (q : Rules) → judged_form o ≡ Ok q → length q.validations ≤ 64
-few_formed None q e = absurd (cc)
-few_formed (Some p) q e = few_judged (has_no_validation p) (has_too_many p) (has_broken_message p) p q (few_by p) e
-
-few_headed : (head : Bool) (o : Option Rules) (q : Rules) → (if head then judged_form o else Err K2) ≡ Ok q → length q.validations ≤ 64
-few_headed true o q e = few_formed o q e
-few_headed false o q e = absurd (cc)
-
-few_said : (o : Option json.Data) (q : Rules) → policy_said o ≡ Ok q → length q.validations ≤ 64
-unfolding policy_of
-few_said None q e = absurd (cc)
-few_said (Some d) q e = few_headed (has_head d) (rules_in d) q e
-
 few_validations : (document : List ℕ) (q : Rules) → policy_in document ≡ Ok q → length q.validations ≤ 64
-unfolding policy_in
-few_validations document q e = few_said (policy.document_of document) q e
+unfolding policy_in policy_of
+few_validations document q e = grind arith
 
 -- ---- the line `w`
 
@@ -87,9 +58,7 @@ heard s t l on = rw on refl
 -- what it writes behind these lines, where the session goes on
 written : (s : State) (lines : List Line) → (talk_of s lines).world.ended ≡ false
     → (talk_of s (lines ++ granted (codes "w") ∷ [])).text ≡ (talk_of s lines).text ++ verdict_text (state_after (talk_of s lines).world.place s)
-written s lines on =
-    ap (λ (t : Talk). t.text) (fold_push (hear s) first_talk lines (granted (codes "w")) ∙ heard s (talk_of s lines) (granted (codes "w")) on)
-    ∙ ap (λ (text : List ℕ). (talk_of s lines).text ++ text) (answered s (talk_of s lines).world)
+written s lines on = grind (arith, answered, heard, fold_push)
 
 -- ---- a policy's image
 

@@ -146,7 +146,4 @@ module _ (f : FailurePolicy) (v : Verdict) (values : List ValueOrError) (m : Mem
   -- the words of its layout are shown as the verdict's
   pub text_is : verdict_lines 2 m ≡ told_text f v references
   unfolding verdict_lines told_text
-  text_is =
-      ap (λ (text : List ℕ). text ++ (word_lines (codes "validation") m 16 64 ++ word_lines (codes "message") m 528 64)) head
-      ∙ ap (λ (text : List ℕ). outcome_line f v ++ (text ++ word_lines (codes "message") m 528 64)) validations
-      ∙ ap (λ (text : List ℕ). outcome_line f v ++ (numbered_lines (codes "validation") 0 (map (λ x. truth_word x.truth) v.findings) ++ text)) messages
+  text_is = grind (arith, head, validations, messages)

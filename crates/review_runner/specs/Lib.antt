@@ -7,6 +7,7 @@ pub mod Number
 pub mod Order
 pub mod Reviews
 pub mod Deciding
+pub mod Lent
 pub mod OneAnswer
 pub mod Saying
 pub mod Standing

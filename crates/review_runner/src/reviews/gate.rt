@@ -1,5 +1,5 @@
 //! Policies that are compiled once and decide many reviews.
-ghost use Rattle.std.specs.Prelude.{◌≡◌, ℕ, List, option_map, IfOk, string_bytes};
+ghost use Rattle.std.specs.Prelude.{◌≡◌, ℕ, List, IfOk, string_bytes};
 ghost use Rattle.serde_json.specs.View.{view};
 ghost use Rattle.bpf_machine.specs.State.{start_state};
 ghost use Rattle.bpf_machine.specs.Starts.{StartsAreTables};
@@ -8,6 +8,7 @@ ghost use Rattle.bpf_machine.specs.Trace.{state_after};
 ghost use Rattle.value_store.specs.Laws.{StartIsCanonical};
 ghost use Rattle.policy_glue.specs.OneImage.{OneImage};
 ghost use Rattle.review_runner.specs.Deciding.{answer_view, CompilesDocument, IsPolicyOf, Reviews};
+ghost use Rattle.review_runner.specs.Lent.{documents_lent};
 ghost use Rattle.review_runner.specs.Reviews.{uid_of};
 ghost use Rattle.review_runner.specs.Saying.{said_value, said_view, IsSaidBy, Says, SaysFrom};
 ghost use Rattle.review_runner.specs.Standing.{this, StandsBy};
@@ -83,9 +84,9 @@ impl Gate {
         n: u64,
     ) -> Result<Reply, RunError>
         // It answers as `review` does under each policy document that gives this gate.
-        ensures reviews { (policy : List ℕ) → IsPolicyOf policy self.now → Reviews (record { policy = policy; review = review.now; namespace = option_map (λ b. b.now) namespace.entry; params = option_map (λ b. b.now) params.entry }) n (answer_view result) }
+        ensures reviews { (policy : List ℕ) → IsPolicyOf policy self.now → Reviews (documents_lent policy review.now namespace.entry params.entry) n (answer_view result) }
         // And its image stands as the answer says.
-        ensures runs { (policy : List ℕ) → IsPolicyOf policy self.now → StandsBy (this self.now.image) (record { policy = policy; review = review.now; namespace = option_map (λ b. b.now) namespace.entry; params = option_map (λ b. b.now) params.entry }) n (answer_view result) }
+        ensures runs { (policy : List ℕ) → IsPolicyOf policy self.now → StandsBy (this self.now.image) (documents_lent policy review.now namespace.entry params.entry) n (answer_view result) }
     {
         let said = self.say(review, namespace, params, n)?;
         Ok(said.reply(self.alloc)?)
@@ -103,8 +104,8 @@ impl Gate {
         params: Option<&[u8]>,
         n: u64,
     ) -> Result<Said, RunError>
-        ensures says { (policy : List ℕ) → IsPolicyOf policy self.now → Says (record { policy = policy; review = review.now; namespace = option_map (λ b. b.now) namespace.entry; params = option_map (λ b. b.now) params.entry }) n (said_view result) }
-        ensures runs { (policy : List ℕ) → IsPolicyOf policy self.now → StandsBy (this self.now.image) (record { policy = policy; review = review.now; namespace = option_map (λ b. b.now) namespace.entry; params = option_map (λ b. b.now) params.entry }) n (said_view result) }
+        ensures says { (policy : List ℕ) → IsPolicyOf policy self.now → Says (documents_lent policy review.now namespace.entry params.entry) n (said_view result) }
+        ensures runs { (policy : List ℕ) → IsPolicyOf policy self.now → StandsBy (this self.now.image) (documents_lent policy review.now namespace.entry params.entry) n (said_view result) }
     {
         starts_stand();
         let documents = root_documents(self.alloc, Some(review), namespace, params)?;

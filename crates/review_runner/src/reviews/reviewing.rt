@@ -1,7 +1,7 @@
 //! Reviews under policies.
-ghost use Rattle.std.specs.Prelude.{option_map};
 ghost use Rattle.policy_glue.specs.OneImage.{OneImage};
 ghost use Rattle.review_runner.specs.Deciding.{answer_view, Reviews};
+ghost use Rattle.review_runner.specs.Lent.{documents_lent};
 ghost use Rattle.review_runner.specs.Standing.{StandsBy};
 
 use crate::refusals::run_error::RunError;
@@ -26,9 +26,9 @@ pub fn review(
     params: Option<&[u8]>,
     n: u64,
 ) -> Result<Reply, RunError>
-    ensures reviews { Reviews (record { policy = policy.now; review = review.now; namespace = option_map (λ b. b.now) namespace.entry; params = option_map (λ b. b.now) params.entry }) n (answer_view result) }
+    ensures reviews { Reviews (documents_lent policy.now review.now namespace.entry params.entry) n (answer_view result) }
     // And the policy's one image stands as the answer says.
-    ensures runs { StandsBy OneImage (record { policy = policy.now; review = review.now; namespace = option_map (λ b. b.now) namespace.entry; params = option_map (λ b. b.now) params.entry }) n (answer_view result) }
+    ensures runs { StandsBy OneImage (documents_lent policy.now review.now namespace.entry params.entry) n (answer_view result) }
 {
     let gate = Gate::new(alloc, policy)?;
     gate.decide(review, namespace, params, n)

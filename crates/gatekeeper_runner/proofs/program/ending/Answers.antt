@@ -1,25 +1,29 @@
-use Rattle.gatekeeper_runner.proofs.Programs.{broke_off, ended, no_words_given, not_ordered, was_not_started}
+use Rattle.std.proofs.Common.{Ok, Err, refl}
+use Rattle.gatekeeper_runner.specs.Program.{answers, no_words, not_started, nothing}
+use Rattle.gatekeeper_runner.proofs.Programs.{asks, words_refused}
+use Rattle.review_runner.proofs.Results.{is_err}
 use Rattle.gatekeeper_runner.proofs.program.ending.Goals as goal
 
 pub returns-in_err-words : goal.returns-in_err-words
-returns-in_err-words g c = rw c.in_err-words.was (no_words_given _ _ _ c.from_residual.ensures.1)
+returns-in_err-words g c = rw (c.in_err-words.was, is_err c.from_residual.ensures.1) (nothing no_words refl)
 
 pub returns-in_err-order : goal.returns-in_err-order
 returns-in_err-order g c =
-    rw c.in_ok-words.was (not_ordered c.in_ok-words.words.items _ _ _ _ c.deref.ensures.value c.from_residual-in_err-order.ensures.1 c.in_err-order.ensures)
+    rw (c.in_ok-words.was, is_err c.from_residual-in_err-order.ensures.1, ← c.deref.ensures.value) (nothing (words_refused _ _ c.in_err-order.ensures) refl)
 
 pub returns-in_err-keeper : goal.returns-in_err-keeper
 returns-in_err-keeper g c =
-    rw c.in_ok-words.was
-    (was_not_started c.in_ok-words.words.items _ _ _ _ _ c.in_ok-order.order _ _ c.deref.ensures.value c.in_ok-order.ensures c.from_residual-in_err-keeper.ensures.1 c.in_err-keeper.ensures.keeps c.in_err-keeper.ensures.known)
+    rw (c.in_ok-words.was, is_err c.from_residual-in_err-keeper.ensures.1, c.in_err-keeper.ensures.known)
+    (not_started (asks _ c.in_ok-order.order (rw c.deref.ensures.value at c.in_ok-order.ensures)) c.in_err-keeper.ensures.keeps refl)
 
 pub returns-in_err-answer_lines : goal.returns-in_err-answer_lines
 returns-in_err-answer_lines g c =
-    rw c.in_ok-words.was
-    (broke_off c.in_ok-words.words.items _ _ _ _ _ _ _ c.in_ok-order.order c.in_ok-keeper.keeper c.deref.ensures.value c.in_ok-order.ensures c.in_ok-keeper.ensures.keeps c.in_ok-keeper.ensures.known
-    _ _ c.from_residual-in_err-answer_lines.ensures.1 c.in_err-answer_lines.ensures)
+    let keeps = c.in_ok-keeper.ensures.keeps in
+    rw (c.in_ok-words.was, is_err c.from_residual-in_err-answer_lines.ensures.1)
+    (answers (Err _) (asks _ c.in_ok-order.order (rw c.deref.ensures.value at c.in_ok-order.ensures)) keeps.2 (c.in_err-answer_lines.ensures keeps.0 keeps.1) c.in_ok-keeper.ensures.known)
 
 pub returns : goal.returns
 returns g c =
+    let keeps = c.in_ok-keeper.ensures.keeps in
     rw c.in_ok-words.was
-    (ended c.in_ok-words.words.items _ _ _ _ _ _ _ c.in_ok-order.order c.in_ok-keeper.keeper c.deref.ensures.value c.in_ok-order.ensures c.in_ok-keeper.ensures.keeps c.in_ok-keeper.ensures.known c.in_ok-answer_lines.ensures)
+    (answers (Ok tt) (asks _ c.in_ok-order.order (rw c.deref.ensures.value at c.in_ok-order.ensures)) keeps.2 (c.in_ok-answer_lines.ensures keeps.0 keeps.1) c.in_ok-keeper.ensures.known)

@@ -1,25 +1,24 @@
-use Rattle.std.proofs.Common.{◌∙◌, Err, refl}
+use Rattle.std.proofs.Common.{◌∙◌, [], refl}
 use Rattle.review_runner.specs.declared.refusals.refusal.Refusal.TheVariants.{Memory}
-use Rattle.gatekeeper_runner.specs.Starting.{no_memory}
-use Rattle.gatekeeper_runner.proofs.Opened.{opening_fails, opening_next, opening_start}
+use Rattle.gatekeeper_runner.specs.Starting.{no_memory, none}
+use Rattle.gatekeeper_runner.proofs.Opened.{opened_more, unopened}
+use Rattle.review_runner.proofs.Results.{is_err}
 use Rattle.gatekeeper_runner.proofs.starting.open_each.Goals as goal
 
 pub loop-name-init : goal.loop-name-init
-loop-name-init g c = record { opening = opening_start _ _ _ c.new-gates.ensures.items; known = refl }
+loop-name-init g c = record { opened = ([], rw c.new-gates.ensures.items tt, none); known = refl }
 
 pub returns-in_err-gate-clause-gates : goal.returns-in_err-gate-clause-gates
 returns-in_err-gate-clause-gates g c =
-    opening_fails _ _ _ _ _ c.name-item.result _ (record { still = c.loop-name.invariant.known; within = c.loop-name-test.true; is = c.name-item.is; named = c.as_str.ensures.value }) _ c.loop-name.invariant.opening
-    _ _ c.from_residual.ensures.1 c.in_err-gate.ensures.gate
+    rw (is_err c.from_residual.ensures.1)
+    (unopened _ _ _ c.name-item.result _ c.loop-name-test.true c.name-item.is c.loop-name.invariant.opened _ (rw (c.as_str.ensures.value, c.loop-name.invariant.known) at c.in_err-gate.ensures.gate))
 
 pub returns-in-Err-clause-gates : goal.returns-in-Err-clause-gates
-returns-in-Err-clause-gates g c =
-    opening_fails _ _ _ _ _ c.name-item.result _ (record { still = c.loop-name.invariant.known; within = c.loop-name-test.true; is = c.name-item.is; named = c.as_str.ensures.value }) _ c.loop-name.invariant.opening
-    Memory (Err Memory) refl no_memory
+returns-in-Err-clause-gates g c = unopened _ _ _ c.name-item.result _ c.loop-name-test.true c.name-item.is c.loop-name.invariant.opened Memory no_memory
 
 pub loop-name-preserved : goal.loop-name-preserved
 loop-name-preserved g c = record {
-  opening = opening_next _ _ _ _ _ c.name-item.result _ (record { still = c.loop-name.invariant.known; within = c.loop-name-test.true; is = c.name-item.is; named = c.as_str.ensures.value }) _ c.loop-name.invariant.opening
-      c.in_ok-gate.gate _ c.in_ok-gate.ensures.gate c.in-Ok.ensures.items;
+  opened = opened_more _ _ _ c.name-item.result _ c.loop-name-test.true c.name-item.is c.loop-name.invariant.opened _ c.in_ok-gate.gate
+      (rw (c.as_str.ensures.value, c.loop-name.invariant.known) at c.in_ok-gate.ensures.gate) c.in-Ok.ensures.items;
   known = c.in_ok-gate.ensures.known ∙ c.loop-name.invariant.known;
 }

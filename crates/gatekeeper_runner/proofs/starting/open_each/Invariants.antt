@@ -1,9 +1,9 @@
-use Rattle.std.proofs.Common.{◌≡◌, drop, map, string_bytes}
-use Rattle.gatekeeper_runner.proofs.Opened.{Opening}
+use Rattle.std.proofs.Common.{◌≡◌, Ok, map, string_bytes, take}
+use Rattle.gatekeeper_runner.specs.Starting.{GatesFrom}
 use Rattle.gatekeeper_runner.proofs.starting.open_each.Given as goal
 
 abbrev pub invariant-loop-name : goal.invariant-loop-name
 invariant-loop-name g l = record {
-  opening : Opening (g.F.Files.known l.fn.files) (map string_bytes l.names) (map string_bytes (drop l.name-index l.names)) l.gates.items;
+  opened : GatesFrom (g.F.Files.known l.fn.files) (map string_bytes (take l.name-index l.names)) (Ok l.gates);
   known : g.F.Files.known l.files ≡ g.F.Files.known l.fn.files;
 }

@@ -1,9 +1,11 @@
-use Rattle.std.proofs.Common.{Ok}
-use Rattle.review_runner.proofs.Readings.{not_run, ran}
+use Rattle.std.proofs.Common.{Ok, Err}
+use Rattle.review_runner.proofs.Readings.{ran, read_failed}
+use Rattle.review_runner.proofs.Results.{is_err}
 use Rattle.review_runner.proofs.performing.run_file.Goals as goal
 
 pub returns-in_err-file-clause-runs : goal.returns-in_err-file-clause-runs
-returns-in_err-file-clause-runs g c = not_run _ _ _ _ _ _ c.in_err-file.ensures.read c.in_err-file.ensures.known c.from_residual.ensures.1
+returns-in_err-file-clause-runs g c =
+    rw (is_err c.from_residual.ensures.1) (ran _ _ _ _ (Err _) _ c.in_err-file.ensures.read c.in_err-file.ensures.known (read_failed _ _))
 
 pub returns-clause-runs : goal.returns-clause-runs
 returns-clause-runs g c =

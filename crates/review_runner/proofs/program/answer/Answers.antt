@@ -1,11 +1,19 @@
-use Rattle.review_runner.proofs.Programs.{answered, answered_in_part, not_answered, wrote_all, wrote_part}
+use Rattle.std.proofs.Common.{Ok, Err, refl}
+use Rattle.review_runner.specs.Program.{cut, refused, whole}
+use Rattle.review_runner.proofs.Results.{is_err}
 use Rattle.review_runner.proofs.program.answer.Goals as goal
 
 pub returns-in_err-answer : goal.returns-in_err-answer
-returns-in_err-answer g c = not_answered _ _ _ _ _ _ c.from_residual.ensures.1 c.in_err-answer.ensures
+returns-in_err-answer g c = rw (is_err c.from_residual.ensures.1) (record { outcome = Err _; performs = c.in_err-answer.ensures; delivers = refused refl })
 
 pub returns-in-Ok : goal.returns-in-Ok
-returns-in-Ok g c = answered _ _ _ _ _ _ _ c.as_slice.ensures.value c.in_ok-answer.ensures (wrote_all _ _ _ c.in-Ok.ensures.whole c.in-Ok.ensures.ok)
+returns-in-Ok g c = record {
+  outcome = Ok _;
+  performs = c.in_ok-answer.ensures;
+  delivers = whole (record { adds = rw c.as_slice.ensures.value at c.in-Ok.ensures.whole; failed = c.in-Ok.ensures.ok });
+}
 
 pub returns : goal.returns
-returns g c = answered_in_part _ _ _ _ _ _ _ c.as_slice.ensures.value c.in_ok-answer.ensures (wrote_part _ _ _ c.in-Err.ensures.part c.in-Err.ensures.err)
+returns g c =
+    let part = rw c.as_slice.ensures.value at c.in-Err.ensures.part in
+    record { outcome = Ok _; performs = c.in_ok-answer.ensures; delivers = cut (record { many = part.0; is_cut = part.1; adds = part.2; failed = c.in-Err.ensures.err }) }

@@ -1,12 +1,17 @@
-use Rattle.review_runner.proofs.Programs.{not_given, not_ordered, was_ordered}
+use Rattle.std.proofs.Common.{refl}
+use Rattle.review_runner.specs.Program.{no_words, nothing, task}
+use Rattle.review_runner.proofs.Programs.{words_refused}
+use Rattle.review_runner.proofs.Results.{is_err}
 use Rattle.review_runner.proofs.program.ending.Goals as goal
 
 pub returns-in_err-words : goal.returns-in_err-words
-returns-in_err-words g c = rw c.in_err-words.was (not_given _ _ _ c.from_residual.ensures.1)
+returns-in_err-words g c = rw (c.in_err-words.was, is_err c.from_residual.ensures.1) (nothing no_words refl)
 
 pub returns-in_err-asked : goal.returns-in_err-asked
 returns-in_err-asked g c =
-    rw c.in_ok-words.was (not_ordered c.in_ok-words.words.items _ _ _ _ c.deref.ensures.value c.from_residual-in_err-asked.ensures.1 c.in_err-asked.ensures)
+    rw (c.in_ok-words.was, is_err c.from_residual-in_err-asked.ensures.1, ← c.deref.ensures.value) (nothing (words_refused _ _ c.in_err-asked.ensures) refl)
 
 pub returns : goal.returns
-returns g c = rw c.in_ok-words.was (was_ordered c.in_ok-words.words.items _ _ _ _ _ c.deref.ensures.value c.in_ok-asked.ensures c.done.ensures)
+returns g c =
+    let ordered = rw c.deref.ensures.value at c.in_ok-asked.ensures in
+    rw c.in_ok-words.was (task (record { words = _; are_given = refl; are_taken = ordered.0; asked = ordered.1 }) c.done.ensures)

@@ -1,9 +1,10 @@
-use Rattle.std.proofs.Common.{Ok}
-use Rattle.review_runner.proofs.MadeFiles.{of_no_file}
+use Rattle.std.proofs.Common.{Ok, Err}
+use Rattle.review_runner.proofs.MadeFiles.{of_failure}
+use Rattle.review_runner.proofs.Results.{is_err}
 use Rattle.review_runner.proofs.images.making.made_file.Goals as goal
 
 pub returns-in_err-held-clause-made : goal.returns-in_err-held-clause-made
-returns-in_err-held-clause-made g c = of_no_file _ _ _ _ _ c.in_err-held.ensures.read c.from_residual.ensures.1
+returns-in_err-held-clause-made g c = rw (is_err c.from_residual.ensures.1) (record { reading = Err _; is_reading = c.in_err-held.ensures.read; made = of_failure _ _ })
 
 pub returns-clause-made : goal.returns-clause-made
 returns-clause-made g c = record {

@@ -1,9 +1,10 @@
-use Rattle.std.proofs.Common.{Ok}
-use Rattle.review_runner.proofs.Readings.{not_opened}
+use Rattle.std.proofs.Common.{Ok, Err}
+use Rattle.review_runner.proofs.Readings.{read_failed}
+use Rattle.review_runner.proofs.Results.{is_err}
 use Rattle.review_runner.proofs.images.opening.open.Goals as goal
 
 pub returns-in_err-file-clause-opens : goal.returns-in_err-file-clause-opens
-returns-in_err-file-clause-opens g c = not_opened _ _ _ _ c.in_err-file.ensures.read c.from_residual.ensures.1
+returns-in_err-file-clause-opens g c = rw (is_err c.from_residual.ensures.1) (record { reading = Err _; is_reading = c.in_err-file.ensures.read; opens = read_failed _ _ })
 
 pub returns-clause-opens : goal.returns-clause-opens
 returns-clause-opens g c = record {

@@ -1,19 +1,22 @@
-use Rattle.std.proofs.Common.{◌∙◌, Some, ap, sym, option_map}
+use Rattle.std.proofs.Common.{◌∙◌, Some, Ok, Err, ap, sym, option_map}
 use Rattle.review_runner.specs.Debugging.{held_view}
-use Rattle.review_runner.proofs.PolicyFiles.{not_answered, not_printed, same_documents, was_answered}
+use Rattle.review_runner.specs.PolicyFiles.{reviewed}
+use Rattle.review_runner.specs.declared.refusals.run_error.RunError.TheVariants.{Memory}
+use Rattle.review_runner.proofs.PolicyFiles.{same_documents, was_reviewed}
+use Rattle.review_runner.proofs.Results.{is_err}
 use Rattle.review_runner.proofs.reviews.review_files.review_held.Goals as goal
 
 pub returns-in_err-reply : goal.returns-in_err-reply
 returns-in_err-reply c d is =
     let given = ap Some c.deref-2.ensures.value ∙ sym (ap (option_map (λ b. b.items)) c.in-Some.is) in
-    not_answered _ d c.args.steps _ _ (same_documents _ d (held_view c.args.held.now) is c.deref.ensures.value given c.as_deref.ensures.value c.as_deref-2.ensures.value)
-    c.from_residual.ensures.1 c.in_err-reply.ensures.reviews c.in_err-reply.ensures.runs
+    let same = same_documents _ d (held_view c.args.held.now) is c.deref.ensures.value given c.as_deref.ensures.value c.as_deref-2.ensures.value in
+    rw (is_err c.from_residual.ensures.1) (was_reviewed _ d _ (Err _) same c.in_err-reply.ensures.reviews c.in_err-reply.ensures.runs)
 
 pub returns-in_err-printed : goal.returns-in_err-printed
-returns-in_err-printed c d is = not_printed d _ _ c.from_residual-in_err-printed.ensures.1
+returns-in_err-printed c d is = rw (is_err c.from_residual-in_err-printed.ensures.1) (reviewed (Err Memory) tt tt)
 
 pub returns : goal.returns
 returns c d is =
     let given = ap Some c.deref-2.ensures.value ∙ sym (ap (option_map (λ b. b.items)) c.in-Some.is) in
-    was_answered _ d c.args.steps _ _ (same_documents _ d (held_view c.args.held.now) is c.deref.ensures.value given c.as_deref.ensures.value c.as_deref-2.ensures.value)
-    c.in_ok-reply.ensures.reviews c.in_ok-reply.ensures.runs c.in_ok-printed.ensures
+    let same = same_documents _ d (held_view c.args.held.now) is c.deref.ensures.value given c.as_deref.ensures.value c.as_deref-2.ensures.value in
+    rw c.in_ok-printed.ensures (was_reviewed _ d _ (Ok _) same c.in_ok-reply.ensures.reviews c.in_ok-reply.ensures.runs)

@@ -1,12 +1,15 @@
-use Rattle.review_runner.proofs.Decided.{answered, review_refused}
-use Rattle.review_runner.proofs.Standing.{stands_refused}
+use Rattle.std.proofs.Common.{Err}
+use Rattle.review_runner.proofs.Decided.{answered, reviewed}
+use Rattle.review_runner.proofs.Results.{is_err}
 use Rattle.review_runner.proofs.reviews.gate.Gate.decide.Goals as goal
 
 pub returns-in_err-said : goal.returns-in_err-said
-returns-in_err-said c = record {
-  reviews = λ policy of. review_refused _ _ _ _ c.from_residual.ensures.1 (c.in_err-said.ensures.says policy of);
-  runs = λ policy of. stands_refused _ _ _ _ _ c.from_residual.ensures.1 (c.in_err-said.ensures.runs policy of);
-}
+returns-in_err-said c =
+    rw (is_err c.from_residual.ensures.1)
+    (record {
+      reviews = λ policy of. (reviewed _ _ _ (Err _) (c.in_err-said.ensures.says policy of) (c.in_err-said.ensures.runs policy of)).0;
+      runs = λ policy of. (reviewed _ _ _ (Err _) (c.in_err-said.ensures.says policy of) (c.in_err-said.ensures.runs policy of)).1;
+    })
 
 pub returns : goal.returns
 returns c = record {
