@@ -1,15 +1,6 @@
 -- The digits of words.
-use Rattle.std.proofs.Common.{◌≡◌, ◌≢◌, ◌+◌, ◌*◌, ◌/◌, ◌%◌, ◌^◌, ◌<◌, ℕ, zero, suc, List, [], ◌∷◌, ◌++◌, false, true, length, refl, sym, ap, ◌∙◌, arith, append_assoc, length-append, get_or, pow-suc, subst, Result, Ok, Err}
+use Rattle.assembler.proofs.Prelude.{◌≡◌, ◌≢◌, ◌+◌, ◌*◌, ◌/◌, ◌%◌, ◌^◌, ◌<◌, ℕ, zero, suc, List, [], ◌∷◌, ◌++◌, false, true, length, refl, sym, ap, ◌∙◌, arith, append_assoc, length-append, get_or, pow-suc, Result, Ok, Err, and_parts, false≢true, nat_tests, digits_value-lt, digits_value_push, append_cancel_left, without_leading_plus_none, digit_value, AllDigits, ParsesUnsigned, digits_value, hex_digit, hex_digits, wide_text, all_hex_digits, is_hex_digit}
 use mathlib.Core.List.{append-nil}
-use Rattle.std.proofs.lemmas.Bool.{and_parts, false≢true}
-use Rattle.std.proofs.lemmas.Bool.Decides.{nat_tests}
-use Rattle.std.proofs.lemmas.Int.Digits.{digits_value-lt, digits_value_push}
-use Rattle.std.proofs.lemmas.List.{append_cancel_left}
-use Rattle.std.proofs.lemmas.Str.Parse.{without_leading_plus_none}
-use Rattle.std.specs.Char.{digit_value}
-use Rattle.std.specs.Str.Parse.{AllDigits, IsNumeral, ParsesUnsigned, digits_value}
-use Rattle.insn_codec.specs.Lines.{hex_digit, hex_digits, wide_text}
-use Rattle.assembler.specs.Hex.{all_hex_digits, is_hex_digit}
 
 pub length_hex : (k n : ℕ) → length (hex_digits k n) ≡ k
 unfolding hex_digits
@@ -101,9 +92,6 @@ no_plus (c ∷ ds) e = let t = (and_parts (is_hex_digit c) (all_hex_digits ds) e
 
 pub parse_hex : {E : Type 0} (ds : List ℕ) (r : Result ℕ E) → all_hex_digits ds ≡ true → length ds ≡ 16 → ParsesUnsigned 64 16 ds r → r ≡ Ok (digits_value 16 ds)
 parse_hex ds h0 e long h = grind (arith, Ok, without_leading_plus_none, no_plus, Err, digits_value-lt, all_digits)
-
-pub wide_read : {E : Type 0} (text ds : List ℕ) (r : Result ℕ E) (w : ℕ) → text ≡ 48 ∷ 120 ∷ ds → all_hex_digits ds ≡ true → length ds ≡ 16 → ParsesUnsigned 64 16 ds r → r ≡ Ok w → text ≡ wide_text w
-wide_read text ds r w e all long h is = grind (arith, Ok, parse_hex, hex_again)
 
 pub wide_refused : {E P : Type 0} (ds : List ℕ) (r : Result ℕ E) (x : E) → all_hex_digits ds ≡ true → length ds ≡ 16 → ParsesUnsigned 64 16 ds r → r ≡ Err x → P
 wide_refused ds r x all long h is = absurd (let q : Ok (digits_value 16 ds) ≡ Err x = sym (parse_hex ds r all long h) ∙ is in cc)

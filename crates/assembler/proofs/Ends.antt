@@ -1,10 +1,8 @@
--- Texts that are joined from two.
-use Rattle.std.proofs.Common.{◌≡◌, ◌≢◌, ℕ, List, [], ◌∷◌, ◌++◌, Bool, false, length, refl, sym, ap, ◌∙◌, arith, length-append}
-use Rattle.std.proofs.lemmas.Bool.{false≢true}
-use Rattle.std.proofs.lemmas.List.{append_cancel_left}
-use Rattle.std.proofs.lemmas.Slice.Eq.{bytes_eq-Decides}
-use Rattle.std.specs.Prelude.{MatchOption, Option, None, Some}
-use Rattle.std.specs.Str.{bytes_eq}
+-- Texts that are joined from two, and what a word is not.
+use Rattle.assembler.proofs.Prelude.{◌≡◌, true, false, arith, ◌≢◌, ℕ, List, [], ◌∷◌, ◌++◌, Bool, length, refl, sym, ap, ◌∙◌, length-append, codes, false≢true, bytes_eq-Decides, bytes_eq, alu_text, atomic_text, comparison_text, mnemonic_text, width_text, AluOp, AtomicOp, Comparison, Width, IsAtomic, IsOfWidth, Mnemonic, Alu, Neg, Branch}
+
+pub either : {P : Type 0} (b : Bool) → (b ≡ true → P) → (b ≡ false → P) → P
+either b f g = grind arith
 
 pub tails : (x y : ℕ) (xs ys : List ℕ) → x ∷ xs ≡ y ∷ ys → xs ≡ ys
 tails x y xs ys e = cc
@@ -19,10 +17,27 @@ same_fronts [] (y ∷ ys) a b l e = absurd (omega (arith, ap length e, length-ap
 same_fronts (x ∷ xs) [] a b l e = absurd (omega (arith, ap length e, length-append xs a))
 same_fronts (x ∷ xs) (y ∷ ys) a b l e = let h = heads x y (xs ++ a) (ys ++ b) e in let t = same_fronts xs ys a b l (tails x y (xs ++ a) (ys ++ b) e) in cc
 
--- what is read behind a front is read of the whole
-pub behind : {X : Type 0} (r : Option X) (word front text : List ℕ) (f : X → List ℕ) → word ≡ front ++ text
-    → MatchOption r ((x : X) → text ≡ f x → ⊥) (λ x. text ≡ f x) → MatchOption r ((x : X) → word ≡ front ++ f x → ⊥) (λ x. word ≡ front ++ f x)
-behind h0 word front text f e h = grind (arith, append_cancel_left)
-
 pub differ : (xs ys : List ℕ) (r : Bool) → r ≡ bytes_eq xs ys → r ≡ false → xs ≢ ys
 differ xs ys r e f = λ p. false≢true (sym f ∙ e ∙ (bytes_eq-Decides xs ys).1 p)
+
+same_name : (word name front : List ℕ) (v w : Width) → word ≡ name ++ width_text v → word ≡ front ++ width_text w → name ≡ front
+same_name word name front v w e p = same_fronts name front (width_text v) (width_text w) (grind arith) (sym e ∙ p)
+
+pub no_width : (word : List ℕ) → ((name : List ℕ) (width : Width) → word ≡ name ++ width_text width → ⊥) → (m : Mnemonic) → IsOfWidth m → word ≡ mnemonic_text m → ⊥
+no_width word none (Alu op width) i e = none (alu_text op) width e
+no_width word none (Neg width) i e = none (codes "neg") width e
+no_width word none (Branch comparison width) i e = none (comparison_text comparison) width e
+no_width word none _ i e = i
+
+pub no_name : (word name : List ℕ) (width : Width) → word ≡ name ++ width_text width → name ≢ codes "neg"
+    → ((op : AluOp) → name ≡ alu_text op → ⊥) → ((comparison : Comparison) → name ≡ comparison_text comparison → ⊥) → (m : Mnemonic) → IsOfWidth m → word ≡ mnemonic_text m → ⊥
+no_name word name width e neg alu comparisons (Alu op w) i p = alu op (same_name word name (alu_text op) width w e p)
+no_name word name width e neg alu comparisons (Neg w) i p = neg (same_name word name (codes "neg") width w e p)
+no_name word name width e neg alu comparisons (Branch comparison w) i p = comparisons comparison (same_name word name (comparison_text comparison) width w e p)
+no_name word name width e neg alu comparisons _ i p = i
+
+pub no_atomic_front : (word : List ℕ) → ((rest : List ℕ) → word ≡ codes "atomic_" ++ rest → ⊥) → (m : Mnemonic) → IsAtomic m → word ≡ mnemonic_text m → ⊥
+no_atomic_front word none m i e = grind arith
+
+pub no_operation : (text name : List ℕ) (width : Width) → text ≡ name ++ width_text width → ((op : AtomicOp) → name ≡ atomic_text op → ⊥) → (op : AtomicOp) (w : Width) → text ≡ atomic_text op ++ width_text w → ⊥
+no_operation text name width is none op w e = none op (same_name text name (atomic_text op) width w is e)

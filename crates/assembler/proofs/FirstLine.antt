@@ -1,9 +1,6 @@
 -- Text is cut at its line feeds.
-use Rattle.std.proofs.Common.{◌≡◌, ℕ, suc, ◌+◌, ◌<◌, List, [], ◌∷◌, refl, sym, ◌∙◌, ap, arith, length, take, drop, false}
-use Rattle.std.specs.Prelude.{◌==◌, Bool}
-use Rattle.std.specs.List.{position_or_len, before_first, after_first}
-use Rattle.assembler.proofs.Cases.{either}
-use Rattle.assembler.specs.Cutting.{lines_of, before_line}
+use Rattle.assembler.proofs.Prelude.{◌≡◌, ℕ, suc, ◌+◌, ◌<◌, List, [], ◌∷◌, refl, sym, ◌∙◌, ap, arith, length, take, drop, false, ◌==◌, Bool, position_or_len, before_first, after_first, lines_of, before_line}
+use Rattle.assembler.proofs.Ends.{either}
 
 abbrev is_feed : ℕ → Bool
 is_feed b = b == 10

@@ -1,44 +1,21 @@
 -- Lines of jumps, by an offset or to a name.
-use Rattle.std.proofs.Common.{◌≡◌, ◌⊎◌, ℕ, ℤ, pos, negsuc, List, Some, None, true, refl, sym, ◌∙◌, ap, subst, arith, inl, inr, FitsSigned}
-use Rattle.std.specs.Prelude.{Err}
-use Rattle.std.specs.Int.{w16, w32}
-use Rattle.std.proofs.lemmas.Bool.{both_ways, lt-ltb, ltb-true}
-use Rattle.insn_codec.specs.Lines.{offset_text, operands_text}
-use Rattle.insn_codec.specs.Statements.{IsStatement}
+use Rattle.assembler.proofs.Prelude.{◌≡◌, ◌⊎◌, ℕ, ℤ, List, Some, None, true, refl, sym, ◌∙◌, ap, subst, arith, inl, inr, FitsSigned, Err, w16, w32, both_ways, offset_text, operands_text, operand_text, register_text, IsStatement, Mnemonic, Statement, ReadsOperands, item_mnemonic, item_operands, operand_list, HasLine, InRange, Item, statement, label, jump, JumpInRange, fits_16, jump_by, jump_mnemonic, jump_operands, reaches, with_offset, Jump, Near, Long, CallLocal, OutOfRange, IsOperand, Comparison, Operand, Register, Width, TargetIs, Target, Offset, Name}
+use Rattle.assembler.proofs.Ends.{either}
+use Rattle.assembler.specs.declared.lines.jump.Jump.TheVariants.{Branch}
 use Rattle.insn_codec.specs.declared.insn.Insn.TheVariants as insn
-use Rattle.insn_codec.specs.declared.mnemonic.Mnemonic.{Mnemonic}
 use Rattle.insn_codec.specs.declared.mnemonic.Mnemonic.TheVariants as mnemonic
-use Rattle.insn_codec.specs.declared.statement.Statement.{Statement}
 use Rattle.insn_codec.specs.declared.statement.Statement.TheVariants as statement_kind
-use Rattle.assembler.proofs.Cases.{either}
-use Rattle.assembler.specs.Forms.{ReadsOperands, item_mnemonic, item_operands}
-use Rattle.assembler.specs.Items.{HasLine, InRange, Item, statement, label, jump}
-use Rattle.assembler.specs.Jumps.{JumpInRange, fits_16, jump_by, jump_mnemonic, jump_operands, reaches, with_offset}
-use Rattle.assembler.specs.declared.lines.jump.Jump.{Jump}
-use Rattle.assembler.specs.declared.lines.jump.Jump.TheVariants.{Near, Long, CallLocal, Branch}
-use Rattle.assembler.specs.declared.lines.line_error.LineError.TheVariants.{OutOfRange}
+use Rattle.assembler.specs.declared.lines.jump.Jump.TheVariants as jump_kind
 
 -- offsets of 16 bits
-
-pub fits_of : (z : ℤ) → fits_16 z ≡ true → FitsSigned w16 z
-fits_of h0 e = grind arith
 
 pub of_fits : (z : ℤ) → FitsSigned w16 z → fits_16 z ≡ true
 of_fits h0 h = grind arith
 
-wider : (z : ℤ) → FitsSigned w16 z → FitsSigned w32 z
-wider h0 h = grind arith
-
 -- a jump that reaches is in range, and one in range reaches
-
-pub in_range_by : (j : Jump) (z : ℤ) → JumpInRange j → FitsSigned w32 z → reaches j z ≡ true → IsStatement (jump_by j z)
-in_range_by h0 z h f e = grind arith
 
 pub reaches_of : (j : Jump) (z : ℤ) → IsStatement (jump_by j z) → reaches j z ≡ true
 reaches_of h0 z h = grind arith
-
-pub offset_fits : (j : Jump) (z : ℤ) → IsStatement (jump_by j z) → FitsSigned w32 z
-offset_fits h0 z h = grind arith
 
 -- the line of a jump by an offset
 
@@ -48,12 +25,8 @@ has_line h0 z = grind arith
 pub mnemonic_is : (j : Jump) (z : ℤ) → item_mnemonic (statement (jump_by j z)) ≡ Some (jump_mnemonic j)
 mnemonic_is h0 z = grind arith
 
-pub operands_are : (j : Jump) (z : ℤ) → operands_text (jump_operands j (offset_text z)) ≡ item_operands (statement (jump_by j z))
-operands_are Near z = refl
-operands_are _ z = refl
-
 pub operands_at : (j : Jump) (z : ℤ) (goal : List ℕ) → goal ≡ offset_text z → operands_text (jump_operands j goal) ≡ item_operands (statement (jump_by j z))
-operands_at j z goal e = ap (λ g. operands_text (jump_operands j g)) e ∙ operands_are j z
+operands_at j z goal e = ap (λ g. operands_text (jump_operands j g)) e ∙ (grind arith)
 
 -- its offset is out of range
 pub jump_out : (j : Jump) (z : ℤ) (goal : List ℕ) → goal ≡ offset_text z → (IsStatement (jump_by j z) → ⊥) → ReadsOperands (jump_mnemonic j) (operands_text (jump_operands j goal)) (Err OutOfRange)
@@ -65,7 +38,7 @@ jump_said j z n goal x e same fits h is = either (reaches j n)
     (λ near. let here : Some x ≡ Some (jump_by j n) = rw near at is in
     let at : jump_by j n ≡ x = cc in
     subst (λ y. (item_mnemonic (statement y) ≡ Some (jump_mnemonic j)) × (operands_text (jump_operands j goal) ≡ item_operands (statement y)) × HasLine (statement y) × InRange (statement y)) at
-    (mnemonic_is j n, operands_at j n goal (e ∙ ap offset_text same), has_line j n, in_range_by j n h fits near))
+    (mnemonic_is j n, operands_at j n goal (e ∙ ap offset_text same), has_line j n, (grind arith)))
     (λ far. let none : Some x ≡ None = rw far at is in absurd cc)
 
 pub jump_refused : (j : Jump) (z n : ℤ) (goal : List ℕ) → goal ≡ offset_text z → z ≡ n → None ≡ with_offset j n → ReadsOperands (jump_mnemonic j) (operands_text (jump_operands j goal)) (Err OutOfRange)
@@ -101,3 +74,12 @@ of_jump m (statement (statement_kind.Insn (insn.CallLocal z))) is e = (CallLocal
 of_jump m (statement (statement_kind.Insn (insn.Branch comparison width dst operand z))) is e = (Branch comparison width dst operand, same (mnemonic.Branch comparison width) m e, inl (z, refl))
 of_jump m (statement (statement_kind.Insn insn.Exit)) is e = absurd cc
 of_jump m (statement _) is e = other _ m (λ never. never) is e
+
+-- Conditional jumps with a number out of range.
+
+-- its immediate is out of range
+pub branch_out : (comparison : Comparison) (width : Width) (dst : Register) (o : Operand) (target : Target) (goal text : List ℕ) → TargetIs target goal → text ≡ operand_list (register_text dst) (operand_list (operand_text o) goal) → (IsOperand o → ⊥) → ReadsOperands (mnemonic.Branch comparison width) text (Err OutOfRange)
+branch_out comparison width dst o (Offset n) goal text t e out =
+    (statement (statement_kind.Insn (insn.Branch comparison width dst o t.0)), tt, refl, e ∙ ap (λ g. operand_list (register_text dst) (operand_list (operand_text o) g)) t.2, λ r. out r.0)
+branch_out comparison width dst o (Name name) goal text t e out =
+    (jump (jump_kind.Branch comparison width dst o) goal, t.1, refl, e, out)

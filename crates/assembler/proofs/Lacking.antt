@@ -1,9 +1,5 @@
 -- Texts that are cut at the first byte of a kind.
-use Rattle.std.proofs.Common.{◌≡◌, ◌≢◌, ◌<◌, ℕ, zero, suc, List, [], ◌∷◌, ◌++◌, refl, sym, ◌∙◌, ap, subst, arith, length, get_or, Bool, true, false, eq-eqb}
-use Rattle.std.specs.Prelude.{◌==◌, ◌&&◌, not}
-use Rattle.std.proofs.lemmas.Bool.{and_parts}
-use Rattle.assembler.specs.Items.{all_go_on, goes_on_name}
-use Rattle.assembler.specs.Forms.{Lacks}
+use Rattle.assembler.proofs.Prelude.{◌≡◌, ◌≢◌, ◌<◌, ℕ, zero, suc, List, [], ◌∷◌, ◌++◌, refl, sym, ◌∙◌, ap, subst, arith, length, get_or, Bool, true, false, eq-eqb, ◌==◌, ◌&&◌, not, and_parts, all_go_on, goes_on_name, Lacks}
 
 -- what is nowhere is at no index
 pub lacks_at : (c : ℕ) (xs : List ℕ) → Lacks c xs → (i : ℕ) → i < length xs → get_or xs i 0 ≢ c
@@ -44,16 +40,12 @@ abbrev pub lacks : ℕ → List ℕ → Bool
 lacks c [] = true
 lacks c (x ∷ xs) = not (x == c) && lacks c xs
 
-not_false : (b : Bool) → not b ≡ true → b ≡ false
-not_false true e = absurd (let p : false ≡ true = e in cc)
-not_false false e = refl
-
 pub apart : (x c : ℕ) → (x == c) ≡ false → x ≡ c → ⊥
 apart x c e p = absurd (let z : true ≡ false = sym (eq-eqb x c p) ∙ e in cc)
 
 pub lacks_by : (c : ℕ) (xs : List ℕ) → lacks c xs ≡ true → Lacks c xs
 lacks_by c [] e = tt
-lacks_by c (x ∷ xs) e = let p = and_parts _ _ e in (apart x c (not_false _ p.0), lacks_by c xs p.1)
+lacks_by c (x ∷ xs) e = let p = and_parts _ _ e in (apart x c (grind arith), lacks_by c xs p.1)
 
 -- the bytes of names
 pub go_lacks : (c : ℕ) → goes_on_name c ≡ false → (xs : List ℕ) → all_go_on xs ≡ true → Lacks c xs

@@ -1,19 +1,6 @@
 -- The listing of code is its source.
-use Rattle.std.proofs.Common.{◌≡◌, ◌≢◌, ℕ, ◌+◌, ◌*◌, ◌/◌, ◌%◌, ◌<◌, ◌≤◌, List, [], ◌∷◌, ◌++◌, Option, None, refl, sym, ◌∙◌, ap, subst, arith, length, map, false, length-append}
-use Rattle.std.specs.Prelude.{◌==◌, All}
-use Rattle.std.proofs.lemmas.Bool.{ne_eqb}
-use Rattle.std.proofs.lemmas.List.Elements.{All-tail}
-use Rattle.insn_codec.specs.Laws.{NoLineFeed, SlotsAreFilled, StandsFirst, StatementIsSpelled}
-use Rattle.insn_codec.specs.Statements.{IsStatement, Lists, Listing, after_statement, lines_text, statement_bytes, statement_of, statement_slots, statement_text}
-use Rattle.insn_codec.specs.Statements.Lists.{ended, place}
-use Rattle.insn_codec.specs.declared.insn.Insn.TheVariants.{LoadWide}
-use Rattle.insn_codec.specs.declared.statement.Statement.{Statement}
-use Rattle.insn_codec.specs.declared.statement.Statement.TheVariants.{Insn, Slot}
-use Rattle.assembler.specs.Cutting.{lines_of, before_line}
-use Rattle.assembler.specs.Items.{HasDigits, Item, statement, label, slots_of}
-use Rattle.assembler.specs.Source.{EachSays, GivesSlots, Source, StandFor}
-use Rattle.assembler.specs.Source.StandFor.{none, line}
-use Rattle.assembler.specs.Source.StandsFor.{stated}
+use Rattle.assembler.proofs.Prelude.{◌≡◌, ◌≢◌, ℕ, ◌+◌, ◌*◌, ◌/◌, ◌%◌, ◌<◌, ◌≤◌, List, [], ◌∷◌, ◌++◌, Option, None, refl, sym, ◌∙◌, ap, subst, arith, length, map, false, ◌==◌, All, ne_eqb, All-tail, NoLineFeed, SlotsAreFilled, StandsFirst, StatementIsSpelled, IsStatement, Lists, Listing, after_statement, lines_text, statement_bytes, statement_of, statement_slots, statement_text, place, Statement, lines_of, before_line, Item, statement, label, slots_of, EachSays, Source, StandFor, none, line, stated}
+use Rattle.insn_codec.specs.Statements.Lists.{ended}
 
 abbrev IsNoFeed : ℕ → Type 0
 IsNoFeed b = b ≢ 10
@@ -39,12 +26,9 @@ lines_again : NoLineFeed → (xs : List Statement) → EachStatement xs → line
 lines_again quiet [] each = refl
 lines_again quiet (x ∷ xs) each = cut_off (statement_text x) (lines_text xs) (quiet x each.0) ∙ ap (λ lines. statement_text x ∷ lines) (lines_again quiet xs each.1)
 
-has_digits : (x : Statement) → IsStatement x → HasDigits x
-has_digits h0 h = grind arith
-
 says_each : (xs : List Statement) → EachStatement xs → EachSays (map statement_text xs) (map statement xs)
 says_each [] each = tt
-says_each (x ∷ xs) each = ((refl, has_digits x each.0, each.0), says_each xs each.1)
+says_each (x ∷ xs) each = ((refl, (grind arith), each.0), says_each xs each.1)
 
 abbrev no_labels : List ℕ → Option ℕ
 no_labels q = None
@@ -55,22 +39,13 @@ no_label [] (i ∷ before) later name e = cc
 no_label (x ∷ xs) [] later name e = cc
 no_label (x ∷ xs) (i ∷ before) later name e = no_label xs before later name cc
 
-gives_none : (xs : List Statement) → GivesSlots no_labels (map statement xs)
-gives_none xs = record {
-  gives = λ name before n. absurd (no_label xs before n.0 name n.1);
-  once = λ name before again n m. absurd (no_label xs before n.0 name n.1);
-  named = λ name slot e. absurd cc;
-}
-
 stand_each : (slot : ℕ) (xs : List Statement) → StandFor no_labels slot (map statement xs) (all_bytes xs)
 stand_each slot [] = none
 stand_each slot (x ∷ xs) = line (stated x) (stand_each (slot + statement_slots x) xs)
 
 slots_again : SlotsAreFilled → (xs : List Statement) → 8 * slots_of (map statement xs) ≡ length (all_bytes xs)
 slots_again filled [] = refl
-slots_again filled (x ∷ xs) =
-    let sum : length (statement_bytes x ++ all_bytes xs) ≡ length (statement_bytes x) + length (all_bytes xs) = length-append (statement_bytes x) (all_bytes xs) in
-    omega (arith, sum, (filled.by_statement x).length_is, slots_again filled xs)
+slots_again filled (x ∷ xs) = grind (arith, slots_again filled xs)
 
 all_after : (xs ys : List ℕ) → All (λ b. b < 256) (xs ++ ys) → All (λ b. b < 256) ys
 all_after [] ys all = all
@@ -80,16 +55,13 @@ all_after (x ∷ xs) ys all = all_after xs ys (All-tail (λ b. b < 256) x (xs ++
 abbrev Stands : List ℕ → List Statement → Type 0
 Stands code xs = EachStatement xs × (code ≡ all_bytes xs)
 
-whole_after : SlotsAreFilled → (x : Statement) (code rest : List ℕ) → code ≡ statement_bytes x ++ rest → length code % 8 ≡ 0 → length rest % 8 ≡ 0
-whole_after filled x code rest e whole = grind arith
-
 stands_of : StatementIsSpelled → SlotsAreFilled → (code : List ℕ) (xs : List Statement) → All (λ b. b < 256) code → length code % 8 ≡ 0 → Lists code xs → Stands code xs
 stands_of spelled filled code [] small whole ended = (tt, refl)
 stands_of spelled filled code (x ∷ xs) small whole (place {byte = byte} {bytes = bytes} {later = later} rest) =
     let full : byte ∷ bytes ≢ [] = λ e. cc in
     let first : StandsFirst (byte ∷ bytes) = spelled (byte ∷ bytes) small whole full in
     let after = after_statement (byte ∷ bytes) in
-    let more = stands_of spelled filled after later (all_after (statement_bytes (statement_of (byte ∷ bytes))) after (subst (λ z. All (λ b. b < 256) z) first.bytes small)) (whole_after filled (statement_of (byte ∷ bytes)) (byte ∷ bytes) after first.bytes whole) rest in
+    let more = stands_of spelled filled after later (all_after (statement_bytes (statement_of (byte ∷ bytes))) after (subst (λ z. All (λ b. b < 256) z) first.bytes small)) (grind arith) rest in
     ((first.in_range, more.0), first.bytes ∙ ap (λ z. statement_bytes (statement_of (byte ∷ bytes)) ++ z) more.1)
 
 pub listed : NoLineFeed → StatementIsSpelled → SlotsAreFilled → (code text : List ℕ) → All (λ b. b < 256) code → length code % 8 ≡ 0 → length code / 8 ≤ 65536 → Listing code text → Source text code
@@ -101,7 +73,7 @@ listed quiet spelled filled code text small whole room l =
       items = map statement l.statements;
       lines = rw lines (says_each l.statements stands.0);
       labels = no_labels;
-      places = gives_none l.statements;
+      places = grind (arith, no_label);
       room = omega (arith, slots, room);
       code = rw stands.1 (stand_each 0 l.statements);
     }

@@ -1,35 +1,26 @@
--- Registers, decimal numbers and hex digits are made of the bytes of names.
-use Rattle.std.proofs.Common.{◌≡◌, ◌+◌, ◌≤◌, ℕ, ℤ, List, [], ◌∷◌, refl, arith, Bool, true, false, cond}
-use Rattle.std.specs.Prelude.{◌==◌, ◌||◌, nat_le, codes, map, nat_eq}
-use Rattle.std.specs.Int.Digits.{AllBelowBase, digits_of}
-use Rattle.std.proofs.lemmas.Int.Digits.{all_below_base_digits_of}
-use Rattle.std.proofs.lemmas.Bool.Decides.{nat_tests}
-use Rattle.insn_codec.specs.Lines.{address_text, decimal, offset_text, operand_text, place_text, register_text}
-use Rattle.insn_codec.specs.declared.operand.Operand.{Operand}
-use Rattle.insn_codec.specs.declared.register.Register.{Register}
-use Rattle.insn_codec.specs.declared.register.Register.TheVariants as register
-use Rattle.assembler.specs.Items.{all_go_on, begins_name, goes_on_name}
-use Rattle.assembler.specs.Forms.{Lacks}
+-- Which bytes stand in a line's parts, and which do not.
+use Rattle.assembler.proofs.Prelude.{◌≡◌, ◌+◌, ◌≤◌, ℕ, ℤ, List, [], ◌∷◌, refl, arith, true, false, sym, ap, ◌∙◌, suc, pos, negsuc, ◌++◌, subst, ◌==◌, map, IsTrue, AllBelowBase, all_below_base_digits_of, address_text, decimal, offset_text, operand_text, place_text, register_text, Operand, Register, all_go_on, goes_on_name, IsName, begins_name, Lacks, is_plain, offset_plain, operand_plain, plain_append, register_plain, all_plain, and_parts, false≢true, nat_tests}
 use Rattle.assembler.proofs.Lacking.{apart, go_lacks, lacks_append}
-use Rattle.insn_codec.proofs.Plain.{is_plain, offset_plain, operand_plain, plain_append, register_plain}
-use Rattle.assembler.proofs.Plain.{plain_lacks}
 
-pub go_register : (r : Register) → all_go_on (register_text r) ≡ true
-go_register h0 = grind arith
+pub plain_lacks : (c : ℕ) → is_plain c ≡ false → (xs : List ℕ) → all_plain xs ≡ true → Lacks c xs
+plain_lacks c f [] e = tt
+plain_lacks c f (x ∷ xs) e = let t = and_parts (is_plain x) (all_plain xs) e in (λ p. false≢true (sym f ∙ ap is_plain (sym p) ∙ t.0), plain_lacks c f xs t.1)
 
-or_true : (b : Bool) → (b || true) ≡ true
-or_true true = refl
-or_true false = refl
+first_byte_plain : (c : ℕ) → begins_name c ≡ true → is_plain c ≡ true
+first_byte_plain c e = grind (arith, nat_tests)
+
+pub all_go_on_plain : (cs : List ℕ) → IsTrue (all_go_on cs) → all_plain cs ≡ true
+all_go_on_plain [] e = refl
+all_go_on_plain (c ∷ cs) e =
+    let t = and_parts (goes_on_name c) (all_go_on cs) e in
+    let p : is_plain c ≡ true = (grind (arith, nat_tests)) in
+    rw (p, all_go_on_plain cs t.1) refl
+
+pub name_plain : (cs : List ℕ) → IsName cs → all_plain cs ≡ true
+name_plain h0 h = grind (arith, is_plain, true, first_byte_plain, all_go_on_plain)
 
 go_number : (b : ℕ) → 48 ≤ b → b ≤ 57 → goes_on_name b ≡ true
-go_number b low high =
-    let e : nat_le 48 b ≡ true = grind (arith, nat_tests) in
-    let f : nat_le b 57 ≡ true = grind (arith, nat_tests) in
-    rw (e, f) (or_true (begins_name b))
-
-go_if : (b : Bool) (xs ys : List ℕ) → all_go_on xs ≡ true → all_go_on ys ≡ true → all_go_on (cond b xs ys) ≡ true
-go_if true xs ys e f = e
-go_if false xs ys e f = f
+go_number b low high = grind arith
 
 go_digits : (ds : List ℕ) → AllBelowBase 10 ds → all_go_on (map (λ d. 48 + d) ds) ≡ true
 go_digits [] low = refl
@@ -37,11 +28,7 @@ go_digits (d ∷ ds) low = rw (go_number (48 + d) (omega (arith, low.0)) (omega 
 
 pub go_decimal : (n : ℕ) → all_go_on (decimal n) ≡ true
 unfolding decimal
-go_decimal n = go_if (nat_eq n 0) (codes "0") (map (λ d. 48 + d) (digits_of 10 n)) refl (go_digits (digits_of 10 n) (all_below_base_digits_of 10 n (omega arith)))
-
--- a byte that stands in no name, and is no sign
-pub lacks_register : (c : ℕ) → goes_on_name c ≡ false → (r : Register) → Lacks c (register_text r)
-lacks_register c h r = go_lacks c h (register_text r) (go_register r)
+go_decimal n = grind (arith, go_digits, all_below_base_digits_of)
 
 pub lacks_decimal : (c : ℕ) → goes_on_name c ≡ false → (n : ℕ) → Lacks c (decimal n)
 lacks_decimal c h n = go_lacks c h (decimal n) (go_decimal n)
@@ -53,3 +40,15 @@ lacks_place c f o k r z =
 
 pub lacks_operand : (c : ℕ) → is_plain c ≡ false → (o : Operand) → Lacks c (operand_text o)
 lacks_operand c f o = plain_lacks c f (operand_text o) (operand_plain o)
+
+pub operand_lacks_comma : (o : Operand) → Lacks 44 (operand_text o)
+operand_lacks_comma o = lacks_operand 44 refl o
+
+-- Addresses are cut at the sign, and stand between brackets.
+
+pub plus_cut : (r : Register) (z : ℤ) (text front back : List ℕ) → ((xs ys : List ℕ) → Lacks 43 xs → text ≡ xs ++ 43 ∷ ys → (front ≡ xs) × (back ≡ 43 ∷ ys)) → (Lacks 43 text → true ≡ false) → text ≡ address_text r z → (front ≡ register_text r) × (back ≡ offset_text z)
+plus_cut r (pos n) text front back only none e = only (register_text r) (decimal n) (grind arith) e
+plus_cut r (negsuc n) text front back only none e =
+    let l : Lacks 43 text = subst (λ t. Lacks 43 t) (sym e) (lacks_append 43 (register_text r) (45 ∷ decimal (suc n)) (grind arith) (apart 45 43 refl, lacks_decimal 43 refl (suc n))) in
+    let f : true ≡ false = none l in
+    absurd cc

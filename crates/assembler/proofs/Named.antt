@@ -1,13 +1,41 @@
 -- A map that gives each label, named by one line, the slots before that line.
-use Rattle.std.proofs.Common.{◌≡◌, ℕ, ◌+◌, ◌≤◌, List, [], ◌∷◌, ◌++◌, Option, Some, None, refl, sym, ◌∙◌, ap, subst, arith, true, append_assoc, append-nil, length, zero-add, rules}
+use Rattle.assembler.proofs.Prelude.{◌≡◌, ℕ, ◌+◌, List, [], ◌∷◌, ◌++◌, Option, Some, None, refl, ◌∙◌, arith, true, rules, zero-add, ◌≤◌, sym, ap, subst, append_assoc, append-nil, length, Bool, if◌then◌else◌, bytes_eq-Decides, HasSlots, IsFreeIn, Item, statement, label, jump, item_slots, slots_of, IsFree, names, label_slot_from, label_slot, GivesSlots, NamedAfter}
 use Rattle.std.specs.Prelude.{bytes_eq}
-use Rattle.std.proofs.lemmas.Slice.Eq.{bytes_eq-Decides}
-use Rattle.assembler.proofs.Cases.{either}
-use Rattle.assembler.proofs.LabelSlots.{or_else, label_slot_append, same_name}
-use Rattle.assembler.specs.Answers.{HasSlots}
-use Rattle.assembler.specs.Items.{Item, statement, label, jump, item_slots, slots_of}
-use Rattle.assembler.specs.Labels.{IsFree, names, label_slot_from, label_slot}
-use Rattle.assembler.specs.Source.{GivesSlots, NamedAfter}
+use Rattle.assembler.proofs.Ends.{either}
+
+pub free_of : (before : List Item) (labels : List ℕ → Option ℕ) (i : Item) → HasSlots labels before → IsFreeIn labels i → IsFree before i
+free_of before labels h0 has free = grind arith
+
+pub slots_snoc : (before : List Item) (i : Item) → slots_of (before ++ (i ∷ [])) ≡ slots_of before + item_slots i
+slots_snoc [] i = omega arith
+slots_snoc (x ∷ xs) i = let e = slots_snoc xs i in omega (arith, e)
+
+-- the first that there is
+abbrev pub or_else : Option ℕ → Option ℕ → Option ℕ
+or_else (Some x) y = Some x
+or_else None y = y
+
+abbrev pub slot_if : Bool → ℕ → Option ℕ
+slot_if b slot = if b then Some slot else None
+
+pub label_slot_append : (before later : List Item) (slot : ℕ) (q : List ℕ) → label_slot_from slot (before ++ later) q ≡ or_else (label_slot_from slot before q) (label_slot_from (slot + slots_of before) later q)
+label_slot_append [] later slot q = let e : slot + 0 ≡ slot = omega arith in rw e refl
+label_slot_append (x ∷ xs) later slot q = grind (arith, label_slot_append xs later (slot + item_slots x) q)
+
+pub same_name : (name q : List ℕ) → bytes_eq name q ≡ true → name ≡ q
+same_name name q e = let h = bytes_eq-Decides name q in search (rules, h, e)
+
+or_none : (o : Option ℕ) → o ≡ or_else o None
+or_none h0 = grind (arith, Some)
+
+-- a label that was free gets its slot
+named_last : (before : Option ℕ) (i : Item) (q : List ℕ) (labels : List ℕ → Option ℕ) (slot : ℕ) → labels q ≡ before → IsFreeIn labels i → (if names i q then Some slot else labels q) ≡ or_else before (slot_if (names i q) slot)
+named_last before (statement x) q labels slot e free = e ∙ or_none before
+named_last before (jump j name) q labels slot e free = e ∙ or_none before
+named_last before (label name) q labels slot e free = search (rules, either, same_name, or_none)
+
+pub slots_after_label : (before : List Item) (i : Item) (old new : List ℕ → Option ℕ) (slot : ℕ) → slot ≡ slots_of before → HasSlots old before → IsFreeIn old i → ((q : List ℕ) → new q ≡ (if names i q then Some slot else old q)) → HasSlots new (before ++ (i ∷ []))
+slots_after_label before i old new slot s has free step q = grind (arith, named_last, zero-add, label_slot_append)
 
 names_itself : (name : List ℕ) → bytes_eq name name ≡ true
 names_itself name = let h = bytes_eq-Decides name name in search (rules, h)
@@ -50,14 +78,8 @@ once_at front (i ∷ before) later name once = let k = once_at (front ++ (i ∷ 
 -- two lines that name a label, with none before that names it, are the same line
 same_front : (before again later other : List Item) (from : ℕ) (name : List ℕ) → before ++ label name ∷ later ≡ again ++ label name ∷ other → label_slot_from from before name ≡ None → label_slot_from from again name ≡ None → before ≡ again
 same_front [] [] later other from name e f g = refl
-same_front [] (j ∷ again) later other from name e f g =
-    let head : label name ≡ j = cc in
-    let k : label_slot_from from (label name ∷ again) name ≡ None = subst (λ x. label_slot_from from (x ∷ again) name ≡ None) (sym head) g in
-    absurd (none_named [] again from name k)
-same_front (i ∷ before) [] later other from name e f g =
-    let head : i ≡ label name = cc in
-    let k : label_slot_from from (label name ∷ before) name ≡ None = subst (λ x. label_slot_from from (x ∷ before) name ≡ None) head f in
-    absurd (none_named [] before from name k)
+same_front [] (j ∷ again) later other from name e f g = search (rules, none_named)
+same_front (i ∷ before) [] later other from name e f g = search (rules, none_named)
 same_front (i ∷ before) (j ∷ again) later other from name e f g =
     let head : i ≡ j = cc in
     let tail : before ++ label name ∷ later ≡ again ++ label name ∷ other = cc in
@@ -90,8 +112,7 @@ free_from labels items front is name (Some slot) g e p =
     absurd (longer h.0 h.1.0 (label name) (ap (λ x. length x) (same ∙ h.1.1)))
 
 pub free_of_map : (labels : List ℕ → Option ℕ) (items front is : List Item) (i : Item) → GivesSlots labels items → items ≡ front ++ i ∷ is → IsFree front i
-free_of_map labels items front is (label name) g e = free_from labels items front is name (label_slot front name) g e refl
-free_of_map labels items front is _ g e = tt
+free_of_map labels items front is i g e = grind (arith, free_from)
 
 -- where there is such a map, no label is named twice
 pub once_of : (labels : List ℕ → Option ℕ) (items front is : List Item) → GivesSlots labels items → items ≡ front ++ is → Once front is
@@ -101,9 +122,7 @@ once_of labels items front (i ∷ is) g e = (free_of_map labels items front is i
 same_place : (labels : List ℕ → Option ℕ) (items : List Item) (q : List ℕ) (o p : Option ℕ) → GivesSlots labels items → labels q ≡ o → label_slot items q ≡ p → o ≡ p
 same_place labels items q None None g e f = refl
 same_place labels items q (Some s) None g e f = let n = g.named q s e in absurd (named_none items n.0 q n.1 f)
-same_place labels items q o (Some slot) g e f =
-    let h = found items 0 q slot f in
-    sym e ∙ g.gives q h.0 h.1 ∙ ap Some (sym (h.2 ∙ zero-add (slots_of h.0)))
+same_place labels items q o (Some slot) g e f = grind (arith, found, zero-add)
 
 -- and it has the places of the labels
 pub has_slots : (labels : List ℕ → Option ℕ) (items : List Item) → GivesSlots labels items → HasSlots labels items

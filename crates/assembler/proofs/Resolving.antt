@@ -1,22 +1,7 @@
 -- What lines stand for, by the second pass and by the definition of a source.
-use Rattle.std.proofs.Common.{◌≡◌, ℕ, suc, ◌+◌, ◌≤◌, List, [], ◌∷◌, ◌++◌, Option, Some, None, Result, Ok, Err, refl, sym, ◌∙◌, ap, subst, arith, FitsSigned, rules}
-use Rattle.std.specs.Int.{w32}
-use Rattle.std.proofs.lemmas.Int.{ints}
-use Rattle.insn_codec.specs.declared.statement.Statement.{Statement}
-use Rattle.assembler.specs.Jumps.{JumpInRange, jump_by, reaches}
-use Rattle.assembler.proofs.Cases.{either}
-use Rattle.assembler.proofs.JumpLines.{in_range_by, reaches_of}
-use Rattle.assembler.specs.Items.{InRange, Item, statement, label, jump, item_slots, slots_of}
-use Rattle.assembler.specs.SecondPass.{after, and_then, bytes_of, code_bytes, jump_at, offset_to, line_statement}
-use Rattle.assembler.specs.Source.{StandFor, StandsFor}
-use Rattle.assembler.specs.Source.StandFor.{none, line}
-use Rattle.assembler.specs.Source.StandsFor.{stated, named, jumped}
-use Rattle.assembler.specs.declared.asm_error.AsmError.{AsmError}
-use Rattle.assembler.specs.declared.lines.jump.Jump.{Jump}
-
--- offsets inside 65,536 slots have room in 32 bits
-offset_fits_32 : (slot target : ℕ) → slot ≤ 65536 → target ≤ 65536 → FitsSigned w32 (offset_to slot target)
-offset_fits_32 slot target a b = search (rules, ints)
+use Rattle.assembler.proofs.Prelude.{◌≡◌, ℕ, suc, ◌+◌, ◌≤◌, List, [], ◌∷◌, ◌++◌, Option, Some, None, Result, Ok, Err, refl, sym, ◌∙◌, ap, subst, arith, ◌<◌, length, map, drop, get_or, append_assoc, Statement, JumpInRange, jump_by, reaches, InRange, Item, statement, label, jump, item_slots, slots_of, item_of, after, and_then, bytes_of, code_bytes, jump_at, offset_to, line_statement, StandFor, StandsFor, none, line, stated, named, jumped, AsmError, Jump, drop_more, Line}
+use Rattle.assembler.proofs.Ends.{either}
+use Rattle.assembler.proofs.JumpLines.{reaches_of}
 
 -- no label's slot is past 65,536
 abbrev pub SlotsFit : (List ℕ → Option ℕ) → Type 0
@@ -27,7 +12,7 @@ jump_stands labels number slot j name None x fit room h at e = absurd cc
 jump_stands labels number slot j name (Some target) x fit room h at e = either (reaches j (offset_to slot target))
     (λ near. let is : Ok (Some (jump_by j (offset_to slot target))) ≡ Ok x = rw near at e in
     let same : Some (jump_by j (offset_to slot target)) ≡ x = cc in
-    subst (λ y. StandsFor labels slot (jump j name) (bytes_of y)) same (jumped j name target at (in_range_by j (offset_to slot target) h (offset_fits_32 slot target room (fit name target at)) near)))
+    subst (λ y. StandsFor labels slot (jump j name) (bytes_of y)) same (jumped j name target at (grind arith)))
     (λ far. let k = rw far at e in absurd cc)
 
 stands : (labels : List ℕ → Option ℕ) (number slot : ℕ) (i : Item) (x : Option Statement) → SlotsFit labels → slot ≤ 65536 → InRange i → line_statement labels number slot i ≡ Ok x → StandsFor labels slot i (bytes_of x)
@@ -70,12 +55,19 @@ emitted_of labels number slot items bytes (line {i = i} {is = is} {bytes = front
     let later : code_bytes labels (suc number) (slot + item_slots i) is ≡ Ok more = emitted_of labels (suc number) (slot + item_slots i) is more rest in
     ap (λ r. and_then r (code_bytes labels (suc number) (slot + item_slots i) is)) this.1 ∙ ap (λ r. after (bytes_of this.0) r) later ∙ ap (λ b. Ok (b ++ more)) (sym this.2)
 
-resolved_same : (labels others : List ℕ → Option ℕ) (number slot : ℕ) (i : Item) → ((q : List ℕ) → labels q ≡ others q) → line_statement labels number slot i ≡ line_statement others number slot i
-resolved_same labels others number slot h0 h = grind arith
-
 -- two maps with the same slots make the same bytes
 pub emitted_same : (labels others : List ℕ → Option ℕ) (number slot : ℕ) (is : List Item) → ((q : List ℕ) → labels q ≡ others q) → code_bytes labels number slot is ≡ code_bytes others number slot is
 emitted_same labels others number slot [] h = refl
-emitted_same labels others number slot (i ∷ is) h =
-    ap (λ r. and_then r (code_bytes labels (suc number) (slot + item_slots i) is)) (resolved_same labels others number slot i h)
-    ∙ ap (λ r. and_then (line_statement others number slot i) r) (emitted_same labels others (suc number) (slot + item_slots i) is h)
+emitted_same labels others number slot (i ∷ is) h = grind (arith, emitted_same labels others (suc number) (slot + item_slots i) is h)
+
+-- The second pass, line by line.
+
+after_after : (out bytes : List ℕ) (r : Result (List ℕ) AsmError) → after out (after bytes r) ≡ after (out ++ bytes) r
+after_after out bytes h0 = grind (arith, Ok, append_assoc, Err)
+
+-- a line's bytes move from the rest to what is written
+pub emit_step : (labels : List ℕ → Option ℕ) (number slot n i : ℕ) (lines : List Line) (d : Line) (out new : List ℕ) (x : Option Statement) (r : Result (Option Statement) AsmError) (whole : Result (List ℕ) AsmError) → i < length lines → r ≡ line_statement labels number slot (item_of (get_or lines i d)) → r ≡ Ok x → n ≡ item_slots (item_of (get_or lines i d)) → new ≡ out ++ bytes_of x → after out (code_bytes labels number slot (map item_of (drop i lines))) ≡ whole → after new (code_bytes labels (number + 1) (slot + n) (map item_of (drop (i + 1) lines))) ≡ whole
+emit_step labels number slot n i lines d out new x r whole inside res ok m bytes so_far = grind (arith, suc, get_or, map, drop, after_after, drop_more)
+
+pub room_step : (slot n i : ℕ) (lines : List Line) (d : Line) → i < length lines → n ≡ item_slots (item_of (get_or lines i d)) → slot + slots_of (map item_of (drop i lines)) ≤ 65536 → slot + n + slots_of (map item_of (drop (i + 1) lines)) ≤ 65536
+room_step slot n i lines d inside m room = grind (arith, map, drop, get_or, drop_more)

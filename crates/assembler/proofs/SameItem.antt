@@ -1,25 +1,15 @@
 -- A mnemonic and operands are those of one item.
-use Rattle.std.proofs.Common.{◌≡◌, ℕ, suc, ℤ, pos, negsuc, List, [], ◌∷◌, ◌++◌, Some, inl, inr, refl, sym, ◌∙◌, ap, subst, Option, None}
-use Rattle.assembler.specs.declared.lines.jump.Jump.{Jump}
-use Rattle.assembler.specs.declared.lines.jump.Jump.TheVariants.{Near, Long, CallLocal, Branch}
-use Rattle.assembler.specs.Jumps.{jump_by, jump_mnemonic, jump_operands}
-use Rattle.insn_codec.specs.Lines.{operands_text, address_text, decimal, offset_text, operand_text, place_text, register_text, signed_decimal, wide_text}
+use Rattle.assembler.proofs.Prelude.{◌≡◌, ℕ, ℤ, pos, negsuc, List, [], ◌∷◌, ◌++◌, Some, inl, inr, refl, sym, ◌∙◌, ap, subst, Option, None, arith, Jump, CallLocal, jump_by, jump_mnemonic, jump_operands, operands_text, address_text, offset_text, operand_text, place_text, register_text, signed_decimal, Operand, Register, HasLine, Item, statement, jump, Lacks, item_mnemonic, item_operands, operand_list, Mnemonic, append_cancel_right}
+use Rattle.assembler.specs.declared.lines.jump.Jump.TheVariants.{Branch}
 use Rattle.insn_codec.specs.declared.insn.Insn.TheVariants as insn
-use Rattle.insn_codec.specs.declared.operand.Operand.{Operand}
-use Rattle.insn_codec.specs.declared.register.Register.{Register}
 use Rattle.insn_codec.specs.declared.statement.Statement.TheVariants as statement_kind
-use Rattle.assembler.specs.Items.{HasLine, Item, statement, jump}
-use Rattle.assembler.specs.Forms.{Lacks, item_mnemonic, item_operands, operand_list}
-use Rattle.assembler.specs.declared.lines.jump.Jump.TheVariants as jump_kind
-use Rattle.insn_codec.specs.declared.mnemonic.Mnemonic.{Mnemonic}
 use Rattle.insn_codec.specs.declared.mnemonic.Mnemonic.TheVariants as mnemonic
 use Rattle.assembler.proofs.Digits.{wide_injective}
 use Rattle.assembler.proofs.Injective.{name_no_offset, offset_injective, operand_injective, register_injective, signed_injective}
-use Rattle.std.proofs.lemmas.List.{append_cancel_right}
 use Rattle.assembler.proofs.Ends.{tails}
-use Rattle.assembler.proofs.JumpLines.{IsOfJump, JumpsBy, of_jump, operands_are}
-use Rattle.assembler.proofs.Lacking.{apart, lacks_append, lacks_gone, split_same}
-use Rattle.assembler.proofs.NameBytes.{lacks_decimal, lacks_operand, lacks_place, lacks_register}
+use Rattle.assembler.proofs.JumpLines.{IsOfJump, JumpsBy, of_jump}
+use Rattle.assembler.proofs.Lacking.{split_same}
+use Rattle.assembler.proofs.NameBytes.{lacks_operand, lacks_place}
 
 -- what an item of the mnemonic is; of a jump nothing is said, and `exit` has no operands
 abbrev Shape : Mnemonic → Item → Type 0
@@ -42,52 +32,25 @@ abbrev ShapeOf : Option Mnemonic → Item → Type 0
 ShapeOf None i = Unit {0}
 ShapeOf (Some m) i = Shape m i
 
-shaped : (i : Item) → ShapeOf (item_mnemonic i) i
-shaped (statement (statement_kind.Insn (insn.Alu op width dst operand))) = (dst, operand, refl)
-shaped (statement (statement_kind.Insn (insn.Neg width dst))) = (dst, refl)
-shaped (statement (statement_kind.Insn (insn.SignExtend extension dst src))) = (dst, src, refl)
-shaped (statement (statement_kind.Insn (insn.ByteSwap order width dst))) = (dst, refl)
-shaped (statement (statement_kind.Insn (insn.Call helper))) = (helper, refl)
-shaped (statement (statement_kind.Insn (insn.Load size dst src offset))) = (dst, src, offset, refl)
-shaped (statement (statement_kind.Insn (insn.LoadSigned size dst src offset))) = (dst, src, offset, refl)
-shaped (statement (statement_kind.Insn (insn.StoreImm size dst offset imm))) = (dst, offset, imm, refl)
-shaped (statement (statement_kind.Insn (insn.Store size dst offset src))) = (dst, offset, src, refl)
-shaped (statement (statement_kind.Insn (insn.Atomic op width dst offset src))) = (dst, offset, src, refl)
-shaped (statement (statement_kind.Insn (insn.LoadWide dst value))) = (dst, value, refl)
-shaped (statement (statement_kind.Slot word)) = (word, refl)
-shaped (jump jump_kind.Near name) = tt
-shaped _ = tt
-
 shape_of : (m : Mnemonic) (i : Item) → item_mnemonic i ≡ Some m → Shape m i
-shape_of m i e = subst (λ o. ShapeOf o i) e (shaped i)
+shape_of m i e = subst (λ o. ShapeOf o i) e (grind arith)
 
 -- equal operands of what two items are
 between : (i j v w : Item) → i ≡ v → j ≡ w → item_operands i ≡ item_operands j → item_operands v ≡ item_operands w
 between i j v w p q e = sym (ap item_operands p) ∙ e ∙ ap item_operands q
 
 listed_same : (xs ys vs ws : List ℕ) → Lacks 44 xs → Lacks 44 vs → operand_list xs ys ≡ operand_list vs ws → (xs ≡ vs) × (ys ≡ ws)
-listed_same xs ys vs ws h k e =
-    let t = split_same 44 xs (32 ∷ ys) vs (32 ∷ ws) h k e in
-    (t.0, tails 32 32 ys ws t.1)
+listed_same xs ys vs ws h k e = grind (arith, split_same, tails)
 
 register_listed : (r s : Register) (ys ws : List ℕ) → operand_list (register_text r) ys ≡ operand_list (register_text s) ws → (r ≡ s) × (ys ≡ ws)
-register_listed r s ys ws e =
-    let t = listed_same (register_text r) ys (register_text s) ws (lacks_register 44 refl r) (lacks_register 44 refl s) e in
-    (register_injective r s t.0, t.1)
+register_listed r s ys ws e = grind arith
 
 -- a minus is no plus
 no_plus : (r s : Register) (n m : ℕ) → address_text r (pos n) ≡ address_text s (negsuc m) → ⊥
-no_plus r s n m e = lacks_gone 43 (address_text s (negsuc m)) (register_text r) (decimal n) (lacks_append 43 (register_text s) (45 ∷ decimal (suc m)) (lacks_register 43 refl s) (apart 45 43 refl, lacks_decimal 43 refl (suc m))) (sym e)
+no_plus r s n m e = grind arith
 
 address_same : (r s : Register) (y z : ℤ) → address_text r y ≡ address_text s z → (r ≡ s) × (y ≡ z)
-address_same r s (pos n) (pos m) e =
-    let t = split_same 43 (register_text r) (decimal n) (register_text s) (decimal m) (lacks_register 43 refl r) (lacks_register 43 refl s) e in
-    (register_injective r s t.0, offset_injective (pos n) (pos m) (ap (λ ds. 43 ∷ ds) t.1))
-address_same r s (pos n) (negsuc m) e = absurd (no_plus r s n m e)
-address_same r s (negsuc n) (pos m) e = absurd (no_plus s r m n (sym e))
-address_same r s (negsuc n) (negsuc m) e =
-    let t = split_same 45 (register_text r) (decimal (suc n)) (register_text s) (decimal (suc m)) (lacks_register 45 refl r) (lacks_register 45 refl s) e in
-    (register_injective r s t.0, offset_injective (negsuc n) (negsuc m) (ap (λ ds. 45 ∷ ds) t.1))
+address_same r s y z e = grind (arith, split_same, register_injective, offset_injective, no_plus)
 
 place_same : (r s : Register) (y z : ℤ) → place_text r y ≡ place_text s z → (r ≡ s) × (y ≡ z)
 place_same r s y z e = address_same r s y z (append_cancel_right (address_text r y) (address_text s z) (93 ∷ []) (tails 91 91 (address_text r y ++ 93 ∷ []) (address_text s z ++ 93 ∷ []) e))
@@ -106,20 +69,12 @@ compared_same r s o p xs ys e =
 
 -- the text of a jump's target
 target_of : (j : Jump) (i : Item) → JumpsBy j i → (target : List ℕ) × (item_operands i ≡ operands_text (jump_operands j target))
-target_of j i (inl p) = (offset_text p.0, ap item_operands p.1 ∙ sym (operands_are j p.0))
+target_of j i (inl p) = (offset_text p.0, ap item_operands p.1 ∙ sym (grind arith))
 target_of j i (inr p) = (p.0, ap item_operands p.1)
 
 -- two jumps with one mnemonic and the same operands are one, with one target
 jumps_same : (j l : Jump) (t u : List ℕ) → jump_mnemonic j ≡ jump_mnemonic l → operands_text (jump_operands j t) ≡ operands_text (jump_operands l u) → (j ≡ l) × (t ≡ u)
-jumps_same Near Near t u m e = (refl, e)
-jumps_same Long Long t u m e = (refl, e)
-jumps_same CallLocal CallLocal t u m e = (refl, e)
-jumps_same (Branch c w dst o) (Branch c' w' dst' o') t u m e =
-    let s = compared_same dst dst' o o' t u e in
-    let comparison : c ≡ c' = cc in
-    let width : w ≡ w' = cc in
-    ((λ x. Branch (comparison x) (width x) (s.0 x) (s.1 x)), s.2)
-jumps_same _ _ t u m e = absurd cc
+jumps_same j l t u m e = grind (arith, compared_same)
 
 same_target : (j l : Jump) (i k : Item) → (p : JumpsBy j i) → (q : JumpsBy l k) → HasLine i → HasLine k → j ≡ l → (target_of j i p).0 ≡ (target_of l k q).0 → i ≡ k
 unfolding target_of
@@ -142,21 +97,12 @@ same_shaped (mnemonic.Alu op width) i j p q a b h k e =
     let t = register_listed p.0 q.0 (operand_text p.1) (operand_text q.1) (between i j _ _ p.2 q.2 e) in
     let o = operand_injective p.1 q.1 t.1 in
     p.2 ∙ (λ x. statement (statement_kind.Insn (insn.Alu op width (t.0 x) (o x)))) ∙ sym q.2
-same_shaped (mnemonic.Neg width) i j p q a b h k e =
-    p.1 ∙ ap (λ r. statement (statement_kind.Insn (insn.Neg width r))) (register_injective p.0 q.0 (between i j _ _ p.1 q.1 e)) ∙ sym q.1
-same_shaped (mnemonic.SignExtend extension) i j p q a b h k e =
-    let t = register_listed p.0 q.0 (register_text p.1) (register_text q.1) (between i j _ _ p.2 q.2 e) in
-    let s = register_injective p.1 q.1 t.1 in
-    p.2 ∙ (λ x. statement (statement_kind.Insn (insn.SignExtend extension (t.0 x) (s x)))) ∙ sym q.2
-same_shaped (mnemonic.ByteSwap order width) i j p q a b h k e =
-    p.1 ∙ ap (λ r. statement (statement_kind.Insn (insn.ByteSwap order width r))) (register_injective p.0 q.0 (between i j _ _ p.1 q.1 e)) ∙ sym q.1
 same_shaped mnemonic.Ja i j p q a b h k e = same_jump mnemonic.Ja tt i j a b h k e
 same_shaped mnemonic.JaLong i j p q a b h k e = same_jump mnemonic.JaLong tt i j a b h k e
 same_shaped (mnemonic.Branch comparison width) i j p q a b h k e = same_jump (mnemonic.Branch comparison width) tt i j a b h k e
 same_shaped mnemonic.Call i j p q a b h k e =
     p.1 ∙ ap (λ n. statement (statement_kind.Insn (insn.Call n))) (signed_injective p.0 q.0 (between i j _ _ p.1 q.1 e)) ∙ sym q.1
 same_shaped mnemonic.CallLocal i j p q a b h k e = same_jump mnemonic.CallLocal tt i j a b h k e
-same_shaped mnemonic.Exit i j p q a b h k e = absurd p
 same_shaped (mnemonic.Load size) i j p q a b h k e =
     let t = register_listed p.0 q.0 (place_text p.1 p.2) (place_text q.1 q.2) (between i j _ _ p.3 q.3 e) in
     let s = place_same p.1 q.1 p.2 q.2 t.1 in
@@ -169,20 +115,7 @@ same_shaped (mnemonic.StoreImm size) i j p q a b h k e =
     let t = place_listed p.0 q.0 p.1 q.1 (signed_decimal p.2) (signed_decimal q.2) (between i j _ _ p.3 q.3 e) in
     let n = signed_injective p.2 q.2 t.2 in
     p.3 ∙ (λ x. statement (statement_kind.Insn (insn.StoreImm size (t.0 x) (t.1 x) (n x)))) ∙ sym q.3
-same_shaped (mnemonic.Store size) i j p q a b h k e =
-    let t = place_listed p.0 q.0 p.1 q.1 (register_text p.2) (register_text q.2) (between i j _ _ p.3 q.3 e) in
-    let s = register_injective p.2 q.2 t.2 in
-    p.3 ∙ (λ x. statement (statement_kind.Insn (insn.Store size (t.0 x) (t.1 x) (s x)))) ∙ sym q.3
-same_shaped (mnemonic.Atomic op width) i j p q a b h k e =
-    let t = place_listed p.0 q.0 p.1 q.1 (register_text p.2) (register_text q.2) (between i j _ _ p.3 q.3 e) in
-    let s = register_injective p.2 q.2 t.2 in
-    p.3 ∙ (λ x. statement (statement_kind.Insn (insn.Atomic op width (t.0 x) (t.1 x) (s x)))) ∙ sym q.3
-same_shaped mnemonic.LoadWide i j p q a b h k e =
-    let t = register_listed p.0 q.0 (wide_text p.1) (wide_text q.1) (between i j _ _ p.2 q.2 e) in
-    let w = wide_injective p.1 q.1 (subst (λ x. HasLine x) p.2 h) (subst (λ x. HasLine x) q.2 k) t.1 in
-    p.2 ∙ (λ x. statement (statement_kind.Insn (insn.LoadWide (t.0 x) (w x)))) ∙ sym q.2
-same_shaped mnemonic.Slot i j p q a b h k e =
-    p.1 ∙ ap (λ w. statement (statement_kind.Slot w)) (wide_injective p.0 q.0 (subst (λ x. HasLine x) p.1 h) (subst (λ x. HasLine x) q.1 k) (between i j _ _ p.1 q.1 e)) ∙ sym q.1
+same_shaped _ i j p q a b h k e = grind (arith, register_listed, place_listed, between, register_injective, wide_injective)
 
 -- a mnemonic and operands are those of one item
 pub same_code : (m : Mnemonic) (i j : Item) → item_mnemonic i ≡ Some m → item_mnemonic j ≡ Some m → HasLine i → HasLine j → item_operands i ≡ item_operands j → i ≡ j

@@ -1,16 +1,8 @@
--- Text is the source of exactly the code that assembling it answers.
-use Rattle.std.proofs.Common.{◌≡◌, ℕ, ◌+◌, ◌≤◌, List, [], ◌∷◌, ◌++◌, Ok, refl, sym, ◌∙◌, subst, arith, append_assoc, append-nil}
-use Rattle.assembler.proofs.Named.{Once, gives_slots, has_slots, once_of, label_slot_bound, slots_append}
+-- Text is the source of exactly the code that assembling it answers, and the answer of both passes.
+use Rattle.assembler.proofs.Prelude.{◌≡◌, ℕ, ◌+◌, ◌≤◌, List, [], ◌∷◌, ◌++◌, Ok, refl, sym, ◌∙◌, subst, arith, append_assoc, append-nil, ◌≢◌, Result, Err, Vec, map, Assembles, resolved, refused, lines_of, Scans, ended, next, Item, slots_of, item_of, label_slot, code_bytes, EachSays, Source, IfSome, OnErr, get_by_text, Global, Answers, Emits, FirstLineSays, FirstPass, IsAnswer, OneReading, AsmError, Memory, Line, Scanned}
+use Rattle.assembler.proofs.Named.{Once, gives_slots, has_slots, label_slot_bound, once_of, slots_append}
 use Rattle.assembler.proofs.Resolving.{EachInRange, SlotsFit, emitted_of, emitted_same, stand_of}
-use Rattle.assembler.specs.Assembles.{Assembles}
-use Rattle.assembler.specs.Assembles.Assembles.{resolved}
-use Rattle.assembler.specs.Cutting.{lines_of}
-use Rattle.assembler.specs.FirstPass.{Scans}
-use Rattle.assembler.specs.FirstPass.Scans.{ended, next}
-use Rattle.assembler.specs.Items.{Item, slots_of}
-use Rattle.assembler.specs.Labels.{label_slot}
-use Rattle.assembler.specs.SecondPass.{code_bytes}
-use Rattle.assembler.specs.Source.{EachSays, Source}
+use Rattle.assembler.proofs.Scanning.{one_scan}
 
 -- lines that say something each, with no label twice and few slots, are scanned
 pub scanned_of : (before : List Item) (lines : List (List ℕ)) (items : List Item) → EachSays lines items → Once before items → slots_of (before ++ items) ≤ 65536 → Scans before lines (Ok (before ++ items))
@@ -62,3 +54,38 @@ of_source text bytes s =
     let once = once_of s.labels s.items [] s.items s.places refl in
     resolved s.items (scanned_of [] (lines_of text) s.items s.lines once s.room)
     (sym (emitted_same s.labels (label_slot s.items) 1 0 s.items (has_slots s.labels s.items s.places)) ∙ emitted_of s.labels 1 0 s.items bytes s.code)
+
+-- the labels that the first pass found have slots within the 65,536
+pub labels_fit : (lines : List (List ℕ)) (s : Scanned) → FirstPass lines (Ok s) → (q : List ℕ) → IfSome (get_by_text s.labels q) (λ t. t ≤ 65536)
+labels_fit lines s h q = grind (arith, slots_fit)
+
+abbrev scanned : List Item → Result (List Item) AsmError
+scanned items = Ok items
+
+only_refused : (lines : List (List ℕ)) (e : AsmError) (s : Result (List ℕ) AsmError) → ((t : Result (List Item) AsmError) → Scans [] lines t → t ≡ Err e) → Assembles lines s → s ≡ Err e
+only_refused lines e s only h = grind arith
+
+no_lines : (xs : List Line) → map item_of xs ≡ [] → xs ≡ []
+no_lines [] e = refl
+no_lines (x ∷ xs) e = absurd cc
+
+-- where the first pass finds something, the first line says something
+first_says : (before : List Item) (lines : List (List ℕ)) (items : List Item) → Scans before lines (Ok items) → (items ≡ before → ⊥) → FirstLineSays lines
+first_says before lines items ended some = absurd (some refl)
+first_says before lines items (next i reads free room rest) some = (i, reads)
+
+pub answered : (text : List ℕ) (s : Scanned) (slice : List Line) (r : Result (Vec ℕ Global) AsmError) → slice ≡ s.lines.items → FirstPass (lines_of text) (Ok s) → Emits (code_bytes (λ q. get_by_text s.labels q) 1 0 (map item_of slice)) r → OnErr r (slice ≢ []) → Answers text r
+answered text s slice (Ok code) e h m some = scanned_source text code.items (map item_of s.lines.items) h.0.0 ((grind arith) ∙ m)
+answered text s slice (Err Memory) e h m some = first_says [] (lines_of text) (map item_of s.lines.items) h.0.0 (λ none. some (e ∙ no_lines s.lines.items none))
+answered text s slice (Err _) e h m some = resolved (map item_of s.lines.items) h.0.0 ((grind arith) ∙ m)
+
+pub only_answer : (text : List ℕ) (s : Scanned) (slice : List Line) (r : Result (Vec ℕ Global) AsmError) → slice ≡ s.lines.items → FirstPass (lines_of text) (Ok s) → Emits (code_bytes (λ q. get_by_text s.labels q) 1 0 (map item_of slice)) r → (t : Result (List ℕ) AsmError) → Assembles (lines_of text) t → IsAnswer t r
+only_answer text s slice r e h m t a = grind arith
+
+pub first_refused : (text : List ℕ) (e : AsmError) → FirstPass (lines_of text) (Err e) → Answers text (Err e)
+first_refused text Memory h = h
+first_refused text _ h = refused h.0
+
+-- where each line reads in one way, both passes have one answer
+pub one_answer : OneReading → (lines : List (List ℕ)) (r s : Result (List ℕ) AsmError) → Assembles lines r → Assembles lines s → r ≡ s
+one_answer one lines r s h b = grind (arith, only_refused, one_scan)

@@ -1,23 +1,15 @@
--- Which items have a line.
-use Rattle.std.proofs.Common.{◌≡◌, ◌⊎◌, ℕ, ℤ, List, [], ◌∷◌, ◌++◌, Some, inl, inr, refl, sym, ◌∙◌, ap, subst, false}
-use Rattle.std.specs.Prelude.{codes}
-use Rattle.insn_codec.specs.Lines.{offset_text, operand_text, place_text, register_text, signed_decimal, wide_text}
-use Rattle.insn_codec.specs.declared.insn.Insn.TheVariants as insn
-use Rattle.insn_codec.specs.declared.register.Register.{Register}
-use Rattle.insn_codec.specs.declared.statement.Statement.TheVariants as statement_kind
-use Rattle.assembler.specs.Items.{HasLine, IsName, Item, item_text, statement, label, jump}
-use Rattle.assembler.specs.Forms.{Lacks, item_mnemonic, item_operands, operand_list}
-use Rattle.insn_codec.specs.Mnemonics.{mnemonic_text}
-use Rattle.insn_codec.specs.Statements.{statement_mnemonic}
-use Rattle.assembler.specs.Jumps.{jump_mnemonic}
-use Rattle.assembler.specs.declared.lines.jump.Jump.TheVariants as jump_kind
-use Rattle.insn_codec.specs.declared.mnemonic.Mnemonic.{Mnemonic}
-use Rattle.assembler.proofs.Halves.{line_halves}
-use Rattle.std.proofs.lemmas.List.{append_cancel_right}
+-- Which items have a line, and that each line is read in one way.
+use Rattle.assembler.proofs.Prelude.{◌≡◌, ◌⊎◌, ℕ, ℤ, List, [], ◌∷◌, ◌++◌, Some, inl, inr, refl, sym, ◌∙◌, ap, subst, false, arith, Result, Ok, Err, codes, IfSome, place_text, Register, HasLine, IsName, Item, item_text, statement, label, jump, InRange, item_of, Lacks, item_mnemonic, item_operands, operand_list, ReadsOperands, mnemonic_text, statement_mnemonic, jump_mnemonic, Mnemonic, append_cancel_right, is_plain, mnemonic_plain, offset_plain, register_plain, signed_decimal_plain, wide_plain, OneReading, says, out_of_range, no_form, ReadsAs, Line, LineError, NoForm, OutOfRange}
 use Rattle.assembler.proofs.Lacking.{apart, lacks_append, lacks_by, lacks_gone, split_same}
-use Rattle.assembler.proofs.NameBytes.{lacks_operand, lacks_place}
-use Rattle.insn_codec.proofs.Plain.{is_plain, mnemonic_plain, offset_plain, register_plain, signed_decimal_plain, wide_plain}
-use Rattle.assembler.proofs.Plain.{name_plain, plain_lacks}
+use Rattle.assembler.proofs.NameBytes.{lacks_operand, lacks_place, name_plain, plain_lacks}
+use Rattle.assembler.proofs.Injective.{mnemonic_injective}
+use Rattle.assembler.proofs.Scanning.{only_formless, only_says, only_wide}
+use Rattle.assembler.proofs.SameItem.{same_code}
+use Rattle.insn_codec.specs.declared.insn.Insn.TheVariants as insn
+use Rattle.insn_codec.specs.declared.statement.Statement.TheVariants as statement_kind
+
+pub line_halves : (i : Item) (m : Mnemonic) → item_mnemonic i ≡ Some m → item_text i ≡ mnemonic_text m ++ 32 ∷ item_operands i
+line_halves i m e = subst (λ o. IfSome o (λ n. item_text i ≡ mnemonic_text n ++ 32 ∷ item_operands i)) e (grind arith)
 
 abbrev pub exit : Item
 exit = statement (statement_kind.Insn insn.Exit)
@@ -43,26 +35,8 @@ place_lacks_colon r z = lacks_place 58 refl refl refl r z
 
 -- no operand holds a colon
 operands_lack_colon : (i : Item) → HasLine i → Lacks 58 (item_operands i)
-operands_lack_colon (statement (statement_kind.Insn (insn.Alu op width dst operand))) h = lacks_listed (register_text dst) (operand_text operand) (plain_lacks 58 refl (register_text dst) (register_plain dst)) (lacks_operand 58 refl operand)
-operands_lack_colon (statement (statement_kind.Insn (insn.Neg width dst))) h = plain_lacks 58 refl (register_text dst) (register_plain dst)
-operands_lack_colon (statement (statement_kind.Insn (insn.SignExtend extension dst src))) h = lacks_listed (register_text dst) (register_text src) (plain_lacks 58 refl (register_text dst) (register_plain dst)) (plain_lacks 58 refl (register_text src) (register_plain src))
-operands_lack_colon (statement (statement_kind.Insn (insn.ByteSwap order width dst))) h = plain_lacks 58 refl (register_text dst) (register_plain dst)
-operands_lack_colon (statement (statement_kind.Insn (insn.Jump offset))) h = plain_lacks 58 refl (offset_text offset) (offset_plain offset)
-operands_lack_colon (statement (statement_kind.Insn (insn.JumpLong offset))) h = plain_lacks 58 refl (offset_text offset) (offset_plain offset)
-operands_lack_colon (statement (statement_kind.Insn (insn.Branch comparison width dst operand offset))) h = lacks_listed (register_text dst) (operand_list (operand_text operand) (offset_text offset)) (plain_lacks 58 refl (register_text dst) (register_plain dst)) (lacks_listed (operand_text operand) (offset_text offset) (lacks_operand 58 refl operand) (plain_lacks 58 refl (offset_text offset) (offset_plain offset)))
-operands_lack_colon (statement (statement_kind.Insn (insn.Call helper))) h = plain_lacks 58 refl (signed_decimal helper) (signed_decimal_plain helper)
-operands_lack_colon (statement (statement_kind.Insn (insn.CallLocal offset))) h = plain_lacks 58 refl (offset_text offset) (offset_plain offset)
-operands_lack_colon (statement (statement_kind.Insn insn.Exit)) h = tt
-operands_lack_colon (statement (statement_kind.Insn (insn.Load size dst src offset))) h = lacks_listed (register_text dst) (place_text src offset) (plain_lacks 58 refl (register_text dst) (register_plain dst)) (place_lacks_colon src offset)
-operands_lack_colon (statement (statement_kind.Insn (insn.LoadSigned size dst src offset))) h = lacks_listed (register_text dst) (place_text src offset) (plain_lacks 58 refl (register_text dst) (register_plain dst)) (place_lacks_colon src offset)
-operands_lack_colon (statement (statement_kind.Insn (insn.StoreImm size dst offset imm))) h = lacks_listed (place_text dst offset) (signed_decimal imm) (place_lacks_colon dst offset) (plain_lacks 58 refl (signed_decimal imm) (signed_decimal_plain imm))
-operands_lack_colon (statement (statement_kind.Insn (insn.Store size dst offset src))) h = lacks_listed (place_text dst offset) (register_text src) (place_lacks_colon dst offset) (plain_lacks 58 refl (register_text src) (register_plain src))
-operands_lack_colon (statement (statement_kind.Insn (insn.Atomic op width dst offset src))) h = lacks_listed (place_text dst offset) (register_text src) (place_lacks_colon dst offset) (plain_lacks 58 refl (register_text src) (register_plain src))
-operands_lack_colon (statement (statement_kind.Insn (insn.LoadWide dst value))) h = lacks_listed (register_text dst) (wide_text value) (plain_lacks 58 refl (register_text dst) (register_plain dst)) (plain_lacks 58 refl (wide_text value) (wide_plain value))
-operands_lack_colon (statement (statement_kind.Slot word)) h = plain_lacks 58 refl (wide_text word) (wide_plain word)
-operands_lack_colon (label name) h = tt
-operands_lack_colon (jump (jump_kind.Branch comparison width dst operand) name) h = lacks_listed (register_text dst) (operand_list (operand_text operand) name) (plain_lacks 58 refl (register_text dst) (register_plain dst)) (lacks_listed (operand_text operand) name (lacks_operand 58 refl operand) (name_lacks 58 refl name h))
-operands_lack_colon (jump _ name) h = name_lacks 58 refl name h
+operands_lack_colon i h =
+    grind (arith, lacks_listed, plain_lacks, register_plain, lacks_operand, offset_plain, signed_decimal_plain, place_lacks_colon, wide_plain, name_lacks)
 
 code_lacks_colon : (i : Item) (m : Mnemonic) → HasLine i → item_mnemonic i ≡ Some m → Lacks 58 (item_text i)
 code_lacks_colon i m h e = subst (λ t. Lacks 58 t) (sym (line_halves i m e)) (lacks_append 58 (mnemonic_text m) (32 ∷ item_operands i) (mnemonic_lacks 58 refl m) (apart 32 58 refl, operands_lack_colon i h))
@@ -102,10 +76,39 @@ exit_only i h e = elim (kind_of i) [
 
 -- a line without a space that is neither the exit's nor a label's says nothing
 pub nothing_only : (line : List ℕ) → Lacks 32 line → (line ≡ codes "exit" → ⊥) → ((name : List ℕ) → line ≡ name ++ 58 ∷ [] → ⊥) → (i : Item) → HasLine i → line ≡ item_text i → ⊥
-nothing_only line space other colon i h e = elim (kind_of i) [
-  | inl k ↦ lacks_gone 32 line (mnemonic_text k.0) (item_operands i) space (e ∙ line_halves i k.0 k.1)
-  | inr k ↦ elim k [
-    | inl p ↦ other (e ∙ ap item_text p)
-    | inr n ↦ colon n.0 (e ∙ ap item_text n.1)
-  ]
-]
+nothing_only line space other colon i h e = grind arith
+
+-- an item with this line has this mnemonic and these operands
+behind : (m : Mnemonic) (operands text : List ℕ) → text ≡ mnemonic_text m ++ 32 ∷ operands → (i : Item) → HasLine i → text ≡ item_text i → (item_mnemonic i ≡ Some m) × (operands ≡ item_operands i)
+behind m operands text t i h e =
+    let k = code_only (mnemonic_text m) operands i (plain_lacks 32 refl (mnemonic_text m) (mnemonic_plain m)) h (sym t ∙ e) in
+    (k.1 ∙ ap (λ n. Some n) (sym (mnemonic_injective m k.0 k.2)), k.3)
+
+pub reads_line : (m : Mnemonic) (operands text : List ℕ) (r : Result Line LineError) → text ≡ mnemonic_text m ++ 32 ∷ operands → ReadsOperands m operands r → ReadsAs text r
+reads_line m operands text (Ok l) t read = (
+  (t ∙ ap (λ o. mnemonic_text m ++ 32 ∷ o) read.1 ∙ sym (line_halves (item_of l) m read.0), read.2, read.3),
+  λ i h e. let k = behind m operands text t i h e in same_code m i (item_of l) k.0 read.0 h read.2 (sym k.1 ∙ read.1),
+)
+reads_line m operands text (Err NoForm) t read = λ i h e. let k = behind m operands text t i h e in read i h k.0 k.1
+reads_line m operands text (Err OutOfRange) t read = (
+  (read.0, t ∙ ap (λ o. mnemonic_text m ++ 32 ∷ o) read.3 ∙ sym (line_halves read.0 m read.2), read.1, read.4),
+  λ i h e range. let k = behind m operands text t i h e in
+      read.4 (subst (λ x. InRange x) (same_code m i read.0 k.0 read.2 h read.1 (sym k.1 ∙ read.3)) range),
+)
+
+of_kind : (i j : Item) → ((m : Mnemonic) × (item_mnemonic i ≡ Some m)) ⊎ ((i ≡ exit) ⊎ ((name : List ℕ) × (i ≡ label name))) → HasLine i → HasLine j → item_text i ≡ item_text j → i ≡ j
+of_kind i j (inl k) h g e =
+    let t = code_only (mnemonic_text k.0) (item_operands i) j (plain_lacks 32 refl (mnemonic_text k.0) (mnemonic_plain k.0)) g (sym (line_halves i k.0 k.1) ∙ e) in
+    let m : Some t.0 ≡ Some k.0 = ap (λ n. Some n) (sym (mnemonic_injective k.0 t.0 t.2)) in
+    same_code k.0 i j k.1 (t.1 ∙ m) h g t.3
+of_kind i j (inr (inl p)) h g e = p ∙ sym (exit_only j g (sym (ap item_text p) ∙ e))
+of_kind i j (inr (inr n)) h g e = n.1 ∙ sym (label_only n.0 j g (sym (ap item_text n.1) ∙ e))
+
+-- two things with one line are the same
+pub same_line : (i j : Item) → HasLine i → HasLine j → item_text i ≡ item_text j → i ≡ j
+same_line i j h g e = of_kind i j (kind_of i) h g e
+
+pub one_reading : OneReading
+one_reading line (says i) b h k = sym (only_says line i h (λ j g e. same_line j i g h.1 (sym e ∙ h.0)) b k)
+one_reading line out_of_range b h k = sym (only_wide line h (λ i g e range. h.3 (subst (λ x. InRange x) (same_line i h.0 g h.2 (sym e ∙ h.1)) range)) b k)
+one_reading line no_form b h k = sym (only_formless line h b k)

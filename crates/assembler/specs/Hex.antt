@@ -1,5 +1,6 @@
 -- Hex digits.
-use Rattle.std.specs.Prelude.{ℕ, Bool, true, ◌&&◌, ◌||◌, List, [], ◌∷◌, nat_le}
+use Rattle.std.specs.Prelude.{ℕ, Bool, ◌&&◌, ◌||◌, List, nat_le}
+use Rattle.std.specs.List.{list_all}
 
 -- a hex digit, lower case
 abbrev pub is_hex_digit : ℕ → Bool
@@ -7,5 +8,4 @@ is_hex_digit b = (nat_le 48 b && nat_le b 57) || (nat_le 97 b && nat_le b 102)
 
 -- each byte is a hex digit
 abbrev pub all_hex_digits : List ℕ → Bool
-all_hex_digits [] = true
-all_hex_digits (b ∷ bs) = is_hex_digit b && all_hex_digits bs
+all_hex_digits = list_all is_hex_digit

@@ -1,5 +1,6 @@
 -- What lines say.
-use Rattle.std.specs.Prelude.{ℕ, ◌+◌, ◌^◌, ◌<◌, Bool, ◌&&◌, ◌||◌, IsTrue, true, List, [], ◌∷◌, ◌++◌, codes, nat_eq, nat_le}
+use Rattle.std.specs.Prelude.{ℕ, ◌+◌, ◌^◌, ◌<◌, Bool, ◌&&◌, ◌||◌, IsTrue, List, [], ◌∷◌, ◌++◌, codes, nat_eq, nat_le}
+use Rattle.std.specs.List.{list_all}
 use Rattle.insn_codec.specs.Lines.{line_with}
 use Rattle.insn_codec.specs.Statements.{IsStatement, statement_slots, statement_text}
 use Rattle.insn_codec.specs.declared.insn.Insn.TheVariants.{LoadWide}
@@ -38,8 +39,7 @@ goes_on_name b = begins_name b || (nat_le 48 b && nat_le b 57)
 
 -- each byte is a letter, an underscore or a digit
 abbrev pub all_go_on : List ℕ → Bool
-all_go_on [] = true
-all_go_on (b ∷ bs) = goes_on_name b && all_go_on bs
+all_go_on = list_all goes_on_name
 
 -- an identifier: a letter or an underscore, and then any of letters, underscores and digits
 abbrev pub IsName : List ℕ → Type 0

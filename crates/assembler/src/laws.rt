@@ -6,23 +6,27 @@ ghost use Rattle.assembler.specs.Reading.{OneReading};
 use insn_codec::{no_line_feed, slots_are_filled, statement_is_spelled};
 
 /// Text is the source of exactly the code that assembling it answers.
+#[tactic(auto, using(crate::proofs::Sources::of_source, crate::proofs::Sources::source_of))]
 pub fn source_is_assembled()
     ensures { SourceIsAssembled }
 {}
 
 /// A text is refused by the first line that has A1, A2, A4 or A6; where none has, by the first
 /// line with a jump to a label that no line names (A3) or that is too far (A5).
+#[tactic(auto, using(crate::proofs::Refusing::caused, crate::proofs::Refusing::of_cause))]
 pub fn refused_by_cause()
     ensures { RefusedByCause }
 {}
 
 /// Each line reads in one way, and so assembling has one answer.
+#[tactic(auto, using(crate::proofs::Whole::one_reading, crate::proofs::Sources::one_answer))]
 pub fn one_answer()
     ensures one_reading { OneReading }
     ensures one_answer { OneAnswer }
 {}
 
 /// The listing of code is its source, so that assembling it answers that code.
+#[tactic(auto, using(crate::proofs::Listed::listed))]
 pub fn listing_is_source()
     ensures { ListingIsSource }
 {

@@ -1,4 +1,4 @@
 pub mod Casts
 pub mod Widths
-pub mod Operations
 pub mod Overflow
+pub mod Prelude

@@ -1,10 +1,5 @@
 -- Sums of words, and when they are those of the signed numbers. Crates above cite these.
-use Rattle.std.proofs.Common.{◌≡◌, ℕ, ◌<◌, ◌^◌, arith, true, false}
-use Rattle.std.proofs.lemmas.Int.{ints}
-use Rattle.bpf_word.specs.Comparisons.{holds_of}
-use Rattle.bpf_word.specs.Overflow.{IsSigned, SumsOverflow, exact_sum, wrapped_sum}
-use Rattle.bpf_word.specs.Signs.{signed_of}
-use Rattle.bpf_word.specs.declared.comparison.Comparison.TheVariants.{Sge, Slt}
+use Rattle.bpf_word.proofs.Prelude.{◌≡◌, ℕ, ◌<◌, ◌^◌, arith, true, false, ints, holds_of, IsSigned, SumsOverflow, exact_sum, wrapped_sum, signed_of, Sge, Slt}
 
 module _ (a b : ℕ) (ha : a < 2 ^ 64) (hb : b < 2 ^ 64) where
   pub rises : holds_of Slt b 0 ≡ false → holds_of Slt (wrapped_sum a b) a ≡ false → signed_of 64 (wrapped_sum a b) ≡ exact_sum a b

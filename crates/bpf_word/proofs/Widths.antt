@@ -1,19 +1,9 @@
 -- A result is a word of the width of its operation.
-use Rattle.std.proofs.Common.{ℕ, ◌+◌, ◌*◌, ◌<◌, ◌^◌, ◌%◌, arith}
-use Rattle.std.proofs.Math.Nat.{mod-lt, div-le_self}
-use Rattle.std.proofs.Math.Pow.{pow_pos}
-use Rattle.std.proofs.lemmas.Nat.{or_lt, xor_lt}
-use Rattle.std.specs.Int.Bits.{and_lt}
-use Rattle.std.specs.Prelude.{ℤ, pos, negsuc}
-use Rattle.bpf_word.specs.Arithmetic.{operated}
-use Rattle.bpf_word.specs.Signs.{word_of}
-use Rattle.bpf_word.specs.declared.operation.Operation.{Operation}
-use Rattle.bpf_word.specs.declared.operation.Operation.TheVariants.{Add, Sub, Mul, Div, Sdiv, Or, And, Lsh, Rsh, Mod, Smod, Xor, Mov, Arsh}
+use Rattle.bpf_word.proofs.Prelude.{ℕ, ◌+◌, ◌*◌, ◌<◌, ◌^◌, ◌%◌, arith, mod-lt, div-le_self, pow_pos, or_lt, xor_lt, and_lt, ℤ, operated, word_of, Operation, Add, Mul, Div, Sdiv, Or, And, Lsh, Rsh, Mod, Smod, Xor, Mov}
 
 pub word_below : (bits : ℕ) (z : ℤ) → word_of bits z < 2 ^ bits
 unfolding word_of
-word_below bits (pos a) = mod-lt a (pow_pos bits)
-word_below bits (negsuc a) = omega (arith, pow_pos bits)
+word_below bits z = grind (arith, mod-lt, pow_pos)
 
 pub operated_below : (bits : ℕ) (operation : Operation) (a b : ℕ) → a < 2 ^ bits → b < 2 ^ bits → operated bits operation a b < 2 ^ bits
 unfolding operated

@@ -5,32 +5,38 @@ ghost use Rattle.bpf_word.specs.Overflow.{SumsOverflow};
 ghost use Rattle.bpf_word.specs.Rows.{RowsStand};
 
 /// Words worked out by hand.
+#[tactic(auto, unfolding(crate::specs::Arithmetic::operated, crate::specs::Arithmetic::alu64_of, crate::specs::Arithmetic::alu32_of, crate::specs::Bytes::swap_of, crate::specs::Comparisons::holds_of, crate::specs::Signs::sext_of, crate::specs::Signs::signed_of, crate::specs::Signs::word_of))]
 pub fn rows_stand()
     ensures { RowsStand }
 {}
 
 /// The result of 32-bit arithmetic has zeros in its upper 32 bits (RFC 9669, section 4.1).
+#[tactic(auto, using(crate::proofs::Widths::operated_below), unfolding(crate::specs::Arithmetic::alu32_of))]
 pub fn upper_half_is_zero()
     ensures { UpperHalfIsZero }
 {}
 
 /// What a move, a sum and an exclusive or of 64 bits are.
+#[tactic(auto, unfolding(crate::specs::Arithmetic::alu64_of, crate::specs::Arithmetic::operated))]
 pub fn operations_are()
     ensures { OperationsAre }
 {}
 
 /// The comparisons by equality tell equal words from others.
+#[tactic(auto, unfolding(crate::specs::Comparisons::holds_of))]
 pub fn comparisons_tell()
     ensures { ComparisonsTell }
 {}
 
 /// What is computed from words is a word of 64 bits.
+#[tactic(auto, using(crate::proofs::Widths::operated_below, crate::proofs::Widths::word_below), unfolding(crate::specs::Arithmetic::alu64_of, crate::specs::Signs::sext_of, crate::specs::Bytes::swap_of))]
 pub fn results_are_words()
     ensures { ResultsAreWords }
 {}
 
 /// A sum of words is the sum of the signed numbers that they are exactly where two signed
 /// comparisons say so; else that sum has no word.
+#[tactic(auto, using(crate::proofs::Overflow::sums_overflow))]
 pub fn sums_overflow()
     ensures { SumsOverflow }
 {}

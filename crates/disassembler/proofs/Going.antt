@@ -1,8 +1,5 @@
 -- The listing, statement by statement.
-use Rattle.std.proofs.Common.{◌≡◌, ℕ, ◌<◌, arith, length, List, [], ◌∷◌, ◌++◌, refl, sym, ◌∙◌, ap, append_assoc, append-nil, subst}
-use Rattle.insn_codec.specs.Statements.{Listing, after_statement, statement_of, statement_text}
-use Rattle.insn_codec.specs.Statements.Lists.{ended, place}
-use Rattle.insn_codec.specs.declared.statement.Statement.{Statement}
+use Rattle.disassembler.proofs.Prelude.{◌≡◌, ℕ, ◌<◌, arith, length, List, [], ◌∷◌, ◌++◌, refl, ap, append_assoc, append-nil, subst, Listing, after_statement, statement_of, statement_text, ended, place, Statement}
 
 -- one more line in front
 pub placed : (code more : List ℕ) → (code ≡ [] → ⊥) → Listing (after_statement code) more → Listing code (statement_text (statement_of code) ++ 10 ∷ more)
@@ -18,18 +15,11 @@ none_left [] e = record { statements = []; lists = ended; text_is = refl }
 none_left (byte ∷ bytes) e = absurd cc
 
 some_left : (code after : List ℕ) → length after < length code → code ≡ [] → ⊥
-some_left [] after less e = omega (arith, less)
-some_left (byte ∷ bytes) after less e = cc
+some_left code after less e = grind arith
 
 -- whatever lists the rest, behind the text so far, lists the code; so it is after one more line
 pub goes : (code rest after out line joined longer more : List ℕ) (x : Statement) → ((t : List ℕ) → Listing rest t → Listing code (out ++ t)) → x ≡ statement_of rest → after ≡ after_statement rest → length after < length rest → line ≡ statement_text x → joined ≡ out ++ line → longer ≡ joined ++ 10 ∷ [] → Listing after more → Listing code (longer ++ more)
-goes code rest after out line joined longer more x so_far is at less printed first second later =
-    let shown : line ≡ statement_text (statement_of rest) = printed ∙ ap statement_text is in
-    let text : longer ++ more ≡ out ++ (statement_text (statement_of rest) ++ 10 ∷ more) =
-    ap (λ (t : List ℕ). t ++ more) (second ∙ ap (λ (t : List ℕ). t ++ 10 ∷ []) (first ∙ ap (λ (t : List ℕ). out ++ t) shown))
-    ∙ append_assoc (out ++ statement_text (statement_of rest)) (10 ∷ []) more
-    ∙ append_assoc out (statement_text (statement_of rest)) (10 ∷ more) in
-    subst (λ t. Listing code t) (sym text) (so_far _ (placed rest more (some_left rest after less) (subst (λ a. Listing a more) at later)))
+goes code rest after out line joined longer more x so_far is at less printed first second later = grind (arith, append_assoc, placed, some_left)
 
 pub whole : (code rest out : List ℕ) → ((t : List ℕ) → Listing rest t → Listing code (out ++ t)) → rest ≡ [] → Listing code out
 whole code rest out so_far e = subst (λ t. Listing code t) (append-nil out) (so_far [] (none_left rest e))

@@ -1,3 +1,4 @@
 pub mod Words
 pub mod Going
 pub mod One
+pub mod Prelude

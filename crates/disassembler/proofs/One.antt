@@ -1,10 +1,5 @@
 -- Each code has one listing.
-use Rattle.std.proofs.Common.{◌≡◌, ℕ, zero, suc, ◌*◌, ◌<◌, ◌≤◌, List, [], ◌∷◌, length, refl, sym, ◌∙◌, ap, arith, length-drop}
-use Rattle.insn_codec.specs.Laws.{SlotsAreFilled}
-use Rattle.insn_codec.specs.Statements.{Listing, Lists, after_statement, lines_text, statement_of, statement_slots}
-use Rattle.insn_codec.specs.Statements.Lists.{ended, place}
-use Rattle.insn_codec.specs.declared.statement.Statement.{Statement}
-use Rattle.disassembler.specs.Laws.{OneListing}
+use Rattle.disassembler.proofs.Prelude.{◌≡◌, ℕ, zero, suc, ◌<◌, ◌≤◌, List, [], ◌∷◌, length, refl, sym, ◌∙◌, ap, arith, SlotsAreFilled, Listing, Lists, after_statement, lines_text, statement_of, ended, place, Statement, OneListing}
 use Rattle.disassembler.proofs.Going.{none_left, placed}
 
 -- what lists code begins with the statement at its front
@@ -31,7 +26,7 @@ same (x ∷ xs) (y ∷ ys) (byte ∷ bytes) p q =
     cc
 
 goes_on : SlotsAreFilled → (byte : ℕ) (bytes : List ℕ) → length (after_statement (byte ∷ bytes)) < length (byte ∷ bytes)
-goes_on filled byte bytes = omega (arith, length-drop (8 * statement_slots (statement_of (byte ∷ bytes))) (byte ∷ bytes), (filled.by_statement (statement_of (byte ∷ bytes))).some)
+goes_on filled byte bytes = grind arith
 
 -- a listing of code of so many bytes at most
 listed : SlotsAreFilled → (n : ℕ) (code : List ℕ) → length code ≤ n → (text : List ℕ) × Listing code text

@@ -5,6 +5,7 @@ ghost use Rattle.disassembler.specs.Rows.{RowsStand};
 use insn_codec::slots_are_filled;
 
 /// Each code has exactly one listing.
+#[tactic(auto, using(crate::proofs::One::one_of))]
 pub fn one_listing()
     ensures { OneListing }
 {

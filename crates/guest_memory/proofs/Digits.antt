@@ -1,23 +1,17 @@
 -- The bytes of words.
-use Rattle.std.proofs.Common.{◌≡◌, ℕ, zero, suc, ◌+◌, ◌*◌, ◌/◌, ◌%◌, ◌^◌, ◌<◌, List, [], ◌∷◌, length, get_or, sym, ap, ◌∙◌, arith}
-use Rattle.std.specs.Prelude.{All}
-use Rattle.std.proofs.Math.Nat.{pow-succ', div-div-eq-div-mul, div-one}
-use Rattle.std.proofs.lemmas.List.Elements.{All-head, All-tail}
-use Rattle.guest_memory.specs.Word.{word_of, low_bytes}
-use Rattle.guest_memory.specs.Laws.{byte_of}
+use Rattle.guest_memory.proofs.Prelude.{◌≡◌, ℕ, zero, suc, ◌+◌, ◌*◌, ◌/◌, ◌%◌, ◌^◌, ◌<◌, List, [], ◌∷◌, length, get_or, sym, ap, ◌∙◌, arith, All, pow-succ', div-div-eq-div-mul, All-head, All-tail, word_of, low_bytes, byte_of}
 
 byte_of-zero : (w : ℕ) → byte_of w 0 ≡ w % 256
-byte_of-zero w = ap (λ (n : ℕ). n % 256) (div-one w)
+byte_of-zero w = grind arith
 
 byte_of-suc : (w i : ℕ) → byte_of w (suc i) ≡ byte_of (w / 256) i
-byte_of-suc w i =
-    ap (λ (n : ℕ). w / n % 256) (pow-succ' 256 i) ∙ ap (λ (n : ℕ). n % 256) (sym (div-div-eq-div-mul w 256 (256 ^ i)))
+byte_of-suc w i = grind (arith, pow-succ', div-div-eq-div-mul)
 
 low_byte : (b w : ℕ) → b < 256 → (b + 256 * w) % 256 ≡ b
-low_byte b w h = omega arith
+low_byte b w h = grind arith
 
 high_bytes : (b w : ℕ) → b < 256 → (b + 256 * w) / 256 ≡ w
-high_bytes b w h = omega arith
+high_bytes b w h = grind arith
 
 -- the i-th byte of the word that bytes make
 pub byte_of-word_of : (bs : List ℕ) (i : ℕ) → All (λ b. b < 256) bs → i < length bs → byte_of (word_of bs) i ≡ get_or bs i 0
@@ -35,7 +29,7 @@ get_or-low_bytes (suc n) w zero inside = sym (byte_of-zero w)
 get_or-low_bytes (suc n) w (suc i) inside = get_or-low_bytes n (w / 256) i (omega arith) ∙ sym (byte_of-suc w i)
 
 more_bytes : (b w p : ℕ) → b < 256 → w < p → b + 256 * w < 256 * p
-more_bytes b w p hb hw = omega arith
+more_bytes b w p hb hw = grind arith
 
 pub word_of-bound : (bs : List ℕ) → All (λ b. b < 256) bs → word_of bs < 256 ^ length bs
 word_of-bound [] bytes = omega arith

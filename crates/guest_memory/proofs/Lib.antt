@@ -1,5 +1,4 @@
 pub mod Bytes
-pub mod Changes
 pub mod Start
 pub mod Digits
 pub mod Places
@@ -9,3 +8,4 @@ pub mod Overlays
 pub mod Writing
 pub mod Lending
 pub mod RegionWords
+pub mod Prelude

@@ -1,15 +1,9 @@
 -- The memory at the start of a program.
-use Rattle.std.proofs.Common.{◌≡◌, ℕ, ◌+◌, ◌-◌, ◌<◌, ◌≤◌, List, replicate, Bool, true, false, if◌then◌else◌, Option, Some, None, refl, ap, ◌∙◌, arith, inl, inr}
-use Rattle.std.specs.Prelude.{All, ◌||◌}
-use Rattle.std.proofs.lemmas.Bool.{cases_lt}
-use Rattle.std.proofs.lemmas.List.{length-replicate, get_or-replicate}
-use Rattle.std.proofs.lemmas.List.Elements.{All-replicate}
-use Rattle.guest_memory.specs.Memory.{Memory, Region, Stack, Scratch, Verdict, Constants, IsMemory, is_writable, is_among, bytes_in, base_of, byte_at, byte_from, or_else, start_memory}
-use Rattle.guest_memory.specs.Laws.{StartIsZero}
-use Rattle.guest_memory.proofs.Map.{is_among-inside, is_among-below, is_among-past, byte_from-below, byte_from-past, byte_from-inside}
+use Rattle.guest_memory.proofs.Prelude.{◌≡◌, ℕ, ◌<◌, List, replicate, Bool, true, false, if◌then◌else◌, Option, Some, None, refl, ap, ◌∙◌, arith, All, ◌||◌, cases_lt, length-replicate, get_or-replicate, All-replicate, Memory, Region, Stack, Scratch, Verdict, Constants, IsMemory, is_writable, is_among, bytes_in, base_of, byte_at, byte_from, or_else, start_memory, StartIsZero, nat_tests}
+use Rattle.guest_memory.proofs.Map.{byte_from-past, byte_from-inside, not_le}
 
 same_regions : (stack scratch verdict constants stack' scratch' verdict' constants' : List ℕ) → stack ≡ stack' → scratch ≡ scratch' → verdict ≡ verdict' → constants ≡ constants' → ◌≡◌ {A = Memory} (record { stack = stack; scratch = scratch; verdict = verdict; constants = constants }) (record { stack = stack'; scratch = scratch'; verdict = verdict'; constants = constants' })
-same_regions stack scratch verdict constants stack' scratch' verdict' constants' a b c d = λ i. record { stack = a i; scratch = b i; verdict = c i; constants = d i }
+same_regions stack scratch verdict constants stack' scratch' verdict' constants' a b c d = grind arith
 
 pub started : (stack scratch verdict constants given : List ℕ) → stack ≡ replicate 4096 0 → scratch ≡ replicate 4096 0 → verdict ≡ replicate 2048 0 → constants ≡ given → ◌≡◌ {A = Memory} (record { stack = stack; scratch = scratch; verdict = verdict; constants = constants }) (start_memory given)
 unfolding start_memory
@@ -24,31 +18,11 @@ start_bytes constants bytes Constants = bytes
 
 start_is_memory : (constants : List ℕ) → All (λ b. b < 256) constants → IsMemory (start_memory constants)
 unfolding start_memory
-start_is_memory constants bytes = record {
-  stack = length-replicate {A = ℕ} 4096 0;
-  scratch = length-replicate {A = ℕ} 4096 0;
-  verdict = length-replicate {A = ℕ} 2048 0;
-  bytes = start_bytes constants bytes;
-}
-
-zero_inside : (base n address : ℕ) → base ≤ address → address < base + n → byte_from base (replicate n 0) address ≡ Some 0
-zero_inside base n address low high =
-    let long = length-replicate {A = ℕ} n 0 in
-    byte_from-inside base (replicate n 0) address low (omega (arith, long)) ∙ ap Some (get_or-replicate {A = ℕ} n (address - base) 0 0 (omega arith))
-
-none_past : (base n address : ℕ) → base + n ≤ address → byte_from base (replicate n 0) address ≡ None
-none_past base n address h = let long = length-replicate {A = ℕ} n 0 in byte_from-past base (replicate n 0) address (omega (arith, long))
+start_is_memory constants bytes = grind (arith, length-replicate, start_bytes)
 
 -- the byte at an address of zeros
 zeros : (base n address : ℕ) → byte_from base (replicate n 0) address ≡ (if is_among base n address then Some 0 else None)
-zeros base n address =
-    elim (cases_lt address base) [
-      | inl low ↦ byte_from-below base (replicate n 0) address low ∙ (rw (is_among-below base n address low) refl)
-      | inr above ↦ elim (cases_lt address (base + n)) [
-        | inl high ↦ zero_inside base n address above high ∙ (rw (is_among-inside base n address above high) refl)
-        | inr high ↦ none_past base n address high ∙ (rw (is_among-past base n address high) refl)
-      ]
-    ]
+zeros base n address = grind (arith, cases_lt, not_le, nat_tests, length-replicate, byte_from-inside, get_or-replicate, byte_from-past)
 
 one_of_three : (p q r : Bool) (other : Option ℕ) → or_else (if p then Some 0 else None) (or_else (if q then Some 0 else None) (or_else (if r then Some 0 else None) other)) ≡ (if (p || (q || r)) then Some 0 else other)
 one_of_three true q r other = refl

@@ -65,6 +65,7 @@ fn shared(alloc: Global, constants: &[u8]) -> Result<Rc<Vec<u8>>, AllocError>
 impl Guest {
     /// Where a word begins on the stack, if all of its bytes stand there. An address below the stack is
     /// beyond its end as well, since the difference wraps.
+    #[tactic(auto, using(crate::proofs::Places::place_on_stack))]
     #[inline(always)]
     fn on_stack(&self, addr: u64, size: Size) -> Option<usize>
         ensures { result ≡ place_of 0x100000000 (length self.now.stack) addr (size_bytes size) }

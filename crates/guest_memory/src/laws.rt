@@ -1,4 +1,6 @@
 //! Laws of the memory, each the clause of a function that does nothing.
+#![tactic(auto, using(crate::proofs::Lending::lent_laws, crate::proofs::Reading::read_laws, crate::proofs::RegionWords::words_are_accessed, crate::proofs::RegionWords::words_are_put, crate::proofs::Start::start_laws, crate::proofs::Writing::write_laws))]
+
 ghost use Rattle.guest_memory.specs.Laws.{ReadIsBytes, WriteIsBytes, StoresAreWrites, StartIsZero, LentIsBytes};
 ghost use Rattle.guest_memory.specs.Rows.{RowsStand};
 ghost use Rattle.guest_memory.specs.RegionWords.{WordsArePut, WordsAreAccessed};
@@ -16,6 +18,7 @@ pub fn write_is_bytes()
 {}
 
 /// What is said of a store without its word is what the store of each word answers.
+#[tactic(auto, unfolding(crate::specs::Access::stores_of, crate::specs::Access::write_of))]
 pub fn stores_are_writes()
     ensures { StoresAreWrites }
 {}
@@ -41,6 +44,7 @@ pub fn words_are_accessed()
 {}
 
 /// Loads and stores worked by hand.
+#[tactic(auto, unfolding(crate::specs::Access::read_of, crate::specs::Access::stores_of, crate::specs::Access::write_of, crate::specs::Memory::start_memory))]
 pub fn rows_stand()
     ensures { RowsStand }
 {}

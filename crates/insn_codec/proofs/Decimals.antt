@@ -1,12 +1,7 @@
--- What `decimal` writes, and the number that it is read as.
-use Rattle.std.proofs.Common.{◌≡◌, ◌+◌, ◌<◌, ℕ, zero, suc, List, [], ◌∷◌, false, map, refl, sym, ap, ◌∙◌, arith}
-use Rattle.std.proofs.lemmas.Int.Digits.{all_below_base_digits_of, digits_value_is, number_digits_of}
-use Rattle.std.proofs.lemmas.Bool.Decides.{nat_tests}
-use Rattle.std.specs.Prelude.{nat_eq}
-use Rattle.std.specs.Char.{digit_value}
-use Rattle.std.specs.Int.Digits.{AllBelowBase, digits_of, number_from_digits}
-use Rattle.std.specs.Str.Parse.{AllDigits, digits_value}
-use Rattle.insn_codec.specs.Lines.{decimal}
+-- What `decimal` writes, the number that it is read as, and numbers as the standard library prints them.
+use Rattle.insn_codec.proofs.Prelude.{◌≡◌, ◌+◌, ◌<◌, ℕ, List, [], ◌∷◌, false, map, refl, sym, ap, ◌∙◌, arith, ℤ, FitsSigned, all_below_base_digits_of, digits_value_is, number_digits_of, nat_tests, nat_eq, digit_value, AllBelowBase, digits_of, AllDigits, digits_value, decimal, signed_decimal, decimal-digits_of, decimal_digit}
+use Rattle.std.proofs.Common.{w32}
+use Rattle.std.specs.Fmt as fmt
 
 small_digit : (d : ℕ) → d < 10 → digit_value (48 + d) ≡ d
 small_digit d low = grind (arith, nat_tests)
@@ -28,14 +23,14 @@ unfolding decimal
 decimal_some n some = let h : nat_eq n 0 ≡ false = grind (arith, nat_tests) in rw h refl
 
 pub decimal_digits : (n : ℕ) → AllDigits 10 (decimal n)
-decimal_digits zero = rw decimal_zero (omega arith, tt)
-decimal_digits (suc n) = rw (decimal_some (suc n) (omega arith)) (bytes_digits (digits_of 10 (suc n)) (all_below_base_digits_of 10 (suc n) (omega arith)))
+decimal_digits n = grind (arith, decimal_zero, decimal_some, bytes_digits, all_below_base_digits_of)
 
 pub decimal_value : (n : ℕ) → digits_value 10 (decimal n) ≡ n
-decimal_value zero = rw decimal_zero refl
-decimal_value (suc n) =
-    let ds = digits_of 10 (suc n) in
-    ap (digits_value 10) (decimal_some (suc n) (omega arith)) ∙ digits_value_is 10 (map (λ d. 48 + d) ds) ∙ ap (number_from_digits 10) (values_again ds (all_below_base_digits_of 10 (suc n) (omega arith))) ∙ number_digits_of 10 (suc n) (omega arith)
+decimal_value n = grind (arith, decimal_zero, decimal_some, digits_value_is, values_again, all_below_base_digits_of, number_digits_of)
 
 pub decimal_injective : (m n : ℕ) → decimal m ≡ decimal n → m ≡ n
 decimal_injective m n e = sym (decimal_value m) ∙ ap (digits_value 10) e ∙ decimal_value n
+
+-- what `{}` writes of a number
+pub shown : (z : ℤ) → FitsSigned w32 z → fmt.signed_decimal z ≡ signed_decimal z
+shown z fits = grind (arith, decimal_digit, decimal_zero, decimal-digits_of, decimal_some)

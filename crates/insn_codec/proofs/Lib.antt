@@ -1,11 +1,7 @@
-pub mod Bytes
 pub mod Decimals
-pub mod Families
 pub mod Hex
-pub mod Named
-pub mod Numerals
-pub mod OneLine
 pub mod Plain
 pub mod Ranges
 pub mod Spelled
 pub mod Statements
+pub mod Prelude

@@ -1,29 +1,5 @@
--- Which bytes do not stand in a line's parts.
-use Rattle.std.proofs.Common.{◌≡◌, ◌/◌, ◌%◌, ◌<◌, ◌≤◌, ℕ, zero, suc, ℤ, pos, negsuc, List, [], ◌∷◌, ◌++◌, Bool, true, refl, arith, ◌∙◌}
-use Rattle.std.specs.Prelude.{nat_eq, not, ◌&&◌}
-use Rattle.std.specs.List.{list_all}
-use Rattle.std.specs.Str.Parse.{AllDigits}
-use Rattle.std.proofs.lemmas.Bool.{and_from}
-use Rattle.std.proofs.lemmas.Bool.Decides.{nat_tests}
-use Rattle.std.proofs.lemmas.List.Folds.{list_all-append}
-use Rattle.std.proofs.lemmas.Str.Parse.{digit_from_value}
-use Rattle.insn_codec.specs.Lines.{decimal, hex_digit, hex_digits, offset_text, operand_text, register_text, signed_decimal, wide_text}
-use Rattle.insn_codec.specs.Mnemonics.{mnemonic_text}
-use Rattle.insn_codec.specs.declared.alu_op.AluOp.TheVariants as alu
-use Rattle.insn_codec.specs.declared.atomic_op.AtomicOp.TheVariants as atomic
-use Rattle.insn_codec.specs.declared.byte_order.ByteOrder.TheVariants as order
-use Rattle.insn_codec.specs.declared.comparison.Comparison.TheVariants as comparison
-use Rattle.insn_codec.specs.declared.extension.Extension.TheVariants as extension
-use Rattle.insn_codec.specs.declared.register.Register.{Register}
-use Rattle.insn_codec.specs.declared.register.Register.TheVariants as register
-use Rattle.insn_codec.specs.declared.signed_size.SignedSize.TheVariants as signed
-use Rattle.insn_codec.specs.declared.size.Size.TheVariants as size
-use Rattle.insn_codec.specs.declared.swap_width.SwapWidth.TheVariants as swap
-use Rattle.insn_codec.specs.declared.width.Width.TheVariants as width
-use Rattle.insn_codec.specs.declared.operand.Operand.{Operand}
-use Rattle.insn_codec.specs.declared.operand.Operand.TheVariants.{Imm, Reg}
-use Rattle.insn_codec.specs.declared.mnemonic.Mnemonic.{Mnemonic}
-use Rattle.insn_codec.specs.declared.mnemonic.Mnemonic.TheVariants.{Alu, Neg, SignExtend, ByteSwap, Branch, Load, LoadSigned, StoreImm, Store, Atomic}
+-- Which bytes do not stand in a line's parts, and that no line of a statement holds a line feed.
+use Rattle.insn_codec.proofs.Prelude.{◌≡◌, ◌/◌, ◌%◌, ◌<◌, ◌≤◌, ℕ, zero, suc, ℤ, List, [], ◌∷◌, ◌++◌, Bool, true, refl, arith, ◌∙◌, ◌≢◌, All, nat_eq, not, ◌&&◌, codes, list_all, AllDigits, and_from, and_parts, nat_tests, list_all-append, decimal, hex_digit, hex_digits, offset_text, operand_text, register_text, signed_decimal, wide_text, address_text, line_with, operands_text, place_text, mnemonic_text, Register, Operand, Mnemonic, All-nil, All-cons, NoLineFeed, statement_mnemonic, statement_operands, statement_text, Statement}
 use Rattle.insn_codec.proofs.Decimals.{decimal_digits}
 
 -- none of the bytes that stand between parts: line feed, space, comma, colon and square brackets
@@ -37,50 +13,29 @@ pub plain_append : (xs ys : List ℕ) → all_plain xs ≡ true → all_plain ys
 plain_append xs ys e f = list_all-append is_plain xs ys ∙ and_from (all_plain xs) (all_plain ys) e f
 
 pub register_plain : (x : Register) → all_plain (register_text x) ≡ true
-register_plain register.R0 = refl
-register_plain _ = refl
+register_plain x = grind arith
 
 pub mnemonic_plain : (m : Mnemonic) → all_plain (mnemonic_text m) ≡ true
-mnemonic_plain (Alu alu.Add width.W32) = refl
-mnemonic_plain (Alu _ width.W32) = refl
-mnemonic_plain (Neg width.W32) = refl
-mnemonic_plain (SignExtend extension.From8To32) = refl
-mnemonic_plain (ByteSwap order.Little swap.Bits16) = refl
-mnemonic_plain (ByteSwap _ swap.Bits16) = refl
-mnemonic_plain (Branch comparison.Eq width.W32) = refl
-mnemonic_plain (Branch _ width.W32) = refl
-mnemonic_plain (Load size.B) = refl
-mnemonic_plain (LoadSigned signed.B) = refl
-mnemonic_plain (StoreImm size.B) = refl
-mnemonic_plain (Store size.B) = refl
-mnemonic_plain (Atomic atomic.Add width.W32) = refl
-mnemonic_plain (Atomic _ width.W32) = refl
-mnemonic_plain _ = refl
+mnemonic_plain m = grind arith
 
 plain_above : (c : ℕ) → 48 ≤ c → c ≤ 57 → is_plain c ≡ true
 plain_above c low high = grind (arith, nat_tests)
 
 digits_plain : (cs : List ℕ) → AllDigits 10 cs → all_plain cs ≡ true
 digits_plain [] d = refl
-digits_plain (c ∷ cs) d =
-    let r = digit_from_value c d.0 in
-    let e : is_plain c ≡ true = plain_above c (omega arith) (omega arith) in
-    rw (e, digits_plain cs d.1) refl
+digits_plain (c ∷ cs) d = grind (arith, digits_plain cs d.1)
 
 pub decimal_plain : (n : ℕ) → all_plain (decimal n) ≡ true
 decimal_plain n = digits_plain (decimal n) (decimal_digits n)
 
 pub signed_decimal_plain : (z : ℤ) → all_plain (signed_decimal z) ≡ true
-signed_decimal_plain (pos n) = decimal_plain n
-signed_decimal_plain (negsuc n) = decimal_plain (suc n)
+signed_decimal_plain z = grind (arith, decimal_plain)
 
 pub offset_plain : (z : ℤ) → all_plain (offset_text z) ≡ true
-offset_plain (pos n) = decimal_plain n
-offset_plain (negsuc n) = decimal_plain (suc n)
+offset_plain z = grind (arith, decimal_plain)
 
 pub operand_plain : (o : Operand) → all_plain (operand_text o) ≡ true
-operand_plain (Imm z) = signed_decimal_plain z
-operand_plain (Reg r) = register_plain r
+operand_plain o = grind (arith, signed_decimal_plain, register_plain)
 
 hex_digit_plain : (d : ℕ) → d < 16 → is_plain (hex_digit d) ≡ true
 hex_digit_plain d low = grind (arith, nat_tests)
@@ -92,3 +47,63 @@ hex_plain (suc count) n = plain_append (hex_digits count (n / 16)) (hex_digit (n
 
 pub wide_plain : (w : ℕ) → all_plain (wide_text w) ≡ true
 wide_plain w = hex_plain 16 w
+
+abbrev is_quiet : ℕ → Bool
+is_quiet b = not (nat_eq b 10)
+
+-- no byte is a line feed
+record Quiet (text : List ℕ) : Type 0 where
+  tells : list_all is_quiet text ≡ true
+
+infixl 12 ◌then◌
+◌then◌ : {xs ys : List ℕ} → Quiet xs → Quiet ys → Quiet (xs ++ ys)
+◌then◌ {xs = xs} {ys = ys} h k = record { tells = list_all-append is_quiet xs ys ∙ and_from (list_all is_quiet xs) (list_all is_quiet ys) h.tells k.tells }
+
+literal : (text : List ℕ) → list_all is_quiet text ≡ true → Quiet text
+literal text h = record { tells = h }
+
+byte_of_plain : (c : ℕ) → is_plain c ≡ true → is_quiet c ≡ true
+byte_of_plain c e = (and_parts (is_quiet c) (not (nat_eq c 32)) (and_parts (is_quiet c && not (nat_eq c 32)) _ e).0).0
+
+of_plain : (xs : List ℕ) → all_plain xs ≡ true → list_all is_quiet xs ≡ true
+of_plain [] e = refl
+of_plain (x ∷ xs) e =
+    let t = and_parts (is_plain x) (all_plain xs) e in
+    and_from (is_quiet x) (list_all is_quiet xs) (byte_of_plain x t.0) (of_plain xs t.1)
+
+plain : (xs : List ℕ) → all_plain xs ≡ true → Quiet xs
+plain xs e = record { tells = of_plain xs e }
+
+register : (r : Register) → Quiet (register_text r)
+register r = grind arith
+
+offset : (z : ℤ) → Quiet (offset_text z)
+offset z = plain (offset_text z) (offset_plain z)
+
+place : (r : Register) (z : ℤ) → Quiet (place_text r z)
+place r z = literal (codes "[") refl then (plain (address_text r z) (plain_append (register_text r) (offset_text z) (register_plain r) (offset_plain z)) then literal (codes "]") refl)
+
+-- none of the operands holds one
+abbrev AllQuiet : List (List ℕ) → Type 0
+AllQuiet [] = Unit {0}
+AllQuiet (x ∷ xs) = Quiet x × AllQuiet xs
+
+all_quiet : (x : Statement) → AllQuiet (statement_operands x)
+all_quiet x = grind (arith, register, operand_plain, offset, signed_decimal_plain, place, plain, wide_plain)
+
+joined_quiet : (xs : List (List ℕ)) → AllQuiet xs → Quiet (operands_text xs)
+joined_quiet [] h = literal [] refl
+joined_quiet (x ∷ []) h = h.0
+joined_quiet (x ∷ y ∷ ys) h = h.0 then (literal (codes ", ") refl then joined_quiet (y ∷ ys) h.1)
+
+line_quiet : (m : Mnemonic) (xs : List (List ℕ)) → AllQuiet xs → Quiet (line_with m xs)
+line_quiet m [] h = plain (mnemonic_text m) (mnemonic_plain m)
+line_quiet m (x ∷ xs) h = plain (mnemonic_text m) (mnemonic_plain m) then (literal (codes " ") refl then joined_quiet (x ∷ xs) h)
+
+-- the test says it of each byte
+heard : (xs : List ℕ) → list_all is_quiet xs ≡ true → All (λ b. b ≢ 10) xs
+heard [] h = All-nil (λ b. b ≢ 10)
+heard (x ∷ xs) h = All-cons (λ b. b ≢ 10) x xs (grind (arith, h)) (heard xs (grind (arith, h)))
+
+pub statement_on_one_line : NoLineFeed
+statement_on_one_line x h = heard (statement_text x) (line_quiet (statement_mnemonic x) (statement_operands x) (all_quiet x)).tells

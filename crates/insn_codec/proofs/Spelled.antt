@@ -1,20 +1,28 @@
-use Rattle.std.proofs.Common.{◌≡◌, ◌≢◌, ℕ, ◌/◌, ◌%◌, ◌^◌, Option, Some, None, refl, sym, ◌∙◌, ap, subst, arith, List, ◌++◌, drop}
-use Rattle.std.specs.Prelude.{Bool, true, false, Decides, IfSome, nat_eq, if◌then◌else◌, slice_index}
-use Rattle.std.specs.List.{starts_with}
-use Rattle.std.specs.Int.{w32, w64, from_le_bytes, to_le_bytes}
-use Rattle.std.proofs.lemmas.Bool.{eqb-true, eq-eqb, false_from_ne_true, ne_eqb}
-use Rattle.std.proofs.lemmas.Slice.Eq.{starts_is}
-use Rattle.insn_codec.specs.Candidate.{◌>>=◌, candidate_at}
-use Rattle.insn_codec.specs.Slots.{second_imm, slot_bytes, slot_of, IsSlot}
-use Rattle.insn_codec.specs.Spelled.{SpelledIsSpelling, spelled}
-use Rattle.insn_codec.specs.Spelling.{Begins, IsInsn, first_slot, more_bytes, on_hand, second_bytes, spelling}
-use Rattle.insn_codec.specs.declared.insn.Insn.{Insn}
-use Rattle.insn_codec.specs.declared.insn.Insn.TheVariants.{LoadWide}
-use Rattle.insn_codec.specs.declared.register.Register.{Register}
-use Rattle.insn_codec.specs.declared.slot.Slot.{Slot}
-use Rattle.insn_codec.proofs.Bytes.{imm_fits, offset_fits, second_imm-slot_bytes, second_imm_below, slot_of-slot_bytes}
-use Rattle.insn_codec.proofs.Named.{HighOf, candidate_at-first_slot}
-use Rattle.insn_codec.proofs.Ranges.{candidate_in_range, first_slot_fits}
+use Rattle.insn_codec.proofs.Prelude.{◌≡◌, ℕ, ◌+◌, ◌*◌, ◌^◌, ◌<◌, sym, subst, arith, List, ◌++◌, drop, FitsSigned, ◌≢◌, ◌%◌, Option, Some, None, refl, ◌∙◌, ap, All, slice_index, Bool, true, false, Decides, IfSome, nat_eq, if◌then◌else◌, w16, w32, from_le_bytes, w64, to_le_bytes, cases_lt, eqb-true, eq-eqb, false_from_ne_true, ne_eqb, get_or-drop, get_or_past, Slot, second_imm, slot_bytes, slot_of, IsSlot, starts_with, starts_is, ◌>>=◌, candidate_at, SpelledIsSpelling, spelled, Begins, IsInsn, first_slot, more_bytes, on_hand, second_bytes, spelling, Insn}
+use Rattle.insn_codec.proofs.Ranges.{HighOf, candidate_at-first_slot, candidate_in_range, first_slot_fits}
+
+-- the fields of a slot are read back from its bytes, whatever stands behind them
+pub slot_of-slot_bytes : (s : Slot) (rest : List ℕ) → IsSlot s → slot_of (slot_bytes s ++ rest) ≡ s
+slot_of-slot_bytes s rest f = grind arith
+
+byte_after : (n : ℕ) (text : List ℕ) (k : ℕ) → All (λ b. b < 256) text → slice_index (drop n text) k < 256
+byte_after n text k small = subst (λ b. b < 256) (sym (get_or-drop n text k 0)) (grind (arith, cases_lt, get_or_past))
+
+below_32 : (a b c d : ℕ) → a < 256 → b < 256 → c < 256 → d < 256 → a + b * 256 + c * 65536 + d * 16777216 < 2 ^ 32
+below_32 a b c d e f g h = omega arith
+
+four_below : (n : ℕ) (text : List ℕ) → All (λ b. b < 256) text → from_le_bytes w32 (drop n text) < 2 ^ 32
+four_below n text small = below_32 _ _ _ _ (byte_after n text 0 small) (byte_after n text 1 small) (byte_after n text 2 small) (byte_after n text 3 small)
+
+-- what is read from bytes is in range
+pub offset_fits : (text : List ℕ) → All (λ b. b < 256) text → FitsSigned w16 (slot_of text).offset
+offset_fits text small = grind arith
+
+pub imm_fits : (text : List ℕ) → All (λ b. b < 256) text → FitsSigned w32 (slot_of text).imm
+imm_fits text small = grind arith
+
+pub second_imm_below : (text : List ℕ) → All (λ b. b < 256) text → second_imm text < 2 ^ 32
+second_imm_below text small = four_below 12 text small
 
 -- the candidate, kept where the text begins with its spelling
 abbrev kept : List ℕ → Insn → Option Insn
@@ -60,8 +68,7 @@ unfolding spelled
 spelled_other text i e n = rw e (kept_not text i n)
 
 high_of : (i : Insn) (rest : List ℕ) → IsInsn i → HighOf i (second_imm (slot_bytes (first_slot i) ++ (second_bytes i ++ rest)))
-high_of (LoadWide dst value) rest f = (second_imm-slot_bytes (first_slot (LoadWide dst value)) (value / 2 ^ 32) rest (omega arith), f)
-high_of _ rest f = tt
+high_of i rest f = grind arith
 
 candidate_of_spelling : (i : Insn) (text : List ℕ) → IsInsn i → Begins (spelling i) text → candidate_at (slot_of text) (second_imm text) ≡ Some i
 candidate_of_spelling i text f b =
@@ -73,8 +80,7 @@ pub spelled_begins : (i : Insn) (text : List ℕ) → IsInsn i → Begins (spell
 spelled_begins i text f b = spelled_some text i (candidate_of_spelling i text f b) b
 
 found_in_range : (o : Option Insn) (i : Insn) → o ≡ Some i → IfSome o IsInsn → IsInsn i
-found_in_range None i e h = absurd (none_some i e)
-found_in_range (Some j) i e h = subst IsInsn (same_some j i e) h
+found_in_range o i e h = grind arith
 
 pub spelled_is : SpelledIsSpelling
 unfolding spelled
@@ -89,25 +95,13 @@ candidate_alone : (s : Slot) (high other : ℕ) → s.opcode ≢ 0x18 → candid
 unfolding candidate_at
 candidate_alone s high other n = rw (ne_eqb s.opcode 0x18 n) refl
 
-wide_opcode : (first : ℕ) (second : Option ℕ) (dst : Register) (value : ℕ) → Begins (spelling (LoadWide dst value)) (on_hand first second) → first % 256 ≡ 0x18
-wide_opcode first second dst value b = ap (λ t. slice_index t 0) b.1
-
-kept_alone : (first : ℕ) (second : Option ℕ) (o : Option Insn) → first % 256 ≢ 0x18 → (o >>= kept (on_hand first second)) ≡ (o >>= kept (on_hand first None))
-kept_alone first second (Some (LoadWide dst value)) n =
-    let i : Insn = LoadWide dst value in
-    kept_not (on_hand first second) i (λ b. n (wide_opcode first second dst value b)) ∙ sym (kept_not (on_hand first None) i (λ b. n (wide_opcode first None dst value b)))
-kept_alone first second _ n = refl
-
 pub spelled_alone : (first : ℕ) (second : Option ℕ) → first % 256 ≢ 0x18 → spelled (on_hand first second) ≡ spelled (on_hand first None)
 unfolding spelled
-spelled_alone first second n =
-    let s : Slot = slot_of (on_hand first None) in
-    ap (λ o. o >>= kept (on_hand first second)) (candidate_alone s (second_imm (on_hand first second)) (second_imm (on_hand first None)) n) ∙ kept_alone first second (candidate_at s (second_imm (on_hand first None))) n
+spelled_alone first second n = grind (arith, candidate_alone)
 
 -- the fields of the words, where the first one's slot was read
 pub candidate_of_words : (s : Slot) (first : ℕ) (second : Option ℕ) (high : ℕ) → IsSlot s → slot_bytes s ≡ to_le_bytes w64 first → high ≡ from_le_bytes w32 (drop 4 (more_bytes second)) → candidate_at (slot_of (on_hand first second)) (second_imm (on_hand first second)) ≡ candidate_at s high
-candidate_of_words s first second high f e h =
-    ap (λ t. candidate_at (slot_of (t ++ more_bytes second)) (from_le_bytes w32 (drop 4 (more_bytes second)))) (sym e) ∙ ap (λ x. candidate_at x (from_le_bytes w32 (drop 4 (more_bytes second)))) (slot_of-slot_bytes s (more_bytes second) f) ∙ ap (candidate_at s) (sym h)
+candidate_of_words s first second high f e h = grind arith
 
 -- words begin with the spelling of one slot where the first is its word
 pub one_begins : (front : List ℕ) (own first : ℕ) (more second : Option ℕ) → more ≡ None → on_hand own more ≡ front → own ≡ first → Begins front (on_hand first second)

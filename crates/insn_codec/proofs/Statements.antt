@@ -1,16 +1,5 @@
 -- The statement at the front of code.
-use Rattle.std.proofs.Common.{◌≡◌, ◌≢◌, ℕ, zero, suc, ◌*◌, ◌%◌, ◌^◌, ◌<◌, ◌≤◌, List, [], ◌∷◌, ◌++◌, Option, Some, None, All, refl, sym, ◌∙◌, ap, arith, inl, inr, lit≤, lit<, length, take, drop, get_or, append_assoc, take-append-drop, length-take-le}
-use Rattle.std.proofs.lemmas.Bool.{cases_lt}
-use Rattle.std.proofs.lemmas.List.{get_or_past}
-use Rattle.std.proofs.lemmas.List.Elements.{All-take}
-use Rattle.std.proofs.lemmas.Nat.{be_bytes_8}
-use Rattle.std.specs.Int.{w64, to_be_bytes, from_be_bytes}
-use Rattle.insn_codec.specs.Spelled.{spelled}
-use Rattle.insn_codec.specs.Spelling.{Begins, IsInsn, slot_count, spelling}
-use Rattle.insn_codec.specs.Laws.{StatementIsSpelled}
-use Rattle.insn_codec.specs.Statements.{IsStatement, insn_or_slot, statement_bytes, statement_of, statement_slots}
-use Rattle.insn_codec.specs.declared.insn.Insn.{Insn as Instruction}
-use Rattle.insn_codec.specs.declared.insn.Insn.TheVariants.{LoadWide}
+use Rattle.insn_codec.proofs.Prelude.{◌≡◌, ◌≢◌, ℕ, zero, suc, ◌*◌, ◌%◌, ◌^◌, ◌<◌, ◌≤◌, List, [], ◌∷◌, ◌++◌, Option, Some, None, All, refl, sym, ◌∙◌, ap, arith, length, take, drop, get_or, append_assoc, take-append-drop, length-take-le, cases_lt, get_or_past, All-take, be_bytes_8, w64, to_be_bytes, from_be_bytes, spelled, Begins, IsInsn, slot_count, spelling, StatementIsSpelled, IsStatement, insn_or_slot, statement_bytes, statement_of, statement_slots, Insn as Instruction}
 use Rattle.insn_codec.specs.declared.statement.Statement.TheVariants.{Insn}
 use Rattle.insn_codec.proofs.Spelled.{spelled_is}
 
@@ -18,9 +7,7 @@ use Rattle.insn_codec.proofs.Spelled.{spelled_is}
 within : (n : ℕ) (front rest : List ℕ) → length front ≤ n → Begins front (take n (front ++ rest))
 within n [] rest fits = (take n rest, refl)
 within zero (x ∷ front) rest fits = absurd (omega arith)
-within (suc n) (x ∷ front) rest fits =
-    let later = within n front rest (omega arith) in
-    (later.0, ap (λ (t : List ℕ). x ∷ t) later.1)
+within (suc n) (x ∷ front) rest fits = grind (arith, within n front rest (omega arith))
 
 begins_within : (n : ℕ) (front code : List ℕ) → length front ≤ n → Begins front code → Begins front (take n code)
 begins_within n front code fits b =
@@ -30,36 +17,23 @@ begins_within n front code fits b =
 begins_whole : (n : ℕ) (front code : List ℕ) → Begins front (take n code) → Begins front code
 begins_whole n front code b = (b.0 ++ drop n code, sym (take-append-drop n code) ∙ ap (λ (t : List ℕ). t ++ drop n code) b.1 ∙ append_assoc front b.0 (drop n code))
 
-spelling_short : (i : Instruction) → length (spelling i) ≤ 16
-spelling_short (LoadWide dst value) = lit≤ tt
-spelling_short _ = lit≤ tt
-
-after_spelling : (i : Instruction) (rest : List ℕ) → drop (8 * slot_count i) (spelling i ++ rest) ≡ rest
-after_spelling (LoadWide dst value) rest = refl
-after_spelling _ rest = refl
-
 -- an instruction at the front, with what stands behind it
 insn_bytes : (i : Instruction) (code : List ℕ) → Begins (spelling i) code → code ≡ spelling i ++ drop (8 * slot_count i) code
-insn_bytes i code b = b.1 ∙ ap (λ (t : List ℕ). spelling i ++ t) (sym (ap (drop (8 * slot_count i)) b.1 ∙ after_spelling i b.0))
+insn_bytes i code b = b.1 ∙ ap (λ (t : List ℕ). spelling i ++ t) (sym (ap (drop (8 * slot_count i)) b.1 ∙ (grind arith)))
 
 some_slot : (code : List ℕ) → length code % 8 ≡ 0 → code ≢ [] → 8 ≤ length code
 some_slot [] whole some = absurd (some refl)
 some_slot (b ∷ code) whole some = omega arith
 
 byte_at : (bytes : List ℕ) → All (λ b. b < 256) bytes → (k : ℕ) → get_or bytes k 0 < 256
-byte_at bytes small k = elim (cases_lt k (length bytes)) as (λ _. get_or bytes k 0 < 256) [ inl h ↦ small k 0 h | inr h ↦ rw (get_or_past bytes k 0 h) (lit< tt) ]
+byte_at bytes small k = grind (arith, cases_lt, get_or_past)
 
 -- a slot at the front, with what stands behind it
 slot_bytes_back : (code : List ℕ) → All (λ b. b < 256) code → 8 ≤ length code → code ≡ to_be_bytes w64 (from_be_bytes w64 (take 8 code)) ++ drop 8 code
-slot_bytes_back code small long =
-    let back : to_be_bytes w64 (from_be_bytes w64 (take 8 code)) ≡ take 8 code = be_bytes_8 (take 8 code) _ (length-take-le 8 code long) (byte_at (take 8 code) (All-take (λ b. b < 256) 8 code small)) refl in
-    sym (ap (λ (t : List ℕ). t ++ drop 8 code) back ∙ take-append-drop 8 code)
-
-below_64 : (a b c d e f g h : ℕ) → a < 256 → b < 256 → c < 256 → d < 256 → e < 256 → f < 256 → g < 256 → h < 256 → from_be_bytes w64 (a ∷ b ∷ c ∷ d ∷ e ∷ f ∷ g ∷ h ∷ []) < 2 ^ 64
-below_64 a b c d e f g h a1 b1 c1 d1 e1 f1 g1 h1 = omega arith
+slot_bytes_back code small long = grind (arith, be_bytes_8, length-take-le, byte_at, take-append-drop)
 
 word_below : (bytes : List ℕ) → ((k : ℕ) → get_or bytes k 0 < 256) → from_be_bytes w64 bytes < 2 ^ 64
-word_below bytes small = below_64 _ _ _ _ _ _ _ _ (small 0) (small 1) (small 2) (small 3) (small 4) (small 5) (small 6) (small 7)
+word_below bytes small = omega arith
 
 -- by what the first sixteen bytes spell
 stands : (code : List ℕ) (o : Option Instruction) → spelled (take 16 code) ≡ o → All (λ b. b < 256) code → 8 ≤ length code → IsStatement (insn_or_slot o code) × (code ≡ statement_bytes (insn_or_slot o code) ++ drop (8 * statement_slots (insn_or_slot o code)) code)
@@ -70,7 +44,7 @@ stands code None e small long = (word_below (take 8 code) (byte_at (take 8 code)
 
 pub chosen_of : (code : List ℕ) (i : Instruction) → All (λ b. b < 256) code → IsInsn i → Begins (spelling i) code → statement_of code ≡ Insn i
 unfolding statement_of
-chosen_of code i small fits b = ap (λ (o : Option Instruction). insn_or_slot o code) ((spelled_is (take 16 code) (All-take (λ b. b < 256) 16 code small) i).1 fits (begins_within 16 (spelling i) code (spelling_short i) b))
+chosen_of code i small fits b = ap (λ (o : Option Instruction). insn_or_slot o code) ((spelled_is (take 16 code) (All-take (λ b. b < 256) 16 code small) i).1 fits (begins_within 16 (spelling i) code (grind arith) b))
 
 pub is_spelled : StatementIsSpelled
 unfolding statement_of

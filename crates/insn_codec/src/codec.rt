@@ -68,14 +68,7 @@ fn second_word(insn: &Insn) -> Option<u64>
     match *insn {
         Insn::LoadWide { value, .. } => {
             let high = (value / 0x1_0000_0000) as u32;
-            let slot = Slot {
-                opcode: 0,
-                dst: 0,
-                src: 0,
-                offset: 0,
-                imm: high.cast_signed(),
-            };
-            Some(slot.word())
+            Some(Slot::with(0, 0, 0, 0, high.cast_signed()).word())
         }
         _ => None,
     }

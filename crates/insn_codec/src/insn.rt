@@ -1,22 +1,19 @@
 ghost use Rattle.std.specs.Prelude.{◌≡◌, ◌*◌, length, Some};
 ghost use Rattle.insn_codec.specs.Lines.{line_text, mnemonic_of};
 
-use crate::address_text::AddressText;
 use crate::alu_op::AluOp;
 use crate::atomic_op::AtomicOp;
 use crate::byte_order::ByteOrder;
 use crate::comparison::Comparison;
 use crate::extension::Extension;
 use crate::mnemonic::Mnemonic;
-use crate::number_text::NumberText;
-use crate::offset_text::OffsetText;
 use crate::operand::Operand;
 use crate::register::Register;
 use crate::signed_size::SignedSize;
 use crate::size::Size;
 use crate::slot::Slot;
 use crate::swap_width::SwapWidth;
-use crate::wide_text::WideText;
+use crate::texts::{AddressText, NumberText, OffsetText, WideText};
 use crate::width::Width;
 use std::fmt;
 
@@ -157,7 +154,7 @@ impl Insn {
                 src,
             } => {
                 let opcode = 0xb8 + extension.width().alu_class();
-                Slot::with(opcode, dst.number(), src.number(), extension.bits(), 0)
+                Slot::between(opcode, dst, src, extension.bits(), 0)
             }
             Insn::ByteSwap { order, width, dst } => {
                 let opcode = order.opcode();
@@ -183,19 +180,13 @@ impl Insn {
                 dst,
                 src,
                 offset,
-            } => {
-                let opcode = 0x61 + 8 * size.code();
-                Slot::with(opcode, dst.number(), src.number(), offset, 0)
-            }
+            } => Slot::between(0x61 + 8 * size.code(), dst, src, offset, 0),
             Insn::LoadSigned {
                 size,
                 dst,
                 src,
                 offset,
-            } => {
-                let opcode = 0x81 + 8 * size.code();
-                Slot::with(opcode, dst.number(), src.number(), offset, 0)
-            }
+            } => Slot::between(0x81 + 8 * size.code(), dst, src, offset, 0),
             Insn::StoreImm {
                 size,
                 dst,
@@ -207,20 +198,14 @@ impl Insn {
                 dst,
                 offset,
                 src,
-            } => {
-                let opcode = 0x63 + 8 * size.code();
-                Slot::with(opcode, dst.number(), src.number(), offset, 0)
-            }
+            } => Slot::between(0x63 + 8 * size.code(), dst, src, offset, 0),
             Insn::Atomic {
                 op,
                 width,
                 dst,
                 offset,
                 src,
-            } => {
-                let opcode = width.atomic_opcode();
-                Slot::with(opcode, dst.number(), src.number(), offset, op.code())
-            }
+            } => Slot::between(width.atomic_opcode(), dst, src, offset, op.code()),
             Insn::LoadWide { dst, value } => {
                 let low = (value % 0x1_0000_0000) as u32;
                 Slot::with(0x18, dst.number(), 0, 0, low.cast_signed())
@@ -304,7 +289,7 @@ impl fmt::Display for Insn {
                 offset,
                 ..
             } => {
-                let address = AddressText::of(src, offset);
+                let address = AddressText(src, offset);
                 write!(f, "{mnemonic} {dst}, [{address}]")
             }
             Insn::LoadSigned {
@@ -313,7 +298,7 @@ impl fmt::Display for Insn {
                 offset,
                 ..
             } => {
-                let address = AddressText::of(src, offset);
+                let address = AddressText(src, offset);
                 write!(f, "{mnemonic} {dst}, [{address}]")
             }
             Insn::StoreImm {
@@ -322,7 +307,7 @@ impl fmt::Display for Insn {
                 imm,
                 ..
             } => {
-                let address = AddressText::of(dst, offset);
+                let address = AddressText(dst, offset);
                 let imm = NumberText(imm);
                 write!(f, "{mnemonic} [{address}], {imm}")
             }
@@ -332,7 +317,7 @@ impl fmt::Display for Insn {
                 src,
                 ..
             } => {
-                let address = AddressText::of(dst, offset);
+                let address = AddressText(dst, offset);
                 write!(f, "{mnemonic} [{address}], {src}")
             }
             Insn::Atomic {
@@ -341,7 +326,7 @@ impl fmt::Display for Insn {
                 src,
                 ..
             } => {
-                let address = AddressText::of(dst, offset);
+                let address = AddressText(dst, offset);
                 write!(f, "{mnemonic} [{address}], {src}")
             }
             Insn::LoadWide { dst, value } => {

@@ -14,6 +14,7 @@ pub fn spelled_is_spelling()
 {}
 
 /// Rows of the instruction table, and slots that spell nothing, byte by byte.
+#[tactic(auto, unfolding(crate::specs::Spelled::spelled, crate::specs::Candidate::candidate_at, crate::specs::Candidate::arithmetic_at, crate::specs::Candidate::jump_at, crate::specs::Candidate::branch_at, crate::specs::Candidate::memory_at, crate::specs::Candidate::atomic_at, crate::specs::Candidate::wide_at))]
 pub fn rows_stand()
     ensures { RowsStand }
 {}
@@ -26,11 +27,13 @@ pub fn slots_are_filled()
 
 /// Code of whole slots begins with the bytes of its first statement: of the instruction that
 /// its slots spell, or of its first slot.
+#[tactic(auto, using(crate::proofs::Statements::is_spelled))]
 pub fn statement_is_spelled()
     ensures { StatementIsSpelled }
 {}
 
 /// No byte of a statement's line is a line feed.
+#[tactic(auto, using(crate::proofs::Plain::statement_on_one_line))]
 pub fn no_line_feed()
     ensures { NoLineFeed }
 {}

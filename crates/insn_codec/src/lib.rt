@@ -1,7 +1,6 @@
 //! The machine's instructions: the one spelling of each in 64-bit words, and back.
 #![tactic(auto)]
 
-mod address_text;
 mod alu_op;
 mod atomic_op;
 mod byte_order;
@@ -12,8 +11,6 @@ mod extension;
 mod insn;
 mod laws;
 mod mnemonic;
-mod number_text;
-mod offset_text;
 mod operand;
 mod register;
 mod signed_size;
@@ -21,7 +18,7 @@ mod size;
 mod slot;
 mod statement;
 mod swap_width;
-mod wide_text;
+mod texts;
 mod width;
 
 pub use alu_op::AluOp;

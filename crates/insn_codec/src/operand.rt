@@ -1,9 +1,9 @@
 ghost use Rattle.std.specs.Prelude.{◌≡◌, Some};
 ghost use Rattle.insn_codec.specs.Lines.{operand_text};
 
-use crate::number_text::NumberText;
 use crate::register::Register;
 use crate::slot::Slot;
+use crate::texts::NumberText;
 use std::fmt;
 
 /// The second operand of an instruction (RFC 9669, section 4).

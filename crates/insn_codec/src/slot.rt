@@ -1,6 +1,8 @@
 ghost use Rattle.std.specs.Prelude.{◌≡◌, ◌<◌};
 ghost use Rattle.std.specs.Int.{w64, to_le_bytes};
 
+use crate::register::Register;
+
 /// The fields of one slot of eight bytes (RFC 9669, section 3); `dst` and `src` have four bits each.
 #[derive(Clone, Copy, Debug, PartialEq, Eq)]
 pub struct Slot {
@@ -13,6 +15,7 @@ pub struct Slot {
 
 impl Slot {
     ghost use Rattle.insn_codec.specs.Candidate.{extends_at};
+    ghost use Rattle.insn_codec.specs.Codes.{register_number};
     ghost use Rattle.insn_codec.specs.Slots.{IsSlot, slot_bytes, slot_with};
 
     /// The slot of these fields.
@@ -26,6 +29,13 @@ impl Slot {
             offset,
             imm,
         }
+    }
+
+    /// The slot of these fields, between two registers.
+    pub(crate) fn between(opcode: u8, dst: Register, src: Register, offset: i16, imm: i32) -> Slot
+        ensures { result ≡ slot_with opcode (register_number dst) (register_number src) offset imm }
+    {
+        Slot::with(opcode, dst.number(), src.number(), offset, imm)
     }
 
     /// The fields of the slot whose bytes, read little-endian, are the word.
@@ -58,11 +68,12 @@ impl Slot {
         requires src { self.src < 16 }
         ensures { to_le_bytes w64 result ≡ slot_bytes self }
     {
+        let registers = 16 * self.src + self.dst;
         let [offset_0, offset_1] = self.offset.to_le_bytes();
         let [imm_0, imm_1, imm_2, imm_3] = self.imm.to_le_bytes();
         u64::from_le_bytes([
             self.opcode,
-            16 * self.src + self.dst,
+            registers,
             offset_0,
             offset_1,
             imm_0,
@@ -71,6 +82,7 @@ impl Slot {
             imm_3,
         ])
     }
+
     /// Whether it is a move whose offset says how many bits it extends (RFC 9669, section 4.1).
     pub(crate) fn extends(self) -> bool
         ensures { result ≡ extends_at self }

@@ -3,7 +3,7 @@ ghost use Rattle.std.specs.Prelude.{◌≡◌, Some};
 ghost use Rattle.insn_codec.specs.Statements.{IsStatement, statement_slots, statement_text};
 
 use crate::insn::Insn;
-use crate::wide_text::WideText;
+use crate::texts::WideText;
 use std::fmt;
 
 /// A line that stands for code: an instruction, or any slot by its bytes.

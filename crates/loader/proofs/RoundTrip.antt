@@ -1,15 +1,5 @@
 -- What is read and written again is the same.
-use Rattle.std.proofs.Common.{◌≡◌, ◌≤◌, ℕ, zero, suc, ◌+◌, ◌*◌, ◌/◌, List, [], ◌∷◌, ◌++◌, length, take, drop, refl, sym, ap, ◌∙◌, arith, length-append, length-drop, Ok, if◌then◌else◌}
-use Rattle.std.proofs.lemmas.List.{take-append-drop, drop-drop, take_all, length-take-le}
-use Rattle.std.proofs.Math.Seq.{take-append_seam, drop-append_seam, take-length}
-use Rattle.std.proofs.Math.Nat.{mul-div_cancel_left}
-use Rattle.std.specs.Str.{bytes_eq}
-use Rattle.byteorder.specs.Endian.{little_number, little_bytes}
-use Rattle.byteorder.specs.Numbers.{little_number-reads_back}
-use Rattle.loader.specs.Contents.{Contents, IsImage, AreBytes}
-use Rattle.loader.specs.declared.version.Version.{Version}
-use Rattle.loader.specs.declared.version.Version.TheVariants.{First, Second}
-use Rattle.loader.specs.Format.{magic, version_in, slots_in, constants_in, contents_in, file_of, image_in}
+use Rattle.loader.proofs.Prelude.{◌≡◌, ◌≤◌, ℕ, zero, suc, ◌+◌, ◌*◌, ◌/◌, List, [], ◌∷◌, ◌++◌, length, take, drop, sym, ap, ◌∙◌, arith, length-append, length-drop, Ok, if◌then◌else◌, take-append-drop, drop-drop, take_all, length-take-le, take-append_seam, drop-append_seam, take-length, mul-div_cancel_left, bytes_eq, little_number, little_bytes, Contents, IsImage, AreBytes, Version, First, Second, magic, version_in, slots_in, constants_in, contents_in, file_of, image_in}
 use Rattle.loader.proofs.Numbers.{number_back}
 use Rattle.loader.proofs.Faults.{HasNoFault, HasShape, shape_of, no_fault, holds}
 
@@ -35,13 +25,7 @@ pub record HasParts (file : List ℕ) : Type 0 where
   pub constants : length (take (constants_in file) (drop (16 + 8 * slots_in file) file)) ≡ constants_in file
 
 parts_of : (file : List ℕ) → HasShape file → HasParts file
-parts_of file s =
-    let e = s.length_is in
-    record {
-      code = length-take-le (8 * slots_in file) (drop 16 file) (omega (arith, length-drop 16 file));
-      constants =
-          length-take-le (constants_in file) (drop (16 + 8 * slots_in file) file) (omega (arith, length-drop (16 + 8 * slots_in file) file));
-    }
+parts_of file s = grind (arith, length-take-le, length-drop)
 
 slots_first : (file : List ℕ) → 12 ≤ length file → AreBytes file → drop 8 file ≡ little_bytes 4 (slots_in file) ++ drop 12 file
 unfolding slots_in
@@ -63,22 +47,13 @@ whole file bytes s =
 -- the file of the contents is written with the numbers that were read
 pub file_whole : (file : List ℕ) → AreBytes file → HasNoFault file → file ≡ file_of (contents_in file)
 unfolding file_of
-file_whole file bytes f =
-    let s = shape_of file f in
-    let p = parts_of file s in
-    let slots : length (take (8 * slots_in file) (drop 16 file)) / 8 ≡ slots_in file = ap (λ (n : ℕ). n / 8) p.code ∙ mul-div_cancel_left (slots_in file) (omega arith) in
-    rw (slots, p.constants) (whole file bytes s)
+file_whole file bytes f = grind (arith, shape_of, parts_of, mul-div_cancel_left, whole)
 
 pub file_image : (file : List ℕ) → HasNoFault file → IsImage (contents_in file)
 file_image file f =
     let s = shape_of file f in
     let p = parts_of file s in
-    let some = s.some_slots in
-    let most = s.most_slots in
-    let limit = s.most_constants in
-    let code = p.code in
-    let constants = p.constants in
-    record { whole_slots = omega arith; some_slots = omega arith; most_slots = omega arith; most_constants = omega arith }
+    omega arith
 
 -- ---- the file of an image holds it
 
@@ -93,33 +68,15 @@ pub record HasFields (c : Contents) : Type 0 where
 
 own_version : (v : Version) → (if bytes_eq (magic v) (magic First) then First else Second) ≡ v
 unfolding magic
-own_version First = refl
-own_version Second = refl
+own_version v = grind arith
 
 fields_of : (c : Contents) → IsImage c → HasFields c
 unfolding magic file_of slots_in constants_in
-fields_of c i =
-    let most = i.most_slots in
-    let limit = i.most_constants in
-    record {
-      slots = little_number-reads_back 4 (length c.code / 8) (little_bytes 4 (length c.constants) ++ (c.code ++ c.constants)) (omega arith);
-      constants = little_number-reads_back 4 (length c.constants) (c.code ++ c.constants) (omega arith);
-      parts = refl;
-      length_is = omega (arith, length-append c.code c.constants);
-      magic_is = refl;
-      version = own_version c.version;
-    }
+fields_of c i = grind (arith, length-append, own_version)
 
 shape_written : (c : Contents) → IsImage c → HasShape (file_of c)
 shape_written c i =
     let f = fields_of c i in
-    let slots = f.slots in
-    let constants = f.constants in
-    let length_is = f.length_is in
-    let whole_slots = i.whole_slots in
-    let some = i.some_slots in
-    let most = i.most_slots in
-    let limit = i.most_constants in
     record {
       magic_is = f.magic_is ∙ ap magic (sym f.version);
       some_slots = omega arith;

@@ -2,3 +2,4 @@ pub mod Masks
 pub mod Pairs
 pub mod Runs
 pub mod Scalars
+pub mod Prelude

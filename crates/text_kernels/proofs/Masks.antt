@@ -1,8 +1,5 @@
 -- A mask that is computed lane by lane is held to a test at each of the 256 bytes.
-use Rattle.std.proofs.Common.{◌≡◌, ℕ, ◌%◌, ◌^◌, ◌≤◌, Bool, true, List, [], ◌∷◌, map, length, refl, ap, ap₂, ◌∙◌, arith, w8, Fits}
-use Rattle.std.proofs.lemmas.Simd.{mask_l-mod}
-use Rattle.std.proofs.lemmas.List.{length-map}
-use Rattle.std.proofs.lemmas.Bool.{agree_below, agree_below_at}
+use Rattle.text_kernels.proofs.Prelude.{◌≡◌, ℕ, ◌%◌, ◌^◌, ◌≤◌, Bool, true, List, [], ◌∷◌, map, length, refl, ap, ap₂, ◌∙◌, arith, w8, Fits, mask_l-mod, length-map, agree_below, agree_below_at}
 use lib.Lanes.{mask_l, top, Each1}
 
 module _ (lane : ℕ → ℕ) (test : ℕ → Bool) (all : agree_below (λ x. top 7 (lane x)) test 256 ≡ true) where

@@ -1,9 +1,7 @@
 -- What two lists begin with in common, as a run before the first place at which they differ.
-use Rattle.std.proofs.Common.{◌≡◌, ℕ, ◌+◌, ◌<◌, ◌≤◌, Bool, true, false, not, cond, ◌==◌, List, [], ◌∷◌, ◌++◌, map, length, drop, refl, sym, ap, ap₂, ◌∙◌, arith}
-use Rattle.std.proofs.lemmas.Simd.{chunk-drop, length-chunk, length-zip2}
+use Rattle.text_kernels.proofs.Prelude.{◌≡◌, ℕ, ◌+◌, ◌<◌, ◌≤◌, Bool, true, false, not, cond, ◌==◌, List, [], ◌∷◌, ◌++◌, map, length, drop, refl, sym, ap, ap₂, ◌∙◌, arith, chunk-drop, length-chunk, length-zip2, first_difference_of}
 use lib.Lanes.{chunk, mask_l, zip2}
 use lib.Count.{count_trailing_zeros}
-use Rattle.text_kernels.specs.Scans.{first_difference_of}
 use Rattle.text_kernels.proofs.Runs.{run, run_through, run_stops}
 
 abbrev pub differ : ℕ → ℕ → Bool
@@ -46,10 +44,7 @@ module _ (left right : List ℕ) (i n : ℕ) (room_left : i + n ≤ length left)
       ∙ ap run_of (zip2-append (chunk i n left) (chunk i n right) (drop (i + n) left) (drop (i + n) right) alike_long)
 
   pub same_through : mask_l block ≡ 0 → first_difference_of (drop i left) (drop i right) ≡ n + first_difference_of (drop (i + n) left) (drop (i + n) right)
-  same_through none =
-      split ∙ run_through (λ b. b) block _ (ap mask_l (itself block) ∙ none)
-      ∙ ap₂ (λ k r. k + r) long (sym (as_run (drop (i + n) left) (drop (i + n) right)))
+  same_through none = grind (arith, split, run_through, itself, long, as_run)
 
   pub differ_within : n ≤ 64 → 0 < mask_l block → first_difference_of (drop i left) (drop i right) ≡ count_trailing_zeros 64 (mask_l block)
-  differ_within short some =
-      split ∙ run_stops (λ b. b) block _ (omega (arith, long)) (omega (arith, ap mask_l (itself block))) ∙ ap (λ l. count_trailing_zeros 64 (mask_l l)) (itself block)
+  differ_within short some = grind (arith, split, run_stops, long, itself)

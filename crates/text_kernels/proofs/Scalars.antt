@@ -1,14 +1,6 @@
 -- Characters in UTF-8, counted and ordered by their bytes.
-use Rattle.std.proofs.Common.{◌≡◌, ℕ, ◌+◌, ◌/◌, ◌%◌, ◌<◌, ◌≤◌, Bool, true, false, cond, List, [], ◌∷◌, ◌++◌, length, ◌⊎◌, inl, inr, refl, ap, ap₂, sym, ◌∙◌}
-use Rattle.std.proofs.Common.{arith, Ordering, Less, Equal, Greater, nat_cmp}
-use Rattle.std.specs.Prelude.{encode_utf8, encode_utf8_all, nat_lt}
-use Rattle.std.specs.Cmp.Lexicographic.{slice_cmp}
-use Rattle.std.specs.Cmp.{nat_cmp_is, ranks}
-use Rattle.std.specs.Ordering.{MatchOrdering, ordering_then}
-use Rattle.std.proofs.lemmas.Bool.Decides.{nat_tests}
-use Rattle.std.proofs.lemmas.List.Sums.{sum_by-cons}
+use Rattle.text_kernels.proofs.Prelude.{◌≡◌, ℕ, ◌+◌, ◌/◌, ◌%◌, ◌<◌, ◌≤◌, Bool, true, false, cond, List, [], ◌∷◌, ◌++◌, length, ◌⊎◌, inl, inr, refl, ap, ap₂, sym, ◌∙◌, arith, Ordering, Less, Equal, Greater, nat_cmp, encode_utf8, encode_utf8_all, nat_lt, slice_cmp, nat_cmp_is, ranks, MatchOrdering, ordering_then, nat_tests, sum_by-cons, is_leading, code_points_of}
 use lib.Utf8.{encode, next}
-use Rattle.text_kernels.specs.Scans.{is_leading, code_points_of}
 
 -- a number of one, two, three or four bytes, with its bytes
 data Encoded (c : ℕ) : Type 0 where

@@ -107,9 +107,7 @@ pub(crate) fn atomic(op: AtomicOp, width: Width, text: &str) -> Result<Line<'_>,
 pub(crate) fn load_wide(text: &str) -> Result<Line<'_>, LineError>
     ensures { ReadsOperands mnemonic.LoadWide text.now result }
 {
-    let Some((dst, value)) = register_word(text) else {
-        return Err(LineError::NoForm);
-    };
+    let (dst, value) = register_word(text).ok_or(LineError::NoForm)?;
     Ok(Line::Statement(Statement::Insn(Insn::LoadWide { dst, value })))
 }
 
@@ -117,8 +115,6 @@ pub(crate) fn load_wide(text: &str) -> Result<Line<'_>, LineError>
 pub(crate) fn slot(text: &str) -> Result<Line<'_>, LineError>
     ensures { ReadsOperands mnemonic.Slot text.now result }
 {
-    let Some(word) = wide(text) else {
-        return Err(LineError::NoForm);
-    };
+    let word = wide(text).ok_or(LineError::NoForm)?;
     Ok(Line::Statement(Statement::Slot(word)))
 }

@@ -31,9 +31,7 @@ pub(crate) fn alu(op: AluOp, width: Width, text: &str) -> Result<Line<'_>, LineE
 pub(crate) fn neg(width: Width, text: &str) -> Result<Line<'_>, LineError>
     ensures { ReadsOperands (mnemonic.Neg width) text.now result }
 {
-    let Some(dst) = register(text) else {
-        return Err(LineError::NoForm);
-    };
+    let dst = register(text).ok_or(LineError::NoForm)?;
     Ok(Line::Statement(Statement::Insn(Insn::Neg { width, dst })))
 }
 
@@ -41,9 +39,7 @@ pub(crate) fn neg(width: Width, text: &str) -> Result<Line<'_>, LineError>
 pub(crate) fn sign_extend(extension: Extension, text: &str) -> Result<Line<'_>, LineError>
     ensures { ReadsOperands (mnemonic.SignExtend extension) text.now result }
 {
-    let Some((dst, src)) = two_registers(text) else {
-        return Err(LineError::NoForm);
-    };
+    let (dst, src) = two_registers(text).ok_or(LineError::NoForm)?;
     Ok(Line::Statement(Statement::Insn(Insn::SignExtend {
         extension,
         dst,
@@ -59,8 +55,6 @@ pub(crate) fn byte_swap(
 ) -> Result<Line<'_>, LineError>
     ensures { ReadsOperands (mnemonic.ByteSwap order width) text.now result }
 {
-    let Some(dst) = register(text) else {
-        return Err(LineError::NoForm);
-    };
+    let dst = register(text).ok_or(LineError::NoForm)?;
     Ok(Line::Statement(Statement::Insn(Insn::ByteSwap { order, width, dst })))
 }

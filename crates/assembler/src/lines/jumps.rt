@@ -20,9 +20,7 @@ pub(crate) fn jump(jump: Jump, text: &str) -> Result<Line<'_>, LineError>
     requires alone { jump_operands jump text.now ≡ text.now ∷ [] }
     ensures { ReadsOperands (jump_mnemonic jump) text.now result }
 {
-    let Some(target) = target_of(text) else {
-        return Err(LineError::NoForm);
-    };
+    let target = target_of(text).ok_or(LineError::NoForm)?;
     jump_to(jump, target)
 }
 

@@ -83,15 +83,12 @@ fn conversion(word: &str) -> Option<Mnemonic>
     Some(Mnemonic::ByteSwap(ByteOrder::Swap, width))
 }
 
+#[tactic(auto, using(crate::proofs::Ends::no_atomic_front))]
 fn atomic(word: &str) -> Option<Mnemonic>
     ensures { MatchOption result ((m : Mnemonic) → IsAtomic m → word.now ≡ mnemonic_text m → ⊥) (λ m. word.now ≡ mnemonic_text m) }
 {
-    let Some(text) = after(word, "atomic_") else {
-        return None;
-    };
-    let Some((op, width)) = atomic_of_width(text) else {
-        return None;
-    };
+    let text = after(word, "atomic_")?;
+    let (op, width) = atomic_of_width(text)?;
     Some(Mnemonic::Atomic(op, width))
 }
 
@@ -99,31 +96,23 @@ fn atomic(word: &str) -> Option<Mnemonic>
 fn atomic_of_width(text: &str) -> Option<(AtomicOp, Width)>
     ensures { MatchOption result ((op : AtomicOp) (width : Width) → text.now ≡ atomic_text op ++ width_text width → ⊥) (λ x. text.now ≡ atomic_text x.0 ++ width_text x.1) }
 {
-    let Some((name, width)) = split_width(text) else {
-        return None;
-    };
-    let Some(op) = atomic_op(name) else {
-        return None;
-    };
+    let (name, width) = split_width(text)?;
+    let op = atomic_op(name)?;
     Some((op, width))
 }
 
 fn of_width(word: &str) -> Option<Mnemonic>
     ensures { MatchOption result ((m : Mnemonic) → IsOfWidth m → word.now ≡ mnemonic_text m → ⊥) (λ m. word.now ≡ mnemonic_text m) }
 {
-    let Some((name, width)) = split_width(word) else {
-        return None;
-    };
+    let (name, width) = split_width(word)?;
     if name == "neg" {
         return Some(Mnemonic::Neg(width));
     }
     if let Some(op) = alu_op(name) {
         return Some(Mnemonic::Alu(op, width));
     }
-    if let Some(comparison) = comparison(name) {
-        return Some(Mnemonic::Branch(comparison, width));
-    }
-    None
+    let comparison = comparison(name)?;
+    Some(Mnemonic::Branch(comparison, width))
 }
 
 /// What stands before a width, and the width.

@@ -33,6 +33,7 @@ pub(crate) fn read_line(line: &str) -> Result<Line<'_>, LineError>
 }
 
 /// The line of a label, by what stands before its colon.
+#[tactic(auto, using(crate::proofs::Whole::label_only))]
 fn label(name: &str) -> Result<Line<'_>, LineError>
     ensures { ReadsAs (name.now ++ 58 ∷ []) result }
 {

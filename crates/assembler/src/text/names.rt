@@ -8,25 +8,14 @@ pub(crate) fn is_name(text: &str) -> bool
 {
     match text.as_bytes() {
         [] => false,
-        [first, rest @ ..] => {
-            if begins_name(*first) {
-                all_go_on(rest)
-            } else {
-                false
-            }
-        }
+        [first, rest @ ..] => begins_name(*first) && all_go_on(rest),
     }
 }
 
 fn all_go_on(bytes: &[u8]) -> bool
     ensures { result ≡ all_go_on bytes.now }
 {
-    for byte in bytes {
-        if !goes_on_name(*byte) {
-            return false;
-        }
-    }
-    true
+    bytes.iter().all(|byte| goes_on_name(*byte))
 }
 
 fn begins_name(byte: u8) -> bool

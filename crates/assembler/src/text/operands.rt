@@ -24,8 +24,6 @@ pub(crate) fn operand(text: &str) -> Option<Value>
     if let Some(register) = register(text) {
         return Some(Value::Register(register));
     }
-    if let Some(number) = immediate(text) {
-        return Some(Value::Number(number));
-    }
-    None
+    let number = immediate(text)?;
+    Some(Value::Number(number))
 }

@@ -38,6 +38,7 @@ pub(crate) fn two_registers(text: &str) -> Option<(Register, Register)>
 }
 
 /// A register, an operand and the target of a jump, as `r1, 5, +2`.
+#[tactic(auto, using(crate::proofs::NameBytes::operand_lacks_comma))]
 pub(crate) fn comparison_and_target(text: &str) -> Option<(Register, Value, Target<'_>)>
     ensures { MatchOption result
         (((r : Register) (o : Operand) (z : ℤ) → text.now ≡ operand_list (register_text r) (operand_list (operand_text o) (offset_text z)) → ⊥) × ((r : Register) (o : Operand) (name : List ℕ) → IsName name → text.now ≡ operand_list (register_text r) (operand_list (operand_text o) name) → ⊥))

@@ -12,9 +12,7 @@ const DIGITS: usize = 16;
 pub(crate) fn wide(text: &str) -> Option<u64>
     ensures { MatchOption result ((w : ℕ) → w < 2 ^ 64 → text.now ≡ wide_text w → ⊥) (λ w. text.now ≡ wide_text w) }
 {
-    let Some(digits) = after(text, "0x") else {
-        return None;
-    };
+    let digits = after(text, "0x")?;
     if digits.len() != DIGITS {
         return None;
     }
@@ -30,12 +28,7 @@ pub(crate) fn wide(text: &str) -> Option<u64>
 fn all_hex_digits(bytes: &[u8]) -> bool
     ensures { result ≡ all_hex_digits bytes.now }
 {
-    for byte in bytes {
-        if !is_hex_digit(*byte) {
-            return false;
-        }
-    }
-    true
+    bytes.iter().all(|byte| is_hex_digit(*byte))
 }
 
 fn is_hex_digit(byte: u8) -> bool

@@ -1,4 +1,4 @@
-use Rattle.assembler.proofs.Answering.{answered, first_refused, labels_fit, only_answer}
+use Rattle.assembler.proofs.Sources.{answered, first_refused, labels_fit, only_answer}
 use Rattle.assembler.proofs.assembling.assemble.Goals as goal
 
 pub emit-requires-clause-labels : goal.emit-requires-clause-labels

@@ -1,4 +1,4 @@
-use Rattle.bpf_word.specs.Arithmetic.{alu64_of, operated}
+use Rattle.bpf_word.proofs.Prelude.{alu64_of, operated}
 use Rattle.bpf_word.proofs.Casts.{difference_is}
 use Rattle.bpf_word.proofs.arithmetic.alu64.Goals as goal
 

@@ -1,4 +1,4 @@
-use Rattle.bpf_word.specs.Arithmetic.{operated}
+use Rattle.bpf_word.proofs.Prelude.{operated}
 use Rattle.bpf_word.proofs.Casts.{difference_is}
 use Rattle.bpf_word.proofs.arithmetic32.operation_result.Goals as goal
 

@@ -1,6 +1,4 @@
-use Rattle.std.proofs.Common.{rules, arith, ◌∙◌}
-use Rattle.std.specs.Int.{w32}
-use Rattle.bpf_word.specs.Arithmetic.{operated}
+use Rattle.bpf_word.proofs.Prelude.{rules, arith, ◌∙◌, w32, operated}
 use Rattle.bpf_word.proofs.Casts.{nonzero_is, quotient_is}
 use Rattle.bpf_word.proofs.arithmetic32.signed_quotient.Goals as goal
 

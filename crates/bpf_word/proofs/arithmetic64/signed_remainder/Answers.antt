@@ -1,5 +1,4 @@
-use Rattle.std.proofs.Common.{rules}
-use Rattle.std.specs.Int.{w64}
+use Rattle.bpf_word.proofs.Prelude.{rules, w64}
 use Rattle.bpf_word.proofs.Casts.{nonzero_is}
 use Rattle.bpf_word.proofs.arithmetic64.signed_remainder.Goals as goal
 

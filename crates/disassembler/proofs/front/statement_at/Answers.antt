@@ -1,5 +1,4 @@
-use Rattle.std.proofs.Common.{ap, arith, sym, ◌∙◌}
-use Rattle.insn_codec.specs.Spelled.{spelled}
+use Rattle.disassembler.proofs.Prelude.{ap, arith, sym, ◌∙◌, spelled}
 use Rattle.disassembler.proofs.Words.{is_insn, is_slot, on_hand_is}
 use Rattle.disassembler.proofs.front.statement_at.Goals as goal
 

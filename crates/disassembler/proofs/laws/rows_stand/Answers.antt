@@ -1,9 +1,4 @@
-use Rattle.std.proofs.Common.{refl}
-use Rattle.insn_codec.specs.Candidate.{arithmetic_at, branch_at, candidate_at, jump_at, memory_at, wide_at}
-use Rattle.insn_codec.specs.Lines.{decimal, hex_digits}
-use Rattle.insn_codec.specs.Spelled.{spelled}
-use Rattle.insn_codec.specs.Statements.{statement_of}
-use Rattle.insn_codec.specs.Statements.Lists.{ended, place}
+use Rattle.disassembler.proofs.Prelude.{refl, arithmetic_at, branch_at, candidate_at, jump_at, memory_at, wide_at, decimal, hex_digits, spelled, statement_of, ended, place}
 use Rattle.disassembler.proofs.laws.rows_stand.Goals as goal
 
 pub returns : goal.returns

@@ -1,5 +1,4 @@
-use Rattle.std.proofs.Common.{rules, arith, string_bytes}
-use Rattle.std.proofs.lemmas.Grind.{common_steps}
+use Rattle.disassembler.proofs.Prelude.{rules, arith, string_bytes, common_steps}
 use Rattle.disassembler.proofs.Going.{goes, whole}
 use Rattle.disassembler.proofs.lines.listing.Goals as goal
 

@@ -1,5 +1,4 @@
-use Rattle.std.proofs.Common.{◌≡◌, ℕ, ◌%◌, List, ◌++◌, length, string_bytes}
-use Rattle.insn_codec.specs.Statements.{Listing}
+use Rattle.disassembler.proofs.Prelude.{◌≡◌, ℕ, ◌%◌, List, ◌++◌, length, string_bytes, Listing}
 use Rattle.disassembler.proofs.lines.listing.Given as goal
 
 -- whatever lists the rest, behind the text so far, lists the code

@@ -1,8 +1,4 @@
-use Rattle.std.proofs.Common.{◌≡◌, ℕ, ◌%◌, ◌≢◌, Option, Some, None, sym, refl, ◌∙◌}
-use Rattle.std.proofs.lemmas.Bool.{iff_false}
-use Rattle.insn_codec.specs.Spelled.{spelled}
-use Rattle.insn_codec.specs.Spelling.{Begins, IsInsn, on_hand, spelling}
-use Rattle.insn_codec.specs.declared.insn.Insn.{Insn}
+use Rattle.insn_codec.proofs.Prelude.{◌≡◌, ℕ, ◌%◌, ◌≢◌, Option, Some, None, sym, refl, ◌∙◌, iff_false, spelled, Begins, IsInsn, on_hand, spelling, Insn}
 use Rattle.insn_codec.proofs.Spelled.{candidate_of_words, spelled_alone, spelled_begins, spelled_none, spelled_other, spelled_some}
 use Rattle.insn_codec.proofs.codec.decode.Goals as goal
 

@@ -1,4 +1,4 @@
-use Rattle.std.proofs.Common.{[], append-nil, sym, ◌∙◌}
+use Rattle.insn_codec.proofs.Prelude.{[], append-nil, sym, ◌∙◌}
 use Rattle.insn_codec.proofs.codec.round_trip.Goals as goal
 
 pub returns : goal.returns

@@ -1,4 +1,4 @@
-use Rattle.std.proofs.Common.{refl}
+use Rattle.insn_codec.proofs.Prelude.{refl}
 use Rattle.insn_codec.proofs.Spelled.{one_begins}
 use Rattle.insn_codec.proofs.codec.spells.Goals as goal
 

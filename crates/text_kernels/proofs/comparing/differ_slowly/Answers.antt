@@ -1,6 +1,4 @@
-use Rattle.std.proofs.Common.{drop, ◌==◌, arith}
-use Rattle.std.proofs.lemmas.List.{length-drop}
-use Rattle.std.proofs.lemmas.List.Sums.{common_prefix_len-le}
+use Rattle.text_kernels.proofs.Prelude.{drop, ◌==◌, arith, length-drop, common_prefix_len-le}
 use Rattle.text_kernels.proofs.comparing.differ_slowly.Goals as goal
 
 pub returns-else-at-right : goal.returns-else-at-right

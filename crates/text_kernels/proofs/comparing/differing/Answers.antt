@@ -1,5 +1,4 @@
-use Rattle.std.proofs.Common.{ap, ◌%◌, ◌^◌, ◌∙◌, sym, arith, w8}
-use Rattle.std.proofs.lemmas.Simd.{tops_compared, mask_l-mod, length-zip2}
+use Rattle.text_kernels.proofs.Prelude.{ap, ◌%◌, ◌^◌, ◌∙◌, sym, arith, w8, tops_compared, mask_l-mod, length-zip2}
 use lib.Lanes.{mask_l, zip2}
 use Rattle.text_kernels.proofs.Pairs.{differ}
 use Rattle.text_kernels.proofs.comparing.differing.Goals as goal

@@ -1,6 +1,4 @@
-use Rattle.std.proofs.Common.{length, take, drop, ◌-◌, ◌==◌, sym, ap, ◌∙◌, arith}
-use Rattle.std.proofs.lemmas.List.{length-take}
-use Rattle.std.proofs.lemmas.List.Sums.{common_prefix_len-le}
+use Rattle.text_kernels.proofs.Prelude.{length, take, drop, ◌-◌, ◌==◌, sym, ap, ◌∙◌, arith, length-take, common_prefix_len-le}
 use lib.Count.{count_trailing_zeros}
 use Rattle.text_kernels.proofs.Pairs.{same_through, differ_within}
 use Rattle.text_kernels.proofs.comparing.first_difference.Goals as goal

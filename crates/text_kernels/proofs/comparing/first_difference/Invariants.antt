@@ -1,5 +1,4 @@
-use Rattle.std.proofs.Common.{◌≡◌, ◌+◌, ◌-◌, ◌≤◌, drop, length}
-use Rattle.text_kernels.specs.Scans.{first_difference_of}
+use Rattle.text_kernels.proofs.Prelude.{◌≡◌, ◌+◌, ◌-◌, ◌≤◌, drop, length, first_difference_of}
 use Rattle.text_kernels.proofs.comparing.first_difference.Given as goal
 
 abbrev pub invariant-loop-at : goal.invariant-loop-at

@@ -1,8 +1,5 @@
-use Rattle.std.proofs.Common.{◌≡◌, ◌+◌, ℕ, List, cond, drop, ap, ◌∙◌, arith}
-use Rattle.std.proofs.lemmas.Simd.{chunk-drop}
-use Rattle.std.proofs.lemmas.List.Sums.{sum_by-append, count_by-le-length}
+use Rattle.text_kernels.proofs.Prelude.{◌≡◌, ◌+◌, ℕ, List, cond, drop, ap, ◌∙◌, arith, chunk-drop, sum_by-append, count_by-le-length, is_leading, code_points_of}
 use lib.Lanes.{chunk}
-use Rattle.text_kernels.specs.Scans.{is_leading, code_points_of}
 use Rattle.text_kernels.proofs.counting.code_points.Goals as goal
 
 block_and_rest : (bytes : List ℕ) (i n : ℕ) → code_points_of (drop i bytes) ≡ code_points_of (chunk i n bytes) + code_points_of (drop (i + n) bytes)

@@ -1,5 +1,4 @@
-use Rattle.std.proofs.Common.{◌≡◌, ◌+◌, ◌-◌, ◌≤◌, drop, length}
-use Rattle.text_kernels.specs.Scans.{code_points_of}
+use Rattle.text_kernels.proofs.Prelude.{◌≡◌, ◌+◌, ◌-◌, ◌≤◌, drop, length, code_points_of}
 use Rattle.text_kernels.proofs.counting.code_points.Given as goal
 
 abbrev pub invariant-loop-at : goal.invariant-loop-at

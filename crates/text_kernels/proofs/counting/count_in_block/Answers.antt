@@ -1,8 +1,5 @@
-use Rattle.std.proofs.Common.{ap, ◌∙◌}
-use Rattle.std.proofs.lemmas.Simd.{ones-mask_l}
-use Rattle.std.specs.Int.RustNames.{count_ones}
+use Rattle.text_kernels.proofs.Prelude.{ap, ◌∙◌, ones-mask_l, count_ones, is_leading}
 use lib.Lanes.{chunk}
-use Rattle.text_kernels.specs.Scans.{is_leading}
 use Rattle.text_kernels.proofs.counting.count_in_block.Goals as goal
 
 pub returns : goal.returns

@@ -1,6 +1,4 @@
-use Rattle.std.proofs.Common.{refl, arith}
-use Rattle.std.proofs.lemmas.Simd.{zip2_splat, splat_is_map, zip2_of_maps}
-use Rattle.text_kernels.specs.Scans.{is_leading}
+use Rattle.text_kernels.proofs.Prelude.{refl, arith, zip2_splat, splat_is_map, zip2_of_maps, is_leading}
 use Rattle.text_kernels.proofs.Masks.{masked}
 use Rattle.text_kernels.proofs.counting.leading.Goals as goal
 

@@ -1,10 +1,6 @@
-use Rattle.std.proofs.Common.{length, take, drop, ◌+◌, ◌-◌, sym, ap, ◌∙◌, arith}
-use Rattle.std.proofs.lemmas.Simd.{chunk-drop, length-chunk}
-use Rattle.std.proofs.lemmas.List.{length-take}
-use Rattle.std.proofs.lemmas.List.Sums.{prefix_len-le-length}
+use Rattle.text_kernels.proofs.Prelude.{length, take, drop, ◌+◌, ◌-◌, sym, ap, ◌∙◌, arith, chunk-drop, length-chunk, length-take, prefix_len-le-length, is_special, is_plain, skip_plain_of}
 use lib.Lanes.{chunk}
 use lib.Count.{count_trailing_zeros}
-use Rattle.text_kernels.specs.Scans.{is_special, is_plain, skip_plain_of}
 use Rattle.text_kernels.proofs.Runs.{run_through, run_stops}
 use Rattle.text_kernels.proofs.skipping.skip_plain.Goals as goal
 

@@ -1,5 +1,4 @@
-use Rattle.std.proofs.Common.{◌≡◌, ◌+◌, ◌-◌, ◌≤◌, drop, length}
-use Rattle.text_kernels.specs.Scans.{skip_plain_of}
+use Rattle.text_kernels.proofs.Prelude.{◌≡◌, ◌+◌, ◌-◌, ◌≤◌, drop, length, skip_plain_of}
 use Rattle.text_kernels.proofs.skipping.skip_slowly.Given as goal
 
 abbrev pub invariant-loop-at : goal.invariant-loop-at

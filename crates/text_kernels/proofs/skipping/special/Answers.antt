@@ -1,7 +1,5 @@
-use Rattle.std.proofs.Common.{◌≡◌, ℕ, List, map, length, replicate, refl, arith, cond, eqb, bit_or}
-use Rattle.std.proofs.lemmas.Simd.{zip2_splat, zip2_of_maps}
+use Rattle.text_kernels.proofs.Prelude.{◌≡◌, ℕ, List, map, length, replicate, refl, arith, cond, eqb, bit_or, zip2_splat, zip2_of_maps, is_special}
 use lib.Lanes.{zip2}
-use Rattle.text_kernels.specs.Scans.{is_special}
 use Rattle.text_kernels.proofs.Masks.{masked}
 use Rattle.text_kernels.proofs.skipping.special.Goals as goal
 

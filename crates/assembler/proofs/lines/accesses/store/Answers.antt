@@ -1,7 +1,6 @@
-use Rattle.std.proofs.Common.{refl}
+use Rattle.assembler.proofs.Prelude.{refl, statement}
 use Rattle.insn_codec.specs.declared.insn.Insn.TheVariants as insn
 use Rattle.insn_codec.specs.declared.statement.Statement.TheVariants as statement_kind
-use Rattle.assembler.specs.Items.{statement}
 use Rattle.assembler.proofs.lines.accesses.store.Goals as goal
 
 pub returns-in_default-short : goal.returns-in_default-short

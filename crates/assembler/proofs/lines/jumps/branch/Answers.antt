@@ -1,4 +1,4 @@
-use Rattle.assembler.proofs.OutOfRange.{branch_out}
+use Rattle.assembler.proofs.JumpLines.{branch_out}
 use Rattle.assembler.proofs.lines.jumps.branch.Goals as goal
 
 pub returns-in_default-operand_in_range : goal.returns-in_default-operand_in_range

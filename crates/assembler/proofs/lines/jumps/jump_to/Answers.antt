@@ -1,15 +1,11 @@
-use Rattle.std.proofs.Common.{subst, ap, ◌∙◌}
-use Rattle.std.specs.Int.{w32}
-use Rattle.std.proofs.lemmas.Int.{to_z-of_z}
-use Rattle.assembler.specs.Jumps.{with_offset}
-use Rattle.assembler.specs.Targets.{TargetIs}
-use Rattle.assembler.proofs.JumpLines.{jump_out, jump_refused, jump_said, offset_fits}
+use Rattle.assembler.proofs.Prelude.{subst, ap, ◌∙◌, arith, w32, to_z-of_z, with_offset, TargetIs}
+use Rattle.assembler.proofs.JumpLines.{jump_out, jump_refused, jump_said}
 use Rattle.assembler.proofs.lines.jumps.jump_to.Goals as goal
 
 pub returns-in_default : goal.returns-in_default
 returns-in_default c = λ goal t.
     let e = subst (λ x. TargetIs x goal) c.in-Offset.is t in
-    jump_out c.args.jump e.0 goal e.2 (λ r. c.in_default.ensures e.0 e.1 (offset_fits c.args.jump e.0 r))
+    jump_out c.args.jump e.0 goal e.2 (λ r. c.in_default.ensures e.0 e.1 (grind arith))
 
 pub returns-in-Some-with_offset : goal.returns-in-Some-with_offset
 returns-in-Some-with_offset c = λ goal t.

@@ -1,5 +1,6 @@
-use Rattle.assembler.proofs.Spellings.{no_operation}
+use Rattle.assembler.proofs.Ends.{no_operation}
 use Rattle.assembler.proofs.lines.mnemonics.atomic_of_width.Goals as goal
 
-pub returns-in_default-atomic_op : goal.returns-in_default-atomic_op
-returns-in_default-atomic_op c = no_operation c.args.text.now c.in-Some.name.now c.in-Some.width c.in-Some.ensures c.in_default-atomic_op.ensures
+pub returns-in_err-op : goal.returns-in_err-op
+returns-in_err-op c = rw c.from_residual-in_err-op.ensures
+    (no_operation c.args.text.now c.in_ok-name.name.now c.in_ok-name.width c.in_ok-name.ensures c.in_err-op.ensures)

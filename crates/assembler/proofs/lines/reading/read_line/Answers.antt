@@ -1,11 +1,7 @@
-use Rattle.std.proofs.Common.{◌∷◌, ◌++◌, Some, None, lit<, sym, ◌∙◌, ap}
-use Rattle.std.proofs.lemmas.Slice.Eq.{bytes_eq-Decides}
-use Rattle.std.proofs.lemmas.Str.Pattern.{split_parts, strip_suffix_char}
-use Rattle.std.specs.Prelude.{codes}
+use Rattle.assembler.proofs.Prelude.{◌∷◌, ◌++◌, Some, None, lit<, sym, ◌∙◌, ap, bytes_eq-Decides, split_parts, strip_suffix_char, codes}
 use Rattle.assembler.proofs.Ends.{differ}
 use Rattle.assembler.proofs.Lacking.{lacks_from}
-use Rattle.assembler.proofs.OneLine.{reads_line}
-use Rattle.assembler.proofs.Whole.{code_only, exit_only, nothing_only}
+use Rattle.assembler.proofs.Whole.{code_only, exit_only, nothing_only, reads_line}
 use Rattle.assembler.proofs.lines.reading.read_line.Goals as goal
 
 pub returns-then-eq : goal.returns-then-eq

@@ -1,5 +1,4 @@
-use Rattle.std.proofs.Common.{lit<}
-use Rattle.std.proofs.lemmas.Str.Pattern.{split_once_first}
+use Rattle.assembler.proofs.Prelude.{lit<, split_once_first}
 use Rattle.assembler.proofs.FirstLine.{first_line, last_line}
 use Rattle.assembler.proofs.passes.cutting.next_line.Goals as goal
 

@@ -1,5 +1,5 @@
-use Rattle.std.proofs.Common.{arith}
-use Rattle.assembler.proofs.Emitting.{emit_step, room_step}
+use Rattle.assembler.proofs.Prelude.{arith}
+use Rattle.assembler.proofs.Resolving.{emit_step, room_step}
 use Rattle.assembler.proofs.passes.emit.emit.Goals as goal
 
 pub loop-line-preserved : goal.loop-line-preserved

@@ -1,7 +1,4 @@
-use Rattle.std.proofs.Common.{◌≡◌, ◌+◌, ◌≤◌, map, drop}
-use Rattle.std.specs.BTreeMap.{get_by_text}
-use Rattle.assembler.specs.Items.{item_of, slots_of}
-use Rattle.assembler.specs.SecondPass.{after, code_bytes}
+use Rattle.assembler.proofs.Prelude.{◌≡◌, ◌+◌, ◌≤◌, map, drop, get_by_text, item_of, slots_of, after, code_bytes}
 use Rattle.assembler.proofs.passes.emit.emit.Given as goal
 
 abbrev pub invariant-loop-line : goal.invariant-loop-line

@@ -1,6 +1,4 @@
-use Rattle.std.proofs.Common.{◌≡◌, string_bytes, sym, ◌∙◌}
-use Rattle.std.proofs.lemmas.Map.Text.{btree_map_updates_text}
-use Rattle.std.proofs.lemmas.Result.{IfOk-at_ok}
+use Rattle.assembler.proofs.Prelude.{◌≡◌, string_bytes, sym, ◌∙◌, btree_map_updates_text, IfOk-at_ok}
 use Rattle.assembler.proofs.passes.labels.add_label.Goals as goal
 
 -- the label had no slot, and the map changes at its name alone

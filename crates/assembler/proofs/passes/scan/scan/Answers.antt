@@ -1,8 +1,6 @@
-use Rattle.std.proofs.Common.{arith, inr, map}
-use Rattle.std.specs.BTreeMap.{get_by_text}
-use Rattle.assembler.proofs.LabelSlots.{slots_after_label}
-use Rattle.assembler.proofs.Scanning.{all_scanned, begun, count, full_refused, goes_on, items_snoc, label_refused, read_refused, slots_step}
-use Rattle.assembler.specs.Items.{item_of}
+use Rattle.assembler.proofs.Prelude.{arith, inr, map, get_by_text, item_of}
+use Rattle.assembler.proofs.Named.{slots_after_label}
+use Rattle.assembler.proofs.Scanning.{all_scanned, count, full_refused, goes_on, items_snoc, label_refused, read_refused, slots_step}
 use Rattle.assembler.proofs.passes.scan.scan.Goals as goal
 
 pub returns-in-Err : goal.returns-in-Err
@@ -23,7 +21,7 @@ lines-preserved c =
       c.in-Some.ensures.text,
       rw items (slots_after_label (map item_of c.lines.lines.items) (item_of c.in-Ok.line) (λ q. get_by_text c.lines.labels q) (λ q. get_by_text c.add_label.new.labels q) c.lines.slot c.lines.invariant.0 c.lines.invariant.3 step.0 step.1),
       rw items (goes_on (map item_of c.lines.lines.items) (λ q. get_by_text c.lines.labels q) c.in-Ok.line c.in-Some.front.now _ _ _ c.lines.invariant.4 c.in-Some.ensures.found c.lines.invariant.3 c.in-Ok.ensures step.0 (omega (arith, c.if-slot-gt-MAX_SLOTS.false, c.slots-slot.ensures, c.lines.invariant.0))),
-      inr (begun c.in-Ok.line c.in-Some.front.now _ _ _ c.lines.invariant.5 c.in-Some.ensures.found c.in-Ok.ensures),
+      inr (grind arith),
     )
 
 pub returns : goal.returns

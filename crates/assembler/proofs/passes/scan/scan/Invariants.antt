@@ -1,10 +1,5 @@
-use Rattle.std.proofs.Common.{◌≡◌, ◌≤◌, length, map}
-use Rattle.std.specs.Str.{IsUtf8}
-use Rattle.std.specs.BTreeMap.{get_by_text}
+use Rattle.assembler.proofs.Prelude.{◌≡◌, ◌≤◌, length, map, IsUtf8, get_by_text, HasSlots, lines_of, item_of, slots_of}
 use Rattle.assembler.proofs.Scanning.{Begun, GoesOn}
-use Rattle.assembler.specs.Answers.{HasSlots}
-use Rattle.assembler.specs.Cutting.{lines_of}
-use Rattle.assembler.specs.Items.{item_of, slots_of}
 use Rattle.assembler.proofs.passes.scan.scan.Given as goal
 
 abbrev pub invariant-lines : goal.invariant-lines

@@ -1,5 +1,4 @@
-use Rattle.std.proofs.Common.{◌∷◌, Some, None, lit<, sym, ◌∙◌}
-use Rattle.std.proofs.lemmas.Str.Pattern.{split_after, strip_prefix_char}
+use Rattle.assembler.proofs.Prelude.{◌∷◌, Some, None, lit<, sym, ◌∙◌, split_after, strip_prefix_char}
 use Rattle.assembler.proofs.Ends.{tails}
 use Rattle.assembler.proofs.Lacking.{lacks_at}
 use Rattle.assembler.proofs.text.cuts.cut.Goals as goal

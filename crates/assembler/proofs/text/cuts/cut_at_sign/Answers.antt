@@ -1,4 +1,4 @@
-use Rattle.assembler.proofs.SignCuts.{plus_cut}
+use Rattle.assembler.proofs.NameBytes.{plus_cut}
 use Rattle.assembler.proofs.text.cuts.cut_at_sign.Goals as goal
 
 pub returns-clause-only : goal.returns-clause-only

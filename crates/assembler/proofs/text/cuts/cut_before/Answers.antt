@@ -1,6 +1,4 @@
-use Rattle.std.proofs.Common.{Some, None, ◌∙◌, ap}
-use Rattle.std.proofs.Common.{◌∷◌}
-use Rattle.std.proofs.lemmas.Str.Pattern.{find_char, finds_char_after, drop_at_char}
+use Rattle.assembler.proofs.Prelude.{Some, None, ◌∙◌, ap, ◌∷◌, find_char, finds_char_after, drop_at_char}
 use Rattle.assembler.proofs.Lacking.{lacks_at, lacks_from, lacks_gone}
 use Rattle.assembler.proofs.text.cuts.cut_before.Goals as goal
 

@@ -1,5 +1,4 @@
-use Rattle.std.proofs.Common.{◌≡◌, drop}
-use Rattle.std.specs.Str.{all_ascii_digits}
+use Rattle.assembler.proofs.Prelude.{◌≡◌, drop, all_ascii_digits}
 use Rattle.assembler.proofs.text.numerals.all_digits.Given as goal
 
 abbrev pub invariant-loop-byte : goal.invariant-loop-byte

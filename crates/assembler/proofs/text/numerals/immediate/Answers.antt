@@ -1,5 +1,4 @@
-use Rattle.std.proofs.Common.{◌∙◌, sym, ap, inl}
-use Rattle.assembler.specs.Numbers.{is_immediate}
+use Rattle.assembler.proofs.Prelude.{◌∙◌, sym, ap, inl, is_immediate}
 use Rattle.assembler.proofs.Forms.{immediate_said, no_immediate}
 use Rattle.assembler.proofs.text.numerals.immediate.Goals as goal
 

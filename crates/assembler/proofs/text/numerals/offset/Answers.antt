@@ -1,5 +1,4 @@
-use Rattle.std.proofs.Common.{◌∙◌, sym, ap, inr}
-use Rattle.assembler.specs.Numbers.{is_offset}
+use Rattle.assembler.proofs.Prelude.{◌∙◌, sym, ap, inr, is_offset}
 use Rattle.assembler.proofs.Forms.{offset_said, no_offset}
 use Rattle.assembler.proofs.text.numerals.offset.Goals as goal
 

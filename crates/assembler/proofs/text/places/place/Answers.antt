@@ -1,8 +1,5 @@
-use Rattle.std.proofs.Common.{◌∷◌, ◌++◌, [], Some, None, lit<, sym, ◌∙◌, ap}
-use Rattle.std.proofs.lemmas.Str.Pattern.{strip_prefix_char, strip_suffix_char}
-use Rattle.insn_codec.specs.Lines.{address_text}
+use Rattle.assembler.proofs.Prelude.{◌∷◌, ◌++◌, [], Some, None, lit<, sym, ◌∙◌, arith, strip_prefix_char, strip_suffix_char, address_text, append_cancel_right}
 use Rattle.assembler.proofs.Ends.{tails}
-use Rattle.assembler.proofs.SignCuts.{in_brackets}
 use Rattle.assembler.proofs.text.places.place.Goals as goal
 
 pub returns-in_err-after : goal.returns-in_err-after
@@ -17,4 +14,4 @@ pub returns : goal.returns
 returns c =
     let p = strip_prefix_char 91 c.args.text.now (Some c.in_ok-after.after) c.in_ok-after.ensures.cases (lit< tt) in
     let q = strip_suffix_char 93 c.in_ok-after.after.now (Some c.in_ok-inside.inside) c.in_ok-inside.ensures.cases (lit< tt) in
-    in_brackets c.args.text.now c.in_ok-inside.inside.now c.address.result (p ∙ ap (λ t. 91 ∷ t) q) c.address.ensures
+    (grind (arith, append_cancel_right, tails))

@@ -1,5 +1,4 @@
-use Rattle.std.proofs.Common.{refl}
-use Rattle.insn_codec.specs.Lines.{place_text, signed_decimal}
+use Rattle.assembler.proofs.Prelude.{refl, place_text, signed_decimal}
 use Rattle.assembler.proofs.NameBytes.{lacks_place}
 use Rattle.assembler.proofs.text.shapes.place_number.Goals as goal
 

@@ -1,5 +1,4 @@
-use Rattle.std.proofs.Common.{ap, sym, ◌∙◌, arith}
-use Rattle.loader.specs.Format.{file_of}
+use Rattle.loader.proofs.Prelude.{ap, sym, ◌∙◌, arith, file_of}
 use Rattle.loader.proofs.Faults.{HasNoFault}
 use Rattle.loader.proofs.RoundTrip.{file_whole}
 use Rattle.loader.proofs.image.Image.read.Goals as goal
