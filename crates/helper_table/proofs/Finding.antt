@@ -1,12 +1,6 @@
 -- A text stands in another exactly where the search finds it.
-use Rattle.std.proofs.Common.{◌≡◌, ℕ, zero, suc, List, [], ◌∷◌, length, take, Option, Some, None, true, sym, ap, ⊎_elim, arith, length-take}
-use Rattle.std.proofs.lemmas.Bool.{cases_Bool, or_cases, or_left, or_right}
-use Rattle.std.specs.List.{starts_with}
-use Rattle.std.specs.Prelude.{is_some, nat_eq}
+use Rattle.helper_table.proofs.Prelude.{◌≡◌, ℕ, suc, List, [], ◌∷◌, length, take, Option, Some, None, true, sym, ap, ⊎_elim, arith, length-take, cases_Bool, or_cases, or_left, or_right, starts_with, is_some, nat_eq, OccursAt, FindsNeedle, OccursAt-part, OccursAt-from_part, contains}
 use lib.Pointwise.{bytes_decides}
-use Rattle.memchr.specs.Find.{OccursAt, FindsNeedle}
-use Rattle.memchr.proofs.lemmas.MatchLemmas.{OccursAt-part, OccursAt-from_part}
-use Rattle.helper_table.specs.Comparisons.{contains}
 
 starts_at : (hay needle : List ℕ) → starts_with nat_eq hay needle ≡ true → OccursAt hay needle 0
 starts_at hay needle e =
@@ -21,10 +15,10 @@ record Stands (hay needle : List ℕ) : Type 0 where
   at : OccursAt hay needle place
 
 later : (b : ℕ) (bs needle : List ℕ) (k : ℕ) → OccursAt bs needle k → OccursAt (b ∷ bs) needle (suc k)
-later b bs needle k at = OccursAt-from_part (b ∷ bs) needle (suc k) (let h = at.fits in omega arith) (OccursAt-part bs needle k at)
+later b bs needle k at = grind arith
 
 earlier : (b : ℕ) (bs needle : List ℕ) (k : ℕ) → OccursAt (b ∷ bs) needle (suc k) → OccursAt bs needle k
-earlier b bs needle k at = OccursAt-from_part bs needle k (let h = at.fits in omega arith) (OccursAt-part (b ∷ bs) needle (suc k) at)
+earlier b bs needle k at = grind arith
 
 stands : (hay needle : List ℕ) → contains hay needle ≡ true → Stands hay needle
 stands [] needle e = record { place = 0; at = starts_at [] needle e }
@@ -34,10 +28,8 @@ stands (b ∷ bs) needle e =
     (or_cases (starts_with nat_eq (b ∷ bs) needle) (contains bs needle) e)
 
 contains_if : (hay needle : List ℕ) (k : ℕ) → OccursAt hay needle k → contains hay needle ≡ true
-contains_if [] needle zero at = starts_if [] needle at
-contains_if [] needle (suc k) at = let h = at.fits in absurd (omega arith)
-contains_if (b ∷ bs) needle zero at = or_left _ _ (starts_if (b ∷ bs) needle at)
 contains_if (b ∷ bs) needle (suc k) at = or_right _ _ (contains_if bs needle k (earlier b bs needle k at))
+contains_if hay needle k at = grind (arith, starts_if, or_left)
 
 pub finds_part : (hay needle : List ℕ) (r : Option ℕ) → FindsNeedle hay needle 0 r → is_some r ≡ contains hay needle
 finds_part hay needle (Some k) h = sym (contains_if hay needle k h.1)

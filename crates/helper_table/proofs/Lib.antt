@@ -1,16 +1,13 @@
 pub mod Placing
-pub mod Following
 pub mod Unplaced
 pub mod Seeing
-pub mod Lending
 pub mod Maps
-pub mod Lists
 pub mod Pairs
 pub mod Finding
-pub mod Joins
 pub mod Bounded
 pub mod Depths
 pub mod Entering
 pub mod Performing
 pub mod Numbers
 pub mod Tables
+pub mod Prelude

@@ -1,9 +1,5 @@
 -- The number of a helper as a place in the list of helpers.
-use Rattle.std.proofs.Common.{◌≡◌, ◌-◌, ◌≤◌, ℕ, zero, suc, Some, ap, ◌∙◌, sym, arith}
-use Rattle.std.proofs.lemmas.Option.{slice_get-get_or}
-use Rattle.std.specs.Prelude.{slice_index_or}
-use Rattle.helper_table.specs.Numbers.{helpers, numbered}
-use Rattle.helper_table.specs.declared.helper.Helper.{Helper}
+use Rattle.helper_table.proofs.Prelude.{◌≡◌, ◌-◌, ◌≤◌, ℕ, zero, suc, Some, ap, ◌∙◌, sym, arith, slice_get-get_or, slice_index_or, helpers, numbered, Helper}
 
 pub numbered_at : (n : ℕ) (other : Helper) → 1 ≤ n → n ≤ 23 → Some (slice_index_or helpers (n - 1) other) ≡ numbered n
 numbered_at zero other low high = absurd (omega arith)

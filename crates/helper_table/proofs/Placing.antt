@@ -1,35 +1,24 @@
 -- What placing a value leaves.
-use Rattle.std.proofs.Common.{◌≡◌, ℕ, zero, suc, true, false, List, [], ◌∷◌, ◌++◌, length, refl, ap, subst, ◌⊎◌, inl, inr, ⊎_elim, arith, length-append}
-use Rattle.std.specs.Prelude.{slice_get}
-use Rattle.value_store.specs.Placing.{first_values, place, placed, IsCanonicalAt}
-use Rattle.value_store.specs.Value.{Value, null, boolean, int, text, list, map, ValueOrError, value}
-use Rattle.helper_table.specs.Laws.{Names, Extends, PlacedIsNamed, PlacedExtends}
+use Rattle.helper_table.proofs.Prelude.{◌≡◌, ℕ, suc, List, [], ◌∷◌, ◌++◌, length, refl, ◌⊎◌, arith, length-append, ◌+◌, Bool, true, first_values, place, placed, IsCanonicalAt, Contents, charge_limit, Value, null, boolean, ValueOrError, value, Names, Extends, PlacedIsNamed, PlacedExtends, Follows, if◌then◌else◌, nat_le, F8, Outcome, Plain, Named, Refused, Leaves, Halts, answer_among, charged}
 
 seam : (vs : List ValueOrError) (x : ValueOrError) → Names (vs ++ x ∷ []) (length vs) x
 seam [] x = refl
 seam (v ∷ vs) x = seam vs x
 
 kept : (vs : List ValueOrError) (y : ValueOrError) (h : ℕ) (x : ValueOrError) → Names vs h x → Names (vs ++ y ∷ []) h x
-kept [] y h x is = absurd (cc)
-kept (v ∷ vs) y zero x is = is
 kept (v ∷ vs) y (suc h) x is = kept vs y h x is
+kept vs y h x is = grind arith
 
 old_or_new : (vs : List ValueOrError) (y : ValueOrError) (h : ℕ) (x : ValueOrError) → Names (vs ++ y ∷ []) h x → Names vs h x ⊎ (y ≡ x)
-old_or_new [] y zero x is = inr (cc)
-old_or_new [] y (suc h) x is = absurd (cc)
-old_or_new (v ∷ vs) y zero x is = inl is
 old_or_new (v ∷ vs) y (suc h) x is = old_or_new vs y h x is
+old_or_new vs y h x is = grind arith
 
 pub same : (vs : List ValueOrError) → Extends vs vs
-same vs = record { kept = λ h x is. is; most_one = omega arith; canonical = λ c. c }
+same vs = grind arith
 
 -- one more value, which may have any reference
 more : (vs : List ValueOrError) (y : ValueOrError) → ((h : ℕ) → IsCanonicalAt y h) → Extends vs (vs ++ y ∷ [])
-more vs y free = record {
-  kept = kept vs y;
-  most_one = omega (arith, length-append vs (y ∷ []));
-  canonical = λ canonical h x is. ⊎_elim (canonical h x) (λ e. subst (λ z. IsCanonicalAt z h) e (free h)) (old_or_new vs y h x is);
-}
+more vs y free = grind (arith, kept, length-append, old_or_new)
 
 pub placed_extends : PlacedExtends
 placed_extends vs null = same vs
@@ -37,10 +26,7 @@ placed_extends vs (boolean b) = same vs
 placed_extends vs v = more vs (value v) (λ h. tt)
 
 named_among : (vs rest : List ValueOrError) → vs ≡ first_values ++ rest → (v : Value) → Names (placed vs v) (place vs v) (value v)
-named_among vs rest e null = ap (λ l. slice_get l 1) e
-named_among vs rest e (boolean false) = ap (λ l. slice_get l 2) e
-named_among vs rest e (boolean true) = ap (λ l. slice_get l 3) e
-named_among vs rest e v = seam vs (value v)
+named_among vs rest e v = grind (arith, seam)
 
 pub placed_is_named : PlacedIsNamed
 placed_is_named old v store = named_among old.values store.more store.values_are v
@@ -51,9 +37,32 @@ pub record Begins (vs : List ValueOrError) : Type 0 where
   pub is : vs ≡ first_values ++ rest
 
 longer : (vs rest : List ValueOrError) (y : ValueOrError) → vs ≡ first_values ++ rest → Begins (vs ++ y ∷ [])
-longer vs rest y e = record { rest = rest ++ y ∷ []; is = ap (λ l. l ++ y ∷ []) e }
+longer vs rest y e = grind arith
 
 pub begins : (vs rest : List ValueOrError) → vs ≡ first_values ++ rest → (v : Value) → Begins (placed vs v)
-begins vs rest e null = record { rest = rest; is = e }
-begins vs rest e (boolean b) = record { rest = rest; is = e }
-begins vs rest e v = longer vs rest (value v) e
+begins vs rest e v = grind arith
+
+-- ---- what a call leaves follows what was there
+
+-- a call that left something stayed within the limit, and left its word and its values
+pub record Left (test : Bool) (w word : ℕ) (contents new : Contents) : Type 0 where
+  pub within : test ≡ true
+  pub word_is : w ≡ word
+  pub is : contents ≡ new
+
+pub left : (test : Bool) (w word : ℕ) (contents new : Contents) → (if test then Leaves w contents else Halts F8) ≡ Leaves word new
+    → Left test w word contents new
+left test w word contents new e = grind arith
+
+follows : (old new : Contents) (us : List ValueOrError) (w word added : ℕ) → Extends old.values us
+    → ((rest : List ValueOrError) → old.values ≡ first_values ++ rest → Begins us)
+    → Left (nat_le (old.charge + (1 + added)) charge_limit) w word (record { values = us; charge = old.charge + (1 + added) }) new → Follows old new
+follows old new us w word added values store limit = grind arith
+
+pub outcome_follows : (o : Outcome) (old new : Contents) (word : ℕ) → charged (answer_among old.values o) old.charge ≡ Leaves word new → Follows old new
+outcome_follows (Plain w added) old new word e =
+    follows old new old.values w word added (same old.values) (λ rest is. record { rest = rest; is = is }) (left _ _ _ _ _ e)
+outcome_follows (Named v added) old new word e =
+    follows old new (placed old.values v) _ word added (placed_extends old.values v)
+    (λ rest is. begins old.values rest is v) (left _ _ _ _ _ e)
+outcome_follows (Refused f) old new word e = absurd (cc)

@@ -43,7 +43,7 @@ fn size(shape: Shape<'_>) -> u64
     }
 }
 
-#[tactic(auto, using(crate::proofs::Joins::joins, crate::proofs::Joins::joins_not, crate::proofs::Joins::joined_there))]
+#[tactic(auto, using(crate::proofs::Pairs::joins))]
 fn join_plan(a: u64, b: u64, x: Shape<'_>, y: Shape<'_>) -> Plan<'static>
     requires x { seen_size (shown x) < 2 ^ 63 }
     requires y { seen_size (shown y) < 2 ^ 63 }
@@ -61,6 +61,7 @@ fn join_plan(a: u64, b: u64, x: Shape<'_>, y: Shape<'_>) -> Plan<'static>
 }
 
 /// Helper 11: two texts or two lists, one behind the other.
+#[tactic(auto, unfolding(crate::specs::Building::join_row))]
 pub(crate) fn join<V: ValueStore>(table: &V, a: u64, b: u64) -> Result<Plan<'static>, Fault>
     ensures means { means (V.values table.now) result ≡ on_values (V.values table.now) a b join_row }
     ensures can { CanFollow (V.values table.now) result }
@@ -89,7 +90,6 @@ pub(crate) fn map_new() -> Result<Plan<'static>, Fault>
 }
 
 /// Whether a list or a map with a value more is within the depth.
-#[tactic(auto, using(crate::proofs::Depths::depth_there, crate::proofs::Depths::within_depth))]
 fn is_within_depth<V: ValueStore>(table: &V, c: u64, x: u64) -> bool
     requires c { c < length (V.values table.now) }
     requires x { x < length (V.values table.now) }

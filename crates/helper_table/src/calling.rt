@@ -65,7 +65,6 @@ fn plan_of<'a, V: ValueStore, M: Regions>(
 }
 
 /// The word of an action. The error says that the host has no memory for the value that is placed.
-#[tactic(auto, using(crate::proofs::Performing::does_named))]
 fn word_of<V: ValueStore>(table: &mut V, action: Action<'_>) -> Result<u64, AllocError>
     requires { CanDo (V.values table.old) action }
     ensures done { (added : ℕ) → Does (outcome_by (V.values table.old) action.entry added) result (V.values table.old) (V.values table.new) }

@@ -23,7 +23,6 @@ fn are_values(x: Shape<'_>, y: Shape<'_>) -> bool
 }
 
 /// Deep equality, if both are values.
-#[tactic(auto, using(crate::proofs::Pairs::nothing))]
 fn equality<V: ValueStore>(table: &mut V, a: u64, b: u64, both: bool) -> Option<bool>
     requires { both ≡ is_some (equal_at (slice_get (V.values table.old) a) (slice_get (V.values table.old) b)) }
     ensures answer { result ≡ equal_at (slice_get (V.values table.old) a) (slice_get (V.values table.old) b) }
@@ -34,7 +33,7 @@ fn equality<V: ValueStore>(table: &mut V, a: u64, b: u64, both: bool) -> Option<
 }
 
 /// Helper 9: whether two values are equal.
-#[tactic(auto, using(crate::proofs::Pairs::equal_pair))]
+#[tactic(auto, unfolding(crate::specs::Comparisons::equal_row))]
 pub(crate) fn equal<V: ValueStore>(table: &mut V, a: u64, b: u64) -> Result<Plan<'static>, Fault>
     ensures means { means (V.values table.old) result ≡ on_values (V.values table.old) a b equal_row }
     ensures can { CanFollow (V.values table.old) result }
@@ -61,7 +60,6 @@ fn have_order(x: Shape<'_>, y: Shape<'_>) -> bool
 }
 
 /// The order of two operands, if they have one.
-#[tactic(auto, using(crate::proofs::Pairs::nothing))]
 fn order<V: ValueStore>(table: &V, a: u64, b: u64, ordered: bool) -> Option<bool>
     requires { ordered ≡ is_some (less_at (slice_get (V.values table.now) a) (slice_get (V.values table.now) b)) }
     ensures { result ≡ less_at (slice_get (V.values table.now) a) (slice_get (V.values table.now) b) }
@@ -74,7 +72,7 @@ fn order<V: ValueStore>(table: &V, a: u64, b: u64, ordered: bool) -> Option<bool
 }
 
 /// Helper 10: whether the first of two values is below the second.
-#[tactic(auto, using(crate::proofs::Pairs::less_pair))]
+#[tactic(auto, using(crate::proofs::Pairs::less_pair), unfolding(crate::specs::Comparisons::less_row))]
 pub(crate) fn less<V: ValueStore>(table: &V, a: u64, b: u64) -> Result<Plan<'static>, Fault>
     ensures means { means (V.values table.now) result ≡ on_values (V.values table.now) a b less_row }
     ensures can { CanFollow (V.values table.now) result }
@@ -97,7 +95,6 @@ fn may_be_in(x: Shape<'_>, c: Shape<'_>) -> bool
 }
 
 /// Membership, if the second operand may have the first.
-#[tactic(auto, using(crate::proofs::Pairs::nothing))]
 fn membership<V: ValueStore>(table: &mut V, x: u64, c: u64, may_be: bool) -> Option<bool>
     requires { may_be ≡ is_some (member_at (slice_get (V.values table.old) x) (slice_get (V.values table.old) c)) }
     ensures answer { result ≡ member_at (slice_get (V.values table.old) x) (slice_get (V.values table.old) c) }
@@ -112,7 +109,7 @@ fn membership<V: ValueStore>(table: &mut V, x: u64, c: u64, may_be: bool) -> Opt
 }
 
 /// Helper 15: whether a value is an item of a list, or a text a key of a map.
-#[tactic(auto, using(crate::proofs::Pairs::member_pair))]
+#[tactic(auto, using(crate::proofs::Pairs::member_pair), unfolding(crate::specs::Comparisons::member_row))]
 pub(crate) fn member<V: ValueStore>(table: &mut V, x: u64, c: u64) -> Result<Plan<'static>, Fault>
     ensures means { means (V.values table.old) result ≡ on_values (V.values table.old) x c member_row }
     ensures can { CanFollow (V.values table.old) result }

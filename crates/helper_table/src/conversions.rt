@@ -29,7 +29,7 @@ fn kind_number(shape: Shape<'_>) -> u64
 }
 
 /// Helper 1: the kind of a value, as a number.
-#[tactic(auto, using(crate::proofs::Seeing::by_seen, crate::proofs::Seeing::by_fault), unfolding(crate::specs::Conversions::kind_row))]
+#[tactic(auto, unfolding(crate::specs::Conversions::kind_row))]
 pub(crate) fn kind<V: ValueStore>(table: &V, h: u64) -> Result<Plan<'static>, Fault>
     ensures means { means (V.values table.now) result ≡ on_value (V.values table.now) h kind_row }
     ensures can { CanFollow (V.values table.now) result }
@@ -48,7 +48,7 @@ fn int_word(shape: Shape<'_>) -> u64
 }
 
 /// Helper 2: an int as a word.
-#[tactic(auto, using(crate::proofs::Seeing::by_seen, crate::proofs::Seeing::by_fault), unfolding(crate::specs::Conversions::int_of_row))]
+#[tactic(auto, unfolding(crate::specs::Conversions::int_of_row))]
 pub(crate) fn int_of<V: ValueStore>(table: &V, h: u64) -> Result<Plan<'static>, Fault>
     ensures means { means (V.values table.now) result ≡ on_value (V.values table.now) h int_of_row }
     ensures can { CanFollow (V.values table.now) result }
@@ -69,6 +69,7 @@ pub(crate) fn int_new(word: u64) -> Result<Plan<'static>, Fault>
     })
 }
 
+#[tactic(auto, using(crate::proofs::Seeing::no_text, crate::proofs::Seeing::text_of_utf8))]
 fn text_plan(bytes: &[u8]) -> Plan<'_>
     ensures means { (vs : List ValueOrError) → outcome_by vs result.action result.added ≡ text_const_row bytes.now }
     ensures can { (vs : List ValueOrError) → CanDo vs result.action }
@@ -83,7 +84,6 @@ fn text_plan(bytes: &[u8]) -> Plan<'_>
 }
 
 /// Helper 4: the text in a range of constants.
-#[tactic(auto, using(crate::proofs::Lending::by_lent, crate::proofs::Lending::by_no_range))]
 pub(crate) fn text_const<M: Regions>(memory: &M, addr: u64, len: u64) -> Result<Plan<'_>, Fault>
     ensures means { (vs : List ValueOrError) → means vs result ≡ on_range (M.bytes memory.now).constants addr len text_const_row }
     ensures can { (vs : List ValueOrError) → CanFollow vs result }
@@ -106,7 +106,7 @@ fn decimal_plan(shape: Shape<'_>) -> Plan<'static>
 }
 
 /// Helper 22: the decimal text of an int.
-#[tactic(auto, using(crate::proofs::Seeing::by_seen, crate::proofs::Seeing::by_fault), unfolding(crate::specs::Conversions::text_of_int_row))]
+#[tactic(auto, unfolding(crate::specs::Conversions::text_of_int_row))]
 pub(crate) fn text_of_int<V: ValueStore>(table: &V, h: u64) -> Result<Plan<'static>, Fault>
     ensures means { means (V.values table.now) result ≡ on_value (V.values table.now) h text_of_int_row }
     ensures can { CanFollow (V.values table.now) result }
@@ -125,7 +125,7 @@ fn other_truth(shape: Shape<'_>) -> Option<bool>
 }
 
 /// Helper 23: the other truth.
-#[tactic(auto, using(crate::proofs::Seeing::by_seen, crate::proofs::Seeing::by_fault), unfolding(crate::specs::Conversions::not_row))]
+#[tactic(auto, unfolding(crate::specs::Conversions::not_row))]
 pub(crate) fn not<V: ValueStore>(table: &V, h: u64) -> Result<Plan<'static>, Fault>
     ensures means { means (V.values table.now) result ≡ on_value (V.values table.now) h not_row }
     ensures can { CanFollow (V.values table.now) result }

@@ -17,16 +17,19 @@ pub fn placed_is_named()
 {}
 
 /// A call that answers a word places at most one value, charges at least 1, and leaves a store.
+#[tactic(auto, using(crate::proofs::Placing::outcome_follows))]
 pub fn calls_follow()
     ensures { CallsFollow }
 {}
 
 /// Helpers that answer a plain word or a truth place nothing.
+#[tactic(auto, using(crate::proofs::Unplaced::others_place_nothing))]
 pub fn others_place_nothing()
     ensures { OthersPlaceNothing }
 {}
 
 /// Among the values of a table a call that is not stopped answers a word, and leaves a table.
+#[tactic(auto, using(crate::proofs::Tables::tables_are_kept))]
 pub fn tables_are_kept()
     ensures { TablesAreKept }
 {}

@@ -18,7 +18,6 @@ use text_kernels::code_points;
 use value_store::{Shape, ValueStore};
 
 /// The place of a map's entry at a key.
-#[tactic(auto, using(crate::proofs::Maps::finds, crate::proofs::Maps::found_place, crate::proofs::Maps::no_entries_no_place))]
 fn place_under<V: ValueStore>(table: &V, m: u64, key: &[u8]) -> Option<u64>
     ensures { result ≡ option_and_then (place_of_key key.now) (entries_at (slice_get (V.values table.now) m)) }
 {
@@ -41,6 +40,7 @@ fn part_under<V: ValueStore>(table: &V, m: u64, key: &[u8]) -> Plan<'static>
 }
 
 /// Helper 5: a map's value at a key in the constants.
+#[tactic(auto, using(crate::proofs::Seeing::by_lent, crate::proofs::Seeing::by_operand), unfolding(crate::specs::Lookups::field_row))]
 pub(crate) fn field<V: ValueStore, M: Regions>(
     table: &V,
     memory: &M,
@@ -57,7 +57,7 @@ pub(crate) fn field<V: ValueStore, M: Regions>(
 }
 
 /// Whether a map has a key.
-#[tactic(auto, using(crate::proofs::Maps::has_place, crate::proofs::Maps::has_no_entries, crate::proofs::Maps::finds, crate::proofs::Maps::found_place))]
+#[tactic(auto, using(value_store::proofs::Places::has_key_place))]
 pub(crate) fn has_key<V: ValueStore>(table: &V, m: u64, key: &[u8]) -> Option<bool>
     ensures { result ≡ option_map (has_key key.now) (entries_at (slice_get (V.values table.now) m)) }
 {
@@ -69,6 +69,7 @@ pub(crate) fn has_key<V: ValueStore>(table: &V, m: u64, key: &[u8]) -> Option<bo
 }
 
 /// Helper 6: whether a map has a key in the constants.
+#[tactic(auto, unfolding(crate::specs::Lookups::has_row))]
 pub(crate) fn has<V: ValueStore, M: Regions>(
     table: &V,
     memory: &M,
@@ -85,7 +86,7 @@ pub(crate) fn has<V: ValueStore, M: Regions>(
 }
 
 /// A list's item at a place, to be placed.
-#[tactic(auto, using(crate::proofs::Lists::item_there, crate::proofs::Lists::no_item))]
+#[tactic(auto, using(crate::proofs::Maps::item_there, std::proofs::lemmas::Option::slice_get_past))]
 fn item_plan(l: u64, count: u64, place: Option<u64>) -> Plan<'static>
     ensures means { (vs : List ValueOrError) → option_map seen (slice_get vs l) ≡ Some (sees_list count) → outcome_by vs result.action result.added ≡ found (option_and_then (part_at (slice_get vs l)) place) }
     ensures can { (vs : List ValueOrError) → option_map seen (slice_get vs l) ≡ Some (sees_list count) → CanDo vs result.action }
@@ -97,7 +98,7 @@ fn item_plan(l: u64, count: u64, place: Option<u64>) -> Plan<'static>
 }
 
 /// A map's key at a place, to be placed.
-#[tactic(auto, using(crate::proofs::Lists::key_there, crate::proofs::Lists::no_key))]
+#[tactic(auto, using(crate::proofs::Maps::key_there, std::proofs::lemmas::Option::slice_get_past))]
 fn key_plan(m: u64, count: u64, i: u64) -> Plan<'static>
     ensures means { (vs : List ValueOrError) → option_map seen (slice_get vs m) ≡ Some (sees_map count) → outcome_by vs result.action result.added ≡ found (key_at (slice_get vs m) i) }
     ensures can { (vs : List ValueOrError) → option_map seen (slice_get vs m) ≡ Some (sees_map count) → CanDo vs result.action }
@@ -131,6 +132,7 @@ fn part_plan<V: ValueStore>(
 }
 
 /// Helper 7: a list's item at an int, or a map's value at a text.
+#[tactic(auto, using(crate::proofs::Seeing::by_operands), unfolding(crate::specs::Lookups::index_row))]
 pub(crate) fn index<V: ValueStore>(table: &V, x: u64, k: u64) -> Result<Plan<'static>, Fault>
     ensures means { means (V.values table.now) result ≡ on_values (V.values table.now) x k index_row }
     ensures can { CanFollow (V.values table.now) result }
@@ -141,7 +143,7 @@ pub(crate) fn index<V: ValueStore>(table: &V, x: u64, k: u64) -> Result<Plan<'st
 }
 
 /// Code points, items or entries.
-#[tactic(auto, using(crate::proofs::Lists::few_code_points))]
+#[tactic(auto, using(crate::proofs::Maps::few_code_points))]
 fn size_part(shape: Shape<'_>) -> Option<u64>
     requires { seen_size (shown shape) < 2 ^ 63 }
     ensures size { result ≡ size_part (shown shape.entry) }
@@ -167,7 +169,7 @@ fn size_plan(size: Option<u64>) -> Plan<'static>
 }
 
 /// Helper 8: the number of code points, items or entries, as an int.
-#[tactic(auto, using(crate::proofs::Seeing::by_seen, crate::proofs::Seeing::by_fault), unfolding(crate::specs::Lookups::size_row))]
+#[tactic(auto, unfolding(crate::specs::Lookups::size_row))]
 pub(crate) fn size<V: ValueStore>(table: &V, h: u64) -> Result<Plan<'static>, Fault>
     ensures means { means (V.values table.now) result ≡ on_value (V.values table.now) h size_row }
     ensures can { CanFollow (V.values table.now) result }
@@ -189,6 +191,7 @@ fn item_or_key_plan(h: u64, shape: Shape<'_>, i: u64) -> Plan<'static>
 }
 
 /// Helper 20: a list's item, or a map's key, at a place.
+#[tactic(auto, unfolding(crate::specs::Lookups::item_row))]
 pub(crate) fn item<V: ValueStore>(table: &V, h: u64, i: u64) -> Result<Plan<'static>, Fault>
     ensures means { means (V.values table.now) result ≡ on_value (V.values table.now) h (λ x. item_row x i) }
     ensures can { CanFollow (V.values table.now) result }
@@ -208,7 +211,7 @@ fn count_word(shape: Shape<'_>) -> u64
 }
 
 /// Helper 21: the number of items or entries, as a word.
-#[tactic(auto, using(crate::proofs::Seeing::by_seen, crate::proofs::Seeing::by_fault), unfolding(crate::specs::Lookups::count_row))]
+#[tactic(auto, unfolding(crate::specs::Lookups::count_row))]
 pub(crate) fn count<V: ValueStore>(table: &V, h: u64) -> Result<Plan<'static>, Fault>
     ensures means { means (V.values table.now) result ≡ on_value (V.values table.now) h count_row }
     ensures can { CanFollow (V.values table.now) result }

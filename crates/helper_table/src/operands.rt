@@ -12,7 +12,7 @@ use guest_memory::{Fault, Regions};
 use value_store::{Shape, ValueStore};
 
 /// What stands at a reference. The error is `F6` where nothing does.
-#[tactic(auto, using(crate::proofs::Seeing::inside))]
+#[tactic(auto, using(std::proofs::lemmas::Option::slice_get_within))]
 pub(crate) fn operand<V: ValueStore>(table: &V, h: u64) -> Result<Shape<'_>, Fault>
     ensures sees { Sees result (slice_get (V.values table.now) h) }
     ensures short { IfOk result (λ shape. seen_size (shown shape) < 2 ^ 63) }
@@ -30,7 +30,6 @@ pub(crate) fn range<M: Regions>(memory: &M, addr: u64, len: u64) -> Result<&[u8]
 }
 
 /// Whether a map stands at a reference.
-#[tactic(auto, using(crate::proofs::Maps::sees_entries, crate::proofs::Maps::sees_no_entries))]
 pub(crate) fn is_map<V: ValueStore>(table: &V, h: u64) -> bool
     ensures { result ≡ is_some (entries_at (slice_get (V.values table.now) h)) }
 {

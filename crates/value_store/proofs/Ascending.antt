@@ -1,12 +1,7 @@
 -- The keys of an object stand in order, as a `BTreeMap` keeps them.
-use Rattle.std.proofs.Common.{◌≡◌, List, [], ◌∷◌, String, Global, string_cmp, string_bytes, nat_cmp, Less}
-use Rattle.std.specs.Cmp.Lexicographic.{slice_cmp}
-use Rattle.std.specs.List.{AllByRecursion}
+use Rattle.value_store.proofs.Prelude.{◌≡◌, List, [], ◌∷◌, String, Global, string_cmp, string_bytes, nat_cmp, Less, slice_cmp, AllByRecursion, members_view, Entry, Ascend, member_keys}
 use Rattle.std.specs.List.Sorted.{IsStrictlySortedBy}
 use Rattle.std.specs.Map.{keys_of}
-use Rattle.serde_json.specs.View.{members_view}
-use Rattle.serde_json.proofs.Views.{Entry}
-use Rattle.value_store.specs.Keys.{Ascend, member_keys}
 
 all_above : (k : String Global) (ms : List Entry) → AllByRecursion (λ l. string_cmp k l ≡ Less) (keys_of ms) → AllByRecursion (λ l. slice_cmp nat_cmp (string_bytes k) l ≡ Less) (member_keys (members_view ms))
 all_above k [] h = tt

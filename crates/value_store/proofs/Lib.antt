@@ -12,3 +12,4 @@ pub mod Starting
 pub mod Tables
 pub mod Texts
 pub mod Trees
+pub mod Prelude

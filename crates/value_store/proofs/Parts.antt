@@ -1,18 +1,7 @@
 -- What stands at a place of a list or map.
-use Rattle.std.proofs.Common.{◌≡◌, ◌≤◌, ℕ, zero, suc, List, [], ◌∷◌, length, Option, Some, None, false, Bor, slice_get, option_map, refl, sym, ap, ◌∙◌, subst, arith}
-use Rattle.std.specs.Prelude.{IsSome, option_and_then}
-use Rattle.std.proofs.lemmas.Bool.{or_parts}
+use Rattle.value_store.proofs.Prelude.{◌≡◌, ◌≤◌, ℕ, zero, suc, List, [], ◌∷◌, length, Option, Some, None, false, Bor, slice_get, option_map, refl, sym, ap, ◌∙◌, subst, arith, IsSome, or_parts, get_item, view, items_view, members_view, Entry, list_of, keys_of, values_of, depth_of, items_depth, entries_depth, parts_of, has_other, items_have_other, members_have_other, plain_value, plain_items, plain_entries, nth_member, part_of}
 use Rattle.serde_json.specs.Data as json
-use Rattle.serde_json.specs.Find.{get_item}
-use Rattle.serde_json.specs.View.{view, items_view, members_view}
 use Rattle.serde_json.specs.declared.value.Value as document
-use Rattle.serde_json.proofs.Views.{Entry}
-use Rattle.value_store.specs.Value as kind
-use Rattle.value_store.specs.Value.{list_of, keys_of, values_of}
-use Rattle.value_store.specs.Size.{depth_of, items_depth, entries_depth}
-use Rattle.value_store.specs.Calls.{parts_of}
-use Rattle.value_store.specs.Roots.{has_other, items_have_other, members_have_other}
-use Rattle.value_store.specs.Plain.{plain_value, plain_items, plain_entries, nth_member, part_of}
 
 item_value : (i : ℕ) (ds : json.Items) → option_map plain_value (get_item i ds) ≡ slice_get (list_of (plain_items ds)) i
 item_value i json.no_items = refl
@@ -31,44 +20,25 @@ member_key (suc i) (json.member k d ms) = member_key i ms
 
 -- the value of the part at a place is the part of the value
 pub part_value : (i : ℕ) (d : json.Data) → option_map plain_value (part_of i d) ≡ slice_get (parts_of (plain_value d)) i
-part_value i (json.array ds) = item_value i ds
-part_value i (json.object ms) = member_value i ms
-part_value i _ = refl
+part_value i d = grind (arith, item_value, member_value)
 
--- a part is whole, and no deeper than what it is a part of
-pub record Within (e d : json.Data) : Type 0 where
+-- a part is whole, and its value no deeper than this
+pub record Within (e : json.Data) (most : ℕ) : Type 0 where
   pub whole : has_other e ≡ false
-  pub shallow : depth_of (plain_value e) ≤ depth_of (plain_value d)
+  pub shallow : depth_of (plain_value e) ≤ most
 
-record AmongItems (e : json.Data) (ds : json.Items) : Type 0 where
-  whole : has_other e ≡ false
-  shallow : depth_of (plain_value e) ≤ items_depth (plain_items ds)
-
-item_within : (i : ℕ) (ds : json.Items) (e : json.Data) → get_item i ds ≡ Some e → items_have_other ds ≡ false → AmongItems e ds
+item_within : (i : ℕ) (ds : json.Items) (e : json.Data) → get_item i ds ≡ Some e → items_have_other ds ≡ false → Within e (items_depth (plain_items ds))
 item_within i json.no_items e is whole = absurd (cc)
-item_within zero (json.item d ds) e is whole =
-    let same : d ≡ e = cc in
-    let deep = ap (λ x. depth_of (plain_value x)) same in
-    record { whole = ap has_other (sym same) ∙ (or_parts _ _ whole).0; shallow = omega arith }
-item_within (suc i) (json.item d ds) e is whole =
-    let rest = item_within i ds e is (or_parts (has_other d) _ whole).1 in
-    record { whole = rest.whole; shallow = omega (arith, rest.shallow) }
+item_within zero (json.item d ds) e is whole = grind arith
+item_within (suc i) (json.item d ds) e is whole = grind (arith, item_within i ds e is (or_parts (has_other d) _ whole).1)
 
-record AmongMembers (e : json.Data) (ms : json.Members) : Type 0 where
-  whole : has_other e ≡ false
-  shallow : depth_of (plain_value e) ≤ entries_depth (plain_entries ms)
-
-member_within : (i : ℕ) (ms : json.Members) (e : json.Data) → option_map (λ m. m.1) (nth_member i ms) ≡ Some e → members_have_other ms ≡ false → AmongMembers e ms
+member_within : (i : ℕ) (ms : json.Members) (e : json.Data) → option_map (λ m. m.1) (nth_member i ms) ≡ Some e → members_have_other ms ≡ false
+    → Within e (entries_depth (plain_entries ms))
 member_within i json.no_members e is whole = absurd (cc)
-member_within zero (json.member k d ms) e is whole =
-    let same : d ≡ e = cc in
-    let deep = ap (λ x. depth_of (plain_value x)) same in
-    record { whole = ap has_other (sym same) ∙ (or_parts _ _ whole).0; shallow = omega arith }
-member_within (suc i) (json.member k d ms) e is whole =
-    let rest = member_within i ms e is (or_parts (has_other d) _ whole).1 in
-    record { whole = rest.whole; shallow = omega (arith, rest.shallow) }
+member_within zero (json.member k d ms) e is whole = grind arith
+member_within (suc i) (json.member k d ms) e is whole = grind (arith, member_within i ms e is (or_parts (has_other d) _ whole).1)
 
-pub part_within : (i : ℕ) (d e : json.Data) → part_of i d ≡ Some e → has_other d ≡ false → Within e d
+pub part_within : (i : ℕ) (d e : json.Data) → part_of i d ≡ Some e → has_other d ≡ false → Within e (depth_of (plain_value d))
 part_within i (json.array ds) e is whole = let known = item_within i ds e is whole in let deep = known.shallow in record { whole = known.whole; shallow = omega arith }
 part_within i (json.object ms) e is whole = let known = member_within i ms e is whole in let deep = known.shallow in record { whole = known.whole; shallow = omega arith }
 part_within i _ e is whole = absurd (cc)
@@ -87,6 +57,3 @@ part_there i d None e there = subst (λ p. IsSome p) (sym (part_value i d) ∙ a
 
 pub part_is : (i : ℕ) (d e : json.Data) → part_of i d ≡ Some e → slice_get (parts_of (plain_value d)) i ≡ Some (plain_value e)
 part_is i d e is = sym (part_value i d) ∙ ap (option_map plain_value) is
-
-pub at_value : {A : Type 0} (f : kind.Value → Option A) (v : kind.Value) (o : Option kind.Value) → Some v ≡ o → option_and_then f o ≡ f v
-at_value f v o e = ap (option_and_then f) (sym e)

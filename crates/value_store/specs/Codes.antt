@@ -14,17 +14,14 @@ z_tree (negsuc n) = gcons (gnum 0) (gnum n)
 
 -- the number that a code is, 0 where it is none
 abbrev number : Gv → ℕ
-number gnil = 0
 number (gnum n) = n
-number (gcons a b) = 0
+number _ = 0
 
 -- the int of a code
 abbrev tree_z : Gv → ℤ
-tree_z gnil = pos 0
-tree_z (gnum n) = pos 0
 tree_z (gcons gnil b) = pos (number b)
 tree_z (gcons (gnum n) b) = negsuc (number b)
-tree_z (gcons (gcons a c) b) = pos 0
+tree_z _ = pos 0
 
 -- the code of an int is of that int
 z_back : (z : ℤ) → tree_z (z_tree z) ≡ z
@@ -38,9 +35,8 @@ text_tree (x ∷ xs) = gcons (gnum x) (text_tree xs)
 
 -- the bytes of a code
 abbrev tree_text : Gv → List ℕ
-tree_text gnil = []
-tree_text (gnum n) = []
 tree_text (gcons a b) = number a ∷ tree_text b
+tree_text _ = []
 
 -- the code of bytes is of those bytes
 text_back : (s : List ℕ) → tree_text (text_tree s) ≡ s
@@ -95,17 +91,13 @@ abbrev mutual
 
   -- the items of a code
   tree_items : Gv → Items
-  tree_items gnil = no_items
-  tree_items (gnum n) = no_items
   tree_items (gcons a b) = item (tree_value a) (tree_items b)
+  tree_items _ = no_items
 
   -- the entries of a code
   tree_entries : Gv → Entries
-  tree_entries gnil = no_entries
-  tree_entries (gnum n) = no_entries
-  tree_entries (gcons k gnil) = no_entries
-  tree_entries (gcons k (gnum n)) = no_entries
   tree_entries (gcons k (gcons v es)) = entry (tree_text k) (tree_value v) (tree_entries es)
+  tree_entries _ = no_entries
 
 mutual
   -- the code of a value is of that value
@@ -134,9 +126,8 @@ stored_tree (value v) = gcons (value_tree v) gnil
 
 -- what stands at a reference, of a code
 abbrev tree_stored : Gv → ValueOrError
-tree_stored gnil = error
-tree_stored (gnum n) = error
 tree_stored (gcons v b) = value (tree_value v)
+tree_stored _ = error
 
 -- the code of what stands at a reference is of that
 pub stored_back : (s : ValueOrError) → tree_stored (stored_tree s) ≡ s

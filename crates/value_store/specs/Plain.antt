@@ -53,12 +53,9 @@ nth_member (suc n) (json.member k d ms) = nth_member n ms
 
 -- the item of an array, or the value of an object's member, at a place
 abbrev pub part_of : ℕ → json.Data → Option json.Data
-part_of i json.null = None
-part_of i (json.boolean b) = None
-part_of i (json.number n) = None
-part_of i (json.string s) = None
 part_of i (json.array ds) = get_item i ds
 part_of i (json.object ms) = option_map (λ m. m.1) (nth_member i ms)
+part_of i _ = None
 
 -- whether the error, null, false and true stand first
 abbrev pub has_first_values : List ValueOrError → Bool
@@ -70,10 +67,7 @@ abbrev pub own_place : Value → Option ℕ
 own_place kind.null = Some 1
 own_place (kind.boolean false) = Some 2
 own_place (kind.boolean true) = Some 3
-own_place (kind.int n) = None
-own_place (kind.text s) = None
-own_place (kind.list is) = None
-own_place (kind.map es) = None
+own_place _ = None
 
 -- the size of a root, at most the greatest number of 64 bits, or its refusal
 abbrev pub size_in : Result Value TableError → Result ℕ TableError

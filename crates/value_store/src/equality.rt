@@ -43,6 +43,7 @@ fn same_text(a: &str, b: &str) -> bool
 }
 
 #[cycle(same)]
+#[tactic(auto, using(crate::proofs::Pairs::other_length))]
 fn same_items(left: &Vec<Value>, right: &Vec<Value>) -> bool
     ensures { result ≡ items_equal (plain_items (items_view left.now.items)) (plain_items (items_view right.now.items)) }
 {

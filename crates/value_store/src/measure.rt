@@ -66,6 +66,7 @@ pub(crate) fn measure_document(value: &Value) -> Option<Measure>
 }
 
 #[cycle(measure_document)]
+#[tactic(auto, using(crate::proofs::Ascending::members_ascend, crate::proofs::Measures::items_end, crate::proofs::Measures::items_fail, crate::proofs::Measures::items_step, crate::proofs::Measures::members_end, crate::proofs::Measures::members_fail, crate::proofs::Measures::members_step, std::proofs::lemmas::List::drop_all, std::proofs::lemmas::List::drop_more))]
 fn measure_items(items: &Vec<Value>) -> Option<Measure>
     ensures measure { result ≡ measure_of (array (items_view items.now.items)) }
     ensures ordered { OnSome result (IsDocumentOrdered (array (items_view items.now.items))) }
@@ -79,6 +80,7 @@ fn measure_items(items: &Vec<Value>) -> Option<Measure>
 }
 
 #[cycle(measure_document)]
+#[tactic(auto, using(crate::proofs::Ascending::members_ascend, crate::proofs::Measures::items_end, crate::proofs::Measures::items_fail, crate::proofs::Measures::items_step, crate::proofs::Measures::members_end, crate::proofs::Measures::members_fail, crate::proofs::Measures::members_step, std::proofs::lemmas::List::drop_all, std::proofs::lemmas::List::drop_more))]
 fn measure_members(members: &Map<String, Value>) -> Option<Measure>
     ensures measure { result ≡ measure_of (object (members_view members.now.entries)) }
     ensures ordered { OnSome result (IsDocumentOrdered (object (members_view members.now.entries))) }

@@ -43,6 +43,7 @@ impl PlainTable {
     /// The first root that is refused counts: `V1` where it is neither an object nor null, `V2` where
     /// it holds a number that is no integer of 64 bits signed (`-0` is none). Then `V3` where the
     /// charge is above 16,777,216. All this is tested before any memory is taken.
+    #[tactic(auto, using(crate::proofs::Starting::opened, crate::proofs::Starting::refused))]
     pub fn of_roots(alloc: Global, roots: &[Value; 5]) -> Result<PlainTable, TableError>
         ensures { Starts (λ t. record { values = ⟦<PlainTable as ValueStore>⟧.values t; charge = ⟦<PlainTable as ValueStore>⟧.charge t }) (start_contents (map view roots.now)) result }
     {
@@ -52,6 +53,7 @@ impl PlainTable {
     }
 
     // The value at a reference, if one stands there.
+    #[tactic(auto, using(crate::proofs::Tables::stored_at, crate::proofs::Tables::within_deepest, std::proofs::lemmas::Option::slice_get_read))]
     fn tree(&self, h: u64) -> Option<&Tree>
         ensures value { option_map (λ t. tree_value t.now) result ≡ value_at (slice_get (stored_values self.now.nodes.items) h) }
         ensures shallow { IfSome result (λ t. t.now.depth ≤ charge_limit + length (stored_values self.now.nodes.items)) }
@@ -97,6 +99,7 @@ fn first_place(document: &Value) -> Option<u64>
 
 // What the placing calls place. Each is at most 1 deeper than what is there.
 impl PlainTable {
+    #[tactic(auto, using(crate::proofs::Parts::part_is, crate::proofs::Parts::part_there, crate::proofs::Parts::part_within))]
     fn part(&self, h: u64, i: u64) -> &Value
         requires { IsSome (part_at (slice_get (stored_values self.now.nodes.items) h) i) }
         ensures value { part_at (slice_get (stored_values self.now.nodes.items) h) i ≡ Some (plain_value (view result.now)) }
@@ -142,6 +145,7 @@ impl PlainTable {
     }
 }
 
+#[tactic(auto, using(crate::proofs::Tables::stored_same))]
 fn copies(nodes: &Vec<Node>) -> Result<Vec<Node>, AllocError>
     ensures { IfOk result (λ copies. stored_values copies.items ≡ stored_values nodes.now.items) }
 {
@@ -156,6 +160,7 @@ impl ValueStore for PlainTable {
 
     ghost charge = { λ t. t.charge };
 
+    #[tactic(auto, using(crate::proofs::Ordered::nodes_ordered))]
     fn len(&self) -> u64 {
         self.nodes.len() as u64
     }

@@ -22,6 +22,7 @@ const CHARGE_LIMIT: u64 = 16_777_216;
 /// What a store of a review's five roots, in the order of `PlainTable::of_roots`, is charged at first,
 /// or the refusal that is due there. It takes no memory, and goes as deep as the documents. The keys
 /// of each object in roots that are not refused stand in byte order, each once.
+#[tactic(auto, using(crate::proofs::Starting::judging_step, std::proofs::lemmas::List::drop_all, std::proofs::lemmas::List::drop_more))]
 pub fn start_charge(roots: &[Value; 5]) -> Result<u64, TableError>
     ensures charge { result ≡ charge_in (start_contents (map view roots.now)) }
     ensures limit { IfOk result (λ charge. charge ≤ charge_limit) }
@@ -41,6 +42,7 @@ pub fn start_charge(roots: &[Value; 5]) -> Result<u64, TableError>
 }
 
 // The size of the root at a reference.
+#[tactic(auto, using(crate::proofs::Documents::other_value, crate::proofs::Measures::no_part, crate::proofs::Measures::part, crate::proofs::Documents::whole_value))]
 fn root_size(place: u64, root: &Value) -> Result<u64, TableError>
     ensures size { result ≡ size_in (root_of place (view root.now)) }
     ensures ordered { OnOk result (IsDocumentOrdered (view root.now)) }
@@ -65,6 +67,7 @@ fn is_root(document: &Value) -> bool
 }
 
 /// The nodes of a table of these roots.
+#[tactic(auto, using(crate::proofs::Starting::next_shallow, crate::proofs::Starting::started, std::proofs::lemmas::List::drop_more))]
 pub(crate) fn start_nodes(alloc: Global, roots: &[Value; 5]) -> Result<Vec<Node>, AllocError>
     requires { IsOk (start_contents (map view roots.now)) }
     ensures { IfOk result (λ nodes. stored_values nodes.items ≡ first_values ++ map (λ root. value (plain_value (view root))) roots.now) }

@@ -75,6 +75,7 @@ impl Tree {
     }
 
     /// A tree of its own for a document, which has a value.
+    #[tactic(auto, using(crate::proofs::Measures::measured_depth, crate::proofs::Measures::measured_some, crate::proofs::Ordered::value_ordered))]
     pub(crate) fn of_document(document: &Value) -> Result<Tree, AllocError>
         requires whole { has_other (view document.now) ≡ false }
         requires shallow { depth_of (plain_value (view document.now)) < 2 ^ 64 }
@@ -98,6 +99,7 @@ impl Tree {
     }
 
     /// The list with one more item.
+    #[tactic(auto, using(crate::proofs::Keys::push_ordered, crate::proofs::Trees::push_list))]
     pub(crate) fn push(&self, item: &Tree) -> Result<Tree, AllocError>
         requires list { IsSome (push_of (tree_value self.now) (tree_value item.now)) }
         requires shallow { item.now.depth + 1 < 2 ^ 64 }
@@ -205,6 +207,7 @@ impl Tree {
     }
 
     /// This text or list, and the other behind it.
+    #[tactic(auto, using(crate::proofs::Keys::join_ordered, crate::proofs::Trees::join_lists))]
     pub(crate) fn join(&self, other: &Tree) -> Result<Tree, AllocError>
         requires { IsSome (join_of (tree_value self.now) (tree_value other.now)) }
         ensures value { IfOk result (λ t. Some (tree_value t) ≡ join_of (tree_value self.now) (tree_value other.now)) }

@@ -1,20 +1,10 @@
 -- A heap with one more cell, and one whose backings have grown.
-use Rattle.std.proofs.Common.{◌≡◌, ℕ, zero, suc, ◌+◌, ◌<◌, ◌≤◌, List, [], ◌∷◌, ◌++◌, length, refl, sym, ap, ◌∙◌, arith, length-append, append-nil, slice_get, subst, Option, Some, Ok}
-use Rattle.std.proofs.lemmas.List.{get_or_append_left}
-use Rattle.std.proofs.lemmas.Option.{slice_get-get_or}
-use Rattle.std.specs.Prelude.{slice_index_or, vec_capacity, IfSome, option_map}
+use Rattle.value_table.proofs.Prelude.{◌≡◌, ℕ, ◌+◌, ◌<◌, ◌≤◌, List, [], ◌∷◌, ◌++◌, length, refl, sym, ap, ◌∙◌, arith, length-append, append-nil, slice_get, subst, Option, Some, Ok, get_or_append_left, slice_get-get_or, slice_index_or, vec_capacity, Value, meaning, grown, AreSame, Extends, heap_values, content_at, IsHeap, IsAsBefore, Gains, AreIndexes, Heap, Cell, Backings}
 use Rattle.value_store.specs.Value as kind
-use Rattle.value_store.specs.Value.{Value}
-use Rattle.value_table.specs.Meaning.{meaning, grown}
-use Rattle.value_table.specs.Heaps.{IsCell, AreSame, Extends, Adds}
-use Rattle.value_table.specs.Heap.{heap_values, content_at, IsHeap, IsAsBefore}
-use Rattle.value_table.specs.Index.{AreIndexes}
-use Rattle.value_table.specs.declared.heap.Heap.{Heap}
-use Rattle.value_table.specs.declared.cell.Cell.{Cell}
 use Rattle.value_table.specs.declared.content.Content.TheVariants as cell
-use Rattle.value_table.specs.declared.backings.Backings.{Backings}
 use Rattle.value_table.proofs.Growth.{grown_kept, cells_kept, grown_one, cells_one, count_values}
 use Rattle.value_table.proofs.Indexed.{indexes_kept}
+use Rattle.value_table.proofs.Listed.{Made}
 
 get_front : (vs ws : List Value) (r : ℕ) → r < length vs → slice_get (vs ++ ws) r ≡ slice_get vs r
 get_front vs ws r h =
@@ -32,9 +22,6 @@ extends_same bs = record { bytes = ([], sym (append-nil bs.bytes)); keys = ([], 
 
 -- ---- a call that makes room first
 
-pub values_before : (old new : Heap) → IsAsBefore old new → heap_values new ≡ heap_values old
-values_before old new b = rw (b.backings, b.cells)
-
 -- where it is refused
 pub heap_before : (old new : Heap) → IsHeap old → IsAsBefore old new → vec_capacity old.same ≤ vec_capacity new.same → new.indexes ≡ old.indexes → IsHeap new
 heap_before old new h b longer indexes = grind arith
@@ -50,28 +37,24 @@ heap_grown old new h e cells same indexes =
     record { cells = rw cells (cells_kept old.backings new.backings [] old.cells e h.cells); same = rw (kept, same) h.same; room = rw (cells, same) h.room; indexes = rw (kept, indexes) all }
 
 -- and where it is not
-pub values_put : (old : Heap) (bs : Backings) (ys mid : List Cell) (c : Cell) → IsHeap old → Extends old.backings bs → mid ≡ old.cells → ys ≡ mid ++ c ∷ [] → grown bs [] ys ≡ heap_values old ++ meaning bs (heap_values old) c.content ∷ []
-values_put old bs ys mid c h e same cells =
-    let kept = grown_kept old.backings bs [] old.cells e h.cells in
-    values_added bs old.cells ys c (cells ∙ ap (λ xs. xs ++ c ∷ []) same) ∙ ap (λ vs. vs ++ meaning bs vs c.content ∷ []) kept
-
-pub heap_put : (old new : Heap) (mid : List Cell) (c : Cell) → IsHeap old → Extends old.backings new.backings → new.same.items ≡ old.same.items → length old.cells + 1 ≤ vec_capacity new.same → mid ≡ old.cells → new.cells ≡ mid ++ c ∷ [] → IsCell new.backings (heap_values old) c → new.indexes ≡ old.indexes → IsHeap new
-heap_put old new mid c h e words fits same cells k indexes =
+pub gained : (old new : Heap) (mid : List Cell) (c : Cell) (i : ℕ) (due : Option Value) → IsHeap old → Extends old.backings new.backings
+    → new.same.items ≡ old.same.items → length old.cells + 1 ≤ vec_capacity new.same → mid ≡ old.cells → new.cells ≡ mid ++ c ∷ [] → i ≡ length mid
+    → new.indexes ≡ old.indexes → Made new.backings (heap_values old) c due → Gains old due (Ok i) new
+gained old new mid c i due h e words fits same cells at indexes made =
     let kept = grown_kept old.backings new.backings [] old.cells e h.cells in
+    let v = meaning new.backings (heap_values old) c.content in
     let all : new.cells ≡ old.cells ++ c ∷ [] = cells ∙ ap (λ xs. xs ++ c ∷ []) same in
+    let put = values_added new.backings old.cells new.cells c all ∙ ap (λ vs. vs ++ meaning new.backings vs c.content ∷ []) kept in
     record {
-      cells = rw all (cells_one new.backings [] old.cells c (cells_kept old.backings new.backings [] old.cells e h.cells) (rw kept k));
-      same = rw (values_put old new.backings new.cells mid c h e same cells, words) (same_more (heap_values old) (meaning new.backings (heap_values old) c.content ∷ []) old.same.items h.same);
-      room = omega (arith, length-append old.cells (c ∷ []), ap length all, fits);
-      indexes = rw (values_put old new.backings new.cells mid c h e same cells, indexes) (indexes_kept old.backings new.backings (heap_values old) (meaning new.backings (heap_values old) c.content ∷ []) old.indexes.all.items e h.indexes);
+      heap = record {
+        cells = rw all (cells_one new.backings [] old.cells c (cells_kept old.backings new.backings [] old.cells e h.cells) (rw kept made.cell));
+        same = rw (put, words) (same_more (heap_values old) (v ∷ []) old.same.items h.same);
+        room = omega (arith, length-append old.cells (c ∷ []), ap length all, fits);
+        indexes = rw (put, indexes) (indexes_kept old.backings new.backings (heap_values old) (v ∷ []) old.indexes.all.items e h.indexes);
+      };
+      added = rw made.value (at ∙ ap length same ∙ sym (count_values old.backings old.cells), put);
+      kept = tt;
     }
-
-pub put_adds : (old : Heap) (bs : Backings) (ys mid : List Cell) (c : Cell) (i : ℕ) → IsHeap old → Extends old.backings bs → mid ≡ old.cells → ys ≡ mid ++ c ∷ [] → i ≡ length mid → Adds (heap_values old) (meaning bs (heap_values old) c.content) (Ok i) (grown bs [] ys)
-put_adds old bs ys mid c i h e same cells at = (at ∙ ap length same ∙ sym (count_values old.backings old.cells), values_put old bs ys mid c h e same cells)
-
-pub due_adds : (old : Heap) (bs : Backings) (ys mid : List Cell) (c : Cell) (i : ℕ) (due : Option Value) → due ≡ Some (meaning bs (heap_values old) c.content) → IsHeap old → Extends old.backings bs → mid ≡ old.cells → ys ≡ mid ++ c ∷ [] → i ≡ length mid
-    → IfSome due (λ v. Adds (heap_values old) v (Ok i) (grown bs [] ys))
-due_adds old bs ys mid c i due is h e same cells at = subst (λ (o : Option Value). IfSome o (λ v. Adds (heap_values old) v (Ok i) (grown bs [] ys))) (sym is) (put_adds old bs ys mid c i h e same cells at)
 
 -- the cell of a list in the backing of a shorter one
 get_last : (xs : List Cell) (c : Cell) → slice_get (xs ++ c ∷ []) (length xs) ≡ Some c

@@ -1,16 +1,6 @@
 -- Backings that grow.
-use Rattle.std.proofs.Common.{◌≡◌, ℕ, zero, suc, ◌+◌, ◌-◌, ◌<◌, ◌≤◌, List, [], ◌∷◌, ◌++◌, length, get_or, take, drop, refl, sym, ap, ◌∙◌, arith, length-append, length-drop, append_assoc, append-nil}
-use Rattle.std.specs.Prelude.{slice_range, slice_set}
-use Rattle.std.proofs.lemmas.Str.{IsUtf8-append}
-use Rattle.std.proofs.Math.Seq.{drop-append_seam, get_or-append_seam}
-use Rattle.std.proofs.lemmas.List.{take_all, length-set, length-take}
-use Rattle.json.specs.Print.{quoted}
-use Rattle.value_store.specs.Plain.{saturated}
-use Rattle.value_table.specs.Meaning.{part_of}
-use Rattle.value_table.specs.Heaps.{IsText, Extends, Holds}
-use Rattle.value_table.specs.Entries.{with_one}
-use Rattle.value_table.specs.declared.part.Part.{Part}
-use Rattle.value_table.specs.declared.backings.Backings.{Backings}
+use Rattle.value_table.proofs.Prelude.{◌≡◌, ℕ, zero, suc, ◌+◌, ◌-◌, ◌<◌, ◌≤◌, List, [], ◌∷◌, ◌++◌, length, get_or, take, drop, refl, sym, ap, ◌∙◌, arith, length-append, length-drop, append_assoc, append-nil, slice_range, slice_set, IsUtf8-append, drop-append_seam, get_or-append_seam, take_all, length-set, quoted, saturated, part_of, IsText, Extends, Holds, with_one, Part, Backings}
+use Rattle.std.proofs.lemmas.List.{length-take}
 use Rattle.value_table.proofs.Growth.{text_kept}
 
 more_set : (bs : List (List ℕ)) (b c : ℕ) (ws : List ℕ) → c < length bs

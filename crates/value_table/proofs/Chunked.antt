@@ -1,7 +1,5 @@
 -- Items in chunks.
-use Rattle.std.proofs.Common.{◌≡◌, ℕ, zero, suc, ◌+◌, ◌-◌, ◌*◌, ◌<◌, List, [], ◌∷◌, ◌++◌, length, get_or, refl, sym, ap, ◌∙◌, arith, length-append, append_assoc, append-nil}
-use Rattle.std.proofs.lemmas.List.{get_or_append_left, get_or-append_right}
-use Rattle.value_table.specs.Chunks.{joined, AreFull, AreChunks}
+use Rattle.value_table.proofs.Prelude.{◌≡◌, ℕ, zero, suc, ◌+◌, ◌-◌, ◌*◌, ◌<◌, List, [], ◌∷◌, ◌++◌, length, get_or, refl, sym, ap, ◌∙◌, arith, length-append, append_assoc, append-nil, get_or_append_left, get_or-append_right, joined, AreFull, AreChunks}
 
 pub length_joined : {A : Type 0} (xss : List (List A)) → AreFull xss → length (joined xss) ≡ 256 * length xss
 length_joined [] h = refl
@@ -21,8 +19,7 @@ pub item_at : {A : Type 0} (xss : List (List A)) (ys : List A) (i j k : ℕ) (e 
 item_at [] ys i j k e d h low less is = absurd (omega arith)
 item_at {A} (xs ∷ xss) ys zero j k e d h low less is = grind (arith, get_or, append_assoc, get_or_append_left)
 item_at {A} (xs ∷ xss) ys (suc i) j k e d h low less is =
-    ap (λ zs. get_or zs k d) (append_assoc xs (joined xss) ys) ∙ get_or-append_right xs (joined xss ++ ys) 256 k d h.0 (omega (arith, is))
-    ∙ item_at xss ys i j (k - 256) e d h.1 (omega (arith, low)) less (omega (arith, is))
+    grind (arith, append_assoc, get_or-append_right, item_at xss ys i j (k - 256) e d h.1 (omega (arith, low)) less (omega (arith, is)))
 
 -- each full chunk has its number of items
 pub chunk_long : {A : Type 0} (xss : List (List A)) (i : ℕ) (e : List A) → AreFull xss → i < length xss → length (get_or xss i e) ≡ 256
@@ -37,3 +34,6 @@ closed xss yss xs e = append-nil (joined yss) ∙ ap joined e ∙ joined_one xss
 pub chunks_closed : {A : Type 0} (xss yss : List (List A)) (xs : List A) → yss ≡ xss ++ xs ∷ [] → length xs ≡ 256 → length xss < 1125899906842624 → AreChunks xss xs
     → AreChunks yss []
 chunks_closed xss yss xs e long few h = grind (arith, full_one, length-append)
+
+-- how long chunks are, for the goals about places among them
+pub ruleset chunk_lengths = (length_joined, chunk_long, length-append)

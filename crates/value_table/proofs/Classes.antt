@@ -1,13 +1,5 @@
 -- Words that lead places down to the roots of their classes.
-use Rattle.std.proofs.Common.{◌≡◌, ℕ, ◌<◌, ◌≤◌, ◌++◌, max, min, List, length, length-append, Option, Some, None, Bool, true, false, slice_get, get_or, set, inl, inr, refl, sym, ap, ◌∙◌, subst, arith}
-use Rattle.std.specs.Prelude.{nat_lt, if◌then◌else◌}
-use Rattle.std.proofs.lemmas.Bool.{cases_eq, cases_lt, ltb-true, ltb-false}
-use Rattle.std.proofs.lemmas.List.{get_or-set_other, get_or-set_same, get_or_append_left, length-set}
-use Rattle.std.proofs.lemmas.Option.{slice_get-get_or, slice_get_within}
-use Rattle.value_store.specs.Value.{Value}
-use Rattle.value_table.specs.Equality.{AreOneClass, ClassesStay, Finds, IsRoot, LeadDown, Shortens, way_down}
-use Rattle.value_table.specs.Heads.{values_at}
-use Rattle.value_table.specs.Heaps.{AreSame}
+use Rattle.value_table.proofs.Prelude.{◌≡◌, ℕ, ◌<◌, ◌≤◌, ◌++◌, max, min, List, length, length-append, Option, Some, Bool, true, false, slice_get, get_or, set, inl, inr, sym, ap, ◌∙◌, subst, arith, nat_lt, if◌then◌else◌, cases_eq, ltb-true, ltb-false, get_or-set_other, get_or-set_same, get_or_append_left, length-set, slice_get-get_or, slice_get_within, Value, AreOneClass, ClassesStay, Finds, IsRoot, LeadDown, Shortens, way_down, values_at, AreSame}
 
 -- ---- one step of the way down
 
@@ -129,9 +121,6 @@ pub record BothFound (old now : List ℕ) (a b x y : ℕ) : Type 0 where
   pub stay : ClassesStay old now
   pub others : (i d : ℕ) → a < i → b < i → get_or now i d ≡ get_or old i d
   pub root : IsRoot now (max x y)
-
-larger_root : (same : List ℕ) (x y : ℕ) → IsRoot same x → IsRoot same y → IsRoot same (max x y)
-larger_root same x y left right = grind arith
 
 pub both_found : (old middle now : List ℕ) (a b x y : ℕ) → Finds old middle a x → Finds middle now b y → BothFound old now a b x y
 both_found old middle now a b x y first second = grind arith

@@ -1,22 +1,6 @@
 -- What comparisons in a heap answer.
-use Rattle.std.proofs.Common.{◌≡◌, ℕ, suc, ◌+◌, ◌≤◌, ◌<◌, List, [], ◌∷◌, ◌++◌, inl, inr, length, Option, length-append, subst, Bool, ◌||◌, add-one, drop-cons, Some, slice_get, get_or, drop, sym, ap, ◌∙◌, arith}
-use Rattle.std.specs.Prelude.{Decides, is_some, option_map}
-use Rattle.std.proofs.lemmas.List.{get_or_append_left}
-use Rattle.std.proofs.Math.Seq.{get_or-append_seam}
-use Rattle.std.specs.Bool.{one_answer}
-use Rattle.std.proofs.lemmas.Option.{same_Some, slice_get-get_or}
+use Rattle.value_table.proofs.Prelude.{◌≡◌, ℕ, suc, ◌+◌, ◌≤◌, ◌<◌, List, [], ◌∷◌, ◌++◌, inl, inr, length, Option, length-append, subst, Bool, ◌||◌, add-one, drop-cons, Some, slice_get, get_or, drop, sym, ap, ◌∙◌, arith, Decides, is_some, option_map, get_or_append_left, get_or-append_seam, one_answer, same_Some, slice_get-get_or, Value, equal, equal_decides, has_item, member, place_of_key, entries_part, has_key_place, value_in, items_at, grown, AreCells, AreSame, AreContents, AreMeanings, Cell, Backings}
 use Rattle.value_store.specs.Value as kind
-use Rattle.value_store.specs.Value.{Value}
-use Rattle.value_store.specs.Equality.{equal}
-use Rattle.value_store.proofs.Equal.{equal_decides}
-use Rattle.value_store.specs.Lookup.{has_item, member, place_of_key}
-use Rattle.value_store.specs.Calls.{entries_part}
-use Rattle.value_store.proofs.Places.{has_key_place}
-use Rattle.value_table.specs.Meaning.{value_in, items_at, grown}
-use Rattle.value_table.specs.Heaps.{AreCells, AreSame}
-use Rattle.value_table.specs.Equality.{AreContents, AreMeanings}
-use Rattle.value_table.specs.declared.cell.Cell.{Cell}
-use Rattle.value_table.specs.declared.backings.Backings.{Backings}
 use Rattle.value_table.proofs.Growth.{found}
 use Rattle.value_table.proofs.Searches.{up_to}
 use Rattle.value_table.proofs.Walks.{same_value, same_place}

@@ -1,22 +1,7 @@
 -- Lists and maps of parts that stand.
-use Rattle.std.proofs.Common.{◌≡◌, ℕ, ◌+◌, List, [], ◌∷◌, ◌++◌, length, refl, sym, ap, ap₂, ◌∙◌, arith, subst, max, Some}
+use Rattle.value_table.proofs.Prelude.{◌≡◌, ℕ, ◌+◌, List, [], ◌∷◌, ◌++◌, length, refl, sym, ap, ap₂, ◌∙◌, arith, max, Some, Value, saturated, quoted, IsOrdered, part_of, items_at, entries_at, AreTexts, AreBelow, Found, Holds, commas, IsMeasure, with_one, HoldsKeys, Part, Cell, Measure, Backings, push_depth}
 use Rattle.value_store.specs.Value as kind
-use Rattle.value_store.specs.Value.{Value}
-use Rattle.value_store.specs.Size.{depth_of}
-use Rattle.value_store.specs.Plain.{saturated}
-use Rattle.json.specs.Print.{quoted}
-use Rattle.value_store.specs.Keys.{IsOrdered}
-use Rattle.value_table.specs.Meaning.{part_of, value_in, items_at, entries_at, refs_at, keys_at}
-use Rattle.value_table.specs.Heaps.{AreTexts, AreBelow, Found, Holds}
-use Rattle.value_table.specs.Lengths.{json_length, commas}
-use Rattle.value_table.specs.Measures.{IsMeasure}
-use Rattle.value_table.specs.Entries.{with_one, HoldsKeys}
-use Rattle.value_table.specs.declared.part.Part.{Part}
 use Rattle.value_table.specs.declared.content.Content.TheVariants as cell
-use Rattle.value_table.specs.declared.cell.Cell.{Cell}
-use Rattle.value_table.specs.declared.measure.Measure.{Measure}
-use Rattle.value_table.specs.declared.backings.Backings.{Backings}
-use Rattle.value_store.proofs.Trees.{push_depth}
 use Rattle.value_table.proofs.Listed.{Made, items_length, items_more}
 use Rattle.value_table.proofs.Mapped.{depth_one}
 use Rattle.value_table.proofs.TextLengths.{push_long, put_long}
@@ -35,16 +20,9 @@ pub map_measured : (bs : Backings) (bytes : List ℕ) (vs : List Value) (ks : Li
     → kj ≡ saturated (length (quoted (part_of bytes k))) → m'.depth ≡ max m.depth (xc.depth + 1) → m'.json ≡ saturated (m.json + (1 + commas n 1) + kj + xc.json) → IsMeasure (length vs) (kind.map (entries_at bytes vs (ks ++ k ∷ []) (rs ++ x ∷ []))) m'
 map_measured bs bytes vs ks rs k x n kj m m' xc kc rc h fx key deep long =
     let same : length ks ≡ length rs = kc ∙ sym rc in
-    let more : entries_at bytes vs (ks ++ k ∷ []) (rs ++ x ∷ []) ≡ entries_at bytes vs (with_one (length ks) k ks) (with_one (length ks) x rs) = ap₂ (entries_at bytes vs) (sym (with_last k ks)) (sym (ap (λ i. with_one i x rs) same ∙ with_last x rs)) in
-    let xd : xc.depth ≡ depth_of (value_in vs x) = fx.depth ∙ ap depth_of (sym fx.is) in
-    let xj : xc.json ≡ json_length (value_in vs x) = fx.json ∙ ap json_length (sym fx.is) in
-    let pd = depth_one bytes vs ks rs k x (length ks) same (omega arith) in
-    let text = put_long bytes vs ks rs k x (length ks) n same kc (omega arith) in
-    record {
-      depth = rw more (omega (arith, deep, xd, h.depth, pd));
-      shallow = omega (arith, deep, h.shallow, fx.shallow, fx.inside);
-      json = rw more (omega (arith, long, h.json, key, xj, text));
-    }
+    let more : entries_at bytes vs (ks ++ k ∷ []) (rs ++ x ∷ []) ≡ entries_at bytes vs (with_one (length ks) k ks) (with_one (length ks) x rs) =
+    ap₂ (entries_at bytes vs) (sym (with_last k ks)) (sym (ap (λ i. with_one i x rs) same ∙ with_last x rs)) in
+    grind (arith, depth_one, put_long)
 
 -- the cells of wholes
 pub list_gathered : (cs : Backings) (vs : List Value) (xs rs : List ℕ) (b : ℕ) (m : Measure) → xs ≡ rs → Holds cs.lists b (length xs) xs → AreBelow (length vs) rs → IsMeasure (length vs) (kind.list (items_at vs rs)) m → IsOrdered (kind.list (items_at vs rs))

@@ -1,20 +1,6 @@
 -- Documents become values one by one.
-use Rattle.std.proofs.Common.{◌≡◌, ℕ, false, List, [], ◌∷◌, ◌++◌, length, refl, sym, ap, ap₂, ◌∙◌, arith, length-append, append_assoc, append-nil, subst, Result, Ok, Err}
-use Rattle.std.specs.Prelude.{IfOk}
-use Rattle.std.proofs.lemmas.Bool.{or_parts}
-use Rattle.std.proofs.lemmas.List.{map-append}
-use Rattle.std.specs.declared.alloc.AllocError.{AllocError}
+use Rattle.value_table.proofs.Prelude.{◌≡◌, ℕ, false, List, [], ◌∷◌, ◌++◌, length, refl, ap, ap₂, ◌∙◌, arith, length-append, append_assoc, append-nil, Result, Ok, Some, or_parts, map-append, AllocError, Value, Items, no_items, item, items_push, items_join, Entries, no_entries, entry, keys_of, values_of, AreItemsOrdered, AreEntriesOrdered, items_have_other, members_have_other, plain_value, plain_items, plain_entries, part_of, items_at, entries_at, Adds, IsText, AreTexts, AreBelow, Extends, texts_of, values_at, entries_of, Part, Backings, HasGrown, Stands, Enters, heap_values, Gains, Heap}
 use Rattle.serde_json.specs.Data as json
-use Rattle.value_store.specs.Value.{Value, Items, no_items, item, items_push, items_join, Entries, no_entries, entry, keys_of, values_of}
-use Rattle.value_store.specs.Keys.{AreItemsOrdered, AreEntriesOrdered}
-use Rattle.value_store.specs.Roots.{has_other, items_have_other, members_have_other}
-use Rattle.value_store.specs.Plain.{plain_value, plain_items, plain_entries}
-use Rattle.value_table.specs.Meaning.{part_of, value_in, items_at, entries_at}
-use Rattle.value_table.specs.Heaps.{Adds, IsText, AreTexts, AreBelow, Extends}
-use Rattle.value_table.specs.Heads.{texts_of, values_at, entries_of}
-use Rattle.value_table.specs.declared.part.Part.{Part}
-use Rattle.value_table.specs.declared.backings.Backings.{Backings}
-use Rattle.value_table.specs.Growing.{HasGrown, Stands}
 use Rattle.value_table.proofs.Growth.{value_stable, mapped_stable, items_stable, text_kept, texts_kept}
 use Rattle.value_table.proofs.Listed.{below_le, below_append, items_more}
 use Rattle.value_table.proofs.Heads.{entries_built}
@@ -29,8 +15,14 @@ grown_added vs ws v r a = grind (arith, append-nil)
 pub stands_added : (vs ws : List Value) (v : Value) (i : ℕ) → Adds vs v (Ok i) ws → Stands ws i v
 stands_added vs ws v i a = let p = place_added vs ws v i a in record { inside = p.0; is = p.1 }
 
-pub stands_if : (vs ws : List Value) (v : Value) (r : Result ℕ AllocError) → Adds vs v r ws → IfOk r (λ i. Stands ws i v)
-stands_if vs ws v r a = grind (arith, stands_added)
+-- one more value
+pub enters : (old new : Heap) (v : Value) (r : Result ℕ AllocError) → Gains old (Some v) r new → Enters old v r new
+enters old new v r g = grind (arith, grown_added, stands_added)
+
+-- behind others
+pub enters_on : (first old new : Heap) (v w : Value) (r : Result ℕ AllocError) → HasGrown (heap_values first) (heap_values old) → w ≡ v → Enters old w r new
+    → Enters first v r new
+enters_on first old new v w r g e h = record { heap = h.heap; grown = grown_more _ _ _ g h.grown; value = rw (← e) h.value }
 
 pub stands_on : (vs ws : List Value) (r : ℕ) (v : Value) → HasGrown vs ws → Stands vs r v → Stands ws r v
 stands_on vs ws r v g s = grind (arith, length-append, value_stable)
@@ -55,20 +47,11 @@ pub record ItemsStand (all : Items) (vs : List Value) (places : List ℕ) (rest 
 pub items_step : (all : Items) (us vs : List Value) (places places' : List ℕ) (r : ℕ) (d : json.Data) (rest : json.Items) → places' ≡ places ++ r ∷ []
     → HasGrown us vs → Stands vs r (plain_value d) → ItemsStand all us places (json.item d rest) → ItemsStand all vs places' rest
 items_step all us vs places places' r d rest e up s g =
-    let kept : items_at vs places ≡ items_at us places = ap (λ ws. items_at ws places) up.1 ∙ items_stable us up.0 places g.below in
-    let more : items_at vs (places ++ r ∷ []) ≡ items_push (items_at us places) (plain_value d) = items_more vs places r ∙ ap₂ items_push kept s.is in
-    let l = length-append us up.0 in
-    let n = ap length up.1 in
-    record {
-      is = ap (λ ps. items_join (items_at vs ps) (plain_items rest)) e ∙ ap (λ is. items_join is (plain_items rest)) more
-          ∙ join_pushed (items_at us places) (plain_value d) (plain_items rest) ∙ g.is;
-      below = subst (AreBelow (length vs)) (sym e) (below_append (length vs) places (r ∷ []) (below_le (length us) (length vs) places (omega (arith, l, n)) g.below) (s.inside, tt));
-      whole = (or_parts (has_other d) _ g.whole).1;
-      ordered = g.ordered.1;
-    }
+    grind (arith, items_stable, items_more, length-append, join_pushed, below_append, below_le, or_parts)
 
-pub items_end : (all : Items) (vs : List Value) (places : List ℕ) → ItemsStand all vs places json.no_items → items_at vs places ≡ all
-items_end all vs places g = sym (join_none (items_at vs places)) ∙ g.is
+pub items_end : (all : Items) (vs : List Value) (places : List ℕ) (rest : json.Items) → ItemsStand all vs places rest → rest ≡ json.no_items
+    → items_at vs places ≡ all
+items_end all vs places rest g e = grind (arith, join_none)
 
 -- ---- the keys of a map
 
@@ -111,25 +94,12 @@ pub members_step : (all : Entries) (us vs : List Value) (keys keys' : List (List
 members_step all us vs keys keys' places places' r key d rest k e up s m =
     let left = values_of (plain_entries rest) in
     let kept : values_at vs places ≡ values_at us places = ap (λ ws. values_at ws places) up.1 ∙ mapped_stable (λ v. v) us up.0 places m.below in
-    let more : values_at vs places' ≡ values_at us places ++ plain_value d ∷ [] = ap (values_at vs) e ∙ map-append (value_in vs) places (r ∷ [])
-    ∙ ap₂ (λ ws v. ws ++ v ∷ []) kept s.is in
-    let l = length-append us up.0 in
-    let n = ap length up.1 in
-    let one = ap length k ∙ length-append keys (key ∷ []) in
-    let two = ap length e ∙ length-append places (r ∷ []) in
-    record {
-      keys_are = ap (λ ks. ks ++ keys_of (plain_entries rest)) k ∙ append_assoc keys (key ∷ []) (keys_of (plain_entries rest)) ∙ m.keys_are;
-      values_are = ap (λ ws. ws ++ left) more ∙ append_assoc (values_at us places) (plain_value d ∷ []) left ∙ m.values_are;
-      pairs = omega (arith, one, two, m.pairs);
-      below = subst (AreBelow (length vs)) (sym e) (below_append (length vs) places (r ∷ []) (below_le (length us) (length vs) places (omega (arith, l, n)) m.below) (s.inside, tt));
-      whole = (or_parts (has_other d) _ m.whole).1;
-      ordered = m.ordered.1;
-    }
+    grind (arith, map-append, length-append, append_assoc, below_append, below_le, or_parts)
 
 entries_back : (es : Entries) → entries_of (keys_of es) (values_of es) ≡ es
 entries_back no_entries = refl
 entries_back (entry k v es) = ap (entry k v) (entries_back es)
 
-pub members_end : (all : Entries) (vs : List Value) (keys : List (List ℕ)) (places : List ℕ) → MembersStand all vs keys places json.no_members
-    → entries_of keys (values_at vs places) ≡ all
-members_end all vs keys places m = grind (arith, ap₂, append-nil, entries_back)
+pub members_end : (all : Entries) (vs : List Value) (keys : List (List ℕ)) (places : List ℕ) (rest : json.Members) → MembersStand all vs keys places rest
+    → rest ≡ json.no_members → entries_of keys (values_at vs places) ≡ all
+members_end all vs keys places rest m e = grind (arith, ap₂, append-nil, entries_back)

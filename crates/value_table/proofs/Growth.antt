@@ -1,19 +1,7 @@
 -- Values stay when backings grow and when values come behind them.
-use Rattle.std.proofs.Common.{◌≡◌, ℕ, zero, suc, ◌+◌, ◌-◌, ◌<◌, ◌≤◌, List, [], ◌∷◌, ◌++◌, length, get_or, take, drop, map, refl, sym, ap, ap₂, ◌∙◌, arith, length-append, append_assoc, append-nil, subst, zero-add, length-drop, Some, slice_get}
-use Rattle.std.specs.Prelude.{slice_range}
-use Rattle.std.proofs.lemmas.List.{take-append-le, drop-append-le, get_or_append_left}
-use Rattle.std.proofs.Math.Seq.{get_or-append_seam}
+use Rattle.value_table.proofs.Prelude.{◌≡◌, ℕ, zero, suc, ◌+◌, ◌-◌, ◌<◌, ◌≤◌, List, [], ◌∷◌, ◌++◌, length, get_or, take, drop, map, refl, sym, ap, ap₂, ◌∙◌, arith, length-append, append_assoc, append-nil, subst, zero-add, length-drop, Some, slice_get, slice_range, take-append-le, drop-append-le, get_or_append_left, get_or-append_seam, Value, part_of, value_in, items_at, entries_at, refs_at, keys_at, meaning, grown, IsText, AreTexts, AreBelow, IsRange, AreKeys, IsContent, IsCell, AreCells, Extends, Found, Part, Content, Cell, Backings}
 use Rattle.value_store.specs.Value as kind
-use Rattle.value_store.specs.Value.{Value}
-use Rattle.value_store.specs.Size.{depth_of}
-use Rattle.value_table.specs.Meaning.{part_of, value_in, items_at, entries_at, refs_at, keys_at, meaning, grown}
-use Rattle.value_table.specs.Lengths.{json_length}
-use Rattle.value_table.specs.Heaps.{IsText, AreTexts, AreBelow, IsRange, AreKeys, IsContent, IsCell, AreCells, Extends, Found}
-use Rattle.value_table.specs.declared.part.Part.{Part}
-use Rattle.value_table.specs.declared.content.Content.{Content}
 use Rattle.value_table.specs.declared.content.Content.TheVariants as cell
-use Rattle.value_table.specs.declared.cell.Cell.{Cell}
-use Rattle.value_table.specs.declared.backings.Backings.{Backings}
 
 -- ---- parts of what has grown
 
@@ -67,13 +55,11 @@ cell_kept bs cs vs c e h = grind (arith, meaning_kept, content_kept)
 -- every old value stays when backings grow
 pub grown_kept : (bs cs : Backings) (vs : List Value) (xs : List Cell) → Extends bs cs → AreCells bs vs xs → grown cs vs xs ≡ grown bs vs xs
 grown_kept bs cs vs [] e h = refl
-grown_kept bs cs vs (c ∷ xs) e h =
-    rw (meaning_kept bs cs (length vs) vs c.content e h.0.content) (grown_kept bs cs (vs ++ meaning bs vs c.content ∷ []) xs e h.1)
+grown_kept bs cs vs (c ∷ xs) e h = grind (arith, meaning_kept, grown_kept bs cs (vs ++ meaning bs vs c.content ∷ []) xs e h.1)
 
 pub cells_kept : (bs cs : Backings) (vs : List Value) (xs : List Cell) → Extends bs cs → AreCells bs vs xs → AreCells cs vs xs
 cells_kept bs cs vs [] e h = tt
-cells_kept bs cs vs (c ∷ xs) e h =
-    (cell_kept bs cs vs c e h.0, rw (meaning_kept bs cs (length vs) vs c.content e h.0.content) (cells_kept bs cs (vs ++ meaning bs vs c.content ∷ []) xs e h.1))
+cells_kept bs cs vs (c ∷ xs) e h = grind (arith, cell_kept, meaning_kept, cells_kept bs cs (vs ++ meaning bs vs c.content ∷ []) xs e h.1)
 
 -- ---- one more cell
 
@@ -118,26 +104,12 @@ meaning_stable bs vs ws c h = grind (arith, items_stable, entries_stable)
 
 pub grows : (bs : Backings) (vs : List Value) (xs : List Cell) → (more : List Value) × (grown bs vs xs ≡ vs ++ more)
 grows bs vs [] = ([], sym (append-nil vs))
-grows bs vs (c ∷ xs) =
-    let g = grows bs (vs ++ meaning bs vs c.content ∷ []) xs in
-    (meaning bs vs c.content ∷ g.0, g.1 ∙ append_assoc vs (meaning bs vs c.content ∷ []) g.0)
+grows bs vs (c ∷ xs) = grind (arith, append_assoc, grows bs (vs ++ meaning bs vs c.content ∷ []) xs)
 
 here : (bs : Backings) (vs : List Value) (xs : List Cell) (c : Cell) → AreCells bs vs (c ∷ xs) → Found bs (grown bs vs (c ∷ xs)) (length vs) c
 here bs vs xs c h =
     let g = grows bs (vs ++ meaning bs vs c.content ∷ []) xs in
-    let all : grown bs vs (c ∷ xs) ≡ vs ++ meaning bs vs c.content ∷ g.0 = g.1 ∙ append_assoc vs (meaning bs vs c.content ∷ []) g.0 in
-    let same : meaning bs (vs ++ meaning bs vs c.content ∷ g.0) c.content ≡ meaning bs vs c.content = meaning_stable bs vs (meaning bs vs c.content ∷ g.0) c.content h.0.content in
-    let one : length (meaning bs vs c.content ∷ g.0) ≡ suc (length g.0) = refl in
-    subst (λ ws. Found bs ws (length vs) c) (sym all)
-    (record {
-      inside = omega (arith, length-append vs (meaning bs vs c.content ∷ g.0), one);
-      is = get_or-append_seam vs (meaning bs vs c.content) g.0 kind.null ∙ sym same;
-      content = h.0.content;
-      depth = h.0.depth ∙ ap depth_of (sym same);
-      shallow = h.0.shallow;
-      json = h.0.json ∙ ap json_length (sym same);
-      ordered = rw same h.0.ordered;
-    })
+    grind (arith, append_assoc, meaning_stable, length-append, get_or-append_seam)
 
 found_at : (bs : Backings) (vs : List Value) (xs : List Cell) (r : ℕ) (c : Cell) → slice_get xs r ≡ Some c → AreCells bs vs xs
     → Found bs (grown bs vs xs) (length vs + r) c

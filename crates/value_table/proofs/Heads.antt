@@ -1,16 +1,7 @@
 -- A value's head and the values of its parts are its own.
-use Rattle.std.proofs.Common.{◌≡◌, ◌≤◌, ℕ, ◌+◌, ◌-◌, List, [], ◌∷◌, length, take, drop, refl, sym, ap, ap₂, ◌∙◌, subst, arith, length-drop, length-take}
-use Rattle.std.specs.Prelude.{⊤, slice_index_or, slice_range}
-use Rattle.std.proofs.lemmas.List.{length-map, nil_from_length}
+use Rattle.value_table.proofs.Prelude.{◌≡◌, ◌≤◌, ℕ, ◌+◌, ◌-◌, List, [], ◌∷◌, length, take, drop, refl, sym, ap, ap₂, ◌∙◌, subst, arith, length-drop, length-take, ⊤, slice_index_or, slice_range, length-map, nil_from_length, Value, items_of, list_of, keys_of, values_of, part_of, value_in, items_at, entries_at, refs_at, keys_at, meaning, IsContent, Head, simple, items, entries, head, parts, texts_of, values_at, entries_of, built, Part, Content, Backings}
 use Rattle.value_store.specs.Value as kind
-use Rattle.value_store.specs.Value.{Value, Items, Entries, items_of, list_of, keys_of, values_of}
-use Rattle.value_table.specs.Meaning.{part_of, value_in, items_at, entries_at, refs_at, keys_at, meaning}
-use Rattle.value_table.specs.Heaps.{IsContent}
-use Rattle.value_table.specs.Heads.{Head, simple, items, entries, head, parts, texts_of, values_at, entries_of, built}
-use Rattle.value_table.specs.declared.part.Part.{Part}
-use Rattle.value_table.specs.declared.content.Content.{Content}
 use Rattle.value_table.specs.declared.content.Content.TheVariants as cell
-use Rattle.value_table.specs.declared.backings.Backings.{Backings}
 
 -- ---- a cell's meaning is built of its head and its parts
 
@@ -47,12 +38,9 @@ taken_long xs n h = length-take n xs ∙ omega arith
 pub fits : (bs : Backings) (i : ℕ) (c : Content) → IsContent bs i c → Fits (head bs c) (length (parts bs c))
 fits bs i c h = grind (arith, taken_long, length-map, range_long)
 
-fits_long : (h k : Head) (m n : ℕ) → Fits h m → Fits k n → h ≡ k → m ≡ n
-fits_long h k m n f g e = grind arith
-
 pub parts_long : (bs : Backings) (i j : ℕ) (c d : Content) → IsContent bs i c → IsContent bs j d → head bs c ≡ head bs d
     → length (parts bs c) ≡ length (parts bs d)
-parts_long bs i j c d f g e = fits_long (head bs c) (head bs d) (length (parts bs c)) (length (parts bs d)) (fits bs i c f) (fits bs j d g) e
+parts_long bs i j c d f g e = grind (arith, fits)
 
 -- ---- what is built of two heads and parts is equal only where these are
 
@@ -70,22 +58,16 @@ values_back [] [] e = refl
 values_back (k ∷ ks) (v ∷ vs) e = ap (λ ws. v ∷ ws) (values_back ks vs (omega arith))
 values_back _ _ e = absurd (omega arith)
 
-same_items : (is js : Items) → kind.list is ≡ kind.list js → is ≡ js
-same_items is js e = cc
-
-same_entries : (es fs : Entries) → kind.map es ≡ kind.map fs → es ≡ fs
-same_entries es fs e = cc
-
 apart : (h k : Head) (vs ws : List Value) → Fits h (length vs) → Fits k (length ws) → built h vs ≡ built k ws → (h ≡ k) × (vs ≡ ws)
 apart (simple v) (simple w) vs ws f g e = (ap simple e, nil_from_length vs f.1 ∙ sym (nil_from_length ws g.1))
 apart (items m) (items n) vs ws f g e =
-    let is = same_items (items_of vs) (items_of ws) e in
+    let is : items_of vs ≡ items_of ws = cc in
     let same : vs ≡ ws = sym (list_back vs) ∙ ap list_of is ∙ list_back ws in
     (ap items (f ∙ ap length same ∙ sym g), same)
 apart (items n) (entries ks) vs ws f g e = absurd (cc)
 apart (entries ks) (items n) vs ws f g e = absurd (cc)
 apart (entries ks) (entries ls) vs ws f g e =
-    let es = same_entries (entries_of ks vs) (entries_of ls ws) e in
+    let es : entries_of ks vs ≡ entries_of ls ws = cc in
     (ap entries (sym (keys_back ks vs f) ∙ ap keys_of es ∙ keys_back ls ws g), sym (values_back ks vs f) ∙ ap values_of es ∙ values_back ls ws g)
 apart (simple v) _ vs ws f g e = absurd (subst HasNoParts e f.0)
 apart _ (simple w) vs ws f g e = absurd (subst HasNoParts (sym e) g.0)
@@ -110,14 +92,8 @@ map_long bs i k b n h = range_long bs.keys k n h.1.inside ∙ sym (taken_long (s
 
 pub map_fits : (bs : Backings) (vs : List Value) (i k b n : ℕ) → IsContent bs i (cell.Map k b n)
     → length (texts_of bs.bytes (keys_at bs.keys k n)) ≡ length (values_at vs (refs_at bs.lists b n))
-map_fits bs vs i k b n h =
-    let ks = keys_at bs.keys k n in
-    let rs = refs_at bs.lists b n in
-    length-map ks (part_of bs.bytes) ∙ map_long bs i k b n h ∙ sym (length-map rs (value_in vs))
+map_fits bs vs i k b n h = search (arith, length-map, map_long)
 
 pub map_keys : (bs : Backings) (vs : List Value) (i k b n : ℕ) → IsContent bs i (cell.Map k b n)
     → keys_of (entries_at bs.bytes vs (keys_at bs.keys k n) (refs_at bs.lists b n)) ≡ texts_of bs.bytes (keys_at bs.keys k n)
-map_keys bs vs i k b n h =
-    let ks = keys_at bs.keys k n in
-    let rs = refs_at bs.lists b n in
-    ap keys_of (entries_built bs.bytes vs ks rs) ∙ keys_back (texts_of bs.bytes ks) (values_at vs rs) (map_fits bs vs i k b n h)
+map_keys bs vs i k b n h = search (arith, entries_built, keys_back, map_fits)

@@ -1,27 +1,5 @@
 -- What an index knows of items, and what a search passes by it.
-use Rattle.std.proofs.Common.{◌≡◌, ℕ, zero, suc, ◌+◌, ◌<◌, ◌≤◌, min, List, [], ◌∷◌, ◌++◌, length, get_or, take, drop, set, Bool, true, false, cond, bytes_eq, Option, Some, None, slice_get, refl, sym, ap, ◌∙◌, subst, arith, true≢false, length-append}
-use Rattle.std.specs.Prelude.{if◌then◌else◌, option_map, is_some, nat_le, ◌||◌, slice_index_or}
-use Rattle.std.specs.BTreeMap.{get_by_text}
-use Rattle.std.specs.Map.{update}
-use Rattle.std.proofs.Math.Seq.{drop-nil}
-use Rattle.std.proofs.lemmas.Bool.{false_from_ne_true}
-use Rattle.std.proofs.lemmas.Bool.Decides.{nat_tests}
-use Rattle.std.proofs.lemmas.List.{take_more, take-append-le, map-append, get_or-take, length-take-le}
-use Rattle.std.proofs.lemmas.Option.{slice_get-get_or}
-use Rattle.std.proofs.lemmas.Slice.Eq.{bytes_eq-Decides as bytes_decides}
-use Rattle.value_store.specs.Value.{Value}
-use Rattle.value_store.specs.Json.{json_text}
-use Rattle.value_store.specs.Equality.{equal}
-use Rattle.value_store.specs.Lookup.{has_item}
-use Rattle.value_store.proofs.Equal.{equal_decides}
-use Rattle.value_table.specs.Meaning.{value_in, items_at, refs_at, grown}
-use Rattle.value_table.specs.Lengths.{json_length}
-use Rattle.value_table.specs.Heaps.{AreBelow, IsRange, AreCells, Extends}
-use Rattle.value_table.specs.Search.{place_among}
-use Rattle.value_table.specs.Index.{looked_up_by, texts_at, IsIndex, Covers, IsIndexed, AreIndexes, AreKnown}
-use Rattle.value_table.specs.declared.cell.Cell.{Cell}
-use Rattle.value_table.specs.declared.index.Index.{Index}
-use Rattle.value_table.specs.declared.backings.Backings.{Backings}
+use Rattle.value_table.proofs.Prelude.{◌≡◌, ℕ, zero, suc, ◌+◌, ◌<◌, ◌≤◌, min, List, [], ◌∷◌, ◌++◌, length, get_or, take, drop, set, Bool, true, false, cond, bytes_eq, Option, Some, None, slice_get, refl, sym, ap, ◌∙◌, subst, arith, true≢false, length-append, if◌then◌else◌, option_map, is_some, nat_le, ◌||◌, slice_index_or, get_by_text, update, drop-nil, false_from_ne_true, nat_tests, take_more, take-append-le, map-append, get_or-take, length-take-le, slice_get-get_or, bytes_eq-Decides as bytes_decides, Value, json_text, equal, has_item, equal_decides, value_in, items_at, refs_at, grown, json_length, AreBelow, IsRange, AreCells, Extends, place_among, looked_up_by, texts_at, IsIndex, Covers, IsIndexed, AreIndexes, AreKnown, Cell, Index, Backings}
 use Rattle.value_table.proofs.Growth.{mapped_stable, found, count_values}
 use Rattle.value_table.proofs.Walks.{below_here}
 use Rattle.value_table.proofs.Listed.{below_le, below_append}
@@ -42,8 +20,7 @@ push_step b c o n = grind arith
 
 place_push : (t k : List ℕ) (ts : List (List ℕ)) → place_among t (ts ++ k ∷ []) ≡ or_else (place_among t ts) (place_if (bytes_eq k t) (length ts))
 place_push t k [] = refl
-place_push t k (u ∷ ts) =
-    ap (λ o. if bytes_eq u t then Some 0 else option_map suc o) (place_push t k ts) ∙ push_step (bytes_eq u t) (bytes_eq k t) (place_among t ts) (length ts)
+place_push t k (u ∷ ts) = grind (arith, bytes_eq, push_step, place_push t k ts)
 
 -- one that stands there already
 none_more : (o : Option ℕ) (b : Bool) (n : ℕ) → (b ≡ true → is_some o ≡ true) → or_else o (place_if b n) ≡ o
@@ -88,8 +65,7 @@ skips : (vs : List Value) (x : Value) (rs : List ℕ) (n k : ℕ) → n ≤ k
 skips vs x rs zero k h = ap (λ xs. has_item x (items_at vs xs)) (sym (drop-nil {A = ℕ} _))
 skips vs x [] (suc n) k h = ap (λ xs. has_item x (items_at vs xs)) (sym (drop-nil {A = ℕ} _))
 skips vs x (r ∷ rs) (suc n) zero h = absurd (omega arith)
-skips vs x (r ∷ rs) (suc n) (suc k) h =
-    skip_step (bytes_eq (looked_up_by (value_in vs r)) (looked_up_by x)) vs x r (take n rs) (place_among (looked_up_by x) (texts_at vs (take k rs))) n (differs x (value_in vs r)) (skips vs x rs n k (omega arith))
+skips vs x (r ∷ rs) (suc n) (suc k) h = grind (arith, skip_step, bytes_eq, differs, skips vs x rs n k (omega arith))
 
 pub skips_from : (vs : List Value) (x : Value) (rs : List ℕ) (n k s : ℕ) (o : Option ℕ) → n ≤ k → o ≡ place_among (looked_up_by x) (texts_at vs (take k rs))
     → s ≡ start_of o n → has_item x (items_at vs (take n rs)) ≡ has_item x (items_at vs (drop s (take n rs)))
@@ -103,11 +79,7 @@ pub covers_more : (vs : List Value) (rs : List ℕ) (old new : Index) (d : ℕ) 
 covers_more vs rs old new d k h inside low n is more =
     let r = get_or rs old.count d in
     let t : take new.count rs ≡ take old.count rs ++ r ∷ [] = ap (λ c. take c rs) n ∙ take_more rs old.count d inside in
-    let u : texts_at vs (take new.count rs) ≡ texts_at vs (take old.count rs) ++ k ∷ [] =
-    ap (texts_at vs) t ∙ map-append (λ s. looked_up_by (value_in vs s)) (take old.count rs) (r ∷ [])
-    ∙ ap (λ l. texts_at vs (take old.count rs) ++ l ∷ []) (sym is)
-    in
-    record { long = omega (arith, n, inside); below = subst (AreBelow (length vs)) (sym t) (below_append (length vs) (take old.count rs) (r ∷ []) h.below (low, tt)); index = subst (IsIndex new) (sym u) (more _ h.index) }
+    grind (arith, map-append, below_append)
 
 -- an item of a backing
 pub item_at : (lists : List (List ℕ)) (i b n k d : ℕ) → IsRange lists i b n → k < n → (get_or (refs_at lists b n) k d ≡ get_or (slice_index_or lists b []) k d) × (get_or (slice_index_or lists b []) k d < i) × (k < length (slice_index_or lists b []))
@@ -125,14 +97,7 @@ indexed_kept bs cs vs ws x e h =
     let longer = length-append vs ws in
     let t : take x.count (get_or cs.lists x.backing []) ≡ take x.count old = ap (take x.count) m.1 ∙ take-append-le x.count old m.0 h.covers.long in
     let u = ap (texts_at (vs ++ ws)) t ∙ mapped_stable looked_up_by vs ws (take x.count old) h.covers.below in
-    record {
-      inside = omega (arith, h.inside, e.lists);
-      covers = record {
-        long = rw m.1 (omega (arith, h.covers.long, length-append old m.0));
-        below = subst (AreBelow (length (vs ++ ws))) (sym t) (below_le (length vs) (length (vs ++ ws)) (take x.count old) (omega arith) h.covers.below);
-        index = subst (IsIndex x) (sym u) h.covers.index;
-      };
-    }
+    grind (arith, length-append, below_le)
 
 -- a new one
 pub new_indexed : (bs : Backings) (vs : List Value) (x : Index) (b : ℕ) → b < length bs.lists → x.backing ≡ b → IsIndex x [] → IsIndexed bs vs x
@@ -147,8 +112,7 @@ entered bs vs old new i b n k h range long at lt same more is put =
     let it = item_at bs.lists i b n old.count 0 range lt in
     let c : Covers vs (get_or bs.lists b []) old = subst (λ j. Covers vs (get_or bs.lists j []) old) at h.covers in
     let d = covers_more vs (get_or bs.lists b []) old new 0 k c it.2 (omega arith) more (is ∙ ap (λ r. looked_up_by (value_in vs r)) it.0) put in
-    let inside = range.inside in
-    record { inside = omega arith; covers = subst (λ j. Covers vs (get_or bs.lists j []) new) (sym (same ∙ at)) d }
+    grind arith
 
 -- what a search passes
 pub skips_by : (bs : Backings) (vs : List Value) (x : Value) (y : Index) (b n s : ℕ) (o : Option ℕ) (t : List ℕ) → IsIndexed bs vs y → y.backing ≡ b

@@ -20,3 +20,4 @@ pub mod Searches
 pub mod Lookups
 pub mod Mapped
 pub mod Printing
+pub mod Prelude

@@ -1,22 +1,9 @@
 -- Lists made of others.
-use Rattle.std.proofs.Common.{◌≡◌, ℕ, suc, ◌+◌, ◌-◌, ◌<◌, ◌≤◌, List, [], ◌∷◌, ◌++◌, length, refl, sym, ap, ap₂, ◌∙◌, arith, subst, max, Option, Some}
-use Rattle.std.specs.Prelude.{IfSome, slice_index_or}
+use Rattle.value_table.proofs.Prelude.{◌≡◌, ℕ, suc, ◌+◌, ◌-◌, ◌<◌, ◌≤◌, List, [], ◌∷◌, ◌++◌, length, refl, ap, arith, subst, max, Option, Some, IfSome, Value, item, list_of, items_push, items_join, items_depth, IsOrdered, saturated, push_of, join_of, push_ordered, join_ordered, push_depth, join_depth, value_in, items_at, refs_at, meaning, AreBelow, IsRange, IsCell, Found, Holds, commas, Cell, Backings}
 use Rattle.value_store.specs.Value as kind
-use Rattle.value_store.specs.Value.{Value, Items, no_items, item, list_of, items_push, items_join}
-use Rattle.value_store.specs.Size.{depth_of, items_depth}
-use Rattle.value_store.specs.Keys.{IsOrdered}
-use Rattle.value_store.specs.Plain.{saturated}
-use Rattle.value_store.specs.Calls.{push_of, join_of}
-use Rattle.value_store.proofs.Keys.{push_ordered, join_ordered}
-use Rattle.value_store.proofs.Trees.{push_depth, join_depth}
-use Rattle.value_table.specs.Meaning.{value_in, items_at, refs_at, meaning}
-use Rattle.value_table.specs.Heaps.{AreBelow, IsRange, IsContent, IsCell, Found, Holds}
-use Rattle.value_table.specs.Lengths.{json_length, commas}
 use Rattle.value_table.proofs.Heads.{taken_long}
 use Rattle.value_table.proofs.TextLengths.{push_long, join_long, list_long}
 use Rattle.value_table.specs.declared.content.Content.TheVariants as cell
-use Rattle.value_table.specs.declared.cell.Cell.{Cell}
-use Rattle.value_table.specs.declared.backings.Backings.{Backings}
 
 -- a cell that may be placed, and what is due
 pub record Made (bs : Backings) (vs : List Value) (c : Cell) (due : Option Value) : Type 0 where
@@ -66,51 +53,9 @@ list_brackets bs vs l b n c f e = grind (arith, list_long)
 pub list_pushed : (bs cs : Backings) (vs : List Value) (l x b n c d j : ℕ) (lc xc : Cell) → Found bs vs l lc → Found bs vs x xc → lc.content ≡ cell.List b n → Holds cs.lists c (n + 1) (refs_at bs.lists b n ++ x ∷ []) → d ≡ max lc.depth (xc.depth + 1) → j ≡ saturated (lc.json + commas n 1 + xc.json)
     → Made cs vs (record { content = cell.List c (n + 1); depth = d; json = j }) (push_of (value_in vs l) (value_in vs x))
 list_pushed bs cs vs l x b n c d j lc xc fl fx e h deep long =
-    let rs = refs_at bs.lists b n in
-    let f = list_found bs vs l b n lc fl e in
-    let here : items_at vs (refs_at cs.lists c (n + 1)) ≡ items_push (items_at vs rs) (value_in vs x) = ap (items_at vs) h.items ∙ items_more vs rs x in
-    let due : push_of (value_in vs l) (value_in vs x) ≡ Some (kind.list (items_push (items_at vs rs) (value_in vs x))) = ap (λ v. push_of v (value_in vs x)) f.is in
-    let xd : xc.depth ≡ depth_of (value_in vs x) = fx.depth ∙ ap depth_of (sym fx.is) in
-    let whole = h.long in
-    let i2 = fx.inside in
-    let lj : lc.json ≡ json_length (kind.list (items_at vs rs)) = fl.json ∙ ap (λ t. json_length (meaning bs vs t)) e in
-    let xj : xc.json ≡ json_length (value_in vs x) = fx.json ∙ ap json_length (sym fx.is) in
-    let low : AreBelow (length vs) rs = below_le l (length vs) rs (omega arith) f.range.below in
-    let order : IsOrdered (kind.list (items_push (items_at vs rs) (value_in vs x))) = if_made IsOrdered _ _ due (push_ordered (value_in vs l) (value_in vs x) f.ordered (rw fx.is fx.ordered)) in
-    record {
-      cell = record {
-        content = record { inside = h.inside; long = omega (arith, whole); below = subst (AreBelow (length vs)) (sym h.items) (below_append (length vs) rs (x ∷ []) low (i2, tt)) };
-        depth = rw here (omega (arith, deep, xd, f.depth, push_depth (items_at vs rs) (value_in vs x)));
-        shallow = omega (arith, deep, f.shallow, fx.shallow, f.inside, i2);
-        json = rw here (omega (arith, long, lj, xj, push_long (items_at vs rs) (value_in vs x) n f.count));
-        ordered = rw here order;
-      };
-      value = due ∙ ap (λ is. Some (kind.list is)) (sym here);
-    }
+    grind (arith, list_found, items_more, below_le, if_made, push_ordered, below_append, push_depth, push_long)
 
 pub lists_joined : (bs cs : Backings) (vs : List Value) (l x b n b' n' c d j : ℕ) (lc xc : Cell) → Found bs vs l lc → Found bs vs x xc → lc.content ≡ cell.List b n → xc.content ≡ cell.List b' n' → Holds cs.lists c (n + n') (refs_at bs.lists b n ++ refs_at bs.lists b' n') → d ≡ max lc.depth xc.depth → j ≡ saturated (lc.json + commas n n' + (xc.json - 2))
     → Made cs vs (record { content = cell.List c (n + n'); depth = d; json = j }) (join_of (value_in vs l) (value_in vs x))
 lists_joined bs cs vs l x b n b' n' c d j lc xc fl fx e e' h deep long =
-    let rs = refs_at bs.lists b n in
-    let ss = refs_at bs.lists b' n' in
-    let f = list_found bs vs l b n lc fl e in
-    let g = list_found bs vs x b' n' xc fx e' in
-    let here : items_at vs (refs_at cs.lists c (n + n')) ≡ items_join (items_at vs rs) (items_at vs ss) = ap (items_at vs) h.items ∙ items_both vs rs ss in
-    let due : join_of (value_in vs l) (value_in vs x) ≡ Some (kind.list (items_join (items_at vs rs) (items_at vs ss))) = ap₂ join_of f.is g.is in
-    let whole = h.long in
-    let lj : lc.json ≡ json_length (kind.list (items_at vs rs)) = fl.json ∙ ap (λ t. json_length (meaning bs vs t)) e in
-    let xj : xc.json ≡ json_length (kind.list (items_at vs ss)) = fx.json ∙ ap (λ t. json_length (meaning bs vs t)) e' in
-    let least' = list_long (items_at vs rs) in
-    let low : AreBelow (length vs) rs = below_le l (length vs) rs (omega arith) f.range.below in
-    let low' : AreBelow (length vs) ss = below_le x (length vs) ss (omega arith) g.range.below in
-    let order : IsOrdered (kind.list (items_join (items_at vs rs) (items_at vs ss))) = if_made IsOrdered _ _ due (join_ordered (value_in vs l) (value_in vs x) f.ordered g.ordered) in
-    record {
-      cell = record {
-        content = record { inside = h.inside; long = omega (arith, whole); below = subst (AreBelow (length vs)) (sym h.items) (below_append (length vs) rs ss low low') };
-        depth = rw here (omega (arith, deep, g.depth, f.depth, join_depth (items_at vs rs) (items_at vs ss)));
-        shallow = omega (arith, deep, f.shallow, g.shallow, f.inside, g.inside);
-        json = rw here (omega (arith, long, lj, xj, join_long (items_at vs rs) (items_at vs ss) n n' f.count g.count, list_long (items_at vs ss), least'));
-        ordered = rw here order;
-      };
-      value = due ∙ ap (λ is. Some (kind.list is)) (sym here);
-    }
+    grind (arith, list_found, items_both, list_long, below_le, if_made, join_ordered, below_append, join_depth, join_long)

@@ -1,24 +1,11 @@
 -- What is seen of cells.
-use Rattle.std.proofs.Common.{◌≡◌, ℕ, zero, suc, ◌<◌, ◌≤◌, List, [], ◌∷◌, length, get_or, map, refl, sym, ap, ◌∙◌, arith, subst, Some, slice_get}
-use Rattle.std.specs.Prelude.{IsSome, option_map}
-use Rattle.std.proofs.lemmas.List.{length-map}
-use Rattle.std.proofs.lemmas.Option.{slice_get-map, slice_get-get_or}
+use Rattle.value_table.proofs.Prelude.{◌≡◌, ℕ, zero, suc, ◌<◌, ◌≤◌, List, [], ◌∷◌, length, get_or, map, refl, sym, ap, ◌∙◌, arith, subst, Some, slice_get, IsSome, option_map, length-map, slice_get-map, slice_get-get_or, Value, list_of, keys_of, values_of, parts_of, part_of, value_in, entries_at, refs_at, keys_at, meaning, grown, key_in, parts, texts_of, values_at, IsText, IsRange, IsContent, Found, Part, Content, Cell, Backings, seen, sees_list, sees_map}
 use Rattle.value_store.specs.Value as kind
-use Rattle.value_store.specs.Value.{Value, list_of, keys_of, values_of}
-use Rattle.value_store.specs.Calls.{parts_of}
-use Rattle.value_table.specs.Meaning.{part_of, value_in, entries_at, refs_at, keys_at, meaning, grown, key_in}
-use Rattle.value_table.specs.Heads.{parts, texts_of, values_at}
-use Rattle.value_table.specs.Heaps.{IsText, IsRange, IsContent, Found}
-use Rattle.value_table.specs.declared.part.Part.{Part}
-use Rattle.value_table.specs.declared.content.Content.{Content}
 use Rattle.value_table.specs.declared.content.Content.TheVariants as cell
-use Rattle.value_table.specs.declared.cell.Cell.{Cell}
-use Rattle.value_table.specs.declared.backings.Backings.{Backings}
 use Rattle.value_table.proofs.Listed.{below_le, list_found}
 use Rattle.value_table.proofs.Growth.{count_values}
 use Rattle.value_table.proofs.Heads.{meaning_built, list_back, values_back, range_long, map_fits, map_keys}
 use Rattle.value_table.proofs.Walks.{text_here, part_below as below_its_cell}
-use Rattle.value_store.specs.Seen.{seen, sees_list, sees_map}
 
 meaning_parts : (bs : Backings) (vs : List Value) (i : ℕ) (c : Content) → IsContent bs i c → parts_of (meaning bs vs c) ≡ map (value_in vs) (parts bs c)
 meaning_parts bs vs i (cell.List b n) h = ap parts_of (meaning_built bs vs (cell.List b n)) ∙ list_back (values_at vs (refs_at bs.lists b n))

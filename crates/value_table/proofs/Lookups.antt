@@ -1,25 +1,8 @@
 -- The place of a key that a search finds.
-use Rattle.std.proofs.Common.{◌≡◌, ℕ, zero, suc, ◌<◌, List, [], ◌∷◌, inl, inr, length, get_or, Option, Some, None, slice_get, false, true≢false, refl, sym, ap, ◌∙◌, subst, arith}
-use Rattle.std.specs.Prelude.{bytes_eq, if◌then◌else◌, option_map}
-use Rattle.std.specs.declared.cmp.Ordering.TheVariants.{Less}
-use Rattle.std.specs.Ordering.{nat_cmp, is_eq}
-use Rattle.std.specs.Cmp.Lexicographic.{slice_cmp}
+use Rattle.value_table.proofs.Prelude.{◌≡◌, ℕ, zero, suc, ◌<◌, List, [], ◌∷◌, inl, inr, length, get_or, Option, Some, None, slice_get, false, true≢false, refl, sym, ap, ◌∙◌, subst, arith, bytes_eq, if◌then◌else◌, option_map, Less, nat_cmp, is_eq, slice_cmp, cases_lt, cond-false, cond-true, false_from_ne_true, is_eq-slice_cmp, bytes_eq-Decides, same_Some, get_or_from_slice_get, Ascend, IsOrdered, Value, Entries, no_entries, entry, keys_of, entries_part, place_of_key, value_in, entries_at, refs_at, keys_at, meaning, IsContent, Found, texts_of, Cell, Backings, IsAt, IsGap, place_among}
 use Rattle.std.specs.List.Sorted.{IsStrictlySortedBy}
-use Rattle.std.proofs.lemmas.Bool.{cases_lt, cond-false, cond-true, false_from_ne_true}
-use Rattle.std.proofs.lemmas.Map.Text.{is_eq-slice_cmp}
-use Rattle.std.proofs.lemmas.Slice.Eq.{bytes_eq-Decides}
-use Rattle.std.proofs.lemmas.Option.{same_Some, get_or_from_slice_get}
-use Rattle.value_store.specs.Keys.{Ascend, IsOrdered}
-use Rattle.value_store.specs.Value.{Value, map, Entries, no_entries, entry, keys_of}
-use Rattle.value_store.specs.Calls.{entries_part}
-use Rattle.value_store.specs.Lookup.{place_of_key}
-use Rattle.value_table.specs.Meaning.{value_in, entries_at, refs_at, keys_at, meaning}
-use Rattle.value_table.specs.Heaps.{IsContent, Found}
-use Rattle.value_table.specs.Heads.{texts_of}
-use Rattle.value_table.specs.declared.cell.Cell.{Cell}
+use Rattle.value_store.specs.Value.{map}
 use Rattle.value_table.specs.declared.content.Content.TheVariants as cell
-use Rattle.value_table.specs.declared.backings.Backings.{Backings}
-use Rattle.value_table.specs.Search.{IsAt, IsGap, place_among}
 use Rattle.value_table.proofs.Searches.{ascend_at}
 use Rattle.value_table.proofs.Heads.{map_keys}
 

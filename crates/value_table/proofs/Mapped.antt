@@ -1,31 +1,8 @@
 -- Maps with one more entry.
-use Rattle.std.proofs.Common.{◌≡◌, ℕ, zero, suc, ◌+◌, ◌<◌, ◌≤◌, List, [], ◌∷◌, length, refl, sym, ap, ap₂, ◌∙◌, arith, subst, max, true≢false, true, Option, Some, None}
+use Rattle.value_table.proofs.Prelude.{◌≡◌, ℕ, zero, suc, ◌+◌, ◌<◌, ◌≤◌, List, [], ◌∷◌, length, refl, sym, ap, ◌∙◌, arith, subst, max, true≢false, true, Option, Some, is_some, not, IsSome, option_map, Ordering, Less, Greater, nat_cmp, slice_cmp, length-map, Value, Entries, entry, keys_of, depth_of, entries_depth, Ascend, IsOrdered, saturated, put_of, inserted, inserted_by, put_ordered, inserted_once, has_key_place, part_of, value_in, entries_at, refs_at, keys_at, meaning, IsText, AreTexts, AreBelow, IsContent, IsCell, Found, Holds, commas, texts_of, IsAt, IsGap, put_values, with_one, HoldsKeys, Part, Cell, Backings}
 use Rattle.std.specs.List.Sorted.{IsStrictlySortedBy}
-use Rattle.std.specs.Prelude.{is_some, not, IsSome, option_map}
-use Rattle.std.specs.declared.cmp.Ordering.{Ordering}
-use Rattle.std.specs.declared.cmp.Ordering.TheVariants.{Less, Greater}
-use Rattle.std.specs.Ordering.{nat_cmp}
-use Rattle.std.specs.Cmp.Lexicographic.{slice_cmp}
-use Rattle.std.proofs.lemmas.List.{length-map}
 use Rattle.value_store.specs.Value as kind
-use Rattle.value_store.specs.Value.{Value, Entries, entry, keys_of}
-use Rattle.value_store.specs.Size.{depth_of, entries_depth}
-use Rattle.value_store.specs.Keys.{Ascend, IsOrdered}
-use Rattle.value_store.specs.Plain.{saturated}
-use Rattle.value_store.specs.Calls.{put_of}
-use Rattle.value_store.specs.Lookup.{inserted, inserted_by}
-use Rattle.value_store.proofs.Keys.{put_ordered, inserted_once}
-use Rattle.value_store.proofs.Places.{has_key_place}
-use Rattle.value_table.specs.Meaning.{part_of, value_in, entries_at, refs_at, keys_at, meaning}
-use Rattle.value_table.specs.Heaps.{IsText, AreTexts, AreBelow, IsContent, IsCell, Found, Holds}
-use Rattle.value_table.specs.Lengths.{json_length, commas}
-use Rattle.value_table.specs.Heads.{texts_of}
-use Rattle.value_table.specs.Search.{IsAt, IsGap}
-use Rattle.value_table.specs.Entries.{put_values, with_one, HoldsKeys}
-use Rattle.value_table.specs.declared.part.Part.{Part}
 use Rattle.value_table.specs.declared.content.Content.TheVariants as cell
-use Rattle.value_table.specs.declared.cell.Cell.{Cell}
-use Rattle.value_table.specs.declared.backings.Backings.{Backings}
 use Rattle.value_table.proofs.Lookups.{place_by_keys, found_place}
 use Rattle.value_table.proofs.Heads.{range_long}
 use Rattle.value_table.proofs.TextLengths.{put_long}
@@ -87,41 +64,17 @@ map_put bs cs vs m k x row b n row' b' i d j mc kc xc key fm fk fx em ek long ga
     let old = entries_at bs.bytes vs ks rs in
     let new = entries_at bs.bytes vs (with_one i key ks) (with_one i x rs) in
     let content = subst (IsContent bs m) em fm.content in
-    let is : value_in vs m ≡ kind.map old = fm.is ∙ ap (meaning bs vs) em in
-    let name : value_in vs k ≡ kind.text (part_of bs.bytes key) = fk.is ∙ ap (meaning bs vs) ek in
     let put = entry_put bs.bytes vs ks rs key x i long gap in
-    let due : put_values (value_in vs m) (value_in vs k) (value_in vs x) ≡ Some (kind.map new) = ap₂ (λ v w. put_values v w (value_in vs x)) is name
-    ∙ ap (option_map kind.map) put in
-    let here : entries_at cs.bytes vs (keys_at cs.keys row' (n + 1)) (refs_at cs.lists b' (n + 1)) ≡ new = rw (same, hk.are, hr.items) refl in
     let inside = gap.inside in
     let count = length-map ks (part_of bs.bytes) in
     let depths = depth_one bs.bytes vs ks rs key x i long (omega (arith, inside, count)) in
-    let md : mc.depth ≡ 1 + entries_depth old = fm.depth ∙ ap depth_of (ap (meaning bs vs) em) in
-    let xd : xc.depth ≡ depth_of (value_in vs x) = fx.depth ∙ ap depth_of (sym fx.is) in
-    let mj : mc.json ≡ json_length (kind.map old) = fm.json ∙ ap (λ t. json_length (meaning bs vs t)) em in
-    let kj : kc.json ≡ json_length (kind.text (part_of bs.bytes key)) = fk.json ∙ ap (λ t. json_length (meaning bs vs t)) ek in
-    let xj : xc.json ≡ json_length (value_in vs x) = fx.json ∙ ap json_length (sym fx.is) in
     let text = put_long bs.bytes vs ks rs key x i n long (range_long bs.keys row n content.1.inside) (omega (arith, inside, count)) in
-    let whole = hr.long in
-    let row_end = hk.inside in
-    let i2 = fx.inside in
     let low : AreBelow (length vs) rs = below_le m (length vs) rs (omega arith) content.0.below in
     let ordered : IsOrdered (kind.map old) = subst IsOrdered (ap (meaning bs vs) em) fm.ordered in
     let value : IsOrdered (value_in vs x) = subst IsOrdered (sym fx.is) fx.ordered in
-    let order : IsOrdered (kind.map new) = if_made IsOrdered _ _ (ap (option_map kind.map) put) (put_ordered old (part_of bs.bytes key) (value_in vs x) ordered value) in
-    record {
-      cell = record {
-        content = (
-          record { inside = hr.inside; long = omega (arith, whole); below = subst (AreBelow (length vs)) (sym hr.items) (below_one (length vs) rs x i low i2) },
-          record { inside = omega (arith, row_end); texts = rw (same, hk.are) (texts_one bs.bytes ks key i content.1.texts (subst (IsContent bs k) ek fk.content)) },
-        );
-        depth = rw here (omega (arith, deep, xd, md, depths));
-        shallow = omega (arith, deep, fm.shallow, fx.shallow, fm.inside, i2);
-        json = rw here (omega (arith, json, mj, kj, xj, text));
-        ordered = rw here order;
-      };
-      value = due ∙ ap (λ es. Some (kind.map es)) (sym here);
-    }
+    let order : IsOrdered (kind.map new) =
+    if_made IsOrdered _ _ (ap (option_map kind.map) put) (put_ordered old (part_of bs.bytes key) (value_in vs x) ordered value) in
+    grind (arith, below_one, texts_one)
 
 pub map_new : (cs : Backings) (vs : List Value) (b n : ℕ) (rs : List ℕ) → Holds cs.lists b n rs
     → IsCell cs vs (record { content = cell.Map 0 b 0; depth = 1; json = 2 })

@@ -1,26 +1,9 @@
 -- Values by reference, as cells and references come.
-use Rattle.std.proofs.Common.{◌≡◌, ℕ, zero, suc, ◌+◌, ◌<◌, true, false, List, [], ◌∷◌, ◌++◌, length, get_or, refl, sym, ap, ◌∙◌, arith, length-append, append_assoc, append-nil, subst, Option, Some, None, Result, Ok, Err, slice_get}
-use Rattle.std.specs.Prelude.{IfSome, IsSome, option_map, option_and_then}
-use Rattle.std.specs.declared.alloc.AllocError.{AllocError}
-use Rattle.std.proofs.lemmas.Option.{slice_get-get_or}
-use Rattle.std.proofs.Math.Seq.{get_or-append_seam}
+use Rattle.value_table.proofs.Prelude.{◌≡◌, ℕ, zero, suc, ◌+◌, ◌<◌, true, List, [], ◌∷◌, ◌++◌, length, get_or, refl, sym, ap, ap₂, ◌∙◌, arith, length-append, append_assoc, subst, Option, Some, None, Ok, slice_get, IfSome, IsSome, option_map, slice_get-get_or, get_or-append_seam, Value, ValueOrError, error, value, put_values, result_depth, IsOrdered, AreOrdered, place, placed, is_appended, Places, value_at, text_at, key_at, push_of, join_of, pushed, put_in, part_at, parts_of, value_in, grown, key_in, meaning, reference_of, AreBelow, AreCells, Adds, heap_values, IsHeap, Gains, named, place_at, reference_values, AreReferences, IsPlace, Content, Cell, Backings, Heap}
 use Rattle.value_store.specs.Value as kind
-use Rattle.value_store.specs.Value.{Value, Entries, ValueOrError, error, value}
-use Rattle.value_store.specs.Lookup.{text_part, inserted}
-use Rattle.value_table.specs.Entries.{put_values}
-use Rattle.value_store.specs.Size.{result_depth}
-use Rattle.value_store.specs.Keys.{IsOrdered, AreOrdered}
-use Rattle.value_store.specs.Placing.{first_values, place, placed, is_appended}
-use Rattle.value_store.specs.Calls.{Places, value_at, text_at, key_at, push_of, join_of, put_in, put_of, entries_part, part_at, parts_of}
-use Rattle.value_table.specs.Meaning.{value_in, grown, key_in, meaning, reference_of}
-use Rattle.value_table.specs.Heaps.{AreBelow, AreCells, Adds}
-use Rattle.value_table.specs.Heap.{heap_values, IsHeap}
-use Rattle.value_table.specs.References.{values_at, named, place_at, reference_values, AreReferences, IsPlace}
-use Rattle.value_table.specs.declared.content.Content.{Content}
+use Rattle.value_store.specs.Calls.{joined}
+use Rattle.value_table.specs.References.{values_at}
 use Rattle.value_table.specs.declared.content.Content.TheVariants as cell
-use Rattle.value_table.specs.declared.cell.Cell.{Cell}
-use Rattle.value_table.specs.declared.backings.Backings.{Backings}
-use Rattle.value_table.specs.declared.heap.Heap.{Heap}
 use Rattle.value_table.proofs.Growth.{value_stable, count_values, found}
 use Rattle.value_table.proofs.Listed.{below_le, below_append}
 
@@ -80,22 +63,8 @@ pub record Grows (t : Heap) (qs : List ℕ) (h : Heap) : Type 0 where
 pub grows_by : (t : Heap) (qs : List ℕ) (h : Heap) (ws : List Value) → AreReferences t qs → IsHeap h → heap_values h ≡ heap_values t ++ ws → Grows t qs h
 grows_by t qs h ws a k e = grind (arith, values_stable, below_le, length-append)
 
-pub grows_added : (t : Heap) (qs : List ℕ) (h : Heap) (v : Value) (r : Result ℕ AllocError) → AreReferences t qs → IsHeap h
-    → Adds (heap_values t) v r (heap_values h) → Grows t qs h
-grows_added t qs h v (Ok i) a k e = grows_by t qs h (v ∷ []) a k e.1
-grows_added t qs h v (Err x) a k e = grows_by t qs h [] a k (e ∙ sym (append-nil (heap_values t)))
-
-pub grows_due : (t : Heap) (qs : List ℕ) (h : Heap) (due : Option Value) (r : Result ℕ AllocError) → AreReferences t qs → IsHeap h → IsSome due
-    → IfSome due (λ v. Adds (heap_values t) v r (heap_values h)) → Grows t qs h
-grows_due t qs h None r a k s e = absurd (cc)
-grows_due t qs h (Some v) r a k s e = grows_added t qs h v r a k e
-
 pub place_added : (vs ws : List Value) (v : Value) (i : ℕ) → Adds vs v (Ok i) ws → (i < length ws) × (value_in ws i ≡ v)
 place_added vs ws v i e = grind (arith, length-append, get_or-append_seam)
-
-pub place_due : (vs ws : List Value) (due : Option Value) (i : ℕ) → IsSome due → IfSome due (λ v. Adds vs v (Ok i) ws) → i < length ws
-place_due vs ws None i s e = absurd (cc)
-place_due vs ws (Some v) i s e = (place_added vs ws v i e).0
 
 -- ---- one more reference
 
@@ -109,57 +78,39 @@ name_values t qs places r e = ap (λ rs. named (heap_values t) rs) e ∙ ap (λ 
 
 -- ---- what the calls answer
 
--- one more reference, to this value; or the host had no memory for it
-abbrev pub Names : List ValueOrError → Value → Result ℕ AllocError → List ValueOrError → Type 0
-Names old v (Ok h) new = (h ≡ length old) × (new ≡ old ++ value v ∷ [])
-Names old v (Err e) new = new ≡ old
-
 pub appended : (vs : List ValueOrError) (v : Value) → is_appended v ≡ true → (place vs v ≡ length vs) × (placed vs v ≡ vs ++ value v ∷ [])
 appended vs v e = grind arith
 
-pub names_places : (old new : List ValueOrError) (v : Value) (r : Result ℕ AllocError) → is_appended v ≡ true → Names old v r new → Places old v r new
-names_places old new v r a n = grind arith
-
--- a value that is due, behind the last
+-- the value that a call is given is the one that is due, behind the last
 abbrev pub Appends : Option Value → Type 0
 Appends due = IfSome due (λ v. is_appended v ≡ true)
 
-pub value_placed : (old mid new : List ValueOrError) (vs ws : List Value) (v : Value) (i : ℕ) (r : Result ℕ AllocError) → is_appended v ≡ true → mid ≡ old
-    → Adds vs v (Ok i) ws → Names mid (value_in ws i) r new → Places old v r new
-value_placed old mid new vs ws v i r a e added n =
-    let p = place_added vs ws v i added in
-    names_places old new v r a (subst (λ xs. Names xs v r new) e (subst (λ u. Names mid u r new) p.1 n))
-
-pub due_placed : (old mid new : List ValueOrError) (vs ws : List Value) (due : Option Value) (i : ℕ) (r : Result ℕ AllocError) → Appends due → mid ≡ old
-    → IfSome due (λ v. Adds vs v (Ok i) ws) → Names mid (value_in ws i) r new → IfSome due (λ v. Places old v r new)
-due_placed old mid new vs ws due i r a e added n = grind (arith, value_placed)
+pub record Due (given due : Option Value) : Type 0 where
+  pub same : given ≡ due
+  pub appends : Appends due
 
 -- ---- a call that makes room first
 
-placed_as : (due due' : Option Value) (old new : List ValueOrError) (r : Result ℕ AllocError) → due ≡ due' → IfSome due' (λ v. Places old v r new)
-    → IfSome due (λ v. Places old v r new)
-placed_as due due' old new r e h = subst (λ (o : Option Value). IfSome o (λ v. Places old v r new)) (sym e) h
+pub added_some : {t h : Heap} {qs mid ps : List ℕ} {v : Value} {i : ℕ} → AreReferences t qs → Gains t (Some v) (Ok i) h → mid ≡ qs → ps ≡ mid ++ i ∷ []
+    → AreReferences h ps
+added_some {t} {h} {qs} {mid} {ps} {v} {i} a g still e =
+    let grows = grows_by t qs h (v ∷ []) a g.heap g.added.1 in
+    let p = place_added (heap_values t) (heap_values h) v i g.added in
+    name_sound h qs ps i grows.sound p.0 (e ∙ ap (λ rs. rs ++ i ∷ []) still)
 
-pub record Puts (old : List ValueOrError) (given : Option Value) (r : ℕ) (h : Heap) (ps : List ℕ) : Type 0 where
-  pub sound : AreReferences h ps
-  pub placed : IfSome given (λ v. Places old v (Ok r) (reference_values h ps))
+pub added_sound : {t h : Heap} {qs mid ps : List ℕ} {given due : Option Value} {i : ℕ} → Due given due → IsSome given → AreReferences t qs
+    → Gains t due (Ok i) h → mid ≡ qs → ps ≡ mid ++ i ∷ [] → AreReferences h ps
+added_sound {due = None} d is a g still e = absurd (let same = d.same in cc)
+added_sound {due = Some v} d is a g still e = added_some a g still e
 
-pub puts : (t : Heap) (qs : List ℕ) (old : List ValueOrError) (h : Heap) (ps mid : List ℕ) (given due : Option Value) (i j : ℕ) → reference_values t qs ≡ old
-    → given ≡ due → AreReferences t qs → IsSome given → Appends due
-    → IsHeap h → IfSome due (λ v. Adds (heap_values t) v (Ok i) (heap_values h)) → mid ≡ qs → ps ≡ mid ++ i ∷ [] → j ≡ length mid → Puts old given (j + 1) h ps
-puts t qs old h ps mid given due i j before same a is appends k added still e at =
-    let s = subst (λ (o : Option Value). IsSome o) same is in
-    let grows = grows_due t qs h due (Ok i) a k s added in
-    let all : ps ≡ qs ++ i ∷ [] = e ∙ ap (λ rs. rs ++ i ∷ []) still in
-    let first : j + 1 ≡ length (reference_values h qs) =
-    ap (λ n. n + 1) (at ∙ ap length still) ∙ sym (count_named (heap_values t) qs) ∙ ap length (sym grows.values) in
-    let placed = due_placed (reference_values t qs) (reference_values h qs) (reference_values h ps) (heap_values t) (heap_values h) due i (Ok (j + 1)) appends
-    grows.values added (first, name_values h qs ps i all) in
-    record {
-      sound = name_sound h qs ps i grows.sound (place_due (heap_values t) (heap_values h) due i s added) all;
-      placed = subst (λ xs. IfSome given (λ v. Places xs v (Ok (j + 1)) (reference_values h ps))) before
-          (placed_as given due (reference_values t qs) (reference_values h ps) (Ok (j + 1)) same placed);
-    }
+pub added_placed : (t h : Heap) (qs mid ps : List ℕ) (old : List ValueOrError) (v : Value) (i j : ℕ) → reference_values t qs ≡ old → AreReferences t qs
+    → is_appended v ≡ true → Gains t (Some v) (Ok i) h → mid ≡ qs → ps ≡ mid ++ i ∷ [] → j ≡ length mid → Places old v (Ok (j + 1)) (reference_values h ps)
+added_placed t h qs mid ps old v i j before a appends g still e at =
+    let grows = grows_by t qs h (v ∷ []) a g.heap g.added.1 in
+    let p = place_added (heap_values t) (heap_values h) v i g.added in
+    let all = e ∙ ap (λ rs. rs ++ i ∷ []) still in
+    let n = appended old v appends in
+    grind (arith, count_named, name_values)
 
 -- one more reference, to a value that has a cell
 pub unplaced : (bs : Backings) (vs : List Value) (c : Content) → reference_of c ≡ None → is_appended (meaning bs vs c) ≡ true
@@ -168,7 +119,9 @@ unplaced bs vs c e = grind arith
 pub named_part : (t : Heap) (qs : List ℕ) (old : List ValueOrError) (ps : List ℕ) (given : Option Value) (i r : ℕ) → reference_values t qs ≡ old
     → given ≡ Some (value_in (heap_values t) i)
     → is_appended (value_in (heap_values t) i) ≡ true → r ≡ length qs + 1 → ps ≡ qs ++ i ∷ [] → IfSome given (λ v. Places old v (Ok r) (reference_values t ps))
-named_part t qs old ps given i r before is a at e = grind (arith, count_named, names_places, name_values, placed_as)
+named_part t qs old ps given i r before is a at e =
+    let n = appended old (value_in (heap_values t) i) a in
+    grind (arith, count_named, name_values)
 
 -- ---- the calls by reference are those by place
 
@@ -177,11 +130,13 @@ pub standing : (t : Heap) (qs : List ℕ) (old : List ValueOrError) (h p : ℕ) 
     → slice_get old h ≡ Some (value (value_in (heap_values t) p))
 standing t qs old h p e a = ap (λ vs. slice_get vs h) (sym e) ∙ a.value_is
 
-pub push_appends : (v w : Value) → Appends (push_of v w)
-push_appends v w = grind arith
+pub push_due : {t : Heap} {qs : List ℕ} {old : List ValueOrError} {l x p q : ℕ} → reference_values t qs ≡ old → IsPlace t qs l p → IsPlace t qs x q
+    → Due (pushed (slice_get old l) (slice_get old x)) (push_of (value_in (heap_values t) p) (value_in (heap_values t) q))
+push_due e a b = record { same = ap₂ pushed (standing _ _ _ _ _ e a) (standing _ _ _ _ _ e b); appends = grind arith }
 
-pub join_appends : (v w : Value) → Appends (join_of v w)
-join_appends v w = grind arith
+pub join_due : {t : Heap} {qs : List ℕ} {old : List ValueOrError} {a b p q : ℕ} → reference_values t qs ≡ old → IsPlace t qs a p → IsPlace t qs b q
+    → Due (joined (slice_get old a) (slice_get old b)) (join_of (value_in (heap_values t) p) (value_in (heap_values t) q))
+join_due e a b = record { same = ap₂ joined (standing _ _ _ _ _ e a) (standing _ _ _ _ _ e b); appends = grind arith }
 
 -- the part of a list or map by reference
 pub part_is : (t : Heap) (qs : List ℕ) (old : List ValueOrError) (h p i : ℕ) (part : Option Value) → reference_values t qs ≡ old → IsPlace t qs h p
@@ -209,25 +164,13 @@ pub no_depth : (t : Heap) (qs : List ℕ) (h : ℕ) → h < length (reference_va
 no_depth t qs h l e = ap (option_map result_depth) (sym (no_place t qs h l e))
 
 -- the key of a map by reference
-pub key_is : (t : Heap) (qs : List ℕ) (old : List ValueOrError) (h p i : ℕ) (s : List ℕ) → reference_values t qs ≡ old → IsPlace t qs h p
-    → key_in (value_in (heap_values t) p) i ≡ Some s → key_at (slice_get old h) i ≡ Some (kind.text s)
-key_is t qs old h p i s e a k = ap (λ o. key_at o i) (standing t qs old h p e a) ∙ ap (option_map kind.text) k
+pub key_due : {t : Heap} {qs : List ℕ} {old : List ValueOrError} {h p : ℕ} (i : ℕ) (s : List ℕ) → reference_values t qs ≡ old → IsPlace t qs h p
+    → key_in (value_in (heap_values t) p) i ≡ Some s → Due (key_at (slice_get old h) i) (Some (kind.text s))
+key_due i s e a k = record { same = ap (λ o. key_at o i) (standing _ _ _ _ _ e a) ∙ ap (option_map kind.text) k; appends = refl }
 
 -- ---- maps
 
-put_maps : (o : Option Entries) → Appends (option_map kind.map o)
-put_maps o = grind arith
-
-put_key : (es : Entries) (o : Option (List ℕ)) (x : Value) → Appends (option_and_then (λ key. put_of es key x) o)
-put_key es o x = grind arith
-
-put_entries : (o : Option Entries) (k x : Value) → Appends (option_and_then (λ es. option_and_then (λ key. put_of es key x) (text_part k)) o)
-put_entries o k x = grind arith
-
-pub put_appends : (m k x : Value) → Appends (put_values m k x)
-put_appends m k x = put_entries (entries_part m) k x
-
-pub put_is : (t : Heap) (qs : List ℕ) (old : List ValueOrError) (m k x p q r : ℕ) → reference_values t qs ≡ old → IsPlace t qs m p → IsPlace t qs k q
-    → IsPlace t qs x r
-    → put_in (slice_get old m) (slice_get old k) (slice_get old x) ≡ put_values (value_in (heap_values t) p) (value_in (heap_values t) q) (value_in (heap_values t) r)
-put_is t qs old m k x p q r e a b c = rw (standing t qs old m p e a, standing t qs old k q e b, standing t qs old x r e c)
+pub put_due : {t : Heap} {qs : List ℕ} {old : List ValueOrError} {m k x p q r : ℕ} → reference_values t qs ≡ old → IsPlace t qs m p → IsPlace t qs k q
+    → IsPlace t qs x r → Due (put_in (slice_get old m) (slice_get old k) (slice_get old x))
+    (put_values (value_in (heap_values t) p) (value_in (heap_values t) q) (value_in (heap_values t) r))
+put_due e a b c = record { same = rw (standing _ _ _ _ _ e a, standing _ _ _ _ _ e b, standing _ _ _ _ _ e c); appends = grind arith }

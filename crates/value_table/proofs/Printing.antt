@@ -1,11 +1,8 @@
 -- The text of a value's tokens is its JSON text.
-use Rattle.std.proofs.Common.{◌≡◌, ℕ, List, [], ◌∷◌, ◌++◌, Bool, true, false, refl, sym, ap, ◌∙◌, append_assoc, append-nil}
+use Rattle.value_table.proofs.Prelude.{◌≡◌, ℕ, List, [], ◌∷◌, ◌++◌, Bool, true, false, refl, sym, ap, ◌∙◌, append_assoc, append-nil, Token, print, quoted, Value, boolean, list, Items, no_items, item, Entries, no_entries, entry, json_text, items_text, entries_text, comma_after, value_tokens, items_tokens, entries_tokens}
 use Rattle.json.specs.Token as json
-use Rattle.json.specs.Token.{Token}
-use Rattle.json.specs.Print.{print_from, print, quoted}
-use Rattle.value_store.specs.Value.{Value, boolean, list, map, Items, no_items, item, Entries, no_entries, entry}
-use Rattle.value_store.specs.Json.{json_text, items_text, entries_text, comma_after}
-use Rattle.value_table.specs.Tokens.{value_tokens, items_tokens, entries_tokens}
+use Rattle.json.specs.Print.{print_from}
+use Rattle.value_store.specs.Value.{map}
 
 mutual
   unfolding print_from

@@ -1,17 +1,6 @@
 -- The tokens of a row of parts.
-use Rattle.std.proofs.Common.{◌≡◌, ℕ, zero, suc, ◌<◌, List, [], ◌∷◌, ◌++◌, length, get_or, drop, refl, sym, ap, ◌∙◌, subst, arith, append_assoc, append-nil}
-use Rattle.std.proofs.Math.Seq.{drop-nil}
-use Rattle.std.proofs.lemmas.List.{length-map, nil_from_length}
+use Rattle.value_table.proofs.Prelude.{◌≡◌, ℕ, zero, suc, ◌<◌, List, [], ◌∷◌, ◌++◌, length, get_or, drop, refl, ap, arith, append_assoc, append-nil, drop-nil, length-map, nil_from_length, Token, Value, items_of, value_in, meaning, Head, head, parts, texts_of, values_at, entries_of, built, IsContent, value_tokens, items_tokens, entries_tokens, opening, closing, row_tokens, head_keys, name_tokens, Part, Content, Backings}
 use Rattle.json.specs.Token as json
-use Rattle.json.specs.Token.{Token}
-use Rattle.value_store.specs.Value.{Value, items_of}
-use Rattle.value_table.specs.Meaning.{value_in, meaning}
-use Rattle.value_table.specs.Heads.{Head, simple, items, entries, head, parts, texts_of, values_at, entries_of, built}
-use Rattle.value_table.specs.Heaps.{IsContent}
-use Rattle.value_table.specs.Tokens.{value_tokens, items_tokens, entries_tokens, opening, closing, row_tokens, head_keys, name_tokens}
-use Rattle.value_table.specs.declared.part.Part.{Part}
-use Rattle.value_table.specs.declared.content.Content.{Content}
-use Rattle.value_table.specs.declared.backings.Backings.{Backings}
 use Rattle.value_table.proofs.Heads.{Fits, fits, meaning_built}
 
 pub row_step : (bytes : List ℕ) (vs : List Value) (ns : List Part) (ps : List ℕ) (i : ℕ) → i < length ps
@@ -20,8 +9,7 @@ pub row_step : (bytes : List ℕ) (vs : List Value) (ns : List Part) (ps : List 
 row_step bytes vs ns [] i h = absurd (omega arith)
 row_step bytes vs [] (p ∷ ps) zero h = refl
 row_step bytes vs (n ∷ ns) (p ∷ ps) zero h = refl
-row_step bytes vs [] (p ∷ ps) (suc i) h =
-    subst (λ (ks : List Part). row_tokens (texts_of bytes ks) (values_at vs (drop i ps)) ≡ name_tokens (texts_of bytes ks) ++ (value_tokens (value_in vs (get_or ps i 0)) ++ row_tokens [] (values_at vs (drop (suc i) ps)))) (drop-nil i) (row_step bytes vs [] ps i (omega arith))
+row_step bytes vs [] (p ∷ ps) (suc i) h = grind (arith, drop-nil, row_step bytes vs [] ps i (omega arith))
 row_step bytes vs (n ∷ ns) (p ∷ ps) (suc i) h = row_step bytes vs ns ps i (omega arith)
 
 items_row : (vs : List Value) → items_tokens (items_of vs) ≡ row_tokens [] vs

@@ -1,25 +1,8 @@
 -- The references that a table starts with.
-use Rattle.std.proofs.Common.{arith}
-use Rattle.std.proofs.Common.{◌≡◌, ℕ, List, [], ◌∷◌, ◌++◌, map, sym, ap, ap₂, ◌∙◌, append-nil, append_assoc, false, true, Ok}
-use Rattle.std.specs.List.{AllByRecursion}
-use Rattle.std.proofs.lemmas.List.{map-append}
+use Rattle.value_table.proofs.Prelude.{arith, ◌≡◌, ℕ, List, [], ◌∷◌, ◌++◌, map, ap, ap₂, append_assoc, false, true, Ok, Err, Result, AllByRecursion, map-append, view, Value, ValueOrError, value, IsDocumentOrdered, Contents, first_values, start_contents, Starts, TableError, Memory, plain_value, charge_in, AllWhole, started, charged_ok, refused, due, value_ordered, heap_values, IsHeap, Stands, Held, StartsWith, IsWelcome, Heap}
 use Rattle.serde_json.specs.Data as json
-use Rattle.serde_json.specs.View.{view}
 use Rattle.serde_json.specs.declared.value.Value as document
 use Rattle.value_store.specs.Value as kind
-use Rattle.value_store.specs.Value.{Value, ValueOrError, error, value}
-use Rattle.value_store.specs.Keys.{IsDocumentOrdered}
-use Rattle.value_store.specs.Placing.{first_values}
-use Rattle.value_store.specs.Roots.{start_contents}
-use Rattle.value_store.specs.Plain.{plain_value, charge_in}
-use Rattle.value_store.proofs.Starting.{AllWhole, started, charged_ok}
-use Rattle.value_store.proofs.Ordered.{value_ordered}
-use Rattle.value_table.specs.Meaning.{value_in}
-use Rattle.value_table.specs.Heap.{heap_values, IsHeap}
-use Rattle.value_table.specs.References.{named}
-use Rattle.value_table.specs.Growing.{Stands}
-use Rattle.value_table.specs.Start.{StartsWith, IsWelcome}
-use Rattle.value_table.specs.declared.heap.Heap.{Heap}
 
 welcome_all : (ds : List json.Data) → AllWhole ds → AllByRecursion IsDocumentOrdered ds → AllByRecursion IsWelcome ds
 welcome_all [] w o = tt
@@ -28,6 +11,20 @@ welcome_all (d ∷ ds) w o = ((w.0, value_ordered d o.0), welcome_all ds w.1 o.1
 -- documents that have a charge
 pub judged : (ds : List json.Data) (n : ℕ) → Ok n ≡ charge_in (start_contents ds) → AllByRecursion IsDocumentOrdered ds → AllByRecursion IsWelcome ds
 judged ds n e o = let start = started ds (charged_ok (start_contents ds) n e) in welcome_all ds start.welcome.whole o
+
+-- roots that have no charge, and a table that the host has no memory for
+pub refused_as : {S : Type 0} (contents : S → Contents) (ds : List json.Data) (x : TableError) (r : Result S TableError)
+    → Err x ≡ charge_in (start_contents ds) → r ≡ Err x → Starts contents (start_contents ds) r
+refused_as contents ds x r e is = rw is (refused contents ds x e)
+
+pub no_memory_for : {S : Type 0} (contents : S → Contents) (ds : List json.Data) (n : ℕ) (r : Result S TableError) → Ok n ≡ charge_in (start_contents ds)
+    → r ≡ Err Memory → Starts contents (start_contents ds) r
+no_memory_for contents ds n r e is = rw is (charged_ok (start_contents ds) n e)
+
+pub due_with : (ds es : List json.Data) (charge : ℕ) (t : Held) → Ok charge ≡ charge_in (start_contents ds) → es ≡ ds
+    → t ≡ record { values = first_values ++ map value (map plain_value es); charge = charge }
+    → start_contents ds ≡ Ok (record { values = t.values; charge = t.charge })
+due_with ds es charge t e same is = rw is (due ds charge _ e (ap (λ xs. first_values ++ map value (map plain_value xs)) same))
 
 -- the error, null, false and true
 pub start_first : (h : Heap) (ps : List ℕ) (a b c : ℕ) → IsHeap h → ps ≡ a ∷ b ∷ c ∷ [] → Stands (heap_values h) a kind.null → Stands (heap_values h) b (kind.boolean false) → Stands (heap_values h) c (kind.boolean true) → StartsWith h ps first_values

@@ -1,14 +1,6 @@
 -- How long the JSON texts of lists and maps made of others are.
-use Rattle.std.proofs.Common.{◌≡◌, ℕ, zero, suc, ◌+◌, ◌<◌, ◌≤◌, ◌/◌, ◌%◌, ◌^◌, List, [], ◌∷◌, ◌++◌, length, decimal, refl, sym, ap, ◌∙◌, arith, length-append, true, inl, inr}
-use Rattle.std.proofs.lemmas.Bool.{cases_lt}
-use Rattle.std.proofs.lemmas.Fmt.{decimal_step, decimal_digit}
-use Rattle.json.specs.Print.{quoted}
-use Rattle.value_store.specs.Value.{Value, list, map, Items, no_items, item, no_entries, list_of, items_push, items_join}
-use Rattle.value_store.specs.Json.{json_text, items_text, entries_text}
-use Rattle.value_table.specs.Meaning.{part_of, value_in, entries_at}
-use Rattle.value_table.specs.Lengths.{commas}
-use Rattle.value_table.specs.Entries.{with_one}
-use Rattle.value_table.specs.declared.part.Part.{Part}
+use Rattle.value_table.proofs.Prelude.{◌≡◌, ℕ, zero, suc, ◌+◌, ◌<◌, ◌≤◌, ◌/◌, ◌^◌, List, [], ◌∷◌, ◌++◌, length, decimal, ◌∙◌, arith, length-append, true, cases_lt, decimal_step, decimal_digit, quoted, Value, list, Items, no_items, item, no_entries, list_of, items_push, items_join, json_text, items_text, entries_text, part_of, value_in, entries_at, commas, with_one, Part}
+use Rattle.value_store.specs.Value.{map}
 
 -- ---- sums that stop at the greatest number
 
@@ -16,8 +8,7 @@ use Rattle.value_table.specs.declared.part.Part.{Part}
 
 push_behind : (is : Items) (v : Value) → length (items_text true (items_push is v)) ≡ length (items_text true is) + (1 + length (json_text v))
 push_behind no_items v = let l = length-append (json_text v) (items_text true no_items) in omega (arith, l)
-push_behind (item w is) v =
-    omega (arith, push_behind is v, length-append (json_text w) (items_text true (items_push is v)), length-append (json_text w) (items_text true is))
+push_behind (item w is) v = grind (arith, length-append, push_behind is v)
 
 pub push_long : (is : Items) (v : Value) (n : ℕ) → length (list_of is) ≡ n
     → length (json_text (list (items_push is v))) ≡ length (json_text (list is)) + commas n 1 + length (json_text v)
@@ -27,8 +18,7 @@ push_long _ v _ e = absurd (omega (arith, e))
 
 join_behind : (is js : Items) → length (items_text true (items_join is js)) + 1 ≡ length (items_text true is) + length (items_text true js)
 join_behind no_items js = omega arith
-join_behind (item w is) js =
-    omega (arith, join_behind is js, length-append (json_text w) (items_text true (items_join is js)), length-append (json_text w) (items_text true is))
+join_behind (item w is) js = grind (arith, length-append, join_behind is js)
 
 pub join_long : (is js : Items) (n m : ℕ) → length (list_of is) ≡ n → length (list_of js) ≡ m
     → length (json_text (list (items_join is js))) + 2 ≡ length (json_text (list is)) + commas n m + length (json_text (list js))
@@ -57,10 +47,7 @@ put_behind : (bytes : List ℕ) (vs : List Value) (ks : List Part) (rs : List �
 put_behind bytes vs [] [] k x zero e h = let l = entry_behind (entries_text true no_entries) (part_of bytes k) (value_in vs x) in omega (arith, l)
 put_behind bytes vs [] [] k x (suc i) e h = absurd (omega (arith, h))
 put_behind bytes vs (p ∷ ks) (r ∷ rs) k x zero e h = grind (arith, entry_behind)
-put_behind bytes vs (p ∷ ks) (r ∷ rs) k x (suc i) e h =
-    let more = put_behind bytes vs ks rs k x i (omega (arith, e)) (omega (arith, h)) in
-    let m = entry_behind (entries_text true (entries_at bytes vs ks rs)) (part_of bytes p) (value_in vs r) in
-    omega (arith, more, entry_behind (entries_text true (entries_at bytes vs (with_one i k ks) (with_one i x rs))) (part_of bytes p) (value_in vs r), m)
+put_behind bytes vs (p ∷ ks) (r ∷ rs) k x (suc i) e h = grind (arith, entry_behind, put_behind bytes vs ks rs k x i (omega (arith, e)) (omega (arith, h)))
 put_behind bytes vs _ _ k x i e h = absurd (omega (arith, e))
 
 pub put_long : (bytes : List ℕ) (vs : List Value) (ks : List Part) (rs : List ℕ) (k : Part) (x i n : ℕ) → length ks ≡ length rs → length ks ≡ n → i ≤ length ks

@@ -1,18 +1,7 @@
 -- What a walk over the parts of two cells goes by.
-use Rattle.std.proofs.Common.{◌≡◌, ℕ, zero, suc, ◌<◌, List, [], ◌∷◌, length, get_or, Some, slice_get, sym, ap, ◌∙◌, subst, arith}
-use Rattle.std.specs.Prelude.{unwrap_or}
-use Rattle.std.proofs.lemmas.Option.{same_Some, slice_get-get_or, unwrap_or-slice_get, get_or_from_slice_get}
+use Rattle.value_table.proofs.Prelude.{◌≡◌, ℕ, zero, suc, ◌<◌, List, [], ◌∷◌, length, get_or, Some, slice_get, sym, ap, ◌∙◌, arith, unwrap_or, same_Some, slice_get-get_or, unwrap_or-slice_get, get_or_from_slice_get, Value, value_in, meaning, IsContent, AreBelow, AreTexts, IsText, head, parts, values_at, AreContents, AreMeanings, Part, Cell, Content, Backings}
 use Rattle.value_store.specs.Value as kind
-use Rattle.value_store.specs.Value.{Value}
-use Rattle.value_table.specs.Meaning.{value_in, meaning}
-use Rattle.value_table.specs.Heaps.{IsContent, AreBelow, AreTexts, IsText}
-use Rattle.value_table.specs.Heads.{head, parts, values_at}
-use Rattle.value_table.specs.Equality.{AreContents, AreMeanings}
-use Rattle.value_table.specs.declared.part.Part.{Part}
-use Rattle.value_table.specs.declared.cell.Cell.{Cell}
-use Rattle.value_table.specs.declared.content.Content.{Content}
 use Rattle.value_table.specs.declared.content.Content.TheVariants as cell
-use Rattle.value_table.specs.declared.backings.Backings.{Backings}
 use Rattle.value_table.proofs.Heads.{Alike, same_meaning, meaning_apart, parts_long}
 
 pub below_here : (i : ℕ) (rs : List ℕ) (k d : ℕ) → AreBelow i rs → k < length rs → get_or rs k d < i
@@ -20,12 +9,9 @@ below_here i [] k d h l = absurd (omega arith)
 below_here i (r ∷ rs) zero d h l = h.0
 below_here i (r ∷ rs) (suc k) d h l = below_here i rs k d h.1 (omega arith)
 
-below_parts : (bs : Backings) (i : ℕ) (c : Content) → IsContent bs i c → AreBelow i (parts bs c)
-below_parts bs i c h = grind arith
-
 -- a part stands before its cell
 pub part_below : (bs : Backings) (i : ℕ) (c : Content) (k d : ℕ) → IsContent bs i c → k < length (parts bs c) → get_or (parts bs c) k d < i
-part_below bs i c k d h l = below_here i (parts bs c) k d (below_parts bs i c h) l
+part_below bs i c k d h l = let b : AreBelow i (parts bs c) = grind arith in below_here i (parts bs c) k d b l
 
 pub text_here : (bytes : List ℕ) (ps : List Part) (k : ℕ) (d : Part) → AreTexts bytes ps → k < length ps → IsText bytes (get_or ps k d)
 text_here bytes [] k d h l = absurd (omega arith)

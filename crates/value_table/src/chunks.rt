@@ -1,6 +1,6 @@
 //! Items in chunks that copies share.
 
-ghost use Rattle.std.specs.Prelude.{◌≡◌, ◌≤◌, ◌<◌, ◌+◌, ◌^◌, [], ◌∷◌, ◌++◌, length, slice_index_or, slice_get, Some, IfOk, OnOk, OnErr};
+ghost use Rattle.std.specs.Prelude.{◌≡◌, ◌<◌, ◌+◌, ◌^◌, [], ◌∷◌, ◌++◌, length, slice_get, Some, IfOk, OnOk, OnErr};
 ghost use Rattle.value_table.specs.Chunks.{joined, AreChunks};
 
 use crate::backing::Backing;
@@ -132,6 +132,7 @@ fn add<T: Copy>(full: &mut Rc<Vec<Backing<T>>>, chunk: Backing<T>) -> Result<(),
     Ok(())
 }
 
+#[tactic(auto, using(crate::proofs::Chunked::chunk_lengths))]
 fn count<T: Copy>(full: &[Backing<T>], last: &[T]) -> usize
     requires { AreChunks full.now last.now }
     ensures count { result ≡ length (joined full.now ++ last.now) }
@@ -141,6 +142,7 @@ fn count<T: Copy>(full: &[Backing<T>], last: &[T]) -> usize
 }
 
 #[inline(always)]
+#[tactic(auto, using(crate::proofs::Chunked::chunk_lengths))]
 fn item<T: Copy>(full: &[Backing<T>], last: &[T], place: usize) -> T
     requires chunks { AreChunks full.now last.now }
     requires inside { place < length (joined full.now ++ last.now) }

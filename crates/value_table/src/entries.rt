@@ -1,12 +1,10 @@
 //! Maps in a heap.
 
-ghost use Rattle.std.specs.Prelude.{◌≡◌, ◌≤◌, ◌<◌, ◌+◌, ◌^◌, length, [], slice_index_or, IsSome, IfSome, IfOk, OnErr};
+ghost use Rattle.std.specs.Prelude.{◌≡◌, ◌≤◌, ◌<◌, ◌+◌, ◌^◌, length, [], slice_index_or, Some, IsSome, IfOk, OnErr};
 ghost use Rattle.value_store.specs.Value.{map, no_entries};
-ghost use Rattle.value_store.specs.Keys.{Ascend};
-ghost use Rattle.value_table.specs.Meaning.{value_in, part_of, refs_at, keys_at};
-ghost use Rattle.value_table.specs.Heaps.{AreTexts, IsText, Extends, Holds, Adds};
-ghost use Rattle.value_table.specs.Heap.{heap_values, IsHeap, IsAsBefore};
-ghost use Rattle.value_table.specs.Heads.{texts_of};
+ghost use Rattle.value_table.specs.Meaning.{value_in, refs_at, keys_at};
+ghost use Rattle.value_table.specs.Heaps.{Extends, Holds};
+ghost use Rattle.value_table.specs.Heap.{heap_values, IsHeap, Gains};
 ghost use Rattle.value_table.specs.Entries.{put_values, with_one, HoldsKeys};
 
 use crate::backing::Backing;
@@ -25,19 +23,16 @@ impl Heap {
     /// One more map, without entries.
     pub(crate) fn new_map(&mut self) -> Result<u64, AllocError>
         requires { IsHeap self.old }
-        ensures heap { IsHeap self.new }
-        ensures added { Adds (heap_values self.old) (map no_entries) result (heap_values self.new) }
-        ensures kept { OnErr result (IsAsBefore self.old self.new) }
+        ensures { Gains self.old (Some (map no_entries)) result self.new }
     {
         let items = Backing::new(self.cells.alloc())?;
         let cells = room_for_cell(&mut self.cells, &mut self.same)?;
         let backing = self.backings.add_items(items)?;
-        let cell = Cell {
+        Ok(cells.append(Cell {
             content: Content::Map(0, backing, 0),
             depth: 1,
             json: 2,
-        };
-        Ok(cells.append(cell))
+        }))
     }
 
     /// The map at `m` with the text at `k`, which is none of its keys, at the value at `x`.
@@ -47,9 +42,7 @@ impl Heap {
         requires key { k < length (heap_values self.old) }
         requires value { x < length (heap_values self.old) }
         requires kinds { IsSome (put_values (value_in (heap_values self.old) m) (value_in (heap_values self.old) k) (value_in (heap_values self.old) x)) }
-        ensures heap { IsHeap self.new }
-        ensures added { IfSome (put_values (value_in (heap_values self.old) m) (value_in (heap_values self.old) k) (value_in (heap_values self.old) x)) (λ v. Adds (heap_values self.old) v result (heap_values self.new)) }
-        ensures kept { OnErr result (IsAsBefore self.old self.new) }
+        ensures { Gains self.old (put_values (value_in (heap_values self.old) m) (value_in (heap_values self.old) k) (value_in (heap_values self.old) x)) result self.new }
     {
         let map = self.cell(m);
         let value = self.cell(x);
@@ -72,12 +65,11 @@ impl Heap {
         let depth = map.depth.max(value.depth.saturating_add(1));
         let cells = room_for_cell(&mut self.cells, &mut self.same)?;
         let entry = self.backings.put_entry((row, backing, count), gap, key, x)?;
-        let cell = Cell {
+        Ok(cells.append(Cell {
             content: Content::Map(entry.0, entry.1, count + 1),
             depth,
             json,
-        };
-        Ok(cells.append(cell))
+        }))
     }
 }
 

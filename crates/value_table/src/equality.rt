@@ -30,6 +30,7 @@ const FEW: u64 = 16;
 impl Heap {
     /// Whether the values of two cells are equal in depth. Those that are found equal are of one class
     /// from then on, so that they are not compared again.
+    #[tactic(auto, using(crate::proofs::Comparisons::contents_of, crate::proofs::Growth::count_values, crate::proofs::Comparisons::meanings_of, std::proofs::lemmas::List::with_items_is))]
     pub(crate) fn equal(&mut self, a: u64, b: u64) -> bool
         requires heap { IsHeap self.old }
         requires left { a < length (heap_values self.old) }
@@ -41,21 +42,6 @@ impl Heap {
         ensures one { result ≡ true → AreOneClass self.new.same.items a b }
     {
         self.complete_words();
-        self.are_same(a, b)
-    }
-
-    // The same, once each cell has a word.
-    fn are_same(&mut self, a: u64, b: u64) -> bool
-        requires heap { IsHeap self.old }
-        requires left { a < length (heap_values self.old) }
-        requires right { b < length (heap_values self.old) }
-        requires words { length self.old.cells ≤ length self.old.same.items }
-        ensures heap { IsHeap self.new }
-        ensures values { heap_values self.new ≡ heap_values self.old }
-        ensures answer { result ≡ equal (value_in (heap_values self.old) a) (value_in (heap_values self.old) b) }
-        ensures stay { ClassesStay self.old.same.items self.new.same.items }
-        ensures one { result ≡ true → AreOneClass self.new.same.items a b }
-    {
         walk::equal(
             &self.cells,
             &self.backings,
@@ -85,6 +71,7 @@ impl Heap {
     }
 
     // Whether one of the first items of a backing is equal to the value at `x`.
+    #[tactic(auto, using(crate::proofs::Comparisons::contents_of, crate::proofs::Growth::count_values, crate::proofs::Comparisons::meanings_of, crate::proofs::Indexed::below_drop, std::proofs::lemmas::List::take_rest, std::proofs::lemmas::List::with_items_is))]
     fn has_item(&mut self, x: u64, backing: u64, count: u64) -> bool
         requires heap { IsHeap self.old }
         requires value { x < length (heap_values self.old) }
@@ -107,6 +94,7 @@ impl Heap {
 
     // A place among the first items of a backing before which none is equal to the value at `x`. An index
     // is made where more than a few items are searched a second time, and where there is memory for it.
+    #[tactic(auto, using(crate::proofs::Comparisons::contents_of, crate::proofs::Growth::count_values, crate::proofs::Indexed::known_of))]
     fn start(&mut self, x: u64, backing: u64, count: u64) -> u64
         requires heap { IsHeap self.old }
         requires value { x < length (heap_values self.old) }

@@ -1,11 +1,11 @@
 //! Lists and maps of parts that stand.
 
-ghost use Rattle.std.specs.Prelude.{◌≡◌, length, OnErr};
+ghost use Rattle.std.specs.Prelude.{◌≡◌, length, Some};
 ghost use Rattle.value_store.specs.Value.{list, map};
 ghost use Rattle.value_store.specs.Keys.{IsOrdered};
 ghost use Rattle.value_table.specs.Meaning.{items_at, entries_at};
-ghost use Rattle.value_table.specs.Heap.{heap_values, IsHeap, IsAsBefore};
-ghost use Rattle.value_table.specs.Heaps.{Adds, AreBelow, AreTexts};
+ghost use Rattle.value_table.specs.Heap.{heap_values, IsHeap, Gains};
+ghost use Rattle.value_table.specs.Heaps.{AreBelow, AreTexts};
 ghost use Rattle.value_table.specs.Measures.{IsMeasure};
 
 use crate::backing::Backing;
@@ -24,20 +24,17 @@ impl Heap {
         requires heap { IsHeap self.old }
         requires items { AreBelow (length (heap_values self.old)) places.now }
         requires ordered { IsOrdered (list (items_at (heap_values self.old) places.now)) }
-        ensures heap { IsHeap self.new }
-        ensures added { Adds (heap_values self.old) (list (items_at (heap_values self.old) places.now)) result (heap_values self.new) }
-        ensures kept { OnErr result (IsAsBefore self.old self.new) }
+        ensures { Gains self.old (Some (list (items_at (heap_values self.old) places.now))) result self.new }
     {
         let measure = self.list_measure(places);
         let items = Backing::of(self.cells.alloc(), places)?;
         let cells = room_for_cell(&mut self.cells, &mut self.same)?;
         let backing = self.backings.add_items(items)?;
-        let cell = Cell {
+        Ok(cells.append(Cell {
             content: Content::List(backing, places.len() as u64),
             depth: measure.depth,
             json: measure.json,
-        };
-        Ok(cells.append(cell))
+        }))
     }
 
     /// One more map, with these texts as its keys, and with the values that stand at these places.
@@ -47,23 +44,21 @@ impl Heap {
         requires values { AreBelow (length (heap_values self.old)) places.now }
         requires pairs { length keys.now ≡ length places.now }
         requires ordered { IsOrdered (map (entries_at self.old.backings.bytes (heap_values self.old) keys.now places.now)) }
-        ensures heap { IsHeap self.new }
-        ensures added { Adds (heap_values self.old) (map (entries_at self.old.backings.bytes (heap_values self.old) keys.now places.now)) result (heap_values self.new) }
-        ensures kept { OnErr result (IsAsBefore self.old self.new) }
+        ensures { Gains self.old (Some (map (entries_at self.old.backings.bytes (heap_values self.old) keys.now places.now))) result self.new }
     {
         let measure = self.map_measure(keys, places);
         let items = Backing::of(self.cells.alloc(), places)?;
         let cells = room_for_cell(&mut self.cells, &mut self.same)?;
         let (row, backing) = self.backings.add_entries(keys, items)?;
-        let cell = Cell {
+        Ok(cells.append(Cell {
             content: Content::Map(row, backing, places.len() as u64),
             depth: measure.depth,
             json: measure.json,
-        };
-        Ok(cells.append(cell))
+        }))
     }
 
     // The measure of the list of the values at these places.
+    #[tactic(auto, using(crate::proofs::Walks::below_here, std::proofs::lemmas::List::take_all))]
     fn list_measure(&self, places: &[u64]) -> Measure
         requires heap { IsHeap self.now }
         requires items { AreBelow (length (heap_values self.now)) places.now }
@@ -83,6 +78,7 @@ impl Heap {
     }
 
     // The measure of the map with these keys and the values at these places.
+    #[tactic(auto, using(crate::proofs::Walks::below_here, std::proofs::lemmas::List::take_all))]
     fn map_measure(&self, keys: &[Part], places: &[u64]) -> Measure
         requires heap { IsHeap self.now }
         requires texts { AreTexts self.now.backings.bytes keys.now }

@@ -1,10 +1,10 @@
 //! Values as cells.
 
-ghost use Rattle.std.specs.Prelude.{◌≡◌, ◌<◌, ◌≤◌, ◌+◌, ◌^◌, [], length, vec_capacity, slice_get, Some, IfOk, OnErr};
+ghost use Rattle.std.specs.Prelude.{◌≡◌, ◌<◌, ◌≤◌, ◌+◌, ◌^◌, [], length, vec_capacity, slice_get, Some, IfOk};
 ghost use Rattle.std.specs.Borrow.{sem};
-ghost use Rattle.value_store.specs.Value.{int};
+ghost use Rattle.value_store.specs.Value.{null, boolean, int};
 ghost use Rattle.value_table.specs.Meaning.{meaning};
-ghost use Rattle.value_table.specs.Heaps.{IsCell, Adds, Found};
+ghost use Rattle.value_table.specs.Heaps.{IsCell, Found};
 ghost use Rattle.value_table.specs.Lending.{LendsCells};
 
 use crate::backings::Backings;
@@ -32,7 +32,7 @@ pub(crate) struct Heap {
 }
 
 impl Heap {
-    ghost use Rattle.value_table.specs.Heap.{heap_values, IsHeap, IsAsBefore};
+    ghost use Rattle.value_table.specs.Heap.{heap_values, IsHeap, Gains};
 
     /// A heap without values.
     pub(crate) fn new(alloc: Global) -> Result<Heap, AllocError>
@@ -62,6 +62,7 @@ impl Heap {
     }
 
     /// The cell at a place.
+    #[tactic(auto, using(crate::proofs::Growth::count_values))]
     pub(crate) fn cell(&self, place: u64) -> Cell
         requires heap { IsHeap self.now }
         requires inside { place < length (heap_values self.now) }
@@ -76,21 +77,41 @@ impl Heap {
     pub(crate) fn add(&mut self, cell: Cell) -> Result<u64, AllocError>
         requires heap { IsHeap self.old }
         requires cell { IsCell self.old.backings (heap_values self.old) cell }
-        ensures heap { IsHeap self.new }
+        ensures gained { Gains self.old (Some (meaning self.old.backings (heap_values self.old) cell.content)) result self.new }
         ensures backings { self.new.backings ≡ self.old.backings }
-        ensures added { Adds (heap_values self.old) (meaning self.old.backings (heap_values self.old) cell.content) result (heap_values self.new) }
-        ensures kept { OnErr result (IsAsBefore self.old self.new) }
     {
         let cells = room_for_cell(&mut self.cells, &mut self.same)?;
         Ok(cells.append(cell))
     }
 
+    /// One more null.
+    pub(crate) fn add_null(&mut self) -> Result<u64, AllocError>
+        requires { IsHeap self.old }
+        ensures { Gains self.old (Some null) result self.new }
+    {
+        self.add(Cell {
+            content: Content::Null,
+            depth: 0,
+            json: 4,
+        })
+    }
+
+    /// One more bool.
+    pub(crate) fn add_bool(&mut self, truth: bool) -> Result<u64, AllocError>
+        requires { IsHeap self.old }
+        ensures { Gains self.old (Some (boolean truth)) result self.new }
+    {
+        self.add(Cell {
+            content: Content::Bool(truth),
+            depth: 0,
+            json: if truth { 4 } else { 5 },
+        })
+    }
+
     /// One more int.
     pub(crate) fn add_int(&mut self, n: i64) -> Result<u64, AllocError>
         requires { IsHeap self.old }
-        ensures heap { IsHeap self.new }
-        ensures added { Adds (heap_values self.old) (int n) result (heap_values self.new) }
-        ensures kept { OnErr result (IsAsBefore self.old self.new) }
+        ensures { Gains self.old (Some (int n)) result self.new }
     {
         self.add(Cell {
             content: Content::Int(n),

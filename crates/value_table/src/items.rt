@@ -1,11 +1,10 @@
 //! Lists in a heap.
 
-ghost use Rattle.std.specs.Prelude.{◌≡◌, ◌<◌, length, IsSome, IfSome, OnErr};
+ghost use Rattle.std.specs.Prelude.{◌<◌, length, Some, IsSome};
 ghost use Rattle.value_store.specs.Value.{list, no_items};
 ghost use Rattle.value_store.specs.Calls.{push_of, join_of};
 ghost use Rattle.value_table.specs.Meaning.{value_in, list_part};
-ghost use Rattle.value_table.specs.Heaps.{Adds};
-ghost use Rattle.value_table.specs.Heap.{heap_values, IsHeap, IsAsBefore, SharesBacking};
+ghost use Rattle.value_table.specs.Heap.{heap_values, IsHeap, Gains, SharesBacking};
 
 use crate::cell::Cell;
 use crate::content::Content;
@@ -17,9 +16,7 @@ impl Heap {
     /// One more list, without items.
     pub(crate) fn new_list(&mut self) -> Result<u64, AllocError>
         requires { IsHeap self.old }
-        ensures heap { IsHeap self.new }
-        ensures added { Adds (heap_values self.old) (list no_items) result (heap_values self.new) }
-        ensures kept { OnErr result (IsAsBefore self.old self.new) }
+        ensures { Gains self.old (Some (list no_items)) result self.new }
     {
         self.add_list(&[])
     }
@@ -30,10 +27,8 @@ impl Heap {
         requires list { l < length (heap_values self.old) }
         requires item { x < length (heap_values self.old) }
         requires kinds { IsSome (push_of (value_in (heap_values self.old) l) (value_in (heap_values self.old) x)) }
-        ensures heap { IsHeap self.new }
-        ensures added { IfSome (push_of (value_in (heap_values self.old) l) (value_in (heap_values self.old) x)) (λ v. Adds (heap_values self.old) v result (heap_values self.new)) }
+        ensures gained { Gains self.old (push_of (value_in (heap_values self.old) l) (value_in (heap_values self.old) x)) result self.new }
         ensures shared { SharesBacking self.old l result self.new }
-        ensures kept { OnErr result (IsAsBefore self.old self.new) }
     {
         let list = self.cell(l);
         let item = self.cell(x);
@@ -58,9 +53,7 @@ impl Heap {
         requires first { a < length (heap_values self.old) }
         requires second { b < length (heap_values self.old) }
         requires lists { IsSome (list_part (value_in (heap_values self.old) a)) × IsSome (list_part (value_in (heap_values self.old) b)) }
-        ensures heap { IsHeap self.new }
-        ensures added { IfSome (join_of (value_in (heap_values self.old) a) (value_in (heap_values self.old) b)) (λ v. Adds (heap_values self.old) v result (heap_values self.new)) }
-        ensures kept { OnErr result (IsAsBefore self.old self.new) }
+        ensures { Gains self.old (join_of (value_in (heap_values self.old) a) (value_in (heap_values self.old) b)) result self.new }
     {
         let first = self.cell(a);
         let second = self.cell(b);
@@ -73,11 +66,10 @@ impl Heap {
         let json = joined_length(first.json, count, second.json, more);
         let cells = room_for_cell(&mut self.cells, &mut self.same)?;
         let joined = self.backings.join_items((backing, count), (other, more))?;
-        let cell = Cell {
+        Ok(cells.append(Cell {
             content: Content::List(joined, count + more),
             depth: first.depth.max(second.depth),
             json,
-        };
-        Ok(cells.append(cell))
+        }))
     }
 }

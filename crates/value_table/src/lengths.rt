@@ -74,6 +74,7 @@ pub(crate) fn quoted_length(text: &[u8]) -> u64
     length
 }
 
+#[tactic(auto, unfolding(json::specs::Print::escape_byte))]
 fn escaped_length(byte: u8) -> u64
     ensures { result ≡ length (escape_byte byte) }
 {

@@ -1,17 +1,15 @@
 //! The places of a review's five roots.
 
-ghost use Rattle.std.specs.Prelude.{◌≡◌, map, ◌++◌, false, IfOk};
+ghost use Rattle.std.specs.Prelude.{◌≡◌, map, ◌++◌, IfOk};
 ghost use Rattle.std.specs.List.{AllByRecursion};
 ghost use Rattle.serde_json.specs.View.{view};
 ghost use Rattle.value_store.specs.Value.{value};
-ghost use Rattle.value_store.specs.Keys.{IsOrdered};
-ghost use Rattle.value_store.specs.Roots.{has_other};
 ghost use Rattle.value_store.specs.Placing.{first_values};
 ghost use Rattle.value_store.specs.Plain.{plain_value};
 ghost use Rattle.value_table.specs.Heap.{IsHeap};
 ghost use Rattle.value_table.specs.Start.{StartsWith, IsWelcome};
 
-use crate::documents::{add_bool, add_document, add_null};
+use crate::documents::add_document;
 use crate::heap::Heap;
 use crate::sequence::Sequence;
 use serde_json::Value;
@@ -51,8 +49,8 @@ fn first_places(heap: &mut Heap) -> Result<Sequence<u64>, AllocError>
     ensures { IfOk result (λ ps. StartsWith heap.new ps first_values) }
 {
     let mut places = Sequence::new(heap.cells.alloc())?;
-    places.push(add_null(heap)?)?;
-    places.push(add_bool(heap, false)?)?;
-    places.push(add_bool(heap, true)?)?;
+    places.push(heap.add_null()?)?;
+    places.push(heap.add_bool(false)?)?;
+    places.push(heap.add_bool(true)?)?;
     Ok(places)
 }

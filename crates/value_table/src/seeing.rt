@@ -69,6 +69,7 @@ impl Heap {
     }
 
     /// The place of the i-th item of a list, or of the value of a map's i-th entry.
+    #[tactic(auto, using(crate::proofs::Looked::part_inside, crate::proofs::Looked::part_below, crate::proofs::Looked::part_value))]
     pub(crate) fn part(&self, place: u64, i: u64) -> u64
         requires heap { IsHeap self.now }
         requires inside { place < length (heap_values self.now) }
@@ -81,6 +82,7 @@ impl Heap {
     }
 
     /// Where the i-th key of a map stands.
+    #[tactic(auto, using(crate::proofs::Looked::key_inside, crate::proofs::Looked::key_value))]
     pub(crate) fn key(&self, place: u64, i: u64) -> Part
         requires heap { IsHeap self.now }
         requires inside { place < length (heap_values self.now) }

@@ -55,6 +55,7 @@ impl Table {
     /// The first root that is refused counts: `V1` where it is neither an object nor null, `V2` where
     /// it holds a number that is no integer of 64 bits signed (`-0` is none). Then `V3` where the
     /// charge is above 16,777,216. All this is tested before any memory is taken.
+    #[tactic(auto, using(crate::proofs::Starting::refused_as, crate::proofs::Starting::no_memory_for, crate::proofs::Starting::judged))]
     pub fn of_roots(alloc: Global, roots: &[Value; 5]) -> Result<Table, TableError>
         ensures { Starts (λ t. record { values = ⟦<Table as ValueStore>⟧.values t; charge = ⟦<Table as ValueStore>⟧.charge t }) (start_contents (map view roots.now)) result }
     {
@@ -65,6 +66,7 @@ impl Table {
 
     /// The table of roots that are given, as `of_roots` makes it. They are dropped as their values are
     /// made, so that no document is held twice.
+    #[tactic(auto, using(crate::proofs::Starting::refused_as, crate::proofs::Starting::no_memory_for, crate::proofs::Starting::judged))]
     pub fn of_documents(alloc: Global, roots: [Value; 5]) -> Result<Table, TableError>
         ensures { Starts (λ t. record { values = ⟦<Table as ValueStore>⟧.values t; charge = ⟦<Table as ValueStore>⟧.charge t }) (start_contents (map view roots)) result }
     {
@@ -192,6 +194,7 @@ impl ValueStore for Table {
         Ok(places.append(place) + 1)
     }
 
+    #[tactic(auto, using(crate::proofs::Named::added_placed, crate::proofs::Named::join_due))]
     fn join(&mut self, a: u64, b: u64) -> Result<u64, AllocError> {
         let first = place(&self.heap, &self.places, a);
         let second = place(&self.heap, &self.places, b);
@@ -212,6 +215,7 @@ impl ValueStore for Table {
         Ok(places.append(place) + 1)
     }
 
+    #[tactic(auto, using(crate::proofs::Named::added_placed, crate::proofs::Named::push_due))]
     fn push(&mut self, l: u64, x: u64) -> Result<u64, AllocError> {
         let list = place(&self.heap, &self.places, l);
         let item = place(&self.heap, &self.places, x);
@@ -220,6 +224,7 @@ impl ValueStore for Table {
         Ok(places.append(place) + 1)
     }
 
+    #[tactic(auto, using(crate::proofs::Named::added_placed, crate::proofs::Named::put_due))]
     fn put(&mut self, m: u64, k: u64, x: u64) -> Result<u64, AllocError> {
         let map = place(&self.heap, &self.places, m);
         let key = place(&self.heap, &self.places, k);

@@ -1,11 +1,11 @@
 //! Texts in a heap.
 
-ghost use Rattle.std.specs.Prelude.{◌≡◌, ◌<◌, ◌++◌, List, length, IsSome, IfSome, IfOk, OnErr};
+ghost use Rattle.std.specs.Prelude.{◌≡◌, ◌<◌, ◌++◌, List, length, Some, IsSome, IfOk};
 ghost use Rattle.value_store.specs.Value.{Value, text};
 ghost use Rattle.value_store.specs.Calls.{join_of};
 ghost use Rattle.value_table.specs.Meaning.{part_of, value_in};
-ghost use Rattle.value_table.specs.Heaps.{Adds, Extends, IsCell, IsText};
-ghost use Rattle.value_table.specs.Heap.{heap_values, IsHeap, IsAsBefore};
+ghost use Rattle.value_table.specs.Heaps.{Extends, IsCell, IsText};
+ghost use Rattle.value_table.specs.Heap.{heap_values, IsHeap, Gains};
 ghost use Rattle.value_table.specs.declared.content.Content.TheVariants as cell;
 ghost use Rattle.value_table.specs.declared.backings.Backings.{Backings};
 
@@ -19,9 +19,7 @@ impl Heap {
     /// One more text.
     pub(crate) fn add_text(&mut self, s: &str) -> Result<u64, AllocError>
         requires { IsHeap self.old }
-        ensures heap { IsHeap self.new }
-        ensures added { Adds (heap_values self.old) (text s.now) result (heap_values self.new) }
-        ensures kept { OnErr result (IsAsBefore self.old self.new) }
+        ensures { Gains self.old (Some (text s.now)) result self.new }
     {
         let cells = room_for_cell(&mut self.cells, &mut self.same)?;
         let part = self.backings.add_text(s.as_bytes())?;
@@ -44,9 +42,7 @@ impl Heap {
         requires heap { IsHeap self.old }
         requires first { IsText self.old.backings.bytes first }
         requires second { IsText self.old.backings.bytes second }
-        ensures heap { IsHeap self.new }
-        ensures added { Adds (heap_values self.old) (text (part_of self.old.backings.bytes first ++ part_of self.old.backings.bytes second)) result (heap_values self.new) }
-        ensures kept { OnErr result (IsAsBefore self.old self.new) }
+        ensures { Gains self.old (Some (text (part_of self.old.backings.bytes first ++ part_of self.old.backings.bytes second))) result self.new }
     {
         let cells = room_for_cell(&mut self.cells, &mut self.same)?;
         let part = self.backings.join_texts(first, second)?;
@@ -59,9 +55,7 @@ impl Heap {
         requires first { a < length (heap_values self.old) }
         requires second { b < length (heap_values self.old) }
         requires kinds { IsSome (join_of (value_in (heap_values self.old) a) (value_in (heap_values self.old) b)) }
-        ensures heap { IsHeap self.new }
-        ensures added { IfSome (join_of (value_in (heap_values self.old) a) (value_in (heap_values self.old) b)) (λ v. Adds (heap_values self.old) v result (heap_values self.new)) }
-        ensures kept { OnErr result (IsAsBefore self.old self.new) }
+        ensures { Gains self.old (join_of (value_in (heap_values self.old) a) (value_in (heap_values self.old) b)) result self.new }
     {
         let first = self.cell(a);
         let second = self.cell(b);
@@ -78,12 +72,9 @@ impl Heap {
     pub(crate) fn add_part(&mut self, part: Part) -> Result<u64, AllocError>
         requires heap { IsHeap self.old }
         requires part { IsText self.old.backings.bytes part }
-        ensures heap { IsHeap self.new }
-        ensures added { Adds (heap_values self.old) (text (part_of self.old.backings.bytes part)) result (heap_values self.new) }
-        ensures kept { OnErr result (IsAsBefore self.old self.new) }
+        ensures { Gains self.old (Some (text (part_of self.old.backings.bytes part))) result self.new }
     {
-        let cell = text_cell(part);
-        self.add(cell)
+        self.add(text_cell(part))
     }
 }
 

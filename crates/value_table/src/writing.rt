@@ -25,6 +25,7 @@ use std::str::from_utf8_unchecked;
 
 impl Heap {
     /// What stands at a place as JSON. Its whole room is asked at once, before a byte is written.
+    #[tactic(auto, using(crate::proofs::Comparisons::contents_of, crate::proofs::Growth::count_values, crate::proofs::Comparisons::meanings_of))]
     pub(crate) fn json(&self, alloc: Global, place: u64) -> Result<String, AllocError>
         requires heap { IsHeap self.now }
         requires inside { place < length (heap_values self.now) }
@@ -56,6 +57,7 @@ pub(crate) fn json_at(
 }
 
 // Writes what stands at a place. It goes as deep as the value.
+#[tactic(auto, using(crate::proofs::Walks::part_before))]
 fn write(
     cells: &Sequence<Cell>,
     backings: &Backings,

@@ -30,6 +30,7 @@ pub(crate) fn alike(backings: &Backings, left: Content, right: Content) -> bool
     }
 }
 
+#[tactic(auto, using(crate::proofs::Maps::map_part, crate::proofs::Maps::map_more))]
 fn same_keys(bytes: &[u8], left: &[Part], right: &[Part]) -> bool
     requires left { AreTexts bytes.now left.now }
     requires right { AreTexts bytes.now right.now }

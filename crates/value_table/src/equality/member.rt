@@ -14,6 +14,7 @@ use crate::hints::Hints;
 use crate::sequence::Sequence;
 
 /// Whether one of the cells at `places` has the value of the cell `x`.
+#[tactic(auto, using(crate::proofs::Walks::below_here))]
 pub(crate) fn is_among(
     cells: &Sequence<Cell>,
     backings: &Backings,

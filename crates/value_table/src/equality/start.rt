@@ -14,22 +14,19 @@ use crate::equality::walk::first;
 use crate::index::Index;
 use crate::sequence::Sequence;
 use crate::writing::json_at;
-use std::alloc::{AllocError, Global};
+use std::alloc::AllocError;
 
 /// How many bytes the JSON text may have by which a value is looked up.
 const LONGEST: u64 = 512;
 
 // What a value is looked up by: its JSON text. A long one is not written.
-fn text_of(
-    alloc: Global,
-    cells: &Sequence<Cell>,
-    backings: &Backings,
-    place: u64,
-) -> Result<String, AllocError>
+#[tactic(auto, using(crate::proofs::Indexed::by_none, crate::proofs::Indexed::by_text))]
+fn text_of(cells: &Sequence<Cell>, backings: &Backings, place: u64) -> Result<String, AllocError>
     requires contents { AreContents backings.now cells.now }
     requires inside { place < length cells.now }
     ensures { (vs : List Value) → AreKnown backings.now vs cells.now → IfOk result (λ s. string_bytes s ≡ looked_up_by (value_in vs place)) }
 {
+    let alloc = backings.keys.alloc();
     let cell = cells.at(place as usize);
     if cell.json > LONGEST {
         return Ok(String::new(alloc));
@@ -52,10 +49,9 @@ fn enter(
     ensures count { OnOk result (count ≤ index.new.count) }
     ensures indexed { (vs : List Value) → AreKnown backings.now vs cells.now → IsIndexed backings.now vs index.old → IsIndexed backings.now vs index.new }
 {
-    let alloc = backings.keys.alloc();
     let items = first(backings, backing, count);
     while index.count < count {
-        let text = text_of(alloc, cells, backings, items[index.count as usize])?;
+        let text = text_of(cells, backings, items[index.count as usize])?;
         index.add(text)?;
     }
     Ok(())
@@ -79,7 +75,7 @@ fn start_in(
     ensures indexed { (vs : List Value) → AreKnown backings.now vs cells.now → IsIndexed backings.now vs index.old → IsIndexed backings.now vs index.new }
     ensures skips { (vs : List Value) → AreKnown backings.now vs cells.now → IsIndexed backings.now vs index.old → IfOk result (λ s. has_item (value_in vs x) (items_at vs (refs_at backings.now.lists backing count)) ≡ has_item (value_in vs x) (items_at vs (drop s (refs_at backings.now.lists backing count)))) }
 {
-    let text = text_of(backings.keys.alloc(), cells, backings, x)?;
+    let text = text_of(cells, backings, x)?;
     enter(index, cells, backings, backing, count)?;
     match index.place(text.as_str()) {
         Some(place) => Ok(place.min(count)),

@@ -1,10 +1,7 @@
-use Rattle.std.proofs.Common.{sym, ◌∙◌}
-use Rattle.std.specs.Prelude.{slice_get}
-use Rattle.value_store.specs.Calls.{pushed}
+use Rattle.helper_table.proofs.Prelude.{sym, ◌∙◌, slice_get, pushed, grown, push_row}
 use Rattle.helper_table.proofs.Depths.{grows, push_depth_at}
 use Rattle.helper_table.proofs.Pairs.{push_pair}
 use Rattle.helper_table.proofs.Seeing.{by_operands}
-use Rattle.helper_table.specs.Building.{grown, push_row}
 use Rattle.helper_table.proofs.building.push.Goals as goal
 
 pub returns-clause-means : goal.returns-clause-means

@@ -1,11 +1,7 @@
-use Rattle.std.proofs.Common.{sym, ◌∙◌}
-use Rattle.std.specs.Prelude.{Some, slice_get}
-use Rattle.value_store.specs.Calls.{put_in}
+use Rattle.helper_table.proofs.Prelude.{sym, ◌∙◌, Some, slice_get, put_in, entered, grown, put_row, on_operand}
 use Rattle.helper_table.proofs.Depths.{grows}
 use Rattle.helper_table.proofs.Entering.{enters, enters_by, is_put, put_there}
 use Rattle.helper_table.proofs.Seeing.{by_operand, by_operands}
-use Rattle.helper_table.specs.Building.{entered, grown, put_row}
-use Rattle.helper_table.specs.Calls.{on_operand}
 use Rattle.helper_table.proofs.building.put.Goals as goal
 
 pub returns-clause-means : goal.returns-clause-means

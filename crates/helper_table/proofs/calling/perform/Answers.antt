@@ -1,4 +1,4 @@
-use Rattle.std.proofs.lemmas.Result.{err_from_is_err_and}
+use Rattle.helper_table.proofs.Prelude.{err_from_is_err_and}
 use Rattle.helper_table.proofs.Performing.{kept, plan_adds}
 use Rattle.helper_table.proofs.calling.perform.Goals as goal
 

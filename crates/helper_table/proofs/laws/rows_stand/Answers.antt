@@ -1,14 +1,7 @@
 use Rattle.std.specs.Fmt.{digits}
 use Rattle.std.specs.Str.{is_utf8, chars}
 use lib.Utf8.{encode}
-use Rattle.guest_memory.specs.Access.{constants_of}
-use Rattle.guest_memory.specs.Memory.{start_memory}
-use Rattle.helper_table.specs.Building.{join_row, list_new_row, map_new_row, push_row, put_row}
-use Rattle.helper_table.specs.Calls.{row_of}
-use Rattle.helper_table.specs.Comparisons.{equal_row, less_row, member_row, starts_row, ends_row, contains_row}
-use Rattle.helper_table.specs.Conversions.{kind_row, int_of_row, int_new_row, text_const_row, text_of_int_row, not_row}
-use Rattle.helper_table.specs.Lookups.{field_row, has_row, index_row, size_row, item_row, count_row}
-use Rattle.helper_table.specs.Numbers.{of_number}
+use Rattle.helper_table.proofs.Prelude.{constants_of, start_memory, join_row, list_new_row, map_new_row, push_row, put_row, row_of, equal_row, less_row, member_row, starts_row, ends_row, contains_row, kind_row, int_of_row, int_new_row, text_const_row, text_of_int_row, not_row, field_row, has_row, index_row, size_row, item_row, count_row, of_number}
 use Rattle.helper_table.proofs.laws.rows_stand.Goals as goal
 
 pub returns : goal.returns

@@ -1,9 +1,6 @@
-use Rattle.std.proofs.Common.{sym, ap, ◌∙◌}
-use Rattle.std.specs.Prelude.{slice_get}
-use Rattle.value_store.specs.Calls.{entries_at}
+use Rattle.helper_table.proofs.Prelude.{sym, ap, ◌∙◌, slice_get, entries_at, found}
 use Rattle.helper_table.proofs.Maps.{part_is_value, part_is_there, no_value}
 use Rattle.helper_table.proofs.Seeing.{worded}
-use Rattle.helper_table.specs.Outcome.{found}
 use Rattle.helper_table.proofs.lookups.part_under.Goals as goal
 
 pub returns-in-Some-clause-means : goal.returns-in-Some-clause-means

@@ -1,4 +1,4 @@
-use Rattle.std.proofs.Common.{◌≡◌, length, drop}
+use Rattle.value_store.proofs.Prelude.{◌≡◌, length, drop}
 use Rattle.value_store.proofs.Pairs.{same_items_of, same_members_of}
 use Rattle.value_store.proofs.equality.+same.Given as goal
 

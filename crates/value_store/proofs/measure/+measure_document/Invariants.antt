@@ -1,6 +1,4 @@
-use Rattle.std.proofs.Common.{drop}
-use Rattle.serde_json.specs.View.{items_view, members_view}
-use Rattle.value_store.specs.Keys.{AreElementsOrdered, AreMembersOrdered}
+use Rattle.value_store.proofs.Prelude.{drop, items_view, members_view, AreElementsOrdered, AreMembersOrdered}
 use Rattle.value_store.proofs.Measures.{ItemsMeasured, MembersMeasured}
 use Rattle.value_store.proofs.measure.+measure_document.Given as goal
 

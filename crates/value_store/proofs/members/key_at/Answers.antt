@@ -1,6 +1,4 @@
-use Rattle.std.proofs.Common.{ℕ, List, Some, option_map, ap, ◌∙◌}
-use Rattle.serde_json.specs.Data.{Data}
-use Rattle.serde_json.specs.View.{members_view}
+use Rattle.value_store.proofs.Prelude.{ℕ, List, Some, option_map, ap, ◌∙◌, Data, members_view}
 use Rattle.value_store.proofs.Parts.{member_key}
 use Rattle.value_store.proofs.members.key_at.Goals as goal
 

@@ -1,6 +1,4 @@
-use Rattle.std.proofs.Common.{◌≡◌}
-use Rattle.serde_json.specs.View.{members_view}
-use Rattle.value_store.specs.Plain.{nth_member}
+use Rattle.value_store.proofs.Prelude.{◌≡◌, members_view, nth_member}
 use Rattle.value_store.proofs.members.member_at.Given as goal
 
 abbrev pub invariant-loop-key : goal.invariant-loop-key

@@ -1,8 +1,4 @@
-use Rattle.std.proofs.Common.{◌≡◌, ◌+◌, length}
-use Rattle.std.specs.Prelude.{option_map}
-use Rattle.serde_json.specs.View.{members_view}
-use Rattle.value_store.specs.Lookup.{place_of_key}
-use Rattle.value_store.specs.Plain.{plain_entries}
+use Rattle.value_store.proofs.Prelude.{◌≡◌, ◌+◌, length, option_map, members_view, place_of_key, plain_entries}
 use Rattle.value_store.proofs.members.place_in.Given as goal
 
 abbrev pub invariant-loop-own : goal.invariant-loop-own

@@ -1,7 +1,4 @@
-use Rattle.std.proofs.Common.{◌≡◌, drop}
-use Rattle.serde_json.specs.View.{view, items_view}
-use Rattle.value_store.specs.Lookup.{has_item}
-use Rattle.value_store.specs.Plain.{plain_value, plain_items}
+use Rattle.value_store.proofs.Prelude.{◌≡◌, drop, view, items_view, has_item, plain_value, plain_items}
 use Rattle.value_store.proofs.membership.is_item.Given as goal
 
 abbrev pub invariant-loop-item : goal.invariant-loop-item

@@ -1,10 +1,10 @@
-use Rattle.std.proofs.Common.{sym, subst, arith}
+use Rattle.value_store.proofs.Prelude.{sym, arith}
 use Rattle.value_store.proofs.Orders.{Differs, differs}
 use Rattle.value_store.proofs.order.text_below.Goals as goal
 use Rattle.value_store.proofs.order.text_below.Goals.{After-first_difference-place}
 
 known : (c : After-first_difference-place) → Differs c.args.left.now c.args.right.now c.first_difference-place.result
-known c = subst (λ p. Differs c.args.left.now c.args.right.now p) (sym c.first_difference-place.ensures) (differs c.args.left.now c.args.right.now)
+known c = grind (arith, differs)
 
 pub returns-then-place-right : goal.returns-then-place-right
 returns-then-place-right c = sym ((known (goal.at.returns-then-place-right c).After-first_difference-place).second_ends c.if-place-right.true)

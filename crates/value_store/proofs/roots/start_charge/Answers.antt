@@ -1,8 +1,4 @@
-use Rattle.std.proofs.Common.{◌≡◌, ◌+◌, [], suc, drop, map, sym, subst, add-one, arith}
-use Rattle.std.specs.List.{AllByRecursion}
-use Rattle.std.proofs.lemmas.List.{drop_more, drop_all}
-use Rattle.serde_json.specs.View.{view}
-use Rattle.value_store.specs.Keys.{IsDocumentOrdered}
+use Rattle.value_store.proofs.Prelude.{◌+◌, suc, drop, map, sym, subst, add-one, arith, AllByRecursion, drop_more, view, IsDocumentOrdered}
 use Rattle.value_store.proofs.Starting.{Judging, judging_step}
 use Rattle.value_store.proofs.roots.start_charge.Goals as goal
 
@@ -21,10 +17,3 @@ loop-root-preserved c =
       go = subst (λ p. Judging (map view xs) rest p c.saturating_add-charge.result) (sym (add-one l.place)) charged;
       ordered = λ more. ordered (c.in_ok-size.ensures.ordered, more);
     }
-
-pub returns-clause-ordered : goal.returns-clause-ordered
-returns-clause-ordered c =
-    let l = c.loop-root in
-    let xs = c.args.roots.now in
-    let none : drop l.root-index xs ≡ [] = drop_all l.root-index xs (omega arith) in
-    subst (λ ys. AllByRecursion IsDocumentOrdered (map view ys) → AllByRecursion IsDocumentOrdered (map view xs)) none l.invariant.ordered tt

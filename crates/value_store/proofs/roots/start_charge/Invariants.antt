@@ -1,7 +1,4 @@
-use Rattle.std.proofs.Common.{◌≡◌, ◌+◌, drop, map}
-use Rattle.std.specs.List.{AllByRecursion}
-use Rattle.serde_json.specs.View.{view}
-use Rattle.value_store.specs.Keys.{IsDocumentOrdered}
+use Rattle.value_store.proofs.Prelude.{◌≡◌, ◌+◌, drop, map, AllByRecursion, view, IsDocumentOrdered}
 use Rattle.value_store.proofs.Starting.{Judging}
 use Rattle.value_store.proofs.roots.start_charge.Given as goal
 

@@ -1,9 +1,4 @@
-use Rattle.std.proofs.Common.{◌≡◌, ◌++◌, drop, take, map}
-use Rattle.serde_json.specs.View.{view}
-use Rattle.value_store.specs.Value.{value}
-use Rattle.value_store.specs.Placing.{first_values}
-use Rattle.value_store.specs.Plain.{plain_value}
-use Rattle.value_store.specs.Nodes.{stored_values}
+use Rattle.value_store.proofs.Prelude.{◌≡◌, ◌++◌, drop, take, map, view, value, first_values, plain_value, stored_values}
 use Rattle.value_store.proofs.Starting.{Welcome}
 use Rattle.value_store.proofs.roots.start_nodes.Given as goal
 

@@ -1,15 +1,9 @@
-use Rattle.std.proofs.Common.{◌≡◌, ◌∷◌, [], ◌++◌, ◌∙◌, ◌<◌, length, vec_len, sym, ap, subst, arith}
-use Rattle.value_table.specs.Chunks.{joined, AreChunks}
+use Rattle.value_table.proofs.Prelude.{◌≡◌, ◌∷◌, [], ◌++◌, ◌∙◌, ◌<◌, length, vec_len, sym, ap, subst, arith, AreChunks}
 use Rattle.value_table.proofs.Chunked.{closed, chunks_closed}
 use Rattle.value_table.proofs.chunks.close.Goals as goal
 
 pub returns-clause-items : goal.returns-clause-items
-returns-clause-items g c =
-    let old = c.args.full.now.value.items in
-    let last = c.args.last.now.items in
-    let new = c.add.new.full.value.items in
-    let chunk : c.in_ok-chunk.chunk ≡ last = c.in_ok-chunk.ensures ∙ c.deref-3.ensures.value in
-    ap (λ ys. joined new ++ ys) c.clear.ensures.items ∙ closed old new last (c.in_ok-add.ensures.ok ∙ ap (λ xs. old ++ xs ∷ []) chunk)
+returns-clause-items g c = grind (arith, closed)
 
 pub returns-clause-chunks : goal.returns-clause-chunks
 returns-clause-chunks g c = λ h.

@@ -1,15 +1,6 @@
-use Rattle.std.proofs.Common.{◌≡◌, [], ◌∷◌, ◌++◌, length, map, string_bytes, ap, ap₂, ◌∙◌, subst, arith, rules}
-use Rattle.std.specs.Prelude.{IfOk}
-use Rattle.std.specs.Vec.Iter.{into_iter_items}
-use Rattle.std.proofs.lemmas.List.{map-append, nil_from_length}
-use Rattle.serde_json.specs.View.{view, items_view, members_view}
+use Rattle.value_table.proofs.Prelude.{◌≡◌, [], ◌∷◌, ◌++◌, length, map, string_bytes, ap, ap₂, ◌∙◌, subst, arith, rules, into_iter_items, map-append, nil_from_length, the_lemmas, view, items_view, members_view, plain_items, plain_entries, items_at, entries_of, values_at, heap_values}
 use Rattle.value_store.specs.Value as kind
-use Rattle.value_store.specs.Plain.{plain_items, plain_entries}
-use Rattle.value_table.specs.Meaning.{items_at}
-use Rattle.value_table.specs.Heads.{entries_of, values_at}
-use Rattle.value_table.specs.Heap.{heap_values}
-use Rattle.value_table.specs.Growing.{Stands}
-use Rattle.value_table.proofs.Growing.{ItemsStand, MembersStand, grown_more, grown_added, stands_if, items_step, items_end, members_step, members_end}
+use Rattle.value_table.proofs.Growing.{ItemsStand, MembersStand, grown_more, enters, enters_on, items_step, items_end, members_step, members_end}
 use Rattle.value_table.proofs.documents.+add_document.Goals as goal
 
 pub add_items-loop-item-preserved : goal.add_items-loop-item-preserved
@@ -26,28 +17,14 @@ add_items-loop-item-preserved t c =
       long = omega (arith, l.invariant.long, ap length step.0, step.1);
     }
 
-pub add_items-add_list-requires-clause-ordered : goal.add_items-add_list-requires-clause-ordered
-add_items-add_list-requires-clause-ordered t c =
+pub add_items-returns : goal.add_items-returns
+add_items-returns t c =
     let l = c.loop-item in
-    let from = c.into_iter-item-iterator.result in
-    let none : into_iter_items l.item-iterator ≡ [] = nil_from_length _ (omega (arith, l.invariant.long, c.in-None.ensures.steps.0)) in
-    let go = subst (λ ys. ItemsStand (plain_items (items_view (into_iter_items from))) (heap_values l.heap) l.places.items (items_view ys)) none l.invariant.items in
-    let is : items_at (heap_values l.heap) l.places.items ≡ plain_items (items_view c.args.items.items) = items_end _ (heap_values l.heap) l.places.items go ∙ ap (λ ys. plain_items (items_view ys)) c.into_iter-item-iterator.ensures.into_iter_gives.0 in
-    rw c.deref.ensures.value (rw is c.requires.ordered)
-
-pub add_items-returns-clause-grown : goal.add_items-returns-clause-grown
-add_items-returns-clause-grown t c = grown_more _ _ _ c.loop-item.invariant.grown (grown_added _ _ _ c.add_list.result c.add_list.ensures.added)
-
-pub add_items-returns-clause-value : goal.add_items-returns-clause-value
-add_items-returns-clause-value t c =
-    let l = c.loop-item in
-    let vs = heap_values l.heap in
-    let from = c.into_iter-item-iterator.result in
-    let none : into_iter_items l.item-iterator ≡ [] = nil_from_length _ (omega (arith, l.invariant.long, c.in-None.ensures.steps.0)) in
-    let go = subst (λ ys. ItemsStand (plain_items (items_view (into_iter_items from))) vs l.places.items (items_view ys)) none l.invariant.items in
-    let is : items_at vs l.places.items ≡ plain_items (items_view c.args.items.items) = items_end _ vs l.places.items go ∙ ap (λ ys. plain_items (items_view ys)) c.into_iter-item-iterator.ensures.into_iter_gives.0 in
-    let all : items_at vs c.deref.result.now ≡ plain_items (items_view c.args.items.items) = ap (items_at vs) c.deref.ensures.value ∙ is in
-    subst (λ is. IfOk c.add_list.result (λ r. Stands (heap_values c.add_list.new.self) r (kind.list is))) all (stands_if _ _ _ c.add_list.result c.add_list.ensures.added)
+    let none = ap items_view (nil_from_length (into_iter_items l.item-iterator) (omega (arith, l.invariant.long, c.in-None.ensures.steps.0))) in
+    let is = items_end _ (heap_values l.heap) l.places.items _ l.invariant.items none
+    ∙ ap (λ ys. plain_items (items_view ys)) c.into_iter-item-iterator.ensures.into_iter_gives.0 in
+    enters_on c.args.heap.now l.heap _ _ _ _ l.invariant.grown (ap kind.list (ap (items_at (heap_values l.heap)) c.deref.ensures.value ∙ is))
+    (enters _ _ _ _ c.add_list.ensures)
 
 pub add_members-loop-key-preserved : goal.add_members-loop-key-preserved
 add_members-loop-key-preserved t c =
@@ -64,21 +41,26 @@ add_members-loop-key-preserved t c =
           c.in_ok-add_document.ensures.value go;
     }
 
-pub add_members-add_entries-requires-clause-ordered : goal.add_members-add_entries-requires-clause-ordered
-add_members-add_entries-requires-clause-ordered t c =
+pub add_members-returns : goal.add_members-returns
+add_members-returns t c =
     let l = c.loop-key in
-    let vs = heap_values l.heap in
     let all : c.into_iter-key-iterator.result ≡ c.args.members.entries = search rules in
-    let go = subst (λ ys. MembersStand (plain_entries (members_view c.into_iter-key-iterator.result)) vs (map string_bytes l.keys.items) l.places.items (members_view ys)) c.in-None.ensures.steps.0 l.invariant.members in
-    let is : entries_of (map string_bytes l.keys.items) (values_at vs l.places.items) ≡ plain_entries (members_view c.args.members.entries) = members_end _ vs (map string_bytes l.keys.items) l.places.items go ∙ ap (λ ys. plain_entries (members_view ys)) all in
-    rw (c.deref.ensures.value, c.deref-2.ensures.value) (rw is c.requires.ordered)
+    let is = members_end _ (heap_values l.heap) (map string_bytes l.keys.items) l.places.items _ l.invariant.members (ap members_view c.in-None.ensures.steps.0)
+    ∙ ap (λ ys. plain_entries (members_view ys)) all in
+    let here = ap₂ (λ ks ps. entries_of (map string_bytes ks) (values_at (heap_values l.heap) ps)) c.deref.ensures.value c.deref-2.ensures.value in
+    enters_on c.args.heap.now l.heap _ _ _ _ l.invariant.grown (ap kind.map (here ∙ is)) c.add_entries.ensures
 
-pub add_members-returns-clause-value : goal.add_members-returns-clause-value
-add_members-returns-clause-value t c =
-    let l = c.loop-key in
-    let vs = heap_values l.heap in
-    let all : c.into_iter-key-iterator.result ≡ c.args.members.entries = search rules in
-    let go = subst (λ ys. MembersStand (plain_entries (members_view c.into_iter-key-iterator.result)) vs (map string_bytes l.keys.items) l.places.items (members_view ys)) c.in-None.ensures.steps.0 l.invariant.members in
-    let is : entries_of (map string_bytes l.keys.items) (values_at vs l.places.items) ≡ plain_entries (members_view c.args.members.entries) = members_end _ vs (map string_bytes l.keys.items) l.places.items go ∙ ap (λ ys. plain_entries (members_view ys)) all in
-    let here = ap₂ (λ ks ps. entries_of (map string_bytes ks) (values_at vs ps)) c.deref.ensures.value c.deref-2.ensures.value in
-    subst (λ es. IfOk c.add_entries.result (λ r. Stands (heap_values c.add_entries.new.heap) r (kind.map es))) (here ∙ is) c.add_entries.ensures.value
+pub add_document-returns-in-String : goal.add_document-returns-in-String
+add_document-returns-in-String t c = let g = enters _ _ _ _ c.add_text.ensures in search (rules, the_lemmas, g)
+
+pub add_items-returns-in_err-push : goal.add_items-returns-in_err-push
+add_items-returns-in_err-push t c =
+    record { heap = c.add_document.ensures.heap; grown = grown_more _ _ _ c.loop-item.invariant.grown c.add_document.ensures.grown; value = search rules }
+
+pub add_members-returns-in_err-push : goal.add_members-returns-in_err-push
+add_members-returns-in_err-push t c =
+    record { heap = c.add_document.ensures.heap; grown = grown_more _ _ _ c.loop-key.invariant.grown c.add_document.ensures.grown; value = search rules }
+
+pub add_members-returns-in_err-push-2 : goal.add_members-returns-in_err-push-2
+add_members-returns-in_err-push-2 t c =
+    record { heap = c.add_document.ensures.heap; grown = grown_more _ _ _ c.loop-key.invariant.grown c.add_document.ensures.grown; value = search rules }

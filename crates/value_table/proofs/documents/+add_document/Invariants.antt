@@ -1,9 +1,4 @@
-use Rattle.std.proofs.Common.{◌≡◌, length, map, string_bytes}
-use Rattle.std.specs.Vec.Iter.{into_iter_items, into_iter_len}
-use Rattle.serde_json.specs.View.{items_view, members_view}
-use Rattle.value_store.specs.Plain.{plain_items, plain_entries}
-use Rattle.value_table.specs.Heap.{heap_values, IsHeap}
-use Rattle.value_table.specs.Growing.{HasGrown}
+use Rattle.value_table.proofs.Prelude.{◌≡◌, length, map, string_bytes, into_iter_items, into_iter_len, items_view, members_view, plain_items, plain_entries, heap_values, IsHeap, HasGrown}
 use Rattle.value_table.proofs.Growing.{ItemsStand, MembersStand}
 use Rattle.value_table.proofs.documents.+add_document.Given as goal
 

@@ -1,11 +1,6 @@
-use Rattle.std.proofs.Common.{◌≡◌, ◌+◌, ◌++◌, ◌∷◌, [], ◌∙◌, map, string_bytes, take, sym, ap, subst, arith, rules}
-use Rattle.std.specs.Prelude.{IfOk}
-use Rattle.std.proofs.lemmas.List.{map-append, take_all, take_more}
+use Rattle.value_table.proofs.Prelude.{◌≡◌, ◌+◌, ◌++◌, ◌∷◌, [], ◌∙◌, map, string_bytes, take, sym, ap, append-nil, arith, rules, map-append, take_all, take_more}
 use Rattle.value_store.specs.Value as kind
-use Rattle.value_table.specs.Meaning.{entries_at}
-use Rattle.value_table.specs.Heap.{heap_values}
-use Rattle.value_table.specs.Growing.{Stands}
-use Rattle.value_table.proofs.Growing.{stands_if, keys_step, entries_stand}
+use Rattle.value_table.proofs.Growing.{enters, enters_on, keys_step, entries_stand}
 use Rattle.value_table.proofs.documents.add_entries.Goals as goal
 
 pub loop-key-preserved : goal.loop-key-preserved
@@ -24,17 +19,7 @@ loop-key-preserved c =
     }
 
 pub add_map-requires-clause-ordered : goal.add_map-requires-clause-ordered
-add_map-requires-clause-ordered c =
-    let l = c.loop-key in
-    let whole : take l.key-index c.args.keys.now ≡ c.args.keys.now = take_all l.key-index c.args.keys.now (omega arith) in
-    let are = entries_stand l.heap.backings.bytes (heap_values c.args.heap.now) (heap_values l.heap) _ _ l.parts.items c.args.places.now (ap (map string_bytes) whole) l.invariant.keys l.invariant.values in
-    rw c.deref.ensures.value (rw are c.requires.ordered)
+add_map-requires-clause-ordered c = grind (arith, take_all, entries_stand, string_bytes)
 
-pub returns-clause-value : goal.returns-clause-value
-returns-clause-value c =
-    let l = c.loop-key in
-    let bytes = l.heap.backings.bytes in
-    let vs = heap_values l.heap in
-    let whole : take l.key-index c.args.keys.now ≡ c.args.keys.now = take_all l.key-index c.args.keys.now (omega arith) in
-    let are = entries_stand bytes (heap_values c.args.heap.now) vs _ _ l.parts.items c.args.places.now (ap (map string_bytes) whole) l.invariant.keys l.invariant.values in
-    subst (λ es. IfOk c.add_map.result (λ r. Stands (heap_values c.add_map.new.self) r (kind.map es))) (ap (λ ks. entries_at bytes vs ks c.args.places.now) c.deref.ensures.value ∙ are) (stands_if _ _ _ c.add_map.result c.add_map.ensures.added)
+pub returns : goal.returns
+returns c = grind (arith, take_all, entries_stand, string_bytes, enters_on, append-nil, enters)

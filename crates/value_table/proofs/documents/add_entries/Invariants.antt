@@ -1,5 +1,4 @@
-use Rattle.std.proofs.Common.{◌≡◌, map, string_bytes, take}
-use Rattle.value_table.specs.Heap.{heap_values, IsHeap}
+use Rattle.value_table.proofs.Prelude.{◌≡◌, map, string_bytes, take, heap_values, IsHeap}
 use Rattle.value_table.proofs.Growing.{KeysStand}
 use Rattle.value_table.proofs.documents.add_entries.Given as goal
 

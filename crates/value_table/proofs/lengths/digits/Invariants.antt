@@ -1,4 +1,4 @@
-use Rattle.std.proofs.Common.{◌≡◌, ◌<◌, ◌+◌, ◌^◌, length, decimal}
+use Rattle.value_table.proofs.Prelude.{◌≡◌, ◌<◌, ◌+◌, ◌^◌, length, decimal}
 use Rattle.value_table.proofs.TextLengths.{rest_digits}
 use Rattle.value_table.proofs.lengths.digits.Given as goal
 

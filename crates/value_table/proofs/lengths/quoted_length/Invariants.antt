@@ -1,6 +1,4 @@
-use Rattle.std.proofs.Common.{◌≡◌, ◌≤◌, ◌+◌, length, take}
-use Rattle.json.specs.Print.{escape}
-use Rattle.value_store.specs.Plain.{saturated}
+use Rattle.value_table.proofs.Prelude.{◌≡◌, ◌≤◌, ◌+◌, length, take, escape, saturated}
 use Rattle.value_table.proofs.lengths.quoted_length.Given as goal
 
 abbrev pub invariant-loop-byte : goal.invariant-loop-byte

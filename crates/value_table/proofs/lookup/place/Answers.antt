@@ -1,5 +1,4 @@
-use Rattle.std.proofs.Common.{sym}
-use Rattle.value_table.specs.Heads.{texts_of}
+use Rattle.value_table.proofs.Prelude.{sym, texts_of}
 use Rattle.value_table.proofs.Lookups.{found_place, missing_place}
 use Rattle.value_table.proofs.lookup.place.Goals as goal
 

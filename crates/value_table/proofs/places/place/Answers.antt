@@ -1,5 +1,4 @@
-use Rattle.std.proofs.Common.{◌∙◌, sym, subst, Option, ℕ}
-use Rattle.std.specs.Prelude.{IsSome}
+use Rattle.value_table.proofs.Prelude.{◌∙◌, sym, subst, Option, ℕ, IsSome}
 use Rattle.value_table.proofs.Named.{at_place, value_has_place}
 use Rattle.value_table.proofs.places.place.Goals as goal
 

@@ -1,4 +1,4 @@
-use Rattle.std.proofs.Common.{◌≡◌, ◌+◌, ◌-◌, ◌++◌, vec_len, vec_capacity, slice_range}
+use Rattle.value_table.proofs.Prelude.{◌≡◌, ◌+◌, ◌-◌, ◌++◌, vec_len, vec_capacity, slice_range}
 use Rattle.value_table.proofs.room.repeat.Given as goal
 
 abbrev pub invariant-loop-place : goal.invariant-loop-place

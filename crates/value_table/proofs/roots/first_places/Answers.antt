@@ -1,5 +1,5 @@
-use Rattle.std.proofs.Common.{◌∙◌, [], ◌∷◌, ◌++◌, ap}
-use Rattle.value_table.proofs.Growing.{stands_on, grown_more}
+use Rattle.value_table.proofs.Prelude.{◌∙◌, [], ◌∷◌, ◌++◌, ap}
+use Rattle.value_table.proofs.Growing.{stands_on, grown_more, enters}
 use Rattle.value_table.proofs.Starting.{start_first}
 use Rattle.value_table.proofs.roots.first_places.Goals as goal
 
@@ -11,6 +11,8 @@ returns c =
     let one = c.in_ok-push.ensures.ok ∙ ap (λ ps. ps ++ a ∷ []) c.in_ok-places.ensures in
     let two = c.in_ok-push-2.ensures.ok ∙ ap (λ ps. ps ++ b ∷ []) one in
     let three = c.in_ok-push-3.ensures.ok ∙ ap (λ ps. ps ++ d ∷ []) two in
-    start_first c.add_bool-2.new.heap c.push-3.new.self a b d c.add_bool-2.ensures.heap three
-    (stands_on _ _ a _ (grown_more _ _ _ c.add_bool.ensures.grown c.add_bool-2.ensures.grown) c.in_ok-add_null.ensures.value)
-    (stands_on _ _ b _ c.add_bool-2.ensures.grown c.in_ok-add_bool.ensures.value) c.in_ok-add_bool-2.ensures.value
+    let x = enters _ _ _ _ c.in_ok-add_null.ensures in
+    let y = enters _ _ _ _ c.in_ok-add_bool.ensures in
+    let z = enters _ _ _ _ c.in_ok-add_bool-2.ensures in
+    start_first c.add_bool-2.new.self c.push-3.new.self a b d z.heap three (stands_on _ _ a _ (grown_more _ _ _ y.grown z.grown) x.value)
+    (stands_on _ _ b _ z.grown y.value) z.value

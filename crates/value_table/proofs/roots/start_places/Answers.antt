@@ -1,12 +1,4 @@
-use Rattle.std.proofs.Common.{◌∷◌, ◌++◌, [], map, refl, sym, ap, ◌∙◌, subst, append_assoc, append-nil}
-use Rattle.std.specs.Array.Iter.{array_into_iter_items}
-use Rattle.std.specs.List.{AllByRecursion}
-use Rattle.std.proofs.lemmas.List.{nil_from_length}
-use Rattle.serde_json.specs.View.{view}
-use Rattle.value_store.specs.Value.{value}
-use Rattle.value_store.specs.Placing.{first_values}
-use Rattle.value_store.specs.Plain.{plain_value}
-use Rattle.value_table.specs.Start.{StartsWith, IsWelcome}
+use Rattle.value_table.proofs.Prelude.{◌∷◌, ◌++◌, [], map, refl, sym, ap, ◌∙◌, subst, append_assoc, append-nil, array_into_iter_items, AllByRecursion, nil_from_length, view, value, first_values, plain_value, StartsWith, IsWelcome}
 use Rattle.value_table.proofs.Named.{grows_by, name_sound, name_values}
 use Rattle.value_table.proofs.Starting.{root_step}
 use Rattle.value_table.proofs.roots.start_places.Goals as goal

@@ -1,11 +1,4 @@
-use Rattle.std.proofs.Common.{◌≡◌, ◌++◌, map}
-use Rattle.std.specs.Array.Iter.{array_into_iter_items}
-use Rattle.std.specs.List.{AllByRecursion}
-use Rattle.serde_json.specs.View.{view}
-use Rattle.value_store.specs.Value.{value}
-use Rattle.value_store.specs.Placing.{first_values}
-use Rattle.value_store.specs.Plain.{plain_value}
-use Rattle.value_table.specs.Start.{StartsWith, IsWelcome}
+use Rattle.value_table.proofs.Prelude.{◌≡◌, ◌++◌, map, array_into_iter_items, AllByRecursion, view, value, first_values, plain_value, StartsWith, IsWelcome}
 use Rattle.value_table.proofs.roots.start_places.Given as goal
 
 abbrev pub invariant-loop-root : goal.invariant-loop-root

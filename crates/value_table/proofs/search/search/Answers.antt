@@ -1,12 +1,4 @@
-use Rattle.std.proofs.Common.{◌≡◌, ◌+◌, ◌-◌, ◌/◌, ◌<◌, [], length, get_or, sym, ap, ◌∙◌, Some, arith}
-use Rattle.std.specs.declared.cmp.Ordering.TheVariants.{Less, Greater}
-use Rattle.std.specs.Ordering.{nat_cmp}
-use Rattle.std.specs.Cmp.Lexicographic.{slice_cmp}
-use Rattle.std.proofs.lemmas.List.{length-map, get_or-map}
-use Rattle.std.proofs.lemmas.Map.Lookups.{exact_bytes}
-use Rattle.std.proofs.lemmas.Option.{slice_get-get_or}
-use Rattle.value_table.specs.Meaning.{part_of}
-use Rattle.value_table.specs.Heads.{texts_of}
+use Rattle.value_table.proofs.Prelude.{◌≡◌, ◌+◌, ◌-◌, ◌/◌, ◌<◌, [], length, get_or, sym, ap, ◌∙◌, Some, arith, length-map, get_or-map, exact_bytes, slice_get-get_or, part_of, texts_of}
 use Rattle.value_table.proofs.Walks.{text_here}
 use Rattle.value_table.proofs.Searches.{above_all, below_all}
 use Rattle.value_table.proofs.search.search.Goals as goal
@@ -33,13 +25,7 @@ loop-from-preserved-in-Less c =
     let lt : m < length keys = omega arith in
     let n = length-map keys (part_of c.args.bytes.now) in
     let is : c.text.result.now ≡ get_or ts m [] = c.text.ensures ∙ sym (get_or-map (part_of c.args.bytes.now) keys m _ [] lt) in
-    let here : slice_cmp nat_cmp c.args.key.now (get_or ts m []) ≡ Less = ap (slice_cmp nat_cmp c.args.key.now) (sym is) ∙ sym c.cmp.ensures ∙ c.in-Less.is in
-    record {
-      order = omega arith;
-      inside = omega arith;
-      before = c.loop-from.invariant.before;
-      behind = λ j d le l. below_all ts c.args.key.now m j [] d c.requires.ordered (omega (arith, n)) here le (omega (arith, n, l));
-    }
+    grind (arith, below_all)
 
 pub loop-from-preserved : goal.loop-from-preserved
 loop-from-preserved c =
@@ -48,10 +34,4 @@ loop-from-preserved c =
     let ts = texts_of c.args.bytes.now keys in
     let lt : m < length keys = omega arith in
     let is : c.text.result.now ≡ get_or ts m [] = c.text.ensures ∙ sym (get_or-map (part_of c.args.bytes.now) keys m _ [] lt) in
-    let here : slice_cmp nat_cmp c.args.key.now (get_or ts m []) ≡ Greater = ap (slice_cmp nat_cmp c.args.key.now) (sym is) ∙ sym c.cmp.ensures ∙ c.in-Greater.is in
-    record {
-      order = omega arith;
-      inside = omega arith;
-      before = λ j d l. above_all ts c.args.key.now m j [] d c.requires.ordered (omega (arith, length-map keys (part_of c.args.bytes.now))) here l;
-      behind = c.loop-from.invariant.behind;
-    }
+    grind (arith, above_all, length-map)

@@ -1,9 +1,4 @@
-use Rattle.std.proofs.Common.{◌≡◌, ℕ, ◌≤◌, ◌<◌, ◌-◌, List, length}
-use Rattle.std.specs.Prelude.{slice_index_or}
-use Rattle.std.specs.declared.cmp.Ordering.TheVariants.{Less, Greater}
-use Rattle.std.specs.Ordering.{nat_cmp}
-use Rattle.std.specs.Cmp.Lexicographic.{slice_cmp}
-use Rattle.value_table.specs.Heads.{texts_of}
+use Rattle.value_table.proofs.Prelude.{◌≡◌, ℕ, ◌≤◌, ◌<◌, ◌-◌, List, length, slice_index_or, Less, Greater, nat_cmp, slice_cmp, texts_of}
 use Rattle.value_table.proofs.search.search.Given as goal
 
 abbrev pub invariant-loop-from : goal.invariant-loop-from

@@ -1,17 +1,7 @@
-use Rattle.std.proofs.Common.{◌≡◌, ◌++◌, add-one, sym, ap, ap₂, ◌∙◌, arith}
-use Rattle.std.proofs.lemmas.List.{drop_all}
-use Rattle.std.proofs.lemmas.Option.{get_or_from_slice_get}
+use Rattle.value_table.proofs.Prelude.{◌≡◌, ◌++◌, add-one, sym, ap, ap₂, ◌∙◌, arith, drop_all, get_or_from_slice_get, head, parts, texts_of, values_at, value_tokens, opening, closing, row_tokens, head_keys}
 use Rattle.value_store.specs.Value as kind
-use Rattle.value_table.specs.Heads.{head, parts, texts_of, values_at}
-use Rattle.value_table.specs.Tokens.{value_tokens, opening, closing, row_tokens, head_keys}
-use Rattle.value_table.proofs.Walks.{part_before}
 use Rattle.value_table.proofs.Rows.{row_step, meaning_tokens, step_tokens, end_tokens}
 use Rattle.value_table.proofs.writing.+write.Goals as goal
-
-pub write-requires : goal.write-requires
-write-requires t c =
-    let p = part_before _ c.args.cells.now _ _ _ c.loop-i.i 0 c.parts_of-parts.ensures c.requires.contents c.at-cell.ensures.value (omega arith) in
-    (omega arith, (c.requires.contents, omega arith))
 
 pub loop-i-preserved : goal.loop-i-preserved
 loop-i-preserved t c =

@@ -1,8 +1,4 @@
-use Rattle.std.proofs.Common.{◌≡◌, ◌++◌, List, drop}
-use Rattle.value_store.specs.Value.{Value}
-use Rattle.value_table.specs.Heads.{head, texts_of, values_at}
-use Rattle.value_table.specs.Equality.{AreMeanings}
-use Rattle.value_table.specs.Tokens.{opening, row_tokens}
+use Rattle.value_table.proofs.Prelude.{◌≡◌, ◌++◌, List, drop, Value, head, texts_of, values_at, AreMeanings, opening, row_tokens}
 use Rattle.value_table.proofs.writing.+write.Given as goal
 
 abbrev pub decreases-write : goal.decreases-write

@@ -1,5 +1,4 @@
-use Rattle.std.proofs.Common.{ℕ, Vec, Global, ap, ◌∙◌}
-use Rattle.value_table.specs.Meaning.{value_in}
+use Rattle.value_table.proofs.Prelude.{ℕ, Vec, Global, ap, ◌∙◌, value_in}
 use Rattle.value_table.proofs.Printing.{written}
 use Rattle.value_table.proofs.writing.json_at.Goals as goal
 

@@ -1,4 +1,4 @@
-use Rattle.std.proofs.Common.{arith}
+use Rattle.value_table.proofs.Prelude.{arith}
 use Rattle.value_table.proofs.Walks.{text_here}
 use Rattle.value_table.proofs.writing.write_name.Goals as goal
 

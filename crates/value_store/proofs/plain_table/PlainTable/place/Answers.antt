@@ -1,7 +1,4 @@
-use Rattle.std.proofs.Common.{◌+◌, ◌≤◌, length, arith}
-use Rattle.value_store.specs.Size.{result_depth}
-use Rattle.value_store.specs.Placing.{charge_limit}
-use Rattle.value_store.specs.Nodes.{stored, stored_values}
+use Rattle.value_store.proofs.Prelude.{◌+◌, ◌≤◌, length, arith, result_depth, charge_limit, stored, stored_values}
 use Rattle.value_store.specs.declared.node.Node.TheVariants as node
 use Rattle.value_store.proofs.Tables.{Stands, pushed_stands}
 use Rattle.value_store.proofs.plain_table.PlainTable.place.Goals as goal

@@ -1,5 +1,4 @@
-use Rattle.std.proofs.Common.{sym, ap, ◌∙◌}
-use Rattle.serde_json.specs.View.{view}
+use Rattle.value_store.proofs.Prelude.{sym, ap, ◌∙◌, view}
 use Rattle.value_store.proofs.Keys.{join_ordered, made_ordered}
 use Rattle.value_store.proofs.Trees.{join_lists}
 use Rattle.value_store.proofs.tree.Tree.join.Goals as goal
@@ -10,10 +9,3 @@ invariant_of-result-in-Array-2 c =
     let second = ap view (sym c.in-Array-2.is) ∙ c.in_ok-more-in-Array.ensures.cases in
     let gives = join_lists _ _ _ _ _ _ _ first second c.in_ok-append-in-Array-2.ensures.items c.args.self.now.whole c.args.other.now.whole c.args.self.now.deep c.args.other.now.deep in
     record { whole = gives.whole; deep = c.max-depth.ensures ∙ gives.deep; ordered = made_ordered gives.value (join_ordered _ _ c.args.self.now.ordered c.args.other.now.ordered) }
-
-pub returns-in_ok-append-in-Array-2-clause-value : goal.returns-in_ok-append-in-Array-2-clause-value
-returns-in_ok-append-in-Array-2-clause-value c =
-    let first = ap view (sym c.in-Array.is) ∙ c.in_ok-text.ensures.cases in
-    let second = ap view (sym c.in-Array-2.is) ∙ c.in_ok-more-in-Array.ensures.cases in
-    let gives = join_lists _ _ _ _ _ _ _ first second c.in_ok-append-in-Array-2.ensures.items c.args.self.now.whole c.args.other.now.whole c.args.self.now.deep c.args.other.now.deep in
-    gives.value

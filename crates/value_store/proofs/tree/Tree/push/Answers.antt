@@ -1,5 +1,4 @@
-use Rattle.std.proofs.Common.{sym, ap, ◌∙◌}
-use Rattle.serde_json.specs.View.{view}
+use Rattle.value_store.proofs.Prelude.{sym, ap, ◌∙◌, view}
 use Rattle.value_store.proofs.Keys.{push_ordered, made_ordered}
 use Rattle.value_store.proofs.Trees.{push_list}
 use Rattle.value_store.proofs.tree.Tree.push.Goals as goal
@@ -9,9 +8,3 @@ invariant_of-result c =
     let list = ap view (sym c.in-Array.is) ∙ c.in_ok-items.ensures.cases in
     let gives = push_list _ _ _ _ _ _ _ list c.in_ok-more.ensures.cases c.in_ok-push-in-Array.ensures.items c.args.self.now.whole c.args.item.now.whole c.args.self.now.deep c.args.item.now.deep in
     record { whole = gives.whole; deep = c.max-depth.ensures ∙ gives.deep; ordered = made_ordered gives.value (push_ordered _ _ c.args.self.now.ordered c.args.item.now.ordered) }
-
-pub returns-clause-value : goal.returns-clause-value
-returns-clause-value c =
-    let list = ap view (sym c.in-Array.is) ∙ c.in_ok-items.ensures.cases in
-    let gives = push_list _ _ _ _ _ _ _ list c.in_ok-more.ensures.cases c.in_ok-push-in-Array.ensures.items c.args.self.now.whole c.args.item.now.whole c.args.self.now.deep c.args.item.now.deep in
-    gives.value

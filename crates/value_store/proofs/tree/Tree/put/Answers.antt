@@ -1,5 +1,4 @@
-use Rattle.std.proofs.Common.{sym, ap, ◌∙◌}
-use Rattle.serde_json.specs.View.{view}
+use Rattle.value_store.proofs.Prelude.{sym, ap, ◌∙◌, view}
 use Rattle.value_store.proofs.Keys.{put_at_ordered, made_ordered}
 use Rattle.value_store.proofs.Trees.{put_map}
 use Rattle.value_store.proofs.tree.Tree.put.Goals as goal

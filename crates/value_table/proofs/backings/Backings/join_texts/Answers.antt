@@ -1,8 +1,4 @@
-use Rattle.std.proofs.Common.{◌∙◌, ◌++◌, ap, append_assoc}
-use Rattle.std.specs.Prelude.{slice_range, length}
-use Rattle.json.specs.Print.{quoted}
-use Rattle.value_store.specs.Plain.{saturated}
-use Rattle.value_table.specs.Meaning.{part_of}
+use Rattle.value_table.proofs.Prelude.{◌∙◌, ◌++◌, ap, append_assoc, slice_range, length, quoted, saturated, part_of}
 use Rattle.value_table.proofs.Backed.{bytes_more, texts_joined}
 use Rattle.value_table.proofs.backings.Backings.join_texts.Goals as goal
 

@@ -1,4 +1,4 @@
-use Rattle.std.proofs.Common.{[], ◌∷◌}
+use Rattle.value_table.proofs.Prelude.{[], ◌∷◌}
 use Rattle.value_table.proofs.Backed.{items_pushed}
 use Rattle.value_table.proofs.backings.Backings.push_item.Goals as goal
 

@@ -1,5 +1,4 @@
-use Rattle.std.proofs.Common.{◌≡◌, take}
-use Rattle.value_table.specs.Heads.{texts_of}
+use Rattle.value_table.proofs.Prelude.{◌≡◌, take, texts_of}
 use Rattle.value_table.proofs.equality.alike.same_keys.Given as goal
 
 abbrev pub invariant-loop-i : goal.invariant-loop-i

@@ -1,5 +1,4 @@
-use Rattle.std.proofs.Common.{◌<◌, ◌≤◌, List, ℕ, slice_get, sym, ◌∙◌, subst, arith}
-use Rattle.value_table.specs.Equality.{Shortens, way_down}
+use Rattle.value_table.proofs.Prelude.{◌<◌, List, ℕ, slice_get, sym, ◌∙◌, subst, arith, Shortens}
 use Rattle.value_table.proofs.Classes.{ends_at, shortens_more}
 use Rattle.value_table.proofs.equality.classes.representative.Goals as goal
 
@@ -19,8 +18,4 @@ loop-next-preserved c =
     }
 
 pub returns-clause-classes : goal.returns-clause-classes
-returns-clause-classes c = λ down.
-    let inv = c.loop-next.invariant in
-    let so_far = inv.shorter down in
-    let last : c.loop-next.here ≤ way_down (slice_get c.loop-next.same c.loop-next.here) c.loop-next.here = omega (arith, inv.next_is) in
-    record { shorter = so_far; ends = ends_at c.loop-next.same c.loop-next.here so_far.down last }
+returns-clause-classes c = grind (arith, slice_get, ends_at)

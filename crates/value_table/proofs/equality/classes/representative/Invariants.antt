@@ -1,7 +1,4 @@
-use Rattle.std.proofs.Common.{◌≡◌, ◌≤◌, List, slice_get}
-use Rattle.value_store.specs.Value.{Value}
-use Rattle.value_table.specs.Equality.{LeadDown, Shortens, way_down}
-use Rattle.value_table.specs.Heaps.{AreSame}
+use Rattle.value_table.proofs.Prelude.{◌≡◌, ◌≤◌, List, slice_get, Value, LeadDown, Shortens, way_down, AreSame}
 use Rattle.value_table.proofs.equality.classes.representative.Given as goal
 
 abbrev pub invariant-loop-next : goal.invariant-loop-next

@@ -1,11 +1,7 @@
-use Rattle.std.proofs.Common.{length, sym, ◌∙◌, arith}
-use Rattle.value_table.specs.Meaning.{value_in}
+use Rattle.value_table.proofs.Prelude.{length, sym, ◌∙◌, arith, value_in}
 use Rattle.value_table.proofs.Walks.{below_here}
 use Rattle.value_table.proofs.Comparisons.{answer_is, item_step}
 use Rattle.value_table.proofs.equality.member.is_among.Goals as goal
-
-pub equal-requires-clause-right : goal.equal-requires-clause-right
-equal-requires-clause-right c = below_here (length c.args.cells.now) c.args.places.now c.loop-i.i 0 c.requires.places (omega arith)
 
 pub returns-then-equal : goal.returns-then-equal
 returns-then-equal c = λ vs m s.

@@ -1,9 +1,4 @@
-use Rattle.std.proofs.Common.{◌≡◌, List, drop}
-use Rattle.value_store.specs.Value.{Value}
-use Rattle.value_store.specs.Lookup.{has_item}
-use Rattle.value_table.specs.Meaning.{value_in, items_at}
-use Rattle.value_table.specs.Heaps.{AreSame}
-use Rattle.value_table.specs.Equality.{AreMeanings}
+use Rattle.value_table.proofs.Prelude.{◌≡◌, List, drop, Value, has_item, value_in, items_at, AreSame, AreMeanings}
 use Rattle.value_table.proofs.equality.member.is_among.Given as goal
 
 abbrev pub invariant-loop-i : goal.invariant-loop-i

@@ -1,6 +1,4 @@
-use Rattle.std.proofs.Common.{length, get_or, ap, ◌∙◌, arith}
-use Rattle.value_table.specs.Meaning.{value_in}
-use Rattle.value_table.specs.Index.{looked_up_by}
+use Rattle.value_table.proofs.Prelude.{length, get_or, ap, ◌∙◌, arith, value_in, looked_up_by}
 use Rattle.value_table.proofs.Indexed.{entered, ref_below}
 use Rattle.value_table.proofs.equality.start.enter.Goals as goal
 

@@ -1,6 +1,4 @@
-use Rattle.std.proofs.Common.{◌≡◌, ◌-◌, List}
-use Rattle.value_store.specs.Value.{Value}
-use Rattle.value_table.specs.Index.{AreKnown, IsIndexed}
+use Rattle.value_table.proofs.Prelude.{◌≡◌, ◌-◌, List, Value, AreKnown, IsIndexed}
 use Rattle.value_table.proofs.equality.start.enter.Given as goal
 
 abbrev pub invariant-loop-index : goal.invariant-loop-index

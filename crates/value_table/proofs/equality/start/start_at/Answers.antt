@@ -1,5 +1,4 @@
-use Rattle.std.proofs.Common.{rules, subst, sym}
-use Rattle.value_table.specs.Index.{IsIndexed}
+use Rattle.value_table.proofs.Prelude.{rules, subst, sym, IsIndexed}
 use Rattle.value_table.proofs.Indexed.{indexes_set, at_slot, slot_inside}
 use Rattle.value_table.proofs.equality.start.start_at.Goals as goal
 

@@ -1,5 +1,4 @@
-use Rattle.std.proofs.Common.{ap, sym, ◌∙◌}
-use Rattle.value_table.specs.Meaning.{value_in}
+use Rattle.value_table.proofs.Prelude.{ap, sym, ◌∙◌, value_in}
 use Rattle.value_table.proofs.Indexed.{skips_by, start_of}
 use Rattle.value_table.proofs.equality.start.start_in.Goals as goal
 

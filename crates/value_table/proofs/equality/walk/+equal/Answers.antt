@@ -1,18 +1,13 @@
-use Rattle.std.proofs.Common.{◌≡◌, ◌<◌, ℕ, List, length, get_or, true≢false, refl, subst, sym, ap, ◌∙◌, arith}
-use Rattle.std.proofs.lemmas.List.{take_all}
-use Rattle.value_table.specs.Meaning.{value_in}
-use Rattle.value_table.specs.Heads.{values_at}
+use Rattle.value_table.proofs.Prelude.{◌≡◌, ◌<◌, ℕ, List, length, get_or, true≢false, refl, subst, sym, ap, ◌∙◌, arith, take_all, value_in, values_at}
 use Rattle.value_table.proofs.Maps.{map_more, map_part}
 use Rattle.value_table.proofs.Classes.{Unites, both_found, root_stays, unites}
-use Rattle.value_table.proofs.Walks.{same_value, same_place, same_heads, same_parts, same_cells, same_long, part_before}
+use Rattle.value_table.proofs.Walks.{same_value, same_place, same_parts, same_cells, same_long, part_before}
 use Rattle.value_table.proofs.equality.walk.+equal.Goals as goal
 use Rattle.value_table.proofs.equality.walk.+equal.Goals.{After-parts_of-ys, else-start-xs-via-then-start-xs+else-not-equal, else-start-xs-via-else-start-xs}
 
 -- two cells with one head have as many parts
 parts_long : {t : ℕ} (c : After-parts_of-ys t) → length c.parts_of-xs.result.now ≡ length c.parts_of-ys.result.now
-parts_long c =
-    same_long _ c.args.cells.now _ _ _ _ _ _ c.parts_of-xs.ensures c.parts_of-ys.ensures c.requires.contents
-    c.at-left.ensures.value c.at-right.ensures.value (c.alike.ensures.0 c.if-not-alike.false)
+parts_long c = grind (arith, same_long)
 
 -- and these stand before them
 parts_low : {t : ℕ} (c : After-parts_of-ys t) (k : ℕ) → k < length c.parts_of-xs.result.now
@@ -21,26 +16,6 @@ parts_low c k h = (
   part_before _ c.args.cells.now _ _ _ k 0 c.parts_of-xs.ensures c.requires.contents c.at-left.ensures.value h,
   part_before _ c.args.cells.now _ _ _ k 0 c.parts_of-ys.ensures c.requires.contents c.at-right.ensures.value (omega (arith, h, parts_long c)),
 )
-
-pub returns-then-not-alike : goal.returns-then-not-alike
-returns-then-not-alike t c = λ vs m s.
-    let x = c.representative-x.ensures.value vs s in
-    let y = c.representative-y.ensures.value vs x.0 in
-    let first = c.representative-x.ensures.classes s.below in
-    let found = both_found c.args.same.now c.representative-x.new.same c.representative-y.new.same c.args.a c.args.b c.representative-x.result c.representative-y.result first (c.representative-y.ensures.classes first.shorter.down) in
-    record {
-      known = y.0;
-      right = (λ h. absurd (true≢false (sym h)), λ e. sym c.if-not-alike.true ∙ c.alike.ensures.1 (same_heads _ vs c.args.cells.now _ _ _ _ c.requires.contents m c.at-left.ensures.value c.at-right.ensures.value (x.1 ∙ e ∙ sym y.1)));
-      stay = found.stay;
-      others = found.others;
-      one = λ h. absurd (true≢false (sym h));
-    }
-
-pub bounds-ys-start : goal.bounds-ys-start
-bounds-ys-start t c = let l = parts_long (goal.at.bounds-ys-start t c).After-parts_of-ys in omega arith
-
-pub bounds-ys-i : goal.bounds-ys-i
-bounds-ys-i t c = let l = parts_long (goal.at.bounds-ys-i t c).After-parts_of-ys in omega arith
 
 pub equal-requires : goal.equal-requires
 equal-requires t c =

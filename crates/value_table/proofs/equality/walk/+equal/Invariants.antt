@@ -1,7 +1,4 @@
-use Rattle.std.proofs.Common.{List, take}
-use Rattle.value_store.specs.Value.{Value}
-use Rattle.value_table.specs.Heaps.{AreSame}
-use Rattle.value_table.specs.Equality.{AreMeanings}
+use Rattle.value_table.proofs.Prelude.{List, take, Value, AreSame, AreMeanings}
 use Rattle.value_table.proofs.Classes.{Matches}
 use Rattle.value_table.proofs.equality.walk.+equal.Given as goal
 

@@ -1,4 +1,4 @@
-use Rattle.std.proofs.Common.{refl}
+use Rattle.value_table.proofs.Prelude.{refl}
 use Rattle.value_table.proofs.Adding.{heap_grown, values_grown}
 use Rattle.value_table.proofs.heap.Heap.add_key.Goals as goal
 

@@ -1,6 +1,4 @@
-use Rattle.std.proofs.Common.{◌≡◌, length}
-use Rattle.value_table.specs.Equality.{ClassesStay}
-use Rattle.value_table.specs.Heap.{IsHeap}
+use Rattle.value_table.proofs.Prelude.{◌≡◌, length, ClassesStay, IsHeap}
 use Rattle.value_table.proofs.heap.Heap.complete_words.Given as goal
 
 abbrev pub invariant-loop-place : goal.invariant-loop-place

@@ -1,7 +1,4 @@
-use Rattle.std.proofs.Common.{◌≡◌, ap, sym, ◌∙◌, Some}
-use Rattle.value_table.specs.Meaning.{keys_at}
-use Rattle.value_table.specs.Heads.{texts_of}
-use Rattle.value_table.specs.Search.{place_among}
+use Rattle.value_table.proofs.Prelude.{◌≡◌, ap, sym, ◌∙◌, Some, keys_at, texts_of, place_among}
 use Rattle.value_table.proofs.Lookups.{map_here, find_here}
 use Rattle.value_table.proofs.heap.Heap.find.Goals as goal
 

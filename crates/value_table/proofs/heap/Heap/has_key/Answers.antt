@@ -1,7 +1,5 @@
-use Rattle.std.proofs.Common.{Some, sym, ap, ◌∙◌}
+use Rattle.value_table.proofs.Prelude.{Some, sym, ap, ◌∙◌, part_of, value_in, meaning, heap_values}
 use Rattle.value_store.specs.Value as kind
-use Rattle.value_table.specs.Meaning.{part_of, value_in, meaning}
-use Rattle.value_table.specs.Heap.{heap_values}
 use Rattle.value_table.proofs.Comparisons.{key_member}
 use Rattle.value_table.proofs.heap.Heap.has_key.Goals as goal
 

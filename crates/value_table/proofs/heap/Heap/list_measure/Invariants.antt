@@ -1,8 +1,4 @@
-use Rattle.std.proofs.Common.{◌≡◌, length, take}
-use Rattle.value_store.specs.Value.{list}
-use Rattle.value_table.specs.Meaning.{items_at}
-use Rattle.value_table.specs.Heap.{heap_values}
-use Rattle.value_table.specs.Measures.{IsMeasure}
+use Rattle.value_table.proofs.Prelude.{◌≡◌, length, take, list, items_at, heap_values, IsMeasure}
 use Rattle.value_table.proofs.heap.Heap.list_measure.Given as goal
 
 abbrev pub invariant-loop-place : goal.invariant-loop-place

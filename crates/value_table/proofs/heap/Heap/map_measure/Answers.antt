@@ -1,26 +1,12 @@
-use Rattle.std.proofs.Common.{◌≡◌, ◌+◌, ◌<◌, ◌≤◌, [], ◌∷◌, ◌++◌, length, get_or, max, take, sym, subst, refl, arith}
-use Rattle.std.proofs.lemmas.List.{take_more, take_all, length-take-le}
-use Rattle.json.specs.Print.{quoted}
+use Rattle.value_table.proofs.Prelude.{◌≡◌, ◌+◌, ◌<◌, [], ◌∷◌, ◌++◌, length, get_or, max, take, sym, subst, arith, take_more, length-take-le, quoted, saturated, part_of, entries_at, heap_values, IsMeasure, Part, Measure}
 use Rattle.value_store.specs.Value.{map}
-use Rattle.value_store.specs.Plain.{saturated}
-use Rattle.value_table.specs.Meaning.{part_of, entries_at}
-use Rattle.value_table.specs.Heap.{heap_values}
-use Rattle.value_table.specs.Measures.{IsMeasure}
-use Rattle.value_table.specs.declared.part.Part.{Part}
-use Rattle.value_table.specs.declared.measure.Measure.{Measure}
-use Rattle.value_table.proofs.Walks.{below_here, text_here}
+use Rattle.value_table.proofs.Walks.{text_here}
 use Rattle.value_table.proofs.Gathered.{map_measured}
 use Rattle.value_table.proofs.heap.Heap.map_measure.Goals as goal
 
 -- what an index past the end would give
 abbrev none : Part
 none = record { from = 0; to = 0; json = 0 }
-
-pub loop-i-init : goal.loop-i-init
-loop-i-init c = record { measure = record { depth = refl; shallow = omega arith; json = refl } }
-
-pub cell-value-requires-clause-inside : goal.cell-value-requires-clause-inside
-cell-value-requires-clause-inside c = let pairs = c.requires.pairs in below_here _ c.args.places.now c.loop-i.i 0 c.requires.values (omega (arith, pairs))
 
 pub loop-i-preserved : goal.loop-i-preserved
 loop-i-preserved c =
@@ -44,14 +30,3 @@ loop-i-preserved c =
       measure = subst (λ rs. IsMeasure (length vs) (map (entries_at bytes vs (take (i + 1) ks) rs)) made) (sym (take_more ps i 0 below))
           (subst (λ xs. IsMeasure (length vs) (map (entries_at bytes vs xs (take i ps ++ get_or ps i 0 ∷ []))) made) (sym (take_more ks i none inside)) next);
     }
-
-pub returns : goal.returns
-returns c =
-    let l = c.loop-i in
-    let ks = c.args.keys.now in
-    let ps = c.args.places.now in
-    let pairs = c.requires.pairs in
-    let end : length ks ≤ l.i = omega arith in
-    let heap = c.args.self.now in
-    subst (λ rs. IsMeasure (length (heap_values heap)) (map (entries_at heap.backings.bytes (heap_values heap) ks rs)) l.measure) (take_all l.i ps (omega (arith, pairs, end)))
-    (subst (λ xs. IsMeasure (length (heap_values heap)) (map (entries_at heap.backings.bytes (heap_values heap) xs (take l.i ps))) l.measure) (take_all l.i ks end) l.invariant.measure)

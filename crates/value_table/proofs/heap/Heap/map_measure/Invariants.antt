@@ -1,8 +1,5 @@
-use Rattle.std.proofs.Common.{length, take}
+use Rattle.value_table.proofs.Prelude.{length, take, entries_at, heap_values, IsMeasure}
 use Rattle.value_store.specs.Value.{map}
-use Rattle.value_table.specs.Meaning.{entries_at}
-use Rattle.value_table.specs.Heap.{heap_values}
-use Rattle.value_table.specs.Measures.{IsMeasure}
 use Rattle.value_table.proofs.heap.Heap.map_measure.Given as goal
 
 abbrev pub invariant-loop-i : goal.invariant-loop-i

@@ -1,5 +1,4 @@
-use Rattle.std.proofs.Common.{subst, arith}
-use Rattle.value_table.specs.Heaps.{IsContent}
+use Rattle.value_table.proofs.Prelude.{subst, arith, IsContent}
 use Rattle.value_table.proofs.Looked.{widen}
 use Rattle.value_table.proofs.heap.Heap.member.Goals as goal
 

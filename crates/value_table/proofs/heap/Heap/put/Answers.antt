@@ -1,22 +1,11 @@
-use Rattle.std.proofs.Common.{rules, refl, ◌≡◌, ◌+◌, ◌∙◌, sym, ap, ap₂, subst, arith, max}
-use Rattle.std.specs.Prelude.{IsSome}
+use Rattle.value_table.proofs.Prelude.{rules, refl, ◌≡◌, ◌+◌, ◌∙◌, sym, ap, ap₂, subst, arith, max, IsSome, keys_of, Ascend, part_of, value_in, keys_at, meaning, IsContent, heap_values, texts_of, IsAt, IsGap, put_values}
 use Rattle.value_store.specs.Value as kind
-use Rattle.value_store.specs.Value.{keys_of}
-use Rattle.value_store.specs.Keys.{Ascend}
-use Rattle.value_table.specs.Meaning.{part_of, value_in, keys_at, meaning}
-use Rattle.value_table.specs.Heaps.{IsContent}
-use Rattle.value_table.specs.Heap.{heap_values}
-use Rattle.value_table.specs.Heads.{texts_of}
-use Rattle.value_table.specs.Search.{IsAt, IsGap}
-use Rattle.value_table.specs.Entries.{put_values}
-use Rattle.value_table.specs.declared.content.Content.TheVariants as cell
-use Rattle.value_table.proofs.Adding.{heap_before, heap_put, due_adds}
+use Rattle.value_table.proofs.Adding.{heap_before, gained}
 use Rattle.value_table.proofs.Heads.{map_long}
-use Rattle.value_table.proofs.Listed.{Made}
 use Rattle.value_table.proofs.Lookups.{map_here}
 use Rattle.value_table.proofs.Mapped.{map_put, taken}
 use Rattle.value_table.proofs.heap.Heap.put.Goals as goal
-use Rattle.value_table.proofs.heap.Heap.put.Goals.{After-keys, After-text, In_ok-entry}
+use Rattle.value_table.proofs.heap.Heap.put.Goals.{After-keys, After-text}
 
 -- ---- what the search goes by
 
@@ -46,33 +35,24 @@ unreachable-requires-in_default-search c =
 
 -- ---- the map with the entry
 
-made : (c : In_ok-entry) → texts_of c.items-bytes.result.now c.keys.result.now ≡ texts_of c.args.self.now.backings.bytes (keys_at c.args.self.now.backings.keys c.in-Map.row c.in-Map.count) → c.text.result.now ≡ part_of c.args.self.now.backings.bytes c.in-Text.key
-    → Made c.put_entry.new.self (heap_values c.args.self.now)
-    (record { content = cell.Map c.in_ok-entry.entry.0 c.in_ok-entry.entry.1 (c.in-Map.count + 1); depth = c.max-depth.result; json = c.put_length-json.result })
-    (put_values (value_in (heap_values c.args.self.now) c.args.m) (value_in (heap_values c.args.self.now) c.args.k) (value_in (heap_values c.args.self.now) c.args.x))
-made c ts tx =
+pub returns : goal.returns
+returns c =
+    let at = goal.at.returns c in
     let heap = c.args.self.now in
     let bs = heap.backings in
     let ks = keys_at bs.keys c.in-Map.row c.in-Map.count in
-    let gap = subst (λ s. IsGap (texts_of bs.bytes ks) s c.in-Err.gap) tx (subst (λ t. IsGap t c.text.result.now c.in-Err.gap) ts c.in-Err.ensures) in
+    let gap = subst (λ s. IsGap (texts_of bs.bytes ks) s c.in-Err.gap) (key_searched at.After-text)
+    (subst (λ t. IsGap t c.text.result.now c.in-Err.gap) (keys_searched at.After-keys) c.in-Err.ensures) in
     let fm = c.cell-map.ensures.found in
     let long = map_long bs c.args.m c.in-Map.row c.in-Map.backing c.in-Map.count (subst (IsContent bs c.args.m) c.in-Map.is fm.content) in
     let deep : c.max-depth.result ≡ max c.cell-map.result.depth (c.cell-value.result.depth + 1) =
     omega (arith, c.saturating_add.ensures, c.max-depth.ensures, c.cell-value.ensures.found.shallow, c.cell-value.ensures.short) in
-    map_put bs c.put_entry.new.self (heap_values heap) c.args.m c.args.k c.args.x c.in-Map.row c.in-Map.backing c.in-Map.count c.in_ok-entry.entry.0 c.in_ok-entry.entry.1 c.in-Err.gap c.max-depth.result c.put_length-json.result
-    c.cell-map.result c.cell-name.result c.cell-value.result c.in-Text.key fm c.cell-name.ensures.found c.cell-value.ensures.found c.in-Map.is c.in-Text.is long gap c.put_entry.ensures.bytes c.in_ok-entry.ensures.items c.in_ok-entry.ensures.keys deep c.put_length-json.ensures
+    let made = map_put bs c.put_entry.new.self (heap_values heap) c.args.m c.args.k c.args.x c.in-Map.row c.in-Map.backing c.in-Map.count
+    c.in_ok-entry.entry.0 c.in_ok-entry.entry.1 c.in-Err.gap c.max-depth.result c.put_length-json.result c.cell-map.result c.cell-name.result
+    c.cell-value.result c.in-Text.key fm c.cell-name.ensures.found c.cell-value.ensures.found c.in-Map.is c.in-Text.is long gap c.put_entry.ensures.bytes
+    c.in_ok-entry.ensures.items c.in_ok-entry.ensures.keys deep c.put_length-json.ensures in
+    gained heap _ _ _ _ _ c.requires.heap c.put_entry.ensures.grown c.room_for_cell.ensures.words c.in_ok-cells.ensures.word c.in_ok-cells.ensures.cells
+    c.append.ensures.items c.append.ensures.place refl made
 
-pub returns-clause-heap : goal.returns-clause-heap
-returns-clause-heap c =
-    let at = goal.at.returns-clause-heap c in
-    let m = made at.In_ok-entry (keys_searched at.After-keys) (key_searched at.After-text) in
-    heap_put c.args.self.now _ _ _ c.requires.heap c.put_entry.ensures.grown c.room_for_cell.ensures.words c.in_ok-cells.ensures.word c.in_ok-cells.ensures.cells c.append.ensures.items m.cell refl
-
-pub returns-clause-added : goal.returns-clause-added
-returns-clause-added c =
-    let at = goal.at.returns-clause-added c in
-    let m = made at.In_ok-entry (keys_searched at.After-keys) (key_searched at.After-text) in
-    due_adds c.args.self.now _ _ _ _ c.append.result _ m.value c.requires.heap c.put_entry.ensures.grown c.in_ok-cells.ensures.cells c.append.ensures.items c.append.ensures.place
-
-pub returns-in_err-entry-clause-heap : goal.returns-in_err-entry-clause-heap
-returns-in_err-entry-clause-heap c = heap_before c.args.self.now _ c.requires.heap (search rules) c.room_for_cell.ensures.longer refl
+pub returns-in_err-entry : goal.returns-in_err-entry
+returns-in_err-entry c = search (rules, heap_before)

@@ -1,4 +1,4 @@
-use Rattle.value_table.specs.Heap.{heap_values}
+use Rattle.value_table.proofs.Prelude.{heap_values}
 use Rattle.value_table.proofs.Looked.{range_here, map_here, seen_list, seen_map}
 use Rattle.value_table.proofs.heap.Heap.shape.Goals as goal
 

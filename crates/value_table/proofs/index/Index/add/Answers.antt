@@ -1,6 +1,4 @@
-use Rattle.std.proofs.Common.{string_bytes, is_some, sym, ap, ◌∙◌, refl}
-use Rattle.std.specs.BTreeMap.{get_by_text}
-use Rattle.std.proofs.lemmas.Map.Text.{btree_map_updates_text}
+use Rattle.value_table.proofs.Prelude.{string_bytes, is_some, sym, ap, ◌∙◌, refl, get_by_text, btree_map_updates_text}
 use Rattle.value_table.proofs.Indexed.{index_kept, index_more}
 use Rattle.value_table.proofs.index.Index.add.Goals as goal
 

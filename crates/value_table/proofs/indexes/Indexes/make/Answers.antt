@@ -1,4 +1,4 @@
-use Rattle.std.proofs.Common.{[], ◌∷◌, ◌++◌, ap, ◌∙◌}
+use Rattle.value_table.proofs.Prelude.{[], ◌∷◌, ◌++◌, ap, ◌∙◌}
 use Rattle.value_table.proofs.Indexed.{indexes_push, new_indexed}
 use Rattle.value_table.proofs.indexes.Indexes.make.Goals as goal
 

@@ -1,7 +1,4 @@
-use Rattle.std.proofs.Common.{◌≡◌, ◌+◌, [], ◌∷◌, ◌++◌, ◌∙◌, sym, ap, get_or, take, length}
-use Rattle.std.specs.Prelude.{slice_set}
-use Rattle.std.proofs.lemmas.List.{get_or_default}
-use Rattle.value_table.specs.Entries.{with_one}
+use Rattle.value_table.proofs.Prelude.{◌≡◌, ◌+◌, [], ◌∷◌, ◌++◌, ◌∙◌, sym, ap, get_or, take, length, slice_set, get_or_default, with_one}
 use Rattle.value_table.proofs.Backed.{items_pushed, items_behind, length_one}
 use Rattle.value_table.proofs.lists.Lists.put_item.Goals as goal
 

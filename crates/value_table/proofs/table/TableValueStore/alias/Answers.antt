@@ -1,5 +1,4 @@
-use Rattle.std.proofs.Common.{◌∙◌, sym, ap}
-use Rattle.value_store.specs.Placing.{is_appended}
+use Rattle.value_table.proofs.Prelude.{◌∙◌, sym, ap, is_appended}
 use Rattle.value_table.proofs.Named.{name_sound, named_part, part_is, unplaced}
 use Rattle.value_table.proofs.table.TableValueStore.alias.Goals as goal
 

@@ -1,6 +1,4 @@
-use Rattle.std.proofs.Common.{◌∙◌, sym, ap, refl, Some}
-use Rattle.std.specs.Prelude.{option_map}
-use Rattle.value_store.specs.Seen.{seen}
+use Rattle.value_table.proofs.Prelude.{◌∙◌, sym, ap, refl, Some, option_map, seen}
 use Rattle.value_table.proofs.Named.{at_place, none_at}
 use Rattle.value_table.proofs.table.TableValueStore.at.Goals as goal
 

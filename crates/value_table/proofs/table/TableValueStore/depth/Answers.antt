@@ -1,6 +1,4 @@
-use Rattle.std.proofs.Common.{◌∙◌, ◌<◌, length, sym, ap, subst, Some}
-use Rattle.std.specs.Prelude.{option_map}
-use Rattle.value_store.specs.Size.{depth_of, result_depth}
+use Rattle.value_table.proofs.Prelude.{◌∙◌, ◌<◌, length, sym, ap, subst, Some, option_map, depth_of, result_depth}
 use Rattle.value_table.proofs.Named.{at_place, no_depth}
 use Rattle.value_table.proofs.table.TableValueStore.depth.Goals as goal
 

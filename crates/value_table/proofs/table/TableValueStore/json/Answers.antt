@@ -1,7 +1,4 @@
-use Rattle.std.proofs.Common.{◌∙◌, ◌<◌, length, sym, ap, subst, Some}
-use Rattle.std.specs.Prelude.{option_map}
-use Rattle.std.proofs.lemmas.Result.{IfOk-weaker}
-use Rattle.value_store.specs.Json.{shown_text}
+use Rattle.value_table.proofs.Prelude.{◌∙◌, ◌<◌, length, sym, ap, subst, Some, option_map, IfOk-weaker, shown_text}
 use Rattle.value_table.proofs.Named.{at_place, no_place}
 use Rattle.value_table.proofs.table.TableValueStore.json.Goals as goal
 

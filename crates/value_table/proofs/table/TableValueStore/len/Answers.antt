@@ -1,5 +1,4 @@
-use Rattle.std.proofs.Common.{◌∙◌, sym}
-use Rattle.value_table.specs.Heap.{heap_values}
+use Rattle.value_table.proofs.Prelude.{◌∙◌, sym, heap_values}
 use Rattle.value_table.proofs.Named.{count_named, references_ordered}
 use Rattle.value_table.proofs.table.TableValueStore.len.Goals as goal
 

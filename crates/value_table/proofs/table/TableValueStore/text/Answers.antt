@@ -1,5 +1,4 @@
-use Rattle.std.proofs.Common.{◌∙◌, sym, ap}
-use Rattle.value_store.specs.Calls.{text_at}
+use Rattle.value_table.proofs.Prelude.{◌∙◌, sym, ap, text_at}
 use Rattle.value_table.proofs.Named.{at_place, no_text}
 use Rattle.value_table.proofs.table.TableValueStore.text.Goals as goal
 
