@@ -5,3 +5,4 @@ pub mod Spellings
 pub mod Starts
 pub mod States
 pub mod Stopping
+pub mod Prelude

@@ -1,4 +1,6 @@
 //! Laws of the machine, each the clause of a function that does nothing.
+#![tactic(auto, using(crate::proofs::States::states_are_kept, crate::proofs::States::step_is_row))]
+
 ghost use Rattle.bpf_machine.specs.Decoding.{DecodesSpelling};
 ghost use Rattle.bpf_machine.specs.Rows.{RowsStand};
 ghost use Rattle.bpf_machine.specs.Starts.{StartsAreTables};

@@ -1,10 +1,5 @@
 -- Addresses in hex digits.
-use Rattle.std.proofs.Common.{◌≡◌, ℕ, zero, suc, ◌+◌, ◌-◌, ◌*◌, ◌/◌, ◌%◌, ◌^◌, ◌<◌, ◌≤◌, Bool, true, false, ◌&&◌, ◌||◌, List, [], ◌∷◌, ◌++◌, nat_eq, nat_le, nat_lt, if◌then◌else◌, refl, ap, ◌∙◌, append_assoc, arith, add-one}
-use Rattle.std.proofs.Math.Nat.{pow-le-pow_right, pow-suc}
-use Rattle.std.proofs.lemmas.Bool.Decides.{nat_tests}
-use Rattle.insn_codec.specs.Lines.{hex_digit, hex_digits}
-use Rattle.debugger.specs.Commands.{hex_value, is_digit, is_hex_digit, numbered, number_of, read_address}
-use Rattle.debugger.specs.declared.command.Command.TheVariants.{MemoryAt}
+use Rattle.debugger.proofs.Prelude.{◌≡◌, ℕ, zero, suc, ◌+◌, ◌-◌, ◌*◌, ◌/◌, ◌%◌, ◌^◌, ◌<◌, ◌≤◌, true, false, ◌&&◌, ◌||◌, List, [], ◌∷◌, ◌++◌, nat_eq, if◌then◌else◌, ap, ◌∙◌, append_assoc, arith, add-one, pow-le-pow_right, pow-suc, nat_tests, hex_digit, hex_digits, hex_value, is_hex_digit, numbered, number_of, read_address, MemoryAt}
 
 -- one digit more
 pub below_digit : (d a v : ℕ) → a < 16 ^ d → v < 16 → a * 16 + v < 16 ^ (d + 1)
@@ -12,9 +7,9 @@ below_digit d a v small digit =
     let next : 16 ^ (d + 1) ≡ 16 ^ d * 16 = ap (λ (j : ℕ). 16 ^ j) (add-one d) ∙ pow-suc 16 d in
     omega (arith, next, digit, small)
 
--- 16 digits have 64 bits
-pub below_word : (d a : ℕ) → d ≤ 16 → a < 16 ^ d → a < 2 ^ 64
-below_word d a few small = grind (arith, nat_tests, pow-le-pow_right)
+-- 15 digits have 60 bits
+pub power_fits : (d : ℕ) → d < 16 → 16 ^ d ≤ 2 ^ 60
+power_fits d few = grind (arith, nat_tests, pow-le-pow_right)
 
 -- a digit, and its number
 pub record IsDigit (c v : ℕ) : Type 0 where
@@ -24,30 +19,21 @@ pub record IsDigit (c v : ℕ) : Type 0 where
   pub digit : hex_digit v ≡ c
   pub no_space : nat_eq c 32 ≡ false
 
-decimal_digit : (v : ℕ) → v < 10 → IsDigit (48 + v) v
-decimal_digit v small = grind (arith, nat_tests)
-
-digit_by : (c : ℕ) (decimal letter : Bool) → is_digit c ≡ decimal → nat_le 97 c && nat_le c 102 ≡ letter → decimal || letter ≡ true → IsDigit c (if decimal then c - 48 else c - 87)
-digit_by c decimal letter is other some = grind (arith, nat_tests)
-
 pub digit_is : (c : ℕ) → is_hex_digit c ≡ true → IsDigit c (hex_value c)
-digit_is c some = digit_by c (is_digit c) (nat_le 97 c && nat_le c 102) refl refl some
-
-of_value : (v : ℕ) (small : Bool) → nat_lt v 10 ≡ small → v < 16 → IsDigit (if small then 48 + v else 87 + v) v
-of_value v small is below = grind (arith, nat_tests)
+digit_is c some = grind arith
 
 -- the digit of a number below 16
 pub digit_of : (v : ℕ) → v < 16 → IsDigit (hex_digit v) v
-digit_of v below = of_value v (nat_lt v 10) refl below
+digit_of v below = grind arith
 
 -- the digits of a number and one more
 pub hex_digits-more : (d a c v : ℕ) → IsDigit c v → hex_digits (suc d) (a * 16 + v) ≡ hex_digits d a ++ c ∷ []
 unfolding hex_digits
-hex_digits-more d a c v i = grind (arith, nat_tests)
+hex_digits-more d a c v i = grind arith
 
 -- one digit is read
 digit_read : (d a c v : ℕ) (rest : List ℕ) → IsDigit c v → d < 16 → read_address d a (c ∷ rest) ≡ read_address (suc d) (a * 16 + v) rest
-digit_read d a c v rest i few = grind (arith, nat_tests)
+digit_read d a c v rest i few = grind arith
 
 -- the digits of an address are read as it
 pub address_read : (d a : ℕ) (rest : List ℕ) → d ≤ 16 → a < 16 ^ d → read_address 0 0 (hex_digits d a ++ rest) ≡ read_address d a rest
@@ -67,4 +53,4 @@ address_read (suc d) a rest few small =
 
 -- and a space ends them
 pub address_ended : (d a : ℕ) (rest : List ℕ) → 0 < d → read_address d a (32 ∷ rest) ≡ numbered (MemoryAt a) (number_of rest)
-address_ended d a rest some = let more : nat_lt 0 d ≡ true = grind (arith, nat_tests) in rw more refl
+address_ended d a rest some = grind arith

@@ -1,35 +1,22 @@
 -- How an input's lines grow byte by byte.
-use Rattle.std.proofs.Common.{◌≡◌, ℕ, suc, ◌+◌, ◌-◌, ◌<◌, ◌≤◌, Bool, false, List, [], ◌∷◌, ◌++◌, length, take, drop, fold, nat_eq, cond, refl, sym, ap, ◌∙◌, arith, append_assoc, append-nil, length-drop, length-take}
-use Rattle.std.proofs.Math.Seq.{take-add}
-use Rattle.std.proofs.lemmas.List.{drop-drop}
-use Rattle.std.proofs.lemmas.List.Sums.{fold_push, fold-append}
-use Rattle.std.proofs.lemmas.Bool.Decides.{nat_tests}
-use Rattle.debugger.specs.Session.{cut, cut_byte, with_rest, input_lines, readable}
+use Rattle.debugger.proofs.Prelude.{◌≡◌, ℕ, suc, ◌+◌, ◌-◌, ◌<◌, ◌≤◌, Bool, List, [], ◌∷◌, ◌++◌, length, take, drop, fold, nat_eq, cond, refl, sym, ap, ◌∙◌, arith, append_assoc, append-nil, length-drop, length-take, take-add, drop-drop, fold_push, fold-append, nat_tests, cut, cut_byte, with_rest, input_lines, readable}
 
 abbrev pub Pieces : Type 0
 Pieces = List (List ℕ) × List ℕ
 
 pub cut-none : cut [] ≡ ([], [])
 unfolding cut
-cut-none = refl
-
-cut-more : (input : List ℕ) (i b : ℕ) → drop i input ≡ b ∷ drop 1 (drop i input) → cut (take (i + 1) input) ≡ cut_byte (cut (take i input)) b
-unfolding cut
-cut-more input i b first = grind (arith, nat_tests, fold_push, take-add)
-
-cut_byte-feed : (p : Pieces) (b : ℕ) → b ≡ 10 → cut_byte p b ≡ (p.0 ++ p.1 ∷ [], [])
-cut_byte-feed p b feed = rw feed refl
-
-cut_byte-plain : (p : Pieces) (b : ℕ) → (b ≡ 10 → ⊥) → cut_byte p b ≡ (p.0, p.1 ++ b ∷ [])
-cut_byte-plain p b plain = let test : nat_eq b 10 ≡ false = grind (arith, nat_tests) in rw test refl
+cut-none = grind arith
 
 -- a byte that ends a line
 pub cut-feed : (input : List ℕ) (i b : ℕ) → drop i input ≡ b ∷ drop 1 (drop i input) → b ≡ 10 → cut (take (i + 1) input) ≡ ((cut (take i input)).0 ++ (cut (take i input)).1 ∷ [], [])
-cut-feed input i b first feed = cut-more input i b first ∙ cut_byte-feed (cut (take i input)) b feed
+unfolding cut
+cut-feed input i b first feed = grind (arith, nat_tests, fold_push, take-add)
 
 -- a byte of a line
 pub cut-plain : (input : List ℕ) (i b : ℕ) → drop i input ≡ b ∷ drop 1 (drop i input) → (b ≡ 10 → ⊥) → cut (take (i + 1) input) ≡ ((cut (take i input)).0, (cut (take i input)).1 ++ b ∷ [])
-cut-plain input i b first plain = cut-more input i b first ∙ cut_byte-plain (cut (take i input)) b plain
+unfolding cut
+cut-plain input i b first plain = grind (arith, nat_tests, fold_push, take-add, nat_eq)
 
 -- these pieces behind lines that have ended
 abbrev behind : List (List ℕ) → Pieces → Pieces
@@ -38,7 +25,7 @@ behind lines p = (lines ++ p.0, p.1)
 byte_behind : (feed : Bool) (lines : List (List ℕ)) (p : Pieces) (b : ℕ) → cond feed ((lines ++ p.0) ++ p.1 ∷ [], []) (lines ++ p.0, p.1 ++ b ∷ []) ≡ behind lines (cond feed (p.0 ++ p.1 ∷ [], []) (p.0, p.1 ++ b ∷ []))
 byte_behind feed lines p b = grind (arith, nat_tests, append_assoc)
 
-cut_behind : (bytes : List ℕ) (lines : List (List ℕ)) (p : Pieces) → fold cut_byte (behind lines p) bytes ≡ behind lines (fold cut_byte p bytes)
+pub cut_behind : (bytes : List ℕ) (lines : List (List ℕ)) (p : Pieces) → fold cut_byte (behind lines p) bytes ≡ behind lines (fold cut_byte p bytes)
 cut_behind [] lines p = refl
 cut_behind (b ∷ bytes) lines p = ap (λ (q : Pieces). fold cut_byte q bytes) (byte_behind (nat_eq b 10) lines p b) ∙ cut_behind bytes lines (cut_byte p b)
 
@@ -57,17 +44,9 @@ lines-append front more = ((fold cut_byte ([], (cut front).1) more).0, ap (λ (p
 abbrev pub Whole : List ℕ → Type 0
 Whole text = (cut text).1 ≡ []
 
-pub lines-whole : (front more : List ℕ) → Whole front → (cut (front ++ more)).0 ≡ (cut front).0 ++ (cut more).0
-unfolding cut
-lines-whole front more whole = grind (arith, nat_tests, cut-append)
-
 pub whole-append : (front more : List ℕ) → Whole front → Whole more → Whole (front ++ more)
 unfolding cut
 whole-append front more whole next = grind (arith, nat_tests, cut-append)
-
-pub whole-feed : (line : List ℕ) → Whole (line ++ 10 ∷ [])
-unfolding cut
-whole-feed line = ap (λ (p : Pieces). p.1) (fold_push cut_byte ([], []) line 10)
 
 with_rest-behind : (lines more : List (List ℕ)) (rest : List ℕ) → with_rest (lines ++ more) rest ≡ lines ++ with_rest more rest
 with_rest-behind lines more rest = grind (arith, nat_tests, append_assoc)
@@ -77,24 +56,15 @@ input_lines-append part rest =
     let p = fold cut_byte ([], (cut part).1) rest in
     (with_rest p.0 p.1, ap (λ (q : Pieces). with_rest q.0 q.1) (cut-append part rest) ∙ with_rest-behind (cut part).0 p.0 p.1)
 
-with_rest-none : (lines : List (List ℕ)) (n : ℕ) (rest : List ℕ) → take (suc n) rest ≡ [] → with_rest lines rest ≡ lines
-with_rest-none lines n rest none = grind (arith, nat_tests)
-
-with_rest-some : (lines : List (List ℕ)) (n : ℕ) (rest : List ℕ) → 0 < length (take n rest) → with_rest lines rest ≡ lines ++ rest ∷ []
-with_rest-some lines n rest some = grind (arith, nat_tests)
-
 -- where the last line has ended, and where it has not
 pub input_lines-ended : (input : List ℕ) → take 65 (cut input).1 ≡ [] → input_lines input ≡ (cut input).0
-input_lines-ended input none = with_rest-none (cut input).0 64 (cut input).1 none
-
-pub input_lines-open : (input : List ℕ) → 0 < length (take 65 (cut input).1) → input_lines input ≡ (cut input).0 ++ (cut input).1 ∷ []
-input_lines-open input some = with_rest-some (cut input).0 65 (cut input).1 some
+input_lines-ended input none = grind arith
 
 pub take-split : (limit i : ℕ) (input : List ℕ) → i ≤ limit → take i input ++ take (limit - i) (drop i input) ≡ take limit input
 take-split limit i input before = let whole : i + (limit - i) ≡ limit = omega (arith, before) in sym (take-add i (limit - i) input) ∙ ap (λ (n : ℕ). take n input) whole
 
 take-none : (n : ℕ) → take {A = ℕ} n [] ≡ []
-take-none n = grind (arith, nat_tests)
+take-none n = grind arith
 
 -- where nothing is left
 pub take-end : (input : List ℕ) (i limit : ℕ) → drop i input ≡ [] → i ≤ limit → take limit input ≡ take i input
@@ -113,7 +83,7 @@ drop-one input i = drop-drop 1 i input
 
 pub readable-is : (input : List ℕ) → readable input ≡ take 9223372036854775808 input
 unfolding readable
-readable-is input = refl
+readable-is input = grind arith
 
 -- a place of the input that is not behind the last byte that may be read
 pub readable-within : (input : List ℕ) (limit i : ℕ) → readable input ≡ take limit input → i ≤ limit → i ≤ length input → i ≤ length (readable input)
@@ -121,4 +91,4 @@ readable-within input limit i all low inside = grind (arith, nat_tests, length-t
 
 -- the place behind the last byte that may be read
 pub readable-end : (input : List ℕ) (i : ℕ) → i ≤ length input → readable input ≡ take i input → i ≡ length (readable input)
-readable-end input i inside all = let long = ap length all ∙ length-take i input in omega (arith, long, inside)
+readable-end input i inside all = grind (arith, length-take)

@@ -1,33 +1,22 @@
 -- How a session goes on.
-use Rattle.std.proofs.Common.{◌≡◌, ℕ, ◌+◌, ◌-◌, ◌<◌, ◌≤◌, Bool, true, false, List, [], ◌∷◌, ◌++◌, length, length-drop, take, drop, map, fold, Option, Some, None, refl, sym, ap, ◌∙◌, inl, inr, subst, arith, append_assoc, append-nil, Result, Ok, Err, IfErr, OnErr, OnOk}
-use Rattle.std.proofs.lemmas.Bool.Decides.{nat_tests}
-use Rattle.std.specs.Prelude.{◌⊎◌}
-use Rattle.std.proofs.lemmas.Bool.{cases_lt}
-use Rattle.std.proofs.lemmas.List.{map-append, nil_from_length, take-append-drop}
-use Rattle.std.proofs.lemmas.List.Sums.{fold_push, fold-append}
-use Rattle.bpf_machine.specs.State.{State}
-use Rattle.debugger.specs.Streams.{AddsBytes, KeepsBytes, one_more}
-use Rattle.debugger.specs.Byte.{GivesByte}
-use Rattle.debugger.specs.Answers.{World, Line, world_at}
-use Rattle.debugger.specs.Session.{Talk, first_talk, hear, talk_of, with_answer, granted, cut, has_quit, input_lines, readable}
-use Rattle.debugger.specs.Told.{lines_of, Heard, Answers, HeardLine, HeardPart, Going, ToldAll, ToldSome, ToldPart, ByResult, FailsByResult}
-use Rattle.debugger.specs.declared.session_error.SessionError.{SessionError}
-use Rattle.debugger.specs.declared.session_error.SessionError.TheVariants.{S2, Memory}
+use Rattle.debugger.proofs.Prelude.{◌≡◌, ℕ, ◌+◌, ◌-◌, ◌<◌, ◌≤◌, Bool, true, false, List, [], ◌∷◌, ◌++◌, length, length-drop, take, drop, map, fold, Option, Some, None, refl, sym, ap, ◌∙◌, inl, inr, subst, arith, append_assoc, append-nil, Result, Ok, Err, IfErr, OnErr, OnOk, length-take, nat_tests, ◌⊎◌, cases_lt, map-append, nil_from_length, take-append-drop, fold_push, fold-append, State, AddsBytes, KeepsBytes, one_more, GivesByte, World, Line, world_at, Talk, first_talk, hear, talk_of, with_answer, granted, cut, has_quit, input_lines, readable, lines_of, Heard, Answers, HeardLine, HeardPart, Going, ToldAll, ToldSome, ToldPart, ByResult, FailsByResult, SessionError, S2}
+use Rattle.debugger.specs.declared.session_error.SessionError.TheVariants.{Memory}
 use Rattle.debugger.proofs.Asked.{answers_whole}
-use Rattle.debugger.proofs.Cut.{Pieces, cut-feed, cut-plain, input_lines-append, input_lines-ended, input_lines-open, take-split, take-push, one_within, drop-one, readable-within, readable-end}
+use Rattle.debugger.proofs.Cut.{Pieces, cut-feed, cut-plain, input_lines-append, input_lines-ended, take-split, take-push, one_within, drop-one, readable-within, readable-end}
 use Rattle.debugger.proofs.Quit.{answer_to-ended, quit-push}
 
 pub hear-on : (s : State) (t : Talk) (l : Line) → t.world.ended ≡ false → hear s t l ≡ with_answer s t l
 unfolding hear
-hear-on s t l on = rw on refl
+hear-on s t l on = grind arith
 
 pub hear-off : (s : State) (t : Talk) (l : Line) → t.world.ended ≡ true → hear s t l ≡ t
 unfolding hear
-hear-off s t l off = rw off refl
+hear-off s t l off = grind arith
 
 talk-more : (s : State) (marked : List Line) (t : Talk) (l : Line) → talk_of s marked ≡ t → t.world.ended ≡ false
     → talk_of s (marked ++ l ∷ []) ≡ with_answer s t l
-talk-more s marked t l is on = grind (arith, nat_tests, fold_push, hear-on)
+unfolding hear
+talk-more s marked t l is on = grind (arith, nat_tests, fold_push)
 
 lines-more : (marked : List Line) (lines : List (List ℕ)) (line : List ℕ) (mark : Bool) → lines_of marked ≡ lines
     → lines_of (marked ++ (line, mark) ∷ []) ≡ lines ++ line ∷ []
@@ -63,7 +52,7 @@ abbrev pub NoQuit : List ℕ → ℕ → Type 0
 NoQuit input n = has_quit (cut (take n input)).0 ≡ false
 
 no_quit-more : (input : List ℕ) (i : ℕ) → ((n : ℕ) → n ≤ i → NoQuit input n) → NoQuit input (i + 1) → (n : ℕ) → n ≤ i + 1 → NoQuit input n
-no_quit-more input i before here n low = grind (arith, nat_tests)
+no_quit-more input i before here n low = grind arith
 
 pub going_start : (s : State) (input before : List ℕ) → Going s input before 0 (Some input) (Some before) [] [] 0
 unfolding cut
@@ -84,7 +73,7 @@ Gives left after b = (bytes : List ℕ) → left ≡ Some bytes → GivesByte by
 
 pub end_read : (input : List ℕ) (i : ℕ) (left after : Option (List ℕ)) → left ≡ Some (drop i input) → Gives left after None
     → (drop i input ≡ []) × (after ≡ Some (drop i input))
-end_read input i left after e gives = let g = gives (drop i input) e in (g.0, g.1 ∙ ap Some (sym g.0))
+end_read input i left after e gives = grind arith
 
 written-more : (before so_far text said : List ℕ) (written new : Option (List ℕ)) → written ≡ Some (before ++ so_far) → AddsBytes written new text
     → said ≡ text → new ≡ Some (before ++ (so_far ++ said))
@@ -188,15 +177,7 @@ module _ {s : State} {input before : List ℕ} {i : ℕ} {left written : Option 
   -- a read that failed
   pub told_some : (after : Option (List ℕ)) (limit : ℕ) → KeepsBytes left after → readable input ≡ take limit input → i < limit
       → ToldSome s input before after written
-  told_some after limit kept all below = record {
-    read = i;
-    some_within = readable-within input limit i all (omega (arith, below)) g.within;
-    goes_on = g.goes_on i (omega arith);
-    some_left = kept (drop i input) g.left_is;
-    talk = g.talk;
-    some_lines = g.lines;
-    some_written = g.written_is;
-  }
+  told_some after limit kept all below = grind (arith, nat_tests, length-take)
 
   -- an answer that was written in part, when so many bytes were read
   part_told : (read : ℕ) (after new : Option (List ℕ)) → HeardPart s (world_at slots k false) line written new
@@ -237,20 +218,11 @@ module _ {s : State} {input before : List ℕ} {i : ℕ} {left written : Option 
   module _ (after : Option (List ℕ)) (gone : after ≡ Some (drop i input)) (all : readable input ≡ take i input) where
     told_end : (lines : List (List ℕ)) (talk : Talk) (new : Option (List ℕ)) → input_lines (take i input) ≡ lines → Heard s lines talk
         → new ≡ Some (before ++ talk.text) → ToldAll s input before after new
-    told_end lines talk new are heard said =
-        let end = readable-end input i g.within all in
-        record {
-          read = i;
-          all_read = record { within = omega (arith, end); goes_on = λ n low. g.goes_on n (omega (arith, low)); ends = inr end };
-          all_left = gone;
-          talk = talk;
-          all_lines = subst (λ (ls : List (List ℕ)). Heard s ls talk) (sym (ap input_lines all ∙ are)) heard;
-          all_written = said;
-        }
+    told_end lines talk new are heard said = grind (arith, length-take)
 
     -- the line behind the last line feed
     open_line : 0 < length line → input_lines (take i input) ≡ (cut (take i input)).0 ++ (cut (take i input)).1 ∷ []
-    open_line some = input_lines-open (take i input) (subst (λ (l : List ℕ). 0 < length l) g.rest some)
+    open_line some = grind arith
 
     -- and the line behind the last line feed, if it has a byte, is answered
     pub told_rest : (new : Option (List ℕ)) (result : Result (Unit {0}) SessionError) → (line ≡ [] → (result ≡ Ok tt) × (new ≡ written))
@@ -275,7 +247,7 @@ module _ {s : State} {input before : List ℕ} {i : ℕ} {left written : Option 
 pub fails_rest : (reads reads_after writes writes_before writes_after : ℕ) (result : Result (Unit {0}) SessionError) → reads_after ≡ reads
     → writes_before ≡ writes → OnOk result (writes_after ≡ writes_before) → OnErr result (writes_after ≡ one_more writes_before)
     → IfErr result (λ e. e ≡ S2) → FailsByResult reads reads_after writes writes_after result
-fails_rest reads reads_after writes writes_before writes_after result read wrote ok err cause = grind (arith, nat_tests)
+fails_rest reads reads_after writes writes_before writes_after result read wrote ok err cause = grind arith
 
 pub memory_rest : (result : Result (Unit {0}) SessionError) → IfErr result (λ e. e ≡ S2) → result ≡ Err Memory → ⊥
-memory_rest result cause is = grind (arith, nat_tests)
+memory_rest result cause is = grind arith

@@ -1,16 +1,5 @@
 -- A breakpoint's slot, or its place, found by halving.
-use Rattle.std.proofs.Common.{◌≡◌, ℕ, zero, suc, ◌<◌, ◌≤◌, true, false, List, [], ◌∷◌, length, get_or, Result, Ok, Err, refl, subst, arith, inl, inr}
-use Rattle.std.specs.Prelude.{insert, nat_eq, nat_lt, OnErr}
-use Rattle.std.specs.Ordering.{nat_cmp}
-use Rattle.std.specs.List.{list_all}
-use Rattle.std.specs.List.Sorted.{IsBinarySearchResult}
-use Rattle.std.proofs.lemmas.Bool.{cases_lt}
-use Rattle.std.proofs.lemmas.Bool.Decides.{nat_tests}
-use Rattle.std.proofs.lemmas.List.Elements.{All-from_get_or}
-use Rattle.std.proofs.lemmas.List.Folds.{list_any_at, list_any_none}
-use Rattle.std.proofs.lemmas.List.Sorted.{searched}
-use Rattle.std.proofs.lemmas.List.Sums.{prefix_len_is}
-use Rattle.debugger.specs.Breakpoints.{has_breakpoint, in_order, place_of, with_breakpoint}
+use Rattle.debugger.proofs.Prelude.{◌≡◌, ℕ, zero, suc, ◌<◌, ◌≤◌, true, false, List, [], ◌∷◌, length, get_or, Result, Ok, Err, refl, subst, arith, inl, inr, insert, nat_eq, nat_lt, OnErr, nat_cmp, list_all, IsBinarySearchResult, cases_lt, nat_tests, All-from_get_or, list_any_at, list_any_none, searched, prefix_len_is, has_breakpoint, in_order, place_of, with_breakpoint}
 use Rattle.debugger.proofs.Slots.{insert_in_order}
 
 below_each : (s : ℕ) (slots : List ℕ) (k : ℕ) → list_all (nat_lt s) slots ≡ true → k < length slots → s < get_or slots k 0
@@ -72,4 +61,4 @@ stays_ordered slot slots i ordered is =
     subst (λ (n : ℕ). in_order (insert slots n slot) ≡ true) (place_found slot slots i ordered is) (insert_in_order slot slots none ordered)
 
 pub none_refused : {T E : Type 0} (r : Result T E) (slot : ℕ) (slots : List ℕ) → has_breakpoint slot slots ≡ false → OnErr r (has_breakpoint slot slots ≡ false)
-none_refused r slot slots none = grind (arith, nat_tests)
+none_refused r slot slots none = grind arith

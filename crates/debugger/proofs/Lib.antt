@@ -17,3 +17,4 @@ mod Shown
 mod MemoryLines
 mod Sizes
 mod VerdictWords
+pub mod Prelude

@@ -1,19 +1,6 @@
 -- Sessions in which no line answers `? memory`.
-use Rattle.std.proofs.Common.{◌≡◌, ℕ, Bool, true, false, List, [], ◌∷◌, ◌++◌, map, fold, refl, sym, ap, ◌∙◌, append_assoc, append-nil, codes, Option, Some, Result, Ok, Err, arith}
-use Rattle.std.proofs.lemmas.Bool.Decides.{nat_tests}
-use Rattle.std.specs.Prelude.{OnOk}
-use Rattle.std.specs.List.{list_any}
-use Rattle.std.specs.Str.{bytes_eq}
-use Rattle.std.proofs.lemmas.Bool.{or_parts, or_right}
-use Rattle.std.proofs.lemmas.List.Folds.{list_any-append}
-use Rattle.std.proofs.lemmas.List.{append_cancel_left}
-use Rattle.bpf_machine.specs.State.{State}
-use Rattle.debugger.specs.Answers.{Line, answer_to, is_refused}
-use Rattle.debugger.specs.Session.{Talk, hear, granted, cut, input_lines, readable, says_memory, session_text}
-use Rattle.debugger.specs.Told.{lines_of, ByResult}
-use Rattle.debugger.specs.Rows.{TellsAll}
-use Rattle.debugger.specs.declared.session_error.SessionError.{SessionError}
-use Rattle.debugger.proofs.Cut.{Whole, lines-append, lines-whole, whole-append}
+use Rattle.debugger.proofs.Prelude.{◌≡◌, ℕ, Bool, true, false, List, [], ◌∷◌, ◌++◌, map, fold, refl, sym, ap, ◌∙◌, append_assoc, append-nil, codes, Option, Some, Result, arith, nat_tests, OnOk, list_any, bytes_eq, or_parts, or_right, list_any-append, append_cancel_left, State, Line, answer_to, is_refused, Talk, hear, granted, cut, says_memory, session_text, lines_of, ByResult, TellsAll, SessionError, fold-append}
+use Rattle.debugger.proofs.Cut.{Whole, lines-append, whole-append, cut_behind}
 use Rattle.debugger.proofs.Going.{hear-on, hear-off}
 use Rattle.debugger.proofs.Whole.{answers_in_lines}
 
@@ -26,7 +13,7 @@ beginning_says front more none =
 -- a refused line says it
 refusal_says : (text : List ℕ) → Whole text → says_memory (text ++ codes "? memory\n") ≡ true
 unfolding cut
-refusal_says text whole = grind (arith, nat_tests, lines-whole, list_any-append, or_right)
+refusal_says text whole = grind (arith, nat_tests, fold-append, append-nil, cut_behind, list_any-append, or_right)
 
 -- what one line adds to the text
 hear_grows : (s : State) (t : Talk) (l : Line) (ended : Bool) → t.world.ended ≡ ended → (more : List ℕ) × ((hear s t l).text ≡ t.text ++ more)
@@ -65,8 +52,5 @@ tells_all = grind (arith, nat_tests, talk_granted)
 
 -- what a session wrote that wrote no `? memory`
 pub says_text : (s : State) (input before written : List ℕ) (left after : Option (List ℕ)) (result : Result (Unit {0}) SessionError) → ByResult s input before left after result → after ≡ Some (before ++ written) → says_memory written ≡ false → OnOk result (written ≡ session_text s input)
-says_text s input before written left after (Ok u) told is none =
-    let whole : before ++ written ≡ before ++ told.talk.text = let e = sym is ∙ told.all_written in cc in
-    let same : written ≡ told.talk.text = append_cancel_left before written told.talk.text whole in
-    same ∙ ap (λ (t : Talk). t.text) (tells_all s (input_lines (readable input)) told.talk told.all_lines (ap says_memory (sym same) ∙ none))
-says_text s input before written left after (Err e) told is none = tt
+unfolding cut
+says_text s input before written left after result told is none = grind (arith, append_cancel_left, nat_tests, talk_granted)

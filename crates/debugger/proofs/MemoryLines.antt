@@ -1,21 +1,10 @@
 -- The lines that bytes of memory are shown in.
-use Rattle.std.proofs.Common.{◌≡◌, ℕ, zero, suc, ◌+◌, ◌-◌, ◌*◌, ◌/◌, ◌%◌, ◌^◌, ◌<◌, ◌≤◌, List, [], ◌∷◌, ◌++◌, length, take, drop, refl, sym, ap, ◌∙◌, append_assoc, append-nil, arith, length-drop}
-use Rattle.std.proofs.lemmas.Bool.Decides.{nat_tests}
-use Rattle.std.proofs.Math.Nat.{pow-suc}
-use Rattle.std.proofs.lemmas.Bool.{cases_lt}
-use Rattle.std.proofs.lemmas.List.{take_all}
-use Rattle.insn_codec.specs.Lines.{hex_digit, hex_digits}
-use Rattle.debugger.specs.Inspection.{memory_line, memory_lines}
+use Rattle.debugger.proofs.Prelude.{◌≡◌, ℕ, zero, suc, ◌+◌, ◌*◌, ◌/◌, ◌%◌, ◌^◌, ◌<◌, ◌≤◌, List, [], ◌∷◌, ◌++◌, length, take, drop, refl, sym, ap, ◌∙◌, append_assoc, append-nil, arith, length-drop, nat_tests, pow-suc, cases_lt, take_all, hex_digits, memory_line, memory_lines}
 
 wrapped_digits : (k x : ℕ) → hex_digits k (x + 16 ^ k) ≡ hex_digits k x
 unfolding hex_digits
 wrapped_digits zero x = refl
-wrapped_digits (suc k) x =
-    let power : 16 ^ suc k ≡ 16 ^ k * 16 = pow-suc 16 k in
-    let front : (x + 16 ^ suc k) / 16 ≡ x / 16 + 16 ^ k = omega (arith, power) in
-    let last : (x + 16 ^ suc k) % 16 ≡ x % 16 = omega (arith, power) in
-    let digits : hex_digits k ((x + 16 ^ suc k) / 16) ≡ hex_digits k (x / 16) = ap (hex_digits k) front ∙ wrapped_digits k (x / 16) in
-    λ i. digits i ++ hex_digit (last i) ∷ []
+wrapped_digits (suc k) x = grind (arith, pow-suc, wrapped_digits k (x / 16))
 
 wrapped_line : (a b : ℕ) (bytes : List ℕ) → a ≡ b + 2 ^ 64 → memory_line a bytes ≡ memory_line b bytes
 unfolding memory_line
@@ -31,15 +20,12 @@ wrapped_lines (suc count) a b (c ∷ cs) is =
     λ i. first i ++ rest i
 wrapped_lines _ a b _ is = refl
 
-next_lines : (count a b : ℕ) (bytes : List ℕ) → b ≡ (a + 16) % 2 ^ 64 → a < 2 ^ 64 → memory_lines count (a + 16) bytes ≡ memory_lines count b bytes
-next_lines count a b bytes is fits = grind (arith, nat_tests, cases_lt, wrapped_lines)
-
 pub lines_none : (count a : ℕ) (old bytes : List ℕ) → length bytes ≡ 0 → old ≡ old ++ memory_lines count a bytes
 unfolding memory_lines
 lines_none count a old bytes none = grind (arith, nat_tests, append-nil)
 
 pub some_bytes : (bytes : List ℕ) → (length bytes ≡ 0 → ⊥) → 0 < length bytes
-some_bytes bytes some = omega (arith, some)
+some_bytes bytes some = grind arith
 
 -- one line
 pub lines_one : (count a : ℕ) (old new bytes : List ℕ) → 0 < length bytes → length bytes ≤ 16 → length bytes ≤ 16 * count → new ≡ old ++ memory_line a bytes → new ≡ old ++ memory_lines count a bytes
@@ -57,4 +43,4 @@ pub lines_first : (count a next : ℕ) (old mid new bytes front rest : List ℕ)
     → ((k : ℕ) → length rest ≤ 16 * k → new ≡ mid ++ memory_lines k next rest) → new ≡ old ++ memory_lines count a bytes
 unfolding memory_lines
 lines_first count a next old mid new bytes front rest many enough fits wraps first left one more =
-    grind (arith, nat_tests, append_assoc, length-drop, next_lines)
+    grind (arith, nat_tests, append_assoc, length-drop, cases_lt, wrapped_lines)

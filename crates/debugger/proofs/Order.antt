@@ -1,14 +1,7 @@
 -- Breakpoints stay in order over a session.
-use Rattle.std.proofs.Common.{◌≡◌, true, List, [], ◌∷◌, fold, refl, arith}
-use Rattle.std.proofs.lemmas.Bool.Decides.{nat_tests}
-use Rattle.bpf_machine.specs.State.{State}
-use Rattle.debugger.specs.Answers.{Answer, Line, World, answer_of, answer_to}
-use Rattle.debugger.specs.Breakpoints.{in_order}
-use Rattle.debugger.specs.Rows.{StaysInOrder}
-use Rattle.debugger.specs.Session.{Talk, first_talk, hear, with_answer}
-use Rattle.debugger.specs.declared.command.Command.{Command}
+use Rattle.debugger.proofs.Prelude.{◌≡◌, true, List, [], ◌∷◌, fold, refl, arith, nat_tests, State, Answer, Line, World, answer_of, answer_to, in_order, StaysInOrder, Talk, first_talk, hear, with_answer}
 use Rattle.debugger.proofs.Quit.{either}
-use Rattle.debugger.proofs.Slots.{sets_and_clears}
+use Rattle.debugger.proofs.Slots.{any-insert, cleared, filter_in_order, insert_in_order}
 
 abbrev Ordered : World → Type 0
 Ordered w = in_order w.breakpoints ≡ true
@@ -17,13 +10,9 @@ Ordered w = in_order w.breakpoints ≡ true
 abbrev Kept : Answer → Type 0
 Kept a = Ordered a.next
 
-answer_ordered : (s : State) (w : World) (c : Command) → Ordered w → Kept (answer_of s w c)
-unfolding answer_of
-answer_ordered s w c kept = grind (arith, nat_tests, either, sets_and_clears)
-
 line_ordered : (s : State) (w : World) (l : Line) → Ordered w → Kept (answer_to s w l)
-unfolding answer_to
-line_ordered s w l kept = grind (arith, nat_tests, answer_ordered, either)
+unfolding answer_to answer_of
+line_ordered s w l kept = grind (arith, nat_tests, cleared, filter_in_order, any-insert, insert_in_order)
 
 talk_ordered : (s : State) (t : Talk) (lines : List Line) → Ordered t.world → Ordered (fold (hear s) t lines).world
 unfolding hear

@@ -1,9 +1,5 @@
 -- Bytes that are added part by part.
-use Rattle.std.proofs.Common.{◌≡◌, ℕ, suc, ◌+◌, ◌<◌, List, [], ◌∷◌, ◌++◌, length, take, Option, Result, Ok, Err, sym, ap, subst, ◌∙◌, append_assoc, arith, length-append, zero-add}
-use Rattle.std.proofs.lemmas.Bool.Decides.{nat_tests}
-use Rattle.std.specs.Prelude.{OnErr, OnOk}
-use Rattle.std.proofs.lemmas.List.{take-append-le}
-use Rattle.debugger.specs.Streams.{AddsBytes}
+use Rattle.debugger.proofs.Prelude.{◌≡◌, ℕ, suc, ◌+◌, ◌<◌, List, [], ◌∷◌, ◌++◌, length, take, Option, Result, Ok, Err, sym, ap, subst, ◌∙◌, append_assoc, arith, length-append, zero-add, nat_tests, OnErr, OnOk, take-append-le, AddsBytes}
 
 -- the first of these bytes are added, but for a rest
 abbrev pub AddsPart : Option (List ℕ) → Option (List ℕ) → List ℕ → Type 0

@@ -1,10 +1,5 @@
 -- Breakpoints that are set and cleared.
-use Rattle.std.proofs.Common.{◌≡◌, ℕ, zero, suc, ◌+◌, ◌<◌, Bool, true, false, not, ◌||◌, ◌&&◌, List, [], ◌∷◌, refl, ap, ◌∙◌, arith, subst, cond}
-use Rattle.std.specs.Prelude.{filter, insert, nat_eq, nat_lt, if◌then◌else◌}
-use Rattle.std.specs.List.{list_all, list_any}
-use Rattle.std.specs.List.Retain.{RetainsInTurn}
-use Rattle.std.proofs.lemmas.Bool.Decides.{nat_tests}
-use Rattle.debugger.specs.Breakpoints.{SetsAndClears, has_breakpoint, place_of, without_breakpoint, in_order}
+use Rattle.debugger.proofs.Prelude.{◌≡◌, ℕ, zero, suc, ◌+◌, ◌<◌, Bool, true, false, not, ◌||◌, ◌&&◌, List, [], ◌∷◌, refl, ap, ◌∙◌, arith, subst, cond, filter, insert, nat_eq, nat_lt, if◌then◌else◌, list_all, list_any, RetainsInTurn, nat_tests, SetsAndClears, has_breakpoint, place_of, without_breakpoint, in_order}
 
 -- what is left where each call says whether the slot passes, and changes nothing
 pub retained : {F : Type 0} (R : F → ℕ → Bool → F → ℕ → Type 0) (keep : ℕ → Bool) (f : F) → ((s : ℕ) (said : Bool) (g : F) (t : ℕ) → R f s said g t → (said ≡ keep s) × (g ≡ f) × (t ≡ s)) → (slots left : List ℕ) → RetainsInTurn R f slots left → left ≡ filter keep slots
@@ -15,12 +10,12 @@ retained R keep f says (s ∷ slots) left kept =
     kept.6 ∙ (λ i. cond (said.0 i) (said.2 i ∷ rest i) (rest i))
 
 or_swap : (a b c : Bool) → a || (b || c) ≡ b || (a || c)
-or_swap a b c = grind (arith, nat_tests)
+or_swap a b c = grind arith
 
 and_swap : (a b c : Bool) → a && (b && c) ≡ b && (a && c)
-and_swap a b c = grind (arith, nat_tests)
+and_swap a b c = grind arith
 
-any-insert : (test : ℕ → Bool) (xs : List ℕ) (i x : ℕ) → list_any test (insert xs i x) ≡ test x || list_any test xs
+pub any-insert : (test : ℕ → Bool) (xs : List ℕ) (i x : ℕ) → list_any test (insert xs i x) ≡ test x || list_any test xs
 any-insert test [] zero x = refl
 any-insert test (y ∷ ys) (suc i) x = ap (λ (b : Bool). test y || b) (any-insert test ys i x) ∙ or_swap (test y) (test x) (list_any test ys)
 any-insert test _ _ x = refl
@@ -30,14 +25,7 @@ all-insert test [] zero x = refl
 all-insert test (y ∷ ys) (suc i) x = ap (λ (b : Bool). test y && b) (all-insert test ys i x) ∙ and_swap (test y) (test x) (list_all test ys)
 all-insert test _ _ x = refl
 
--- a slot that is there is there under each equal name
-has_same : (slot other : ℕ) (slots : List ℕ) (same : Bool) → nat_eq slot other ≡ same → has_breakpoint slot slots ≡ true → has_breakpoint other slots ≡ nat_eq slot other || has_breakpoint other slots
-has_same slot other slots same is there = grind (arith, nat_tests)
-
-set_by : (slot other : ℕ) (slots : List ℕ) (there : Bool) → has_breakpoint slot slots ≡ there → has_breakpoint other (if there then slots else insert slots (place_of slot slots) slot) ≡ nat_eq slot other || has_breakpoint other slots
-set_by slot other slots there is = grind (arith, nat_tests, any-insert, has_same)
-
-cleared : (slot other : ℕ) (slots : List ℕ) → has_breakpoint other (without_breakpoint slot slots) ≡ not (nat_eq slot other) && has_breakpoint other slots
+pub cleared : (slot other : ℕ) (slots : List ℕ) → has_breakpoint other (without_breakpoint slot slots) ≡ not (nat_eq slot other) && has_breakpoint other slots
 cleared slot other [] = grind arith
 cleared slot other (s ∷ slots) = grind (arith, nat_tests, cleared slot other slots)
 
@@ -45,12 +33,8 @@ above : (low high : ℕ) (slots : List ℕ) → low < high → list_all (nat_lt 
 above low high [] less all = refl
 above low high (s ∷ slots) less all = grind (arith, nat_tests, above low high slots less)
 
--- before a slot that is not below it, and is not itself
-in_front : (slot s : ℕ) (slots : List ℕ) → nat_lt s slot ≡ false → nat_eq s slot ≡ false → list_all (nat_lt s) slots ≡ true → list_all (nat_lt slot) (s ∷ slots) ≡ true
-in_front slot s slots large other all = grind (arith, nat_tests, above)
-
 insert_more : (slot s : ℕ) (slots : List ℕ) (n : ℕ) (below : Bool) → nat_lt s slot ≡ below → nat_eq s slot ≡ false → list_all (nat_lt s) slots ≡ true → in_order slots ≡ true → in_order (insert slots n slot) ≡ true → in_order (insert (s ∷ slots) (if below then 1 + n else 0) slot) ≡ true
-insert_more slot s slots n below is other front later more = grind (arith, nat_tests, all-insert, in_front)
+insert_more slot s slots n below is other front later more = grind (arith, nat_tests, all-insert, above)
 
 pub insert_in_order : (slot : ℕ) (slots : List ℕ) → has_breakpoint slot slots ≡ false → in_order slots ≡ true → in_order (insert slots (place_of slot slots) slot) ≡ true
 insert_in_order slot [] new ordered = refl
@@ -61,9 +45,6 @@ insert_in_order slot (s ∷ slots) new ordered =
     let none : has_breakpoint slot slots ≡ false = grind arith in
     insert_more slot s slots (place_of slot slots) (nat_lt s slot) refl other front later (insert_in_order slot slots none later)
 
-set_in_order_by : (slot : ℕ) (slots : List ℕ) (there : Bool) → has_breakpoint slot slots ≡ there → in_order slots ≡ true → in_order (if there then slots else insert slots (place_of slot slots) slot) ≡ true
-set_in_order_by slot slots there is ordered = grind (arith, nat_tests, insert_in_order)
-
 all-filter : (test keep : ℕ → Bool) (slots : List ℕ) → list_all test slots ≡ true → list_all test (filter keep slots) ≡ true
 all-filter test keep [] all = refl
 all-filter test keep (s ∷ slots) all = grind (arith, all-filter test keep slots)
@@ -73,4 +54,4 @@ filter_in_order keep [] ordered = refl
 filter_in_order keep (s ∷ slots) ordered = grind (arith, filter_in_order keep slots, all-filter (nat_lt s) keep slots)
 
 pub sets_and_clears : SetsAndClears
-sets_and_clears = grind (arith, nat_tests, cleared, filter_in_order, set_by, set_in_order_by)
+sets_and_clears = grind (arith, nat_tests, cleared, filter_in_order, any-insert, insert_in_order)

@@ -1,26 +1,7 @@
 -- Answers are whole lines.
-use Rattle.std.proofs.Common.{◌≡◌, ℕ, zero, suc, ◌+◌, ℤ, pos, negsuc, List, [], ◌∷◌, ◌++◌, decimal, length, take, drop, Option, refl, sym, ap, subst, ◌∙◌, append_assoc, codes, arith}
-use Rattle.std.specs.Fmt.{signed_decimal}
-use Rattle.std.specs.Prelude.{◌*◌, nat_eq, nat_lt, slice_index}
-use Rattle.guest_memory.specs.Memory.{Memory}
-use Rattle.insn_codec.specs.Statements.{statement_slots, statement_text}
-use Rattle.bpf_machine.specs.Decoding.{slot_count}
-use Rattle.bpf_machine.specs.State.{State}
-use Rattle.bpf_machine.specs.Text.{move_line, register_line, register_lines, registers_text, status_text, word_text}
-use Rattle.bpf_machine.specs.declared.status.Status.{Status}
-use Rattle.debugger.specs.Answers.{Answer, World, answer_of, answer_to, break_text, clear_text, is_refused, says}
-use Rattle.debugger.specs.Commands.{command_of}
-use Rattle.bpf_machine.specs.declared.frame.Frame.{Frame}
-use Rattle.value_store.specs.Value.{ValueOrError}
-use Rattle.debugger.specs.Inspection.{digits_of_bytes, frame_line, frame_lines, frames_text, memory_line, memory_lines, memory_text, saved_text, value_line, value_text}
-use Rattle.debugger.specs.Listing.{listing_at, listing_line, listing_lines, outside_line, statement_at}
-use Rattle.debugger.specs.Rows.{AnswersInLines}
-use Rattle.debugger.specs.Verdict.{message_lines, verdict_line, verdict_lines, verdict_word, word_line, word_lines}
-use Rattle.debugger.specs.Session.{cut}
-use Rattle.debugger.specs.declared.command.Command.{Command}
-use Rattle.debugger.proofs.Cut.{Whole, whole-append, whole-feed}
+use Rattle.debugger.proofs.Prelude.{◌≡◌, ℕ, zero, suc, ◌+◌, ℤ, pos, negsuc, List, [], ◌∷◌, ◌++◌, decimal, length, take, drop, Option, refl, sym, ap, subst, ◌∙◌, append_assoc, codes, arith, signed_decimal, ◌*◌, nat_eq, nat_lt, slice_index, Memory, statement_slots, statement_text, slot_count, State, move_line, register_line, register_lines, registers_text, status_text, word_text, Status, Answer, World, answer_of, answer_to, break_text, clear_text, is_refused, says, command_of, Frame, ValueOrError, digits_of_bytes, frame_line, frame_lines, frames_text, memory_line, memory_lines, memory_text, saved_text, value_line, value_text, listing_at, listing_line, listing_lines, outside_line, statement_at, AnswersInLines, message_lines, verdict_line, verdict_lines, verdict_word, word_line, word_lines, cut, Command, nat_tests, fold_push}
+use Rattle.debugger.proofs.Cut.{Whole, whole-append}
 use Rattle.debugger.proofs.Quit.{either}
-use Rattle.std.proofs.lemmas.Bool.Decides.{nat_tests}
 
 -- a text that a line feed ends
 record Fed (text : List ℕ) : Type 0 where
@@ -28,21 +9,22 @@ record Fed (text : List ℕ) : Type 0 where
   is_fed : text ≡ line ++ 10 ∷ []
 
 feed : Fed (10 ∷ [])
-feed = record { line = []; is_fed = refl }
+feed = grind arith
 
 behind : (front : List ℕ) {text : List ℕ} → Fed text → Fed (front ++ text)
 behind front f = record { line = front ++ f.line; is_fed = ap (λ (t : List ℕ). front ++ t) f.is_fed ∙ sym (append_assoc front f.line (10 ∷ [])) }
 
 fed_whole : {text : List ℕ} → Fed text → Whole text
-fed_whole f = ap (λ (t : List ℕ). (cut t).1) f.is_fed ∙ whole-feed f.line
+unfolding cut
+fed_whole f = grind (arith, fold_push)
 
 break_whole : (slot : ℕ) → Whole (break_text slot)
-unfolding break_text
-break_whole slot = fed_whole (behind (codes "break ") (behind (decimal slot) feed))
+unfolding break_text cut
+break_whole slot = grind (arith, fold_push, append_assoc, codes, decimal)
 
 clear_whole : (slot : ℕ) → Whole (clear_text slot)
-unfolding clear_text
-clear_whole slot = fed_whole (behind (codes "clear ") (behind (decimal slot) feed))
+unfolding clear_text cut
+clear_whole slot = grind (arith, fold_push, append_assoc, codes, decimal)
 
 move_whole : (k : ℕ) (pc : ℤ) (status : Status) → Whole (move_line k pc status)
 unfolding move_line

@@ -1,19 +1,6 @@
 -- The lines of commands, and how they are read.
-use Rattle.std.proofs.Common.{◌≡◌, ◌≢◌, ℕ, suc, ◌+◌, ◌-◌, ◌*◌, ◌/◌, ◌%◌, ◌^◌, ◌<◌, ◌≤◌, Bool, true, false, ◌&&◌, List, [], ◌∷◌, ◌++◌, length, length-append, length-drop, drop, Option, Some, None, decimal, nat_eq, nat_le, nat_lt, codes, refl, sym, ap, ◌∙◌, inl, inr, subst, arith, append_assoc, append-nil, add-one, lit<}
-use Rattle.std.specs.Prelude.{◌⊎◌, slice_index, if◌then◌else◌}
-use Rattle.std.specs.Str.{bytes_eq}
-use Rattle.std.proofs.Math.Nat.{pow-le-pow_right, pow-suc}
-use Rattle.std.proofs.lemmas.Bool.{and_parts}
-use Rattle.std.proofs.lemmas.Bool.Decides.{nat_tests}
-use Rattle.std.proofs.lemmas.Fmt.{decimal_digit, decimal_step_wide, decimal_by_steps_wide}
-use Rattle.std.proofs.lemmas.List.{take-append-drop}
-use Rattle.std.proofs.lemmas.Slice.Eq.{bytes_eq-Decides}
-use Rattle.insn_codec.specs.Lines.{hex_digits}
-use Rattle.debugger.specs.Commands.{begins_with, command_of, form_of, hex_value, is_digit, is_hex_digit, leads_with_zero, move_form_of, number_of, numbered, numbered_form_of, read_address, read_digits, shown_form_of}
+use Rattle.debugger.proofs.Prelude.{◌≡◌, ◌≢◌, ℕ, suc, ◌+◌, ◌-◌, ◌*◌, ◌/◌, ◌%◌, ◌^◌, ◌<◌, ◌≤◌, Bool, true, false, ◌&&◌, List, [], ◌∷◌, ◌++◌, length, length-append, length-drop, drop, Option, Some, None, decimal, nat_eq, nat_le, nat_lt, codes, refl, sym, ap, ◌∙◌, inl, inr, subst, arith, append_assoc, append-nil, add-one, ◌⊎◌, slice_index, if◌then◌else◌, bytes_eq, pow-le-pow_right, pow-suc, and_parts, nat_tests, decimal_digit, decimal_step_wide, decimal_by_steps_wide, take-append-drop, bytes_eq-Decides, hex_digits, begins_with, command_of, form_of, hex_value, is_digit, is_hex_digit, leads_with_zero, move_form_of, number_of, numbered, numbered_form_of, read_address, read_digits, shown_form_of, Asks, CommandsHaveLines, IsLine, IsNumbered, Command, ValueAt, MemoryAt, Unknown}
 use Rattle.debugger.proofs.Addresses.{address_ended, address_read, below_digit, digit_is, hex_digits-more}
-use Rattle.debugger.specs.CommandLines.{Asks, CommandsHaveLines, IsLine, IsNumbered}
-use Rattle.debugger.specs.declared.command.Command.{Command}
-use Rattle.debugger.specs.declared.command.Command.TheVariants.{SetBreakpoint, ClearBreakpoint, Forward, Back, Go, Continue, ValueAt, MemoryAt, Unknown}
 
 -- a number and one more digit
 decimal-more : (m c : ℕ) → 0 < m → m * 10 + (c - 48) < 10 ^ 64 → is_digit c ≡ true → decimal (m * 10 + (c - 48)) ≡ decimal m ++ c ∷ []
@@ -26,7 +13,7 @@ below_more k m c small digit =
     omega (arith, next, high)
 
 below_all : (k n : ℕ) → k ≤ 64 → n < 10 ^ k → n < 10 ^ 64
-below_all k n low small = let more : 10 ^ k ≤ 10 ^ 64 = pow-le-pow_right {n = 10} (lit< tt) low in omega (arith, more)
+below_all k n low small = grind (arith, pow-le-pow_right)
 
 -- what digits behind those of m write
 abbrev Writes : List ℕ → ℕ → Type 0
@@ -84,17 +71,17 @@ record Reads (n : ℕ) (ds : List ℕ) : Type 0 where
   alone : n ≡ 0 → length ds ≡ 1
 
 read_digit : (m d : ℕ) → d < 10 → read_digits m ((48 + d) ∷ []) ≡ Some (m * 10 + d)
-read_digit m d small = grind (arith, nat_tests)
+read_digit m d small = grind arith
 
 read_by : (digit : Bool) (m k c : ℕ) (ds rest : List ℕ) → ((j : ℕ) → read_digits j ds ≡ Some k → read_digits j (ds ++ rest) ≡ read_digits k rest) → (if digit then read_digits (m * 10 + (c - 48)) ds else None) ≡ Some k → (if digit then read_digits (m * 10 + (c - 48)) (ds ++ rest) else None) ≡ read_digits k rest
-read_by digit m k c ds rest go read = grind (arith, nat_tests)
+read_by digit m k c ds rest go read = grind arith
 
 read_on : (ds rest : List ℕ) (m k : ℕ) → read_digits m ds ≡ Some k → read_digits m (ds ++ rest) ≡ read_digits k rest
 read_on [] rest m k read = let same : m ≡ k = cc in ap (λ (j : ℕ). read_digits j rest) same
 read_on (c ∷ ds) rest m k read = read_by (is_digit c) m k c ds rest (λ j. read_on ds rest j k) read
 
 reads_one : (n : ℕ) → n < 10 → Reads n ((48 + n) ∷ [])
-reads_one n small = grind (arith, nat_tests)
+reads_one n small = grind arith
 
 first-append : (ds rest : List ℕ) → 0 < length ds → slice_index (ds ++ rest) 0 ≡ slice_index ds 0
 first-append [] rest some = absurd (omega (arith, some))
@@ -111,7 +98,7 @@ reads_more n ds large r =
     }
 
 first_or_alone : (n : ℕ) (ds : List ℕ) → Reads n ds → leads_with_zero ds ≡ false
-first_or_alone n ds r = grind (arith, nat_tests)
+first_or_alone n ds r = grind arith
 
 -- decimals are read as their number
 number_read : (n : ℕ) → n < 10 ^ 64 → number_of (decimal n) ≡ Some n
@@ -127,14 +114,14 @@ begins : (word line : List ℕ) → begins_with word line ≡ true → line ≡ 
 begins word line same_word = grind (arith, nat_tests, bytes_eq-Decides, take-append-drop)
 
 is_unknown : (c : Command) → (c ≡ Unknown) ⊎ (c ≢ Unknown)
-is_unknown c = grind (arith, nat_tests)
+is_unknown c = grind arith
 
 -- a line asks for this command, or for none
 abbrev Found : List ℕ → Command → Type 0
 Found line c = (c ≡ Unknown) ⊎ IsLine c line
 
 by_test : (line : List ℕ) (b : Bool) (x y : Command) → (b ≡ true → Found line x) → Found line y → Found line (if b then x else y)
-by_test line b x y first second = grind (arith, nat_tests)
+by_test line b x y first second = grind arith
 
 found_number : (line word : List ℕ) (command : ℕ → Command) → length line ≤ 64 → ((n : ℕ) → IsNumbered word n line → IsLine (command n) line) → (o : Option ℕ) → number_of (drop (length word) line) ≡ o → begins_with word line ≡ true → Found line (numbered command o)
 found_number line word command short form None read same_word = inl refl
@@ -143,7 +130,7 @@ found_number line word command short form (Some n) read same_word =
     inr (form n (record { fits = w.1; is = begins word line same_word ∙ ap (λ (ds : List ℕ). word ++ ds) w.0 }))
 
 found_word : (line word : List ℕ) (c : Command) → (line ≡ word → IsLine c line) → bytes_eq line word ≡ true → Found line c
-found_word line word c form same_word = inr (form ((bytes_eq-Decides line word).0 same_word))
+found_word line word c form same_word = grind (arith, bytes_eq-Decides)
 
 -- the line that began with these digits of an address
 abbrev Begun : List ℕ → ℕ → ℕ → List ℕ → Type 0
@@ -188,21 +175,9 @@ shown_found line short =
     (by_test line _ _ _ (λ same. found_address line 0 0 (drop 4 line) short (omega arith) (omega arith) (begins (codes "m 0x") line same))
     (inl refl))
 
-move_found : (line : List ℕ) → length line ≤ 64 → Found line (move_form_of line)
-unfolding move_form_of
-move_found line short =
-    by_test line _ _ _ (found_number line (codes "s ") Forward short (λ n is. is) _ refl)
-    (by_test line _ _ _ (found_number line (codes "rs ") Back short (λ n is. is) _ refl)
-    (by_test line _ _ _ (found_number line (codes "g ") Go short (λ n is. is) _ refl)
-    (by_test line _ _ _ (found_number line (codes "c ") Continue short (λ n is. is) _ refl)
-    (shown_found line short))))
-
 numbered_found : (line : List ℕ) → length line ≤ 64 → Found line (numbered_form_of line)
-unfolding numbered_form_of
-numbered_found line short =
-    by_test line _ _ _ (found_number line (codes "b ") SetBreakpoint short (λ n is. is) _ refl)
-    (by_test line _ _ _ (found_number line (codes "d ") ClearBreakpoint short (λ n is. is) _ refl)
-    (move_found line short))
+unfolding numbered_form_of move_form_of
+numbered_found line short = grind (arith, nat_tests, number_written, length-drop, begins, codes, by_test, found_number, shown_found)
 
 form_found : (line : List ℕ) → length line ≤ 64 → Found line (form_of line)
 unfolding form_of
@@ -219,27 +194,14 @@ asks_for line known = short_by line (nat_le (length line) 64) refl known
 -- each line of a command is read as it
 reads_form : (c : Command) (line : List ℕ) → IsLine c line → form_of line ≡ c
 unfolding form_of numbered_form_of move_form_of shown_form_of
-reads_form (SetBreakpoint n) line l = ap form_of l.is ∙ ap (numbered SetBreakpoint) (number_read n l.fits)
-reads_form (ClearBreakpoint n) line l = ap form_of l.is ∙ ap (numbered ClearBreakpoint) (number_read n l.fits)
-reads_form (Forward n) line l = ap form_of l.is ∙ ap (numbered Forward) (number_read n l.fits)
-reads_form (Back n) line l = ap form_of l.is ∙ ap (numbered Back) (number_read n l.fits)
-reads_form (Go k) line l = ap form_of l.is ∙ ap (numbered Go) (number_read k l.fits)
-reads_form (Continue n) line l = ap form_of l.is ∙ ap (numbered Continue) (number_read n l.fits)
-reads_form (ValueAt h) line l = ap form_of l.is ∙ ap (numbered ValueAt) (number_read h l.fits)
-reads_form (MemoryAt address n) line l =
-    ap form_of l.is
-    ∙ address_read l.digits address (codes " " ++ decimal n) l.most l.fits
-    ∙ address_ended l.digits address (decimal n) l.some
-    ∙ ap (numbered (MemoryAt address)) (number_read n l.number_fits)
-reads_form Unknown line l = absurd l
-reads_form _ line l = ap form_of l
+reads_form c line l = grind (arith, number_read, address_read, codes, decimal, address_ended)
 
 reads_asked : (line : List ℕ) (c : Command) → Asks line c → command_of line ≡ c
 unfolding command_of
 reads_asked line c a = grind (arith, nat_tests, reads_form)
 
 known_of : (line : List ℕ) (c : Command) → Asks line c → c ≢ Unknown
-known_of line c a is = subst (λ (d : Command). IsLine d line) is a.is_line
+known_of line c a is = grind arith
 
 pub commands_have_lines : CommandsHaveLines
 commands_have_lines = record {

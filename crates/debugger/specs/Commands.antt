@@ -114,15 +114,9 @@ capped_command (Forward n) = Forward (capped n)
 capped_command (Back n) = Back (capped n)
 capped_command (Go k) = Go (capped k)
 capped_command (Continue n) = Continue (capped n)
-capped_command ReverseContinue = ReverseContinue
-capped_command Registers = Registers
 capped_command (ValueAt h) = ValueAt (capped h)
 capped_command (MemoryAt address n) = MemoryAt address (capped n)
-capped_command Frames = Frames
-capped_command Listing = Listing
-capped_command Verdict = Verdict
-capped_command Quit = Quit
-capped_command Unknown = Unknown
+capped_command other = other
 
 -- each reference of a state that a command asks a value of has 64 bits
 abbrev pub Fits : State → Command → Type 0

@@ -70,6 +70,7 @@ impl AnswerText {
     }
 
     /// Appends the lowest `count` hex digits of a word.
+    #[tactic(auto, using(crate::proofs::Texts::hex))]
     fn push_hex(&mut self, count: u32, word: u64)
         requires { length self.old + count ≤ 1072 }
         ensures text { self.new ≡ self.old ++ hex_digits count word }
@@ -202,7 +203,7 @@ impl AnswerText {
     }
 
     /// Appends the lines of the eleven registers.
-    #[tactic(auto, unfolding(bpf_machine::specs::Text::registers_text))]
+    #[tactic(auto, using(crate::proofs::Texts::registers), unfolding(bpf_machine::specs::Text::registers_text))]
     pub fn push_registers<E: Emulator>(&mut self, machine: &E)
         requires { self.old ≡ [] }
         ensures { self.new ≡ registers_text (E.state machine.now) }

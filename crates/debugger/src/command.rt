@@ -85,16 +85,10 @@ fn numbered_form(line: &[u8]) -> Command
     ensures { result ≡ capped_command (numbered_form_of line.now) }
 {
     if begins_with(line, b"b ") {
-        return match number(after(line, 2)) {
-            Some(n) => Command::SetBreakpoint(n),
-            None => Command::Unknown,
-        };
+        return number(after(line, 2)).map_or(Command::Unknown, Command::SetBreakpoint);
     }
     if begins_with(line, b"d ") {
-        return match number(after(line, 2)) {
-            Some(n) => Command::ClearBreakpoint(n),
-            None => Command::Unknown,
-        };
+        return number(after(line, 2)).map_or(Command::Unknown, Command::ClearBreakpoint);
     }
     move_form(line)
 }
@@ -105,28 +99,16 @@ fn move_form(line: &[u8]) -> Command
     ensures { result ≡ capped_command (move_form_of line.now) }
 {
     if begins_with(line, b"s ") {
-        return match number(after(line, 2)) {
-            Some(n) => Command::Forward(n),
-            None => Command::Unknown,
-        };
+        return number(after(line, 2)).map_or(Command::Unknown, Command::Forward);
     }
     if begins_with(line, b"rs ") {
-        return match number(after(line, 3)) {
-            Some(n) => Command::Back(n),
-            None => Command::Unknown,
-        };
+        return number(after(line, 3)).map_or(Command::Unknown, Command::Back);
     }
     if begins_with(line, b"g ") {
-        return match number(after(line, 2)) {
-            Some(k) => Command::Go(k),
-            None => Command::Unknown,
-        };
+        return number(after(line, 2)).map_or(Command::Unknown, Command::Go);
     }
     if begins_with(line, b"c ") {
-        return match number(after(line, 2)) {
-            Some(n) => Command::Continue(n),
-            None => Command::Unknown,
-        };
+        return number(after(line, 2)).map_or(Command::Unknown, Command::Continue);
     }
     shown_form(line)
 }
@@ -137,10 +119,7 @@ fn shown_form(line: &[u8]) -> Command
     ensures { result ≡ capped_command (shown_form_of line.now) }
 {
     if begins_with(line, b"v ") {
-        return match number(after(line, 2)) {
-            Some(h) => Command::ValueAt(h),
-            None => Command::Unknown,
-        };
+        return number(after(line, 2)).map_or(Command::Unknown, Command::ValueAt);
     }
     if begins_with(line, b"m 0x") {
         return address(0, 0, after(line, 4));
@@ -150,6 +129,7 @@ fn shown_form(line: &[u8]) -> Command
 
 /// The bytes that are asked for, of whose address so many hex digits, with this number, stand before
 /// the line's last part.
+#[tactic(auto, using(crate::proofs::Addresses::power_fits))]
 fn address(digits: u32, so_far: u64, line: &[u8]) -> Command
     requires digits { digits ≤ 16 }
     requires fits { so_far < 16 ^ digits }
@@ -215,10 +195,7 @@ fn after(line: &[u8], n: usize) -> &[u8]
 fn number(digits: &[u8]) -> Option<u64>
     ensures { result ≡ capped_number (number_of digits.now) }
 {
-    if digits.is_empty() {
-        return None;
-    }
-    if leads_with_zero(digits) {
+    if digits.is_empty() || leads_with_zero(digits) {
         return None;
     }
     value(0, digits)

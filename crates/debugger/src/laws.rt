@@ -1,4 +1,6 @@
 //! Laws of sessions, each the clause of a function that does nothing.
+#![tactic(auto, using(crate::proofs::Order::stays_in_order, crate::proofs::Slots::sets_and_clears, crate::proofs::Whole::answers_in_lines, crate::proofs::Words::commands_have_lines))]
+
 ghost use Rattle.debugger.specs.Breakpoints.{SetsAndClears};
 ghost use Rattle.debugger.specs.CommandLines.{CommandsHaveLines};
 ghost use Rattle.debugger.specs.Rows.{AnswersInLines, RowsStand, StaysInOrder, TellsAll};

@@ -46,6 +46,7 @@ fn slot_inside(code: &[u8], pc: i64) -> Option<u64>
 }
 
 /// Up to eight lines of the code from a slot on.
+#[tactic(auto, using(crate::proofs::Lines::listed))]
 fn listing(alloc: Global, code: &[u8], slot: u64) -> Result<String, AllocError>
     requires { refusal_of code.now ≡ None }
     ensures { IfOk result (λ text. string_bytes text ≡ listing_lines 8 code.now slot) }

@@ -118,6 +118,7 @@ fn hear_lines<H: History, R: Source, W: Sink>(
 
 /// Keeps a line's next byte up to the 65th: a line of more than 64 bytes has no form, whatever its
 /// other bytes are.
+#[tactic(auto, using(crate::proofs::Asked::keep_short, crate::proofs::Asked::keep_long))]
 fn keep_start(line: &mut ArrayVec<u8, 65>, byte: u8)
     ensures { line.new.items ≡ take 65 (line.old.items ++ byte ∷ []) }
 {

@@ -57,6 +57,7 @@ fn push_messages<M: Regions>(text: &mut String, memory: &M, version: u8) -> Resu
 }
 
 /// Appends a line for each of the 64 words from a place of the verdict region on that is not 0.
+#[tactic(auto, using(crate::proofs::VerdictWords::words))]
 fn push_words<M: Regions>(
     text: &mut String,
     memory: &M,
@@ -85,6 +86,7 @@ fn push_word(text: &mut String, name: &str, i: u64, word: u64) -> Result<(), All
 }
 
 /// The word at a place of the verdict region.
+#[tactic(auto, using(crate::proofs::VerdictWords::word_read))]
 fn word_at<M: Regions>(memory: &M, at: u64) -> u64
     requires regions { HasRegions (M.bytes memory.now) }
     requires inside { at + 8 ≤ 2048 }

@@ -1,3 +1,4 @@
 mod Halving
 mod Places
 mod Searches
+pub mod Prelude

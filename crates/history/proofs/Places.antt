@@ -1,35 +1,19 @@
 -- Places at which a machine is kept.
-use Rattle.std.proofs.Common.{◌≡◌, ◌≢◌, ◌%◌, ◌++◌, append-nil, drop, ℕ, zero, suc, ◌+◌, ◌-◌, ◌<◌, ◌≤◌, Bool, true, false, not, List, [], ◌∷◌, length, refl, sym, ap, ◌∙◌, arith, subst, map, Option, Some, None, option_map, get_or, inl, inr, ◌⊎◌}
-use Rattle.std.proofs.lemmas.Grind.{common_steps}
-use Rattle.std.proofs.lemmas.Bool.Decides.{nat_tests}
-use Rattle.std.proofs.lemmas.Bool.{cases_lt}
-use Rattle.std.proofs.lemmas.List.{drop-append-le, drop-drop, drop-map, get_or-map, get_or_default, length-append, length-drop, length-map, map-append, append_assoc}
-use Rattle.std.proofs.lemmas.List.Elements.{Contains-append_cases, Contains-append_left, Contains-append_right, All-append, All-drop, All-nil, All-push, All-same}
-use Rattle.circular_buffer.specs.Buffer.{keep_last}
-use Rattle.std.proofs.lemmas.Option.{get_or_from_slice_get, slice_get_within}
-use Rattle.std.specs.List.{All, Contains, slice_get}
-use Rattle.bpf_machine.specs.State.{State}
-use Rattle.bpf_machine.specs.Step.{is_running, next_state}
-use Rattle.bpf_machine.specs.Trace.{state_after}
-use Rattle.bpf_machine.specs.Laws.{state_after-add, state_after-more, state_after-zero, stays_stopped}
-use Rattle.history.specs.Trail.{GivesUp, IsDue, IsKept, IsNearest, IsReplay, IsSpared, Keeps, Kept, Reaches, Trail, places_of, with_place}
+use Rattle.history.proofs.Prelude.{◌≡◌, ◌≢◌, ◌%◌, ◌++◌, append-nil, drop, ℕ, zero, suc, ◌+◌, ◌-◌, ◌<◌, ◌≤◌, Bool, true, false, not, List, [], ◌∷◌, length, refl, sym, ap, ◌∙◌, arith, subst, map, Option, Some, None, option_map, get_or, inl, inr, ◌⊎◌, common_steps, nat_tests, cases_lt, drop-append-le, drop-drop, drop-map, get_or-map, get_or_default, length-append, length-drop, length-map, map-append, append_assoc, Contains-append_cases, Contains-append_left, Contains-append_right, All-append, All-drop, All-nil, All-push, All-same, keep_last, get_or_from_slice_get, slice_get_within, All, Contains, slice_get, State, is_running, next_state, state_after, state_after-add, state_after-more, state_after-zero, stays_stopped, GivesUp, IsDue, IsKept, IsNearest, IsReplay, IsSpared, Keeps, Kept, Reaches, Trail, places_of, with_place}
 
 -- of the first n of these places, none at or before k is greater than p
 abbrev pub NoneNearer : List ℕ → ℕ → ℕ → ℕ → Type 0
 NoneNearer places n k p = (i : ℕ) → i < n → get_or places i 0 ≤ k → get_or places i 0 ≤ p
 
 pub none_first : (ps : List ℕ) (k p : ℕ) → NoneNearer ps 0 k p
-none_first ps k p i low = absurd (omega (arith, low))
+none_first ps k p i low = grind arith
 
 -- one place more
 none_more : (ps : List ℕ) (n k p q r : ℕ) → NoneNearer ps n k p → get_or ps n 0 ≡ q → p ≤ r → (q ≤ k → q ≤ r) → NoneNearer ps (n + 1) k r
-none_more ps n k p q r none is more next = grind (arith, nat_tests)
-
-contains_split : (ps : List ℕ) (x q k : ℕ) → k < length (x ∷ ps) → get_or (x ∷ ps) k q ≡ q → (x ≡ q) ⊎ Contains ps q
-contains_split ps x q k low is = grind (arith, nat_tests)
+none_more ps n k p q r none is more next = grind arith
 
 contains_cases : (ps : List ℕ) (x q : ℕ) → Contains (x ∷ ps) q → (x ≡ q) ⊎ Contains ps q
-contains_cases ps x q c = contains_split ps x q c.0 c.1 c.2
+contains_cases ps x q c = grind arith
 
 -- one element more in a list, and one less
 contains_more : (front ps : List ℕ) (x q : ℕ) → Contains (front ++ ps) q → Contains (front ++ x ∷ ps) q
@@ -59,7 +43,7 @@ place_at place cs i c is =
 
 -- all places looked at, and the start
 pub nearest_is : (ps : List ℕ) (n k p : ℕ) → Contains (0 ∷ ps) p → p ≤ k → NoneNearer ps n k p → length ps ≤ n → IsNearest (0 ∷ ps) k p
-nearest_is ps n k p among low none whole = grind (arith, nat_tests, contains_cases, get_or_default)
+nearest_is ps n k p among low none whole = grind (arith, nat_tests, get_or_default)
 
 -- one more place at hand
 pub nearest_with : (ps : List ℕ) (k p t r : ℕ) → IsNearest (0 ∷ ps) k p → (r ≡ p) ⊎ (r ≡ t) → r ≤ k → p ≤ r → (t ≤ k → t ≤ r) → IsNearest (0 ∷ t ∷ ps) k r
@@ -113,10 +97,10 @@ stands s t n k here reached =
     ]
 
 pub reaches_is : (s t : State) (n k : ℕ) → t ≡ state_after n s → (n < k → is_running t.status ≡ false) → Reaches s n k
-reaches_is s t n k here stops before = ap (λ (u : State). is_running u.status) (sym here) ∙ stops before
+reaches_is s t n k here stops before = grind arith
 
 is_reached : (s t : State) (n k : ℕ) → t ≡ state_after n s → Reaches s n k → n < k → is_running t.status ≡ false
-is_reached s t n k here reaches before = ap (λ (u : State). is_running u.status) here ∙ reaches before
+is_reached s t n k here reaches before = grind arith
 
 -- no step is made to stay
 pub replay_none : (h : Trail) (k : ℕ) → h.place ≤ k → Reaches h.origin h.place k → IsReplay h k 0
@@ -141,19 +125,17 @@ replay_from h k r n at nearest within reaches is = record {
 
 -- one step on from the place before k
 pub next_place : (s t u : State) (k : ℕ) → t ≡ state_after (k - 1) s → 1 ≤ k → u ≡ next_state t → u ≡ state_after k s
-next_place s t u k here some step =
-    let next : k - 1 + 1 ≡ k = omega (arith, some) in
-    step ∙ ap next_state here ∙ sym (state_after-more (k - 1) s) ∙ ap (λ (i : ℕ). state_after i s) next
+next_place s t u k here some step = grind (arith, state_after-more)
 
 pub not_running : (b c : Bool) → b ≡ not c → b ≡ true → c ≡ false
-not_running b c is said = grind (arith, nat_tests)
+not_running b c is said = grind arith
 
 pub before_next : (s u : State) (k : ℕ) → u ≡ state_after k s → u ≡ state_after (k + 1 - 1) s
-before_next s u k here = grind (arith, nat_tests)
+before_next s u k here = grind arith
 
 -- the first state is at place 0
 pub start_is : (s t : State) (n : ℕ) → n ≡ 0 → t ≡ s → t ≡ state_after n s
-start_is s t n none is = is ∙ sym (state_after-zero s) ∙ ap (λ (k : ℕ). state_after k s) (sym none)
+start_is s t n none is = grind (arith, state_after-zero)
 
 -- n steps on from place k
 pub places_on : (s t u : State) (k n m : ℕ) → t ≡ state_after k s → u ≡ state_after n t → m ≡ k + n → u ≡ state_after m s
@@ -179,14 +161,14 @@ pub none_more_at : {C : Type 0} (place : C → ℕ) (cs : List C) (ps : List ℕ
 none_more_at place cs ps i k p b c whole is none more next = grind (arith, nat_tests, none_more, place_at)
 
 pub all_places : {C : Type 0} (place : C → ℕ) (cs : List C) (ps : List ℕ) (n : ℕ) → map place cs ≡ ps → length cs ≤ n → length ps ≤ n
-all_places place cs ps n whole long = omega (arith, long, length-map cs place, ap length whole)
+all_places place cs ps n whole long = grind (arith, length-map)
 
 -- an item that is read is one of them
 pub all_at : {C : Type 0} (P : C → Type 0) (cs : List C) (i : ℕ) (c : C) → All P cs → slice_get cs i ≡ Some c → P c
-all_at P cs i c all is = subst P (get_or_from_slice_get cs i c c is) (all i c (slice_get_within cs i c is))
+all_at P cs i c all is = grind (arith, get_or_from_slice_get, slice_get_within)
 
 pub one_of : {C : Type 0} (P : C → Type 0) (a b c : C) → (c ≡ a) ⊎ (c ≡ b) → P a → P b → P c
-one_of P a b c one first second = grind (arith, nat_tests)
+one_of P a b c one first second = grind arith
 
 pub none_past : {C : Type 0} (cs : List C) (i : ℕ) → slice_get cs i ≡ None → i < length cs → ⊥
 none_past [] i none low = omega (arith, low)
@@ -195,10 +177,10 @@ none_past (c ∷ cs) (suc i) none low = none_past cs i none (omega (arith, low))
 
 -- what a read answers, as the value behind it
 pub read_is : {B C : Type 0} (now : B → C) (r : Option B) (cs : List C) (i : ℕ) (b : B) → option_map now r ≡ slice_get cs i → r ≡ Some b → slice_get cs i ≡ Some (now b)
-read_is now r cs i b read is = sym read ∙ ap (option_map now) is
+read_is now r cs i b read is = grind arith
 
 pub read_none : {B C : Type 0} (now : B → C) (r : Option B) (cs : List C) (i : ℕ) → option_map now r ≡ slice_get cs i → r ≡ None → slice_get cs i ≡ None
-read_none now r cs i read is = sym read ∙ ap (option_map now) is
+read_none now r cs i read is = grind arith
 
 -- the places of the machines that are kept with one more
 pub places_kept : {C : Type 0} (place : C → ℕ) (cs : List C) (c : C) (ps : List ℕ) (room : ℕ) → map place cs ≡ ps → room ≡ 64 → map place (keep_last room (cs ++ c ∷ [])) ≡ with_place ps (place c)
@@ -206,10 +188,10 @@ places_kept place cs c ps room is full = grind (arith, common_steps, drop-map, l
 
 -- a checkpoint is due where the nearest one stands elsewhere
 pub is_due : (ps : List ℕ) (k p : ℕ) → k % 1024 ≡ 0 → IsNearest (0 ∷ ps) k p → p ≢ k → IsDue ps k
-is_due ps k p round nearest other = (round, λ c. other (omega (arith, nearest.at_most, nearest.greatest k c (omega arith))))
+is_due ps k p round nearest other = grind arith
 
 pub spared_all : (a b : Kept) → b ≡ a → IsSpared a b
-spared_all a b same = grind (arith, nat_tests)
+spared_all a b same = grind arith
 
 -- what was only given up is kept
 spared_keeps : (gave_up : Bool) (ps qs : List ℕ) → GivesUp gave_up ps qs → Keeps gave_up ps qs
@@ -229,14 +211,10 @@ pub kept_all : (a b : Kept) → b ≡ a → IsKept a b
 kept_all a b same = kept_spared a b (spared_all a b same)
 
 keeps_one : (gave_up : Bool) (ps qs : List ℕ) (k : ℕ) → k % 1024 ≡ 0 → qs ≡ with_place ps k → Keeps gave_up ps qs
-keeps_one gave_up ps qs k round is = grind (arith, nat_tests)
-
--- one after another
-spared_gives : (f g : Bool) (ps qs rs : List ℕ) → (g ≡ false → f ≡ false) → GivesUp f ps qs → GivesUp g qs rs → GivesUp g ps rs
-spared_gives f g ps qs rs told a b = grind (arith, nat_tests, drop-drop, length-drop)
+keeps_one gave_up ps qs k round is = grind arith
 
 pub spared_on : (a b c : Kept) → IsSpared a b → IsSpared b c → IsSpared a c
-spared_on a b c first second = grind (arith, nat_tests, spared_gives)
+spared_on a b c first second = grind (arith, nat_tests, drop-drop, length-drop)
 
 keeps_on : (f g : Bool) (ps qs rs : List ℕ) → (g ≡ false → f ≡ false) → Keeps f ps qs → Keeps g qs rs → Keeps g ps rs
 keeps_on f g ps qs rs told a b =
@@ -258,7 +236,7 @@ kept_on a b c first second = grind (arith, nat_tests, keeps_on)
 
 -- since these places were those of that run
 pub keeps_since : (ps : List ℕ) (a b : Kept) → a.places ≡ ps → IsKept a b → Keeps b.gave_up ps b.places
-keeps_since ps a b same kept = subst (λ (xs : List ℕ). Keeps b.gave_up xs b.places) same kept.keeps
+keeps_since ps a b same kept = grind arith
 
 -- one place more
 pub kept_one : (a b c : Kept) (k : ℕ) → k % 1024 ≡ 0 → IsSpared a b → c.origin ≡ b.origin → c.places ≡ with_place b.places k → c.gave_up ≡ b.gave_up → IsKept a c
@@ -271,11 +249,11 @@ kept_one a b c k round spared origin places told =
 
 -- a machine's own place is the nearest to itself
 pub own_place : (ps : List ℕ) (t p : ℕ) → IsNearest (0 ∷ t ∷ ps) t p → p ≡ t
-own_place ps t p nearest = omega (arith, nearest.at_most, nearest.greatest t (1, omega arith, refl) (omega arith))
+own_place ps t p nearest = grind arith
 
 -- one step on from place k
 pub step_on : (s t u : State) (k m : ℕ) → t ≡ state_after k s → u ≡ next_state t → m ≡ k + 1 → u ≡ state_after m s
-step_on s t u k m here step is = step ∙ ap next_state here ∙ sym (state_after-more k s) ∙ ap (λ (i : ℕ). state_after i s) (sym is)
+step_on s t u k m here step is = grind (arith, state_after-more)
 
 -- a place that is not the nearest may be given up
 nearest_without_split : (ps : List ℕ) (k t x r p : ℕ) → IsNearest (0 ∷ t ∷ x ∷ ps) k r → r ≢ x → IsNearest (0 ∷ t ∷ ps) k p → r ≡ p

@@ -1,29 +1,19 @@
 -- Searches of a run for a place to stop.
-use Rattle.std.proofs.Common.{◌≡◌, ◌≢◌, ℕ, zero, suc, ◌+◌, ◌-◌, ◌<◌, ◌≤◌, Bool, true, false, List, [], length, refl, sym, ap, ◌∙◌, arith, inl, inr, ◌⊎◌, if◌then◌else◌}
-use Rattle.std.specs.Prelude.{◌==◌, ℤ}
-use Rattle.std.proofs.lemmas.Bool.{cases_lt}
-use Rattle.std.proofs.lemmas.Bool.Decides.{nat_tests}
-use Rattle.std.proofs.lemmas.Grind.{common_steps}
-use Rattle.bpf_machine.specs.State.{State}
-use Rattle.bpf_machine.specs.Step.{is_running}
-use Rattle.bpf_machine.specs.Trace.{state_after}
-use Rattle.bpf_machine.specs.Laws.{goes_on, stays_stopped}
-use Rattle.history.specs.Search.{first_stop, is_at, is_stop, last_stop, FirstIsLeast, IsFirst, IsLast, LastIsGreatest}
-use Rattle.history.specs.Trail.{Reaches}
+use Rattle.history.proofs.Prelude.{◌≡◌, ◌≢◌, ℕ, zero, suc, ◌+◌, ◌-◌, ◌<◌, ◌≤◌, Bool, true, false, List, [], length, refl, sym, ap, ◌∙◌, arith, inl, inr, ◌⊎◌, if◌then◌else◌, ◌==◌, ℤ, cases_lt, nat_tests, common_steps, State, is_running, state_after, goes_on, stays_stopped, first_stop, is_at, is_stop, last_stop, FirstIsLeast, IsFirst, IsLast, LastIsGreatest, Reaches}
 
 -- of places of which none is before another there is one
 only : (P : ℕ → Type 0) → ((i j : ℕ) → P i → P j → i < j → ⊥) → (x j : ℕ) → P x → (P j → j ≡ x) × (j ≡ x → P j)
-only P apart x j here = grind (arith, nat_tests)
+only P apart x j here = grind arith
 
 -- of two least places, neither is before the other
 first_not_before : (stops : List ℕ) (s : State) (k n i j : ℕ) → IsFirst stops s k n i → IsFirst stops s k n j → i < j → ⊥
-first_not_before stops s k n i j one other before = grind (arith, nat_tests)
+first_not_before stops s k n i j one other before = grind arith
 
 first_step : (stops : List ℕ) (s : State) (k n j : ℕ) (here : Bool) → is_stop stops (state_after (k + 1) s) ≡ here → IsFirst stops s (k + 1) (suc n) j → IsFirst stops s k (suc (suc n)) (if here then k + 1 else j)
-first_step stops s k n j here is later = grind (arith, nat_tests)
+first_step stops s k n j here is later = grind arith
 
 first_last : (stops : List ℕ) (s : State) (k : ℕ) (here : Bool) → IsFirst stops s k 1 (if here then k + 1 else k + 1)
-first_last stops s k here = grind (arith, nat_tests)
+first_last stops s k here = grind arith
 
 first_stop-is : (stops : List ℕ) (s : State) (n k : ℕ) → IsFirst stops s k (suc n) (first_stop stops s k (suc n))
 unfolding first_stop
@@ -35,53 +25,37 @@ first_stop-some stops s k zero some = absurd (omega (arith, some))
 first_stop-some stops s k (suc n) some = first_stop-is stops s n k
 
 pub first_only : FirstIsLeast
-first_only stops s k n j some = only (IsFirst stops s k n) (first_not_before stops s k n) (first_stop stops s k n) j (first_stop-some stops s k n some)
-
--- of two greatest places, neither is before the other
-last_not_before : (stops : List ℕ) (s : State) (k i j : ℕ) → IsLast stops s k i → IsLast stops s k j → i < j → ⊥
-last_not_before stops s k i j one other before = grind (arith, nat_tests)
+first_only stops s k n j some = grind (arith, only, first_not_before, first_stop-some)
 
 last_step : (stops : List ℕ) (s : State) (k j : ℕ) (here : Bool) → is_at stops (state_after k s).pc ≡ here → IsLast stops s k j → IsLast stops s (suc k) (if here then k else j)
-last_step stops s k j here is earlier = grind (arith, nat_tests)
+last_step stops s k j here is earlier = grind arith
 
 last_stop-is : (stops : List ℕ) (s : State) (k : ℕ) → IsLast stops s k (last_stop stops s k)
 unfolding last_stop
-last_stop-is stops s zero = record {
-  before = inr refl;
-  none_after = λ i after before. absurd (omega (arith, before));
-  stops_there = λ some. absurd (some refl);
-}
+last_stop-is stops s zero = grind arith
 last_stop-is stops s (suc k) = last_step stops s k (last_stop stops s k) (is_at stops (state_after k s).pc) refl (last_stop-is stops s k)
 
 pub last_only : LastIsGreatest
-last_only stops s k j = only (IsLast stops s k) (last_not_before stops s k) (last_stop stops s k) j (last_stop-is stops s k)
+last_only stops s k j = grind (arith, nat_tests, last_stop-is)
 
 -- no place after k and before j at which the run is to stop
 abbrev pub NoneBefore : List ℕ → State → ℕ → ℕ → Type 0
 NoneBefore stops s k j = (i : ℕ) → k < i → i < j → is_stop stops (state_after i s) ≡ false
 
 pub none_first : (stops : List ℕ) (s : State) (k j : ℕ) → j ≡ k + 1 → NoneBefore stops s k j
-none_first stops s k j next i after before = absurd (omega (arith, next, after, before))
+none_first stops s k j next i after before = grind arith
 
 -- the run goes on at j, too
 pub none_further : (stops : List ℕ) (s t : State) (k j : ℕ) (here : Bool) → NoneBefore stops s k j → t ≡ state_after j s → here ≡ is_stop stops t → here ≡ false → NoneBefore stops s k (j + 1)
-none_further stops s t k j here none is said goes_on = grind (arith, nat_tests)
+none_further stops s t k j here none is said goes_on = grind arith
 
 -- the run is to stop at j, and at none before
 pub found_here : (stops : List ℕ) (s t : State) (k to j : ℕ) (here : Bool) → NoneBefore stops s k j → k < j → j < to → t ≡ state_after j s → here ≡ is_stop stops t → here ≡ true → j ≡ first_stop stops s k (to - k)
-found_here stops s t k to j here none after before is said stops_here = grind (arith, nat_tests, first_only)
+found_here stops s t k to j here none after before is said stops_here = grind (arith, nat_tests, only, first_not_before, first_stop-some)
 
 -- the run is to stop at no place before the last one
 pub found_none : (stops : List ℕ) (s : State) (k to j : ℕ) → NoneBefore stops s k j → k < to → to ≤ j → to ≡ first_stop stops s k (to - k)
-found_none stops s k to j none some ends =
-    let whole : to ≡ k + (to - k) = omega (arith, some) in
-    (first_only stops s k (to - k) to (omega (arith, some))).0
-    (record {
-      after = some;
-      within = omega (arith, some);
-      none_before = λ i after before. none i after (omega (arith, before, ends));
-      stops_there = λ other. absurd (other whole);
-    })
+found_none stops s k to j none some ends = grind (arith, only, first_not_before, first_stop-some)
 
 -- no place from j on and before k whose `pc` is one of these slots
 abbrev pub NoneFrom : List ℕ → State → ℕ → ℕ → Type 0
@@ -89,28 +63,25 @@ NoneFrom stops s j k = (i : ℕ) → j ≤ i → i < k → is_at stops (state_af
 
 -- no breakpoint from place 0 on
 pub found_first : (stops : List ℕ) (s : State) (j k : ℕ) → NoneFrom stops s j k → j ≡ 0 → 0 ≡ last_stop stops s k
-found_first stops s j k none start = grind (arith, nat_tests, last_only)
+found_first stops s j k none start = grind (arith, nat_tests, last_stop-is)
 
 -- no slot, no breakpoint
 at_none : (pc : ℤ) → is_at [] pc ≡ false
 unfolding is_at
-at_none pc = grind (arith, nat_tests)
+at_none pc = grind arith
 
 last_of_none : (s : State) (k : ℕ) → 0 ≡ last_stop [] s k
 unfolding last_stop
 last_of_none s zero = refl
 last_of_none s (suc k) = rw (at_none (state_after k s).pc) (last_of_none s k)
 
-no_slots : (stops : List ℕ) → (length stops == 0) ≡ true → stops ≡ []
-no_slots stops none = grind (arith, common_steps)
-
 -- without slots the last place is place 0
 pub found_empty : (stops : List ℕ) (s : State) (k : ℕ) → (length stops == 0) ≡ true → 0 ≡ last_stop stops s k
-found_empty stops s k none = last_of_none s k ∙ ap (λ (slots : List ℕ). last_stop slots s k) (sym (no_slots stops none))
+found_empty stops s k none = grind (arith, last_of_none, common_steps)
 
 is_stop-stopped : (stops : List ℕ) (t : State) → is_running t.status ≡ false → is_stop stops t ≡ true
 unfolding is_stop
-is_stop-stopped stops t stopped = rw stopped
+is_stop-stopped stops t stopped = grind arith
 
 -- behind a stopped state, and at the last place, the next one is the answer
 pub found_next : (stops : List ℕ) (s : State) (k to : ℕ) → k < to → Reaches s k (to - 1) → k + 1 ≡ first_stop stops s k (to - k)
@@ -126,21 +97,17 @@ found_next stops s k to some reaches =
           sym last ∙ found_none stops s k to (k + 1) (none_first stops s k (k + 1) refl) some (omega (arith, last))
     ]
 
--- before place 1 there is place 0 alone, which is the answer either way
-last_alone : (k : ℕ) (here : Bool) → 0 ≡ k → 0 ≡ (if here then 0 else k)
-last_alone k here is = grind (arith, nat_tests)
-
 pub last_none : (stops : List ℕ) (s : State) → 0 ≡ last_stop stops s 1
 unfolding last_stop
-last_none stops s = last_alone 0 (is_at stops (state_after 0 s).pc) refl
+last_none stops s = grind arith
 
 pub last_here_is : (stops : List ℕ) (s t : State) (k : ℕ) (here : Bool) → t ≡ state_after k s → here ≡ is_at stops t.pc → here ≡ true → k ≡ last_stop stops s (k + 1)
 unfolding last_stop
-last_here_is stops s t k here is said stops_here = grind (arith, nat_tests)
+last_here_is stops s t k here is said stops_here = grind arith
 
 pub last_stays : (stops : List ℕ) (s t : State) (k j : ℕ) (here : Bool) → t ≡ state_after k s → here ≡ is_at stops t.pc → here ≡ false → j ≡ last_stop stops s k → j ≡ last_stop stops s (k + 1)
 unfolding last_stop
-last_stays stops s t k j here is said goes_on before = grind (arith, nat_tests)
+last_stays stops s t k j here is said goes_on before = grind arith
 
 -- the run stands before place k, with a breakpoint there
 pub last_stands : (stops : List ℕ) (s t : State) (k n : ℕ) (here : Bool) → t ≡ state_after (k - 1) s → is_running t.status ≡ false → k ≤ n → 0 < n → here ≡ is_at stops t.pc → here ≡ true → n - 1 ≡ last_stop stops s n
@@ -171,9 +138,7 @@ last_stands_not stops s t k n j here is stopped later said goes_on last =
     })
 
 pub last_low : (stops : List ℕ) (s : State) (n j : ℕ) → 0 < n → j ≡ last_stop stops s n → j < n
-last_low stops s n j some last =
-    let is : IsLast stops s n j = (last_only stops s n j).1 last in
-    elim is.before [ inl low ↦ low | inr none ↦ omega (arith, none, some) ]
+last_low stops s n j some last = grind (arith, nat_tests, last_stop-is)
 
 -- none after the answer of the stretch from p to end, nor behind end
 none_after_last : (stops : List ℕ) (s t : State) (p end k j i : ℕ) → t ≡ state_after p s → NoneFrom stops s end k → IsLast stops t (end - p) j → p + j < i → i < k → is_at stops (state_after i s).pc ≡ false

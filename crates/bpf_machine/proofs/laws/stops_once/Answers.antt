@@ -1,4 +1,4 @@
-use Rattle.bpf_machine.specs.Laws.{stop_place_only}
+use Rattle.bpf_machine.proofs.Prelude.{stop_place_only}
 use Rattle.bpf_machine.proofs.laws.stops_once.Goals as goal
 
 pub returns : goal.returns

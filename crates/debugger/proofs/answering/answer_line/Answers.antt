@@ -1,5 +1,4 @@
-use Rattle.std.proofs.Common.{◌∙◌, ap, refl, sym, false, Bool}
-use Rattle.debugger.specs.Answers.{world_at}
+use Rattle.debugger.proofs.Prelude.{◌∙◌, ap, refl, sym, false, Bool, world_at}
 use Rattle.debugger.proofs.Asked.{answers_granted, answers_refused}
 use Rattle.debugger.proofs.answering.answer_line.Goals as goal
 

@@ -1,4 +1,4 @@
-use Rattle.std.proofs.Common.{length}
+use Rattle.debugger.proofs.Prelude.{length}
 use Rattle.debugger.proofs.command.+value.Given as goal
 
 abbrev pub decreases-value : goal.decreases-value

@@ -1,4 +1,4 @@
-use Rattle.std.proofs.Common.{◌≡◌, length}
+use Rattle.debugger.proofs.Prelude.{◌≡◌, length}
 use Rattle.debugger.proofs.Shown.{ReadsLow}
 use Rattle.debugger.proofs.inspecting.read_bytes.Given as goal
 

@@ -1,4 +1,4 @@
-use Rattle.std.proofs.Common.{ℕ, List, Some, None, length, arith, refl, sym, ap, ◌∙◌, rules}
+use Rattle.debugger.proofs.Prelude.{ℕ, List, Some, None, length, arith, refl, sym, ap, ◌∙◌, rules}
 use Rattle.debugger.proofs.Shown.{count_within, row_lent, shows, shows_low}
 use Rattle.debugger.proofs.inspecting.show_bytes.Goals as goal
 

@@ -1,5 +1,4 @@
-use Rattle.std.proofs.Common.{◌≡◌, ◌-◌, ◌++◌, string_bytes}
-use Rattle.debugger.specs.Listing.{listing_lines}
+use Rattle.debugger.proofs.Prelude.{◌≡◌, ◌-◌, ◌++◌, string_bytes, listing_lines}
 use Rattle.debugger.proofs.listing.listing.Given as goal
 
 abbrev pub invariant-loop-listed : goal.invariant-loop-listed

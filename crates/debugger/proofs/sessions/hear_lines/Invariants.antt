@@ -1,5 +1,4 @@
-use Rattle.std.proofs.Common.{◌≡◌, ℕ, List, Some}
-use Rattle.debugger.specs.Told.{Going}
+use Rattle.debugger.proofs.Prelude.{◌≡◌, ℕ, List, Some, Going}
 use Rattle.debugger.proofs.sessions.hear_lines.Given as goal
 
 abbrev pub invariant-loop-i : goal.invariant-loop-i

@@ -1,8 +1,4 @@
-use Rattle.std.proofs.Common.{subst, sym}
-use Rattle.bpf_machine.specs.State.{State}
-use Rattle.debugger.specs.Streams.{stream}
-use Rattle.debugger.specs.Told.{IsSession}
-use Rattle.debugger.specs.Inspection.{StaysSized}
+use Rattle.debugger.proofs.Prelude.{subst, sym, State, stream, IsSession, StaysSized}
 use Rattle.debugger.proofs.Sizes.{stays_sized}
 use Rattle.debugger.proofs.sessions.session.Goals as goal
 

@@ -1,4 +1,4 @@
-use Rattle.std.proofs.Common.{rules, arith, ◌≡◌}
+use Rattle.debugger.proofs.Prelude.{rules, arith, ◌≡◌}
 use Rattle.debugger.proofs.Bytes.{first_byte, no_byte}
 use Rattle.debugger.proofs.transfer.next_byte.Goals as goal
 

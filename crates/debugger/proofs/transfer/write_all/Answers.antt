@@ -1,4 +1,4 @@
-use Rattle.std.proofs.Common.{rules, arith, refl, ◌∙◌, ◌<◌, ◌+◌}
+use Rattle.debugger.proofs.Prelude.{rules, arith, refl, ◌∙◌, ◌<◌, ◌+◌}
 use Rattle.debugger.proofs.Bytes.{adds_more, adds_none}
 use Rattle.debugger.proofs.transfer.write_all.Goals as goal
 

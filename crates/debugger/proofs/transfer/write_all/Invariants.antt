@@ -1,5 +1,4 @@
-use Rattle.std.proofs.Common.{◌≡◌, ◌-◌, ◌≤◌, take, length}
-use Rattle.debugger.specs.Streams.{AddsBytes}
+use Rattle.debugger.proofs.Prelude.{◌≡◌, ◌-◌, ◌≤◌, take, length, AddsBytes}
 use Rattle.debugger.proofs.transfer.write_all.Given as goal
 
 abbrev pub invariant-loop-at : goal.invariant-loop-at

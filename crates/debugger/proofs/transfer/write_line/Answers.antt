@@ -1,4 +1,4 @@
-use Rattle.std.proofs.Common.{[], ◌∷◌, ◌++◌}
+use Rattle.debugger.proofs.Prelude.{[], ◌∷◌, ◌++◌}
 use Rattle.debugger.proofs.Parts.{part_between, part_left, whole_behind}
 use Rattle.debugger.proofs.transfer.write_line.Goals as goal
 

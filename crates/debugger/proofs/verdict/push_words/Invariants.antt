@@ -1,5 +1,4 @@
-use Rattle.std.proofs.Common.{◌≡◌, ◌++◌, string_bytes}
-use Rattle.debugger.specs.Verdict.{word_lines}
+use Rattle.debugger.proofs.Prelude.{◌≡◌, ◌++◌, string_bytes, word_lines}
 use Rattle.debugger.proofs.verdict.push_words.Given as goal
 
 abbrev pub invariant-loop-i : goal.invariant-loop-i

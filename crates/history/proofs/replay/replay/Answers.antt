@@ -1,5 +1,4 @@
-use Rattle.std.proofs.Common.{◌∙◌, arith, sym, ap}
-use Rattle.bpf_machine.specs.Trace.{state_after}
+use Rattle.history.proofs.Prelude.{◌∙◌, arith, sym, ap, state_after}
 use Rattle.history.proofs.Places.{kept_on, places_on}
 use Rattle.history.proofs.replay.replay.Goals as goal
 

@@ -1,5 +1,4 @@
-use Rattle.std.proofs.Common.{◌≤◌, ◌-◌}
-use Rattle.history.specs.Trail.{IsCheckpoint, IsKept}
+use Rattle.history.proofs.Prelude.{◌≤◌, ◌-◌, IsCheckpoint, IsKept}
 use Rattle.history.proofs.replay.replay.Given as goal
 
 abbrev pub invariant-loop-place : goal.invariant-loop-place

@@ -1,5 +1,4 @@
-use Rattle.std.proofs.Common.{◌∙◌, ap, rules, sym}
-use Rattle.bpf_machine.specs.Trace.{state_after}
+use Rattle.history.proofs.Prelude.{◌∙◌, ap, rules, sym, state_after}
 use Rattle.history.proofs.Places.{kept_on, kept_spared, step_on}
 use Rattle.history.proofs.replay.replay_sparing.Goals as goal
 

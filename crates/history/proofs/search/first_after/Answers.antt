@@ -1,5 +1,4 @@
-use Rattle.std.proofs.Common.{◌+◌, ◌<◌, ◌∙◌, ap, arith, sym}
-use Rattle.bpf_machine.specs.Trace.{state_after}
+use Rattle.history.proofs.Prelude.{◌+◌, ◌<◌, ◌∙◌, ap, arith, sym, state_after}
 use Rattle.history.proofs.Places.{kept_on, kept_spared, own_place, reaches_is, step_on}
 use Rattle.history.proofs.Searches.{found_here, found_next, found_none, none_first, none_further}
 use Rattle.history.proofs.search.first_after.Goals as goal

@@ -1,5 +1,4 @@
-use Rattle.std.proofs.Common.{◌≡◌, ◌+◌}
-use Rattle.history.specs.Trail.{IsCheckpoint, IsKept}
+use Rattle.history.proofs.Prelude.{◌≡◌, ◌+◌, IsCheckpoint, IsKept}
 use Rattle.history.proofs.Searches.{NoneBefore}
 use Rattle.history.proofs.search.first_after.Given as goal
 

@@ -1,5 +1,4 @@
-use Rattle.std.proofs.Common.{◌-◌, ◌<◌, ◌∙◌, ap, inl, inr, arith, sym}
-use Rattle.bpf_machine.specs.Trace.{state_after}
+use Rattle.history.proofs.Prelude.{◌-◌, ◌<◌, ◌∙◌, ap, inl, inr, arith, sym, state_after}
 use Rattle.history.proofs.Places.{spared_on}
 use Rattle.history.proofs.Searches.{found_empty, found_first, found_in_stretch, last_low, none_in_stretch}
 use Rattle.history.proofs.search.last_before.Goals as goal

@@ -1,5 +1,4 @@
-use Rattle.std.proofs.Common.{◌≡◌, ◌≤◌}
-use Rattle.history.specs.Trail.{IsSpared}
+use Rattle.history.proofs.Prelude.{◌≡◌, ◌≤◌, IsSpared}
 use Rattle.history.proofs.Searches.{NoneFrom}
 use Rattle.history.proofs.search.last_before.Given as goal
 

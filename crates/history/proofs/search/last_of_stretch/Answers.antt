@@ -1,5 +1,4 @@
-use Rattle.std.proofs.Common.{◌∙◌, arith, refl, sym}
-use Rattle.bpf_machine.specs.Laws.{state_after-zero}
+use Rattle.history.proofs.Prelude.{◌∙◌, arith, refl, sym, state_after-zero}
 use Rattle.history.proofs.Searches.{last_here_is, last_none, last_stands, last_stands_not, last_stays}
 use Rattle.history.proofs.Places.{before_next, next_place, not_running, spared_all, spared_on}
 use Rattle.history.proofs.search.last_of_stretch.Goals as goal

@@ -1,7 +1,4 @@
-use Rattle.std.proofs.Common.{◌≡◌, ◌-◌, ◌+◌}
-use Rattle.bpf_machine.specs.Trace.{state_after}
-use Rattle.history.specs.Search.{last_stop}
-use Rattle.history.specs.Trail.{IsSpared}
+use Rattle.history.proofs.Prelude.{◌≡◌, ◌-◌, ◌+◌, state_after, last_stop, IsSpared}
 use Rattle.history.proofs.search.last_of_stretch.Given as goal
 
 abbrev pub invariant-loop-place : goal.invariant-loop-place

@@ -1,4 +1,4 @@
-use Rattle.std.proofs.Common.{arith, refl, rules}
+use Rattle.debugger.proofs.Prelude.{arith, refl, rules}
 use Rattle.debugger.proofs.MemoryLines.{lines_first, lines_none, lines_one, some_bytes}
 use Rattle.debugger.proofs.answer_text.AnswerText.+push_memory.Goals as goal
 

@@ -1,4 +1,4 @@
-use Rattle.std.proofs.Common.{length}
+use Rattle.debugger.proofs.Prelude.{length}
 use Rattle.debugger.proofs.answer_text.AnswerText.+push_memory.Given as goal
 
 abbrev pub decreases-push_memory : goal.decreases-push_memory

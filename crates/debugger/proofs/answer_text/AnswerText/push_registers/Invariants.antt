@@ -1,5 +1,4 @@
-use Rattle.std.proofs.Common.{◌≡◌, ◌≤◌, ◌*◌, length}
-use Rattle.bpf_machine.specs.Text.{register_lines}
+use Rattle.debugger.proofs.Prelude.{◌≡◌, ◌≤◌, ◌*◌, length, register_lines}
 use Rattle.debugger.proofs.answer_text.AnswerText.push_registers.Given as goal
 
 abbrev pub invariant-loop-number : goal.invariant-loop-number

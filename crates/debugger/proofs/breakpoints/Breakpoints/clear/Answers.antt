@@ -1,6 +1,4 @@
-use Rattle.std.proofs.Common.{◌≡◌, ℕ, List, not, true, rules, ap, sym, subst, ◌∙◌}
-use Rattle.std.specs.Prelude.{filter, nat_eq}
-use Rattle.debugger.specs.Breakpoints.{in_order}
+use Rattle.debugger.proofs.Prelude.{◌≡◌, ℕ, List, not, true, rules, ap, sym, subst, ◌∙◌, filter, nat_eq, in_order}
 use Rattle.debugger.proofs.Slots.{filter_in_order, retained}
 use Rattle.debugger.proofs.breakpoints.Breakpoints.clear.Goals as goal
 

@@ -1,5 +1,4 @@
-use Rattle.std.proofs.Common.{◌≡◌, ℕ, List, true, false, ap, sym, subst, ◌∙◌}
-use Rattle.debugger.specs.Breakpoints.{has_breakpoint, in_order, with_breakpoint}
+use Rattle.debugger.proofs.Prelude.{◌≡◌, ℕ, List, true, false, ap, sym, subst, ◌∙◌, has_breakpoint, in_order, with_breakpoint}
 use Rattle.debugger.proofs.Halving.{has_none, none_refused, set_found, set_none, stays_ordered}
 use Rattle.debugger.proofs.breakpoints.Breakpoints.set.Goals as goal
 

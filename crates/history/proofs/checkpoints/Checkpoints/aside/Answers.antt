@@ -1,5 +1,4 @@
-use Rattle.std.proofs.Common.{◌∷◌, ℕ, ap, inl, inr, subst, sym}
-use Rattle.history.specs.Trail.{IsNearest}
+use Rattle.history.proofs.Prelude.{◌∷◌, ℕ, ap, inl, inr, subst, sym, IsNearest}
 use Rattle.history.proofs.Places.{nearest_with, nearest_without, spared_on}
 use Rattle.history.proofs.checkpoints.Checkpoints.aside.Goals as goal
 

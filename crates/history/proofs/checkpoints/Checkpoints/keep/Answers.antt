@@ -1,6 +1,4 @@
-use Rattle.std.proofs.Common.{◌≡◌, ◌∙◌, Bool, arith, ap, map, refl, subst, sym}
-use Rattle.bpf_machine.specs.Trace.{state_after}
-use Rattle.history.specs.Trail.{GivesUp, IsCheckpoint, with_place}
+use Rattle.history.proofs.Prelude.{◌≡◌, ◌∙◌, Bool, arith, ap, map, refl, subst, sym, state_after, GivesUp, IsCheckpoint, with_place}
 use Rattle.history.proofs.Places.{is_due, kept_all, kept_one, kept_spared, newest_all, own_place, places_kept}
 use Rattle.history.proofs.checkpoints.Checkpoints.keep.Given as given
 use Rattle.history.proofs.checkpoints.Checkpoints.keep.Goals as goal

@@ -1,6 +1,4 @@
-use Rattle.std.proofs.Common.{rules, ◌≡◌, Some, arith, sym, ap}
-use Rattle.std.specs.List.{slice_get}
-use Rattle.history.specs.Trail.{IsCheckpoint}
+use Rattle.history.proofs.Prelude.{rules, ◌≡◌, Some, arith, sym, ap, slice_get, IsCheckpoint}
 use Rattle.history.proofs.Places.{all_at, all_places, contains_at, nearest_is, none_first, none_more_at, none_past, one_of, read_is, read_none, start_is}
 use Rattle.history.proofs.checkpoints.Checkpoints.nearest.Goals as goal
 use Rattle.history.proofs.checkpoints.Checkpoints.nearest.Goals.{in-Some, in_default}

@@ -1,6 +1,4 @@
-use Rattle.std.proofs.Common.{◌∷◌, ◌≤◌}
-use Rattle.std.specs.List.{Contains}
-use Rattle.history.specs.Trail.{IsCheckpoint}
+use Rattle.history.proofs.Prelude.{◌∷◌, ◌≤◌, Contains, IsCheckpoint}
 use Rattle.history.proofs.Places.{NoneNearer}
 use Rattle.history.proofs.checkpoints.Checkpoints.nearest.Given as goal
 

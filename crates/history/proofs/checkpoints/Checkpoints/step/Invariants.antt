@@ -1,5 +1,4 @@
-use Rattle.std.proofs.Common.{◌≡◌, length}
-use Rattle.history.specs.Trail.{IsSpared}
+use Rattle.history.proofs.Prelude.{◌≡◌, length, IsSpared}
 use Rattle.history.proofs.checkpoints.Checkpoints.step.Given as goal
 
 abbrev pub invariant-loop-self : goal.invariant-loop-self

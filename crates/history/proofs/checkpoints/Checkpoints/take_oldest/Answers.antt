@@ -1,5 +1,4 @@
-use Rattle.std.proofs.Common.{ap, ◌∙◌}
-use Rattle.history.specs.Trail.{IsCheckpoint}
+use Rattle.history.proofs.Prelude.{ap, ◌∙◌, IsCheckpoint}
 use Rattle.history.proofs.Places.{rest_all}
 use Rattle.history.proofs.checkpoints.Checkpoints.take_oldest.Goals as goal
 

@@ -1,5 +1,4 @@
-use Rattle.std.proofs.Common.{◌∙◌, sym}
-use Rattle.bpf_machine.specs.Laws.{state_after-zero}
+use Rattle.history.proofs.Prelude.{◌∙◌, sym, state_after-zero}
 use Rattle.history.proofs.past.PastHistory.begin.Goals as goal
 
 pub invariant_of-result : goal.invariant_of-result

@@ -1,7 +1,4 @@
-use Rattle.std.proofs.Common.{◌∙◌, ◌∷◌, List, ℕ, ap, refl, subst, sym}
-use Rattle.bpf_machine.specs.State.{State}
-use Rattle.bpf_machine.specs.Trace.{state_after}
-use Rattle.history.specs.Trail.{IsNearest, Reaches}
+use Rattle.history.proofs.Prelude.{◌∙◌, ◌∷◌, List, ℕ, ap, refl, subst, sym, State, state_after, IsNearest, Reaches}
 use Rattle.history.proofs.Places.{keeps_since, kept_all, kept_on, kept_spared, reaches_is, replay_from, replay_none, shown_again, stands}
 use Rattle.history.proofs.past.PastHistory.go.Goals as goal
 

@@ -1,6 +1,4 @@
-use Rattle.std.proofs.Common.{ℕ, List, ap, ◌∙◌}
-use Rattle.std.specs.Prelude.{nat_eq}
-use Rattle.std.specs.List.{list_any}
+use Rattle.history.proofs.Prelude.{ℕ, List, ap, ◌∙◌, nat_eq, list_any}
 use Rattle.history.proofs.Halving.{found}
 use Rattle.history.proofs.stops.Stops.contains.Goals as goal
 
