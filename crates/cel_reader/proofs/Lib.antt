@@ -2,8 +2,9 @@ pub mod Names
 pub mod Ranks
 pub mod Prefixed
 pub mod Steps
+pub mod Lists
 pub mod Sound
-pub mod Rooms
+pub mod Loose
 pub mod Openings
 pub mod FirstWords
 pub mod Stops
@@ -13,7 +14,6 @@ pub mod Plans
 pub mod Theorems
 pub mod Alike
 pub mod Local
-pub mod Carried
 pub mod Completed
 pub mod Places
 pub mod Told
@@ -21,3 +21,4 @@ pub mod OneAnswer
 pub mod Runs
 pub mod WellFormedTrees
 pub mod TreeLists
+pub mod Prelude

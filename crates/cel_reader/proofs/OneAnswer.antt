@@ -1,17 +1,5 @@
 -- A text has one answer.
-use Rattle.std.proofs.Common.{◌≡◌, ℕ, suc, ◌+◌, ◌<◌, ◌≤◌, List, [], ◌∷◌, ◌++◌, length, take, drop, Ok, Err, refl, sym, ◌∙◌, ap, subst, inl, inr, arith}
-use Rattle.std.proofs.lemmas.Bool.{cases_order}
-use Rattle.std.proofs.lemmas.List.{append_assoc, length-append, length-take, length-take-le, take-append-drop, take-append-le}
-use Rattle.cel_tokens.specs.Token.{Word, Lexeme}
-use Rattle.cel_tokens.specs.Lexis.{Lexes}
-use Rattle.cel_tokens.specs.declared.read_error.ReadError.{ReadError}
-use Rattle.cel_tokens.specs.declared.read_error.ReadError.TheVariants.{P4, P5, Memory}
-use Rattle.cel_tokens.proofs.OneReading.{one_end}
-use Rattle.cel_reader.specs.Tree.{view}
-use Rattle.cel_reader.specs.Look.{spoken}
-use Rattle.cel_reader.specs.Grammar.{Expression, One, Derives}
-use Rattle.cel_reader.specs.Answers.{place_at, Viable, MisfitAt, DeepAt, IsAnswer}
-use Rattle.cel_reader.specs.Laws.{GoesWrongOnce, HasOneAnswer}
+use Rattle.cel_reader.proofs.Prelude.{◌≡◌, ℕ, suc, ◌+◌, ◌<◌, ◌≤◌, List, [], ◌∷◌, ◌++◌, length, take, drop, Ok, Err, refl, sym, ◌∙◌, ap, subst, inl, inr, arith, cases_order, append_assoc, length-append, length-take, length-take-le, take-append-drop, take-append-le, Word, Lexeme, Lexes, ReadError, P4, P5, Memory, one_end, spoken, Expression, One, Derives, place_at, Viable, MisfitAt, DeepAt, IsAnswer, GoesWrongOnce, HasOneAnswer}
 use Rattle.cel_reader.proofs.Told.{one_list, not_refused, only_of, same_error}
 
 -- ---- words
@@ -102,7 +90,4 @@ one_refusal source e f is also = refused_once source e f (wrong source e is) (wr
 -- ---- answers
 
 pub one_answer : HasOneAnswer
-one_answer source (Ok x) (Ok y) is also = ap Ok (sym (only_of source (Ok y) also.answers is.answers.0 (view x) is.answers.1 is.answers.2))
-one_answer source (Ok x) (Err f) is also = absurd (also.some (ap Err (only_of source (Err f) also.answers is.answers.0 (view x) is.answers.1 is.answers.2)))
-one_answer source (Err e) (Ok y) is also = absurd (is.some (ap Err (only_of source (Err e) is.answers also.answers.0 (view y) also.answers.1 also.answers.2)))
-one_answer source (Err e) (Err f) is also = ap Err (one_refusal source e f is also)
+one_answer source h h2 is also = grind (arith, only_of, one_refusal)

@@ -1,33 +1,19 @@
 -- Where the reader's runs go wrong.
-use Rattle.std.proofs.Common.{◌≡◌, ℕ, suc, ◌+◌, ◌-◌, ◌<◌, List, [], ◌∷◌, ◌++◌, pos, map, length, take, drop, Ok, Err, Result, refl, sym, ◌∙◌, ap, subst, arith}
-use Rattle.std.proofs.lemmas.List.{append_assoc, length-append, drop-map}
-use Rattle.std.proofs.Math.Seq.{take-append_seam, take-append-add}
-use Rattle.cel_tokens.specs.Token.{Word, Lexeme, seen, int}
-use Rattle.cel_tokens.specs.declared.token.Token.{Token}
-use Rattle.cel_tokens.specs.Lexis.{Lexes}
+use Rattle.cel_reader.proofs.Prelude.{◌≡◌, ℕ, suc, ◌+◌, ◌-◌, ◌<◌, List, [], ◌∷◌, ◌++◌, pos, map, length, take, Err, Result, true, false, refl, sym, ◌∙◌, ap, subst, arith, append_assoc, length-append, drop-map, take-append_seam, take-append-add, Word, seen, int, Token, ReadError, P4, Tree, words, opens, Expression, One, Derives, Misfit, Deep, Got, Refused, Row, go, Reads, place_left, refused_at, place_at, Viable, MisfitAt, DeepAt, StandsAt, ToldAt, Refusal, Expr}
 use Rattle.cel_tokens.specs.Lexis as tokens
-use Rattle.cel_tokens.specs.declared.read_error.ReadError.{ReadError}
-use Rattle.cel_tokens.specs.declared.read_error.ReadError.TheVariants.{P4, P5}
-use Rattle.cel_reader.specs.Tree.{Tree}
-use Rattle.cel_reader.specs.Look.{words}
-use Rattle.cel_reader.specs.Grammar.{Expression, One, Derives}
-use Rattle.cel_reader.specs.Reading.{Misfit, Deep, Got, Refused, Row, Reads}
-use Rattle.cel_reader.specs.Place.{place_of, place_left, refused_at}
-use Rattle.cel_reader.specs.Answers.{place_at, Viable, MisfitAt, DeepAt, StandsAt, ToldAt, Placed}
-use Rattle.cel_reader.specs.declared.refusal.Refusal.{Refusal}
 use Rattle.cel_reader.specs.declared.refusal.Refusal.TheVariants as refusal
-use Rattle.cel_reader.specs.declared.expr.Expr.{Expr}
 use Rattle.cel_reader.proofs.Steps.{Fails, words_length}
-use Rattle.cel_reader.proofs.Alike.{Alike, here, there}
+use Rattle.cel_reader.proofs.Alike.{Alike, same, down}
 use Rattle.cel_reader.proofs.Local.{local}
-use Rattle.cel_reader.proofs.Carried.{carried}
-use Rattle.cel_reader.proofs.Completed.{Finishes, finishes, ended, at_misfit, with_one_more, in_row, nil, nought_whole}
-use Rattle.cel_reader.proofs.Theorems.{whole_sound, misfit_never, rest_never, deep_never}
+use Rattle.cel_reader.proofs.Loose.{loosely, carried}
+use Rattle.cel_reader.proofs.Sound.{sound}
+use Rattle.cel_reader.proofs.Completed.{Finishes, Opening, ended, nil, nought_whole}
+use Rattle.cel_reader.proofs.Theorems.{misfit_never, rest_never, deep_never}
 
 -- what both begin with
 front_of : {x y ws us : List Word} → Alike x y ws us → (front : List Word) × (ws ≡ front ++ x) × (us ≡ front ++ y)
-front_of (here e f) = ([], e, f)
-front_of (there {w = w} e f a) = let t = front_of a in (w ∷ t.0, e ∙ ap (λ (z : List Word). w ∷ z) t.1, f ∙ ap (λ (z : List Word). w ∷ z) t.2)
+front_of same = ([], refl, refl)
+front_of (down {w = w} a) = let t = front_of a in (w ∷ t.0, ap (λ (z : List Word). w ∷ z) t.1, ap (λ (z : List Word). w ∷ z) t.2)
 
 parts : (front rest ws : List Word) → ws ≡ front ++ rest → length ws ≡ length front + length rest
 parts front rest ws e = ap length e ∙ length-append front rest
@@ -60,11 +46,13 @@ viable_as : (room : ℕ) (ws us : List Word) → ws ≡ us → Viable room us �
 viable_as room ws us e v = subst (λ (x : List Word). Viable room x) (sym e) v
 
 -- what stands before the words left goes on to an expression
-goes_on : (room : ℕ) (ws rest : List Word) → Finishes (Row Expression) room ws rest → (front : List Word) × (ws ≡ front ++ rest) × Viable room front
-goes_on room ws rest (finishes more f) =
-    let x = f [] in
-    let t = front_of x.1 in
-    (t.0, t.1, (more ++ [], x.2.0, derived room x.0 (t.0 ++ (more ++ [])) x.2.0 t.2 x.2.1))
+goes_on : (room : ℕ) (ws rest : List Word) → Finishes (go (Row Expression)) room ws rest → (front : List Word) × (ws ≡ front ++ rest) × Viable room front
+goes_on room ws rest f = let t = front_of f.3 in (t.0, t.1, (f.1, f.2, derived room f.0 (t.0 ++ f.1) f.2 t.2 (sound f.4)))
+
+-- the bracket or question mark before the words left
+opening : (room : ℕ) (ws rest : List Word) → Opening false (go (Row Expression)) room ws rest
+    → (w : Word) × (opens w ≡ true) × Finishes (go (Row Expression)) room ws (w ∷ rest)
+opening room ws rest h = grind arith
 
 counted : (front rest ws : List Word) → ws ≡ front ++ rest → length ws - length rest ≡ length front
 counted front rest ws e = omega (arith, parts front rest ws e)
@@ -78,7 +66,7 @@ misfit_next front (w ∷ us) ws e r h room v =
 
 pub misfit_at : (ws rest : List Word) → Reads (Row Expression) 100 ws (Refused (Misfit rest)) → MisfitAt (length ws - length rest) ws
 misfit_at ws rest r =
-    let t = goes_on 100 ws rest (at_misfit (ended r)) in
+    let t = goes_on 100 ws rest (ended r) in
     let m : MisfitAt (length t.0) ws = (omega (arith, parts t.0 rest ws t.1), viable_as 100 (take (length t.0) ws) t.0 (front_is (length t.0) t.0 rest ws t.1 refl) t.2, misfit_next t.0 rest ws t.1 r) in
     subst (λ (n : ℕ). MisfitAt n ws) (sym (counted t.0 rest ws t.1)) m
 
@@ -90,13 +78,13 @@ rest_next front us ws w a e r h room v =
 
 pub rest_at : (ws us : List Word) (w : Word) (a : Tree) → Reads (Row Expression) 100 ws (Got (One a) (w ∷ us)) → MisfitAt (length ws - suc (length us)) ws
 rest_at ws us w a r =
-    let d = carried (whole_sound 100 ws (w ∷ us) a r) [] in
+    let d = carried (loosely r) [] in
     let t = front_of d.1 in
-    let m : MisfitAt (length t.0) ws = (omega (arith, parts t.0 (w ∷ us) ws t.1), viable_as 100 (take (length t.0) ws) t.0 (front_is (length t.0) t.0 (w ∷ us) ws t.1 refl) ([], a, derived 100 d.0 (t.0 ++ []) a t.2 d.2), rest_next t.0 us ws w a t.1 r) in
+    let m : MisfitAt (length t.0) ws = (omega (arith, parts t.0 (w ∷ us) ws t.1), viable_as 100 (take (length t.0) ws) t.0 (front_is (length t.0) t.0 (w ∷ us) ws t.1 refl) ([], a, derived 100 d.0 (t.0 ++ []) a t.2 (sound d.2)), rest_next t.0 us ws w a t.1 r) in
     subst (λ (n : ℕ). MisfitAt n ws) (sym (counted t.0 (w ∷ us) ws t.1)) m
 
 pub none_at : (ws : List Word) → ws ≡ [] → MisfitAt (length ws - length ws) ws
-none_at [] e = (omega arith, (int (pos 0) ∷ [], nil, nought_whole 100 []), λ h. absurd (omega (arith, h)))
+none_at [] e = (omega arith, (int (pos 0) ∷ [], nil, sound (nought_whole 100 [])), λ h. absurd (omega (arith, h)))
 none_at (w ∷ ws) e = absurd cc
 
 deep_next : (front ws rest : List Word) → ws ≡ front ++ rest → Reads (Row Expression) 100 ws (Refused (Deep rest)) → Viable 100 front → ⊥
@@ -106,8 +94,8 @@ deep_next front ws rest e r v =
 
 pub deep_at : (ws rest : List Word) → Reads (Row Expression) 100 ws (Refused (Deep rest)) → DeepAt (length ws - suc (length rest)) ws
 deep_at ws rest r =
-    let t = goes_on 101 ws rest (with_one_more (ended r)) in
-    let x = in_row (ended r) in
+    let t = goes_on 101 ws rest (ended r).0 in
+    let x = opening 100 ws rest (ended r).1 in
     let u = goes_on 100 ws (x.0 ∷ rest) x.2 in
     let n = counted u.0 (x.0 ∷ rest) ws u.1 in
     let k : suc (length ws - suc (length rest)) ≡ length t.0 = omega (arith, parts t.0 rest ws t.1, parts u.0 (x.0 ∷ rest) ws u.1) in
@@ -116,12 +104,8 @@ deep_at ws rest r =
     let h = front_next (length ws - suc (length rest)) x.0 u.0 rest ws u.1 n in
     (x.0, h ∙ ap (λ (y : List Word). y ++ x.0 ∷ []) (sym g), x.1, viable_as 100 (take (length ws - suc (length rest)) ws) u.0 g u.2, λ v. deep_next t.0 ws rest t.1 r (viable_as 100 t.0 (take (suc (length ws - suc (length rest))) ws) (sym f) v), viable_as 101 (take (suc (length ws - suc (length rest))) ws) t.0 f t.2)
 
-place_seen : (source : List ℕ) (len : ℕ) (ts : List Token) → place_of len ts ≡ place_at len (map (seen source) ts)
-place_seen source len [] = refl
-place_seen source len (t ∷ ts) = refl
-
 stands : (source : List ℕ) (tokens : List Token) (left : ℕ) (P : ℕ → List Word → Type 0) → P (length tokens - left) (words source tokens) → StandsAt (length source) (map (seen source) tokens) (place_left (length source) tokens left) P
-stands source tokens left P p = (length tokens - left, place_seen source (length source) (drop (length tokens - left) tokens) ∙ ap (place_at (length source)) (sym (drop-map (seen source) (length tokens - left) tokens)), p)
+stands source tokens left P p = (length tokens - left, (grind arith) ∙ ap (place_at (length source)) (sym (drop-map (seen source) (length tokens - left) tokens)), p)
 
 same_count : (source : List ℕ) (tokens : List Token) (left n : ℕ) → left ≡ n → length (words source tokens) - n ≡ length tokens - left
 same_count source tokens left n e = omega (arith, e, words_length source tokens)
@@ -144,17 +128,6 @@ placed_rest source tokens rest us w a r e =
 -- there are no words
 pub placed_none : (source : List ℕ) (tokens : List Token) → words source tokens ≡ [] → ToldAt (length source) (map (seen source) tokens) (Err (P4 (place_left (length source) tokens (length tokens))))
 placed_none source tokens e = moved MisfitAt source tokens (length tokens) (length (words source tokens)) (words_length source tokens) (none_at (words source tokens) e)
-
--- of a text's own tokens
-pub placed_text : (source : List ℕ) (lexemes : List Lexeme) (r : Result Expr ReadError) → Lexes source (Ok lexemes) → ToldAt (length source) lexemes r → Placed source r
-placed_text source lexemes (Err (P4 place)) l t = (lexemes, l, t)
-placed_text source lexemes (Err (P5 place)) l t = (lexemes, l, t)
-placed_text source lexemes _ l t = tt
-
-pub placed_tokens : (source : List ℕ) (e : ReadError) → tokens.Answers source (Err e) → Placed source (Err e)
-placed_tokens source (P4 place) t = absurd t
-placed_tokens source (P5 place) t = absurd t
-placed_tokens source _ t = tt
 
 pub placed_same : (source bytes : List ℕ) (tokens items : List Token) (r : Result Expr ReadError) → bytes ≡ source → items ≡ tokens → ToldAt (length bytes) (map (seen bytes) items) r → ToldAt (length source) (map (seen source) tokens) r
 placed_same source bytes tokens items r e f t = subst (λ (xs : List ℕ). ToldAt (length xs) (map (seen xs) tokens) r) e (subst (λ (ts : List Token). ToldAt (length bytes) (map (seen bytes) ts) r) f t)

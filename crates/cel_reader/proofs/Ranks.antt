@@ -1,7 +1,5 @@
 -- How many rows are tighter than an operator's.
-use Rattle.std.proofs.Common.{ℕ}
-use Rattle.cel_reader.specs.declared.level.Level.{Level}
-use Rattle.cel_reader.specs.declared.level.Level.TheVariants.{Or, And, Relation, Sum, Product}
+use Rattle.cel_reader.proofs.Prelude.{ℕ, Level, Or, And, Relation, Sum, Product}
 
 -- counted twice, above the four rows from a unary operator's on
 abbrev pub rank : Level → ℕ

@@ -1,84 +1,36 @@
 -- What the reader reads, the grammar derives.
-use Rattle.std.proofs.Common.{◌≡◌, ℕ, suc, List, [], ◌∷◌, ◌++◌, true, false, ◌⊎◌, inl, inr, refl, sym, ap, subst}
-use Rattle.cel_tokens.specs.Token.{Word, name, mark}
-use Rattle.cel_tokens.specs.declared.mark.Mark.TheVariants.{Colon, Dot, Comma, OpenParen, CloseParen, OpenBracket, OpenBrace}
+use Rattle.cel_reader.proofs.Prelude.{◌≡◌, ℕ, suc, List, [], ◌∷◌, ◌++◌, Bool, false, true, ◌⊎◌, inl, inr, refl, Word, name, mark, Mark, Colon, Dot, Comma, OpenParen, CloseParen, OpenBracket, CloseBracket, OpenBrace, Tree, trees, entries, is_identifier, is_selector, Look, Found, Is, opens_mark, this_mark, this_one, this_name, this_literal, this_operator, Closes, closing_mark, Class, Expression, Infix, Unary, Prefixed, Member, Primary, Items, OptionalItems, Pairs, OptionalPairs, One, Phrase, Many, Keyed, OptionalComma, Derives, Kind, Of, Step, Row, Tail, Suffix, Selection, Enclosed, Listed, Item, Behind, Mapped, Entry, BehindEntry, Plan, done, go, call, look, enter, inside, plan, Closing, Call, Map}
 use Rattle.cel_reader.specs.Tree as tree
-use Rattle.cel_reader.specs.Tree.{Tree, trees, entries}
-use Rattle.cel_reader.specs.Words.{is_identifier, is_selector}
-use Rattle.cel_reader.specs.Look.{Closes, closing_mark}
-use Rattle.cel_reader.specs.Grammar.{Class, Expression, Infix, Unary, Prefixed, Member, Primary, Items, OptionalItems, Pairs, OptionalPairs, Phrase, One, Many, Keyed, OptionalComma, Derives}
 use Rattle.cel_reader.specs.Grammar as derives
-use Rattle.cel_reader.specs.Reading.{Outcome, Got, Refused, Step, Row, Tail, Suffix, Selection, Enclosed, Listed, Item, Behind, Mapped, Entry, BehindEntry, Reads}
-use Rattle.cel_reader.specs.Reading as reads
-use Rattle.cel_reader.specs.declared.closing.Closing.{Closing}
-use Rattle.cel_reader.specs.declared.closing.Closing.TheVariants.{Call, List as ListLiteral, Map}
+use Rattle.cel_reader.specs.declared.closing.Closing.TheVariants.{List as ListLiteral}
+use Rattle.cel_reader.specs.declared.operator.UnaryOperator.TheVariants as unary
+use Rattle.cel_reader.proofs.Loose.{Loose}
+use Rattle.cel_reader.proofs.Loose as loose
 
--- the items from `start` on, so far, where the next one begins at `ws`
-abbrev pub ItemsBefore : ℕ → List Word → List Tree → List Word → Type 0
-ItemsBefore room start items ws = ((items ≡ []) × (start ≡ ws)) ⊎ Derives Items room start (Many items) (mark Comma ∷ ws)
+-- the parts of a list from `start` on, so far, where the next one begins at `ws`
+abbrev PartsBefore : {X : Type 0} → Class → (List X → Phrase) → ℕ → List Word → List X → List Word → Type 0
+PartsBefore c seen room start xs ws = ((xs ≡ []) × (start ≡ ws)) ⊎ Derives c room start (seen xs) (mark Comma ∷ ws)
 
--- the entries so far
-abbrev pub PairsBefore : ℕ → List Word → List (Tree × Tree) → List Word → Type 0
-PairsBefore room start pairs ws = ((pairs ≡ []) × (start ≡ ws)) ⊎ Derives Pairs room start (Keyed pairs) (mark Comma ∷ ws)
+-- the parts up to an end, which the closing mark follows
+abbrev PartsEnd : {X : Type 0} → Class → (List X → Phrase) → Closing → ℕ → List Word → List X → List Word → Type 0
+PartsEnd c seen closing room start xs rest = (end : List Word) × Derives c room start (seen xs) end × Closes closing end rest
 
--- what a tree stands for, in the grammar's words: behind the first part of a phrase, what was derived goes on so
-abbrev pub SoundOne : Step → ℕ → List Word → Tree → List Word → Type 0
-SoundOne (Row c) room ws a rest = Derives c room ws (One a) rest
-SoundOne (Tail l left) room ws a rest = (start : List Word) → Derives (Infix l) room start (One left) ws → Derives (Infix l) room start (One a) rest
-SoundOne (Suffix left) room ws a rest = (start : List Word) → Derives Member room start (One left) ws → Derives Member room start (One a) rest
-SoundOne (Selection left) room ws a rest = (start : List Word) → Derives Member room start (One left) (mark Dot ∷ ws) → Derives Member room start (One a) rest
-SoundOne (Enclosed m) room ws a rest = (inner : ℕ) × (room ≡ suc inner) × Derives Expression inner ws (One a) (mark m ∷ rest)
-SoundOne other room ws a rest = ⊥
-
--- the items up to an end, which the closing mark follows
-abbrev pub ItemsEnd : Closing → ℕ → List Word → List Tree → List Word → Type 0
-ItemsEnd c room start items rest = (end : List Word) × Derives Items room start (Many items) end × Closes c end rest
-
--- the entries up to an end
-abbrev pub PairsEnd : ℕ → List Word → List (Tree × Tree) → List Word → Type 0
-PairsEnd room start pairs rest = (end : List Word) × Derives Pairs room start (Keyed pairs) end × Closes Map end rest
-
-abbrev pub SoundMany : Step → ℕ → List Word → List Tree → List Word → Type 0
-SoundMany (Listed c) room ws items rest = (inner : ℕ) × (end : List Word) × (room ≡ suc inner) × Derives OptionalItems inner ws (Many items) end × Closes c end rest
-SoundMany (Item c before) room ws items rest = (start : List Word) → ItemsBefore room start before ws → ItemsEnd c room start items rest
-SoundMany (Behind c before) room ws items rest = (start : List Word) → Derives Items room start (Many before) ws → ItemsEnd c room start items rest
-SoundMany other room ws items rest = ⊥
-
-abbrev pub SoundKeyed : Step → ℕ → List Word → List (Tree × Tree) → List Word → Type 0
-SoundKeyed Mapped room ws pairs rest = (inner : ℕ) × (end : List Word) × (room ≡ suc inner) × Derives OptionalPairs inner ws (Keyed pairs) end × Closes Map end rest
-SoundKeyed (Entry before) room ws pairs rest = (start : List Word) → PairsBefore room start before ws → PairsEnd room start pairs rest
-SoundKeyed (BehindEntry before) room ws pairs rest = (start : List Word) → Derives Pairs room start (Keyed before) ws → PairsEnd room start pairs rest
-SoundKeyed other room ws pairs rest = ⊥
-
--- what an outcome says in the grammar's words
-abbrev pub Sound : Step → ℕ → List Word → Outcome → Type 0
-Sound s room ws (Got (One a) rest) = SoundOne s room ws a rest
-Sound s room ws (Got (Many items) rest) = SoundMany s room ws items rest
-Sound s room ws (Got (Keyed pairs) rest) = SoundKeyed s room ws pairs rest
-Sound s room ws (Refused e) = Unit {0}
-
--- from where the reader goes on to where it stands
-over : (s t : Step) (room other : ℕ) (ws us : List Word) (o : Outcome) → ((a : Tree) (rest : List Word) → SoundOne s room ws a rest → SoundOne t other us a rest) → ((items : List Tree) (rest : List Word) → SoundMany s room ws items rest → SoundMany t other us items rest) → ((pairs : List (Tree × Tree)) (rest : List Word) → SoundKeyed s room ws pairs rest → SoundKeyed t other us pairs rest) → Sound s room ws o → Sound t other us o
-over s t room other ws us (Got (One a) rest) f g h x = f a rest x
-over s t room other ws us (Got (Many items) rest) f g h x = g items rest x
-over s t room other ws us (Got (Keyed pairs) rest) f g h x = h pairs rest x
-over s t room other ws us (Refused e) f g h x = tt
-
--- the same phrase, with the words behind it, its words or its room written in another way
-pub moved : {c : Class} {room : ℕ} {ws rest end : List Word} {p : Phrase} → Derives c room ws p rest → rest ≡ end → Derives c room ws p end
-moved {c} {room} {ws} {rest} {end} {p} d e = subst (λ (x : List Word). Derives c room ws p x) e d
-
-begun : {c : Class} {room : ℕ} {ws start rest : List Word} {p : Phrase} → Derives c room start p rest → ws ≡ start → Derives c room ws p rest
-begun {c} {room} {ws} {start} {rest} {p} d e = subst (λ (x : List Word). Derives c room x p rest) (sym e) d
-
-pub roomy : {c : Class} {room inner : ℕ} {ws rest : List Word} {p : Phrase} → Derives c inner ws p rest → room ≡ inner → Derives c room ws p rest
-roomy {c} {room} {inner} {ws} {rest} {p} d e = subst (λ (x : ℕ). Derives c x ws p rest) (sym e) d
-
-pub fitted : {c : Class} {room inner : ℕ} {ws rest : List Word} {p : Phrase} → Derives c room ws p rest → room ≡ inner → Derives c inner ws p rest
-fitted {c} {room} {inner} {ws} {rest} {p} d e = subst (λ (x : ℕ). Derives c x ws p rest) e d
+-- what a step gives, in the grammar's words: behind the first part of a phrase, what was derived goes on so
+abbrev pub Sound : {b : Bool} {k : Kind} → Step b k → ℕ → List Word → Of k → List Word → Type 0
+Sound (Row c) room ws a rest = Derives c room ws (One a) rest
+Sound (Tail l left) room ws a rest = (start : List Word) → Derives (Infix l) room start (One left) ws → Derives (Infix l) room start (One a) rest
+Sound (Suffix left) room ws a rest = (start : List Word) → Derives Member room start (One left) ws → Derives Member room start (One a) rest
+Sound (Selection left) room ws a rest = (start : List Word) → Derives Member room start (One left) (mark Dot ∷ ws) → Derives Member room start (One a) rest
+Sound (Enclosed m) room ws a rest = (inner : ℕ) × (room ≡ suc inner) × Derives Expression inner ws (One a) (mark m ∷ rest)
+Sound (Listed c) room ws items rest = (inner : ℕ) × (room ≡ suc inner) × PartsEnd OptionalItems Many c inner ws items rest
+Sound (Item c before) room ws items rest = (start : List Word) → PartsBefore Items Many room start before ws → PartsEnd Items Many c room start items rest
+Sound (Behind c before) room ws items rest = (start : List Word) → Derives Items room start (Many before) ws → PartsEnd Items Many c room start items rest
+Sound Mapped room ws pairs rest = (inner : ℕ) × (room ≡ suc inner) × PartsEnd OptionalPairs Keyed Map inner ws pairs rest
+Sound (Entry before) room ws pairs rest = (start : List Word) → PartsBefore Pairs Keyed room start before ws → PartsEnd Pairs Keyed Map room start pairs rest
+Sound (BehindEntry before) room ws pairs rest = (start : List Word) → Derives Pairs room start (Keyed before) ws → PartsEnd Pairs Keyed Map room start pairs rest
 
 -- arguments end without a comma
-pub ends_call : (ws rest : List Word) → Closes Call ws rest → ws ≡ mark CloseParen ∷ rest
+ends_call : (ws rest : List Word) → Closes Call ws rest → ws ≡ mark (closing_mark Call) ∷ rest
 ends_call ws rest (inl e) = e
 ends_call ws rest (inr p) = absurd (let e : false ≡ true = p.0 in cc)
 
@@ -87,64 +39,153 @@ ends_list c ws rest (inl e) = inl e
 ends_list c ws rest (inr p) = inr p.1
 
 -- one more item
-pub item_added : (room : ℕ) (start ws us : List Word) (items : List Tree) (a : Tree) → ItemsBefore room start items ws → Derives Expression room ws (One a) us → Derives Items room start (Many (items ++ a ∷ [])) us
-item_added room start ws us items a (inl p) d = rw p.0 (begun (derives.first_item d) p.1)
+item_added : (room : ℕ) (start ws us : List Word) (items : List Tree) (a : Tree) → PartsBefore Items Many room start items ws → Derives Expression room ws (One a) us
+    → Derives Items room start (Many (items ++ a ∷ [])) us
+item_added room start ws us items a (inl p) d = rw (p.0, p.1) (derives.first_item d)
 item_added room start ws us items a (inr before) d = derives.next_item before d
 
 -- one more entry
-pub pair_added : (room : ℕ) (start ws us vs : List Word) (pairs : List (Tree × Tree)) (a b : Tree) → PairsBefore room start pairs ws → Derives Expression room ws (One a) (mark Colon ∷ us) → Derives Expression room us (One b) vs → Derives Pairs room start (Keyed (pairs ++ (a, b) ∷ [])) vs
-pair_added room start ws us vs pairs a b (inl p) d e = rw p.0 (begun (derives.first_pair d e) p.1)
+pair_added : (room : ℕ) (start ws us vs : List Word) (pairs : List (Tree × Tree)) (a b : Tree) → PartsBefore Pairs Keyed room start pairs ws
+    → Derives Expression room ws (One a) (mark Colon ∷ us) → Derives Expression room us (One b) vs → Derives Pairs room start (Keyed (pairs ++ (a, b) ∷ [])) vs
+pair_added room start ws us vs pairs a b (inl p) d e = rw (p.0, p.1) (derives.first_pair d e)
 pair_added room start ws us vs pairs a b (inr before) d e = derives.next_pair before d e
 
--- a list of expressions behind a word of its own
-pub method_sound : (room : ℕ) (start ws us vs rest : List Word) (a : Tree) (n : List ℕ) (items : List Tree) → ws ≡ name n ∷ us → is_selector n ≡ true → us ≡ mark OpenParen ∷ vs → Derives Member room start (One a) (mark Dot ∷ ws) → SoundMany (Listed Call) room vs items rest → Derives Member room start (One (tree.method a n (trees items))) rest
-method_sound room start ws us vs rest a n items e is f d x =
-    let front : mark Dot ∷ ws ≡ mark Dot ∷ name n ∷ mark OpenParen ∷ vs = cc in
-    roomy (derives.method_call is (fitted (moved d front) x.2) (moved x.3 (ends_call x.1 rest x.4))) x.2
+-- phrases with brackets
+module _ {room : ℕ} {us rest : List Word} where
+  indexed : {start : List Word} {a b : Tree} → Derives Member room start (One a) (mark OpenBracket ∷ us) → Sound (Enclosed CloseBracket) room us b rest
+      → Derives Member room start (One (tree.index a b)) rest
+  indexed d x = rw x.1 (derives.indexing (rw x.1 at d) x.2)
 
-pub function_sound : (room : ℕ) (ws us vs rest : List Word) (n : List ℕ) (items : List Tree) → ws ≡ name n ∷ us → is_identifier n ≡ true → us ≡ mark OpenParen ∷ vs → SoundMany (Listed Call) room vs items rest → Derives Primary room ws (One (tree.call n (trees items))) rest
-function_sound room ws us vs rest n items e is f x =
-    let front : ws ≡ name n ∷ mark OpenParen ∷ vs = cc in
-    begun (roomy (derives.function_call is (moved x.3 (ends_call x.1 rest x.4))) x.2) front
+  method_called : {start : List Word} {a : Tree} {n : List ℕ} {items : List Tree} → is_selector n ≡ true
+      → Derives Member room start (One a) (mark Dot ∷ name n ∷ mark OpenParen ∷ us) → Sound (Listed Call) room us items rest
+      → Derives Member room start (One (tree.method a n (trees items))) rest
+  method_called is d x = rw x.1 (derives.method_call is (rw x.1 at d) (rw (ends_call x.2.0 rest x.2.2) at x.2.1))
 
-pub list_sound : (room : ℕ) (ws us rest : List Word) (items : List Tree) → ws ≡ mark OpenBracket ∷ us → SoundMany (Listed ListLiteral) room us items rest → Derives Primary room ws (One (tree.list (trees items))) rest
-list_sound room ws us rest items e x = begun (roomy (derives.list_literal x.3 (ends_list ListLiteral x.1 rest x.4)) x.2) e
+  called : {n : List ℕ} {items : List Tree} → is_identifier n ≡ true → Sound (Listed Call) room us items rest
+      → Derives Primary room (name n ∷ mark OpenParen ∷ us) (One (tree.call n (trees items))) rest
+  called is x = rw x.1 (derives.function_call is (rw (ends_call x.2.0 rest x.2.2) at x.2.1))
 
-pub map_sound : (room : ℕ) (ws us rest : List Word) (pairs : List (Tree × Tree)) → ws ≡ mark OpenBrace ∷ us → SoundKeyed Mapped room us pairs rest → Derives Primary room ws (One (tree.map (entries pairs))) rest
-map_sound room ws us rest pairs e x = begun (roomy (derives.map_literal x.3 (ends_list Map x.1 rest x.4)) x.2) e
+  bracketed : {a : Tree} → Sound (Enclosed CloseParen) room us a rest → Derives Primary room (mark OpenParen ∷ us) (One a) rest
+  bracketed x = rw x.1 (derives.bracket x.2)
 
--- what is read is derived
-pub sound : {s : Step} {room : ℕ} {ws : List Word} {o : Outcome} → Reads s room ws o → Sound s room ws o
-sound (reads.expression_plain r n) = derives.plain (sound r)
-sound (reads.conditional r e z f g h) = roomy (derives.conditional (fitted (moved (sound r) e) z) (moved (sound f) g) (sound h)) z
-sound (reads.infix_goes {room = room} {ws = ws} {us = us} {l = l} {a = a} {o = o} r t) = over (Tail l a) (Row (Infix l)) room room us ws o (λ b rest f. f ws (derives.operand l (sound r))) (λ items rest x. x) (λ pairs rest x. x) (sound t)
-sound (reads.tail_stops n) = λ start d. d
-sound (reads.tail_goes {room = room} {ws = ws} {vs = vs} {l = l} {a = a} {b = b} {o = o} op e f g r t) = over (Tail l (tree.binary op a b)) (Tail l a) room room vs ws o (λ c rest x start d. x start (derives.operation op e f (moved d g) (sound r))) (λ items rest x. x) (λ pairs rest x. x) (sound t)
-sound (reads.unary_member {room = room} {ws = ws} {o = o} n m r) = over (Row Member) (Row Unary) room room ws ws o (λ a rest d. derives.unprefixed d) (λ items rest x. x) (λ pairs rest x. x) (sound r)
-sound (reads.unary_goes op e r) = begun (derives.prefixed op (sound r)) e
-sound (reads.prefixed_member {room = room} {ws = ws} {o = o} op n r) = over (Row Member) (Row (Prefixed op)) room room ws ws o (λ a rest d. derives.last_prefix op d) (λ items rest x. x) (λ pairs rest x. x) (sound r)
-sound (reads.prefixed_goes op e r) = begun (derives.next_prefix op (sound r)) e
-sound (reads.member_goes {room = room} {ws = ws} {us = us} {a = a} {o = o} r s) = over (Suffix a) (Row Member) room room us ws o (λ b rest f. f ws (derives.whole (sound r))) (λ items rest x. x) (λ pairs rest x. x) (sound s)
-sound (reads.suffix_stops n m) = λ start d. d
-sound (reads.dot_goes {room = room} {ws = ws} {vs = vs} {a = a} {b = b} {o = o} e r s) = over (Suffix b) (Suffix a) room room vs ws o (λ c rest f start d. f start (sound r start (moved d e))) (λ items rest x. x) (λ pairs rest x. x) (sound s)
-sound (reads.index_goes {room = room} {ws = ws} {vs = vs} {a = a} {b = b} {o = o} e r s) = over (Suffix (tree.index a b)) (Suffix a) room room vs ws o (λ c rest f start d. f start (roomy (derives.indexing (fitted (moved d e) (sound r).1) (sound r).2) (sound r).1)) (λ items rest x. x) (λ pairs rest x. x) (sound s)
-sound (reads.selection e is n) = λ start d. derives.selection is (moved d (ap (λ y. mark Dot ∷ y) e))
-sound (reads.method_call {room = room} {ws = ws} {us = us} {vs = vs} {rest = rest} {a = a} {n = k} {items = items} e is f r) = λ start d. method_sound room start ws us vs rest a k items e is f d (sound r)
-sound (reads.bracket {room = room} {ws = ws} {us = us} {o = o} e r) = over (Enclosed CloseParen) (Row Primary) room room us ws o (λ a rest x. begun (roomy (derives.bracket x.2) x.1) e) (λ items rest x. x) (λ pairs rest x. x) (sound r)
-sound (reads.list_literal {room = room} {ws = ws} {us = us} {rest = rest} {items = items} e r) = list_sound room ws us rest items e (sound r)
-sound (reads.map_literal {room = room} {ws = ws} {us = us} {rest = rest} {pairs = pairs} e r) = map_sound room ws us rest pairs e (sound r)
-sound (reads.constant e l) = begun (derives.constant l) e
-sound (reads.identifier e is n) = begun (derives.identifier is) e
-sound (reads.function_call {room = room} {ws = ws} {us = us} {vs = vs} {rest = rest} {n = n} {items = items} e is f r) = function_sound room ws us vs rest n items e is f (sound r)
-sound (reads.enclosed_closed {inner = inner} z r e) = (inner, z, moved (sound r) e)
-sound (reads.list_empty {inner = inner} {ws = ws} z x) = (inner, ws, z, derives.no_items, x)
-sound (reads.list_items {room = room} {inner = inner} {ws = ws} {c = c} {o = o} z g n r) = over (Item c []) (Listed c) inner room ws ws o (λ a rest x. x) (λ items rest x. let y = x ws (inl (refl, refl)) in (inner, y.0, z, derives.some_items y.1, y.2)) (λ pairs rest x. x) (sound r)
-sound (reads.item_goes {room = room} {ws = ws} {us = us} {c = c} {items = items} {a = a} {o = o} r b) = over (Behind c (items ++ a ∷ [])) (Item c items) room room us ws o (λ x rest y. y) (λ all rest f start before. f start (item_added room start ws us items a before (sound r))) (λ pairs rest x. x) (sound b)
-sound (reads.items_end {ws = ws} x) = λ start d. (ws, d, x)
-sound (reads.items_go_on {room = room} {ws = ws} {us = us} {c = c} {items = items} {o = o} g e r) = over (Item c items) (Behind c items) room room us ws o (λ x rest y. y) (λ all rest f start d. f start (inr (moved d e))) (λ pairs rest x. x) (sound r)
-sound (reads.map_empty {inner = inner} {ws = ws} z c) = (inner, ws, z, derives.no_pairs, c)
-sound (reads.map_entries {room = room} {inner = inner} {ws = ws} {o = o} z g n r) = over (Entry []) Mapped inner room ws ws o (λ a rest x. x) (λ items rest x. x) (λ pairs rest x. let y = x ws (inl (refl, refl)) in (inner, y.0, z, derives.some_pairs y.1, y.2)) (sound r)
-sound (reads.entry_goes {room = room} {ws = ws} {vs = vs} {xs = xs} {pairs = pairs} {a = a} {b = b} {o = o} r e s t) = over (BehindEntry (pairs ++ (a, b) ∷ [])) (Entry pairs) room room xs ws o (λ x rest y. y) (λ items rest x. x) (λ all rest f start before. f start (pair_added room start ws vs xs pairs a b before (moved (sound r) e) (sound s))) (sound t)
-sound (reads.entries_end {ws = ws} c) = λ start d. (ws, d, c)
-sound (reads.entries_go_on {room = room} {ws = ws} {us = us} {pairs = pairs} {o = o} g e r) = over (Entry pairs) (BehindEntry pairs) room room us ws o (λ x rest y. y) (λ items rest x. x) (λ all rest f start d. f start (inr (moved d e))) (sound r)
-sound _ = tt
+  list_bracketed : {items : List Tree} → Sound (Listed ListLiteral) room us items rest
+      → Derives Primary room (mark OpenBracket ∷ us) (One (tree.list (trees items))) rest
+  list_bracketed x = rw x.1 (derives.list_literal x.2.1 (ends_list ListLiteral x.2.0 rest x.2.2))
+
+  map_bracketed : {pairs : List (Tree × Tree)} → Sound Mapped room us pairs rest
+      → Derives Primary room (mark OpenBrace ∷ us) (One (tree.map (entries pairs))) rest
+  map_bracketed x = rw x.1 (derives.map_literal x.2.1 (ends_list Map x.2.0 rest x.2.2))
+
+-- a plan with what its steps give, in the grammar's words
+data Once : (b : Bool) (k : Kind) → Plan b k → ℕ → List Word → Of k → List Word → Type 0 where
+  stands : {k : Kind} {x : Of k} {room : ℕ} {ws : List Word} → Once false k (done x) room ws x ws
+  goes : {b : Bool} {k : Kind} {s : Step b k} {room : ℕ} {ws rest : List Word} {x : Of k} → Sound s room ws x rest → Once b k (go s) room ws x rest
+  calls : {b : Bool} {j k : Kind} {s : Step b j} {f : Of j → Plan false k} {room : ℕ} {ws us rest : List Word} {y : Of k} (x : Of j)
+      → Sound s room ws x us → Once false k (f x) room us y rest → Once b k (call s f) room ws y rest
+  found : {k : Kind} {l : Look} {f : Found l → Plan false k} {p : Plan false k} {room : ℕ} {w : Word} {ws rest : List Word} {x : Found l} {y : Of k}
+      → Is l w x → Once false k (f x) room ws y rest → Once false k (look l f p) room (w ∷ ws) y rest
+  skips : {k : Kind} {l : Look} {f : Found l → Plan false k} {p : Plan false k} {room : ℕ} {ws rest : List Word} {x : Of k}
+      → Once false k p room ws x rest → Once false k (look l f p) room ws x rest
+  enters : {k : Kind} {m : Mark} {e : opens_mark m ≡ true} {p : Plan true k} {q : Plan false k} {room : ℕ} {ws rest : List Word} {x : Of k}
+      → Once true k p room ws x rest → Once false k (enter m e p q) room (mark m ∷ ws) x rest
+  passes : {k : Kind} {m : Mark} {e : opens_mark m ≡ true} {p : Plan true k} {q : Plan false k} {room : ℕ} {ws rest : List Word} {x : Of k}
+      → Once false k q room ws x rest → Once false k (enter m e p q) room ws x rest
+  opened : {k : Kind} {p : Plan false k} {room : ℕ} {ws rest : List Word} {x : Of k} → Once false k p room ws x rest
+      → Once true k (inside p) (suc room) ws x rest
+
+abbrev Follows : {b : Bool} {k : Kind} → Step b k → Type 0
+Follows {b} {k} s = (room : ℕ) (ws : List Word) (x : Of k) (rest : List Word) → Once b k (plan s) room ws x rest → Sound s room ws x rest
+
+expression : Follows (Row Expression)
+expression room ws x rest (calls a r (passes stands)) = derives.plain r
+expression room ws x rest (calls a r (enters (opened (calls b s (found this_mark (calls c t stands)))))) = derives.conditional r s t
+expression room ws x rest (calls a r (enters (opened (calls b s (skips d))))) = elim d [ ]
+
+row : (c : Class) → Follows (Row c)
+row Expression room ws x rest d = expression room ws x rest d
+row (Infix l) room ws x rest (calls a r (goes t)) = t ws (derives.operand l r)
+row Unary room ws x rest (found this_mark (calls a r stands)) = derives.prefixed unary.Not r
+row Unary room ws x rest (skips (found this_mark (calls a r stands))) = derives.prefixed unary.Negate r
+row Unary room ws x rest (skips (skips (goes r))) = derives.unprefixed r
+row (Prefixed op) room ws x rest (found this_mark (calls a r stands)) = derives.next_prefix op r
+row (Prefixed op) room ws x rest (skips (goes r)) = derives.last_prefix op r
+row Member room ws x rest (calls a r (goes t)) = t ws (derives.whole r)
+row Primary room ws x rest (enters (goes r)) = bracketed r
+row Primary room ws x rest (passes (enters (calls items r stands))) = list_bracketed r
+row Primary room ws x rest (passes (passes (enters (calls pairs r stands)))) = map_bracketed r
+row Primary room ws x rest (passes (passes (passes (found (this_literal e) stands)))) = derives.constant e
+row Primary room ws x rest (passes (passes (passes (skips (found (this_name is) (passes stands)))))) = derives.identifier is
+row Primary room ws x rest (passes (passes (passes (skips (found (this_name is) (enters (calls items r stands))))))) = called is r
+row Primary room ws x rest (passes (passes (passes (skips (skips d))))) = elim d [ ]
+row _ room ws x rest d = elim d [ ]
+
+suffix : (a : Tree) → Follows (Suffix a)
+suffix a room ws x rest (skips (passes stands)) = λ start d. d
+suffix a room ws x rest (found this_mark (calls b r (goes t))) = λ start d. t start (r start d)
+suffix a room ws x rest (skips (enters (calls b r (goes t)))) = λ start d. t start (indexed d r)
+
+selection : (a : Tree) → Follows (Selection a)
+selection a room ws x rest (found (this_name is) (passes stands)) = λ start d. derives.selection is d
+selection a room ws x rest (found (this_name is) (enters (calls items r stands))) = λ start d. method_called is d r
+selection a room ws x rest (skips d) = elim d [ ]
+
+items_listed : (c : Closing) → Follows (Listed c)
+items_listed c room ws x rest (opened {room = inner} (found this_mark stands)) = (inner, refl, (_, derives.no_items, inl refl))
+items_listed c room ws x rest (opened {room = inner} (skips (found (this_one t) (found this_mark stands)))) =
+    (inner, refl, (_, derives.no_items, inr (t, refl)))
+items_listed c room ws x rest (opened (skips (found t (skips d)))) = elim d [ ]
+items_listed c room ws x rest (opened {room = inner} (skips (skips (goes r)))) =
+    let y = r ws (inl (refl, refl)) in (inner, refl, (y.0, derives.some_items y.1, y.2))
+
+items_behind : (c : Closing) (items : List Tree) → Follows (Behind c items)
+items_behind c items room ws x rest (found this_mark stands) = λ start d. (_, d, inl refl)
+items_behind c items room ws x rest (skips (found this_mark (found (this_one t) stands))) = λ start d. (_, d, inr (t, refl))
+items_behind c items room ws x rest (skips (found this_mark (skips (goes r)))) = λ start d. r start (inr d)
+items_behind c items room ws x rest (skips (skips d)) = elim d [ ]
+
+pairs_listed : Follows Mapped
+pairs_listed room ws x rest (opened {room = inner} (found this_mark stands)) = (inner, refl, (_, derives.no_pairs, inl refl))
+pairs_listed room ws x rest (opened {room = inner} (skips (found (this_one t) (found this_mark stands)))) =
+    (inner, refl, (_, derives.no_pairs, inr (t, refl)))
+pairs_listed room ws x rest (opened (skips (found t (skips d)))) = elim d [ ]
+pairs_listed room ws x rest (opened {room = inner} (skips (skips (goes r)))) =
+    let y = r ws (inl (refl, refl)) in (inner, refl, (y.0, derives.some_pairs y.1, y.2))
+
+pairs_behind : (pairs : List (Tree × Tree)) → Follows (BehindEntry pairs)
+pairs_behind pairs room ws x rest (found this_mark stands) = λ start d. (_, d, inl refl)
+pairs_behind pairs room ws x rest (skips (found this_mark (found (this_one t) stands))) = λ start d. (_, d, inr (t, refl))
+pairs_behind pairs room ws x rest (skips (found this_mark (skips (goes r)))) = λ start d. r start (inr d)
+pairs_behind pairs room ws x rest (skips (skips d)) = elim d [ ]
+
+follows : {b : Bool} {k : Kind} (s : Step b k) → Follows s
+follows (Row c) room ws x rest d = row c room ws x rest d
+follows (Tail l a) room ws x rest (skips stands) = λ start d. d
+follows (Tail l a) room ws x rest (found (this_operator {op = op} e f) (calls b r (goes t))) = λ start d. t start (derives.operation op e f d r)
+follows (Suffix a) room ws x rest d = suffix a room ws x rest d
+follows (Selection a) room ws x rest d = selection a room ws x rest d
+follows (Enclosed m) room ws x rest (opened {room = inner} (calls a r (found this_mark stands))) = (inner, refl, r)
+follows (Enclosed m) room ws x rest (opened (calls a r (skips d))) = elim d [ ]
+follows (Listed c) room ws x rest d = items_listed c room ws x rest d
+follows (Item c items) room ws x rest (calls {us = us} a r (goes t)) = λ start before. t start (item_added room start ws us items a before r)
+follows (Behind c items) room ws x rest d = items_behind c items room ws x rest d
+follows Mapped room ws x rest d = pairs_listed room ws x rest d
+follows (Entry pairs) room ws x rest (calls a r (found {ws = us} this_mark (calls {us = vs} b s (goes t)))) =
+    λ start before. t start (pair_added room start ws us vs pairs a b before r s)
+follows (Entry pairs) room ws x rest (calls a r (skips d)) = elim d [ ]
+follows (BehindEntry pairs) room ws x rest d = pairs_behind pairs room ws x rest d
+
+of_step : {b : Bool} {k : Kind} {s : Step b k} {room : ℕ} {ws rest : List Word} {x : Of k} → Once b k (go s) room ws x rest → Sound s room ws x rest
+of_step (goes r) = r
+
+once : {b : Bool} {k : Kind} {p : Plan b k} {room : ℕ} {ws rest : List Word} {x : Of k} → Loose p room ws x rest → Once b k p room ws x rest
+once loose.stands = stands
+once (loose.goes {s = s} d) = goes (follows s _ _ _ _ (once d))
+once (loose.calls x d e) = calls x (of_step (once d)) (once e)
+once (loose.found i d) = found i (once d)
+once (loose.skips d) = skips (once d)
+once (loose.enters d) = enters (once d)
+once (loose.passes d) = passes (once d)
+once (loose.opened d) = opened (once d)
+
+pub sound : {b : Bool} {k : Kind} {s : Step b k} {room : ℕ} {ws rest : List Word} {x : Of k} → Loose (go s) room ws x rest → Sound s room ws x rest
+sound d = of_step (once d)

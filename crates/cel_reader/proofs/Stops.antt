@@ -1,38 +1,28 @@
 -- What ends a phrase: the words that go on with none.
-use Rattle.std.proofs.Common.{◌≡◌, List, [], ◌∷◌, inl, inr, Some, None, refl, sym, ◌∙◌, ap, subst}
-use Rattle.cel_tokens.specs.Token.{Word, mark}
-use Rattle.cel_tokens.specs.declared.mark.Mark.{Mark}
-use Rattle.cel_tokens.specs.declared.mark.Mark.TheVariants.{Question, Colon, Dot, Comma, OpenParen, CloseParen, OpenBracket, CloseBracket, CloseBrace}
-use Rattle.cel_reader.specs.Words.{operator_of, operator_mark, level_of}
-use Rattle.cel_reader.specs.Look.{NotAt, NoOperator, Closes, closing_mark}
-use Rattle.cel_reader.specs.Grammar.{Class, Infix, Unary, Prefixed, Member, Primary, below}
-use Rattle.cel_reader.specs.declared.level.Level.{Level}
-use Rattle.cel_reader.specs.declared.level.Level.TheVariants.{Or, And, Relation, Sum, Product}
-use Rattle.cel_reader.specs.declared.closing.Closing.{Closing}
-use Rattle.cel_reader.specs.declared.closing.Closing.TheVariants.{Call, List as ListLiteral, Map}
-use Rattle.cel_reader.specs.declared.operator.BinaryOperator.{BinaryOperator}
+use Rattle.cel_reader.proofs.Prelude.{◌≡◌, List, [], ◌∷◌, inl, inr, Some, None, refl, sym, ◌∙◌, ap, subst, Word, mark, Mark, Question, Colon, Dot, Comma, OpenParen, CloseParen, OpenBracket, CloseBracket, CloseBrace, operator_of, operator_mark, level_of, at, operator, Lacks, Closes, closing_mark, Class, Infix, Unary, Prefixed, Member, Primary, below, Level, Or, And, Relation, Sum, Product, Closing, Call, Map, BinaryOperator}
+use Rattle.cel_reader.specs.declared.closing.Closing.TheVariants.{List as ListLiteral}
 
 -- no word goes on with the phrase; a name before a parenthesis would be a call
 abbrev pub StopsMember : List Word → Type 0
-StopsMember ws = NotAt Dot ws × NotAt OpenBracket ws × NotAt OpenParen ws
+StopsMember ws = Lacks (at Dot) ws × Lacks (at OpenBracket) ws × Lacks (at OpenParen) ws
 
 abbrev pub StopsProduct : List Word → Type 0
-StopsProduct ws = NoOperator Product ws × (StopsMember ws)
+StopsProduct ws = Lacks (operator Product) ws × (StopsMember ws)
 
 abbrev pub StopsSum : List Word → Type 0
-StopsSum ws = NoOperator Sum ws × (StopsProduct ws)
+StopsSum ws = Lacks (operator Sum) ws × (StopsProduct ws)
 
 abbrev pub StopsRelation : List Word → Type 0
-StopsRelation ws = NoOperator Relation ws × (StopsSum ws)
+StopsRelation ws = Lacks (operator Relation) ws × (StopsSum ws)
 
 abbrev pub StopsAnd : List Word → Type 0
-StopsAnd ws = NoOperator And ws × (StopsRelation ws)
+StopsAnd ws = Lacks (operator And) ws × (StopsRelation ws)
 
 abbrev pub StopsOr : List Word → Type 0
-StopsOr ws = NoOperator Or ws × (StopsAnd ws)
+StopsOr ws = Lacks (operator Or) ws × (StopsAnd ws)
 
 abbrev pub StopsExpression : List Word → Type 0
-StopsExpression ws = NotAt Question ws × (StopsOr ws)
+StopsExpression ws = Lacks (at Question) ws × (StopsOr ws)
 
 abbrev pub Stops : Class → List Word → Type 0
 Stops (Infix Or) ws = StopsOr ws
@@ -43,11 +33,11 @@ Stops (Infix Product) ws = StopsProduct ws
 Stops Unary ws = StopsMember ws
 Stops (Prefixed op) ws = StopsMember ws
 Stops Member ws = StopsMember ws
-Stops Primary ws = NotAt OpenParen ws
+Stops Primary ws = Lacks (at OpenParen) ws
 Stops _ ws = StopsExpression ws
 
 -- an operator of one level is none of another
-other_level : (k l : Level) (w : Word) (ws : List Word) (op : BinaryOperator) → operator_of w ≡ Some op → level_of op ≡ k → (k ≡ l → ⊥) → NoOperator l (w ∷ ws)
+other_level : (k l : Level) (w : Word) (ws : List Word) (op : BinaryOperator) → operator_of w ≡ Some op → level_of op ≡ k → (k ≡ l → ⊥) → Lacks (operator l) (w ∷ ws)
 other_level k l w ws op e level differ = λ other f g. differ cc
 
 -- an operator is no other mark
@@ -65,7 +55,7 @@ ends_operand Relation w ws op e f = (other_level Relation Sum w ws op e f (λ q.
 ends_operand Sum w ws op e f = (other_level Sum Product w ws op e f (λ q. cc), operator_member w ws op e)
 ends_operand Product w ws op e f = operator_member w ws op e
 
-no_operator : (l : Level) (m : Mark) (ws : List Word) → operator_mark m ≡ None → NoOperator l (mark m ∷ ws)
+no_operator : (l : Level) (m : Mark) (ws : List Word) → operator_mark m ≡ None → Lacks (operator l) (mark m ∷ ws)
 no_operator l m ws none = λ op e f. let g : None ≡ Some op = sym none ∙ e in cc
 
 -- a mark that is no operator and begins no suffix ends an Or

@@ -1,34 +1,35 @@
 -- What holds of the grammar and of the reader's runs.
-use Rattle.std.proofs.Common.{◌≡◌, ℕ, ◌+◌, ◌<◌, ◌≤◌, List, [], ◌∷◌, arith}
-use Rattle.cel_tokens.specs.Token.{Word}
-use Rattle.cel_reader.specs.Tree.{Tree}
-use Rattle.cel_reader.specs.Look.{openings}
-use Rattle.cel_reader.specs.Grammar.{Class, Expression, Phrase, One, Derives}
-use Rattle.cel_reader.specs.Reading.{Outcome, Got, Refused, Misfit, Deep, Row, Reads}
+use Rattle.cel_reader.proofs.Prelude.{◌≡◌, ℕ, ◌+◌, ◌<◌, ◌≤◌, List, [], ◌∷◌, arith, Word, Tree, openings, Expression, One, Derives, Outcome, Got, Refused, Misfit, Deep, Row, Reads}
 use Rattle.cel_reader.proofs.Stops.{ends_all}
 use Rattle.cel_reader.proofs.Sound.{sound}
-use Rattle.cel_reader.proofs.Rooms.{roomier, wider}
+use Rattle.cel_reader.proofs.Loose.{loosely}
 use Rattle.cel_reader.proofs.Openings.{counted}
 use Rattle.cel_reader.proofs.Built.{built}
-use Rattle.cel_reader.proofs.Plans.{only_outcome}
+use Rattle.cel_reader.proofs.Plans.{one_outcome, roomier}
 
 -- what is read is derived
 pub whole_sound : (room : ℕ) (ws rest : List Word) (a : Tree) → Reads (Row Expression) room ws (Got (One a) rest) → Derives Expression room ws (One a) rest
-whole_sound room ws rest a r = sound r
+whole_sound room ws rest a r = sound (loosely r)
 
--- a phrase is one with more room
-pub more_room : (c : Class) (room more : ℕ) (ws : List Word) (p : Phrase) (rest : List Word) → room ≤ more → Derives c room ws p rest → Derives c more ws p rest
-more_room c room more ws p rest h d = wider d more h
+-- and what is derived of all the words is read, with more room too
+whole_read : (room more : ℕ) (ws : List Word) (a : Tree) → room ≤ more → Derives Expression room ws (One a) [] → Reads (Row Expression) more ws (Got (One a) [])
+whole_read room more ws a h d = roomier (built d ends_all) more h (λ us e. cc)
+
+-- an expression is one with more room
+pub more_room : (room more : ℕ) (ws : List Word) (a : Tree) → room ≤ more → Derives Expression room ws (One a) [] → Derives Expression more ws (One a) []
+more_room room more ws a h d = whole_sound more ws [] a (whole_read room more ws a h d)
 
 -- all the words have one tree, whatever the room
 pub whole_unique : (room other : ℕ) (ws : List Word) (a b : Tree) → Derives Expression room ws (One a) [] → Derives Expression other ws (One b) [] → a ≡ b
 whole_unique room other ws a b d e =
-    let same = only_outcome (built (wider d (room + other) (omega arith)) ends_all) (built (wider e (room + other) (omega arith)) ends_all) in
+    let same = one_outcome (whole_read room (room + other) ws a (omega arith) d) (whole_read other (room + other) ws b (omega arith) e) in
     cc
 
 -- a run that was not too deep and did not end in this tree leaves no other derivation, whatever the room
-one_answer : (room other : ℕ) (ws : List Word) (b : Tree) (o : Outcome) → ((left : List Word) → o ≡ Refused (Deep left) → ⊥) → Reads (Row Expression) room ws o → Derives Expression other ws (One b) [] → o ≡ Got (One b) []
-one_answer room other ws b o not r d = only_outcome (roomier r (room + other) (omega arith) not) (built (wider d (room + other) (omega arith)) ends_all)
+one_answer : (room other : ℕ) (ws : List Word) (b : Tree) (o : Outcome) → ((left : List Word) → o ≡ Refused (Deep left) → ⊥)
+    → Reads (Row Expression) room ws o → Derives Expression other ws (One b) [] → o ≡ Got (One b) []
+one_answer room other ws b o not r d =
+    one_outcome (roomier r (room + other) (omega arith) not) (whole_read other (room + other) ws b (omega arith) d)
 
 -- a misfit is one with any room
 pub misfit_never : (room other : ℕ) (ws us : List Word) (a : Tree) → Reads (Row Expression) room ws (Refused (Misfit us)) → Derives Expression other ws (One a) [] → ⊥
@@ -40,7 +41,7 @@ rest_never room other ws us w a b r d = let same = one_answer room other ws b (G
 
 -- what is too deep for the reader is no phrase with this room
 pub deep_never : (room : ℕ) (ws us : List Word) (a : Tree) → Reads (Row Expression) room ws (Refused (Deep us)) → Derives Expression room ws (One a) [] → ⊥
-deep_never room ws us a r d = let same = only_outcome r (built d ends_all) in cc
+deep_never room ws us a r d = let same = one_outcome r (built d ends_all) in cc
 
 -- what is too deep has more opening brackets and question marks than the room
 pub deep_openings : (room : ℕ) (ws us : List Word) → Reads (Row Expression) room ws (Refused (Deep us)) → room < openings ws

@@ -1,22 +1,7 @@
 -- What the reader's runs tell of whole texts.
-use Rattle.std.proofs.Common.{◌≡◌, ◌≢◌, ℕ, List, [], ◌∷◌, map, Ok, Err, Result, refl, sym, ap, subst, MatchResult}
-use Rattle.cel_tokens.specs.Token.{Word, Lexeme, seen}
+use Rattle.cel_reader.proofs.Prelude.{◌≡◌, ◌≢◌, ℕ, List, [], ◌∷◌, map, Ok, Err, Result, refl, sym, ap, subst, MatchResult, Word, Lexeme, seen, Lexes, Token, ReadError, P1, P2, P3, P4, P5, P6, Memory, one_end, some_taken, Tree, view, spoken, words, Expression, One, Derives, Got, Row, Reads, IsExpression, IsNoExpression, Answers, Told, Expr, refused_at, Refusal}
 use Rattle.cel_tokens.specs.Lexis as tokens
-use Rattle.cel_tokens.specs.Lexis.{Lexes}
-use Rattle.cel_tokens.specs.declared.token.Token.{Token}
-use Rattle.cel_tokens.specs.declared.read_error.ReadError.{ReadError}
-use Rattle.cel_tokens.specs.declared.read_error.ReadError.TheVariants.{P1, P2, P3, P4, P5, P6, Memory}
-use Rattle.cel_tokens.proofs.OneReading.{one_end}
-use Rattle.cel_tokens.proofs.Taking.{some_taken}
-use Rattle.cel_reader.specs.Tree.{Tree, view}
-use Rattle.cel_reader.specs.Look.{spoken, words}
-use Rattle.cel_reader.specs.Grammar.{Expression, One, Derives}
-use Rattle.cel_reader.specs.Reading.{Got, Row, Reads}
-use Rattle.cel_reader.specs.Answers.{IsExpression, IsNoExpression, Answers, Told}
-use Rattle.cel_reader.specs.declared.expr.Expr.{Expr}
 use Rattle.cel_reader.proofs.FirstWords.{first}
-use Rattle.cel_reader.specs.Place.{refused_at}
-use Rattle.cel_reader.specs.declared.refusal.Refusal.{Refusal}
 use Rattle.cel_reader.specs.declared.refusal.Refusal.TheVariants as refusal
 use Rattle.cel_reader.proofs.Steps.{Fails}
 use Rattle.cel_reader.proofs.Theorems.{whole_sound, whole_unique, misfit_never, rest_never, deep_never, deep_openings}

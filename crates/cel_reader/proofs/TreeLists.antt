@@ -1,6 +1,5 @@
 -- Trees and entries are the lists of them.
-use Rattle.std.proofs.Common.{◌≡◌, List, [], ◌∷◌, length, refl, ap, arith}
-use Rattle.cel_reader.specs.Tree.{Tree, Trees, Entries, no_trees, more_trees, no_entries, more_entries, trees, entries, tree_list, entry_list, tree_count, entry_count}
+use Rattle.cel_reader.proofs.Prelude.{◌≡◌, List, [], ◌∷◌, length, refl, ap, arith, Tree, Trees, Entries, no_trees, more_trees, no_entries, more_entries, trees, entries, tree_list, entry_list, tree_count, entry_count}
 
 pub list_of_trees : (items : List Tree) → tree_list (trees items) ≡ items
 list_of_trees [] = refl

@@ -1,31 +1,9 @@
 -- What is derived from the words of a text's tokens is well formed.
-use Rattle.std.proofs.Common.{◌≡◌, ℕ, ◌-◌, List, [], ◌∷◌, map, take, drop, Option, Some, None, inl, inr, subst}
-use Rattle.std.specs.Prelude.{All, IfSome, IfOk, Ok, Err, Result, FitsSigned}
-use Rattle.std.specs.Int.{w64}
-use Rattle.std.specs.Str.{IsUtf8}
-use Rattle.std.proofs.lemmas.List.Elements.{All-nil, All-cons, All-head, All-tail, All-push}
-use Rattle.std.proofs.lemmas.Str.{IsUtf8-string_bytes}
+use Rattle.cel_reader.proofs.Prelude.{◌≡◌, ℕ, ◌-◌, List, [], ◌∷◌, map, take, drop, Option, Some, None, inl, inr, subst, All, IfSome, IfOk, Ok, Err, Result, FitsSigned, w64, IsUtf8, All-nil, All-cons, All-head, All-tail, All-push, IsUtf8-string_bytes, Word, Lexeme, mark, seen, word_of, mark_word, mark_of, Lexes, IntFits, lexemes_fit, Mark, CloseBracket, CloseBrace, Token, ReadError, Tree, trees, entries, view, literal_of, literal_role, role_of, words, Class, Phrase, One, Many, Keyed, Derives, OptionalComma, Told, IsWellFormedLiteral, IsWellFormed, AreWellFormed, HasWellFormedEntries, Expr, Role}
 use Rattle.cel_tokens.specs.Token as word
-use Rattle.cel_tokens.specs.Token.{Word, Lexeme, mark, seen, word_of, mark_word}
-use Rattle.cel_tokens.specs.Marks.{mark_of}
-use Rattle.cel_tokens.specs.Lexis.{Lexes}
-use Rattle.cel_tokens.specs.Laws.{IntFits}
-use Rattle.cel_tokens.proofs.IntsFit.{lexemes_fit}
-use Rattle.cel_tokens.specs.declared.mark.Mark.{Mark}
-use Rattle.cel_tokens.specs.declared.mark.Mark.TheVariants.{CloseBracket, CloseBrace}
-use Rattle.cel_tokens.specs.declared.token.Token.{Token}
 use Rattle.cel_tokens.specs.declared.kind.Kind.{Kind}
 use Rattle.cel_tokens.specs.declared.kind.Kind.TheVariants as kind
-use Rattle.cel_tokens.specs.declared.read_error.ReadError.{ReadError}
-use Rattle.cel_reader.specs.Tree.{Tree, trees, entries, view}
-use Rattle.cel_reader.specs.Words.{literal_of, literal_role, role_of}
-use Rattle.cel_reader.specs.Look.{words}
-use Rattle.cel_reader.specs.Grammar.{Class, Phrase, One, Many, Keyed, Derives, OptionalComma}
 use Rattle.cel_reader.specs.Grammar as derives
-use Rattle.cel_reader.specs.Answers.{Told}
-use Rattle.cel_reader.specs.WellFormed.{IsWellFormedLiteral, IsWellFormed, AreWellFormed, HasWellFormedEntries}
-use Rattle.cel_reader.specs.declared.expr.Expr.{Expr}
-use Rattle.cel_reader.specs.declared.role.Role.{Role}
 use Rattle.cel_reader.specs.declared.role.Role.TheVariants as role
 
 -- what each word is known to be

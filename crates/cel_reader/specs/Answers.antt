@@ -57,13 +57,10 @@ Answers source (Err Memory) = (length source ≤ 65536) × TakesMemory true sour
 -- the same of the words alone
 abbrev pub Told : List Word → Result Expr ReadError → Type 0
 Told ws (Ok e) = IsExpression 100 ws (view e)
-Told ws (Err (P1 place)) = ⊥
-Told ws (Err (P2 place)) = ⊥
-Told ws (Err (P3 place)) = ⊥
 Told ws (Err (P4 place)) = IsNoExpression ws
 Told ws (Err (P5 place)) = IsDeep ws
-Told ws (Err (P6 place)) = ⊥
 Told ws (Err Memory) = ws ≢ []
+Told ws _ = ⊥
 
 -- the place of the first of these, or of the end of a text of so many bytes
 abbrev pub place_at : ℕ → List Lexeme → ℕ
@@ -76,25 +73,15 @@ StandsAt len lexemes place Holds = (count : ℕ) × (place ≡ place_at len (dro
 
 -- where the words of a text of so many bytes go wrong
 abbrev pub ToldAt : ℕ → List Lexeme → Result Expr ReadError → Type 0
-ToldAt len lexemes (Ok e) = Unit {0}
-ToldAt len lexemes (Err (P1 place)) = Unit {0}
-ToldAt len lexemes (Err (P2 place)) = Unit {0}
-ToldAt len lexemes (Err (P3 place)) = Unit {0}
 ToldAt len lexemes (Err (P4 place)) = StandsAt len lexemes place MisfitAt
 ToldAt len lexemes (Err (P5 place)) = StandsAt len lexemes place DeepAt
-ToldAt len lexemes (Err (P6 place)) = Unit {0}
-ToldAt len lexemes (Err Memory) = Unit {0}
+ToldAt len lexemes _ = Unit {0}
 
 -- where a text that has tokens goes wrong; of the other refusals `Answers` says the place
 abbrev pub Placed : List ℕ → Result Expr ReadError → Type 0
-Placed source (Ok e) = Unit {0}
-Placed source (Err (P1 place)) = Unit {0}
-Placed source (Err (P2 place)) = Unit {0}
-Placed source (Err (P3 place)) = Unit {0}
 Placed source (Err (P4 place)) = (lexemes : List Lexeme) × Lexes source (Ok lexemes) × ToldAt (length source) lexemes (Err (P4 place))
 Placed source (Err (P5 place)) = (lexemes : List Lexeme) × Lexes source (Ok lexemes) × ToldAt (length source) lexemes (Err (P5 place))
-Placed source (Err (P6 place)) = Unit {0}
-Placed source (Err Memory) = Unit {0}
+Placed source _ = Unit {0}
 
 -- what is answered where there is memory: it says of the text what is so, and where
 pub record IsAnswer (source : List ℕ) (r : Result Expr ReadError) : Type 0 where

@@ -4,7 +4,8 @@ use Rattle.cel_tokens.specs.Token.{Word, Lexeme, seen, name, int, text, mark}
 use Rattle.cel_tokens.specs.declared.token.Token.{Token}
 use Rattle.cel_tokens.specs.declared.mark.Mark.{Mark}
 use Rattle.cel_tokens.specs.declared.mark.Mark.TheVariants as marks
-use Rattle.cel_reader.specs.Words.{is_identifier, is_selector, literal_of, operator_of, level_of}
+use Rattle.cel_reader.specs.Tree.{Literal}
+use Rattle.cel_reader.specs.Words.{literal_of, operator_of, level_of}
 use Rattle.cel_reader.specs.declared.level.Level.{Level}
 use Rattle.cel_reader.specs.declared.operator.BinaryOperator.{BinaryOperator}
 use Rattle.cel_reader.specs.declared.closing.Closing.{Closing}
@@ -18,31 +19,6 @@ spoken lexemes = map (λ l. l.word) lexemes
 abbrev pub words : List ℕ → List Token → List Word
 words source tokens = spoken (map (seen source) tokens)
 
--- this mark is not first
-abbrev pub NotAt : Mark → List Word → Type 0
-NotAt m [] = Unit {0}
-NotAt m (w ∷ ws) = w ≢ mark m
-
--- no operator of the level is first
-abbrev pub NoOperator : Level → List Word → Type 0
-NoOperator l [] = Unit {0}
-NoOperator l (w ∷ ws) = (op : BinaryOperator) → operator_of w ≡ Some op → level_of op ≢ l
-
--- no literal is first
-abbrev pub NoLiteral : List Word → Type 0
-NoLiteral [] = Unit {0}
-NoLiteral (w ∷ ws) = literal_of w ≡ None
-
--- no selector is first
-abbrev pub NoSelector : List Word → Type 0
-NoSelector [] = Unit {0}
-NoSelector (w ∷ ws) = (n : List ℕ) → w ≡ name n → is_selector n ≡ false
-
--- no identifier is first
-abbrev pub NoIdentifier : List Word → Type 0
-NoIdentifier [] = Unit {0}
-NoIdentifier (w ∷ ws) = (n : List ℕ) → w ≡ name n → is_identifier n ≡ false
-
 -- the mark that closes the list
 abbrev pub closing_mark : Closing → Mark
 closing_mark Call = marks.CloseParen
@@ -54,6 +30,44 @@ abbrev pub takes_comma : Closing → Bool
 takes_comma Call = false
 takes_comma ListLiteral = true
 takes_comma Map = true
+
+-- what the reader looks for in a word: a mark; a mark, but only in a list that a comma may end; a name that passes a
+-- test; a literal; or an operator of the level
+pub data Look : Type 0 where
+  at : Mark → Look
+  in_literal : Closing → Mark → Look
+  named : (List ℕ → Bool) → Look
+  constant : Look
+  operator : Level → Look
+
+-- what it finds there
+abbrev pub Found : Look → Type 0
+Found (at m) = Unit {0}
+Found (in_literal c m) = Unit {0}
+Found (named test) = List ℕ
+Found constant = Literal
+Found (operator l) = BinaryOperator
+
+-- the word is what it looks for
+pub data Is : (l : Look) → Word → Found l → Type 0 where
+  this_mark : {m : Mark} → Is (at m) (mark m) tt
+  this_one : {c : Closing} {m : Mark} → takes_comma c ≡ true → Is (in_literal c m) (mark m) tt
+  this_name : {test : List ℕ → Bool} {n : List ℕ} → test n ≡ true → Is (named test) (name n) n
+  this_literal : {w : Word} {v : Literal} → literal_of w ≡ Some v → Is constant w v
+  this_operator : {l : Level} {w : Word} {op : BinaryOperator} → operator_of w ≡ Some op → level_of op ≡ l → Is (operator l) w op
+
+-- the word is not what it looks for
+abbrev pub IsNot : Look → Word → Type 0
+IsNot (at m) w = w ≢ mark m
+IsNot (in_literal c m) w = takes_comma c ≡ true → w ≢ mark m
+IsNot (named test) w = (n : List ℕ) → w ≡ name n → test n ≡ false
+IsNot constant w = literal_of w ≡ None
+IsNot (operator l) w = (op : BinaryOperator) → operator_of w ≡ Some op → level_of op ≢ l
+
+-- the words do not begin with one that it looks for
+abbrev pub Lacks : Look → List Word → Type 0
+Lacks l [] = Unit {0}
+Lacks l (w ∷ ws) = IsNot l w
 
 -- the list is closed here, and `rest` are the words behind
 abbrev pub Closes : Closing → List Word → List Word → Type 0

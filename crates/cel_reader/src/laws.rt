@@ -7,6 +7,7 @@ ghost use Rattle.cel_reader.specs.RefusalRows.{RefusalRowsStand};
 
 /// Words are one expression at most, and the same one where more brackets and conditionals may be
 /// open.
+#[tactic(auto, using(crate::proofs::Theorems::whole_unique, crate::proofs::Theorems::more_room))]
 pub fn one_tree()
     ensures one { HasOneTree }
     ensures kept { KeepsWithMoreRoom }
@@ -14,17 +15,20 @@ pub fn one_tree()
 
 /// But for want of memory a text has one answer at most, its tree or one refusal with its place. For
 /// words that are no expression go wrong behind one number of them at most, and in one way.
+#[tactic(auto, using(crate::proofs::OneAnswer::one_answer, crate::proofs::OneAnswer::wrong_once))]
 pub fn one_answer()
     ensures place { (ws : List Word) → GoesWrongOnce ws }
     ensures answer { HasOneAnswer }
 {}
 
 /// Texts that are no expression, and how each is refused, worked by hand.
+#[tactic(auto, using(crate::proofs::Runs::Refusals::rows_stand))]
 pub fn refusal_rows_stand()
     ensures { RefusalRowsStand }
 {}
 
 /// The parts of a list and of a map stand in a list, of the same number.
+#[tactic(auto, using(crate::proofs::TreeLists::list_of_trees, crate::proofs::TreeLists::trees_of_list, crate::proofs::TreeLists::count_of_trees, crate::proofs::TreeLists::list_of_entries, crate::proofs::TreeLists::entries_of_list, crate::proofs::TreeLists::count_of_entries))]
 pub fn parts_in_lists()
     ensures trees { TreesAreLists }
     ensures entries { EntriesAreLists }

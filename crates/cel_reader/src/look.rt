@@ -2,7 +2,8 @@
 
 ghost use Rattle.std.specs.Prelude.{◌≡◌, ◌<◌, ◌≤◌, ◌∷◌, length, true, false, Some, IfOk, IfSome, MatchOption, ◌↔◌, IsTrue, option_map};
 ghost use Rattle.cel_tokens.specs.Token as word;
-ghost use Rattle.cel_reader.specs.Look.{words, NotAt, NoOperator, NoSelector, NoIdentifier, NoLiteral, Closes, GoesOn, closing_mark, takes_comma};
+ghost use Rattle.cel_reader.specs.Look as looks;
+ghost use Rattle.cel_reader.specs.Look.{words, Lacks, Closes, GoesOn};
 ghost use Rattle.cel_reader.specs.Words as specs;
 ghost use Rattle.cel_reader.specs.Tree.{literal_view};
 ghost use Rattle.cel_reader.specs.Prefixes.{Prefixes};
@@ -30,7 +31,7 @@ fn is_mark(found: Word, wanted: Mark) -> bool
 
 /// The tokens behind this mark, if it is first.
 pub fn after<'a>(text: &'a [u8], tokens: &'a [Token], wanted: Mark) -> Option<&'a [Token]>
-    ensures at { MatchOption result (NotAt wanted (words text.now tokens.now)) (λ rest. words text.now tokens.now ≡ word.mark wanted ∷ words text.now rest.now) }
+    ensures at { MatchOption result (Lacks (looks.at wanted) (words text.now tokens.now)) (λ rest. words text.now tokens.now ≡ word.mark wanted ∷ words text.now rest.now) }
     ensures shorter { IfSome result (λ rest. length rest.now < length tokens.now) }
 {
     let (found, rest) = first(text, tokens)?;
@@ -83,7 +84,7 @@ pub fn operator_at<'a>(
     tokens: &'a [Token],
     level: Level,
 ) -> Option<(BinaryOperator, &'a [Token])>
-    ensures at { MatchOption result (NoOperator level (words text.now tokens.now)) (λ x. (w : word.Word) × (specs.operator_of w ≡ Some x.0) × (specs.level_of x.0 ≡ level) × (words text.now tokens.now ≡ w ∷ words text.now x.1.now)) }
+    ensures at { MatchOption result (Lacks (looks.operator level) (words text.now tokens.now)) (λ x. (w : word.Word) × (specs.operator_of w ≡ Some x.0) × (specs.level_of x.0 ≡ level) × (words text.now tokens.now ≡ w ∷ words text.now x.1.now)) }
     ensures shorter { IfSome result (λ x. length x.1.now < length tokens.now) }
 {
     let (found, rest) = first(text, tokens)?;
@@ -97,7 +98,7 @@ pub fn operator_at<'a>(
 
 /// The operator before an operand, if one is first, and the tokens behind it.
 pub fn prefix_at<'a>(text: &'a [u8], tokens: &'a [Token]) -> Option<(UnaryOperator, &'a [Token])>
-    ensures at { MatchOption result (NotAt Mark.Not (words text.now tokens.now) × NotAt Mark.Minus (words text.now tokens.now)) (λ x. words text.now tokens.now ≡ word.mark (specs.unary_mark x.0) ∷ words text.now x.1.now) }
+    ensures at { MatchOption result (Lacks (looks.at Mark.Not) (words text.now tokens.now) × Lacks (looks.at Mark.Minus) (words text.now tokens.now)) (λ x. words text.now tokens.now ≡ word.mark (specs.unary_mark x.0) ∷ words text.now x.1.now) }
     ensures shorter { IfSome result (λ x. length x.1.now < length tokens.now) }
 {
     if let Some(rest) = after(text, tokens, Mark::Not) {
@@ -109,7 +110,7 @@ pub fn prefix_at<'a>(text: &'a [u8], tokens: &'a [Token]) -> Option<(UnaryOperat
 
 /// The name that may stand behind a dot, if one is first, and the tokens behind it.
 pub fn selector_at<'a>(text: &'a [u8], tokens: &'a [Token]) -> Option<(&'a [u8], &'a [Token])>
-    ensures at { MatchOption result (NoSelector (words text.now tokens.now)) (λ x. (words text.now tokens.now ≡ word.name x.0.now ∷ words text.now x.1.now) × (specs.is_selector x.0.now ≡ true)) }
+    ensures at { MatchOption result (Lacks (looks.named specs.is_selector) (words text.now tokens.now)) (λ x. (words text.now tokens.now ≡ word.name x.0.now ∷ words text.now x.1.now) × (specs.is_selector x.0.now ≡ true)) }
     ensures shorter { IfSome result (λ x. length x.1.now < length tokens.now) }
 {
     let (found, rest) = first(text, tokens)?;
@@ -121,7 +122,7 @@ pub fn selector_at<'a>(text: &'a [u8], tokens: &'a [Token]) -> Option<(&'a [u8],
 
 /// The name that may stand for itself, if one is first, and the tokens behind it.
 pub fn identifier_at<'a>(text: &'a [u8], tokens: &'a [Token]) -> Option<(&'a [u8], &'a [Token])>
-    ensures at { MatchOption result (NoIdentifier (words text.now tokens.now)) (λ x. (words text.now tokens.now ≡ word.name x.0.now ∷ words text.now x.1.now) × (specs.is_identifier x.0.now ≡ true)) }
+    ensures at { MatchOption result (Lacks (looks.named specs.is_identifier) (words text.now tokens.now)) (λ x. (words text.now tokens.now ≡ word.name x.0.now ∷ words text.now x.1.now) × (specs.is_identifier x.0.now ≡ true)) }
     ensures shorter { IfSome result (λ x. length x.1.now < length tokens.now) }
 {
     let (found, rest) = first(text, tokens)?;
@@ -154,7 +155,7 @@ pub fn literal_at<'a>(
     text: &'a [u8],
     tokens: &'a [Token],
 ) -> Result<Option<(Literal, &'a [Token])>, AllocError>
-    ensures at { IfOk result (λ o. MatchOption o (NoLiteral (words text.now tokens.now)) (λ x. (w : word.Word) × (words text.now tokens.now ≡ w ∷ words text.now x.1.now) × (specs.literal_of w ≡ Some (literal_view x.0)))) }
+    ensures at { IfOk result (λ o. MatchOption o (Lacks looks.constant (words text.now tokens.now)) (λ x. (w : word.Word) × (words text.now tokens.now ≡ w ∷ words text.now x.1.now) × (specs.literal_of w ≡ Some (literal_view x.0)))) }
     ensures shorter { IfOk result (λ o. IfSome o (λ x. length x.1.now < length tokens.now)) }
 {
     let Some((found, rest)) = first(text, tokens) else {

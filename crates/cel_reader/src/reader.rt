@@ -20,15 +20,13 @@ use crate::refusal::{Refusal, lone_comma, misfit, too_deep};
 use cel_tokens::{Mark, Token};
 use std::alloc::Global;
 
+/// What was read, and the tokens behind it.
+type Read<'a, T = Expr> = Result<(T, &'a [Token]), Refusal>;
+
 /// The expression that is first, with this many brackets and conditionals to open, and the tokens
 /// behind it.
 #[cycle(reader)]
-pub fn expression<'a>(
-    alloc: Global,
-    text: &'a [u8],
-    tokens: &'a [Token],
-    room: u8,
-) -> Result<(Expr, &'a [Token]), Refusal>
+pub fn expression<'a>(alloc: Global, text: &'a [u8], tokens: &'a [Token], room: u8) -> Read<'a>
     ensures reads { Gives (λ x. Got (One (view x.0)) (words text.now x.1.now)) result (Reads (Row row.Expression) room (words text.now tokens.now)) }
     ensures shorter { IfOk result (λ x. length x.1.now < length tokens.now) }
 {
@@ -49,13 +47,7 @@ pub fn expression<'a>(
 
 /// An operand of the level and its operators, from the left.
 #[cycle(reader)]
-fn infix<'a>(
-    alloc: Global,
-    text: &'a [u8],
-    tokens: &'a [Token],
-    level: Level,
-    room: u8,
-) -> Result<(Expr, &'a [Token]), Refusal>
+fn infix<'a>(alloc: Global, text: &'a [u8], tokens: &'a [Token], level: Level, room: u8) -> Read<'a>
     ensures reads { Gives (λ x. Got (One (view x.0)) (words text.now x.1.now)) result (Reads (Row (row.Infix level)) room (words text.now tokens.now)) }
     ensures shorter { IfOk result (λ x. length x.1.now < length tokens.now) }
 {
@@ -76,7 +68,7 @@ fn operand<'a>(
     tokens: &'a [Token],
     level: Level,
     room: u8,
-) -> Result<(Expr, &'a [Token]), Refusal>
+) -> Read<'a>
     ensures reads { Gives (λ x. Got (One (view x.0)) (words text.now x.1.now)) result (Reads (Row (below level)) room (words text.now tokens.now)) }
     ensures shorter { IfOk result (λ x. length x.1.now < length tokens.now) }
 {
@@ -91,12 +83,7 @@ fn operand<'a>(
 
 /// A member and the operators before it.
 #[cycle(reader)]
-fn unary<'a>(
-    alloc: Global,
-    text: &'a [u8],
-    tokens: &'a [Token],
-    room: u8,
-) -> Result<(Expr, &'a [Token]), Refusal>
+fn unary<'a>(alloc: Global, text: &'a [u8], tokens: &'a [Token], room: u8) -> Read<'a>
     ensures reads { Gives (λ x. Got (One (view x.0)) (words text.now x.1.now)) result (Reads (Row row.Unary) room (words text.now tokens.now)) }
     ensures shorter { IfOk result (λ x. length x.1.now < length tokens.now) }
 {
@@ -111,12 +98,7 @@ fn unary<'a>(
 
 /// A primary, its selections, calls and indexes.
 #[cycle(reader)]
-fn member<'a>(
-    alloc: Global,
-    text: &'a [u8],
-    tokens: &'a [Token],
-    room: u8,
-) -> Result<(Expr, &'a [Token]), Refusal>
+fn member<'a>(alloc: Global, text: &'a [u8], tokens: &'a [Token], room: u8) -> Read<'a>
     ensures reads { Gives (λ x. Got (One (view x.0)) (words text.now x.1.now)) result (Reads (Row row.Member) room (words text.now tokens.now)) }
     ensures shorter { IfOk result (λ x. length x.1.now < length tokens.now) }
 {
@@ -138,13 +120,7 @@ fn member<'a>(
 
 /// The field or the method's call that stands behind a dot.
 #[cycle(reader)]
-fn selection<'a>(
-    alloc: Global,
-    text: &'a [u8],
-    tokens: &'a [Token],
-    of: Expr,
-    room: u8,
-) -> Result<(Expr, &'a [Token]), Refusal>
+fn selection<'a>(alloc: Global, text: &'a [u8], tokens: &'a [Token], of: Expr, room: u8) -> Read<'a>
     ensures reads { Gives (λ x. Got (One (view x.0)) (words text.now x.1.now)) result (Reads (Selection (view of)) room (words text.now tokens.now)) }
     ensures shorter { IfOk result (λ x. length x.1.now < length tokens.now) }
 {
@@ -161,12 +137,7 @@ fn selection<'a>(
 
 /// A name, a call, a literal or an expression in brackets.
 #[cycle(reader)]
-fn primary<'a>(
-    alloc: Global,
-    text: &'a [u8],
-    tokens: &'a [Token],
-    room: u8,
-) -> Result<(Expr, &'a [Token]), Refusal>
+fn primary<'a>(alloc: Global, text: &'a [u8], tokens: &'a [Token], room: u8) -> Read<'a>
     ensures reads { Gives (λ x. Got (One (view x.0)) (words text.now x.1.now)) result (Reads (Row row.Primary) room (words text.now tokens.now)) }
     ensures shorter { IfOk result (λ x. length x.1.now < length tokens.now) }
 {
@@ -203,7 +174,7 @@ fn enclosed<'a>(
     tokens: &'a [Token],
     close: Mark,
     room: u8,
-) -> Result<(Expr, &'a [Token]), Refusal>
+) -> Read<'a>
     ensures reads { Gives (λ x. Got (One (view x.0)) (words text.now x.1.now)) result (Reads (Enclosed close) room (words text.now tokens.now)) }
     ensures shorter { IfOk result (λ x. length x.1.now < length tokens.now) }
 {
@@ -225,7 +196,7 @@ fn items<'a>(
     tokens: &'a [Token],
     closing: Closing,
     room: u8,
-) -> Result<(Vec<Expr>, &'a [Token]), Refusal>
+) -> Read<'a, Vec<Expr>>
     ensures reads { Gives (λ x. Got (Many (list.map view x.0.items)) (words text.now x.1.now)) result (Reads (Listed closing) room (words text.now tokens.now)) }
     ensures shorter { IfOk result (λ x. length x.1.now < length tokens.now) }
 {
@@ -260,7 +231,7 @@ fn entries<'a>(
     text: &'a [u8],
     tokens: &'a [Token],
     room: u8,
-) -> Result<(Vec<(Expr, Expr)>, &'a [Token]), Refusal>
+) -> Read<'a, Vec<(Expr, Expr)>>
     ensures reads { Gives (λ x. Got (Keyed (list.map entry_view x.0.items)) (words text.now x.1.now)) result (Reads Mapped room (words text.now tokens.now)) }
     ensures shorter { IfOk result (λ x. length x.1.now < length tokens.now) }
 {

@@ -1,13 +1,6 @@
 -- Steps over the pieces of a text.
-use Rattle.std.proofs.Common.{◌≡◌, ℕ, suc, zero, ◌+◌, ◌-◌, ◌<◌, ◌≤◌, List, [], ◌∷◌, ◌++◌, length, get_or, drop, refl, sym, ◌∙◌, ap, arith, Bool, true, false, Some, None, drop-cons, subst, length-append}
-use Rattle.std.specs.Prelude.{◌≢◌, ◌==◌, option_and_then, encode_utf8}
-use Rattle.std.specs.Str.{IsUtf8}
-use Rattle.std.specs.Char.{IsScalar}
-use Rattle.std.proofs.lemmas.Str.{IsUtf8-take, IsUtf8-drop, IsUtf8-append, IsUtf8-encode, IsCharBoundary-before_ascii, IsCharBoundary-after_ascii}
-use Rattle.std.proofs.Math.Seq.{take-append_seam, drop-append-add}
-use Rattle.std.proofs.lemmas.List.{drop-drop, get_or-append-add}
-use Rattle.std.proofs.lemmas.Bool.Decides.{nat_tests}
-use Rattle.cel_tokens.specs.Texts.{content, piece, is_quote}
+use Rattle.cel_tokens.proofs.Prelude.{◌≡◌, ℕ, suc, zero, ◌+◌, ◌-◌, ◌<◌, ◌≤◌, List, [], ◌∷◌, ◌++◌, length, get_or, drop, refl, sym, ◌∙◌, ap, arith, Bool, true, false, Some, None, drop-cons, subst, ◌≢◌, ◌==◌, option_and_then, encode_utf8, IsUtf8, IsScalar, IsUtf8-take, IsUtf8-drop, IsUtf8-append, IsUtf8-encode, IsCharBoundary-before_ascii, IsCharBoundary-after_ascii, take-append_seam, drop-append-add, drop-drop, get_or-append-add, nat_tests, content, piece, is_quote}
+use Rattle.std.proofs.Common.{length-append}
 
 pub ended : (raw : Bool) (quote skip n : ℕ) (said : List ℕ) → content raw quote skip n said [] ≡ None
 unfolding content
@@ -26,36 +19,21 @@ pub skipped : (raw : Bool) (quote skip n : ℕ) (said bs : List ℕ) → skip �
 unfolding content
 skipped raw quote zero n said bs h = let e : n + 0 ≡ n = omega arith in rw e refl
 skipped raw quote (suc skip) n said [] h = absurd (omega arith)
-skipped raw quote (suc skip) n said (b ∷ bs) h =
-    let e : n + 1 + skip ≡ n + suc skip = omega arith in
-    skipped raw quote skip (n + 1) said bs (omega arith) ∙ ap (λ y. content raw quote 0 y said (drop skip bs)) e
+skipped raw quote (suc skip) n said (b ∷ bs) h = grind (arith, skipped raw quote skip (n + 1) said bs (omega arith))
 
 pub closes : (raw : Bool) (quote n b : ℕ) (said bs : List ℕ) → b ≡ quote → content raw quote 0 n said (b ∷ bs) ≡ Some (n + 1, said)
 unfolding content
 closes raw quote n b said bs h = let e : (b == quote) ≡ true = grind (arith, nat_tests) in rw e refl
 
-pub content_closes : (raw : Bool) (quote n : ℕ) (said xs : List ℕ) → n < length xs → get_or xs n 0 ≡ quote → content raw quote 0 n said (drop n xs) ≡ Some (n + 1, said)
-content_closes raw quote n said xs h e =
-    rw (drop-cons xs n 0) (closes raw quote n (get_or xs n 0) said (drop (suc n) xs) e)
-
 pub goes_on : (raw : Bool) (quote n b : ℕ) (said bs : List ℕ) → b ≢ quote → content raw quote 0 n said (b ∷ bs) ≡ option_and_then (λ x. content raw quote (x.0 - 1) (n + 1) (said ++ x.1) bs) (piece raw (b ∷ bs))
 unfolding content
 goes_on raw quote n b said bs h = let e : (b == quote) ≡ false = grind (arith, nat_tests) in rw e refl
 
-refused_at : (raw : Bool) (quote n b : ℕ) (said bs : List ℕ) → b ≢ quote → piece raw (b ∷ bs) ≡ None → content raw quote 0 n said (b ∷ bs) ≡ None
-refused_at raw quote n b said bs h e =
-    goes_on raw quote n b said bs h ∙ ap (option_and_then (λ x. content raw quote (x.0 - 1) (n + 1) (said ++ x.1) bs)) e
-
 pub content_refused : (raw : Bool) (quote n : ℕ) (said xs : List ℕ) → n < length xs → get_or xs n 0 ≢ quote → piece raw (drop n xs) ≡ None → content raw quote 0 n said (drop n xs) ≡ None
-content_refused raw quote n said xs h d =
-    rw (drop-cons xs n 0) (λ e. refused_at raw quote n (get_or xs n 0) said (drop (suc n) xs) d e)
+content_refused raw quote n said xs h d = grind (arith, drop-cons, goes_on)
 
 pub more_at : (raw : Bool) (quote n b : ℕ) (said bs : List ℕ) (x : ℕ × List ℕ) → b ≢ quote → piece raw (b ∷ bs) ≡ Some x → 1 ≤ x.0 → x.0 ≤ length (b ∷ bs) → content raw quote 0 n said (b ∷ bs) ≡ content raw quote 0 (n + x.0) (said ++ x.1) (drop (x.0 - 1) bs)
-more_at raw quote n b said bs x h e low high =
-    let q : n + 1 + (x.0 - 1) ≡ n + x.0 = omega arith in
-    goes_on raw quote n b said bs h
-    ∙ (ap (option_and_then (λ x. content raw quote (x.0 - 1) (n + 1) (said ++ x.1) bs)) e
-    ∙ (skipped raw quote (x.0 - 1) (n + 1) (said ++ x.1) bs (omega arith) ∙ ap (λ y. content raw quote 0 y (said ++ x.1) (drop (x.0 - 1) bs)) q))
+more_at raw quote n b said bs x h e low high = grind (arith, goes_on, skipped)
 
 pub content_more : (raw : Bool) (quote n : ℕ) (said xs : List ℕ) (x : ℕ × List ℕ) → n < length xs → get_or xs n 0 ≢ quote → piece raw (drop n xs) ≡ Some x → 1 ≤ x.0 → x.0 ≤ length (drop n xs) → content raw quote 0 n said (drop n xs) ≡ content raw quote 0 (n + x.0) (said ++ x.1) (drop (n + x.0) xs)
 content_more raw quote n said xs x h d e low high =
@@ -89,13 +67,3 @@ rest_utf8 said bytes len u l a =
 pub escape_utf8 : (said bytes : List ℕ) (code len : ℕ) → IsUtf8 (said ++ bytes) → get_or bytes 0 0 < 128 → len < length bytes → get_or bytes len 0 < 128 → IsScalar code → IsUtf8 ((said ++ encode_utf8 code) ++ drop (len + 1) bytes)
 escape_utf8 said bytes code len u a l z s =
     IsUtf8-append (said ++ encode_utf8 code) (drop (len + 1) bytes) (IsUtf8-append said (encode_utf8 code) (said_utf8 said bytes u (omega arith) a) (IsUtf8-encode code s)) (rest_utf8 said bytes len u l z)
-
--- one piece of the loop over a text
-pub piece_step : (raw : Bool) (quote n k : ℕ) (said new rest xs : List ℕ) (x : ℕ × List ℕ) → n < length xs → get_or xs n 0 ≢ quote → rest ≡ drop n xs → Some x ≡ piece raw rest → (1 ≤ x.0) × (x.0 ≤ length rest) → k ≡ x.0 → new ≡ said ++ x.1 → content raw quote 0 (n + k) new (drop (n + k) xs) ≡ content raw quote 0 n said (drop n xs)
-piece_step raw quote n k said new rest xs x h d r e w l a =
-    rw (l, a) (sym (content_more raw quote n said xs x h d (ap (piece raw) (sym r) ∙ sym e) w.0 (subst (λ (ys : List ℕ). x.0 ≤ length ys) r w.1)))
-
-pub utf8_step : (n k : ℕ) (said new rest xs : List ℕ) (x : ℕ × List ℕ) → rest ≡ drop n xs → k ≡ x.0 → new ≡ said ++ x.1 → IsUtf8 ((said ++ x.1) ++ drop x.0 rest) → IsUtf8 (new ++ drop (n + k) xs)
-utf8_step n k said new rest xs x r l a u =
-    let e : (said ++ x.1) ++ drop x.0 rest ≡ new ++ drop (n + k) xs = ap (λ (ys : List ℕ). ys ++ drop x.0 rest) (sym a) ∙ ap (λ (ys : List ℕ). new ++ ys) (ap (drop x.0) r ∙ (drop-drop x.0 n xs ∙ ap (λ y. drop (n + y) xs) (sym l))) in
-    subst IsUtf8 e u

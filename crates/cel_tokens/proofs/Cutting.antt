@@ -1,27 +1,8 @@
 -- Steps over the tokens of a text.
-use Rattle.std.proofs.Common.{◌≡◌, ℕ, ◌+◌, ◌-◌, ◌<◌, ◌≤◌, List, [], ◌∷◌, ◌++◌, length, drop, take, map, refl, sym, ◌∙◌, ap, arith, Bool, true, false, Option, Some, None, Result, Err, subst}
-use Rattle.std.specs.Prelude.{nat_le}
-use Rattle.std.specs.Str.{IsUtf8}
-use Rattle.std.proofs.lemmas.List.{drop-drop, take-append-drop, map-append, length-map}
-use Rattle.std.proofs.lemmas.Bool.{cases_lt}
-use Rattle.std.proofs.lemmas.Bool.Decides.{nat_tests}
+use Rattle.cel_tokens.proofs.Prelude.{◌≡◌, ℕ, ◌+◌, ◌-◌, ◌<◌, ◌≤◌, List, [], ◌∷◌, ◌++◌, length, drop, take, map, refl, sym, ◌∙◌, ap, arith, Bool, true, false, Option, Some, None, Result, Err, subst, nat_le, IsUtf8, drop-drop, take-append-drop, map-append, length-map, cases_lt, nat_tests, Word, Lexeme, text, seen, word_of, front, front_text, sign_may_follow, EndsText, Vec, Global, Cuts, Begins, TakesMemory, lexeme, Answers, read, space as cut_space, token as cut_token, wrong_text as cut_text, wide_int as cut_int, too_many, for_word, for_text, behind_space, a_word, Ends, Refused, refusal_of, CutsTo, Kind, Token, ReadError, P2, P3, P4, P5, P6, Memory}
 use mathlib.Core.Logic.{inl, inr}
-use Rattle.cel_tokens.specs.Token.{Word, Lexeme, text, seen, word_of}
 use Rattle.cel_tokens.specs.Front as front
-use Rattle.cel_tokens.specs.Front.{front, front_text, sign_may_follow}
-use Rattle.cel_tokens.specs.Shown.{EndsText}
-use Rattle.std.specs.Prelude.{Vec}
-use Rattle.std.specs.Global.{Global}
-use Rattle.cel_tokens.specs.Lexis.{Cuts, Begins, TakesMemory, lexeme, Answers}
-use Rattle.cel_tokens.specs.Lexis.Lexes.{read}
-use Rattle.cel_tokens.specs.Lexis.Cuts.{space as cut_space, token as cut_token, wrong_text as cut_text, wide_int as cut_int, too_many}
-use Rattle.cel_tokens.specs.Lexis.TakesMemory.{for_word, for_text, behind_space}
-use Rattle.cel_tokens.specs.Lexis.Begins.{a_word, a_text, an_int}
-use Rattle.cel_tokens.specs.Steps.{Ends, Refused, refusal_of, CutsTo}
-use Rattle.cel_tokens.specs.declared.kind.Kind.{Kind}
-use Rattle.cel_tokens.specs.declared.token.Token.{Token}
-use Rattle.cel_tokens.specs.declared.read_error.ReadError.{ReadError}
-use Rattle.cel_tokens.specs.declared.read_error.ReadError.TheVariants.{P2, P3, P4, P5, P6, Memory}
+use Rattle.cel_tokens.specs.Lexis.Begins.{a_text, an_int}
 
 -- the front of the rest is that of the text at this place
 pub there : (source rest : List ℕ) (signed : Bool) (at : ℕ) (found : front.Front) → rest ≡ drop at source → found ≡ front signed rest → front signed (drop at source) ≡ found
@@ -45,9 +26,7 @@ same_word : (at n : ℕ) (source : List ℕ) (kind : Kind) → word_of (take (at
 same_word at n source kind = let e : at + n - at ≡ n = omega arith in ap (λ (y : ℕ). word_of (take y (drop at source)) kind) e
 
 seen_new : (source : List ℕ) (at n : ℕ) (kind : Kind) (old new : List Token) → new ≡ old ++ ((record { place = at; end = at + n; kind = kind }) ∷ []) → map (seen source) new ≡ map (seen source) old ++ (lexeme at n (word_of (take n (drop at source)) kind) ∷ [])
-seen_new source at n kind old new e =
-    ap (map (seen source)) e
-    ∙ (map-append (seen source) old ((record { place = at; end = at + n; kind = kind }) ∷ []) ∙ ap (λ (w : Word). map (seen source) old ++ (lexeme at n w ∷ [])) (same_word at n source kind))
+seen_new source at n kind old new e = grind (arith, map-append, same_word)
 
 pub token_goes : (source rest : List ℕ) (signed sign : Bool) (at n next : ℕ) (kind : Kind) (old new : List Token) (r : Result (List Lexeme) ReadError) → rest ≡ drop at source → front.word n (word_of (take n rest) kind) ≡ front signed rest → length old < 4096 → next ≡ at + n → sign ≡ sign_may_follow (word_of (take n rest) kind) → new ≡ old ++ ((record { place = at; end = at + n; kind = kind }) ∷ []) → Ends source sign next new r → Ends source signed at old r
 token_goes source rest signed sign at n next kind old new r e s l x g a d =

@@ -1,44 +1,23 @@
 -- The tokens of what is found at the front.
-use Rattle.std.proofs.Common.{◌≡◌, ℕ, suc, ◌+◌, ◌≤◌, List, [], ◌∷◌, ◌++◌, length, take, drop, refl, sym, ◌∙◌, ap, subst, arith}
-use Rattle.std.proofs.Common.{Bool, true, false, Option, Some}
-use Rattle.std.specs.Prelude.{pos, neg_ℤ}
+use Rattle.cel_tokens.proofs.Prelude.{◌≡◌, ℕ, suc, ◌+◌, ◌≤◌, List, [], ◌∷◌, ◌++◌, length, take, drop, refl, sym, ◌∙◌, ap, subst, arith, Bool, true, false, Option, Some, pos, neg_ℤ, length-take-le, length-drop, length-append, append_assoc, take-take, take-append-drop, take-append_seam, Mark, name, int, text, mark, mark_word, is_letter, is_name_byte, run, mark_at, mark_of, one_byte, two_bytes, opening_len, is_quote, is_raw_prefix, Says, Skips, none, blank, comment, IsToken, HasToken, a_name, a_signed_int, a_mark, a_text, a_raw_text, FollowsSign}
 use mathlib.Core.Logic.{inl, inr}
-use Rattle.std.proofs.lemmas.List.{length-take-le, length-drop, length-append, append_assoc, take-take, take-append-drop}
-use Rattle.std.proofs.Math.Seq.{take-append_seam}
-use Rattle.cel_tokens.specs.declared.mark.Mark.{Mark}
-use Rattle.cel_tokens.specs.Token.{name, int, text, mark, mark_word}
-use Rattle.cel_tokens.specs.Bytes.{is_letter, is_name_byte, run}
-use Rattle.cel_tokens.specs.Marks.{mark_at, mark_of, one_byte, two_bytes}
-use Rattle.cel_tokens.specs.Texts.{opening, opening_len, is_quote, is_raw_prefix}
-use Rattle.cel_tokens.specs.TextLiterals.{Says}
-use Rattle.cel_tokens.specs.Gaps.{Skips, IsLineOver}
-use Rattle.cel_tokens.specs.Gaps.Skips.{none, blank, comment}
-use Rattle.cel_tokens.specs.AsWritten.{IsToken, HasToken}
-use Rattle.cel_tokens.specs.AsWritten.IsToken.{a_name, a_signed_int, a_mark, a_text, a_raw_text}
 use Rattle.cel_tokens.proofs.Runs.{run_within}
 use Rattle.cel_tokens.proofs.Marked as marked
 use Rattle.cel_tokens.proofs.NegatedInts.{front_passes, taken}
 use Rattle.cel_tokens.proofs.OwnBytes.{says_within, says_alike}
-use Rattle.cel_tokens.specs.SignedInts.{FollowsSign}
 
 -- ---- text literals
 
 -- a literal alone
 own : (raw : Bool) (quote n : ℕ) (bytes said : List ℕ) → Says raw quote bytes n said → (n ≤ length bytes)
     × Says raw quote (take n bytes) (length (take n bytes)) said
-own raw quote n bytes said s =
-    let h = says_within s in
-    let l = length-take-le n bytes h in
-    (h, subst (λ k. Says raw quote (take n bytes) k said) (sym l) (says_alike s (take n bytes) (omega (arith, l), take-take n n bytes (omega arith))))
+own raw quote n bytes said s = grind (arith, says_within, length-take-le, says_alike, take-take)
 
 -- the first byte of a literal, or the first two of a raw one
 abbrev pub Opens : Bool → ℕ → ℕ → List ℕ → Type 0
 Opens false quote b bs = (b ≡ quote) × (is_quote quote ≡ true)
 Opens true quote b [] = ⊥
 Opens true quote b (c ∷ cs) = (c ≡ quote) × (is_raw_prefix b ≡ true) × (is_quote quote ≡ true)
-
-pub opens : (raw : Bool) (quote b : ℕ) (bs : List ℕ) → opening (b ∷ bs) ≡ Some (raw, quote) → Opens raw quote b bs
-opens raw quote b bs h0 = grind arith
 
 pub text_token : (signed raw : Bool) (quote b n : ℕ) (bs said : List ℕ) → Opens raw quote b bs → Says raw quote (drop (opening_len raw) (b ∷ bs)) n said
     → HasToken signed (b ∷ bs) (opening_len raw + n) (text said)
@@ -76,9 +55,6 @@ mark_token signed bytes m n e = (mark_within bytes m n e, a_mark (no_word (mark_
 
 -- ---- ints with a sign
 
-line_front : (xs more : List ℕ) → IsLineOver (xs ++ more) → IsLineOver xs
-line_front xs more h0 = grind arith
-
 -- without what stands behind
 cut : {bytes rest : List ℕ} → Skips bytes rest → (digits more : List ℕ) → rest ≡ digits ++ more → (first : List ℕ) × (bytes ≡ first ++ more)
     × Skips first digits
@@ -88,7 +64,7 @@ cut (comment inside after a h s) digits more e =
     let c = cut s digits more e in (
       47 ∷ 47 ∷ (inside ++ c.0),
       ap (λ (xs : List ℕ). 47 ∷ 47 ∷ xs) (ap (λ (xs : List ℕ). inside ++ xs) c.1 ∙ sym (append_assoc inside c.0 more)),
-      comment inside c.0 a (line_front c.0 more (subst IsLineOver c.1 h)) c.2,
+      comment inside c.0 a (grind arith) c.2,
     )
 
 pub signed_token : (bytes : List ℕ) (gap n value : ℕ) → FollowsSign bytes gap n value

@@ -1,14 +1,6 @@
 -- What is found at the front, by cases.
-use Rattle.std.proofs.Common.{◌≡◌, ℕ, ◌≤◌, List, [], ◌∷◌, take, drop, refl, arith, Bool, true, false, Option, Some, None}
-use Rattle.std.specs.Prelude.{◌==◌, ◌&&◌, if◌then◌else◌, nat_lt}
-use Rattle.std.proofs.lemmas.Bool.Decides.{nat_tests}
-use Rattle.cel_tokens.specs.Token.{name}
-use Rattle.cel_tokens.specs.Bytes.{is_letter, is_name_byte, is_digit_of, run, between}
-use Rattle.cel_tokens.specs.Marks.{mark_at}
-use Rattle.cel_tokens.specs.Texts.{opening, opening_len, content}
-use Rattle.cel_tokens.specs.Ints.{digit_begins}
+use Rattle.cel_tokens.proofs.Prelude.{◌≡◌, ℕ, ◌≤◌, List, [], ◌∷◌, take, drop, refl, arith, Bool, true, false, Option, Some, None, ◌==◌, ◌&&◌, if◌then◌else◌, nat_lt, nat_tests, name, is_letter, is_name_byte, is_digit_of, run, between, mark_at, opening, opening_len, content, digit_begins, front, front_word, front_text, front_int, front_mark, before_digits, signed_int_begins}
 use Rattle.cel_tokens.specs.Front as front
-use Rattle.cel_tokens.specs.Front.{front, front_word, front_text, front_int, front_mark, before_digits, signed_int_begins}
 
 pub data Found (signed : Bool) (b : ℕ) (bs : List ℕ) : front.Front → Type 0 where
   a_gap : (n : ℕ) → 1 ≤ n → n ≡ between false (b ∷ bs) → Found signed b bs (front.space n)
@@ -24,9 +16,6 @@ pub data Found (signed : Bool) (b : ℕ) (bs : List ℕ) : front.Front → Type 
 
 begins_with_minus : (b : ℕ) (t : Bool) → ((b == 45) && t) ≡ true → (b ≡ 45) × (t ≡ true)
 begins_with_minus b t e = (grind (arith, nat_tests), grind (arith, nat_tests))
-
-some_gap : (n : ℕ) → nat_lt 0 n ≡ true → 1 ≤ n
-some_gap n e = grind (arith, nat_tests)
 
 module _ (signed : Bool) (b : ℕ) (bs : List ℕ) where
   by_sign : (s t : Bool) → opening (b ∷ bs) ≡ None → is_letter b ≡ false → signed ≡ s → signed_int_begins b (b ∷ bs) ≡ t
@@ -49,7 +38,7 @@ module _ (signed : Bool) (b : ℕ) (bs : List ℕ) where
 
   by_gap : (t : Bool) → nat_lt 0 (between false (b ∷ bs)) ≡ t
       → Found signed b bs (if t then front.space (between false (b ∷ bs)) else front_word signed b (b ∷ bs) (opening (b ∷ bs)))
-  by_gap true e = a_gap (between false (b ∷ bs)) (some_gap (between false (b ∷ bs)) e) refl
+  by_gap true e = a_gap (between false (b ∷ bs)) (grind (arith, nat_tests)) refl
   by_gap false e = by_opening (opening (b ∷ bs)) refl
 
 pub found : (signed : Bool) (b : ℕ) (bs : List ℕ) → Found signed b bs (front signed (b ∷ bs))

@@ -1,14 +1,7 @@
 -- The definition of what stands at the front, without cases on the text.
-use Rattle.std.proofs.Common.{◌≡◌, ℕ, ◌<◌, ◌≤◌, List, length, get_or, refl, arith, Bool, true, false}
-use Rattle.std.specs.Prelude.{if◌then◌else◌, nat_lt, ◌==◌, Result, OnErr}
-use Rattle.std.proofs.lemmas.Bool.Decides.{nat_tests}
-use Rattle.cel_tokens.specs.Bytes.{between}
-use Rattle.std.specs.Str.{IsUtf8}
-use Rattle.std.proofs.Common.{drop}
-use Rattle.cel_tokens.specs.Shown.{IsQuoted, EndsText}
+use Rattle.cel_tokens.proofs.Prelude.{◌≡◌, ℕ, ◌<◌, ◌≤◌, List, length, get_or, refl, arith, Bool, true, false, if◌then◌else◌, nat_lt, ◌==◌, Result, OnErr, nat_tests, between, IsUtf8, drop, IsQuoted, EndsText, opening, opening_len, front, front_word}
 use Rattle.cel_tokens.proofs.Contents.{rest_utf8, quote_ascii}
-use Rattle.cel_tokens.specs.Texts.{opening, opening_len}
-use Rattle.cel_tokens.specs.Front.{front, front_word, over, space}
+use Rattle.cel_tokens.specs.Front.{over, space}
 
 pub front_nil : (signed : Bool) (xs : List ℕ) → length xs ≤ 0 → front signed xs ≡ over
 unfolding front

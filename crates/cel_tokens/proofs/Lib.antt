@@ -22,3 +22,4 @@ pub mod LongestToken
 pub mod Standing
 pub mod OneWord
 pub mod OneStanding
+pub mod Prelude

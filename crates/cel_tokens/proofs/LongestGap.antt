@@ -1,21 +1,8 @@
 -- What is computed of blanks and comments is their longest stretch.
-use Rattle.std.proofs.Common.{◌≡◌, ℕ, suc, ◌+◌, ◌≤◌, List, [], ◌∷◌, ◌++◌, length, drop, refl, sym, ◌∙◌, ap, subst, arith, Bool, true, false}
-use Rattle.std.specs.Prelude.{◌==◌, ◌&&◌, not, if◌then◌else◌}
-use Rattle.std.proofs.lemmas.Bool.Decides.{nat_tests}
-use Rattle.std.proofs.lemmas.List.{length-append}
-use Rattle.cel_tokens.specs.Bytes.{between, is_between, stays_in_comment, is_blank, is_line_end, opens_comment}
-use Rattle.cel_tokens.specs.Longest.{AllPass}
-use Rattle.cel_tokens.specs.Gaps.{Skips, IsLineOver, IsGap}
-use Rattle.cel_tokens.specs.Gaps.Skips.{none, blank, comment}
+use Rattle.cel_tokens.proofs.Prelude.{◌≡◌, ℕ, suc, ◌+◌, ◌≤◌, List, [], ◌∷◌, ◌++◌, length, drop, refl, sym, ◌∙◌, ap, subst, arith, Bool, true, false, not, nat_tests, length-append, between, stays_in_comment, is_blank, is_line_end, opens_comment, AllPass, Skips, IsLineOver, IsGap, none, blank, comment}
 use Rattle.cel_tokens.proofs.Runs.{between_on, between_off}
 
 -- ---- what the bytes are
-
-line_end_blank : (b : ℕ) → is_line_end b ≡ true → is_blank b ≡ true
-line_end_blank b h = grind (arith, nat_tests)
-
-no_true : (b : Bool) → not b ≡ true → b ≡ false
-no_true b h0 = grind arith
 
 nothing : (c : Bool) → between c [] ≡ 0
 unfolding between
@@ -23,12 +10,6 @@ nothing c = refl
 
 at_blank : (b : ℕ) (bs : List ℕ) → is_blank b ≡ true → between false (b ∷ bs) ≡ between false bs + 1
 at_blank b bs h = between_on false b bs (rw h refl) ∙ (rw h refl)
-
-at_slashes : (bs : List ℕ) → between false (47 ∷ 47 ∷ bs) ≡ between true bs + 2
-at_slashes bs =
-    let e = between_on false 47 (47 ∷ bs) refl in
-    let f = between_on true 47 bs refl in
-    omega (arith, e, f)
 
 inside_line : (b : ℕ) (bs : List ℕ) → is_line_end b ≡ false → between true (b ∷ bs) ≡ between true bs + 1
 inside_line b bs h = between_on true b bs refl ∙ (rw h refl)
@@ -39,44 +20,27 @@ at_line_end b bs h = between_on true b bs refl ∙ (rw h refl)
 -- ---- no stretch is longer
 
 line_over : (after : List ℕ) → IsLineOver after → between true after ≡ between false after
-line_over [] h = nothing true ∙ sym (nothing false)
-line_over (b ∷ bs) h = at_line_end b bs h ∙ sym (at_blank b bs (line_end_blank b h))
+line_over after h = grind (arith, nothing, at_line_end, at_blank, nat_tests)
 
 through_line : (inside after : List ℕ) → AllPass (λ b. not (is_line_end b)) inside → IsLineOver after → between true (inside ++ after) ≡ length inside + between false after
 through_line [] after a h = let e = line_over after h in omega (arith, e)
-through_line (b ∷ bs) after a h =
-    let e = inside_line b (bs ++ after) (no_true (is_line_end b) a.0) in
-    let i = through_line bs after a.1 h in
-    omega (arith, e, i)
+through_line (b ∷ bs) after a h = grind (arith, inside_line, through_line bs after a.1 h)
 
 -- behind a stretch the longest one goes on
 pub goes_on : {bytes rest : List ℕ} → Skips bytes rest → between false bytes + length rest ≡ between false rest + length bytes
 goes_on none = refl
-goes_on (blank {b = b} {bs = bs} h s) =
-    let e = at_blank b bs h in
-    let i = goes_on s in
-    omega (arith, e, i)
-goes_on (comment inside after a h s) =
-    let e = at_slashes (inside ++ after) in
-    let t = through_line inside after a h in
-    let i = goes_on s in
-    let l = length-append inside after in
-    omega (arith, e, t, i, l)
+goes_on (blank {b = b} {bs = bs} h s) = grind (arith, at_blank, goes_on s)
+goes_on (comment inside after a h s) = grind (arith, between_on, through_line, length-append, goes_on s)
 
 none_longer : {bytes rest : List ℕ} → Skips bytes rest → length bytes ≤ between false bytes + length rest
 none_longer s = let e = goes_on s in omega (arith, e)
 
 -- ---- what is computed is a stretch
 
-within_test : (t : Bool) (m n : ℕ) → m ≤ n → (if t then m + 1 else 0) ≤ n + 1
-within_test t m n h0 = grind arith
-
 pub within : (c : Bool) (bytes : List ℕ) → between c bytes ≤ length bytes
 unfolding between
 within c [] = omega arith
-within c (b ∷ bs) =
-    let q : suc (length bs) ≡ length bs + 1 = omega arith in
-    rw q (within_test (is_between c b (b ∷ bs)) (between (stays_in_comment c b) bs) (length bs) (within (stays_in_comment c b) bs))
+within c (b ∷ bs) = grind (arith, within (stays_in_comment c b) bs)
 
 -- the rest of a comment's line, and the stretch behind it
 abbrev InComment : List ℕ → List ℕ → Type 0
@@ -97,11 +61,11 @@ behind_more c d b bs e = let q : between d bs + 1 ≡ suc (between d bs) = omega
 behind_slashes : (bs : List ℕ) → behind false (47 ∷ 47 ∷ bs) ≡ behind true bs
 behind_slashes bs =
     let q : between true bs + 2 ≡ suc (suc (between true bs)) = omega arith in
-    ap (λ n. drop n (47 ∷ 47 ∷ bs)) (at_slashes bs ∙ q)
+    ap (λ n. drop n (47 ∷ 47 ∷ bs)) ((grind (arith, between_on)) ∙ q)
 
 in_line : (b : ℕ) (bs : List ℕ) → InComment bs (behind true bs) → (t : Bool) → is_line_end b ≡ t → Skips bs (behind false bs) → InComment (b ∷ bs) (behind true (b ∷ bs))
 in_line b bs i true t s =
-    subst (InComment (b ∷ bs)) (sym (behind_more true false b bs (at_line_end b bs t))) ([], b ∷ bs, refl, tt, t, blank (line_end_blank b t) s)
+    subst (InComment (b ∷ bs)) (sym (behind_more true false b bs (at_line_end b bs t))) ([], b ∷ bs, refl, tt, t, blank (grind (arith, nat_tests)) s)
 in_line b bs i false t s =
     subst (InComment (b ∷ bs)) (sym (behind_more true true b bs (inside_line b bs t))) (b ∷ i.0, i.1, ap (λ (xs : List ℕ). b ∷ xs) i.2, (rw t refl, i.3), i.4, i.5)
 
@@ -114,12 +78,6 @@ over_here b bs k o =
     let e : between false (b ∷ bs) ≡ 0 = between_off false b bs (rw (k, o) refl) in
     subst (Skips (b ∷ bs)) (sym (ap (λ n. drop n (b ∷ bs)) e)) none
 
-equal_here : (b k : ℕ) → (b == k) ≡ true → b ≡ k
-equal_here b k e = grind (arith, nat_tests)
-
-both : (x y : Bool) → (x && y) ≡ true → (x ≡ true) × (y ≡ true)
-both x y h0 = grind arith
-
 -- the comment's rest behind a byte of these, if there is one
 abbrev AfterOne : List ℕ → Type 0
 AfterOne [] = Unit {0}
@@ -129,11 +87,7 @@ AfterOne (c ∷ cs) = InComment cs (behind true cs)
 no_blank : (b : ℕ) (bs : List ℕ) → AfterOne bs → is_blank b ≡ false → (t : Bool) → opens_comment (b ∷ bs) ≡ t → Skips (b ∷ bs) (behind false (b ∷ bs))
 no_blank b bs i k false t = over_here b bs k t
 no_blank b [] i k true t = absurd cc
-no_blank b (c ∷ cs) i k true t =
-    let p = both (b == 47) (c == 47) t in
-    let x = equal_here b 47 p.0 in
-    let y = equal_here c 47 p.1 in
-    rw (x, y) (in_comment cs i)
+no_blank b (c ∷ cs) i k true t = grind (arith, nat_tests, in_comment)
 
 outside : (b : ℕ) (bs : List ℕ) → Skips bs (behind false bs) → AfterOne bs → (t : Bool) → is_blank b ≡ t → Skips (b ∷ bs) (behind false (b ∷ bs))
 outside b bs s i true t = subst (Skips (b ∷ bs)) (sym (behind_more false false b bs (at_blank b bs t))) (blank t s)

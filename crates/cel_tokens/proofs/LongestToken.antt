@@ -1,29 +1,9 @@
 -- No longer token stands at the front.
-use Rattle.std.proofs.Common.{◌≡◌, ℕ, suc, ◌+◌, ◌<◌, ◌≤◌, List, [], ◌∷◌, ◌++◌, length, take, drop, refl, sym, ◌∙◌, ap, subst, arith, Bool, true, false}
-use Rattle.std.proofs.Common.{Option, Some, None}
-use Rattle.std.specs.Prelude.{◌⊎◌, ◌==◌, ◌&&◌, if◌then◌else◌, ℤ}
-use Rattle.std.proofs.lemmas.Bool.Decides.{nat_tests}
-use Rattle.std.proofs.lemmas.List.{length-append, length-take-le, append_assoc, take-append-drop, take-append-le}
-use Rattle.std.proofs.Math.Seq.{drop-append_seam}
-use Rattle.cel_tokens.specs.declared.mark.Mark.{Mark}
-use Rattle.cel_tokens.specs.Token.{Word, text}
-use Rattle.cel_tokens.specs.Bytes.{is_letter, is_name_byte, is_digit_of, is_blank}
-use Rattle.cel_tokens.specs.Marks.{mark_at, mark_of, of_two, two_bytes}
-use Rattle.cel_tokens.specs.Texts.{opening, opening_len, is_quote, is_raw_prefix}
-use Rattle.cel_tokens.specs.TextLiterals.{Says}
-use Rattle.cel_tokens.specs.Ints.{int_at, int_of}
+use Rattle.cel_tokens.proofs.Prelude.{◌≡◌, ℕ, suc, ◌+◌, ◌<◌, ◌≤◌, List, [], ◌∷◌, ◌++◌, length, take, drop, refl, sym, ◌∙◌, ap, subst, arith, Bool, true, false, Option, Some, None, ◌⊎◌, ◌==◌, ℤ, nat_tests, length-append, length-take-le, append_assoc, take-append-drop, take-append-le, drop-append_seam, Mark, Word, text, is_letter, is_name_byte, is_digit_of, is_blank, mark_at, mark_of, of_two, two_bytes, opening, opening_len, is_quote, is_raw_prefix, Says, int_at, int_of, front, int_front, front_mark, before_digits, IsName, Takes, Skips, IsLineOver, none, blank, comment, Spells, IsInt, FollowsSign, decimal, hex, IsToken, HasToken, IsLongestToken, a_name, an_int, a_signed_int, a_mark, a_text, a_raw_text}
 use Rattle.cel_tokens.specs.Front as front
-use Rattle.cel_tokens.specs.Front.{front, front_text, int_front, front_mark, before_digits}
-use Rattle.cel_tokens.specs.Longest.{IsName, Takes}
-use Rattle.cel_tokens.specs.Gaps.{Skips, IsLineOver}
-use Rattle.cel_tokens.specs.Gaps.Skips.{none, blank, comment}
-use Rattle.cel_tokens.specs.SignedInts.{Spells, IsInt, FollowsSign}
-use Rattle.cel_tokens.specs.SignedInts.Spells.{decimal, hex}
-use Rattle.cel_tokens.specs.AsWritten.{IsToken, HasToken, IsLongestToken}
-use Rattle.cel_tokens.specs.AsWritten.IsToken.{a_name, an_int, a_signed_int, a_mark, a_text, a_raw_text}
 use Rattle.cel_tokens.proofs.Runs.{run_on}
 use Rattle.cel_tokens.proofs.NoLonger.{begins_here, no_text, int_len, no_longer_name, no_longer_int, no_longer_hex}
-use Rattle.cel_tokens.proofs.NegatedInts.{int_is, no_longer, first_digit, int_digit, sign_front}
+use Rattle.cel_tokens.proofs.NegatedInts.{int_is, no_longer, int_digit, sign_front}
 use Rattle.cel_tokens.proofs.SaidPieces.{says_its_pieces}
 use Rattle.cel_tokens.proofs.OwnBytes.{says_alike}
 use Rattle.cel_tokens.proofs.Fronts.{front_nil}
@@ -42,9 +22,6 @@ int_takes : (bytes : List ℕ) (k before : ℕ) (o : Option ℤ) → k ≤ befor
     → AtLeast bytes k (int_front before (int_at (drop before bytes)).0 o)
 int_takes bytes k before o h0 = grind arith
 
-text_takes : (bytes : List ℕ) (k before : ℕ) (o : Option (ℕ × List ℕ)) → k ≤ before → AtLeast bytes k (front_text before o)
-text_takes bytes k before o h0 = grind arith
-
 opens_some : (raw : Bool) → 1 ≤ opening_len raw
 opens_some raw = grind arith
 
@@ -55,7 +32,7 @@ name_byte b l = rw l refl
 takes_one : (signed : Bool) (b : ℕ) (bs : List ℕ) (x : front.Front) → Found signed b bs x
     → (is_letter b ≡ false → AtLeast (b ∷ bs) 1 (front_mark (mark_at (b ∷ bs)))) → AtLeast (b ∷ bs) 1 x
 takes_one signed b bs x (case.a_gap n l q) h = tt
-takes_one signed b bs x (case.a_text raw quote o) h = text_takes (b ∷ bs) 1 (opening_len raw) _ (opens_some raw)
+takes_one signed b bs x (case.a_text raw quote o) h = grind arith
 takes_one signed b bs x (case.a_name o l) h = let r = run_on is_name_byte b bs (name_byte b l) in omega (arith, r)
 takes_one signed b bs x (case.an_int o d) h = let l = int_len b [] bs d tt in int_takes (b ∷ bs) 1 0 (int_of false (int_at (b ∷ bs)).1) (omega (arith, l))
 takes_one signed b bs x (case.a_signed_int o p q d) h = int_takes (b ∷ bs) 1 (before_digits (b ∷ bs)) _ (omega arith)
@@ -72,7 +49,7 @@ taken signed first rest t = subst (AtLeast (first ++ rest) (length first)) (sym 
 no_raw_text : (b c : ℕ) (bs : List ℕ) → is_quote b ≡ false → is_quote c ≡ false → opening (b ∷ c ∷ bs) ≡ None
 no_raw_text b c bs h0 h1 = grind arith
 
-name_byte_is_no_quote : (b : ℕ) → is_name_byte b ≡ true → is_quote b ≡ false
+pub name_byte_is_no_quote : (b : ℕ) → is_name_byte b ≡ true → is_quote b ≡ false
 name_byte_is_no_quote b h = grind (arith, nat_tests)
 
 name_takes : (signed : Bool) (bytes rest : List ℕ) → IsName bytes → TakesAll signed bytes rest
@@ -129,7 +106,7 @@ signed_takes {bytes} {digits} s p rest =
       omega (arith, ap length e, length-append g.0 (digits ++ rest)),
       rw d (grown s rest (some_digits p)),
       rw d (int_is (digits ++ rest)
-          (first_digit p rest)),
+          (grind arith)),
     ) in
     let k = no_longer p rest in
     let q : length g.0 + 1 ≡ suc (length g.0) = omega arith in
@@ -148,27 +125,11 @@ unfolding front
 plain_front true a bs k s q r l d m = rw (begins_here a bs (k, s), no_text a bs q r, l, d, m) refl
 plain_front false a bs k s q r l d m = rw (begins_here a bs (k, s), no_text a bs q r, l, d) refl
 
--- a byte that begins a mark, whatever follows
-abbrev BeginsMark : ℕ → Type 0
-BeginsMark a = (signed : Bool) (bs : List ℕ) → front signed (a ∷ bs) ≡ front_mark (mark_at (a ∷ bs))
-
-both_here : (a b k l : ℕ) → ((a == k) && (b == l)) ≡ true → a ≡ k
-both_here a b k l e = grind (arith, nat_tests)
-
-chosen : {P : Type 0} (t : Bool) (k m : Mark) (o : Option Mark) → (t ≡ true → P) → (o ≡ Some m → P) → (if t then Some k else o) ≡ Some m → P
-chosen t k m o h0 h1 h2 = grind arith
-
-at : (a b k l : ℕ) → BeginsMark k → ((a == k) && (b == l)) ≡ true → BeginsMark a
-at a b k l h e = subst BeginsMark (sym (both_here a b k l e)) h
-
-two_begin : (a b : ℕ) (m : Mark) → two_bytes a b ≡ Some m → BeginsMark a
-two_begin a b m e =
-    chosen ((a == 124) && (b == 124)) _ m _ (at a b 124 124 (λ s bs. plain_front s 124 bs refl refl refl refl refl refl refl))
-    (chosen ((a == 38) && (b == 38)) _ m _ (at a b 38 38 (λ s bs. plain_front s 38 bs refl refl refl refl refl refl refl))
-    (chosen ((a == 60) && (b == 61)) _ m _ (at a b 60 61 (λ s bs. plain_front s 60 bs refl refl refl refl refl refl refl))
-    (chosen ((a == 62) && (b == 61)) _ m _ (at a b 62 61 (λ s bs. plain_front s 62 bs refl refl refl refl refl refl refl))
-    (chosen ((a == 61) && (b == 61)) _ m _ (at a b 61 61 (λ s bs. plain_front s 61 bs refl refl refl refl refl refl refl))
-    (chosen ((a == 33) && (b == 61)) _ m _ (at a b 33 61 (λ s bs. plain_front s 33 bs refl refl refl refl refl refl refl)) (λ f. absurd cc)))))) e
+-- a byte that begins a mark of two
+two_begin : (a b : ℕ) (m : Mark) → two_bytes a b ≡ Some m → (signed : Bool) (bs : List ℕ) → front signed (a ∷ bs) ≡ front_mark (mark_at (a ∷ bs))
+two_begin a b m e signed bs =
+    plain_front signed a bs (grind (arith, nat_tests)) (grind (arith, nat_tests)) (grind (arith, nat_tests)) (grind (arith, nat_tests))
+    (grind (arith, nat_tests)) (grind (arith, nat_tests)) (grind (arith, nat_tests))
 
 of_two_takes : (bytes : List ℕ) (o : Option Mark) (m : Mark) → AtLeast bytes 1 (front_mark (of_two o (Some m)))
 of_two_takes bytes o m = grind arith
@@ -195,11 +156,7 @@ text_front signed raw quote b n bs said k s o p = rw (begins_here b bs (k, s), o
 
 more_says : {raw : Bool} {quote : ℕ} {bytes said : List ℕ} → Says raw quote bytes (length bytes) said → (rest : List ℕ)
     → Says raw quote (bytes ++ rest) (length bytes) said
-more_says {raw} {quote} {bytes} s rest =
-    says_alike s (bytes ++ rest) (omega (arith, length-append bytes rest), take-append-le (length bytes) bytes rest (omega arith))
-
-pub quoted : (quote : ℕ) (bs : List ℕ) → is_quote quote ≡ true → opening (quote ∷ bs) ≡ Some (false, quote)
-quoted quote bs h0 = grind arith
+more_says {raw} {quote} {bytes} s rest = grind (arith, says_alike, length-append, take-append-le)
 
 pub raw_quoted : (prefix quote : ℕ) (bs : List ℕ) → is_raw_prefix prefix ≡ true → is_quote quote ≡ true → opening (prefix ∷ quote ∷ bs) ≡ Some (true, quote)
 raw_quoted prefix quote bs r q = let p = prefix_is_plain prefix r in rw (p.2, r, q) refl
@@ -210,7 +167,7 @@ pub text_found : {signed : Bool} (bytes said : List ℕ) → IsToken signed byte
 text_found {signed} bytes said (a_text {quote = quote} {bytes = body} q s) rest =
     let p = quote_is_plain quote q in
     let l : 1 + length body ≡ suc (length body) = omega arith in
-    text_front signed false quote quote (length body) (body ++ rest) said p.0 p.1 (quoted quote (body ++ rest) q) (more_says s rest)
+    text_front signed false quote quote (length body) (body ++ rest) said p.0 p.1 (grind arith) (more_says s rest)
     ∙ ap (λ k. front.word k (text said)) l
 text_found {signed} bytes said (a_raw_text {prefix = prefix} {quote = quote} {bytes = body} r q s) rest =
     let p = prefix_is_plain prefix r in
@@ -241,10 +198,7 @@ longest signed bytes n w e h = (h, λ m other t. subst (AtLeast bytes m) e (has_
 
 pub longest_wide : (signed : Bool) (bytes : List ℕ) (before n value : ℕ) (w : Word) → front signed bytes ≡ front.wide_int before
     → IsInt (drop before bytes) n value → HasToken signed bytes (before + n) w → IsLongestToken signed bytes (before + n) w
-longest_wide signed bytes before n value w e i h =
-    let j = int_is (drop before bytes) (int_digit (drop before bytes) n value i) in
-    let l = i.2 (int_at (drop before bytes)).0 (int_at (drop before bytes)).1 j.0 j.1 in
-    (h, λ m other t. let k = subst (AtLeast bytes m) e (has_takes signed bytes m other t) in omega (arith, k, l))
+longest_wide signed bytes before n value w e i h = grind (arith, int_is, int_digit, has_takes)
 
 pub none_begins : (signed : Bool) (bytes : List ℕ) → front signed bytes ≡ front.nothing → (n : ℕ) (w : Word) → HasToken signed bytes n w → ⊥
 none_begins signed bytes e n w t = subst (AtLeast bytes n) e (has_takes signed bytes n w t)

@@ -1,12 +1,6 @@
 -- The bytes of a mark say which it is.
-use Rattle.std.proofs.Common.{arith}
-use Rattle.std.proofs.Common.{◌≡◌, ℕ, List, [], ◌∷◌, take, Option, Some, sym, subst, ap, inl, inr}
-use Rattle.std.specs.Prelude.{◌⊎◌}
-use Rattle.cel_tokens.specs.Front.{front_mark}
+use Rattle.cel_tokens.proofs.Prelude.{arith, ◌≡◌, ℕ, List, [], ◌∷◌, take, Option, Some, sym, subst, ap, inl, inr, ◌⊎◌, front_mark, mark_at, mark_of, of_one, of_two, one_byte, two_bytes, mark, mark_word, Mark}
 use Rattle.cel_tokens.specs.Front as front
-use Rattle.cel_tokens.specs.Marks.{mark_at, mark_of, of_one, of_two, one_byte, two_bytes}
-use Rattle.cel_tokens.specs.Token.{mark, mark_word}
-use Rattle.cel_tokens.specs.declared.mark.Mark.{Mark}
 
 pub of_one_is : (o : Option Mark) (m : Mark) (n : ℕ) → of_one o ≡ Some (m, n) → (o ≡ Some m) × (n ≡ 1)
 of_one_is o m n h0 = grind arith

@@ -1,21 +1,6 @@
 -- What is computed of an escape is what its bytes name.
-use Rattle.std.proofs.Common.{◌≡◌, ℕ, suc, ◌+◌, ◌*◌, ◌≤◌, List, [], ◌∷◌, ◌++◌, length, take, drop, refl, sym, ◌∙◌, ap, subst, arith, Bool, true, false, Option, Some, None}
-use Rattle.std.specs.Prelude.{◌⊎◌, ◌==◌, ◌&&◌, ◌||◌, if◌then◌else◌, nat_lt, option_map, option_and_then}
-use Rattle.std.specs.Char.{digit_value}
-use mathlib.Core.Logic.{inl, inr}
-use Rattle.std.proofs.lemmas.Bool.Decides.{nat_tests}
-use Rattle.std.proofs.lemmas.List.{length-take, length-take-le, take-append-drop}
-use Rattle.std.proofs.Math.Seq.{take-append_seam}
-use Rattle.cel_tokens.specs.Bytes.{is_digit_of, run}
-use Rattle.cel_tokens.specs.Ints.{number, number_from}
-use Rattle.cel_tokens.specs.Texts.{escape, simple, numeric, code_point, is_code_point}
-use Rattle.cel_tokens.specs.Longest.{AllPass}
-use Rattle.cel_tokens.specs.Escapes.{AreDigits, Names}
-use Rattle.cel_tokens.specs.Escapes.Names.{bell, backspace, form_feed, line_feed, carriage_return, tab, vertical_tab, backslash, question_mark, double_quote, single_quote, back_quote, two_hex, four_hex, eight_hex, octal}
+use Rattle.cel_tokens.proofs.Prelude.{◌≡◌, ℕ, suc, ◌+◌, ◌*◌, ◌≤◌, List, [], ◌∷◌, ◌++◌, length, take, drop, refl, sym, ◌∙◌, ap, subst, arith, Bool, true, false, Option, Some, None, ◌⊎◌, ◌==◌, ◌&&◌, ◌||◌, if◌then◌else◌, nat_lt, option_map, option_and_then, digit_value, nat_tests, length-take, length-take-le, take-append-drop, take-append_seam, is_digit_of, run, number, number_from, escape, simple, numeric, code_point, is_code_point, AllPass, AreDigits, Names, bell, backspace, form_feed, line_feed, carriage_return, tab, vertical_tab, backslash, question_mark, double_quote, single_quote, back_quote, two_hex, four_hex, eight_hex, octal}
 use Rattle.cel_tokens.proofs.Runs.{run_on, run_within}
-
-equal_here : (b k : ℕ) → (b == k) ≡ true → b ≡ k
-equal_here b k e = grind (arith, nat_tests)
 
 -- ---- digits
 
@@ -25,21 +10,12 @@ run_nil p = refl
 
 run_passes : (p : ℕ → Bool) (xs : List ℕ) → AllPass p xs → run p xs ≡ length xs
 run_passes p [] a = run_nil p
-run_passes p (x ∷ xs) a =
-    let i = run_passes p xs a.1 in
-    let r = run_on p x xs a.0 in
-    omega (arith, i, r)
-
-passes_head : (b : Bool) (m k : ℕ) → (if b then m + 1 else 0) ≡ suc k → b ≡ true
-passes_head b m k h0 = grind arith
-
-passes_rest : (b : Bool) (m k : ℕ) → (if b then m + 1 else 0) ≡ suc k → m ≡ k
-passes_rest b m k h0 = grind arith
+run_passes p (x ∷ xs) a = grind (arith, run_on, run_passes p xs a.1)
 
 pub all_pass : (p : ℕ → Bool) (xs : List ℕ) → run p xs ≡ length xs → AllPass p xs
 unfolding run
 all_pass p [] e = tt
-all_pass p (x ∷ xs) e = (passes_head (p x) (run p xs) (length xs) e, all_pass p xs (passes_rest (p x) (run p xs) (length xs) e))
+all_pass p (x ∷ xs) e = ((grind arith), all_pass p xs (grind arith))
 
 -- ---- what a number of digits gives
 
@@ -48,28 +24,15 @@ abbrev Given : ℕ → ℕ → ℕ → List ℕ → ℕ × ℕ → Type 0
 Given base count len bytes x =
     (count ≤ length bytes) × AreDigits base count (take count bytes) × (is_code_point (number base (take count bytes)) ≡ true) × (x ≡ (number base (take count bytes), len))
 
-given_code : (base count len : ℕ) (bytes : List ℕ) (x : ℕ × ℕ) → (count ≤ length bytes) → AreDigits base count (take count bytes) → (n : ℕ) → n ≡ number base (take count bytes) → (t : Bool) → is_code_point n ≡ t → option_map (λ m. (m, len)) (if t then Some n else None) ≡ Some x → Given base count len bytes x
-given_code base count len bytes x h0 h1 n h2 t h3 h4 = grind arith
-
 given_run : (base count len : ℕ) (bytes : List ℕ) (x : ℕ × ℕ) (r : ℕ) → run (is_digit_of base) (take count bytes) ≡ r → (t : Bool) → (r == count) ≡ t → option_map (λ m. (m, len)) (option_and_then code_point (if t then Some (number base (take count bytes)) else None)) ≡ Some x → Given base count len bytes x
-given_run base count len bytes x r e true t f =
-    let k = equal_here r count t in
-    let w = run_within (is_digit_of base) (take count bytes) in
-    let n = length-take count bytes in
-    let l : length (take count bytes) ≡ count = omega (arith, w, n, e, k) in
-    given_code base count len bytes x (omega (arith, n, l)) (l, all_pass (is_digit_of base) (take count bytes) (omega (arith, e, k, l))) (number base (take count bytes)) refl (is_code_point (number base (take count bytes))) refl f
+given_run base count len bytes x r e true t f = grind (arith, nat_tests, run_within, length-take, all_pass)
 given_run base count len bytes x r e false t f = absurd cc
 
 given : (base count len : ℕ) (bytes : List ℕ) (x : ℕ × ℕ) → numeric base count len bytes ≡ Some x → Given base count len bytes x
 given base count len bytes x e = given_run base count len bytes x (run (is_digit_of base) (take count bytes)) refl (run (is_digit_of base) (take count bytes) == count) refl e
 
 gives : (base count len : ℕ) (ds rest : List ℕ) → AreDigits base count ds → is_code_point (number base ds) ≡ true → numeric base count len (ds ++ rest) ≡ Some (number base ds, len)
-gives base count len ds rest d c =
-    let l = d.0 in
-    let f : take count (ds ++ rest) ≡ ds = ap (λ n. take n (ds ++ rest)) (sym l) ∙ take-append_seam ds rest in
-    let r = run_passes (is_digit_of base) ds d.1 in
-    let t : (run (is_digit_of base) ds == count) ≡ true = grind (arith, nat_tests, r, l) in
-    rw (f, t, c) refl
+gives base count len ds rest d c = grind (arith, take-append_seam, run_passes)
 
 -- ---- what stands behind a backslash is named
 
@@ -96,7 +59,7 @@ choose_either bytes false more o p f g = g
 
 -- a byte that is this letter
 read_as : (b k : ℕ) (bs : List ℕ) (o : Option (ℕ × ℕ)) → NamedIf (k ∷ bs) o → (b == k) ≡ true → NamedIf (b ∷ bs) o
-read_as b k bs o i t = subst (λ c. NamedIf (c ∷ bs) o) (sym (equal_here b k t)) i
+read_as b k bs o i t = subst (λ c. NamedIf (c ∷ bs) o) (sym (grind (arith, nat_tests))) i
 
 -- one letter, else what comes behind it in the table
 letter : (b k code : ℕ) (bs : List ℕ) (o : Option (ℕ × ℕ)) → Names (k ∷ []) code → NamedIf (b ∷ bs) o → NamedIf (b ∷ bs) (if b == k then Some (code, 1) else o)
@@ -104,7 +67,7 @@ letter b k code bs o n i = choose (b ∷ bs) (b == k) _ o (read_as b k bs _ (one
 
 -- a mark that stands for itself
 itself : (b k : ℕ) (bs : List ℕ) → Names (k ∷ []) k → (b == k) ≡ true → NamedIf (b ∷ bs) (Some (b, 1))
-itself b k bs n t = subst (λ c. NamedIf (c ∷ bs) (Some (c, 1))) (sym (equal_here b k t)) (one k k bs n)
+itself b k bs n t = subst (λ c. NamedIf (c ∷ bs) (Some (c, 1))) (sym (grind (arith, nat_tests))) (one k k bs n)
 
 simple_named : (b : ℕ) (bs : List ℕ) → NamedIf (b ∷ bs) (simple b)
 simple_named b bs =
@@ -124,13 +87,7 @@ simple_named b bs =
 -- a letter and so many hex digits
 hex_named : (b count : ℕ) (bs : List ℕ) → ((ds : List ℕ) → AreDigits 16 count ds → is_code_point (number 16 ds) ≡ true → Names (b ∷ ds) (number 16 ds))
     → NamedIf (b ∷ bs) (numeric 16 count (suc count) bs)
-hex_named b count bs names x e =
-    let g = given 16 count (suc count) bs x e in
-    subst (Named (b ∷ bs)) (sym g.3) (omega (arith, g.0), names (take count bs) g.1 g.2)
-
--- three octal digits of which the first is at most 3 are at most 377
-low_digit : (b : ℕ) → (nat_lt 47 b && nat_lt b 52) ≡ true → digit_value b ≤ 3
-low_digit b h = grind (arith, nat_tests)
+hex_named b count bs names x e = grind (arith, given)
 
 octal_digit : (b : ℕ) → is_digit_of 8 b ≡ true → digit_value b ≤ 7
 octal_digit b h = grind (arith, nat_tests)
@@ -139,31 +96,16 @@ three_digits : (a b c : ℕ) → number 8 (a ∷ b ∷ c ∷ []) ≡ ((0 + digit
 unfolding number_from
 three_digits a b c = refl
 
-at_most_377 : (b : ℕ) (bs : List ℕ) → (nat_lt 47 b && nat_lt b 52) ≡ true → AreDigits 8 3 (take 3 (b ∷ bs)) → number 8 (take 3 (b ∷ bs)) ≤ 255
-at_most_377 b (c ∷ e ∷ bs) h d =
-    let n = three_digits b c e in
-    let x = low_digit b h in
-    let y = octal_digit c d.1.1.0 in
-    let z = octal_digit e d.1.1.1.0 in
-    omega (arith, n, x, y, z)
-at_most_377 b _ h d = let l = d.0 in absurd (omega (arith, l))
-
 octal_named : (b : ℕ) (bs : List ℕ) → (nat_lt 47 b && nat_lt b 52) ≡ true → NamedIf (b ∷ bs) (numeric 8 3 3 (b ∷ bs))
 octal_named b bs h x e =
     let g = given 8 3 3 (b ∷ bs) x e in
-    subst (Named (b ∷ bs)) (sym g.3) (g.0, octal (take 3 (b ∷ bs)) g.1 (at_most_377 b bs h g.1))
-
-x_by : (b : ℕ) (t : Bool) → (b == 120) ≡ t → (t || (b == 88)) ≡ true → (b ≡ 120) ⊎ (b ≡ 88)
-x_by b t h0 h1 = grind arith
-
-x_here : (b : ℕ) → ((b == 120) || (b == 88)) ≡ true → (b ≡ 120) ⊎ (b ≡ 88)
-x_here b h = x_by b (b == 120) refl h
+    subst (Named (b ∷ bs)) (sym g.3) (g.0, octal (take 3 (b ∷ bs)) g.1 (grind (arith, three_digits, nat_tests, octal_digit)))
 
 escape_named : (bytes : List ℕ) → NamedIf bytes (escape bytes)
 unfolding escape
 escape_named [] = λ x e. absurd cc
 escape_named (b ∷ bs) =
-    choose (b ∷ bs) ((b == 120) || (b == 88)) _ _ (λ t. hex_named b 2 bs (λ ds d c. two_hex b ds (x_here b t) d))
+    choose (b ∷ bs) ((b == 120) || (b == 88)) _ _ (λ t. hex_named b 2 bs (λ ds d c. two_hex b ds (grind arith) d))
     (choose (b ∷ bs) (b == 117) _ _ (read_as b 117 bs _ (hex_named 117 4 bs four_hex))
     (choose (b ∷ bs) (b == 85) _ _ (read_as b 85 bs _ (hex_named 85 8 bs eight_hex))
     (choose (b ∷ bs) (nat_lt 47 b && nat_lt b 52) _ _ (octal_named b bs) (simple_named b bs))))
@@ -173,22 +115,12 @@ escape_named (b ∷ bs) =
 abbrev Computed : List ℕ → ℕ → Type 0
 Computed written code = (rest : List ℕ) → escape (written ++ rest) ≡ Some (code, length written)
 
-hex_digit : (b : ℕ) → is_digit_of 16 b ≡ true → digit_value b ≤ 15
-hex_digit b h = grind (arith, nat_tests)
-
 two_digits : (a b : ℕ) → number 16 (a ∷ b ∷ []) ≡ (0 + digit_value a) * 16 + digit_value b
 unfolding number_from
 two_digits a b = refl
 
-small_code : (n : ℕ) → n ≤ 255 → is_code_point n ≡ true
-small_code n h = grind (arith, nat_tests)
-
 two_code : (ds : List ℕ) → AreDigits 16 2 ds → is_code_point (number 16 ds) ≡ true
-two_code (a ∷ b ∷ []) d =
-    let n = two_digits a b in
-    let x = hex_digit a d.1.0 in
-    let y = hex_digit b d.1.1.0 in
-    small_code (number 16 (a ∷ b ∷ [])) (omega (arith, n, x, y))
+two_code (a ∷ b ∷ []) d = grind (arith, two_digits, nat_tests)
 two_code _ d = let l = d.0 in absurd (omega (arith, l))
 
 abbrev with_length : ℕ → ℕ → Option (ℕ × ℕ)
@@ -199,18 +131,10 @@ same_length code n m e = ap (with_length code) e
 
 two_computed : (x : ℕ) (ds : List ℕ) → (x ≡ 120) ⊎ (x ≡ 88) → AreDigits 16 2 ds → Computed (x ∷ ds) (number 16 ds)
 unfolding escape
-two_computed x ds (inl h) d rest =
-    let l = d.0 in
-    rw h (gives 16 2 3 ds rest d (two_code ds d) ∙ same_length (number 16 ds) 3 (length (x ∷ ds)) (omega (arith, l)))
-two_computed x ds (inr h) d rest =
-    let l = d.0 in
-    rw h (gives 16 2 3 ds rest d (two_code ds d) ∙ same_length (number 16 ds) 3 (length (x ∷ ds)) (omega (arith, l)))
-
-first_of : (a : ℕ) → digit_value a ≤ 3 → is_digit_of 8 a ≡ true → (48 ≤ a) × (a ≤ 51)
-first_of a v d = (grind (arith, nat_tests), grind (arith, nat_tests))
+two_computed x ds h d rest = let g = gives 16 2 3 ds rest d (two_code ds d) in grind (arith, g)
 
 first_octal : (a b c : ℕ) → (digit_value a * 8 + digit_value b) * 8 + digit_value c ≤ 255 → is_digit_of 8 a ≡ true → (48 ≤ a) × (a ≤ 51)
-first_octal a b c h d = let v : digit_value a ≤ 3 = omega (arith, h) in first_of a v d
+first_octal a b c h d = let v : digit_value a ≤ 3 = omega (arith, h) in (grind (arith, nat_tests), grind (arith, nat_tests))
 
 octal_here : (b : ℕ) (bs : List ℕ) → (48 ≤ b) × (b ≤ 51) → escape (b ∷ bs) ≡ numeric 8 3 3 (b ∷ bs)
 unfolding escape
@@ -219,7 +143,7 @@ octal_here b bs h0 = grind arith
 octal_computed : (ds : List ℕ) → AreDigits 8 3 ds → number 8 ds ≤ 255 → Computed ds (number 8 ds)
 octal_computed (a ∷ b ∷ c ∷ []) d h rest =
     let n = three_digits a b c in
-    octal_here a (b ∷ c ∷ rest) (first_octal a b c (omega (arith, n, h)) d.1.0) ∙ gives 8 3 3 (a ∷ b ∷ c ∷ []) rest d (small_code (number 8 (a ∷ b ∷ c ∷ [])) h)
+    octal_here a (b ∷ c ∷ rest) (first_octal a b c (omega (arith, n, h)) d.1.0) ∙ gives 8 3 3 (a ∷ b ∷ c ∷ []) rest d (grind (arith, nat_tests))
 octal_computed _ d h rest = let l = d.0 in absurd (omega (arith, l))
 
 computed : {written : List ℕ} {code : ℕ} → Names written code → Computed written code

@@ -1,20 +1,7 @@
 -- A minus and the int behind it are one token, where the minus may be a sign.
-use Rattle.std.proofs.Common.{◌≡◌, ℕ, suc, ◌+◌, ◌^◌, ◌<◌, ◌≤◌, List, [], ◌∷◌, ◌++◌, length, take, drop, refl, sym, ◌∙◌, ap, subst, arith, Bool, true, false}
-use Rattle.std.specs.Prelude.{◌⊎◌, ◌==◌, ◌&&◌, if◌then◌else◌, ℤ, pos, neg_ℤ}
-use mathlib.Core.Logic.{inl, inr}
-use Rattle.std.proofs.lemmas.Bool.Decides.{nat_tests}
-use Rattle.std.proofs.lemmas.Bool.{cases_lt}
-use Rattle.std.proofs.lemmas.List.{length-take-le, length-drop, take-append-drop}
-use Rattle.cel_tokens.specs.declared.mark.Mark.TheVariants.{Minus}
-use Rattle.cel_tokens.specs.Token.{int, mark}
-use Rattle.cel_tokens.specs.Bytes.{is_digit_of, run, between}
-use Rattle.cel_tokens.specs.Marks.{mark_at}
-use Rattle.cel_tokens.specs.Ints.{number, int_at, int_of, digit_begins, hex_begins, spelled, fits64}
+use Rattle.cel_tokens.proofs.Prelude.{◌≡◌, ℕ, suc, ◌+◌, ◌^◌, ◌<◌, ◌≤◌, List, [], ◌∷◌, ◌++◌, length, take, drop, refl, sym, ◌∙◌, ap, subst, arith, Bool, true, false, ◌⊎◌, ◌&&◌, if◌then◌else◌, ℤ, pos, neg_ℤ, nat_tests, cases_lt, length-take-le, length-drop, take-append-drop, Minus, int, mark, is_digit_of, run, between, number, int_at, int_of, digit_begins, hex_begins, spelled, fits64, front, int_front, AllPass, IsDecimal, Spells, IsInt, FollowsSign, decimal, hex}
+use mathlib.Core.Logic.{inr}
 use Rattle.cel_tokens.specs.Front as front
-use Rattle.cel_tokens.specs.Front.{front, front_int, int_front, sign_may_follow}
-use Rattle.cel_tokens.specs.Longest.{AllPass, IsDecimal}
-use Rattle.cel_tokens.specs.SignedInts.{Spells, IsInt, FollowsSign}
-use Rattle.cel_tokens.specs.SignedInts.Spells.{decimal, hex}
 use Rattle.cel_tokens.proofs.Runs.{run_on, run_within}
 use Rattle.cel_tokens.proofs.NoLonger.{begins_here, digit_is_token, no_text, int_len, hex_len}
 use Rattle.cel_tokens.proofs.LongestGap.{goes_on, is_longest_gap}
@@ -31,9 +18,7 @@ front_passes p [] = tt
 front_passes p (x ∷ xs) = passes_by p x xs (front_passes p xs) (p x) refl
 
 pub taken : (p : ℕ → Bool) (x : ℕ) (xs : List ℕ) → p x ≡ true → take (run p (x ∷ xs)) (x ∷ xs) ≡ x ∷ take (run p xs) xs
-taken p x xs h =
-    let q : run p xs + 1 ≡ suc (run p xs) = omega arith in
-    ap (λ n. take n (x ∷ xs)) (run_on p x xs h ∙ q)
+taken p x xs h = grind (arith, run_on)
 
 decimal_here : (b : ℕ) (bs : List ℕ) → is_digit_of 10 b ≡ true → Spells (take (run (is_digit_of 10) (b ∷ bs)) (b ∷ bs)) (number 10 (take (run (is_digit_of 10) (b ∷ bs)) (b ∷ bs)))
 decimal_here b bs d =
@@ -46,36 +31,15 @@ hex_here d ds h =
     let e = taken (is_digit_of 16) d ds h in
     rw (q, e) (hex d (take (run (is_digit_of 16) ds) ds) (h, front_passes (is_digit_of 16) ds))
 
-equal_here : (b k : ℕ) → (b == k) ≡ true → b ≡ k
-equal_here b k e = grind (arith, nat_tests)
-
 both : (x y : Bool) → (x && y) ≡ true → (x ≡ true) × (y ≡ true)
 both x y h0 = grind arith
 
--- what begins with 0x and a hex digit
-hex_spells : (bytes : List ℕ) → hex_begins bytes ≡ true → Spells (take ((spelled 16 (drop 2 bytes)).0 + 2) bytes) (spelled 16 (drop 2 bytes)).1
-hex_spells (a ∷ b ∷ c ∷ bs) h =
-    let p = both (a == 48) ((b == 120) && is_digit_of 16 c) h in
-    let q = both (b == 120) (is_digit_of 16 c) p.1 in
-    let x = equal_here a 48 p.0 in
-    let y = equal_here b 120 q.0 in
-    rw (x, y) (hex_here c bs q.1)
-hex_spells _ h = absurd cc
-
-decimal_spells : (bytes : List ℕ) → digit_begins bytes ≡ true → Spells (take (spelled 10 bytes).0 bytes) (spelled 10 bytes).1
-decimal_spells [] d = absurd cc
-decimal_spells (b ∷ bs) d = decimal_here b bs d
-
 spells_by : (bytes : List ℕ) → digit_begins bytes ≡ true → (t : Bool) → hex_begins bytes ≡ t → Spells (take (if t then ((spelled 16 (drop 2 bytes)).0 + 2, (spelled 16 (drop 2 bytes)).1) else spelled 10 bytes).0 bytes) (if t then ((spelled 16 (drop 2 bytes)).0 + 2, (spelled 16 (drop 2 bytes)).1) else spelled 10 bytes).1
-spells_by bytes d true t = hex_spells bytes t
-spells_by bytes d false t = decimal_spells bytes d
-
-hex_within : (bytes : List ℕ) → hex_begins bytes ≡ true → run (is_digit_of 16) (drop 2 bytes) + 2 ≤ length bytes
-hex_within (a ∷ b ∷ c ∷ bs) h = let r = run_within (is_digit_of 16) (c ∷ bs) in omega (arith, r)
-hex_within _ h = absurd cc
+spells_by bytes d true t = grind (arith, both, nat_tests, hex_here)
+spells_by bytes d false t = grind (arith, decimal_here)
 
 within_by : (bytes : List ℕ) (t : Bool) → hex_begins bytes ≡ t → (if t then ((spelled 16 (drop 2 bytes)).0 + 2, (spelled 16 (drop 2 bytes)).1) else spelled 10 bytes).0 ≤ length bytes
-within_by bytes true t = hex_within bytes t
+within_by bytes true t = grind (arith, run_within)
 within_by bytes false t = run_within (is_digit_of 10) bytes
 
 pub no_longer : {first : List ℕ} {value : ℕ} → Spells first value → (rest : List ℕ) → length first ≤ (int_at (first ++ rest)).0
@@ -97,37 +61,18 @@ int_is bytes d = (within_by bytes (hex_begins bytes) refl, spells_by bytes d (he
 pub same_value : {xs : List ℕ} {m n : ℕ} → Spells xs m → Spells xs n → m ≡ n
 same_value h0 h1 = grind arith
 
-one_int : (bytes : List ℕ) (m n v w : ℕ) → IsInt bytes m v → IsInt bytes n w → (m ≡ n) × (v ≡ w)
-one_int bytes m n v w i j =
-    let a = i.2 n w j.0 j.1 in
-    let b = j.2 m v i.0 i.1 in
-    let e : m ≡ n = omega (arith, a, b) in
-    (e, same_value (subst (λ k. Spells (take k bytes) v) e i.1) j.1)
-
-pub first_digit : {first : List ℕ} {value : ℕ} → Spells first value → (rest : List ℕ) → digit_begins (first ++ rest) ≡ true
-first_digit h0 rest = grind arith
-
 pub int_digit : (bytes : List ℕ) (n v : ℕ) → IsInt bytes n v → digit_begins bytes ≡ true
-int_digit bytes n v i = subst (λ (xs : List ℕ). digit_begins xs ≡ true) (take-append-drop n bytes) (first_digit i.1 (drop n bytes))
+int_digit bytes n v i = subst (λ (xs : List ℕ). digit_begins xs ≡ true) (take-append-drop n bytes) (grind arith)
 
 -- ---- where the digits are
 
 pub stops_at_digit : (bytes : List ℕ) → digit_begins bytes ≡ true → between false bytes ≡ 0
-stops_at_digit [] d = absurd cc
-stops_at_digit (b ∷ bs) d = begins_here b bs (digit_is_token b d)
+stops_at_digit bytes d = grind (arith, begins_here, digit_is_token)
 
 pub gap_is : (bytes : List ℕ) (gap n v : ℕ) → FollowsSign bytes gap n v → between false bytes ≡ gap
-gap_is bytes gap n v f =
-    let g = goes_on f.1 in
-    let z = stops_at_digit (drop gap bytes) (int_digit (drop gap bytes) n v f.2) in
-    let l = length-drop gap bytes in
-    let h = f.0 in
-    omega (arith, g, z, l, h)
+gap_is bytes gap n v f = grind (arith, goes_on, stops_at_digit, int_digit, length-drop)
 
 -- ---- what a minus begins
-
-minus_mark : (bytes : List ℕ) → front.front_mark (mark_at (45 ∷ bytes)) ≡ front.word 1 (mark Minus)
-minus_mark bytes = grind arith
 
 behind_minus : (bytes : List ℕ) → drop (between false bytes + 1) (45 ∷ bytes) ≡ drop (between false bytes) bytes
 behind_minus bytes = grind arith
@@ -137,8 +82,7 @@ signed_front gap rest = int_front (gap + 1) (int_at rest).0 (int_of true (int_at
 
 front_minus : (signed : Bool) (bytes : List ℕ) → front signed (45 ∷ bytes) ≡ (if signed && digit_begins (drop (between false bytes) bytes) then signed_front (between false bytes) (drop (between false bytes) bytes) else front.word 1 (mark Minus))
 unfolding front
-front_minus signed bytes =
-    rw (begins_here 45 bytes (refl, refl), no_text 45 bytes refl refl, behind_minus bytes, minus_mark bytes) refl
+front_minus signed bytes = grind (arith, begins_here, no_text, behind_minus)
 
 pub plain_minus : (bytes : List ℕ) → front false (45 ∷ bytes) ≡ front.word 1 (mark Minus)
 plain_minus bytes = front_minus false bytes
@@ -147,11 +91,7 @@ signed_at : (bytes rest : List ℕ) (gap : ℕ) → between false bytes ≡ gap 
 signed_at bytes rest gap g r d = front_minus true bytes ∙ (rw (g, r, d) refl)
 
 pub sign_front : (bytes : List ℕ) (gap n v : ℕ) → FollowsSign bytes gap n v → front true (45 ∷ bytes) ≡ int_front (gap + 1) n (int_of true v)
-sign_front bytes gap n v f =
-    let rest = drop gap bytes in
-    let d = int_digit rest n v f.2 in
-    let o = one_int rest (int_at rest).0 n (int_at rest).1 v (int_is rest d) f.2 in
-    signed_at bytes rest gap (gap_is bytes gap n v f) refl d ∙ (λ i. int_front (gap + 1) (o.0 i) (int_of true (o.1 i)))
+sign_front bytes gap n v f = grind (arith, int_digit, same_value, int_is, signed_at, gap_is)
 
 -- ---- 64 bits
 
@@ -175,8 +115,7 @@ Begun bytes x =
     ((gap n v : ℕ) × FollowsSign bytes gap n v × (v ≤ 2 ^ 63) × (x ≡ front.word (gap + 1 + n) (int (neg_ℤ (pos v))))) ⊎ (((gap n v : ℕ) × FollowsSign bytes gap n v × (2 ^ 63 < v) × (x ≡ front.wide_int (gap + 1))) ⊎ (x ≡ front.word 1 (mark Minus)))
 
 begun_int : (bytes : List ℕ) (gap n v : ℕ) → FollowsSign bytes gap n v → Begun bytes (front true (45 ∷ bytes))
-begun_int bytes gap n v f =
-    elim (cases_lt (2 ^ 63) v) [ inl h ↦ inr (inl (gap, n, v, f, h, too_wide bytes gap n v f h)) | inr h ↦ inl (gap, n, v, f, h, negated bytes gap n v f h) ]
+begun_int bytes gap n v f = grind (arith, cases_lt, too_wide, negated)
 
 begun_by : (bytes : List ℕ) (t : Bool) → digit_begins (drop (between false bytes) bytes) ≡ t → Begun bytes (front true (45 ∷ bytes))
 begun_by bytes true t =
@@ -199,18 +138,13 @@ is_negated bytes x len z h0 h1 = grind arith
 is_too_wide : (bytes : List ℕ) (x : front.Front) (before : ℕ) → Begun bytes x → x ≡ front.wide_int before → Wide bytes before
 is_too_wide bytes x before h0 h1 = grind arith
 
-negated_back : (bytes : List ℕ) (len : ℕ) (z : ℤ) → Negated bytes len z → front true (45 ∷ bytes) ≡ front.word len (int z)
-negated_back bytes len z (gap, n, v, f, l, e, h) =
-    let q : gap + 1 + n ≡ len = omega (arith, l) in
-    negated bytes gap n v f h ∙ (λ i. front.word (q i) (int (sym e i)))
-
 wide_back : (bytes : List ℕ) (before : ℕ) → Wide bytes before → front true (45 ∷ bytes) ≡ front.wide_int before
 wide_back bytes before (gap, n, v, f, l, h) =
     let q : gap + 1 ≡ before = omega (arith, l) in
     too_wide bytes gap n v f h ∙ ap front.wide_int q
 
 pub negated_int : (bytes : List ℕ) (len : ℕ) (z : ℤ) → (front true (45 ∷ bytes) ≡ front.word len (int z) → Negated bytes len z) × (Negated bytes len z → front true (45 ∷ bytes) ≡ front.word len (int z))
-negated_int bytes len z = (is_negated bytes (front true (45 ∷ bytes)) len z (begun bytes), negated_back bytes len z)
+negated_int bytes len z = (is_negated bytes (front true (45 ∷ bytes)) len z (begun bytes), (grind (arith, negated)))
 
 pub wide_int : (bytes : List ℕ) (before : ℕ) → (front true (45 ∷ bytes) ≡ front.wide_int before → Wide bytes before) × (Wide bytes before → front true (45 ∷ bytes) ≡ front.wide_int before)
 wide_int bytes before = (is_too_wide bytes (front true (45 ∷ bytes)) before (begun bytes), wide_back bytes before)

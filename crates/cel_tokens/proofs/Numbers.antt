@@ -1,11 +1,6 @@
 -- The number that digits spell, kept within 64 bits.
-use Rattle.std.proofs.Common.{◌≡◌, ℕ, suc, zero, ◌+◌, ◌*◌, ◌-◌, ◌^◌, ◌<◌, ◌≤◌, List, [], ◌∷◌, length, get_or, drop, refl, arith, drop-cons, Bool}
-use Rattle.std.proofs.Math.Nat.{le-mul_of_pos_right}
-use Rattle.std.proofs.lemmas.Bool.{cases_lt}
-use Rattle.std.specs.Prelude.{min}
+use Rattle.cel_tokens.proofs.Prelude.{◌≡◌, ℕ, suc, zero, ◌+◌, ◌*◌, ◌-◌, ◌^◌, ◌<◌, ◌≤◌, List, [], ◌∷◌, length, get_or, drop, refl, arith, drop-cons, Bool, le-mul_of_pos_right, cases_lt, min, digit_value, number_from, int_of}
 use mathlib.Core.Logic.{inl, inr}
-use Rattle.std.specs.Char.{digit_value}
-use Rattle.cel_tokens.specs.Ints.{number_from, int_of}
 
 larger : (base n d : ℕ) → 1 ≤ base → n ≤ n * base + d
 larger base n d h = let a = le-mul_of_pos_right {m = base} n (omega arith) in omega (arith, a)
@@ -28,16 +23,9 @@ at_least base v (x ∷ xs) h =
 kept_small : (base v m : ℕ) (xs : List ℕ) → v ≤ m → min (number_from base (min v m) xs) m ≡ min (number_from base v xs) m
 kept_small base v m xs h = let e : min v m ≡ v = omega arith in rw e refl
 
-kept_large : (base v m : ℕ) (xs : List ℕ) → 1 ≤ base → m ≤ v → min (number_from base (min v m) xs) m ≡ min (number_from base v xs) m
-kept_large base v m xs b h =
-    let e : min v m ≡ m = omega arith in
-    let p = at_least base m xs b in
-    let q = at_least base v xs b in
-    rw e (omega (arith, p, q))
-
 -- digits spell the same below the bound whether what was spelled so far was kept within it or not
 kept : (base v m : ℕ) (xs : List ℕ) → 1 ≤ base → min (number_from base (min v m) xs) m ≡ min (number_from base v xs) m
-kept base v m xs b = elim (cases_lt m v) [ inl h ↦ kept_large base v m xs b (omega arith) | inr h ↦ kept_small base v m xs h ]
+kept base v m xs b = elim (cases_lt m v) [ inl h ↦ (grind (arith, at_least)) | inr h ↦ kept_small base v m xs h ]
 
 step : (base v : ℕ) (xs : List ℕ) (n : ℕ) → n < length xs → number_from base v (drop n xs) ≡ number_from base (v * base + digit_value (get_or xs n 0)) (drop (n + 1) xs)
 unfolding number_from

@@ -1,15 +1,8 @@
 -- A text ends in one way, and its tokens within the limits are its tokens.
-use Rattle.std.proofs.Common.{◌≡◌, ℕ, ◌+◌, ◌<◌, ◌≤◌, List, [], ◌∷◌, ◌++◌, length, drop, refl, sym, ◌∙◌, ap, arith, Bool, true, Result, Ok, Err, subst, append_assoc, append-nil, length-append}
-use Rattle.std.specs.Prelude.{◌⊎◌, ◌↔◌}
-use Rattle.cel_tokens.specs.Token.{Lexeme}
+use Rattle.cel_tokens.proofs.Prelude.{◌≡◌, ℕ, ◌+◌, ◌<◌, ◌≤◌, List, [], ◌∷◌, ◌++◌, length, drop, refl, sym, ◌∙◌, ap, arith, Bool, true, Result, Ok, Err, subst, ◌⊎◌, ◌↔◌, Lexeme, front, sign_may_follow, Cuts, Begins, Tokens, IsTokens, Lexes, lexeme, over, space, token, nothing, wrong_text, wide_int, too_many, too_long, read, ReadError, P1, P2, P3, P6}
+use Rattle.std.proofs.Common.{append_assoc, append-nil, length-append}
 use Rattle.cel_tokens.specs.Front as front
-use Rattle.cel_tokens.specs.Front.{front, sign_may_follow}
-use Rattle.cel_tokens.specs.Lexis.{Cuts, Begins, Tokens, IsTokens, Lexes, lexeme}
-use Rattle.cel_tokens.specs.Lexis.Cuts.{over, space, token, nothing, wrong_text, wide_int, too_many}
 use Rattle.cel_tokens.specs.Lexis.Tokens.{over as no_more, space as then_space, token as then_token}
-use Rattle.cel_tokens.specs.Lexis.Lexes.{too_long, read}
-use Rattle.cel_tokens.specs.declared.read_error.ReadError.{ReadError}
-use Rattle.cel_tokens.specs.declared.read_error.ReadError.TheVariants.{P1, P2, P3, P6}
 
 -- within the room this, else the 4,097th token
 abbrev Within : List Lexeme → ℕ → Result (List Lexeme) ReadError → Type 0 → Type 0
@@ -47,10 +40,7 @@ one_cut {so_far} {signed} {place} {rest} {r} {s} (wide_int n f l) c = sym (insid
 one_cut {so_far} {signed} {place} {rest} {r} {s} (too_many b h) c = sym (only_full so_far signed place rest s (front signed rest) b h (case_of c))
 
 pub one_end : (source : List ℕ) (r s : Result (List Lexeme) ReadError) → Lexes source r → Lexes source s → r ≡ s
-one_end source r s (too_long h) (too_long g) = refl
-one_end source r s (too_long h) (read g d) = absurd (omega (arith, h, g))
-one_end source r s (read h c) (too_long g) = absurd (omega (arith, h, g))
-one_end source r s (read h c) (read g d) = one_cut c d
+one_end source r s h h2 = grind (arith, one_cut)
 
 -- ---- the tokens alone
 
@@ -61,11 +51,8 @@ Next signed place rest ls (front.word n w) =
     (more : List Lexeme) × (ls ≡ lexeme place n w ∷ more) × Tokens (sign_may_follow w) (place + n) (drop n rest) more
 Next signed place rest ls _ = ⊥
 
-next_of : {signed : Bool} {place : ℕ} {rest : List ℕ} {ls : List Lexeme} → Tokens signed place rest ls → Next signed place rest ls (front signed rest)
-next_of h0 = grind arith
-
 next_at : {signed : Bool} {place : ℕ} {rest : List ℕ} {ls : List Lexeme} (found : front.Front) → front signed rest ≡ found → Tokens signed place rest ls → Next signed place rest ls found
-next_at {signed} {place} {rest} {ls} found f t = subst (Next signed place rest ls) f (next_of t)
+next_at {signed} {place} {rest} {ls} found f t = subst (Next signed place rest ls) f (grind arith)
 
 one_list : {signed : Bool} {place : ℕ} {rest : List ℕ} {xs ys : List Lexeme} → Tokens signed place rest xs → Tokens signed place rest ys → xs ≡ ys
 one_list (no_more f) t = sym (next_at front.over f t)

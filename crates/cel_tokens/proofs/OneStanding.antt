@@ -1,71 +1,30 @@
 -- One thing stands at the front of a text.
-use Rattle.std.proofs.Common.{◌≡◌, ℕ, suc, ◌+◌, ◌≤◌, List, [], ◌∷◌, take, drop, refl, sym, ◌∙◌, ap, subst, arith, Bool, true, false}
-use Rattle.std.proofs.lemmas.List.{length-drop}
-use Rattle.cel_tokens.specs.Token.{Word, int}
+use Rattle.cel_tokens.proofs.Prelude.{◌≡◌, ℕ, ◌+◌, ◌≤◌, List, [], ◌∷◌, drop, refl, sym, ap, arith, Bool, true, false, length-drop, Word, int, IsGap, IsInt, IsLongestToken, DigitsAt, StandsAtFront, NothingElseStands, here, behind_sign}
 use Rattle.cel_tokens.specs.Front as front
-use Rattle.cel_tokens.specs.Gaps.{IsGap}
-use Rattle.cel_tokens.specs.SignedInts.{IsInt}
-use Rattle.cel_tokens.specs.Laws.{IntFits}
-use Rattle.cel_tokens.specs.AsWritten.{IsToken, IsLongestToken, DigitsAt, StandsAtFront, NothingElseStands}
-use Rattle.cel_tokens.specs.AsWritten.DigitsAt.{here, behind_sign}
 use Rattle.cel_tokens.proofs.NegatedInts.{int_digit, gap_is}
 use Rattle.cel_tokens.proofs.OneWord.{one_word, no_int}
 use Rattle.cel_tokens.proofs.LongestToken.{none_at_end}
 use Rattle.cel_tokens.proofs.Standing.{finds_what_stands}
 
 same_gap : (bytes : List ℕ) (m n : ℕ) → IsGap bytes m → IsGap bytes n → m ≡ n
-same_gap bytes m n f g =
-    let a = f.2 (drop n bytes) g.1 in
-    let b = g.2 (drop m bytes) f.1 in
-    let h = f.0 in
-    let k = g.0 in
-    omega (arith, a, b, h, k, length-drop m bytes, length-drop n bytes)
+same_gap bytes m n f g = grind (arith, length-drop)
 
 no_gap : {P : Type 0} (bytes : List ℕ) (n : ℕ) → (1 ≤ n) × IsGap bytes n → IsGap bytes 0 → P
 no_gap bytes n f g = let e = same_gap bytes n 0 f.1 g in let h = f.0 in absurd (omega (arith, e, h))
 
 -- no longest token but one, and it has one word
 same_token : (signed : Bool) (bytes : List ℕ) (m n : ℕ) (w v : Word) → IsLongestToken signed bytes m w → IsLongestToken signed bytes n v → (m ≡ n) × (w ≡ v)
-same_token signed bytes m n w v f g =
-    let a = f.1 n v g.0 in
-    let b = g.1 m w f.0 in
-    let e : m ≡ n = omega (arith, a, b) in
-    (e, one_word (subst (λ k. IsToken signed (take k bytes) w) e f.0.1) g.0.1)
+same_token signed bytes m n w v f g = grind (arith, one_word)
 
 same_place : {bytes : List ℕ} {k l : ℕ} (m n v w : ℕ) → DigitsAt bytes k → DigitsAt bytes l → IsInt (drop k bytes) m v → IsInt (drop l bytes) n w → k ≡ l
 same_place m n v w here here i j = refl
 same_place m n v w here (behind_sign {bytes = bytes} h s) i j = let d : false ≡ true = int_digit (45 ∷ bytes) m v i in absurd cc
 same_place m n v w (behind_sign {bytes = bytes} h s) here i j = let d : false ≡ true = int_digit (45 ∷ bytes) n w j in absurd cc
-same_place m n v w (behind_sign {bytes = bytes} {gap = k} h s) (behind_sign {gap = l} g t) i j =
-    let a = gap_is bytes k m v (h, s, behind k m v i) in
-    let b = gap_is bytes l n w (g, t, behind l n w j) in
-    ap (λ z. 1 + z) (sym a ∙ b)
-  where
-    behind : (k m v : ℕ) → IsInt (drop (1 + k) (45 ∷ bytes)) m v → IsInt (drop k bytes) m v
-    behind k m v i = let q : 1 + k ≡ suc k = omega arith in subst (λ xs. IsInt xs m v) (ap (λ z. drop z (45 ∷ bytes)) q) i
+same_place m n v w (behind_sign {bytes = bytes} {gap = k} h s) (behind_sign {gap = l} g t) i j = grind (arith, gap_is)
 
 -- at the end of a text stands nothing more
 at_end : (signed : Bool) (bytes : List ℕ) (y : front.Front) → bytes ≡ [] → StandsAtFront signed bytes y → front.over ≡ y
-at_end signed bytes y e g = by y (subst (λ xs. StandsAtFront signed xs y) e g)
-  where
-    by : (y : front.Front) → StandsAtFront signed [] y → front.over ≡ y
-    by front.over g = refl
-    by (front.space n) g = let h = g.0 in let k = g.1.0 in absurd (omega (arith, h, k))
-    by (front.word n w) g = absurd (none_at_end signed n w g.1.0)
-    by front.wrong_text g = absurd (elim g.1 [ ])
-    by (front.wide_int m) (k, v, z, g, d, i, l, h) = absurd (none_at_end signed (m + k) (int z) l.0)
-    by front.nothing g = absurd (g.1 refl)
-
--- a text literal is opened, and none stands there
-no_text : (signed : Bool) (bytes : List ℕ) (n : ℕ) (w : Word) → StandsAtFront signed bytes (front.word n w) → StandsAtFront signed bytes front.wrong_text → ⊥
-no_text signed bytes n w h0 h1 = grind arith
-
--- an int that does not fit is no word
-no_wide : {P : Type 0} (signed : Bool) (bytes : List ℕ) (n before : ℕ) (w : Word) → StandsAtFront signed bytes (front.word n w)
-    → StandsAtFront signed bytes (front.wide_int before) → P
-no_wide signed bytes n before w f (k, v, z, g, d, i, l, h) =
-    let e = same_token signed bytes n (before + k) w (int z) f.1 l in
-    absurd (h (subst IntFits e.1 f.3))
+at_end signed bytes y e g = grind (arith, none_at_end)
 
 same_word : (m n : ℕ) (w v : Word) → m ≡ n → w ≡ v → front.word m w ≡ front.word n v
 same_word m n w v e f = λ i. front.word (e i) (f i)
@@ -77,10 +36,10 @@ only signed bytes (front.space m) (front.space n) f g = ap front.space (same_gap
 only signed bytes (front.space m) (front.wide_int n) f (k, v, z, g, d, i, l, h) = no_gap bytes m f g
 only signed bytes (front.wide_int n) (front.space m) (k, v, z, f, d, i, l, h) g = no_gap bytes m g f
 only signed bytes (front.word m w) (front.word n v) f g = let e = same_token signed bytes m n w v f.1 g.1 in same_word m n w v e.0 e.1
-only signed bytes (front.word n w) front.wrong_text f g = absurd (no_text signed bytes n w f g)
-only signed bytes front.wrong_text (front.word n w) f g = absurd (no_text signed bytes n w g f)
-only signed bytes (front.word n w) (front.wide_int m) f g = no_wide signed bytes n m w f g
-only signed bytes (front.wide_int m) (front.word n w) f g = no_wide signed bytes n m w g f
+only signed bytes (front.word n w) front.wrong_text f g = absurd (grind arith)
+only signed bytes front.wrong_text (front.word n w) f g = absurd (grind arith)
+only signed bytes (front.word n w) (front.wide_int m) f g = grind (arith, same_token)
+only signed bytes (front.wide_int m) (front.word n w) f g = grind (arith, same_token)
 only signed bytes (front.word n w) front.nothing f g = absurd (g.3 n w f.1.0)
 only signed bytes front.nothing (front.word n w) f g = absurd (f.3 n w g.1.0)
 only signed bytes front.wrong_text front.wrong_text f g = refl

@@ -1,13 +1,5 @@
 -- What a text literal says depends on its own bytes alone.
-use Rattle.std.proofs.Common.{◌≡◌, ℕ, ◌+◌, ◌≤◌, List, [], ◌∷◌, ◌++◌, length, take, drop, refl, sym, ◌∙◌, ap, subst, arith, Bool, true, false, Option, Some}
-use Rattle.std.proofs.Common.{None}
-use Rattle.std.specs.Prelude.{◌==◌, ◌&&◌, if◌then◌else◌, not, encode_utf8}
-use Rattle.std.proofs.lemmas.List.{length-drop, take-take, drop-take}
-use Rattle.cel_tokens.specs.Bytes.{is_line_end}
-use Rattle.cel_tokens.specs.Texts.{escape, escaped, piece}
-use Rattle.cel_tokens.specs.TextLiterals.{Says}
-use Rattle.cel_tokens.specs.TextLiterals.Says.{closing, one_piece}
-use Rattle.cel_tokens.specs.Escapes.{Names}
+use Rattle.cel_tokens.proofs.Prelude.{◌≡◌, ℕ, ◌+◌, ◌≤◌, List, [], ◌∷◌, ◌++◌, length, take, drop, sym, ◌∙◌, ap, subst, arith, Bool, Option, Some, None, encode_utf8, length-drop, take-take, drop-take, escape, escaped, piece, Says, closing, one_piece, Names}
 use Rattle.cel_tokens.proofs.NamedEscapes.{names_its_code_point}
 
 -- the first n bytes are the same
@@ -39,13 +31,7 @@ escaped_alike b xs ys x (Some (code, len)) e f a =
     ap escaped (escape_alike xs ys code len e (alike_behind 1 len (b ∷ xs) (b ∷ ys) (subst (λ k. Alike k (b ∷ xs) (b ∷ ys)) q a))) ∙ f
 
 piece_alike : (raw : Bool) (b : ℕ) (xs ys : List ℕ) (x : ℕ × List ℕ) → piece raw (b ∷ xs) ≡ Some x → Alike x.0 (b ∷ xs) (b ∷ ys) → piece raw (b ∷ ys) ≡ Some x
-piece_alike raw b xs ys x e a = by (is_line_end b) (not raw && (b == 92)) e
-  where
-    by : (s t : Bool) → (if s then None else (if t then escaped (escape xs) else Some (1, b ∷ []))) ≡ Some x
-        → (if s then None else (if t then escaped (escape ys) else Some (1, b ∷ []))) ≡ Some x
-    by true t e = absurd cc
-    by false true e = escaped_alike b xs ys x (escape xs) refl e a
-    by false false e = e
+piece_alike raw b xs ys x e a = grind (arith, escaped_alike)
 
 -- a literal takes a byte at least
 says_some : {raw : Bool} {quote n : ℕ} {xs said : List ℕ} → Says raw quote xs n said → 1 ≤ n
@@ -54,10 +40,7 @@ says_some h0 = grind arith
 -- and no more than there are
 pub says_within : {raw : Bool} {quote n : ℕ} {xs said : List ℕ} → Says raw quote xs n said → n ≤ length xs
 says_within closing = omega arith
-says_within (one_piece {b = b} {bs = bs} x d e s) =
-    let h = says_within s in
-    let k = says_some s in
-    omega (arith, h, k, length-drop x.0 (b ∷ bs))
+says_within (one_piece {b = b} {bs = bs} x d e s) = grind (arith, says_some, length-drop, says_within s)
 
 first_alike : (n b c : ℕ) (xs ys : List ℕ) → 1 ≤ n → Alike n (b ∷ xs) (c ∷ ys) → c ≡ b
 first_alike n b c xs ys h0 h1 = grind arith

@@ -1,15 +1,6 @@
 -- A plain stretch of a text literal stands for itself.
-use Rattle.std.proofs.Common.{◌≡◌, ℕ, suc, ◌+◌, List, [], ◌∷◌, ◌++◌, take, drop, refl, sym, ◌∙◌, ap, subst, arith, Bool, true, false, Some}
-use Rattle.std.specs.Prelude.{◌≢◌, ◌-◌, cond, option_and_then}
-use Rattle.std.specs.Str.{IsUtf8}
-use Rattle.std.proofs.lemmas.Bool.Decides.{nat_tests}
-use Rattle.std.proofs.lemmas.List.{append-nil, append_assoc, drop-drop, take-append-drop}
-use Rattle.text_kernels.specs.Scans.{is_plain, skip_plain_of}
-use Rattle.cel_tokens.specs.Texts.{content, piece, is_quote}
-use Rattle.cel_tokens.proofs.Contents.{ended, goes_on, utf8_step}
-
-plain_is_no_quote : (b quote : ℕ) → is_quote quote ≡ true → is_plain b ≡ true → b ≢ quote
-plain_is_no_quote b quote q h = grind (arith, nat_tests)
+use Rattle.cel_tokens.proofs.Prelude.{◌≡◌, ℕ, ◌+◌, List, [], ◌∷◌, ◌++◌, take, drop, refl, sym, ◌∙◌, ap, arith, Bool, true, false, Some, cond, IsUtf8, nat_tests, append-nil, append_assoc, drop-drop, take-append-drop, is_plain, skip_plain_of, content, piece, is_quote}
+use Rattle.cel_tokens.proofs.Contents.{ended, goes_on}
 
 plain_piece : (raw : Bool) (b : ℕ) (bs : List ℕ) → is_plain b ≡ true → piece raw (b ∷ bs) ≡ Some (1, b ∷ [])
 plain_piece raw b bs h0 = grind arith
@@ -18,10 +9,6 @@ plain_piece raw b bs h0 = grind arith
 placed : (raw : Bool) (quote m n : ℕ) (said new rest : List ℕ) → m ≡ n → said ≡ new → content raw quote 0 m said rest ≡ content raw quote 0 n new rest
 placed raw quote m n said new rest e f = λ i. content raw quote 0 (e i) (f i) rest
 
-one_more : (raw : Bool) (quote n b : ℕ) (said bs : List ℕ) → is_quote quote ≡ true → is_plain b ≡ true → content raw quote 0 n said (b ∷ bs) ≡ content raw quote 0 (n + 1) (said ++ b ∷ []) bs
-one_more raw quote n b said bs q h =
-    goes_on raw quote n b said bs (plain_is_no_quote b quote q h) ∙ ap (option_and_then (λ x. content raw quote (x.0 - 1) (n + 1) (said ++ x.1) bs)) (plain_piece raw b bs h)
-
 -- a run of plain bytes from any place is read to its end
 abbrev RunIs : Bool → ℕ → List ℕ → Type 0
 RunIs raw quote xs =
@@ -29,11 +16,7 @@ RunIs raw quote xs =
 
 plain_run_at : (raw : Bool) (quote n b : ℕ) (said bs : List ℕ) → is_quote quote ≡ true → RunIs raw quote bs → (plain : Bool) → is_plain b ≡ plain → content raw quote 0 n said (b ∷ bs) ≡ content raw quote 0 (n + cond plain (1 + skip_plain_of bs) 0) (said ++ take (cond plain (1 + skip_plain_of bs) 0) (b ∷ bs)) (drop (cond plain (1 + skip_plain_of bs) 0) (b ∷ bs))
 plain_run_at raw quote n b said bs q more false h = placed raw quote n (n + 0) said (said ++ []) (b ∷ bs) (omega arith) (sym (append-nil said))
-plain_run_at raw quote n b said bs q more true h =
-    let k = skip_plain_of bs in
-    let s : 1 + k ≡ suc k = omega arith in
-    let t : n + 1 + k ≡ n + suc k = omega arith in
-    rw s (one_more raw quote n b said bs q h ∙ (more (n + 1) (said ++ b ∷ []) ∙ placed raw quote (n + 1 + k) (n + suc k) ((said ++ b ∷ []) ++ take k bs) (said ++ (b ∷ take k bs)) (drop k bs) t (append_assoc said (b ∷ []) (take k bs))))
+plain_run_at raw quote n b said bs q more true h = grind (arith, goes_on, nat_tests, plain_piece, placed, append_assoc)
 
 plain_run : (raw : Bool) (quote : ℕ) (xs : List ℕ) → is_quote quote ≡ true → RunIs raw quote xs
 plain_run raw quote [] q n said = ended raw quote 0 n said ∙ sym (ended raw quote 0 (n + 0) (said ++ []))
@@ -41,13 +24,9 @@ plain_run raw quote (b ∷ bs) q n said = plain_run_at raw quote n b said bs q (
 
 -- one stretch of the loop over a text
 pub stretch_step : (raw : Bool) (quote n k : ℕ) (said new rest xs : List ℕ) → is_quote quote ≡ true → rest ≡ drop n xs → k ≡ skip_plain_of rest → new ≡ said ++ take k rest → content raw quote 0 (n + k) new (drop (n + k) xs) ≡ content raw quote 0 n said (drop n xs)
-stretch_step raw quote n k said new rest xs q r l a =
-    let run = plain_run raw quote rest q n said in
-    let back : content raw quote 0 n said rest ≡ content raw quote 0 (n + k) (said ++ take k rest) (drop k rest) = rw l run in
-    ap (λ ys. content raw quote 0 (n + k) ys (drop (n + k) xs)) a
-    ∙ (ap (content raw quote 0 (n + k) (said ++ take k rest)) (sym (drop-drop k n xs) ∙ ap (drop k) (sym r)) ∙ (sym back ∙ ap (content raw quote 0 n said) r))
+stretch_step raw quote n k said new rest xs q r l a = grind (arith, plain_run, drop-drop)
 
 pub stretch_utf8 : (n k : ℕ) (said new rest xs : List ℕ) → rest ≡ drop n xs → new ≡ said ++ take k rest → IsUtf8 (said ++ drop n xs) → IsUtf8 (new ++ drop (n + k) xs)
 stretch_utf8 n k said new rest xs r a u =
     let whole : said ++ rest ≡ (said ++ take k rest) ++ drop k rest = ap (λ ys. said ++ ys) (sym (take-append-drop k rest)) ∙ sym (append_assoc said (take k rest) (drop k rest)) in
-    utf8_step n k said new rest xs (k, take k rest) r refl a (subst IsUtf8 (ap (λ ys. said ++ ys) (sym r) ∙ whole) u)
+    (grind (arith, drop-drop))

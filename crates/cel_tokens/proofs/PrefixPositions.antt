@@ -1,15 +1,6 @@
 -- Where a minus may be a sign.
-use Rattle.std.proofs.Common.{◌≡◌, refl, true, false}
-use Rattle.std.specs.Prelude.{codes, bytes_eq}
-use Rattle.std.proofs.lemmas.Slice.Eq.{bytes_eq-Decides}
-use Rattle.std.proofs.lemmas.Bool.{false_from_ne_true}
-use Rattle.std.proofs.lemmas.Bool.Decides.{not_from_Decides}
-use Rattle.cel_tokens.specs.declared.mark.Mark.{Mark}
-use Rattle.cel_tokens.specs.declared.mark.Mark.TheVariants.{CloseParen, CloseBracket, CloseBrace}
-use Rattle.cel_tokens.specs.Token.{Word, name, int, text, mark}
-use Rattle.cel_tokens.specs.Front.{sign_may_follow}
-use Rattle.cel_tokens.specs.SignedInts.{EndsOperand}
-use Rattle.cel_tokens.specs.SignedInts.EndsOperand.{identifier, an_int, a_text, paren, bracket, brace}
+use Rattle.cel_tokens.proofs.Prelude.{◌≡◌, refl, true, false, codes, bytes_eq, bytes_eq-Decides, false_from_ne_true, not_from_Decides, Mark, CloseParen, CloseBracket, CloseBrace, Word, name, int, text, mark, sign_may_follow, EndsOperand, identifier, paren, bracket, brace}
+use Rattle.cel_tokens.specs.SignedInts.EndsOperand.{an_int, a_text}
 
 may : {P : Type 0} → true ≡ false → P
 may e = absurd cc

@@ -1,22 +1,12 @@
 -- What is computed of a text literal is what its pieces say.
-use Rattle.std.proofs.Common.{◌≡◌, ℕ, suc, zero, ◌+◌, ◌-◌, ◌<◌, ◌≤◌, List, [], ◌∷◌, ◌++◌, length, drop, refl, sym, ◌∙◌, ap, subst, arith, Bool, true, false, Option, Some, None}
-use Rattle.std.specs.Prelude.{◌≢◌, ◌==◌, option_and_then, IfSome}
-use Rattle.std.proofs.lemmas.Bool.{cases_lt}
+use Rattle.cel_tokens.proofs.Prelude.{◌≡◌, ℕ, suc, zero, ◌+◌, ◌-◌, ◌<◌, ◌≤◌, List, [], ◌∷◌, ◌++◌, length, drop, refl, sym, ◌∙◌, ap, subst, arith, Bool, true, false, Option, Some, None, ◌≢◌, ◌==◌, option_and_then, IfSome, cases_lt, nat_tests, append-nil, append_assoc, length-drop, content, piece, Says, closing, one_piece}
 use mathlib.Core.Logic.{inl, inr}
-use Rattle.std.proofs.lemmas.Bool.Decides.{nat_tests}
-use Rattle.std.proofs.lemmas.List.{append-nil, append_assoc, length-drop}
-use Rattle.cel_tokens.specs.Texts.{content, piece}
-use Rattle.cel_tokens.specs.TextLiterals.{Says}
-use Rattle.cel_tokens.specs.TextLiterals.Says.{closing, one_piece}
 use Rattle.cel_tokens.proofs.Contents.{ended, closes, goes_on, skipped, more_at}
 
 -- ---- a piece takes a byte at least
 
-takes_some : (raw : Bool) (b : ℕ) (bs : List ℕ) → IfSome (piece raw (b ∷ bs)) (λ x. 1 ≤ x.0)
-takes_some raw b bs = grind arith
-
 pub low : (raw : Bool) (b : ℕ) (bs : List ℕ) (x : ℕ × List ℕ) → piece raw (b ∷ bs) ≡ Some x → 1 ≤ x.0
-low raw b bs x e = subst (λ (o : Option (ℕ × List ℕ)). IfSome o (λ x. 1 ≤ x.0)) e (takes_some raw b bs)
+low raw b bs x e = subst (λ (o : Option (ℕ × List ℕ)). IfSome o (λ x. 1 ≤ x.0)) e (grind arith)
 
 -- ---- what the pieces say is computed
 
@@ -65,9 +55,6 @@ some_same x y e = cc
 none_some : {P : Type 0} (o : Option (ℕ × List ℕ)) (y : ℕ × List ℕ) → o ≡ None → o ≡ Some y → P
 none_some o y e f = absurd cc
 
-is_quote_here : (b quote : ℕ) → (b == quote) ≡ true → b ≡ quote
-is_quote_here b quote e = grind (arith, nat_tests)
-
 no_quote_here : (b quote : ℕ) → (b == quote) ≡ false → b ≢ quote
 no_quote_here b quote e = grind (arith, nat_tests)
 
@@ -94,7 +81,7 @@ by_piece fuel raw quote m b so_far bs y more l d None e c = none_some None y ref
 by_piece fuel raw quote m b so_far bs y more l d (Some x) e c = by_length fuel raw quote m b so_far bs y x more l d e c
 
 by_quote : (fuel : ℕ) (raw : Bool) (quote m b : ℕ) (so_far bs : List ℕ) (y : ℕ × List ℕ) → Finds fuel raw quote → length bs ≤ fuel → (t : Bool) → (b == quote) ≡ t → content raw quote 0 m so_far (b ∷ bs) ≡ Some y → Found raw quote m so_far (b ∷ bs) y
-by_quote fuel raw quote m b so_far bs y more l true t c = at_closing raw quote m b so_far bs y (is_quote_here b quote t) c
+by_quote fuel raw quote m b so_far bs y more l true t c = at_closing raw quote m b so_far bs y (grind (arith, nat_tests)) c
 by_quote fuel raw quote m b so_far bs y more l false t c =
     let d = no_quote_here b quote t in
     by_piece fuel raw quote m b so_far bs y more l d (piece raw (b ∷ bs)) refl (sym (goes_on raw quote m b so_far bs d) ∙ c)

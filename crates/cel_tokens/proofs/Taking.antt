@@ -1,15 +1,8 @@
 -- A text that has tokens takes memory.
-use Rattle.std.proofs.Common.{arith}
-use Rattle.std.proofs.Common.{◌≡◌, ◌≢◌, ℕ, ◌≤◌, List, [], length, drop, true, Bool, Result, Ok, Err, refl}
-use Rattle.std.specs.Prelude.{◌⊎◌, IfOk}
+use Rattle.cel_tokens.proofs.Prelude.{arith, ◌≡◌, ◌≢◌, ℕ, ◌≤◌, List, [], length, drop, true, Bool, Result, Ok, Err, ◌⊎◌, IfOk, Lexeme, front, Cuts, Lexes, TakesMemory, for_word, behind_space, ReadError}
 use mathlib.Core.Logic.{inl, inr}
-use Rattle.cel_tokens.specs.Token.{Lexeme}
 use Rattle.cel_tokens.specs.Front as front
-use Rattle.cel_tokens.specs.Front.{front}
-use Rattle.cel_tokens.specs.Lexis.{Cuts, Lexes, TakesMemory}
 use Rattle.cel_tokens.specs.Lexis as lexis
-use Rattle.cel_tokens.specs.Lexis.TakesMemory.{for_word, behind_space}
-use Rattle.cel_tokens.specs.declared.read_error.ReadError.{ReadError}
 
 -- the text from here on has no token, or takes memory
 abbrev Taken : Bool → List ℕ → Result (List Lexeme) ReadError → Type 0
@@ -33,15 +26,8 @@ cut_takes _ e = tt
 abbrev Found : List ℕ → Result (List Lexeme) ReadError → Type 0
 Found source r = IfOk r (λ xs. (xs ≡ []) ⊎ ((length source ≤ 65536) × TakesMemory true source))
 
-within : (source : List ℕ) (r : Result (List Lexeme) ReadError) → length source ≤ 65536 → Taken true source r → Found source r
-within source r h0 h1 = grind arith
-
-found : {source : List ℕ} {r : Result (List Lexeme) ReadError} → Lexes source r → Found source r
-found (lexis.Lexes.too_long l) = tt
-found (lexis.Lexes.read {source = source} {r = r} l d) = within source r l (cut_takes d refl)
-
 other : {P : Type 0} (xs : List Lexeme) → xs ≢ [] → (xs ≡ []) ⊎ P → P
 other xs h0 h1 = grind arith
 
 pub some_taken : (source : List ℕ) (lexemes : List Lexeme) → Lexes source (Ok lexemes) → lexemes ≢ [] → (length source ≤ 65536) × TakesMemory true source
-some_taken source lexemes d n = other lexemes n (found d)
+some_taken source lexemes d n = other lexemes n (grind (arith, cut_takes))

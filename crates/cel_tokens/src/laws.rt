@@ -10,6 +10,7 @@ ghost use Rattle.cel_tokens.specs.AsWritten.{FindsWhatStands, NothingElseStands}
 
 /// A text ends in one way, its tokens or one refusal; it ends in tokens exactly where it has these
 /// tokens and both are within the limits; and it has one list of tokens.
+#[tactic(auto, using(crate::proofs::OneReading::one_end, crate::proofs::OneReading::ends_in_tokens, crate::proofs::OneReading::one_reading))]
 pub fn one_reading()
     ensures one_end { HasOneEnd }
     ensures tokens { EndsInItsTokens }
@@ -17,11 +18,13 @@ pub fn one_reading()
 {}
 
 /// Each int of a text's tokens has 64 bits, signed.
+#[tactic(auto, using(crate::proofs::IntsFit::lexemes_fit))]
 pub fn ints_that_fit()
     ensures { HasIntsThatFit }
 {}
 
 /// The token at a place is no shorter than any name or int that stands there.
+#[tactic(auto, using(crate::proofs::NoLonger::no_longer_name, crate::proofs::NoLonger::no_longer_int, crate::proofs::NoLonger::no_longer_hex))]
 pub fn longest()
     ensures name { NoLongerName }
     ensures int { NoLongerInt }
@@ -29,6 +32,7 @@ pub fn longest()
 {}
 
 /// A text literal says what its pieces say, joined, up to its closing quote.
+#[tactic(auto, using(crate::proofs::SaidPieces::says_its_pieces))]
 pub fn pieces_of_a_text()
     ensures { SaysItsPieces }
 {}
@@ -42,6 +46,7 @@ pub fn escapes()
 /// What is skipped between tokens is the longest stretch of spaces, tabs, line feeds, form feeds,
 /// carriage returns and comments, each from two slashes to before its line's end. (cel-spec,
 /// WHITESPACE and COMMENT)
+#[tactic(auto, using(crate::proofs::LongestGap::is_longest_gap))]
 pub fn gaps()
     ensures { IsLongestGap }
 {}
@@ -59,6 +64,7 @@ pub fn signed_ints()
 /// What is found at the front of a text stands there: its end, blanks and comments, the longest
 /// token as it is written, a text literal that is none, an int that 64 bits do not hold, or no
 /// token; and nothing else does. (cel-spec, IDENT, INT_LIT and STRING_LIT)
+#[tactic(auto, using(crate::proofs::Standing::finds_what_stands, crate::proofs::OneStanding::nothing_else_stands))]
 pub fn tokens_as_written()
     ensures found { FindsWhatStands }
     ensures only { NothingElseStands }

@@ -1,28 +1,12 @@
 -- How texts are refused, computed.
-use Rattle.std.proofs.Common.{◌≡◌, ℕ, zero, suc, ◌+◌, ◌-◌, ◌<◌, ◌≤◌, Bool, true, false, nat_lt, List, [], ◌∷◌, ◌++◌, length, drop, map, Option, Some, None, Result, Ok, Err, refl, subst}
-use Rattle.std.proofs.lemmas.Bool.{ltb-true, ltb-false}
-use Rattle.cel_tokens.specs.Token.{Lexeme}
-use Rattle.cel_tokens.specs.Bytes.{run as run_of, between}
-use Rattle.cel_tokens.specs.Ints.{number_from}
-use Rattle.cel_tokens.specs.Texts.{escape, content}
+use Rattle.cel_reader.proofs.Prelude.{◌≡◌, ℕ, zero, suc, ◌+◌, ◌-◌, ◌<◌, ◌≤◌, Bool, true, false, nat_lt, List, [], ◌∷◌, ◌++◌, length, drop, map, Option, Some, None, Result, Ok, Err, refl, subst, ltb-true, ltb-false, Lexeme, run as run_of, between, number_from, escape, content, Front, sign_may_follow, Cuts, Lexes, lexeme, ReadError, P1, P2, P3, P4, P5, is_reserved, role_of, spoken, Expression, One, Many, Keyed, Misfit, Deep, Outcome, Got, Refused, whole, Row, Reads, place_at, IsAnswer, RefusalRowsStand, Stand, refused_texts}
 use Rattle.cel_tokens.specs.Front as front
-use Rattle.cel_tokens.specs.Front.{Front, sign_may_follow}
 use Rattle.cel_tokens.specs.Lexis as tokens
-use Rattle.cel_tokens.specs.Lexis.{Cuts, Lexes, lexeme}
-use Rattle.cel_tokens.specs.declared.read_error.ReadError.{ReadError}
-use Rattle.cel_tokens.specs.declared.read_error.ReadError.TheVariants.{P1, P2, P3, P4, P5}
-use Rattle.cel_reader.specs.Words.{is_reserved, role_of}
-use Rattle.cel_reader.specs.Look.{spoken}
-use Rattle.cel_reader.specs.Grammar.{Expression, One, Many, Keyed}
-use Rattle.cel_reader.specs.Reading.{Misfit, Deep, Outcome, Got, Refused, Row, Reads}
-use Rattle.cel_reader.specs.Answers.{place_at, IsAnswer}
-use Rattle.cel_reader.specs.RefusalRows.{RefusalRowsStand, Stand, refused_texts}
+use Rattle.cel_reader.specs.Reading as reading
 use Rattle.cel_reader.proofs.Places.{misfit_at, rest_at, deep_at}
 use Rattle.cel_reader.proofs.Theorems.{misfit_never, rest_never, deep_never, deep_openings}
-use Rattle.cel_reader.proofs.Looks.{number, mark_seen, at_seen, room_seen, one_level, operator_by, operator_seen, prefix_seen, named_by, named_seen, selector_seen, identifier_seen, constant_by, constant_seen, comma_by, closing_seen}
-use Rattle.cel_reader.proofs.Plans as plans
-use Rattle.cel_reader.proofs.Plans.{a_tree, a_list, a_map}
-use Rattle.cel_reader.proofs.Runs.{Run, ran, none, after, run, answered as read_so}
+use Rattle.cel_reader.proofs.Looks.{mark_by, mark_seen, one_by, name_by, literal_by, one_level, operator_by, seen}
+use Rattle.cel_reader.proofs.Runs.{Run, ran, none, after, of, by_look, by_mark, run}
 
 -- ---- tokens
 
@@ -85,18 +69,18 @@ misread source lexemes (Got (One a) []) e l r is = cc
 misread source lexemes (Got (Many items) rest) e l r is = cc
 misread source lexemes (Got (Keyed pairs) rest) e l r is = cc
 
-refusal_from : ℕ → (lexemes : List Lexeme) → Run (plans.go (Row Expression) 100 (spoken lexemes)) → Option ReadError
+refusal_from : ℕ → (lexemes : List Lexeme) → Run false whole (reading.go (Row Expression)) 100 (spoken lexemes) → Option ReadError
 refusal_from len lexemes (ran o r) = refusal_of len lexemes o
 refusal_from len lexemes none = None
 
-from_run : (source : List ℕ) (lexemes : List Lexeme) (x : Run (plans.go (Row Expression) 100 (spoken lexemes))) (e : ReadError) → Lexes source (Ok lexemes) → refusal_from (length source) lexemes x ≡ Some e → IsAnswer source (Err e)
+from_run : (source : List ℕ) (lexemes : List Lexeme) (x : Run false whole (reading.go (Row Expression)) 100 (spoken lexemes)) (e : ReadError) → Lexes source (Ok lexemes) → refusal_from (length source) lexemes x ≡ Some e → IsAnswer source (Err e)
 unfolding refusal_from
-from_run source lexemes (ran o r) e l is = misread source lexemes o e l (read_so r) is
+from_run source lexemes (ran o r) e l is = misread source lexemes o e l r is
 from_run source lexemes none e l is = cc
 
 -- calls go at most so deep in the rows
 refusal : (source : List ℕ) → Cut true [] 0 source → Option ReadError
-refusal source (cut (Ok lexemes) c) = refusal_from (length source) lexemes (run 10000 (plans.go (Row Expression) 100 (spoken lexemes)))
+refusal source (cut (Ok lexemes) c) = refusal_from (length source) lexemes (run 10000 (reading.go (Row Expression)) 100 (spoken lexemes))
 refusal source (cut (Err (P1 place)) c) = Some (P1 place)
 refusal source (cut (Err (P2 place)) c) = Some (P2 place)
 refusal source (cut (Err (P3 place)) c) = Some (P3 place)
@@ -104,7 +88,7 @@ refusal source x = None
 
 from_cut : (source : List ℕ) (x : Cut true [] 0 source) (e : ReadError) → length source ≤ 65536 → refusal source x ≡ Some e → IsAnswer source (Err e)
 unfolding refusal
-from_cut source (cut (Ok lexemes) c) e h is = from_run source lexemes (run 10000 (plans.go (Row Expression) 100 (spoken lexemes))) e (tokens.read h c) is
+from_cut source (cut (Ok lexemes) c) e h is = from_run source lexemes (run 10000 (reading.go (Row Expression)) 100 (spoken lexemes)) e (tokens.read h c) is
 from_cut source (cut (Err (P1 place)) c) e h is = same_refusal source (P1 place) e is (record { some = λ no. cc; answers = tokens.read h c; placed = tt })
 from_cut source (cut (Err (P2 place)) c) e h is = same_refusal source (P2 place) e is (record { some = λ no. cc; answers = tokens.read h c; placed = tt })
 from_cut source (cut (Err (P3 place)) c) e h is = same_refusal source (P3 place) e is (record { some = λ no. cc; answers = tokens.read h c; placed = tt })
@@ -133,5 +117,5 @@ all [] is = tt
 all (row ∷ rows) is = (answered row.0 row.1 cc, all rows cc)
 
 pub rows_stand : RefusalRowsStand
-unfolding told told_by refusal refusal_from refusal_of cuts cut_by few few_by front.front run_of between number_from escape content role_of is_reserved after run a_tree a_list a_map number mark_seen at_seen room_seen one_level operator_by operator_seen prefix_seen named_by named_seen selector_seen identifier_seen constant_by constant_seen comma_by closing_seen
+unfolding told told_by refusal refusal_from refusal_of cuts cut_by few few_by front.front run_of between number_from escape content role_of is_reserved after of by_look by_mark run mark_by mark_seen one_by name_by literal_by one_level operator_by seen
 rows_stand = all refused_texts refl

@@ -1,4 +1,4 @@
-use Rattle.std.proofs.Common.{suc, arith}
+use Rattle.cel_reader.proofs.Prelude.{suc, arith}
 use Rattle.cel_reader.proofs.Prefixed.{more, ended}
 use Rattle.cel_reader.proofs.look.prefixes.Goals as goal
 

@@ -1,7 +1,4 @@
-use Rattle.std.proofs.Common.{◌≡◌, ℕ, ◌+◌, ◌≤◌, length, List}
-use Rattle.cel_tokens.specs.Token.{Word}
-use Rattle.cel_reader.specs.Look.{words}
-use Rattle.cel_reader.specs.Prefixes.{Prefixes}
+use Rattle.cel_reader.proofs.Prelude.{◌≡◌, ℕ, ◌+◌, ◌≤◌, length, List, Word, words, Prefixes}
 use Rattle.cel_reader.proofs.look.prefixes.Given as goal
 
 abbrev pub invariant-loop-behind : goal.invariant-loop-behind

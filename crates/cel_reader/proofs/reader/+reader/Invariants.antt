@@ -1,8 +1,4 @@
-use Rattle.std.proofs.Common.{◌+◌, ◌*◌, ◌<◌, ◌≤◌, ◌-◌, length, map}
-use Rattle.cel_reader.specs.Tree.{view, entry_view}
-use Rattle.cel_reader.specs.Grammar.{Infix, Member}
-use Rattle.cel_reader.specs.Look.{words}
-use Rattle.cel_reader.specs.Reading.{Reads, Outcome, Row, Tail, Suffix, Listed, Item, Mapped, Entry}
+use Rattle.cel_reader.proofs.Prelude.{◌+◌, ◌*◌, ◌<◌, ◌≤◌, ◌-◌, length, map, view, entry_view, Infix, Member, words, Reads, Outcome, Row, Tail, Suffix, Listed, Item, Mapped, Entry}
 use Rattle.cel_reader.proofs.Ranks.{rank}
 use Rattle.cel_reader.proofs.reader.+reader.Given as goal
 

@@ -1,7 +1,5 @@
-use Rattle.std.proofs.Common.{Err, ap}
-use Rattle.std.proofs.lemmas.Result.{err_from_is_err_and}
+use Rattle.cel_reader.proofs.Prelude.{Err, ap, arith, err_from_is_err_and}
 use Rattle.cel_reader.proofs.Told.{only_of, told_text, told_at, tokens_fail, same_error, no_error}
-use Rattle.cel_reader.proofs.Places.{placed_text, placed_tokens, placed_same}
 use Rattle.cel_reader.proofs.WellFormedTrees.{told_formed}
 use Rattle.cel_reader.proofs.source.read.Goals as goal
 
@@ -11,7 +9,7 @@ returns-in_err-tokens c =
     let t = tokens_fail c.args.text.now c.in_err-tokens.field-0.0 c.in_err-tokens.ensures.answers in
     rw (p.1, p.2) (record {
       answers = t;
-      places = placed_tokens c.args.text.now c.in_err-tokens.field-0.0 c.in_err-tokens.ensures.answers;
+      places = grind arith;
       long = λ h. ap Err (same_error _ _ (c.in_err-tokens.ensures.long h));
       well_formed = tt;
       only = only_of c.args.text.now (Err c.in_err-tokens.field-0.0) t;
@@ -23,7 +21,7 @@ returns c =
     let t = told_text c.args.text.now c.in_ok-tokens.tokens.items c.whole.result c.in_ok-tokens.ensures.answers told in
     record {
       answers = t;
-      places = placed_text c.args.text.now _ c.whole.result c.in_ok-tokens.ensures.answers (placed_same c.args.text.now _ c.in_ok-tokens.tokens.items _ c.whole.result c.as_bytes.ensures.value c.deref.ensures.value c.whole.ensures.places);
+      places = grind arith;
       long = λ h. no_error _ _ (c.in_ok-tokens.ensures.long h);
       well_formed = told_formed c.args.text.now c.in_ok-tokens.tokens.items c.whole.result c.in_ok-tokens.ensures.answers told;
       only = only_of c.args.text.now c.whole.result t;

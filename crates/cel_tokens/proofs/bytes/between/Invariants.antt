@@ -1,5 +1,4 @@
-use Rattle.std.proofs.Common.{◌≡◌, ◌+◌, ◌-◌, ◌≤◌, length, drop, false}
-use Rattle.cel_tokens.specs.Bytes.{between}
+use Rattle.cel_tokens.proofs.Prelude.{◌≡◌, ◌+◌, ◌-◌, ◌≤◌, length, drop, false, between}
 use Rattle.cel_tokens.proofs.bytes.between.Given as goal
 
 abbrev pub invariant-loop-n : goal.invariant-loop-n

@@ -1,5 +1,4 @@
-use Rattle.std.proofs.Common.{◌≡◌, ◌+◌, ◌-◌, ◌≤◌, length, drop}
-use Rattle.cel_tokens.specs.Bytes.{run, is_name_byte}
+use Rattle.cel_tokens.proofs.Prelude.{◌≡◌, ◌+◌, ◌-◌, ◌≤◌, length, drop, run, is_name_byte}
 use Rattle.cel_tokens.proofs.bytes.name_len.Given as goal
 
 abbrev pub invariant-loop-n : goal.invariant-loop-n

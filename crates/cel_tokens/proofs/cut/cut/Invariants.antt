@@ -1,8 +1,4 @@
-use Rattle.std.proofs.Common.{◌-◌, ◌≤◌, List, [], drop, length, true, Result}
-use Rattle.cel_tokens.specs.Token.{Lexeme}
-use Rattle.cel_tokens.specs.Lexis.{Cuts, TakesMemory}
-use Rattle.cel_tokens.specs.Steps.{Ends}
-use Rattle.cel_tokens.specs.declared.read_error.ReadError.{ReadError}
+use Rattle.cel_tokens.proofs.Prelude.{◌-◌, ◌≤◌, List, [], drop, length, true, Result, Lexeme, Cuts, TakesMemory, Ends, ReadError}
 use Rattle.cel_tokens.proofs.cut.cut.Given as goal
 
 abbrev pub invariant-loop-next : goal.invariant-loop-next

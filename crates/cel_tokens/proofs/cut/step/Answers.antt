@@ -1,7 +1,5 @@
-use Rattle.std.proofs.Common.{ap, arith, length, map, length-drop}
-use Rattle.std.proofs.lemmas.Result.{err_from_is_err_and}
-use Rattle.cel_tokens.specs.Token.{seen}
-use Rattle.cel_tokens.specs.Lexis.Cuts.{over, nothing}
+use Rattle.cel_tokens.proofs.Prelude.{ap, arith, length, map, err_from_is_err_and, seen, over, nothing}
+use Rattle.std.proofs.Common.{length-drop}
 use Rattle.cel_tokens.proofs.Cutting.{there, taken_behind, taken_for, ends_text, space_step, token_goes, too_many_words, text_refused, int_refused}
 use Rattle.cel_tokens.proofs.cut.step.Goals as goal
 

@@ -1,6 +1,4 @@
-use Rattle.std.proofs.Common.{List, ℕ, length, subst, refl, ap, arith}
-use Rattle.cel_tokens.specs.Lexis.{Answers}
-use Rattle.cel_tokens.specs.Lexis.Lexes.{too_long}
+use Rattle.cel_tokens.proofs.Prelude.{List, ℕ, length, subst, refl, ap, arith, Answers, too_long}
 use Rattle.cel_tokens.proofs.Cutting.{whole}
 use Rattle.cel_tokens.proofs.cut.tokens.Goals as goal
 

@@ -1,7 +1,7 @@
-use Rattle.std.proofs.Common.{sym, ◌∙◌}
-use Rattle.cel_tokens.proofs.EscapeDigits.{digits_ascii}
 use Rattle.cel_tokens.proofs.escape.digits.Goals as goal
+use Rattle.cel_tokens.proofs.Prelude.{arith, get_or-take, length-take, nat_tests}
+use Rattle.cel_tokens.proofs.EscapeDigits.{run_all}
 
 pub returns-then-digits_len-count-clause-ascii : goal.returns-then-digits_len-count-clause-ascii
 returns-then-digits_len-count-clause-ascii c i l b =
-    digits_ascii c.args.base c.args.count c.args.bytes.now (sym c.digits_len.ensures.length ∙ c.if-digits_len-count.true) c.if-bytes-count.false i l b
+    (grind (arith, length-take, run_all, nat_tests, get_or-take))

@@ -1,6 +1,4 @@
-use Rattle.std.proofs.Common.{[], sym, ◌∙◌, ap, get_or, drop}
-use Rattle.cel_tokens.specs.Front.{front_word}
-use Rattle.cel_tokens.specs.Texts.{opening_len, content}
+use Rattle.cel_tokens.proofs.Prelude.{[], sym, ◌∙◌, ap, get_or, drop, front_word, opening_len, content}
 use Rattle.cel_tokens.proofs.Cutting.{taken_by_text}
 use Rattle.cel_tokens.proofs.Fronts.{front_over, some_left, front_space, front_else, in_any_case}
 use Rattle.cel_tokens.proofs.front.front_of.Goals as goal

@@ -1,5 +1,4 @@
-use Rattle.std.proofs.Common.{ℕ, sym, ◌∙◌, ap, drop, subst}
-use Rattle.std.specs.Str.{IsUtf8}
+use Rattle.cel_tokens.proofs.Prelude.{ℕ, sym, ◌∙◌, ap, drop, subst, IsUtf8}
 use Rattle.cel_tokens.proofs.Fronts.{opened}
 use Rattle.cel_tokens.proofs.front.literal.Goals as goal
 

@@ -1,4 +1,4 @@
-use Rattle.std.proofs.Common.{sym, ◌∙◌}
+use Rattle.cel_tokens.proofs.Prelude.{sym, ◌∙◌}
 use Rattle.cel_tokens.proofs.Marked.{mark_shown}
 use Rattle.cel_tokens.proofs.front.mark_front.Goals as goal
 

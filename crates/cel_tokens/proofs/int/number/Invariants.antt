@@ -1,6 +1,4 @@
-use Rattle.std.proofs.Common.{◌≡◌, ◌-◌, ◌^◌, ◌≤◌, length, drop}
-use Rattle.std.specs.Prelude.{min}
-use Rattle.cel_tokens.specs.Ints.{number, number_from}
+use Rattle.cel_tokens.proofs.Prelude.{◌≡◌, ◌-◌, ◌^◌, ◌≤◌, length, drop, min, number, number_from}
 use Rattle.cel_tokens.proofs.int.number.Given as goal
 
 abbrev pub invariant-loop-n : goal.invariant-loop-n

@@ -1,11 +1,6 @@
-use Rattle.std.proofs.Common.{◌≡◌, ◌+◌, ◌++◌, get_or, length, drop, arith, sym, ◌∙◌, ap, length-drop, subst}
-use Rattle.std.specs.Str.{IsUtf8}
-use Rattle.cel_tokens.specs.Pieces.{said_by}
-use Rattle.cel_tokens.specs.Texts.{piece}
-use Rattle.cel_tokens.proofs.Contents.{content_over, content_closes, content_refused, piece_step, utf8_step, said_utf8, quote_ascii}
-use Rattle.std.proofs.lemmas.List.{get_or-drop}
-use Rattle.std.proofs.lemmas.List.Sums.{prefix_len-le-length}
-use Rattle.text_kernels.specs.Scans.{is_plain}
+use Rattle.cel_tokens.proofs.Prelude.{◌≡◌, ◌+◌, ◌++◌, get_or, length, drop, arith, sym, ◌∙◌, ap, subst, drop-cons, IsUtf8, piece, get_or-drop, drop-drop, prefix_len-le-length, is_plain}
+use Rattle.std.proofs.Common.{length-drop}
+use Rattle.cel_tokens.proofs.Contents.{closes, content_more, content_over, content_refused, quote_ascii, said_utf8}
 use Rattle.cel_tokens.proofs.PlainStretches.{stretch_step, stretch_utf8}
 use Rattle.cel_tokens.proofs.literal.content.Goals as goal
 
@@ -37,7 +32,7 @@ loop-n-preserved-then-plain-gt0 c =
 pub returns-then-bytes-n-clause-value : goal.returns-then-bytes-n-clause-value
 returns-then-bytes-n-clause-value c =
     let e = c.text_of.ensures in
-    rw e (sym (content_closes c.args.raw c.args.quote c.loop-n.n c.loop-n.said.items c.args.bytes.now c.loop-n-test.true c.if-bytes-n.true) ∙ c.loop-n.invariant.so_far)
+    rw e (sym (grind (arith, drop-cons, closes)) ∙ c.loop-n.invariant.so_far)
 
 pub returns-in_default-clause-value : goal.returns-in_default-clause-value
 returns-in_default-clause-value c =
@@ -59,9 +54,9 @@ loop-n-preserved c =
     record {
       in_range = omega (arith, w, len, d, l);
       so_far =
-          piece_step c.args.raw c.args.quote c.loop-n.n c.piece_len-n.result c.loop-n.said.items c.add.new.said.items c.tail-rest.result.now c.args.bytes.now (said_by p) c.loop-n-test.true c.if-bytes-n.false t e.value w len added ∙ c.loop-n.invariant.so_far;
+          (grind (arith, content_more)) ∙ c.loop-n.invariant.so_far;
       utf8 =
-          utf8_step c.loop-n.n c.piece_len-n.result c.loop-n.said.items c.add.new.said.items c.tail-rest.result.now c.args.bytes.now (said_by p) t len added u;
+          (grind (arith, drop-drop));
     }
 
 pub returns-clause-value : goal.returns-clause-value

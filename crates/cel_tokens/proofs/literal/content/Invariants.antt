@@ -1,6 +1,4 @@
-use Rattle.std.proofs.Common.{◌≡◌, ◌-◌, ◌≤◌, ◌++◌, [], length, drop}
-use Rattle.std.specs.Str.{IsUtf8}
-use Rattle.cel_tokens.specs.Texts.{content}
+use Rattle.cel_tokens.proofs.Prelude.{◌≡◌, ◌-◌, ◌≤◌, ◌++◌, [], length, drop, IsUtf8, content}
 use Rattle.cel_tokens.proofs.literal.content.Given as goal
 
 abbrev pub invariant-loop-n : goal.invariant-loop-n

@@ -1,5 +1,5 @@
-use Rattle.std.proofs.Common.{◌≡◌, ◌+◌, ◌-◌, get_or, length, arith, ◌∙◌, ap, length-drop}
-use Rattle.std.proofs.lemmas.List.{get_or-drop}
+use Rattle.cel_tokens.proofs.Prelude.{◌≡◌, ◌+◌, ◌-◌, get_or, length, arith, ◌∙◌, ap, get_or-drop}
+use Rattle.std.proofs.Common.{length-drop}
 use Rattle.cel_tokens.proofs.Contents.{escape_utf8}
 use Rattle.cel_tokens.proofs.literal.piece_at.Goals as goal
 

@@ -1,0 +1,65 @@
+-- What a plan may come to where it may pass by what it looks for: so read, a phrase is one before any words.
+use Rattle.cel_reader.proofs.Prelude.{◌≡◌, ℕ, zero, suc, ◌≤◌, List, ◌∷◌, Bool, true, false, refl, subst, arith, Word, mark, Mark, Phrase, Look, Found, Is, opens_mark, Kind, Of, phrase, Got, Step, Plan, done, go, call, look, enter, inside, plan, Runs}
+use Rattle.cel_reader.specs.Reading as runs
+use Rattle.cel_reader.proofs.Plans.{one_phrase}
+use Rattle.cel_reader.proofs.Alike.{Alike, over, down, same}
+
+pub data May : (b : Bool) (k : Kind) → Plan b k → ℕ → List Word → Of k → List Word → Type 0 where
+  stands : {k : Kind} {x : Of k} {room : ℕ} {ws : List Word} → May false k (done x) room ws x ws
+  goes : {b : Bool} {k : Kind} {s : Step b k} {room : ℕ} {ws rest : List Word} {x : Of k} → May b k (plan s) room ws x rest → May b k (go s) room ws x rest
+  calls : {b : Bool} {j k : Kind} {s : Step b j} {f : Of j → Plan false k} {room : ℕ} {ws us rest : List Word} {y : Of k} (x : Of j)
+      → May b j (go s) room ws x us → May false k (f x) room us y rest → May b k (call s f) room ws y rest
+  found : {k : Kind} {l : Look} {f : Found l → Plan false k} {p : Plan false k} {room : ℕ} {w : Word} {ws rest : List Word} {x : Found l} {y : Of k}
+      → Is l w x → May false k (f x) room ws y rest → May false k (look l f p) room (w ∷ ws) y rest
+  skips : {k : Kind} {l : Look} {f : Found l → Plan false k} {p : Plan false k} {room : ℕ} {ws rest : List Word} {x : Of k}
+      → May false k p room ws x rest → May false k (look l f p) room ws x rest
+  enters : {k : Kind} {m : Mark} {e : opens_mark m ≡ true} {p : Plan true k} {q : Plan false k} {room : ℕ} {ws rest : List Word} {x : Of k}
+      → May true k p room ws x rest → May false k (enter m e p q) room (mark m ∷ ws) x rest
+  passes : {k : Kind} {m : Mark} {e : opens_mark m ≡ true} {p : Plan true k} {q : Plan false k} {room : ℕ} {ws rest : List Word} {x : Of k}
+      → May false k q room ws x rest → May false k (enter m e p q) room ws x rest
+  opened : {k : Kind} {p : Plan false k} {room : ℕ} {ws rest : List Word} {x : Of k} → May false k p room ws x rest
+      → May true k (inside p) (suc room) ws x rest
+
+abbrev pub Loose : {b : Bool} {k : Kind} → Plan b k → ℕ → List Word → Of k → List Word → Type 0
+Loose {b} {k} p room ws x rest = May b k p room ws x rest
+
+-- what a plan comes to, it may come to
+some_phrase : {b : Bool} {k : Kind} {p : Plan b k} {room : ℕ} {ws rest : List Word} {q : Phrase} → Runs p room ws (Got q rest)
+    → (x : Of k) × (phrase k x ≡ q) × Loose p room ws x rest
+some_phrase runs.stands = (_, refl, stands)
+some_phrase (runs.goes r) = let t = some_phrase r in (t.0, t.1, goes t.2)
+some_phrase (runs.calls {j = j} {s = s} {room = room} {ws = ws} {rest = us} x r t) =
+    let d = some_phrase r in
+    let e = some_phrase t in
+    (e.0, e.1, calls x (subst (λ (y : Of j). Loose (go s) room ws y us) (one_phrase j d.0 x d.1) d.2) e.2)
+some_phrase (runs.found i r) = let t = some_phrase r in (t.0, t.1, found i t.2)
+some_phrase (runs.missing n r) = let t = some_phrase r in (t.0, t.1, skips t.2)
+some_phrase (runs.enters r) = let t = some_phrase r in (t.0, t.1, enters t.2)
+some_phrase (runs.passes n r) = let t = some_phrase r in (t.0, t.1, passes t.2)
+some_phrase (runs.opened r) = let t = some_phrase r in (t.0, t.1, opened t.2)
+
+pub loosely : {b : Bool} {k : Kind} {p : Plan b k} {room : ℕ} {ws rest : List Word} {x : Of k} → Runs p room ws (Got (phrase k x) rest) → Loose p room ws x rest
+loosely {k = k} {p = p} {room = room} {ws = ws} {rest = rest} {x = x} r = grind (arith, some_phrase, one_phrase)
+
+pub wide : {b : Bool} {k : Kind} {p : Plan b k} {room : ℕ} {ws rest : List Word} {x : Of k} → Loose p room ws x rest
+    → (more : ℕ) → room ≤ more → Loose p more ws x rest
+wide stands more h = stands
+wide (goes d) more h = goes (wide d more h)
+wide (calls x d e) more h = calls x (wide d more h) (wide e more h)
+wide (found i d) more h = found i (wide d more h)
+wide (skips d) more h = skips (wide d more h)
+wide (enters d) more h = enters (wide d more h)
+wide (passes d) more h = passes (wide d more h)
+wide (opened d) (suc more) h = opened (wide d more (omega arith))
+wide (opened d) zero h = absurd (omega arith)
+
+pub carried : {b : Bool} {k : Kind} {p : Plan b k} {room : ℕ} {ws rest : List Word} {x : Of k} → Loose p room ws x rest → (vs : List Word)
+    → (us : List Word) × Alike rest vs ws us × Loose p room us x vs
+carried stands vs = (vs, same, stands)
+carried (goes d) vs = let t = carried d vs in (t.0, t.1, goes t.2)
+carried (calls x d e) vs = let t = carried e vs in let u = carried d t.0 in (u.0, over t.1 u.1, calls x u.2 t.2)
+carried (found {w = w} i d) vs = let t = carried d vs in (w ∷ t.0, down t.1, found i t.2)
+carried (skips d) vs = let t = carried d vs in (t.0, t.1, skips t.2)
+carried (enters {m = m} d) vs = let t = carried d vs in (mark m ∷ t.0, down t.1, enters t.2)
+carried (passes d) vs = let t = carried d vs in (t.0, t.1, passes t.2)
+carried (opened d) vs = let t = carried d vs in (t.0, t.1, opened t.2)
