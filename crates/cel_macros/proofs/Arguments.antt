@@ -1,11 +1,5 @@
 -- What a number of arguments says of their trees, and what the tests of the first ones say of all.
-use Rattle.std.proofs.Common.{◌≡◌, ◌<◌, true, List, [], ◌∷◌, length, get_or, map, Option, Some, None, Result, Ok, refl, sym, ap, arith}
-use Rattle.cel_reader.specs.declared.expr.Expr.{Expr}
-use Rattle.cel_reader.specs.Tree.{view, trees}
-use Rattle.cel_macros.specs.declared.macros.Macro.{Macro}
-use Rattle.cel_macros.specs.declared.macro_error.MacroError.{MacroError}
-use Rattle.cel_macros.specs.Macros.{name_of}
-use Rattle.cel_macros.specs.MacroFault.{MacroFault, ArgumentCount, before, name_fault, three_fault, has_fault, fold_fault, refusal}
+use Rattle.cel_macros.proofs.Prelude.{◌≡◌, ◌<◌, true, List, [], ◌∷◌, length, get_or, map, Option, Some, Result, Ok, refl, arith, Expr, view, trees, Macro, MacroError, name_of, MacroFault, ArgumentCount, before, name_fault, three_fault, has_fault, fold_fault, refusal}
 
 -- ---- how many arguments
 
@@ -26,15 +20,14 @@ fold_of_many m (a ∷ b ∷ d ∷ e ∷ items) h = refl
 fold_of_many m _ h = absurd (omega arith)
 
 pub fold_of_two : (m : Macro) (items : List Expr) (x : Expr) → 1 < length items → length items < 3 → x ≡ get_or items 0 x → fold_fault (Some m) (trees (map view items)) ≡ name_fault (name_of (view x))
-fold_of_two m (a ∷ b ∷ []) x h g e = ap (λ y. name_fault (name_of (view y))) (sym e)
+fold_of_two m (a ∷ b ∷ []) x h g e = grind arith
 fold_of_two m _ x h g e = absurd (omega arith)
 
 pub fold_of_three : (m : Macro) (items : List Expr) (x : Expr) → 2 < length items → length items < 4 → x ≡ get_or items 0 x → fold_fault (Some m) (trees (map view items)) ≡ three_fault m (name_of (view x))
-fold_of_three m (a ∷ b ∷ d ∷ []) x h g e = ap (λ y. three_fault m (name_of (view y))) (sym e)
+fold_of_three m (a ∷ b ∷ d ∷ []) x h g e = grind arith
 fold_of_three m _ x h g e = absurd (omega arith)
 
 -- ---- tests one after another
 
 pub then_tested : (a b : Option MacroFault) (u : Unit {0}) (r : Result (Unit {0}) MacroError) → Ok u ≡ refusal a → r ≡ refusal b → r ≡ refusal (before a b)
-then_tested None b u r h e = e
-then_tested (Some y) b u r h e = absurd (cc)
+then_tested a b u r h e = grind arith

@@ -1,78 +1,55 @@
 -- Expansion keeps the tree and its meaning.
-use Rattle.std.proofs.Common.{◌≡◌, ℕ, Bool, true, false, cond, List, [], ◌∷◌, Option, Some, None, IfSome, find, bytes_eq, refl, sym, ap, ◌∙◌, true≢false}
+use Rattle.cel_macros.proofs.Prelude.{◌≡◌, ℕ, Bool, true, List, [], ◌∷◌, Option, Some, IfSome, bytes_eq, refl, ap, ◌∙◌, arith, Tree, Trees, Entries, no_trees, more_trees, no_entries, more_entries, Value, ValueOrError, Environment, bind, truth, ternary_of, index_of, list_literal, map_literal, function_named, method_of, test_named, text_test_of, Macro, Map, macro_name, macros, macro_named, has_name, variables_name, is_map, is_has, is_variables, name_of, field_name, range_of, over_range, map_over_range, unary_of, binary_of, selected, called, meaning, operand_meaning, meanings, entry_meanings, CoreTree, plain_tree, plain_trees, plain_entries, selection, call_or_has, method_or_fold, method_or_fold_map, expanded, expanded_operand, expanded_trees, expanded_entries, folded, folded_map, fold_meaning, fold_meanings, fold_entries}
+use Rattle.std.proofs.Common.{find}
 use lib.Pointwise.{bytes_decides}
 use Rattle.cel_reader.specs.Tree as tree
-use Rattle.cel_reader.specs.Tree.{Tree, Trees, Entries, no_trees, more_trees, no_entries, more_entries}
-use Rattle.value_store.specs.Value.{Value, ValueOrError}
-use Rattle.cel_macros.specs.Environment.{Environment, bind}
-use Rattle.cel_macros.specs.Logic.{truth, ternary_of}
-use Rattle.cel_macros.specs.Selection.{field_of, has_of, index_of}
-use Rattle.cel_macros.specs.Literals.{list_literal, map_literal}
-use Rattle.cel_macros.specs.Functions.{function_named, function_of, method_of, test_named, text_test_of}
-use Rattle.cel_macros.specs.declared.macros.Macro.{Macro}
-use Rattle.cel_macros.specs.declared.macros.Macro.TheVariants.{Map}
-use Rattle.cel_macros.specs.Macros.{macro_name, macros, macro_named, has_name, variables_name, is_map, is_has, is_variables, name_of, field_name, range_of, over_range, map_over_range}
-use Rattle.cel_macros.specs.Meaning.{unary_of, binary_of, selected, called, meaning, operand_meaning, meanings, entry_meanings}
-use Rattle.cel_macros.specs.CoreTree.{CoreTree, plain_tree, plain_trees, plain_entries, selection, call_or_has, method_or_fold, method_or_fold_map, expanded, expanded_operand, expanded_trees, expanded_entries}
-use Rattle.cel_macros.specs.FoldMeaning.{folded, folded_map, fold_meaning, fold_meanings, fold_entries}
 use Rattle.cel_macros.proofs.Folds.{folds_mean, fold_maps_mean}
 
 -- ---- names
 
 weaker : {A : Type 0} (o : Option A) (P Q : A → Type 0) → ((a : A) → P a → Q a) → IfSome o P → IfSome o Q
-weaker None P Q h p = tt
-weaker (Some a) P Q h p = h a p
-
-found_first : {A : Type 0} (test : A → Bool) (x : A) (rest : Option A) (b : Bool) → test x ≡ b → IfSome rest (λ a. test a ≡ true) → IfSome (cond b (Some x) rest) (λ a. test a ≡ true)
-found_first test x rest true e h = e
-found_first test x rest false e h = h
+weaker o P Q h p = grind arith
 
 found : {A : Type 0} (test : A → Bool) (xs : List A) → IfSome (find test xs) (λ a. test a ≡ true)
 found test [] = tt
-found test (x ∷ xs) = found_first test x (find test xs) (test x) refl (found test xs)
+found test (x ∷ xs) = grind (arith, found test xs)
 
 macro_back : (n : List ℕ) → IfSome (macro_named n) (λ m. macro_name m ≡ n)
 unfolding macro_named
 macro_back n = weaker (macro_named n) _ _ (λ m e. (bytes_decides (macro_name m) n).0 e) (found (λ m. bytes_eq (macro_name m) n) macros)
 
 name_back : (x : Tree) → IfSome (name_of x) (λ n. tree.name n ≡ x)
-name_back (tree.name n) = refl
-name_back _ = tt
+name_back x = grind arith
 
 pub variables_back : (a : Tree) → is_variables a ≡ true → tree.name variables_name ≡ a
 unfolding is_variables
-variables_back (tree.name n) e = ap tree.name ((bytes_decides variables_name n).0 e)
-variables_back _ e = absurd (true≢false (sym e))
+variables_back a e = grind arith
 
 has_back : (n : List ℕ) → is_has n ≡ true → has_name ≡ n
 unfolding is_has
-has_back n e = (bytes_decides has_name n).0 e
+has_back n e = grind arith
 
 map_back : (n : List ℕ) → is_map n ≡ true → macro_name Map ≡ n
 unfolding is_map
-map_back n e = (bytes_decides (macro_name Map) n).0 e
+map_back n e = grind arith
 
 -- ---- the plain tree of each form
 
 selection_plain : (b : Bool) (a : Tree) (f : List ℕ) → is_variables a ≡ b → plain_tree (expanded a) ≡ a → plain_tree (selection b f (expanded a)) ≡ tree.select a f
 unfolding plain_tree
-selection_plain true a f e h = ap (λ t. tree.select t f) (variables_back a e)
-selection_plain false a f e h = ap (λ t. tree.select t f) h
+selection_plain b a f e h = grind (arith, variables_back)
 
 call_plain : (b : Bool) (k : Option (List ℕ)) (n : List ℕ) (inner c : CoreTree) (a : Tree) → is_has n ≡ b → IfSome k (λ f. tree.select (plain_tree inner) f ≡ a) → plain_tree c ≡ a → plain_tree (call_or_has b k n inner c) ≡ tree.call n (more_trees a no_trees)
 unfolding plain_tree
-call_plain true (Some f) n inner c a e h p = λ i. tree.call (has_back n e i) (more_trees (h i) no_trees)
-call_plain _ _ n inner c a e h p = ap (λ t. tree.call n (more_trees t no_trees)) p
+call_plain b k n inner c a e h p = grind (arith, has_back)
 
 fold_plain : (m : Option Macro) (k : Option (List ℕ)) (n : List ℕ) (ca cx cp : CoreTree) (a x p : Tree) → IfSome m (λ m. macro_name m ≡ n) → IfSome k (λ i. tree.name i ≡ x) → plain_tree ca ≡ a → plain_tree cx ≡ x → plain_tree cp ≡ p → plain_tree (method_or_fold m k n ca cx cp) ≡ tree.method a n (more_trees x (more_trees p no_trees))
 unfolding plain_tree
-fold_plain (Some m) (Some i) n ca cx cp a x p em ek ha hx hp = λ j. tree.method (ha j) (em j) (more_trees (ek j) (more_trees (hp j) no_trees))
-fold_plain _ _ n ca cx cp a x p em ek ha hx hp = λ j. tree.method (ha j) n (more_trees (hx j) (more_trees (hp j) no_trees))
+fold_plain m k n ca cx cp a x p em ek ha hx hp = grind arith
 
 fold_map_plain : (b : Bool) (k : Option (List ℕ)) (n : List ℕ) (ca cx cp ct : CoreTree) (a x p t : Tree) → is_map n ≡ b → IfSome k (λ i. tree.name i ≡ x) → plain_tree ca ≡ a → plain_tree cx ≡ x → plain_tree cp ≡ p → plain_tree ct ≡ t → plain_tree (method_or_fold_map b k n ca cx cp ct) ≡ tree.method a n (more_trees x (more_trees p (more_trees t no_trees)))
 unfolding plain_tree
-fold_map_plain true (Some i) n ca cx cp ct a x p t e ek ha hx hp ht = λ j. tree.method (ha j) (map_back n e j) (more_trees (ek j) (more_trees (hp j) (more_trees (ht j) no_trees)))
-fold_map_plain _ _ n ca cx cp ct a x p t e ek ha hx hp ht = λ j. tree.method (ha j) n (more_trees (hx j) (more_trees (hp j) (more_trees (ht j) no_trees)))
+fold_map_plain b k n ca cx cp ct a x p t e ek ha hx hp ht = grind (arith, map_back)
 
 mutual
   unfolding expanded plain_tree
@@ -95,28 +72,26 @@ mutual
   expansion_plain _ = refl
 
   operand_plain : (a : Tree) → IfSome (field_name a) (λ f. tree.select (plain_tree (expanded_operand a)) f ≡ a)
-  operand_plain (tree.select a f) = ap (λ t. tree.select t f) (expansion_plain a)
+  operand_plain (tree.select a f) = grind (arith, expansion_plain a)
   operand_plain _ = tt
 
   trees_plain : (ts : Trees) → plain_trees (expanded_trees ts) ≡ ts
   trees_plain no_trees = refl
-  trees_plain (more_trees a more) = λ j. more_trees (expansion_plain a j) (trees_plain more j)
+  trees_plain (more_trees a more) = grind (arith, expansion_plain a, trees_plain more)
 
   entries_plain : (es : Entries) → plain_entries (expanded_entries es) ≡ es
   entries_plain no_entries = refl
-  entries_plain (more_entries k v more) = λ j. more_entries (expansion_plain k j) (expansion_plain v j) (entries_plain more j)
+  entries_plain (more_entries k v more) = grind (arith, expansion_plain k, expansion_plain v, entries_plain more)
 
 -- ---- the meaning of each form
 
 selection_means : (b : Bool) (f : List ℕ) (c : CoreTree) (x : ValueOrError) (env : Environment) → fold_meaning c env ≡ x → fold_meaning (selection b f c) env ≡ selected b f x env
 unfolding fold_meaning
-selection_means true f c x env h = refl
-selection_means false f c x env h = ap (λ r. field_of r f) h
+selection_means b f c x env h = grind arith
 
 call_means : (b : Bool) (k : Option (List ℕ)) (n : List ℕ) (inner c : CoreTree) (x y : ValueOrError) (env : Environment) → IfSome k (λ f. fold_meaning inner env ≡ x) → fold_meaning c env ≡ y → fold_meaning (call_or_has b k n inner c) env ≡ called b k (function_named n) x y
 unfolding fold_meaning
-call_means true (Some f) n inner c x y env hx hy = ap (λ r. has_of r f) hx
-call_means _ _ n inner c x y env hx hy = ap (function_of (function_named n)) hy
+call_means b k n inner c x y env hx hy = grind arith
 
 fold_means : (m : Option Macro) (k : Option (List ℕ)) (n : List ℕ) (ca cx cp : CoreTree) (env : Environment) (x : ValueOrError) (f : List ℕ → Value → ValueOrError) → fold_meaning ca env ≡ x → ((i : List ℕ) (v : Value) → fold_meaning cp (bind i v env) ≡ f i v) → fold_meaning (method_or_fold m k n ca cx cp) env ≡ over_range m k f (range_of x)
 unfolding fold_meaning
@@ -152,8 +127,8 @@ mutual
 
   trees_mean : (ts : Trees) (env : Environment) → fold_meanings (expanded_trees ts) env ≡ meanings ts env
   trees_mean no_trees env = refl
-  trees_mean (more_trees a more) env = λ j. expansion_means a env j ∷ trees_mean more env j
+  trees_mean (more_trees a more) env = grind (arith, expansion_means a env, trees_mean more env)
 
   entries_mean : (es : Entries) (env : Environment) → fold_entries (expanded_entries es) env ≡ entry_meanings es env
   entries_mean no_entries env = refl
-  entries_mean (more_entries k v more) env = λ j. (expansion_means k env j, expansion_means v env j) ∷ entries_mean more env j
+  entries_mean (more_entries k v more) env = grind (arith, expansion_means k env, expansion_means v env, entries_mean more env)

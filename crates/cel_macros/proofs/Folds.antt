@@ -1,14 +1,7 @@
 -- Each macro's fold gives what the macro means.
-use Rattle.std.proofs.Common.{◌≡◌, List, Option, Some, None, refl}
-use Rattle.value_store.specs.Value.{Value, ValueOrError}
-use Rattle.cel_macros.specs.declared.macros.Macro.{Macro}
-use Rattle.cel_macros.specs.declared.macros.Macro.TheVariants.{All, Exists, ExistsOne, Filter, Map}
-use Rattle.cel_macros.specs.Macros.{over_range, map_over_range}
-use Rattle.cel_macros.specs.FoldMeaning.{folded, folded_map}
+use Rattle.cel_macros.proofs.Prelude.{◌≡◌, List, Option, Some, None, refl, arith, Value, ValueOrError, Macro, All, Exists, ExistsOne, Filter, Map, over_range, map_over_range, folded, folded_map, ℕ, true, false, Yes, No, truth}
 use Rattle.cel_macros.proofs.Quantified.{folds_behind}
 use Rattle.cel_macros.proofs.Kept.{folds_exists_one, folds_filter, folds_map, folds_map_where}
-use Rattle.std.specs.Prelude.{ℕ, true, false}
-use Rattle.cel_macros.specs.Logic.{Yes, No, truth}
 
 pub folds_mean : (m : Macro) (n : List ℕ) (f : List ℕ → Value → ValueOrError) (r : Option (List Value)) → folded m (f n) r ≡ over_range (Some m) (Some n) f r
 folds_mean m n f None = refl
@@ -19,5 +12,4 @@ folds_mean Filter n f (Some items) = folds_filter (f n) items
 folds_mean Map n f (Some items) = folds_map (f n) items
 
 pub fold_maps_mean : (n : List ℕ) (p f : List ℕ → Value → ValueOrError) (r : Option (List Value)) → folded_map (λ x. truth (p n x)) (f n) r ≡ map_over_range true (Some n) p f r
-fold_maps_mean n p f None = refl
-fold_maps_mean n p f (Some items) = folds_map_where (λ x. truth (p n x)) (f n) items
+fold_maps_mean n p f r = grind (arith, folds_map_where)

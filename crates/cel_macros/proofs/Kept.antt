@@ -1,29 +1,18 @@
 -- What `exists_one`, `filter` and `map` keep from item to item.
-use Rattle.std.proofs.Common.{◌≡◌, ℕ, ◌+◌, Bool, true, false, cond, ◌||◌, List, [], ◌∷◌, ◌++◌, Option, Some, None, option_map, filter, nat_eq, pos, fold, map, refl, sym, ap, ◌∙◌, append_assoc, append-nil, add-zero}
-use Rattle.std.specs.List.{list_any}
-use Rattle.value_store.specs.Value.{Value, ValueOrError, error, value, boolean, int, list, item, items_of, items_push}
-use Rattle.cel_macros.specs.Logic.{Truth, Yes, No, Other, truth}
-use Rattle.cel_macros.specs.Literals.{with_value, values_in, list_or_error}
-use Rattle.cel_macros.specs.declared.macros.Macro.TheVariants.{ExistsOne, Filter, Map}
-use Rattle.cel_macros.specs.Macros.{is_yes, is_other, exists_one_of, filter_of, map_of, map_where_of}
-use Rattle.cel_macros.specs.FoldMeaning.{when_true, one_more, pushed, push_parts, step_of, start_of, end_of, map_step, folded_map}
+use Rattle.cel_macros.proofs.Prelude.{◌≡◌, ℕ, ◌+◌, Bool, cond, List, [], ◌∷◌, ◌++◌, Option, Some, option_map, filter, nat_eq, pos, fold, map, refl, ap, ◌∙◌, append_assoc, append-nil, add-zero, arith, list_any, Value, ValueOrError, error, value, boolean, int, list, items_of, items_push, Truth, truth, with_value, values_in, list_or_error, ExistsOne, Filter, Map, is_yes, is_other, exists_one_of, filter_of, map_of, map_where_of, push_parts, step_of, start_of, end_of, map_step, folded_map}
 
 abbrev of_list : List Value → ValueOrError
 of_list vs = value (list (items_of vs))
 
 push_is : (vs : List Value) (w : Value) → items_push (items_of vs) w ≡ items_of (vs ++ w ∷ [])
 push_is [] w = refl
-push_is (v ∷ vs) w = ap (item v) (push_is vs w)
+push_is (v ∷ vs) w = grind (arith, push_is vs w)
 
 -- ---- an error stays
 
-pub still_error : (t : Truth) → when_true t error error ≡ error
-still_error Yes = refl
-still_error _ = refl
-
 count_error : (f : Value → ValueOrError) (items : List Value) → fold (step_of ExistsOne f) error items ≡ error
 count_error f [] = refl
-count_error f (v ∷ items) = ap (λ a. fold (step_of ExistsOne f) a items) (still_error (truth (f v))) ∙ count_error f items
+count_error f (v ∷ items) = grind (arith, count_error f items)
 
 map_error : (f : Value → ValueOrError) (items : List Value) → fold (step_of Map f) error items ≡ error
 map_error f [] = refl
@@ -31,11 +20,11 @@ map_error f (v ∷ items) = map_error f items
 
 filter_error : (f : Value → ValueOrError) (items : List Value) → fold (step_of Filter f) error items ≡ error
 filter_error f [] = refl
-filter_error f (v ∷ items) = ap (λ a. fold (step_of Filter f) a items) (still_error (truth (f v))) ∙ filter_error f items
+filter_error f (v ∷ items) = grind (arith, filter_error f items)
 
 map_where_error : (p : Value → Truth) (f : Value → ValueOrError) (items : List Value) → fold (map_step p f) error items ≡ error
 map_where_error p f [] = refl
-map_where_error p f (v ∷ items) = ap (λ a. fold (map_step p f) a items) (still_error (p v)) ∙ map_where_error p f items
+map_where_error p f (v ∷ items) = grind (arith, map_where_error p f items)
 
 -- ---- exists_one
 
@@ -45,14 +34,9 @@ counted n other ts = cond other error (value (boolean (nat_eq (fold (λ a x. a +
 abbrev Counts : (Value → ValueOrError) → List Value → Type 0
 Counts f items = (n : ℕ) → end_of ExistsOne (fold (step_of ExistsOne f) (value (int (pos n))) items) ≡ counted n (list_any is_other (map (λ x. truth (f x)) items)) (map (λ x. truth (f x)) items)
 
-count_step : (f : Value → ValueOrError) (items : List Value) (n : ℕ) (t : Truth) → Counts f items → end_of ExistsOne (fold (step_of ExistsOne f) (when_true t (one_more (Some (pos n))) (value (int (pos n)))) items) ≡ counted n (is_other t || list_any is_other (map (λ x. truth (f x)) items)) (t ∷ map (λ x. truth (f x)) items)
-count_step f items n Yes ih = ih (n + 1)
-count_step f items n No ih = ih n ∙ ap (λ k. counted k (list_any is_other (map (λ x. truth (f x)) items)) (map (λ x. truth (f x)) items)) (sym (add-zero n))
-count_step f items n Other ih = ap (end_of ExistsOne) (count_error f items)
-
 counts : (f : Value → ValueOrError) (items : List Value) → Counts f items
 counts f [] n = refl
-counts f (v ∷ items) n = count_step f items n (truth (f v)) (counts f items)
+counts f (v ∷ items) n = grind (arith, add-zero, count_error, counts f items)
 
 pub folds_exists_one : (f : Value → ValueOrError) (items : List Value) → end_of ExistsOne (fold (step_of ExistsOne f) (start_of ExistsOne) items) ≡ exists_one_of (map (λ x. truth (f x)) items)
 folds_exists_one f items = counts f items 0
@@ -62,19 +46,9 @@ folds_exists_one f items = counts f items 0
 abbrev Filters : (Value → ValueOrError) → List Value → Type 0
 Filters f items = (kept : List Value) → fold (step_of Filter f) (of_list kept) items ≡ cond (list_any (λ x. is_other (truth (f x))) items) error (of_list (kept ++ filter (λ x. is_yes (truth (f x))) items))
 
-filter_step : (f : Value → ValueOrError) (items kept : List Value) (v : Value) (t : Truth) → Filters f items →
-    fold (step_of Filter f) (when_true t (pushed (of_list kept) (value v)) (of_list kept)) items
-    ≡ cond (is_other t || list_any (λ x. is_other (truth (f x))) items) error (of_list (kept ++ cond (is_yes t) (v ∷ filter (λ x. is_yes (truth (f x))) items) (filter (λ x. is_yes (truth (f x))) items)))
-filter_step f items kept v Yes ih =
-    ap (λ is. fold (step_of Filter f) (value (list is)) items) (push_is kept v)
-    ∙ ih (kept ++ v ∷ [])
-    ∙ ap (λ l. cond (list_any (λ x. is_other (truth (f x))) items) error (of_list l)) (append_assoc kept (v ∷ []) (filter (λ x. is_yes (truth (f x))) items))
-filter_step f items kept v No ih = ih kept
-filter_step f items kept v Other ih = filter_error f items
-
 filters : (f : Value → ValueOrError) (items : List Value) → Filters f items
-filters f [] kept = ap of_list (sym (append-nil kept))
-filters f (v ∷ items) kept = filter_step f items kept v (truth (f v)) (filters f items)
+filters f [] kept = grind (arith, append-nil)
+filters f (v ∷ items) kept = grind (arith, push_is, append_assoc, filter_error, filters f items)
 
 pub folds_filter : (f : Value → ValueOrError) (items : List Value) → fold (step_of Filter f) (start_of Filter) items ≡ filter_of (λ x. truth (f x)) items
 folds_filter f items = filters f items []
@@ -82,12 +56,10 @@ folds_filter f items = filters f items []
 -- ---- map
 
 regrouped : (kept : List Value) (w : Value) (o : Option (List Value)) → list_or_error (option_map (λ vs. (kept ++ w ∷ []) ++ vs) o) ≡ list_or_error (option_map (λ vs. kept ++ vs) (option_map (λ vs. w ∷ vs) o))
-regrouped kept w None = refl
-regrouped kept w (Some vs) = ap of_list (append_assoc kept (w ∷ []) vs)
+regrouped kept w o = grind (arith, append_assoc)
 
 from_none : (o : Option (List Value)) → list_or_error (option_map (λ vs. [] ++ vs) o) ≡ list_or_error o
-from_none None = refl
-from_none (Some vs) = refl
+from_none o = grind arith
 
 abbrev Maps : (Value → ValueOrError) → List Value → Type 0
 Maps f items = (kept : List Value) → fold (step_of Map f) (of_list kept) items ≡ list_or_error (option_map (λ vs. kept ++ vs) (values_in (map f items)))
@@ -100,8 +72,8 @@ map_one f items kept (value w) ih =
     ∙ regrouped kept w (values_in (map f items))
 
 maps : (f : Value → ValueOrError) (items : List Value) → Maps f items
-maps f [] kept = ap of_list (sym (append-nil kept))
-maps f (v ∷ items) kept = map_one f items kept (f v) (maps f items)
+maps f [] kept = grind (arith, append-nil)
+maps f (v ∷ items) kept = grind (arith, map_one, maps f items)
 
 pub folds_map : (f : Value → ValueOrError) (items : List Value) → fold (step_of Map f) (start_of Map) items ≡ map_of f items
 folds_map f items = maps f items [] ∙ from_none (values_in (map f items))
@@ -119,8 +91,7 @@ module _ (p : Value → Truth) (f : Value → ValueOrError) where
   MapsWhere items = (kept : List Value) → fold (map_step p f) (of_list kept) items ≡ cond (others items) error (list_or_error (option_map (λ vs. kept ++ vs) (chosen_values items)))
 
   error_either_way : (b : Bool) → error ≡ cond b error error
-  error_either_way true = refl
-  error_either_way false = refl
+  error_either_way b = grind arith
 
   where_yes : (items kept : List Value) (x : ValueOrError) → MapsWhere items → fold (map_step p f) (push_parts (Some (items_of kept)) x) items ≡ cond (others items) error (list_or_error (option_map (λ vs. kept ++ vs) (with_value x (chosen_values items))))
   where_yes items kept error ih = map_where_error p f items ∙ error_either_way (others items)
@@ -129,16 +100,9 @@ module _ (p : Value → Truth) (f : Value → ValueOrError) where
       ∙ ih (kept ++ w ∷ [])
       ∙ ap (λ r. cond (others items) error r) (regrouped kept w (chosen_values items))
 
-  where_step : (items kept : List Value) (v : Value) (t : Truth) → MapsWhere items →
-      fold (map_step p f) (when_true t (pushed (of_list kept) (f v)) (of_list kept)) items
-      ≡ cond (is_other t || others items) error (list_or_error (option_map (λ vs. kept ++ vs) (values_in (map f (cond (is_yes t) (v ∷ filter (λ x. is_yes (p x)) items) (filter (λ x. is_yes (p x)) items))))))
-  where_step items kept v Yes ih = where_yes items kept (f v) ih
-  where_step items kept v No ih = ih kept
-  where_step items kept v Other ih = map_where_error p f items
-
   maps_where : (items : List Value) → MapsWhere items
-  maps_where [] kept = ap of_list (sym (append-nil kept))
-  maps_where (v ∷ items) kept = where_step items kept v (p v) (maps_where items)
+  maps_where [] kept = grind (arith, append-nil)
+  maps_where (v ∷ items) kept = grind (arith, where_yes, map_where_error, maps_where items)
 
   pub folds_map_where : (items : List Value) → folded_map p f (Some items) ≡ map_where_of p f items
   folds_map_where items = maps_where items [] ∙ ap (λ r. cond (others items) error r) (from_none (chosen_values items))

@@ -2,9 +2,9 @@ pub mod Quantified
 pub mod Kept
 pub mod Folds
 pub mod Expansion
-pub mod Settled
 pub mod Arguments
 pub mod Views
 pub mod PartsExpanded
 pub mod ValueParts
 pub mod StaysValue
+pub mod Prelude

@@ -1,15 +1,7 @@
 -- What expressions with parts in lists stand for.
-use Rattle.std.proofs.Common.{◌≡◌, map, string_bytes, ap, sym, ◌∙◌}
-use Rattle.std.specs.declared.vec.Vec.{Vec}
-use Rattle.std.specs.declared.boxed.Box.{Box}
-use Rattle.std.specs.declared.string.String.{String}
-use Rattle.std.specs.declared.alloc.Global.{Global}
-use Rattle.cel_reader.specs.declared.expr.Expr.{Expr}
+use Rattle.cel_macros.proofs.Prelude.{◌≡◌, map, string_bytes, ap, sym, ◌∙◌, Vec, Box, String, Global, Expr, rolls-Call, rolls-Method, rolls-List, rolls-Map, fold-roll-Expr, Tree, view, view_step, trees, entries}
 use Rattle.cel_reader.specs.declared.expr.Expr as code
-use Rattle.cel_reader.specs.declared.expr.Expr.TheVariants.{rolls-Call, rolls-Method, rolls-List, rolls-Map}
-use Rattle.cel_reader.specs.declared.expr.Expr.TheFolds.{fold-roll-Expr}
 use Rattle.cel_reader.specs.Tree as tree
-use Rattle.cel_reader.specs.Tree.{Tree, view, view_step, trees, entries}
 
 pub view_call : (name : String Global) (arguments : Vec Expr Global) → view (code.Call name arguments) ≡ tree.call (string_bytes name) (trees (map view arguments.items))
 view_call name arguments = ap view (sym (rolls-Call name arguments)) ∙ fold-roll-Expr Tree view_step _

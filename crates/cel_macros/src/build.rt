@@ -9,7 +9,7 @@ ghost use Rattle.cel_macros.specs.Expanding.{core_pair};
 
 use crate::core_tree::Core;
 use crate::macros::Macro;
-use cel_reader::{BinaryOperator, Literal, UnaryOperator};
+use cel_reader::Literal;
 use std::alloc::{AllocError, Global};
 
 /// A literal.
@@ -55,13 +55,6 @@ pub(crate) fn has(alloc: Global, of: Core, field: String) -> Result<Core, AllocE
     Ok(Core::Has(Box::new(alloc, of)?, field))
 }
 
-/// An item or entry of an expression.
-pub(crate) fn index(of: Box<Core>, at: Box<Core>) -> Core
-    ensures { core_view result ≡ node.index (core_view of.value) (core_view at.value) }
-{
-    Core::Index(of, at)
-}
-
 /// A call of a function.
 pub(crate) fn call(alloc: Global, name: &str, arguments: Vec<Core>) -> Result<Core, AllocError>
     ensures { IfOk result (λ c. core_view c ≡ node.call name.now (cores (list.map core_view arguments.items))) }
@@ -93,27 +86,6 @@ pub(crate) fn method(
     ensures { IfOk result (λ c. core_view c ≡ node.method (core_view of.value) name.now (cores (list.map core_view arguments.items))) }
 {
     Ok(Core::Method(of, String::from_str(alloc, name)?, arguments))
-}
-
-/// An operator before an operand.
-pub(crate) fn unary(operator: UnaryOperator, operand: Box<Core>) -> Core
-    ensures { core_view result ≡ node.unary operator (core_view operand.value) }
-{
-    Core::Unary(operator, operand)
-}
-
-/// An operator between operands.
-pub(crate) fn binary(operator: BinaryOperator, left: Box<Core>, right: Box<Core>) -> Core
-    ensures { core_view result ≡ node.binary operator (core_view left.value) (core_view right.value) }
-{
-    Core::Binary(operator, left, right)
-}
-
-/// A conditional.
-pub(crate) fn ternary(condition: Box<Core>, yes: Box<Core>, no: Box<Core>) -> Core
-    ensures { core_view result ≡ node.ternary (core_view condition.value) (core_view yes.value) (core_view no.value) }
-{
-    Core::Ternary(condition, yes, no)
 }
 
 /// A macro over a range.

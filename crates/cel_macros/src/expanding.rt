@@ -59,7 +59,7 @@ fn boxed_expansion(alloc: Global, e: &Expr) -> Result<Box<Core>, AllocError>
 /// The expression with its macros expanded. Its parts are boxed where they are made, so that the
 /// frames on the host's stack stay small.
 #[cycle(expansion)]
-#[tactic(auto, unfolding(crate::specs::CoreTree::expanded))]
+#[tactic(auto, using(crate::proofs::PartsExpanded::call_expanded, crate::proofs::PartsExpanded::each_entry_expanded, crate::proofs::PartsExpanded::each_expanded, crate::proofs::PartsExpanded::method_expanded, crate::proofs::Views::view_call, crate::proofs::Views::view_list, crate::proofs::Views::view_map, crate::proofs::Views::view_method), unfolding(crate::specs::CoreTree::expanded))]
 fn expansion(alloc: Global, e: &Expr) -> Result<Core, AllocError>
     ensures { IfOk result (λ c. core_view c ≡ expanded (view e.now)) }
 {
@@ -76,7 +76,7 @@ fn expansion(alloc: Global, e: &Expr) -> Result<Core, AllocError>
         Expr::Index(of, at) => {
             let first = boxed_expansion(alloc, of)?;
             let second = boxed_expansion(alloc, at)?;
-            Ok(build::index(first, second))
+            Ok(Core::Index(first, second))
         }
         Expr::Call(name, arguments) => {
             let parts = expansions(alloc, arguments.as_slice())?;
@@ -89,18 +89,18 @@ fn expansion(alloc: Global, e: &Expr) -> Result<Core, AllocError>
         }
         Expr::Unary(operator, operand) => {
             let inner = boxed_expansion(alloc, operand)?;
-            Ok(build::unary(*operator, inner))
+            Ok(Core::Unary(*operator, inner))
         }
         Expr::Binary(operator, left, right) => {
             let first = boxed_expansion(alloc, left)?;
             let second = boxed_expansion(alloc, right)?;
-            Ok(build::binary(*operator, first, second))
+            Ok(Core::Binary(*operator, first, second))
         }
         Expr::Ternary(condition, yes, no) => {
             let test = boxed_expansion(alloc, condition)?;
             let first = boxed_expansion(alloc, yes)?;
             let second = boxed_expansion(alloc, no)?;
-            Ok(build::ternary(test, first, second))
+            Ok(Core::Ternary(test, first, second))
         }
         Expr::List(items) => {
             let parts = expansions(alloc, items.as_slice())?;
@@ -120,6 +120,7 @@ fn expansion(alloc: Global, e: &Expr) -> Result<Core, AllocError>
 /// The host's stack holds one frame for each level of the tree. The limit of open brackets does not
 /// bound these levels, since operators nest without brackets; the number of tokens of a text, 4,096,
 /// does. (cel-spec, Macros)
+#[tactic(auto, using(crate::proofs::Expansion::expansion_means, crate::proofs::Expansion::expansion_plain))]
 pub fn expand(alloc: Global, e: Expr) -> Result<Core, MacroError>
     ensures refused { IfSome (macro_fault (view e)) (λ fault. result ≡ list.Err (fault_error fault)) }
     ensures only { macro_fault (view e) ≡ list.None → MatchResult result (λ c. core_view c ≡ expanded (view e)) (λ f. f ≡ Memory) }

@@ -58,6 +58,7 @@ fn test_three(found: Macro, name: &Expr) -> Result<(), MacroError>
 }
 
 /// Refuses arguments that the macro does not take.
+#[tactic(auto, using(crate::proofs::Arguments::fold_of_few, crate::proofs::Arguments::fold_of_many, crate::proofs::Arguments::fold_of_three, crate::proofs::Arguments::fold_of_two))]
 fn test_fold(found: Macro, arguments: &[Expr]) -> Result<(), MacroError>
     ensures { result ≡ refusal (fold_fault (list.Some found) (trees (list.map view arguments.now))) }
 {

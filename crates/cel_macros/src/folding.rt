@@ -62,6 +62,7 @@ fn is_name(core: &Core) -> bool
 }
 
 /// The shape of arguments.
+#[tactic(auto, using(crate::proofs::PartsExpanded::other_few, crate::proofs::PartsExpanded::other_many, crate::proofs::PartsExpanded::pair_shape, crate::proofs::PartsExpanded::triple_shape))]
 fn shape(arguments: &[Core]) -> Shape
     ensures { HasShape result (list.map core_view arguments.now) }
 {

@@ -10,6 +10,7 @@ pub fn rows_stand()
 {}
 
 /// An expanded tree is the plain one again, and its folds give the plain one's meaning.
+#[tactic(auto, using(crate::proofs::Expansion::expansion_means, crate::proofs::Expansion::expansion_plain))]
 pub fn expands()
     ensures { Expands }
 {}
@@ -21,6 +22,7 @@ pub fn settled_stays()
 
 /// In an environment of values a well-formed expression means a value or the error: its texts are
 /// in UTF-8, its keys in order, each once, and without `size` its ints have 64 bits.
+#[tactic(auto, using(crate::proofs::StaysValue::ints_stay, crate::proofs::StaysValue::texts_stay))]
 pub fn values_stay()
     ensures texts { TextsAndKeysStay }
     ensures ints { IntsStay }

@@ -1,8 +1,5 @@
 -- The need of a call, by the number of its arguments.
-use Rattle.std.proofs.Common.{◌≡◌, ◌+◌, ◌<◌, List, [], ◌∷◌, length, map, refl, arith}
-use Rattle.cel_macros.specs.declared.core_tree.Core.{Core}
-use Rattle.cel_macros.specs.CoreView.{core_view, cores}
-use Rattle.cel_measures.specs.Measures.{call_need, needs}
+use Rattle.cel_measures.proofs.Prelude.{◌≡◌, ◌+◌, ◌<◌, List, [], ◌∷◌, length, map, refl, arith, Core, core_view, cores, call_need, needs}
 
 pub need_of_none : (items : List Core) → length items < 1 → call_need (cores (map core_view items)) ≡ 1
 unfolding call_need

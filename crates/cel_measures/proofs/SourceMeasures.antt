@@ -1,12 +1,6 @@
 -- Each measure of the source is that of the expansion: the tables give the measures of each form.
-use Rattle.std.proofs.Common.{◌≡◌, ℕ, ◌+◌, max, List, refl, ap}
-use Rattle.std.specs.Prelude.{map as each}
-use Rattle.cel_macros.specs.CoreTree as core
-use Rattle.cel_macros.specs.CoreTree.{CoreTree, CoreTrees, CoreEntries, no_cores, more_cores, no_core_entries, more_core_entries}
-use Rattle.cel_measures.specs.Measures.{nodes, nodes_of, entries_nodes, need, call_need, needs, needs_behind}
-use Rattle.cel_measures.specs.Measures.{entries_need, deepest, deepest_of, entries_deepest}
+use Rattle.cel_measures.proofs.Prelude.{◌≡◌, ℕ, ◌+◌, max, List, refl, ap, arith, map as each, CoreTree, CoreTrees, CoreEntries, no_cores, more_cores, no_core_entries, more_core_entries, nodes, nodes_of, entries_nodes, need, call_need, needs, needs_behind, entries_need, deepest, deepest_of, entries_deepest, total, greatest, nodes_by, need_by, deepest_by, SameNodes, SameNeed, SameDepth}
 use Rattle.cel_measures.specs.SourceMeasures as source
-use Rattle.cel_measures.specs.SourceMeasures.{total, greatest, nodes_by, need_by, deepest_by, SameNodes, SameNeed, SameDepth}
 use Rattle.cel_measures.proofs.SourceParts.{IsBy, each_core, core_pairs, source_same}
 
 -- ---- nodes
@@ -23,11 +17,7 @@ entry_nodes (more_core_entries k v more) = ap (λ n. nodes k + nodes v + n) (ent
 
 nodes_table : IsBy nodes_by nodes
 unfolding nodes
-nodes_table (core.call n arguments) = ap (λ k. 1 + k) (total_nodes arguments)
-nodes_table (core.method a n arguments) = ap (λ k. 1 + nodes a + k) (total_nodes arguments)
-nodes_table (core.list items) = ap (λ k. 1 + k) (total_nodes items)
-nodes_table (core.map es) = ap (λ k. 1 + k) (entry_nodes es)
-nodes_table _ = refl
+nodes_table e = grind (arith, total_nodes, entry_nodes)
 
 pub same_nodes : SameNodes
 same_nodes e = source_same nodes_by nodes nodes_table e
@@ -56,11 +46,7 @@ a_call _ = refl
 
 need_table : IsBy need_by need
 unfolding need
-need_table (core.call n arguments) = a_call arguments
-need_table (core.method a n arguments) = ap (λ k. max (need a) k) (greatest_behind arguments)
-need_table (core.list items) = ap (λ k. 1 + k) (greatest_need items)
-need_table (core.map es) = ap (λ k. max 1 k) (entry_need es)
-need_table _ = refl
+need_table e = grind (arith, a_call, greatest_behind, greatest_need, entry_need)
 
 pub same_need : SameNeed
 same_need e = source_same need_by need need_table e
@@ -83,11 +69,7 @@ module _ (s : List (List ℕ × ℕ)) where
 
   depth_table : IsBy (deepest_by s) deep
   unfolding deepest
-  depth_table (core.call n arguments) = greatest_deep arguments
-  depth_table (core.method a n arguments) = ap (λ k. max (deepest a s) k) (greatest_deep arguments)
-  depth_table (core.list items) = greatest_deep items
-  depth_table (core.map es) = entry_deep es
-  depth_table _ = refl
+  depth_table e = grind (arith, greatest_deep, entry_deep)
 
 pub same_depth : SameDepth
 same_depth e s = ap (λ k. 1 + k) (source_same (deepest_by s) (deep s) (depth_table s) e)

@@ -1,14 +1,8 @@
 -- A measure of expanded expressions that a table gives is what the table gives of the source.
-use Rattle.std.proofs.Common.{◌≡◌, ℕ, Bool, true, false, List, [], ◌∷◌, Option, Some, None, refl, ap, ◌∙◌}
+use Rattle.cel_measures.proofs.Prelude.{◌≡◌, ℕ, Bool, List, [], ◌∷◌, Option, Some, None, refl, ap, ◌∙◌, arith, Tree, Trees, Entries, no_trees, more_trees, no_entries, more_entries, Macro, macro_named, is_map, is_variables, name_of, field_name, CoreTree, CoreTrees, CoreEntries, no_cores, more_cores, no_core_entries, more_core_entries, selection, call_or_has, method_or_fold, method_or_fold_map, expanded, expanded_operand, expanded_trees, expanded_entries, Parts, selected, called, by_method, measured, operand_measured, each_measured, entries_measured}
 use Rattle.cel_reader.specs.Tree as tree
-use Rattle.cel_reader.specs.Tree.{Literal, Tree, Trees, Entries, no_trees, more_trees, no_entries, more_entries}
-use Rattle.cel_macros.specs.declared.macros.Macro.{Macro}
-use Rattle.cel_macros.specs.Macros.{macro_named, is_map, is_has, is_variables, name_of, field_name}
 use Rattle.cel_macros.specs.CoreTree as core
-use Rattle.cel_macros.specs.CoreTree.{CoreTree, CoreTrees, CoreEntries, no_cores, more_cores, no_core_entries, more_core_entries}
-use Rattle.cel_macros.specs.CoreTree.{selection, call_or_has, method_or_fold, method_or_fold_map, expanded, expanded_operand, expanded_trees, expanded_entries}
 use Rattle.cel_measures.specs.Parts as parts
-use Rattle.cel_measures.specs.Parts.{Parts, selected, called, by_method, measured, operand_measured, each_measured, entries_measured}
 
 -- the measure of each
 abbrev pub each_core : {R : Type 0} → (CoreTree → R) → CoreTrees → List R
@@ -43,8 +37,7 @@ IsBy by m = (e : CoreTree) → by (core_parts m e) ≡ m e
 
 module _ {R : Type 0} (by : Parts R → R) (m : CoreTree → R) (table : IsBy by m) where
   a_selection : (b : Bool) (f : List ℕ) (a : CoreTree) → by (selected b f (m a)) ≡ m (selection b f a)
-  a_selection true f a = table (core.variable f)
-  a_selection false f a = table (core.select a f)
+  a_selection b f a = grind (arith, table)
 
   -- of the operand of a selection
   abbrev operand : Option (List ℕ) → CoreTree → Option R
@@ -52,18 +45,15 @@ module _ {R : Type 0} (by : Parts R → R) (m : CoreTree → R) (table : IsBy by
   operand None inner = None
 
   a_call : (b : Bool) (k : Option (List ℕ)) (n : List ℕ) (inner a : CoreTree) → by (called (m a ∷ []) b (operand k inner)) ≡ m (call_or_has b k n inner a)
-  a_call true (Some f) n inner a = table (core.has inner f)
-  a_call _ _ n inner a = table (core.call n (more_cores a no_cores))
+  a_call b k n inner a = grind (arith, table)
 
   a_fold : (w : Option Macro) (b : Bool) (k : Option (List ℕ)) (n : List ℕ) (a x p : CoreTree)
       → by (by_method (m a) (m x ∷ m p ∷ []) w b k) ≡ m (method_or_fold w k n a x p)
-  a_fold (Some w) b (Some i) n a x p = table (core.fold w i a p)
-  a_fold _ b _ n a x p = table (core.method a n (more_cores x (more_cores p no_cores)))
+  a_fold w b k n a x p = grind (arith, table)
 
   a_fold_map : (w : Option Macro) (b : Bool) (k : Option (List ℕ)) (n : List ℕ) (a x p t : CoreTree)
       → by (by_method (m a) (m x ∷ m p ∷ m t ∷ []) w b k) ≡ m (method_or_fold_map b k n a x p t)
-  a_fold_map w true (Some i) n a x p t = table (core.fold_map i a p t)
-  a_fold_map w _ _ n a x p t = table (core.method a n (more_cores x (more_cores p (more_cores t no_cores))))
+  a_fold_map w b k n a x p t = grind (arith, table)
 
   mutual
     unfolding measured expanded
@@ -75,14 +65,11 @@ module _ {R : Type 0} (by : Parts R → R) (m : CoreTree → R) (table : IsBy by
     source_same (tree.index a k) = (λ j. by (parts.of_two (source_same a j) (source_same k j))) ∙ table (core.index (expanded a) (expanded k))
     source_same (tree.unary op a) = ap (λ x. by (parts.of_one x)) (source_same a) ∙ table (core.unary op (expanded a))
     source_same (tree.binary op a b) = (λ j. by (parts.of_two (source_same a j) (source_same b j))) ∙ table (core.binary op (expanded a) (expanded b))
-    source_same (tree.ternary c a b) =
-        (λ j. by (parts.ternary (source_same c j) (source_same a j) (source_same b j))) ∙ table (core.ternary (expanded c) (expanded a) (expanded b))
+    source_same (tree.ternary c a b) = grind (arith, table (core.ternary (expanded c) (expanded a) (expanded b)), source_same c, source_same a, source_same b)
     source_same (tree.list items) = ap (λ xs. by (parts.list xs)) (each_same items) ∙ table (core.list (expanded_trees items))
     source_same (tree.map es) = ap (λ xs. by (parts.map xs)) (entries_same es) ∙ table (core.map (expanded_entries es))
     source_same (tree.call n no_trees) = table (core.call n no_cores)
-    source_same (tree.call n (more_trees a no_trees)) =
-        (λ j. by (called (each_same (more_trees a no_trees) j) (is_has n) (operand_same a j)))
-        ∙ a_call (is_has n) (field_name a) n (expanded_operand a) (expanded a)
+    source_same (tree.call n (more_trees a no_trees)) = grind (arith, a_call, source_same a, operand_same a)
     source_same (tree.call n (more_trees a (more_trees b more))) =
         ap (λ xs. by (parts.call xs)) (each_same (more_trees a (more_trees b more))) ∙ table (core.call n (expanded_trees (more_trees a (more_trees b more))))
     source_same (tree.method a n no_trees) = ap (λ x. by (parts.method x [])) (source_same a) ∙ table (core.method (expanded a) n no_cores)

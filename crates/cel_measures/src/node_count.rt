@@ -40,7 +40,7 @@ fn entries_nodes(pairs: &[(Core, Core)]) -> u64
 /// call, operator, ternary, list or map literal and macro. It is the greatest number of 64 bits where
 /// there are more, and takes no memory.
 #[cycle(nodes)]
-#[tactic(auto, unfolding(crate::specs::Measures::nodes))]
+#[tactic(auto, using(cel_macros::specs::CoreViewLaws::view_map), unfolding(crate::specs::Measures::nodes))]
 pub fn nodes(core: &Core) -> u64
     ensures { result ≡ saturated (specs.nodes (core_view core.now)) }
 {

@@ -67,7 +67,7 @@ fn call_need(arguments: &[Core]) -> u64
 /// list or map literal while its parts are, and a macro keeps five words while its other parts are. It
 /// is the greatest number of 64 bits where there are more, and takes no memory.
 #[cycle(need)]
-#[tactic(auto, unfolding(crate::specs::Measures::need))]
+#[tactic(auto, using(cel_macros::specs::CoreViewLaws::view_map), unfolding(crate::specs::Measures::need))]
 pub fn need(core: &Core) -> u64
     ensures { result ≡ saturated (specs.need (core_view core.now)) }
 {

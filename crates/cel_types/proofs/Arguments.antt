@@ -1,16 +1,6 @@
 -- The type of a call and of a method, by their arguments.
-use Rattle.std.proofs.Common.{◌≡◌, ℕ, ◌<◌, List, [], ◌∷◌, length, map, refl, sym, ap, ◌∙◌, arith}
-use Rattle.std.specs.List.{list_all}
-use Rattle.cel_macros.specs.declared.core_tree.Core.{Core}
-use Rattle.cel_macros.specs.CoreTree.{CoreTree, CoreTrees, no_cores, more_cores, call, method}
+use Rattle.cel_types.proofs.Prelude.{◌≡◌, ℕ, ◌<◌, List, [], ◌∷◌, length, map, refl, sym, ap, ◌∙◌, arith, list_all, Core, CoreTree, CoreTrees, no_cores, more_cores, call, method, core_view, cores, core_entries, core_pair, CelType, TypeFault, Typing, typed, refused, NoOverload, with_type, with_types, is_text_key, map_literal_row, Scope, core_typing, core_typings, core_entry_typings, core_key_typings, call_typing, method_typing}
 use Rattle.cel_macros.specs.CoreTree as node
-use Rattle.cel_macros.specs.CoreView.{core_view, cores, core_entries}
-use Rattle.cel_macros.specs.Expanding.{core_pair}
-use Rattle.cel_types.specs.declared.cel_type.CelType.{CelType}
-use Rattle.cel_types.specs.Types.{TypeFault, Typing, typed, refused, NoOverload, with_type, with_types}
-use Rattle.cel_types.specs.TypeTable.{is_text_key, map_literal_row}
-use Rattle.cel_types.specs.Scope.{Scope}
-use Rattle.cel_types.specs.CoreTyping.{core_typing, core_typings, core_entry_typings, core_key_typings, call_typing, method_typing}
 
 pub call_typed : (n : List ℕ) (arguments : CoreTrees) (s : Scope) → core_typing (call n arguments) s ≡ call_typing n arguments s
 unfolding core_typing

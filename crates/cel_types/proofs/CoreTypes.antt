@@ -1,18 +1,7 @@
 -- An expanded expression has the type of the plain one.
-use Rattle.std.proofs.Common.{◌≡◌, ℕ, Bool, true, false, List, [], ◌∷◌, Option, Some, None, IfSome, refl, ap}
-use Rattle.std.specs.List.{list_all}
+use Rattle.cel_types.proofs.Prelude.{◌≡◌, ℕ, Bool, true, false, List, [], ◌∷◌, Option, Some, IfSome, refl, ap, list_all, Tree, Trees, Entries, no_trees, more_trees, no_entries, more_entries, Macro, function_named, test_named, macro_named, is_map, is_has, is_variables, name_of, field_name, CoreTree, selection, call_or_has, method_or_fold, method_or_fold_map, expanded, expanded_operand, expanded_trees, expanded_entries, Typing, typed, refused, NoOverload, row, with_type, with_types, Scope, within, field_row, has_row, index_row, unary_row, binary_row, ternary_row, function_row, method_row, test_row, macro_row, map_row, is_text_key, selected_type, call_type, fold_type, fold_map_type, typing, typings, operand_typing, entry_typings, key_typings, core_typing, core_typings, core_entry_typings, core_key_typings}
 use Rattle.cel_reader.specs.Tree as tree
-use Rattle.cel_reader.specs.Tree.{Tree, Trees, Entries, no_trees, more_trees, no_entries, more_entries}
-use Rattle.cel_macros.specs.declared.macros.Macro.{Macro}
-use Rattle.cel_macros.specs.Functions.{function_named, test_named}
-use Rattle.cel_macros.specs.Macros.{macro_named, is_map, is_has, is_variables, name_of, field_name}
-use Rattle.cel_macros.specs.CoreTree.{CoreTree, selection, call_or_has, method_or_fold, method_or_fold_map, expanded, expanded_operand, expanded_trees, expanded_entries}
 use Rattle.cel_types.specs.declared.cel_type.CelType.TheVariants as type
-use Rattle.cel_types.specs.Types.{Typing, typed, refused, NoOverload, row, with_type, with_types}
-use Rattle.cel_types.specs.Scope.{Scope, within}
-use Rattle.cel_types.specs.TypeTable.{field_row, has_row, index_row, unary_row, binary_row, ternary_row, function_row, method_row, test_row, macro_row, map_row, is_text_key}
-use Rattle.cel_types.specs.Typing.{selected_type, call_type, fold_type, fold_map_type, typing, typings, operand_typing, entry_typings, key_typings}
-use Rattle.cel_types.specs.CoreTyping.{core_typing, core_typings, core_entry_typings, core_key_typings}
 
 selection_typed : (b : Bool) (f : List ℕ) (c : CoreTree) (t : Typing) (s : Scope) → core_typing c s ≡ t → core_typing (selection b f c) s ≡ selected_type b f t s
 unfolding core_typing

@@ -6,3 +6,4 @@ pub mod Arguments
 pub mod RowTyped
 pub mod NodeRows
 pub mod Related
+pub mod Prelude

@@ -1,22 +1,7 @@
 -- The type of an expression, or its fault, is the one that the rows of the table give it.
-use Rattle.std.proofs.Common.{◌≡◌, ◌⊎◌, inl, inr, ℕ, Bool, ◌&&◌, List, [], ◌∷◌, Option, Some, None, is_some, map, refl, sym, ap, ◌∙◌, subst}
-use Rattle.std.proofs.Common.{if◌then◌else◌, arith}
-use Rattle.std.specs.Bool.{⊤}
-use Rattle.std.specs.List.{list_all}
+use Rattle.cel_types.proofs.Prelude.{◌≡◌, ◌⊎◌, inl, inr, ℕ, Bool, ◌&&◌, List, [], ◌∷◌, Option, Some, None, is_some, map, refl, sym, ap, ◌∙◌, subst, if◌then◌else◌, arith, ⊤, list_all, Tree, Trees, Entries, no_trees, more_trees, no_entries, more_entries, tree_list, Macro, Function, function_named, macro_named, is_map, is_has, is_variables, CelType, TypeFault, NoOverload, Typing, typed, refused, allowed, with_type, with_types, Scope, within, is_text_key, map_literal_row, selected_type, call_type, fold_type, fold_map_type, typing, typings, operand_typing, entry_typings, key_typings, IsRow, keys_and_values, in_scope, parts_of, Has, by_row, Have, no_parts, next_part, cause, Fault, in_part, at_node, FirstFault, here, behind, TypesAreRows, FaultsAreFirst, OneTypeOrFault}
 use Rattle.cel_reader.specs.Tree as tree
-use Rattle.cel_reader.specs.Tree.{Tree, Trees, Entries, no_trees, more_trees, no_entries, more_entries, tree_list}
-use Rattle.cel_macros.specs.declared.macros.Macro.{Macro}
-use Rattle.cel_macros.specs.Functions.{Function, function_named}
-use Rattle.cel_macros.specs.Macros.{macro_named, is_map, is_has, is_variables}
-use Rattle.cel_types.specs.declared.cel_type.CelType.{CelType}
 use Rattle.cel_types.specs.declared.cel_type.CelType.TheVariants as type
-use Rattle.cel_types.specs.Types.{TypeFault, NoOverload, Typing, typed, refused, allowed, with_type, with_types}
-use Rattle.cel_types.specs.Scope.{Scope, within}
-use Rattle.cel_types.specs.TypeTable.{is_text_key, map_literal_row}
-use Rattle.cel_types.specs.Typing.{selected_type, call_type, fold_type, fold_map_type, typing, typings, operand_typing, entry_typings, key_typings}
-use Rattle.cel_types.specs.TypeRows.{IsRow}
-use Rattle.cel_types.specs.Relation.{keys_and_values, in_scope, parts_of, Has, by_row, Have, no_parts, next_part, cause, Fault, in_part, at_node, FirstFault}
-use Rattle.cel_types.specs.Relation.{here, behind, TypesAreRows, FaultsAreFirst, OneTypeOrFault}
 use Rattle.cel_types.proofs.RowTyped.{on_one, select_node, fold_node, fold_map_node, text_keys, node, row_typed}
 use Rattle.cel_types.proofs.NodeRows.{Answered, node_rows}
 
@@ -38,23 +23,17 @@ unfolding typing
 over_trees no_trees s last = refl
 over_trees (more_trees a more) s last = λ j. with_type (typing a s) (λ t. over_trees more s last j)
 
+-- a type that is found is a text key where it may be a string
+keyed : (x : Typing) (g : CelType → Bool → Typing) → with_type x (λ t. g t (is_text_key x)) ≡ with_type x (λ t. g t (allowed (type.String ∷ []) t))
+keyed x g = grind arith
+
 over_entries : (es : Entries) (s : Scope) (f : Bool → Typing)
     → with_types (entry_typings es s) (f (list_all is_text_key (key_typings es s))) ≡ over_parts (in_scope s (keys_and_values es)) (λ ts. f (text_keys ts))
 unfolding typing
 over_entries no_entries s f = refl
-over_entries (more_entries k v more) s f = by (typing k s) (λ t. over_entries more s (λ b. f (allowed (type.String ∷ []) t && b)))
-  where
-    rest : (Bool → Typing) → Typing
-    rest g = with_types (entry_typings more s) (g (list_all is_text_key (key_typings more s)))
-
-    over : (Bool → Typing) → Typing
-    over g = over_parts (in_scope s (keys_and_values more)) (λ ts. g (text_keys ts))
-
-    by : (x : Typing) → ((t : CelType) → rest (λ b. f (allowed (type.String ∷ []) t && b)) ≡ over (λ b. f (allowed (type.String ∷ []) t && b)))
-        → with_type x (λ t. with_type (typing v s) (λ u. rest (λ b. f (is_text_key x && b))))
-        ≡ with_type x (λ t. with_type (typing v s) (λ u. over (λ b. f (allowed (type.String ∷ []) t && b))))
-    by (typed t) step = λ j. with_type (typing v s) (λ u. step t j)
-    by (refused y) step = refl
+over_entries (more_entries k v more) s f =
+    keyed (typing k s) (λ t b. with_type (typing v s) (λ u. with_types (entry_typings more s) (f (b && list_all is_text_key (key_typings more s)))))
+    ∙ (λ j. with_type (typing k s) (λ t. with_type (typing v s) (λ u. over_entries more s (λ b. f (allowed (type.String ∷ []) t && b)) j)))
 
 selection_over : (b : Bool) (a : Tree) (f : List ℕ) (s : Scope)
     → selected_type b f (typing a s) s ≡ over_parts (if b then [] else in_scope s (a ∷ [])) (select_node b f s)
@@ -92,30 +71,22 @@ no_fold_map b a x p t s = grind arith
 
 no_method : (a : Tree) (items : Trees) (s : Scope)
     → with_types (typing a s ∷ typings items s) (refused NoOverload) ≡ over_parts (in_scope s (a ∷ tree_list items)) (λ ts. refused NoOverload)
-no_method a items s = λ j. with_type (typing a s) (λ t. over_trees items s (refused NoOverload) j)
+no_method a items s = grind (arith, over_trees)
 
 by_parts : (e : Tree) (s : Scope) → typing e s ≡ over_parts (parts_of s e) (node s e)
 unfolding typing
-by_parts (tree.literal l) s = refl
-by_parts (tree.name n) s = refl
 by_parts (tree.select a f) s = selection_over (is_variables a) a f s
-by_parts (tree.index a k) s = refl
-by_parts (tree.unary o a) s = refl
-by_parts (tree.binary o a b) s = refl
-by_parts (tree.ternary c a b) s = refl
 by_parts (tree.list items) s = over_trees items s (typed type.List)
 by_parts (tree.map es) s = over_entries es s map_literal_row
 by_parts (tree.call n (more_trees (tree.select a f) no_trees)) s = has_over (is_has n) a f (function_named n) s
 by_parts (tree.call n (more_trees a no_trees)) s = call_over (is_has n) (function_named n) (operand_typing a s) (typing a s)
 by_parts (tree.call n arguments) s = over_trees arguments s (refused NoOverload)
-by_parts (tree.method a n no_trees) s = refl
-by_parts (tree.method a n (more_trees (tree.name i) no_trees)) s = refl
 by_parts (tree.method a n (more_trees (tree.name i) (more_trees p no_trees))) s = fold_over (macro_named n) a p i s
 by_parts (tree.method a n (more_trees (tree.name i) (more_trees p (more_trees t no_trees)))) s = fold_map_over (is_map n) a p t i s
-by_parts (tree.method a n (more_trees b no_trees)) s = refl
 by_parts (tree.method a n (more_trees x (more_trees p no_trees))) s = no_fold (macro_named n) a x p s
 by_parts (tree.method a n (more_trees x (more_trees p (more_trees t no_trees)))) s = no_fold_map (is_map n) a x p t s
-by_parts (tree.method a n arguments) s = no_method a arguments s
+by_parts (tree.method a n (more_trees x (more_trees p (more_trees t (more_trees u more))))) s = no_method a (more_trees x (more_trees p (more_trees t (more_trees u more)))) s
+by_parts _ s = refl
 
 -- ---- what the rows give is the typing
 
@@ -167,29 +138,17 @@ walked (p ∷ ps) h = by (part_typing p) h.0 (walked ps h.1)
     by (typed t) g (inr m) = inr (m.0, behind g m.1)
     by (refused y) g m = inr (y, here g)
 
+at : (s : Scope) (e : Tree) (ts : List CelType) → Have (parts_of s e) ts → (r : Typing) → node s e ts ≡ r → Answered s e ts r → Gives s e r
+at s e ts m r is row = grind (arith, by_row, at_node, row_typed)
+
 from_parts : (s : Scope) (e : Tree) → AllGiven (parts_of s e) → Gives s e (typing e s)
-from_parts s e h = by (walked (parts_of s e) h)
-  where
-    at : (ts : List CelType) → Have (parts_of s e) ts → (r : Typing) → node s e ts ≡ r → Answered s e ts r → Gives s e r
-    at ts m (typed t) is row = by_row m row
-    at ts m (refused y) is due = subst (λ (z : TypeFault). Fault s e z) (sym due) (at_node m (λ t row. typed_only (sym (row_typed s row) ∙ is)))
-
-    by : Walked (parts_of s e) → Gives s e (typing e s)
-    by (inl m) = subst (λ (r : Typing). Gives s e r) (sym (by_parts e s ∙ have_typed m.1 (node s e))) (at m.0 m.1 (node s e m.0) refl (node_rows s e m.0))
-    by (inr m) = subst (λ (r : Typing). Gives s e r) (sym (by_parts e s ∙ among_refused m.1 (node s e))) (in_part m.1)
-
-chosen : (b : Bool) (ps qs : List (Scope × Tree)) → AllGiven ps → AllGiven qs → AllGiven (if b then ps else qs)
-chosen b ps qs h k = grind arith
-
-operand : (b : Bool) (a : Tree) (f : List ℕ) (s : Scope) → Gives s a (typing a s) → Gives s (tree.select a f) (typing (tree.select a f) s)
-    → AllGiven (in_scope s ((if b then a else tree.select a f) ∷ []))
-operand b a f s h k = grind arith
+from_parts s e h = grind (arith, walked (parts_of s e) h, by_parts e s, have_typed, among_refused, at, node_rows, in_part)
 
 mutual
   given : (e : Tree) (s : Scope) → Gives s e (typing e s)
   given (tree.literal l) s = from_parts s (tree.literal l) tt
   given (tree.name n) s = from_parts s (tree.name n) tt
-  given (tree.select a f) s = from_parts s (tree.select a f) (chosen (is_variables a) [] (in_scope s (a ∷ [])) tt (given a s, tt))
+  given (tree.select a f) s = from_parts s (tree.select a f) (grind (arith, given a s))
   given (tree.index a k) s = from_parts s (tree.index a k) (given a s, (given k s, tt))
   given (tree.unary o a) s = from_parts s (tree.unary o a) (given a s, tt)
   given (tree.binary o a b) s = from_parts s (tree.binary o a b) (given a s, (given b s, tt))
@@ -197,22 +156,16 @@ mutual
   given (tree.list items) s = from_parts s (tree.list items) (all_given items s)
   given (tree.map es) s = from_parts s (tree.map es) (entries_given es s)
   given (tree.call n (more_trees (tree.select a f) no_trees)) s =
-      from_parts s (tree.call n (more_trees (tree.select a f) no_trees)) (operand (is_has n) a f s (given a s) (given (tree.select a f) s))
+      from_parts s (tree.call n (more_trees (tree.select a f) no_trees)) (grind (arith, given a s, given (tree.select a f) s))
   given (tree.call n (more_trees a no_trees)) s = from_parts s (tree.call n (more_trees a no_trees)) (given a s, tt)
   given (tree.call n arguments) s = from_parts s (tree.call n arguments) (all_given arguments s)
   given (tree.method a n no_trees) s = from_parts s (tree.method a n no_trees) (given a s, tt)
   given (tree.method a n (more_trees (tree.name i) (more_trees p no_trees))) s =
-      from_parts s (tree.method a n (more_trees (tree.name i) (more_trees p no_trees))) (
-        given a s,
-        chosen (is_some (macro_named n)) (in_scope (within i s) (p ∷ [])) (in_scope s (tree.name i ∷ p ∷ []))
-            (given p (within i s), tt) (given (tree.name i) s, (given p s, tt)),
-      )
+      from_parts s (tree.method a n (more_trees (tree.name i) (more_trees p no_trees)))
+      (grind (arith, given a s, given p (within i s), given (tree.name i) s, given p s))
   given (tree.method a n (more_trees (tree.name i) (more_trees p (more_trees t no_trees)))) s =
-      from_parts s (tree.method a n (more_trees (tree.name i) (more_trees p (more_trees t no_trees)))) (
-        given a s,
-        chosen (is_map n) (in_scope (within i s) (p ∷ t ∷ [])) (in_scope s (tree.name i ∷ p ∷ t ∷ []))
-            (given p (within i s), (given t (within i s), tt)) (given (tree.name i) s, (given p s, (given t s, tt))),
-      )
+      from_parts s (tree.method a n (more_trees (tree.name i) (more_trees p (more_trees t no_trees))))
+      (grind (arith, given a s, given p (within i s), given t (within i s), given (tree.name i) s, given p s, given t s))
   given (tree.method a n arguments) s = from_parts s (tree.method a n arguments) (given a s, all_given arguments s)
 
   all_given : (items : Trees) (s : Scope) → AllGiven (in_scope s (tree_list items))

@@ -1,31 +1,8 @@
 -- The type of a node, or its fault, by the types of its parts; and that it is the type of each row that takes them.
-use Rattle.std.proofs.Common.{◌≡◌, ℕ, Bool, true, false, ◌&&◌, ◌||◌, List, [], ◌∷◌, Option, Some, refl, ap, ◌∙◌}
-use Rattle.std.proofs.Common.{if◌then◌else◌, Contains, arith}
-use Rattle.std.specs.List.{AllByRecursion}
+use Rattle.cel_types.proofs.Prelude.{◌≡◌, ℕ, Bool, true, false, ◌&&◌, List, [], ◌∷◌, Option, Some, refl, ap, ◌∙◌, if◌then◌else◌, Contains, arith, AllByRecursion, Tree, no_trees, more_trees, BinaryOperator, Function, Size, String, Dyn, function_named, test_named, Macro, macro_named, is_map, is_has, is_variables, name_of, field_name, CelType, TypeFault, UnknownName, NoOverload, MisplacedVariables, Typing, typed, refused, allowed, agree, known_of, both_allowed, row, Scope, name_type, type_or_fault, variable_type, literal_type, field_row, index_row, unary_row, binary_row, order_row, member_row, ternary_row, function_row, method_row, test_row, macro_row, map_row, map_literal_row, call_type, MayBe, known, dynamic, MayBeOne, MayBothBeOne, MayAgree, HasTextKeys, no_keys, next_key, IsRow, a_name, a_variable, a_field, a_has, an_item, an_entry, a_not, a_negation, a_sum, an_arithmetic, an_equality, an_order, a_member, a_key, a_logic, a_choice, a_map, a_size, a_size_method, a_string, a_dyn, a_test, a_quantifier, a_filter, a_transform, a_filtered_transform, All-contains, All-from_recursion, list_any_at, cause}
 use Rattle.cel_reader.specs.Tree as tree
-use Rattle.cel_reader.specs.Tree.{Tree, no_trees, more_trees}
-use Rattle.cel_reader.specs.declared.operator.BinaryOperator.{BinaryOperator}
 use Rattle.cel_reader.specs.declared.operator.BinaryOperator.TheVariants as binary
-use Rattle.cel_macros.specs.Functions.{Function, Size, String, Dyn, function_named, test_named}
-use Rattle.cel_macros.specs.declared.macros.Macro.{Macro}
-use Rattle.cel_macros.specs.declared.macros.Macro.TheVariants.{All, Exists, ExistsOne}
-use Rattle.cel_macros.specs.Macros.{macro_named, is_map, is_has, is_variables, name_of, field_name}
-use Rattle.cel_types.specs.declared.cel_type.CelType.{CelType}
 use Rattle.cel_types.specs.declared.cel_type.CelType.TheVariants as type
-use Rattle.cel_types.specs.Types.{TypeFault, UnknownName, NoOverload, MisplacedVariables, Typing, typed, refused, same_type, allowed, agree, known_of}
-use Rattle.cel_types.specs.Types.{both_allowed, row}
-use Rattle.cel_types.specs.Scope.{Scope, name_type, type_or_fault, variable_type}
-use Rattle.cel_types.specs.TypeTable.{literal_type, field_row, index_row, unary_row, binary_row, order_row, member_row}
-use Rattle.cel_types.specs.TypeTable.{ternary_row, function_row, method_row, test_row, is_range, macro_row, map_row}
-use Rattle.cel_types.specs.TypeTable.{map_literal_row}
-use Rattle.cel_types.specs.Typing.{call_type}
-use Rattle.cel_types.specs.TypeRows.{MayBe, known, dynamic, MayBeOne, MayBothBeOne, MayAgree, HasTextKeys, no_keys, next_key, IsRow, a_name}
-use Rattle.cel_types.specs.TypeRows.{a_variable, a_field, a_has, an_item, an_entry, a_not, a_negation, a_sum, an_arithmetic, an_equality, an_order, a_member}
-use Rattle.cel_types.specs.TypeRows.{a_key, a_logic, a_choice, a_map, a_size, a_size_method, a_string, a_dyn, a_test, a_quantifier, a_filter}
-use Rattle.cel_types.specs.TypeRows.{a_transform, a_filtered_transform}
-use Rattle.std.proofs.lemmas.List.Elements.{All-contains, All-from_recursion}
-use Rattle.std.proofs.lemmas.List.Folds.{list_any_at}
-use Rattle.cel_types.specs.Relation.{cause}
 
 -- ---- the type of a node, or its fault, by the types of its parts
 
@@ -81,14 +58,8 @@ node s _ ts = refused NoOverload
 
 -- ---- what a row asks for, as a test
 
-or_right : (a b : Bool) → b ≡ true → (a || b) ≡ true
-or_right a b h = grind arith
-
-same_self : (k : CelType) → same_type k k ≡ true
-same_self k = grind arith
-
 allowed_of : (ks : List CelType) {x : CelType} → MayBeOne ks x → allowed ks x ≡ true
-allowed_of ks m = grind (arith, list_any_at, same_self, or_right)
+allowed_of ks m = grind (arith, list_any_at)
 
 may : {k x : CelType} → MayBe k x → allowed (k ∷ []) x ≡ true
 may {k} m = allowed_of (k ∷ []) (k, (0, omega arith, refl), m)
@@ -97,7 +68,7 @@ agree_of : {x y : CelType} → MayAgree x y → agree x y ≡ true
 agree_of m = grind arith
 
 both_of : (ks : List CelType) {x y : CelType} → MayBothBeOne ks x y → (both_allowed ks x y && agree x y) ≡ true
-both_of ks m = λ j. (allowed_of ks (m.0, m.1, m.2) j && allowed_of ks (m.0, m.1, m.3) j) && agree_of (m.0, m.2, m.3) j
+both_of ks m = grind (arith, allowed_of, agree_of)
 
 both : {k x y : CelType} → MayBe k x → MayBe k y → both_allowed (k ∷ []) x y ≡ true
 both l m = λ j. may l j && may m j
@@ -118,14 +89,10 @@ unfolding is_has function_named
 no_has n f b e h = grind arith
 
 item_typed : {x y : CelType} → MayBe type.List x → MayBe type.Int y → index_row x y ≡ typed type.Dyn
-item_typed known m = one_typed type.Dyn (may m)
-item_typed dynamic known = refl
-item_typed dynamic dynamic = refl
+item_typed m n = grind (arith, may)
 
 entry_typed : {x y : CelType} → MayBe type.Map x → MayBe type.String y → index_row x y ≡ typed type.Dyn
-entry_typed known m = one_typed type.Dyn (may m)
-entry_typed dynamic known = refl
-entry_typed dynamic dynamic = refl
+entry_typed m n = grind (arith, may)
 
 member_typed : {y : CelType} (x : CelType) → MayBe type.List y → member_row x y ≡ typed type.Bool
 member_typed x known = refl
@@ -143,10 +110,6 @@ called n f a x h = λ j. call_type (no_has n f (is_has n) refl h j) (field_name 
 grouped : (os : List BinaryOperator) (x y : CelType) (r : Typing) → AllByRecursion (λ o. binary_row o x y ≡ r) os → {o : BinaryOperator} → Contains os o
     → binary_row o x y ≡ r
 grouped os x y r h {o} c = All-contains (λ p. binary_row p x y ≡ r) os o (All-from_recursion (λ p. binary_row p x y ≡ r) os h) c
-
-quantified : (r x : CelType) (m : Macro) → Contains (All ∷ Exists ∷ ExistsOne ∷ []) m
-    → macro_row m r x ≡ row (is_range r && allowed (type.Bool ∷ []) x) type.Bool
-quantified r x m c = grind arith
 
 -- the type of a row is that of its node
 pub row_typed : (s : Scope) {e : Tree} {ts : List CelType} {t : CelType} → IsRow s e ts t → node s e ts ≡ typed t
@@ -175,7 +138,7 @@ row_typed s (a_size_method {n} {a} {x} h m) = (λ j. method_row (h j) x) ∙ one
 row_typed s (a_string {n} {a} {x} h m) = called n String a x h ∙ one_typed type.String (allowed_of (type.Int ∷ type.String ∷ []) m)
 row_typed s (a_dyn {n} {a} {x} h) = called n Dyn a x h
 row_typed s (a_test {n} {f} {a} {b} {x} {y} h l m) = (λ j. test_row (h j) x y) ∙ one_typed type.Bool (both l m)
-row_typed s (a_quantifier {n} {i} {m} {a} {p} {r} {x} h c o q) = grind (arith, quantified, two_typed, allowed_of, may)
+row_typed s (a_quantifier {n} {i} {m} {a} {p} {r} {x} h c o q) = grind (arith, two_typed, allowed_of, may)
 row_typed s (a_filter {n} {i} {a} {p} {r} {x} h o q) = grind (arith, two_typed, allowed_of, may)
 row_typed s (a_transform {n} {i} {a} {t} {r} {x} h o) =
     (λ j. fold_node (h j) (Some i) (r ∷ x ∷ [])) ∙ two_typed type.List (allowed_of (type.List ∷ type.Map ∷ []) o) refl

@@ -1,23 +1,8 @@
 -- What an accepted expression means has its type, or is the error.
-use Rattle.std.proofs.Common.{arith}
-use Rattle.std.proofs.Common.{Bool, List, [], ◌∷◌}
-use Rattle.std.specs.List.{list_all}
+use Rattle.cel_types.proofs.Prelude.{arith, Bool, List, [], ◌∷◌, list_all, no_trees, more_trees, ValueOrError, error, Environment, bind, name_value, values_in, entries_in, list_literal, map_literal, function_named, test_named, macro_named, is_map, is_has, is_variables, name_of, field_name, range_of, selected, meaning, meanings, entry_meanings, operand_meaning, Typing, typed, refused, NoOverload, row, Scope, name_type, within, selected_type, typing, typings, entry_typings, key_typings, operand_typing, is_text_key, Fits, FitsScope, IsSound, ℕ}
 use Rattle.cel_reader.specs.Tree as tree
-use Rattle.cel_reader.specs.Tree.{no_trees, more_trees}
-use Rattle.value_store.specs.Value.{ValueOrError, error}
 use Rattle.cel_types.specs.declared.cel_type.CelType.TheVariants as type
-use Rattle.cel_macros.specs.Environment.{Environment, bind, name_value}
-use Rattle.cel_macros.specs.Literals.{values_in, entries_in, list_literal, map_literal}
-use Rattle.cel_macros.specs.Functions.{function_named, test_named}
-use Rattle.cel_macros.specs.Macros.{macro_named, is_map, is_has, is_variables, name_of, field_name, range_of}
-use Rattle.cel_macros.specs.Meaning.{selected, meaning, meanings, entry_meanings, operand_meaning}
-use Rattle.cel_types.specs.Types.{Typing, typed, refused, NoOverload, row}
-use Rattle.cel_types.specs.Scope.{Scope, name_type, within}
-use Rattle.cel_types.specs.Typing.{selected_type, typing, typings, entry_typings, key_typings, operand_typing}
-use Rattle.cel_types.specs.TypeTable.{is_text_key}
-use Rattle.cel_types.specs.Soundness.{Fits, FitsScope, IsSound}
 use Rattle.cel_types.proofs.TypedRows.{row_fits, with_types_fit, list_fits, map_fits, literal_fits, unary_fits, binary_fits, ternary_fits, index_fits, method_fits, text_test_fits, call_fits, fold_fits, fold_map_fits}
-use Rattle.std.specs.Prelude.{ℕ}
 
 name_fits : (n : List ℕ) (items : List (List ℕ)) (x : ValueOrError) → Fits (name_type n items) x
 unfolding name_type

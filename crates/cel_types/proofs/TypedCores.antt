@@ -1,19 +1,7 @@
 -- An expression of the core that has a type is the expansion of its plain tree.
-use Rattle.std.proofs.Common.{arith}
-use Rattle.std.proofs.Common.{◌≡◌, ℕ, Bool, false, List, [], ◌∷◌, Some, None, if◌then◌else◌, refl, sym, ap, subst, ◌∙◌}
-use Rattle.std.specs.Bool.{⊤}
-use Rattle.std.specs.List.{list_all}
-use Rattle.cel_macros.specs.declared.macros.Macro.{Macro}
-use Rattle.cel_macros.specs.Functions.{function_named, test_named}
-use Rattle.cel_macros.specs.Macros.{macro_name, macro_named, is_map, is_has, is_variables, field_name}
-use Rattle.cel_macros.specs.CoreTree.{CoreTree, CoreTrees, CoreEntries, no_cores, more_cores, no_core_entries, more_core_entries, name, select, has, index, call, method, unary, binary, ternary, list, map, fold, fold_map, one_core, plain_tree, plain_trees, plain_entries, selection, call_or_has, method_or_fold, expanded, expanded_operand, expanded_trees, expanded_entries}
-use Rattle.cel_types.specs.declared.cel_type.CelType.{CelType}
+use Rattle.cel_types.proofs.Prelude.{arith, ◌≡◌, ℕ, Bool, false, List, [], ◌∷◌, Some, refl, sym, ap, subst, ◌∙◌, ⊤, list_all, Macro, function_named, test_named, macro_name, macro_named, is_map, is_has, is_variables, field_name, CoreTree, CoreTrees, CoreEntries, no_cores, more_cores, no_core_entries, more_core_entries, name, select, has, index, call, method, unary, binary, ternary, list, fold, fold_map, one_core, plain_tree, plain_trees, plain_entries, selection, call_or_has, method_or_fold, expanded, expanded_operand, expanded_trees, expanded_entries, CelType, TypeFault, Typing, typed, refused, NoOverload, with_type, with_types, Scope, name_type, within, field_row, has_row, index_row, unary_row, binary_row, ternary_row, function_row, method_row, test_row, macro_row, map_row, is_text_key, map_literal_row, typing, core_typing, core_typings, core_entry_typings, core_key_typings}
+use Rattle.cel_macros.specs.CoreTree.{map}
 use Rattle.cel_types.specs.declared.cel_type.CelType.TheVariants as type
-use Rattle.cel_types.specs.Types.{TypeFault, Typing, typed, refused, NoOverload, with_type, with_types}
-use Rattle.cel_types.specs.Scope.{Scope, name_type, within}
-use Rattle.cel_types.specs.TypeTable.{field_row, has_row, index_row, unary_row, binary_row, ternary_row, function_row, method_row, test_row, macro_row, map_row, is_text_key, map_literal_row}
-use Rattle.cel_types.specs.Typing.{typing}
-use Rattle.cel_types.specs.CoreTyping.{core_typing, core_typings, core_entry_typings, core_key_typings}
 use Rattle.cel_types.proofs.CoreTypes.{expansion_typed}
 
 -- ---- where a node has a type its parts have
@@ -48,9 +36,6 @@ never_typed (x ∷ xs) y h = never_typed xs y (tail_typed x xs (refused y) h)
 no_variables : (a : CoreTree) (s : Scope) → IsTyped (core_typing a s) → is_variables (plain_tree a) ≡ false
 unfolding plain_tree core_typing is_variables name_type
 no_variables a s h = grind arith
-
-no_function : (x : Typing) → IsTyped (with_type x (function_row None)) → ⊥
-no_function x h = grind arith
 
 -- `has` is no function
 no_has : (n : List ℕ) (x : Typing) (b : Bool) → is_has n ≡ b → IsTyped (with_type x (function_row (function_named n))) → b ≡ false

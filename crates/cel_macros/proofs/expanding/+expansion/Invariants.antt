@@ -1,9 +1,5 @@
-use Rattle.std.proofs.Common.{◌≡◌, take}
+use Rattle.cel_macros.proofs.Prelude.{◌≡◌, take, view, expanded, core_view, core_pair, expanded_pair}
 use Rattle.std.specs.Prelude as list
-use Rattle.cel_reader.specs.Tree.{view}
-use Rattle.cel_macros.specs.CoreTree.{expanded}
-use Rattle.cel_macros.specs.CoreView.{core_view}
-use Rattle.cel_macros.specs.Expanding.{core_pair, expanded_pair}
 use Rattle.cel_macros.proofs.expanding.+expansion.Given as goal
 
 abbrev pub invariant-expansions-loop-item : goal.invariant-expansions-loop-item

@@ -1,7 +1,4 @@
-use Rattle.std.proofs.Common.{ap, sym, ◌∙◌, map}
-use Rattle.cel_reader.specs.Tree.{view, trees}
-use Rattle.cel_macros.specs.Macros.{macro_named}
-use Rattle.cel_macros.specs.MacroFault.{before, macro_fault, trees_fault, fold_fault, refusal}
+use Rattle.cel_macros.proofs.Prelude.{ap, sym, ◌∙◌, map, view, trees, macro_named, before, macro_fault, trees_fault, fold_fault, refusal}
 use Rattle.cel_macros.proofs.Arguments.{then_tested}
 use Rattle.cel_macros.proofs.Views.{view_method}
 use Rattle.cel_macros.proofs.faults.+faults.Goals as goal

@@ -1,7 +1,5 @@
-use Rattle.std.proofs.Common.{◌≡◌, drop}
+use Rattle.cel_macros.proofs.Prelude.{◌≡◌, drop, view, trees, entries, trees_fault, entries_fault}
 use Rattle.std.specs.Prelude as list
-use Rattle.cel_reader.specs.Tree.{view, trees, entries}
-use Rattle.cel_macros.specs.MacroFault.{trees_fault, entries_fault}
 use Rattle.cel_macros.proofs.faults.+faults.Given as goal
 
 abbrev pub invariant-test_entries-loop-key : goal.invariant-test_entries-loop-key

@@ -1,11 +1,4 @@
-use Rattle.std.proofs.Common.{◌≡◌, arith, sym, ◌∙◌, map}
-use Rattle.std.proofs.lemmas.Result.{IfOk-weaker}
-use Rattle.std.specs.declared.alloc.AllocError.{AllocError}
-use Rattle.cel_macros.specs.declared.core_tree.Core.{Core}
-use Rattle.cel_macros.specs.Macros.{is_has}
-use Rattle.cel_macros.specs.CoreTree.{call}
-use Rattle.cel_macros.specs.CoreView.{core_view, cores}
-use Rattle.cel_macros.specs.Expanding.{call_of}
+use Rattle.cel_macros.proofs.Prelude.{◌≡◌, arith, sym, ◌∙◌, map, IfOk-weaker, AllocError, Core, is_has, call, core_view, cores, call_of}
 use Rattle.cel_macros.proofs.PartsExpanded.{call_of_many}
 use Rattle.cel_macros.proofs.folding.call.Goals as goal
 

@@ -1,9 +1,5 @@
-use Rattle.std.proofs.Common.{◌≡◌, ◌+◌, drop}
+use Rattle.cel_measures.proofs.Prelude.{◌≡◌, ◌+◌, drop, core_view, cores, core_entries, core_pair, nodes_of, entries_nodes, saturated}
 use Rattle.std.specs.Prelude as list
-use Rattle.cel_macros.specs.CoreView.{core_view, cores, core_entries}
-use Rattle.cel_macros.specs.Expanding.{core_pair}
-use Rattle.cel_measures.specs.Measures.{nodes_of, entries_nodes}
-use Rattle.cel_measures.specs.Saturated.{saturated}
 use Rattle.cel_measures.proofs.node_count.+nodes.Given as goal
 
 abbrev pub invariant-parts_nodes-loop-part : goal.invariant-parts_nodes-loop-part

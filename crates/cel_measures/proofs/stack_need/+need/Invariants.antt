@@ -1,9 +1,5 @@
-use Rattle.std.proofs.Common.{◌≡◌, max, drop}
+use Rattle.cel_measures.proofs.Prelude.{◌≡◌, max, drop, core_view, cores, core_entries, core_pair, needs, needs_behind, entries_need, saturated}
 use Rattle.std.specs.Prelude as list
-use Rattle.cel_macros.specs.CoreView.{core_view, cores, core_entries}
-use Rattle.cel_macros.specs.Expanding.{core_pair}
-use Rattle.cel_measures.specs.Measures.{needs, needs_behind, entries_need}
-use Rattle.cel_measures.specs.Saturated.{saturated}
 use Rattle.cel_measures.proofs.stack_need.+need.Given as goal
 
 abbrev pub invariant-greatest_need-loop-part : goal.invariant-greatest_need-loop-part

@@ -1,9 +1,5 @@
-use Rattle.std.proofs.Common.{◌≡◌, max, drop}
+use Rattle.cel_measures.proofs.Prelude.{◌≡◌, max, drop, core_view, cores, core_entries, core_pair, declaration, depths_of, deepest_of, entries_deepest}
 use Rattle.std.specs.Prelude as list
-use Rattle.cel_macros.specs.CoreView.{core_view, cores, core_entries}
-use Rattle.cel_macros.specs.Expanding.{core_pair}
-use Rattle.cel_types.specs.Declarations.{declaration, depths_of}
-use Rattle.cel_measures.specs.Measures.{deepest_of, entries_deepest}
 use Rattle.cel_measures.proofs.variable_depth.+deepest.Given as goal
 
 abbrev pub invariant-parts_deepest-loop-part : goal.invariant-parts_deepest-loop-part

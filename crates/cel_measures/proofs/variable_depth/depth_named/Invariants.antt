@@ -1,6 +1,4 @@
-use Rattle.std.proofs.Common.{◌≡◌, map, drop}
-use Rattle.cel_macros.specs.Environment.{lookup}
-use Rattle.cel_types.specs.Declarations.{declaration, depths_of}
+use Rattle.cel_measures.proofs.Prelude.{◌≡◌, map, drop, lookup, declaration, depths_of}
 use Rattle.cel_measures.proofs.variable_depth.depth_named.Given as goal
 
 abbrev pub invariant-loop-variable : goal.invariant-loop-variable

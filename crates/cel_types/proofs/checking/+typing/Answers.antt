@@ -1,9 +1,4 @@
-use Rattle.std.proofs.Common.{◌≡◌, ap, ◌∙◌, rules}
-use Rattle.cel_macros.specs.CoreView.{core_view}
-use Rattle.cel_macros.specs.CoreViewLaws.{view_call, view_method, view_map}
-use Rattle.cel_types.specs.Iterations.{scope_within}
-use Rattle.cel_types.specs.Types.{refused, fault_of}
-use Rattle.cel_types.specs.CoreTyping.{core_typing}
+use Rattle.cel_types.proofs.Prelude.{◌≡◌, ap, ◌∙◌, rules, core_view, view_call, view_method, view_map, scope_within, refused, fault_of, core_typing}
 use Rattle.cel_types.proofs.Arguments.{call_seen, method_refused, method_seen, map_seen}
 use Rattle.cel_types.proofs.checking.+typing.Goals as goal
 

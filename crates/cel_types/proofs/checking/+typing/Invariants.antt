@@ -1,12 +1,5 @@
-use Rattle.std.proofs.Common.{◌≡◌, ◌&&◌, drop}
+use Rattle.cel_types.proofs.Prelude.{◌≡◌, ◌&&◌, drop, list_all, core_view, cores, core_entries, core_pair, core_typings, core_entry_typings, core_key_typings, scope_within, is_text_key, map_literal_row, typing_of, with_types}
 use Rattle.std.specs.Prelude as list
-use Rattle.std.specs.List.{list_all}
-use Rattle.cel_macros.specs.CoreView.{core_view, cores, core_entries}
-use Rattle.cel_macros.specs.Expanding.{core_pair}
-use Rattle.cel_types.specs.CoreTyping.{core_typings, core_entry_typings, core_key_typings}
-use Rattle.cel_types.specs.Iterations.{scope_within}
-use Rattle.cel_types.specs.TypeTable.{is_text_key, map_literal_row}
-use Rattle.cel_types.specs.Types.{typing_of, with_types}
 use Rattle.cel_types.proofs.checking.+typing.Given as goal
 
 abbrev pub invariant-parts_type-loop-part : goal.invariant-parts_type-loop-part

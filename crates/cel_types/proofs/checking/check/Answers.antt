@@ -1,17 +1,4 @@
-use Rattle.std.proofs.Common.{◌≡◌, ap, ◌∙◌, sym, subst, Result, Ok, Err, IfOk, IfErr}
-use Rattle.cel_reader.specs.Tree.{Tree}
-use Rattle.cel_macros.specs.CoreTree.{CoreTree, expanded, plain_tree}
-use Rattle.cel_macros.specs.CoreView.{core_view}
-use Rattle.cel_macros.specs.Environment.{Environment}
-use Rattle.cel_macros.specs.Meaning.{meaning}
-use Rattle.cel_types.specs.CoreTyping.{core_typing}
-use Rattle.cel_types.specs.Declarations.{scope_of}
-use Rattle.cel_types.specs.Soundness.{Fits, FitsScope}
-use Rattle.cel_types.specs.declared.cel_type.CelType.{CelType}
-use Rattle.cel_types.specs.declared.type_error.TypeError.{TypeError}
-use Rattle.cel_types.specs.Scope.{Scope}
-use Rattle.cel_types.specs.Types.{Typing, fault_of, typing_of}
-use Rattle.cel_types.specs.Typing.{typing, HasFault, HasType}
+use Rattle.cel_types.proofs.Prelude.{◌≡◌, ap, ◌∙◌, sym, subst, Result, Ok, Err, IfOk, IfErr, Tree, CoreTree, expanded, plain_tree, core_view, Environment, meaning, core_typing, scope_of, Fits, FitsScope, CelType, TypeError, Scope, Typing, fault_of, typing_of, typing, HasFault, HasType}
 use Rattle.cel_types.proofs.CoreTypes.{expansion_typed}
 use Rattle.cel_types.proofs.Sound.{is_sound}
 use Rattle.cel_types.proofs.TypedCores.{typed_is_expanded, plain_typed}

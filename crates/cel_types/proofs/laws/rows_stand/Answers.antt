@@ -1,9 +1,4 @@
-use Rattle.std.proofs.Common.{refl}
-use Rattle.cel_macros.specs.Environment.{is_root}
-use Rattle.cel_macros.specs.Functions.{function_named, test_named}
-use Rattle.cel_macros.specs.Macros.{macro_named, is_map, is_has, is_variables}
-use Rattle.cel_types.specs.Scope.{name_type, variable_type}
-use Rattle.cel_types.specs.Typing.{typing}
+use Rattle.cel_types.proofs.Prelude.{refl, is_root, function_named, test_named, macro_named, is_map, is_has, is_variables, name_type, variable_type, typing}
 use Rattle.cel_types.proofs.laws.rows_stand.Goals as goal
 
 pub returns : goal.returns

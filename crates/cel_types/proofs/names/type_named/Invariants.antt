@@ -1,6 +1,4 @@
-use Rattle.std.proofs.Common.{◌≡◌, map, drop}
-use Rattle.cel_macros.specs.Environment.{lookup}
-use Rattle.cel_types.specs.Declarations.{declaration, types_of}
+use Rattle.cel_types.proofs.Prelude.{◌≡◌, map, drop, lookup, declaration, types_of}
 use Rattle.cel_types.proofs.names.type_named.Given as goal
 
 abbrev pub invariant-loop-variable : goal.invariant-loop-variable
