@@ -1,56 +1,32 @@
 -- What the type checker takes has code: its calls are known ones, and its variables are those of the scope.
-use Rattle.std.proofs.Common.{◌≡◌, ℕ, Bool, true, false, ◌||◌, List, [], ◌∷◌, Option, Some, None, refl, ap, ◌∙◌, subst, if◌then◌else◌}
-use Rattle.std.specs.Prelude.{bytes_eq, IsSome}
-use Rattle.std.specs.Prelude.{map as each}
-use Rattle.std.specs.List.{list_any}
-use Rattle.cel_macros.specs.CoreTree.{CoreTree, CoreTrees, CoreEntries, no_cores, more_cores, no_core_entries, more_core_entries, plain_tree, name, variable, select, has, index, call, method, unary, binary, ternary, list, map, fold, fold_map}
-use Rattle.cel_macros.specs.Environment.{lookup}
-use Rattle.cel_macros.specs.Functions.{Function, Size, function_named, TextTest, test_named}
-use Rattle.cel_macros.specs.Macros.{is_variables, variables_name}
-use Rattle.cel_types.specs.declared.cel_type.CelType.{CelType}
-use Rattle.cel_types.specs.CoreTyping.{core_typing, core_typings, core_entry_typings}
-use Rattle.cel_types.specs.Declarations.{Declaration, depths_of, scope_of, types_of}
-use Rattle.cel_types.specs.Scope.{Scope, name_type, type_or_fault, variable_type, within}
-use Rattle.cel_types.specs.TypeTable.{field_row, has_row, index_row, unary_row, binary_row, ternary_row, function_row, method_row, test_row, macro_row, map_row}
-use Rattle.cel_types.specs.Types.{Typing, typed, refused, with_type, with_types}
-use Rattle.codegen_base.specs.Scopes.{Variable}
-use Rattle.codegen.specs.Accepted.{IsAccepted, AreAccepted, AreEntriesAccepted}
-use Rattle.codegen.specs.Computes.{names, nestings}
-use Rattle.codegen.specs.Laws.{TypedIsAccepted}
+use Rattle.codegen.proofs.Prelude.{◌≡◌, ℕ, Bool, true, false, ◌||◌, List, [], ◌∷◌, Option, Some, sym, ap, ◌∙◌, subst, arith, if◌then◌else◌, refl, map-map, bytes_eq, IsSome, map as each, list_any, CoreTree, CoreTrees, CoreEntries, no_cores, more_cores, no_core_entries, more_core_entries, plain_tree, name, variable, select, has, index, call, method, unary, binary, ternary, list, fold, fold_map, plain_trees, plain_entries, expanded, expanded_trees, expanded_entries, expanded_operand, selection, call_or_has, method_or_fold, one_core, literal, lookup, function_named, test_named, is_variables, macro_name, macro_named, is_has, is_map, field_name, CelType, core_typing, core_typings, core_entry_typings, Declaration, depths_of, scope_of, Scope, name_type, type_or_fault, variable_type, within, field_row, has_row, index_row, unary_row, binary_row, ternary_row, test_row, macro_row, map_row, Typing, typed, refused, with_type, with_types, Variable, IsAccepted, AreAccepted, AreEntriesAccepted, names, nestings, TypedIsAccepted, Macro}
+use Rattle.cel_macros.specs.CoreTree.{map}
 
 abbrev pub IsTyped : Typing → Type 0
 IsTyped (typed t) = Unit {0}
 IsTyped (refused y) = ⊥
 
--- a part that is needed has a type, and what stands behind it too
+-- where a node has a type its parts have
 first_typed : (x : Typing) (f : CelType → Typing) → IsTyped (with_type x f) → IsTyped x
-first_typed (typed t) f h = tt
-first_typed (refused y) f h = h
+first_typed x f h = grind arith
 
-then_typed : (x : Typing) (f : CelType → Typing) → IsTyped (with_type x f) → (t : CelType) × IsTyped (f t)
-then_typed (typed t) f h = (t, h)
-then_typed (refused y) f h = absurd h
+second_typed : (x y : Typing) (f : CelType → CelType → Typing) → IsTyped (with_type x (λ a. with_type y (f a))) → IsTyped y
+second_typed x y f h = grind arith
 
+third_typed : (x y z : Typing) (f : CelType → CelType → CelType → Typing) → IsTyped (with_type x (λ a. with_type y (λ b. with_type z (f a b)))) → IsTyped z
+third_typed x y z f h = grind arith
+
+rest_typed : (x : Typing) (xs : List Typing) (last : Typing) → IsTyped (with_types (x ∷ xs) last) → IsTyped (with_types xs last)
+rest_typed x xs last h = grind arith
+
+-- parts that no row takes have no type
 none_typed : (xs : List Typing) (y : _) → IsTyped (with_types xs (refused y)) → ⊥
-none_typed (typed t ∷ xs) y h = none_typed xs y h
-none_typed _ y h = h
-
-function_some : (g : Option Function) (t : CelType) → IsTyped (function_row g t) → IsSome g
-function_some (Some g) t h = refl
-function_some None t h = absurd h
-
-method_size : (g : Option Function) (t : CelType) → IsTyped (method_row g t) → g ≡ Some Size
-method_size (Some Size) t h = refl
-method_size _ t h = absurd h
-
-test_some : (g : Option TextTest) (a b : CelType) → IsTyped (test_row g a b) → IsSome g
-test_some (Some g) a b h = refl
-test_some None a b h = absurd h
+none_typed [] y h = h
+none_typed (x ∷ xs) y h = none_typed xs y (rest_typed x xs (refused y) h)
 
 known_by : (here : Bool) (t : CelType) (rest : Option CelType) (more : Bool) → (IsTyped (type_or_fault rest) → more ≡ true)
     → IsTyped (type_or_fault (if here then Some t else rest)) → (here || more) ≡ true
-known_by true t rest more later h = refl
-known_by false t rest more later h = later h
+known_by here t rest more later h = grind arith
 
 -- a variable with a type has one of the names
 known_variable : (v : List ℕ) (variables : List (List ℕ × CelType)) → IsTyped (variable_type v variables)
@@ -60,103 +36,113 @@ known_variable v [] h = absurd h
 known_variable v (x ∷ variables) h =
     known_by (bytes_eq x.0 v) x.1 (lookup v variables) (list_any (λ m. bytes_eq m v) (each (λ y. y.0) variables)) (known_variable v variables) h
 
-name_by : (n : List ℕ) (items : List (List ℕ)) (same : Bool) → bytes_eq variables_name n ≡ same → IsTyped (name_type n items) → same ≡ false
-unfolding name_type
-name_by n items true e h = absurd (rw e at h)
-name_by n items false e h = refl
-
 -- the name `variables` has no type
 not_variables : (a : CoreTree) (s : Scope) → IsTyped (core_typing a s) → is_variables (plain_tree a) ≡ false
-unfolding core_typing plain_tree is_variables
-not_variables (name n) s h = name_by n s.items (bytes_eq variables_name n) refl h
-not_variables _ s h = refl
+unfolding plain_tree core_typing is_variables name_type
+not_variables a s h = grind arith
 
 mutual
   unfolding core_typing IsAccepted
 
   pub accepted : (e : CoreTree) (s : Scope) (vs : List (List ℕ)) → each (λ x. x.0) s.variables ≡ vs → IsTyped (core_typing e s) → IsAccepted e vs
   accepted (variable x) s vs v h = subst (λ (ns : List (List ℕ)). list_any (λ m. bytes_eq m x) ns ≡ true) v (known_variable x s.variables h)
-  accepted (select a f) s vs v h = let first = first_typed (core_typing a s) field_row h in (not_variables a s first, accepted a s vs v first)
+  accepted (select a f) s vs v h = let of = first_typed (core_typing a s) field_row h in (not_variables a s of, accepted a s vs v of)
   accepted (has a f) s vs v h = accepted a s vs v (first_typed (core_typing a s) has_row h)
-  accepted (index a k) s vs v h =
-      let more = then_typed (core_typing a s) (λ x. with_type (core_typing k s) (λ y. index_row x y)) h in
-      (accepted a s vs v (first_typed (core_typing a s) (λ x. with_type (core_typing k s) (λ y. index_row x y)) h), accepted k s vs v (first_typed (core_typing k s) (λ y. index_row more.0 y) more.1))
+  accepted (index a k) s vs v h = (accepted a s vs v (first_typed (core_typing a s) _ h), accepted k s vs v (second_typed (core_typing a s) (core_typing k s) index_row h))
   accepted (call n no_cores) s vs v h = h
-  accepted (call n (more_cores a no_cores)) s vs v h =
-      let more = then_typed (core_typing a s) (function_row (function_named n)) h in
-      (function_some (function_named n) more.0 more.1, accepted a s vs v (first_typed (core_typing a s) (function_row (function_named n)) h))
+  accepted (call n (more_cores a no_cores)) s vs v h = (grind arith, accepted a s vs v (first_typed (core_typing a s) _ h))
   accepted (call n (more_cores a (more_cores b more))) s vs v h = none_typed (core_typings (more_cores a (more_cores b more)) s) _ h
-  accepted (method a n no_cores) s vs v h =
-      let more = then_typed (core_typing a s) (method_row (function_named n)) h in
-      (method_size (function_named n) more.0 more.1, accepted a s vs v (first_typed (core_typing a s) (method_row (function_named n)) h))
-  accepted (method a n (more_cores b no_cores)) s vs v h =
-      let row : CelType → Typing = λ x. with_type (core_typing b s) (λ y. test_row (test_named n) x y) in
-      let more = then_typed (core_typing a s) row h in
-      let last = then_typed (core_typing b s) (λ y. test_row (test_named n) more.0 y) more.1 in
-      (test_some (test_named n) more.0 last.0 last.1, accepted a s vs v (first_typed (core_typing a s) row h), accepted b s vs v (first_typed (core_typing b s) (λ y. test_row (test_named n) more.0 y) more.1))
+  accepted (method a n no_cores) s vs v h = (grind arith, accepted a s vs v (first_typed (core_typing a s) _ h))
+  accepted (method a n (more_cores b no_cores)) s vs v h = (
+    grind arith,
+    accepted a s vs v (first_typed (core_typing a s) _ h),
+    accepted b s vs v (second_typed (core_typing a s) (core_typing b s) (test_row (test_named n)) h),
+  )
   accepted (method a n (more_cores b (more_cores x more))) s vs v h = none_typed (core_typing a s ∷ core_typings (more_cores b (more_cores x more)) s) _ h
   accepted (unary op a) s vs v h = accepted a s vs v (first_typed (core_typing a s) (unary_row op) h)
-  accepted (binary op a b) s vs v h =
-      let row : CelType → Typing = λ x. with_type (core_typing b s) (λ y. binary_row op x y) in
-      let more = then_typed (core_typing a s) row h in
-      (accepted a s vs v (first_typed (core_typing a s) row h), accepted b s vs v (first_typed (core_typing b s) (λ y. binary_row op more.0 y) more.1))
-  accepted (ternary c a b) s vs v h =
-      let row : CelType → Typing = λ x. with_type (core_typing a s) (λ y. with_type (core_typing b s) (λ z. ternary_row x y z)) in
-      let more = then_typed (core_typing c s) row h in
-      let row2 : CelType → Typing = λ y. with_type (core_typing b s) (λ z. ternary_row more.0 y z) in
-      let last = then_typed (core_typing a s) row2 more.1 in
-      (accepted c s vs v (first_typed (core_typing c s) row h), accepted a s vs v (first_typed (core_typing a s) row2 more.1), accepted b s vs v (first_typed (core_typing b s) (λ z. ternary_row more.0 last.0 z) last.1))
+  accepted (binary op a b) s vs v h = (accepted a s vs v (first_typed (core_typing a s) _ h), accepted b s vs v (second_typed (core_typing a s) (core_typing b s) (binary_row op) h))
+  accepted (ternary c a b) s vs v h = (
+    accepted c s vs v (first_typed (core_typing c s) _ h),
+    accepted a s vs v (second_typed (core_typing c s) (core_typing a s) _ h),
+    accepted b s vs v (third_typed (core_typing c s) (core_typing a s) (core_typing b s) ternary_row h),
+  )
   accepted (list items) s vs v h = are_accepted items s vs v _ h
   accepted (map es) s vs v h = are_entries_accepted es s vs v _ h
-  accepted (fold m n r p) s vs v h =
-      let row : CelType → Typing = λ x. with_type (core_typing p (within n s)) (λ y. macro_row m x y) in
-      let more = then_typed (core_typing r s) row h in
-      (accepted r s vs v (first_typed (core_typing r s) row h), accepted p (within n s) vs v (first_typed (core_typing p (within n s)) (λ y. macro_row m more.0 y) more.1))
-  accepted (fold_map n r p t) s vs v h =
-      let row : CelType → Typing = λ x. with_type (core_typing p (within n s)) (λ y. with_type (core_typing t (within n s)) (λ z. map_row x y z)) in
-      let more = then_typed (core_typing r s) row h in
-      let row2 : CelType → Typing = λ y. with_type (core_typing t (within n s)) (λ z. map_row more.0 y z) in
-      let last = then_typed (core_typing p (within n s)) row2 more.1 in
-      (accepted r s vs v (first_typed (core_typing r s) row h), accepted p (within n s) vs v (first_typed (core_typing p (within n s)) row2 more.1), accepted t (within n s) vs v (first_typed (core_typing t (within n s)) (λ z. map_row more.0 last.0 z) last.1))
+  accepted (fold m n r p) s vs v h = (
+    accepted r s vs v (first_typed (core_typing r s) _ h),
+    accepted p (within n s) vs v (second_typed (core_typing r s) (core_typing p (within n s)) (macro_row m) h),
+  )
+  accepted (fold_map n r p t) s vs v h = (
+    accepted r s vs v (first_typed (core_typing r s) _ h),
+    accepted p (within n s) vs v (second_typed (core_typing r s) (core_typing p (within n s)) _ h),
+    accepted t (within n s) vs v (third_typed (core_typing r s) (core_typing p (within n s)) (core_typing t (within n s)) map_row h),
+  )
   accepted _ s vs v h = tt
 
   are_accepted : (es : CoreTrees) (s : Scope) (vs : List (List ℕ)) → each (λ x. x.0) s.variables ≡ vs → (last : Typing)
       → IsTyped (with_types (core_typings es s) last) → AreAccepted es vs
   are_accepted no_cores s vs v last h = tt
-  are_accepted (more_cores a more) s vs v last h =
-      let row : CelType → Typing = λ t. with_types (core_typings more s) last in
-      let rest = then_typed (core_typing a s) row h in
-      (accepted a s vs v (first_typed (core_typing a s) row h), are_accepted more s vs v last rest.1)
+  are_accepted (more_cores a more) s vs v last h = (
+    accepted a s vs v (first_typed (core_typing a s) (λ t. with_types (core_typings more s) last) h),
+    are_accepted more s vs v last (rest_typed (core_typing a s) (core_typings more s) last h),
+  )
 
   are_entries_accepted : (es : CoreEntries) (s : Scope) (vs : List (List ℕ)) → each (λ x. x.0) s.variables ≡ vs → (last : Typing)
       → IsTyped (with_types (core_entry_typings es s) last) → AreEntriesAccepted es vs
   are_entries_accepted no_core_entries s vs v last h = tt
   are_entries_accepted (more_core_entries k e more) s vs v last h =
-      let row2 : CelType → Typing = λ t. with_types (core_entry_typings more s) last in
-      let row : CelType → Typing = λ t. with_type (core_typing e s) row2 in
-      let rest = then_typed (core_typing k s) row h in
-      let tail = then_typed (core_typing e s) row2 rest.1 in
-      (accepted k s vs v (first_typed (core_typing k s) row h), accepted e s vs v (first_typed (core_typing e s) row2 rest.1), are_entries_accepted more s vs v last tail.1)
-
-is_typed : (x : Typing) (t : CelType) → x ≡ typed t → IsTyped x
-is_typed (typed u) t e = tt
-is_typed (refused y) t e = absurd (cc)
-
-names_are : (ds : List Declaration) → each (λ x. x.0) (types_of ds) ≡ each (λ d. d.name) ds
-names_are [] = refl
-names_are (d ∷ ds) = ap (λ (ns : List (List ℕ)). d.name ∷ ns) (names_are ds)
+      let rest = rest_typed (core_typing k s) (core_typing e s ∷ core_entry_typings more s) last h in
+      (accepted k s vs v (first_typed (core_typing k s) (λ t. with_types (core_typing e s ∷ core_entry_typings more s) last) h), accepted e s vs v (first_typed (core_typing e s) (λ t. with_types (core_entry_typings more s) last) rest), are_entries_accepted more s vs v last (rest_typed (core_typing e s) (core_entry_typings more s) last rest))
 
 pub typed_accepted : TypedIsAccepted
-typed_accepted e ds t h = accepted e (scope_of ds) (each (λ d. d.name) ds) (names_are ds) (is_typed (core_typing e (scope_of ds)) t h)
+typed_accepted e ds t h =
+    accepted e (scope_of ds) (each (λ d. d.name) ds) (map-map (λ (x : List ℕ × CelType). x.0) (λ (d : Declaration). (d.name, d.cel_type)) ds) (subst IsTyped (sym h) tt)
 
 -- the variables of a scope with the declared depths have the declared names
-names_by : (scope : List Variable) → names scope ≡ each (λ x. x.0) (nestings scope)
-names_by [] = refl
-names_by (v ∷ scope) = ap (λ (ns : List (List ℕ)). v.name ∷ ns) (names_by scope)
-
-declared_names : (ds : List Declaration) → each (λ x. x.0) (depths_of ds) ≡ each (λ d. d.name) ds
-declared_names [] = refl
-declared_names (d ∷ ds) = ap (λ (ns : List (List ℕ)). d.name ∷ ns) (declared_names ds)
-
 pub names_declared : (scope : List Variable) (ds : List Declaration) → nestings scope ≡ depths_of ds → names scope ≡ each (λ d. d.name) ds
-names_declared scope ds e = names_by scope ∙ ap (each (λ x. x.0)) e ∙ declared_names ds
+names_declared scope ds e =
+    let first : List ℕ × ℕ → List ℕ = λ x. x.0 in
+    sym (map-map first (λ (v : Variable). (v.name, v.nesting)) scope) ∙ ap (each first) e ∙ map-map first (λ (d : Declaration). (d.name, d.depth)) ds
+
+-- ---- what the type checker takes is what its plain tree expands to
+
+-- the name of each macro is its own, and no function's is `has`
+macro_again : (m : Macro) → macro_named (macro_name m) ≡ Some m
+unfolding macro_named
+macro_again m = grind arith
+
+not_has : (n : List ℕ) (b : Bool) → is_has n ≡ b → IsSome (function_named n) → b ≡ false
+unfolding is_has function_named
+not_has n b e some = grind arith
+
+mutual
+  unfolding IsAccepted expanded plain_tree is_has is_map is_variables
+
+  pub expanded_again : (e : CoreTree) (vs : List (List ℕ)) → IsAccepted e vs → expanded (plain_tree e) ≡ e
+  expanded_again (literal l) vs h = refl
+  expanded_again (name n) vs h = refl
+  expanded_again (variable v) vs h = refl
+  expanded_again (select a f) vs h = λ i. selection (h.0 i) f (expanded_again a vs h.1 i)
+  expanded_again (has a f) vs h = ap (λ (x : CoreTree). has x f) (expanded_again a vs h)
+  expanded_again (index a k) vs h = λ i. index (expanded_again a vs h.0 i) (expanded_again k vs h.1 i)
+  expanded_again (call n (more_cores a no_cores)) vs h =
+      λ i. call_or_has (not_has n (is_has n) refl h.0 i) (field_name (plain_tree a)) n (expanded_operand (plain_tree a)) (expanded_again a vs h.1 i)
+  expanded_again (method a n no_cores) vs h = ap (λ (x : CoreTree). method x n no_cores) (expanded_again a vs h.1)
+  expanded_again (method a n (more_cores b no_cores)) vs h = λ i. method (expanded_again a vs h.1 i) n (one_core (expanded_again b vs h.2 i))
+  expanded_again (unary op a) vs h = ap (unary op) (expanded_again a vs h)
+  expanded_again (binary op a b) vs h = λ i. binary op (expanded_again a vs h.0 i) (expanded_again b vs h.1 i)
+  expanded_again (ternary c a b) vs h = λ i. ternary (expanded_again c vs h.0 i) (expanded_again a vs h.1 i) (expanded_again b vs h.2 i)
+  expanded_again (list items) vs h = ap list (each_again items vs h)
+  expanded_again (map es) vs h = ap map (entries_again es vs h)
+  expanded_again (fold m n r p) vs h =
+      λ i. method_or_fold (macro_again m i) (Some n) (macro_name m) (expanded_again r vs h.0 i) (name n) (expanded_again p vs h.1 i)
+  expanded_again (fold_map n r p t) vs h = λ i. fold_map n (expanded_again r vs h.0 i) (expanded_again p vs h.1 i) (expanded_again t vs h.2 i)
+  expanded_again _ vs h = absurd h
+
+  each_again : (es : CoreTrees) (vs : List (List ℕ)) → AreAccepted es vs → expanded_trees (plain_trees es) ≡ es
+  each_again no_cores vs h = refl
+  each_again (more_cores a more) vs h = λ i. more_cores (expanded_again a vs h.0 i) (each_again more vs h.1 i)
+
+  entries_again : (es : CoreEntries) (vs : List (List ℕ)) → AreEntriesAccepted es vs → expanded_entries (plain_entries es) ≡ es
+  entries_again no_core_entries vs h = refl
+  entries_again (more_core_entries k v more) vs h = λ i. more_core_entries (expanded_again k vs h.0 i) (expanded_again v vs h.1 i) (entries_again more vs h.2 i)

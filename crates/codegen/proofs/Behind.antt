@@ -1,28 +1,38 @@
 -- Emitters with something behind what they had.
-use Rattle.std.proofs.Common.{◌≡◌, ℕ, List, Option, ◌++◌, length, map, take, string_bytes, Result, OnErr, refl, arith}
-use Rattle.std.proofs.lemmas.List.{length-map, take_all, take_at}
+use Rattle.codegen.proofs.Prelude.{◌≡◌, ℕ, ◌||◌, List, [], ◌∷◌, ◌++◌, map, take, string_bytes, string_eq, bytes_eq, refl, sym, ap, if◌then◌else◌, length, arith, map-append, take-map, length-map, take_all, take_at, Global, list_any, with_text, IsUtf8-string_bytes}
 use Rattle.std.specs.Prelude.{String}
-use Rattle.std.specs.declared.alloc.Global.{Global}
-use Rattle.insn_codec.specs.declared.insn.Insn.{Insn}
-use Rattle.codegen.specs.Added.{IsBehind}
-use Rattle.codegen.specs.Emitted.{Emitted}
-use Rattle.codegen.proofs.AmongTexts.{texts_cut}
 
--- what holds whatever is answered
-pub in_any_case : {T E P : Type 0} (r : Result T E) → P → OnErr r P
-in_any_case r h = grind arith
+-- ---- texts among others
 
-abbrev pub emitted : List (Option Insn) → List (String Global) → ℕ → List ℕ → Emitted
-emitted code texts nodes slots = record { code = code; constants = map string_bytes texts; nodes = nodes; routines = slots }
+-- a text is among texts where its bytes are among theirs
+among : (t : String Global) (texts : List (String Global)) → list_any (string_eq t) texts ≡ list_any (bytes_eq (string_bytes t)) (map string_bytes texts)
+among t [] = refl
+among t (s ∷ more) = ap (λ b. bytes_eq (string_bytes t) (string_bytes s) || b) (among t more)
 
-texts_front : (before after : List (String Global)) → take (length before) after ≡ before → take (length (map string_bytes before)) (map string_bytes after) ≡ map string_bytes before
+-- the bytes of the texts after one more is used
+pub text_taken : (t : String Global) (texts : List (String Global)) → map string_bytes (if list_any (string_eq t) texts then texts else texts ++ t ∷ []) ≡ with_text (map string_bytes texts) (string_bytes t)
+text_taken t texts = grind (arith, among, map-append)
+
+-- the bytes of the first texts are the first of the bytes
+pub texts_cut : (n : ℕ) (texts : List (String Global)) → map string_bytes (take n texts) ≡ take n (map string_bytes texts)
+texts_cut n texts = sym (take-map string_bytes n texts)
+
+-- ---- lists that begin with others
+
+-- where b begins with a, and c with b, c begins with a
+pub front_later : {X : Type 0} (a b c : List X) → take (length a) b ≡ a → take (length b) c ≡ b → take (length a) c ≡ a
+front_later [] b c h g = refl
+front_later (x ∷ a) (y ∷ b) (z ∷ c) h g = grind (arith, front_later a b c (cc) (cc))
+front_later (x ∷ a) _ _ h g = absurd (cc)
+
+pub texts_front : (before after : List (String Global)) → take (length before) after ≡ before → take (length (map string_bytes before)) (map string_bytes after) ≡ map string_bytes before
 texts_front before after h = grind (arith, string_bytes, length-map, texts_cut)
-
-pub behind : (old : Emitted) (code : List (Option Insn)) (nodes counted : ℕ) (slots later : List ℕ) (before after : List (String Global)) → emitted code before nodes slots ≡ old → take (length before) after ≡ before → take (length slots) later ≡ slots → IsBehind old (emitted code after counted later)
-behind old code nodes counted slots later before after is texts routines = grind (arith, texts_front)
 
 pub kept : (slots : List ℕ) → take (length slots) slots ≡ slots
 kept slots = take_all (length slots) slots (omega arith)
 
 pub longer : (slots more : List ℕ) → take (length slots) (slots ++ more) ≡ slots
 longer slots more = take_at slots more (length slots) refl
+
+-- the bytes of a text are UTF-8
+pub ruleset texts_fit = (IsUtf8-string_bytes)

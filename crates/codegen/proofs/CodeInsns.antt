@@ -1,45 +1,15 @@
 -- The code of an expression that an image has room for can be spelled: the numbers of its instructions are in range.
-use Rattle.std.proofs.Common.{◌≡◌, ℕ, ◌+◌, ◌*◌, ◌^◌, ◌<◌, ◌≤◌, List, [], ◌∷◌, ◌++◌, length, suc, Option, Some, Bool, arith}
-use Rattle.std.specs.Prelude.{bytes_eq, if◌then◌else◌, unwrap_or, option_map}
-use Rattle.std.specs.List.{AllByRecursion}
-use Rattle.insn_codec.specs.declared.insn.Insn.{Insn}
-use Rattle.insn_codec.specs.declared.register.Register.{Register}
-use Rattle.insn_codec.specs.declared.register.Register.TheVariants.{R1, R2}
+use Rattle.codegen.proofs.Prelude.{◌≡◌, ℕ, ◌+◌, ◌*◌, ◌^◌, ◌<◌, ◌≤◌, List, [], ◌∷◌, ◌++◌, length, Option, Some, arith, unwrap_or, option_map, AllByRecursion, Insn, Register, R1, IsWellFormedLiteral, BinaryOperator, UnaryOperator, CoreTree, CoreTrees, CoreEntries, no_cores, more_cores, no_core_entries, more_core_entries, plain_entries, plain_tree, plain_trees, lookup, Function, function_named, TextTest, nodes, nodes_of, entries_nodes, need, needs, entries_need, saturated, Declaration, AreInsns, size, kept_size, operand_code, operands_code, Kept, Path, with_name, Leaf, MayBeNear, absorbing_insns, difference_insns, divided_insns, entry_insns, equal_insns, field_insns, has_insns, index_insns, insns_append, item_insns, less_insns, list_insns, macro_insns, map_insns, map_where_insns, member_insns, name_insns, name_near, negation_insns, not_insns, not_less_insns, operand_insns, operands_insns, product_insns, size_insns, string_insns, sum_insns, ternary_insns, test_insns, unequal_insns, binary_code, binary_tail, code_of, entries_code, function_code, items_code, leaf_of, left_size, method_function_code, no_code, routine_named, test_code, unary_code, variable_code, field_leaf, kept_or, address_of, literal_code, literal_leaf, place_of, EntriesHaveLiterals, HasLiterals, HaveLiterals, routines_of}
 use Rattle.cel_reader.specs.Tree as tree
-use Rattle.cel_reader.specs.WellFormed.{IsWellFormedLiteral}
-use Rattle.cel_reader.specs.declared.operator.BinaryOperator.{BinaryOperator}
-use Rattle.cel_reader.specs.declared.operator.BinaryOperator.TheVariants as binary
-use Rattle.cel_reader.specs.declared.operator.UnaryOperator.{UnaryOperator}
-use Rattle.cel_reader.specs.declared.operator.UnaryOperator.TheVariants as unary
 use Rattle.cel_macros.specs.CoreTree as core
-use Rattle.cel_macros.specs.CoreTree.{CoreTree, CoreTrees, CoreEntries, no_cores, more_cores, no_core_entries, more_core_entries, plain_entries, plain_tree, plain_trees}
-use Rattle.cel_macros.specs.Environment.{lookup}
-use Rattle.cel_macros.specs.Functions.{Function, function_named, TextTest, test_named}
-use Rattle.cel_measures.specs.Measures.{nodes, nodes_of, entries_nodes, need, needs, entries_need}
-use Rattle.cel_measures.specs.Saturated.{saturated}
-use Rattle.cel_types.specs.Declarations.{Declaration}
-use Rattle.codegen_base.specs.Pieces.{AreInsns, size}
-use Rattle.codegen_base.specs.Code.Calls.{kept_size, operand_code, operands_code}
-use Rattle.codegen_base.specs.Code.Selection.{index_tail}
-use Rattle.codegen_base.specs.Paths.{Kept, Path, with_name}
-use Rattle.codegen_base.specs.declared.leaf.Leaf.{Leaf}
-use Rattle.codegen_base.proofs.Insns.{MayBeNear, absorbing_insns, difference_insns, divided_insns, entry_insns, equal_insns, field_insns, has_insns, index_insns, insns_append, item_insns, less_insns, list_insns, macro_insns, map_insns, map_where_insns, member_insns, name_insns, name_near, negation_insns, not_insns, not_less_insns, operand_insns, operands_insns, product_insns, size_insns, string_insns, sum_insns, ternary_insns, test_insns, unequal_insns}
-use Rattle.codegen.specs.Code.Expressions.{binary_code, binary_tail, code_of, entries_code, function_code, items_code, leaf_of, left_size, method_function_code, no_code, routine_named, test_code, unary_code, variable_code, field_leaf, kept_or}
-use Rattle.codegen.specs.Code.Literals.{address_of, literal_code, literal_leaf}
-use Rattle.codegen.specs.Constants.{place_of}
-use Rattle.codegen.specs.HasLiterals.{EntriesHaveLiterals, HasLiterals, HaveLiterals}
-use Rattle.codegen.specs.Surroundings.{routines_of}
 use Rattle.codegen.proofs.Lengths.{short_code}
 
 -- iteration names stand in words of the frame
 abbrev pub AreWithin : Kept → Type 0
 AreWithin words = (n : List ℕ) (k : ℕ) → lookup n words.items ≡ Some k → k < 64
 
-within_by : (found : Bool) (j k i : ℕ) (o : Option ℕ) → j < 64 → (o ≡ Some i → i < 64) → (if found then Some j else o) ≡ Some i → i < 64
-within_by found j k i o low later e = grind arith
-
 within_more : (n : List ℕ) (j : ℕ) (words : Kept) → j < 64 → AreWithin words → AreWithin (with_name n j words)
-within_more n j words low rest m i e = within_by (bytes_eq n m) j 0 i (lookup m words.items) low (rest m i) e
+within_more n j words low rest m i e = grind (arith, rest m i)
 
 pub address_small : (texts : List (List ℕ)) (t : List ℕ) → address_of texts t < 2 ^ 64
 address_small texts t = let most = unwrap_or (option_map saturated (place_of t texts)) 0 in omega arith
@@ -100,13 +70,10 @@ AreNear routines = (n : List ℕ) (found : ℕ × ℕ) → routine_named n routi
 abbrev pub AreLow : List ℕ → Type 0
 AreLow slots = AllByRecursion (λ slot. slot ≤ 0x7fff_ff00) slots
 
-near_by : (here : Bool) (slot m : ℕ) (o : Option (ℕ × ℕ)) (found : ℕ × ℕ) → slot ≤ 0x7fff_ff00 → ((at : ℕ × ℕ) → o ≡ Some at → (at.0 < m) × (at.1 ≤ 0x7fff_ff00)) → (if here then Some (0, slot) else option_map (λ at. (suc at.0, at.1)) o) ≡ Some found → (found.0 < suc m) × (found.1 ≤ 0x7fff_ff00)
-near_by here slot m o found low later e = grind arith
-
 pub near_named : (ds : List Declaration) (slots : List ℕ) → AreLow slots → (n : List ℕ) (found : ℕ × ℕ) → routine_named n (routines_of ds slots) ≡ Some found → (found.0 < length slots) × (found.1 ≤ 0x7fff_ff00)
 near_named [] slots low n found e = absurd (cc)
 near_named (d ∷ ds) [] low n found e = absurd (cc)
-near_named (d ∷ ds) (s ∷ slots) low n found e = near_by (bytes_eq d.name n) s (length slots) (routine_named n (routines_of ds slots)) found low.0 (near_named ds slots low.1 n) e
+near_named (d ∷ ds) (s ∷ slots) low n found e = grind (arith, near_named ds slots low.1 n)
 
 variable_insns : (found : Option (ℕ × ℕ)) (p : ℕ) → p + 6 ≤ 0x8000_0000 → ((at : ℕ × ℕ) → found ≡ Some at → (at.0 < 512) × (at.1 ≤ 0x7fff_ff00)) → AreInsns (variable_code found p)
 variable_insns found p low near = grind arith
@@ -117,6 +84,9 @@ kept_at_most l left = grind arith
 
 left_at_most : (op : BinaryOperator) (l : Option Leaf) (left : List Insn) → left_size op l left ≤ size left + 2
 left_at_most op l left = grind arith
+
+-- what the numbers of a construct's instructions follow from, beside those of its parts
+ruleset parts = (kept_at_most, left_at_most, short_code, leaf_near)
 
 module _ (ts : List (List ℕ)) (rs : List (List ℕ × ℕ)) (near : AreNear rs) where
   abbrev code : CoreTree → Kept → ℕ → ℕ → List Insn
@@ -131,32 +101,13 @@ module _ (ts : List (List ℕ)) (rs : List (List ℕ × ℕ)) (near : AreNear rs
     code_insns (core.variable v) ws k p words room few inside h = variable_insns (routine_named v rs) p (omega arith) (near v)
     code_insns (core.select a f) ws k p words room few inside h = kept_insns (leaf_of (core.select a f) ws) _ (leaf_near (core.select a f) ws words) (one_insns (leaf_of a ws) (code a ws k p) (leaf_near a ws words) (code_insns a ws k p words room (omega arith) (omega arith) h) R1 _ (field_insns (address_of ts f) (length f) (address_small ts f)))
     code_insns (core.has a f) ws k p words room few inside h = one_insns (leaf_of a ws) (code a ws k p) (leaf_near a ws words) (code_insns a ws k p words room (omega arith) (omega arith) h.0) R1 _ (has_insns (address_of ts f) (length f) (address_small ts f))
-    code_insns (core.index a b) ws k p words room few inside h =
-        let q = p + kept_size (leaf_of a ws) (code a ws k p) in
-        let near_left = kept_at_most (leaf_of a ws) (code a ws k p) in
-        let long = short_code a ts rs ws k p in
-        two_insns (leaf_of a ws) (code a ws k p) (leaf_of b ws) (code b ws (k + 1) q) k (omega arith) (leaf_near a ws words) (code_insns a ws k p words (omega arith) (omega arith) (omega arith) h.0) (leaf_near b ws words) (code_insns b ws (k + 1) q words (omega arith) (omega arith) (omega arith) h.1) R1 R2 index_tail index_insns
+    code_insns (core.index a b) ws k p words room few inside h = grind (arith, parts, two_insns, index_insns, code_insns a ws k p, code_insns b ws (k + 1))
     code_insns (core.call n (more_cores a no_cores)) ws k p words room few inside h = function_insns (leaf_of a ws) (code a ws k p) (leaf_near a ws words) (code_insns a ws k p words room (omega arith) (omega arith) h.0) (function_named n)
     code_insns (core.method a n no_cores) ws k p words room few inside h = method_insns (leaf_of a ws) (code a ws k p) (leaf_near a ws words) (code_insns a ws k p words (omega arith) (omega arith) (omega arith) h.0) (function_named n)
-    code_insns (core.method a n (more_cores b no_cores)) ws k p words room few inside h =
-        let q = p + kept_size (leaf_of a ws) (code a ws k p) in
-        let near_left = kept_at_most (leaf_of a ws) (code a ws k p) in
-        let long = short_code a ts rs ws k p in
-        tested_insns (leaf_of a ws) (code a ws k p) (leaf_of b ws) (code b ws (k + 1) q) k (omega arith) (leaf_near a ws words) (code_insns a ws k p words (omega arith) (omega arith) (omega arith) h.0) (leaf_near b ws words) (code_insns b ws (k + 1) q words (omega arith) (omega arith) (omega arith) h.1.0) (test_named n)
+    code_insns (core.method a n (more_cores b no_cores)) ws k p words room few inside h = grind (arith, parts, tested_insns, code_insns a ws k p, code_insns b ws (k + 1))
     code_insns (core.unary op a) ws k p words room few inside h = unary_insns (leaf_of a ws) (code a ws k p) (leaf_near a ws words) (code_insns a ws k p words room (omega arith) (omega arith) h) op
-    code_insns (core.binary op a b) ws k p words room few inside h =
-        let q = p + left_size op (leaf_of a ws) (code a ws k p) in
-        let near_left = left_at_most op (leaf_of a ws) (code a ws k p) in
-        let long = short_code a ts rs ws k p in
-        let long_right = short_code b ts rs ws (k + 1) q in
-        binary_insns (leaf_of a ws) (code a ws k p) (leaf_of b ws) (code b ws (k + 1) q) k (omega arith) (leaf_near a ws words) (code_insns a ws k p words (omega arith) (omega arith) (omega arith) h.0) (leaf_near b ws words) (code_insns b ws (k + 1) q words (omega arith) (omega arith) (omega arith) h.1) op (omega arith)
-    code_insns (core.ternary c a b) ws k p words room few inside h =
-        let q = p + size (code c ws k p) + 2 in
-        let r = q + size (code a ws k q) + 1 in
-        let long = short_code c ts rs ws k p in
-        let long_first = short_code a ts rs ws k q in
-        let long_second = short_code b ts rs ws k r in
-        ternary_insns (code c ws k p) (code a ws k q) (code b ws k r) (omega arith) (code_insns c ws k p words (omega arith) (omega arith) (omega arith) h.0) (code_insns a ws k q words (omega arith) (omega arith) (omega arith) h.1) (code_insns b ws k r words (omega arith) (omega arith) (omega arith) h.2)
+    code_insns (core.binary op a b) ws k p words room few inside h = grind (arith, parts, binary_insns, code_insns a ws k p, code_insns b ws (k + 1))
+    code_insns (core.ternary c a b) ws k p words room few inside h = grind (arith, short_code, ternary_insns, code_insns c ws k p, code_insns a ws k, code_insns b ws k)
     code_insns (core.list items) ws k p words room few inside h = list_insns (items_code items ts rs ws k (p + 2)) k (omega arith) (items_insns items ws k (p + 2) words (omega arith) (omega arith) (omega arith) h)
     code_insns (core.map es) ws k p words room few inside h = map_insns (entries_code es ts rs ws k (p + 2)) k (omega arith) (entries_insns es ws k (p + 2) words (omega arith) (omega arith) (omega arith) h)
     code_insns (core.fold m n r e) ws k p words room few inside h =
@@ -179,13 +130,9 @@ module _ (ts : List (List ℕ)) (rs : List (List ℕ × ℕ)) (near : AreNear rs
     items_insns : (items : CoreTrees) (ws : Kept) (k p : ℕ) → AreWithin ws → k + 1 + needs items ≤ 60 → nodes_of items ≤ 512 → p + 63 * nodes_of items ≤ 0x8000_0000 → HaveLiterals (plain_trees items) → AreInsns (items_code items ts rs ws k p)
     items_insns no_cores ws k p words room few inside h = tt
     items_insns (more_cores a more) ws k p words room few inside h =
-        let long = short_code a ts rs ws (k + 1) p in
-        insns_append _ (items_code more ts rs ws k _) (item_insns (code a ws (k + 1) p) k (omega arith) (code_insns a ws (k + 1) p words (omega arith) (omega arith) (omega arith) h.0)) (items_insns more ws k _ words (omega arith) (omega arith) (omega arith) h.1)
+        grind (arith, short_code, insns_append, item_insns, code_insns a ws (k + 1) p, items_insns more ws k)
 
     entries_insns : (es : CoreEntries) (ws : Kept) (k p : ℕ) → AreWithin ws → k + entries_need es ≤ 60 → entries_nodes es ≤ 512 → p + 63 * entries_nodes es ≤ 0x8000_0000 → EntriesHaveLiterals (plain_entries es) → AreInsns (entries_code es ts rs ws k p)
     entries_insns no_core_entries ws k p words room few inside h = tt
     entries_insns (more_core_entries key v more) ws k p words room few inside h =
-        let q = p + size (code key ws (k + 1) p) + 1 in
-        let long = short_code key ts rs ws (k + 1) p in
-        let long_value = short_code v ts rs ws (k + 2) q in
-        insns_append _ (entries_code more ts rs ws k _) (entry_insns (code key ws (k + 1) p) (code v ws (k + 2) q) k (omega arith) (code_insns key ws (k + 1) p words (omega arith) (omega arith) (omega arith) h.0) (code_insns v ws (k + 2) q words (omega arith) (omega arith) (omega arith) h.1)) (entries_insns more ws k _ words (omega arith) (omega arith) (omega arith) h.2)
+        grind (arith, short_code, insns_append, entry_insns, code_insns key ws (k + 1) p, code_insns v ws (k + 2), entries_insns more ws k)

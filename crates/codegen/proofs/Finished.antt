@@ -1,10 +1,5 @@
 -- The bytes of pieces that were put one behind another.
-use Rattle.std.proofs.Common.{◌≡◌, List, [], ◌∷◌, ◌++◌, Option, Some, None, refl, sym, ap, ◌∙◌, append_assoc}
-use Rattle.insn_codec.specs.Spelling.{spelling}
-use Rattle.insn_codec.specs.declared.insn.Insn.{Insn}
-use Rattle.insn_codec.specs.declared.insn.Insn.TheVariants.{LoadWide}
-use Rattle.codegen_base.specs.Pieces.{insn_slots, slots, spellings}
-use Rattle.codegen.specs.Emitted.{slot_spellings}
+use Rattle.codegen.proofs.Prelude.{◌≡◌, List, [], ◌∷◌, ◌++◌, Option, Some, None, refl, sym, ap, ◌∙◌, append_assoc, spelling, Insn, LoadWide, insn_slots, slots, spellings, slot_spellings}
 
 pub slot_spellings-append : (xs ys : List (Option Insn)) → slot_spellings (xs ++ ys) ≡ slot_spellings xs ++ slot_spellings ys
 slot_spellings-append [] ys = refl

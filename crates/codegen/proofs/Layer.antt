@@ -1,51 +1,47 @@
 -- The code of expressions as an emitter makes it.
-use Rattle.std.proofs.Common.{◌≡◌, ℕ, ◌+◌, ◌≤◌, Bool, true, List, [], ◌∷◌, ◌++◌, length, append-nil, Option, Some, refl, sym, ap, ◌∙◌, subst, arith, if◌then◌else◌}
-use Rattle.std.specs.Prelude.{bytes_eq}
-use Rattle.std.specs.Prelude.{map as each}
-use Rattle.std.specs.List.{zip}
-use Rattle.std.proofs.lemmas.List.{length-map, map-append}
-use Rattle.loader.specs.Contents.{Contents}
-use Rattle.cel_macros.specs.CoreTree.{CoreTree, CoreTrees, CoreEntries, no_cores, more_cores, no_core_entries, more_core_entries, variable, select, has, index, call, method, unary, binary, ternary, list, map, fold, fold_map, plain_tree}
-use Rattle.cel_macros.specs.Environment.{Roots, lookup}
-use Rattle.cel_macros.specs.Meaning.{meaning}
-use Rattle.cel_measures.specs.Measures.{deepest, deepest_of, depth_or_none, entries_deepest}
-use Rattle.cel_types.specs.Declarations.{Declaration, depths_of}
-use Rattle.codegen_base.specs.Pieces.{Stands}
-use Rattle.codegen_base.specs.Paths.{nothing_kept}
-use Rattle.codegen_base.specs.Scopes.{Variable, scope_setting}
-use Rattle.codegen.specs.Code.Expressions.{texts_of}
-use Rattle.codegen.specs.Code.Whole.{routine_code, whole_code}
-use Rattle.codegen.specs.Computes.{Computes, Ready, TextsStand, environment_in, names, nestings, routines, scope_context}
-use Rattle.codegen.specs.Constants.{with_texts}
-use Rattle.codegen.specs.Cost.{IsDeep, cost}
-use Rattle.codegen.specs.Layer.{AreShallow, AreTaken, ExpressionGives, FramesAreEnough, HasConstants, IsExpression, VariableIsTaken, VariableJoins}
-use Rattle.codegen.specs.Surroundings.{routines_of}
+use Rattle.codegen.proofs.Prelude.{◌≡◌, ℕ, ◌+◌, ◌≤◌, Bool, true, List, [], ◌∷◌, ◌++◌, length, append-nil, refl, sym, ap, ◌∙◌, arith, ◌*◌, false, length-append, suc, subst, leb-false, leb-true, if◌then◌else◌, map as each, pos, All, zip, length-map, map-append, Contents, CoreTree, CoreTrees, CoreEntries, no_cores, more_cores, no_core_entries, more_core_entries, variable, select, has, index, call, method, unary, binary, ternary, list, fold, fold_map, plain_tree, Roots, lookup, meaning, deepest, deepest_of, depth_or_none, entries_deepest, need, depth, nodes, Declaration, depths_of, declared, nothing_kept, Kept, IsScope, Variable, scope_setting, Returns, first_use, wider_gives, scope_begins, scope_grows, routine_named, texts_of, whole_code, routine_code, Computes, Ready, TextsStand, environment_in, names, nestings, routines, scope_context, variable_of, with_texts, IsDeep, cost, spent_by, AreShallow, AreTaken, EmitsRoutine, ExpressionGives, FramesAreEnough, HasConstants, IsExpression, VariableIsTaken, VariableJoins, RoutineGives, RoutineIsPassed, Emitted, with_piece, HasLiterals, routines_of, ints, Insn, skip, size, AreInsns, Stands, slots, size-append, size-cons, stands_first, stands_rest, done, looser, to_place, jump, passed, code_at, has_room, with_counted, with_expression, with_variable, Value, memo_tail, insns_append, memo_insns, routine_returns, EmitsExpression, EmitsVariable, HasRoutines, Running, Suits, caller_context, context, cost_in, meaning_in, next_routine, next_variable, setting}
+use Rattle.cel_macros.specs.CoreTree.{map}
 use Rattle.codegen.proofs.Accepted.{names_declared, typed_accepted}
 use Rattle.codegen.proofs.Lent.{texts_stand}
-use Rattle.codegen.proofs.Routines.{routine_gives}
-use Rattle.codegen.proofs.Whole.{whole_gives}
+use Rattle.codegen.proofs.Computed.{AreRoutines, visited}
+use Rattle.codegen.proofs.Whole.{whole_gives, whole_insns, whole_short}
+use Rattle.codegen.proofs.CodeInsns.{AreLow, AreNear, near_named}
 
 -- ---- the routines of a scope's variables
 
-slots_first : (scope : List Variable) (more : List ℕ) → zip (names scope) (each (λ v. v.routine) scope ++ more) ≡ routines scope
-slots_first [] more = refl
-slots_first (v ∷ scope) more = ap (λ (rs : List (List ℕ × ℕ)). (v.name, v.routine) ∷ rs) (slots_first scope more)
+zip_behind : (scope : List Variable) (ns : List (List ℕ)) (more : List ℕ)
+    → zip (names scope ++ ns) (each (λ v. v.routine) scope ++ more) ≡ routines scope ++ zip ns more
+zip_behind [] ns more = refl
+zip_behind (v ∷ scope) ns more = ap (λ (rs : List (List ℕ × ℕ)). (v.name, v.routine) ∷ rs) (zip_behind scope ns more)
+
+-- they are the first among those of all declarations
+routines_first : (slots : List ℕ) (first rest : List Declaration) (scope later : List Variable) → AreTaken slots first scope later
+    → routines_of (first ++ rest) slots ≡ routines scope ++ zip (each (λ d. d.name) rest) (each (λ v. v.routine) later)
+routines_first slots first rest scope later taken =
+    rw (map-append, ← taken.slots_are, map-append, ← names_declared scope first taken.depths_are)
+    (zip_behind scope (each (λ d. d.name) rest) (each (λ v. v.routine) later))
 
 pub routines_are : (slots : List ℕ) (ds : List Declaration) (scope later : List Variable) → AreTaken slots ds scope later
     → routines_of ds slots ≡ routines scope
-routines_are slots ds scope later taken =
-    ap (λ (ns : List (List ℕ)). zip ns slots) (sym (names_declared scope ds taken.depths_are))
-    ∙ ap (zip (names scope)) (sym taken.slots_are ∙ map-append (λ (v : Variable). v.routine) scope later)
-    ∙ slots_first scope (each (λ v. v.routine) later)
+routines_are slots ds scope later taken = simp append-nil at (routines_first slots ds [] scope later taken)
+
+-- so each is found by its name
+named_first : (behind : List (List ℕ × ℕ)) (scope : List Variable) → AreRoutines (routines scope ++ behind) scope
+named_first behind [] n h = absurd (cc)
+named_first behind (u ∷ scope) n h = grind (arith, named_first behind scope n)
+
+pub routines_found : (slots : List ℕ) (ds first rest : List Declaration) (scope later : List Variable) → ds ≡ first ++ rest
+    → AreTaken slots first scope later → AreRoutines (routines_of ds slots) scope
+routines_found slots ds first rest scope later whole taken n h =
+    ap (λ (all : List Declaration). routine_named n (routines_of all slots)) whole
+    ∙ ap (routine_named n) (routines_first slots first rest scope later taken)
+    ∙ named_first (zip (each (λ d. d.name) rest) (each (λ v. v.routine) later)) scope n h
 
 -- ---- no expression names a deeper variable than there is
 
-shallow_by : (here : Bool) (d : ℕ) (rest : Option ℕ) → d ≤ 6 → depth_or_none rest ≤ 6 → depth_or_none (if here then Some d else rest) ≤ 6
-shallow_by here d rest first later = grind arith
-
 shallow_named : (n : List ℕ) (ds : List Declaration) → AreShallow ds → depth_or_none (lookup n (depths_of ds)) ≤ 6
 shallow_named n [] h = omega arith
-shallow_named n (d ∷ ds) h = shallow_by (bytes_eq d.name n) d.depth (lookup n (depths_of ds)) h.0 (shallow_named n ds h.1)
+shallow_named n (d ∷ ds) h = grind (arith, shallow_named n ds)
 
 module _ (ds : List Declaration) (shallow : AreShallow ds) where
   mutual
@@ -84,24 +80,164 @@ module _ (image : Contents) (deep : Bool) (roots : Roots) (constants : List ℕ)
 -- the texts that were taken stand among the constants
 pub known_stand : (constants : List ℕ) (texts : List (List ℕ)) (e : CoreTree) → HasConstants constants texts e
     → TextsStand constants (with_texts texts (texts_of e)) (texts_of e)
-known_stand constants texts e holds = subst (λ (bytes : List ℕ). TextsStand bytes (with_texts texts (texts_of e)) (texts_of e)) (sym holds.constants_are) (texts_stand texts (texts_of e) holds.more (subst (λ (bytes : List ℕ). length bytes ≤ 1048576) holds.constants_are holds.few))
+known_stand constants texts e holds = rw holds.constants_are (texts_stand texts (texts_of e) holds.more (rw holds.constants_are at holds.few))
 
 pub frames_are_enough : FramesAreEnough
 frames_are_enough ds e shallow = deepest_within ds shallow e
 
-pub expression_gives : ExpressionGives
-expression_gives texts slots ds e p is image deep roots constants scope later frame taken near few holds scoped may =
+-- where code finds the routines of the scope's variables among these
+pub gives_among : (texts : List (List ℕ)) (slots : List ℕ) (ds : List Declaration) (rs : List (List ℕ × ℕ)) (e : CoreTree) (p : ℕ)
+    → IsExpression ds e
+    → (image : Contents) (deep : Bool) (roots : Roots) (constants : List ℕ) (scope later : List Variable) (frame : ℕ) → AreRoutines rs scope
+    → AreTaken slots ds scope later → frame + deepest e (depths_of ds) ≤ 7 → length scope ≤ 512 → HasConstants constants texts e
+    → IsScope image deep roots constants scope → let env = environment_in roots [] scope in (IsDeep (plain_tree e) env → deep ≡ true)
+    → Computes (scope_setting image deep scope) p (whole_code e (with_texts texts (texts_of e)) rs p)
+    (scope_context roots [] nothing_kept constants (scope ++ later)) frame 0 (meaning (plain_tree e) env) (cost (plain_tree e) env)
+gives_among texts slots ds rs e p is image deep roots constants scope later frame same taken near few holds scoped may =
     let known = with_texts texts (texts_of e) in
-    let given = whole_gives image deep roots constants scope later known frame p e scoped few is.literals (ready image deep roots constants ds scope later e is taken.depths_are may scope known (known_stand constants texts e holds) frame near) in
-    subst (λ (rs : List (List ℕ × ℕ)). Computes (scope_setting image deep scope) p (whole_code e known rs p) (scope_context roots [] nothing_kept constants (scope ++ later)) frame 0 (meaning (plain_tree e) (environment_in roots [] scope)) (cost (plain_tree e) (environment_in roots [] scope))) (sym (routines_are slots ds scope later taken)) given
+    whole_gives image deep roots constants scope later rs same known frame p e scoped few is.literals
+    (ready image deep roots constants ds scope later e is taken.depths_are may scope known (known_stand constants texts e holds) frame near)
+
+pub expression_gives : ExpressionGives
+expression_gives texts slots ds e p is image deep roots constants scope later frame taken =
+    gives_among texts slots ds (routines_of ds slots) e p is image deep roots constants scope later frame (λ n h. ap (routine_named n) (routines_are slots ds scope later taken)) taken
+
+-- a variable's routine makes a scope grow
+pub routine_gives : RoutineGives
+routine_gives image deep roots constants scope later texts name p e is few literals ready stands =
+    scope_grows image deep roots constants (scope ++ later) (variable_of roots scope texts name e p) is (record {
+      stands = stands;
+      opens = omega arith;
+      gives = λ depth room. wider_gives image deep scope later p _ _ (depth + 1) 0 _ _ _ (whole_gives image deep roots constants scope later (routines scope) (λ n h. refl) texts (depth + 1) p e (scope_begins image deep roots constants scope later is) few literals (grind arith));
+    })
 
 pub variable_joins : VariableJoins
 variable_joins texts slots ds e p is image deep roots constants scope later n taken shallow few holds scoped may stands =
     let known = with_texts texts (texts_of e) in
     let count : length slots ≡ length (scope ++ later) = ap length (sym taken.slots_are) ∙ length-map (scope ++ later) (λ (v : Variable). v.routine) in
-    let here = subst (λ (i : ℕ). Stands image.code p (routine_code e known (routines_of ds slots) i p)) count stands in
-    routine_gives image deep roots constants scope later known n p e scoped few is.literals (ready image deep roots constants ds scope later e is taken.depths_are may (scope ++ later) known (known_stand constants texts e holds) 1 (omega arith))
-    (subst (λ (rs : List (List ℕ × ℕ)). Stands image.code p (routine_code e known rs (length (scope ++ later)) p)) (routines_are slots ds scope later taken) here)
+    routine_gives image deep roots constants scope later known n p e scoped few is.literals
+    (ready image deep roots constants ds scope later e is taken.depths_are may (scope ++ later) known (known_stand constants texts e holds) 1 (omega arith))
+    (rw (count, routines_are slots ds scope later taken) at stands)
 
 pub variable_is_taken : VariableIsTaken
 variable_is_taken texts slots ds e p roots scope n t taken = grind (arith, append-nil, map-append)
+
+pub emits_routine : (old : Emitted) (ds : List Declaration) (e : CoreTree) → need e ≤ 60 → HasLiterals (plain_tree e) → EmitsRoutine old ds e
+emits_routine old ds e fits literals t typed =
+    let slot = length old.code + 1 in (
+      variable_joins old.constants old.routines ds e slot (record { cel_type = t; has_type = typed; literals = literals; fits = fits }),
+      variable_is_taken old.constants old.routines ds e slot,
+    )
+
+-- ---- what an emitter's code does once an expression or a variable is added
+
+-- ---- a routine among other code, which jumps over it
+
+pub routine_is_passed : RoutineIsPassed
+routine_is_passed s p piece b stands =
+    jump s p (p + size (passed piece)) b (pos (size piece)) (stands_first s.image.code p (skip (size piece)) piece stands)
+    (omega (arith, ints, size-cons (skip (size piece)) piece)) (done s (p + size (passed piece)) b _ refl)
+
+pub low_each : (slots : List ℕ) → All (λ slot. slot ≤ 0x7fff_ff00) slots → AreLow slots
+low_each [] h = tt
+low_each (s ∷ slots) h = (h 0 0 (omega arith), low_each slots (λ k d inside. h (suc k) d (omega arith)))
+
+module _ (old : Emitted) (ds : List Declaration) (e : CoreTree) (few : 2 * length old.routines ≤ old.nodes) (low : AreLow old.routines) (inside : length old.code ≤ 0x7fff_0000) (fits : need e ≤ 60) (literals : HasLiterals (plain_tree e)) where
+  abbrev known : List (List ℕ)
+  known = with_texts old.constants (texts_of e)
+
+  abbrev table : List (List ℕ × ℕ)
+  table = routines_of ds old.routines
+
+  module _ (first : List Declaration) (r : Running) (suits : Suits old.routines known first e r) where
+    is_expression : IsExpression first e
+    is_expression = record { cel_type = suits.cel_type; has_type = suits.has_type; literals = literals; fits = fits }
+
+    has_constants : HasConstants r.constants old.constants e
+    has_constants = record { more = suits.texts_are.later; constants_are = suits.texts_are.are; few = suits.texts_are.few }
+
+    all_taken : length (r.scope ++ r.later) ≡ length old.routines
+    all_taken = sym (length-map (r.scope ++ r.later) (λ (v : Variable). v.routine)) ∙ ap length suits.taken.slots_are
+
+    scope_few : old.nodes ≤ 512 → length r.scope ≤ 512
+    scope_few most = grind (arith, all_taken, length-append)
+
+  -- ---- its instructions
+
+  near : old.nodes ≤ 512 → AreNear table
+  near most name found is = grind (arith, near_named)
+
+  piece_spells : (p : ℕ) → p + 6 + 63 * nodes e ≤ 0x8000_0000 → nodes e ≤ 512 → old.nodes ≤ 512 → AreInsns (whole_code e known table p)
+  piece_spells p here short most = whole_insns known table (near most) e p fits short here literals
+
+  -- the code with all declarations, where the type checker takes the expression with the first of them
+  computed : (first rest : List Declaration) (r : Running) (p frame : ℕ) → old.nodes ≤ 512 → ds ≡ first ++ rest → Suits old.routines known first e r → HasRoutines r r.scope → frame + deepest e (depths_of first) ≤ 7
+      → Computes (setting r) p (whole_code e known table p) (context r) frame 0 (meaning_in r e) (cost_in r e)
+  computed first rest r p frame most whole suits scoped near =
+      gives_among old.constants old.routines first table e p (is_expression first r suits) r.image r.is_deep r.roots r.constants r.scope r.later frame
+      (routines_found old.routines ds first rest r.scope r.later whole suits.taken) suits.taken near (scope_few first r suits most)
+      (has_constants first r suits) scoped suits.may
+
+  -- ---- an expression
+
+  pub emits_expression : EmitsExpression old (with_expression old ds e) ds e
+  emits_expression short = grind (arith, leb-true, whole_short, piece_spells, near, computed, leb-false)
+
+  -- ---- a variable
+
+  module _ (shallow : depth e (depths_of ds) ≤ 6) where
+    abbrev slot : ℕ
+    slot = next_routine old
+
+    abbrev body : List Insn
+    body = whole_code e known table slot
+
+    abbrev routine : List Insn
+    routine = routine_code e known table (length old.routines) slot
+
+    joined_scope : (r : Running) (name : List ℕ) → old.nodes ≤ 512 → Suits old.routines known ds e r → HasRoutines r (r.scope ++ r.later)
+        → Stands r.image.code (length old.code) (passed routine) → HasRoutines r ((r.scope ++ r.later) ++ next_variable old body r.roots r.scope name e ∷ [])
+    joined_scope r name most suits scoped stands =
+        subst (λ (rs : List (List ℕ × ℕ)). HasRoutines r ((r.scope ++ r.later) ++ next_variable old (whole_code e known rs slot) r.roots r.scope name e ∷ [])) (sym (routines_are old.routines ds r.scope r.later suits.taken))
+        (variable_joins old.constants old.routines ds e slot (is_expression ds r suits) r.image r.is_deep r.roots r.constants r.scope r.later name suits.taken shallow (scope_few ds r suits most) (has_constants ds r suits) scoped suits.may (stands_rest r.image.code (length old.code) (skip (size routine)) routine stands))
+
+    -- the routine's steps are within 128 a visit
+    returned : (first rest : List Declaration) (r : Running) (name : List ℕ) (items : List (List ℕ × Value)) (words : Kept) (frame base : ℕ) → old.nodes ≤ 512
+        → ds ≡ first ++ rest → Suits old.routines known first e r → HasRoutines r r.scope → frame + depth e (depths_of first) ≤ 7 → base ≤ 60
+        → Stands r.image.code (length old.code) (passed routine)
+        → Returns (setting r) slot (length old.routines) (caller_context r items words name e) frame base (meaning_in r e) (128 * (cost_in r e).visits) (16 * spent_by (cost_in r e))
+    returned first rest r name items words frame base most whole suits scoped near low stands =
+        let v = next_variable old body r.roots r.scope name e in
+        let all = all_taken first r suits in
+        let behind = stands_rest r.image.code (length old.code) (skip (size routine)) routine stands in
+        let here = subst (λ (i : ℕ). Stands r.image.code slot (body ++ memo_tail i)) (sym all) behind in
+        let gives = computed first rest r slot (frame + 1) most whole suits scoped (omega (arith, near)) in
+        let some = visited (plain_tree e) (environment_in r.roots [] r.scope) in
+        rw (← all) (λ q b ready. looser (setting r) _ _ (omega (arith, some)) (omega arith) (routine_returns r.image r.is_deep (each first_use r.scope) r.roots r.constants (r.scope ++ r.later) v words items frame base here gives (omega (arith, all, few, most)) low (omega (arith, near)) q b ready))
+
+    variable_by : (here : Bool) → has_room (with_counted old e (1 + nodes e)) ≡ here
+        → EmitsVariable old (if here then record (with_piece (with_counted old e (1 + nodes e)) (passed (code_at (with_counted old e (1 + nodes e)) ds e slot ++ memo_tail (length old.routines)))) { routines = old.routines ++ slot ∷ [] } else with_counted old e (1 + nodes e)) ds e
+    variable_by true room short =
+        let within = leb-true _ _ room in
+        let most : old.nodes ≤ 512 = omega (arith, within) in
+        let long = whole_short e known table slot in
+        let whole = size-append body (memo_tail (length old.routines)) in
+        let first = size-cons (skip (size routine)) routine in
+        record {
+          piece = passed routine;
+          body = body;
+          behind = refl;
+          short = omega (arith, long, whole, first);
+          spells = λ constants are. (omega (arith, long, whole, within), insns_append body (memo_tail (length old.routines)) (piece_spells slot (omega (arith, within, inside)) (omega (arith, within)) most) (memo_insns (length old.routines) (omega (arith, few, most))));
+          passes = λ s b stands. to_place s (length (old.code ++ slots (passed routine))) (sym (length-append old.code (slots (passed routine)))) (routine_is_passed s (length old.code) routine b stands);
+          returns = λ first rest r name items words frame base. returned first rest r name items words frame base most;
+          joins = λ r name. joined_scope r name most;
+          taken = λ roots scope name t taken.
+              subst (λ (rs : List (List ℕ × ℕ)). AreTaken (old.routines ++ slot ∷ []) (ds ++ declared name t (depth e (depths_of ds)) ∷ []) (scope ++ next_variable old (whole_code e known rs slot) roots scope name e ∷ []) []) (sym (routines_are old.routines ds scope [] taken))
+              (variable_is_taken old.constants old.routines ds e slot roots scope name t taken);
+          counted = omega (arith, short);
+        }
+    variable_by false room short = absurd (omega (arith, leb-false _ _ room, short))
+
+    pub emits_variable : EmitsVariable old (with_variable old ds e) ds e
+    emits_variable = variable_by (has_room (with_counted old e (1 + nodes e))) refl

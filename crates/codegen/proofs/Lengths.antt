@@ -1,56 +1,41 @@
 -- Code takes at most 63 slots for each node, and 8 less.
-use Rattle.std.proofs.Common.{◌≡◌, ℕ, ◌+◌, ◌*◌, ◌≤◌, List, [], ◌∷◌, ◌++◌, length, Option, Some, None, ap, ◌∙◌, arith}
-use Rattle.insn_codec.specs.declared.insn.Insn.{Insn}
-use Rattle.insn_codec.specs.declared.register.Register.{Register}
-use Rattle.insn_codec.specs.declared.register.Register.TheVariants.{R0, R1, R2, R6}
-use Rattle.std.specs.Prelude.{ℤ}
+use Rattle.codegen.proofs.Prelude.{◌≡◌, ℕ, ◌+◌, ◌*◌, ◌≤◌, List, [], ◌∷◌, ◌++◌, length, arith, Option, Some, None, append_assoc, to_z-of_z, slot_count, Insn, size, size-append, size-cons, map_where_turn, macro_code, exists_one_turn, filter_turn, map_where_code, Register, R0, R1, R2, R6, ℤ, BinaryOperator, UnaryOperator, CoreTree, CoreTrees, CoreEntries, no_cores, more_cores, no_core_entries, more_core_entries, Macro, Function, Size, String, function_named, TextTest, test_named, nodes, nodes_of, entries_nodes, Kept, with_name, product_tail, negation_tail, kept_size, operand_code, operands_code, leaf_code, code_of, items_code, entries_code, binary_code, binary_tail, leaf_of, unary_code, function_code, method_function_code, routine_named, test_code, variable_code, kept_or, fold_code, Leaf, leaf_size, fold_size, loop_size, address_of, literal_code, no_ref, not_tail, yes_ref, absorbing_code, name_leaf, field_tail, has_tail, index_tail, size_tail, string_tail, test_tail}
 use Rattle.cel_reader.specs.Tree as tree
-use Rattle.cel_reader.specs.declared.operator.BinaryOperator.{BinaryOperator}
 use Rattle.cel_reader.specs.declared.operator.BinaryOperator.TheVariants as binary
-use Rattle.cel_reader.specs.declared.operator.UnaryOperator.{UnaryOperator}
 use Rattle.cel_reader.specs.declared.operator.UnaryOperator.TheVariants as unary
 use Rattle.cel_macros.specs.CoreTree as core
-use Rattle.cel_macros.specs.CoreTree.{CoreTree, CoreTrees, CoreEntries, no_cores, more_cores, no_core_entries, more_core_entries}
-use Rattle.cel_macros.specs.declared.macros.Macro.{Macro}
-use Rattle.cel_macros.specs.Functions.{Function, Size, String, Dyn, function_named, TextTest, test_named}
-use Rattle.cel_measures.specs.Measures.{nodes, nodes_of, entries_nodes}
-use Rattle.codegen_base.specs.Instructions.{copy}
-use Rattle.codegen_base.specs.Paths.{Kept, with_name}
-use Rattle.codegen_base.specs.Pieces.{size}
-use Rattle.codegen_base.specs.Code.Arithmetic.{product_tail, negation_tail}
-use Rattle.codegen_base.specs.Code.Calls.{kept_size, operand_code, operands_code}
-use Rattle.codegen_base.specs.Code.Leaves.{leaf_code, leaf_insn}
-use Rattle.codegen.specs.Code.Expressions.{code_of, items_code, entries_code, binary_code, binary_tail, leaf_of, unary_code, function_code, method_function_code, routine_named, test_code, variable_code, kept_or}
-use Rattle.codegen_base.specs.Loops.{fold_code}
-use Rattle.codegen_base.specs.declared.leaf.Leaf.{Leaf}
-use Rattle.codegen_base.proofs.Loaded.{leaf_size}
-use Rattle.codegen_base.proofs.Loops.{fold_size, loop_size}
-use Rattle.codegen_base.specs.Code.Folds.{macro_code, exists_one_turn, filter_turn, map_where_code}
-use Rattle.codegen.specs.Code.Literals.{address_of, literal_code}
-use Rattle.codegen_base.specs.Code.Aggregates.{item_code, list_code, entry_code, map_code}
-use Rattle.codegen_base.specs.Code.Logic.{no_ref, not_tail, yes_ref, absorbing_code, ternary_code}
-use Rattle.codegen_base.specs.Code.Names.{name_leaf}
-use Rattle.codegen_base.specs.Code.Selection.{field_tail, has_tail, index_tail, size_tail, string_tail, test_tail}
-use Rattle.codegen.proofs.Sizes.{size_append, size_cons, size_map_where}
+
+-- pieces put together from left to right, with immediates of 32 bits
+pub ruleset put_together = (append_assoc, to_z-of_z)
+
+-- ---- how many slots pieces take
+
+pub size_cons : (i : Insn) (piece : List Insn) → size (i ∷ piece) ≡ slot_count i + size piece
+size_cons i piece = size-cons i piece
+
+pub size_append : (a b : List Insn) → size (a ++ b) ≡ size a + size b
+size_append a b = size-append a b
+
+two_at_most : (i : Insn) → slot_count i ≤ 2
+two_at_most i = grind arith
+
+-- at most two slots for each instruction
+pub size_by_length : (piece : List Insn) → size piece ≤ 2 * length piece
+size_by_length [] = omega arith
+size_by_length (i ∷ piece) = let e = size-cons i piece in let h = two_at_most i in let more = size_by_length piece in omega (arith, e, h, more)
+
+pub turn_near : (part tail : List Insn) → size part + size tail ≤ 32300 → size (part ++ tail) ≤ 32300
+turn_near part tail h = let e = size-append part tail in omega (arith, e, h)
+
+pub size_map_where : (transform : List Insn) (k : ℕ) → size (map_where_turn transform k) ≡ size transform + 8
+size_map_where t k = grind (arith, size-cons, size-append)
 
 -- an operand takes at most a slot more than its code, and two operands three more than theirs
 size_operand : (l : Option Leaf) (a : List Insn) (r : Register) → size (operand_code l a r) ≤ size a + 1
 size_operand l a r = grind (arith, leaf_size, size_append)
 
-size_right : (l : Leaf) (a : List Insn) (r q : Register) → size (a ++ copy q R0 ∷ leaf_insn l r ∷ []) ≡ size a + 2
-size_right l a r q = size_append a (copy q R0 ∷ leaf_insn l r ∷ []) ∙ ap (λ n. size a + n) (size_cons (copy q R0) (leaf_insn l r ∷ []) ∙ ap (λ n. 1 + n) (leaf_size l r))
-
 size_operands : (l : Option Leaf) (a : List Insn) (m : Option Leaf) (b : List Insn) (k : ℕ) (r q : Register) → size (operands_code l a m b k r q) ≤ size a + size b + 3
-size_operands l a m b k r q = grind (arith, size_append, size_operand, leaf_size, size_right)
-
-size_absorbing : (d o : ℤ) (a b : List Insn) (k : ℕ) → size (absorbing_code d o a b k) ≡ size a + (1 + (1 + (size b + 5)))
-size_absorbing d o a b k = grind (arith, size_append, size_cons)
-
-size_ternary : (c a b : List Insn) → size (ternary_code c a b) ≡ size c + (1 + (1 + (size a + (1 + (size b + 2)))))
-size_ternary c a b = grind (arith, size_append, size_cons)
-
-size_fold : (k : ℕ) (range first turn : List Insn) → size (fold_code k range first turn) ≡ size range + (9 + (size first + (1 + (6 + (size turn + 6)))))
-size_fold k range first turn = fold_size k range first turn ∙ ap (λ n. size range + (9 + (size first + (1 + n)))) (loop_size k turn)
+size_operands l a m b k r q = grind (arith, size-append, size-cons, leaf_size)
 
 -- a part in a register, and a tail
 one_short : (l : Option Leaf) (a : List Insn) (r : Register) (tail : List Insn) (n : ℕ) → size a + 8 ≤ 63 * n → size tail ≤ 40 → size (operand_code l a r ++ tail) + 8 ≤ 63 * (1 + n)
@@ -70,7 +55,7 @@ two_short : (l : Option Leaf) (a : List Insn) (m : Option Leaf) (b : List Insn) 
 two_short l a m b k r q tail n i ha hb ht = grind (arith, size_append, size_operands)
 
 absorbing_short : (d o : ℤ) (a b : List Insn) (k n m : ℕ) → size a + 8 ≤ 63 * n → size b + 8 ≤ 63 * m → size (absorbing_code d o a b k) + 8 ≤ 63 * (1 + n + m)
-absorbing_short d o a b k n m ha hb = let e = size_absorbing d o a b k in omega (arith, e, ha, hb)
+absorbing_short d o a b k n m ha hb = grind (arith, size-append, size-cons)
 
 binary_code_short : (op : BinaryOperator) (l : Option Leaf) (a : List Insn) (m : Option Leaf) (b : List Insn) (k n i : ℕ) → size a + 8 ≤ 63 * n → size b + 8 ≤ 63 * i → size (binary_code op l a m b k) + 8 ≤ 63 * (1 + n + i)
 binary_code_short binary.Or l a m b k n i ha hb = absorbing_short yes_ref no_ref a b k n i ha hb
@@ -80,8 +65,7 @@ binary_code_short op l a m b k n i ha hb = two_short l a m b k _ _ _ n i ha hb (
 function_short : (f : Option Function) (l : Option Leaf) (a : List Insn) (n : ℕ) → size a + 8 ≤ 63 * n → size (function_code f l a) + 8 ≤ 63 * (1 + n)
 function_short (Some Size) l a n ha = one_short l a R1 size_tail n ha (omega arith)
 function_short (Some String) l a n ha = one_short l a R6 string_tail n ha (omega arith)
-function_short (Some Dyn) l a n ha = omega (arith, ha)
-function_short None l a n ha = omega arith
+function_short _ l a n ha = omega arith
 
 method_short : (f : Option Function) (l : Option Leaf) (a : List Insn) (n : ℕ) → size a + 8 ≤ 63 * n → size (method_function_code f l a) + 8 ≤ 63 * (1 + n)
 method_short (Some Size) l a n ha = one_short l a R1 size_tail n ha (omega arith)
@@ -92,20 +76,14 @@ test_short (Some t) l a m b k n i ha hb = two_short l a m b k R1 R2 (test_tail t
 test_short None l a m b k n i ha hb = omega arith
 
 fold_short : (k : ℕ) (range first turn : List Insn) (n m : ℕ) → size range + 8 ≤ 63 * n → size first ≤ 1 → size turn ≤ 63 * m + 10 → size (fold_code k range first turn) + 20 ≤ 63 * (1 + n + m)
-fold_short k range first turn n m hr hf ht = let e = size_fold k range first turn in omega (arith, e, hr, hf, ht)
-
-turn_short : (part tail : List Insn) (m : ℕ) → size part + 8 ≤ 63 * m → size tail ≤ 10 → size (part ++ tail) ≤ 63 * m + 10
-turn_short part tail m hp ht = let e = size_append part tail in omega (arith, e, hp, ht)
+fold_short k range first turn n m hr hf ht = grind (arith, fold_size, loop_size)
 
 macro_short : (m : Macro) (k : ℕ) (r p : List Insn) (n q : ℕ) → size r + 8 ≤ 63 * n → size p + 8 ≤ 63 * q → size (macro_code m k r p) + 8 ≤ 63 * (1 + n + q)
 unfolding exists_one_turn filter_turn
-macro_short m k r p n q hr hp = grind (arith, fold_short, turn_short, size_append)
+macro_short m k r p n q hr hp = grind (arith, fold_short, size-append)
 
 map_short : (k : ℕ) (r p t : List Insn) (n q m : ℕ) → size r + 8 ≤ 63 * n → size p + 8 ≤ 63 * q → size t + 8 ≤ 63 * m → size (map_where_code k r p t) + 8 ≤ 63 * (1 + n + q + m)
 map_short k r p t n q m hr hp ht = grind (arith, size_append, size_map_where, fold_short)
-
-ternary_short : (c a b : List Insn) (n q m : ℕ) → size c + 8 ≤ 63 * n → size a + 8 ≤ 63 * q → size b + 8 ≤ 63 * m → size (ternary_code c a b) + 8 ≤ 63 * (1 + n + q + m)
-ternary_short c a b n q m hc ha hb = let e = size_ternary c a b in omega (arith, e, hc, ha, hb)
 
 leaf_short : (l : Leaf) → size (leaf_code l) + 8 ≤ 63
 leaf_short l = let e = leaf_size l R0 in omega (arith, e)
@@ -115,18 +93,6 @@ kept_short l code n h = grind arith
 
 literal_short : (ts : List (List ℕ)) (l : tree.Literal) → size (literal_code ts l) + 8 ≤ 63
 literal_short ts l = grind arith
-
-list_short : (items : List Insn) (k n : ℕ) → size items ≤ 63 * n → size (list_code items k) + 8 ≤ 63 * (1 + n)
-list_short items k n h = grind arith
-
-map_literal_short : (entries : List Insn) (k n : ℕ) → size entries ≤ 63 * n → size (map_code entries k) + 8 ≤ 63 * (1 + n)
-map_literal_short entries k n h = grind arith
-
-item_short : (item rest : List Insn) (k n m : ℕ) → size item + 8 ≤ 63 * n → size rest ≤ 63 * m → size (item_code item k ++ rest) ≤ 63 * (n + m)
-item_short item rest k n m hi hr = grind (arith, size_append)
-
-entry_short : (key entry rest : List Insn) (k n q m : ℕ) → size key + 8 ≤ 63 * n → size entry + 8 ≤ 63 * q → size rest ≤ 63 * m → size (entry_code key entry k ++ rest) ≤ 63 * (n + q + m)
-entry_short key entry rest k n q m hk he hr = grind (arith, size_append, size_cons)
 
 variable_short : (found : Option (ℕ × ℕ)) (p : ℕ) → size (variable_code found p) + 8 ≤ 63
 variable_short found p = grind arith
@@ -149,20 +115,21 @@ module _ (ts : List (List ℕ)) (rs : List (List ℕ × ℕ)) where
         omega (arith, h)
     code_short (core.unary op a) ws k p = unary_code_short op (leaf_of a ws) _ (nodes a) (code_short a ws k p)
     code_short (core.binary op a b) ws k p = binary_code_short op (leaf_of a ws) _ (leaf_of b ws) _ k (nodes a) (nodes b) (code_short a ws k p) (code_short b ws (k + 1) _)
-    code_short (core.ternary c a b) ws k p = ternary_short _ _ _ (nodes c) (nodes a) (nodes b) (code_short c ws k p) (code_short a ws k _) (code_short b ws k _)
-    code_short (core.list items) ws k p = list_short _ k (nodes_of items) (items_short items ws k _)
-    code_short (core.map es) ws k p = map_literal_short _ k (entries_nodes es) (entries_short es ws k _)
+    code_short (core.ternary c a b) ws k p = grind (arith, size-append, size-cons, code_short c ws k p, code_short a ws k, code_short b ws k)
+    code_short (core.list items) ws k p = omega (arith, items_short items ws k (p + 2))
+    code_short (core.map es) ws k p = omega (arith, entries_short es ws k (p + 2))
     code_short (core.fold m n r e) ws k p = macro_short m k _ _ (nodes r) (nodes e) (code_short r ws k p) (code_short e (with_name n (k + 4) ws) (k + 5) _)
     code_short (core.fold_map n r e t) ws k p = map_short k _ _ _ (nodes r) (nodes e) (nodes t) (code_short r ws k p) (code_short e (with_name n (k + 4) ws) (k + 5) _) (code_short t (with_name n (k + 4) ws) (k + 5) _)
     code_short _ ws k p = omega arith
 
     items_short : (es : CoreTrees) (ws : Kept) (k p : ℕ) → size (items_code es ts rs ws k p) ≤ 63 * nodes_of es
     items_short no_cores ws k p = omega arith
-    items_short (more_cores a more) ws k p = item_short _ _ k (nodes a) (nodes_of more) (code_short a ws (k + 1) p) (items_short more ws k _)
+    items_short (more_cores a more) ws k p = grind (arith, size-append, code_short a ws (k + 1) p, items_short more ws k)
 
     entries_short : (es : CoreEntries) (ws : Kept) (k p : ℕ) → size (entries_code es ts rs ws k p) ≤ 63 * entries_nodes es
     entries_short no_core_entries ws k p = omega arith
-    entries_short (more_core_entries key v more) ws k p = entry_short _ _ _ k (nodes key) (nodes v) (entries_nodes more) (code_short key ws (k + 1) p) (code_short v ws (k + 2) _) (entries_short more ws k _)
+    entries_short (more_core_entries key v more) ws k p =
+        grind (arith, size-append, size-cons, code_short key ws (k + 1) p, code_short v ws (k + 2), entries_short more ws k)
 
 -- so code of what an image has room for is near enough for jumps
 pub short_code : (e : CoreTree) (ts : List (List ℕ)) (rs : List (List ℕ × ℕ)) (ws : Kept) (k p : ℕ) → size (code_of e ts rs ws k p) + 8 ≤ 63 * nodes e

@@ -1,78 +1,76 @@
 -- A text among the constants is lent by its address and length.
-use Rattle.std.proofs.Common.{◌≡◌, ℕ, ◌+◌, ◌-◌, ◌≤◌, Bool, true, false, Option, Some, None, List, ◌∷◌, [], ◌++◌, length, take, drop, refl, sym, subst, ap, ◌∙◌, arith, append_assoc, length-append, if◌then◌else◌}
-use Rattle.std.specs.Prelude.{bytes_eq, option_map}
-use Rattle.std.specs.Cmp.Lexicographic.{bytes_decides}
-use Rattle.std.proofs.lemmas.List.{take_all, take-append-le, drop-drop, drop_at}
-use Rattle.guest_memory.specs.Access.{constants_of}
-use Rattle.guest_memory.specs.Memory.{start_memory}
-use Rattle.std.specs.List.{AllByRecursion}
-use Rattle.helper_table.specs.Calls.{bytes_at}
-use Rattle.codegen_base.specs.Gives.Selection.{HasText}
-use Rattle.codegen.specs.Code.Literals.{address_of}
-use Rattle.codegen.specs.Computes.{TextsStand}
-use Rattle.codegen.specs.Constants.{joined, place_of, with_texts}
-use Rattle.codegen.specs.Laws.{TextsStay}
-use Rattle.codegen.proofs.Taken.{HasPlace, each_placed, joined_begins}
+use Rattle.codegen.proofs.Prelude.{◌≡◌, ℕ, ◌+◌, Bool, true, false, ◌||◌, List, [], ◌∷◌, ◌++◌, length, Option, Some, bytes_eq, refl, sym, ap, ◌∙◌, append_assoc, append-nil, if◌then◌else◌, ◌≤◌, take, drop, arith, length-append, option_map, list_any, AllByRecursion, bytes_decides, joined, place_of, with_text, with_texts, drop-drop, drop_at, take_at, list_any-append, constants_of, start_memory, bytes_at, HasText, address_of, TextsStand, TextsStay}
 
--- the text stands at this place of the bytes
-pub record StandsAt (t bytes : List ℕ) (n : ℕ) : Type 0 where
-  pub is : take (length t) (drop n bytes) ≡ t
+-- ---- the texts that were taken are among the texts, whatever is taken later
+
+-- the text is one of these
+abbrev pub IsAmong : List (List ℕ) → List ℕ → Type 0
+IsAmong texts t = list_any (bytes_eq t) texts ≡ true
+
+own : (t : List ℕ) → bytes_eq t t ≡ true
+own t = (bytes_decides t t).1 refl
+
+one_more : (texts : List (List ℕ)) (t : List ℕ) (there : Bool) → (more : List (List ℕ)) × ((if there then texts else texts ++ t ∷ []) ≡ texts ++ more)
+one_more texts t true = ([], sym (append-nil texts))
+one_more texts t false = (t ∷ [], refl)
+
+pub begins_with : (texts used : List (List ℕ)) → (more : List (List ℕ)) × (with_texts texts used ≡ texts ++ more)
+begins_with texts [] = ([], sym (append-nil texts))
+begins_with texts (t ∷ used) = grind (arith, one_more, append_assoc, begins_with (with_text texts t) used)
+
+among_later : (t : List ℕ) (texts used : List (List ℕ)) → IsAmong texts t → IsAmong (with_texts texts used) t
+among_later t texts used h = let rest = begins_with texts used in rw (rest.1, list_any-append, h) refl
+
+pub each_among : (texts used : List (List ℕ)) → AllByRecursion (IsAmong (with_texts texts used)) used
+each_among texts [] = tt
+each_among texts (t ∷ used) = (among_later t (with_text texts t) used (grind (arith, list_any-append, own)), each_among (with_text texts t) used)
+
+-- the bytes of some texts are the first of those of more
+joined-append : (xs ys : List (List ℕ)) → joined (xs ++ ys) ≡ joined xs ++ joined ys
+joined-append [] ys = refl
+joined-append (x ∷ xs) ys = ap (λ (bs : List ℕ). x ++ bs) (joined-append xs ys) ∙ sym (append_assoc x (joined xs) (joined ys))
+
+-- ---- where they stand
+
+-- the text has a place among some, and there it stands in their bytes, whatever stands behind them
+record Placed (t : List ℕ) (place : Option ℕ) (bytes rest : List ℕ) : Type 0 where
+  pub n : ℕ
+  pub place_is : place ≡ Some n
+  pub is : take (length t) (drop n (bytes ++ rest)) ≡ t
   pub within : n + length t ≤ length bytes
 
-stands_first : (t rest : List ℕ) → StandsAt t (t ++ rest) 0
-stands_first t rest = let e = length-append t rest in record { is = take-append-le (length t) t rest (omega arith) ∙ take_all (length t) t (omega arith); within = omega (arith, e) }
+placed_by : (t s bytes rest : List ℕ) (place : Option ℕ) (same more : Bool) → bytes_eq t s ≡ same → (more ≡ true → Placed t place bytes rest)
+    → (same || more) ≡ true → Placed t (if same then Some 0 else option_map (λ m. length s + m) place) (s ++ bytes) rest
+placed_by t s bytes rest place true more e later h = grind (arith, bytes_decides t s, append_assoc, take_at, length-append)
+placed_by t s bytes rest place false more e later h =
+    let p = later h in
+    let gone = ap (drop (length s + p.n)) (append_assoc s bytes rest) ∙ sym (drop-drop p.n (length s) (s ++ (bytes ++ rest))) ∙ ap (drop p.n) (drop_at s (bytes ++ rest) (length s) refl) in
+    record { n = length s + p.n; place_is = ap (option_map (λ m. length s + m)) p.place_is; is = ap (take (length t)) gone ∙ p.is; within = omega (arith, length-append s bytes) }
 
-stands_behind : (t front rest : List ℕ) (n : ℕ) → StandsAt t rest n → StandsAt t (front ++ rest) (length front + n)
-stands_behind t front rest n h =
-    let e = length-append front rest in
-    let gone : drop (length front) (front ++ rest) ≡ rest = drop_at front rest (length front) refl
-    in record { is = ap (take (length t)) (sym (drop-drop n (length front) (front ++ rest)) ∙ ap (drop n) gone) ∙ h.is; within = let w = h.within in omega (arith, e, w) }
+placed : (t : List ℕ) (texts : List (List ℕ)) (rest : List ℕ) → IsAmong texts t → Placed t (place_of t texts) (joined texts) rest
+placed t [] rest h = absurd (cc)
+placed t (s ∷ more) rest h = placed_by t s (joined more) rest (place_of t more) (bytes_eq t s) (list_any (bytes_eq t) more) refl (placed t more rest) h
 
--- so does each text of some, where bytes begin with all of them
-by_first : (t s rest : List ℕ) (n : ℕ) (more : Option ℕ) (same : Bool) → bytes_eq t s ≡ same → ((m : ℕ) → more ≡ Some m → StandsAt t rest m) → (if same then Some 0 else option_map (λ m. length s + m) more) ≡ Some n → StandsAt t (s ++ rest) n
-by_first t s rest n more true e later h =
-    let same : t ≡ s = (bytes_decides t s).0 e in
-    let at : 0 ≡ n = cc in
-    subst (λ m. StandsAt t (s ++ rest) m) at (subst (λ f. StandsAt t (f ++ rest) 0) same (stands_first t rest))
-by_first t s rest n (Some m) false e later h =
-    let at : length s + m ≡ n = cc in
-    subst (λ j. StandsAt t (s ++ rest) j) at (stands_behind t s rest m (later m refl))
-by_first t s rest n None false e later h = absurd (cc)
-
-pub text_stands : (t : List ℕ) (texts : List (List ℕ)) (rest : List ℕ) (n : ℕ) → place_of t texts ≡ Some n → StandsAt t (joined texts ++ rest) n
-text_stands t [] rest n h = absurd (cc)
-text_stands t (s ∷ more) rest n h =
-    subst (λ l. StandsAt t l n) (sym (append_assoc s (joined more) rest)) (by_first t s (joined more ++ rest) n (place_of t more) (bytes_eq t s) refl (λ m e. text_stands t more rest m e) h)
-
-lent_by : (t constants : List ℕ) (n : ℕ) → StandsAt t constants n → bytes_at constants (0x4_0000_0000 + n) (length t) ≡ Some t
+lent_by : (t constants : List ℕ) (n : ℕ) → take (length t) (drop n constants) ≡ t → n + length t ≤ length constants
+    → bytes_at constants (0x4_0000_0000 + n) (length t) ≡ Some t
 unfolding constants_of start_memory
-lent_by t constants n h = grind arith
-
-address_is : (t : List ℕ) (texts : List (List ℕ)) (n : ℕ) → n ≤ 1048576 → place_of t texts ≡ Some n → address_of texts t ≡ 0x4_0000_0000 + n
-address_is t texts n small h = rw h (omega arith)
+lent_by t constants n is within = grind arith
 
 -- where the constants begin with all texts, each of them stands where code looks for it
-pub has_text : (t : List ℕ) (texts : List (List ℕ)) (rest : List ℕ) (n : ℕ) → place_of t texts ≡ Some n → length (joined texts) ≤ 1048576 → HasText (joined texts ++ rest) (address_of texts t) t
-has_text t texts rest n place small =
-    let inside = text_stands t texts [] n place in
-    let w = inside.within in
-    let all = length-append (joined texts) [] in
-    let at : address_of texts t ≡ 0x4_0000_0000 + n = address_is t texts n (omega (arith, w, small, all)) place in
-    record {
-      bytes_are = ap (λ a. bytes_at (joined texts ++ rest) a (length t)) at ∙ lent_by t (joined texts ++ rest) n (text_stands t texts rest n place);
-      address_is_word = omega (arith, at, w, small, all);
-      length_is_immediate = omega (arith, w, small, all);
-    }
+has_text : (t : List ℕ) (texts : List (List ℕ)) (rest : List ℕ) → IsAmong texts t → length (joined texts) ≤ 1048576
+    → HasText (joined texts ++ rest) (address_of texts t) t
+has_text t texts rest among small =
+    let p = placed t texts rest among in
+    grind (arith, lent_by t (joined texts ++ rest) p.n p.is, length-append (joined texts) rest)
 
-all_stand : (texts : List (List ℕ)) (rest : List ℕ) → length (joined texts) ≤ 1048576 → (used : List (List ℕ)) → AllByRecursion (HasPlace texts) used → TextsStand (joined texts ++ rest) texts used
-all_stand texts rest small [] placed = tt
-all_stand texts rest small (t ∷ used) placed = (has_text t texts rest placed.0.0 placed.0.1 small, all_stand texts rest small used placed.1)
+all_stand : (texts : List (List ℕ)) (rest : List ℕ) → length (joined texts) ≤ 1048576 → (used : List (List ℕ)) → AllByRecursion (IsAmong texts) used
+    → TextsStand (joined texts ++ rest) texts used
+all_stand texts rest small [] among = tt
+all_stand texts rest small (t ∷ used) among = (has_text t texts rest among.0 small, all_stand texts rest small used among.1)
 
 -- so do the texts of an expression once they are taken, whatever is taken later
 pub texts_stand : TextsStay
 texts_stand texts used later small =
-    let taken = with_texts texts used in
-    let behind = joined_begins taken later in
-    let count = length-append (joined taken) behind.0 in
-    let whole = ap length behind.1 in
-    subst (λ bytes. TextsStand bytes taken used) (sym behind.1) (all_stand taken behind.0 (omega (arith, count, whole, small)) used (each_placed texts used))
+    let more = begins_with (with_texts texts used) later in
+    let whole = ap joined more.1 ∙ joined-append (with_texts texts used) more.0 in
+    rw whole (all_stand (with_texts texts used) (joined more.0) (omega (arith, ap length whole, length-append (joined (with_texts texts used)) (joined more.0))) used (each_among texts used))

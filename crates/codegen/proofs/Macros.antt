@@ -1,37 +1,10 @@
 -- Code of macros within the budgets of their parts.
-use Rattle.std.proofs.Common.{◌≡◌, ℕ, zero, suc, ◌+◌, ◌<◌, ◌≤◌, Bool, true, ◌||◌, List, [], ◌∷◌, Option, Some, refl, ap, ◌∙◌, arith}
-use Rattle.std.specs.Prelude.{slice_get}
-use Rattle.insn_codec.specs.declared.insn.Insn.{Insn}
-use Rattle.value_store.specs.Size.{result_size}
-use Rattle.value_store.specs.Value.{Value, ValueOrError, value, null}
-use Rattle.cel_macros.specs.declared.macros.Macro.{Macro}
-use Rattle.cel_macros.specs.FoldMeaning.{folded, folded_map}
-use Rattle.cel_macros.specs.Logic.{Truth, Yes, chosen, truth}
-use Rattle.cel_macros.specs.Macros.{range_of}
-use Rattle.codegen.specs.Computes.{ComputesPart}
-use Rattle.codegen.specs.Cost.{Cost, ◌and◌, each_item, items_cost, kept, kept_by, node, nothing, one_item, spent_by}
-use Rattle.codegen_base.specs.Code.Folds.{macro_code, map_where_code}
-use Rattle.codegen_base.specs.Contexts.{Context}
-use Rattle.codegen_base.specs.Engine.{Setting}
-use Rattle.codegen_base.specs.Gives.Macros.{IsItem, each_spent, each_visits, holds_too_deep, items_spent, items_visits}
-use Rattle.codegen_base.specs.Loops.{with_item}
-use Rattle.codegen_base.specs.Pieces.{size}
-use Rattle.codegen_base.proofs.Macros.All.{macro_gives}
-use Rattle.codegen_base.proofs.Macros.Budgets.{gives_within}
-use Rattle.codegen_base.proofs.Macros.MapsWhere.{map_where_gives}
-
-size_least : (x : ValueOrError) → 1 ≤ result_size x
-size_least (value null) = omega arith
-size_least _ = omega arith
-
-second_side : (a b : Bool) → b ≡ true → (a || b) ≡ true
-second_side a b e = grind arith
-
-first_side : (a b : Bool) → a ≡ true → (a || b) ≡ true
-first_side a b e = grind arith
+use Rattle.codegen.proofs.Prelude.{◌≡◌, ℕ, zero, suc, ◌+◌, ◌<◌, Bool, true, List, [], ◌∷◌, Option, Some, refl, ap, ◌∙◌, arith, subst, slice_get, Insn, Value, ValueOrError, Macro, folded, folded_map, Truth, Yes, chosen, truth, range_of, map_over_range, over_range, ComputesPart, Cost, ◌and◌, each_item, items_cost, kept, kept_by, node, nothing, one_item, spent_by, macro_cost, map_cost, macro_code, map_where_code, Context, Setting, IsItem, each_spent, each_visits, items_spent, items_visits, with_item, size, macro_gives, gives_within, map_where_gives, CoreTree, method_or_fold, method_or_fold_map, fold_maps_mean, folds_mean, deepest, need, with_name, Variable, code_of, texts_of, IsAccepted}
+use Rattle.cel_macros.specs.CoreTree as core
+use Rattle.codegen.proofs.Parts.{Part, result_size_least, or_left, or_right, texts_back, texts_front}
 
 pub right_deep : (a b : Cost) → b.is_deep ≡ true → (a and b).is_deep ≡ true
-right_deep a b e = second_side a.is_deep b.is_deep e
+right_deep a b e = or_right a.is_deep b.is_deep e
 
 -- ---- what the items of a range cost
 
@@ -53,25 +26,13 @@ module _ (f : Value → Cost) where
   -- what is deep at an item is so in the whole
   each_deep : (vs : List Value) (i : ℕ) (v : Value) → slice_get vs i ≡ Some v → (f v).is_deep ≡ true → (each_item f vs).is_deep ≡ true
   each_deep [] i v at deep = absurd (cc)
-  each_deep (w ∷ vs) zero v at deep = let same : w ≡ v = cc in first_side (f w).is_deep (each_item f vs).is_deep (ap (λ (u : Value). (f u).is_deep) same ∙ deep)
+  each_deep (w ∷ vs) zero v at deep = let same : w ≡ v = cc in or_left (f w).is_deep (each_item f vs).is_deep (ap (λ (u : Value). (f u).is_deep) same ∙ deep)
   each_deep (w ∷ vs) (suc i) v at deep = right_deep (one_item and f w) (each_item f vs) (each_deep vs i v at deep)
 
   pub item_deep : (r : ValueOrError) (v : Value) → IsItem r v → (f v).is_deep ≡ true → (items_cost f (range_of r)).is_deep ≡ true
   item_deep r v inside deep = grind (arith, each_deep)
 
--- items that cost alike
-module _ (f g : Value → ℕ) (same : (v : Value) → f v ≡ g v) where
-  items_visits_same : (o : Option (List Value)) → items_visits f o ≡ items_visits g o
-  items_visits_same o = grind arith
-
-  items_spent_same : (o : Option (List Value)) → items_spent f o ≡ items_spent g o
-  items_spent_same o = grind arith
-
 -- ---- macros with one part
-
--- an item that is to be held and is too deep
-kept_deep : (m : Macro) (v : Value) (x : ValueOrError) → holds_too_deep m v x ≡ true → (kept_by m v x).is_deep ≡ true
-kept_deep m v x e = grind arith
 
 -- what each item costs, when its part costs this
 abbrev pub item_cost : Macro → (Value → ValueOrError) → (Value → Cost) → Value → Cost
@@ -87,11 +48,11 @@ macro_computes m s p k depth range part c n r f whole each low gives_range gives
     let g = item_cost m f each in
     let visits = visits_are g (range_of r) in
     let spent = spent_is g (range_of r) in
-    let sized = size_least (folded m f (range_of r)) in
+    let sized = result_size_least (folded m f (range_of r)) in
     gives_within s p (macro_code m k range part) c depth k (folded m f (range_of r)) _ _ _ _ (omega arith) (omega arith)
     (macro_gives m s p k depth range part c n r f whole.visits (spent_by whole) (λ v. (g v).visits) (λ v. spent_by (g v)) low gives_range
     (λ v inside. gives_within s (p + size range + 17) part (with_item c k n v) depth (k + 5) (f v) _ _ _ _ (omega arith) (omega arith) (gives_part v inside))
-    (λ v inside deep. may (item_deep g r v inside (right_deep (each v) (kept_by m v (f v)) (kept_deep m v (f v) deep)))))
+    (λ v inside deep. may (item_deep g r v inside (right_deep (each v) (kept_by m v (f v)) (grind arith)))))
 
 -- ---- `map` with a predicate
 
@@ -119,14 +80,62 @@ pub map_where_computes : (s : Setting) (p k depth : ℕ) (range predicate transf
 map_where_computes s p k depth range predicate transform c n r t f whole first second low gives_range gives_predicate gives_transform may =
     let g = where_cost t f first second in
     let more : Value → Cost = λ v. second v and kept (f v) in
-    let all_visits : Value → ℕ = λ v. (first v).visits + chosen (truth (t v)) (more v).visits 0 0 in
-    let all_spent : Value → ℕ = λ v. spent_by (first v) + chosen (truth (t v)) (spent_by (more v)) 0 0 in
     let visits = visits_are g (range_of r) in
     let spent = spent_is g (range_of r) in
-    let same_visits = items_visits_same all_visits (λ v. (g v).visits) (λ v. chosen_visits (truth (t v)) (first v) (more v)) (range_of r) in
-    let same_spent = items_spent_same all_spent (λ v. spent_by (g v)) (λ v. chosen_spent (truth (t v)) (first v) (more v)) (range_of r) in
-    let sized = size_least (folded_map (λ v. truth (t v)) f (range_of r)) in
+    let same_visits = ap (λ (h : Value → ℕ). items_visits h (range_of r)) (λ i v. chosen_visits (truth (t v)) (first v) (more v) i) in
+    let same_spent = ap (λ (h : Value → ℕ). items_spent h (range_of r)) (λ i v. chosen_spent (truth (t v)) (first v) (more v) i) in
+    let sized = result_size_least (folded_map (λ v. truth (t v)) f (range_of r)) in
     gives_within s p (map_where_code k range predicate transform) c depth k (folded_map (λ v. truth (t v)) f (range_of r)) _ _ _ _ (omega arith) (omega arith)
     (map_where_gives s p k depth range predicate transform c n r t f whole.visits (spent_by whole) (λ v. (first v).visits) (λ v. spent_by (first v)) (λ v. (more v).visits) (λ v. spent_by (more v)) low gives_range gives_predicate
     (λ v inside is. gives_within s (p + size range + 17 + size predicate + 2) transform (with_item c k n v) depth (k + 5) (f v) _ _ _ _ (omega arith) (omega arith) (gives_transform v inside is))
     (λ v inside is deep. may (item_deep g r v inside (chosen_deep (truth (t v)) (first v) (more v) is (right_deep (second v) (kept (f v)) deep)))))
+
+-- ---- macros as they are written, where the code of their parts gives theirs within their budgets
+
+module _ (s : Setting) (scope : List Variable) (rs : List (List ℕ × ℕ)) (texts : List (List ℕ)) (depth : ℕ) (c : Context) (k : ℕ) where
+  -- the code of a range, and of a part that runs for each item, at a slot
+  abbrev range_code : CoreTree → ℕ → List Insn
+  range_code e p = code_of e texts rs c.words k p
+
+  abbrev part_code : List ℕ → CoreTree → ℕ → List Insn
+  part_code i e p = code_of e texts rs (with_name i (k + 4) c.words) (k + 5) p
+
+  module _ (m : Macro) (i : List ℕ) (a p : CoreTree) (r : ValueOrError) (t : Cost) (f : Value → ValueOrError) (each : Value → Cost) where
+    -- what an item costs, beside the item's own
+    abbrev costs_of : Value → Cost
+    costs_of v = each v and kept_by m v (f v)
+
+    pub macro_part : Part s scope rs texts depth c k a r t → ((v : Value) → Part s scope rs texts depth (with_item c k i v) (k + 5) p (f v) (each v))
+        → Part s scope rs texts depth c k (core.fold m i a p) (folded m f (range_of r)) (node (folded m f (range_of r)) and t and items_cost costs_of (range_of r))
+    unfolding code_of need deepest texts_of IsAccepted
+    macro_part range part ready q =
+        macro_computes m s q k depth (range_code a q) (part_code i p (q + size (range_code a q) + 17)) c i r f t each (omega arith)
+        (range (grind (arith, texts_front, or_left)) q) (λ v inside. part v (grind (arith, texts_back, or_right, or_left, item_deep costs_of r v inside)) _)
+        (λ d. ready.may (grind (arith, or_right)))
+
+  pub fold_part : (m : Option Macro) (o : Option (List ℕ)) (n : List ℕ) (a x p : CoreTree) (r : ValueOrError) (t : Cost) (f : List ℕ → Value → ValueOrError) (each : List ℕ → Value → Cost) → Part s scope rs texts depth c k a r t → ((i : List ℕ) (v : Value) → Part s scope rs texts depth (with_item c k i v) (k + 5) p (f i v) (each i v)) → Part s scope rs texts depth c k (method_or_fold m o n a x p) (over_range m o f (range_of r)) (node (over_range m o f (range_of r)) and t and macro_cost m o each f (range_of r))
+  unfolding IsAccepted
+  fold_part (Some m) (Some i) n a x p r t f each range part =
+      subst (λ (z : ValueOrError). Part s scope rs texts depth c k (core.fold m i a p) z (node z and t and macro_cost (Some m) (Some i) each f (range_of r))) (folds_mean m i f (range_of r))
+      (macro_part m i a p r t (f i) (each i) range (part i))
+  fold_part _ _ n a x p r t f each range part = λ ready q. absurd ready.accepted
+
+  module _ (i : List ℕ) (a p d : CoreTree) (r : ValueOrError) (t : Cost) (g f : Value → ValueOrError) (each then_costs : Value → Cost) where
+    abbrev where_costs : Value → Cost
+    where_costs v = each v and chosen (truth (g v)) (then_costs v and kept (f v)) nothing nothing
+
+    pub map_where_part : Part s scope rs texts depth c k a r t → ((v : Value) → Part s scope rs texts depth (with_item c k i v) (k + 5) p (g v) (each v)) → ((v : Value) → Part s scope rs texts depth (with_item c k i v) (k + 5) d (f v) (then_costs v)) → Part s scope rs texts depth c k (core.fold_map i a p d) (folded_map (λ v. truth (g v)) f (range_of r)) (node (folded_map (λ v. truth (g v)) f (range_of r)) and t and items_cost where_costs (range_of r))
+    unfolding code_of need deepest texts_of IsAccepted
+    map_where_part range predicate transform ready q =
+        let u = q + size (range_code a q) + 17 in
+        map_where_computes s q k depth (range_code a q) (part_code i p u) (part_code i d (u + size (part_code i p u) + 2)) c i r g f t each then_costs (omega arith)
+        (range (grind (arith, texts_front, or_left)) q)
+        (λ v inside. predicate v (grind (arith, texts_front, texts_back, or_right, or_left, item_deep where_costs r v inside)) _)
+        (λ v inside e. transform v (grind (arith, texts_back, or_right, or_left, item_deep where_costs r v inside)) _) (λ h. ready.may (grind (arith, or_right)))
+
+  pub fold_map_part : (b : Bool) (o : Option (List ℕ)) (n : List ℕ) (a x p d : CoreTree) (r : ValueOrError) (t : Cost) (g f : List ℕ → Value → ValueOrError) (each then_costs : List ℕ → Value → Cost) → Part s scope rs texts depth c k a r t → ((i : List ℕ) (v : Value) → Part s scope rs texts depth (with_item c k i v) (k + 5) p (g i v) (each i v)) → ((i : List ℕ) (v : Value) → Part s scope rs texts depth (with_item c k i v) (k + 5) d (f i v) (then_costs i v)) → Part s scope rs texts depth c k (method_or_fold_map b o n a x p d) (map_over_range b o g f (range_of r)) (node (map_over_range b o g f (range_of r)) and t and map_cost b o each (λ i v. truth (g i v)) (λ i v. then_costs i v and kept (f i v)) (range_of r))
+  unfolding IsAccepted
+  fold_map_part true (Some i) n a x p d r t g f each then_costs range predicate transform =
+      subst (λ (z : ValueOrError). Part s scope rs texts depth c k (core.fold_map i a p d) z (node z and t and map_cost true (Some i) each (λ j v. truth (g j v)) (λ j v. then_costs j v and kept (f j v)) (range_of r))) (fold_maps_mean i g f (range_of r))
+      (map_where_part i a p d r t (g i) (f i) (each i) (then_costs i) range (predicate i) (transform i))
+  fold_map_part _ _ n a x p d r t g f each then_costs range predicate transform = λ ready q. absurd ready.accepted

@@ -1,39 +1,47 @@
 -- The code of each construct, where the code of its parts gives theirs within their budgets.
-use Rattle.std.proofs.Common.{◌≡◌, ℕ, ◌+◌, ◌<◌, ◌≤◌, Bool, true, false, ◌||◌, List, [], ◌∷◌, ◌++◌, length, Option, Some, None, refl, ap, ◌∙◌, arith}
-use Rattle.std.proofs.lemmas.Str.{is_utf8-from_IsUtf8}
+use Rattle.codegen.proofs.Prelude.{◌≡◌, ℕ, ◌+◌, ◌-◌, ◌*◌, ◌<◌, ◌≤◌, false, List, ◌++◌, Option, arith, Bool, true, ◌||◌, [], ◌∷◌, length, Some, None, refl, ℤ, Insn, Register, is_frame_pointer, result_size, items_size, size_of as value_size, ValueOrError, value, null, Value, boolean, int, text, Items, no_items, item, list_of, Truth, Yes, No, chosen, truth, ternary_of, and_of, not_of, or_of, ComputesPart, Ready, TextsStand, nestings, names, Cost, ◌and◌, node, nothing, spent_by, literal_cost, name_or_text, kept, kept_size, operand_code, operands_code, absorbing_code, ternary_code, no_ref, yes_ref, Context, Gives, Setting, AbsorbingGives, text_length, HasText, AreApart, Combines, Converts, IsLeafOf, size, Leaf, logic_gives, one_gives, two_gives, gives_within, is_utf8-from_IsUtf8, IsWellFormedLiteral, R1, R2, R6, R7, sum_of, difference_of, negation_of, product_of, quotient_of, remainder_of, CoreTree, CoreTrees, CoreEntries, more_cores, no_cores, more_core_entries, no_core_entries, name_value, Function, Size, String, Dyn, TextTest, function_of, string_of, text_test_of, literal_of, list_literal, map_literal, field_of, has_of, index_of, deepest, need, deepest_of, entries_deepest, entries_need, needs, joined_length, Variable, leaf_gives, leaves_give, selection_gives, code_of, function_code, leaf_of, test_code, texts_of, kept_or, binary_tail, entries_code, items_code, texts_of_each, texts_of_entries, address_of, IsAccepted, AreAccepted, AreEntriesAccepted, BinaryOperator, UnaryOperator, equal_of, greater_equal_of, greater_of, less_equal_of, less_of, member_of, unequal_of, binary_of, unary_of, difference_gives, sum_gives, comparison_gives, products_give, negation_gives, Builds, EntriesGive, ItemsGive, list_gives, map_gives, looser}
 use Rattle.cel_reader.specs.Tree as tree
-use Rattle.cel_reader.specs.WellFormed.{IsWellFormedLiteral}
-use Rattle.insn_codec.specs.declared.insn.Insn.{Insn}
-use Rattle.insn_codec.specs.declared.register.Register.TheVariants.{R1, R2, R6}
 use Rattle.value_store.specs.Calls.{joined}
-use Rattle.value_store.specs.Size.{items_size, result_size, size_of as value_size}
-use Rattle.value_store.specs.Value.{Value, ValueOrError, value, null, boolean, int, text, list, Items, no_items, item, list_of}
-use Rattle.cel_macros.specs.Arithmetic.{sum_of}
 use Rattle.cel_macros.specs.CoreTree as core
-use Rattle.cel_macros.specs.CoreTree.{CoreTree}
-use Rattle.cel_macros.specs.Environment.{name_value}
-use Rattle.cel_macros.specs.Functions.{Function, Size, String, Dyn, TextTest, function_of, size_of, string_of, text_test_of}
-use Rattle.cel_macros.specs.Literals.{literal_of}
-use Rattle.cel_macros.specs.Logic.{Truth, Yes, No, chosen, ternary_of, truth}
-use Rattle.cel_macros.specs.Selection.{field_of, has_of, index_of}
-use Rattle.cel_measures.specs.Measures.{deepest, need}
-use Rattle.codegen_base.specs.Code.Calls.{kept_size}
-use Rattle.codegen_base.specs.Contexts.{Context}
-use Rattle.codegen_base.specs.Engine.{Setting}
-use Rattle.codegen_base.specs.Gives.Selection.{HasText, text_length}
-use Rattle.codegen_base.specs.Helpers.{joined_length}
-use Rattle.codegen_base.specs.Operators.{AreApart, IsLeafOf}
-use Rattle.codegen_base.specs.Pieces.{size}
-use Rattle.codegen_base.specs.Scopes.{Variable}
-use Rattle.codegen_base.specs.declared.leaf.Leaf.{Leaf}
-use Rattle.codegen_base.proofs.Leaves.{leaf_gives, leaves_give}
-use Rattle.codegen_base.proofs.Selection.{selection_gives}
-use Rattle.codegen.specs.Code.Expressions.{code_of, function_code, leaf_of, test_code, texts_of, kept_or}
-use Rattle.codegen.specs.Code.Literals.{address_of}
-use Rattle.codegen.specs.Computes.{ComputesPart, Ready, TextsStand, names, nestings, routines}
-use Rattle.codegen.specs.Cost.{Cost, ◌and◌, literal_cost, name_or_text, node, nothing}
-use Rattle.codegen.specs.Accepted.{IsAccepted}
-use Rattle.codegen.proofs.Budgets.{branches, leaf, one, same, text_within, two}
+use Rattle.cel_macros.specs.Functions.{size_of}
+use Rattle.cel_reader.specs.declared.operator.BinaryOperator.TheVariants as op
+use Rattle.cel_reader.specs.declared.operator.UnaryOperator.TheVariants as one_operand
+
+-- ---- code of constructs within the budgets of their parts
+
+-- ---- numbers
+
+pub result_size_least : (x : ValueOrError) → 1 ≤ result_size x
+result_size_least (value null) = omega arith
+result_size_least _ = omega arith
+
+pub text_within : (x : ValueOrError) → text_length x ≤ result_size x
+text_within x = grind arith
+
+module _ (s : Setting) (c : Context) (depth k : ℕ) where
+  -- a construct without parts
+  pub leaf : (p : ℕ) (piece : List Insn) (x : ValueOrError) (n m : ℕ) (t : Cost) → n ≤ 112 → 1 ≤ t.visits → m ≤ 112 + 15 * t.sizes → Gives s p piece c depth k x n m → ComputesPart s p piece c depth k x t
+  leaf p piece x n m t hn hv hm g = gives_within s p piece c depth k x n m _ _ (omega arith) (omega arith) g
+
+  -- a part in a register, and a piece behind it
+  pub one : (p : ℕ) (l : Option Leaf) (operand piece : List Insn) (r : Register) (x z : ValueOrError) (n m : ℕ) (part t : Cost) → is_frame_pointer r ≡ false → n ≤ 111 → m ≤ 112 + 15 * result_size z → 1 + part.visits ≤ t.visits → result_size z + part.sizes ≤ t.sizes → IsLeafOf c depth k l x → ComputesPart s p operand c depth k x part → Converts s (p + size (operand_code l operand r)) piece r c depth k x z n m → ComputesPart s p (operand_code l operand r ++ piece) c depth k z t
+  one p l operand piece r x z n m part t free hn hm hv hs leaf g h = gives_within s p (operand_code l operand r ++ piece) c depth k z _ _ _ _ (omega arith) (omega arith) (one_gives s p l operand piece r c depth k x z _ _ n m free leaf g h)
+
+  -- two parts in registers, and a piece behind them
+  pub two : (p : ℕ) (l : Option Leaf) (left : List Insn) (m : Option Leaf) (right piece : List Insn) (r q : Register) (x y z : ValueOrError) (n w : ℕ) (first second : Cost) → k < 60 → AreApart r q → n ≤ 109 → w ≤ 112 + 15 * result_size z → IsLeafOf c depth k l x → ComputesPart s p left c depth k x first → IsLeafOf c depth (k + 1) m y → ComputesPart s (p + kept_size l left) right c depth (k + 1) y second → Combines s (p + size (operands_code l left m right k r q)) piece r q c depth k x y z n w → ComputesPart s p (operands_code l left m right k r q ++ piece) c depth k z (node z and first and second)
+  two p l left m right piece r q x y z n w first second low apart hn hw leaf g leaf_right h t = gives_within s p (operands_code l left m right k r q ++ piece) c depth k z _ _ _ _ (omega arith) (omega arith) (two_gives s p k l left m right piece r q c depth x y z _ _ _ _ n w low apart leaf g leaf_right h t)
+
+  -- two parts, of which the left one may decide
+  pub absorbing : (p : ℕ) (decides other : ℤ) (f : ValueOrError → ValueOrError → ValueOrError) → AbsorbingGives decides other f → (left right : List Insn) (x y : ValueOrError) (first second : Cost) → k < 60 → ComputesPart s p left c depth k x first → ComputesPart s (p + size left + 2) right c depth (k + 1) y second → ComputesPart s p (absorbing_code decides other left right k) c depth k (f x y) (node (f x y) and first and second)
+  absorbing p decides other f law left right x y first second low g h = gives_within s p (absorbing_code decides other left right k) c depth k (f x y) _ _ _ _ (omega arith) (omega arith) (law s p k left right c depth x y _ _ _ _ low g h)
+
+  chosen_spent : (t : Truth) (first one_side other : Cost) (x : ℕ) → (15 * spent_by first - 8) + chosen t (15 * spent_by one_side - 8) (15 * spent_by other - 8) 0 ≤ 15 * (8 * (1 + first.visits + (chosen t one_side other nothing).visits) + (x + first.sizes + (chosen t one_side other nothing).sizes)) - 8
+  chosen_spent t first one_side other x = grind arith
+
+  pub branches : (p : ℕ) (condition one_side other : List Insn) (t x y : ValueOrError) (first second third : Cost) → k ≤ 64 → ComputesPart s p condition c depth k t first → (truth t ≡ Yes → ComputesPart s (p + size condition + 2) one_side c depth k x second) → (truth t ≡ No → ComputesPart s (p + size condition + 2 + size one_side + 1) other c depth k y third) → ComputesPart s p (ternary_code condition one_side other) c depth k (ternary_of t x y) (node (ternary_of t x y) and first and chosen (truth t) second third nothing)
+  branches p condition one_side other t x y first second third low g h i =
+      gives_within s p (ternary_code condition one_side other) c depth k (ternary_of t x y) _ _ _ _ (grind arith) (chosen_spent (truth t) first second third (result_size (ternary_of t x y)))
+      (logic_gives.ternary s p k condition one_side other c depth t x y _ _ _ _ _ _ low g h i)
 
 pub or_left : (a b : Bool) → a ≡ true → (a || b) ≡ true
 or_left a b e = grind arith
@@ -60,22 +68,12 @@ items_many : (is : Items) → length (list_of is) ≤ items_size is
 items_many no_items = omega arith
 items_many (item v more) = let h = item_size v in let rest = items_many more in omega arith
 
--- where they are no two texts and no two lists, nothing is joined
-text_joined : (t : List ℕ) (w : Value) → joined_length (joined (Some (value (text t))) (Some (value w))) ≤ result_size (sum_of (value (text t)) (value w))
-text_joined t w = grind arith
-
-list_joined : (is : Items) (w : Value) → joined_length (joined (Some (value (list is))) (Some (value w))) ≤ result_size (sum_of (value (list is)) (value w))
-list_joined is w = grind (arith, items_many)
-
-none_joined : (x y : ValueOrError) → joined_length (joined (Some x) (Some y)) ≡ 0 → joined_length (joined (Some x) (Some y)) ≤ result_size (sum_of x y)
-none_joined x y e = omega arith
-
 pub joined_within : (x y : ValueOrError) → joined_length (joined (Some x) (Some y)) ≤ result_size (sum_of x y)
-joined_within x y = grind (arith, none_joined, text_joined, list_joined)
+joined_within x y = grind (arith, items_many)
 
 -- where all is ready, the code gives the value within the budgets, wherever it stands
-abbrev pub Part : Setting → List Variable → List (List ℕ) → ℕ → Context → ℕ → CoreTree → ValueOrError → Cost → Type 0
-Part s scope texts depth c k e x t = Ready s scope texts c depth k e t.is_deep → (p : ℕ) → ComputesPart s p (code_of e texts (routines scope) c.words k p) c depth k x t
+abbrev pub Part : Setting → List Variable → List (List ℕ × ℕ) → List (List ℕ) → ℕ → Context → ℕ → CoreTree → ValueOrError → Cost → Type 0
+Part s scope rs texts depth c k e x t = Ready s scope texts c depth k e t.is_deep → (p : ℕ) → ComputesPart s p (code_of e texts rs c.words k p) c depth k x t
 
 -- where the expression is a leaf, that names the value
 abbrev pub LeafPart : ℕ → Context → ℕ → CoreTree → ValueOrError → Type 0
@@ -85,10 +83,42 @@ LeafPart depth c k e x = k ≤ 60 → IsLeafOf c depth k (leaf_of e c.words) x
 pub first_two : AreApart R1 R2
 first_two = record { first = refl; second = refl; apart = refl; back = refl }
 
-module _ (s : Setting) (scope : List Variable) (texts : List (List ℕ)) (depth : ℕ) (c : Context) (k : ℕ) where
+-- the registers of exchanged operands, and of those that helpers keep
+exchanged : AreApart R2 R1
+exchanged = record { first = refl; second = refl; apart = refl; back = refl }
+
+kept_two : AreApart R6 R7
+kept_two = record { first = refl; second = refl; apart = refl; back = refl }
+
+builds_within : (s : Setting) (p : ℕ) (piece : List Insn) (c : Context) (depth k : ℕ) (f : ValueOrError → ValueOrError) (n m n1 m1 : ℕ) → n ≤ n1 → m ≤ m1 → Builds s p piece c depth k f n m → Builds s p piece c depth k f n1 m1
+builds_within s p piece c depth k f n m n1 m1 hn hm g = record { runs = λ b x has made named. looser s n1 m1 hn hm (g.runs b x has made named) }
+
+-- what is ready for the items of a list, or the entries of a map: they are accepted, open so many frames, need so many words
+-- and use these texts
+pub record AllReady (s : Setting) (texts : List (List ℕ)) (c : Context) (depth k : ℕ)
+    (Accepted : Type 0) (opened needed : ℕ) (used : List (List ℕ)) (deep : Bool) : Type 0 where
+  pub accepted : Accepted
+  pub frames : depth + opened ≤ 7
+  pub low : k < 60
+  pub room : k + needed ≤ 60
+  pub texts_stand : TextsStand c.constants texts used
+  pub may : deep ≡ true → s.is_deep ≡ true
+
+-- where all is ready, the items are pushed, and the entries put, within 120 steps a visit and 15 times what is spent
+abbrev pub ItemsPart : Setting → List Variable → List (List ℕ × ℕ) → List (List ℕ) → ℕ → Context → ℕ → CoreTrees → List ValueOrError → Cost → Type 0
+ItemsPart s scope rs texts depth c k es xs t =
+    AllReady s texts c depth k (AreAccepted es (names scope)) (deepest_of es (nestings scope)) (1 + needs es) (texts_of_each es) t.is_deep
+    → (p : ℕ) → ItemsGive s p (items_code es texts rs c.words k p) c depth k xs (120 * t.visits) (15 * spent_by t)
+
+abbrev pub EntriesPart : Setting → List Variable → List (List ℕ × ℕ) → List (List ℕ) → ℕ → Context → ℕ → CoreEntries → List (ValueOrError × ValueOrError) → Cost → Type 0
+EntriesPart s scope rs texts depth c k es xs t =
+    AllReady s texts c depth k (AreEntriesAccepted es (names scope)) (entries_deepest es (nestings scope)) (entries_need es) (texts_of_entries es) t.is_deep
+    → (p : ℕ) → EntriesGive s p (entries_code es texts rs c.words k p) c depth k xs (120 * t.visits) (15 * spent_by t)
+
+module _ (s : Setting) (scope : List Variable) (rs : List (List ℕ × ℕ)) (texts : List (List ℕ)) (depth : ℕ) (c : Context) (k : ℕ) where
   -- the code at a slot, with words from another one on
   abbrev code : CoreTree → ℕ → ℕ → List Insn
-  code e j p = code_of e texts (routines scope) c.words j p
+  code e j p = code_of e texts rs c.words j p
 
   -- how many frames the variables that it names open
   abbrev opened : CoreTree → ℕ
@@ -96,22 +126,18 @@ module _ (s : Setting) (scope : List Variable) (texts : List (List ℕ)) (depth 
 
   -- ---- without parts
 
-  pub literal_part : (l : tree.Literal) → IsWellFormedLiteral l → Part s scope texts depth c k (core.literal l) (literal_of l) (node (literal_of l) and literal_cost l)
+  pub literal_part : (l : tree.Literal) → IsWellFormedLiteral l → Part s scope rs texts depth c k (core.literal l) (literal_of l) (node (literal_of l) and literal_cost l)
   unfolding code_of need texts_of
   literal_part tree.null h ready p = let room = ready.room in leaf s c depth k p _ (value null) 1 0 (node (value null) and literal_cost tree.null) (omega arith) (omega arith) (omega arith) (leaves_give.null s p c depth k (omega arith))
   literal_part (tree.truth b) h ready p = let room = ready.room in leaf s c depth k p _ (value (boolean b)) 1 0 (node (value (boolean b)) and literal_cost (tree.truth b)) (omega arith) (omega arith) (omega arith) (leaves_give.truth s p c depth k b (omega arith))
   literal_part (tree.int z) h ready p = let room = ready.room in leaf s c depth k p _ (value (int z)) 2 1 (node (value (int z)) and literal_cost (tree.int z)) (omega arith) (omega arith) (omega arith) (leaves_give.int s p c depth k z (omega arith) h)
   literal_part (tree.text t) h ready p = let room = ready.room in let stands = ready.texts_stand in leaf s c depth k p _ (value (text t)) 3 (1 + length t) (node (value (text t)) and name_or_text t) (omega arith) (omega arith) (omega arith) (leaves_give.text s p c depth k (address_of texts t) t (omega arith) stands.0 (is_utf8-from_IsUtf8 t h))
 
-  pub name_part : (n : List ℕ) → Part s scope texts depth c k (core.name n) (name_value n c.environment) (node (name_value n c.environment))
+  pub name_part : (n : List ℕ) → Part s scope rs texts depth c k (core.name n) (name_value n c.environment) (node (name_value n c.environment))
   unfolding code_of need texts_of
   name_part n ready p = let room = ready.room in leaf s c depth k p _ (name_value n c.environment) 1 0 (node (name_value n c.environment)) (omega arith) (omega arith) (omega arith) (leaves_give.name s p c depth k n (omega arith))
 
   -- ---- one part
-
-  -- it is ready where the whole is
-  pub one_ready : (a e : CoreTree) (t u : Bool) (more : List (List ℕ)) → IsAccepted a (names scope) → need a ≤ need e → opened a ≤ opened e → texts_of e ≡ texts_of a ++ more → (t ≡ true → u ≡ true) → Ready s scope texts c depth k e u → Ready s scope texts c depth k a t
-  one_ready a e t u more accepted fits near texts_are deep ready = grind (arith, texts_front)
 
   key_stands : (a : CoreTree) (f : List ℕ) → TextsStand c.constants texts (texts_of a ++ f ∷ []) → HasText c.constants (address_of texts f) f
   key_stands a f h = let last = texts_back c.constants texts (texts_of a) (f ∷ []) h in last.0
@@ -121,41 +147,36 @@ module _ (s : Setting) (scope : List Variable) (texts : List (List ℕ)) (depth 
   kept_part (Some l) piece x t p some named given = leaf s c depth k p _ x 1 0 t (omega arith) some (omega arith) (leaf_gives s p c depth k l x named)
   kept_part None piece x t p some named given = given
 
-  pub select_part : (a : CoreTree) (f : List ℕ) (x : ValueOrError) (t : Cost) → LeafPart depth c k (core.select a f) (field_of x f) → LeafPart depth c k a x → Part s scope texts depth c k a x t → Part s scope texts depth c k (core.select a f) (field_of x f) (node (field_of x f) and (t and name_or_text f))
+  pub select_part : (a : CoreTree) (f : List ℕ) (x : ValueOrError) (t : Cost) → LeafPart depth c k (core.select a f) (field_of x f) → LeafPart depth c k a x → Part s scope rs texts depth c k a x t → Part s scope rs texts depth c k (core.select a f) (field_of x f) (node (field_of x f) and (t and name_or_text f))
   unfolding code_of need deepest texts_of IsAccepted
   select_part a f x t own named part ready p =
-      let accepted = ready.accepted in
-      let first = one_ready a (core.select a f) t.is_deep (t.is_deep || false) (f ∷ []) accepted.1 (omega arith) (omega arith) refl (or_left t.is_deep false) ready in
       kept_part (leaf_of (core.select a f) c.words) _ (field_of x f) (node (field_of x f) and (t and name_or_text f)) p (omega arith) (own (omega arith))
-      (one s c depth k p (leaf_of a c.words) (code a k p) _ R1 x (field_of x f) 3 1 t (node (field_of x f) and (t and name_or_text f)) refl (omega arith) (omega arith) (omega arith) (omega arith) (named (omega arith)) (part first p) (selection_gives.field s _ c depth k x (address_of texts f) f (omega arith) (key_stands a f ready.texts_stand)))
+      (one s c depth k p (leaf_of a c.words) (code a k p) _ R1 x (field_of x f) 3 1 t (node (field_of x f) and (t and name_or_text f)) refl (omega arith)
+      (omega arith) (omega arith) (omega arith) (named (omega arith)) (part (grind (arith, texts_front, or_left)) p)
+      (selection_gives.field s _ c depth k x (address_of texts f) f (omega arith) (key_stands a f ready.texts_stand)))
 
-  pub has_part : (a : CoreTree) (f : List ℕ) (x : ValueOrError) (t : Cost) → LeafPart depth c k a x → Part s scope texts depth c k a x t → Part s scope texts depth c k (core.has a f) (has_of x f) (node (has_of x f) and (t and name_or_text f))
+  pub has_part : (a : CoreTree) (f : List ℕ) (x : ValueOrError) (t : Cost) → LeafPart depth c k a x → Part s scope rs texts depth c k a x t → Part s scope rs texts depth c k (core.has a f) (has_of x f) (node (has_of x f) and (t and name_or_text f))
   unfolding code_of need deepest texts_of IsAccepted
   has_part a f x t named part ready p =
-      let first = one_ready a (core.has a f) t.is_deep (t.is_deep || false) (f ∷ []) ready.accepted (omega arith) (omega arith) refl (or_left t.is_deep false) ready in
-      one s c depth k p (leaf_of a c.words) (code a k p) _ R1 x (has_of x f) 3 1 t (node (has_of x f) and (t and name_or_text f)) refl (omega arith) (omega arith) (omega arith) (omega arith) (named (omega arith)) (part first p) (selection_gives.has s _ c depth k x (address_of texts f) f (omega arith) (key_stands a f ready.texts_stand))
+      one s c depth k p (leaf_of a c.words) (code a k p) _ R1 x (has_of x f) 3 1 t (node (has_of x f) and (t and name_or_text f)) refl (omega arith)
+      (omega arith) (omega arith) (omega arith) (named (omega arith)) (part (grind (arith, texts_front, or_left)) p)
+      (selection_gives.has s _ c depth k x (address_of texts f) f (omega arith) (key_stands a f ready.texts_stand))
 
   -- a function of what a piece gives
   pub function_part : (g : Function) (l : Option Leaf) (piece : List Insn) (x : ValueOrError) (t : Cost) (p : ℕ) → k ≤ 60 → IsLeafOf c depth k l x → ComputesPart s p piece c depth k x t → ComputesPart s p (function_code (Some g) l piece) c depth k (function_of (Some g) x) (node (function_of (Some g) x) and t)
   function_part Size l piece x t p low named part = one s c depth k p l piece _ R1 x (size_of x) 1 1 t (node (size_of x) and t) refl (omega arith) (omega arith) (omega arith) (omega arith) named part (selection_gives.size s _ c depth k x (omega arith))
   function_part String l piece x t p low named part = let short = text_within (string_of x) in one s c depth k p l piece _ R6 x (string_of x) 5 (2 + text_length (string_of x)) t (node (string_of x) and t) refl (omega arith) (omega arith) (omega arith) (omega arith) named part (selection_gives.string s _ c depth k x (omega arith))
-  function_part Dyn l piece x t p low named part = same s c depth k p piece x t (node x and t) (omega arith) (omega arith) part
+  function_part Dyn l piece x t p low named part = gives_within s p piece c depth k x _ _ _ _ (omega arith) (omega arith) part
 
   -- ---- two parts
 
-  pub left_ready : (a b e : CoreTree) (t u v : Bool) → IsAccepted a (names scope) → need a ≤ need e → opened a ≤ opened e → texts_of e ≡ texts_of a ++ texts_of b → v ≡ (t || u) → Ready s scope texts c depth k e v → Ready s scope texts c depth k a t
-  left_ready a b e t u v accepted fits near texts_are deep ready = one_ready a e t v (texts_of b) accepted fits near texts_are (λ d. deep ∙ or_left t u d) ready
-
-  pub right_ready : (a b e : CoreTree) (t u v : Bool) → IsAccepted b (names scope) → 1 + need b ≤ need e → opened b ≤ opened e → texts_of e ≡ texts_of a ++ texts_of b → v ≡ (t || u) → Ready s scope texts c depth k e v → Ready s scope texts c depth (k + 1) b u
-  right_ready a b e t u v accepted fits near texts_are deep ready = grind (arith, texts_back, or_right)
-
-  pub index_part : (a b : CoreTree) (x y : ValueOrError) (t u : Cost) → LeafPart depth c k a x → LeafPart depth c (k + 1) b y → Part s scope texts depth c k a x t → Part s scope texts depth c (k + 1) b y u → Part s scope texts depth c k (core.index a b) (index_of x y) (node (index_of x y) and t and u)
+  pub index_part : (a b : CoreTree) (x y : ValueOrError) (t u : Cost) → LeafPart depth c k a x → LeafPart depth c (k + 1) b y → Part s scope rs texts depth c k a x t → Part s scope rs texts depth c (k + 1) b y u → Part s scope rs texts depth c k (core.index a b) (index_of x y) (node (index_of x y) and t and u)
   unfolding code_of need deepest texts_of IsAccepted
   index_part a b x y t u named named_right first second ready p =
-      let accepted = ready.accepted in
-      let left = left_ready a b (core.index a b) t.is_deep u.is_deep (t.is_deep || u.is_deep) accepted.0 (omega arith) (omega arith) refl refl ready in
-      let right = right_ready a b (core.index a b) t.is_deep u.is_deep (t.is_deep || u.is_deep) accepted.1 (omega arith) (omega arith) refl refl ready in
-      two s c depth k p (leaf_of a c.words) (code a k p) (leaf_of b c.words) _ _ R1 R2 x y (index_of x y) 1 1 t u (omega arith) first_two (omega arith) (omega arith) (named (omega arith)) (first left p) (named_right (omega arith)) (second right _) (selection_gives.index s _ k c depth x y (omega arith))
+      two s c depth k p (leaf_of a c.words) (code a k p) (leaf_of b c.words) _ _ R1 R2 x y (index_of x y) 1 1 t u (omega arith) first_two (omega arith)
+      (omega arith) (named (omega arith))
+      (first (grind (arith, texts_front, or_left)) p) (named_right (omega arith)) (second (grind (arith, texts_back, or_right)) _)
+      (selection_gives.index s _ k c depth x y (omega arith))
 
   pub test_part : (g : TextTest) (l : Option Leaf) (left : List Insn) (m : Option Leaf) (right : List Insn) (x y : ValueOrError) (t u : Cost) (p : ℕ) → k < 60 → IsLeafOf c depth k l x → ComputesPart s p left c depth k x t → IsLeafOf c depth (k + 1) m y → ComputesPart s (p + kept_size l left) right c depth (k + 1) y u → ComputesPart s p (test_code (Some g) l left m right k) c depth k (text_test_of (Some g) x y) (node (text_test_of (Some g) x y) and t and u)
   test_part g l left m right x y t u p low named first named_right second =
@@ -163,22 +184,93 @@ module _ (s : Setting) (scope : List Variable) (texts : List (List ℕ)) (depth 
 
   -- ---- three parts, of which the condition chooses one
 
-  only_yes : (t : ValueOrError) (u v : Cost) → truth t ≡ Yes → (chosen (truth t) u v nothing).is_deep ≡ u.is_deep
-  only_yes t u v e = ap (λ (w : Truth). (chosen w u v nothing).is_deep) e
-
-  only_no : (t : ValueOrError) (u v : Cost) → truth t ≡ No → (chosen (truth t) u v nothing).is_deep ≡ v.is_deep
-  only_no t u v e = ap (λ (w : Truth). (chosen w u v nothing).is_deep) e
-
-  pub ternary_part : (a b d : CoreTree) (x y z : ValueOrError) (t u v : Cost) → Part s scope texts depth c k a x t → Part s scope texts depth c k b y u → Part s scope texts depth c k d z v → Part s scope texts depth c k (core.ternary a b d) (ternary_of x y z) (node (ternary_of x y z) and t and chosen (truth x) u v nothing)
+  pub ternary_part : (a b d : CoreTree) (x y z : ValueOrError) (t u v : Cost) → Part s scope rs texts depth c k a x t → Part s scope rs texts depth c k b y u → Part s scope rs texts depth c k d z v → Part s scope rs texts depth c k (core.ternary a b d) (ternary_of x y z) (node (ternary_of x y z) and t and chosen (truth x) u v nothing)
   unfolding code_of need deepest texts_of IsAccepted
   ternary_part a b d x y z t u v first second third ready p =
-      let room = ready.room in
-      let frames = ready.frames in
-      let accepted = ready.accepted in
-      let deep = (chosen (truth x) u v nothing).is_deep in
-      let rest = texts_back c.constants texts (texts_of a) (texts_of b ++ texts_of d) ready.texts_stand in
       let q = p + size (code a k p) + 2 in
       branches s c depth k p (code a k p) (code b k q) (code d k (q + size (code b k q) + 1)) x y z t u v (omega arith)
-      (first (record { accepted = accepted.0; frames = omega arith; room = omega arith; texts_stand = texts_front c.constants texts (texts_of a) (texts_of b ++ texts_of d) ready.texts_stand; may = λ h. ready.may (or_left t.is_deep deep h) }) p)
-      (λ e. second (record { accepted = accepted.1; frames = omega arith; room = omega arith; texts_stand = texts_front c.constants texts (texts_of b) (texts_of d) rest; may = λ h. ready.may (or_right t.is_deep deep (only_yes x u v e ∙ h)) }) _)
-      (λ e. third (record { accepted = accepted.2; frames = omega arith; room = omega arith; texts_stand = texts_back c.constants texts (texts_of b) (texts_of d) rest; may = λ h. ready.may (or_right t.is_deep deep (only_no x u v e ∙ h)) }) _)
+      (first (grind (arith, texts_front, or_left)) p) (λ e. second (grind (arith, texts_front, texts_back, or_right)) _)
+      (λ e. third (grind (arith, texts_back, or_right)) _)
+
+  -- ---- operators
+
+  pub unary_part : (u : UnaryOperator) (a : CoreTree) (x : ValueOrError) (t : Cost) → LeafPart depth c k a x → Part s scope rs texts depth c k a x t → Part s scope rs texts depth c k (core.unary u a) (unary_of u x) (node (unary_of u x) and t)
+  unfolding code_of need deepest texts_of IsAccepted
+  unary_part one_operand.Not a x t named part ready p =
+      one s c depth k p (leaf_of a c.words) (code a k p) _ R1 x (not_of x) 1 1 t (node (not_of x) and t) refl (omega arith) (omega arith) (omega arith)
+      (omega arith) (named (omega arith)) (part (grind arith) p) (logic_gives.not s _ c depth k x (omega arith))
+  unary_part one_operand.Negate a x t named part ready p =
+      one s c depth k p (leaf_of a c.words) (code a k p) _ R6 x (negation_of x) 11 3 t (node (negation_of x) and t) refl (omega arith) (omega arith)
+      (omega arith) (omega arith) (named (omega arith)) (part (grind arith) p) (negation_gives s _ c depth k x (omega arith))
+
+  module _ (a b : CoreTree) (x y : ValueOrError) (t u : Cost) (named : LeafPart depth c k a x) (named_right : LeafPart depth c (k + 1) b y) (first : Part s scope rs texts depth c k a x t) (second : Part s scope rs texts depth c (k + 1) b y u) where
+    -- both are ready where the whole is
+    pub record Sides : Type 0 where
+      pub low : k < 60
+      pub left : (p : ℕ) → ComputesPart s p (code a k p) c depth k x t
+      pub right : (p : ℕ) → ComputesPart s p (code b (k + 1) p) c depth (k + 1) y u
+
+    sides : (o : BinaryOperator) (z : ValueOrError) → Ready s scope texts c depth k (core.binary o a b) (node z and t and u).is_deep → Sides
+    unfolding need deepest texts_of IsAccepted
+    sides o z ready = record { low = omega arith; left = first (grind (arith, texts_front, or_left)); right = second (grind (arith, texts_back, or_right)) }
+
+    -- an operator by the piece behind its operands
+    by_tail : (tail : List Insn) (r q : Register) (z : ValueOrError) (n m : ℕ) → AreApart r q → n ≤ 109 → m ≤ 112 + 15 * result_size z → Sides → (p : ℕ) → ((i : ℕ) → k < 64 → Combines s i tail r q c depth k x y z n m) → ComputesPart s p (operands_code (leaf_of a c.words) (code a k p) (leaf_of b c.words) (code b (k + 1) (p + kept_size (leaf_of a c.words) (code a k p))) k r q ++ tail) c depth k z (node z and t and u)
+    by_tail tail r q z n m apart hn hm both p combines = let low = both.low in two s c depth k p (leaf_of a c.words) (code a k p) (leaf_of b c.words) _ tail r q x y z n m t u low apart hn hm (named (omega arith)) (both.left p) (named_right (omega arith)) (both.right _) (combines _ (omega arith))
+
+    -- the right side of an operator that may leave it out
+    abbrev right_code : ℕ → List Insn
+    right_code p = code b (k + 1) (p + (size (code a k p) + 2))
+
+    pub binary_part : (o : BinaryOperator) → Part s scope rs texts depth c k (core.binary o a b) (binary_of o x y) (node (binary_of o x y) and t and u)
+    unfolding code_of binary_tail
+    binary_part op.Or ready p =
+        let both = sides op.Or (or_of x y) ready in absorbing s c depth k p yes_ref no_ref or_of logic_gives.or (code a k p) (right_code p) x y t u both.low (both.left p) (grind (arith, both.right (p + (size (code a k p) + 2))))
+    binary_part op.And ready p =
+        let both = sides op.And (and_of x y) ready in absorbing s c depth k p no_ref yes_ref and_of logic_gives.and (code a k p) (right_code p) x y t u both.low (both.left p) (grind (arith, both.right (p + (size (code a k p) + 2))))
+    binary_part op.Add ready p = let short = joined_within x y in by_tail (binary_tail op.Add) R6 R7 (sum_of x y) 20 (5 + joined_length (joined (Some x) (Some y))) kept_two (omega arith) (omega arith) (sides op.Add (sum_of x y) ready) p (λ q low. sum_gives s q k c depth x y low)
+    binary_part op.Less ready p = by_tail (binary_tail op.Less) R1 R2 (less_of x y) 1 1 first_two (omega arith) (omega arith) (sides op.Less (less_of x y) ready) p (λ q low. comparison_gives.less s q k c depth x y low)
+    binary_part op.LessEqual ready p = by_tail (binary_tail op.LessEqual) R2 R1 (less_equal_of x y) 3 2 exchanged (omega arith) (omega arith) (sides op.LessEqual (less_equal_of x y) ready) p (λ q low. comparison_gives.less_equal s q k c depth x y low)
+    binary_part op.GreaterEqual ready p = by_tail (binary_tail op.GreaterEqual) R1 R2 (greater_equal_of x y) 3 2 first_two (omega arith) (omega arith) (sides op.GreaterEqual (greater_equal_of x y) ready) p (λ q low. comparison_gives.greater_equal s q k c depth x y low)
+    binary_part op.Greater ready p = by_tail (binary_tail op.Greater) R2 R1 (greater_of x y) 1 1 exchanged (omega arith) (omega arith) (sides op.Greater (greater_of x y) ready) p (λ q low. comparison_gives.greater s q k c depth x y low)
+    binary_part op.Equal ready p = by_tail (binary_tail op.Equal) R1 R2 (equal_of x y) 1 1 first_two (omega arith) (omega arith) (sides op.Equal (equal_of x y) ready) p (λ q low. comparison_gives.equal s q k c depth x y low)
+    binary_part op.NotEqual ready p = by_tail (binary_tail op.NotEqual) R1 R2 (unequal_of x y) 3 2 first_two (omega arith) (omega arith) (sides op.NotEqual (unequal_of x y) ready) p (λ q low. comparison_gives.unequal s q k c depth x y low)
+    binary_part op.In ready p = by_tail (binary_tail op.In) R1 R2 (member_of x y) 1 1 first_two (omega arith) (omega arith) (sides op.In (member_of x y) ready) p (λ q low. comparison_gives.member s q k c depth x y low)
+    binary_part op.Subtract ready p = by_tail (binary_tail op.Subtract) R6 R7 (difference_of x y) 19 5 kept_two (omega arith) (omega arith) (sides op.Subtract (difference_of x y) ready) p (λ q low. difference_gives s q k c depth x y low)
+    binary_part op.Multiply ready p = by_tail (binary_tail op.Multiply) R6 R7 (product_of x y) 23 5 kept_two (omega arith) (omega arith) (sides op.Multiply (product_of x y) ready) p (λ q low. products_give.product s q k c depth x y low)
+    binary_part op.Divide ready p = by_tail (binary_tail op.Divide) R6 R7 (quotient_of x y) 20 5 kept_two (omega arith) (omega arith) (sides op.Divide (quotient_of x y) ready) p (λ q low. products_give.quotient s q k c depth x y low)
+    binary_part op.Remainder ready p = by_tail (binary_tail op.Remainder) R6 R7 (remainder_of x y) 20 5 kept_two (omega arith) (omega arith) (sides op.Remainder (remainder_of x y) ready) p (λ q low. products_give.remainder s q k c depth x y low)
+
+  -- ---- list and map literals
+
+  pub items_none : ItemsPart s scope rs texts depth c k no_cores [] nothing
+  unfolding code_of
+  items_none ready p = list_gives.none s p c depth k
+
+  pub items_more : (a : CoreTree) (more : CoreTrees) (x : ValueOrError) (xs : List ValueOrError) (t u : Cost) → 1 ≤ t.visits → Part s scope rs texts depth c (k + 1) a x t → ItemsPart s scope rs texts depth c k more xs u → ItemsPart s scope rs texts depth c k (more_cores a more) (x ∷ xs) (t and kept x and u)
+  unfolding code_of need deepest texts_of IsAccepted
+  items_more a more x xs t u visited first rest ready p =
+      builds_within s p _ c depth k _ _ _ _ _ (omega arith) (omega arith)
+      (list_gives.more s p k (code a (k + 1) p) (items_code more texts rs c.words k (p + size (code a (k + 1) p) + 4)) c depth x xs _ _ _ _ ready.low
+      (λ h. ready.may (grind (arith, or_left, or_right))) (first (grind (arith, texts_front, or_left)) p) (rest (grind (arith, texts_back, or_right)) _))
+
+  pub list_part : (es : CoreTrees) (xs : List ValueOrError) (t : Cost) → ItemsPart s scope rs texts depth c k es xs t → Part s scope rs texts depth c k (core.list es) (list_literal xs) (node (list_literal xs) and t)
+  unfolding code_of need deepest texts_of IsAccepted
+  list_part es xs t items ready p = grind (arith, result_size_least, gives_within, list_gives)
+
+  pub entries_none : EntriesPart s scope rs texts depth c k no_core_entries [] nothing
+  unfolding code_of
+  entries_none ready p = map_gives.none s p c depth k
+
+  pub entries_more : (a b : CoreTree) (more : CoreEntries) (x y : ValueOrError) (xs : List (ValueOrError × ValueOrError)) (t u v : Cost) → 1 ≤ t.visits → 1 ≤ u.visits → Part s scope rs texts depth c (k + 1) a x t → Part s scope rs texts depth c (k + 2) b y u → EntriesPart s scope rs texts depth c k more xs v → EntriesPart s scope rs texts depth c k (more_core_entries a b more) ((x, y) ∷ xs) (t and u and kept y and v)
+  unfolding code_of need deepest texts_of IsAccepted
+  entries_more a b more x y xs t u v visited visited2 first second rest ready p =
+      let q = p + size (code a (k + 1) p) + 1 in
+      builds_within s p _ c depth k _ _ _ _ _ (omega arith) (omega arith)
+      (map_gives.more s p k (code a (k + 1) p) (code b (k + 2) q) (entries_code more texts rs c.words k (q + size (code b (k + 2) q) + 5)) c depth x y xs _ _ _ _ _ _ (omega arith)
+      (λ h. ready.may (grind (arith, or_left, or_right))) (first (grind (arith, texts_front, or_left)) p)
+      (second (grind (arith, texts_front, texts_back, or_left, or_right)) _) (rest (grind (arith, texts_back, or_right)) _))
+
+  pub map_part : (es : CoreEntries) (xs : List (ValueOrError × ValueOrError)) (t : Cost) → EntriesPart s scope rs texts depth c k es xs t → Part s scope rs texts depth c k (core.map es) (map_literal xs) (node (map_literal xs) and t)
+  unfolding code_of need deepest texts_of IsAccepted
+  map_part es xs t entries ready p = grind (arith, result_size_least, gives_within, map_gives)

@@ -1,30 +1,9 @@
 -- The code of an expression from the code of its parts, as the walk finds them.
-use Rattle.std.proofs.Common.{◌≡◌, ℕ, suc, ◌+◌, ◌*◌, ◌<◌, ◌≤◌, max, List, [], ◌∷◌, ◌++◌, length, map, drop, get_or, Result, IfOk, refl, sym, ap, ◌∙◌, append_assoc, add-one, drop-cons, arith}
-use Rattle.std.proofs.lemmas.Result.{IfOk-weaker}
-use Rattle.std.specs.Borrow.{Bor}
-use Rattle.std.specs.declared.alloc.AllocError.{AllocError}
-use Rattle.std.specs.declared.alloc.Global.{Global}
-use Rattle.std.specs.declared.vec.Vec.{Vec}
-use Rattle.insn_codec.specs.declared.insn.Insn.{Insn}
+use Rattle.codegen.proofs.Prelude.{◌≡◌, ℕ, suc, ◌+◌, ◌*◌, ◌<◌, ◌≤◌, List, [], ◌∷◌, ◌++◌, length, map, drop, get_or, Result, IfOk, refl, sym, ap, ◌∙◌, append_assoc, add-one, drop-cons, arith, zero, min, true, false, Option, Some, None, option_map, string_bytes, bytes_eq, Bor, AllocError, Global, Vec, Insn, CoreTree, core_view, cores, core_entries, core_pair, function_named, test_named, Core, nodes, item_code, entry_code, kept_size, map_where_code, Kept, with_name, size, code_of, items_code, entries_code, function_code, leaf_of, method_function_code, test_code, no_code, routine_named, words_of, words_step, FrameWords, fold-roll-FrameWords, rolls-Within, declaration, routines_of}
 use Rattle.cel_macros.specs.CoreTree as core
-use Rattle.cel_macros.specs.CoreTree.{CoreTree}
-use Rattle.cel_macros.specs.CoreView.{core_view, cores, core_entries}
-use Rattle.cel_macros.specs.Expanding.{core_pair}
-use Rattle.cel_macros.specs.Functions.{function_named, test_named}
-use Rattle.cel_macros.specs.declared.core_tree.Core.{Core}
-use Rattle.cel_measures.specs.Measures.{need, needs, entries_need, nodes, nodes_of, entries_nodes}
-use Rattle.codegen_base.specs.Code.Aggregates.{item_code, entry_code}
-use Rattle.codegen_base.specs.Code.Calls.{kept_size}
-use Rattle.codegen_base.specs.Code.Folds.{map_where_code}
-use Rattle.codegen_base.specs.Paths.{Kept, with_name}
-use Rattle.codegen_base.specs.Pieces.{size}
-use Rattle.codegen.specs.Code.Expressions.{code_of, items_code, entries_code, function_code, leaf_of, method_function_code, test_code, no_code}
-use Rattle.codegen.specs.FrameWords.{words_of, words_step}
 use Rattle.codegen.specs.declared.frame_words.FrameWords as frame
-use Rattle.codegen.specs.declared.frame_words.FrameWords.{FrameWords}
-use Rattle.codegen.specs.declared.frame_words.FrameWords.TheFolds.{fold-roll-FrameWords}
-use Rattle.codegen.specs.declared.frame_words.FrameWords.TheVariants.{rolls-Within}
 use Rattle.codegen.proofs.Lengths.{short_code}
+use Rattle.cel_types.specs.declared.variable.Variable.{Variable}
 
 -- code of few nodes is so short that jumps over it fit 16 bits
 pub near_code : (e : CoreTree) (ts : List (List ℕ)) (rs : List (List ℕ × ℕ)) (ws : Kept) (k p : ℕ) (code : List Insn) → code ≡ code_of e ts rs ws k p → size code + 8 ≤ 63 * nodes e
@@ -32,33 +11,15 @@ near_code e ts rs ws k p code h = rw h (short_code e ts rs ws k p)
 
 -- a call that gives this code gives what is equal to it
 pub same_code : (r : Result (Vec Insn Global) AllocError) (a b : List Insn) → a ≡ b → IfOk r (λ v. v.items ≡ a) → IfOk r (λ v. v.items ≡ b)
-same_code r a b e h = IfOk-weaker {X = Vec Insn Global} {Y = AllocError} r (λ v. v.items ≡ a) (λ v. v.items ≡ b) (λ v is. is ∙ e) h
+same_code r a b e h = grind arith
 
 -- the words within one macro more
 pub words_within : (name : Bor (List ℕ)) (k : ℕ) (outer : Bor FrameWords) → words_of (frame.Within name k outer) ≡ with_name name.now k (words_of outer.now)
 words_within name k outer = ap words_of (sym (rolls-Within name k outer)) ∙ fold-roll-FrameWords Kept words_step _
 
 -- what is left from a place on
-here : {A : Type 0} (xs : List A) (i : ℕ) (x : A) → i < length xs → x ≡ get_or xs i x → drop i xs ≡ x ∷ drop (i + 1) xs
+pub here : {A : Type 0} (xs : List A) (i : ℕ) (x : A) → i < length xs → x ≡ get_or xs i x → drop i xs ≡ x ∷ drop (i + 1) xs
 here xs i x lt is = rw (add-one, drop-cons xs i x) (ap (λ y. y ∷ drop (suc i) xs) (sym is))
-
--- the measures of what is left in a list
-pub nodes_here : (parts : List Core) (i : ℕ) (x : Core) → i < length parts → x ≡ get_or parts i x → nodes_of (cores (map core_view (drop i parts))) ≡ nodes (core_view x) + nodes_of (cores (map core_view (drop (i + 1) parts)))
-unfolding nodes
-nodes_here parts i x lt is = ap (λ l. nodes_of (cores (map core_view l))) (here parts i x lt is)
-
-pub needs_here : (parts : List Core) (i : ℕ) (x : Core) → i < length parts → x ≡ get_or parts i x → needs (cores (map core_view (drop i parts))) ≡ max (need (core_view x)) (needs (cores (map core_view (drop (i + 1) parts))))
-unfolding need
-needs_here parts i x lt is = ap (λ l. needs (cores (map core_view l))) (here parts i x lt is)
-
--- and in a map
-pub entries_nodes_here : (pairs : List (Core × Core)) (i : ℕ) (x : Core × Core) → i < length pairs → x ≡ get_or pairs i x → entries_nodes (core_entries (map core_pair (drop i pairs))) ≡ nodes (core_view x.0) + nodes (core_view x.1) + entries_nodes (core_entries (map core_pair (drop (i + 1) pairs)))
-unfolding nodes
-entries_nodes_here pairs i x lt is = ap (λ l. entries_nodes (core_entries (map core_pair l))) (here pairs i x lt is)
-
-pub entries_need_here : (pairs : List (Core × Core)) (i : ℕ) (x : Core × Core) → i < length pairs → x ≡ get_or pairs i x → entries_need (core_entries (map core_pair (drop i pairs))) ≡ max (max (1 + need (core_view x.0)) (2 + need (core_view x.1))) (entries_need (core_entries (map core_pair (drop (i + 1) pairs))))
-unfolding need
-entries_need_here pairs i x lt is = ap (λ l. entries_need (core_entries (map core_pair l))) (here pairs i x lt is)
 
 module _ (ts : List (List ℕ)) (rs : List (List ℕ × ℕ)) (ws : Kept) (k p : ℕ) where
   pub call_of_one : (n : List ℕ) (items : List Core) (x : Core) (of : List Insn) → 1 ≤ length items → length items < 2 → x ≡ get_or items 0 x → of ≡ code_of (core_view x) ts rs ws k p → function_code (function_named n) (leaf_of (core_view x) ws) of ≡ code_of (core.call n (cores (map core_view items))) ts rs ws k p
@@ -99,3 +60,41 @@ module _ (ts : List (List ℕ)) (rs : List (List ℕ × ℕ)) (ws : Kept) (k p :
   pub entry_more : (pairs : List (Core × Core)) (i : ℕ) (x : Core × Core) (before after key entry whole : List Insn) (n m : ℕ) → i < length pairs → x ≡ get_or pairs i x → key ≡ code_of (core_view x.0) ts rs ws (k + 1) p → n ≡ size key → entry ≡ code_of (core_view x.1) ts rs ws (k + 2) (p + n + 1) → m ≡ size entry → after ≡ before ++ entry_code key entry k → before ++ entries_code (core_entries (map core_pair (drop i pairs))) ts rs ws k p ≡ whole → after ++ entries_code (core_entries (map core_pair (drop (i + 1) pairs))) ts rs ws k (p + n + 1 + m + 5) ≡ whole
   unfolding code_of
   entry_more pairs i x before after key entry whole n m lt is first first_count second second_count grown h = grind (arith, append_assoc, here)
+
+-- ---- the first variable of a name among those with a routine
+
+-- what is found among those from a place on, counted from the first
+abbrev pub counted : ℕ → Option (ℕ × ℕ) → Option (ℕ × ℕ)
+counted i found = option_map (λ f. (i + f.0, f.1)) found
+
+later : (i : ℕ) (found : Option (ℕ × ℕ)) → counted i (option_map (λ f. (suc f.0, f.1)) found) ≡ counted (i + 1) found
+later i found = grind arith
+
+-- what is left from a place on begins with the variable there and its routine
+routine_here : (variables : List Variable) (slots : List ℕ) (i : ℕ) (v : Variable) → i < length variables → i < length slots → v ≡ get_or variables i v → drop i (routines_of (map declaration variables) slots) ≡ (string_bytes v.name, get_or slots i 0) ∷ drop (suc i) (routines_of (map declaration variables) slots)
+routine_here (w ∷ variables) (s ∷ slots) zero v lt in_slots is = grind arith
+routine_here (w ∷ variables) (s ∷ slots) (suc i) v lt in_slots is = routine_here variables slots i v (omega arith) (omega arith) is
+routine_here _ _ i v lt in_slots is = absurd (omega arith)
+
+pub found_here : (n : List ℕ) (variables : List Variable) (slots : List ℕ) (i : ℕ) (v : Variable) → i < length variables → i < length slots
+    → v ≡ get_or variables i v → bytes_eq (string_bytes v.name) n ≡ true
+    → counted i (routine_named n (drop i (routines_of (map declaration variables) slots))) ≡ Some (i, get_or slots i 0)
+found_here n variables slots i v lt in_slots is same = grind (arith, routine_here)
+
+pub found_later : (n : List ℕ) (variables : List Variable) (slots : List ℕ) (i : ℕ) (v : Variable) → i < length variables → i < length slots → v ≡ get_or variables i v → bytes_eq (string_bytes v.name) n ≡ false → counted (i + 1) (routine_named n (drop (i + 1) (routines_of (map declaration variables) slots))) ≡ counted i (routine_named n (drop i (routines_of (map declaration variables) slots)))
+found_later n variables slots i v lt in_slots is other = grind (arith, routine_here, later)
+
+-- behind the last of them none is left
+none_left : (variables : List Variable) (slots : List ℕ) (i : ℕ) → min (length variables) (length slots) ≤ i
+    → drop i (routines_of (map declaration variables) slots) ≡ []
+none_left [] slots zero h = refl
+none_left (w ∷ variables) [] zero h = refl
+none_left (w ∷ variables) (s ∷ slots) zero h = absurd (omega arith)
+none_left (w ∷ variables) (s ∷ slots) (suc i) h = none_left variables slots i (omega arith)
+none_left _ _ _ h = refl
+
+pub found_nowhere : (n : List ℕ) (variables : List Variable) (slots : List ℕ) (i : ℕ) → min (length variables) (length slots) ≤ i
+    → counted i (routine_named n (drop i (routines_of (map declaration variables) slots))) ≡ None
+found_nowhere n variables slots i h = grind (arith, none_left)
+
+pub ruleset found = (bytes_eq, string_bytes, found_here, found_later, found_nowhere)

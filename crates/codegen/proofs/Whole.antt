@@ -1,36 +1,10 @@
 -- The code of a whole expression gives what the expression means, whether a path is kept or not.
-use Rattle.std.proofs.Common.{◌≡◌, ℕ, ◌+◌, ◌*◌, ◌^◌, ◌<◌, ◌≤◌, Bool, true, List, [], ◌∷◌, ◌++◌, length, Option, Some, None, refl, ap, arith, if◌then◌else◌, nat_le}
-use Rattle.insn_codec.specs.declared.insn.Insn.{Insn}
-use Rattle.insn_codec.specs.declared.register.Register.TheVariants.{R0, R1}
-use Rattle.loader.specs.Contents.{Contents}
+use Rattle.codegen.proofs.Prelude.{◌≡◌, ℕ, ◌+◌, ◌*◌, ◌^◌, ◌<◌, ◌≤◌, Bool, List, [], ◌∷◌, ◌++◌, length, Option, Some, None, refl, ap, arith, Insn, R0, R1, Contents, CoreTree, plain_tree, Environment, Roots, meaning, need, nodes, name_leaf, field_tail, Context, Setting, kept_path_code, HasText, store, Path, nothing_kept, with_path, AreInsns, size, IsScope, Variable, scope_setting, field_insns, insns_append, leaf_insns, name_near, paths_give, texts_of, texts_of_each, address_of, code_with, first_path, front_of, keeping_code, path_or, plain_code, shorter, whole_code, Computes, Ready, TextsStand, environment_in, scope_context, cost, HasLiterals, gives_within}
 use Rattle.cel_macros.specs.CoreTree as core
-use Rattle.cel_macros.specs.CoreTree.{CoreTree, plain_tree}
-use Rattle.cel_macros.specs.Environment.{Environment, Roots}
-use Rattle.cel_macros.specs.Meaning.{meaning}
-use Rattle.cel_measures.specs.Measures.{need, nodes}
-use Rattle.codegen_base.specs.Code.Names.{name_leaf}
-use Rattle.codegen_base.specs.Code.Selection.{field_tail}
-use Rattle.codegen_base.specs.Contexts.{Context}
-use Rattle.codegen_base.specs.Engine.{Setting}
-use Rattle.codegen_base.specs.Gives.Paths.{kept_path_code}
-use Rattle.codegen_base.specs.Gives.Selection.{HasText}
-use Rattle.codegen_base.specs.Instructions.{store}
-use Rattle.codegen_base.specs.Paths.{Path, nothing_kept, with_path}
-use Rattle.codegen_base.specs.Pieces.{AreInsns, size}
-use Rattle.codegen_base.specs.Scopes.{IsScope, Variable, scope_setting}
-use Rattle.codegen_base.proofs.Insns.{field_insns, insns_append, leaf_insns, name_near}
-use Rattle.codegen_base.proofs.Paths.{paths_give}
-use Rattle.codegen.specs.Code.Expressions.{texts_of, texts_of_each}
-use Rattle.codegen.specs.Code.Literals.{address_of}
-use Rattle.codegen.specs.Code.Whole.{code_with, first_path, front_of, keeping_code, path_or, path_within, plain_code, shorter, whole_code}
-use Rattle.codegen.specs.Computes.{Computes, Ready, TextsStand, environment_in, routines, scope_context}
-use Rattle.codegen.specs.Cost.{cost}
-use Rattle.codegen.specs.HasLiterals.{HasLiterals}
-use Rattle.codegen.proofs.Budgets.{gives_within}
-use Rattle.codegen.proofs.CodeInsns.{AreNear, address_small, code_insns}
-use Rattle.codegen.proofs.Computed.{code_gives, part_gives, visited}
-use Rattle.codegen.proofs.Lengths.{short_code}
 use Rattle.codegen.proofs.Parts.{texts_back, texts_front}
+use Rattle.codegen.proofs.CodeInsns.{AreNear, address_small, code_insns}
+use Rattle.codegen.proofs.Computed.{all_gives, part_gives, visited, AreRoutines}
+use Rattle.codegen.proofs.Lengths.{short_code}
 
 -- ---- the path's field is one of the texts
 
@@ -59,14 +33,8 @@ module _ (constants : List ℕ) (texts : List (List ℕ)) (path : Path) where
 
 -- ---- the frame has a word more for it
 
-there_is : (here : Bool) (q path : Path) → (if here then Some q else None) ≡ Some path → (here ≡ true) × (Some q ≡ Some path)
-there_is here q path is = grind arith
-
-front_by : (words : ℕ) (o : Option Path) (path : Path) → path_within words o ≡ Some path → (words ≤ 60) × (o ≡ Some path)
-front_by words o path is = grind arith
-
 front_is : (e : CoreTree) (path : Path) → front_of e ≡ Some path → (1 + need e ≤ 60) × (first_path e ≡ Some path)
-front_is e path is = front_by (1 + need e) (first_path e) path is
+front_is e path is = grind arith
 
 -- ---- which of both codes it is
 
@@ -80,11 +48,8 @@ module _ (e : CoreTree) (ts : List (List ℕ)) (rs : List (List ℕ × ℕ)) (p 
   whole_keeping path front = ap (λ (o : Option Path). code_with o e ts rs p) front
 
 -- what holds of both holds of the shorter one
-chosen : (P : List Insn → Type 0) (b : Bool) (first second : List Insn) → P first → P second → P (if b then first else second)
-chosen P b first second h g = grind arith
-
 shorter_has : (P : List Insn → Type 0) (first second : List Insn) → P first → P second → P (shorter first second)
-shorter_has P first second h g = chosen P (nat_le (size first) (size second)) first second h g
+shorter_has P first second h g = grind arith
 
 -- ---- its slots
 
@@ -115,18 +80,15 @@ module _ (ts : List (List ℕ)) (rs : List (List ℕ × ℕ)) (near : AreNear rs
   plain_insns : AreInsns (plain_code e ts rs p)
   plain_insns = code_insns ts rs near e nothing_kept 0 p (λ n k is. absurd (cc)) (omega (arith, fits)) few (omega (arith, inside)) literals
 
-  with_insns : (o : Option Path) → front_of e ≡ o → AreInsns (code_with o e ts rs p)
-  with_insns o front = grind (arith, plain_insns, front_is, code_insns, shorter_has, path_insns, address_small)
-
   -- it can be spelled, where a frame has words enough for it, it is of few nodes, and calls from it reach the routines
   pub whole_insns : AreInsns (whole_code e ts rs p)
   unfolding whole_code
-  whole_insns = with_insns (front_of e) refl
+  whole_insns = grind (arith, plain_insns, front_is, code_insns, shorter_has, path_insns, address_small)
 
 -- ---- what it gives
 
-module _ (image : Contents) (deep : Bool) (roots : Roots) (constants : List ℕ) (scope later : List Variable) (texts : List (List ℕ))
-    (depth p : ℕ) (e : CoreTree) (is : IsScope image deep roots constants scope) (few : length scope ≤ 512) (literals : HasLiterals (plain_tree e)) where
+module _ (image : Contents) (deep : Bool) (roots : Roots) (constants : List ℕ) (scope later : List Variable) (rs : List (List ℕ × ℕ))
+    (same : AreRoutines rs scope) (texts : List (List ℕ)) (depth p : ℕ) (e : CoreTree) (is : IsScope image deep roots constants scope) (few : length scope ≤ 512) (literals : HasLiterals (plain_tree e)) where
   abbrev pub s : Setting
   s = scope_setting image deep scope
 
@@ -140,25 +102,21 @@ module _ (image : Contents) (deep : Bool) (roots : Roots) (constants : List ℕ)
   Meant piece = Computes s p piece c depth 0 (meaning (plain_tree e) env) (cost (plain_tree e) env)
 
   module _ (ready : Ready s scope texts c depth 0 e (cost (plain_tree e) env).is_deep) where
-    plain_gives : Meant (plain_code e texts (routines scope) p)
-    plain_gives = code_gives image deep roots constants scope later texts [] nothing_kept depth 0 p e is few literals ready
+    plain_gives : Meant (plain_code e texts rs p)
+    plain_gives = all_gives image deep roots constants scope later rs same texts [] nothing_kept depth 0 p e is few literals ready
 
-    with_gives : (o : Option Path) → front_of e ≡ o → Meant (code_with o e texts (routines scope) p)
+    with_gives : (o : Option Path) → front_of e ≡ o → Meant (code_with o e texts rs p)
     with_gives None front = plain_gives
     with_gives (Some path) front =
         let parts = front_is e path front in
-        let room = parts.0 in
-        let rest = part_gives image deep roots constants scope later texts [] (with_path path) depth 1 (p + 6) e is few literals
-        (record { accepted = ready.accepted; frames = ready.frames; room = room; texts_stand = ready.texts_stand; may = ready.may }) in
+        let rest = part_gives image deep roots constants scope later rs same texts [] (with_path path) depth 1 (p + 6) e is few literals (grind arith) in
         let some = visited (plain_tree e) env in
-        let stands = first_stands constants texts path e parts.1 ready.texts_stand in
-        let address = address_of texts path.field in
-        shorter_has Meant (plain_code e texts (routines scope) p) (keeping_code path e texts (routines scope) p) plain_gives
-        (gives_within s p (keeping_code path e texts (routines scope) p) c depth 0 _ _ _ _ _ (omega (arith, some)) (omega (arith, some))
-        (paths_give.kept s p depth address path _ c.environment constants _ _ _ stands rest))
+        shorter_has Meant (plain_code e texts rs p) (keeping_code path e texts rs p) plain_gives
+        (gives_within s p (keeping_code path e texts rs p) c depth 0 _ _ _ _ _ (omega (arith, some)) (omega (arith, some))
+        (paths_give.kept s p depth (address_of texts path.field) path _ c.environment constants _ _ _ (first_stands constants texts path e parts.1 ready.texts_stand) rest))
 
     -- it gives what the expression means, within 128 steps a visit and 16 times what is spent: of these the parts of an
     -- expression take 120 and 15, and the path 6 steps and 1 of charge
-    pub whole_gives : Meant (whole_code e texts (routines scope) p)
+    pub whole_gives : Meant (whole_code e texts rs p)
     unfolding whole_code
     whole_gives = with_gives (front_of e) refl

@@ -16,12 +16,11 @@ unfoldable mutual
   IsAccepted (select a f) vs = (is_variables (plain_tree a) ≡ false) × IsAccepted a vs
   IsAccepted (has a f) vs = IsAccepted a vs
   IsAccepted (index a k) vs = IsAccepted a vs × IsAccepted k vs
-  IsAccepted (call n no_cores) vs = ⊥
   IsAccepted (call n (more_cores a no_cores)) vs = IsSome (function_named n) × IsAccepted a vs
-  IsAccepted (call n (more_cores a (more_cores b more))) vs = ⊥
+  IsAccepted (call n _) vs = ⊥
   IsAccepted (method a n no_cores) vs = (function_named n ≡ Some Size) × IsAccepted a vs
   IsAccepted (method a n (more_cores b no_cores)) vs = IsSome (test_named n) × IsAccepted a vs × IsAccepted b vs
-  IsAccepted (method a n (more_cores b (more_cores x more))) vs = ⊥
+  IsAccepted (method a n _) vs = ⊥
   IsAccepted (unary op a) vs = IsAccepted a vs
   IsAccepted (binary op a b) vs = IsAccepted a vs × IsAccepted b vs
   IsAccepted (ternary c a b) vs = IsAccepted c vs × IsAccepted a vs × IsAccepted b vs

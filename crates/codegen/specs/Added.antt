@@ -12,6 +12,8 @@ use Rattle.codegen.specs.Code.Whole.{whole_code}
 use Rattle.codegen.specs.Constants.{with_texts}
 use Rattle.codegen.specs.Emitted.{Emitted, with_nodes, with_piece}
 use Rattle.codegen.specs.Surroundings.{routines_of}
+use Rattle.codegen.specs.declared.emitter.Addition.{Addition}
+use Rattle.codegen.specs.declared.emitter.Addition.TheVariants.{Expression, Variable}
 
 -- there is room for code: an image has slots for 512 nodes, 128 for each
 abbrev pub has_room : Emitted → Bool
@@ -48,6 +50,11 @@ with_routine e scope tree =
 -- the same with the expression's texts, its nodes and one more counted first
 abbrev pub with_variable : Emitted → List Declaration → CoreTree → Emitted
 with_variable e scope tree = with_routine (with_counted e tree (1 + nodes tree)) scope tree
+
+-- what the expression is added as
+abbrev pub with_addition : Addition → Emitted → List Declaration → CoreTree → Emitted
+with_addition Expression = with_expression
+with_addition Variable = with_variable
 
 -- the old emitter, with nothing but texts and slots of routines behind its own, and its nodes counted otherwise
 abbrev pub IsBehind : Emitted → Emitted → Type 0

@@ -13,3 +13,9 @@ pub(crate) mod paths;
 pub(crate) mod routines;
 pub(crate) mod selection;
 pub(crate) mod variables;
+
+use insn_codec::Insn;
+use std::alloc::AllocError;
+
+/// The code of an expression or of a part of it, or that there is no memory for it.
+pub(crate) type Code = Result<Vec<Insn>, AllocError>;

@@ -12,6 +12,7 @@ use indexmap::IndexSet;
 use std::alloc::{AllocError, Global};
 
 /// Takes the text among the others, if it is not there. The error says that there is no memory for it.
+#[tactic(auto, using(crate::proofs::Behind::text_taken))]
 fn take_text(alloc: Global, texts: &mut IndexSet<String>, text: &str) -> Result<(), AllocError>
     ensures ok { OnOk result (map string_bytes texts.new.keys ≡ specs.with_text (map string_bytes texts.old.keys) text.now) }
     ensures front { take (length texts.old.keys) texts.new.keys ≡ texts.old.keys }
@@ -23,7 +24,7 @@ fn take_text(alloc: Global, texts: &mut IndexSet<String>, text: &str) -> Result<
 
 /// Takes these texts among the others, each if it is not there. The error says that there is no memory
 /// for all of them; those that were there are still in front.
-#[tactic(auto, using(crate::proofs::Fronts::front_later))]
+#[tactic(auto, using(crate::proofs::Behind::front_later))]
 fn take_each(alloc: Global, texts: &mut IndexSet<String>, used: &[String]) -> Result<(), AllocError>
     ensures ok { OnOk result (map string_bytes texts.new.keys ≡ specs.with_texts (map string_bytes texts.old.keys) (map string_bytes used.now)) }
     ensures front { take (length texts.old.keys) texts.new.keys ≡ texts.old.keys }

@@ -9,7 +9,7 @@ ghost use Rattle.codegen.specs.Emission.{EmitsExpression, EmitsVariable};
 ghost use Rattle.codegen.specs.Layer.{EmitsMeaning, EmitsRoutine};
 
 use crate::code_error::CodeError;
-use crate::emitter::Emitter;
+use crate::emitter::{Addition, Emitter};
 use crate::literals_fit::literals_fit;
 use crate::whole_expression::MOST_WORDS;
 use cel_macros::Core;
@@ -27,6 +27,7 @@ const GREATEST_DEPTH: u64 = 6;
 /// # Errors
 ///
 /// `G1` where it needs more than 60 words of the stack, and `Memory`; the emitter is then as before.
+#[tactic(auto, using(crate::proofs::Layer::expression_gives, crate::proofs::Layer::emits_expression, crate::proofs::Layer::low_each))]
 pub fn expression(
     alloc: Global,
     core: &Core,
@@ -48,7 +49,7 @@ pub fn expression(
     }
     // what is called only for its contract: the literals are values, by their types
     literals_fit(core);
-    emitter.add(alloc, core, scope.variables())?;
+    emitter.add(alloc, Addition::Expression, core, scope.variables())?;
     Ok(())
 }
 
@@ -60,6 +61,7 @@ pub fn expression(
 ///
 /// `G1` where the expression needs more than 60 words of the stack, then `G2` where the variable's depth
 /// is above 6, and `Memory`; the emitter is then as before.
+#[tactic(auto, using(crate::proofs::Layer::emits_variable, crate::proofs::Layer::low_each))]
 pub fn variable(
     alloc: Global,
     core: &Core,
@@ -85,6 +87,6 @@ pub fn variable(
     }
     // as above
     literals_fit(core);
-    emitter.add_variable(alloc, core, scope.variables())?;
+    emitter.add(alloc, Addition::Variable, core, scope.variables())?;
     Ok(())
 }

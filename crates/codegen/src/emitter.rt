@@ -7,11 +7,12 @@ ghost use Rattle.insn_codec.specs.declared.insn.Insn.TheVariants.{Exit};
 ghost use Rattle.cel_macros.specs.CoreView.{core_view};
 ghost use Rattle.cel_measures.specs.Measures.{need, nodes};
 ghost use Rattle.cel_types.specs.Declarations.{declaration};
-ghost use Rattle.codegen.specs.Added.{code_at, with_expression, with_variable, IsBehind};
+ghost use Rattle.codegen.specs.Added.{code_at, with_addition, IsBehind};
 ghost use Rattle.codegen.specs.Constants.{joined as joined_texts};
 ghost use Rattle.codegen.specs.Emitted.{no_code, with_piece, with_insn_at, with_nodes, slot_spellings, IsTooLong, HasTooManyTexts};
 ghost use Rattle.codegen_base.specs.Pieces.{slots, insn_slots, size};
 
+use crate::code::Code;
 use crate::code::routines::passed_routine;
 use crate::code_error::CodeError;
 use crate::constants::{byte_count, joined, take_texts};
@@ -34,6 +35,15 @@ const MOST_SLOTS: usize = 0x7fff_0000;
 
 /// The most bytes of constants that an image has.
 const MOST_CONSTANTS: u64 = 1_048_576;
+
+/// What an expression is added as.
+#[derive(Clone, Copy)]
+pub(crate) enum Addition {
+    /// Itself: its code comes behind the code.
+    Expression,
+    /// The next variable: its code is the routine of that, which the code passes.
+    Variable,
+}
 
 /// Code as it grows: its instructions, the texts that they name, and the nodes that they stand for.
 #[derive(Drop)]
@@ -102,11 +112,12 @@ impl Emitter {
         self.nodes = self.nodes.saturating_add(n);
     }
 
-    /// Takes the expression: its texts and nodes, and its code behind the code where there is room. The
+    /// Takes what is added: its texts and nodes, and its code behind the code where there is room. The
     /// error says that there is no memory for it.
     pub(crate) fn add(
         &mut self,
         alloc: Global,
+        addition: Addition,
         core: &Core,
         scope: &[Variable],
     ) -> Result<(), AllocError>
@@ -114,88 +125,56 @@ impl Emitter {
         ensures few { 2 * length self.old.routines ≤ self.old.nodes }
         ensures low { All (λ slot. slot ≤ 0x7fff_ff00) self.old.routines }
         ensures inside { length self.old.code ≤ 0x7fff_0000 }
-        ensures ok { OnOk result (self.new ≡ with_expression self.old (map declaration scope.now) (core_view core.now)) }
+        ensures ok { OnOk result (self.new ≡ with_addition addition self.old (map declaration scope.now) (core_view core.now)) }
         ensures err { OnErr result (self.new ≡ self.old) }
     {
         let (texts, routines, nodes) = (self.constants.len(), self.routines.len(), self.nodes);
-        let added = self.grow(alloc, core, scope);
+        let added = self.grow(alloc, addition, core, scope);
         if added.is_err() {
             self.cut(texts, routines, nodes);
         }
         added
     }
 
-    /// Takes the next variable with this expression: its texts and nodes, and its routine behind the
-    /// code where there is room. The error says that there is no memory for it.
-    pub(crate) fn add_variable(
+    /// Takes what is added. After an error texts, and a routine's slot, may be left behind those that were
+    /// there, and the nodes counted.
+    #[tactic(auto, using(crate::proofs::Behind::texts_front, crate::proofs::Behind::kept, crate::proofs::Behind::longer))]
+    fn grow(
         &mut self,
         alloc: Global,
+        addition: Addition,
         core: &Core,
         scope: &[Variable],
     ) -> Result<(), AllocError>
         requires { need (core_view core.now) ≤ 60 }
-        ensures few { 2 * length self.old.routines ≤ self.old.nodes }
-        ensures low { All (λ slot. slot ≤ 0x7fff_ff00) self.old.routines }
-        ensures inside { length self.old.code ≤ 0x7fff_0000 }
-        ensures ok { OnOk result (self.new ≡ with_variable self.old (map declaration scope.now) (core_view core.now)) }
-        ensures err { OnErr result (self.new ≡ self.old) }
-    {
-        let (texts, routines, nodes) = (self.constants.len(), self.routines.len(), self.nodes);
-        let added = self.grow_routine(alloc, core, scope);
-        if added.is_err() {
-            self.cut(texts, routines, nodes);
-        }
-        added
-    }
-
-    /// Takes the expression. After an error texts may be left behind those that were there, and the nodes
-    /// counted.
-    fn grow(&mut self, alloc: Global, core: &Core, scope: &[Variable]) -> Result<(), AllocError>
-        requires { need (core_view core.now) ≤ 60 }
-        ensures ok { OnOk result (self.new ≡ with_expression self.old (map declaration scope.now) (core_view core.now)) }
+        ensures ok { OnOk result (self.new ≡ with_addition addition self.old (map declaration scope.now) (core_view core.now)) }
         ensures err { OnErr result (IsBehind self.old self.new) }
     {
         take_texts(alloc, &mut self.constants, core)?;
         self.nodes = self.nodes.saturating_add(nodes(core));
-        if has_room(self.nodes) {
-            let piece = self.code_at(alloc, core, scope, self.code.len())?;
-            self.append(alloc, &piece)?;
-        }
-        Ok(())
-    }
-
-    /// Takes the variable. After an error texts, and the routine's slot, may be left behind those
-    /// that were there, and the nodes counted.
-    fn grow_routine(
-        &mut self,
-        alloc: Global,
-        core: &Core,
-        scope: &[Variable],
-    ) -> Result<(), AllocError>
-        requires { need (core_view core.now) ≤ 60 }
-        ensures ok { OnOk result (self.new ≡ with_variable self.old (map declaration scope.now) (core_view core.now)) }
-        ensures err { OnErr result (IsBehind self.old self.new) }
-    {
-        take_texts(alloc, &mut self.constants, core)?;
-        self.nodes = self.nodes.saturating_add(nodes(core)).saturating_add(1);
-        if has_room(self.nodes) {
-            let slot = self.code.len() + 1;
-            let body = self.code_at(alloc, core, scope, slot)?;
-            let routine = passed_routine(alloc, &body, self.routines.len())?;
-            self.routines.push(slot as u32)?;
-            self.append(alloc, &routine)?;
+        match addition {
+            Addition::Expression => {
+                if has_room(self.nodes) {
+                    let piece = self.code_at(alloc, core, scope, self.code.len())?;
+                    self.append(alloc, &piece)?;
+                }
+            }
+            Addition::Variable => {
+                self.nodes = self.nodes.saturating_add(1);
+                if has_room(self.nodes) {
+                    let slot = self.code.len() + 1;
+                    let body = self.code_at(alloc, core, scope, slot)?;
+                    let routine = passed_routine(alloc, &body, self.routines.len())?;
+                    self.routines.push(slot as u32)?;
+                    self.append(alloc, &routine)?;
+                }
+            }
         }
         Ok(())
     }
 
     /// The expression's code at this slot. The error says that there is no memory for it.
-    fn code_at(
-        &self,
-        alloc: Global,
-        core: &Core,
-        scope: &[Variable],
-        slot: usize,
-    ) -> Result<Vec<Insn>, AllocError>
+    fn code_at(&self, alloc: Global, core: &Core, scope: &[Variable], slot: usize) -> Code
         requires need { need (core_view core.now) ≤ 60 }
         requires nodes { nodes (core_view core.now) ≤ 512 }
         requires slot { slot ≤ 0x7fff_0001 }
@@ -232,7 +211,7 @@ impl Emitter {
     }
 
     /// Keeps so many texts, routines and nodes.
-    #[tactic(auto, using(crate::proofs::AmongTexts::texts_cut))]
+    #[tactic(auto, using(crate::proofs::Behind::texts_cut))]
     fn cut(&mut self, texts: usize, routines: usize, nodes: u64)
         requires { 2 * routines ≤ nodes }
         ensures { self.new ≡ record self.old { constants = take texts self.old.constants; nodes = nodes; routines = take routines self.old.routines } }

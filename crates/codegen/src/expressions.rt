@@ -16,13 +16,12 @@ ghost use Rattle.codegen.specs.Surroundings.{piece_of, HasRoom};
 
 use crate::code::calls::{kept_size, operands as operands_code};
 use crate::code::{
-    aggregates, folds, literals, logic, names, operators, paths, selection, variables,
+    Code, aggregates, folds, literals, logic, names, operators, paths, selection, variables,
 };
 use crate::frame_words::FrameWords;
 use crate::instructions::size;
 use crate::part::Part;
 use crate::spot::Spot;
-use crate::surroundings::Surroundings;
 use cel_macros::{Core, Macro};
 use cel_reader::BinaryOperator;
 use codegen_base::helpers;
@@ -48,39 +47,27 @@ fn leaf_of(core: &Core, words: &FrameWords) -> Option<Leaf>
 /// A part, and how many slots it takes.
 #[cycle(code)]
 #[tactic(auto, using(crate::proofs::Walks::near_code))]
-fn part(
-    alloc: Global,
-    core: &Core,
-    around: &Surroundings,
-    words: &FrameWords,
-    spot: Spot,
-) -> Result<(Vec<Insn>, usize), AllocError>
-    requires { HasRoom (core_view core.now) words.now spot }
-    ensures code { IfOk result (λ part. part.0.items ≡ piece_of (core_view core.now) around.now words.now spot) }
+fn part(alloc: Global, core: &Core, spot: Spot) -> Result<(Vec<Insn>, usize), AllocError>
+    requires { HasRoom (core_view core.now) spot }
+    ensures code { IfOk result (λ part. part.0.items ≡ piece_of (core_view core.now) spot.entry) }
     ensures slots { IfOk result (λ part. part.1 ≡ size_of_piece part.0.items) }
     ensures short { IfOk result (λ part. part.1 + 8 ≤ 63 * nodes (core_view core.now)) }
 {
-    let code = code_of(alloc, core, around, words, spot)?;
+    let code = code_of(alloc, core, spot)?;
     let slots = size(&code);
     Ok((code, slots))
 }
 
 /// An operand, which may be a leaf.
 #[cycle(code)]
-fn operand(
-    alloc: Global,
-    core: &Core,
-    around: &Surroundings,
-    words: &FrameWords,
-    spot: Spot,
-) -> Result<Part, AllocError>
-    requires { HasRoom (core_view core.now) words.now spot }
-    ensures leaf { IfOk result (λ part. part.leaf ≡ specs.leaf_of (core_view core.now) (words_of words.now)) }
-    ensures code { IfOk result (λ part. part.code.items ≡ piece_of (core_view core.now) around.now words.now spot) }
+fn operand(alloc: Global, core: &Core, spot: Spot) -> Result<Part, AllocError>
+    requires { HasRoom (core_view core.now) spot }
+    ensures leaf { IfOk result (λ part. part.leaf ≡ specs.leaf_of (core_view core.now) (words_of spot.entry.words.now)) }
+    ensures code { IfOk result (λ part. part.code.items ≡ piece_of (core_view core.now) spot.entry) }
     ensures short { IfOk result (λ part. size_of_piece part.code.items + 8 ≤ 63 * nodes (core_view core.now)) }
 {
-    let leaf = leaf_of(core, words);
-    let (code, _) = part(alloc, core, around, words, spot)?;
+    let leaf = leaf_of(core, spot.words);
+    let (code, _) = part(alloc, core, spot)?;
     Ok(Part { leaf, code })
 }
 
@@ -90,61 +77,46 @@ fn operands(
     alloc: Global,
     left: &Core,
     right: &Core,
-    around: &Surroundings,
-    words: &FrameWords,
     spot: Spot,
 ) -> Result<(Part, Part), AllocError>
-    requires { HasRoom (core.index (core_view left.now) (core_view right.now)) words.now spot }
-    ensures left { IfOk result (λ parts. parts.0.leaf ≡ specs.leaf_of (core_view left.now) (words_of words.now)) }
-    ensures left_code { IfOk result (λ parts. parts.0.code.items ≡ piece_of (core_view left.now) around.now words.now spot) }
-    ensures right { IfOk result (λ parts. parts.1.leaf ≡ specs.leaf_of (core_view right.now) (words_of words.now)) }
-    ensures right_code { IfOk result (λ parts. parts.1.code.items ≡ piece_of (core_view right.now) around.now words.now (record { word = spot.word + 1; slot = spot.slot + size_when_kept parts.0.leaf parts.0.code.items })) }
+    requires { HasRoom (core.index (core_view left.now) (core_view right.now)) spot }
+    ensures left { IfOk result (λ parts. parts.0.leaf ≡ specs.leaf_of (core_view left.now) (words_of spot.entry.words.now)) }
+    ensures left_code { IfOk result (λ parts. parts.0.code.items ≡ piece_of (core_view left.now) spot.entry) }
+    ensures right { IfOk result (λ parts. parts.1.leaf ≡ specs.leaf_of (core_view right.now) (words_of spot.entry.words.now)) }
+    ensures right_code { IfOk result (λ parts. parts.1.code.items ≡ piece_of (core_view right.now) (record spot.entry { word = spot.entry.word + 1; slot = spot.entry.slot + size_when_kept parts.0.leaf parts.0.code.items })) }
 {
-    let first = operand(alloc, left, around, words, spot)?;
+    let first = operand(alloc, left, spot)?;
     let behind = Spot {
         word: spot.word + 1,
         slot: spot.slot + kept_size(&first),
+        ..spot
     };
-    let second = operand(alloc, right, around, words, behind)?;
+    let second = operand(alloc, right, behind)?;
     Ok((first, second))
 }
 
 /// A field: a leaf where it is kept.
 #[cycle(code)]
-fn select(
-    alloc: Global,
-    of: &Core,
-    field: &str,
-    around: &Surroundings,
-    words: &FrameWords,
-    spot: Spot,
-) -> Result<Vec<Insn>, AllocError>
-    requires { HasRoom (core.select (core_view of.now) field.now) words.now spot }
-    ensures { IfOk result (λ code. code.items ≡ piece_of (core.select (core_view of.now) field.now) around.now words.now spot) }
+fn select(alloc: Global, of: &Core, field: &str, spot: Spot) -> Code
+    requires { HasRoom (core.select (core_view of.now) field.now) spot }
+    ensures { IfOk result (λ code. code.items ≡ piece_of (core.select (core_view of.now) field.now) spot.entry) }
 {
-    match paths::field_leaf(of, field, words) {
+    match paths::field_leaf(of, field, spot.words) {
         Some(leaf) => names::leaf(alloc, leaf),
         None => {
-            let of = operand(alloc, of, around, words, spot)?;
-            selection::select(alloc, &of, around.texts, field)
+            let of = operand(alloc, of, spot)?;
+            selection::select(alloc, &of, spot.around.texts, field)
         }
     }
 }
 
 /// An index.
 #[cycle(code)]
-fn index(
-    alloc: Global,
-    of: &Core,
-    at: &Core,
-    around: &Surroundings,
-    words: &FrameWords,
-    spot: Spot,
-) -> Result<Vec<Insn>, AllocError>
-    requires { HasRoom (core.index (core_view of.now) (core_view at.now)) words.now spot }
-    ensures { IfOk result (λ code. code.items ≡ piece_of (core.index (core_view of.now) (core_view at.now)) around.now words.now spot) }
+fn index(alloc: Global, of: &Core, at: &Core, spot: Spot) -> Code
+    requires { HasRoom (core.index (core_view of.now) (core_view at.now)) spot }
+    ensures { IfOk result (λ code. code.items ≡ piece_of (core.index (core_view of.now) (core_view at.now)) spot.entry) }
 {
-    let (left, right) = operands(alloc, of, at, around, words, spot)?;
+    let (left, right) = operands(alloc, of, at, spot)?;
     let mut code = operands_code(alloc, &left, &right, spot.word, Register::R1, Register::R2)?;
     code.push(call_helper(helpers::INDEX))?;
     Ok(code)
@@ -152,38 +124,25 @@ fn index(
 
 /// An operator of two operands.
 #[cycle(code)]
-fn binary(
-    alloc: Global,
-    op: BinaryOperator,
-    left: &Core,
-    right: &Core,
-    around: &Surroundings,
-    words: &FrameWords,
-    spot: Spot,
-) -> Result<Vec<Insn>, AllocError>
-    requires { HasRoom (core.binary op (core_view left.now) (core_view right.now)) words.now spot }
-    ensures { IfOk result (λ code. code.items ≡ piece_of (core.binary op (core_view left.now) (core_view right.now)) around.now words.now spot) }
+fn binary(alloc: Global, op: BinaryOperator, left: &Core, right: &Core, spot: Spot) -> Code
+    requires { HasRoom (core.binary op (core_view left.now) (core_view right.now)) spot }
+    ensures { IfOk result (λ code. code.items ≡ piece_of (core.binary op (core_view left.now) (core_view right.now)) spot.entry) }
 {
-    let first = operand(alloc, left, around, words, spot)?;
+    let first = operand(alloc, left, spot)?;
     let behind = Spot {
         word: spot.word + 1,
         slot: spot.slot + operators::left_size(op, &first),
+        ..spot
     };
-    let second = operand(alloc, right, around, words, behind)?;
+    let second = operand(alloc, right, behind)?;
     operators::binary(alloc, op, &first, &second, spot.word)
 }
 
 /// A list.
 #[cycle(code)]
-fn list(
-    alloc: Global,
-    parts: &[Core],
-    around: &Surroundings,
-    words: &FrameWords,
-    spot: Spot,
-) -> Result<Vec<Insn>, AllocError>
-    requires { HasRoom (core.list (cores (list.map core_view parts.now))) words.now spot }
-    ensures { IfOk result (λ code. code.items ≡ piece_of (core.list (cores (list.map core_view parts.now))) around.now words.now spot) }
+fn list(alloc: Global, parts: &[Core], spot: Spot) -> Code
+    requires { HasRoom (core.list (cores (list.map core_view parts.now))) spot }
+    ensures { IfOk result (λ code. code.items ≡ piece_of (core.list (cores (list.map core_view parts.now))) spot.entry) }
 {
     let mut items = Vec::new(alloc);
     let mut slot = spot.slot + 2;
@@ -191,8 +150,9 @@ fn list(
         let place = Spot {
             word: spot.word + 1,
             slot,
+            ..spot
         };
-        let (code, slots) = part(alloc, item, around, words, place)?;
+        let (code, slots) = part(alloc, item, place)?;
         aggregates::add_item(&mut items, &code, spot.word)?;
         slot += slots + 4;
     }
@@ -201,15 +161,9 @@ fn list(
 
 /// A map.
 #[cycle(code)]
-fn map(
-    alloc: Global,
-    pairs: &[(Core, Core)],
-    around: &Surroundings,
-    words: &FrameWords,
-    spot: Spot,
-) -> Result<Vec<Insn>, AllocError>
-    requires { HasRoom (core.map (core_entries (list.map core_pair pairs.now))) words.now spot }
-    ensures { IfOk result (λ code. code.items ≡ piece_of (core.map (core_entries (list.map core_pair pairs.now))) around.now words.now spot) }
+fn map(alloc: Global, pairs: &[(Core, Core)], spot: Spot) -> Code
+    requires { HasRoom (core.map (core_entries (list.map core_pair pairs.now))) spot }
+    ensures { IfOk result (λ code. code.items ≡ piece_of (core.map (core_entries (list.map core_pair pairs.now))) spot.entry) }
 {
     let mut entries = Vec::new(alloc);
     let mut slot = spot.slot + 2;
@@ -217,13 +171,15 @@ fn map(
         let place = Spot {
             word: spot.word + 1,
             slot,
+            ..spot
         };
-        let (first, slots) = part(alloc, key, around, words, place)?;
+        let (first, slots) = part(alloc, key, place)?;
         let behind = Spot {
             word: spot.word + 2,
             slot: slot + slots + 1,
+            ..spot
         };
-        let (second, slots) = part(alloc, value, around, words, behind)?;
+        let (second, slots) = part(alloc, value, behind)?;
         aggregates::add_entry(&mut entries, &first, &second, spot.word)?;
         slot = behind.slot + slots + 5;
     }
@@ -232,20 +188,13 @@ fn map(
 
 /// A call.
 #[cycle(code)]
-fn call(
-    alloc: Global,
-    name: &str,
-    arguments: &[Core],
-    around: &Surroundings,
-    words: &FrameWords,
-    spot: Spot,
-) -> Result<Vec<Insn>, AllocError>
-    requires { HasRoom (core.call name.now (cores (list.map core_view arguments.now))) words.now spot }
-    ensures { IfOk result (λ code. code.items ≡ piece_of (core.call name.now (cores (list.map core_view arguments.now))) around.now words.now spot) }
+fn call(alloc: Global, name: &str, arguments: &[Core], spot: Spot) -> Code
+    requires { HasRoom (core.call name.now (cores (list.map core_view arguments.now))) spot }
+    ensures { IfOk result (λ code. code.items ≡ piece_of (core.call name.now (cores (list.map core_view arguments.now))) spot.entry) }
 {
     match arguments {
         [argument] => {
-            let of = operand(alloc, argument, around, words, spot)?;
+            let of = operand(alloc, argument, spot)?;
             names::function(alloc, name, &of)
         }
         _ => names::nothing(alloc),
@@ -254,25 +203,17 @@ fn call(
 
 /// A method.
 #[cycle(code)]
-fn method(
-    alloc: Global,
-    of: &Core,
-    name: &str,
-    arguments: &[Core],
-    around: &Surroundings,
-    words: &FrameWords,
-    spot: Spot,
-) -> Result<Vec<Insn>, AllocError>
-    requires { HasRoom (core.method (core_view of.now) name.now (cores (list.map core_view arguments.now))) words.now spot }
-    ensures { IfOk result (λ code. code.items ≡ piece_of (core.method (core_view of.now) name.now (cores (list.map core_view arguments.now))) around.now words.now spot) }
+fn method(alloc: Global, of: &Core, name: &str, arguments: &[Core], spot: Spot) -> Code
+    requires { HasRoom (core.method (core_view of.now) name.now (cores (list.map core_view arguments.now))) spot }
+    ensures { IfOk result (λ code. code.items ≡ piece_of (core.method (core_view of.now) name.now (cores (list.map core_view arguments.now))) spot.entry) }
 {
     match arguments {
         [] => {
-            let of = operand(alloc, of, around, words, spot)?;
+            let of = operand(alloc, of, spot)?;
             names::method(alloc, name, &of)
         }
         [argument] => {
-            let (left, right) = operands(alloc, of, argument, around, words, spot)?;
+            let (left, right) = operands(alloc, of, argument, spot)?;
             names::test(alloc, name, &left, &right, spot.word)
         }
         _ => names::nothing(alloc),
@@ -281,127 +222,93 @@ fn method(
 
 /// A conditional.
 #[cycle(code)]
-fn ternary(
-    alloc: Global,
-    test: &Core,
-    yes: &Core,
-    no: &Core,
-    around: &Surroundings,
-    words: &FrameWords,
-    spot: Spot,
-) -> Result<Vec<Insn>, AllocError>
-    requires { HasRoom (core.ternary (core_view test.now) (core_view yes.now) (core_view no.now)) words.now spot }
-    ensures { IfOk result (λ code. code.items ≡ piece_of (core.ternary (core_view test.now) (core_view yes.now) (core_view no.now)) around.now words.now spot) }
+fn ternary(alloc: Global, test: &Core, yes: &Core, no: &Core, spot: Spot) -> Code
+    requires { HasRoom (core.ternary (core_view test.now) (core_view yes.now) (core_view no.now)) spot }
+    ensures { IfOk result (λ code. code.items ≡ piece_of (core.ternary (core_view test.now) (core_view yes.now) (core_view no.now)) spot.entry) }
 {
-    let (condition, slots) = part(alloc, test, around, words, spot)?;
+    let (condition, slots) = part(alloc, test, spot)?;
     let behind_condition = Spot {
-        word: spot.word,
         slot: spot.slot + slots + 2,
+        ..spot
     };
-    let (first, slots) = part(alloc, yes, around, words, behind_condition)?;
+    let (first, slots) = part(alloc, yes, behind_condition)?;
     let behind_first = Spot {
-        word: spot.word,
         slot: behind_condition.slot + slots + 1,
+        ..spot
     };
-    let (second, _) = part(alloc, no, around, words, behind_first)?;
+    let (second, _) = part(alloc, no, behind_first)?;
     logic::ternary(alloc, &condition, &first, &second)
 }
 
 /// A macro with one part.
 #[cycle(code)]
-fn fold(
-    alloc: Global,
-    found: Macro,
-    name: &str,
-    range: &Core,
-    body: &Core,
-    around: &Surroundings,
-    words: &FrameWords,
-    spot: Spot,
-) -> Result<Vec<Insn>, AllocError>
-    requires { HasRoom (core.fold found name.now (core_view range.now) (core_view body.now)) words.now spot }
-    ensures { IfOk result (λ code. code.items ≡ piece_of (core.fold found name.now (core_view range.now) (core_view body.now)) around.now words.now spot) }
+fn fold(alloc: Global, found: Macro, name: &str, range: &Core, body: &Core, spot: Spot) -> Code
+    requires { HasRoom (core.fold found name.now (core_view range.now) (core_view body.now)) spot }
+    ensures { IfOk result (λ code. code.items ≡ piece_of (core.fold found name.now (core_view range.now) (core_view body.now)) spot.entry) }
 {
-    let (items, slots) = part(alloc, range, around, words, spot)?;
-    let within = FrameWords::Within(name, spot.word + 4, &*words);
+    let (items, slots) = part(alloc, range, spot)?;
+    let within = FrameWords::Within(name, spot.word + 4, &*spot.words);
     let inside = Spot {
+        words: &within,
         word: spot.word + 5,
         slot: spot.slot + slots + 17,
+        ..spot
     };
-    let (turn, _) = part(alloc, body, around, &within, inside)?;
+    let (turn, _) = part(alloc, body, inside)?;
     folds::macro_of(alloc, found, &items, &turn, spot.word)
 }
 
 /// `map` with a predicate and a transform.
 #[cycle(code)]
-fn fold_map(
-    alloc: Global,
-    name: &str,
-    range: &Core,
-    test: &Core,
-    body: &Core,
-    around: &Surroundings,
-    words: &FrameWords,
-    spot: Spot,
-) -> Result<Vec<Insn>, AllocError>
-    requires { HasRoom (core.fold_map name.now (core_view range.now) (core_view test.now) (core_view body.now)) words.now spot }
-    ensures { IfOk result (λ code. code.items ≡ piece_of (core.fold_map name.now (core_view range.now) (core_view test.now) (core_view body.now)) around.now words.now spot) }
+fn fold_map(alloc: Global, name: &str, range: &Core, test: &Core, body: &Core, spot: Spot) -> Code
+    requires { HasRoom (core.fold_map name.now (core_view range.now) (core_view test.now) (core_view body.now)) spot }
+    ensures { IfOk result (λ code. code.items ≡ piece_of (core.fold_map name.now (core_view range.now) (core_view test.now) (core_view body.now)) spot.entry) }
 {
-    let (items, slots) = part(alloc, range, around, words, spot)?;
-    let within = FrameWords::Within(name, spot.word + 4, &*words);
+    let (items, slots) = part(alloc, range, spot)?;
+    let within = FrameWords::Within(name, spot.word + 4, &*spot.words);
     let inside = Spot {
+        words: &within,
         word: spot.word + 5,
         slot: spot.slot + slots + 17,
+        ..spot
     };
-    let (first, slots) = part(alloc, test, around, &within, inside)?;
+    let (first, slots) = part(alloc, test, inside)?;
     let behind = Spot {
-        word: spot.word + 5,
         slot: inside.slot + slots + 2,
+        ..inside
     };
-    let (turn, _) = part(alloc, body, around, &within, behind)?;
+    let (turn, _) = part(alloc, body, behind)?;
     folds::map_where(alloc, &items, &first, &turn, spot.word)
 }
 
-/// The code of the expression among these surroundings, at the spot. Within the macros around it the
-/// words of the frame hold their items. The error says that there is no memory for it.
+/// The code of the expression at the spot. Within the macros around it the words of the frame hold their
+/// items. The error says that there is no memory for it.
 #[cycle(code)]
-pub(crate) fn code_of(
-    alloc: Global,
-    core: &Core,
-    around: &Surroundings,
-    words: &FrameWords,
-    spot: Spot,
-) -> Result<Vec<Insn>, AllocError>
-    requires { HasRoom (core_view core.now) words.now spot }
-    ensures { IfOk result (λ code. code.items ≡ piece_of (core_view core.now) around.now words.now spot) }
+pub(crate) fn code_of(alloc: Global, core: &Core, spot: Spot) -> Code
+    requires { HasRoom (core_view core.now) spot }
+    ensures { IfOk result (λ code. code.items ≡ piece_of (core_view core.now) spot.entry) }
 {
     match core {
-        Core::Literal(literal) => literals::literal(alloc, around.texts, literal),
-        Core::Name(name) => names::leaf(alloc, names::name_leaf(name, words)),
-        Core::Variable(name) => variables::variable(alloc, name, around, spot.slot),
-        Core::Select(of, field) => select(alloc, of, field, around, words, spot),
+        Core::Literal(literal) => literals::literal(alloc, spot.around.texts, literal),
+        Core::Name(name) => names::leaf(alloc, names::name_leaf(name, spot.words)),
+        Core::Variable(name) => variables::variable(alloc, name, spot.around, spot.slot),
+        Core::Select(of, field) => select(alloc, of, field, spot),
         Core::Has(of, field) => {
-            let of = operand(alloc, of, around, words, spot)?;
-            selection::has(alloc, &of, around.texts, field)
+            let of = operand(alloc, of, spot)?;
+            selection::has(alloc, &of, spot.around.texts, field)
         }
         Core::Unary(op, of) => {
-            let of = operand(alloc, of, around, words, spot)?;
+            let of = operand(alloc, of, spot)?;
             operators::unary(alloc, *op, &of)
         }
-        Core::Index(of, at) => index(alloc, of, at, around, words, spot),
-        Core::Binary(op, left, right) => binary(alloc, *op, left, right, around, words, spot),
-        Core::Call(name, arguments) => call(alloc, name, arguments, around, words, spot),
-        Core::Method(of, name, arguments) => method(
-            alloc, of, name, arguments, around, words, spot,
-        ),
-        Core::Ternary(test, yes, no) => ternary(alloc, test, yes, no, around, words, spot),
-        Core::List(parts) => list(alloc, parts, around, words, spot),
-        Core::Map(pairs) => map(alloc, pairs, around, words, spot),
-        Core::Fold(found, name, range, body) => fold(
-            alloc, *found, name, range, body, around, words, spot,
-        ),
-        Core::FoldMap(name, range, test, body) => fold_map(
-            alloc, name, range, test, body, around, words, spot,
-        ),
+        Core::Index(of, at) => index(alloc, of, at, spot),
+        Core::Binary(op, left, right) => binary(alloc, *op, left, right, spot),
+        Core::Call(name, arguments) => call(alloc, name, arguments, spot),
+        Core::Method(of, name, arguments) => method(alloc, of, name, arguments, spot),
+        Core::Ternary(test, yes, no) => ternary(alloc, test, yes, no, spot),
+        Core::List(parts) => list(alloc, parts, spot),
+        Core::Map(pairs) => map(alloc, pairs, spot),
+        Core::Fold(found, name, range, body) => fold(alloc, *found, name, range, body, spot),
+        Core::FoldMap(name, range, test, body) => fold_map(alloc, name, range, test, body, spot),
     }
 }

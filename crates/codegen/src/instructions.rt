@@ -11,7 +11,7 @@ use codegen_base::leaf::Leaf;
 use insn_codec::{AluOp, Comparison, Insn, Operand, Register, Size, Width};
 
 /// How many slots the instructions take.
-#[tactic(auto, using(crate::proofs::Sizes::size_cons))]
+#[tactic(auto, using(crate::proofs::Lengths::size_cons))]
 pub(crate) fn size(piece: &[Insn]) -> usize
     requires { size_of_piece piece.now < 65536 }
     ensures { result ≡ size_of_piece piece.now }

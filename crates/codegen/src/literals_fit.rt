@@ -21,6 +21,7 @@ fn int_fits(n: i64)
 }
 
 /// An int is of 64 bits, and a text is UTF-8, as their types have it.
+#[tactic(auto, using(crate::proofs::Behind::texts_fit))]
 fn literal_fits(literal: &Literal)
     ensures { IsWellFormedLiteral (literal_view literal.now) }
 {

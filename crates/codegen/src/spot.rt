@@ -1,8 +1,15 @@
 //! Where code stands.
 
-/// Where the code of an expression stands.
+use crate::frame_words::FrameWords;
+use crate::surroundings::Surroundings;
+
+/// Where the code of an expression stands, and what the names in it stand for there.
 #[derive(Clone, Copy)]
-pub(crate) struct Spot {
+pub(crate) struct Spot<'a> {
+    /// What the names in the whole expression stand for.
+    pub(crate) around: &'a Surroundings<'a>,
+    /// The words of the frame that are taken.
+    pub(crate) words: &'a FrameWords<'a>,
     /// The first word of the frame that it may use.
     pub(crate) word: usize,
     /// Its first slot.

@@ -8,6 +8,7 @@ ghost use Rattle.codegen.specs.Code.Whole as specs;
 ghost use Rattle.codegen.specs.FrameWords.{path_view};
 ghost use Rattle.codegen.specs.Surroundings.{routines_within, texts_within};
 
+use crate::code::Code;
 use crate::code::paths::{first_path, walk};
 use crate::expressions::code_of;
 use crate::frame_words::FrameWords;
@@ -18,7 +19,7 @@ use crate::surroundings::Surroundings;
 use cel_macros::Core;
 use cel_measures::need;
 use insn_codec::{Insn, Register};
-use std::alloc::{AllocError, Global};
+use std::alloc::Global;
 
 /// The most words of its frame that an expression's code may need.
 pub(crate) const MOST_WORDS: u64 = 60;
@@ -29,44 +30,32 @@ fn front_of(core: &Core) -> Option<Path<'_>>
     ensures { option_map path_view result ≡ specs.front_of (core_view core.now) }
 {
     match first_path(core) {
-        Some(path) => {
-            if 1 + need(core) <= MOST_WORDS {
-                Some(path)
-            } else {
-                None
-            }
-        }
-        None => None,
+        Some(path) if 1 + need(core) <= MOST_WORDS => Some(path),
+        _ => None,
     }
 }
 
 /// The expression's code at this slot that keeps nothing.
 #[tactic(auto, using(crate::proofs::Lengths::short_code))]
-fn plain_code(
-    alloc: Global,
-    core: &Core,
-    around: &Surroundings,
-    slot: usize,
-) -> Result<Vec<Insn>, AllocError>
+fn plain_code(alloc: Global, core: &Core, around: &Surroundings, slot: usize) -> Code
     requires need { measures.need (core_view core.now) ≤ 60 }
     requires nodes { measures.nodes (core_view core.now) ≤ 512 }
     requires slot { slot ≤ 0x7fff_0001 }
     ensures code { IfOk result (λ code. code.items ≡ specs.plain_code (core_view core.now) (texts_within around.now) (routines_within around.now) slot) }
     ensures short { IfOk result (λ code. size_of_piece code.items + 8 ≤ 63 * measures.nodes (core_view core.now)) }
 {
-    let spot = Spot { word: 0, slot };
-    code_of(alloc, core, around, &FrameWords::Outside, spot)
+    let spot = Spot {
+        around,
+        words: &FrameWords::Outside,
+        word: 0,
+        slot,
+    };
+    code_of(alloc, core, spot)
 }
 
 /// The expression's code at this slot, behind the path's and a store that keeps it in word 0.
 #[tactic(auto, using(crate::proofs::Lengths::short_code))]
-fn keeping_code(
-    alloc: Global,
-    path: Path,
-    core: &Core,
-    around: &Surroundings,
-    slot: usize,
-) -> Result<Vec<Insn>, AllocError>
+fn keeping_code(alloc: Global, path: Path, core: &Core, around: &Surroundings, slot: usize) -> Code
     requires need { 1 + measures.need (core_view core.now) ≤ 60 }
     requires nodes { measures.nodes (core_view core.now) ≤ 512 }
     requires slot { slot ≤ 0x7fff_0001 }
@@ -75,11 +64,14 @@ fn keeping_code(
 {
     let mut code = walk(alloc, around.texts, path)?;
     code.push(store(0, Register::R0))?;
+    let words = FrameWords::Keeping(path);
     let spot = Spot {
+        around,
+        words: &words,
         word: 1,
         slot: slot + 6,
     };
-    let rest = code_of(alloc, core, around, &FrameWords::Keeping(path), spot)?;
+    let rest = code_of(alloc, core, spot)?;
     code.extend_from_slice(&rest)?;
     Ok(code)
 }
@@ -99,12 +91,7 @@ fn shorter(first: Vec<Insn>, second: Vec<Insn>) -> Vec<Insn>
 
 /// The code of a whole expression at this slot, from the start of a frame: it keeps a path where that is
 /// shorter. The error says that there is no memory for it.
-pub(crate) fn whole_code(
-    alloc: Global,
-    core: &Core,
-    around: &Surroundings,
-    slot: usize,
-) -> Result<Vec<Insn>, AllocError>
+pub(crate) fn whole_code(alloc: Global, core: &Core, around: &Surroundings, slot: usize) -> Code
     requires need { measures.need (core_view core.now) ≤ 60 }
     requires nodes { measures.nodes (core_view core.now) ≤ 512 }
     requires slot { slot ≤ 0x7fff_0001 }
@@ -113,10 +100,7 @@ pub(crate) fn whole_code(
 {
     let plain = plain_code(alloc, core, around, slot)?;
     match front_of(core) {
-        Some(path) => {
-            let keeping = keeping_code(alloc, path, core, around, slot)?;
-            Ok(shorter(plain, keeping))
-        }
+        Some(path) => Ok(shorter(plain, keeping_code(alloc, path, core, around, slot)?)),
         None => Ok(plain),
     }
 }

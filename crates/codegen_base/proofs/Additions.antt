@@ -1,37 +1,101 @@
--- The code of sums and differences gives their meaning.
-use Rattle.std.proofs.Common.{◌≡◌, ℕ, ◌+◌, ◌<◌, List, [], ◌∷◌, ◌++◌, Option, Some, None, refl, subst, arith}
-use Rattle.std.specs.Prelude.{◌⊎◌, ℤ, pos, ◌+ℤ◌, FitsSigned, slice_get}
-use Rattle.std.specs.Int.{w64}
-use Rattle.std.proofs.lemmas.Int.{ints}
-use Rattle.helper_table.specs.Laws.{Names}
-use Rattle.helper_table.specs.Tables.{IsResultBounded}
-use Rattle.insn_codec.specs.declared.insn.Insn.{Insn}
-use Rattle.insn_codec.specs.declared.insn.Insn.TheVariants.{Call}
-use Rattle.insn_codec.specs.declared.register.Register.TheVariants.{R0, R1, R2, R6, R7}
-use Rattle.value_store.specs.Calls.{joined}
-use Rattle.value_store.specs.Value.{ValueOrError, error}
-use Rattle.cel_macros.specs.Arithmetic.{difference, difference_of, int_or_error, int_part, on_ints, sum_of}
-use Rattle.codegen_base.specs.Body.{Body, set_register}
-use Rattle.codegen_base.specs.Code.Arithmetic.{difference_code, difference_tail, int_operands, sum_code, sum_tail}
-use Rattle.codegen_base.specs.Contexts.{Context, Fits, Shows}
-use Rattle.codegen_base.specs.Engine.{Setting, Comes}
-use Rattle.codegen_base.specs.Gives.Arithmetic.{AdditionsGive}
-use Rattle.codegen_base.specs.Gives.Comparison.{TailGives}
-use Rattle.codegen_base.specs.Helpers.{join_of, joined_length}
-use Rattle.codegen_base.specs.Instructions as insn
-use Rattle.codegen_base.specs.Operators.{Combines}
-use Rattle.codegen_base.specs.Pieces.{Stands, size, slots}
-use Rattle.codegen_base.proofs.Frames.{shows_registers}
+-- The code of sums and differences of ints, and of joining, gives their meaning.
+use Rattle.codegen_base.proofs.Prelude.{◌≡◌, ℕ, ◌+◌, ◌^◌, ◌<◌, ◌≤◌, List, Some, refl, sym, subst, arith, suc, [], ◌∷◌, ◌++◌, None, ℤ, pos, ◌+ℤ◌, ◌-ℤ◌, FitsSigned, slice_get, ◌⊎◌, w64, cast_signed, cast_unsigned, IsSigned, signed_of, Names, AluOp, Add, Sub, Comparison, Sge, Sgt, Sle, Slt, Insn, Call, Register, R0, R1, R6, R7, R10, R2, W64, ValueOrError, error, value, int, fits, int_or_error, difference, difference_of, int_part, on_ints, sum_of, alu_result, Body, set_register, checked_tail, difference_tail, sum_tail, difference_code, int_operands, sum_code, Context, Fits, Shows, Setting, Comes, Stands, size, slots, answered, IsResultBounded, joined, AdditionsGive, TailGives, join_of, joined_length, Combines, ints}
+use Rattle.codegen_base.proofs.Frames.{fits_registers, shows_registers}
 use Rattle.codegen_base.proofs.HelperAnswers.{helpers}
-use Rattle.codegen_base.proofs.Listings.{ask, mov}
-use Rattle.codegen_base.proofs.LoopItems.{all_at}
-use Rattle.codegen_base.proofs.Operands.{are_ints, are_others, int_is}
+use Rattle.codegen_base.proofs.Ints.{Checked, cast_fits, difference_checked, exact, fits_is, fits_not, over, signed_is, signed_word, sum_checked, word_small}
+use Rattle.codegen_base.proofs.Listings.{alu, begins, branch, calls, jump, mov, no, ask}
 use Rattle.codegen_base.proofs.Operators.{shows_placed}
+use Rattle.codegen_base.proofs.Values.{all_at, names_error}
+use Rattle.codegen_base.proofs.Runs.{arrived, and_then, from_place, looser, to_place}
+use Rattle.codegen_base.proofs.Operands.{are_ints, are_others, int_is}
 use Rattle.codegen_base.proofs.Pieces.{runs_both, shown_behind, size-append, stands_back, stands_front}
-use Rattle.codegen_base.proofs.Runs.{and_then, done, from_place, looser, to_place}
-use Rattle.codegen_base.proofs.Steps as step
-use Rattle.codegen_base.proofs.Sums.{OnInts, difference_runs, sum_runs}
-use Rattle.codegen_base.proofs.Values.{names_error}
+use Rattle.codegen_base.specs.Instructions as insn
+
+-- ---- the piece of two ints, whose words are in R6 and R7
+
+pub record OnInts (s : Setting) (p : ℕ) (tail : List Insn) (c : Context) (depth k : ℕ) (m n : ℤ) (z : ValueOrError) (steps charge : ℕ) : Type 0 where
+  pub runs : (b : Body) → Stands s.image.code p tail → Fits c depth k b → b.registers R6 ≡ cast_unsigned w64 m → b.registers R7 ≡ cast_unsigned w64 n → FitsSigned w64 m → FitsSigned w64 n → Comes s steps charge p b (p + size tail) (Shows c depth k z b)
+
+-- the answer is the int whose word is in R1: three slots call for it and go on behind the error
+module _ (s : Setting) (c : Context) (depth k o : ℕ) (low : k ≤ 64) (piece : List Insn) (has : Stands s.image.code o piece) (i : ℕ) (call_at : slice_get (slots piece) i ≡ Some (Some (Call (pos 3)))) (jump_at : slice_get (slots piece) (i + 1) ≡ Some (Some (insn.skip 1))) (error_at : slice_get (slots piece) (i + 1 + 1) ≡ Some (Some (insn.put R0 (pos 0)))) where
+  pub answers_int : {t u : ℕ} (b : Body) (registers : Register → ℕ) (z : ValueOrError) → registers R10 ≡ b.registers R10 → Fits c depth k b
+      → registers R1 < 2 ^ 64 → value (int (cast_signed w64 (registers R1))) ≡ z
+      → Comes s (suc (suc t)) (suc u) (o + i) (record b { registers = registers }) (o + (i + 3)) (Shows c depth k z b)
+  answers_int b registers z pointer fits small is =
+      let asks = record b { registers = registers } in
+      let a = helpers.int_new c.environment.roots asks (fits_registers c depth k b registers pointer fits).values small in
+      let last = answered asks a.word a.list (b.values.charge + 1) in
+      calls has i call_at a.answers (omega arith) (λ paid.
+      jump has (i + 1) 1 jump_at
+      (arrived s (omega arith) (subst (λ (x : ValueOrError). Shows c depth k x b last) is
+      (shows_placed c depth k (pos 3) _ 1 b registers low pointer fits a paid))))
+
+  pub answers_error : {t u : ℕ} (b : Body) (registers : Register → ℕ) (z : ValueOrError) → registers R10 ≡ b.registers R10 → Fits c depth k b → error ≡ z
+      → Comes s (suc t) u (o + (i + 1 + 1)) (record b { registers = registers }) (o + (i + 3)) (Shows c depth k z b)
+  answers_error b registers z pointer fits is =
+      mov has (i + 1 + 1) error_at refl
+      (arrived s (omega arith) (shows_registers c depth k b _ pointer z fits
+      (subst (Names b.values.values 0) is (names_error b.values fits.values.table.store))))
+
+-- ---- sums and differences
+
+module _ (op : AluOp) (below above : Comparison) (f : ℤ → ℤ → ℤ) (checked : (a b : ℕ) → a < 2 ^ 64 → b < 2 ^ 64 → Checked below above a b (alu_result W64 op a b) (f (signed_of 64 a) (signed_of 64 b))) (s : Setting) (c : Context) (depth k o : ℕ) (low : k ≤ 64) (m n : ℤ) (has : Stands s.image.code o (checked_tail op below above)) (b : Body) (fitting : Fits c depth k b) (first : b.registers R6 ≡ cast_unsigned w64 m) (second : b.registers R7 ≡ cast_unsigned w64 n) (fits_m : FitsSigned w64 m) (fits_n : FitsSigned w64 n) where
+  abbrev left : ℕ
+  left = b.registers R6
+
+  abbrev right : ℕ
+  right = b.registers R7
+
+  abbrev w : ℕ
+  w = alu_result W64 op left right
+
+  check : Checked below above left right w (f (signed_of 64 left) (signed_of 64 right))
+  check = checked left right (subst (λ (q : ℕ). q < 2 ^ 64) (sym first) (word_small m fits_m)) (subst (λ (q : ℕ). q < 2 ^ 64) (sym second) (word_small n fits_n))
+
+  numbers_are : f (signed_of 64 left) (signed_of 64 right) ≡ f m n
+  numbers_are = grind (arith, signed_word)
+
+  result_fits : signed_of 64 w ≡ f (signed_of 64 left) (signed_of 64 right) → value (int (cast_signed w64 w)) ≡ int_or_error (f m n)
+  result_fits e = grind (arith, signed_is, check, numbers_are, exact, fits_is, cast_fits)
+
+  result_over : (IsSigned (f (signed_of 64 left) (signed_of 64 right)) → ⊥) → error ≡ int_or_error (f m n)
+  result_over no = over (f m n) (fits_not (f m n) (λ h. no (subst IsSigned (sym numbers_are) (grind (arith, ints)))))
+
+  abbrev registers : Register → ℕ
+  registers = (set_register (set_register b R1 left) R1 w).registers
+
+  abbrev Q : Body → Type 0
+  Q = Shows c depth k (int_or_error (f m n)) b
+
+  answers : {t u : ℕ} → value (int (cast_signed w64 w)) ≡ int_or_error (f m n)
+      → Comes s (suc (suc t)) (suc u) (o + 6) (record b { registers = registers }) (o + 9) Q
+  answers e = answers_int s c depth k o low (checked_tail op below above) has 6 refl refl refl b registers (int_or_error (f m n)) refl fitting check.small e
+
+  fails : {t u : ℕ} → error ≡ int_or_error (f m n) → Comes s (suc t) u (o + 8) (record b { registers = registers }) (o + 9) Q
+  fails e = answers_error s c depth k o low (checked_tail op below above) has 6 refl refl refl b registers (int_or_error (f m n)) refl fitting e
+
+  pub checked_runs : Comes s 7 1 o b (o + 9) Q
+  checked_runs =
+      begins has
+      (mov has 0 refl refl
+      (alu has 1 w refl refl refl
+      (branch has 2 2 refl
+      (λ negative. branch has 5 2 refl (λ is. fails (result_over (check.falls_over negative is))) (λ is. answers (result_fits (check.falls negative is))))
+      (λ positive. branch has 3 4 refl
+      (λ is. fails (result_over (check.rises_over positive is)))
+      (λ is. jump has 4 1 refl (answers (result_fits (check.rises positive is))))))))
+
+pub sum_runs : (s : Setting) (p : ℕ) (c : Context) (depth k : ℕ) (m n : ℤ) → k ≤ 64 → OnInts s p sum_tail c depth k m n (int_or_error (m +ℤ n)) 7 1
+sum_runs s p c depth k m n low = record {
+  runs = λ b has fits first second fm fn. checked_runs Add Sge Slt (λ a z. a +ℤ z) sum_checked s c depth k p low m n has b fits first second fm fn;
+}
+
+pub difference_runs : (s : Setting) (p : ℕ) (c : Context) (depth k : ℕ) (m n : ℤ) → k ≤ 64 → OnInts s p difference_tail c depth k m n (int_or_error (m -ℤ n)) 7 1
+difference_runs s p c depth k m n low = record {
+  runs = λ b has fits first second fm fn. checked_runs Sub Sle Sgt (λ a z. a -ℤ z) difference_checked s c depth k p low m n has b fits first second fm fn;
+}
+
+-- ---- behind operands
 
 -- an int that is named in a table fits
 pub int_fits : (c : Context) (depth base r : ℕ) (x : ValueOrError) (z : ℤ) (b : Body) → Fits c depth base b → Names b.values.values r x → int_part x ≡ Some z → FitsSigned w64 z
@@ -49,30 +113,23 @@ module _ (f : ℤ → ℤ → ValueOrError) (s : Setting) (p k off : ℕ) (tail 
   has_tail : Stands s.image.code (p + 12) tail
   has_tail = stands_back s.image.code p (int_operands off) tail has
 
-  place : p + 12 + size tail ≡ whole
-  place = omega (arith, size-append (int_operands off) tail)
-
   of_others : (int_part x ≡ None) ⊎ (int_part y ≡ None) → Comes s (12 + steps) (4 + charge) p b whole (Shows c depth k error b)
   of_others none =
-      to_place s whole place
+      to_place s whole (omega (arith, size-append (int_operands off) tail))
       (looser s {n = 6 + 1} {x = 2 + 0} (12 + steps) (4 + charge) (omega arith) (omega arith)
-      (and_then s 1 0 (p + 12 + size tail) (Shows c depth k error b) (are_others s c depth k p off has_operands b fits x y left right (int_part x) (int_part y) refl refl none) (λ b1 g.
-      shown_behind s g.keeps
+      (and_then s 1 0 (p + 12 + size tail) (Shows c depth k error b) (are_others s c depth k p off has_operands b fits x y left right none) (λ b1 g.
+      shown_behind s g.stays.keeps
       (from_place s (p + (12 + off)) (omega arith)
-      (to_place s (p + 12 + size tail) (omega arith)
       (mov has_tail off error_at refl
-      (done s (p + 12 + (off + 1)) _ _ (shows_registers c depth k b1 _ refl error g.fitting (names_error b1.values g.fitting.values.table.store)))))))))
+      (arrived s (omega arith) (shows_registers c depth k b1 _ refl error g.stays.fits (names_error b1.values g.stays.fits.values.table.store))))))))
 
   of_ints : (m n : ℤ) → int_part x ≡ Some m → int_part y ≡ Some n → Comes s (12 + steps) (4 + charge) p b whole (Shows c depth k (f m n) b)
   of_ints m n is_x is_y =
       runs_both s p (int_operands off) tail steps charge (Shows c depth k (f m n) b) has (λ front. are_ints s c depth k p off has_operands b fits x y left right m n is_x is_y) (λ b1 back g.
-      shown_behind s g.keeps ((gives m n).runs b1 back g.fitting g.first g.second (int_fits c depth k (b.registers R6) x m b fits left is_x) (int_fits c depth k (b.registers R7) y n b fits right is_y)))
-
-  by_parts : (m n : Option ℤ) → int_part x ≡ m → int_part y ≡ n → Comes s (12 + steps) (4 + charge) p b whole (Shows c depth k (on_ints f m n) b)
-  by_parts m n is_x is_y = grind (arith, of_ints, of_others)
+      shown_behind s g.stays.keeps ((gives m n).runs b1 back g.stays.fits g.first g.second (int_fits c depth k (b.registers R6) x m b fits left is_x) (int_fits c depth k (b.registers R7) y n b fits right is_y)))
 
   pub ints_run : Comes s (12 + steps) (4 + charge) p b whole (Shows c depth k (on_ints f (int_part x) (int_part y)) b)
-  ints_run = by_parts (int_part x) (int_part y) refl refl
+  ints_run = grind (arith, of_ints, of_others)
 
 -- a piece for two ints makes a piece for any operands
 pub ints_give : (f : ℤ → ℤ → ValueOrError) (s : Setting) (p k off : ℕ) (tail : List Insn) (c : Context) (depth steps charge : ℕ) (x y : ValueOrError) → size tail ≡ off + 1 → slice_get (slots tail) off ≡ Some (Some (insn.put R0 (pos 0))) → ((m n : ℤ) → OnInts s (p + 12) tail c depth k m n (f m n) steps charge) → Combines s p (int_operands off ++ tail) R6 R7 c depth k x y (on_ints f (int_part x) (int_part y)) (12 + steps) (4 + charge)
@@ -104,34 +161,27 @@ module _ (s : Setting) (p k : ℕ) (c : Context) (depth : ℕ) (x y : ValueOrErr
   of_joined : (int_part x ≡ None) ⊎ (int_part y ≡ None) → Comes s 20 cost p b (p + 25) (Shows c depth k (sum_of x y) b)
   of_joined none =
       looser s {n = 6 + 3} {x = 2 + (1 + joined_length (joined (Some x) (Some y)) + 0)} 20 cost (omega arith) (omega arith)
-      (and_then s 3 (1 + joined_length (joined (Some x) (Some y)) + 0) (p + 25) (Shows c depth k (sum_of x y) b) (are_others s c depth k p 10 has_both b fits x y left right (int_part x) (int_part y) refl refl none) (λ b1 g1.
+      (and_then s 3 (1 + joined_length (joined (Some x) (Some y)) + 0) (p + 25) (Shows c depth k (sum_of x y) b) (are_others s c depth k p 10 has_both b fits x y left right none) (λ b1 g1.
       let asks = set_register (set_register b1 R1 (b1.registers R6)) R2 (b1.registers R7) in
-      let a = helpers.join c.environment.roots asks x y g1.fitting.values g1.first g1.second in
-      shown_behind s g1.keeps
+      let a = helpers.join c.environment.roots asks x y g1.stays.fits.values g1.first g1.second in
+      shown_behind s g1.stays.keeps
       (from_place s (p + (12 + 10)) (omega arith)
       (mov has_rest 10 refl refl
       (mov has_rest 11 refl refl
       (ask has_rest 12 refl a.answers (λ paid.
-      to_place s (p + 25) (omega arith)
-      (done s (p + 12 + 13) _ (Shows c depth k (sum_of x y) b1) (rw (sum_is x y none) (shows_placed c depth k (pos 11) (join_of x y) _ b1 asks.registers (omega arith) refl g1.fitting a paid))))))))))
+      arrived s (omega arith) (rw (sum_is x y none) (shows_placed c depth k (pos 11) (join_of x y) _ b1 asks.registers
+      (omega arith) refl g1.stays.fits a paid)))))))))
 
   of_summed : (m n : ℤ) → int_part x ≡ Some m → int_part y ≡ Some n → Comes s 20 cost p b (p + 25) (Shows c depth k (int_or_error (m +ℤ n)) b)
   of_summed m n is_x is_y =
       let Q = Shows c depth k (int_or_error (m +ℤ n)) in
       looser s {n = 12 + (7 + 1)} {x = 4 + (1 + 0)} 20 cost (omega arith) (omega arith)
       (and_then s (7 + 1) (1 + 0) (p + 25) (Q b) (are_ints s c depth k p 10 has_both b fits x y left right m n is_x is_y) (λ b1 g1.
-      shown_behind s g1.keeps (and_then s 1 0 (p + 25) (Q b1) ((sum_runs s (p + 12) c depth k m n (omega arith)).runs b1 (stands_front s.image.code (p + 12) sum_tail _ has_rest) g1.fitting g1.first g1.second (int_fits c depth k (b.registers R6) x m b fits left is_x) (int_fits c depth k (b.registers R7) y n b fits right is_y)) (λ b2 g2.
-      step.jump s (p + 12 + 9) (p + 25) b2 (pos 3) (has_rest.here 9 _ refl) (omega (arith, ints))
-      (done s (p + 25) b2 (Q b1) g2)))))
-
-  by_addends : (m n : Option ℤ) → int_part x ≡ m → int_part y ≡ n → Comes s 20 cost p b (p + 25) (Shows c depth k (sum_of x y) b)
-  by_addends m n is_x is_y = grind (arith, int_is, of_summed, of_joined)
-
-  pub sum_run : Comes s 20 cost p b (p + 25) (Shows c depth k (sum_of x y) b)
-  sum_run = by_addends (int_part x) (int_part y) refl refl
+      shown_behind s g1.stays.keeps (and_then s 1 0 (p + 25) (Q b1) ((sum_runs s (p + 12) c depth k m n (omega arith)).runs b1 (stands_front s.image.code (p + 12) sum_tail _ has_rest) g1.stays.fits g1.first g1.second (int_fits c depth k (b.registers R6) x m b fits left is_x) (int_fits c depth k (b.registers R7) y n b fits right is_y)) (λ b2 g2.
+      jump has_rest 9 3 refl (arrived s (omega arith) g2)))))
 
 pub sum_gives : (s : Setting) (p k : ℕ) (c : Context) (depth : ℕ) (x y : ValueOrError) → k < 64 → Combines s p sum_code R6 R7 c depth k x y (sum_of x y) 20 (5 + joined_length (joined (Some x) (Some y)))
-sum_gives s p k c depth x y low = record { runs = λ b has fits left right. sum_run s p k c depth x y low has b fits left right }
+sum_gives s p k c depth x y low = record { runs = λ b has fits left right. (grind (arith, int_is, of_summed, of_joined)) }
 
 pub additions_give : AdditionsGive
 additions_give = record { sum = sum_gives; difference = difference_gives }

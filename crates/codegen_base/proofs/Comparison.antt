@@ -1,34 +1,7 @@
 -- The code of comparisons and of membership gives their meaning.
-use Rattle.std.proofs.Common.{◌≡◌, ℕ, ◌+◌, ◌<◌, List, ◌∷◌, subst, arith}
-use Rattle.std.specs.Prelude.{pos}
-use Rattle.insn_codec.specs.declared.insn.Insn.{Insn}
-use Rattle.insn_codec.specs.declared.register.Register.{Register}
-use Rattle.insn_codec.specs.declared.register.Register.TheVariants.{R0, R1, R2}
-use Rattle.value_store.specs.Value.{ValueOrError}
-use Rattle.cel_macros.specs.Comparison.{equal_of, greater_equal_of, greater_of, less_equal_of, less_of, member_of, unequal_of}
-use Rattle.cel_macros.specs.Logic.{not_of}
-use Rattle.codegen_base.specs.Code.Comparison.{equal_tail, less_tail, not_less_tail, opposite_of, unequal_tail}
-use Rattle.codegen_base.specs.Code.Logic.{not_tail}
-use Rattle.codegen_base.specs.Contexts.{Context}
-use Rattle.codegen_base.specs.Engine.{Setting}
-use Rattle.codegen_base.specs.Gives.Comparison.{ComparisonGives, TailGives}
-use Rattle.codegen_base.specs.Instructions.{copy}
-use Rattle.codegen_base.specs.Operators.{Combines}
-use Rattle.codegen_base.specs.Pieces.{size}
+use Rattle.codegen_base.proofs.Prelude.{◌≡◌, ℕ, ◌+◌, ◌<◌, List, ◌∷◌, subst, arith, pos, Insn, Register, R0, R1, R2, ValueOrError, equal_of, less_of, member_of, not_of, equal_tail, less_tail, not_less_tail, opposite_of, unequal_tail, not_tail, Context, Setting, ComparisonGives, TailGives, copy, Combines, size}
 use Rattle.codegen_base.proofs.HelperAnswers.{helpers}
 use Rattle.codegen_base.proofs.Operators.{call_on_result, calls_give, combines_then}
-
-unequal_is : (x y : ValueOrError) → not_of (equal_of x y) ≡ unequal_of x y
-unequal_is x y = grind arith
-
-greater_is : (x y : ValueOrError) → less_of y x ≡ greater_of x y
-greater_is x y = grind arith
-
-less_equal_is : (x y : ValueOrError) → not_of (less_of y x) ≡ less_equal_of x y
-less_equal_is x y = grind arith
-
-greater_equal_is : (x y : ValueOrError) → not_of (less_of x y) ≡ greater_equal_of x y
-greater_equal_is x y = grind arith
 
 -- a tail whose meaning has another form
 same_tail : (s : Setting) (p k : ℕ) (tail : List Insn) (r q : Register) (c : Context) (depth : ℕ) (x y z w : ValueOrError) (n m : ℕ) → z ≡ w → Combines s p tail r q c depth k x y z n m → Combines s p tail r q c depth k x y w n m
@@ -49,10 +22,10 @@ swapped_gives s p k c depth x y low = calls_give.swapped s p k (pos 10) less_of 
 pub comparison_gives : ComparisonGives
 comparison_gives = record {
   equal = equal_gives;
-  unequal = λ s p k c depth x y low. same_tail s p k unequal_tail R1 R2 c depth x y _ _ 3 2 (unequal_is x y) (opposite_gives s p k equal_tail R1 R2 c depth x y _ low (equal_gives s p k c depth x y low));
+  unequal = λ s p k c depth x y low. same_tail s p k unequal_tail R1 R2 c depth x y _ _ 3 2 (grind arith) (opposite_gives s p k equal_tail R1 R2 c depth x y _ low (equal_gives s p k c depth x y low));
   less = less_gives;
-  less_equal = λ s p k c depth x y low. same_tail s p k not_less_tail R2 R1 c depth x y _ _ 3 2 (less_equal_is x y) (opposite_gives s p k less_tail R2 R1 c depth x y _ low (swapped_gives s p k c depth x y low));
-  greater = λ s p k c depth x y low. same_tail s p k less_tail R2 R1 c depth x y _ _ 1 1 (greater_is x y) (swapped_gives s p k c depth x y low);
-  greater_equal = λ s p k c depth x y low. same_tail s p k not_less_tail R1 R2 c depth x y _ _ 3 2 (greater_equal_is x y) (opposite_gives s p k less_tail R1 R2 c depth x y _ low (less_gives s p k c depth x y low));
+  less_equal = λ s p k c depth x y low. same_tail s p k not_less_tail R2 R1 c depth x y _ _ 3 2 (grind arith) (opposite_gives s p k less_tail R2 R1 c depth x y _ low (swapped_gives s p k c depth x y low));
+  greater = λ s p k c depth x y low. same_tail s p k less_tail R2 R1 c depth x y _ _ 1 1 (grind arith) (swapped_gives s p k c depth x y low);
+  greater_equal = λ s p k c depth x y low. same_tail s p k not_less_tail R1 R2 c depth x y _ _ 3 2 (grind arith) (opposite_gives s p k less_tail R1 R2 c depth x y _ low (less_gives s p k c depth x y low));
   member = λ s p k c depth x y low. calls_give.two s p k (pos 15) member_of c depth x y low helpers.member;
 }

@@ -1,42 +1,15 @@
 -- What each instruction makes of a body.
-use Rattle.std.proofs.Common.{◌≡◌, ℕ, ◌+◌, ◌%◌, ◌^◌, Some, refl, ap, arith, true, false}
-use Rattle.std.specs.Prelude.{ℤ, pos, ◌+ℤ◌, slice_index, slice_set, not, if◌then◌else◌}
-use Rattle.std.proofs.lemmas.Bool.{eq-eqb, eqb-true, ne_eqb}
-use Rattle.bpf_word.specs.Arithmetic.{alu64_of, operated}
-use Rattle.bpf_word.specs.Comparisons.{holds_of}
-use Rattle.insn_codec.specs.Codes.{register_number}
-use Rattle.insn_codec.specs.declared.alu_op.AluOp.{AluOp}
+use Rattle.codegen_base.proofs.Prelude.{◌≡◌, ℕ, ◌+◌, ◌%◌, ◌^◌, Some, refl, ap, arith, true, false, ◌-◌, ◌<◌, List, [], ◌∷◌, ◌++◌, length, take, ◌∙◌, length-append, ℤ, pos, ◌+ℤ◌, not, if◌then◌else◌, slice_get, nat_le, eq-eqb, eqb-true, ne_eqb, alu64_of, operated, holds_of, AluOp, Eq, Ne, W64, Comparison, Insn, Operand, Register, Width, Contents, load_wide_row, alu_row, fetched, branch_row, jump_row, call_local_row, exit_row, newest, returned, is_frame_pointer, jumped, operand_word, with_register, stopped_by, executed, next_state, step_is_row, alu_result, compares, Body, at, set_register, operand_in, take-append_seam, F8, HelperAnswer, charged, R0, R10, charge_limit, ValueOrError, call_row, Frame, Exited, Answers, Refuses, answered, entered, frame_at, resumed, Framed}
 use Rattle.insn_codec.specs.declared.alu_op.AluOp.TheVariants as op
-use Rattle.insn_codec.specs.declared.comparison.Comparison.TheVariants.{Eq, Ne}
-use Rattle.insn_codec.specs.declared.width.Width.TheVariants.{W64}
-use Rattle.insn_codec.specs.declared.comparison.Comparison.{Comparison}
-use Rattle.insn_codec.specs.declared.insn.Insn.{Insn}
-use Rattle.insn_codec.specs.declared.operand.Operand.{Operand}
-use Rattle.insn_codec.specs.declared.register.Register.{Register}
-use Rattle.insn_codec.specs.declared.width.Width.{Width}
-use Rattle.loader.specs.Contents.{Contents}
-use Rattle.bpf_machine.specs.Access.{load_wide_row}
-use Rattle.bpf_machine.specs.Arithmetic.{alu_row}
-use Rattle.bpf_machine.specs.Decoding.{fetched}
-use Rattle.bpf_machine.specs.Jumps.{branch_row, jump_row}
-use Rattle.bpf_machine.specs.Operands.{is_frame_pointer, jumped, operand_word, with_register}
-use Rattle.bpf_machine.specs.Step.{executed, next_state}
-use Rattle.bpf_machine.proofs.States.{step_is_row}
-use Rattle.bpf_machine.specs.Words.{alu_result, compares}
-use Rattle.codegen_base.specs.Body.{Body, at, register_words, put_register, set_register, operand_in}
-
-index_words : (word : Register → ℕ) (r : Register) → slice_index (register_words word) (register_number r) ≡ word r
-index_words word r = grind arith
-
-set_words : (word : Register → ℕ) (r : Register) (w : ℕ) → slice_set (register_words word) (register_number r) w ≡ register_words (put_register word r w)
-set_words word r w = grind arith
+use Rattle.bpf_machine.specs.HelperCalls as machine
+use Rattle.codegen_base.proofs.Values.{get_at}
 
 module _ (image : Contents) (p : ℕ) (b : Body) where
   pub operand_is : (operand : Operand) → operand_word operand (at image p b) ≡ operand_in operand b
   operand_is operand = grind arith
 
   pub register_set : (q : ℕ) (r : Register) (w : ℕ) → with_register r w (at image q b) ≡ at image q (set_register b r w)
-  register_set q r w = ap (λ rs. record (at image q b) { registers = rs }) (set_words b.registers r w)
+  register_set q r w = ap (λ rs. record (at image q b) { registers = rs }) (grind arith)
 
   -- the machine does the instruction that stands at its slot
   pub does : (i : Insn) → fetched image.code (pos p) ≡ Some (Some i) → next_state (at image p b) ≡ executed i (at image p b)
@@ -58,7 +31,7 @@ module _ (image : Contents) (p : ℕ) (b : Body) where
 
   pub branch_does : (comparison : Comparison) (width : Width) (dst : Register) (operand : Operand) (offset : ℤ) → branch_row comparison width dst operand offset (at image p b) ≡ (if compares width comparison (b.registers dst) (operand_in operand b) then jumped offset (at image p b) else at image (p + 1) b)
   unfolding branch_row
-  branch_does comparison width dst operand offset = grind (arith, index_words, operand_is)
+  branch_does comparison width dst operand offset = grind (arith, operand_is)
 
 -- what arithmetic on whole words gives
 pub mov_is : (dst operand : ℕ) → alu_result W64 op.Mov dst operand ≡ operand
@@ -89,3 +62,40 @@ differs_no left right e = ap not (eq-eqb left right e)
 pub equal_is : (left right : ℕ) → compares W64 Eq left right ≡ true → left ≡ right
 unfolding holds_of
 equal_is left right e = eqb-true left right e
+
+-- ---- local calls, their exits and calls of helpers
+
+newest-last : (frames : List Frame) (f : Frame) → newest (frames ++ f ∷ []) ≡ Some f
+newest-last frames f =
+    let long = length-append frames (f ∷ []) in
+    let last : length (frames ++ f ∷ []) - 1 ≡ length frames = omega arith in
+    ap (slice_get (frames ++ f ∷ [])) last ∙ get_at frames [] f
+
+older : (frames : List Frame) (f : Frame) → take (length (frames ++ f ∷ []) - 1) (frames ++ f ∷ []) ≡ frames
+older frames f =
+    let long = length-append frames (f ∷ []) in
+    let last : length (frames ++ f ∷ []) - 1 ≡ length frames = omega arith in
+    ap (λ (n : ℕ). take n (frames ++ f ∷ [])) last ∙ take-append_seam frames (f ∷ [])
+
+module _ (image : Contents) (p : ℕ) (b : Body) where
+  pub call_local_does : (depth : ℕ) (offset : ℤ) (q : ℕ) → Framed depth b → depth < 7 → pos p +ℤ pos 1 +ℤ offset ≡ pos q → call_local_row offset (at image p b) ≡ at image q (entered p b)
+  unfolding call_local_row
+  call_local_does depth offset q f room e = grind arith
+
+  pub exit_ends : b.records ≡ [] → exit_row (at image p b) ≡ record (at image p b) { status = Exited (b.registers R0) }
+  unfolding exit_row
+  exit_ends none = ap (λ (frames : List Frame). returned (newest frames) (at image p b)) none
+
+  pub exit_returns : (caller : Body) (q : ℕ) → b.records ≡ caller.records ++ frame_at q caller ∷ [] → b.registers R10 ≡ caller.registers R10 + 512 → caller.registers R10 < 2 ^ 64 → exit_row (at image p b) ≡ at image (q + 1) (resumed caller b)
+  unfolding exit_row
+  exit_returns caller q frames pointer small = grind (arith, newest-last, older)
+
+  -- a helper's answer is charged, and stops where that is above the limit
+  pub call_answers : (helper : ℤ) (w cost : ℕ) (list : List ValueOrError) → Answers helper b w list cost → call_row helper (at image p b) ≡ (if nat_le (b.values.charge + cost) charge_limit then at image (p + 1) (answered b w list (b.values.charge + cost)) else stopped_by F8 (at image p b))
+  unfolding call_row
+  call_answers helper w cost list e = grind arith
+
+  -- a helper that stops for a depth
+  pub call_refuses : (helper : ℤ) → Refuses helper b → call_row helper (at image p b) ≡ stopped_by F8 (at image p b)
+  unfolding call_row
+  call_refuses helper e = ap (λ (a : HelperAnswer). machine.answered (charged a b.values.charge) (at image p b)) e

@@ -1,34 +1,10 @@
 -- What each helper answers, in the meaning's own functions.
-use Rattle.std.proofs.Common.{◌≡◌, ℕ, ◌+◌, ◌<◌, ◌≤◌, List, [], ◌∷◌, length, Option, Some, None, Bool, refl, sym, ap, ◌∙◌, subst, lit<}
-use Rattle.std.specs.Prelude.{ℤ, pos, if◌then◌else◌}
-use Rattle.std.specs.Fmt.{signed_decimal}
-use Rattle.std.specs.Int.{w64, cast_signed}
-use Rattle.helper_table.specs.Building.{depth_limit, entered, join_row, list_new_row, map_new_row, push_row, put_row}
-use Rattle.helper_table.specs.Calls.{on_lent, on_operand, on_range, on_value, on_values, outcome_of, row_of}
-use Rattle.helper_table.specs.Comparisons.{equal_row, less_row, member_row, starts_row, ends_row, contains_row}
-use Rattle.helper_table.specs.Conversions.{kind_row, int_of_row, int_new_row, text_const_row, text_of_int_row, not_row}
-use Rattle.helper_table.specs.Laws.{Names}
-use Rattle.helper_table.specs.Lookups.{field_row, has_row, index_row, size_row, item_row, count_row}
-use Rattle.helper_table.specs.Numbers.{of_number}
-use Rattle.helper_table.specs.Operands.{text_part}
-use Rattle.helper_table.specs.Outcome.{Outcome, Plain, Named, answer_among, found, named, truth}
-use Rattle.insn_codec.specs.declared.register.Register.TheVariants.{R1, R2, R3}
-use Rattle.value_store.specs.Calls.{entries_at, equal_at, less_at, member_at, joined}
+use Rattle.codegen_base.proofs.Prelude.{◌≡◌, ℕ, ◌+◌, ◌<◌, ◌≤◌, List, [], ◌∷◌, length, Option, Some, None, Bool, refl, sym, ap, ◌∙◌, subst, lit<, arith, ℤ, pos, if◌then◌else◌, signed_decimal, w64, cast_signed, depth_limit, join_row, list_new_row, map_new_row, push_row, put_row, on_lent, on_operand, on_range, on_value, on_values, outcome_of, row_of, equal_row, less_row, member_row, starts_row, ends_row, contains_row, kind_row, int_of_row, int_new_row, text_const_row, text_of_int_row, not_row, Names, field_row, has_row, index_row, size_row, item_row, count_row, of_number, text_part, Outcome, Plain, Named, answer_among, found, named, R1, R2, R3, seen, result_depth, Value, ValueOrError, error, value, int, text, list, map, no_items, no_entries, int_part, truth_or_error, Roots, value_or_error, StartsWith, EndsWith, Contains, Body, Places, Tells, HasValues, HelpersAnswer, Holding, Lends}
+use Rattle.helper_table.specs.Building.{entered}
+use Rattle.helper_table.specs.Outcome.{truth}
 use Rattle.value_store.specs.Calls as store
-use Rattle.value_store.specs.Seen.{seen}
-use Rattle.value_store.specs.Size.{result_depth}
-use Rattle.value_store.specs.Value.{Value, ValueOrError, error, value, int, text, list, map, no_items, no_entries}
-use Rattle.cel_macros.specs.Arithmetic.{int_part}
-use Rattle.cel_macros.specs.Comparison.{truth_or_error}
-use Rattle.cel_macros.specs.Environment.{Roots, value_or_error}
-use Rattle.cel_macros.specs.Functions.{StartsWith, EndsWith, Contains}
-use Rattle.codegen_base.specs.Body.{Body}
-use Rattle.codegen_base.specs.Calls.{Places, Tells}
-use Rattle.codegen_base.specs.Contexts.{HasValues}
-use Rattle.codegen_base.specs.Helpers.{HelpersAnswer, Holding, Lends}
-use Rattle.codegen_base.proofs.Answers.{IsNamed, Placed, Missing, named_is, places, tells, three, truth_is}
+use Rattle.codegen_base.proofs.Meanings.{IsNamed, Missing, Placed, contains_texts, count_is, grown_deep, grown_is, item_is, named_is, places, sequence_is, tells, test_is, three, truth_is}
 use Rattle.codegen_base.proofs.Values.{small_reference}
-use Rattle.codegen_base.proofs.Meanings.{field_is, has_is, index_is, size_is, equal_is, less_is, member_is, not_is, test_is, contains_texts, pushed_is, sequence_is, grown_is, grown_deep, item_is, count_is, no_count_is}
 
 -- ---- the calls
 
@@ -94,25 +70,25 @@ helpers = record {
       let from = b.registers R1 in
       let count = b.registers R2 in
       places (pos 4) b (from ∷ count ∷ 0 ∷ 0 ∷ 0 ∷ []) (three from count 0 lends.address lends.count (lit< tt)) values.table (Named (text bytes) (length bytes)) _ (length bytes) refl (ap (λ (o : Option (List ℕ)). on_lent o text_const_row) lends.bytes_are ∙ ap (λ (t : Bool). if t then Named (text bytes) (length bytes) else Plain 0 0) utf8) (Placed (text bytes) refl refl);
-  field = λ roots b x key values named lends. keyed values x _ key field_row (λ a c d e f. refl) (by_value _ (field_is x key)) named lends;
-  has = λ roots b x key values named lends. keyed values x _ key has_row (λ a c d e f. refl) (by_truth _ (has_is x key)) named lends;
-  index = λ roots b x y values first second. binary values x y _ 0 index_row (λ a c d e f. refl) (by_value _ (index_is x y)) first second;
-  size = λ roots b x values named. unary values x _ 0 size_row (λ a c d e f. refl) (by_value _ (size_is x)) named;
-  equal = λ roots b x y values first second. binary values x y _ 0 equal_row (λ a c d e f. refl) (by_truth _ (equal_is x y)) first second;
-  less = λ roots b x y values first second. binary values x y _ 0 less_row (λ a c d e f. refl) (by_truth _ (less_is x y)) first second;
+  field = λ roots b x key values named lends. keyed values x _ key field_row (λ a c d e f. refl) (by_value _ (grind arith)) named lends;
+  has = λ roots b x key values named lends. keyed values x _ key has_row (λ a c d e f. refl) (by_truth _ (grind arith)) named lends;
+  index = λ roots b x y values first second. binary values x y _ 0 index_row (λ a c d e f. refl) (by_value _ (grind arith)) first second;
+  size = λ roots b x values named. unary values x _ 0 size_row (λ a c d e f. refl) (by_value _ (grind arith)) named;
+  equal = λ roots b x y values first second. binary values x y _ 0 equal_row (λ a c d e f. refl) (by_truth _ (grind arith)) first second;
+  less = λ roots b x y values first second. binary values x y _ 0 less_row (λ a c d e f. refl) (by_truth _ (grind arith)) first second;
   join = λ roots b x y values first second. binary values x y _ _ join_row (λ a c d e f. refl) (sequence_is x y) first second;
   starts = λ roots b x y values first second. binary values x y _ 0 starts_row (λ a c d e f. refl) (by_truth _ (test_is StartsWith x y)) first second;
   ends = λ roots b x y values first second. binary values x y _ 0 ends_row (λ a c d e f. refl) (by_truth _ (test_is EndsWith x y)) first second;
   contains = λ roots b x y values first second.
       let same = contains_texts (text_part (seen x)) (text_part (seen y)) in
       binary values x y _ 0 contains_row (λ a c d e f. refl) (by_truth _ (test_is Contains x y ∙ sym (ap truth_or_error same))) first second;
-  member = λ roots b x y values first second. binary values x y _ 0 member_row (λ a c d e f. refl) (by_truth _ (member_is x y)) first second;
+  member = λ roots b x y values first second. binary values x y _ 0 member_row (λ a c d e f. refl) (by_truth _ (grind arith)) first second;
   list_new = λ roots b values. places (pos 16) b (0 ∷ 0 ∷ 0 ∷ 0 ∷ 0 ∷ []) (three 0 0 0 (lit< tt) (lit< tt) (lit< tt)) values.table list_new_row _ 0 refl refl (Placed (list no_items) refl refl);
   push = λ roots b l x values first second within.
-      let grown = grown_is (store.pushed (Some l) (Some x)) (subst (λ (y : ValueOrError). result_depth y ≤ depth_limit) (pushed_is l x) within) in
-      binary values l x _ 1 push_row (λ a c d e f. refl) (subst (λ (y : ValueOrError). IsNamed y 1 (push_row l x)) (sym (pushed_is l x)) grown) first second;
+      let grown = grown_is (store.pushed (Some l) (Some x)) (subst (λ (y : ValueOrError). result_depth y ≤ depth_limit) (grind arith) within) in
+      binary values l x _ 1 push_row (λ a c d e f. refl) (subst (λ (y : ValueOrError). IsNamed y 1 (push_row l x)) (sym (grind arith)) grown) first second;
   push_deep = λ b l x first second deep.
-      let over = grown_deep (store.pushed (Some l) (Some x)) (subst (λ (y : ValueOrError). depth_limit < result_depth y) (pushed_is l x) deep) in
+      let over = grown_deep (store.pushed (Some l) (Some x)) (subst (λ (y : ValueOrError). depth_limit < result_depth y) (grind arith) deep) in
       ap (answer_among b.values.values) (two_operands b.values.values (b.registers R1) (b.registers R2) l x push_row first second ∙ over);
   map_new = λ roots b values. places (pos 18) b (0 ∷ 0 ∷ 0 ∷ 0 ∷ 0 ∷ []) (three 0 0 0 (lit< tt) (lit< tt) (lit< tt)) values.table map_new_row _ 0 refl refl (Placed (map no_entries) refl refl);
   put = λ roots b m k x values first second third within.
@@ -127,8 +103,8 @@ helpers = record {
       let row : outcome_of (pos 20) (h ∷ i ∷ 0 ∷ 0 ∷ 0 ∷ []) b.values.values b.memory.constants ≡ Named v 0 = one_operand b.values.values h x (λ u. item_row u i) named ∙ ap found (item_is x items i range ∙ found_at) in
       places (pos 20) b (h ∷ i ∷ 0 ∷ 0 ∷ 0 ∷ []) (three h i 0 (small_reference b.values h x values.table named) short (lit< tt)) values.table (Named v 0) _ 0 (ap (λ (j : ℕ). on_value b.values.values h (λ u. item_row u j)) at) row (Placed v refl refl);
   count = λ roots b x items values named range. unary_word values x _ count_row (λ a c d e f. refl) (ap (λ (n : ℕ). Plain n 0) (count_is x items range)) named;
-  no_count = λ roots b x values named none. unary_word values x _ count_row (λ a c d e f. refl) (ap (λ (n : ℕ). Plain n 0) (no_count_is x none)) named;
+  no_count = λ roots b x values named none. unary_word values x _ count_row (λ a c d e f. refl) (ap (λ (n : ℕ). Plain n 0) (grind arith)) named;
   text_of_int = λ roots b z values named. unary values (value (int z)) _ (length (signed_decimal z)) text_of_int_row (λ a c d e f. refl) (Placed (text (signed_decimal z)) refl refl) named;
   no_text_of_int = λ roots b x values named none. unary values x _ 0 text_of_int_row (λ a c d e f. refl) (no_decimal x none) named;
-  not = λ roots b x values named. unary values x _ 0 not_row (λ a c d e f. refl) (by_truth _ (not_is x)) named;
+  not = λ roots b x values named. unary values x _ 0 not_row (λ a c d e f. refl) (by_truth _ (grind arith)) named;
 }

@@ -1,20 +1,8 @@
 -- The entries of a map, put one after another, are the same as those put from the last to the first.
-use Rattle.std.proofs.Common.{◌≡◌, ℕ, List, [], ◌∷◌, Option, Some, None, Bool, not, Ordering, Less, Equal, Greater, nat_cmp, refl, sym, ap, ◌∙◌, arith}
-use Rattle.std.specs.Prelude.{IfSome, is_some, option_and_then, option_map, if◌then◌else◌}
-use Rattle.std.specs.Prelude.{fold as fold_left}
-use Rattle.std.proofs.lemmas.Cmp.{nat_list_cmp_total}
-use Rattle.std.specs.Cmp.Lexicographic.{slice_cmp}
+use Rattle.codegen_base.proofs.Prelude.{◌≡◌, ℕ, List, [], ◌∷◌, Option, Some, None, Bool, not, Ordering, Less, Equal, Greater, nat_cmp, refl, sym, ap, ◌∙◌, arith, IfSome, is_some, option_and_then, option_map, if◌then◌else◌, fold as fold_left, nat_list_cmp_total, slice_cmp, ordering_reverse, is_key, value_at, Ascend, inserted, Value, ValueOrError, error, value, map, Entries, no_entries, entry, keys_of, inserted_in_order, inserted_once, value_or_error, entries_in, map_literal, map_or_error, with_entry, with_pair}
 use Rattle.std.specs.List.Sorted.{IsStrictlySortedBy}
-use Rattle.std.specs.Ordering.{ordering_reverse}
-use Rattle.helper_table.specs.Building.{is_key}
-use Rattle.value_store.specs.Calls.{put_of, text_at, value_at}
-use Rattle.value_store.specs.Keys.{Ascend}
-use Rattle.value_store.specs.Lookup.{inserted}
-use Rattle.value_store.specs.Value.{Value, ValueOrError, error, value, map, Entries, no_entries, entry, keys_of}
-use Rattle.value_store.proofs.Keys.{inserted_in_order, inserted_once}
-use Rattle.cel_macros.specs.Environment.{value_or_error}
-use Rattle.cel_macros.specs.Literals.{entries_in, map_literal, map_or_error, text_part, with_entry}
-use Rattle.codegen_base.specs.Gives.Aggregates.{with_pair}
+use Rattle.value_store.specs.Calls.{put_of}
+use Rattle.cel_macros.specs.Literals.{text_part}
 use Rattle.codegen_base.specs.Helpers as helper
 
 abbrev compared : List ℕ → List ℕ → Ordering
@@ -58,12 +46,6 @@ swapped j k v w (entry h x more) =
 in_none : (a : Option (List ℕ)) (x : ValueOrError) → with_entry a x None ≡ None
 in_none a x = grind arith
 
-in_some : (j : List ℕ) (v : Value) (o : Option Entries) → with_entry (Some j) (value v) o ≡ option_and_then (inserted j v) o
-in_some j v o = grind arith
-
-entries_swapped : (a b : Option (List ℕ)) (x y : ValueOrError) (o : Option Entries) → with_entry a x (with_entry b y o) ≡ with_entry b y (with_entry a x o)
-entries_swapped a b x y o = grind (arith, in_some, swapped, in_none)
-
 -- ---- all entries
 
 abbrev enter : (ValueOrError × ValueOrError) → Option Entries → Option Entries
@@ -81,7 +63,7 @@ backwards_is (e ∷ es) = ap (enter e) (backwards_is es)
 first_last : (e : ValueOrError × ValueOrError) (o : Option Entries) (es : List (ValueOrError × ValueOrError))
     → backwards (enter e o) es ≡ enter e (backwards o es)
 first_last e o [] = refl
-first_last e o (f ∷ es) = ap (enter f) (first_last e o es) ∙ entries_swapped (text_part f.0) (text_part e.0) f.1 e.1 (backwards o es)
+first_last e o (f ∷ es) = ap (enter f) (first_last e o es) ∙ (grind (arith, swapped, in_none))
 
 -- ---- a map with one more entry, as the helper makes it
 
@@ -90,11 +72,7 @@ abbrev InOrder : Option Entries → Type 0
 InOrder o = IfSome o (λ es. Ascend (keys_of es))
 
 enter_in_order : (a : Option (List ℕ)) (x : ValueOrError) (o : Option Entries) → InOrder o → InOrder (with_entry a x o)
-enter_in_order (Some j) (value v) (Some es) up = inserted_in_order j v es up
-enter_in_order _ _ _ up = tt
-
-text_is : (x : ValueOrError) → text_at (Some x) ≡ text_part x
-text_is x = grind arith
+enter_in_order a x o up = grind (arith, inserted_in_order)
 
 -- of a key that is not there
 absent : (b : Bool) (o : Option Entries) → is_some o ≡ not b → value_or_error (if b then None else option_map map o) ≡ map_or_error o
@@ -112,14 +90,11 @@ put_at_is es t x up = grind (arith, never, absent, inserted_once)
 
 put_is : (o : Option Entries) (k x : ValueOrError) → InOrder o → helper.put_of (map_or_error o) k x ≡ map_or_error (with_entry (text_part k) x o)
 put_is None k x up = sym (ap map_or_error (in_none (text_part k) x))
-put_is (Some es) k x up = ap (λ (t : Option (List ℕ)). put_at es t x) (text_is k) ∙ put_at_is es (text_part k) x up
+put_is (Some es) k x up = ap (λ (t : Option (List ℕ)). put_at es t x) (grind arith) ∙ put_at_is es (text_part k) x up
 
 puts_are : (es : List (ValueOrError × ValueOrError)) (o : Option Entries) → InOrder o → fold_left with_pair (map_or_error o) es ≡ map_or_error (backwards o es)
 puts_are [] o up = refl
-puts_are (e ∷ es) o up =
-    ap (λ (m : ValueOrError). fold_left with_pair m es) (put_is o e.0 e.1 up)
-    ∙ puts_are es (enter e o) (enter_in_order (text_part e.0) e.1 o up)
-    ∙ ap map_or_error (first_last e o es)
+puts_are (e ∷ es) o up = grind (arith, put_is, enter_in_order, first_last, puts_are es (enter e o) (enter_in_order (text_part e.0) e.1 o up))
 
 pub map_is : (es : List (ValueOrError × ValueOrError)) → fold_left with_pair (value (map no_entries)) es ≡ map_literal es
 unfolding IsStrictlySortedBy

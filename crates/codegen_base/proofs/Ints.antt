@@ -1,30 +1,12 @@
--- Ints of 64 bits as words, and when results fit.
-use Rattle.std.proofs.Common.{◌≡◌, ℕ, ◌+◌, ◌-◌, ◌%◌, ◌^◌, ◌<◌, ◌≤◌, true, false, refl, ap, ◌∙◌, rules, arith}
-use Rattle.std.specs.Prelude.{ℤ, pos, ◌+ℤ◌, ◌-ℤ◌, FitsSigned, min, unsigned_abs}
-use Rattle.std.specs.Int.{w64, cast_signed, cast_unsigned}
-use Rattle.std.proofs.lemmas.Int.{ints, to_z-of_z, int_rem_euclid_is}
-use Rattle.std.proofs.lemmas.Bool.Decides.{nat_tests}
-use Rattle.bpf_word.specs.Arithmetic.{alu64_of, operated}
-use Rattle.bpf_word.specs.Comparisons.{holds_of}
-use Rattle.bpf_word.specs.Overflow.{IsSigned}
-use Rattle.bpf_word.specs.Signs.{signed_of, word_of}
-use Rattle.bpf_word.specs.declared.comparison.Comparison.TheVariants as words
-use Rattle.bpf_word.proofs.Overflow.{falls, falls_over, rises, rises_over}
-use Rattle.bpf_machine.specs.Words.{alu_result, compares}
+-- Ints of 64 bits as words: when results fit, and what tests of words say of ints.
+use Rattle.codegen_base.proofs.Prelude.{◌≡◌, ℕ, ◌+◌, ◌-◌, ◌%◌, ◌^◌, ◌<◌, ◌≤◌, true, false, refl, ◌∙◌, rules, arith, sym, ap, mod-lt, FitsSigned, ℤ, pos, ◌+ℤ◌, ◌-ℤ◌, neg_ℤ, w64, cast_signed, cast_unsigned, ints, to_z-of_z, nat_tests, alu64_of, operated, holds_of, IsSigned, signed_of, word_of, falls, falls_over, rises, rises_over, alu_result, compares, negated, Comparison, Sge, Sgt, Sle, Slt, Eq, Ne, W64, error, value, int, fits, int_or_error, difference_is}
+use Rattle.codegen_base.proofs.Effects.{differs_no, differs_yes, equal_is, equal_yes}
+use Rattle.codegen_base.proofs.Runs.{either}
 use Rattle.insn_codec.specs.declared.alu_op.AluOp.TheVariants as op
-use Rattle.insn_codec.specs.declared.comparison.Comparison.{Comparison}
-use Rattle.insn_codec.specs.declared.comparison.Comparison.TheVariants.{Sge, Sgt, Sle, Slt}
-use Rattle.insn_codec.specs.declared.width.Width.TheVariants.{W64}
-use Rattle.value_store.specs.Value.{error, value, int}
-use Rattle.cel_macros.specs.Arithmetic.{fits, int_or_error}
 
 -- an int's word
 pub word_small : (z : ℤ) → FitsSigned w64 z → cast_unsigned w64 z < 2 ^ 64
 word_small z h = grind arith
-
--- the word of a text's length
-pub length_word : (n : ℕ) → n < 2 ^ 31 → cast_unsigned w64 (pos (min n 0x7fff_ffff)) ≡ n
-length_word n h = omega arith
 
 -- the signed number of a word
 pub signed_is : (w : ℕ) → w < 2 ^ 64 → signed_of 64 w ≡ cast_signed w64 w
@@ -47,16 +29,12 @@ exact z h = rw h refl
 pub over : (z : ℤ) → fits z ≡ false → error ≡ int_or_error z
 over z h = rw h refl
 
-pub signed_fits : (z : ℤ) → FitsSigned w64 z → IsSigned z
-signed_fits z h = grind (arith, ints)
-
 pub cast_fits : (w : ℕ) → w < 2 ^ 64 → FitsSigned w64 (cast_signed w64 w)
 cast_fits w h = search (rules, ints)
 
 pub difference_word : (m n : ℕ) → n ≤ 2 ^ 64 → word_of 64 (pos m -ℤ pos n) ≡ (m + (2 ^ 64 - n)) % 2 ^ 64
 unfolding word_of
-difference_word m n h =
-    ap unsigned_abs (int_rem_euclid_is (pos m -ℤ pos n) (pos (2 ^ 64)) (2 ^ 64) 1 (m + (2 ^ 64 - n)) (omega arith) refl (omega (arith, ints)))
+difference_word m n h = grind arith
 
 -- ---- sums and differences
 
@@ -69,42 +47,81 @@ pub record Checked (below above : Comparison) (a b w : ℕ) (z : ℤ) : Type 0 w
   pub falls_over : compares W64 Slt b 0 ≡ true → compares W64 below w a ≡ true → IsSigned z → ⊥
 
 module _ (a b : ℕ) (ha : a < 2 ^ 64) (hb : b < 2 ^ 64) where
-  abbrev wrapped : ℕ
-  wrapped = (a + (2 ^ 64 - b)) % 2 ^ 64
-
-  lower_rises : holds_of words.Slt b 0 ≡ false → holds_of words.Sgt wrapped a ≡ false → signed_of 64 wrapped ≡ signed_of 64 a -ℤ signed_of 64 b
-  unfolding signed_of holds_of
-  lower_rises positive above = grind (arith, ints)
-
-  lower_over : holds_of words.Slt b 0 ≡ false → holds_of words.Sgt wrapped a ≡ true → IsSigned (signed_of 64 a -ℤ signed_of 64 b) → ⊥
-  unfolding signed_of holds_of
-  lower_over positive above fits = let low = fits.0 in grind (arith, ints)
-
-  higher_falls : holds_of words.Slt b 0 ≡ true → holds_of words.Sle wrapped a ≡ false → signed_of 64 wrapped ≡ signed_of 64 a -ℤ signed_of 64 b
-  unfolding signed_of holds_of
-  higher_falls negative below = grind (arith, ints)
-
-  higher_over : holds_of words.Slt b 0 ≡ true → holds_of words.Sle wrapped a ≡ true → IsSigned (signed_of 64 a -ℤ signed_of 64 b) → ⊥
-  unfolding signed_of holds_of
-  higher_over negative below fits = let high = fits.1 in grind (arith, ints)
-
   pub sum_checked : Checked Sge Slt a b (alu_result W64 op.Add a b) (signed_of 64 a +ℤ signed_of 64 b)
   unfolding alu64_of operated
-  sum_checked = record {
-    small = omega arith;
-    rises = rises a b ha hb;
-    rises_over = rises_over a b ha hb;
-    falls = falls a b ha hb;
-    falls_over = falls_over a b ha hb;
-  }
+  sum_checked = grind (arith, rises, rises_over, falls, falls_over)
 
   pub difference_checked : Checked Sle Sgt a b (alu_result W64 op.Sub a b) (signed_of 64 a -ℤ signed_of 64 b)
-  unfolding alu64_of operated
+  unfolding alu64_of operated signed_of holds_of
   difference_checked =
       rw (difference_word a b (omega arith)) (record {
         small = omega arith;
-        rises = lower_rises;
-        rises_over = lower_over;
-        falls = higher_falls;
-        falls_over = higher_over;
+        rises = λ positive above. grind (arith, ints);
+        rises_over = λ positive above fits. let low = fits.0 in grind (arith, ints);
+        falls = λ negative below. grind (arith, ints);
+        falls_over = λ negative below fits. let high = fits.1 in grind (arith, ints);
       })
+
+-- ---- words, what tests of them say of ints, and negatives
+
+abbrev pub word : ℤ → ℕ
+word z = cast_unsigned w64 z
+
+abbrev pub number : ℕ → ℤ
+number w = cast_signed w64 w
+
+pub fits_into : (z : ℤ) → fits z ≡ true → FitsSigned w64 z
+fits_into z h = record { sfits = grind (arith, ints) }
+
+pub word_fits : (z : ℤ) → fits z ≡ true → word z < 2 ^ 64
+word_fits z h = grind (arith, ints)
+
+pub number_word : (z : ℤ) → fits z ≡ true → number (word z) ≡ z
+number_word z h = to_z-of_z w64 z (fits_into z h)
+
+-- the words of -1 and of the least int
+abbrev pub minus_one : ℕ
+minus_one = 2 ^ 64 - 1
+
+abbrev pub least : ℕ
+least = 2 ^ 63
+
+-- ---- what comparisons of words say
+
+pub not_equal : (a b : ℕ) → compares W64 Eq a b ≡ false → a ≡ b → ⊥
+not_equal a b h e = let yes = equal_yes a b e in absurd (cc)
+
+pub not_different : (a b : ℕ) → compares W64 Ne a b ≡ false → a ≡ b
+not_different a b h = either (compares W64 Eq a b) (λ t. equal_is a b t) (λ f. let yes = differs_yes a b (not_equal a b f) in absurd (cc))
+
+pub different : (a b : ℕ) → compares W64 Ne a b ≡ true → a ≡ b → ⊥
+different a b h e = let no = differs_no a b e in absurd (cc)
+
+-- what tests of their words say of two ints
+module _ (z : ℤ) (hz : fits z ≡ true) where
+  pub from_word : (w : ℕ) → word z ≡ w → z ≡ number w
+  from_word w e = sym (number_word z hz) ∙ ap number e
+
+  pub is_nothing : compares W64 Eq (word z) 0 ≡ true → z ≡ pos 0
+  is_nothing h = from_word 0 (equal_is (word z) 0 h)
+
+  pub is_something : compares W64 Eq (word z) 0 ≡ false → z ≡ pos 0 → ⊥
+  is_something h e = not_equal (word z) 0 h (ap word e)
+
+-- ---- negatives
+
+-- the negative of a word is that of its int, but for the least one, whose negative is none
+pub record Negated (a : ℕ) (z : ℤ) : Type 0 where
+  pub small : negated W64 a < 2 ^ 64
+  pub exact : compares W64 Eq a least ≡ false → (fits (neg_ℤ z) ≡ true) × (number (negated W64 a) ≡ neg_ℤ z)
+  pub over : compares W64 Eq a least ≡ true → fits (neg_ℤ z) ≡ false
+
+module _ (z : ℤ) (hz : fits z ≡ true) where
+  opposite_is : negated W64 (word z) ≡ (2 ^ 64 - word z) % 2 ^ 64
+  unfolding alu64_of operated
+  opposite_is =
+      let none : 0 + (2 ^ 64 - word z) ≡ 2 ^ 64 - word z = omega arith in
+      sym (difference_is 64 0 (word z) (word_fits z hz)) ∙ ap (λ (n : ℕ). n % 2 ^ 64) none
+
+  pub negated_is : Negated (word z) z
+  negated_is = grind (arith, mod-lt, opposite_is, not_equal, ints, from_word, equal_is)

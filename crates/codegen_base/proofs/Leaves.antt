@@ -1,46 +1,22 @@
 -- The code of literals without parts and of names gives their meaning.
-use Rattle.std.proofs.Common.{◌≡◌, ℕ, ◌+◌, ◌≤◌, List, [], length, Option, Some, None, Bool, true, false, refl, ap, subst, arith}
-use Rattle.std.specs.Prelude.{ℤ, pos, FitsSigned, bytes_eq, codes, if◌then◌else◌}
-use Rattle.std.specs.Int.{w64, cast_signed, cast_unsigned}
-use Rattle.std.specs.Str.{is_utf8}
-use Rattle.std.proofs.lemmas.Int.{to_z-of_z}
-use Rattle.helper_table.specs.Laws.{Names}
-use Rattle.insn_codec.specs.declared.register.Register.TheVariants.{R0, R1, R2}
+use Rattle.codegen_base.proofs.Prelude.{◌≡◌, ℕ, ◌+◌, ◌≤◌, List, length, Option, Some, None, Bool, true, false, refl, ap, subst, arith, ℤ, pos, FitsSigned, bytes_eq, codes, if◌then◌else◌, w64, cast_signed, cast_unsigned, is_utf8, to_z-of_z, Names, R0, R1, R2, Value, ValueOrError, error, value, null, boolean, int, text, Roots, item_or_root, lookup, name_value, root_bindings, value_or_error, Body, set_register, Places, leaf_code, int_code, null_leaf, text_code, truth_leaf, held_leaf, name_leaf, reference_or_error, root_reference, Context, Gives, HasValues, IsHeld, Setting, LeavesGive, LeavesName, HasText, Lends, IsLeafIn, IsLeafOf, Leaf, Reference}
 use Rattle.value_store.specs.Placing.{Contents}
-use Rattle.value_store.specs.Value.{Value, ValueOrError, error, value, null, boolean, int, text}
-use Rattle.cel_macros.specs.Environment.{Roots, item_or_root, lookup, name_value, root_bindings, value_or_error}
-use Rattle.codegen_base.specs.Body.{Body, set_register}
-use Rattle.codegen_base.specs.Calls.{Places}
-use Rattle.codegen_base.specs.Code.Leaves.{leaf_code, leaf_insn}
-use Rattle.codegen_base.specs.Code.Literals.{int_code, null_leaf, text_code, truth_leaf}
-use Rattle.codegen_base.specs.Code.Names.{held_leaf, name_leaf, reference_or_error, root_reference}
-use Rattle.codegen_base.specs.Contexts.{Context, Gives, HasValues, IsHeld}
-use Rattle.codegen_base.specs.Engine.{Setting}
-use Rattle.codegen_base.specs.Gives.Leaves.{LeavesGive, LeavesName}
-use Rattle.codegen_base.specs.Gives.Selection.{HasText}
-use Rattle.codegen_base.specs.Helpers.{Lends}
-use Rattle.codegen_base.specs.Operators.{IsLeafIn, IsLeafOf}
-use Rattle.codegen_base.specs.Pieces.{size}
-use Rattle.codegen_base.specs.declared.leaf.Leaf.{Leaf}
-use Rattle.codegen_base.specs.declared.leaf.Leaf.TheVariants.{Reference}
 use Rattle.codegen_base.proofs.Frames.{fits_registers, shows_registers}
 use Rattle.codegen_base.proofs.HelperAnswers.{helpers}
 use Rattle.codegen_base.proofs.Ints.{word_small}
 use Rattle.codegen_base.proofs.Listings.{ask, begins, load_wide, put_length}
 use Rattle.codegen_base.proofs.Loaded.{leaf_size, leaf_step}
 use Rattle.codegen_base.proofs.Operators.{shows_placed}
-use Rattle.codegen_base.proofs.Pieces.{stands_first}
-use Rattle.codegen_base.proofs.Runs.{done, looser, to_place}
+use Rattle.codegen_base.proofs.Runs.{arrived, done, looser}
 use Rattle.codegen_base.proofs.Values.{names_error, names_no, names_null, names_yes}
 
 -- a leaf that names the value in every body that fits
 pub leaf_gives : (s : Setting) (p : ℕ) (c : Context) (depth base : ℕ) (l : Leaf) (x : ValueOrError) → IsLeafOf c depth base (Some l) x → Gives s p (leaf_code l) c depth base x 1 0
 leaf_gives s p c depth base l x named = record {
   runs = λ b has fits.
-      let place : p + 1 ≡ p + size (leaf_code l) = omega (arith, leaf_size l R0) in
-      to_place s _ place
-      (leaf_step s p (p + 1) b depth R0 x l (stands_first s.image.code p (leaf_insn l R0) [] has) fits.frame refl (named b fits) refl (λ w is.
-      done s (p + 1) _ _ (shows_registers c depth base b _ refl x fits is)));
+      begins has
+      (leaf_step has R0 x 0 l refl fits.frame refl (named b fits) (λ w is.
+      arrived s (omega (arith, leaf_size l R0)) (shows_registers c depth base b _ refl x fits is)));
 }
 
 truth_named : (c : Context) (depth base : ℕ) (t : Bool) → IsLeafOf c depth base (Some (truth_leaf t)) (value (boolean t))
@@ -65,9 +41,8 @@ text_gives : (s : Setting) (p : ℕ) (c : Context) (depth base : ℕ) (address :
 text_gives s p c depth base address t low h utf8 = record {
   runs = λ b has fits.
       let asks = set_register (set_register b R1 address) R2 (length t) in
-      let fits1 = fits_registers c depth base b asks.registers refl fits in
       let lends : Lends asks R1 R2 t = record { bytes_are = rw (fits.constants) h.bytes_are; address = h.address_is_word; count = (let few = h.length_is_immediate in omega (arith, few)) } in
-      let a = helpers.text_const c.environment.roots asks t fits1.values lends utf8 in
+      let a = helpers.text_const c.environment.roots asks t (fits_registers c depth base b asks.registers refl fits).values lends utf8 in
       looser s {n = 3} {x = 1 + length t + 0} 3 (1 + length t) (omega arith) (omega arith) (begins has
       (load_wide has 0 refl refl
       (put_length has 2 (length t) refl refl h.length_is_immediate
@@ -93,10 +68,7 @@ unfolding root_reference
 root_named roots values n h = root_by roots values h (bytes_eq (codes "object") n) (bytes_eq (codes "oldObject") n) (bytes_eq (codes "params") n) (bytes_eq (codes "namespaceObject") n) (bytes_eq (codes "request") n)
 
 held_named : (depth base : ℕ) (b : Body) (r : ℤ) (root : Option Value) → base ≤ 64 → Names b.values.values (cast_unsigned w64 r) (value_or_error root) → (word : Option ℕ) (item : Option Value) → IsHeld depth base b word item → IsLeafIn (held_leaf word r) depth b (item_or_root item root)
-held_named depth base b r root low named (Some k) (Some v) held = let below = held.0 in (omega arith, held.1)
-held_named depth base b r root low named None None held = named
-held_named depth base b r root low named (Some k) None held = absurd held
-held_named depth base b r root low named None (Some v) held = absurd held
+held_named depth base b r root low named word item held = grind arith
 
 name_named : (c : Context) (depth base : ℕ) (n : List ℕ) → base ≤ 64 → IsLeafOf c depth base (Some (name_leaf n c.words.items)) (name_value n c.environment)
 unfolding name_value
@@ -105,11 +77,7 @@ name_named c depth base n low b fits =
     held_named depth base b (root_reference n) (lookup n (root_bindings roots)) low (root_named roots b.values n fits.values) (lookup n c.words.items) (lookup n c.environment.items) (fits.holds.names n)
 
 pub leaves_name : LeavesName
-leaves_name = record {
-  null = λ c depth base b fits. names_null b.values fits.values.table.store;
-  truth = truth_named;
-  name = name_named;
-}
+leaves_name = grind (arith, names_null, truth_named, name_named)
 
 pub leaves_give : LeavesGive
 leaves_give = record {

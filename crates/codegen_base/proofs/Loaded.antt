@@ -1,37 +1,10 @@
 -- Operands go into their registers.
-use Rattle.std.proofs.Common.{◌≡◌, ℕ, suc, ◌+◌, ◌<◌, List, [], ◌∷◌, ◌++◌, Option, Some, None, Bool, false, refl, sym, ap, ◌∙◌, append_assoc, subst, arith, inr, nat_eq}
-use Rattle.std.specs.Prelude.{pos, if◌then◌else◌}
-use Rattle.std.specs.Int.{w64, cast_unsigned}
-use Rattle.std.proofs.lemmas.Bool.{eq-eqb}
-use Rattle.helper_table.specs.Laws.{Names}
-use Rattle.insn_codec.specs.Codes.{register_number}
-use Rattle.insn_codec.specs.declared.alu_op.AluOp.TheVariants.{Mov}
-use Rattle.insn_codec.specs.declared.insn.Insn.{Insn}
-use Rattle.insn_codec.specs.declared.operand.Operand.TheVariants.{Imm, Reg}
-use Rattle.insn_codec.specs.declared.register.Register.{Register}
-use Rattle.insn_codec.specs.declared.register.Register.TheVariants.{R0, R10}
-use Rattle.insn_codec.specs.declared.width.Width.TheVariants.{W64}
-use Rattle.value_store.specs.Value.{ValueOrError}
-use Rattle.bpf_machine.specs.Decoding.{fetched}
-use Rattle.bpf_machine.specs.Operands.{is_frame_pointer}
-use Rattle.bpf_machine.specs.declared.frame.Frame.{Frame}
-use Rattle.codegen_base.specs.Body.{Body, put_register, set_register}
-use Rattle.codegen_base.specs.Code.Calls.{kept_code, kept_size, operand_code, operands_code}
-use Rattle.codegen_base.specs.Code.Leaves.{leaf_insn}
-use Rattle.codegen_base.specs.Contexts.{Context, Fits, Gives, Keeps, Shows, variable_count}
-use Rattle.codegen_base.specs.Engine.{Setting, Comes, Reaches}
+use Rattle.codegen_base.proofs.Prelude.{◌≡◌, ℕ, suc, ◌+◌, ◌<◌, List, [], ◌∷◌, ◌++◌, Option, Some, None, Bool, false, refl, sym, ap, ◌∙◌, append_assoc, subst, arith, inr, nat_eq, if◌then◌else◌, slice_get, w64, cast_unsigned, eq-eqb, Names, register_number, Insn, Register, R0, ValueOrError, is_frame_pointer, Frame, Body, put_register, set_register, kept_code, kept_size, operand_code, operands_code, leaf_insn, Context, Fits, Gives, Keeps, Shows, variable_count, Setting, Comes, Reaches, AreApart, IsLeafIn, IsLeafOf, Stands, size, slots, Framed, set_word, word_at, Leaf, Reference, Word}
 use Rattle.codegen_base.specs.Instructions as insn
-use Rattle.codegen_base.specs.Operators.{AreApart, IsLeafIn, IsLeafOf}
-use Rattle.codegen_base.specs.Pieces.{Stands, size}
-use Rattle.codegen_base.specs.Words.{Framed, set_word, word_at}
-use Rattle.codegen_base.specs.declared.leaf.Leaf.{Leaf}
-use Rattle.codegen_base.specs.declared.leaf.Leaf.TheVariants.{Reference, Word}
-use Rattle.codegen_base.proofs.Effects.{mov_is}
 use Rattle.codegen_base.proofs.Frames.{fits_above, keeps_same, keeps_then, shows_after, stored}
-use Rattle.codegen_base.proofs.Listings.{begins, mov}
-use Rattle.codegen_base.proofs.Pieces.{runs_both, size-append, size-cons, stands_back, stands_first, stands_front, stands_rest}
-use Rattle.codegen_base.proofs.Runs.{and_then, done, into, looser, to_place}
-use Rattle.codegen_base.proofs.Steps as step
+use Rattle.codegen_base.proofs.Listings.{begins, load, mov, store}
+use Rattle.codegen_base.proofs.Pieces.{runs_both, size-append, size-cons, stands_back, stands_front, stands_rest}
+use Rattle.codegen_base.proofs.Runs.{and_then, arrived, done, into, looser, to_place}
 use Rattle.codegen_base.proofs.Values.{small_reference}
 
 -- ---- a register that is written
@@ -42,23 +15,17 @@ written word r w = ap (λ (t : Bool). if t then w else word r) (eq-eqb (register
 unwritten : (word : Register → ℕ) (r q : Register) (w : ℕ) → nat_eq (register_number r) (register_number q) ≡ false → put_register word q w r ≡ word r
 unwritten word r q w apart = ap (λ (t : Bool). if t then w else word r) apart
 
-pointer_stays : (word : Register → ℕ) (r : Register) (w : ℕ) → is_frame_pointer r ≡ false → put_register word r w R10 ≡ word R10
-pointer_stays word r w free = grind arith
-
 -- ---- leaves
 
 pub leaf_size : (l : Leaf) (r : Register) → size (leaf_insn l r ∷ []) ≡ 1
 leaf_size l r = grind arith
 
--- it reads no register
-leaf_stays : (l : Leaf) (depth : ℕ) (b : Body) (registers : Register → ℕ) (x : ValueOrError) → IsLeafIn l depth b x → IsLeafIn l depth (record b { registers = registers }) x
-leaf_stays l depth b registers x named = grind arith
-
-module _ (s : Setting) {n m p' : ℕ} {records : List Frame} {Q : Body → Type 0} (p p1 : ℕ) (b : Body) (depth : ℕ) (r : Register) (x : ValueOrError) where
-  pub leaf_step : (l : Leaf) → fetched s.image.code (pos p) ≡ Some (Some (leaf_insn l r)) → Framed depth b → is_frame_pointer r ≡ false → IsLeafIn l depth b x → p1 ≡ p + 1 → ((w : ℕ) → Names b.values.values w x → Reaches s n m p1 (set_register b r w) records p' Q) → Reaches s (suc n) m p b records p' Q
-  leaf_step (Reference z) h frame free named place next =
-      step.alu s p p1 b Mov W64 r (Imm z) (cast_unsigned w64 z) h free (mov_is (b.registers r) (cast_unsigned w64 z)) place (next (cast_unsigned w64 z) named)
-  leaf_step (Word k) h frame free named place next = step.load s p p1 b depth k r h frame named.0 free place (next (word_at depth k b) named.1)
+pub leaf_step : {s : Setting} {o : ℕ} {piece : List Insn} {n m p' : ℕ} {b : Body} {records : List Frame} {Q : Body → Type 0} (has : Stands s.image.code o piece)
+    {depth : ℕ} (r : Register) (x : ValueOrError) (k : ℕ) (l : Leaf) → slice_get (slots piece) k ≡ Some (Some (leaf_insn l r)) → Framed depth b
+    → is_frame_pointer r ≡ false → IsLeafIn l depth b x
+    → ((w : ℕ) → Names b.values.values w x → Reaches s n m (o + (k + 1)) (set_register b r w) records p' Q) → Reaches s (suc n) m (o + k) b records p' Q
+leaf_step has r x k (Reference z) h frame free named next = mov has k h free (next (cast_unsigned w64 z) named)
+leaf_step {b = b} has {depth} r x k (Word i) h frame free named next = load has k i h frame named.0 free (next (word_at depth i b) named.1)
 
 -- ---- one operand
 
@@ -69,15 +36,15 @@ pub record Loaded (c : Context) (depth base : ℕ) (r : Register) (x : ValueOrEr
   pub keeps : Keeps (variable_count c) depth base old new
 
 loaded : (c : Context) (depth base : ℕ) (r : Register) (x : ValueOrError) (old b : Body) (w : ℕ) → is_frame_pointer r ≡ false → Names b.values.values w x → Fits c depth base b → Keeps (variable_count c) depth base old b → Loaded c depth base r x old (set_register b r w)
-loaded c depth base r x old b w free named fits keeps = grind (arith, written, pointer_stays)
+loaded c depth base r x old b w free named fits keeps = grind (arith, written)
 
 module _ (s : Setting) (p : ℕ) (r : Register) (free : is_frame_pointer r ≡ false) (c : Context) (depth base : ℕ) (x : ValueOrError) (n m : ℕ) where
   pub operand_runs : (l : Option Leaf) (operand : List Insn) → IsLeafOf c depth base l x → Gives s p operand c depth base x n m → (b : Body) → Stands s.image.code p (operand_code l operand r) → Fits c depth base b → Comes s (n + 1) m p b (p + size (operand_code l operand r)) (Loaded c depth base r x b)
   operand_runs (Some l) operand leaf gives b has fits =
-      to_place s _ (omega (arith, leaf_size l r))
-      (looser s {n = suc 0} {x = 0} (n + 1) m (omega arith) (omega arith)
-      (leaf_step s p (p + 1) b depth r x l (stands_first s.image.code p (leaf_insn l r) [] has) fits.frame free (leaf b fits) refl (λ w named.
-      done s (p + 1) (set_register b r w) (Loaded c depth base r x b) (loaded c depth base r x b b w free named fits (keeps_same (variable_count c) depth base b)))))
+      looser s {n = suc 0} {x = 0} (n + 1) m (omega arith) (omega arith)
+      (begins has
+      (leaf_step has r x 0 l refl fits.frame free (leaf b fits) (λ w named.
+      arrived s (omega (arith, leaf_size l r)) (loaded c depth base r x b b w free named fits (keeps_same (variable_count c) depth base b)))))
   operand_runs None operand leaf gives b has fits =
       looser s {n = n + suc 0} {x = m + 0} (n + 1) m (omega arith) (omega arith)
       (runs_both s p operand (insn.copy r R0 ∷ []) (suc 0) 0 (Loaded c depth base r x b) has (λ front. gives.runs b front fits) (λ b1 back g1.
@@ -100,14 +67,15 @@ module _ (s : Setting) (k : ℕ) (right : List Insn) (c : Context) (depth : ℕ)
       let stored1 = stored c depth k k r b fits (omega arith) (omega arith) (small_reference b.values r x fits.values.table named) in
       let b1 = set_word depth k r b in
       looser s {n = suc n} {x = m} (1 + n) m (omega arith) (omega arith)
-      (step.store s q (q + 1) b depth k R0 (stands_first s.image.code q (insn.store k R0) right has) fits.frame (omega arith) refl
+      (begins has
+      (store has 0 k refl fits.frame (omega arith)
       (into s (Both b) (λ b2 g2.
       let same : word_at depth k b2 ≡ r = g2.keeps.words depth k (omega arith) (inr (refl, omega arith)) ∙ stored1.here in
       record {
         left = subst (λ (w : ℕ). Names b2.values.values w x) (sym same) (g2.keeps.values r x named);
         shown = shows_after (omega arith) (omega arith) stored1.keeps g2 stored1.fits;
       })
-      (gives.runs b1 (stands_rest s.image.code q (insn.store k R0) right has) (fits_above c depth k (k + 1) b1 (omega arith) stored1.fits))))
+      (gives.runs b1 (stands_rest s.image.code q (insn.store k R0) right has) (fits_above c depth k (k + 1) b1 (omega arith) stored1.fits)))))
 
 -- the registers name both values, in a body that fits again
 pub record LoadedBoth (c : Context) (depth k : ℕ) (r q : Register) (x y : ValueOrError) (old new : Body) : Type 0 where
@@ -120,39 +88,21 @@ pub record LoadedBoth (c : Context) (depth k : ℕ) (r q : Register) (x y : Valu
 module _ (s : Setting) (c : Context) (depth k : ℕ) (r q : Register) (apart : AreApart r q) (x y : ValueOrError) where
   pub both_loaded : (p : ℕ) (l : Leaf) (old b : Body) → Stands s.image.code p (insn.copy q R0 ∷ leaf_insn l r ∷ []) → IsLeafIn l depth b x → Shows c depth k y old b → Comes s 2 0 p b (p + 2) (LoadedBoth c depth k r q x y old)
   both_loaded p l old b has leaf shown =
-      let code = s.image.code in
-      let copy = insn.copy q R0 in
       let w = b.registers R0 in
       let b1 = set_register b q w in
       let one = loaded c depth k q y old b w apart.second shown.shows shown.fits shown.keeps in
-      let Q = LoadedBoth c depth k r q x y old in
-      looser s {n = suc (suc 0)} {x = 0} 2 0 (omega arith) (omega arith)
-      (step.alu s p (p + 1) b Mov W64 q (Reg R0) w (stands_first code p copy (leaf_insn l r ∷ []) has) apart.second (mov_is (b.registers q) w) refl
-      (leaf_step s (p + 1) (p + 2) b1 depth r x l (stands_first code (p + 1) (leaf_insn l r) [] (stands_rest code p copy (leaf_insn l r ∷ []) has)) one.fits.frame apart.first (leaf_stays l depth b b1.registers x leaf) (omega arith) (λ v named.
-      let two = loaded c depth k r x old b1 v apart.first named one.fits one.keeps in
-      done s (p + 2) (set_register b1 r v) Q (record {
-        first = two.named;
-        second = subst (λ (u : ℕ). Names b.values.values u y) (sym (unwritten b1.registers q r v apart.back)) one.named;
-        fits = two.fits;
-        keeps = two.keeps;
-      }))))
+      begins has
+      (mov has 0 refl apart.second
+      (leaf_step has r x 1 l refl one.fits.frame apart.first (grind arith) (λ v named. arrived s refl (grind (arith, unwritten, written)))))
 
   -- the right one is a leaf
   right_leaf : (p n1 x1 : ℕ) (l : Option Leaf) (left : List Insn) (m : Leaf) → IsLeafOf c depth k l x → Gives s p left c depth k x n1 x1 → IsLeafOf c depth (k + 1) (Some m) y → (b : Body) → Stands s.image.code p (operand_code l left r ++ leaf_insn m q ∷ []) → Fits c depth k b → Comes s (n1 + 1 + 1) (x1 + 0) p b (p + size (operand_code l left r ++ leaf_insn m q ∷ [])) (LoadedBoth c depth k r q x y b)
   right_leaf p n1 x1 l left m leaf gives right b has fits =
-      let p1 = p + size (operand_code l left r) in
       runs_both s p (operand_code l left r) (leaf_insn m q ∷ []) 1 0 (LoadedBoth c depth k r q x y b) has
       (λ front. operand_runs s p r apart.first c depth k x n1 x1 l left leaf gives b front fits) (λ b1 back g1.
-      to_place s _ (omega (arith, leaf_size m q))
-      (looser s {n = suc 0} {x = 0} 1 0 (omega arith) (omega arith)
-      (leaf_step s p1 (p1 + 1) b1 depth q y m (stands_first s.image.code p1 (leaf_insn m q) [] back) g1.fits.frame apart.second (right b1 (fits_above c depth k (k + 1) b1 (omega arith) g1.fits)) refl (λ w named.
-      let two = loaded c depth k q y b b1 w apart.second named g1.fits g1.keeps in
-      done s (p1 + 1) (set_register b1 q w) _ (record {
-        first = subst (λ (u : ℕ). Names b1.values.values u x) (sym (unwritten b1.registers r q w apart.apart)) g1.named;
-        second = two.named;
-        fits = two.fits;
-        keeps = two.keeps;
-      })))))
+      begins back
+      (leaf_step back q y 0 m refl g1.fits.frame apart.second (right b1 (fits_above c depth k (k + 1) b1 (omega arith) g1.fits)) (λ w named.
+      arrived s (omega (arith, leaf_size m q)) (grind (arith, unwritten, written)))))
 
   -- the left one is a leaf, and the right one is none
   left_leaf : (p n2 x2 : ℕ) (l : Leaf) (left right : List Insn) → k < 60 → IsLeafOf c depth k (Some l) x → Gives s (p + 0) right c depth (k + 1) y n2 x2 → (b : Body) → Stands s.image.code p (right ++ insn.copy q R0 ∷ leaf_insn l r ∷ []) → Fits c depth k b → Comes s (n2 + 2) (x2 + 0) p b (p + size (right ++ insn.copy q R0 ∷ leaf_insn l r ∷ [])) (LoadedBoth c depth k r q x y b)
@@ -174,7 +124,6 @@ module _ (s : Setting) (c : Context) (depth k : ℕ) (r q : Register) (apart : A
       let whole = append_assoc left (put ∷ []) (right ++ tail) in
       let has1 = subst (Stands code p) whole has in
       let h0 = stands_back code p left (put ∷ (right ++ tail)) has1 in
-      let h1 : Stands code q1 (put ∷ right) = stands_front code q1 (put ∷ right) tail h0 in
       let place1 : q1 + size (put ∷ right) ≡ q1 + 1 + size right = omega (arith, size-cons put right) in
       let h2 : Stands code (q1 + 1 + size right) tail = subst (λ (i : ℕ). Stands code i tail) place1 (stands_back code q1 (put ∷ right) tail h0) in
       let begins : p + (size left + 1) ≡ q1 + 1 = omega arith in
@@ -185,7 +134,7 @@ module _ (s : Setting) (c : Context) (depth k : ℕ) (r q : Register) (apart : A
       to_place s _ place
       (and_then s (1 + (n2 + 2)) (x2 + 0) end Q (gives_left.runs b (stands_front code p left (put ∷ (right ++ tail)) has1) fits) (λ b1 g1.
       looser s {n = 1 + n2 + 2} {x = x2 + 0} (1 + (n2 + 2)) (x2 + 0) (omega arith) (omega arith)
-      (and_then s 2 0 end Q (keeps_left s k right c depth x y n2 x2 low q1 b1 h1 g1.fits g1.shows given) (λ b2 g2.
+      (and_then s 2 0 end Q (keeps_left s k right c depth x y n2 x2 low q1 b1 (stands_front code q1 (put ∷ right) tail h0) g1.fits g1.shows given) (λ b2 g2.
       into s Q (λ b3 g3. record { first = g3.first; second = g3.second; fits = g3.fits; keeps = keeps_then (omega arith) g1.keeps g3.keeps })
       (both_loaded (q1 + 1 + size right) (Word k) b1 b2 h2 (omega arith, g2.left) g2.shown)))))
 

@@ -1,12 +1,6 @@
 pub mod Budgets
-pub mod Depths
-pub mod Turned
 pub mod Turn
-pub mod Firsts
-pub mod Within
 pub mod Once
-pub mod AbsorbingTurn
-pub mod PushingTurn
-pub mod OnceTurn
 pub mod MapsWhere
 pub mod All
+pub mod Tails

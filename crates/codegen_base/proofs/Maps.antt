@@ -1,44 +1,21 @@
 -- The code of a map literal gives the map of its entries, or the error where a key stands twice or is no text, or a part is the error.
-use Rattle.std.proofs.Common.{◌≡◌, ℕ, ◌+◌, max, ◌<◌, ◌≤◌, List, ◌∷◌, ◌++◌, Option, Some, Bool, true, false, refl, sym, subst, arith, append_assoc, leb-false, leb-true}
-use Rattle.std.specs.Prelude.{is_some, nat_le, pos}
-use Rattle.std.specs.Prelude.{fold as fold_left}
-use Rattle.std.proofs.lemmas.Bool.{le-leb}
-use Rattle.helper_table.specs.Building.{depth_limit, entered}
-use Rattle.helper_table.specs.Laws.{Names}
-use Rattle.helper_table.proofs.Depths.{Grows}
-use Rattle.helper_table.proofs.Entering.{enters_by}
-use Rattle.insn_codec.specs.declared.insn.Insn.{Insn}
-use Rattle.insn_codec.specs.declared.register.Register.TheVariants.{R0, R1, R2, R3}
-use Rattle.value_store.specs.Size.{result_depth}
-use Rattle.value_store.specs.Value.{Value, ValueOrError, value, map, no_entries}
-use Rattle.cel_macros.specs.Environment.{value_or_error}
-use Rattle.codegen_base.specs.Body.{Body, set_register}
-use Rattle.codegen_base.specs.Calls.{answered}
-use Rattle.codegen_base.specs.Code.Aggregates.{entry_code, entry_tail, map_code}
-use Rattle.codegen_base.specs.Contexts.{Context, Gives}
-use Rattle.codegen_base.specs.Engine.{Setting, Comes}
-use Rattle.codegen_base.specs.Gives.Aggregates.{Builds, EntriesGive, Made, MadeFrom, MapGives, MayHold, with_pair}
-use Rattle.codegen_base.specs.Helpers.{put_of}
+use Rattle.codegen_base.proofs.Prelude.{◌≡◌, ℕ, ◌+◌, max, ◌<◌, ◌≤◌, List, ◌∷◌, ◌++◌, Option, Some, true, refl, sym, subst, arith, append_assoc, is_some, pos, fold as fold_left, le-leb, depth_limit, Names, Grows, enters_by, Insn, R0, R1, R2, R3, result_depth, Value, ValueOrError, value, map, no_entries, value_or_error, Body, set_register, entry_code, entry_tail, map_code, Context, Gives, Setting, Comes, Builds, EntriesGive, Made, MadeFrom, MapGives, MayHold, with_pair, put_of, Stands, size, word_at}
+use Rattle.helper_table.specs.Building.{entered}
 use Rattle.codegen_base.specs.Instructions as insn
-use Rattle.codegen_base.specs.Pieces.{Stands, size}
-use Rattle.codegen_base.specs.Words.{word_at}
-use Rattle.codegen_base.proofs.Aggregates.{Beside, beside, builds_nothing, builds_then, literal_runs, made_stored}
-use Rattle.codegen_base.proofs.Frames.{fits_above, fits_registers, keeps_then}
+use Rattle.codegen_base.proofs.Lists.{Beside, beside, builds_then, literal_runs, made_stored}
+use Rattle.codegen_base.proofs.Frames.{fits_above, keeps_same, keeps_then}
 use Rattle.codegen_base.proofs.HelperAnswers.{helpers}
 use Rattle.codegen_base.proofs.Insertions.{map_is}
-use Rattle.codegen_base.proofs.Listings.{ask, begins, load, mov, refused, store}
+use Rattle.codegen_base.proofs.Listings.{begins, calls, load, mov, refused, store}
 use Rattle.codegen_base.proofs.Loaded.{keeps_left}
 use Rattle.codegen_base.proofs.Operators.{shows_placed}
 use Rattle.codegen_base.proofs.Pieces.{size-append, size-cons, stands_back, stands_front}
-use Rattle.codegen_base.proofs.Runs.{and_then, done, into, looser, to_place}
+use Rattle.codegen_base.proofs.Runs.{and_then, arrived, by_limit, done, into, looser, to_place}
 
 -- ---- how deep a map becomes
 
 grown_depth : (o : Option Value) (most : ℕ) → (is_some o ≡ true → Grows o most) → result_depth (value_or_error o) ≤ most
 grown_depth o most grows = grind arith
-
-put_depth : (m k x : ValueOrError) → result_depth (put_of m k x) ≤ max (result_depth m) (1 + result_depth x)
-put_depth m k x = grown_depth (entered (Some m) (Some k) (Some x)) (max (result_depth m) (1 + result_depth x)) (enters_by (Some m) (Some k) (Some x))
 
 -- ---- an entry
 
@@ -48,37 +25,26 @@ record Ready (c : Context) (depth k : ℕ) (m x y : ValueOrError) (old new : Bod
   key : Names new.values.values (word_at depth (k + 1) new) x
 
 module _ (s : Setting) (k : ℕ) (c : Context) (depth : ℕ) (low : k + 1 < 60) (m x y : ValueOrError) (held : MayHold s y) where
-  put_by : (fits_in : Bool) (q : ℕ) (a b : Body) → nat_le (result_depth (put_of m x y)) depth_limit ≡ fits_in → Stands s.image.code q (entry_tail k) → Ready c depth k m x y a b → Comes s 5 2 q b (q + 5) (MadeFrom c depth k (put_of m x y) b)
-  put_by true q a b e has g =
-      let within : result_depth (put_of m x y) ≤ depth_limit = leb-true _ _ e in
+  put_by : (q : ℕ) (a b : Body) → Stands s.image.code q (entry_tail k) → Ready c depth k m x y a b
+      → Comes s 5 2 q b (q + 5) (MadeFrom c depth k (put_of m x y) b)
+  put_by q a b has g =
       let made = g.beside_it.made in
       let fits = made.fits in
       let asks = set_register (set_register (set_register b R3 (b.registers R0)) R2 (word_at depth (k + 1) b)) R1 (word_at depth k b) in
-      let fits1 = fits_registers c depth k b asks.registers refl fits in
-      let called = helpers.put c.environment.roots asks m x y fits1.values made.named g.key g.beside_it.shows within in
-      looser s {n = 5} {x = 2 + 0} 5 2 (omega arith) (omega arith)
-      (begins has
+      begins has
       (mov has 0 refl refl
       (load has 1 (k + 1) refl fits.frame (omega arith) refl
       (load has 2 k refl fits.frame (omega arith) refl
-      (ask has 3 refl called.answers (λ paid.
-      let b1 = answered asks called.word called.list (b.values.charge + 2) in
+      (by_limit (result_depth (put_of m x y)) depth_limit
+      (λ within.
+      let called = helpers.put c.environment.roots asks m x y fits.values made.named g.key g.beside_it.shows within in
+      calls has 3 refl called.answers (omega arith) (λ paid.
       let shown = shows_placed c depth k (pos 19) (put_of m x y) 2 b asks.registers (omega arith) refl fits called paid in
       store has 4 k refl shown.fits.frame (omega arith)
-      (done s (q + 5) _ _ (made_stored c depth k (put_of m x y) b b1 (omega arith) within shown))))))))
-  put_by false q a b e has g =
-      let over : depth_limit < result_depth (put_of m x y) = leb-false _ _ e in
-      let most = put_depth m x y in
-      let made = g.beside_it.made in
-      let below = made.within in
-      let deep : depth_limit ≤ result_depth y = omega arith in
-      let asks = set_register (set_register (set_register b R3 (b.registers R0)) R2 (word_at depth (k + 1) b)) R1 (word_at depth k b) in
-      looser s {n = 4} {x = 0} 5 2 (omega arith) (omega arith)
-      (begins has
-      (mov has 0 refl refl
-      (load has 1 (k + 1) refl made.fits.frame (omega arith) refl
-      (load has 2 k refl made.fits.frame (omega arith) refl
-      (refused has 3 refl (helpers.put_deep asks m x y made.named g.key g.beside_it.shows over) (held (le-leb depth_limit (result_depth y) deep)))))))
+      (arrived s refl (made_stored c depth k (put_of m x y) b _ (omega arith) within shown))))
+      (λ over.
+      let most = (grown_depth (entered (Some m) (Some x) (Some y)) (max (result_depth m) (1 + result_depth y)) (enters_by (Some m) (Some x) (Some y))) in
+      refused has 3 refl (helpers.put_deep asks m x y made.named g.key g.beside_it.shows over) (held (le-leb depth_limit (result_depth y) (omega arith))))))))
 
   -- the key, which is kept in word k + 1, and the value
   pair_runs : (p : ℕ) (key part : List Insn) (n1 x1 n2 x2 : ℕ) (b : Body) → Stands s.image.code p (key ++ insn.store (k + 1) R0 ∷ part) → Made c depth k m b → Gives s p key c depth (k + 1) x n1 x1 → Gives s (p + size key + 1) part c depth (k + 2) y n2 x2 → Comes s (n1 + (1 + n2)) (x1 + x2) p b (p + size key + 1 + size part) (Ready c depth k m x y b)
@@ -106,8 +72,7 @@ entry_builds s p k key part c depth x y n1 x1 n2 x2 low held gives_key gives_par
       let keep = insn.store (k + 1) R0 in
       let pair = key ++ keep ∷ part in
       let tail = entry_tail k in
-      let same : pair ++ tail ≡ entry_code key part k = append_assoc key (keep ∷ part) tail in
-      let whole = subst (Stands code p) (sym same) has in
+      let whole = subst (Stands code p) (sym (append_assoc key (keep ∷ part) tail)) has in
       let q = p + size key + 1 + size part in
       let there : p + size pair ≡ q = omega (arith, size-append key (keep ∷ part), size-cons keep part) in
       let place : q + 5 ≡ p + size (entry_code key part k) = omega (arith, size-append key (keep ∷ (part ++ tail)), size-cons keep (part ++ tail), size-append part tail) in
@@ -116,7 +81,7 @@ entry_builds s p k key part c depth x y n1 x1 n2 x2 low held gives_key gives_par
       (looser s {n = n1 + (1 + n2) + 5} {x = x1 + x2 + 2} (n1 + (1 + n2 + 5)) (x1 + (x2 + 2)) (omega arith) (omega arith)
       (and_then s 5 2 (q + 5) Q (pair_runs s k c depth low m x y held p key part n1 x1 n2 x2 b (stands_front code p pair tail whole) made gives_key gives_part) (λ b1 g1.
       into s Q (λ b2 g2. record { made = g2.made; shows = g2.shows; keeps = keeps_then (omega arith) g1.beside_it.keeps g2.keeps })
-      (put_by s k c depth low m x y held (nat_le (result_depth (put_of m x y)) depth_limit) q b b1 refl (subst (λ (i : ℕ). Stands code i tail) there (stands_back code p pair tail whole)) g1))));
+      (put_by s k c depth low m x y held q b b1 (subst (λ (i : ℕ). Stands code i tail) there (stands_back code p pair tail whole)) g1))));
 }
 
 -- ---- the literal
@@ -132,7 +97,7 @@ more_entries s p k key part parts c depth x y es n1 x1 n2 x2 n3 x3 low held give
 
 pub map_gives : MapGives
 map_gives = record {
-  none = builds_nothing;
+  none = grind (arith, to_place, done, keeps_same);
   more = more_entries;
   whole = λ s p k parts c depth es n x low builds.
       subst (λ (y : ValueOrError). Gives s p (map_code parts k) c depth k y (2 + n) (1 + x)) (map_is es)

@@ -1,75 +1,77 @@
--- The rows of the helpers say what the meaning of CEL's operations does.
-use Rattle.std.proofs.Common.{◌≡◌, ℕ, suc, ◌<◌, ◌≤◌, List, ◌∷◌, ◌++◌, length, Option, Some, None, not, refl, arith}
-use Rattle.std.specs.Prelude.{pos, option_map, slice_get}
+-- What a call leaves, by what its helper's row says, and what the rows say of the meaning of CEL's operations.
+use Rattle.codegen_base.proofs.Prelude.{arith, ◌≡◌, ℕ, ◌+◌, ◌^◌, ◌<◌, ◌≤◌, List, [], ◌∷◌, Option, Some, None, Bool, true, false, refl, sym, ap, ◌∙◌, subst, suc, ◌++◌, length, ℤ, All, nat_le, if◌then◌else◌, option_map, slice_get, le-leb, outcome_of, Extends, Names, HelperAnswer, Leaves, Outcome, Plain, Named, answer_among, charged, truth_word, named, Refused, IsTable, placed_extends, placed_is_named, same, tables_are_kept, F8, charge_limit, Value, ValueOrError, error, value, boolean, text, list, Items, items_join, truth_or_error, value_or_error, Body, Places, Tells, arguments_in, length-map, depth_limit, grown, sequence, on_texts, item_or_key, count_word, count_part, text_part, joined, seen, depth_of, result_depth, TextTest, text_test_of, range_of, join_of, joined_length}
 use Rattle.std.specs.Prelude.{map as each}
-use Rattle.std.proofs.lemmas.Bool.{le-leb}
-use Rattle.std.proofs.lemmas.List.{length-map}
-use Rattle.guest_memory.specs.declared.fault.Fault.TheVariants.{F8}
-use Rattle.helper_table.specs.Building.{depth_limit, grown, sequence}
-use Rattle.helper_table.specs.Comparisons.{on_texts}
+use Rattle.helper_table.specs.Outcome.{Gives, Halts, truth}
+use Rattle.codegen_base.proofs.Values.{names_error, names_no, names_yes}
+use Rattle.cel_macros.specs.Functions.{holds_of}
 use Rattle.helper_table.specs.Comparisons as row
-use Rattle.helper_table.specs.Lookups.{value_under, part_by, size_part, item_or_key, count_word}
-use Rattle.helper_table.specs.Operands.{count_part, text_part, truth_part}
-use Rattle.helper_table.specs.Outcome.{Refused}
-use Rattle.value_store.specs.Calls.{entries_at, equal_at, less_at, member_at, joined}
 use Rattle.value_store.specs.Calls as store
-use Rattle.value_store.specs.Lookup.{has_key}
-use Rattle.value_store.specs.Seen.{seen}
-use Rattle.value_store.specs.Size.{depth_of, result_depth}
-use Rattle.value_store.specs.Value.{Value, ValueOrError, value, int, text, list, Items, items_join}
-use Rattle.cel_macros.specs.Comparison.{equal_of, less_of, member_of, truth_or_error}
-use Rattle.cel_macros.specs.Environment.{value_or_error}
-use Rattle.cel_macros.specs.FoldMeaning.{pushed}
-use Rattle.cel_macros.specs.Functions.{TextTest, holds_of, size_of, text_test_of}
 use Rattle.cel_macros.specs.Functions as meant
 use Rattle.cel_macros.specs.Literals as literal
-use Rattle.cel_macros.specs.Logic.{not_of}
-use Rattle.cel_macros.specs.Macros.{range_of}
-use Rattle.cel_macros.specs.Selection.{field_of, has_of, index_of}
-use Rattle.codegen_base.specs.Helpers.{join_of, joined_length}
-use Rattle.codegen_base.proofs.Answers.{IsNamed, Placed, Missing}
+
+-- an outcome names the value or the error
+pub data IsNamed (x : ValueOrError) (added : ℕ) (o : Outcome) : Type 0 where
+  Placed : (v : Value) → o ≡ Named v added → x ≡ value v → IsNamed x added o
+  Missing : o ≡ Plain 0 added → x ≡ error → IsNamed x added o
+  Decided : (b : Bool) → o ≡ Plain (truth_word (Some b)) added → x ≡ value (boolean b) → IsNamed x added o
+
+pub named_is : (v : Option Value) (added : ℕ) → IsNamed (value_or_error v) added (named v added)
+named_is (Some v) added = Placed v refl refl
+named_is None added = Missing refl refl
+
+pub truth_is : (b : Option Bool) → IsNamed (truth_or_error b) 0 (truth b)
+truth_is (Some b) = Decided b refl refl
+truth_is None = Missing refl refl
+
+-- three words, and zeros for the two registers that no row reads
+pub three : (a b c : ℕ) → a < 2 ^ 64 → b < 2 ^ 64 → c < 2 ^ 64 → All (λ w. w < 2 ^ 64) (a ∷ b ∷ c ∷ 0 ∷ 0 ∷ [])
+three a b c ha hb hc = grind arith
+
+-- a call within the limit leaves what its row says, which is a table again; the words that the row does not read may be any
+module _ (helper : ℤ) (b : Body) (args : List ℕ) (words : All (λ w. w < 2 ^ 64) args) (table : IsTable b.values) where
+  abbrev said : Outcome
+  said = outcome_of helper args b.values.values b.memory.constants
+
+  within : (w added : ℕ) (vs : List ValueOrError) → b.values.charge + (1 + added) ≤ charge_limit → (if nat_le (b.values.charge + (1 + added)) charge_limit then Leaves w (record { values = vs; charge = b.values.charge + (1 + added) }) else Halts F8) ≡ Leaves w (record { values = vs; charge = b.values.charge + (1 + added) })
+  within w added vs paid = rw (le-leb (b.values.charge + (1 + added)) charge_limit paid) refl
+
+  -- a word and values that the row answers are a table's
+  after : (w added : ℕ) (vs : List ValueOrError) → answer_among b.values.values said ≡ Gives w vs (1 + added) → b.values.charge + (1 + added) ≤ charge_limit → IsTable (record { values = vs; charge = b.values.charge + (1 + added) })
+  after w added vs e paid =
+      (tables_are_kept helper args b.values (record { values = vs; charge = b.values.charge + (1 + added) }) b.memory.constants w words table (ap (λ (a : HelperAnswer). charged a b.values.charge) e ∙ within w added vs paid)).1
+
+  pub tells : (w added : ℕ) → outcome_of helper (arguments_in b) b.values.values b.memory.constants ≡ said → said ≡ Plain w added → Tells helper b w (1 + added)
+  tells w added clean e = record { answers = ap (answer_among b.values.values) (clean ∙ e); table = after w added _ (ap (answer_among b.values.values) e) }
+
+  names_truth : (t : Bool) → Names b.values.values (truth_word (Some t)) (value (boolean t))
+  names_truth true = names_yes b.values table.store
+  names_truth false = names_no b.values table.store
+
+  leaves : (x : ValueOrError) (added w : ℕ) (vs : List ValueOrError) → outcome_of helper (arguments_in b) b.values.values b.memory.constants ≡ said → answer_among b.values.values said ≡ Gives w vs (1 + added)
+      → Names vs w x → Extends b.values.values vs → Places helper b x (1 + added)
+  leaves x added w vs clean e names extends = record { word = w; list = vs; answers = ap (answer_among b.values.values) clean ∙ e; names = names; extends = extends; table = after w added vs e }
+
+  places_by : (x : ValueOrError) (added : ℕ) → outcome_of helper (arguments_in b) b.values.values b.memory.constants ≡ said → IsNamed x added said → Places helper b x (1 + added)
+  places_by x added clean (Placed v e is) =
+      leaves x added _ _ clean (ap (answer_among b.values.values) e) (rw is (placed_is_named b.values v table.store)) (placed_extends b.values.values v)
+  places_by x added clean (Missing e is) = leaves x added _ _ clean (ap (answer_among b.values.values) e) (rw is (names_error b.values table.store)) (same b.values.values)
+  places_by x added clean (Decided t e is) = leaves x added _ _ clean (ap (answer_among b.values.values) e) (rw is (names_truth t)) (same b.values.values)
+
+  -- where the row says a known outcome
+  pub places : (o : Outcome) (x : ValueOrError) (added : ℕ) → outcome_of helper (arguments_in b) b.values.values b.memory.constants ≡ said → said ≡ o → IsNamed x added o → Places helper b x (1 + added)
+  places o x added clean e is = places_by x added clean (subst (IsNamed x added) (sym e) is)
 
 -- ---- each row says what the operation means
-
-pub field_is : (x : ValueOrError) (key : List ℕ) → field_of x key ≡ value_or_error (value_under (Some x) key)
-field_is x key = grind arith
-
-pub has_is : (x : ValueOrError) (key : List ℕ) → has_of x key ≡ truth_or_error (option_map (has_key key) (entries_at (Some x)))
-has_is x key = grind arith
-
-pub index_is : (x k : ValueOrError) → index_of x k ≡ value_or_error (part_by (seen x) (seen k) (Some x))
-index_is x k = grind arith
-
-pub size_is : (x : ValueOrError) → size_of x ≡ value_or_error (option_map (λ n. int (pos n)) (size_part (seen x)))
-size_is x = grind arith
-
-pub equal_is : (x y : ValueOrError) → equal_of x y ≡ truth_or_error (equal_at (Some x) (Some y))
-equal_is x y = grind arith
-
-pub less_is : (x y : ValueOrError) → less_of x y ≡ truth_or_error (less_at (Some x) (Some y))
-less_is x y = grind arith
-
-pub member_is : (x y : ValueOrError) → member_of x y ≡ truth_or_error (member_at (Some x) (Some y))
-member_is x y = grind arith
-
-pub not_is : (x : ValueOrError) → not_of x ≡ truth_or_error (option_map not (truth_part (seen x)))
-not_is x = grind arith
 
 -- the text, where there is one, is the same to the row as to the meaning
 text_is : (x : ValueOrError) → literal.text_part x ≡ text_part (seen x)
 text_is x = grind arith
 
-test_texts_is : (t : TextTest) (a b : Option (List ℕ)) → meant.test_texts (Some t) a b ≡ truth_or_error (on_texts (holds_of t) a b)
-test_texts_is t a b = grind arith
-
 pub test_is : (t : TextTest) (x y : ValueOrError) → text_test_of (Some t) x y ≡ truth_or_error (on_texts (holds_of t) (text_part (seen x)) (text_part (seen y)))
-test_is t x y = rw (text_is x, text_is y) (test_texts_is t (text_part (seen x)) (text_part (seen y)))
+test_is t x y = rw (text_is x, text_is y) (grind arith)
 
 pub contains_texts : (a b : Option (List ℕ)) → on_texts row.contains a b ≡ on_texts meant.contains a b
 contains_texts a b = grind arith
-
-pub pushed_is : (l x : ValueOrError) → pushed l x ≡ value_or_error (store.pushed (Some l) (Some x))
-pushed_is l x = grind arith
 
 -- what was joined is a text or a list
 abbrev JoinedIs : Option Value → Type 0
@@ -110,6 +112,3 @@ item_is x items i range = grind (arith, each_item)
 
 pub count_is : (x : ValueOrError) (items : List Value) → range_of x ≡ Some items → count_word (count_part (seen x)) ≡ length items
 count_is x items range = grind (arith, length-map)
-
-pub no_count_is : (x : ValueOrError) → range_of x ≡ None → count_word (count_part (seen x)) ≡ 0xffff_ffff_ffff_ffff
-no_count_is x h = grind arith

@@ -1,42 +1,15 @@
 -- The code of negatives gives their meaning.
-use Rattle.std.proofs.Common.{◌≡◌, ℕ, suc, ◌+◌, ◌≤◌, List, Option, Some, None, false, refl, ap, ◌∙◌, subst, arith}
-use Rattle.std.specs.Prelude.{ℤ, pos, neg_ℤ, slice_get}
-use Rattle.std.specs.Int.{w64, cast_signed}
-use Rattle.helper_table.specs.Conversions.{kind_number}
-use Rattle.helper_table.specs.Laws.{Names}
-use Rattle.insn_codec.specs.declared.comparison.Comparison.TheVariants.{Eq}
-use Rattle.insn_codec.specs.declared.insn.Insn.{Insn}
-use Rattle.insn_codec.specs.declared.insn.Insn.TheVariants.{Neg}
-use Rattle.insn_codec.specs.declared.register.Register.{Register}
-use Rattle.insn_codec.specs.declared.register.Register.TheVariants.{R1, R2, R6}
-use Rattle.insn_codec.specs.declared.width.Width.{Width}
-use Rattle.insn_codec.specs.declared.width.Width.TheVariants.{W64}
+use Rattle.codegen_base.proofs.Prelude.{◌≡◌, ℕ, suc, ◌+◌, ◌≤◌, List, Some, None, false, refl, ap, ◌∙◌, subst, arith, ℤ, pos, neg_ℤ, slice_get, w64, cast_signed, kind_number, Names, Eq, Insn, Neg, Register, R1, R2, R6, Width, W64, seen, ValueOrError, error, value, int, neg_row, is_frame_pointer, compares, negated, int_or_error, int_part, Body, at, set_register, Tells, answered, least_word, negation_tail, Context, Fits, Shows, Setting, Comes, NegationGives, Stands, slots}
 use Rattle.loader.specs.Contents as loader
-use Rattle.value_store.specs.Seen.{seen}
-use Rattle.value_store.specs.Value.{ValueOrError, error, value, int}
-use Rattle.bpf_machine.specs.Arithmetic.{neg_row}
-use Rattle.bpf_machine.specs.Operands.{is_frame_pointer}
-use Rattle.bpf_machine.specs.Words.{compares, negated}
-use Rattle.cel_macros.specs.Arithmetic.{int_or_error, int_part, negation}
-use Rattle.codegen_base.specs.Body.{Body, at, set_register}
-use Rattle.codegen_base.specs.Calls.{answered}
-use Rattle.codegen_base.specs.Code.Arithmetic.{least_word, negation_tail}
-use Rattle.codegen_base.specs.Contexts.{Context, Fits, Shows, variable_count}
-use Rattle.codegen_base.specs.Engine.{Setting, Comes}
-use Rattle.codegen_base.specs.Gives.Arithmetic.{NegationGives}
-use Rattle.codegen_base.specs.Pieces.{Stands, slots}
-use Rattle.codegen_base.proofs.Additions.{int_fits}
+use Rattle.codegen_base.proofs.Additions.{answers_error, answers_int, int_fits}
 use Rattle.codegen_base.proofs.Effects.{does}
-use Rattle.codegen_base.proofs.Frames.{fits_registers, keeps_registers, keeps_then}
 use Rattle.codegen_base.proofs.HelperAnswers.{helpers}
-use Rattle.codegen_base.proofs.IntWords.{Negated, least, negated_is, word}
-use Rattle.codegen_base.proofs.Ints.{exact, fits_is, over}
-use Rattle.codegen_base.proofs.Listings.{ask, begins, load_wide, mov, no, yes}
-use Rattle.codegen_base.proofs.Loops.{either}
-use Rattle.codegen_base.proofs.Operands.{fits_told, int_is, keeps_told, kind_of_int, kind_of_other}
+use Rattle.codegen_base.proofs.Ints.{Negated, exact, fits_is, least, negated_is, over, word}
+use Rattle.codegen_base.proofs.Listings.{begins, branch, calls, load_wide, mov, no, yes}
+use Rattle.codegen_base.proofs.Operands.{int_is, kind_of_int, kind_of_other}
 use Rattle.codegen_base.proofs.Pieces.{shown_behind}
-use Rattle.codegen_base.proofs.Runs.{looser, one}
-use Rattle.codegen_base.proofs.Sums.{answers_error, answers_int}
+use Rattle.codegen_base.proofs.Runs.{one}
+use Rattle.codegen_base.proofs.Frames.{Stays, begun, moved, said}
 
 -- ---- the instruction
 
@@ -55,28 +28,24 @@ module _ (s : Setting) (c : Context) (depth base o : ℕ) (low : base ≤ 64) (h
   abbrev asks : Body
   asks = set_register b R1 (b.registers R6)
 
-  fits1 : Fits c depth base asks
-  fits1 = fits_registers c depth base b asks.registers refl fitting
+  stays1 : Stays c depth base b asks
+  stays1 = moved (begun fitting) asks.registers refl
+
+  kind : Tells (pos 1) asks (kind_number (seen x)) 1
+  kind = helpers.kind c.environment.roots asks x stays1.fits.values named
 
   -- an operand that is no int
   of_other : int_part x ≡ None → Comes s 11 3 o b (o + 13) (Shows c depth base error b)
   unfolding negation_tail
   of_other none =
-      let w = kind_number (seen x) in
-      let t = helpers.kind c.environment.roots asks x fits1.values named in
-      let told = answered asks w b.values.values (b.values.charge + 1) in
-      let kept = keeps_then (omega arith) (keeps_registers c depth base b asks.registers refl (variable_count c)) (keeps_told c depth base (pos 1) w 1 asks t) in
-      looser s 11 3 (omega arith) (omega arith) (begins has
+      begins has
       (mov has 0 refl refl
-      (ask has 1 refl t.answers (λ paid.
+      (calls has 1 refl kind.answers (omega arith) (λ paid.
+      let stays = said stays1 kind paid in
       yes has 2 9 refl (kind_of_other x none)
-      (shown_behind s kept
-      (answers_error s c depth base o low negation_tail has 10 refl refl refl told told.registers error refl (fits_told c depth base (pos 1) w 1 asks t paid fits1) refl))))))
+      (shown_behind s stays.keeps (answers_error s c depth base o low negation_tail has 10 refl refl refl _ _ error refl stays.fits refl)))))
 
   module _ (z : ℤ) (is : int_part x ≡ Some z) where
-    holds : Names b.values.values (b.registers R6) (value (int z))
-    holds = subst (Names b.values.values (b.registers R6)) (int_is x z is) named
-
     check : Negated (word z) z
     check = negated_is z (fits_is z (int_fits c depth base (b.registers R6) x z b fitting named is))
 
@@ -86,39 +55,28 @@ module _ (s : Setting) (c : Context) (depth base o : ℕ) (low : base ≤ 64) (h
     of_int : Comes s 11 3 o b (o + 13) (Shows c depth base (int_or_error (neg_ℤ z)) b)
     unfolding negation_tail
     of_int =
-        let charge = b.values.charge in
-        let w = kind_number (seen x) in
-        let t = helpers.kind c.environment.roots asks x fits1.values named in
-        let told = answered asks w b.values.values (charge + 1) in
-        let asks2 = set_register told R1 (b.registers R6) in
-        let told2 = answered asks2 (word z) b.values.values (charge + 1 + 1) in
         begins has
         (mov has 0 refl refl
-        (ask has 1 refl t.answers (λ paid.
-        let fits2 = fits_registers c depth base told asks2.registers refl (fits_told c depth base (pos 1) w 1 asks t paid fits1) in
-        let t2 = helpers.int_of c.environment.roots asks2 z fits2.values holds in
-        let kept = keeps_then (omega arith) (keeps_registers c depth base b asks.registers refl (variable_count c)) (keeps_then (omega arith) (keeps_told c depth base (pos 1) w 1 asks t) (keeps_then (omega arith) (keeps_registers c depth base told asks2.registers refl (variable_count c)) (keeps_told c depth base (pos 2) (word z) 1 asks2 t2))) in
+        (calls has 1 refl kind.answers (omega arith) (λ paid.
+        let asks2 = set_register (answered asks (kind_number (seen x)) b.values.values (b.values.charge + 1)) R1 (b.registers R6) in
+        let stays2 = moved (said stays1 kind paid) asks2.registers refl in
+        let int_of = helpers.int_of c.environment.roots asks2 z stays2.fits.values (subst (Names b.values.values (b.registers R6)) (int_is x z is) named) in
         no has 2 refl (kind_of_int x z is)
         (mov has 3 refl refl
-        (ask has 4 refl t2.answers (λ paid2.
-        let fits3 = fits_told c depth base (pos 2) (word z) 1 asks2 t2 paid2 fits2 in
+        (calls has 4 refl int_of.answers (omega arith) (λ paid2.
+        let stays3 = said stays2 int_of paid2 in
+        let told2 = answered asks2 (word z) b.values.values (b.values.charge + 1 + 1) in
         let loaded = set_register (set_register told2 R1 (word z)) R2 least_word in
         let last = set_register loaded R1 (negated W64 (word z)) in
         mov has 5 refl refl
         (load_wide has 6 refl refl
-        (shown_behind s kept
-        (either (compares W64 Eq (word z) least)
-        (λ lowest. looser s 4 1 (omega arith) (omega arith)
-        (yes has 8 3 refl lowest
-        (answers_error s c depth base o low negation_tail has 10 refl refl refl told2 loaded.registers (int_or_error (neg_ℤ z)) refl fits3 (over (neg_ℤ z) (check.over lowest)))))
-        (λ other. no has 8 refl other
-        (neg has 9 refl refl
-        (answers_int s c depth base o low negation_tail has 10 refl refl refl told2 last.registers (int_or_error (neg_ℤ z)) refl fits3 check.small (exact_is other)))))))))))))
-
-  by_part : (n : Option ℤ) → int_part x ≡ n → Comes s 11 3 o b (o + 13) (Shows c depth base (negation n) b)
-  by_part (Some z) is = of_int z is
-  by_part None is = of_other is
+        (shown_behind s stays3.keeps
+        (branch has 8 3 refl
+        (λ lowest. answers_error s c depth base o low negation_tail has 10 refl refl refl told2 loaded.registers _ refl stays3.fits
+        (over (neg_ℤ z) (check.over lowest)))
+        (λ other. neg has 9 refl refl
+        (answers_int s c depth base o low negation_tail has 10 refl refl refl told2 last.registers _ refl stays3.fits check.small (exact_is other))))))))))))
 
 pub negation_gives : NegationGives
 unfolding negation_tail
-negation_gives s p c depth base x low = grind (arith, by_part)
+negation_gives s p c depth base x low = grind (arith, of_int, of_other)

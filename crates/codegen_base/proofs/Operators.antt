@@ -1,22 +1,7 @@
 -- Operands, and pieces behind them.
-use Rattle.std.proofs.Common.{◌≡◌, ℕ, suc, ◌+◌, ◌≤◌, List, [], ◌∷◌, ◌++◌, refl, arith}
-use Rattle.std.specs.Prelude.{ℤ}
-use Rattle.insn_codec.specs.declared.insn.Insn.{Insn}
-use Rattle.insn_codec.specs.declared.insn.Insn.TheVariants.{Call}
-use Rattle.insn_codec.specs.declared.register.Register.{Register}
-use Rattle.insn_codec.specs.declared.register.Register.TheVariants.{R0, R1, R10}
-use Rattle.value_store.specs.Placing.{charge_limit}
-use Rattle.value_store.specs.Value.{ValueOrError}
-use Rattle.codegen_base.specs.Body.{Body, set_register}
-use Rattle.codegen_base.specs.Calls.{Places, answered}
-use Rattle.codegen_base.specs.Code.Calls.{operand_code, operands_code}
-use Rattle.codegen_base.specs.Contexts.{Context, Fits, Gives, Shows, variable_count}
-use Rattle.codegen_base.specs.Engine.{Setting, Comes}
-use Rattle.codegen_base.specs.Helpers.{Unary}
+use Rattle.codegen_base.proofs.Prelude.{◌≡◌, ℕ, suc, ◌+◌, ◌≤◌, List, [], ◌∷◌, ◌++◌, refl, arith, ℤ, Insn, Call, Register, R0, R1, R10, charge_limit, ValueOrError, Body, set_register, Places, answered, operand_code, operands_code, Context, Fits, Gives, Shows, Setting, Comes, Unary, CallsGive, CombinesThen, Converts, ConvertsThen, OneGives, TwoGives, Stands, size}
 use Rattle.codegen_base.specs.Instructions as insn
-use Rattle.codegen_base.specs.Operators.{CallsGive, CombinesThen, Converts, ConvertsThen, OneGives, TwoGives}
-use Rattle.codegen_base.specs.Pieces.{Stands, size}
-use Rattle.codegen_base.proofs.Frames.{fits_answered, fits_registers, keeps_answered, keeps_registers, keeps_then}
+use Rattle.codegen_base.proofs.Frames.{begun, fits_registers, moved, placed, shown}
 use Rattle.codegen_base.proofs.Listings.{ask, begins, mov}
 use Rattle.codegen_base.proofs.Loaded.{operand_runs, operands_run}
 use Rattle.codegen_base.proofs.Pieces.{runs_both, shown_behind}
@@ -24,15 +9,7 @@ use Rattle.codegen_base.proofs.Runs.{done, looser}
 
 -- a helper has placed its answer in R0, with other registers than at the start
 pub shows_placed : (c : Context) (depth base : ℕ) (helper : ℤ) (x : ValueOrError) (cost : ℕ) (b : Body) (registers : Register → ℕ) → base ≤ 64 → registers R10 ≡ b.registers R10 → Fits c depth base b → (a : Places helper (record b { registers = registers }) x cost) → b.values.charge + cost ≤ charge_limit → Shows c depth base x b (answered (record b { registers = registers }) a.word a.list (b.values.charge + cost))
-shows_placed c depth base helper x cost b registers low pointer fits a paid =
-    let asks = record b { registers = registers } in
-    let charge = b.values.charge + cost in
-    let fits1 = fits_registers c depth base b registers pointer fits in
-    record {
-      shows = a.names;
-      fits = fits_answered depth base a.word charge a.list asks a.extends c (a.table paid) fits1;
-      keeps = keeps_then (omega arith) (keeps_registers c depth base b registers pointer (variable_count c)) (keeps_answered depth base a.word charge a.list asks a.extends (variable_count c));
-    }
+shows_placed c depth base helper x cost b registers low pointer fits a paid = shown (placed (moved (begun fits) registers pointer) a paid) a.names
 
 pub one_gives : OneGives
 one_gives s p l operand piece r c depth base x z n1 x1 n2 x2 free leaf gives converts = record {
@@ -94,8 +71,7 @@ pub call_on_result : (s : Setting) (p : ℕ) (helper : ℤ) (f : ValueOrError �
 call_on_result s p helper f c depth base x low unary = record {
   runs = λ b has fits named.
       let asks = set_register b R1 (b.registers R0) in
-      let fits1 = fits_registers c depth base b asks.registers refl fits in
-      let a = unary c.environment.roots asks x fits1.values named in
+      let a = unary c.environment.roots asks x (fits_registers c depth base b asks.registers refl fits).values named in
       begins has
       (mov has 0 refl refl
       (ask has 1 refl a.answers (λ paid.

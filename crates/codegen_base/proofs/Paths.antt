@@ -1,31 +1,14 @@
 -- A path that word 0 of the frame keeps.
-use Rattle.std.proofs.Common.{◌≡◌, ℕ, suc, ◌+◌, List, [], ◌∷◌, ◌++◌, length, Some, refl, sym, subst, arith}
-use Rattle.helper_table.specs.Laws.{Names}
-use Rattle.insn_codec.specs.declared.insn.Insn.{Insn}
-use Rattle.insn_codec.specs.declared.register.Register.TheVariants.{R0, R1}
-use Rattle.value_store.specs.Value.{ValueOrError}
-use Rattle.cel_macros.specs.Environment.{Environment, name_value}
-use Rattle.codegen_base.specs.Body.{Body}
-use Rattle.codegen_base.specs.Code.Calls.{operand_code}
-use Rattle.codegen_base.specs.Code.Leaves.{leaf_code}
-use Rattle.codegen_base.specs.Code.Names.{name_leaf}
-use Rattle.codegen_base.specs.Code.Selection.{field_tail}
-use Rattle.codegen_base.specs.Contexts.{Context, Fits, Gives, Shows}
-use Rattle.codegen_base.specs.Engine.{Setting, Comes}
-use Rattle.codegen_base.specs.Gives.Paths.{PathsGive, kept_path_code, outside, path_in}
-use Rattle.codegen_base.specs.Gives.Selection.{HasText}
+use Rattle.codegen_base.proofs.Prelude.{◌≡◌, ℕ, suc, ◌+◌, List, [], ◌∷◌, ◌++◌, length, Some, refl, sym, subst, arith, Names, Insn, R0, R1, ValueOrError, Environment, name_value, Body, operand_code, leaf_code, name_leaf, field_tail, Context, Fits, Gives, Shows, Setting, Comes, PathsGive, kept_path_code, outside, path_in, HasText, Path, nothing_kept, with_path, Stands, size, set_word, word_at}
 use Rattle.codegen_base.specs.Instructions as insn
-use Rattle.codegen_base.specs.Paths.{Path, nothing_kept, with_path}
-use Rattle.codegen_base.specs.Pieces.{Stands, size}
-use Rattle.codegen_base.specs.Words.{set_word, word_at}
-use Rattle.codegen_base.proofs.Frames.{fits_above, keeps_then, shows_after, stored}
+use Rattle.codegen_base.proofs.Frames.{keeps_then, shows_after, stored}
 use Rattle.codegen_base.proofs.Leaves.{leaves_give, leaves_name}
 use Rattle.codegen_base.proofs.Operators.{one_gives}
-use Rattle.codegen_base.proofs.Pieces.{size-append, size-cons, stands_back, stands_first, stands_front, stands_rest}
+use Rattle.codegen_base.proofs.Pieces.{size-append, size-cons, stands_back, stands_front, stands_rest}
 use Rattle.codegen_base.proofs.Runs.{and_then, into, looser, to_place}
 use Rattle.codegen_base.proofs.Selection.{selection_gives}
-use Rattle.codegen_base.proofs.Steps as step
 use Rattle.codegen_base.proofs.Values.{small_reference}
+use Rattle.codegen_base.proofs.Listings.{begins, store}
 
 module _ (s : Setting) (depth address : ℕ) (path : Path) (rest : List Insn) (environment : Environment) (constants : List ℕ) (x : ValueOrError) (n m : ℕ) where
   abbrev c : Context
@@ -34,34 +17,9 @@ module _ (s : Setting) (depth address : ℕ) (path : Path) (rest : List Insn) (e
   abbrev c1 : Context
   c1 = outside environment constants (with_path path)
 
-  fits_keeping : (b : Body) → Fits c depth 0 b → Names b.values.values (word_at depth 0 b) (path_in path c) → Fits c1 depth 1 b
-  fits_keeping b fits named =
-      let above = fits_above c depth 0 1 b (omega arith) fits in
-      record {
-        frame = above.frame;
-        values = above.values;
-        holds = record {
-          names = above.holds.names;
-          path = λ y at. let same : path ≡ y = cc in (omega arith, subst (λ (z : Path). Names b.values.values (word_at depth 0 b) (path_in z c)) same named);
-          memos = above.holds.memos;
-        };
-        constants = above.constants;
-      }
-
   -- without the path
   shows_without : (old new : Body) → Shows c1 depth 1 x old new → Shows c depth 1 x old new
-  shows_without old new shown =
-      let fits = shown.fits in
-      record {
-        shows = shown.shows;
-        fits = record {
-          frame = fits.frame;
-          values = fits.values;
-          holds = record { names = fits.holds.names; path = λ y at. absurd (cc); memos = fits.holds.memos };
-          constants = fits.constants;
-        };
-        keeps = shown.keeps;
-      }
+  shows_without old new shown = grind arith
 
   keeps_path : (q : ℕ) (b : Body) → Stands s.image.code q (insn.store 0 R0 ∷ rest) → Fits c depth 0 b → Names b.values.values (b.registers R0) (path_in path c) → Gives s (q + 1) rest c1 depth 1 x n m → Comes s (1 + n) m q b (q + 1 + size rest) (Shows c depth 0 x b)
   keeps_path q b has fits named gives =
@@ -70,9 +28,10 @@ module _ (s : Setting) (depth address : ℕ) (path : Path) (rest : List Insn) (e
       let b1 = set_word depth 0 r b in
       let kept : Names b1.values.values (word_at depth 0 b1) (path_in path c) = subst (λ (w : ℕ). Names b.values.values w (path_in path c)) (sym stored1.here) named in
       looser s {n = suc n} {x = m} (1 + n) m (omega arith) (omega arith)
-      (step.store s q (q + 1) b depth 0 R0 (stands_first s.image.code q (insn.store 0 R0) rest has) fits.frame (omega arith) refl
+      (begins has
+      (store has 0 0 refl fits.frame (omega arith)
       (into s (Shows c depth 0 x b) (λ b2 g2. shows_after (omega arith) (omega arith) stored1.keeps (shows_without b1 b2 g2) stored1.fits)
-      (gives.runs b1 (stands_rest s.image.code q (insn.store 0 R0) rest has) (fits_keeping b1 stored1.fits kept))))
+      (gives.runs b1 (stands_rest s.image.code q (insn.store 0 R0) rest has) (grind arith)))))
 
   abbrev front : List Insn
   front = operand_code (Some (name_leaf path.root [])) (leaf_code (name_leaf path.root [])) R1 ++ field_tail address (length path.field)
@@ -101,7 +60,4 @@ module _ (s : Setting) (depth address : ℕ) (path : Path) (rest : List Insn) (e
   }
 
 pub paths_give : PathsGive
-paths_give = record {
-  names = λ c depth base path kept b fits. (omega arith, (fits.holds.path path kept).1);
-  kept = λ s p depth address path rest environment constants x n m text gives. kept_gives s depth address path rest environment constants x n m p text gives;
-}
+paths_give = grind (arith, kept_gives)

@@ -1,25 +1,11 @@
 -- Products, quotients and remainders of ints as words, and what shows that a product is no int.
-use lib.IntN.{+ℤ_invr, *ℤ-zero, zero-*ℤ, pos-*ℤ-pos, pos-*ℤ-negsuc, negsuc-*ℤ-pos, negsuc-*ℤ-negsuc}
+use lib.IntN.{+ℤ_invr, *ℤ-zero, zero-*ℤ, pos-*ℤ-pos}
 use lib.Signed.{mag_rem}
-use Rattle.std.proofs.Common.{◌≡◌, ℕ, zero, suc, ◌+◌, ◌-◌, ◌*◌, ◌/◌, ◌%◌, ◌^◌, ◌<◌, ◌≤◌, ◌⊎◌, inl, inr, Bool, true, false, not, refl, sym, ap, ap₂, ◌∙◌, arith, ne_eqb, mod-lt, div-le_self, div-add-mod', mul-div_cancel, mul-le-mul_left, suc-mul}
-use Rattle.std.specs.Prelude.{ℤ, pos, negsuc, ◌+ℤ◌, ◌*ℤ◌, neg_ℤ, int_div, int_rem, nat_lt, if◌then◌else◌}
-use Rattle.std.specs.Int.{w64, int_wrap}
-use Rattle.std.proofs.lemmas.Int.{ints, int_wrap_fits, int_wrap-add_same, quot-rem, rem_below, wrapping_mul-bits}
-use Rattle.bpf_word.specs.Arithmetic.{alu64_of, operated}
-use Rattle.bpf_word.specs.Signs.{word_of}
-use Rattle.bpf_word.proofs.Casts.{signed_is, word_is}
-use Rattle.insn_codec.specs.declared.alu_op.AluOp.{AluOp}
-use Rattle.insn_codec.specs.declared.alu_op.AluOp.TheVariants.{Mul, Sdiv, Smod}
-use Rattle.insn_codec.specs.declared.comparison.Comparison.TheVariants.{Eq, Ne}
-use Rattle.insn_codec.specs.declared.width.Width.TheVariants.{W64}
-use Rattle.value_store.specs.Value.{ValueOrError, error, value, int}
-use Rattle.cel_macros.specs.Arithmetic.{fits, int_or_error, is_zero, quotient, remainder}
-use Rattle.bpf_machine.specs.Words.{alu_result, compares}
-use Rattle.codegen_base.proofs.Effects.{differs_no, differs_yes}
-use Rattle.codegen_base.proofs.IntWords.{different, fits_into, from_word, is_nothing, is_something, least, minus_one, not_different, not_equal, number, number_fits, number_word, word, word_small}
-use Rattle.codegen_base.proofs.Effects.{equal_is}
-use Rattle.codegen_base.proofs.Ints.{fits_is}
-use Rattle.codegen_base.proofs.Loops.{either}
+use Rattle.codegen_base.proofs.Prelude.{◌≡◌, ℕ, zero, suc, ◌+◌, ◌-◌, ◌*◌, ◌/◌, ◌%◌, ◌^◌, ◌<◌, ◌⊎◌, Bool, true, false, not, refl, sym, ap, ap₂, ◌∙◌, arith, mod-lt, mul-div_cancel, suc-mul, ℤ, pos, negsuc, ◌+ℤ◌, ◌*ℤ◌, neg_ℤ, int_div, int_rem, if◌then◌else◌, w64, int_wrap, ints, int_wrap_fits, int_wrap-add_same, quot-rem, rem_below, wrapping_mul-bits, alu64_of, operated, word_of, signed_is, word_is, AluOp, Mul, Sdiv, Smod, Eq, Ne, W64, ValueOrError, error, value, int, fits, int_or_error, is_zero, quotient, remainder, alu_result, compares}
+use Rattle.std.proofs.Common.{ne_eqb}
+use Rattle.codegen_base.proofs.Effects.{differs_no, differs_yes, equal_is}
+use Rattle.codegen_base.proofs.Ints.{different, fits_into, fits_is, from_word, is_nothing, is_something, least, minus_one, not_different, not_equal, number, number_word, word, word_fits}
+use Rattle.codegen_base.proofs.Runs.{either}
 
 -- ---- quotients, and dividing products back
 
@@ -33,18 +19,9 @@ first_factor : (x y : ℤ) → (y ≡ pos 0 → ⊥) → int_div (x *ℤ y) y �
 first_factor x (pos zero) some = absurd (some refl)
 first_factor (pos a) (pos (suc b)) some = ap (λ (z : ℤ). int_div z (pos (suc b))) (pos-*ℤ-pos a (suc b)) ∙ ap pos (cancel a b)
 first_factor (pos zero) (negsuc b) some = ap (λ (z : ℤ). int_div z (negsuc b)) (zero-*ℤ (negsuc b)) ∙ ap (λ (n : ℕ). neg_ℤ (pos n)) (none b)
-first_factor (pos (suc a)) (negsuc b) some =
-    let m = a * suc b + b in
-    let times : suc a * suc b ≡ suc m = omega (arith, suc-mul a (suc b)) in
-    ap (λ (z : ℤ). int_div z (negsuc b)) (pos-*ℤ-negsuc (suc a) b ∙ ap (λ (n : ℕ). neg_ℤ (pos n)) times) ∙ ap (λ (n : ℕ). pos (n / suc b)) (sym times)
-    ∙ ap pos (cancel (suc a) b)
-first_factor (negsuc a) (pos (suc b)) some =
-    let m = a * suc b + b in
-    let times : suc a * suc b ≡ suc m = omega (arith, suc-mul a (suc b)) in
-    ap (λ (z : ℤ). int_div z (pos (suc b))) (negsuc-*ℤ-pos a (suc b) ∙ ap (λ (n : ℕ). neg_ℤ (pos n)) times)
-    ∙ ap (λ (n : ℕ). neg_ℤ (pos (n / suc b))) (sym times) ∙ ap (λ (n : ℕ). neg_ℤ (pos n)) (cancel (suc a) b)
-first_factor (negsuc a) (negsuc b) some =
-    ap (λ (z : ℤ). int_div z (negsuc b)) (negsuc-*ℤ-negsuc a b) ∙ ap (λ (n : ℕ). neg_ℤ (pos n)) (cancel (suc a) b)
+first_factor (pos (suc a)) (negsuc b) some = grind (arith, suc-mul, cancel)
+first_factor (negsuc a) (pos (suc b)) some = grind (arith, suc-mul, cancel)
+first_factor (negsuc a) (negsuc b) some = grind (arith, cancel)
 
 -- a quotient is no greater than its dividend, and less but for divisors of 1 and -1
 quotient_small : (x y : ℤ) → fits x ≡ true → (x ≡ negsuc (2 ^ 63 - 1) → y ≡ negsuc 0 → ⊥) → fits (int_div x y) ≡ true
@@ -53,25 +30,15 @@ quotient_small x y small far = grind (arith, ints, cancel, either)
 -- where a quotient of two ints has the word of x, it is x, unless the divisor is -1 and x the least int
 same_quotient : (t x y : ℤ) → fits t ≡ true → fits x ≡ true → (x ≡ negsuc (2 ^ 63 - 1) → y ≡ negsuc 0 → ⊥) → word_of 64 (int_div t y) ≡ word x → int_div t y ≡ x
 unfolding word_of
-same_quotient (pos a) x (pos b) ht hx far e = let small = div-le_self a b in grind (arith, ints)
-same_quotient (pos a) x (negsuc b) ht hx far e = let small = div-le_self a (suc b) in grind (arith, ints)
-same_quotient (negsuc a) x (pos b) ht hx far e = let small = div-le_self (suc a) b in grind (arith, ints)
-same_quotient (negsuc a) x (negsuc zero) ht hx far e =
-    let one = cancel (suc a) 0 in
-    either (nat_lt (suc a) (2 ^ 63)) (λ t. grind (arith, ints)) (λ f. absurd (far (grind (arith, ints)) refl))
-same_quotient (negsuc a) x (negsuc (suc b)) ht hx far e =
-    let whole = div-add-mod' (suc a) (suc (suc b)) in
-    let two : ((suc a) / suc (suc b)) * 2 ≤ ((suc a) / suc (suc b)) * suc (suc b) = mul-le-mul_left ((suc a) / suc (suc b)) (omega arith) in
-    grind (arith, ints)
+same_quotient t x y ht hx far e = grind arith
 
 -- two ints that are the same once wrapped, and are an int apart, are the same
 no_rest : (m r t : ℤ) → m +ℤ r ≡ t → int_wrap w64 t ≡ int_wrap w64 m → fits r ≡ true → t ≡ m
 no_rest m r t whole same fit =
     let rest : t +ℤ neg_ℤ m ≡ r = omega (arith, ints) in
     let shifted : int_wrap w64 (t +ℤ neg_ℤ m) ≡ int_wrap w64 (m +ℤ neg_ℤ m) = int_wrap-add_same w64 t m (neg_ℤ m) same in
-    let zero_wrapped : int_wrap w64 (pos 0) ≡ pos 0 = int_wrap_fits w64 (pos 0) (fits_into (pos 0) refl) in
     let nothing : r ≡ pos 0 = sym (int_wrap_fits w64 r (fits_into r fit)) ∙ ap (int_wrap w64) (sym rest) ∙ shifted ∙ ap (int_wrap w64) (+ℤ_invr m)
-    ∙ zero_wrapped in
+    ∙ (int_wrap_fits w64 (pos 0) (fits_into (pos 0) refl)) in
     omega (arith, ints)
 
 -- the divisor is not -1, or the dividend not the least int
@@ -79,8 +46,7 @@ abbrev pub IsFar : ℕ → ℕ → Type 0
 IsFar a b = (compares W64 Ne b minus_one ≡ true) ⊎ (compares W64 Eq a least ≡ false)
 
 far_from : (x y : ℤ) → IsFar (word x) (word y) → x ≡ negsuc (2 ^ 63 - 1) → y ≡ negsuc 0 → ⊥
-far_from x y (inl h) ex ey = different (word y) minus_one h (ap word ey)
-far_from x y (inr h) ex ey = not_equal (word x) least h (ap word ex)
+far_from x y h ex ey = grind (arith, different, word, minus_one, not_equal, least)
 
 quotient_computed : (a b : ℕ) → a < 2 ^ 64 → b < 2 ^ 64 → (b ≡ 0 → ⊥) → alu_result W64 Sdiv a b ≡ word_of 64 (int_div (number a) (number b))
 unfolding alu64_of operated
@@ -111,7 +77,7 @@ module _ (x y : ℤ) (hx : fits x ≡ true) (hy : fits y ≡ true) where
   times_small = mod-lt (word x * word y) (omega arith)
 
   times_wraps : number times ≡ int_wrap w64 (x *ℤ y)
-  times_wraps = wrapping_mul-bits w64 (word x) (word y) (word_small x hx) (word_small y hy) ∙ (λ i. int_wrap w64 (number_word x hx i *ℤ number_word y hy i))
+  times_wraps = wrapping_mul-bits w64 (word x) (word y) (word_fits x hx) (word_fits y hy) ∙ (λ i. int_wrap w64 (number_word x hx i *ℤ number_word y hy i))
 
   times_word : fits (x *ℤ y) ≡ true → number times ≡ x *ℤ y
   times_word h = times_wraps ∙ int_wrap_fits w64 (x *ℤ y) (fits_into (x *ℤ y) h)
@@ -128,10 +94,10 @@ module _ (x y : ℤ) (hx : fits x ≡ true) (hy : fits y ≡ true) where
   divides_back some e =
       let t = number times in
       let whole : x *ℤ y +ℤ int_rem t y ≡ t = ap (λ (q : ℤ). q *ℤ y +ℤ int_rem t y) (sym e) ∙ quot-rem t y in
-      no_rest (x *ℤ y) (int_rem t y) t whole (int_wrap_fits w64 t (fits_into t (number_fits times)) ∙ times_wraps) (rest_fits some)
+      no_rest (x *ℤ y) (int_rem t y) t whole (int_wrap_fits w64 t (fits_into t (grind (arith, ints))) ∙ times_wraps) (rest_fits some)
 
   back_computed : (y ≡ pos 0 → ⊥) → compares W64 Eq (word y) 0 ≡ false → alu_result W64 Sdiv times (word y) ≡ word_of 64 (int_div (number times) y)
-  back_computed some h = grind (arith, quotient_computed, times_small, word_small, not_equal, number_word)
+  back_computed some h = grind (arith, quotient_computed, times_small, word_fits, not_equal, number_word)
 
   back_tells : (f : Bool) → fits (x *ℤ y) ≡ f → compares W64 Eq (word y) 0 ≡ false → IsFar (word x) (word y)
       → compares W64 Ne (alu_result W64 Sdiv times (word y)) (word x) ≡ not f
@@ -141,12 +107,9 @@ module _ (x y : ℤ) (hx : fits x ≡ true) (hy : fits y ≡ true) where
   back_tells false e h far =
       let some = is_something y hy h in
       differs_yes (alu_result W64 Sdiv times (word y)) (word x) (λ same.
-      let quotient_is_x = same_quotient (number times) x y (number_fits times) hx (far_from x y far) (sym (back_computed some h) ∙ same) in
-      let yes : fits (x *ℤ y) ≡ true = ap fits (sym (divides_back some quotient_is_x)) ∙ number_fits times in
+      let quotient_is_x = same_quotient (number times) x y (grind (arith, ints)) hx (far_from x y far) (sym (back_computed some h) ∙ same) in
+      let yes : fits (x *ℤ y) ≡ true = ap fits (sym (divides_back some quotient_is_x)) ∙ (grind (arith, ints)) in
       absurd (cc))
-
-  of_nothing : y ≡ pos 0 → fits (x *ℤ y) ≡ true
-  of_nothing e = ap (λ (d : ℤ). fits (x *ℤ d)) e ∙ ap fits (*ℤ-zero x)
 
   over_least : x ≡ negsuc (2 ^ 63 - 1) → y ≡ negsuc 0 → fits (x *ℤ y) ≡ false
   over_least ex ey = ap₂ (λ (a b : ℤ). fits (a *ℤ b)) ex ey ∙ refl
@@ -157,7 +120,7 @@ module _ (x y : ℤ) (hx : fits x ≡ true) (hy : fits y ≡ true) where
     computed = times_computed;
     small = times_small;
     exact = times_word;
-    of_zero = λ h. of_nothing (is_nothing y hy h);
+    of_zero = λ h. (ap (λ (d : ℤ). fits (x *ℤ d)) (is_nothing y hy h) ∙ ap fits (*ℤ-zero x));
     over = λ h1 h2. over_least (from_word x hx least (equal_is (word x) least h2)) (from_word y hy minus_one (not_different (word y) minus_one h1));
     back = λ h far. back_tells (fits (x *ℤ y)) refl h far;
   }
@@ -199,12 +162,7 @@ module _ (x y : ℤ) (hx : fits x ≡ true) (hy : fits y ≡ true) where
   -- a division by what is not zero, whose result fits
   computes : (op : AluOp) (divide : ℤ → ℤ → ℤ) (v : ValueOrError) → alu_result W64 op (word x) (word y) ≡ word_of 64 (divide (number (word x)) (number (word y)))
       → fits (divide x y) ≡ true → value (int (divide x y)) ≡ v → Computes op (word x) (word y) v
-  computes op divide v computed small is = record {
-    result = word (divide x y);
-    computed = computed ∙ ap₂ (λ (m n : ℤ). word_of 64 (divide m n)) (number_word x hx) (number_word y hy) ∙ number_word_of (divide x y) small;
-    small = word_small (divide x y) small;
-    exact = ap (λ (z : ℤ). value (int z)) (number_word (divide x y) small) ∙ is;
-  }
+  computes op divide v computed small is = grind (arith, word, number_word, number_word_of, word_fits)
 
   pub quotient_divided : Divided Sdiv (word x) (word y) (quotient x y)
   quotient_divided = record {
@@ -213,7 +171,7 @@ module _ (x y : ℤ) (hx : fits x ≡ true) (hy : fits y ≡ true) where
     computes = λ h far.
         let some = is_something y hy h in
         let small = quotient_small x y hx (far_from x y far) in
-        computes Sdiv int_div _ (quotient_computed (word x) (word y) (word_small x hx) (word_small y hy) (not_equal (word y) 0 h)) small (quotient_is some small);
+        computes Sdiv int_div _ (quotient_computed (word x) (word y) (word_fits x hx) (word_fits y hy) (not_equal (word y) 0 h)) small (quotient_is some small);
   }
 
   pub remainder_divided : Divided Smod (word x) (word y) (remainder x y)
@@ -223,5 +181,5 @@ module _ (x y : ℤ) (hx : fits x ≡ true) (hy : fits y ≡ true) where
     computes = λ h far.
         let some = is_something y hy h in
         let small = quotient_small x y hx (far_from x y far) in
-        computes Smod int_rem _ (remainder_computed (word x) (word y) (word_small x hx) (word_small y hy) (not_equal (word y) 0 h)) remainder_fits (remainder_is some small);
+        computes Smod int_rem _ (remainder_computed (word x) (word y) (word_fits x hx) (word_fits y hy) (not_equal (word y) 0 h)) remainder_fits (remainder_is some small);
   }

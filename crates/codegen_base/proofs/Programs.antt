@@ -1,30 +1,9 @@
 -- A program from its start to its exit.
-use Rattle.std.proofs.Common.{◌≡◌, ℕ, ◌+◌, ◌*◌, ◌<◌, ◌≤◌, List, [], ◌∷◌, ◌++◌, replicate, refl, sym, ap, subst, arith, inl}
-use Rattle.std.specs.Prelude.{All, map, pos, Some}
-use Rattle.std.proofs.lemmas.List.Elements.{All-take, All-drop, All-head, All-replicate, All-tail}
-use Rattle.guest_memory.specs.Memory.{start_memory}
-use Rattle.guest_memory.specs.RegionWords.{word_in}
-use Rattle.guest_memory.specs.Word.{word_of, part}
-use Rattle.guest_memory.proofs.Start.{start_laws}
-use Rattle.insn_codec.specs.declared.insn.Insn.TheVariants.{Exit}
-use Rattle.insn_codec.specs.declared.register.Register.TheVariants.{R0}
+use Rattle.codegen_base.proofs.Prelude.{◌≡◌, ℕ, ◌+◌, ◌*◌, ◌<◌, ◌≤◌, List, [], ◌∷◌, ◌++◌, replicate, refl, sym, subst, arith, inl, All, pos, Some, All-take, All-drop, All-head, All-replicate, All-tail, start_memory, word_in, part, start_laws, Exit, R0, ValueOrError, Names, Roots, DecodesSpelling, fetched, State, start_state, state_after, Frame, map-map, Body, at, Setting, Halts, Over, Left, Stands, size, ProgramExits, start_body, total, Fits, HasValues, FirstUse, first_uses, pending, Variable, first_charges, first_steps, first_use, routine_context, with_variables}
+use Rattle.std.specs.Prelude.{map}
+use Rattle.guest_memory.specs.Word.{word_of}
 use Rattle.loader.specs.Contents as loader
 use Rattle.value_store.specs.Placing.{Contents}
-use Rattle.value_store.specs.Value.{ValueOrError}
-use Rattle.helper_table.specs.Laws.{Names}
-use Rattle.cel_macros.specs.Environment.{Roots}
-use Rattle.bpf_machine.specs.Decoding.{DecodesSpelling, fetched}
-use Rattle.bpf_machine.specs.State.{State, start_state}
-use Rattle.bpf_machine.specs.Trace.{state_after}
-use Rattle.bpf_machine.specs.declared.frame.Frame.{Frame}
-use Rattle.codegen_base.specs.Body.{Body, at}
-use Rattle.codegen_base.specs.Engine.{Setting, Halts, Over, Left}
-use Rattle.codegen_base.specs.Pieces.{Stands, size}
-use Rattle.codegen_base.specs.Programs.{ProgramExits, start_body, total}
-use Rattle.codegen_base.specs.Contexts.{Fits, HasValues}
-use Rattle.codegen_base.specs.FirstUses.{first_uses, pending}
-use Rattle.codegen_base.specs.Scopes.{Variable, first_charges, first_steps, first_use}
-use Rattle.codegen_base.specs.Variables.{routine_context, with_variables}
 use Rattle.codegen_base.proofs.Exits.{comes_to_exit}
 use Rattle.codegen_base.proofs.FirstUses.{pending-most, uses-most}
 use Rattle.codegen_base.proofs.Pieces.{stands_back, stands_first, stands_front}
@@ -38,28 +17,18 @@ halts_into s x b0 P Q f (Left p b e filled l q) = Left p b e filled l (f b q)
 zeros_word : (bytes : List ℕ) → All (λ b. b ≡ 0) bytes → word_of bytes ≡ 0
 zeros_word [] zeros = refl
 zeros_word (b ∷ bs) zeros =
-    let first = All-head (λ b. b ≡ 0) b bs zeros in
-    let rest = zeros_word bs (All-tail (λ b. b ≡ 0) b bs zeros) in
-    omega arith
+    omega (arith, All-head (λ b. b ≡ 0) b bs zeros, zeros_word bs (All-tail (λ b. b ≡ 0) b bs zeros))
 
 pub word_in-zeros : (n i : ℕ) → word_in (replicate n 0) i ≡ 0
 unfolding word_in
 word_in-zeros n i = zeros_word (part (replicate n 0) (8 * i) 8) (All-take (λ b. b ≡ 0) 8 _ (All-drop (λ b. b ≡ 0) (8 * i) _ (All-replicate (λ b. b ≡ 0) n 0 refl)))
 
 -- what the first uses of a scope's variables take at most
-scope_steps : (scope : List Variable) → map (λ v. v.steps) (map first_use scope) ≡ first_steps scope
-scope_steps [] = refl
-scope_steps (v ∷ scope) = ap (λ (ns : List ℕ). (v.steps + 9) ∷ ns) (scope_steps scope)
-
-scope_charges : (scope : List Variable) → map (λ v. v.charge) (map first_use scope) ≡ first_charges scope
-scope_charges [] = refl
-scope_charges (v ∷ scope) = ap (λ (ns : List ℕ). v.charge ∷ ns) (scope_charges scope)
-
 pub steps-most : (image : loader.Contents) (scope : List Variable) (scratch : List ℕ) → pending (map first_use scope) (λ v. v.steps) scratch ≤ total (first_steps scope)
-steps-most image scope scratch = subst (λ (ns : List ℕ). pending (map first_use scope) (λ v. v.steps) scratch ≤ total ns) (scope_steps scope) (pending-most image (map first_use scope) (λ v. v.steps) scratch)
+steps-most image scope scratch = subst (λ (ns : List ℕ). pending (map first_use scope) (λ v. v.steps) scratch ≤ total ns) (map-map (λ (v : FirstUse). v.steps) first_use scope) (pending-most image (map first_use scope) (λ v. v.steps) scratch)
 
 pub charges-most : (image : loader.Contents) (scope : List Variable) (old new : List ℕ) (calls : List Frame) → first_uses image (map first_use scope) (λ v. v.charge) old new calls ≤ total (first_charges scope)
-charges-most image scope old new calls = subst (λ (ns : List ℕ). first_uses image (map first_use scope) (λ v. v.charge) old new calls ≤ total ns) (scope_charges scope) (uses-most image (map first_use scope) (λ v. v.charge) old new calls)
+charges-most image scope old new calls = subst (λ (ns : List ℕ). first_uses image (map first_use scope) (λ v. v.charge) old new calls ≤ total ns) (map-map (λ (v : FirstUse). v.charge) first_use scope) (uses-most image (map first_use scope) (λ v. v.charge) old new calls)
 
 pub start_is : (image : loader.Contents) (values : Contents) → start_state image values ≡ at image 0 (start_body image values)
 unfolding start_state

@@ -1,18 +1,13 @@
 -- How runs are put together.
-use Rattle.std.proofs.Common.{◌≡◌, ℕ, suc, ◌+◌, ◌≤◌, List, [], ◌++◌, append-nil, Bool, refl, sym, ap, ◌∙◌, subst, arith}
-use Rattle.guest_memory.specs.declared.fault.Fault.TheVariants.{F8}
-use Rattle.loader.specs.Contents.{Contents}
-use Rattle.bpf_machine.specs.State.{State}
-use Rattle.bpf_machine.specs.Step.{next_state}
-use Rattle.bpf_machine.specs.Trace.{state_after}
-use Rattle.bpf_machine.specs.Laws.{state_after-zero, state_after-more, state_after-next, state_after-add}
-use Rattle.bpf_machine.specs.declared.frame.Frame.{Frame}
-use Rattle.bpf_machine.specs.declared.status.Status.TheVariants.{Fault}
-use Rattle.codegen_base.specs.Body.{Body, at}
-use Rattle.codegen_base.specs.Engine.{Setting, Ends, Stopped, Came, Comes, IsSpent, Reaches, charge_to, steps_to}
-use Rattle.codegen_base.specs.FirstUses.{FirstUse, StayFilled, first_uses}
-use Rattle.codegen_base.specs.Variables.{with_variables}
+use Rattle.codegen_base.proofs.Prelude.{◌≡◌, ℕ, suc, ◌+◌, ◌≤◌, List, [], ◌++◌, append-nil, Bool, refl, sym, ap, ◌∙◌, subst, arith, false, true, ◌<◌, leb-false, leb-true, nat_le, F8, Contents, State, next_state, state_after, state_after-zero, state_after-more, state_after-next, state_after-add, Frame, Fault, Body, at, Setting, Ends, Stopped, Came, Comes, IsSpent, Reaches, charge_to, steps_to, FirstUse, StayFilled, first_uses, with_variables}
 use Rattle.codegen_base.proofs.FirstUses.{uses-join, uses-more}
+
+pub either : {Q : Type 0} (b : Bool) → (b ≡ true → Q) → (b ≡ false → Q) → Q
+either b f g = grind arith
+
+-- d is at most n, or above it
+pub by_limit : {Q : Type 0} (d n : ℕ) → (d ≤ n → Q) → (n < d → Q) → Q
+by_limit d n within above = either (nat_le d n) (λ e. within (leb-true d n e)) (λ e. above (leb-false d n e))
 
 pub state_after-first : (k : ℕ) (t : State) → state_after (k + 1) t ≡ state_after k (next_state t)
 state_after-first k t = state_after-more k t ∙ sym (state_after-next k t)
@@ -69,6 +64,10 @@ module _ (s : Setting) where
 
   pub to_place : {n x p : ℕ} {b : Body} {r : List Frame} {p1 : ℕ} {Q : Body → Type 0} (q : ℕ) → p1 ≡ q → Reaches s n x p b r p1 Q → Reaches s n x p b r q Q
   to_place {n} {x} {p} {b} {r} {p1} {Q} q e c = subst (λ (k : ℕ). Reaches s n x p b r k Q) e c
+
+  -- nothing more to do, whatever is left of the budgets
+  pub arrived : {n x p q : ℕ} {b : Body} {Q : Body → Type 0} → p ≡ q → Q b → Comes s n x p b q Q
+  arrived {n} {x} {p} {q} {b} {Q} e fact = to_place q e (looser n x (omega arith) (omega arith) (done p b Q fact))
 
   chain : {n m x y p p1 p2 : ℕ} {b : Body} {r : List Frame} {P Q : Body → Type 0} (k : ℕ) → Ends s n x b b.records p1 P k (state_after k (at s.image p b)) → ((b1 : Body) → P b1 → b1.records ≡ b.records → Reaches s m y p1 b1 r p2 Q) → Reaches s (n + m) (x + y) p b r p2 Q
   chain k (Stopped calls e frames f l o) go = record { steps = k; ends = Stopped calls e frames f (omega arith) (over s _ _ (omega arith) o) }

@@ -1,21 +1,6 @@
 -- References, and what tests of them say of what they name.
-use Rattle.std.proofs.Common.{◌≡◌, ℕ, ◌^◌, ◌<◌, List, Bool, true, false, not, refl, ap, arith}
-use Rattle.std.specs.Prelude.{nat_eq, slice_get}
-use Rattle.std.proofs.lemmas.Bool.{ne_eqb}
-use Rattle.std.proofs.lemmas.Option.{slice_get_within}
-use Rattle.bpf_word.specs.Comparisons.{holds_of}
-use Rattle.helper_table.specs.Laws.{Names}
-use Rattle.helper_table.specs.Tables.{IsTable}
-use Rattle.insn_codec.specs.declared.comparison.Comparison.TheVariants.{Eq, Ne}
-use Rattle.insn_codec.specs.declared.width.Width.TheVariants.{W64}
-use Rattle.value_store.specs.Placing.{Contents, AreCanonical, IsStore}
-use Rattle.value_store.specs.Value.{Value, ValueOrError, error, value, null, boolean}
-use Rattle.cel_macros.specs.Environment.{Roots}
-use Rattle.cel_macros.specs.FoldMeaning.{is_error}
-use Rattle.cel_macros.specs.Logic.{Truth, Yes, No, Other, truth}
-use Rattle.cel_macros.specs.Macros.{is_no, is_yes}
-use Rattle.bpf_machine.specs.Words.{compares}
-use Rattle.codegen_base.specs.Contexts.{HasRoots}
+use Rattle.codegen_base.proofs.Prelude.{◌≡◌, ℕ, zero, suc, ◌^◌, ◌<◌, List, Bool, true, false, not, refl, ap, arith, Some, length, ◌++◌, ◌∷◌, [], subst, nat_eq, slice_get, All, ne_eqb, slice_get_within, holds_of, Names, IsTable, IsResultBounded, Eq, Ne, W64, AreCanonical, IsStore, Value, ValueOrError, error, value, null, boolean, is_error, Truth, Yes, No, Other, truth, is_no, is_yes, compares, All-head, All-tail}
+use Rattle.value_store.specs.Placing.{Contents}
 
 -- a table's references are short, and so words
 pub short_reference : (values : Contents) (r : ℕ) (x : ValueOrError) → IsTable values → Names values.values r x → r < 2 ^ 32
@@ -23,6 +8,26 @@ short_reference values r x table named = grind (arith, slice_get_within)
 
 pub small_reference : (values : Contents) (r : ℕ) (x : ValueOrError) → IsTable values → Names values.values r x → r < 2 ^ 64
 small_reference values r x table named = omega (arith, short_reference values r x table named)
+
+-- places in joined lists
+pub get_before : {X : Type 0} (xs ys : List X) (i : ℕ) (x : X) → slice_get xs i ≡ Some x → slice_get (xs ++ ys) i ≡ Some x
+get_before [] ys i x h = cc
+get_before (y ∷ xs) ys zero x h = h
+get_before (y ∷ xs) ys (suc i) x h = get_before xs ys i x h
+
+pub get_at : {X : Type 0} (xs ys : List X) (x : X) → slice_get (xs ++ x ∷ ys) (length xs) ≡ Some x
+get_at [] ys x = refl
+get_at (y ∷ xs) ys x = get_at xs ys x
+
+pub get_front : {X : Type 0} (xs ys : List X) (i : ℕ) (x : X) → i < length xs → slice_get (xs ++ ys) i ≡ Some x → slice_get xs i ≡ Some x
+get_front [] ys i x inside h = absurd (omega arith)
+get_front (y ∷ xs) ys zero x inside h = h
+get_front (y ∷ xs) ys (suc i) x inside h = get_front xs ys i x (omega arith) h
+
+pub all_at : (n : ℕ) (vs : List ValueOrError) (r : ℕ) (x : ValueOrError) → All (IsResultBounded n) vs → slice_get vs r ≡ Some x → IsResultBounded n x
+all_at n [] r x all e = absurd (cc)
+all_at n (v ∷ vs) zero x all e = let same : v ≡ x = cc in subst (IsResultBounded n) same (All-head (IsResultBounded n) v vs all)
+all_at n (v ∷ vs) (suc r) x all e = all_at n vs r x (All-tail (IsResultBounded n) v vs all) e
 
 -- what stands first in every store
 module _ (values : Contents) (store : IsStore values) where
@@ -64,7 +69,3 @@ told values r error store canonical named = rw (canonical r error named) (told_b
 told values r (value (boolean false)) store canonical named = rw (canonical r _ named) (told_by No false 2 refl refl refl)
 told values r (value (boolean true)) store canonical named = rw (canonical r _ named) (told_by Yes false 3 refl refl refl)
 told values r _ store canonical named = told_other values r _ store named refl
-
--- roots stay where references name what they named
-pub roots_kept : (old new : List ValueOrError) (roots : Roots) → ((r : ℕ) (x : ValueOrError) → Names old r x → Names new r x) → HasRoots old roots → HasRoots new roots
-roots_kept old new roots grows h = grind arith

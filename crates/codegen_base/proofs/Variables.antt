@@ -1,33 +1,44 @@
 -- A variable's use gives its value, and what its first use takes is paid beside its budgets.
-use Rattle.std.proofs.Common.{◌≡◌, ℕ, ◌+◌, ◌-◌, ◌%◌, ◌^◌, ◌<◌, ◌≤◌, List, ◌∷◌, ◌++◌, length, Bool, refl, ap, ◌∙◌, arith, inl, inr}
-use Rattle.std.specs.Prelude.{ℤ, pos, ◌+ℤ◌}
-use Rattle.insn_codec.specs.declared.insn.Insn.{Insn}
-use Rattle.insn_codec.specs.declared.register.Register.TheVariants.{R0, R1}
-use Rattle.loader.specs.Contents.{Contents}
-use Rattle.value_store.specs.Value.{Value, ValueOrError}
-use Rattle.cel_macros.specs.Environment.{Roots}
-use Rattle.codegen_base.specs.Body.{Body, set_register}
-use Rattle.codegen_base.specs.Engine.{Setting, Comes}
-use Rattle.codegen_base.specs.FirstUses.{FirstUse}
-use Rattle.codegen_base.specs.Paths.{Kept}
-use Rattle.codegen_base.specs.Pieces.{Stands}
-use Rattle.codegen_base.specs.Contexts.{Context, Fits, Gives, Shows}
-use Rattle.helper_table.specs.Laws.{Names}
-use Rattle.codegen_base.specs.Variables.{VariableGives, memo_tail, routine_context, use_code, used_context, with_variables}
-use Rattle.codegen_base.specs.Words.{memo_address, memo_at}
-use Rattle.codegen_base.proofs.Effects.{add_is, differs_no, differs_yes}
-use Rattle.codegen_base.proofs.FirstCalls.{first_called}
+use Rattle.codegen_base.proofs.Prelude.{◌≡◌, ℕ, ◌+◌, ◌<◌, ◌≤◌, List, [], ◌∷◌, ◌++◌, length, append_assoc, Bool, sym, ap, ◌∙◌, subst, arith, ◌-◌, ◌^◌, refl, inl, inr, ℤ, pos, ◌+ℤ◌, Some, word_in, CallLocal, Contents, fetched, State, next_state, state_after, Frame, Body, at, set_register, entered, frame_at, Setting, Ends, Stopped, Came, Comes, Reaches, FirstUse, first_uses, with_variables, VariableGives, memo_tail, routine_context, use_code, used_context, Framed, memo_at, memo_address, nat_tests, Insn, R0, R1, Value, ValueOrError, Roots, Kept, Stands, Context, Fits, Gives, Shows, Names}
+use Rattle.codegen_base.proofs.Effects.{call_local_does, does, add_is, differs_no, differs_yes}
+use Rattle.codegen_base.proofs.FirstUses.{uses-more_calls, uses-with}
+use Rattle.codegen_base.proofs.Runs.{over, state_after-first, to_place, done, into, looser}
 use Rattle.codegen_base.proofs.Frames.{fits_registers, shows_registers}
-use Rattle.codegen_base.proofs.Values.{short_reference}
+use Rattle.codegen_base.proofs.Values.{get_at, short_reference}
 use Rattle.codegen_base.proofs.Listings.{alu, begins, load_memo, load_wide, no, yes}
-use Rattle.codegen_base.proofs.Returns.{Back, comes_back, get_at}
-use Rattle.codegen_base.proofs.Runs.{to_place, done, into, looser}
+use Rattle.codegen_base.proofs.Returns.{comes_back}
 
-less_one : (w r : ℕ) → w ≡ r + 1 → r < 2 ^ 64 → (w + (2 ^ 64 - 1)) % 2 ^ 64 ≡ r
-less_one w r e small = omega arith
+-- ---- the first call of a variable's routine: what the routine takes is paid as the variable's first use
 
-less_than_none : (w : ℕ) → w ≡ 0 → (w + (2 ^ 64 - 1)) % 2 ^ 64 ≡ 2 ^ 64 - 1
-less_than_none w e = omega arith
+module _ (image : Contents) (deep : Bool) (before later : List FirstUse) (v : FirstUse) (q : ℕ) (b : Body) (offset : ℤ) (call : fetched image.code (pos q) ≡ Some (Some (CallLocal offset))) (place : pos q +ℤ pos 1 +ℤ offset ≡ pos v.routine) (empty : memo_at (length before) b ≡ 0) where
+  abbrev outer : Setting
+  outer = with_variables image deep (before ++ v ∷ later)
+
+  -- in a run that has stopped the routine is open
+  paid_open : (cost : FirstUse → ℕ) (scratch : List ℕ) (calls : List Frame) → first_uses image before cost b.memory.scratch scratch calls + cost v ≤ first_uses image (before ++ v ∷ later) cost b.memory.scratch scratch (frame_at q b ∷ calls)
+  paid_open cost scratch calls = grind (arith, nat_tests, uses-with, uses-more_calls)
+
+  -- in one that has come back the memo is filled
+  paid_filled : (cost : FirstUse → ℕ) (scratch : List ℕ) → (word_in scratch (length before) ≡ 0 → ⊥) → first_uses image before cost b.memory.scratch scratch [] + cost v ≤ first_uses image (before ++ v ∷ later) cost b.memory.scratch scratch []
+  paid_filled cost scratch filled = grind (arith, uses-with, nat_tests)
+
+  ends_called : {n x k p : ℕ} {Q : Body → Type 0} {t : State} → n ≤ v.steps → x ≤ v.charge → ((last : Body) → Q last → memo_at (length before) last ≡ 0 → ⊥) → Ends (with_variables image deep before) n x (entered q b) b.records p Q k t → Ends outer 1 0 b b.records p Q (1 + k) t
+  ends_called {t = t} hn hx filled (Stopped calls e frames f l o) =
+      let steps = paid_open (λ u. u.steps) t.memory.scratch calls in
+      let charge = paid_open (λ u. u.charge) t.memory.scratch calls in
+      Stopped (frame_at q b ∷ calls) e (frames ∙ append_assoc b.records (frame_at q b ∷ []) calls) f (omega arith) (over outer _ _ (omega arith) o)
+  ends_called hn hx filled (Came last e frames f l o fact) =
+      let steps = paid_filled (λ u. u.steps) last.memory.scratch (filled last fact) in
+      let charge = paid_filled (λ u. u.charge) last.memory.scratch (filled last fact) in
+      Came last e frames f (omega arith) (omega arith) fact
+
+  -- the call and the routine within 1 step
+  pub first_called : {n x p : ℕ} {Q : Body → Type 0} (depth : ℕ) → Framed depth b → depth < 7 → n ≤ v.steps → x ≤ v.charge → ((last : Body) → Q last → memo_at (length before) last ≡ 0 → ⊥) → Reaches (with_variables image deep before) n x v.routine (entered q b) b.records p Q → Comes outer 1 0 q b p Q
+  first_called {p = p} {Q = Q} depth framed room hn hx filled c =
+      let calls : next_state (at image q b) ≡ at image v.routine (entered q b) = does image q b _ call ∙ call_local_does image q b depth offset v.routine framed room place in
+      let twice : 1 + c.steps ≡ c.steps + 1 = omega arith in
+      let after : state_after (1 + c.steps) (at image q b) ≡ state_after c.steps (at image v.routine (entered q b)) = ap (λ (k : ℕ). state_after k (at image q b)) twice ∙ state_after-first c.steps (at image q b) ∙ ap (state_after c.steps) calls in
+      record { steps = 1 + c.steps; ends = subst (Ends outer 1 0 b b.records p Q (1 + c.steps)) (sym after) (ends_called hn hx filled c.ends) }
 
 -- ---- the memo is filled
 
@@ -38,7 +49,7 @@ module _ (s : Setting) (c : Context) (depth base i p : ℕ) (offset : ℤ) (has 
       begins has
       (load_wide has 0 refl refl
       (load_memo has 2 i refl fits.frame below refl refl
-      (alu has 3 r refl refl (add_is (memo_at i b) (2 ^ 64 - 1) ∙ less_one _ r word (omega arith))
+      (alu has 3 r refl refl (add_is (memo_at i b) (2 ^ 64 - 1) ∙ (omega arith))
       (yes has 4 1 refl (differs_yes r (2 ^ 64 - 1) (λ e. omega arith))
       (done s (p + 6) _ _ (shows_registers c depth base b _ refl v fits named))))))
 
@@ -61,24 +72,18 @@ module _ (image : Contents) (deep : Bool) (before behind : List FirstUse) (const
   abbrev caller : Body → Body
   caller b = set_register (set_register (set_register b R1 (memo_address index)) R0 (memo_at index b)) R0 (2 ^ 64 - 1)
 
-  fits_caller : (b : Body) → Fits c depth base b → Fits c depth base (caller b)
-  fits_caller b fits = fits_registers c depth base b _ refl fits
-
-  first_use : (b : Body) (fits : Fits c depth base b) (last : Body) → Back image deep before constants words roots items variables later name v body routine depth base n x below low room there (caller b) last → Shows c depth base v b last
-  first_use b fits last back = record { shows = back.shown.shows; fits = back.shown.fits; keeps = record { words = back.shown.keeps.words; values = back.shown.keeps.values; records = back.shown.keeps.records; pointer = back.shown.keeps.pointer; verdict = back.shown.keeps.verdict; constants = back.shown.keeps.constants; memos = back.shown.keeps.memos } }
-
   -- the routine is called and returns
   first_runs : (b : Body) → Fits c depth base b → memo_at index b ≡ 0 → Gives (with_variables image deep before) routine body (routine_context roots variables constants) (depth + 1) 0 v n x → Comes setting 5 0 p b (p + 6) (Shows c depth base v b)
   first_runs b fits empty g =
       let start = caller b in
-      let ready = fits_caller b fits in
+      let ready = (fits_registers c depth base b _ refl fits) in
       let same_place = ap (λ (i : ℕ). memo_at i b) as_many in
       begins has
       (load_wide has 0 refl refl
       (load_memo has 2 index refl fits.frame below refl refl
-      (alu has 3 (2 ^ 64 - 1) refl refl (add_is (memo_at index b) (2 ^ 64 - 1) ∙ less_than_none _ empty)
+      (alu has 3 (2 ^ 64 - 1) refl refl (add_is (memo_at index b) (2 ^ 64 - 1) ∙ (omega arith))
       (no has 4 refl (differs_no (2 ^ 64 - 1) (2 ^ 64 - 1) refl)
-      (into setting (Shows c depth base v b) (λ last back. first_use b fits last back)
+      (into setting (Shows c depth base v b) (λ last back. grind arith)
       (first_called image deep before behind first (p + 5) start offset (has.here 5 _ refl) place (same_place ∙ empty) depth ready.frame room (omega arith) (omega arith)
       (λ last back none. let filled = back.filled in let there_is = ap (λ (i : ℕ). memo_at i last) as_many in absurd (omega arith))
       (to_place (with_variables image deep before) (p + 6) (omega arith)

@@ -21,6 +21,7 @@ ghost use Rattle.codegen_base.specs.Variables.{VariableGives};
 use bpf_machine::laws::decodes_spelling;
 
 /// Where the bytes that spell a piece stand in the code, the machine finds the piece's instructions.
+#[tactic(auto, using(crate::proofs::Spelled::spelled_stands))]
 pub fn spelled_stands()
     ensures { SpelledStands }
 {
@@ -28,12 +29,14 @@ pub fn spelled_stands()
 }
 
 /// What each helper answers, of what its operands name.
+#[tactic(auto, using(crate::proofs::HelperAnswers::helpers))]
 pub fn helpers_answer()
     ensures { HelpersAnswer }
 {}
 
 /// Code for one or two operands, put into registers, with a piece behind it gives what the piece makes
 /// of them, one piece goes on with what another gives, and the call of a helper is such a piece.
+#[tactic(auto, using(crate::proofs::Operators::one_gives, crate::proofs::Operators::two_gives, crate::proofs::Operators::converts_then, crate::proofs::Operators::combines_then, crate::proofs::Operators::calls_give))]
 pub fn operands_give()
     ensures one { OneGives }
     ensures two { TwoGives }
@@ -44,6 +47,7 @@ pub fn operands_give()
 
 /// Code for their operands makes code for `&&`, `||`, `!` and the conditional; `&&` and `||` leave early
 /// where the left side decides, and of the conditional only the chosen side runs.
+#[tactic(auto, using(crate::proofs::Logic::logic_gives))]
 pub fn logic_gives()
     ensures { LogicGives }
 {}
@@ -51,29 +55,34 @@ pub fn logic_gives()
 /// Code for items makes code for a list, and code for keys and values makes code for a map, of which a
 /// part that is the error, a doubled key and a key that is no text make the error; it stops for a depth
 /// only where an item or a value is as deep as a list or a map may be.
+#[tactic(auto, using(crate::proofs::Lists::list_gives, crate::proofs::Maps::map_gives))]
 pub fn aggregates_give()
     ensures list { ListGives }
     ensures map { MapGives }
 {}
 
 /// Pieces behind two operands give comparisons and membership.
+#[tactic(auto, using(crate::proofs::Comparison::comparison_gives))]
 pub fn comparison_gives()
     ensures { ComparisonGives }
 {}
 
 /// Pieces behind two operands give `+`, on ints, texts and lists, and `-`; a result that is no int of 64
 /// bits is the error.
+#[tactic(auto, using(crate::proofs::Additions::additions_give))]
 pub fn additions_give()
     ensures { AdditionsGive }
 {}
 
 /// Pieces behind two operands give `*`, `/` and `%` on ints; a product that is no int of 64 bits, a
 /// divisor of zero, and the least int divided by -1 are the error.
+#[tactic(auto, using(crate::proofs::Multiplications::products_give))]
 pub fn products_give()
     ensures { ProductsGive }
 {}
 
 /// The piece behind an operand gives its negative; that of the least int is the error.
+#[tactic(auto, using(crate::proofs::Negation::negation_gives))]
 pub fn negation_gives()
     ensures { NegationGives }
 {}
@@ -85,6 +94,7 @@ pub fn fold_gives()
 {}
 
 /// Literals without parts, and names, have code that gives their values; those that are leaves name them.
+#[tactic(auto, using(crate::proofs::Leaves::leaves_give, crate::proofs::Leaves::leaves_name))]
 pub fn leaves_give()
     ensures give { LeavesGive }
     ensures name { LeavesName }
@@ -92,12 +102,14 @@ pub fn leaves_give()
 
 /// Word 0 of the frame, where it keeps a path, is a leaf that names its value; code for the path, a store into the
 /// word, and code that finds the path there make code, behind which the word is free.
+#[tactic(auto, using(crate::proofs::Paths::paths_give))]
 pub fn paths_give()
     ensures { PathsGive }
 {}
 
 /// Behind the code of an operand stands the code for a field, for whether there is one, for a size and
 /// for a text, and behind that of two the code for an index and for tests of texts.
+#[tactic(auto, using(crate::proofs::Selection::selection_gives))]
 pub fn selection_gives()
     ensures { SelectionGives }
 {}
@@ -112,6 +124,7 @@ pub fn macros_give()
 {}
 
 /// The use of a variable gives its value, and what its routine takes counts as the variable's first use.
+#[tactic(auto, using(crate::proofs::Variables::variable_gives))]
 pub fn variable_gives()
     ensures { VariableGives }
 {}
@@ -131,16 +144,19 @@ pub fn scopes_give()
 
 /// The budgets of a run are its own alone where no variable is first used in it, and where the first uses of
 /// none are paid.
+#[tactic(auto, using(crate::proofs::FirstUses::own_budgets))]
 pub fn budgets_are_own()
     ensures { OwnBudgets }
 {}
 
 /// Programs run by hand, and which variables runs use first.
+#[tactic(auto, using(crate::proofs::Rows::rows_stand))]
 pub fn rows_stand()
     ensures { RowsStand }
 {}
 
 /// Macros run by hand.
+#[tactic(auto, using(crate::proofs::Rows::macro_rows_stand))]
 pub fn macro_rows_stand()
     ensures { MacroRowsStand }
 {}

@@ -7,7 +7,7 @@
 //!
 //! `laws` has the laws for crates above, each on a function that does nothing. Of the lemmas those of
 //! `proofs/Runs`, `Steps`, `Listings`, `Pieces`, `Frames`, `Values`, `HelperAnswers`, `Operators`, `Loops`,
-//! `Logic`, `Aggregates` and `Macros` are for crates above too.
+//! `Logic`, `Lists` and `Macros` are for crates above too.
 #![tactic(auto)]
 
 pub mod helpers;

@@ -1,31 +1,147 @@
--- From the parts of a policy that are checked, and the bytes of its program, to its image.
-use Rattle.std.proofs.Common.{◌≡◌, ◌≢◌, ◌<◌, ◌≤◌, ◌*◌, ℕ, List, [], ◌∷◌, ◌++◌, length, None, Ok, Err, arith, refl, sym, ap, ◌∙◌, subst}
-use Rattle.std.proofs.lemmas.Bool.Decides.{nat_tests}
-use Rattle.std.specs.Prelude.{All}
-use Rattle.insn_codec.specs.declared.insn.Insn.{Insn}
-use Rattle.insn_codec.specs.declared.insn.Insn.TheVariants.{Exit}
+-- What the trees of a policy that is compiled are, and its image.
+use Rattle.policy_glue.proofs.Prelude.{◌≡◌, ◌≤◌, ◌*◌, ◌++◌, ◌∷◌, ℕ, Bool, false, List, [], Some, None, Result, Ok, length, append-nil, append_assoc, refl, sym, ap, ◌∙◌, subst, arith, ◌≢◌, ◌<◌, Err, ltb-false, All-head, All-tail, fold-append, All, if◌then◌else◌, Tree, Trees, Entries, no_trees, more_trees, no_entries, more_entries, IsWellFormed, AreWellFormed, HasWellFormedEntries, expanded, expansion_plain, Declaration, scope_of, Typing, typing, CelType, expansion_typed, need, joined, HasLiterals, HaveLiterals, EntriesHaveLiterals, IsExpression, Checks, IsFormedRule, IsFormedVariable, IsChecked, HasTrees, Emits, Checked, Ends, over, refused, next, IsOneOf, PartsEnd, TakesCondition, RefusesCondition, TakesRule, RefusesRule, TakesVariable, RefusesVariable, depth_in, expression_judged, scope_after, truths, with_variable, excess, policy_nodes, policy_texts, Compiles, Named, Rule, Rules, HasProgram, ProgramDecides, ProgramIsShort, ProgramStops, IsAccepted, PolicyTree, RuleTree, VariableTree, CompileError, G3, G4, nat_tests, Insn, Exit, image_from, Second, length-spelling, size-append, size-cons, size, spellings, CompilesTo, IsCompiled, OneImage, contents, program_of, FailurePolicy}
+use Rattle.cel_reader.specs.Tree as tree
+use Rattle.cel_types.specs.Types as types
+use Rattle.policy_glue.specs.Checking as parts
+use Rattle.policy_glue.specs.ProgramTrees as program
+use Rattle.policy_glue.proofs.Judged.{shallow_known}
+use Rattle.policy_glue.proofs.OneAnswer.{ok_same}
+use Rattle.policy_glue.proofs.Told.{few_parts}
 use Rattle.loader.specs.Contents as loader
-use Rattle.loader.specs.Format.{image_from}
-use Rattle.loader.specs.declared.version.Version.TheVariants.{Second}
-use Rattle.codegen.specs.Constants.{joined}
-use Rattle.codegen_base.proofs.Pieces.{length-spelling, size-append, size-cons}
-use Rattle.codegen_base.specs.Pieces.{size, spellings}
-use Rattle.policy_glue.specs.Checked.{Checks, IsChecked}
-use Rattle.policy_glue.specs.Compiled.{CompilesTo, IsCompiled}
-use Rattle.policy_glue.specs.Emission.{Emits}
-use Rattle.policy_glue.specs.Limits.{Compiles, excess, policy_texts}
 use Rattle.policy_glue.specs.Limits as limits
-use Rattle.policy_glue.specs.OneImage.{OneImage, contents}
-use Rattle.policy_glue.specs.Policy.{Rules}
-use Rattle.policy_glue.specs.ProgramCode.{program_of}
-use Rattle.policy_glue.specs.ProgramTrees.{ProgramDecides, ProgramIsShort, ProgramStops}
-use Rattle.policy_glue.specs.Reading.{IsAccepted}
-use Rattle.policy_glue.specs.Trees.{PolicyTree}
-use Rattle.policy_glue.specs.declared.checked.Checked.{Checked}
-use Rattle.policy_glue.specs.declared.compile_error.CompileError.{CompileError}
 use Rattle.policy_glue.specs.declared.compile_error.CompileError.TheVariants as compile_error
-use Rattle.policy_glue.specs.declared.failure_policy.FailurePolicy.{FailurePolicy}
-use Rattle.policy_glue.proofs.Accepted.{has_program}
+
+-- ---- literals
+
+mutual
+  has_literals : (a : Tree) → IsWellFormed a → HasLiterals a
+  has_literals (tree.literal l) f = f
+  has_literals (tree.name n) f = tt
+  has_literals (tree.select a n) f = has_literals a f.0
+  has_literals (tree.index a b) f = (has_literals a f.0, has_literals b f.1)
+  has_literals (tree.call n items) f = have_literals items f.1
+  has_literals (tree.method a n items) f = (has_literals a f.0, have_literals items f.2)
+  has_literals (tree.unary op a) f = has_literals a f
+  has_literals (tree.binary op a b) f = (has_literals a f.0, has_literals b f.1)
+  has_literals (tree.ternary a b c) f = (has_literals a f.0, has_literals b f.1, has_literals c f.2)
+  has_literals (tree.list items) f = have_literals items f
+  has_literals (tree.map pairs) f = entries_have_literals pairs f
+
+  have_literals : (items : Trees) → AreWellFormed items → HaveLiterals items
+  have_literals no_trees f = tt
+  have_literals (more_trees a more) f = (has_literals a f.0, have_literals more f.1)
+
+  entries_have_literals : (pairs : Entries) → HasWellFormedEntries pairs → EntriesHaveLiterals pairs
+  entries_have_literals no_entries f = tt
+  entries_have_literals (more_entries k v more) f = (has_literals k f.0, has_literals v f.1, entries_have_literals more f.2)
+
+-- ---- one expression
+
+record IsJudged (t : Typing) (n : ℕ) : Type 0 where
+  cel_type : CelType
+  typed : t ≡ types.typed cel_type
+  fits : n ≤ 60
+
+judged_so : (scope : List Declaration) (a : Tree) (t : CelType) → expression_judged scope a ≡ Ok t → IsJudged (typing a (scope_of scope)) (need (expanded a))
+unfolding expression_judged
+judged_so scope a t is = grind arith
+
+is_expression : (scope : List Declaration) (a : Tree) (t : CelType) → expression_judged scope a ≡ Ok t → IsWellFormed a → IsExpression scope (expanded a)
+is_expression scope a t is formed = grind (arith, judged_so, expansion_typed, expansion_plain, has_literals)
+
+one_expression : (kinds : List CelType) (scope : List Declaration) (text : List ℕ) (a : Tree) → IsOneOf kinds scope text a → IsWellFormed a
+    → IsExpression scope (expanded a)
+one_expression kinds scope text a one formed = is_expression scope a one.cel_type one.taken.judged formed
+
+-- ---- lists: what holds of all that is taken, where it holds of nothing, and of one more before others
+
+record Rest {A B : Type 0} (P : List B → List B → Type 0) (taken : List B) (ns : List A) (all : List B) : Type 0 where
+  more : List B
+  is : all ≡ taken ++ more
+  count : length more ≡ length ns
+  holds : P taken more
+
+module _ {A B : Type 0} (Takes : List B → A → B → Type 0) (Refuses : List B → A → CompileError → Type 0) (P : List B → List B → Type 0)
+    (none : (taken : List B) → P taken [])
+    (one : (taken : List B) (a : A) (b : B) (more : List B) → Takes taken a b → P (taken ++ b ∷ []) more → P taken (b ∷ more)) where
+  rest_of : (taken : List B) (ns : List A) (end : Result (List B) CompileError) → Ends Takes Refuses taken ns end → (all : List B) → end ≡ Ok all
+      → Rest P taken ns all
+  rest_of taken ns end (over) all is = grind (arith, append-nil, ok_same)
+  rest_of taken ns end (refused e no_part) all is = cc
+  rest_of taken ns end (next {part =
+      part} {more = others} {end = last} b takes ends) all is = grind (arith, append_assoc, rest_of (taken ++ b ∷ []) others last ends all is)
+
+  whole_of : (ns : List A) (all : List B) → Ends Takes Refuses [] ns (Ok all) → (length all ≡ length ns) × P [] all
+  whole_of ns all ends =
+      let rest = rest_of [] ns (Ok all) ends all refl in
+      (ap length rest.is ∙ rest.count, subst (P []) (sym rest.is) rest.holds)
+
+-- ---- as the program asks of them
+
+abbrev VariablesHold : List VariableTree → List VariableTree → Type 0
+VariablesHold taken more = All IsFormedVariable more → program.AreVariables (scope_after taken) more
+
+variable_more : (taken : List VariableTree) (n : Named) (v : VariableTree) (more : List VariableTree) → TakesVariable taken n v
+    → VariablesHold (taken ++ v ∷ []) more → VariablesHold taken (v ∷ more)
+variable_more taken n v more is later formed =
+    let scope = scope_after taken in
+    let known = shallow_known (depth_in scope v.expression) (expression_judged scope v.expression) is.cel_type is.tree.judged in
+    let others = subst (λ ds. program.AreVariables ds more) (fold-append with_variable [] taken (v ∷ [])) (later (All-tail IsFormedVariable v more formed)) in
+    (is_expression scope v.expression is.cel_type known.1 (All-head IsFormedVariable v more formed), ltb-false 6 _ known.0, others)
+
+abbrev ConditionsHold : List Tree → List Tree → Type 0
+ConditionsHold taken more = All IsWellFormed more → program.AreConditions more
+
+condition_more : (taken : List Tree) (n : Named) (a : Tree) (more : List Tree) → TakesCondition taken n a → ConditionsHold (taken ++ a ∷ []) more
+    → ConditionsHold taken (a ∷ more)
+condition_more taken n a more is later formed =
+    (one_expression truths [] n.expression a is (All-head IsWellFormed a more formed), later (All-tail IsWellFormed a more formed))
+
+abbrev RulesHold : List Declaration → List RuleTree → List RuleTree → Type 0
+RulesHold scope taken more = All IsFormedRule more → program.AreRules scope more
+
+rule_more : (scope : List Declaration) (taken : List RuleTree) (n : Rule) (r : RuleTree) (more : List RuleTree) → TakesRule scope taken n r
+    → RulesHold scope (taken ++ r ∷ []) more → RulesHold scope taken (r ∷ more)
+rule_more scope taken n r more is later formed =
+    let first = All-head IsFormedRule r more formed in
+    let expression = one_expression truths scope n.expression r.expression is.expression first.0 in
+    (expression, grind (arith, one_expression), later (All-tail IsFormedRule r more formed))
+
+-- ---- the limits
+
+limits_by : (long many : Bool) → (if long then Some G3 else (if many then Some G4 else None)) ≡ None → (long ≡ false) × (many ≡ false)
+limits_by false false is = (refl, refl)
+limits_by _ _ is = cc
+
+within_limits : (t : PolicyTree) → excess t ≡ None → (128 * policy_nodes t ≤ 65536) × (length (joined (policy_texts t)) ≤ 1048576)
+within_limits t is = grind (arith, is, limits_by, ltb-false)
+
+-- ---- the policy
+
+-- the trees are as many as the parts, and where they are formed they are as the program asks of them
+record IsWhole (p : Rules) (t : PolicyTree) : Type 0 where
+  variables : (length t.variables ≡ length p.variables) × VariablesHold [] t.variables
+  conditions : (length t.conditions ≡ length p.conditions) × ConditionsHold [] t.conditions
+  validations : (length t.validations ≡ length p.validations) × RulesHold (scope_after t.variables) [] t.validations
+
+whole_by : (p : Rules) (end : Result PolicyTree CompileError) → PartsEnd p end → (t : PolicyTree) → end ≡ Ok t → IsWhole p t
+whole_by p end (parts.taken vs cs rs variables conditions validations) t is =
+    let scope = scope_after vs in
+    subst (IsWhole p) (ok_same (record { variables = vs; conditions = cs; validations = rs }) t is) (record {
+      variables = whole_of TakesVariable RefusesVariable VariablesHold (λ taken formed. tt) variable_more p.variables vs variables;
+      conditions = whole_of TakesCondition RefusesCondition ConditionsHold (λ taken formed. tt) condition_more p.conditions cs conditions;
+      validations = whole_of (TakesRule scope) (RefusesRule scope) (RulesHold scope) (λ taken formed. tt) (rule_more scope) p.validations rs validations;
+    })
+whole_by p end _ t is = cc
+
+-- the trees of what is checked are taken, and the validations are few
+pub has_trees : (p : Rules) (c : Checked) → IsAccepted p → Checks p (Ok c) → HasTrees c
+has_trees p c accepted checks = grind (arith, whole_by, few_parts)
+
+-- within the limits they have a program
+pub has_program : (p : Rules) (c : Checked) → IsAccepted p → (checks : Checks p (Ok c)) → excess checks.0 ≡ None → HasProgram checks.0
+unfolding has_trees
+has_program p c accepted checks within = grind (arith, has_trees, within_limits, few_parts, whole_by)
 
 -- ---- refusals
 

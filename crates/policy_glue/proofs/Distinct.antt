@@ -1,19 +1,5 @@
 -- Names that are put into a set, one after another.
-use Rattle.std.proofs.Common.{◌≡◌, ℕ, ◌+◌, ◌<◌, Bool, true, false, not, cond, List, [], ◌∷◌, ◌++◌, map, take, drop, length, get_or, string_bytes, refl, sym, ap, ◌∙◌, arith}
-use Rattle.std.specs.Prelude.{◌||◌, ◌&&◌}
-use Rattle.std.specs.Borrow.{Bor}
-use Rattle.std.specs.BTreeSet.{BTreeSet, contains, IsEmpty, Updates}
-use Rattle.std.specs.Cmp.Lexicographic.{slice_cmp}
-use Rattle.std.specs.List.{list_any}
-use Rattle.std.specs.Ordering.{is_eq, nat_cmp}
-use Rattle.std.specs.Str.{bytes_eq}
-use Rattle.std.proofs.lemmas.Cmp.{nat_list_eq_equiv}
-use Rattle.std.proofs.lemmas.List.{map-append, take-append-drop, take_more}
-use Rattle.std.proofs.lemmas.List.Folds.{list_any-append}
-use Rattle.std.proofs.lemmas.Map.Text.{is_eq-slice_cmp}
-use Rattle.policy_glue.specs.declared.named_expression.NamedExpression.{NamedExpression}
-use Rattle.policy_glue.specs.Policy.{Named, named_view}
-use Rattle.policy_glue.specs.Reading.{are_distinct}
+use Rattle.policy_glue.proofs.Prelude.{◌≡◌, ℕ, ◌+◌, ◌<◌, Bool, true, false, not, List, [], ◌∷◌, ◌++◌, map, take, drop, length, get_or, string_bytes, refl, sym, ap, ◌∙◌, arith, ◌&&◌, Bor, BTreeSet, contains, IsEmpty, Updates, slice_cmp, list_any, is_eq, nat_cmp, bytes_eq, nat_list_eq_equiv, map-append, take-append-drop, take_more, list_any-append, is_eq-slice_cmp, NamedExpression, Named, named_view, are_distinct}
 use Rattle.policy_glue.proofs.Lists.{name_in_views}
 
 -- names lent to a set
@@ -30,19 +16,10 @@ HasNames names ns = (key : Bor (List ℕ)) → has_key names key ≡ list_any (�
 and_none : (b : Bool) → b && false ≡ false
 and_none b = grind arith
 
-and_all : (b : Bool) → b && true ≡ b
-and_all b = grind arith
-
-one_more : (here there : Bool) → cond here true there ≡ there || (here || false)
-one_more here there = grind arith
-
-shuffle : (a b c d : Bool) → not (a || (b || false)) && (not c && d) ≡ not (b || c) && (not a && d)
-shuffle a b c d = grind arith
-
 -- one more name behind others
 distinct-push : (ns : List Named) (n : Named) → are_distinct (ns ++ n ∷ []) ≡ not (list_any (λ m. bytes_eq n.name m.name) ns) && are_distinct ns
 distinct-push [] n = refl
-distinct-push (m ∷ ns) n = grind (arith, distinct-push ns n, list_any-append, nat_list_eq_equiv, shuffle)
+distinct-push (m ∷ ns) n = grind (arith, distinct-push ns n, list_any-append, nat_list_eq_equiv)
 
 twice_by : (n : Named) (ns rest : List Named) (hit : Bool) → list_any (λ m. bytes_eq n.name m.name) ns ≡ hit → not hit && are_distinct ns ≡ false
     → (are_distinct ns ≡ false → are_distinct (ns ++ rest) ≡ false)
@@ -65,13 +42,8 @@ pub names_more : (all : List NamedExpression) (i : ℕ) (x : NamedExpression) (k
     → key.now ≡ string_bytes x.name
     → HasNames names (take i all) → Updates (λ x y. slice_cmp nat_cmp x.now y.now) names more key true → HasNames more (take (i + 1) all)
 names_more all i x key names more within is named has updates other =
-    let same : is_eq (slice_cmp nat_cmp key.now other.now) ≡ bytes_eq other.now (string_bytes x.name) = is_eq-slice_cmp key.now other.now
-    ∙ nat_list_eq_equiv.symm key.now other.now ∙ ap (bytes_eq other.now) named in
-    updates.0 other
-    ∙ (λ j. cond (same j) true (has other j))
-    ∙ one_more (bytes_eq other.now (string_bytes x.name)) (list_any (λ n. bytes_eq other.now (string_bytes n.name)) (take i all))
-    ∙ sym (list_any-append (λ n. bytes_eq other.now (string_bytes n.name)) (take i all) (x ∷ []))
-    ∙ ap (λ ns. list_any (λ n. bytes_eq other.now (string_bytes n.name)) ns) (sym (front_next all i x within is))
+    let same = is_eq-slice_cmp key.now other.now ∙ nat_list_eq_equiv.symm key.now other.now ∙ ap (bytes_eq other.now) named in
+    grind (arith, same, updates.0 other, has other, list_any-append, front_next all i x within is)
 
 -- whether the names stay distinct with the next one
 pub distinct_more : (all : List NamedExpression) (i : ℕ) (x : NamedExpression) (key : Bor (List ℕ)) (names : Names) (added : Bool) → i < length all
@@ -86,7 +58,7 @@ distinct_more all i x key names added within is named has distinct says =
     ∙ ap are_distinct (map-append named_view (take i all) (x ∷ []))
     ∙ distinct-push (map named_view (take i all)) (named_view x)
     ∙ (λ j. not (behind j) && distinct j)
-    ∙ and_all (not (has_key names key))
+    ∙ (grind arith)
     ∙ sym says
 
 -- a name that stood before

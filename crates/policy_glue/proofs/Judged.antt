@@ -1,41 +1,10 @@
--- The judging of a text, step by step, over plain variables.
-use Rattle.std.proofs.Common.{◌≡◌, ◌≤◌, ◌<◌, ◌++◌, ◌∷◌, [], ℕ, Bool, List, nat_lt, true, false, Option, Some, None, Result, Ok, Err, IsErr, IfSome, arith, refl, sym, ap, ◌∙◌}
-use Rattle.std.proofs.lemmas.Bool.{false≢true, ltb-false}
-use Rattle.std.proofs.lemmas.Bool.Decides.{nat_tests}
-use Rattle.std.specs.Prelude.{if◌then◌else◌}
-use Rattle.std.specs.Result.{IsErrAnd}
-use Rattle.cel_tokens.specs.declared.read_error.ReadError.{ReadError}
-use Rattle.cel_tokens.specs.declared.read_error.ReadError.TheVariants.{P1, P2, P3, P4, P5, P6}
+-- The checking of a policy, step by step, over plain variables.
+use Rattle.policy_glue.proofs.Prelude.{◌≡◌, ◌≤◌, ◌<◌, ◌++◌, ◌∷◌, ℕ, List, [], nat_lt, false, Option, Some, None, Result, Ok, Err, IsErr, IfSome, arith, refl, sym, ap, ◌∙◌, ◌+◌, drop, get_or, length, length-append, map, subst, false≢true, ltb-false, nat_tests, All, IsErrAnd, ReadError, P1, P2, P3, P4, P5, P6, Tree, Answers, Placed, CoreTree, expanded, core_view, MacroFault, ArgumentCount, IterationName, NoSelection, macro_fault, fault_error, Core, MacroError, Declaration, declared, depths_of, scope_of, allowed, typing, CelType, depth, need, saturated, ChecksRule, Expands, IsAdded, IsExpanded, Judges, JudgesVariable, Sorts, SortsMessage, AreTaken, Checks, ChecksConditions, ChecksRules, ChecksVariables, IsFormedVariable, rule_trees, variable_expanded, Reads, IsRefused, unread, judged, refused, of_another_type, expression, message, depth_in, expression_judged, texts, truths, type_or_any, variable_judged, with_depth, with_macros, with_typing, Ends, over, next, IsVariable, TakesVariable, RefusesVariable, ValidationsEnd, in_conditions, in_validations, in_variables, scope_after, taken, with_variable, from_macros, from_reader, in_part, CompileError, Named, Rule, Rules, CheckedValidation, K7, K9, PartKind, Message, Validation, ExpressionError, G1, G2, Unread, Unexpanded, Untyped, drop_of_length-le, drop_more, map-append, All-push, fold-append, Checked, NamedExpression}
 use Rattle.cel_tokens.specs.declared.read_error.ReadError.TheVariants as read_error
-use Rattle.cel_reader.specs.Tree.{Tree}
-use Rattle.cel_reader.specs.Answers.{Answers, Placed}
-use Rattle.cel_macros.specs.CoreTree.{CoreTree, expanded}
-use Rattle.cel_macros.specs.CoreView.{core_view}
-use Rattle.cel_macros.specs.MacroFault.{MacroFault, ArgumentCount, IterationName, NoSelection, macro_fault, fault_error}
-use Rattle.cel_macros.specs.declared.core_tree.Core.{Core}
-use Rattle.cel_macros.specs.declared.macro_error.MacroError.{MacroError}
 use Rattle.cel_macros.specs.declared.macro_error.MacroError.TheVariants as macro_error
-use Rattle.cel_types.specs.Declarations.{Declaration, declared, depths_of, scope_of}
-use Rattle.cel_types.specs.Types as types
-use Rattle.cel_types.specs.Types.{Typing, allowed, fault_of}
-use Rattle.cel_types.specs.Typing.{typing}
-use Rattle.cel_types.specs.declared.cel_type.CelType.{CelType}
-use Rattle.cel_types.specs.declared.type_error.TypeError.{TypeError}
-use Rattle.cel_measures.specs.Measures.{depth, need}
-use Rattle.cel_measures.specs.Saturated.{saturated}
-use Rattle.policy_glue.specs.Checked.{ChecksRule, Expands, IsAdded, IsExpanded, Judges, JudgesVariable, Sorts, SortsMessage}
-use Rattle.policy_glue.specs.Checking.{Reads, IsRefused, unread, judged, refused, of_another_type, expression, message, depth_in, expression_judged, texts, truths, type_error, type_or_any, variable_judged, with_depth, with_macros, with_typing}
-use Rattle.policy_glue.specs.CompileErrors.{from_macros, from_reader, in_part}
-use Rattle.policy_glue.specs.declared.compile_error.CompileError.{CompileError}
-use Rattle.policy_glue.specs.Policy.{Named, Rule}
-use Rattle.policy_glue.specs.declared.checked_validation.CheckedValidation.{CheckedValidation}
-use Rattle.policy_glue.specs.declared.compile_error.CompileError.TheVariants.{K7, K9}
-use Rattle.policy_glue.specs.declared.part_kind.PartKind.{PartKind}
-use Rattle.policy_glue.specs.declared.part_kind.PartKind.TheVariants.{Message, Validation}
-use Rattle.policy_glue.specs.declared.expression_error.ExpressionError.{ExpressionError}
-use Rattle.policy_glue.specs.declared.expression_error.ExpressionError.TheVariants.{G1, G2, Unread, Unexpanded, Untyped}
+use Rattle.policy_glue.specs.Checked.{AreConditions, AreRules, AreVariables}
 use Rattle.policy_glue.specs.declared.expression_error.ExpressionError.TheVariants as expression_error
-use Rattle.policy_glue.proofs.OneExpression.{err_same}
+use Rattle.policy_glue.proofs.OneAnswer.{err_same}
 
 unread_by : (text : List ℕ) (e : ReadError) → Answers text (Err e) → Placed text (Err e) → Expands text (Err (from_reader e))
 unread_by text (P1 place) said at = λ some scope. unread (P1 place) (record { some = λ no. cc; answers = said; placed = at })
@@ -78,19 +47,6 @@ macros_refused text a e r reads clause only err is = grind (arith, false≢true,
 
 -- what has no type, or needs too many words
 
-type_error_of : (y : TypeError) → type_error (fault_of y) ≡ y
-type_error_of y = grind arith
-
-pub untyped_is : (t : Typing) (n : ℕ) (y : TypeError) (r : Result CelType ExpressionError) → types.refused (fault_of y) ≡ t → IsErr r
-    → IsErrAnd r (λ x. x ≡ Untyped y) → r ≡ with_typing t n
-untyped_is t n y r is err gives = grind (arith, false≢true, type_error_of)
-
-pub typed_is : (t : Typing) (n m : ℕ) (u : CelType) → types.typed u ≡ t → m ≡ saturated n → m ≤ 60 → Ok u ≡ with_typing t n
-typed_is t n m u is need fits = grind (arith, nat_tests)
-
-pub needy_is : (t : Typing) (n m : ℕ) (u : CelType) → types.typed u ≡ t → m ≡ saturated n → 60 < m → Err G1 ≡ with_typing t n
-needy_is t n m u is need above = grind (arith, nat_tests)
-
 -- both together
 expression_is : (scope : List Declaration) (a : Tree) (r : Result CelType ExpressionError) → macro_fault a ≡ None
     → r ≡ with_typing (typing a (scope_of scope)) (need (expanded a)) → expression_judged scope a ≡ r
@@ -117,19 +73,13 @@ pub variable_refused : (scope : List Declaration) (text : List ℕ) (e : Express
     → Judges (expression_judged scope) text (Err e) → IsErr r → IsErrAnd r (λ x. x ≡ e) → Judges (variable_judged scope) text r
 variable_refused scope text e r judges err is = grind (arith, false≢true, refused_too)
 
-deep_by : (d : ℕ) (t : CelType) (r : Result CelType ExpressionError) → r ≡ Ok t → 6 < d → with_depth d r ≡ Err G2
-deep_by d t r is above = grind (arith, nat_tests)
-
-above_by : (n m : ℕ) → m ≡ saturated n → 6 < m → 6 < n
-above_by n m is above = omega arith
-
 depth_by : (scope : List Declaration) (core : Core) (a : Tree) (m : ℕ) → core_view core ≡ expanded a → m ≡ saturated (depth (core_view core) (depths_of scope))
     → m ≡ saturated (depth_in scope a)
 depth_by scope core a m expands is = is ∙ ap (λ t. saturated (depth t (depths_of scope))) expands
 
 pub deep_is : (scope : List Declaration) (text : List ℕ) (core : Core) (t : CelType) (m : ℕ) → Judges (expression_judged scope) text (Ok (core, t))
     → m ≡ saturated (depth (core_view core) (depths_of scope)) → 6 < m → Judges (variable_judged scope) text (Err G2)
-deep_is scope text core t m judges is above = λ some. judged judges.0 G2 judges.2.reads (deep_by (depth_in scope judges.0) t (expression_judged scope judges.0) judges.2.judged (above_by (depth_in scope judges.0) m (depth_by scope core judges.0 m judges.1.0 is) above))
+deep_is scope text core t m judges is above = λ some. judged judges.0 G2 judges.2.reads (grind (arith, nat_tests))
 
 -- ---- the kind of a type
 
@@ -151,27 +101,16 @@ part_refused types other part place scope text e x judges is = grind (arith, par
 
 -- ---- a variable in scope
 
--- what passes a guard is what was there
-pub guarded : (b : Bool) (g : ExpressionError) (t u : CelType)
-    → (if b then Err g else (let r : Result CelType ExpressionError = Ok t in r)) ≡ Ok u → (b ≡ false) × (t ≡ u)
-guarded true g t u is = cc
-guarded false g t u is = (refl, cc)
-
-type_known : (m : Option MacroFault) (t : Typing) (n : ℕ) (u : CelType) → with_macros m t n ≡ Ok u → type_or_any t ≡ u
-type_known None (types.typed t) n u is = (guarded (nat_lt 60 n) G1 t u is).1
-type_known _ _ n u is = cc
-
 -- what passes the guard of depths is shallow, and was there
 pub shallow_known : (d : ℕ) (r : Result CelType ExpressionError) (u : CelType) → with_depth d r ≡ Ok u → (nat_lt 6 d ≡ false) × (r ≡ Ok u)
-shallow_known d (Err e) u is = cc
-shallow_known d (Ok t) u is = let known = guarded (nat_lt 6 d) G2 t u is in (known.0, ap Ok known.1)
+shallow_known d r u is = grind arith
 
 small_by : (d : ℕ) → nat_lt 6 d ≡ false → saturated d ≡ d
 small_by d is = let within : d ≤ 6 = ltb-false 6 d is in omega arith
 
 type_in_scope : (scope : List Declaration) (a : Tree) (t : CelType) → expression_judged scope a ≡ Ok t → type_or_any (typing a (scope_of scope)) ≡ t
 unfolding expression_judged
-type_in_scope scope a t is = type_known (macro_fault a) (typing a (scope_of scope)) (need (expanded a)) t is
+type_in_scope scope a t is = grind arith
 
 pub added_is : (n : Named) (place : ℕ) (old new : List Declaration) (core : Core) (t : CelType) (d : ℕ) (before after : List CoreTree)
     → JudgesVariable old place n.expression (Ok (core, t)) → d ≡ saturated (depth (core_view core) (depths_of old)) → new ≡ old ++ declared n.name t d ∷ []
@@ -216,3 +155,98 @@ pub rule_is : (scope : List Declaration) (place : ℕ) (n : Rule) (v : CheckedVa
     → SortsMessage scope place n.message_expression (Ok v.message) → ChecksRule scope place n (Ok v)
 rule_is scope place n v sorts says =
     (record { expression = sorts.0; message = says.0 }, pair_is sorts.1.0 says.1, record { expression = sorts.2; message = says.2 }, (sorts.1.1, says.3))
+
+-- the parts before this place are taken, and what the rest comes to behind them, all come to
+pub record Walked {A B C : Type 0} (Takes : List B → A → B → Type 0) (Refuses : List B → A → CompileError → Type 0) (seen : B → C)
+    (IsFormed : B → Type 0) (all rest : List A) (place : ℕ) (trees : List C) : Type 0 where
+  pub taken : List B
+  pub count : length taken ≡ place
+  pub trees_are : trees ≡ map seen taken
+  pub formed : All IsFormed taken
+  pub goes : (end : Result (List B) CompileError) → Ends Takes Refuses taken rest end → Ends Takes Refuses [] all end
+
+-- where the walk stands in a list of the code
+pub at_place : {A B : Type 0} (f : A → B) (xs : List A) (i : ℕ) (x : A) → i < length xs → x ≡ get_or xs i x → map f (drop i xs) ≡ f x ∷ map f (drop (i + 1) xs)
+at_place f xs i x below is = ap (map f) (drop_more xs i x below ∙ ap (λ y. y ∷ drop (i + 1) xs) (sym is))
+
+module _ {A B C X : Type 0} {Takes : List B → A → B → Type 0} {Refuses : List B → A → CompileError → Type 0} {seen : B → C}
+    {IsFormed : B → Type 0} {all : List A} {place : ℕ} {trees : List C} (view : X → A) (xs : List X) where
+  -- in a list of the code, of which this is seen
+  module _ {x : X} (below : place < length xs) (is : x ≡ get_or xs place x)
+      (go : Walked Takes Refuses seen IsFormed all (map view (drop place xs)) place trees) where
+    here : map view (drop place xs) ≡ view x ∷ map view (drop (place + 1) xs)
+    here = at_place view xs place x below is
+
+    pub walk_steps : (after : List C) (b : B) → Takes go.taken (view x) b → IsFormed b → after ≡ trees ++ seen b ∷ []
+        → Walked Takes Refuses seen IsFormed all (map view (drop (place + 1) xs)) (place + 1) after
+    walk_steps after b takes formed more = record {
+      taken = go.taken ++ b ∷ [];
+      count = length-append go.taken (b ∷ []) ∙ ap (λ k. k + 1) go.count;
+      trees_are = more ∙ ap (λ ts. ts ++ seen b ∷ []) go.trees_are ∙ sym (map-append seen go.taken (b ∷ []));
+      formed = All-push IsFormed go.taken b go.formed formed;
+      goes = λ end h. go.goes end (subst (λ ns. Ends Takes Refuses go.taken ns end) (sym here) (next b takes h));
+    }
+
+    pub walk_fails : (e : CompileError) → Refuses go.taken (view x) e → Ends Takes Refuses [] all (Err e)
+    walk_fails e refuses = go.goes (Err e) (subst (λ ns. Ends Takes Refuses go.taken ns (Err e)) (sym here) (refused e refuses))
+
+  pub walk_ends : length xs ≤ place → Walked Takes Refuses seen IsFormed all (map view (drop place xs)) place trees
+      → AreTaken Takes Refuses seen IsFormed all trees
+  walk_ends past go = record {
+    taken = go.taken;
+    end = go.goes (Ok go.taken) (subst (λ ns. Ends Takes Refuses go.taken ns (Ok go.taken)) (sym (ap (map view) (drop_of_length-le xs past))) over);
+    trees_are = go.trees_are;
+    formed = go.formed;
+  }
+
+-- ---- variables, and their scope
+
+pub record VariablesGo (all rest : List Named) (place : ℕ) (scope : List Declaration) (trees : List CoreTree) : Type 0 where
+  pub walked : Walked TakesVariable RefusesVariable variable_expanded IsFormedVariable all rest place trees
+  pub scope_is : scope ≡ scope_after walked.taken
+
+pub variables_begin : (all : List Named) (scope : List Declaration) (trees : List CoreTree) → scope ≡ [] → trees ≡ [] → VariablesGo all all 0 scope trees
+variables_begin all scope trees none empty = record {
+  walked = record { taken = []; count = refl; trees_are = empty; formed = λ k d below. absurd (omega arith); goes = λ end h. h };
+  scope_is = none;
+}
+
+pub variables_step : (view : NamedExpression → Named) (xs : List NamedExpression) {x : NamedExpression} {all : List Named} {place : ℕ}
+    {old new : List Declaration} {before after : List CoreTree} → place < length xs → x ≡ get_or xs place x
+    → VariablesGo all (map view (drop place xs)) place old before → IsAdded (view x) old new before after
+    → VariablesGo all (map view (drop (place + 1) xs)) (place + 1) new after
+unfolding walk_steps
+variables_step view xs {x = x} {after = after} below is go added =
+    let v = added.variable in
+    record {
+      walked = walk_steps view xs below is go.walked after v (subst (λ s. IsVariable s (view x) v) go.scope_is added.taken) added.formed added.trees;
+      scope_is = added.scope ∙ ap (λ s. with_variable s v) go.scope_is ∙ sym (fold-append with_variable [] go.walked.taken (v ∷ []));
+    }
+
+pub variables_end : (view : NamedExpression → Named) (xs : List NamedExpression) {all : List Named} {place : ℕ} {scope : List Declaration}
+    {trees : List CoreTree} → length xs ≤ place → VariablesGo all (map view (drop place xs)) place scope trees → AreVariables all scope trees
+unfolding walk_ends
+variables_end view xs past go = record { are = walk_ends view xs past go.walked; scope_is = go.scope_is }
+
+-- one more behind the others, as the code's values are seen
+pub pushed : {A B : Type 0} (f : A → B) (old new : List A) (x : A) → new ≡ old ++ x ∷ [] → map f new ≡ map f old ++ f x ∷ []
+pushed f old new x is = ap (map f) is ∙ map-append f old (x ∷ [])
+
+-- ---- the lists together
+
+pub refused_variables : (p : Rules) (e : CompileError) → ChecksVariables p.variables (Err e) → Checks p (Err e)
+refused_variables p e checks = λ some. in_variables e (checks some)
+
+pub refused_conditions : (p : Rules) (scope : List Declaration) (trees : List CoreTree) (e : CompileError) → AreVariables p.variables scope trees → ChecksConditions p.conditions (Err e) → Checks p (Err e)
+refused_conditions p scope trees e variables checks = λ some. in_conditions variables.are.taken e variables.are.end (checks some)
+
+pub refused_validations : (p : Rules) (scope : List Declaration) (trees others : List CoreTree) (e : CompileError) → AreVariables p.variables scope trees → AreConditions p.conditions others → ChecksRules scope p.validations (Err e) → Checks p (Err e)
+refused_validations p scope trees others e variables conditions checks = λ some.
+    in_validations variables.are.taken conditions.taken e variables.are.end conditions.end (subst (λ s. ValidationsEnd s p.validations (Err e)) variables.scope_is (checks some))
+
+pub all_taken : (p : Rules) (c : Checked) → AreVariables p.variables c.scope (map core_view c.variables.items) → AreConditions p.conditions (map core_view c.conditions.items) → AreRules c.scope p.validations (map rule_trees c.validations.items) → Checks p (Ok c)
+all_taken p c variables conditions rules = (
+  record { variables = variables.are.taken; conditions = conditions.taken; validations = rules.taken },
+  record { scope = variables.scope_is; variables = variables.are.trees_are; conditions = conditions.trees_are; validations = rules.trees_are; formed = record { variables = variables.are.formed; conditions = conditions.formed; validations = rules.formed } },
+  taken variables.are.taken conditions.taken rules.taken variables.are.end conditions.end (subst (λ s. ValidationsEnd s p.validations (Ok rules.taken)) variables.scope_is rules.end),
+)

@@ -1,19 +1,67 @@
--- Tests over lists of the code, as tests over what they show.
-use Rattle.std.proofs.Common.{◌≡◌, ℕ, Bool, List, [], ◌∷◌, map, string_bytes, refl, ap}
-use Rattle.std.specs.Prelude.{◌||◌}
-use Rattle.std.specs.List.{list_any}
-use Rattle.std.specs.Str.{bytes_eq}
-use Rattle.policy_glue.specs.declared.named_expression.NamedExpression.{NamedExpression}
+-- Lists of the code, over plain variables.
+use Rattle.policy_glue.proofs.Prelude.{◌≡◌, ℕ, Bool, List, [], ◌∷◌, map, string_bytes, refl, ap, ◌++◌, Option, Some, None, true, false, append-nil, codes, ◌<◌, ◌+◌, zero, suc, length, set, get_or, arith, sym, ◌∙◌, subst, ◌||◌, slice_get, list_any, bytes_eq, NamedExpression, named_view, rule_view, has_line_break, each, separator_of, cases_lt, get_or-set_other, get_or-set_same, length-set, map-set, slice_get-get_or, lent}
 use Rattle.policy_glue.specs.declared.validation.Validation.{Validation}
-use Rattle.policy_glue.specs.Policy.{named_view, rule_view}
-use Rattle.policy_glue.specs.Reading.{has_line_break}
+use Rattle.serde_json.specs.Data as json
+use Rattle.policy_glue.specs.Response.{joined}
 
-list_any-map : {A B : Type 0} (p : B → Bool) (f : A → B) (xs : List A) → list_any (λ x. p (f x)) xs ≡ list_any p (map f xs)
-list_any-map p f [] = refl
-list_any-map p f (x ∷ xs) = ap (λ b. p (f x) || b) (list_any-map p f xs)
+list_any_map : {A B : Type 0} (p : B → Bool) (f : A → B) (xs : List A) → list_any (λ x. p (f x)) xs ≡ list_any p (map f xs)
+list_any_map p f [] = refl
+list_any_map p f (x ∷ xs) = ap (λ b. p (f x) || b) (list_any_map p f xs)
 
 pub name_in_views : (name : List ℕ) (ns : List NamedExpression) → list_any (λ n. bytes_eq name (string_bytes n.name)) ns ≡ list_any (λ n. bytes_eq name n.name) (map named_view ns)
-name_in_views name ns = list_any-map (λ n. bytes_eq name n.name) named_view ns
+name_in_views name ns = list_any_map (λ n. bytes_eq name n.name) named_view ns
 
 pub breaks_in_views : (vs : List Validation) → list_any (λ v. has_line_break (string_bytes v.message)) vs ≡ list_any (λ r. has_line_break r.message) (map rule_view vs)
-breaks_in_views vs = list_any-map (λ r. has_line_break r.message) rule_view vs
+breaks_in_views vs = list_any_map (λ r. has_line_break r.message) rule_view vs
+
+abbrev pub all_before : {A : Type 0} → List A → Option (List A) → Option (List A)
+all_before xs (Some ys) = Some (xs ++ ys)
+all_before xs None = None
+
+pub record EachGo {A : Type 0} (f : json.Data → Option A) (all rest : json.Items) (done : List A) : Type 0 where
+  pub left : each f all ≡ all_before done (each f rest)
+
+abbrev pub joined_on : Bool → List (List ℕ) → List ℕ
+joined_on later [] = []
+joined_on later (t ∷ ts) = separator_of later ++ (t ++ joined_on true ts)
+
+same : (ts : List (List ℕ)) → joined_on false ts ≡ joined ts
+same [] = refl
+same (t ∷ []) = append-nil t
+same (t ∷ u ∷ ts) = ap (λ xs. t ++ (codes "; " ++ xs)) (same (u ∷ ts))
+
+pub record JoinGo (all rest : List (List ℕ)) (later : Bool) (text : List ℕ) : Type 0 where
+  pub left : text ++ joined_on later rest ≡ joined all
+
+pub join_start : (all : List (List ℕ)) (text : List ℕ) → text ≡ [] → JoinGo all all false text
+join_start all text e = record { left = rw e (same all) }
+
+-- the first i elements are those of f, of n in all
+pub record IsFilled {A : Type 0} (f : ℕ → A) (n i : ℕ) (xs : List A) : Type 0 where
+  pub size : length xs ≡ n
+  pub each : (k : ℕ) → k < i → slice_get xs k ≡ Some (f k)
+
+set_same : {A : Type 0} (xs : List A) (i : ℕ) (y : A) → i < length xs → slice_get (set xs i y) i ≡ Some y
+set_same xs i y h = slice_get-get_or (set xs i y) i y (omega (arith, length-set xs i y)) ∙ ap Some (get_or-set_same xs i y y h)
+
+set_below : {A : Type 0} (xs : List A) (i k : ℕ) (y : A) → i < length xs → k < i → slice_get (set xs i y) k ≡ slice_get xs k
+set_below xs i k y h below =
+    slice_get-get_or (set xs i y) k y (omega (arith, length-set xs i y)) ∙ ap Some (get_or-set_other xs i k y y (λ e. omega arith))
+    ∙ sym (slice_get-get_or xs k y (omega arith))
+
+pub filled_more : {A : Type 0} (f : ℕ → A) (n i : ℕ) (xs : List A) (y : A) → IsFilled f n i xs → i < n → y ≡ f i → IsFilled f n (i + 1) (set xs i y)
+filled_more f n i xs y go h is = record {
+  size = length-set xs i y ∙ go.size;
+  each = λ k below. grind (arith, cases_lt, set_below, set_same);
+}
+
+-- the same of what the elements show
+pub filled_view : {A B : Type 0} (g : A → B) (f : ℕ → B) (n i : ℕ) (xs : List A) (y : A) → IsFilled f n i (map g xs) → i < n → g y ≡ f i
+    → IsFilled f n (i + 1) (map g (set xs i y))
+filled_view g f n i xs y go h is = subst (IsFilled f n (i + 1)) (sym (map-set g xs i y)) (filled_more f n i (map g xs) (g y) go h is)
+
+-- an element as it is read
+pub read_lent : {A : Type 0} (g : A → Option (List ℕ)) (xs : List A) (i : ℕ) (d : A) → g d ≡ None → g (get_or xs i d) ≡ lent (slice_get (map g xs) i)
+read_lent g [] i d none = none
+read_lent g (x ∷ xs) zero d none = refl
+read_lent g (x ∷ xs) (suc i) d none = read_lent g xs i d none

@@ -1,18 +1,65 @@
 -- A policy has one answer, and one image.
-use Rattle.std.proofs.Common.{◌≡◌, ℕ, List, [], ◌∷◌, ◌++◌, length, Option, Some, Result, Ok, Err, refl, sym, ap, ◌∙◌, subst, arith}
-use Rattle.cel_reader.specs.Tree.{Tree}
-use Rattle.cel_types.specs.Declarations.{Declaration}
-use Rattle.policy_glue.specs.OneAnswer.{HasOneAnswer, HasOneImage}
-use Rattle.policy_glue.specs.Checking.{ConditionsEnd, Ends, IsMessage, IsNoneOf, IsNoRule, IsNoVariable, IsRule, IsVariable, PartsEnd, RefusesCondition, RefusesRule, RefusesVariable, TakesCondition, TakesRule, TakesVariable, ValidationsEnd, VariablesEnd, scope_after, texts, truths, variable_judged}
+use Rattle.policy_glue.proofs.Prelude.{◌≡◌, ℕ, List, [], Result, Ok, Err, refl, sym, ap, ◌∙◌, subst, true≢false, ◌∷◌, ◌++◌, length, arith, Lexeme, ReadError, IsAnswer, spoken, Tree, one_refusal, whole_unique, one_list, only_of, Declaration, allowed, CelType, ConditionsEnd, Ends, IsNoRule, IsNoneOf, IsOneOf, IsOther, IsRefused, IsRule, IsTaken, IsVariable, PartsEnd, Reads, RefusesCondition, RefusesRule, RefusesVariable, TakesCondition, TakesRule, TakesVariable, ValidationsEnd, VariablesEnd, expression, expression_judged, judged, of_another_type, refused, scope_after, texts, truths, unread, variable_judged, CompileError, K6, K7, K9, ExpressionError, Unread, PartKind, HasOneImage, Compiles, excess, Named, Rule, Rules, PolicyTree, RuleTree, VariableTree, Condition, Message, Validation}
+use Rattle.cel_reader.specs.Answers.{IsExpression}
 use Rattle.policy_glue.specs.Checking as checking
-use Rattle.policy_glue.specs.Limits.{Compiles, excess}
 use Rattle.policy_glue.specs.Limits as limits
-use Rattle.policy_glue.specs.Policy.{Named, Rule, Rules}
-use Rattle.policy_glue.specs.Trees.{PolicyTree, RuleTree, VariableTree}
-use Rattle.policy_glue.specs.declared.compile_error.CompileError.{CompileError}
-use Rattle.policy_glue.specs.declared.compile_error.CompileError.TheVariants.{K7, K9}
-use Rattle.policy_glue.specs.declared.part_kind.PartKind.TheVariants.{Condition, Message, Validation}
-use Rattle.policy_glue.proofs.OneExpression.{none_once, not_none, not_refused, ok_is_no_err, ok_same, one_of_once, reads_once, refused_once}
+
+-- answers of one kind have the same within, and none is of two kinds
+pub ok_same : {A E : Type 0} (x y : A) → ◌≡◌ {A = Result A E} (Ok x) (Ok y) → x ≡ y
+ok_same x y is = cc
+
+pub err_same : {A E : Type 0} (x y : E) → ◌≡◌ {A = Result A E} (Err x) (Err y) → x ≡ y
+err_same x y is = cc
+
+pub ok_is_no_err : {A E : Type 0} (x : A) (e : E) → ◌≡◌ {A = Result A E} (Ok x) (Err e) → ⊥
+ok_is_no_err x e is = cc
+
+-- ---- expressions
+
+pub reads_once : (text : List ℕ) (a b : Tree) → Reads text a → Reads text b → a ≡ b
+reads_once text a b r s =
+    whole_unique 100 100 (spoken s.0) a b (subst (λ (ls : List Lexeme). IsExpression 100 (spoken ls) a) (one_list text r.0 s.0 r.1 s.1) r.2) s.2
+
+-- a text that is an expression is not refused for its form
+not_unread : (text : List ℕ) (a : Tree) (e : ReadError) → Reads text a → IsAnswer text (Err e) → ⊥
+not_unread text a e r is = is.some (ap Err (only_of text (Err e) is.answers r.0 a r.1 r.2))
+
+-- ---- what is judged
+
+module _ (judge : Tree → Result CelType ExpressionError) (text : List ℕ) where
+  type_once : (a b : Tree) (t u : CelType) → IsTaken judge text a t → IsTaken judge text b u → t ≡ u
+  type_once a b t u taken other = ok_same t u (sym taken.judged ∙ ap judge (reads_once text a b taken.reads other.reads) ∙ other.judged)
+
+  -- what is taken is not refused
+  pub not_refused : (a : Tree) (t : CelType) (e : ExpressionError) → IsTaken judge text a t → IsRefused judge text e → ⊥
+  not_refused a t e taken (unread x is) = not_unread text a x taken.reads is
+  not_refused a t e taken (judged b x reads is) = ok_is_no_err t x (sym taken.judged ∙ ap judge (reads_once text a b taken.reads reads) ∙ is)
+
+  pub refused_once : (e f : ExpressionError) → IsRefused judge text e → IsRefused judge text f → e ≡ f
+  refused_once e f (unread x is) (unread y also) = ap Unread (one_refusal text x y is also)
+  refused_once e f (unread x is) (judged b y reads also) = absurd (not_unread text b x reads is)
+  refused_once e f (judged a x reads is) (unread y also) = absurd (not_unread text a y reads also)
+  refused_once e f (judged a x reads is) (judged b y more also) = err_same x y (sym is ∙ ap judge (reads_once text a b reads more) ∙ also)
+
+-- ---- what is of a type
+
+module _ (types : List CelType) (scope : List Declaration) (text : List ℕ) where
+  pub one_of_once : (a b : Tree) → IsOneOf types scope text a → IsOneOf types scope text b → a ≡ b
+  one_of_once a b one other = reads_once text a b one.taken.reads other.taken.reads
+
+  not_other : (a : Tree) → IsOneOf types scope text a → IsOther types scope text → ⊥
+  not_other a one other = true≢false (sym one.kind ∙ ap (allowed types) (type_once (expression_judged scope) text a other.tree one.cel_type other.cel_type one.taken other.taken) ∙ other.kind)
+
+  module _ (other : CompileError) (part : PartKind) (place : ℕ) where
+    pub not_none : (a : Tree) (e : CompileError) → IsOneOf types scope text a → IsNoneOf types other part place scope text e → ⊥
+    not_none a e one (refused x because) = not_refused (expression_judged scope) text a one.cel_type x one.taken because
+    not_none a e one (of_another_type is) = not_other a one is
+
+    pub none_once : (e f : CompileError) → IsNoneOf types other part place scope text e → IsNoneOf types other part place scope text f → e ≡ f
+    none_once e f (refused x because) (refused y also) = ap (K6 part place) (refused_once (expression_judged scope) text x y because also)
+    none_once e f (refused x because) (of_another_type is) = absurd (not_refused (expression_judged scope) text is.tree is.cel_type x is.taken because)
+    none_once e f (of_another_type is) (refused y because) = absurd (not_refused (expression_judged scope) text is.tree is.cel_type y is.taken because)
+    none_once e f (of_another_type is) (of_another_type also) = refl
 
 -- ---- answers
 
@@ -43,16 +90,12 @@ variable_once scope n x y is also =
     let tree : x.expression ≡ y.expression = reads_once n.expression x.expression y.expression is.tree.reads also.tree.reads in
     λ i. record { name = name i; expression = tree i }
 
-no_variable_once : (scope : List Declaration) (place : ℕ) (text : List ℕ) (e f : CompileError) → IsNoVariable scope place text e
-    → IsNoVariable scope place text f → e ≡ f
-no_variable_once scope place text e f refused also = grind (arith, refused_once)
-
 variables_once : (ns : List Named) (r s : Result (List VariableTree) CompileError) → VariablesEnd ns r → VariablesEnd ns s → r ≡ s
 variables_once ns r s ends also =
     ends_once TakesVariable RefusesVariable
     (λ taken n x y. variable_once (scope_after taken) n x y)
     (λ taken n x e is refused. not_refused (variable_judged (scope_after taken)) n.expression x.expression is.cel_type refused.cause is.tree refused.because)
-    (λ taken n e f. no_variable_once (scope_after taken) (length taken) n.expression e f)
+    (λ taken n e f. grind (arith, refused_once))
     [] ns r s ends also
 
 -- ---- conditions
@@ -68,25 +111,15 @@ conditions_once ns r s ends also =
 -- ---- validations
 
 module _ (scope : List Declaration) where
-  message_once : (text : Option (List ℕ)) (x y : Option Tree) → IsMessage scope text x → IsMessage scope text y → x ≡ y
-  message_once text x y is also = grind (arith, one_of_once)
-
-  message_not_none : (place : ℕ) (text : List ℕ) (x : Option Tree) (e : CompileError) → IsMessage scope (Some text) x
-      → IsNoneOf texts K9 Message place scope text e → ⊥
-  message_not_none place text x e is none = grind (arith, not_none)
-
   rule_once : (n : Rule) (x y : RuleTree) → IsRule scope n x → IsRule scope n y → x ≡ y
   rule_once n x y is also =
       let tree : x.expression ≡ y.expression = one_of_once truths scope n.expression x.expression y.expression is.expression also.expression in
-      let message : x.message ≡ y.message = message_once n.message_expression x.message y.message is.message also.message in
+      let message : x.message ≡ y.message = grind (arith, one_of_once) in
       λ i. record { expression = tree i; message = message i }
 
   rule_or_none : (place : ℕ) (n : Rule) (x : RuleTree) (e : CompileError) → IsRule scope n x → IsNoRule scope place n e → ⊥
   rule_or_none place n x e is (checking.expression f none) = not_none truths scope n.expression K7 Validation place x.expression f is.expression none
-  rule_or_none place n x e is (checking.message a text f one source none) = grind (arith, message_not_none)
-
-  some_same : (s t : List ℕ) (o : Option (List ℕ)) → o ≡ Some s → o ≡ Some t → s ≡ t
-  some_same s t o is also = cc
+  rule_or_none place n x e is (checking.message a text f one source none) = grind (arith, not_none)
 
   no_rule_once : (place : ℕ) (n : Rule) (e f : CompileError) → IsNoRule scope place n e → IsNoRule scope place n f → e ≡ f
   no_rule_once place n e f (checking.expression x none) (checking.expression y other) = none_once truths scope n.expression K7 Validation place x y none other
@@ -95,7 +128,7 @@ module _ (scope : List Declaration) where
   no_rule_once place n e f (checking.message a text x one is none) (checking.expression y other) =
       absurd (not_none truths scope n.expression K7 Validation place a y one other)
   no_rule_once place n e f (checking.message a text x one is none) (checking.message b source y two also other) =
-      none_once texts scope source K9 Message place x y (subst (λ (t : List ℕ). IsNoneOf texts K9 Message place scope t x) (some_same text source n.message_expression is also) none) other
+      none_once texts scope source K9 Message place x y (subst (λ (t : List ℕ). IsNoneOf texts K9 Message place scope t x) (cc) none) other
 
   validations_once : (ns : List Rule) (r s : Result (List RuleTree) CompileError) → ValidationsEnd scope ns r → ValidationsEnd scope ns s → r ≡ s
   validations_once ns r s ends also =
@@ -108,13 +141,9 @@ module _ (scope : List Declaration) where
 -- ---- the policy
 
 module _ (p : Rules) where
-  scoped : (vs ws : List VariableTree) (r : Result (List RuleTree) CompileError) → VariablesEnd p.variables (Ok vs) → VariablesEnd p.variables (Ok ws)
-      → ValidationsEnd (scope_after vs) p.validations r → ValidationsEnd (scope_after ws) p.validations r
-  scoped vs ws r v w ends = grind (arith, ok_same, variables_once)
-
   rules_once : (vs ws : List VariableTree) (r s : Result (List RuleTree) CompileError) → VariablesEnd p.variables (Ok vs) → VariablesEnd p.variables (Ok ws)
       → ValidationsEnd (scope_after vs) p.validations r → ValidationsEnd (scope_after ws) p.validations s → r ≡ s
-  rules_once vs ws r s v w ends also = validations_once (scope_after ws) p.validations r s (scoped vs ws r v w ends) also
+  rules_once vs ws r s v w ends also = validations_once (scope_after ws) p.validations r s (grind (arith, ok_same, variables_once)) also
 
   no_variables : (vs : List VariableTree) (e : CompileError) → VariablesEnd p.variables (Ok vs) → VariablesEnd p.variables (Err e) → ⊥
   no_variables vs e v w = ok_is_no_err vs e (variables_once p.variables (Ok vs) (Err e) v w)
@@ -131,20 +160,16 @@ module _ (p : Rules) where
   not_taken : (t : PolicyTree) (e : CompileError) → PartsEnd p (Ok t) → PartsEnd p (Err e) → ⊥
   not_taken t e parts also = ok_is_no_err t e (parts_once (Ok t) (Err e) parts also)
 
-  compiled_once : (r s : Result PolicyTree CompileError) → Compiles p r → Compiles p s → r ≡ s
+  pub compiled_once : (r s : Result PolicyTree CompileError) → Compiles p r → Compiles p s → r ≡ s
   compiled_once r s (limits.refused e parts) (limits.refused f also) = parts_once (Err e) (Err f) parts also
   compiled_once r s (limits.refused e parts) (limits.too_large u f also above) = absurd (not_taken u e also parts)
   compiled_once r s (limits.refused e parts) (limits.compiled u also fits) = absurd (not_taken u e also parts)
   compiled_once r s (limits.too_large t e parts above) (limits.refused f also) = absurd (not_taken t f parts also)
-  compiled_once r s (limits.too_large t e parts above) (limits.too_large u f also beyond) =
-      let same = ap excess (trees_once t u parts also) in let cause : e ≡ f = cc in ap Err cause
+  compiled_once r s (limits.too_large t e parts above) (limits.too_large u f also beyond) = grind (arith, trees_once)
   compiled_once r s (limits.too_large t e parts above) (limits.compiled u also fits) = let same = ap excess (trees_once t u parts also) in absurd (cc)
   compiled_once r s (limits.compiled t parts fits) (limits.refused f also) = absurd (not_taken t f parts also)
   compiled_once r s (limits.compiled t parts fits) (limits.too_large u f also above) = let same = ap excess (trees_once t u parts also) in absurd (cc)
   compiled_once r s (limits.compiled t parts fits) (limits.compiled u also more) = parts_once (Ok t) (Ok u) parts also
-
-pub one_answer : HasOneAnswer
-one_answer p a b is also = compiled_once p a b is also
 
 pub one_image : HasOneImage
 one_image p a b is also = grind (arith, ok_same, compiled_once)

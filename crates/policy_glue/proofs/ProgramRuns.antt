@@ -1,77 +1,240 @@
 -- The program of a policy decides as the policy does, within its budget.
-use Rattle.std.proofs.Common.{◌≡◌, ℕ, suc, ◌+◌, ◌*◌, ◌<◌, ◌≤◌, List, [], ◌∷◌, ◌++◌, length, length-append, append-nil, append_assoc, Bool, true, false, refl, ap, ◌∙◌, subst, sym, arith}
-use Rattle.std.specs.Prelude.{All, map, if◌then◌else◌}
-use Rattle.insn_codec.specs.declared.insn.Insn.{Insn}
-use Rattle.insn_codec.specs.declared.insn.Insn.TheVariants.{Exit}
-use Rattle.loader.specs.Contents as loader
-use Rattle.value_store.specs.Placing.{Contents}
-use Rattle.cel_reader.specs.Tree.{Tree}
-use Rattle.cel_macros.specs.Environment.{Environment, Roots}
-use Rattle.cel_types.specs.Declarations.{Declaration}
-use Rattle.bpf_machine.specs.Decoding.{DecodesSpelling}
-use Rattle.bpf_machine.specs.Laws.{stays_stopped}
-use Rattle.bpf_machine.specs.State.{State, start_state}
-use Rattle.bpf_machine.specs.Trace.{state_after}
-use Rattle.codegen_base.specs.Body.{Body}
-use Rattle.codegen_base.specs.Contexts.{HasValues}
-use Rattle.codegen_base.specs.Engine.{Halts}
-use Rattle.codegen_base.specs.Pieces.{AreInsns, Stands, size, spellings}
-use Rattle.codegen_base.specs.Programs.{start_body, total}
-use Rattle.codegen_base.specs.Scopes.{Variable, bindings, first_charges, first_steps, scope_setting}
-use Rattle.codegen_base.specs.Variables.{routine_context}
-use Rattle.codegen_base.proofs.Pieces.{size-append, size-cons, stands_front}
-use Rattle.codegen_base.proofs.Programs.{charges-most}
-use Rattle.codegen_base.proofs.Scopes.{no_scope}
-use Rattle.codegen_base.proofs.Spelled.{spelled_stands}
-use Rattle.codegen.specs.Constants.{joined, with_texts}
-use Rattle.codegen.specs.Cost.{Cost, spent_by}
+use Rattle.policy_glue.proofs.Prelude.{◌≡◌, ℕ, ◌+◌, ◌-◌, ◌*◌, ◌≤◌, List, [], ◌∷◌, ◌++◌, length, length-append, append-nil, append_assoc, Bool, true, refl, ap, ◌∙◌, subst, sym, arith, Option, Some, None, suc, ◌<◌, false, ◌||◌, fold, map, All, if◌then◌else◌, map-append, fold-append, ValueOrError, value, expanded, plain_tree, Roots, Environment, expansion_plain, Declaration, scope_of, typing as type_of, skip, Stands, size, AreInsns, spellings, total, start_body, IsScope, Variable, bindings, first_charges, first_steps, scope_setting, stands_back, stands_front, stands_rest, environment_in, variable_of, joined, with_text, with_texts, IsDeep, cost, spent_by, Cost, AreShallow, HasConstants, IsExpression, variable_is_taken, variable_joins, expression_gives, frames_are_enough, variables_cost, conditions_cost, message_cost, rules_cost, is_running, policy_cost, policy_spent, policy_work, runs_on, depth_in, type_or_any, with_variable, scope_after, environment_with, with_value, condition_values, rule_value, decision_of, values_of, tree_texts, variable_texts, condition_texts, message_texts, rule_texts, validation_texts, policy_texts, routines_code, policy_code, Laid, after_variables, texts_with, variable_code, variable_codes, with_routine, after_condition, before_message, condition_codes, tree_code, validation_codes, with_message, laid_conditions, laid_routines, nothing_laid, program_of, AreVariables, AreConditions, AreRules, IsMessage, Decides, HasProgram, ProgramDecides, ProgramIsCode, ProgramStops, Tree, VariableTree, RuleTree, PolicyTree, Insn, meaning, Context, HasValues, Setting, Halts, routine_context, wider_gives, no_scope, ConditionsGive, MessageGives, Part, PartGives, RulePart, ValidationsGive, codes_of, conditions_charge, conditions_steps, message_size, rule_codes, rule_size, rules_given, validations_charge, validations_steps, values_given, denies, truth_of, Verdict, decided_before, verdict_of, FailurePolicy, Exit, Contents, DecodesSpelling, stays_stopped, State, start_state, state_after, Body, charges-most, spelled_stands, LeavesVerdict, conditions_place, passes, program_charge, program_steps, validations_place}
 use Rattle.codegen.specs.Layer.{AreTaken}
-use Rattle.policy_glue.specs.Budget.{conditions_cost, is_running, policy_cost, policy_spent, policy_work, rules_cost, runs_on, variables_cost}
-use Rattle.policy_glue.specs.Checking.{scope_after, with_variable}
-use Rattle.policy_glue.specs.Evaluation.{decision_of, environment_with, values_of}
-use Rattle.policy_glue.specs.Layout.{most_validations}
-use Rattle.policy_glue.specs.Limits.{condition_texts, policy_texts, tree_texts, validation_texts, variable_texts}
-use Rattle.policy_glue.specs.Program.{policy_code, routines_code}
-use Rattle.policy_glue.specs.ProgramCode.{Laid, after_condition, after_conditions, after_variables, laid_conditions, laid_routines, nothing_laid, program_of, variable_codes, with_routine}
-use Rattle.policy_glue.specs.ProgramLaws.{LeavesVerdict, conditions_place, passes, program_charge, program_steps, validations_place}
-use Rattle.policy_glue.specs.ProgramParts.{ConditionsGive, Part, RulePart, ValidationsGive, codes_of, decided_slots, rule_codes, rules_given, validations_charge, validations_steps, values_given}
-use Rattle.policy_glue.specs.ProgramTrees.{Decides, HasProgram, ProgramDecides, ProgramIsCode, ProgramStops}
-use Rattle.policy_glue.specs.Trees.{PolicyTree, RuleTree, VariableTree}
-use Rattle.policy_glue.specs.Verdict.{Verdict, decided_before, truth_of, verdict_of}
-use Rattle.policy_glue.specs.declared.failure_policy.FailurePolicy.{FailurePolicy}
-use Rattle.policy_glue.proofs.ProgramDecided.{place_is}
-use Rattle.policy_glue.proofs.ProgramRows.{place_after}
-use Rattle.policy_glue.proofs.ProgramTreeParts.{after_rule, condition_codes_are, condition_parts, condition_values_are, conditions_give, conditions_within, rule_codes_are, rule_parts, rule_values_are, validations_give, validations_within}
-use Rattle.policy_glue.proofs.ProgramVariables.{Known, charges_within, newest, or_left, or_right, scope_with, steps_within, used_more, values_are, variables_known}
+use Rattle.policy_glue.proofs.ProgramSizes.{message_texts_are, conditions_place_is, conditions_slots, variables_place, conditions_texts, variables_texts}
+use Rattle.loader.specs.Contents as loader
 use Rattle.policy_glue.proofs.ProgramWhole.{policy_decides}
 
--- ---- places, texts and slots behind rows
+-- ---- texts
 
-variables_place : (vs : List VariableTree) (ds : List Declaration) (l : Laid) → (after_variables ds l vs).place ≡ l.place + size (routines_code (variable_codes ds l vs))
-variables_place [] ds l = omega arith
-variables_place (v ∷ more) ds l = grind (arith, variables_place more (with_variable ds v) (with_routine ds l v), size-cons, size-append)
+-- the texts so far and those that are still to be used are all
+pub used_more : (all texts first rest : List (List ℕ)) → all ≡ with_texts texts (first ++ rest) → all ≡ with_texts (with_texts texts first) rest
+used_more all texts first rest e = e ∙ fold-append with_text texts first rest
 
-variables_used : (all rest : List (List ℕ)) (vs : List VariableTree) (ds : List Declaration) (l : Laid) → all ≡ with_texts l.texts (variable_texts vs ++ rest) → all ≡ with_texts (after_variables ds l vs).texts rest
-variables_used all rest [] ds l used = used
-variables_used all rest (v ∷ more) ds l used =
-    variables_used all rest more (with_variable ds v) (with_routine ds l v) (used_more all l.texts (tree_texts v.expression) (variable_texts more ++ rest) (used ∙ ap (with_texts l.texts) (append_assoc (tree_texts v.expression) (variable_texts more) rest)))
+pub has_constants : (constants : List ℕ) (all texts : List (List ℕ)) (a : Tree) (rest : List (List ℕ)) → constants ≡ joined all → length constants ≤ 1048576 → all ≡ with_texts texts (tree_texts a ++ rest) → HasConstants constants texts (expanded a)
+has_constants constants all texts a rest is few e = record { more = rest; constants_are = is ∙ ap joined (used_more all texts (tree_texts a) rest e); few = few }
 
-conditions_place_is : (roots : Roots) (cs : List Tree) (l : Laid) → (after_conditions l cs).place ≡ place_after l.place (condition_parts roots l cs)
-conditions_place_is roots [] l = refl
-conditions_place_is roots (a ∷ more) l = conditions_place_is roots more (after_condition l a)
+-- ---- depths
 
--- the conditions decide something where there are trees
-decided_as_many : (roots : Roots) (l : Laid) (cs : List Tree) → decided_slots cs ≡ decided_slots (condition_parts roots l cs)
-decided_as_many roots l cs = grind arith
+pub or_left : (x y : Bool) → x ≡ true → (x || y) ≡ true
+or_left x y e = rw e refl
 
-conditions_used : (all rest : List (List ℕ)) (cs : List Tree) (l : Laid) → all ≡ with_texts l.texts (condition_texts cs ++ rest) → all ≡ with_texts (after_conditions l cs).texts rest
-conditions_used all rest [] l used = used
-conditions_used all rest (a ∷ more) l used =
-    conditions_used all rest more (after_condition l a) (used_more all l.texts (tree_texts a) (condition_texts more ++ rest) (used ∙ ap (with_texts l.texts) (append_assoc (tree_texts a) (condition_texts more) rest)))
+pub or_right : (x y : Bool) → y ≡ true → (x || y) ≡ true
+or_right x y e = grind arith
 
-conditions_slots : (cs : List Tree) (l : Laid) → (after_conditions l cs).routines ≡ l.routines
-conditions_slots [] l = refl
-conditions_slots (a ∷ more) l = conditions_slots more (after_condition l a)
+shallow_more : (ds : List Declaration) (d : Declaration) → AreShallow ds → d.depth ≤ 6 → AreShallow (ds ++ d ∷ [])
+shallow_more [] d h low = (low, tt)
+shallow_more (x ∷ ds) d h low = (h.0, shallow_more ds d h.1 low)
+
+-- ---- the scope
+
+module _ (image : loader.Contents) (deep : Bool) (roots : Roots) where
+  -- the variables that stand so far
+  pub record Known (scope : List Variable) (ds : List Declaration) (l : Laid) : Type 0 where
+    pub taken : AreTaken l.routines ds scope []
+    pub is : IsScope image deep roots image.constants scope
+    pub shallow : AreShallow ds
+
+  abbrev pub newest : List Variable → Laid → VariableTree → Variable
+  newest scope l v = variable_of roots scope (texts_with l v.expression) v.name (expanded v.expression) (l.place + 1)
+
+  -- with those of these trees behind them
+  abbrev pub scope_with : List Variable → List Declaration → Laid → List VariableTree → List Variable
+  scope_with scope ds l [] = scope
+  scope_with scope ds l (v ∷ more) = scope_with (scope ++ newest scope l v ∷ []) (with_variable ds v) (with_routine ds l v) more
+
+  pub known_more : (scope : List Variable) (ds : List Declaration) (l : Laid) (v : VariableTree) → Known scope ds l → IsExpression ds (expanded v.expression) → depth_in ds v.expression ≤ 6 → length scope ≤ 512 → HasConstants image.constants l.texts (expanded v.expression) → (IsDeep (plain_tree (expanded v.expression)) (environment_in roots [] scope) → deep ≡ true) → Stands image.code (l.place + 1) (variable_code ds l v) → Known (scope ++ newest scope l v ∷ []) (with_variable ds v) (with_routine ds l v)
+  known_more scope ds l v known expression low few constants may stands =
+      let same = append-nil scope in
+      let joined_scope = variable_joins l.texts l.routines ds (expanded v.expression) (l.place + 1) expression image deep roots image.constants scope [] v.name known.taken low few constants (subst (IsScope image deep roots image.constants) (sym same) known.is) may stands in
+      record {
+        taken = variable_is_taken l.texts l.routines ds (expanded v.expression) (l.place + 1) roots scope v.name (type_or_any (type_of v.expression (scope_of ds))) known.taken;
+        is = subst (λ (vs : List Variable). IsScope image deep roots image.constants (vs ++ newest scope l v ∷ [])) same joined_scope;
+        shallow = shallow_more ds _ known.shallow low;
+      }
+
+  -- ---- all of them
+
+  -- the expression of a variable costs no more than the whole
+  deep_first : (ds : List Declaration) (scope : List Variable) (v : VariableTree) (more : List VariableTree) → ((variables_cost roots (bindings scope) (v ∷ more)).is_deep ≡ true → deep ≡ true) → IsDeep (plain_tree (expanded v.expression)) (environment_in roots [] scope) → deep ≡ true
+  deep_first ds scope v more may e = grind (arith, expansion_plain, or_left)
+
+  -- the name of the newest stands for its value
+  pub newest_value : (scope : List Variable) (l : Laid) (v : VariableTree) → bindings (scope ++ newest scope l v ∷ []) ≡ with_value roots (bindings scope) v
+  newest_value scope l v = grind (arith, map-append, expansion_plain)
+
+  pub variables_known : (all rest : List (List ℕ)) (vs : List VariableTree) (scope : List Variable) (ds : List Declaration) (l : Laid) → image.constants ≡ joined all → length image.constants ≤ 1048576 → all ≡ with_texts l.texts (variable_texts vs ++ rest) → ((variables_cost roots (bindings scope) vs).is_deep ≡ true → deep ≡ true) → length scope + length vs ≤ 512 → AreVariables ds vs → Stands image.code l.place (routines_code (variable_codes ds l vs)) → Known scope ds l → Known (scope_with scope ds l vs) (fold with_variable ds vs) (after_variables ds l vs)
+  variables_known all rest [] scope ds l are few used may short expressions stands known = known
+  variables_known all rest (v ∷ more) scope ds l are few used may short expressions stands known =
+      let routine = variable_code ds l v in
+      let others = routines_code (variable_codes (with_variable ds v) (with_routine ds l v) more) in
+      let behind = stands_rest image.code l.place (skip (size routine)) (routine ++ others) stands in
+      let first = tree_texts v.expression in
+      let apart : all ≡ with_texts l.texts (first ++ (variable_texts more ++ rest)) = used ∙ ap (with_texts l.texts) (append_assoc first (variable_texts more) rest) in
+      let next = known_more scope ds l v known expressions.0 expressions.1 (omega arith) (has_constants image.constants all l.texts v.expression (variable_texts more ++ rest) are few apart) (deep_first ds scope v more may) (stands_front image.code (l.place + 1) routine others behind) in
+      let scope1 = scope ++ newest scope l v ∷ [] in
+      let longer = length-append scope (newest scope l v ∷ []) in
+      let may1 : (variables_cost roots (bindings scope1) more).is_deep ≡ true → deep ≡ true = λ e. may (or_right (cost v.expression (environment_with roots (bindings scope))).is_deep _ (subst (λ (bs : List (List ℕ × ValueOrError)). (variables_cost roots bs more).is_deep ≡ true) (newest_value scope l v) e)) in
+      variables_known all rest more scope1 (with_variable ds v) (with_routine ds l v) are few (used_more all l.texts first (variable_texts more ++ rest) apart) may1 (omega arith) expressions.2 (stands_back image.code (l.place + 1) routine others behind) next
+
+  pub values_are : (vs : List VariableTree) (scope : List Variable) (ds : List Declaration) (l : Laid) → bindings (scope_with scope ds l vs) ≡ fold (with_value roots) (bindings scope) vs
+  values_are [] scope ds l = refl
+  values_are (v ∷ more) scope ds l = grind (arith, newest_value, values_are more (scope ++ newest scope l v ∷ []) (with_variable ds v) (with_routine ds l v))
+
+  -- ---- what they take
+
+  total-append : (ns ms : List ℕ) → total (ns ++ ms) ≡ total ns + total ms
+  total-append [] ms = omega arith
+  total-append (n ∷ ns) ms = let rest = total-append ns ms in omega arith
+
+  -- first uses and the jumps over the routines are paid by their visits
+  pub steps_within : (vs : List VariableTree) (scope : List Variable) (ds : List Declaration) (l : Laid) → total (first_steps (scope_with scope ds l vs)) + length (variable_codes ds l vs) ≤ total (first_steps scope) + 128 * (variables_cost roots (bindings scope) vs).visits
+  steps_within [] scope ds l = omega arith
+  steps_within (v ∷ more) scope ds l =
+      let u = newest scope l v in
+      let rest = steps_within more (scope ++ u ∷ []) (with_variable ds v) (with_routine ds l v) in
+      let joined_steps = map-append (λ (x : Variable). x.steps + 9) scope (u ∷ []) in
+      let whole : total (first_steps (scope ++ u ∷ [])) ≡ total (first_steps scope) + (u.steps + 9) = ap total joined_steps ∙ total-append (first_steps scope) ((u.steps + 9) ∷ []) ∙ omega arith in
+      let visits : u.steps ≡ 128 * (cost v.expression (environment_with roots (bindings scope))).visits - 8 = ap (λ (a : Tree). 128 * (cost a (environment_with roots (bindings scope))).visits - 8) (expansion_plain v.expression) in
+      let same : (variables_cost roots (bindings (scope ++ u ∷ [])) more).visits ≡ (variables_cost roots (with_value roots (bindings scope) v) more).visits = ap (λ (bs : List (List ℕ × ValueOrError)). (variables_cost roots bs more).visits) (newest_value scope l v) in
+      omega arith
+
+  pub charges_within : (vs : List VariableTree) (scope : List Variable) (ds : List Declaration) (l : Laid) → total (first_charges (scope_with scope ds l vs)) ≤ total (first_charges scope) + 16 * spent_by (variables_cost roots (bindings scope) vs)
+  charges_within [] scope ds l = omega arith
+  charges_within (v ∷ more) scope ds l =
+      let u = newest scope l v in
+      let rest = charges_within more (scope ++ u ∷ []) (with_variable ds v) (with_routine ds l v) in
+      let joined_charges = map-append (λ (x : Variable). x.charge) scope (u ∷ []) in
+      let whole : total (first_charges (scope ++ u ∷ [])) ≡ total (first_charges scope) + u.charge = ap total joined_charges ∙ total-append (first_charges scope) (u.charge ∷ []) ∙ omega arith in
+      let spent : u.charge ≡ 16 * spent_by (cost v.expression (environment_with roots (bindings scope))) - 8 = ap (λ (a : Tree). 16 * spent_by (cost a (environment_with roots (bindings scope))) - 8) (expansion_plain v.expression) in
+      let same : spent_by (variables_cost roots (bindings (scope ++ u ∷ [])) more) ≡ spent_by (variables_cost roots (with_value roots (bindings scope) v) more) = ap (λ (bs : List (List ℕ × ValueOrError)). spent_by (variables_cost roots bs more)) (newest_value scope l v) in
+      omega arith
+
+-- ---- the parts of the trees
+
+abbrev pub tree_part : List Declaration → Laid → Environment → Tree → Part
+tree_part ds l env a = record { code = tree_code ds l a; value = meaning a env; steps = 128 * (cost a env).visits - 8; charge = 16 * spent_by (cost a env) - 8 }
+
+abbrev pub condition_parts : Roots → Laid → List Tree → List Part
+condition_parts roots l [] = []
+condition_parts roots l (a ∷ more) = tree_part [] l (environment_with roots []) a ∷ condition_parts roots (after_condition l a) more
+
+abbrev pub message_part : List Declaration → Laid → Environment → Option Tree → Option Part
+message_part ds l env (Some a) = Some (tree_part ds l env a)
+message_part ds l env None = None
+
+abbrev pub rule_part : List Declaration → Laid → Environment → RuleTree → RulePart
+rule_part ds l env r = record { expression = tree_part ds l env r.expression; message = message_part ds (before_message ds l r) env r.message }
+
+abbrev pub after_rule : List Declaration → Laid → RuleTree → Laid
+after_rule ds l r = with_message ds (before_message ds l r) r.message
+
+abbrev pub rule_parts : List Declaration → Laid → Environment → List RuleTree → List RulePart
+rule_parts ds l env [] = []
+rule_parts ds l env (r ∷ more) = rule_part ds l env r ∷ rule_parts ds (after_rule ds l r) env more
+
+-- ---- their codes and values
+
+pub condition_codes_are : (roots : Roots) (l : Laid) (trees : List Tree) → codes_of (condition_parts roots l trees) ≡ condition_codes l trees
+condition_codes_are roots l [] = refl
+condition_codes_are roots l (a ∷ more) = ap (λ (cs : List (List Insn)). tree_code [] l a ∷ cs) (condition_codes_are roots (after_condition l a) more)
+
+pub condition_values_are : (roots : Roots) (l : Laid) (trees : List Tree) → values_given (condition_parts roots l trees) ≡ condition_values roots trees
+condition_values_are roots l [] = refl
+condition_values_are roots l (a ∷ more) = grind (arith, condition_values_are roots (after_condition l a) more)
+
+pub rule_codes_are : (ds : List Declaration) (l : Laid) (env : Environment) (rs : List RuleTree)
+    → rule_codes (rule_parts ds l env rs) ≡ validation_codes ds l rs
+rule_codes_are ds l env [] = refl
+rule_codes_are ds l env (r ∷ more) = grind (arith, rule_codes_are ds (after_rule ds l r) env more)
+
+pub rule_values_are : (ds : List Declaration) (l : Laid) (env : Environment) (rs : List RuleTree)
+    → rules_given (rule_parts ds l env rs) ≡ map (rule_value env) rs
+rule_values_are ds l env [] = refl
+rule_values_are ds l env (r ∷ more) = grind (arith, rule_values_are ds (after_rule ds l r) env more)
+
+-- ---- an expression gives what it means
+
+module _ (image : loader.Contents) (deep : Bool) (roots : Roots) (everything : List (List ℕ)) (are : image.constants ≡ joined everything) (few : length image.constants ≤ 1048576) where
+  -- in the scope of all variables, of which it may use the first
+  tree_gives : (scope later all : List Variable) (ds : List Declaration) (l : Laid) (a : Tree) (rest : List (List ℕ)) → scope ++ later ≡ all → AreTaken l.routines ds scope later → AreShallow ds → IsScope image deep roots image.constants scope → length scope ≤ 512 → IsExpression ds (expanded a) → everything ≡ with_texts l.texts (tree_texts a ++ rest) → (IsDeep a (environment_with roots (bindings scope)) → deep ≡ true) → PartGives (scope_setting image deep all) (routine_context roots (bindings all) image.constants) l.place (tree_part ds l (environment_with roots (bindings scope)) a)
+  tree_gives scope later all ds l a rest whole taken shallow is short expression used may =
+      grind (arith, expansion_plain, expression_gives, frames_are_enough, has_constants, wider_gives)
+
+  -- ---- conditions
+
+  pub conditions_give : (scope : List Variable) (trees : List Tree) (l : Laid) (rest : List (List ℕ)) → map (λ (v : Variable). v.routine) scope ≡ l.routines
+      → AreConditions trees → everything ≡ with_texts l.texts (condition_texts trees ++ rest) → ((conditions_cost roots trees).is_deep ≡ true → deep ≡ true)
+      → ConditionsGive (scope_setting image deep scope) (routine_context roots (bindings scope) image.constants) l.place (condition_parts roots l trees)
+  conditions_give scope [] l rest slots expressions used may = tt
+  conditions_give scope (a ∷ more) l rest slots expressions used may =
+      let apart : everything ≡ with_texts l.texts (tree_texts a ++ (condition_texts more ++ rest)) = used
+      ∙ ap (with_texts l.texts) (append_assoc (tree_texts a) (condition_texts more) rest) in
+      let first = tree_gives [] scope scope [] l a (condition_texts more ++ rest) refl (record { slots_are = slots; depths_are = refl }) tt (no_scope image deep roots image.constants) (omega arith) expressions.0 apart (λ e. may (or_left (cost a (environment_with roots [])).is_deep (conditions_cost roots more).is_deep e)) in
+      let others = conditions_give scope more (after_condition l a) rest slots expressions.1 (used_more everything l.texts (tree_texts a) (condition_texts more ++ rest) apart) (λ e. may (or_right (cost a (environment_with roots [])).is_deep (conditions_cost roots more).is_deep e)) in
+      (first, others)
+
+  -- ---- validations
+
+  module _ (f : FailurePolicy) (scope : List Variable) (ds : List Declaration) (shallow : AreShallow ds) (is : IsScope image deep roots image.constants scope) (short : length scope ≤ 512) where
+    abbrev rule_env : Environment
+    rule_env = environment_with roots (bindings scope)
+
+    abbrev s : Setting
+    s = scope_setting image deep scope
+
+    abbrev c : Context
+    c = routine_context roots (bindings scope) image.constants
+
+    one_gives : (l : Laid) (a : Tree) (rest : List (List ℕ)) → AreTaken l.routines ds scope [] → IsExpression ds (expanded a)
+        → everything ≡ with_texts l.texts (tree_texts a ++ rest) → (IsDeep a rule_env → deep ≡ true) → PartGives s c l.place (tree_part ds l rule_env a)
+    one_gives l a rest taken expression used may = tree_gives scope [] scope ds l a rest (append-nil scope) taken shallow is short expression used may
+
+    message_gives : (l : Laid) (m : Option Tree) (rest : List (List ℕ)) (d : Bool) → AreTaken l.routines ds scope [] → IsMessage ds m
+        → everything ≡ with_texts l.texts (message_texts m ++ rest) → ((message_cost d rule_env m).is_deep ≡ true → deep ≡ true)
+        → MessageGives s c l.place d (message_part ds l rule_env m)
+    message_gives l m rest d taken expression used may = grind (arith, one_gives)
+
+    message_place : (l : Laid) (m : Option Tree) → (with_message ds l m).place ≡ l.place + message_size (message_part ds l rule_env m)
+    message_place l m = grind arith
+
+    pub validations_give : (rs : List RuleTree) (l : Laid) (rest : List (List ℕ)) → AreTaken l.routines ds scope [] → AreRules ds rs
+        → everything ≡ with_texts l.texts (validation_texts rs ++ rest) → ((rules_cost true f rule_env rs).is_deep ≡ true → deep ≡ true)
+        → ValidationsGive f s c l.place (rule_parts ds l rule_env rs)
+    validations_give [] l rest taken expressions used may = tt
+    validations_give (r ∷ more) l rest taken expressions used may =
+        let e = r.expression in
+        let d = denies f (truth_of (meaning e rule_env)) in
+        let l1 = before_message ds l r in
+        let l2 = after_rule ds l r in
+        let behind = validation_texts more ++ rest in
+        let first_cost = (cost e rule_env).is_deep in
+        let told_cost = (message_cost d rule_env r.message).is_deep in
+        let more_cost = (rules_cost true f rule_env more).is_deep in
+        let apart : everything ≡ with_texts l.texts (tree_texts e ++ (message_texts r.message ++ behind)) = used ∙ ap (with_texts l.texts) (append_assoc (rule_texts r) (validation_texts more) rest ∙ append_assoc (tree_texts e) (message_texts r.message) behind) in
+        let used1 : everything ≡ with_texts l1.texts (message_texts r.message ++ behind) = used_more everything l.texts (tree_texts e) (message_texts r.message ++ behind) apart in
+        let used2 : everything ≡ with_texts l2.texts behind = used_more everything l1.texts (message_texts r.message) behind used1
+        ∙ ap (λ (ts : List (List ℕ)). with_texts ts behind) (sym (message_texts_are ds l1 r.message)) in
+        let first = one_gives l e (message_texts r.message ++ behind) taken expressions.0 apart (λ h. may (or_left (first_cost || told_cost) more_cost (or_left first_cost told_cost h))) in
+        let told = message_gives l1 r.message behind d taken expressions.1 used1 (λ h. may (or_left (first_cost || told_cost) more_cost (or_right first_cost told_cost h))) in
+        let taken2 = subst (λ (slots : List ℕ). AreTaken slots ds scope []) (sym (grind arith)) taken in
+        let others = validations_give more l2 rest taken2 expressions.2 used2 (λ h. may (or_right (first_cost || told_cost) more_cost h)) in
+        let place : l2.place ≡ l.place + rule_size (rule_part ds l rule_env r) = message_place l1 r.message ∙ omega arith in
+        (first, told, subst (λ (p : ℕ). ValidationsGive f s c p (rule_parts ds l2 rule_env more)) place others)
+
+-- ---- budgets: steps, and what is charged
+
+pub conditions_within : (roots : Roots) (l : Laid) (trees : List Tree)
+    → (conditions_steps (condition_parts roots l trees) ≤ 128 * (conditions_cost roots trees).visits)
+    × (conditions_charge (condition_parts roots l trees) ≤ 16 * spent_by (conditions_cost roots trees))
+conditions_within roots l [] = (omega arith, omega arith)
+conditions_within roots l (a ∷ more) = let rest = conditions_within roots (after_condition l a) more in (omega (arith, rest.0), omega (arith, rest.1))
+
+pub validations_within : (f : FailurePolicy) (ds : List Declaration) (l : Laid) (env : Environment) (rs : List RuleTree)
+    → (validations_steps f (rule_parts ds l env rs) ≤ 128 * (rules_cost true f env rs).visits)
+    × (validations_charge f (rule_parts ds l env rs) ≤ 16 * spent_by (rules_cost true f env rs))
+validations_within f ds l env [] = (omega arith, omega arith)
+validations_within f ds l env (r ∷ more) = grind (arith, validations_within f ds (after_rule ds l r) env more)
 
 scope_length : (image : loader.Contents) (deep : Bool) (roots : Roots) (vs : List VariableTree) (scope : List Variable) (ds : List Declaration) (l : Laid) → length (scope_with image deep roots scope ds l vs) ≡ length scope + length vs
 scope_length image deep roots [] scope ds l = omega arith
@@ -150,12 +313,10 @@ module _ (law : DecodesSpelling) (f : FailurePolicy) (p : PolicyTree) (roots : R
   used_first = refl
 
   used_second : policy_texts p ≡ with_texts (laid_routines p).texts (condition_texts p.conditions ++ validation_texts p.validations)
-  used_second = variables_used (policy_texts p) (condition_texts p.conditions ++ validation_texts p.validations) p.variables [] nothing_laid used_first
+  used_second = grind (arith, used_more, used_first, variables_texts)
 
   used_third : policy_texts p ≡ with_texts (laid_conditions p).texts (validation_texts p.validations ++ [])
-  used_third =
-      conditions_used (policy_texts p) (validation_texts p.validations) p.conditions (laid_routines p) used_second
-      ∙ ap (with_texts (after_conditions (laid_routines p) p.conditions).texts) (sym (append-nil (validation_texts p.validations)))
+  used_third = grind (arith, used_more, used_second, conditions_texts, append-nil)
 
   -- ---- the scope of all variables
 
@@ -175,9 +336,6 @@ module _ (law : DecodesSpelling) (f : FailurePolicy) (p : PolicyTree) (roots : R
   slots_are : map (λ (v : Variable). v.routine) scope ≡ (laid_routines p).routines
   slots_are = ap (map (λ (v : Variable). v.routine)) (sym (append-nil scope)) ∙ known.taken.slots_are
 
-  taken_later : AreTaken (laid_conditions p).routines ds scope []
-  taken_later = subst (λ (slots : List ℕ). AreTaken slots ds scope []) (sym (conditions_slots p.conditions (laid_routines p))) known.taken
-
   short_scope : length scope ≤ 512
   short_scope = let few = has.few_variables in let long = scope_length image deep roots p.variables [] [] nothing_laid in omega arith
 
@@ -187,12 +345,7 @@ module _ (law : DecodesSpelling) (f : FailurePolicy) (p : PolicyTree) (roots : R
   first_place = variables_place p.variables [] nothing_laid ∙ omega arith
 
   second_place : (laid_conditions p).place ≡ validations_place f routines conditions
-  second_place =
-      let first = conditions_place_is roots p.conditions (laid_routines p) in
-      let second = place_is f (laid_routines p).place conditions in
-      let third = first_place in
-      let decide = decided_as_many roots (laid_routines p) p.conditions in
-      omega arith
+  second_place = grind (arith, conditions_place_is, condition_codes_are, first_place)
 
   give_conditions : ConditionsGive (scope_setting image deep scope) (routine_context roots (bindings scope) image.constants) (conditions_place routines) conditions
   give_conditions = grind (arith, first_place, conditions_give, few_constants, slots_are, used_second, deep_conditions)
@@ -206,7 +359,8 @@ module _ (law : DecodesSpelling) (f : FailurePolicy) (p : PolicyTree) (roots : R
   give_validations runs =
       subst (λ (n : ℕ). ValidationsGive f (scope_setting image deep scope) (routine_context roots (bindings scope) image.constants) n rules) second_place
       (validations_give image deep roots (policy_texts p) constants_are few_constants f scope ds known.shallow known.is short_scope p.validations
-      (laid_conditions p) [] taken_later has.validations used_third (λ e. deep_rules (ap (λ k. k.is_deep) (sym (cost_is runs)) ∙ e)))
+      (laid_conditions p) [] (subst (λ (slots : List ℕ). AreTaken slots ds scope []) (sym (conditions_slots p.conditions (laid_routines p))) known.taken)
+      has.validations used_third (λ e. deep_rules (ap (λ k. k.is_deep) (sym (cost_is runs)) ∙ e)))
 
   -- ---- budgets
 
@@ -235,9 +389,6 @@ module _ (law : DecodesSpelling) (f : FailurePolicy) (p : PolicyTree) (roots : R
 
   -- ---- the end
 
-  rules_few : length rules ≤ most_validations
-  rules_few = let few = has.few_validations in let long = rules_length ds (laid_conditions p) env p.validations in omega arith
-
   decided : {t : State} → Halts (scope_setting image deep scope) (program_charge f conditions rules) start (LeavesVerdict f (decision_of f p roots)) t → Decides f p roots values t
   decided h0 = grind (arith, charges-most, charge_enough)
 
@@ -246,7 +397,9 @@ module _ (law : DecodesSpelling) (f : FailurePolicy) (p : PolicyTree) (roots : R
       let whole = sym (append-nil (spellings (policy_code f routines (codes_of conditions) (rule_codes rules) ++ Exit ∷ []))) in
       let code : image.code ≡ spellings (policy_code f routines (codes_of conditions) (rule_codes rules) ++ Exit ∷ []) ++ [] = code_is ∙ ap spellings whole_is ∙ whole in
       let steps = steps_enough in
-      let halts = policy_decides law image deep values roots scope f routines conditions rules [] m code bytes constant_bytes (subst AreInsns whole_is insns) table rules_few give_conditions give_validations (omega arith) in
+      let halts = policy_decides law image deep values roots scope f routines conditions rules [] m code bytes constant_bytes
+      (subst AreInsns whole_is insns) table (let few = has.few_validations in let long = rules_length ds (laid_conditions p) env p.validations in omega arith)
+      give_conditions give_validations (omega arith) in
       decided (subst (λ (v : Verdict). Halts (scope_setting image deep scope) (program_charge f conditions rules) start (LeavesVerdict f v) (state_after m (start_state image values))) decision_is halts)
 
 pub program_decides : DecodesSpelling → ProgramIsCode → ProgramDecides

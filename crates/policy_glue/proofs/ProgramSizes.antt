@@ -1,27 +1,7 @@
--- A policy's program has at most 128 slots for each of the policy's nodes.
-use Rattle.std.proofs.Common.{◌≡◌, ℕ, ◌+◌, ◌*◌, ◌≤◌, List, [], ◌∷◌, ◌++◌, Option, ap, ◌∙◌, arith}
-use Rattle.std.specs.List.{sum_by}
-use Rattle.std.proofs.lemmas.List.Sums.{sum_by-cons}
-use Rattle.insn_codec.specs.declared.insn.Insn.{Insn}
-use Rattle.cel_reader.specs.Tree.{Tree}
-use Rattle.cel_macros.specs.CoreTree.{expanded}
-use Rattle.cel_measures.specs.Measures.{nodes}
-use Rattle.cel_types.specs.Declarations.{Declaration}
-use Rattle.codegen_base.specs.Instructions.{skip}
-use Rattle.codegen_base.specs.Pieces.{size}
-use Rattle.codegen_base.proofs.Pieces.{size-append, size-cons}
-use Rattle.codegen.specs.Surroundings.{routines_of}
-use Rattle.codegen.proofs.Whole.{whole_short}
-use Rattle.policy_glue.specs.Checking.{with_variable}
-use Rattle.policy_glue.specs.Limits.{message_nodes, part_nodes, policy_nodes, rule_nodes}
-use Rattle.policy_glue.specs.Program.{Validation, condition_tail, conditions_code, decided_code, message_code, policy_code, routines_code, validation_code, validations_code}
-use Rattle.policy_glue.specs.ProgramCode.{Laid, after_condition, before_message, condition_codes, message_codes, program_of, texts_with, tree_code, validation_codes, variable_code, variable_codes, with_message, with_routine}
-use Rattle.policy_glue.specs.ProgramTrees.{ProgramIsShort}
-use Rattle.policy_glue.specs.Trees.{RuleTree, VariableTree}
-use Rattle.policy_glue.specs.declared.failure_policy.FailurePolicy.{FailurePolicy}
-use Rattle.policy_glue.proofs.ProgramOutcome.{outcome_tail_size}
-use Rattle.policy_glue.proofs.ProgramRows.{tail_size}
-use Rattle.policy_glue.proofs.ProgramRules.{message_tail_size, result_size}
+-- The slots of a policy's program, and that it can be spelled.
+use Rattle.policy_glue.proofs.Prelude.{◌≡◌, ℕ, ◌+◌, ◌*◌, ◌≤◌, List, [], ◌∷◌, ◌++◌, Option, refl, sym, ◌∙◌, arith, suc, ◌<◌, length, length-append, ap, subst, sum_by, fold-append, sum_by-cons, Insn, Tree, expanded, nodes, Declaration, size, AreInsns, size-append, size-cons, with_text, with_texts, routines_of, whole_short, whole_insns, with_variable, scope_after, condition_texts, message_nodes, message_texts, part_nodes, policy_nodes, rule_nodes, tree_texts, variable_texts, condition_tail, conditions_code, message_code, policy_code, routines_code, validation_code, validations_code, denial_code, message_tail, outcome_tail, result_code, Laid, after_condition, after_conditions, after_variables, before_message, condition_codes, message_codes, program_of, texts_with, tree_code, validation_codes, variable_code, variable_codes, with_message, with_routine, laid_conditions, laid_routines, nothing_laid, ProgramIsShort, AreConditions, AreRules, AreVariables, IsMessage, ProgramIsCode, RuleTree, VariableTree, FailurePolicy, memo_tail, insns_append, memo_insns, whole_code, IsExpression, AreLow, AreNear, near_named, decided_slots}
+use Rattle.policy_glue.proofs.ProgramValidations.{outcome_tail_size, message_tail_size, result_size}
+use Rattle.policy_glue.proofs.ProgramConditions.{condition_size}
 
 -- ---- expressions
 
@@ -36,55 +16,198 @@ routine_short scope l v = grind (arith, whole_short, size-append)
 pub routines_short : (scope : List Declaration) (l : Laid) (vs : List VariableTree) → size (routines_code (variable_codes scope l vs)) ≤ 128 * sum_by (λ v. part_nodes v.expression) vs
 routines_short scope l [] = omega arith
 routines_short scope l (v ∷ more) =
-    let routine = variable_code scope l v in
-    let others = routines_code (variable_codes (with_variable scope v) (with_routine scope l v) more) in
-    let first = size-cons (skip (size routine)) (routine ++ others) in
-    let both = size-append routine others in
-    let short = routine_short scope l v in
     let rest = routines_short (with_variable scope v) (with_routine scope l v) more in
-    let counted = sum_by-cons (λ u. part_nodes u.expression) v more in
-    omega (arith, first, both, short, rest, counted)
-
-pub condition_size : (f : FailurePolicy) (condition rest : List Insn) → size (condition ++ (condition_tail f ++ rest)) ≡ size condition + (9 + size rest)
-condition_size f condition rest = size-append condition (condition_tail f ++ rest) ∙ ap (λ n. size condition + n) (size-append (condition_tail f) rest ∙ ap (λ n. n + size rest) (tail_size f))
+    grind (arith, size-append, size-cons, routine_short scope l v, sum_by-cons (λ u. part_nodes u.expression) v more)
 
 pub conditions_short : (f : FailurePolicy) (l : Laid) (cs : List Tree) → size (conditions_code f (condition_codes l cs)) ≤ 128 * sum_by part_nodes cs
 unfolding conditions_code
 conditions_short f l [] = omega arith
-conditions_short f l (a ∷ more) =
-    let whole : size (conditions_code f (condition_codes l (a ∷ more))) ≡ size (tree_code [] l a) + (9 + size (conditions_code f (condition_codes (after_condition l a) more))) = condition_size f (tree_code [] l a) (conditions_code f (condition_codes (after_condition l a) more)) in
-    let short = tree_short [] l a in
-    let rest = conditions_short f (after_condition l a) more in
-    let counted = sum_by-cons part_nodes a more in
-    omega (arith, whole, short, rest, counted)
-
--- what the conditions decide is short, if there are any
-pub decided_few : {A : Type 0} (cs : List A) → size (decided_code cs) ≤ 5
-decided_few cs = grind arith
+conditions_short f l (a ∷ more) = omega (arith, condition_size, tree_short, sum_by-cons, conditions_short f (after_condition l a) more)
 
 pub message_short : (scope : List Declaration) (l : Laid) (i : ℕ) (m : Option Tree) → size (message_code i (message_codes scope l m)) ≤ 63 * message_nodes m
 message_short scope l i m = grind (arith, size-append, message_tail_size, tree_short)
-
-pub rule_size : (f : FailurePolicy) (i : ℕ) (v : Validation) → size (validation_code f i v) ≡ size v.0 + (10 + size (message_code i v.1))
-rule_size f i v = grind (arith, size-append, result_size)
 
 pub validations_short : (f : FailurePolicy) (scope : List Declaration) (l : Laid) (i : ℕ) (rs : List RuleTree) → size (validations_code f i (validation_codes scope l rs)) ≤ 128 * sum_by rule_nodes rs
 unfolding validations_code
 validations_short f scope l i [] = omega arith
 validations_short f scope l i (r ∷ more) =
     let behind = before_message scope l r in
-    let v : Validation = (tree_code scope l r.expression, message_codes scope behind r.message) in
-    let later = with_message scope behind r.message in
-    let both : size (validations_code f i (validation_codes scope l (r ∷ more))) ≡ size (validation_code f i v) + size (validations_code f (i + 1) (validation_codes scope later more)) = size-append (validation_code f i v) (validations_code f (i + 1) (validation_codes scope later more)) in
-    let first = rule_size f i v in
-    let short = tree_short scope l r.expression in
-    let message = message_short scope behind i r.message in
-    let rest = validations_short f scope later (i + 1) more in
-    let counted = sum_by-cons rule_nodes r more in
-    omega (arith, both, first, short, message, rest, counted)
+    let rest = validations_short f scope (with_message scope behind r.message) (i + 1) more in
+    omega (arith, size-append, result_size, tree_short, message_short scope behind i r.message, sum_by-cons rule_nodes r more)
+
+-- ---- places, and slots of routines
+
+pub variables_place : (vs : List VariableTree) (ds : List Declaration) (l : Laid) → (after_variables ds l vs).place ≡ l.place + size (routines_code (variable_codes ds l vs))
+variables_place [] ds l = omega arith
+variables_place (v ∷ more) ds l = grind (arith, variables_place more (with_variable ds v) (with_routine ds l v), size-cons, size-append)
+
+pub conditions_place_is : (f : FailurePolicy) (cs : List Tree) (l : Laid)
+    → (after_conditions l cs).place ≡ l.place + size (conditions_code f (condition_codes l cs))
+unfolding conditions_code
+conditions_place_is f [] l = omega arith
+conditions_place_is f (a ∷ more) l = grind (arith, conditions_place_is f more (after_condition l a), condition_size)
+
+pub conditions_slots : (cs : List Tree) (l : Laid) → (after_conditions l cs).routines ≡ l.routines
+conditions_slots [] l = refl
+conditions_slots (a ∷ more) l = conditions_slots more (after_condition l a)
+
+-- ---- texts
+
+-- those behind all variables, all conditions and a message
+pub variables_texts : (ds : List Declaration) (l : Laid) (vs : List VariableTree) → (after_variables ds l vs).texts ≡ with_texts l.texts (variable_texts vs)
+variables_texts ds l [] = refl
+variables_texts ds l (v ∷ more) = grind (arith, fold-append, variables_texts (with_variable ds v) (with_routine ds l v) more)
+
+pub conditions_texts : (l : Laid) (cs : List Tree) → (after_conditions l cs).texts ≡ with_texts l.texts (condition_texts cs)
+conditions_texts l [] = refl
+conditions_texts l (a ∷ more) = conditions_texts (after_condition l a) more ∙ sym (fold-append with_text l.texts (tree_texts a) (condition_texts more))
+
+pub message_texts_are : (ds : List Declaration) (l : Laid) (m : Option Tree) → (with_message ds l m).texts ≡ with_texts l.texts (message_texts m)
+message_texts_are ds l m = grind arith
 
 -- ---- the whole
 
 pub program_is_short : ProgramIsShort
 unfolding program_of policy_code policy_nodes
-program_is_short f p = grind (arith, size-append, outcome_tail_size, decided_few, routines_short, conditions_short, validations_short)
+program_is_short f p = grind (arith, size-append, outcome_tail_size, routines_short, conditions_short, validations_short)
+
+-- ---- what stands behind expressions
+
+condition_tail_insns : (f : FailurePolicy) → AreInsns (condition_tail f)
+unfolding condition_tail
+condition_tail_insns f = grind arith
+
+slots_few : {A : Type 0} (cs : List A) → decided_slots cs ≤ 5
+slots_few cs = grind arith
+
+denial_insns : (f : FailurePolicy) (i n : ℕ) → i < 64 → n ≤ 32700 → AreInsns (denial_code f i n)
+unfolding denial_code
+denial_insns f i n low short = grind arith
+
+message_tail_insns : (i : ℕ) → i < 64 → AreInsns (message_tail i)
+unfolding message_tail
+message_tail_insns i low = (tt, (tt, (omega arith, ((omega arith, omega arith), (omega arith, (omega arith, tt))))))
+
+result_insns : (f : FailurePolicy) (i : ℕ) (message : List Insn) → i < 64 → size message ≤ 32700 → AreInsns message → AreInsns (result_code f i message)
+result_insns f i message low short insns = ((omega arith, omega arith), insns_append (denial_code f i (size message)) message (denial_insns f i (size message) low short) insns)
+
+outcome_tail_insns : AreInsns outcome_tail
+unfolding outcome_tail
+outcome_tail_insns = (omega arith, (omega arith, (omega arith, ((omega arith, omega arith), (omega arith, (omega arith, tt))))))
+
+-- ---- routines that stand so far
+
+low_more : (slots : List ℕ) (slot : ℕ) → AreLow slots → slot ≤ 0x7fff_ff00 → AreLow (slots ++ slot ∷ [])
+low_more [] slot low h = (h, tt)
+low_more (s ∷ slots) slot low h = (low.0, low_more slots slot low.1 h)
+
+-- the routines that stand begin in an image, and with n more there are at most 64
+record Low (l : Laid) (n : ℕ) : Type 0 where
+  pub slots : AreLow l.routines
+  pub few : length l.routines + n ≤ 64
+
+near_all : (ds : List Declaration) (l : Laid) (n : ℕ) → Low l n → AreNear (routines_of ds l.routines)
+near_all ds l n low name found e = grind (arith, near_named)
+
+-- ---- expressions
+
+tree_insns : (scope : List Declaration) (l : Laid) (a : Tree) → IsExpression scope (expanded a) → Low l 0 → l.place + 128 * part_nodes a ≤ 65536 → AreInsns (tree_code scope l a)
+tree_insns scope l a is low inside =
+    let fits = is.fits in
+    whole_insns (texts_with l a) (routines_of scope l.routines) (near_all scope l 0 low) (expanded a) l.place fits (omega arith) (omega arith) is.literals
+
+routine_insns : (scope : List Declaration) (l : Laid) (v : VariableTree) (n : ℕ) → IsExpression scope (expanded v.expression) → Low l (suc n) → l.place + 128 * part_nodes v.expression ≤ 65536 → AreInsns (variable_code scope l v)
+routine_insns scope l v n is low inside =
+    let fits = is.fits in
+    insns_append (whole_code (expanded v.expression) (texts_with l v.expression) (routines_of scope l.routines) (l.place + 1)) (memo_tail (length l.routines))
+    (whole_insns (texts_with l v.expression) (routines_of scope l.routines) (near_all scope l (suc n) low) (expanded v.expression) (l.place + 1) fits (omega arith) (omega arith) is.literals)
+    (memo_insns (length l.routines) (omega arith))
+
+-- ---- variables
+
+with_routine_low : (scope : List Declaration) (l : Laid) (v : VariableTree) (n : ℕ) → Low l (suc n) → l.place + 1 ≤ 65536 → Low (with_routine scope l v) n
+with_routine_low scope l v n low inside = grind (arith, length-append, low_more)
+
+routines_insns : (scope : List Declaration) (l : Laid) (vs : List VariableTree) → AreVariables scope vs → Low l (length vs) → l.place + 128 * sum_by (λ v. part_nodes v.expression) vs ≤ 65536 → AreInsns (routines_code (variable_codes scope l vs))
+routines_insns scope l [] are low inside = tt
+routines_insns scope l (v ∷ more) are low inside =
+    let counted = sum_by-cons (λ u. part_nodes u.expression) v more in
+    let long = routine_short scope l v in
+    let later = with_routine_low scope l v (length more) low (omega (arith, counted, inside)) in
+    let others = routines_insns (with_variable scope v) (with_routine scope l v) more are.2 later (omega (arith, counted, inside, long)) in
+    (omega (arith, counted, inside, long), insns_append _ _ (routine_insns scope l v (length more) are.0 low (omega (arith, counted, inside))) others)
+
+after_routines : (scope : List Declaration) (l : Laid) (vs : List VariableTree) → Low l (length vs)
+    → l.place + 128 * sum_by (λ v. part_nodes v.expression) vs ≤ 65536
+    → Low (after_variables scope l vs) 0
+after_routines scope l [] low inside = low
+after_routines scope l (v ∷ more) low inside =
+    let counted = sum_by-cons (λ u. part_nodes u.expression) v more in
+    let long = routine_short scope l v in
+    after_routines (with_variable scope v) (with_routine scope l v) more (with_routine_low scope l v (length more) low (omega (arith, counted, inside))) (omega (arith, counted, inside, long))
+
+-- ---- conditions
+
+same_low : (l m : Laid) → l.routines ≡ m.routines → Low l 0 → Low m 0
+same_low l m same low = let few = low.few in let long = ap length same in record { slots = subst AreLow same low.slots; few = omega arith }
+
+conditions_insns : (f : FailurePolicy) (l : Laid) (cs : List Tree) → AreConditions cs → Low l 0 → l.place + 128 * sum_by part_nodes cs ≤ 65536 → AreInsns (conditions_code f (condition_codes l cs))
+unfolding conditions_code
+conditions_insns f l [] are low inside = tt
+conditions_insns f l (a ∷ more) are low inside =
+    let counted = sum_by-cons part_nodes a more in
+    let long = tree_short [] l a in
+    let others = conditions_insns f (after_condition l a) more are.1 (same_low l (after_condition l a) refl low) (omega (arith, counted, inside, long)) in
+    insns_append _ _ (tree_insns [] l a are.0 low (omega (arith, counted, inside))) (insns_append _ _ (condition_tail_insns f) others)
+
+-- ---- validations
+
+message_insns : (scope : List Declaration) (l : Laid) (i : ℕ) (m : Option Tree) → i < 64 → IsMessage scope m → Low l 0 → l.place + 128 * message_nodes m ≤ 65536 → AreInsns (message_code i (message_codes scope l m))
+message_insns scope l i m few is low inside = grind (arith, insns_append, tree_insns, message_tail_insns)
+
+message_inside : (scope : List Declaration) (l : Laid) (m : Option Tree) → (with_message scope l m).place ≤ l.place + 128 * message_nodes m
+message_inside scope l m = grind (arith, tree_short)
+
+validations_insns : (f : FailurePolicy) (scope : List Declaration) (l : Laid) (i : ℕ) (rs : List RuleTree) → AreRules scope rs → Low l 0 → i + length rs ≤ 64 → l.place + 128 * sum_by rule_nodes rs ≤ 65536 → AreInsns (validations_code f i (validation_codes scope l rs))
+unfolding validations_code
+validations_insns f scope l i [] are low few inside = tt
+validations_insns f scope l i (r ∷ more) are low few inside =
+    let counted = sum_by-cons rule_nodes r more in
+    let long = tree_short scope l r.expression in
+    let behind = before_message scope l r in
+    let low_behind = same_low l behind refl low in
+    let message = message_code i (message_codes scope behind r.message) in
+    let long_message = message_short scope behind i r.message in
+    let later = same_low behind (with_message scope behind r.message) (grind arith) low_behind in
+    let far = message_inside scope behind r.message in
+    let small : size message ≤ 32700 = omega (arith, counted, inside, long_message) in
+    insns_append (validation_code f i (tree_code scope l r.expression, message_codes scope behind r.message)) (validations_code f (i + 1) (validation_codes scope (with_message scope behind r.message) more))
+    (insns_append (tree_code scope l r.expression) (result_code f i message)
+    (tree_insns scope l r.expression are.0 low (omega (arith, counted, inside)))
+    (result_insns f i message (omega arith) small (message_insns scope behind i r.message (omega arith) are.1 low_behind (omega (arith, counted, inside, long)))))
+    (validations_insns f scope (with_message scope behind r.message) (i + 1) more are.2 later (omega arith) (omega (arith, counted, inside, long, far)))
+
+-- ---- the whole
+
+pub program_is_code : ProgramIsCode
+unfolding program_of policy_code policy_nodes
+program_is_code f p has =
+    let room = has.short in
+    let few_rules = has.few_validations in
+    let start : Low nothing_laid (length p.variables) = record { slots = tt; few = omega arith } in
+    let first = after_routines [] nothing_laid p.variables start (omega (arith, room)) in
+    let place = variables_place p.variables [] nothing_laid in
+    let long = routines_short [] nothing_laid p.variables in
+    let second = same_low (laid_routines p) (laid_conditions p) (sym (conditions_slots p.conditions (laid_routines p))) first in
+    let farther = conditions_place_is f p.conditions (laid_routines p) in
+    let longer = conditions_short f (laid_routines p) p.conditions in
+    let decide = slots_few p.conditions in
+    insns_append _ _
+    (insns_append _ _ (routines_insns [] nothing_laid p.variables has.variables start (omega (arith, room)))
+    (insns_append _ _ (conditions_insns f (laid_routines p) p.conditions has.conditions first (omega (arith, room, place, long)))
+    (insns_append _ _ (grind arith)
+    (insns_append _ _
+    (validations_insns f (scope_after p.variables) (laid_conditions p) 0 p.validations has.validations second (omega (arith, few_rules))
+    (omega (arith, room, place, long, farther, longer, decide)))
+    outcome_tail_insns))))
+    (tt, tt)

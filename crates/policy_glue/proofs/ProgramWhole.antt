@@ -1,47 +1,10 @@
 -- The code of a policy, from its start to its exit.
-use Rattle.std.proofs.Common.{◌≡◌, ℕ, ◌+◌, ◌<◌, ◌≤◌, List, [], ◌∷◌, ◌++◌, length, Option, Some, None, true, refl, ap, ◌∙◌, subst, sym, arith, append_assoc}
-use Rattle.std.specs.Prelude.{All, map, pos, if◌then◌else◌}
-use Rattle.std.specs.List.{list_any}
-use Rattle.std.proofs.lemmas.Int.{ints}
-use Rattle.guest_memory.specs.Memory.{start_memory}
-use Rattle.insn_codec.specs.declared.insn.Insn.{Insn}
-use Rattle.insn_codec.specs.declared.insn.Insn.TheVariants.{Exit}
+use Rattle.policy_glue.proofs.Prelude.{◌≡◌, ℕ, ◌+◌, ◌<◌, ◌≤◌, List, [], ◌∷◌, ◌++◌, length, Option, Some, None, true, refl, ap, ◌∙◌, subst, sym, arith, append_assoc, All, map, pos, if◌then◌else◌, list_any, ints, start_memory, Insn, Exit, Contents, ValueOrError, Roots, DecodesSpelling, fetched, State, state_after, Frame, Body, Context, HasValues, Setting, Comes, Halts, skip, Stands, size, start_body, bindings, scope_setting, routine_context, comes_to_exit, size-append, size-cons, stands_back, stands_first, stands_front, stands_rest, halts_into, start_fits, start_is, steps-most, word_in-zeros, and_then, done, looser, to_place, spelled_stands, is_running, most_validations, conditions_code, decided_code, outcome_tail, policy_code, routines_code, validations_code, LeavesVerdict, PolicyDecides, conditions_place, program_charge, program_steps, validations_place, ConditionsGive, Part, RulePart, ValidationsGive, codes_of, conditions_charge, conditions_steps, found, rule_codes, rules_given, validations_charge, validations_steps, values_given, Denied, Admitted, Finding, Outcome, Verdict, decided, decided_before, finding_of, is_denial, judged_by, truth_of, verdict_of, FailurePolicy}
 use Rattle.loader.specs.Contents as loader
-use Rattle.value_store.specs.Placing.{Contents}
-use Rattle.value_store.specs.Value.{ValueOrError}
-use Rattle.cel_macros.specs.Environment.{Roots}
-use Rattle.bpf_machine.specs.Decoding.{DecodesSpelling, fetched}
-use Rattle.bpf_machine.specs.State.{State}
-use Rattle.bpf_machine.specs.Trace.{state_after}
-use Rattle.bpf_machine.specs.declared.frame.Frame.{Frame}
-use Rattle.codegen_base.specs.Body.{Body}
-use Rattle.codegen_base.specs.Contexts.{Context, HasValues}
-use Rattle.codegen_base.specs.Engine.{Setting, Comes, Halts}
-use Rattle.codegen_base.specs.Instructions.{skip}
-use Rattle.codegen_base.specs.Pieces.{Stands, size}
-use Rattle.codegen_base.specs.Programs.{start_body}
-use Rattle.codegen_base.specs.Scopes.{bindings, scope_setting}
-use Rattle.codegen_base.specs.Variables.{routine_context}
-use Rattle.codegen_base.proofs.Exits.{comes_to_exit}
-use Rattle.codegen_base.proofs.Pieces.{size-append, size-cons, stands_back, stands_first, stands_front, stands_rest}
-use Rattle.codegen_base.proofs.Programs.{halts_into, start_fits, start_is, steps-most, word_in-zeros}
-use Rattle.codegen_base.proofs.Runs.{and_then, done, looser, to_place}
-use Rattle.codegen_base.proofs.Spelled.{spelled_stands}
 use Rattle.codegen_base.proofs.Steps as step
-use Rattle.policy_glue.specs.Budget.{is_running}
-use Rattle.policy_glue.specs.Layout.{most_validations}
-use Rattle.policy_glue.specs.Program.{conditions_code, decided_code, outcome_tail, policy_code, routines_code, validations_code}
-use Rattle.policy_glue.specs.ProgramLaws.{LeavesVerdict, PolicyDecides, conditions_place, program_charge, program_steps, validations_place}
-use Rattle.policy_glue.specs.ProgramParts.{ConditionsGive, Part, RulePart, ValidationsGive, codes_of, conditions_charge, conditions_steps, found, rule_codes, rules_given, validations_charge, validations_steps, values_given}
-use Rattle.policy_glue.specs.Verdict.{Denied, Admitted, Finding, Outcome, Verdict, decided, decided_before, finding_of, is_denial, judged_by, truth_of, verdict_of}
-use Rattle.policy_glue.specs.declared.failure_policy.FailurePolicy.{FailurePolicy}
-use Rattle.policy_glue.proofs.ProgramConditions.{Ends}
-use Rattle.policy_glue.proofs.ProgramDecided.{Exits, conditions_end, conditions_pass, decided_size}
-use Rattle.policy_glue.proofs.ProgramMarks.{Marked}
-use Rattle.policy_glue.proofs.ProgramOutcome.{outcome_runs, outcome_tail_size}
-use Rattle.policy_glue.proofs.ProgramRows.{truths_of}
-use Rattle.policy_glue.proofs.ProgramRules.{rules_run, rules_size}
-use Rattle.policy_glue.proofs.VerdictWords.{is_layout}
+use Rattle.policy_glue.proofs.ProgramConditions.{Ends, Exits, conditions_end, conditions_pass, decided_size, truths_of}
+use Rattle.policy_glue.proofs.ProgramWords.{Marked, is_layout}
+use Rattle.policy_glue.proofs.ProgramValidations.{outcome_runs, outcome_tail_size, rules_run, rules_size}
 
 -- ---- lists of values
 
@@ -68,13 +31,11 @@ routines_pass s [] p b has = to_place s (p + 0) (omega arith) (done s p b (λ la
 routines_pass s (routine ∷ more) p b has =
     let jump = skip (size routine) in
     let rest = routine ++ routines_code more in
-    let q = p + 1 + size routine in
     let whole = size-append routine (routines_code more) in
     let first = size-cons jump rest in
-    let behind = stands_rest s.image.code p jump rest has in
     to_place s (p + size (jump ∷ rest)) (omega arith)
-    (step.jump s p q b (pos (size routine)) (stands_first s.image.code p jump rest has) (omega (arith, ints))
-    (routines_pass s more q b (stands_back s.image.code (p + 1) routine (routines_code more) behind)))
+    (step.jump s p (p + 1 + size routine) b (pos (size routine)) (stands_first s.image.code p jump rest has) (omega (arith, ints))
+    (routines_pass s more _ b (stands_back s.image.code (p + 1) routine (routines_code more) (stands_rest s.image.code p jump rest has))))
 
 -- ---- from the first slot to an exit
 
@@ -127,13 +88,7 @@ module _ (s : Setting) (c : Context) (f : FailurePolicy) (routines : List (List 
   unfolding policy_code
   last_exit =
       let whole = routines_code routines ++ (row ++ (decide ++ running)) in
-      let s1 = size-append (routines_code routines) (row ++ (decide ++ running)) in
-      let s2 = size-append row (decide ++ running) in
-      let s3 = size-append decide running in
-      let s4 = size-append rules_row outcome_tail in
-      let s5 = outcome_tail_size in
-      let s6 = decided_size conditions in
-      let place : 0 + size whole ≡ third + 7 = omega arith in
+      let place : 0 + size whole ≡ third + 7 = omega (arith, size-append, outcome_tail_size, decided_size) in
       subst (λ (p : ℕ). fetched code (pos p) ≡ Some (Some Exit)) place (stands_first code (0 + size whole) Exit [] (stands_back code 0 whole (Exit ∷ []) has))
 
   abbrev found_all : List Finding

@@ -10,9 +10,10 @@ use Rattle.cel_macros.specs.declared.core_tree.Core.{Core}
 use Rattle.cel_types.specs.Declarations.{Declaration}
 use Rattle.cel_types.specs.declared.scope.Scope.{Scope}
 use Rattle.cel_types.specs.declared.cel_type.CelType.{CelType}
-use Rattle.policy_glue.specs.Checking.{Reads, IsTaken, IsRefused, IsOneOf, IsNoneOf, IsVariable, IsNoVariable, IsMessage, IsRule, IsNoRule}
-use Rattle.policy_glue.specs.Checking.{PartsEnd, VariablesEnd, ConditionsEnd, ValidationsEnd, expression_judged, scope_after, texts}
-use Rattle.policy_glue.specs.Checking.{variable_judged, with_variable}
+use Rattle.policy_glue.specs.Checking.{Ends, Reads, IsTaken, IsRefused, IsOneOf, IsNoneOf, IsVariable, IsNoVariable, IsMessage, IsRule, IsNoRule}
+use Rattle.policy_glue.specs.Checking.{PartsEnd, VariablesEnd, ConditionsEnd, ValidationsEnd, TakesVariable, TakesCondition, TakesRule}
+use Rattle.policy_glue.specs.Checking.{RefusesVariable, RefusesCondition, RefusesRule, expression_judged, scope_after, texts, variable_judged}
+use Rattle.policy_glue.specs.Checking.{with_variable}
 use Rattle.policy_glue.specs.Policy.{Named, Rule, Rules}
 use Rattle.policy_glue.specs.Trees.{VariableTree, RuleTree, PolicyTree}
 use Rattle.policy_glue.specs.declared.checked.Checked.{Checked}
@@ -67,22 +68,30 @@ abbrev pub Adds : Named → ℕ → List Declaration → List Declaration → Li
 Adds n place old new before after (Ok u) = IsAdded n old new before after
 Adds n place old new before after (Err e) = e ≢ compile_error.Memory → IsNoVariable old place n.expression e
 
+-- each part of a list is taken, and shows this of its tree, which is well formed
+pub record AreTaken {A B C : Type 0} (Takes : List B → A → B → Type 0) (Refuses : List B → A → CompileError → Type 0) (seen : B → C)
+    (IsFormed : B → Type 0) (ns : List A) (trees : List C) : Type 0 where
+  pub taken : List B
+  pub end : Ends Takes Refuses [] ns (Ok taken)
+  pub trees_are : trees ≡ map seen taken
+  pub formed : All IsFormed taken
+
+abbrev pub variable_expanded : VariableTree → CoreTree
+variable_expanded v = expanded v.expression
+
+abbrev pub IsFormedVariable : VariableTree → Type 0
+IsFormedVariable v = IsWellFormed v.expression
+
 pub record AreVariables (ns : List Named) (scope : List Declaration) (trees : List CoreTree) : Type 0 where
-  pub taken : List VariableTree
-  pub end : VariablesEnd ns (Ok taken)
-  pub scope_is : scope ≡ scope_after taken
-  pub trees_are : trees ≡ map (λ v. expanded v.expression) taken
-  pub formed : All (λ v. IsWellFormed v.expression) taken
+  pub are : AreTaken TakesVariable RefusesVariable variable_expanded IsFormedVariable ns trees
+  pub scope_is : scope ≡ scope_after are.taken
 
 abbrev pub ChecksVariables : List Named → Result (Scope × Vec Core Global) CompileError → Type 0
 ChecksVariables ns (Ok x) = AreVariables ns x.0 (map core_view x.1.items)
 ChecksVariables ns (Err e) = e ≢ compile_error.Memory → VariablesEnd ns (Err e)
 
-pub record AreConditions (ns : List Named) (trees : List CoreTree) : Type 0 where
-  pub taken : List Tree
-  pub end : ConditionsEnd ns (Ok taken)
-  pub trees_are : trees ≡ map expanded taken
-  pub formed : All IsWellFormed taken
+abbrev pub AreConditions : List Named → List CoreTree → Type 0
+AreConditions ns trees = AreTaken TakesCondition RefusesCondition expanded IsWellFormed ns trees
 
 abbrev pub ChecksConditions : List Named → Result (Vec Core Global) CompileError → Type 0
 ChecksConditions ns (Ok v) = AreConditions ns (map core_view v.items)
@@ -109,11 +118,8 @@ abbrev pub ChecksRule : List Declaration → ℕ → Rule → Result CheckedVali
 ChecksRule scope place n (Ok v) = (r : RuleTree) × (rule_trees v ≡ rule_expanded r) × IsRule scope n r × IsFormedRule r
 ChecksRule scope place n (Err e) = e ≢ compile_error.Memory → IsNoRule scope place n e
 
-pub record AreRules (scope : List Declaration) (ns : List Rule) (trees : List (CoreTree × Option CoreTree)) : Type 0 where
-  pub taken : List RuleTree
-  pub end : ValidationsEnd scope ns (Ok taken)
-  pub trees_are : trees ≡ map rule_expanded taken
-  pub formed : All IsFormedRule taken
+abbrev pub AreRules : List Declaration → List Rule → List (CoreTree × Option CoreTree) → Type 0
+AreRules scope ns trees = AreTaken (TakesRule scope) (RefusesRule scope) rule_expanded IsFormedRule ns trees
 
 abbrev pub ChecksRules : List Declaration → List Rule → Result (Vec CheckedValidation Global) CompileError → Type 0
 ChecksRules scope ns (Ok v) = AreRules scope ns (map rule_trees v.items)
@@ -123,14 +129,14 @@ ChecksRules scope ns (Err e) = e ≢ compile_error.Memory → ValidationsEnd sco
 
 -- its trees' literals are values, and their names are names
 pub record IsFormed (t : PolicyTree) : Type 0 where
-  pub variables : All (λ v. IsWellFormed v.expression) t.variables
+  pub variables : All IsFormedVariable t.variables
   pub conditions : All IsWellFormed t.conditions
   pub validations : All IsFormedRule t.validations
 
 -- what is checked, beside its trees
 pub record IsChecked (checked : Checked) (t : PolicyTree) : Type 0 where
   pub scope : checked.scope ≡ scope_after t.variables
-  pub variables : map core_view checked.variables.items ≡ map (λ v. expanded v.expression) t.variables
+  pub variables : map core_view checked.variables.items ≡ map variable_expanded t.variables
   pub conditions : map core_view checked.conditions.items ≡ map expanded t.conditions
   pub validations : map rule_trees checked.validations.items ≡ map rule_expanded t.validations
   pub formed : IsFormed t

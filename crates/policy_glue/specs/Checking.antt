@@ -96,6 +96,16 @@ truths = type.Bool ∷ []
 abbrev pub texts : List CelType
 texts = type.String ∷ []
 
+-- the types of the expression of a part that is no variable
+abbrev pub types_of : PartKind → List CelType
+types_of Message = texts
+types_of _ = truths
+
+-- the refusal of one of another type
+abbrev pub other_type : PartKind → CompileError
+other_type Message = K9
+other_type _ = K7
+
 -- the text is this tree, of one of these types or of none that is known
 pub record IsOneOf (types : List CelType) (scope : List Declaration) (text : List ℕ) (a : Tree) : Type 0 where
   pub cel_type : CelType
@@ -179,9 +189,8 @@ ConditionsEnd ns end = Ends TakesCondition RefusesCondition [] ns end
 -- a validation and its message expression may use all variables
 abbrev pub IsMessage : List Declaration → Option (List ℕ) → Option Tree → Type 0
 IsMessage scope (Some text) (Some a) = IsOneOf texts scope text a
-IsMessage scope (Some text) None = ⊥
-IsMessage scope None (Some a) = ⊥
 IsMessage scope None None = Unit {0}
+IsMessage scope _ _ = ⊥
 
 -- a validation is these trees: a bool, and a text where it has a message expression
 pub record IsRule (scope : List Declaration) (n : Rule) (r : RuleTree) : Type 0 where

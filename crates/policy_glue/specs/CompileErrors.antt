@@ -67,26 +67,15 @@ compile_text compile_error.Memory = codes "memory"
 
 -- want of memory is said for itself
 abbrev pub from_reader : ReadError → ExpressionError
-from_reader (P1 place) = Unread (P1 place)
-from_reader (P2 place) = Unread (P2 place)
-from_reader (P3 place) = Unread (P3 place)
-from_reader (P4 place) = Unread (P4 place)
-from_reader (P5 place) = Unread (P5 place)
-from_reader (P6 place) = Unread (P6 place)
 from_reader read_error.Memory = expression_error.Memory
+from_reader e = Unread e
 
 -- the same of the refusal of a macro
 abbrev pub from_macros : MacroError → ExpressionError
-from_macros M1 = Unexpanded M1
-from_macros M2 = Unexpanded M2
-from_macros M3 = Unexpanded M3
 from_macros macro_error.Memory = expression_error.Memory
+from_macros e = Unexpanded e
 
 -- the refusal of an expression as that of the part at a place
 abbrev pub in_part : PartKind → ℕ → ExpressionError → CompileError
-in_part part place (Unread e) = K6 part place (Unread e)
-in_part part place (Unexpanded e) = K6 part place (Unexpanded e)
-in_part part place (Untyped e) = K6 part place (Untyped e)
-in_part part place G1 = K6 part place G1
-in_part part place G2 = K6 part place G2
 in_part part place expression_error.Memory = compile_error.Memory
+in_part part place e = K6 part place e

@@ -14,7 +14,7 @@ use Rattle.policy_glue.specs.Policy.{Rules}
 use Rattle.policy_glue.specs.ProgramTrees.{Decides}
 use Rattle.policy_glue.specs.Trees.{PolicyTree}
 use Rattle.policy_glue.specs.declared.compile_error.CompileError.{CompileError}
-use Rattle.policy_glue.specs.declared.compile_error.CompileError.TheVariants.{K6, K7, K9, G3, G4, Memory}
+use Rattle.policy_glue.specs.declared.compile_error.CompileError.TheVariants.{Memory}
 use Rattle.policy_glue.specs.declared.failure_policy.FailurePolicy.{FailurePolicy}
 
 -- an image of version 2, with at most 128 slots of 8 bytes for each of the policy's nodes; on every five roots it has
@@ -39,9 +39,5 @@ pub record IsCompiled (p : Rules) (image : loader.Contents) : Type 0 where
 -- the image is answered, or why there is none; or the host has no memory for it
 abbrev pub CompilesTo : Rules → Result loader.Contents CompileError → Type 0
 CompilesTo p (Ok image) = IsCompiled p image
-CompilesTo p (Err (K6 part place e)) = Compiles p (Err (K6 part place e))
-CompilesTo p (Err K7) = Compiles p (Err K7)
-CompilesTo p (Err K9) = Compiles p (Err K9)
-CompilesTo p (Err G3) = Compiles p (Err G3)
-CompilesTo p (Err G4) = Compiles p (Err G4)
 CompilesTo p (Err Memory) = Unit {0}
+CompilesTo p (Err e) = Compiles p (Err e)

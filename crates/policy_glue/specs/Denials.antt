@@ -1,5 +1,5 @@
 -- The denials as the words of a verdict tell them.
-use Rattle.std.specs.Prelude.{ℕ, ◌+◌, ◌&&◌, ◌||◌, Bool, true, false, List, [], ◌∷◌, ◌++◌, map, nat_eq, slice_get, slice_index}
+use Rattle.std.specs.Prelude.{ℕ, ◌+◌, ◌&&◌, ◌||◌, Bool, true, false, List, [], ◌∷◌, map, nat_eq, slice_get, slice_index}
 use Rattle.std.specs.Prelude.{Option, Some, None, option_map, if◌then◌else◌}
 use Rattle.policy_glue.specs.Policy.{Rule, rule_view}
 use Rattle.policy_glue.specs.Layout.{Words, words_view}
@@ -21,22 +21,16 @@ is_fail Ignore = false
 abbrev pub denies_word : FailurePolicy → ℕ → Bool
 denies_word f word = nat_eq word 1 || (nat_eq word 2 && is_fail f)
 
-abbrev pub denial_told : FailurePolicy → Rule → ℕ → Option (List ℕ) → Option Denial
-denial_told f r word message = if denies_word f word then Some (record { rule = r; message = message }) else None
-
 abbrev pub lent : Option (Option (List ℕ)) → Option (List ℕ)
 lent (Some message) = message
 lent None = None
-
-abbrev pub told_in : Option Denial → List Denial
-told_in (Some d) = d ∷ []
-told_in None = []
 
 -- those of the validations from place i on
 abbrev pub denials_told : FailurePolicy → List Rule → Words → ℕ → List Denial
 denials_told f [] words i = []
 denials_told f (r ∷ rs) words i =
-    told_in (denial_told f r (slice_index words.results i) (lent (slice_get words.messages i))) ++ denials_told f rs words (i + 1)
+    let more = denials_told f rs words (i + 1) in
+    if denies_word f (slice_index words.results i) then record { rule = r; message = lent (slice_get words.messages i) } ∷ more else more
 
 -- those of all validations
 abbrev pub denials_in : Parts → Verdict → List Denial

@@ -50,8 +50,7 @@ text_or_empty_of (Some _) = None
 -- both, if both are there
 abbrev pub cons_if : {A : Type 0} → Option A → Option (List A) → Option (List A)
 cons_if (Some a) (Some rest) = Some (a ∷ rest)
-cons_if (Some a) None = None
-cons_if None rest = None
+cons_if _ _ = None
 
 -- what each item says, if every item says something
 abbrev pub each : {A : Type 0} → (json.Data → Option A) → json.Items → Option (List A)

@@ -4,7 +4,7 @@ use Rattle.serde_json.specs.Data as json
 use Rattle.serde_json.specs.Written.{compact_text}
 use Rattle.policy_glue.specs.Policy.{Rules}
 use Rattle.policy_glue.specs.Response.{Denial, allowed_tree, denial_text, denials_of, denied_tree, first_reason, joined, review_tree}
-use Rattle.policy_glue.specs.Verdict.{Verdict, Outcome, Skipped, Rejected, Denied, Admitted}
+use Rattle.policy_glue.specs.Verdict.{Verdict, Outcome, Skipped, Admitted, Rejected, Denied}
 use Rattle.policy_glue.specs.declared.objection.Objection.{Objection as CodeObjection}
 use Rattle.policy_glue.specs.declared.reason.Reason.{Reason}
 use Rattle.policy_glue.specs.declared.reason.Reason.TheVariants.{Invalid}
@@ -27,9 +27,9 @@ denied ds = record { message = joined (map denial_text ds); reason = first_reaso
 
 -- what an outcome says against the request, and nothing where it allows it
 abbrev pub objection_by : Outcome → List Denial → Option Objection
-objection_by Skipped ds = None
 objection_by Rejected ds = Some undecided
 objection_by Denied ds = Some (denied ds)
+objection_by Skipped ds = None
 objection_by Admitted ds = None
 
 -- what a verdict of the policy says against the request

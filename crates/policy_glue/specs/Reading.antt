@@ -28,8 +28,7 @@ named_keys = codes "name" ∷ codes "expression" ∷ []
 -- a condition or variable, if both its name and its expression are there
 abbrev pub named_from : Option (List ℕ) → Option (List ℕ) → Option Named
 named_from (Some n) (Some e) = Some (record { name = n; expression = e })
-named_from (Some n) None = None
-named_from None e = None
+named_from _ _ = None
 
 -- its `name` and `expression`, which have to be texts
 unfoldable pub named_parts : json.Data → Option Named
@@ -89,10 +88,7 @@ rule_keys = codes "expression" ∷ codes "message" ∷ codes "messageExpression"
 -- a validation, if each of its parts has its form
 abbrev pub rule_from : Option (List ℕ) → Option (List ℕ) → Option Reason → Option (Option (List ℕ)) → Option Rule
 rule_from (Some e) (Some m) (Some r) (Some x) = Some (record { expression = e; message = m; reason = r; message_expression = x })
-rule_from (Some e) (Some m) (Some r) None = None
-rule_from (Some e) (Some m) None x = None
-rule_from (Some e) None r x = None
-rule_from None m r x = None
+rule_from _ _ _ _ = None
 
 -- its `expression`, `message`, `reason` and `messageExpression`, of which the first has to be there
 unfoldable pub rule_parts : json.Data → Option Rule
@@ -126,10 +122,7 @@ spec_keys =
 abbrev pub rules_from : Option FailurePolicy → Option (List Named) → Option (List Named) → Option (List Rule) → Option Rules
 rules_from (Some f) (Some cs) (Some vs) (Some rs) =
     Some (record { failure_policy = f; conditions = cs; variables = vs; validations = rs })
-rules_from (Some f) (Some cs) (Some vs) None = None
-rules_from (Some f) (Some cs) None rs = None
-rules_from (Some f) None vs rs = None
-rules_from None cs vs rs = None
+rules_from _ _ _ _ = None
 
 -- its `failurePolicy`, `matchConditions`, `variables` and `validations`, of which the last has to be there
 unfoldable pub spec_parts : json.Data → Option Rules
@@ -146,12 +139,8 @@ has_spec_form d =
     && (is_object_or_absent (get (codes "matchConstraints") d) && is_object_or_absent (get (codes "paramKind") d))
 
 -- what a specification says, if it has the form
-abbrev pub spec_value_in : json.Data → Option Rules
-spec_value_in d = if has_spec_form d then spec_parts d else None
-
--- the specification
 abbrev pub spec_in : Option json.Data → Option Rules
-spec_in (Some d) = spec_value_in d
+spec_in (Some d) = if has_spec_form d then spec_parts d else None
 spec_in None = None
 
 -- the fields of the document; what its `metadata` says is not looked at
@@ -239,19 +228,10 @@ abbrev pub Forms : {A B : Type 0} → (B → A) → Option A → Result B Policy
 Forms see part (Ok b) = part ≡ Some (see b)
 Forms see part (Err K3) = part ≡ None
 Forms see part (Err Memory) = Unit {0}
-Forms see part (Err K1) = ⊥
-Forms see part (Err K2) = ⊥
-Forms see part (Err K4) = ⊥
-Forms see part (Err K5) = ⊥
-Forms see part (Err K8) = ⊥
+Forms see part (Err _) = ⊥
 
 -- the policy or the first refusal is answered; or the host has no memory for it
 abbrev pub Reads : Result Rules PolicyError → Result Rules PolicyError → Type 0
 Reads due (Ok p) = due ≡ Ok p
-Reads due (Err K1) = due ≡ Err K1
-Reads due (Err K2) = due ≡ Err K2
-Reads due (Err K3) = due ≡ Err K3
-Reads due (Err K4) = due ≡ Err K4
-Reads due (Err K5) = due ≡ Err K5
-Reads due (Err K8) = due ≡ Err K8
 Reads due (Err Memory) = Unit {0}
+Reads due (Err e) = due ≡ Err e

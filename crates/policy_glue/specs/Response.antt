@@ -5,7 +5,7 @@ use Rattle.serde_json.specs.Data as json
 use Rattle.serde_json.specs.Written.{compact_text}
 use Rattle.policy_glue.specs.Policy.{Rule, Rules, reason_name, reason_code}
 use Rattle.policy_glue.specs.Reading.{has_line_break}
-use Rattle.policy_glue.specs.Verdict.{Finding, Verdict, Outcome, Skipped, Rejected, Denied, Admitted, is_denial}
+use Rattle.policy_glue.specs.Verdict.{Finding, Verdict, Outcome, Skipped, Admitted, Rejected, Denied, is_denial}
 use Rattle.policy_glue.specs.declared.failure_policy.FailurePolicy.{FailurePolicy}
 use Rattle.policy_glue.specs.declared.reason.Reason.{Reason}
 use Rattle.policy_glue.specs.declared.reason.Reason.TheVariants.{Invalid}
@@ -98,11 +98,11 @@ rejected_tree uid = denied_tree uid (codes "match conditions not decided") Inval
 abbrev pub denials_tree : List Denial → List ℕ → json.Data
 denials_tree ds uid = denied_tree uid (joined (map denial_text ds)) (first_reason ds)
 
--- the response by the outcome; a policy that was skipped allows
+-- the response by the outcome; a policy that was skipped, and one that admits, allows
 abbrev pub tree_of : Outcome → List Denial → List ℕ → json.Data
-tree_of Skipped ds uid = allowed_tree uid
 tree_of Rejected ds uid = rejected_tree uid
 tree_of Denied ds uid = denials_tree ds uid
+tree_of Skipped ds uid = allowed_tree uid
 tree_of Admitted ds uid = allowed_tree uid
 
 -- the text of the response to a verdict of the policy on the request with this uid

@@ -7,9 +7,9 @@ use Rattle.cel_macros.specs.Written.{variable}
 use Rattle.bpf_machine.specs.State.{State, null_values, start_state}
 use Rattle.bpf_machine.specs.Trace.{state_after}
 use Rattle.bpf_machine.specs.declared.status.Status.TheVariants.{Exited}
-use Rattle.policy_glue.specs.DecisionRows.{bare}
+use Rattle.policy_glue.specs.DecisionRows.{bare, ruled}
 use Rattle.policy_glue.specs.OneImage.{program_image}
-use Rattle.policy_glue.specs.Trees.{PolicyTree, RuleTree}
+use Rattle.policy_glue.specs.Trees.{PolicyTree}
 use Rattle.policy_glue.specs.declared.failure_policy.FailurePolicy.{FailurePolicy}
 use Rattle.policy_glue.specs.declared.failure_policy.FailurePolicy.TheVariants.{Fail, Ignore}
 
@@ -24,9 +24,6 @@ words places s = map (word_in s.memory.verdict) places
 -- an expression that is no bool
 abbrev pub other : Tree
 other = literal null
-
-abbrev pub ruled : List RuleTree → PolicyTree
-ruled rules = record { variables = []; conditions = []; validations = rules }
 
 abbrev pub false_with_message : PolicyTree
 false_with_message = ruled (record { expression = no; message = Some (str "a") } ∷ [])

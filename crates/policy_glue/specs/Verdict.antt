@@ -2,7 +2,7 @@
 -- ValidatingAdmissionPolicy: match conditions, failure policy, validations).
 use Rattle.std.specs.Prelude.{ℕ, Bool, true, false, List, [], map, Option, Some, None, if◌then◌else◌}
 use Rattle.std.specs.List.{list_any, list_all}
-use Rattle.value_store.specs.Value.{ValueOrError, error, value, null, boolean, int, text, list, map as map_value}
+use Rattle.value_store.specs.Value.{ValueOrError, value, boolean}
 use Rattle.value_store.specs.Calls.{text_at}
 use Rattle.policy_glue.specs.declared.failure_policy.FailurePolicy.{FailurePolicy}
 use Rattle.policy_glue.specs.declared.failure_policy.FailurePolicy.TheVariants.{Fail, Ignore}
@@ -38,24 +38,17 @@ pub record Verdict : Type 0 where
 abbrev pub truth_of : ValueOrError → Truth
 truth_of (value (boolean true)) = Holds
 truth_of (value (boolean false)) = Fails
-truth_of (value (int n)) = Errs
-truth_of (value (text s)) = Errs
-truth_of (value (list is)) = Errs
-truth_of (value (map_value es)) = Errs
-truth_of (value null) = Errs
-truth_of error = Errs
+truth_of _ = Errs
 
 -- a condition that is false
 abbrev pub is_failed : Truth → Bool
-is_failed Holds = false
 is_failed Fails = true
-is_failed Errs = false
+is_failed _ = false
 
 -- a condition that is true
 abbrev pub is_held : Truth → Bool
 is_held Holds = true
-is_held Fails = false
-is_held Errs = false
+is_held _ = false
 
 -- where no condition fails and one is an error
 abbrev pub undecided : FailurePolicy → Outcome

@@ -8,7 +8,7 @@ ghost use Rattle.policy_glue.specs.Policy.{named_view, rule_view, rules_view};
 use crate::checked::Checked;
 use crate::checked_validation::CheckedValidation;
 use crate::compile_error::CompileError;
-use crate::judging::{message, truth, variable_judged};
+use crate::judging::{part_judged, variable_judged};
 use crate::named_expression::NamedExpression;
 use crate::part_kind::PartKind;
 use crate::parts::Parts;
@@ -93,7 +93,7 @@ fn conditions(alloc: Global, named: &[NamedExpression]) -> Result<Vec<Core>, Com
     let mut cores = Vec::new(alloc);
     for (place, condition) in named.iter().enumerate() {
         let text = condition.expression.as_str();
-        let core = truth(alloc, PartKind::Condition, place, text, &scope)?;
+        let core = part_judged(alloc, PartKind::Condition, place, text, &scope)?;
         cores.push(core)?;
     }
     Ok(cores)
@@ -125,7 +125,7 @@ fn validation_at(
     ensures { ChecksRule scope.now place (rule_view validation.now) result }
 {
     let text = validation.expression.as_str();
-    let expression = truth(alloc, PartKind::Validation, place, text, scope)?;
+    let expression = part_judged(alloc, PartKind::Validation, place, text, scope)?;
     let message = message_at(alloc, place, &validation.message_expression, scope)?;
     Ok(CheckedValidation {
         expression,
@@ -143,7 +143,7 @@ fn message_at(
     ensures { SortsMessage scope.now place (option_map string_bytes text.now) result }
 {
     match text {
-        Some(text) => Ok(Some(message(alloc, place, text.as_str(), scope)?)),
+        Some(text) => Ok(Some(part_judged(alloc, PartKind::Message, place, text.as_str(), scope)?)),
         None => Ok(None),
     }
 }

@@ -1,10 +1,10 @@
 //! Denials.
 
-ghost use Rattle.std.specs.Prelude.{◌≡◌, string_bytes, IfOk, Some};
+ghost use Rattle.std.specs.Prelude.{◌≡◌, string_bytes, IfOk};
 ghost use Rattle.std.specs.List.{list_all};
 ghost use Rattle.policy_glue.specs.Policy.{rule_view};
 ghost use Rattle.policy_glue.specs.Denials.{denial_view};
-ghost use Rattle.policy_glue.specs.Response.{denial_text, is_space, message_or, plain_message, serves};
+ghost use Rattle.policy_glue.specs.Response.{denial_text, is_space, plain_message, serves};
 
 use crate::policy::has_line_break;
 use crate::validation::Validation;
@@ -19,25 +19,14 @@ pub struct Denial<'a> {
 }
 
 impl<'a> Denial<'a> {
-    /// What the denial says.
+    /// What the denial says: the text where it serves as a message, and else the plain message.
     pub fn text(&self, alloc: Global) -> Result<String, AllocError>
         ensures { IfOk result (λ s. string_bytes s ≡ denial_text (denial_view self.now)) }
     {
         match self.message {
-            Some(text) => text_or_plain(alloc, text, self.validation),
-            None => plain_message(alloc, self.validation),
+            Some(text) if serves(text) => String::from_str(alloc, text),
+            _ => plain_message(alloc, self.validation),
         }
-    }
-}
-
-/// The text where it serves as a message, and else the plain message.
-fn text_or_plain(alloc: Global, text: &str, validation: &Validation) -> Result<String, AllocError>
-    ensures { IfOk result (λ s. string_bytes s ≡ message_or (Some text.now) (plain_message (rule_view validation.now))) }
-{
-    if serves(text) {
-        String::from_str(alloc, text)
-    } else {
-        plain_message(alloc, validation)
     }
 }
 

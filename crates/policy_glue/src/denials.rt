@@ -1,9 +1,9 @@
 //! The denials of a verdict.
 
-ghost use Rattle.std.specs.Prelude.{◌≡◌, ◌≤◌, ◌++◌, length, map, option_map, string_bytes, IfOk, OnOk};
+ghost use Rattle.std.specs.Prelude.{◌≡◌, ◌≤◌, length, map, string_bytes, IfOk};
 ghost use Rattle.policy_glue.specs.Policy.{rule_view};
 ghost use Rattle.policy_glue.specs.Layout.{most_validations, words_view};
-ghost use Rattle.policy_glue.specs.Denials.{denial_told, denial_view, denials_told, denies_word, told_in};
+ghost use Rattle.policy_glue.specs.Denials.{denial_view, denials_told, denies_word};
 ghost use Rattle.policy_glue.specs.Response.{denial_text, first_reason, joined, separator_of};
 
 use crate::denial::Denial;
@@ -25,51 +25,22 @@ pub fn denials<'a>(
 {
     let mut denials = Vec::new(alloc);
     for (i, validation) in validations.iter().enumerate() {
-        let word = verdict.result_at(i);
-        let message = verdict.message_at(i);
-        add(
-            &mut denials,
-            denial_of(failure_policy, validation, word, message),
-        )?;
+        if denies(failure_policy, verdict.result_at(i)) {
+            let message = verdict.message_at(i);
+            denials.push(Denial {
+                validation,
+                message,
+            })?;
+        }
     }
     Ok(denials)
 }
 
-/// The denial by a validation, if the word for what it came to says that it denies.
-fn denial_of<'a>(
-    failure_policy: FailurePolicy,
-    validation: &'a Validation,
-    word: u64,
-    message: Option<&'a str>,
-) -> Option<Denial<'a>>
-    ensures { option_map denial_view result ≡ denial_told failure_policy (rule_view validation.now) word (option_map (λ t. t.now) message.entry) }
-{
-    if denies(failure_policy, word) {
-        Some(Denial {
-            validation,
-            message,
-        })
-    } else {
-        None
-    }
-}
-
+/// Whether the word for what a validation came to says that it denies.
 fn denies(failure_policy: FailurePolicy, word: u64) -> bool
     ensures { result ≡ denies_word failure_policy word }
 {
     word == FAILS || word == ERRS && matches!(failure_policy, FailurePolicy::Fail)
-}
-
-fn add<'a>(denials: &mut Vec<Denial<'a>>, denial: Option<Denial<'a>>) -> Result<(), AllocError>
-    ensures { OnOk result (map denial_view denials.new.items ≡ map denial_view denials.old.items ++ told_in (option_map denial_view denial.entry)) }
-{
-    match denial {
-        Some(denial) => {
-            denials.push(denial)?;
-            Ok(())
-        }
-        None => Ok(()),
-    }
 }
 
 /// The reason of the first denial.
@@ -83,6 +54,7 @@ pub fn first_reason(denials: &[Denial]) -> Reason
 }
 
 /// What the denials say, joined.
+#[tactic(auto, using(crate::proofs::Lists::join_start))]
 pub fn joined(alloc: Global, denials: &[Denial]) -> Result<String, AllocError>
     ensures { IfOk result (λ s. string_bytes s ≡ joined (map denial_text (map denial_view denials.now))) }
 {

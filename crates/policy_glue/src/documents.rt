@@ -12,7 +12,7 @@ use serde_json::{Map, Value};
 use std::alloc::{AllocError, Global};
 
 /// What a document says, if it is a JSON text.
-#[tactic(auto, unfolding(crate::specs::Documents::document_of))]
+#[tactic(auto, using(crate::proofs::Read::document_read, crate::proofs::Read::document_refused))]
 pub fn document(alloc: Global, bytes: &[u8]) -> Result<Option<Value>, AllocError>
     ensures { IfOk result (λ v. option_map view v ≡ document_of bytes.now) }
 {

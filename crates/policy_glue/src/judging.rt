@@ -8,9 +8,7 @@ ghost use Rattle.cel_types.specs.Types.{allowed};
 ghost use Rattle.cel_types.specs.Typing.{typing};
 ghost use Rattle.cel_measures.specs.Measures.{need};
 ghost use Rattle.policy_glue.specs.Checked.{Expands, IsExpanded, Judges, Sorts};
-ghost use Rattle.policy_glue.specs.Checking.{expression_judged, texts, truths, variable_judged, with_typing};
-ghost use Rattle.policy_glue.specs.declared.compile_error.CompileError.TheVariants.{K7, K9};
-ghost use Rattle.policy_glue.specs.declared.part_kind.PartKind.TheVariants.{Message};
+ghost use Rattle.policy_glue.specs.Checking.{expression_judged, other_type, types_of, variable_judged, with_typing};
 
 use crate::compile_error::CompileError;
 use crate::expression_error::ExpressionError;
@@ -72,54 +70,44 @@ pub fn variable_judged(
     Ok((core, cel_type))
 }
 
-/// Whether what has this type may be a bool.
-fn may_be_truth(cel_type: CelType) -> bool
-    ensures { result ≡ allowed truths cel_type }
+/// Whether the expression of such a part may have this type.
+fn may_have(part: PartKind, cel_type: CelType) -> bool
+    ensures { result ≡ allowed (types_of part) cel_type }
 {
-    matches!(cel_type, CelType::Bool | CelType::Dyn)
+    match part {
+        PartKind::Message => matches!(cel_type, CelType::String | CelType::Dyn),
+        _ => matches!(cel_type, CelType::Bool | CelType::Dyn),
+    }
 }
 
-/// Whether what has this type may be a text.
-fn may_be_text(cel_type: CelType) -> bool
-    ensures { result ≡ allowed texts cel_type }
+/// The refusal of an expression of another type.
+fn other_type(part: PartKind) -> CompileError
+    ensures { result ≡ other_type part }
 {
-    matches!(cel_type, CelType::String | CelType::Dyn)
+    match part {
+        PartKind::Message => CompileError::K9,
+        _ => CompileError::K7,
+    }
 }
 
-/// The expression of a condition or a validation.
-pub fn truth(
+/// The expression of a condition, of a validation or of its message.
+pub fn part_judged(
     alloc: Global,
     part: PartKind,
     place: usize,
     text: &str,
     scope: &Scope,
 ) -> Result<Core, CompileError>
-    ensures { Sorts truths K7 part place scope.now text.now result }
+    ensures { Sorts (types_of part) (other_type part) part place scope.now text.now result }
 {
     match judged(alloc, text, scope) {
         Ok((core, cel_type)) => {
-            if may_be_truth(cel_type) {
+            if may_have(part, cel_type) {
                 Ok(core)
             } else {
-                Err(CompileError::K7)
+                Err(other_type(part))
             }
         }
         Err(error) => Err(error.at(part, place)),
-    }
-}
-
-/// The expression of a validation's message.
-pub fn message(alloc: Global, place: usize, text: &str, scope: &Scope) -> Result<Core, CompileError>
-    ensures { Sorts texts K9 Message place scope.now text.now result }
-{
-    match judged(alloc, text, scope) {
-        Ok((core, cel_type)) => {
-            if may_be_text(cel_type) {
-                Ok(core)
-            } else {
-                Err(CompileError::K9)
-            }
-        }
-        Err(error) => Err(error.at(PartKind::Message, place)),
     }
 }

@@ -11,31 +11,37 @@ ghost use Rattle.policy_glue.specs.Rows.{PolicyRowsStand, VerdictRowsStand, Resp
 use bpf_machine::laws::decodes_spelling;
 
 /// Documents of policies, with what they say or why they are refused.
+#[tactic(auto, unfolding(crate::proofs::OnLiterals::documents_on_literals))]
 pub fn policy_rows_stand()
     ensures { PolicyRowsStand }
 {}
 
 /// Verdicts, from what conditions, validations and message expressions come to.
+#[tactic(auto, unfolding(crate::proofs::OnLiterals::policies_on_literals))]
 pub fn verdict_rows_stand()
     ensures { VerdictRowsStand }
 {}
 
 /// Texts of responses.
+#[tactic(auto, unfolding(crate::proofs::OnLiterals::documents_on_literals))]
 pub fn response_rows_stand()
     ensures { ResponseRowsStand }
 {}
 
 /// Decisions of policies on the documents of a request.
+#[tactic(auto, unfolding(crate::proofs::OnLiterals::policies_on_literals))]
 pub fn decision_rows_stand()
     ensures { DecisionRowsStand }
 {}
 
 /// Expressions that are taken, and those that are refused.
+#[tactic(auto, unfolding(crate::proofs::OnLiterals::policies_on_literals))]
 pub fn checking_rows_stand()
     ensures { CheckingRowsStand }
 {}
 
 /// What policies visit, spend and have room for.
+#[tactic(auto, unfolding(crate::proofs::OnLiterals::policies_on_literals))]
 pub fn budget_rows_stand()
     ensures { BudgetRowsStand }
 {}
@@ -49,11 +55,13 @@ pub fn policy_decides()
 }
 
 /// Programs of policies run by hand.
+#[tactic(auto, unfolding(crate::proofs::OnLiterals::programs_on_literals))]
 pub fn run_rows_stand()
     ensures { RunRowsStand }
 {}
 
 /// The program of a policy has at most 128 slots for each of the policy's nodes, and can be spelled.
+#[tactic(auto, using(crate::proofs::ProgramSizes::program_is_short, crate::proofs::ProgramSizes::program_is_code))]
 pub fn program_is_code()
     ensures short { ProgramIsShort }
     ensures code { ProgramIsCode }
@@ -62,6 +70,7 @@ pub fn program_is_code()
 /// The program of a policy, run from the start, has decided as the policy does after 128 steps for each
 /// unit of the policy's work, and wherever it stands stopped: it left the verdict, or it was stopped where
 /// 16 of charge for each unit of what is spent pass the limit, or where a value is too deep.
+#[tactic(auto, using(crate::proofs::ProgramRuns::program_decides, crate::proofs::ProgramSizes::program_is_code, crate::proofs::ProgramRuns::program_stops))]
 pub fn program_decides()
     ensures decides { ProgramDecides }
     ensures stops { ProgramStops }
@@ -70,6 +79,7 @@ pub fn program_decides()
 }
 
 /// A policy has one answer at most, its trees or its first refusal, and one image.
+#[tactic(auto, using(crate::proofs::OneAnswer::compiled_once, crate::proofs::OneAnswer::one_image))]
 pub fn compiles_once()
     ensures answer { HasOneAnswer }
     ensures image { HasOneImage }

@@ -2,9 +2,9 @@
 
 ghost use Rattle.std.specs.Prelude.{◌≡◌, map, option_map, IfOk};
 ghost use Rattle.serde_json.specs.View.{view, items_view};
-ghost use Rattle.policy_glue.specs.Documents.{each, has_only, optional_list_in};
+ghost use Rattle.policy_glue.specs.Documents.{each, optional_list_in};
 ghost use Rattle.policy_glue.specs.Policy.{named_view};
-ghost use Rattle.policy_glue.specs.Reading.{are_distinct, named_in, named_keys, named_list_in, named_parts, Forms};
+ghost use Rattle.policy_glue.specs.Reading.{are_distinct, named_in, named_list_in, named_parts, Forms};
 
 use crate::documents::{has_only_keys, text};
 use crate::name_rule::NameRule;
@@ -57,10 +57,11 @@ fn list_of(
     Ok(list)
 }
 
+#[tactic(auto, unfolding(crate::specs::Reading::named_keys))]
 fn named(alloc: Global, value: &Value, rule: NameRule) -> Result<NamedExpression, PolicyError>
     ensures { Forms named_view (named_in rule (view value.now)) result }
 {
-    if !has_named_keys(value) {
+    if !has_only_keys(value, ["name", "expression"].as_slice()) {
         return Err(PolicyError::K3);
     }
     let named = named_parts(alloc, value)?;
@@ -68,13 +69,6 @@ fn named(alloc: Global, value: &Value, rule: NameRule) -> Result<NamedExpression
         return Err(PolicyError::K3);
     }
     Ok(named)
-}
-
-#[tactic(auto, unfolding(crate::specs::Reading::named_keys))]
-fn has_named_keys(value: &Value) -> bool
-    ensures { result ≡ has_only named_keys (view value.now) }
-{
-    has_only_keys(value, ["name", "expression"].as_slice())
 }
 
 #[tactic(auto, unfolding(crate::specs::Reading::named_parts))]

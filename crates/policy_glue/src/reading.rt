@@ -2,9 +2,9 @@
 
 ghost use Rattle.std.specs.Prelude.{◌≡◌, option_map};
 ghost use Rattle.serde_json.specs.View.{view};
-ghost use Rattle.policy_glue.specs.Documents.{has_only, is_object_or_absent};
+ghost use Rattle.policy_glue.specs.Documents.{is_object_or_absent};
 ghost use Rattle.policy_glue.specs.Policy.{rules_view};
-ghost use Rattle.policy_glue.specs.Reading.{failure_in, has_head, has_spec_form, has_top_form, rules_in, spec_in, spec_keys, spec_parts, spec_value_in, top_keys, Forms};
+ghost use Rattle.policy_glue.specs.Reading.{failure_in, has_head, has_spec_form, has_top_form, rules_in, spec_in, spec_parts, Forms};
 
 use crate::documents::{has_only_keys, is_object_or_absent, is_the_text};
 use crate::failure_policy::FailurePolicy;
@@ -35,50 +35,26 @@ pub fn parts(alloc: Global, value: &Value) -> Result<Parts, PolicyError>
     spec(alloc, value.get("spec"))
 }
 
-#[tactic(auto, unfolding(crate::specs::Reading::has_top_form))]
+#[tactic(auto, unfolding(crate::specs::Reading::has_top_form, crate::specs::Reading::top_keys))]
 fn has_top_form(value: &Value) -> bool
     ensures { result ≡ has_top_form (view value.now) }
 {
-    has_top_keys(value) && is_object_or_absent(value.get("metadata"))
-}
-
-#[tactic(auto, unfolding(crate::specs::Reading::top_keys))]
-fn has_top_keys(value: &Value) -> bool
-    ensures { result ≡ has_only top_keys (view value.now) }
-{
     has_only_keys(value, ["apiVersion", "kind", "metadata", "spec"].as_slice())
+        && is_object_or_absent(value.get("metadata"))
 }
 
 fn spec(alloc: Global, value: Option<&Value>) -> Result<Parts, PolicyError>
     ensures { Forms rules_view (spec_in (option_map (λ v. view v.now) value.entry)) result }
 {
     match value {
-        Some(value) => spec_value(alloc, value),
-        None => Err(PolicyError::K3),
+        Some(value) if has_spec_form(value) => spec_parts(alloc, value),
+        _ => Err(PolicyError::K3),
     }
 }
 
-fn spec_value(alloc: Global, value: &Value) -> Result<Parts, PolicyError>
-    ensures { Forms rules_view (spec_value_in (view value.now)) result }
-{
-    if !has_spec_form(value) {
-        return Err(PolicyError::K3);
-    }
-    spec_parts(alloc, value)
-}
-
-#[tactic(auto, unfolding(crate::specs::Reading::has_spec_form))]
+#[tactic(auto, unfolding(crate::specs::Reading::has_spec_form, crate::specs::Reading::spec_keys))]
 fn has_spec_form(value: &Value) -> bool
     ensures { result ≡ has_spec_form (view value.now) }
-{
-    has_spec_keys(value)
-        && is_object_or_absent(value.get("matchConstraints"))
-        && is_object_or_absent(value.get("paramKind"))
-}
-
-#[tactic(auto, unfolding(crate::specs::Reading::spec_keys))]
-fn has_spec_keys(value: &Value) -> bool
-    ensures { result ≡ has_only spec_keys (view value.now) }
 {
     let known = [
         "failurePolicy",
@@ -89,6 +65,8 @@ fn has_spec_keys(value: &Value) -> bool
         "variables",
     ];
     has_only_keys(value, known.as_slice())
+        && is_object_or_absent(value.get("matchConstraints"))
+        && is_object_or_absent(value.get("paramKind"))
 }
 
 #[tactic(auto, unfolding(crate::specs::Reading::spec_parts))]

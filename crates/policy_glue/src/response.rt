@@ -17,6 +17,7 @@ use std::alloc::{AllocError, Global};
 
 /// The text of the response to a verdict of the policy (AdmissionReview, `admission.k8s.io/v1`), for the
 /// request with this uid. The error says that there is no memory for it.
+#[tactic(auto, using(crate::proofs::Told::responded))]
 pub fn respond(
     alloc: Global,
     policy: &Policy,

@@ -2,9 +2,9 @@
 
 ghost use Rattle.std.specs.Prelude.{◌≡◌, map, option_map};
 ghost use Rattle.serde_json.specs.View.{view, items_view};
-ghost use Rattle.policy_glue.specs.Documents.{each, has_only, list_in};
+ghost use Rattle.policy_glue.specs.Documents.{each, list_in};
 ghost use Rattle.policy_glue.specs.Policy.{rule_view};
-ghost use Rattle.policy_glue.specs.Reading.{reason_in, rule_in, rule_keys, rule_parts, Forms};
+ghost use Rattle.policy_glue.specs.Reading.{reason_in, rule_in, rule_parts, Forms};
 
 use crate::documents::{has_only_keys, optional_text, text, text_or_empty};
 use crate::policy_error::PolicyError;
@@ -33,23 +33,15 @@ fn validations_of(alloc: Global, items: &Vec<Value>) -> Result<Vec<Validation>, 
     Ok(list)
 }
 
+#[tactic(auto, unfolding(crate::specs::Reading::rule_keys))]
 fn validation(alloc: Global, value: &Value) -> Result<Validation, PolicyError>
     ensures { Forms rule_view (rule_in (view value.now)) result }
 {
-    if !has_rule_keys(value) {
+    let known = ["expression", "message", "messageExpression", "reason"];
+    if !has_only_keys(value, known.as_slice()) {
         return Err(PolicyError::K3);
     }
     validation_parts(alloc, value)
-}
-
-#[tactic(auto, unfolding(crate::specs::Reading::rule_keys))]
-fn has_rule_keys(value: &Value) -> bool
-    ensures { result ≡ has_only rule_keys (view value.now) }
-{
-    has_only_keys(
-        value,
-        ["expression", "message", "messageExpression", "reason"].as_slice(),
-    )
 }
 
 #[tactic(auto, unfolding(crate::specs::Reading::rule_parts))]

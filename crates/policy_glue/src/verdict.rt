@@ -159,6 +159,7 @@ impl<'v> Verdict<'v> {
     }
 
     /// The text of the message of validation i.
+    #[tactic(auto, using(crate::proofs::Lists::read_lent))]
     pub(crate) fn message_at(&self, i: usize) -> Option<&'v str>
         requires { i < most_validations }
         ensures { option_map (λ t. t.now) result ≡ lent (slice_get (words_view self.now).messages i) }

@@ -58,25 +58,15 @@ unary_code unary.Not l of = operand_code l of R1 ++ not_tail
 unary_code unary.Negate l of = operand_code l of R6 ++ negation_tail
 
 -- the registers of an operator's operands: arithmetic has them where helpers keep them, and `>` and `<=` exchange the sides
-abbrev pub left_register : BinaryOperator → Register
-left_register binary.LessEqual = R2
-left_register binary.Greater = R2
-left_register binary.Add = R6
-left_register binary.Subtract = R6
-left_register binary.Multiply = R6
-left_register binary.Divide = R6
-left_register binary.Remainder = R6
-left_register _ = R1
-
-abbrev pub right_register : BinaryOperator → Register
-right_register binary.LessEqual = R1
-right_register binary.Greater = R1
-right_register binary.Add = R7
-right_register binary.Subtract = R7
-right_register binary.Multiply = R7
-right_register binary.Divide = R7
-right_register binary.Remainder = R7
-right_register _ = R2
+abbrev pub registers : BinaryOperator → Register × Register
+registers binary.LessEqual = (R2, R1)
+registers binary.Greater = (R2, R1)
+registers binary.Add = (R6, R7)
+registers binary.Subtract = (R6, R7)
+registers binary.Multiply = (R6, R7)
+registers binary.Divide = (R6, R7)
+registers binary.Remainder = (R6, R7)
+registers _ = (R1, R2)
 
 -- what is made of both operands
 unfoldable pub binary_tail : BinaryOperator → List Insn
@@ -99,7 +89,7 @@ binary_tail binary.Remainder = divided_code Smod
 abbrev pub binary_code : BinaryOperator → Option Leaf → List Insn → Option Leaf → List Insn → ℕ → List Insn
 binary_code binary.Or l left m right k = or_code left right k
 binary_code binary.And l left m right k = and_code left right k
-binary_code op l left m right k = operands_code l left m right k (left_register op) (right_register op) ++ binary_tail op
+binary_code op l left m right k = operands_code l left m right k (registers op).0 (registers op).1 ++ binary_tail op
 
 -- a function of an operand
 abbrev pub function_code : Option Function → Option Leaf → List Insn → List Insn
@@ -110,10 +100,8 @@ function_code None l of = no_code
 
 -- of the functions only `size` is a method too
 abbrev pub method_function_code : Option Function → Option Leaf → List Insn → List Insn
-method_function_code (Some Size) l of = operand_code l of R1 ++ size_tail
-method_function_code (Some String) l of = no_code
-method_function_code (Some Dyn) l of = no_code
-method_function_code None l of = no_code
+method_function_code (Some Size) l of = function_code (Some Size) l of
+method_function_code _ l of = no_code
 
 -- a test of two texts
 abbrev pub test_code : Option TextTest → Option Leaf → List Insn → Option Leaf → List Insn → ℕ → List Insn

@@ -3,6 +3,7 @@
 ghost use Rattle.std.specs.Prelude.{◌≡◌, ◌<◌, ◌+◌, ◌++◌, IfOk, OnOk};
 ghost use Rattle.codegen_base.specs.Code.Aggregates as specs;
 
+use crate::code::Code;
 use crate::instructions::{load, store};
 use Register::{R0, R1, R2, R3};
 use codegen_base::helpers;
@@ -21,7 +22,7 @@ pub(crate) fn add_item(items: &mut Vec<Insn>, item: &[Insn], k: usize) -> Result
 }
 
 /// A list of the items that this code adds to the one in word k.
-pub(crate) fn list(alloc: Global, items: &[Insn], k: usize) -> Result<Vec<Insn>, AllocError>
+pub(crate) fn list(alloc: Global, items: &[Insn], k: usize) -> Code
     requires { k < 64 }
     ensures { IfOk result (λ code. code.items ≡ specs.list_code items.now k) }
 {
@@ -54,7 +55,7 @@ pub(crate) fn add_entry(
 }
 
 /// A map of the entries that this code puts into the one in word k.
-pub(crate) fn map(alloc: Global, entries: &[Insn], k: usize) -> Result<Vec<Insn>, AllocError>
+pub(crate) fn map(alloc: Global, entries: &[Insn], k: usize) -> Code
     requires { k < 64 }
     ensures { IfOk result (λ code. code.items ≡ specs.map_code entries.now k) }
 {

@@ -3,13 +3,14 @@
 ghost use Rattle.std.specs.Prelude.{◌≡◌, ◌<◌, ◌≤◌, IfOk};
 ghost use Rattle.codegen_base.specs.Code.Arithmetic as specs;
 
+use crate::code::Code;
 use crate::instructions::{compute, skip, skip_where};
 use Register::{R0, R1, R2, R6, R7};
 use codegen_base::helpers::{self, INT_KIND};
 use codegen_base::instructions::{call, copy, load_wide, put, skip_if};
 use codegen_base::references::ERROR;
 use insn_codec::{AluOp, Comparison, Insn, Register, Width};
-use std::alloc::{AllocError, Global};
+use std::alloc::Global;
 
 /// The word of the least int.
 const LEAST: u64 = 1 << 63;
@@ -93,7 +94,7 @@ fn divided_tail(op: AluOp) -> [Insn; 9]
 }
 
 /// R6 plus R7, of what they name.
-pub(crate) fn sum(alloc: Global) -> Result<Vec<Insn>, AllocError>
+pub(crate) fn sum(alloc: Global) -> Code
     ensures { IfOk result (λ code. code.items ≡ specs.sum_code) }
 {
     let mut code = int_operands(10).to_vec(alloc)?;
@@ -103,7 +104,7 @@ pub(crate) fn sum(alloc: Global) -> Result<Vec<Insn>, AllocError>
 }
 
 /// R6 less R7.
-pub(crate) fn difference(alloc: Global) -> Result<Vec<Insn>, AllocError>
+pub(crate) fn difference(alloc: Global) -> Code
     ensures { IfOk result (λ code. code.items ≡ specs.difference_code) }
 {
     let mut code = int_operands(8).to_vec(alloc)?;
@@ -112,7 +113,7 @@ pub(crate) fn difference(alloc: Global) -> Result<Vec<Insn>, AllocError>
 }
 
 /// R6 times R7.
-pub(crate) fn product(alloc: Global) -> Result<Vec<Insn>, AllocError>
+pub(crate) fn product(alloc: Global) -> Code
     ensures { IfOk result (λ code. code.items ≡ specs.product_code) }
 {
     let mut code = int_operands(12).to_vec(alloc)?;
@@ -121,7 +122,7 @@ pub(crate) fn product(alloc: Global) -> Result<Vec<Insn>, AllocError>
 }
 
 /// The quotient or the remainder of R6 by R7.
-pub(crate) fn divided(alloc: Global, op: AluOp) -> Result<Vec<Insn>, AllocError>
+pub(crate) fn divided(alloc: Global, op: AluOp) -> Code
     ensures { IfOk result (λ code. code.items ≡ specs.divided_code op) }
 {
     let mut code = int_operands(9).to_vec(alloc)?;

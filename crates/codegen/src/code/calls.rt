@@ -5,19 +5,16 @@ ghost use Rattle.codegen_base.specs.Code.Calls as specs;
 ghost use Rattle.codegen_base.specs.Code.Leaves.{HasWord};
 ghost use Rattle.codegen_base.specs.Pieces.{size as size_of_piece};
 
+use crate::code::Code;
 use crate::instructions::{leaf_into, size, store};
 use crate::part::Part;
 use codegen_base::instructions::copy;
 use codegen_base::leaf::Leaf;
-use insn_codec::{Insn, Register};
-use std::alloc::{AllocError, Global};
+use insn_codec::Register;
+use std::alloc::Global;
 
 /// The part into the register: a leaf by its own instruction, all else by its code, which leaves it in R0.
-pub(crate) fn operand(
-    alloc: Global,
-    part: &Part,
-    register: Register,
-) -> Result<Vec<Insn>, AllocError>
+pub(crate) fn operand(alloc: Global, part: &Part, register: Register) -> Code
     ensures { IfOk result (λ code. code.items ≡ specs.operand_code part.now.leaf part.now.code.items register) }
 {
     match part.leaf {
@@ -31,7 +28,7 @@ pub(crate) fn operand(
 }
 
 /// A left operand before the right one: a leaf can wait, all else is kept in word k.
-fn kept(alloc: Global, left: &Part, k: usize) -> Result<Vec<Insn>, AllocError>
+fn kept(alloc: Global, left: &Part, k: usize) -> Code
     requires { k < 64 }
     ensures { IfOk result (λ code. code.items ≡ specs.kept_code left.now.leaf left.now.code.items k) }
 {
@@ -72,7 +69,7 @@ pub(crate) fn operands(
     k: usize,
     first: Register,
     second: Register,
-) -> Result<Vec<Insn>, AllocError>
+) -> Code
     requires { k < 64 }
     ensures { IfOk result (λ code. code.items ≡ specs.operands_code left.now.leaf left.now.code.items right.now.leaf right.now.code.items k first second) }
 {

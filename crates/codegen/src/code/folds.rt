@@ -5,6 +5,7 @@ ghost use Rattle.codegen_base.specs.Loops as loops;
 ghost use Rattle.codegen_base.specs.Code.Folds as specs;
 ghost use Rattle.codegen_base.specs.Pieces.{size as size_of_piece};
 
+use crate::code::Code;
 use crate::instructions::{back_where, load, size, skip, skip_where, store};
 use Register::{R0, R1, R2};
 use cel_macros::Macro;
@@ -12,7 +13,7 @@ use codegen_base::helpers;
 use codegen_base::instructions::{add, call, copy, put, skip_if};
 use codegen_base::references::{ERROR, NO, NULL, YES};
 use insn_codec::{Comparison, Insn, Register};
-use std::alloc::{AllocError, Global};
+use std::alloc::Global;
 
 /// R0 names the range; where it is neither list nor map, R0 is the error and so many slots behind the
 /// sixth of these are left out.
@@ -68,7 +69,7 @@ fn loop_tail(k: usize, slots: usize) -> [Insn; 6]
 }
 
 /// A loop whose turn puts the next answer in the place of the one so far.
-fn loop_of(alloc: Global, turn: &[Insn], k: usize) -> Result<Vec<Insn>, AllocError>
+fn loop_of(alloc: Global, turn: &[Insn], k: usize) -> Code
     requires words { k + 4 < 64 }
     requires near { size_of_piece turn.now ≤ 32300 }
     ensures { IfOk result (λ code. code.items ≡ loops.loop_code k turn.now) }
@@ -77,30 +78,6 @@ fn loop_of(alloc: Global, turn: &[Insn], k: usize) -> Result<Vec<Insn>, AllocErr
     let mut code = loop_head(k, slots + 8).to_vec(alloc)?;
     code.extend_from_slice(turn)?;
     code.extend_from_slice(&loop_tail(k, slots + 7))?;
-    Ok(code)
-}
-
-/// The range, the answer before the first item, and the loop.
-#[tactic(auto, using(crate::proofs::Joined::fold_joined))]
-fn fold(
-    alloc: Global,
-    range: &[Insn],
-    first: Insn,
-    turn: &[Insn],
-    k: usize,
-) -> Result<Vec<Insn>, AllocError>
-    requires words { k + 4 < 64 }
-    requires near { size_of_piece turn.now ≤ 32300 }
-    requires first { size_of_piece (first ∷ []) ≡ 1 }
-    ensures { IfOk result (λ code. code.items ≡ loops.fold_code k range.now (first ∷ []) turn.now) }
-{
-    let turns = loop_of(alloc, turn, k)?;
-    let behind = size(turn) + 17;
-    let mut code = range.to_vec(alloc)?;
-    code.extend_from_slice(&range_tail(k, behind))?;
-    code.push(first)?;
-    code.push(store(k + 3, R0))?;
-    code.extend_from_slice(&turns)?;
     Ok(code)
 }
 
@@ -170,8 +147,8 @@ fn map_turn(k: usize) -> [Insn; 4]
 }
 
 /// The transform where the predicate is true.
-#[tactic(auto, using(crate::proofs::Sizes::size_map_where))]
-fn map_where_turn(alloc: Global, transform: &[Insn], k: usize) -> Result<Vec<Insn>, AllocError>
+#[tactic(auto, using(crate::proofs::Lengths::size_map_where))]
+fn map_where_turn(alloc: Global, transform: &[Insn], k: usize) -> Code
     requires words { k + 4 < 64 }
     requires near { size_of_piece transform.now ≤ 32256 }
     ensures code { IfOk result (λ code. code.items ≡ specs.map_where_turn transform.now k) }
@@ -196,8 +173,8 @@ fn map_where_turn(alloc: Global, transform: &[Insn], k: usize) -> Result<Vec<Ins
 }
 
 /// A predicate or transform, and behind it what makes the next answer.
-#[tactic(auto, using(crate::proofs::Sizes::turn_near))]
-fn turn_of(alloc: Global, part: &[Insn], tail: &[Insn]) -> Result<Vec<Insn>, AllocError>
+#[tactic(auto, using(crate::proofs::Lengths::turn_near))]
+fn turn_of(alloc: Global, part: &[Insn], tail: &[Insn]) -> Code
     requires { size_of_piece part.now + size_of_piece tail.now ≤ 32300 }
     ensures code { IfOk result (λ code. code.items ≡ part.now ++ tail.now) }
     ensures near { IfOk result (λ code. size_of_piece code.items ≤ 32300) }
@@ -207,37 +184,33 @@ fn turn_of(alloc: Global, part: &[Insn], tail: &[Insn]) -> Result<Vec<Insn>, All
     Ok(code)
 }
 
-/// A fold whose turn is this part with these instructions behind it.
-fn fold_part(
-    alloc: Global,
-    range: &[Insn],
-    first: Insn,
-    part: &[Insn],
-    tail: &[Insn],
-    k: usize,
-) -> Result<Vec<Insn>, AllocError>
+/// The range, the answer before the first item, and the loop, whose turn is this part with these
+/// instructions behind it.
+fn fold(alloc: Global, range: &[Insn], first: Insn, part: &[Insn], tail: &[Insn], k: usize) -> Code
     requires words { k + 4 < 64 }
     requires near { size_of_piece part.now + size_of_piece tail.now ≤ 32300 }
     requires first { size_of_piece (first ∷ []) ≡ 1 }
     ensures { IfOk result (λ code. code.items ≡ loops.fold_code k range.now (first ∷ []) (part.now ++ tail.now)) }
 {
     let turn = turn_of(alloc, part, tail)?;
-    fold(alloc, range, first, &turn, k)
+    let turns = loop_of(alloc, &turn, k)?;
+    let behind = size(&turn) + 17;
+    let mut code = range.to_vec(alloc)?;
+    code.extend_from_slice(&range_tail(k, behind))?;
+    code.push(first)?;
+    code.push(store(k + 3, R0))?;
+    code.extend_from_slice(&turns)?;
+    Ok(code)
 }
 
 /// Whether the predicate is true of one item alone.
-#[tactic(auto, using(crate::proofs::Sizes::size_by_length))]
-fn exists_one(
-    alloc: Global,
-    range: &[Insn],
-    predicate: &[Insn],
-    k: usize,
-) -> Result<Vec<Insn>, AllocError>
+#[tactic(auto, using(crate::proofs::Lengths::size_by_length))]
+fn exists_one(alloc: Global, range: &[Insn], predicate: &[Insn], k: usize) -> Code
     requires words { k + 4 < 64 }
     requires near { size_of_piece predicate.now ≤ 32256 }
     ensures { IfOk result (λ code. code.items ≡ specs.exists_one_code k range.now predicate.now) }
 {
-    let mut code = fold_part(alloc, range, put(R0, NO), predicate, &exists_one_turn(k), k)?;
+    let mut code = fold(alloc, range, put(R0, NO), predicate, &exists_one_turn(k), k)?;
     code.extend_from_slice(&[
         skip_if(Comparison::Eq, R0, ERROR, 2),
         skip_if(Comparison::Eq, R0, YES, 1),
@@ -253,24 +226,18 @@ pub(crate) fn map_where(
     predicate: &[Insn],
     transform: &[Insn],
     k: usize,
-) -> Result<Vec<Insn>, AllocError>
+) -> Code
     requires words { k + 4 < 64 }
     requires near { size_of_piece predicate.now + size_of_piece transform.now ≤ 32256 }
     ensures { IfOk result (λ code. code.items ≡ specs.map_where_code k range.now predicate.now transform.now) }
 {
     let tail = map_where_turn(alloc, transform, k)?;
-    fold_part(alloc, range, call(helpers::LIST_NEW), predicate, &tail, k)
+    fold(alloc, range, call(helpers::LIST_NEW), predicate, &tail, k)
 }
 
 /// The macro with one part, its predicate or its transform.
-#[tactic(auto, using(crate::proofs::Sizes::size_by_length))]
-pub(crate) fn macro_of(
-    alloc: Global,
-    found: Macro,
-    range: &[Insn],
-    part: &[Insn],
-    k: usize,
-) -> Result<Vec<Insn>, AllocError>
+#[tactic(auto, using(crate::proofs::Lengths::size_by_length, crate::proofs::Walks::same_code))]
+pub(crate) fn macro_of(alloc: Global, found: Macro, range: &[Insn], part: &[Insn], k: usize) -> Code
     requires words { k + 4 < 64 }
     requires near { size_of_piece part.now ≤ 32256 }
     ensures { IfOk result (λ code. code.items ≡ specs.macro_code found k range.now part.now) }
@@ -278,14 +245,14 @@ pub(crate) fn macro_of(
     match found {
         Macro::All => {
             let tail = absorbing_turn(NO, YES, k);
-            fold_part(alloc, range, put(R0, YES), part, &tail, k)
+            fold(alloc, range, put(R0, YES), part, &tail, k)
         }
         Macro::Exists => {
             let tail = absorbing_turn(YES, NO, k);
-            fold_part(alloc, range, put(R0, NO), part, &tail, k)
+            fold(alloc, range, put(R0, NO), part, &tail, k)
         }
         Macro::ExistsOne => exists_one(alloc, range, part, k),
-        Macro::Filter => fold_part(
+        Macro::Filter => fold(
             alloc,
             range,
             call(helpers::LIST_NEW),
@@ -293,6 +260,6 @@ pub(crate) fn macro_of(
             &filter_turn(k),
             k,
         ),
-        Macro::Map => fold_part(alloc, range, call(helpers::LIST_NEW), part, &map_turn(k), k),
+        Macro::Map => fold(alloc, range, call(helpers::LIST_NEW), part, &map_turn(k), k),
     }
 }

@@ -7,6 +7,7 @@ ghost use Rattle.codegen_base.specs.Code.Literals as base;
 ghost use Rattle.codegen_base.specs.Instructions.{load_wide as load_wide_insn, put_length as put_length_insn};
 ghost use Rattle.codegen.specs.Code.Literals as specs;
 
+use crate::code::Code;
 use crate::code::names::leaf;
 use crate::constants::place_of;
 use Register::{R1, R2};
@@ -16,7 +17,7 @@ use codegen_base::instructions::{call, load_wide, put};
 use codegen_base::leaf::Leaf;
 use codegen_base::references::{NO, NULL, YES};
 use insn_codec::{Insn, Register};
-use std::alloc::{AllocError, Global};
+use std::alloc::Global;
 
 /// Where the constants begin in memory.
 const CONSTANTS: u64 = 0x4_0000_0000;
@@ -74,14 +75,14 @@ pub(crate) fn literal_leaf(literal: &Literal) -> Option<Leaf>
 }
 
 /// An int, from its word.
-fn int(alloc: Global, n: i64) -> Result<Vec<Insn>, AllocError>
+fn int(alloc: Global, n: i64) -> Code
     ensures { IfOk result (λ code. code.items ≡ base.int_code n) }
 {
     [load_wide(R1, n.cast_unsigned()), call(helpers::INT_NEW)].to_vec(alloc)
 }
 
 /// A text, from its bytes among the constants.
-fn text(alloc: Global, texts: &[String], text: &str) -> Result<Vec<Insn>, AllocError>
+fn text(alloc: Global, texts: &[String], text: &str) -> Code
     ensures { IfOk result (λ code. code.items ≡ base.text_code (specs.address_of (map string_bytes texts.now) text.now) (length text.now)) }
 {
     let mut code = text_range(texts, text, R1, R2).to_vec(alloc)?;
@@ -90,11 +91,7 @@ fn text(alloc: Global, texts: &[String], text: &str) -> Result<Vec<Insn>, AllocE
 }
 
 /// The literal's value; a text is among these.
-pub(crate) fn literal(
-    alloc: Global,
-    texts: &[String],
-    literal: &Literal,
-) -> Result<Vec<Insn>, AllocError>
+pub(crate) fn literal(alloc: Global, texts: &[String], literal: &Literal) -> Code
     ensures { IfOk result (λ code. code.items ≡ specs.literal_code (map string_bytes texts.now) (literal_view literal.now)) }
 {
     match literal {

@@ -4,12 +4,13 @@ ghost use Rattle.std.specs.Prelude.{◌≡◌, ◌<◌, ◌≤◌, ◌+◌, IfOk
 ghost use Rattle.codegen_base.specs.Code.Logic as specs;
 ghost use Rattle.codegen_base.specs.Pieces.{size as size_of_piece};
 
+use crate::code::Code;
 use crate::instructions::{load, size, skip, store};
 use codegen_base::helpers;
 use codegen_base::instructions::{call, put, skip_if};
 use codegen_base::references::{ERROR, NO, YES};
 use insn_codec::{Comparison, Insn, Register};
-use std::alloc::{AllocError, Global};
+use std::alloc::Global;
 
 /// The operator for which the one truth decides, with its right side in R0 and its left side, which
 /// does not decide, in word k.
@@ -28,6 +29,7 @@ fn absorbing_tail(decides: i32, other: i32, k: usize) -> [Insn; 5]
 
 /// The operator for which the one truth decides: where it is the left side's, the right one is left
 /// out. Where neither side decides, both sides have to be the other truth, or the answer is the error.
+#[tactic(auto, using(crate::proofs::Lengths::put_together))]
 pub(crate) fn absorbing(
     alloc: Global,
     decides: i32,
@@ -35,7 +37,7 @@ pub(crate) fn absorbing(
     left: &[Insn],
     right: &[Insn],
     k: usize,
-) -> Result<Vec<Insn>, AllocError>
+) -> Code
     requires word { k < 64 }
     requires near { size_of_piece right.now ≤ 32256 }
     ensures { IfOk result (λ code. code.items ≡ specs.absorbing_code decides other left.now right.now k) }
@@ -57,12 +59,7 @@ pub(crate) fn not_tail() -> [Insn; 1]
 }
 
 /// The chosen side, or the error where the condition is neither true nor false.
-pub(crate) fn ternary(
-    alloc: Global,
-    condition: &[Insn],
-    yes: &[Insn],
-    no: &[Insn],
-) -> Result<Vec<Insn>, AllocError>
+pub(crate) fn ternary(alloc: Global, condition: &[Insn], yes: &[Insn], no: &[Insn]) -> Code
     requires { size_of_piece yes.now + size_of_piece no.now ≤ 32256 }
     ensures { IfOk result (λ code. code.items ≡ specs.ternary_code condition.now yes.now no.now) }
 {

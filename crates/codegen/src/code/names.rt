@@ -10,6 +10,7 @@ ghost use Rattle.codegen_base.specs.Code.Selection.{size_tail, string_tail as st
 ghost use Rattle.codegen.specs.Code.Expressions as specs;
 ghost use Rattle.codegen.specs.FrameWords.{words_of, AreItems, AreWords};
 
+use crate::code::Code;
 use crate::code::calls::{operand, operands};
 use crate::code::selection::string_tail;
 use crate::frame_words::FrameWords;
@@ -19,8 +20,8 @@ use codegen_base::helpers;
 use codegen_base::instructions::call;
 use codegen_base::leaf::Leaf;
 use codegen_base::references::{ERROR, NAMESPACE_OBJECT, OBJECT, OLD_OBJECT, PARAMS, REQUEST};
-use insn_codec::{Insn, Register};
-use std::alloc::{AllocError, Global};
+use insn_codec::Register;
+use std::alloc::Global;
 
 /// The word that holds the item of this iteration name.
 fn word_named(name: &str, words: &FrameWords) -> Option<usize>
@@ -56,7 +57,7 @@ pub(crate) fn root_reference(name: &str) -> i32
 }
 
 /// A leaf as an expression.
-pub(crate) fn leaf(alloc: Global, leaf: Leaf) -> Result<Vec<Insn>, AllocError>
+pub(crate) fn leaf(alloc: Global, leaf: Leaf) -> Code
     requires { HasWord leaf }
     ensures { IfOk result (λ code. code.items ≡ leaf_code leaf) }
 {
@@ -76,14 +77,14 @@ pub(crate) fn name_leaf(name: &str, words: &FrameWords) -> Leaf
 }
 
 /// The code of a part that no expression has which the type checker takes: it gives the error.
-pub(crate) fn nothing(alloc: Global) -> Result<Vec<Insn>, AllocError>
+pub(crate) fn nothing(alloc: Global) -> Code
     ensures { IfOk result (λ code. code.items ≡ specs.no_code) }
 {
     leaf(alloc, Leaf::Reference(ERROR))
 }
 
 /// The number of code points, items or entries of a part.
-fn size_of(alloc: Global, of: &Part) -> Result<Vec<Insn>, AllocError>
+fn size_of(alloc: Global, of: &Part) -> Code
     ensures { IfOk result (λ code. code.items ≡ operand_code of.now.leaf of.now.code.items Register.R1 ++ size_tail) }
 {
     let mut code = operand(alloc, of, Register::R1)?;
@@ -92,7 +93,7 @@ fn size_of(alloc: Global, of: &Part) -> Result<Vec<Insn>, AllocError>
 }
 
 /// The text of a part.
-fn text_of(alloc: Global, of: &Part) -> Result<Vec<Insn>, AllocError>
+fn text_of(alloc: Global, of: &Part) -> Code
     ensures { IfOk result (λ code. code.items ≡ operand_code of.now.leaf of.now.code.items Register.R6 ++ string_tail_code) }
 {
     let mut code = operand(alloc, of, Register::R6)?;
@@ -102,7 +103,7 @@ fn text_of(alloc: Global, of: &Part) -> Result<Vec<Insn>, AllocError>
 
 /// The function of this name, of a part.
 #[tactic(auto, unfolding(cel_macros::specs::Functions::function_named))]
-pub(crate) fn function(alloc: Global, name: &str, of: &Part) -> Result<Vec<Insn>, AllocError>
+pub(crate) fn function(alloc: Global, name: &str, of: &Part) -> Code
     ensures { IfOk result (λ code. code.items ≡ specs.function_code (function_named name.now) of.now.leaf of.now.code.items) }
 {
     match name {
@@ -115,7 +116,7 @@ pub(crate) fn function(alloc: Global, name: &str, of: &Part) -> Result<Vec<Insn>
 
 /// The method of this name and without arguments, of a part.
 #[tactic(auto, unfolding(cel_macros::specs::Functions::function_named))]
-pub(crate) fn method(alloc: Global, name: &str, of: &Part) -> Result<Vec<Insn>, AllocError>
+pub(crate) fn method(alloc: Global, name: &str, of: &Part) -> Code
     ensures { IfOk result (λ code. code.items ≡ specs.method_function_code (function_named name.now) of.now.leaf of.now.code.items) }
 {
     if "size" == name {
@@ -127,13 +128,7 @@ pub(crate) fn method(alloc: Global, name: &str, of: &Part) -> Result<Vec<Insn>, 
 
 /// The test of this name, of a text for a part.
 #[tactic(auto, unfolding(cel_macros::specs::Functions::test_named))]
-pub(crate) fn test(
-    alloc: Global,
-    name: &str,
-    left: &Part,
-    right: &Part,
-    k: usize,
-) -> Result<Vec<Insn>, AllocError>
+pub(crate) fn test(alloc: Global, name: &str, left: &Part, right: &Part, k: usize) -> Code
     requires { k < 64 }
     ensures { IfOk result (λ code. code.items ≡ specs.test_code (test_named name.now) left.now.leaf left.now.code.items right.now.leaf right.now.code.items k) }
 {

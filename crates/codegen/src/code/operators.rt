@@ -5,6 +5,7 @@ ghost use Rattle.codegen.specs.Code.Expressions as specs;
 ghost use Rattle.codegen_base.specs.Code.Comparison as comparison;
 ghost use Rattle.codegen_base.specs.Pieces.{size as size_of_piece};
 
+use crate::code::Code;
 use crate::code::arithmetic::{difference, divided, negation_tail, product, sum};
 use crate::code::calls::{kept_size, operand, operands};
 use crate::code::logic::{absorbing, not_tail};
@@ -16,10 +17,10 @@ use codegen_base::helpers::{EQUAL, LESS, MEMBER, NOT};
 use codegen_base::instructions::{call, copy};
 use codegen_base::references::{NO, YES};
 use insn_codec::{AluOp, Insn, Register};
-use std::alloc::{AllocError, Global};
+use std::alloc::Global;
 
 /// The operator, of a part.
-pub(crate) fn unary(alloc: Global, op: UnaryOperator, of: &Part) -> Result<Vec<Insn>, AllocError>
+pub(crate) fn unary(alloc: Global, op: UnaryOperator, of: &Part) -> Code
     ensures { IfOk result (λ code. code.items ≡ specs.unary_code op of.now.leaf of.now.code.items) }
 {
     match op {
@@ -50,8 +51,7 @@ pub(crate) fn left_size(op: BinaryOperator, left: &Part) -> usize
 
 /// The registers of the operator's operands.
 fn registers(op: BinaryOperator) -> (Register, Register)
-    ensures left { result.0 ≡ specs.left_register op }
-    ensures right { result.1 ≡ specs.right_register op }
+    ensures { result ≡ specs.registers op }
 {
     match op {
         // `a > b` is `b < a`, and `a <= b` its opposite.
@@ -74,7 +74,7 @@ fn opposite_of(helper: i32) -> [Insn; 3]
 
 /// What the operator makes of both operands.
 #[tactic(auto, unfolding(crate::specs::Code::Expressions::binary_tail))]
-fn binary_tail(alloc: Global, op: BinaryOperator) -> Result<Vec<Insn>, AllocError>
+fn binary_tail(alloc: Global, op: BinaryOperator) -> Code
     ensures { IfOk result (λ code. code.items ≡ specs.binary_tail op) }
 {
     match op {
@@ -94,13 +94,7 @@ fn binary_tail(alloc: Global, op: BinaryOperator) -> Result<Vec<Insn>, AllocErro
 }
 
 /// The operator, of both sides.
-pub(crate) fn binary(
-    alloc: Global,
-    op: BinaryOperator,
-    left: &Part,
-    right: &Part,
-    k: usize,
-) -> Result<Vec<Insn>, AllocError>
+pub(crate) fn binary(alloc: Global, op: BinaryOperator, left: &Part, right: &Part, k: usize) -> Code
     requires word { k < 64 }
     requires near { size_of_piece right.now.code.items ≤ 32256 }
     ensures { IfOk result (λ code. code.items ≡ specs.binary_code op left.now.leaf left.now.code.items right.now.leaf right.now.code.items k) }

@@ -12,6 +12,7 @@ ghost use Rattle.codegen.specs.Code.Literals.{address_of};
 ghost use Rattle.codegen.specs.Code.Whole as whole;
 ghost use Rattle.codegen.specs.FrameWords.{path_view, words_of};
 
+use crate::code::Code;
 use crate::code::names::root_reference;
 use crate::code::selection::select;
 use crate::frame_words::FrameWords;
@@ -19,8 +20,7 @@ use crate::part::Part;
 use crate::path::Path;
 use cel_macros::Core;
 use codegen_base::leaf::Leaf;
-use insn_codec::Insn;
-use std::alloc::{AllocError, Global};
+use std::alloc::Global;
 
 /// Word 0, where it keeps this field of the expression.
 pub(crate) fn field_leaf(of: &Core, field: &str, words: &FrameWords) -> Option<Leaf>
@@ -76,7 +76,7 @@ pub(crate) fn first_path(core: &Core) -> Option<Path<'_>>
 }
 
 /// The code that walks the path, and leaves its value in R0.
-pub(crate) fn walk(alloc: Global, texts: &[String], path: Path) -> Result<Vec<Insn>, AllocError>
+pub(crate) fn walk(alloc: Global, texts: &[String], path: Path) -> Code
     ensures { IfOk result (λ code. code.items ≡ leaf_insn (leaves.Reference (reference_of path.entry.root.now)) register.R1 ∷ field_tail (address_of (map string_bytes texts.now) path.entry.field.now) (length path.entry.field.now)) }
 {
     let root = Part {

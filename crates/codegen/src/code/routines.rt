@@ -5,18 +5,16 @@ ghost use Rattle.codegen.specs.Added.{passed};
 ghost use Rattle.codegen_base.specs.Pieces.{size as size_of_piece};
 ghost use Rattle.codegen_base.specs.Variables.{memo_tail};
 
+use crate::code::Code;
 use crate::code::variables::memo_tail;
 use crate::instructions::{size, skip};
 use insn_codec::Insn;
-use std::alloc::{AllocError, Global};
+use std::alloc::Global;
 
 /// The routine of variable `i`, whose expression has this code, behind a jump over it. The error says
 /// that there is no memory for it.
-pub(crate) fn passed_routine(
-    alloc: Global,
-    body: &[Insn],
-    i: usize,
-) -> Result<Vec<Insn>, AllocError>
+#[tactic(auto, using(crate::proofs::Lengths::size_append))]
+pub(crate) fn passed_routine(alloc: Global, body: &[Insn], i: usize) -> Code
     requires short { size_of_piece body.now ≤ 32300 }
     requires few { i < 512 }
     ensures { IfOk result (λ code. code.items ≡ passed (body.now ++ memo_tail i)) }

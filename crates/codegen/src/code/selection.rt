@@ -5,6 +5,7 @@ ghost use Rattle.codegen_base.specs.Code.Calls.{operand_code};
 ghost use Rattle.codegen_base.specs.Code.Selection as specs;
 ghost use Rattle.codegen.specs.Code.Literals.{address_of};
 
+use crate::code::Code;
 use crate::code::calls::operand;
 use crate::code::literals::text_range;
 use crate::instructions::skip;
@@ -13,16 +14,10 @@ use Register::{R0, R1, R2, R3, R6};
 use codegen_base::helpers::{self, TEXT_KIND};
 use codegen_base::instructions::{call, copy, skip_if};
 use insn_codec::{Comparison, Insn, Register};
-use std::alloc::{AllocError, Global};
+use std::alloc::Global;
 
 /// The helper's answer on a part, and a text among these.
-fn call_with_text(
-    alloc: Global,
-    of: &Part,
-    helper: i32,
-    texts: &[String],
-    text: &str,
-) -> Result<Vec<Insn>, AllocError>
+fn call_with_text(alloc: Global, of: &Part, helper: i32, texts: &[String], text: &str) -> Code
     ensures { IfOk result (λ code. code.items ≡ operand_code of.now.leaf of.now.code.items Register.R1 ++ specs.call_with_text helper (address_of (map string_bytes texts.now) text.now) (length text.now)) }
 {
     let mut code = operand(alloc, of, R1)?;
@@ -32,24 +27,14 @@ fn call_with_text(
 }
 
 /// The field of this name.
-pub(crate) fn select(
-    alloc: Global,
-    of: &Part,
-    texts: &[String],
-    field: &str,
-) -> Result<Vec<Insn>, AllocError>
+pub(crate) fn select(alloc: Global, of: &Part, texts: &[String], field: &str) -> Code
     ensures { IfOk result (λ code. code.items ≡ operand_code of.now.leaf of.now.code.items Register.R1 ++ specs.field_tail (address_of (map string_bytes texts.now) field.now) (length field.now)) }
 {
     call_with_text(alloc, of, helpers::FIELD, texts, field)
 }
 
 /// Whether there is a field of this name.
-pub(crate) fn has(
-    alloc: Global,
-    of: &Part,
-    texts: &[String],
-    field: &str,
-) -> Result<Vec<Insn>, AllocError>
+pub(crate) fn has(alloc: Global, of: &Part, texts: &[String], field: &str) -> Code
     ensures { IfOk result (λ code. code.items ≡ operand_code of.now.leaf of.now.code.items Register.R1 ++ specs.has_tail (address_of (map string_bytes texts.now) field.now) (length field.now)) }
 {
     call_with_text(alloc, of, helpers::HAS, texts, field)

@@ -6,12 +6,13 @@ ghost use Rattle.codegen_base.specs.Words.{memo_address as address_of_memo};
 ghost use Rattle.codegen.specs.Code.Expressions.{routine_named as first_named, variable_code};
 ghost use Rattle.codegen.specs.Surroundings.{routines_within};
 
+use crate::code::Code;
 use crate::code::names::nothing;
 use crate::surroundings::Surroundings;
 use Register::{R0, R1, R2};
 use codegen_base::instructions::{add, copy, load_at, load_wide, skip_if, store_at};
 use insn_codec::{Comparison, Insn, Register};
-use std::alloc::{AllocError, Global};
+use std::alloc::Global;
 
 /// Where the scratch region begins in memory.
 const SCRATCH: u64 = 0x2_0000_0000;
@@ -54,6 +55,7 @@ pub(crate) fn memo_tail(i: usize) -> [Insn; 5]
 }
 
 /// The number of the first variable of this name that has a routine, and the routine's first slot.
+#[tactic(auto, using(crate::proofs::Walks::found))]
 fn routine_named(name: &str, around: &Surroundings) -> Option<(usize, u32)>
     ensures routine { result ≡ first_named name.now (routines_within around.now) }
     ensures few { IfSome result (λ found. found.0 < 512) }
@@ -69,12 +71,7 @@ fn routine_named(name: &str, around: &Surroundings) -> Option<(usize, u32)>
 }
 
 /// The use, at this slot, of the variable of this name.
-pub(crate) fn variable(
-    alloc: Global,
-    name: &str,
-    around: &Surroundings,
-    slot: usize,
-) -> Result<Vec<Insn>, AllocError>
+pub(crate) fn variable(alloc: Global, name: &str, around: &Surroundings, slot: usize) -> Code
     requires { slot ≤ 0x7fff_ff00 }
     ensures { IfOk result (λ code. code.items ≡ variable_code (first_named name.now (routines_within around.now)) slot) }
 {

@@ -1,34 +1,15 @@
 -- The code of each macro gives its fold; `all` and `exists` leave the loop at an item that decides.
-use Rattle.std.proofs.Common.{◌≡◌, ℕ, ◌+◌, ◌-◌, ◌<◌, ◌≤◌, List, ◌++◌, Option, Some, Bool, true, false, refl, sym, ap, ◌∙◌, subst, arith}
-use Rattle.std.specs.Prelude.{ℤ}
-use Rattle.insn_codec.specs.declared.insn.Insn.{Insn}
-use Rattle.value_store.specs.Value.{Value, ValueOrError, value, boolean}
-use Rattle.cel_macros.specs.declared.macros.Macro.{Macro}
-use Rattle.cel_macros.specs.declared.macros.Macro.TheVariants.{All, Exists, ExistsOne, Filter, Map}
-use Rattle.cel_macros.specs.FoldMeaning.{end_of, folded, start_of, step_of}
-use Rattle.cel_macros.specs.Logic.{Truth, Yes, and_of, chosen, or_of, truth}
-use Rattle.cel_macros.specs.Macros.{range_of}
-use Rattle.codegen_base.specs.Code.Folds.{absorbing_turn, exists_one_end, exists_one_turn, filter_turn, first_empty, first_false, first_true, macro_code, map_turn}
-use Rattle.codegen_base.specs.Code.Logic.{no_ref, yes_ref}
-use Rattle.codegen_base.specs.Contexts.{Context, Gives}
-use Rattle.codegen_base.specs.Engine.{Setting}
-use Rattle.codegen_base.specs.Gives.Macros.{IsItem, MacroGives, charge_budget, holds_too_deep, is_too_deep, items_spent, items_visits, step_budget}
-use Rattle.codegen_base.specs.Loops.{fold_code, fold_of, with_item}
-use Rattle.codegen_base.specs.Pieces.{size}
-use Rattle.codegen_base.proofs.Absorbing.{Absorbing, answer_stays, decides_is, is_answer, is_decides, right_tells}
-use Rattle.codegen_base.proofs.Logic.{and_absorbs, or_absorbs}
-use Rattle.codegen_base.proofs.Macros.AbsorbingTurn.{goes_on, leaves}
-use Rattle.codegen_base.proofs.Macros.Budgets.{gives_within}
-use Rattle.codegen_base.proofs.Macros.Depths.{chosen_shallow, deep_excused, first_shallow, is_shallow, push_shallow}
-use Rattle.codegen_base.proofs.Macros.Firsts.{empty_gives, false_gives, true_gives}
+use Rattle.codegen_base.proofs.Prelude.{◌≡◌, ℕ, ◌+◌, ◌-◌, ◌<◌, ◌≤◌, List, ◌++◌, Option, Some, Bool, true, false, refl, ap, ◌∙◌, subst, arith, ℤ, Insn, Value, ValueOrError, value, boolean, Macro, Exists, ExistsOne, Filter, Map, end_of, folded, start_of, step_of, Truth, Yes, and_of, chosen, or_of, truth, range_of, absorbing_turn, exists_one_end, exists_one_turn, filter_turn, first_empty, first_false, first_true, macro_code, map_turn, no_ref, yes_ref, Context, Gives, Setting, IsItem, MacroGives, charge_budget, holds_too_deep, is_too_deep, items_spent, items_visits, step_budget, fold_code, fold_of, with_item, size}
+use Rattle.cel_macros.specs.declared.macros.Macro.TheVariants.{All}
+use Rattle.codegen_base.proofs.Logic.{Absorbing, and_absorbs, is_answer, is_decides, or_absorbs}
+use Rattle.codegen_base.proofs.Macros.Tails.{filter_turns, goes_on, leaves, map_turns, once_ends, once_turns}
+use Rattle.codegen_base.proofs.Macros.Budgets.{chosen_shallow, deep_excused, empty_gives, false_gives, fold_within, gives_within, is_shallow, push_shallow, true_gives}
 use Rattle.codegen_base.proofs.Macros.Once.{once_end, once_folds, once_step}
-use Rattle.codegen_base.proofs.Macros.OnceTurn.{once_ends, once_turns}
-use Rattle.codegen_base.proofs.Macros.PushingTurn.{filter_turns, map_turns}
 use Rattle.codegen_base.proofs.Macros.Turn.{TailRuns, turn_gives}
-use Rattle.codegen_base.proofs.Macros.Within.{fold_end, fold_within}
 use Rattle.codegen_base.proofs.Operators.{result_gives}
 use Rattle.codegen_base.proofs.Pieces.{size-append}
 use Rattle.codegen_base.proofs.Runs.{to_place}
+use Rattle.codegen_base.proofs.Loops.{fold_size, loop_size}
 
 -- a macro that answers what its fold makes
 folds : (m : Macro) (f : Value → ValueOrError) (o : Option (List Value)) → ((a : ValueOrError) → end_of m a ≡ a) → fold_of (step_of m f) (start_of m) o ≡ folded m f o
@@ -71,18 +52,13 @@ module _ (s : Setting) (p k depth : ℕ) (range part : List Insn) (c : Context) 
 
   module _ (decides other : ℤ) (g : ValueOrError → ValueOrError → ValueOrError) (op : Absorbing decides other g) where
     absorbing_tail : (items : List Value) (end : ℕ) → tail_at + 10 ≡ end → TailRuns s tail_at end (absorbing_turn decides other k) c depth k items f (λ acc v. g acc (f v)) (λ acc. is_decides (op.side acc)) (is_answer op) (λ v. 4) (λ v. 0)
-    absorbing_tail items end place = record {
-      goes_on = λ b acc i v item fine has at not_last on. goes_on decides other g op s c depth k tail_at low b at.outer at.fits has acc (f v) at.part_is at.so_far fine not_last (sym (right_tells decides other g op acc (f v) not_last) ∙ on);
-      leaves = λ b acc i v item fine has at not_last ends. to_place s end place (leaves decides other g op s c depth k tail_at low b at.outer at.fits has acc (f v) at.part_is (sym (right_tells decides other g op acc (f v) not_last) ∙ ends));
-      last = λ acc v e. op.left_decides acc (f v) (decides_is (op.side acc) e);
-      fine = λ acc i v item fine. answer_stays decides other g op acc (f v) fine;
-    }
+    absorbing_tail items end place = grind (arith, goes_on, leaves, to_place)
 
     absorbing_gives : (first : List Insn) (start z : ValueOrError) → size first ≡ 1 → is_decides (op.side start) ≡ false → is_answer op start ≡ true → Gives s start_at first c depth (k + 3) start 1 1
         → fold_of (λ acc v. g acc (f v)) start (range_of r) ≡ z → Gives s p (fold_code k range first (part ++ absorbing_turn decides other k)) c depth k z steps charge
     absorbing_gives first start z one undecided answers gives_first is =
         let tail = absorbing_turn decides other k in
-        let place : tail_at + 10 ≡ p + size (fold_code k range first (part ++ tail)) = omega (arith, fold_end p k range first (part ++ tail) one, size-append part tail) in
+        let place : tail_at + 10 ≡ p + size (fold_code k range first (part ++ tail)) = omega (arith, fold_size, loop_size, size-append part tail) in
         whole_gives first tail start (λ acc v. g acc (f v)) (λ acc. is_decides (op.side acc)) (is_answer op) 4 0 one undecided answers gives_first (λ items in_range. absorbing_tail items _ place) z is (omega arith) (omega arith)
 
   -- ---- `exists_one`
@@ -130,9 +106,9 @@ module _ (s : Setting) (p k depth : ℕ) (range part : List Insn) (c : Context) 
   by_macro Exists may = absorbing_gives yes_ref no_ref or_of or_absorbs first_false (start_of Exists) _ refl refl refl (false_gives s start_at c depth (k + 3) (omega arith)) (folds Exists f (range_of r) (λ a. refl))
   by_macro ExistsOne may = once_gives
   by_macro Map may =
-      whole_gives first_empty (map_turn k) (start_of Map) (step_of Map f) (λ a. false) (is_shallow s.is_deep) 4 2 refl refl (first_shallow s.is_deep (start_of Map) refl) (empty_gives s start_at c depth (k + 3) (omega arith)) (λ items is. map_tail items _ is may) _ (folds Map f (range_of r) (λ a. refl)) (omega arith) (omega arith)
+      whole_gives first_empty (map_turn k) (start_of Map) (step_of Map f) (λ a. false) (is_shallow s.is_deep) 4 2 refl refl (grind arith) (empty_gives s start_at c depth (k + 3) (omega arith)) (λ items is. map_tail items _ is may) _ (folds Map f (range_of r) (λ a. refl)) (omega arith) (omega arith)
   by_macro Filter may =
-      whole_gives first_empty (filter_turn k) (start_of Filter) (step_of Filter f) (λ a. false) (is_shallow s.is_deep) 7 2 refl refl (first_shallow s.is_deep (start_of Filter) refl) (empty_gives s start_at c depth (k + 3) (omega arith)) (λ items is. filter_tail items _ is may) _ (folds Filter f (range_of r) (λ a. refl)) (omega arith) (omega arith)
+      whole_gives first_empty (filter_turn k) (start_of Filter) (step_of Filter f) (λ a. false) (is_shallow s.is_deep) 7 2 refl refl (grind arith) (empty_gives s start_at c depth (k + 3) (omega arith)) (λ items is. filter_tail items _ is may) _ (folds Filter f (range_of r) (λ a. refl)) (omega arith) (omega arith)
 
 pub macro_gives : MacroGives
 macro_gives m s p k depth range part c n r f w x visits spent low gives_range gives_part may = by_macro s p k depth range part c n r f w x visits spent low gives_range gives_part m may

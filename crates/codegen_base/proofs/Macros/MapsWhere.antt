@@ -1,39 +1,14 @@
 -- The code of `map` with a predicate gives its fold: the transform runs where the predicate is true.
-use Rattle.std.proofs.Common.{◌≡◌, ℕ, suc, ◌+◌, ◌*◌, ◌<◌, ◌≤◌, List, [], ◌∷◌, ◌++◌, Option, Some, None, Bool, true, false, refl, subst, arith}
-use Rattle.std.specs.Prelude.{pos}
-use Rattle.std.proofs.lemmas.Int.{ints}
-use Rattle.insn_codec.specs.declared.comparison.Comparison.TheVariants.{Eq, Ne}
-use Rattle.insn_codec.specs.declared.insn.Insn.{Insn}
-use Rattle.insn_codec.specs.declared.operand.Operand.TheVariants.{Imm}
-use Rattle.insn_codec.specs.declared.register.Register.TheVariants.{R0}
-use Rattle.insn_codec.specs.declared.width.Width.TheVariants.{W64}
-use Rattle.value_store.specs.Value.{Value, ValueOrError, error, value, list, no_items}
-use Rattle.cel_macros.specs.FoldMeaning.{folded_map, is_error, map_step, pushed, when_true}
-use Rattle.cel_macros.specs.Logic.{Truth, Yes, No, Other, chosen, truth}
-use Rattle.cel_macros.specs.Macros.{range_of}
-use Rattle.codegen_base.specs.Body.{Body}
-use Rattle.codegen_base.specs.Code.Folds.{first_empty, map_where_code, map_where_turn}
-use Rattle.codegen_base.specs.Code.Logic.{no_ref, yes_ref}
-use Rattle.codegen_base.specs.Contexts.{Context, Gives}
-use Rattle.codegen_base.specs.Engine.{Setting, Comes}
-use Rattle.codegen_base.specs.Gives.Macros.{IsItem, MapWhereGives, charge_budget, is_too_deep, items_spent, items_visits, step_budget}
+use Rattle.codegen_base.proofs.Prelude.{◌≡◌, ℕ, suc, ◌+◌, ◌*◌, ◌<◌, ◌≤◌, List, [], ◌∷◌, ◌++◌, Some, Bool, true, false, refl, subst, arith, pos, Eq, Ne, Insn, R0, Value, ValueOrError, error, value, list, no_items, is_error, map_step, pushed, when_true, Truth, Yes, No, Other, chosen, truth, range_of, Body, first_empty, map_where_code, map_where_turn, no_ref, yes_ref, Context, Gives, Setting, Comes, IsItem, MapWhereGives, charge_budget, is_too_deep, items_spent, items_visits, step_budget, Turned, fold_code, with_item, Stands, size}
 use Rattle.codegen_base.specs.Instructions as insn
-use Rattle.codegen_base.specs.Loops.{Turned, fold_code, fold_of, with_item}
-use Rattle.codegen_base.specs.Pieces.{Stands, size}
 use Rattle.codegen_base.proofs.Frames.{shows_registers}
-use Rattle.codegen_base.proofs.Listings.{jump, mov, store}
-use Rattle.codegen_base.proofs.Absorbing.{told_in}
-use Rattle.codegen_base.proofs.LoopItems.{item_gives}
-use Rattle.codegen_base.proofs.Macros.Budgets.{gives_within}
-use Rattle.codegen_base.proofs.Macros.Depths.{chosen_shallow, deep_excused, first_shallow, is_shallow}
-use Rattle.codegen_base.proofs.Macros.Firsts.{empty_gives}
-use Rattle.codegen_base.proofs.Macros.PushingTurn.{push_code, push_runs}
-use Rattle.codegen_base.proofs.Macros.Turn.{BehindPart, TailRuns, behind, turn_gives}
-use Rattle.codegen_base.proofs.Macros.Turned.{turned_after, turned_put, turned_same}
-use Rattle.codegen_base.proofs.Macros.Within.{fold_within}
-use Rattle.codegen_base.proofs.Pieces.{size-append, size-cons, stands_back, stands_first, stands_front, stands_rest}
-use Rattle.codegen_base.proofs.Runs.{and_then, done, looser, to_place}
-use Rattle.codegen_base.proofs.Steps as step
+use Rattle.codegen_base.proofs.Listings.{begins, jump, mov, no, store, yes}
+use Rattle.codegen_base.proofs.Logic.{told_in}
+use Rattle.codegen_base.proofs.Macros.Budgets.{chosen_shallow, deep_excused, empty_gives, fold_within, gives_within, is_shallow}
+use Rattle.codegen_base.proofs.Macros.Tails.{push_code, push_runs}
+use Rattle.codegen_base.proofs.Macros.Turn.{BehindPart, TailRuns, behind, item_gives, turn_gives, turned_after, turned_put, turned_same}
+use Rattle.codegen_base.proofs.Pieces.{size-append, size-cons, stands_back, stands_front}
+use Rattle.codegen_base.proofs.Runs.{and_then, arrived, from_place, looser, to_place}
 use Rattle.codegen_base.proofs.Values.{Told, names_error}
 
 -- ---- the tail behind the predicate
@@ -54,13 +29,8 @@ module _ (s : Setting) (q : ℕ) (transform : List Insn) (c : Context) (depth k 
   abbrev o : ℕ
   o = q + 2 + size transform
 
-  has1 : Stands s.image.code (q + 1) (to_error ∷ (transform ++ last))
-  has1 = stands_rest s.image.code q to_kept (to_error ∷ (transform ++ last)) has
-
   has2 : Stands s.image.code (q + 2) (transform ++ last)
-  has2 =
-      let place : q + 1 + 1 ≡ q + 2 = omega arith in
-      subst (λ (i : ℕ). Stands s.image.code i (transform ++ last)) place (stands_rest s.image.code (q + 1) to_error (transform ++ last) has1)
+  has2 = stands_back s.image.code q (to_kept ∷ to_error ∷ []) (transform ++ last) has
 
   has3 : Stands s.image.code o last
   has3 = stands_back s.image.code (q + 2) transform last has2
@@ -74,25 +44,24 @@ module _ (s : Setting) (q : ℕ) (transform : List Insn) (c : Context) (depth k 
   tail_by Yes fails gives may fine b at told =
       let Q = Turned c depth k (pushed acc y) b in
       looser s {n = suc (suc (n2 + (3 + 2)))} {x = x2 + (2 + 0)} (n2 + 7) (x2 + 2) (omega arith) (omega arith)
-      (step.branch_no s q (q + 1) b Eq W64 R0 (Imm no_ref) (pos (size transform + 7)) (stands_first s.image.code q to_kept _ has) told.no refl
-      (step.branch_no s (q + 1) (q + 2) b Ne W64 R0 (Imm yes_ref) (pos (size transform + 4)) (stands_first s.image.code (q + 1) to_error _ has1) told.not_yes (omega arith)
+      (begins has
+      (no has 0 refl told.no
+      (no has 1 refl told.not_yes
       (and_then s (3 + 2) (2 + 0) (o + 6) Q (item_gives s (q + 2) transform c depth k n acc v y n2 x2 b low (gives refl) (stands_front s.image.code (q + 2) transform last has2) (record { fits = at.outer; so_far = at.so_far; item = at.item })) (λ b1 g1.
       let at1 = behind c depth k acc v y b b1 low at.outer g1 at.so_far at.item in
       and_then s 2 0 (o + 6) Q (push_runs s c depth k o low b1 at1.fits acc y (stands_front s.image.code o (push_code k) others has3) at1.part_is at1.so_far (deep_excused s.is_deep acc y (may refl) fine)) (λ b2 g2.
       jump has3 3 1 refl
-      (store has3 5 (k + 3) refl g2.fits.frame (omega arith)
-      (done s (o + 6) _ Q (turned_after g1.keeps (turned_put low at1.outer g2)))))))))
-  tail_by No fails gives may fine b at told =
-      looser s {n = 1} {x = 0} (0 + 7) (0 + 2) (omega arith) (omega arith)
-      (step.branch_yes s q (o + 6) b Eq W64 R0 (Imm no_ref) (pos (size transform + 7)) (stands_first s.image.code q to_kept _ has) told.no (omega (arith, ints))
-      (done s (o + 6) b (Turned c depth k acc b) (turned_same low at.outer at.so_far)))
+      (store has3 5 (k + 3) refl g2.fits.frame (omega arith) (arrived s refl (turned_after g1.keeps (turned_put low at1.outer g2))))))))))
+  tail_by No fails gives may fine b at told = begins has (yes has 0 (size transform + 7) refl told.no
+      (arrived s (omega arith) (turned_same low at.outer at.so_far)))
   tail_by Other fails gives may fine b at told =
-      looser s {n = 4} {x = 0} (0 + 7) (0 + 2) (omega arith) (omega arith)
-      (step.branch_no s q (q + 1) b Eq W64 R0 (Imm no_ref) (pos (size transform + 7)) (stands_first s.image.code q to_kept _ has) told.no refl
-      (step.branch_yes s (q + 1) (o + 4) b Ne W64 R0 (Imm yes_ref) (pos (size transform + 4)) (stands_first s.image.code (q + 1) to_error _ has1) told.not_yes (omega (arith, ints))
+      begins has
+      (no has 0 refl told.no
+      (yes has 1 (size transform + 4) refl told.not_yes
+      (from_place s _ (omega arith)
       (mov has3 4 refl refl
       (store has3 5 (k + 3) refl at.fits.frame (omega arith)
-      (done s (o + 6) _ (Turned c depth k error b) (turned_put low at.outer (shows_registers c depth (k + 5) b _ refl error at.fits (names_error b.values at.fits.values.table.store))))))))
+      (arrived s refl (turned_put low at.outer (shows_registers c depth (k + 5) b _ refl error at.fits (names_error b.values at.fits.values.table.store)))))))))
 
   pub where_turns : (truth x ≡ Yes → Gives s (q + 2) transform (with_item c k n v) depth (k + 5) y n2 x2) → (truth x ≡ Yes → is_too_deep y ≡ true → s.is_deep ≡ true) → is_shallow s.is_deep acc ≡ true → (b : Body) → BehindPart c depth k acc v x b → Comes s (chosen (truth x) n2 0 0 + 7) (chosen (truth x) x2 0 0 + 2) q b (q + size (map_where_turn transform k)) (Turned c depth k (when_true (truth x) (pushed acc y) acc) b)
   where_turns gives may fine b at =
@@ -100,18 +69,12 @@ module _ (s : Setting) (q : ℕ) (transform : List Insn) (c : Context) (depth k 
 
 -- ---- the whole
 
-where_folds : (p : Value → Truth) (f : Value → ValueOrError) (o : Option (List Value)) → fold_of (map_step p f) (value (list no_items)) o ≡ folded_map p f o
-where_folds p f (Some items) = refl
-where_folds p f None = refl
-
 -- budgets of what runs where a predicate is true
 chosen_steps : (t : Truth) (n : ℕ) → chosen t (step_budget n) 0 0 ≤ 120 * chosen t n 0 0
-chosen_steps Yes n = omega arith
-chosen_steps _ n = omega arith
+chosen_steps t n = grind arith
 
 chosen_charge : (t : Truth) (n : ℕ) → chosen t (charge_budget n) 0 0 ≤ 15 * chosen t n 0 0
-chosen_charge Yes n = omega arith
-chosen_charge _ n = omega arith
+chosen_charge t n = grind arith
 
 pub map_where_gives : MapWhereGives
 map_where_gives s p k depth range predicate transform c n r t f w x visits spent visits_then spent_then low gives_range gives_predicate gives_transform may =
@@ -134,9 +97,9 @@ map_where_gives s p k depth range predicate transform c n r t f w x visits spent
       last = λ acc v e. absurd (cc);
       fine = λ acc i v item fine. chosen_shallow s.is_deep (truth (t v)) acc (f v) (may v (record { items = items; place = i; range_is = is; item_is = item })) fine;
     } in
-    subst (λ (y : ValueOrError). Gives s p (map_where_code k range predicate transform) c depth k y steps charge) (where_folds (λ v. truth (t v)) f (range_of r))
+    subst (λ (y : ValueOrError). Gives s p (map_where_code k range predicate transform) c depth k y steps charge) (grind arith)
     (gives_within s p (map_where_code k range predicate transform) c depth k _ _ _ _ _ (omega arith) (omega arith)
-    (fold_within s p k depth range first_empty turn c r (value (list no_items)) g (λ a. false) (is_shallow s.is_deep) w x all_visits all_spent (λ v. step_budget (visits v) + more v) (λ v. charge_budget (spent v) + more_charge v) low refl (first_shallow s.is_deep (value (list no_items)) refl) refl gives_range (empty_gives s (p + size range + 9) c depth (k + 3) (omega arith))
+    (fold_within s p k depth range first_empty turn c r (value (list no_items)) g (λ a. false) (is_shallow s.is_deep) w x all_visits all_spent (λ v. step_budget (visits v) + more v) (λ v. charge_budget (spent v) + more_charge v) low refl (grind arith) refl gives_range (empty_gives s (p + size range + 9) c depth (k + 3) (omega arith))
     (λ items is. turn_gives s (p + size range + 17) end predicate tail c depth k n items t g (λ a. false) (is_shallow s.is_deep) (λ v. step_budget (visits v)) (λ v. charge_budget (spent v)) more more_charge low
     (λ i v item. gives_predicate v (record { items = items; place = i; range_is = is; item_is = item }))
     (tails items is))

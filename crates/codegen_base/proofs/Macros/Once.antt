@@ -1,13 +1,6 @@
 -- The fold that the code of `exists_one` makes: false where the predicate was never true, true where it was once, null
 -- where it was more often, and the error where it was neither true nor false. It need not count further than to two.
-use Rattle.std.proofs.Common.{◌≡◌, ℕ, zero, suc, ◌+◌, List, [], ◌∷◌, Option, Some, None, Bool, true, false, refl, sym, ap, ◌∙◌, arith}
-use Rattle.std.specs.Prelude.{pos}
-use Rattle.std.specs.Prelude.{fold as fold_left}
-use Rattle.value_store.specs.Value.{Value, ValueOrError, error, value, boolean, null, int}
-use Rattle.cel_macros.specs.declared.macros.Macro.TheVariants.{ExistsOne}
-use Rattle.cel_macros.specs.FoldMeaning.{end_of, folded, is_error, one_more, step_of, when_true}
-use Rattle.cel_macros.specs.Logic.{Truth, Yes, No, Other, truth}
-use Rattle.codegen_base.specs.Loops.{fold_of}
+use Rattle.codegen_base.proofs.Prelude.{◌≡◌, ℕ, zero, suc, ◌+◌, List, [], ◌∷◌, Option, Some, None, Bool, true, false, refl, sym, ap, ◌∙◌, arith, pos, fold as fold_left, Value, ValueOrError, error, value, boolean, null, int, ExistsOne, end_of, folded, is_error, one_more, step_of, when_true, Truth, Yes, No, Other, truth, fold_of}
 
 abbrev pub once_more : Truth → Bool → ValueOrError
 once_more u true = error
@@ -33,27 +26,17 @@ once_count zero = value (boolean false)
 once_count (suc zero) = value (boolean true)
 once_count (suc (suc n)) = value null
 
-counts_more : (n : ℕ) → once_more (truth (once_count n)) (is_error (once_count n)) ≡ once_count (suc n)
-counts_more n = grind arith
-
-counts_end : (n : ℕ) → once_end (once_count n) ≡ end_of ExistsOne (value (int (pos n)))
-counts_end n = grind arith
-
 module _ (f : Value → ValueOrError) where
   abbrev once_of : ValueOrError → Value → ValueOrError
   once_of acc v = once_step acc (f v)
 
-  -- the error stays
-  once_error : (t : Truth) → when_true t error error ≡ error
-  once_error t = grind arith
-
   once_fails : (items : List Value) → fold_left once_of error items ≡ error
   once_fails [] = refl
-  once_fails (v ∷ items) = ap (λ (a : ValueOrError). fold_left once_of a items) (once_error (truth (f v))) ∙ once_fails items
+  once_fails (v ∷ items) = ap (λ (a : ValueOrError). fold_left once_of a items) (grind arith) ∙ once_fails items
 
   count_fails : (items : List Value) → fold_left (step_of ExistsOne f) error items ≡ error
   count_fails [] = refl
-  count_fails (v ∷ items) = ap (λ (a : ValueOrError). fold_left (step_of ExistsOne f) a items) (once_error (truth (f v))) ∙ count_fails items
+  count_fails (v ∷ items) = ap (λ (a : ValueOrError). fold_left (step_of ExistsOne f) a items) (grind arith) ∙ count_fails items
 
   abbrev Counts : ℕ → List Value → Type 0
   Counts n items = once_end (fold_left once_of (once_count n) items) ≡ end_of ExistsOne (fold_left (step_of ExistsOne f) (value (int (pos n))) items)
@@ -61,12 +44,12 @@ module _ (f : Value → ValueOrError) where
   once_by_truth : (t : Truth) (n : ℕ) (items : List Value) → ((m : ℕ) → Counts m items) → once_end (fold_left once_of (when_true t (once_more (truth (once_count n)) (is_error (once_count n))) (once_count n)) items) ≡ end_of ExistsOne (fold_left (step_of ExistsOne f) (when_true t (one_more (Some (pos n))) (value (int (pos n)))) items)
   once_by_truth Yes n items counts =
       let next : n + 1 ≡ suc n = omega arith in
-      ap (λ (a : ValueOrError). once_end (fold_left once_of a items)) (counts_more n) ∙ counts (suc n) ∙ sym (ap (λ (m : ℕ). end_of ExistsOne (fold_left (step_of ExistsOne f) (value (int (pos m))) items)) next)
+      ap (λ (a : ValueOrError). once_end (fold_left once_of a items)) (grind arith) ∙ counts (suc n) ∙ sym (ap (λ (m : ℕ). end_of ExistsOne (fold_left (step_of ExistsOne f) (value (int (pos m))) items)) next)
   once_by_truth No n items counts = counts n
   once_by_truth Other n items counts = ap once_end (once_fails items) ∙ sym (ap (end_of ExistsOne) (count_fails items))
 
   once_counts : (items : List Value) (n : ℕ) → Counts n items
-  once_counts [] n = counts_end n
+  once_counts [] n = grind arith
   once_counts (v ∷ items) n = once_by_truth (truth (f v)) n items (λ m. once_counts items m)
 
   pub once_folds : (o : Option (List Value)) → once_end (fold_of once_of (value (boolean false)) o) ≡ folded ExistsOne f o

@@ -1,21 +1,42 @@
--- A turn of a macro: the code of its part, and a tail behind it.
-use Rattle.std.proofs.Common.{◌≡◌, ℕ, ◌+◌, ◌<◌, List, ◌++◌, Some, Bool, true, false, refl, sym, subst, arith, inr}
-use Rattle.std.specs.Prelude.{slice_get}
-use Rattle.helper_table.specs.Laws.{Names}
-use Rattle.insn_codec.specs.declared.insn.Insn.{Insn}
-use Rattle.insn_codec.specs.declared.register.Register.TheVariants.{R0}
-use Rattle.value_store.specs.Value.{Value, ValueOrError, value}
-use Rattle.codegen_base.specs.Body.{Body}
-use Rattle.codegen_base.specs.Contexts.{Context, Fits, Gives, Keeps, Shows, variable_count}
-use Rattle.codegen_base.specs.Engine.{Setting, Comes}
-use Rattle.codegen_base.specs.Loops.{AtTurn, TurnGives, Turned, with_item}
-use Rattle.codegen_base.specs.Pieces.{Stands, size}
-use Rattle.codegen_base.specs.Words.{word_at}
-use Rattle.codegen_base.proofs.Frames.{fits_below, keeps_then}
-use Rattle.codegen_base.proofs.LoopItems.{item_gives}
-use Rattle.codegen_base.proofs.Macros.Turned.{turned_after}
+-- A turn of a macro: the code of its part, a tail behind it, and the next answer in its word.
+use Rattle.codegen_base.proofs.Prelude.{◌≡◌, ℕ, ◌+◌, ◌<◌, arith, List, ◌++◌, Some, Bool, true, false, Names, Register, R0, R10, ValueOrError, Value, value, Body, Context, Fits, Keeps, Shows, variable_count, Gives, Turned, AtTurn, TurnGives, with_item, set_word, word_at, slice_get, Insn, Setting, Comes, Stands, size}
+use Rattle.codegen_base.proofs.Frames.{fits_below, keeps_same, keeps_stored, keeps_then, stored, kept_word}
+use Rattle.codegen_base.proofs.Values.{small_reference}
 use Rattle.codegen_base.proofs.Pieces.{size-append, stands_back, stands_front}
 use Rattle.codegen_base.proofs.Runs.{and_then, into, to_place}
+
+module _ {c : Context} {depth k : ℕ} {x : ValueOrError} {b : Body} (low : k < 56) where
+  -- the answer stays, and only registers have changed
+  pub turned_registers : (registers : Register → ℕ) → registers R10 ≡ b.registers R10 → Fits c depth k b → Names b.values.values (word_at depth (k + 3) b) x → Turned c depth k x b (record b { registers = registers })
+  turned_registers registers same fits named = grind arith
+
+  -- all stays
+  pub turned_same : Fits c depth k b → Names b.values.values (word_at depth (k + 3) b) x → Turned c depth k x b b
+  turned_same fits named = record { fits = fits; so_far = named; keeps = keeps_same (variable_count c) depth (k + 3) b }
+
+  -- R0, which names the next answer, is put into its word
+  pub turned_put : {b1 : Body} → Fits c depth k b → Shows c depth (k + 5) x b b1 → Turned c depth k x b (set_word depth (k + 3) (b1.registers R0) b1)
+  turned_put {b1} fits shown =
+      let r = b1.registers R0 in
+      let fits1 = fits_below c depth k (k + 5) b b1 (omega arith) (omega arith) fits shown.keeps shown.fits in
+      let put = stored c depth k (k + 3) r b1 fits1 (omega arith) (omega arith) (small_reference b1.values r x fits1.values.table shown.shows) in
+      grind (arith, keeps_then, keeps_same, keeps_stored)
+
+-- something was kept before the turn
+pub turned_after : {c : Context} {depth k : ℕ} {x : ValueOrError} {a b d : Body} → Keeps (variable_count c) depth (k + 5) a b → Turned c depth k x b d → Turned c depth k x a d
+turned_after {c} {depth} {k} {x} {a} kept turned = grind arith
+
+-- ---- the code of the part, and a tail behind it
+
+-- after the item's body its name is gone
+fits_outside : (c : Context) (depth k : ℕ) (n : List ℕ) (v : Value) (old new : Body) → k < 56 → Fits c depth k old
+    → Keeps (variable_count c) depth (k + 5) old new → Fits (with_item c k n v) depth (k + 5) new → Fits c depth (k + 5) new
+fits_outside c depth k n v old new low first kept fits = grind arith
+
+-- code for an expression in which the item has its name is a piece of a turn
+pub item_gives : (s : Setting) (p : ℕ) (piece : List Insn) (c : Context) (depth k : ℕ) (n : List ℕ) (acc : ValueOrError) (v : Value) (x : ValueOrError) (steps charge : ℕ) (b : Body) → k < 56 → Gives s p piece (with_item c k n v) depth (k + 5) x steps charge → Stands s.image.code p piece → AtTurn c depth k acc v b → Comes s steps charge p b (p + size piece) (Shows c depth (k + 5) x b)
+item_gives s p piece c depth k n acc v x steps charge b low gives has turn =
+    into s (Shows c depth (k + 5) x b) (λ b1 shown. record { shows = shown.shows; fits = fits_outside c depth k n v b b1 low turn.fits shown.keeps shown.fits; keeps = shown.keeps }) (gives.runs b has (grind arith))
 
 -- a body behind the part, whose value R0 names
 pub record BehindPart (c : Context) (depth k : ℕ) (acc : ValueOrError) (v : Value) (x : ValueOrError) (b : Body) : Type 0 where
@@ -26,16 +47,13 @@ pub record BehindPart (c : Context) (depth k : ℕ) (acc : ValueOrError) (v : Va
   pub part_is : Names b.values.values (b.registers R0) x
 
 pub behind : (c : Context) (depth k : ℕ) (acc : ValueOrError) (v : Value) (x : ValueOrError) (b b1 : Body) → k < 56 → Fits c depth k b → Shows c depth (k + 5) x b b1 → Names b.values.values (word_at depth (k + 3) b) acc → Names b.values.values (word_at depth (k + 4) b) (value v) → BehindPart c depth k acc v x b1
-behind c depth k acc v x b b1 low first shown so_far item =
-    let kept : (j : ℕ) (y : ValueOrError) → j < k + 5 → Names b.values.values (word_at depth j b) y → Names b1.values.values (word_at depth j b1) y =
-    λ j y below named. subst (λ (w : ℕ). Names b1.values.values w y) (sym (shown.keeps.words depth j (omega arith) (inr (refl, omega arith)))) (shown.keeps.values _ y named) in
-    record {
-      outer = fits_below c depth k (k + 5) b b1 (omega arith) (omega arith) first shown.keeps shown.fits;
-      fits = shown.fits;
-      so_far = kept (k + 3) acc (omega arith) so_far;
-      item = kept (k + 4) (value v) (omega arith) item;
-      part_is = shown.shows;
-    }
+behind c depth k acc v x b b1 low first shown so_far item = record {
+  outer = fits_below c depth k (k + 5) b b1 (omega arith) (omega arith) first shown.keeps shown.fits;
+  fits = shown.fits;
+  so_far = kept_word (k + 3) acc (omega arith) (omega arith) shown.keeps so_far;
+  item = kept_word (k + 4) (value v) (omega arith) (omega arith) shown.keeps item;
+  part_is = shown.shows;
+}
 
 -- what a tail that stands at slot q does behind a part that gives f v: it makes the next answer, and leaves for slot `end` where that is the last
 pub record TailRuns (s : Setting) (q end : ℕ) (tail : List Insn) (c : Context) (depth k : ℕ) (items : List Value) (f : Value → ValueOrError) (g : ValueOrError → Value → ValueOrError) (is_last is_fine : ValueOrError → Bool) (steps charge : Value → ℕ) : Type 0 where

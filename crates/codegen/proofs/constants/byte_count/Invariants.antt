@@ -1,6 +1,4 @@
-use Rattle.std.proofs.Common.{◌≡◌, ◌+◌, map, drop, length, string_bytes}
-use Rattle.cel_measures.specs.Saturated.{saturated}
-use Rattle.codegen.specs.Constants.{joined}
+use Rattle.codegen.proofs.Prelude.{◌≡◌, ◌+◌, map, drop, length, string_bytes, saturated, joined}
 use Rattle.codegen.proofs.constants.byte_count.Given as goal
 
 abbrev pub invariant-loop-text : goal.invariant-loop-text

@@ -1,4 +1,4 @@
-use Rattle.std.proofs.Common.{◌≡◌, ◌++◌, map, drop, string_bytes}
+use Rattle.codegen.proofs.Prelude.{◌≡◌, ◌++◌, map, drop, string_bytes}
 use Rattle.codegen.specs.Constants as specs
 use Rattle.codegen.proofs.constants.joined.Given as goal
 

@@ -1,5 +1,4 @@
-use Rattle.std.proofs.Common.{◌≡◌, ◌+◌, map, drop, option_map, string_bytes}
-use Rattle.cel_measures.specs.Saturated.{saturated}
+use Rattle.codegen.proofs.Prelude.{◌≡◌, ◌+◌, map, drop, option_map, string_bytes, saturated}
 use Rattle.codegen.specs.Constants as specs
 use Rattle.codegen.proofs.constants.place_of.Given as goal
 

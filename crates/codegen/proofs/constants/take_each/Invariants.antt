@@ -1,5 +1,4 @@
-use Rattle.std.proofs.Common.{◌≡◌, length, map, drop, take, string_bytes}
-use Rattle.codegen.specs.Constants.{with_texts}
+use Rattle.codegen.proofs.Prelude.{◌≡◌, length, map, drop, take, string_bytes, with_texts}
 use Rattle.codegen.proofs.constants.take_each.Given as goal
 
 abbrev pub invariant-loop-text : goal.invariant-loop-text

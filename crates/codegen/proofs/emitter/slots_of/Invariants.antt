@@ -1,5 +1,4 @@
-use Rattle.std.proofs.Common.{◌≡◌, ◌++◌, drop}
-use Rattle.codegen_base.specs.Pieces.{slots}
+use Rattle.codegen.proofs.Prelude.{◌≡◌, ◌++◌, drop, slots}
 use Rattle.codegen.proofs.emitter.slots_of.Given as goal
 
 abbrev pub invariant-loop-insn : goal.invariant-loop-insn

@@ -1,5 +1,4 @@
-use Rattle.std.proofs.Common.{◌≡◌, ◌++◌, drop}
-use Rattle.codegen.specs.Emitted.{slot_spellings}
+use Rattle.codegen.proofs.Prelude.{◌≡◌, ◌++◌, drop, slot_spellings}
 use Rattle.codegen.proofs.emitter.spelled.Given as goal
 
 abbrev pub invariant-loop-begins : goal.invariant-loop-begins

@@ -1,12 +1,6 @@
-use Rattle.std.proofs.Common.{◌≡◌, ◌+◌, ◌*◌, ◌≤◌, ◌++◌, drop}
+use Rattle.codegen.proofs.Prelude.{◌≡◌, ◌+◌, ◌*◌, ◌≤◌, ◌++◌, drop, core_view, cores, core_entries, core_pair, needs, entries_need, nodes, nodes_of, entries_nodes, items_code, entries_code, words_of, texts_within, routines_within}
 use Rattle.std.specs.Prelude as list
 use Rattle.cel_macros.specs.CoreTree as core
-use Rattle.cel_macros.specs.CoreView.{core_view, cores, core_entries}
-use Rattle.cel_macros.specs.Expanding.{core_pair}
-use Rattle.cel_measures.specs.Measures.{needs, entries_need, nodes, nodes_of, entries_nodes}
-use Rattle.codegen.specs.Code.Expressions.{items_code, entries_code}
-use Rattle.codegen.specs.FrameWords.{words_of}
-use Rattle.codegen.specs.Surroundings.{texts_within, routines_within}
 use Rattle.codegen.proofs.expressions.+code.Given as goal
 
 abbrev pub decreases-code_of : goal.decreases-code_of
@@ -53,9 +47,9 @@ decreases-fold_map l = 5 * nodes (core.fold_map l.name.now (core_view l.range.no
 
 abbrev pub invariant-list-loop-item : goal.invariant-list-loop-item
 invariant-list-loop-item l =
-    let ts = texts_within l.around in
-    let rs = routines_within l.around in
-    let ws = words_of l.words in
+    let ts = texts_within l.spot.around.now in
+    let rs = routines_within l.spot.around.now in
+    let ws = words_of l.spot.words.now in
     let all = cores (list.map core_view l.parts) in
     let rest = cores (list.map core_view (drop l.item-index l.parts)) in
     record {
@@ -67,9 +61,9 @@ invariant-list-loop-item l =
 
 abbrev pub invariant-map-loop-key : goal.invariant-map-loop-key
 invariant-map-loop-key l =
-    let ts = texts_within l.around in
-    let rs = routines_within l.around in
-    let ws = words_of l.words in
+    let ts = texts_within l.spot.around.now in
+    let rs = routines_within l.spot.around.now in
+    let ws = words_of l.spot.words.now in
     let all = core_entries (list.map core_pair l.pairs) in
     let rest = core_entries (list.map core_pair (drop l.key-index l.pairs)) in
     record {

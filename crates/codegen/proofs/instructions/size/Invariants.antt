@@ -1,4 +1,4 @@
-use Rattle.std.proofs.Common.{◌≡◌, ◌+◌, drop}
+use Rattle.codegen.proofs.Prelude.{◌≡◌, ◌+◌, drop}
 use Rattle.codegen_base.specs.Pieces as specs
 use Rattle.codegen.proofs.instructions.size.Given as goal
 

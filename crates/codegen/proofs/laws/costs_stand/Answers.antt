@@ -1,9 +1,4 @@
-use Rattle.std.proofs.Common.{refl}
-use Rattle.cel_macros.specs.Environment.{name_value, variable_value}
-use Rattle.cel_macros.specs.Functions.{function_named, test_named}
-use Rattle.cel_macros.specs.Macros.{macro_named, is_map, is_has, is_variables}
-use Rattle.cel_macros.specs.Meaning.{meaning}
-use Rattle.codegen.specs.Cost.{cost}
+use Rattle.codegen.proofs.Prelude.{refl, name_value, variable_value, function_named, test_named, macro_named, is_map, is_has, is_variables, meaning, cost}
 use Rattle.codegen.proofs.laws.costs_stand.Goals as goal
 
 pub returns : goal.returns

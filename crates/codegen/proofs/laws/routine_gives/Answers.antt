@@ -1,4 +1,4 @@
-use Rattle.codegen.proofs.Routines.{routine_gives}
+use Rattle.codegen.proofs.Layer.{routine_gives}
 use Rattle.codegen.proofs.laws.routine_gives.Goals as goal
 
 pub returns : goal.returns

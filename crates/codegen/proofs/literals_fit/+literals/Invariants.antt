@@ -1,9 +1,5 @@
-use Rattle.std.proofs.Common.{drop}
+use Rattle.codegen.proofs.Prelude.{drop, plain_trees, plain_entries, core_view, cores, core_entries, core_pair, HaveLiterals, EntriesHaveLiterals}
 use Rattle.std.specs.Prelude as list
-use Rattle.cel_macros.specs.CoreTree.{plain_trees, plain_entries}
-use Rattle.cel_macros.specs.CoreView.{core_view, cores, core_entries}
-use Rattle.cel_macros.specs.Expanding.{core_pair}
-use Rattle.codegen.specs.HasLiterals.{HaveLiterals, EntriesHaveLiterals}
 use Rattle.codegen.proofs.literals_fit.+literals.Given as goal
 
 abbrev pub invariant-parts_fit-loop-part : goal.invariant-parts_fit-loop-part

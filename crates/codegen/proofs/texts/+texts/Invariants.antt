@@ -1,8 +1,5 @@
-use Rattle.std.proofs.Common.{◌≡◌, ◌++◌, drop, string_bytes}
+use Rattle.codegen.proofs.Prelude.{◌≡◌, ◌++◌, drop, string_bytes, core_view, cores, core_entries, core_pair, texts_of_each, texts_of_entries}
 use Rattle.std.specs.Prelude as list
-use Rattle.cel_macros.specs.CoreView.{core_view, cores, core_entries}
-use Rattle.cel_macros.specs.Expanding.{core_pair}
-use Rattle.codegen.specs.Code.Expressions.{texts_of_each, texts_of_entries}
 use Rattle.codegen.proofs.texts.+texts.Given as goal
 
 abbrev pub invariant-add_parts-loop-part : goal.invariant-add_parts-loop-part

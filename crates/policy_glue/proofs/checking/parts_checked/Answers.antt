@@ -1,6 +1,5 @@
-use Rattle.std.proofs.Common.{arith}
-use Rattle.policy_glue.proofs.Judged.{passed_on}
-use Rattle.policy_glue.proofs.Policies.{all_taken, refused_conditions, refused_validations, refused_variables}
+use Rattle.policy_glue.proofs.Prelude.{arith}
+use Rattle.policy_glue.proofs.Judged.{passed_on, all_taken, refused_conditions, refused_validations, refused_variables}
 use Rattle.policy_glue.proofs.checking.parts_checked.Goals as goal
 
 pub returns-in_err-scope : goal.returns-in_err-scope

@@ -1,7 +1,5 @@
-use Rattle.std.proofs.Common.{drop, map}
-use Rattle.cel_macros.specs.CoreView.{core_view}
-use Rattle.policy_glue.specs.Policy.{named_view}
-use Rattle.policy_glue.proofs.Walks.{VariablesGo}
+use Rattle.policy_glue.proofs.Prelude.{drop, map, core_view, named_view}
+use Rattle.policy_glue.proofs.Judged.{VariablesGo}
 use Rattle.policy_glue.proofs.checking.variables.Given as goal
 
 abbrev pub invariant-loop-place : goal.invariant-loop-place

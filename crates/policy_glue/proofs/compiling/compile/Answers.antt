@@ -1,11 +1,5 @@
-use Rattle.std.proofs.Common.{Err, Ok, subst}
-use Rattle.policy_glue.specs.Checked.{IsChecked}
-use Rattle.policy_glue.specs.Compiled.{CompilesTo}
-use Rattle.policy_glue.specs.Emission.{Emits}
-use Rattle.policy_glue.specs.Reading.{IsAccepted}
-use Rattle.policy_glue.specs.Trees.{PolicyTree}
-use Rattle.policy_glue.proofs.Accepted.{has_trees}
-use Rattle.policy_glue.proofs.Compiles.{image_compiled, image_due, image_is_one, refused_part, refused_whole}
+use Rattle.policy_glue.proofs.Prelude.{Err, Ok, subst, IsChecked, CompilesTo, Emits, IsAccepted, PolicyTree}
+use Rattle.policy_glue.proofs.Compiles.{has_trees, image_compiled, image_due, image_is_one, refused_part, refused_whole}
 use Rattle.policy_glue.proofs.Judged.{passed_on}
 use Rattle.policy_glue.proofs.ProgramSizes.{program_is_short}
 use Rattle.policy_glue.proofs.compiling.compile.Goals as goal

@@ -1,7 +1,4 @@
-use Rattle.std.proofs.Common.{drop, map}
-use Rattle.policy_glue.specs.Denials.{denial_view}
-use Rattle.policy_glue.specs.Layout.{words_view}
-use Rattle.policy_glue.specs.Policy.{rule_view}
+use Rattle.policy_glue.proofs.Prelude.{drop, map, denial_view, words_view, rule_view}
 use Rattle.policy_glue.proofs.Told.{DenialsGo}
 use Rattle.policy_glue.proofs.denials.denials.Given as goal
 

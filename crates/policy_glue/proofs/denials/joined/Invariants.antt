@@ -1,7 +1,5 @@
-use Rattle.std.proofs.Common.{drop, map, string_bytes}
-use Rattle.policy_glue.specs.Denials.{denial_view}
-use Rattle.policy_glue.specs.Response.{denial_text}
-use Rattle.policy_glue.proofs.Joined.{JoinGo}
+use Rattle.policy_glue.proofs.Prelude.{drop, map, string_bytes, denial_view, denial_text}
+use Rattle.policy_glue.proofs.Lists.{JoinGo}
 use Rattle.policy_glue.proofs.denials.joined.Given as goal
 
 abbrev pub invariant-loop-denial : goal.invariant-loop-denial

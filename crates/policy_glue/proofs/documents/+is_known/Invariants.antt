@@ -1,4 +1,4 @@
-use Rattle.std.proofs.Common.{length}
+use Rattle.policy_glue.proofs.Prelude.{length}
 use Rattle.policy_glue.proofs.documents.+is_known.Given as goal
 
 abbrev pub decreases-is_known : goal.decreases-is_known

@@ -1,6 +1,4 @@
-use Rattle.std.proofs.Common.{◌≡◌, map}
-use Rattle.serde_json.specs.View.{members_view}
-use Rattle.policy_glue.specs.Documents.{keys_within}
+use Rattle.policy_glue.proofs.Prelude.{◌≡◌, map, members_view, keys_within}
 use Rattle.policy_glue.proofs.documents.keys_known.Given as goal
 
 abbrev pub invariant-loop-key : goal.invariant-loop-key

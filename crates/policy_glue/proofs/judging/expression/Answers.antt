@@ -1,4 +1,4 @@
-use Rattle.cel_reader.specs.Tree.{view}
+use Rattle.policy_glue.proofs.Prelude.{view}
 use Rattle.policy_glue.proofs.Judged.{macros_refused, unread_is}
 use Rattle.policy_glue.proofs.judging.expression.Goals as goal
 

@@ -1,4 +1,4 @@
-use Rattle.std.proofs.Common.{◌+◌, ◌∙◌, refl, arith}
+use Rattle.policy_glue.proofs.Prelude.{◌+◌, ◌∙◌, refl, arith}
 use Rattle.policy_glue.proofs.Distinct.{distinct_more, distinct_stop, names_more, names_none}
 use Rattle.policy_glue.proofs.named_list.are_distinct.Goals as goal
 

@@ -1,6 +1,4 @@
-use Rattle.std.proofs.Common.{◌≡◌, true, map, take}
-use Rattle.policy_glue.specs.Policy.{named_view}
-use Rattle.policy_glue.specs.Reading.{are_distinct}
+use Rattle.policy_glue.proofs.Prelude.{◌≡◌, true, map, take, named_view, are_distinct}
 use Rattle.policy_glue.proofs.Distinct.{HasNames}
 use Rattle.policy_glue.proofs.named_list.are_distinct.Given as goal
 

@@ -1,8 +1,5 @@
-use Rattle.std.proofs.Common.{drop, map}
-use Rattle.serde_json.specs.View.{items_view}
-use Rattle.policy_glue.specs.Policy.{named_view}
-use Rattle.policy_glue.specs.Reading.{named_in}
-use Rattle.policy_glue.proofs.Each.{EachGo}
+use Rattle.policy_glue.proofs.Prelude.{drop, map, items_view, named_view, named_in}
+use Rattle.policy_glue.proofs.Lists.{EachGo}
 use Rattle.policy_glue.proofs.named_list.list_of.Given as goal
 
 abbrev pub invariant-loop-item : goal.invariant-loop-item

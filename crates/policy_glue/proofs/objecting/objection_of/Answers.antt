@@ -1,8 +1,4 @@
-use Rattle.std.proofs.Common.{sym}
-use Rattle.std.specs.Prelude.{option_map}
-use Rattle.std.proofs.lemmas.Result.{IfOk-weaker}
-use Rattle.policy_glue.specs.Layout.{words_view}
-use Rattle.policy_glue.specs.Objections.{objection_view}
+use Rattle.policy_glue.proofs.Prelude.{sym, option_map, IfOk-weaker, words_view, objection_view}
 use Rattle.policy_glue.proofs.Told.{objected}
 use Rattle.policy_glue.proofs.objecting.objection_of.Goals as goal
 

@@ -1,7 +1,5 @@
-use Rattle.std.proofs.Common.{◌∙◌, ap, map, arith}
-use Rattle.cel_macros.specs.CoreView.{core_view}
-use Rattle.cel_types.specs.Declarations.{declaration}
-use Rattle.policy_glue.proofs.EmissionSteps.{as_many, conditions_fit, fit_in_order, messages_fit, rules_fit}
+use Rattle.policy_glue.proofs.Prelude.{◌∙◌, ap, map, arith, core_view, declaration}
+use Rattle.policy_glue.proofs.Emission.{as_many, conditions_fit, fit_in_order, messages_fit, rules_fit}
 use Rattle.policy_glue.proofs.program.emitted.Goals as goal
 
 pub variables-requires-clause-fit : goal.variables-requires-clause-fit

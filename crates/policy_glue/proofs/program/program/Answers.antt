@@ -1,6 +1,5 @@
-use Rattle.std.proofs.Common.{Err, ap, arith}
-use Rattle.codegen.specs.Emitted.{IsTooLong}
-use Rattle.policy_glue.proofs.EmissionEnds.{answers_long, answers_program, answers_texts, no_error}
+use Rattle.policy_glue.proofs.Prelude.{Err, ap, arith, IsTooLong}
+use Rattle.policy_glue.proofs.Emission.{answers_long, answers_program, answers_texts, no_error}
 use Rattle.policy_glue.proofs.program.program.Goals as goal
 
 pub returns-in-Ok : goal.returns-in-Ok

@@ -1,8 +1,5 @@
-use Rattle.std.proofs.Common.{drop, map}
-use Rattle.serde_json.specs.View.{items_view}
-use Rattle.policy_glue.specs.Policy.{rule_view}
-use Rattle.policy_glue.specs.Reading.{rule_in}
-use Rattle.policy_glue.proofs.Each.{EachGo}
+use Rattle.policy_glue.proofs.Prelude.{drop, map, items_view, rule_view, rule_in}
+use Rattle.policy_glue.proofs.Lists.{EachGo}
 use Rattle.policy_glue.proofs.validations.validations_of.Given as goal
 
 abbrev pub invariant-loop-item : goal.invariant-loop-item

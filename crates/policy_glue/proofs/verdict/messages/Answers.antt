@@ -1,6 +1,5 @@
-use Rattle.std.proofs.Common.{option_map}
-use Rattle.policy_glue.specs.Layout.{message_at, most_validations}
-use Rattle.policy_glue.proofs.Filled.{filled_view}
+use Rattle.policy_glue.proofs.Prelude.{option_map, message_at, most_validations}
+use Rattle.policy_glue.proofs.Lists.{filled_view}
 use Rattle.policy_glue.proofs.verdict.messages.Goals as goal
 
 pub loop-i-preserved : goal.loop-i-preserved

@@ -1,6 +1,5 @@
-use Rattle.std.proofs.Common.{map, option_map}
-use Rattle.policy_glue.specs.Layout.{message_at, most_validations}
-use Rattle.policy_glue.proofs.Filled.{IsFilled}
+use Rattle.policy_glue.proofs.Prelude.{map, option_map, message_at, most_validations}
+use Rattle.policy_glue.proofs.Lists.{IsFilled}
 use Rattle.policy_glue.proofs.verdict.messages.Given as goal
 
 abbrev pub invariant-loop-i : goal.invariant-loop-i

@@ -1,5 +1,5 @@
-use Rattle.policy_glue.specs.Layout.{most_validations, result_at}
-use Rattle.policy_glue.proofs.Filled.{filled_more}
+use Rattle.policy_glue.proofs.Prelude.{most_validations, result_at}
+use Rattle.policy_glue.proofs.Lists.{filled_more}
 use Rattle.policy_glue.proofs.verdict.results.Goals as goal
 
 pub loop-i-preserved : goal.loop-i-preserved

@@ -1,5 +1,5 @@
-use Rattle.policy_glue.specs.Layout.{most_validations, result_at}
-use Rattle.policy_glue.proofs.Filled.{IsFilled}
+use Rattle.policy_glue.proofs.Prelude.{most_validations, result_at}
+use Rattle.policy_glue.proofs.Lists.{IsFilled}
 use Rattle.policy_glue.proofs.verdict.results.Given as goal
 
 abbrev pub invariant-loop-i : goal.invariant-loop-i

@@ -1,7 +1,5 @@
-use Rattle.std.proofs.Common.{◌≡◌, drop}
-use Rattle.codegen.specs.Code.Expressions.{routine_named}
-use Rattle.codegen.specs.Surroundings.{routines_within}
-use Rattle.codegen.proofs.Places.{counted}
+use Rattle.codegen.proofs.Prelude.{◌≡◌, drop, routine_named, routines_within}
+use Rattle.codegen.proofs.Walks.{counted}
 use Rattle.codegen.proofs.code.variables.routine_named.Given as goal
 
 abbrev pub invariant-loop-i : goal.invariant-loop-i

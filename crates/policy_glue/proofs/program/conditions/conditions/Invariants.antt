@@ -1,6 +1,4 @@
-use Rattle.std.proofs.Common.{◌≡◌, drop, map}
-use Rattle.cel_macros.specs.CoreView.{core_view}
-use Rattle.policy_glue.specs.Emission.{with_conditions}
+use Rattle.policy_glue.proofs.Prelude.{◌≡◌, drop, map, core_view, with_conditions}
 use Rattle.policy_glue.proofs.program.conditions.conditions.Given as goal
 
 abbrev pub invariant-loop-core : goal.invariant-loop-core

@@ -1,5 +1,4 @@
-use Rattle.std.proofs.Common.{◌≡◌, drop}
-use Rattle.codegen.specs.Emitted.{with_piece}
+use Rattle.policy_glue.proofs.Prelude.{◌≡◌, drop, with_piece}
 use Rattle.policy_glue.proofs.program.pieces.put_each.Given as goal
 
 abbrev pub invariant-loop-insn : goal.invariant-loop-insn

@@ -1,10 +1,5 @@
-use Rattle.std.proofs.Common.{◌∙◌, ap}
-use Rattle.std.proofs.lemmas.Result.{on_ok_weaker}
-use Rattle.cel_macros.specs.CoreView.{core_view}
-use Rattle.codegen.specs.Added.{with_expression}
-use Rattle.codegen.specs.Emitted.{Emitted, with_piece}
-use Rattle.policy_glue.specs.Program.{message_tail}
-use Rattle.policy_glue.proofs.EmissionSteps.{last_slot, tail_put}
+use Rattle.policy_glue.proofs.Prelude.{◌∙◌, ap, on_ok_weaker, core_view, with_expression, Emitted, with_piece, message_tail}
+use Rattle.policy_glue.proofs.Emission.{last_slot, tail_put}
 use Rattle.policy_glue.proofs.program.validations.put_message.Goals as goal
 
 pub returns-clause-added : goal.returns-clause-added

@@ -1,10 +1,5 @@
-use Rattle.std.proofs.Common.{◌≡◌, ◌+◌, ap, sym, ◌∙◌, arith}
-use Rattle.std.specs.Prelude.{slice_get}
-use Rattle.insn_codec.specs.Spelling.{slot_count}
-use Rattle.cel_macros.specs.CoreView.{core_view}
-use Rattle.codegen.specs.Emitted.{with_insn_at}
-use Rattle.policy_glue.specs.Program.{leave_error}
-use Rattle.policy_glue.proofs.EmissionSteps.{few_between, jump_stands, leave_stands}
+use Rattle.policy_glue.proofs.Prelude.{◌≡◌, ◌+◌, ap, sym, ◌∙◌, arith, slice_get, slot_count, core_view, with_insn_at, leave_error}
+use Rattle.policy_glue.proofs.Emission.{few_between, jump_stands, leave_stands}
 use Rattle.policy_glue.proofs.program.validations.put_result.Goals as goal
 
 pub if_true-requires-in-Some : goal.if_true-requires-in-Some

@@ -1,6 +1,4 @@
-use Rattle.std.proofs.Common.{◌≡◌, drop, map}
-use Rattle.policy_glue.specs.Checked.{rule_trees}
-use Rattle.policy_glue.specs.Emission.{with_validations}
+use Rattle.policy_glue.proofs.Prelude.{◌≡◌, drop, map, rule_trees, with_validations}
 use Rattle.policy_glue.proofs.program.validations.validations.Given as goal
 
 abbrev pub invariant-loop-place : goal.invariant-loop-place

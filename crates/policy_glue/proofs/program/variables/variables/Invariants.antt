@@ -1,7 +1,4 @@
-use Rattle.std.proofs.Common.{◌≡◌, drop, map, take}
-use Rattle.cel_macros.specs.CoreView.{core_view}
-use Rattle.cel_types.specs.Declarations.{declaration}
-use Rattle.policy_glue.specs.Emission.{with_variables}
+use Rattle.policy_glue.proofs.Prelude.{◌≡◌, drop, map, take, core_view, declaration, with_variables}
 use Rattle.policy_glue.proofs.program.variables.variables.Given as goal
 
 abbrev pub invariant-loop-place : goal.invariant-loop-place

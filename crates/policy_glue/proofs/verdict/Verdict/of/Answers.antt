@@ -1,8 +1,5 @@
-use Rattle.std.proofs.Common.{◌≡◌, ◌≤◌, ◌∙◌, ap, length, rules, subst, sym, vec_len}
-use Rattle.std.proofs.lemmas.List.{length-map}
-use Rattle.policy_glue.specs.Layout.{words_view}
-use Rattle.policy_glue.specs.Policy.{rule_view}
-use Rattle.policy_glue.proofs.Layouts.{layout_told}
+use Rattle.policy_glue.proofs.Prelude.{◌≡◌, ◌≤◌, ◌∙◌, ap, length, rules, subst, sym, vec_len, length-map, words_view, rule_view}
+use Rattle.policy_glue.proofs.Told.{layout_told}
 use Rattle.policy_glue.proofs.verdict.Verdict.of.Goals as goal
 
 pub returns-clause-told : goal.returns-clause-told
