@@ -1,20 +1,10 @@
 //! The program `gatekeeper`: `gatekeeper_runner` on the words, the files and the streams of the system.
 #![tactic(auto)]
 
-use debugger::Counting;
 use gatekeeper_runner::exit_code;
-use host::words::words;
-use host::{Disk, buffered};
-use std::io;
+use host::on_this_system;
 use std::process::ExitCode;
 
 fn main(rt: HostRuntime) -> ExitCode {
-    exit_code(
-        rt.alloc(),
-        words(&rt),
-        &mut Disk::new(&rt),
-        &mut Counting::new(buffered(&rt)),
-        &mut Counting::new(io::writer(&rt)),
-        &mut Counting::new(rt.stderr()),
-    )
+    on_this_system!(exit_code, rt)
 }

@@ -1,18 +1,5 @@
 -- How the answers go on.
-use Rattle.std.proofs.Common.{◌≡◌, ℕ, Bool, ◌+◌, ◌<◌, ◌≤◌, List, [], ◌∷◌, ◌++◌, length, length-drop, take, drop, Option, Some, None, refl, sym, ap, ◌∙◌, inl, inr, subst, arith, append_assoc, append-nil, Result, Ok, Err, IfErr, OnErr, OnOk}
-use Rattle.std.specs.Prelude.{◌⊎◌}
-use Rattle.std.proofs.lemmas.List.{take-append-drop}
-use Rattle.debugger.specs.Streams.{AddsBytes, KeepsBytes, one_more}
-use Rattle.debugger.specs.Told.{FailsByResult}
-use Rattle.debugger.specs.Byte.{GivesByte}
-use Rattle.debugger.specs.Session.{cut, input_lines, readable, with_rest}
-use Rattle.debugger.specs.declared.session_error.SessionError.{SessionError}
-use Rattle.debugger.specs.declared.session_error.SessionError.TheVariants.{S2}
-use Rattle.debugger.proofs.Cut.{Pieces, cut-none, cut-feed, cut-plain, input_lines-ended, one_within, drop-one, readable-within, readable-end}
-use Rattle.policy_glue.specs.OneImage.{OneImage}
-use Rattle.gatekeeper_runner.specs.Lines.{Answers, IsKept, decided, no_memory, passed_over, too_long}
-use Rattle.gatekeeper_runner.specs.Together.{Terms}
-use Rattle.gatekeeper_runner.specs.Told.{Answered, AnsweredPart, AnswersEach, ByResult, Going, ToldAll, ToldPart, ToldSome}
+use Rattle.gatekeeper_runner.proofs.Prelude.{◌≡◌, ℕ, Bool, ◌+◌, ◌<◌, ◌≤◌, List, [], ◌∷◌, ◌++◌, length, length-drop, take, drop, Option, Some, None, refl, sym, ap, ◌∙◌, inl, inr, subst, arith, append_assoc, append-nil, Result, Ok, Err, IfErr, OnErr, OnOk, ◌⊎◌, take-append-drop, AddsBytes, KeepsBytes, one_more, FailsByResult, GivesByte, cut, input_lines, readable, with_rest, SessionError, S2, Pieces, cut-none, cut-feed, cut-plain, input_lines-ended, one_within, drop-one, readable-within, readable-end, OneImage, Answers, IsKept, decided, no_memory, passed_over, too_long, Terms, Answered, AnsweredPart, AnswersEach, ByResult, Going, ToldAll, ToldPart, ToldSome}
 use Rattle.gatekeeper_runner.specs.Told as told
 
 pub end_read : (input : List ℕ) (i : ℕ) (left after : Option (List ℕ)) → left ≡ Some (drop i input) → ((bytes : List ℕ) → left ≡ Some bytes → GivesByte bytes after None) → (drop i input ≡ []) × (after ≡ Some (drop i input))

@@ -6,3 +6,4 @@ mod Programs
 mod Shape
 mod SaidOnce
 mod LineOnce
+pub mod Prelude

@@ -1,14 +1,6 @@
 -- A line has one answer.
-use Rattle.std.proofs.Common.{◌≡◌, ◌≢◌, ℕ, ◌⊎◌, List, [], ◌∷◌, ◌++◌, length, Result, Ok, Err, inl, inr, refl, sym, ap, ◌∙◌, subst, arith}
+use Rattle.gatekeeper_runner.proofs.Prelude.{◌≡◌, ◌≢◌, ℕ, ◌⊎◌, List, [], ◌∷◌, ◌++◌, length, Result, Ok, Err, inl, inr, refl, sym, ap, ◌∙◌, subst, arith, OneImage, HasOneAnswer, Said, RunError, Memory, Answers, answer_text, decided, line_of, no_memory, no_memory_text, passed_over, too_long, LinesHaveOneAnswer, AllSay, SayTogether, SaysAlone, Terms, next, none, under, unsaid, with_next}
 use Rattle.policy_glue.specs.OneAnswer as policy
-use Rattle.policy_glue.specs.OneImage.{OneImage}
-use Rattle.review_runner.specs.OneAnswer.{HasOneAnswer}
-use Rattle.review_runner.specs.Saying.{Said}
-use Rattle.review_runner.specs.declared.refusals.run_error.RunError.{RunError}
-use Rattle.review_runner.specs.declared.refusals.run_error.RunError.TheVariants.{Memory}
-use Rattle.gatekeeper_runner.specs.Lines.{Answers, answer_text, decided, line_of, no_memory, no_memory_text, passed_over, too_long}
-use Rattle.gatekeeper_runner.specs.SameAnswers.{LinesHaveOneAnswer}
-use Rattle.gatekeeper_runner.specs.Together.{AllSay, SayTogether, SaysAlone, Terms, next, none, under, unsaid, with_next}
 use Rattle.gatekeeper_runner.proofs.Going.{no_answer}
 use Rattle.gatekeeper_runner.proofs.SaidOnce.{says_once}
 

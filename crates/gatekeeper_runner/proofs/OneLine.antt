@@ -1,17 +1,5 @@
 -- The answer to one line.
-use Rattle.std.proofs.Common.{◌≡◌, ℕ, suc, arith, length-take, ◌<◌, ◌≤◌, Bool, true, false, List, [], length, take, Option, Some, None, sym, ap, ◌∙◌, subst, append-nil, Result, Ok, Err, true≢false}
-use Rattle.std.specs.Prelude.{IfOk, IsErr, nat_lt}
-use Rattle.std.proofs.lemmas.Bool.{ltb-false, ltb-true}
-use Rattle.debugger.specs.Streams.{AddsBytes}
-use Rattle.policy_glue.specs.Objections.{response_text}
-use Rattle.policy_glue.specs.OneImage.{OneImage}
-use Rattle.policy_glue.specs.Documents.{document_of}
-use Rattle.review_runner.specs.Saying.{Said}
-use Rattle.review_runner.specs.declared.refusals.run_error.RunError.{RunError}
-use Rattle.review_runner.specs.declared.refusals.run_error.RunError.TheVariants.{N2, Memory}
-use Rattle.gatekeeper_runner.specs.Lines.{Answers, IsKept, decided, line_of, longest_line, passed_over, refusal_text, too_long, uid_shown}
-use Rattle.gatekeeper_runner.specs.Together.{SayTogether, Terms}
-use Rattle.gatekeeper_runner.specs.Told.{Answered, AnsweredPart}
+use Rattle.gatekeeper_runner.proofs.Prelude.{◌≡◌, ℕ, suc, arith, length-take, ◌<◌, ◌≤◌, Bool, true, false, List, [], length, take, Option, Some, None, sym, ap, ◌∙◌, subst, append-nil, Result, Ok, Err, true≢false, IfOk, IsErr, nat_lt, ltb-false, ltb-true, AddsBytes, response_text, OneImage, document_of, Said, RunError, N2, Memory, Answers, IsKept, decided, line_of, longest_line, passed_over, refusal_text, too_long, uid_shown, SayTogether, Terms, Answered, AnsweredPart}
 
 module _ (t : Terms) where
   pub all_said : (line text : List ℕ) (said : Said) → 0 < length line → length line ≤ longest_line → SayTogether OneImage t line (Ok said) → text ≡ response_text said.objection said.uid → Answers OneImage t line (line_of text)

@@ -1,19 +1,7 @@
 -- The policies, opened one after the other.
-use Rattle.std.proofs.Common.{◌≡◌, ℕ, suc, ◌+◌, ◌<◌, List, [], ◌∷◌, ◌++◌, drop, length, map, take, Option, Ok, Err, String, string_bytes, refl, sym, ap, ◌∙◌, subst}
-use Rattle.std.specs.Prelude.{get_or}
-use Rattle.std.specs.declared.alloc.Global.{Global}
-use Rattle.std.proofs.lemmas.List.{map-append, take_more}
-use Rattle.std.proofs.Math.Seq.{split_at}
-use Rattle.clap.specs.Words.{Text}
-use Rattle.review_runner.specs.Deciding.{CompilesDocument, IsPolicy}
-use Rattle.review_runner.specs.FileSystem.{FileSystem, IsReading}
-use Rattle.review_runner.specs.Refusals.{policy_refusal_of}
-use Rattle.review_runner.specs.declared.reviews.compiled_policy.CompiledPolicy.{CompiledPolicy}
-use Rattle.review_runner.specs.declared.refusals.policy_refusal.PolicyRefusal.{PolicyRefusal}
+use Rattle.gatekeeper_runner.proofs.Prelude.{◌≡◌, ℕ, suc, ◌+◌, ◌<◌, List, [], ◌∷◌, ◌++◌, drop, length, map, take, Option, Ok, Err, String, string_bytes, refl, sym, ap, ◌∙◌, subst, get_or, Global, map-append, take_more, split_at, Text, CompilesDocument, IsPolicy, FileSystem, IsReading, policy_refusal_of, CompiledPolicy, PolicyRefusal, Refusal, IsUnopened, OneUnopened, Opens, OpensGate, refused, AreGates, IsGateOf}
 use Rattle.review_runner.specs.declared.refusals.policy_refusal.PolicyRefusal.TheVariants.{Memory}
-use Rattle.review_runner.specs.declared.refusals.refusal.Refusal.{Refusal}
-use Rattle.gatekeeper_runner.specs.Starting.{IsUnopened, OneUnopened, Opens, OpensGate, next, no_memory, refused}
-use Rattle.gatekeeper_runner.specs.Together.{AreGates, IsGateOf}
+use Rattle.gatekeeper_runner.specs.Starting.{next, no_memory}
 
 -- why a policy that was read gives no gate
 pub unopened_by : (known : Option FileSystem) (name : Text) (document : List ℕ) (e : PolicyRefusal) → IsReading known name (Ok document) → CompilesDocument document (Err e) → IsUnopened known name (policy_refusal_of e)

@@ -1,13 +1,7 @@
 -- How the program ends.
-use Rattle.std.proofs.Common.{List, Ok, Err, refl}
-use Rattle.clap.specs.Words.{Text}
-use Rattle.review_runner.specs.Refusals.{order_refusal}
-use Rattle.review_runner.specs.declared.refusals.order_error.OrderError.{OrderError}
-use Rattle.review_runner.specs.declared.refusals.order_error.OrderError.TheVariants.{U1}
+use Rattle.gatekeeper_runner.proofs.Prelude.{List, Ok, Err, refl, Text, order_refusal, OrderError, U1, Ordered, order_view, Asks, AsksNothing, not_taken, Order}
 use Rattle.review_runner.specs.declared.refusals.order_error.OrderError.TheVariants as order_error
-use Rattle.gatekeeper_runner.specs.Orders.{Ordered, order_view}
-use Rattle.gatekeeper_runner.specs.Program.{Asks, AsksNothing, no_memory, not_taken}
-use Rattle.gatekeeper_runner.specs.declared.order.Order.{Order}
+use Rattle.gatekeeper_runner.specs.Program.{no_memory}
 
 -- the words give no order
 pub words_refused : (words : List Text) (e : OrderError) → Ordered words (Err e) → AsksNothing (Ok words) (order_refusal e)

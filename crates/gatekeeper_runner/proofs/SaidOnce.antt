@@ -1,17 +1,6 @@
 -- A policy says one thing of a review.
-use Rattle.std.proofs.Common.{◌≡◌, ◌≢◌, ℕ, Result, Ok, Err, sym, ap, ◌∙◌}
-use Rattle.policy_glue.specs.Evaluation.{decision_of}
+use Rattle.gatekeeper_runner.proofs.Prelude.{◌≡◌, ◌≢◌, ℕ, Result, Ok, Err, sym, ap, ◌∙◌, decision_of, OneImage, Documents, decision, HasOneAnswer, IsAnswerTo, uid_in, IsSaid, Said, Says, said_of, StandsBy, RunError, Memory, answer_said, reviewed, cases_once}
 use Rattle.policy_glue.specs.OneAnswer as policy
-use Rattle.policy_glue.specs.OneImage.{OneImage}
-use Rattle.review_runner.specs.Deciding.{Documents, decision}
-use Rattle.review_runner.specs.OneAnswer.{HasOneAnswer, IsAnswerTo}
-use Rattle.review_runner.specs.Reviews.{uid_in}
-use Rattle.review_runner.specs.Saying.{IsSaid, Said, Says, said_of}
-use Rattle.review_runner.specs.Standing.{StandsBy}
-use Rattle.review_runner.specs.declared.refusals.run_error.RunError.{RunError}
-use Rattle.review_runner.specs.declared.refusals.run_error.RunError.TheVariants.{Memory}
-use Rattle.review_runner.proofs.Decided.{answer_said, reviewed}
-use Rattle.review_runner.proofs.OneReview.{cases_once}
 
 some_answer : (r : Result Said RunError) → r ≢ Err Memory → answer_said r ≢ Err Memory
 some_answer (Ok said) some is = cc

@@ -1,13 +1,5 @@
 -- What the policies say, gate after gate.
-use Rattle.std.proofs.Common.{◌≡◌, ℕ, zero, suc, ◌+◌, ◌<◌, ◌≤◌, List, [], ◌∷◌, Result, Ok, Err, drop, length, take, refl, sym, ap, subst, arith}
-use Rattle.std.specs.Prelude.{get_or}
-use Rattle.std.proofs.lemmas.List.{take_all, take_more}
-use Rattle.std.proofs.Math.Seq.{split_at}
-use Rattle.policy_glue.specs.OneImage.{OneImage}
-use Rattle.review_runner.specs.Saying.{Said}
-use Rattle.review_runner.specs.declared.reviews.compiled_policy.CompiledPolicy.{CompiledPolicy}
-use Rattle.review_runner.specs.declared.refusals.run_error.RunError.{RunError}
-use Rattle.gatekeeper_runner.specs.Together.{AllSay, AreGates, IsGateOf, OneRefuses, SaysAlone, Terms, next, with_next}
+use Rattle.gatekeeper_runner.proofs.Prelude.{◌≡◌, ℕ, zero, suc, ◌+◌, ◌<◌, ◌≤◌, List, [], ◌∷◌, Result, Ok, Err, drop, length, take, refl, sym, ap, subst, arith, get_or, take_all, take_more, split_at, OneImage, Said, CompiledPolicy, RunError, AllSay, AreGates, IsGateOf, OneRefuses, SaysAlone, Terms, next, with_next}
 
 as_many : (policies : List (List ℕ)) (gates : List CompiledPolicy) → AreGates policies gates → length policies ≡ length gates
 as_many [] [] are = refl

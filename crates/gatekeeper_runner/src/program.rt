@@ -25,14 +25,14 @@ pub fn exit_code<F: Files, R: Source, W: Sink, E: Sink>(
     alloc: Global,
     words: Result<Vec<String>, OrderError>,
     files: &mut F,
-    input: &mut R,
-    output: &mut W,
-    errors: &mut E,
+    requests: &mut R,
+    answers: &mut W,
+    refusals: &mut E,
 ) -> ExitCode
-    ensures { Ends OneImage (given_of words) (system (F.known files.old) (stream (R.left input.old) (R.failed input.old)) (stream (W.taken output.old) (W.failed output.old))) (system (F.known files.new) (stream (R.left input.new) (R.failed input.new)) (stream (W.taken output.new) (W.failed output.new))) (stream (E.taken errors.old) (E.failed errors.old)) (stream (E.taken errors.new) (E.failed errors.new)) (exit_status result) }
+    ensures { Ends OneImage (given_of words) (system (F.known files.old) (stream (R.left requests.old) (R.failed requests.old)) (stream (W.taken answers.old) (W.failed answers.old))) (system (F.known files.new) (stream (R.left requests.new) (R.failed requests.new)) (stream (W.taken answers.new) (W.failed answers.new))) (stream (E.taken refusals.old) (E.failed refusals.old)) (stream (E.taken refusals.new) (E.failed refusals.new)) (exit_status result) }
 {
-    let ending = ending(alloc, words, files, input, output);
-    ended(alloc, ending, errors)
+    let ending = ending(alloc, words, files, requests, answers);
+    ended(alloc, ending, refusals)
 }
 
 /// Answers the lines, and answers the status.

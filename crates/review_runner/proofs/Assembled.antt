@@ -1,22 +1,6 @@
 -- Texts that are assembled to the file of an image.
-use Rattle.std.proofs.Common.{◌≡◌, ℕ, List, [], Result, Ok, Err, Option, Vec, refl, sym, subst, inl, inr, arith}
-use Rattle.std.specs.Prelude.{IsOk}
-use Rattle.std.specs.Str.{IsUtf8}
-use Rattle.std.specs.declared.alloc.Global.{Global}
-use Rattle.assembler.specs.Answers.{Answers, FirstLineSays}
-use Rattle.assembler.specs.Cutting.{lines_of}
-use Rattle.assembler.specs.Items.{Item}
-use Rattle.assembler.specs.Source.{EachSays, Source, StandFor}
-use Rattle.assembler.specs.declared.asm_error.AsmError.{AsmError}
+use Rattle.review_runner.proofs.Prelude.{◌≡◌, ℕ, List, [], Result, Ok, Err, Option, Vec, refl, sym, subst, inl, inr, arith, IsOk, IsUtf8, Global, Answers, FirstLineSays, lines_of, Item, EachSays, Source, StandFor, AsmError, image_from, First, OneImage, Reading, Assembled, FileBy, MadeBy, MayRunOut, file_from, no_program, program, program_refusal, Refusal, ProgramText}
 use Rattle.assembler.specs.declared.asm_error.AsmError.TheVariants as asm_error
-use Rattle.loader.specs.Format.{image_from}
-use Rattle.loader.specs.declared.version.Version.TheVariants.{First}
-use Rattle.policy_glue.specs.OneImage.{OneImage}
-use Rattle.review_runner.specs.FileSystem.{Reading}
-use Rattle.review_runner.specs.Making.{Assembled, FileBy, MadeBy, MayRunOut, file_from, no_program, program}
-use Rattle.review_runner.specs.Refusals.{program_refusal}
-use Rattle.review_runner.specs.declared.refusals.refusal.Refusal.{Refusal}
-use Rattle.review_runner.specs.declared.images.source_kind.SourceKind.TheVariants.{ProgramText}
 use Rattle.review_runner.proofs.Results.{ok_same}
 
 -- ---- the image's file

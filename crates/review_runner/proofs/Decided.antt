@@ -1,49 +1,11 @@
 -- Reviews, from the states in which the policies' programs stand.
-use Rattle.std.proofs.Common.{◌≡◌, ℕ, ◌+◌, ◌*◌, ◌≤◌, ◌⊎◌, Bool, false, List, [], ◌∷◌, ◌++◌, length, Option, Some, Result, Ok, Err, refl, ap, ◌∙◌, subst, arith, inl, inr}
-use Rattle.std.specs.Prelude.{get_or, map, slice_get, if◌then◌else◌}
-use Rattle.std.proofs.lemmas.Bool.{cases_lt}
-use Rattle.std.proofs.lemmas.List.{length-map, length_push}
-use Rattle.guest_memory.specs.declared.fault.Fault.{Fault as GuestFault}
-use Rattle.guest_memory.specs.declared.fault.Fault.TheVariants.{F8}
-use Rattle.value_store.specs.Laws.{StartIsCanonical}
-use Rattle.value_store.specs.Placing.{Contents}
-use Rattle.value_store.specs.Roots.{Starts, start_contents}
-use Rattle.value_store.specs.declared.table_error.TableError.{TableError}
+use Rattle.review_runner.proofs.Prelude.{◌≡◌, ℕ, ◌+◌, ◌*◌, ◌≤◌, ◌⊎◌, Bool, false, List, [], ◌∷◌, ◌++◌, length, Option, Some, Result, Ok, Err, refl, ap, ◌∙◌, subst, arith, inl, inr, get_or, map, slice_get, if◌then◌else◌, cases_lt, length-map, length_push, Fault as GuestFault, F8, StartIsCanonical, Contents, Starts, start_contents, TableError, view, Value, Roots, StartsAreTables, State, start_state, StatesAreKept, is_running, state_after, Status, Exited, Running, HasValues, Ends, PartsEnd, policy_work, decision_of, outcome_word, Compiles, compact_text, objected_tree, objection_by, objection_of, response_text, Denial, denials_of, response_of, review_tree, tree_of, Verdict, Rules, Decides, Over, Left, PolicyTree, Finding, decided, judged_by, verdict_of, CompileError, FailurePolicy, CompiledPolicy, Answer, Documents, IsAnswered, IsPolicy, Reviews, is_allowed, decision, started, values_given, IsPolicyOf, IsSaid, IsSaidBy, Said, Says, SaysFrom, answer_by, is_silent, said_of, Images, Runs, Stands, StandsBy, this, Gives, Parts, document_given, documents_from, documents_given, parts_given, root_refusal, uid_in, uid_of, RunError, N2, N3, N4, N5}
 use Rattle.serde_json.specs.Data as json
-use Rattle.serde_json.specs.View.{view}
-use Rattle.serde_json.specs.declared.value.Value.{Value}
-use Rattle.cel_macros.specs.Environment.{Roots}
-use Rattle.bpf_machine.specs.Starts.{StartsAreTables}
-use Rattle.bpf_machine.specs.State.{State, start_state}
-use Rattle.bpf_machine.specs.States.{StatesAreKept}
-use Rattle.bpf_machine.specs.Step.{is_running}
-use Rattle.bpf_machine.specs.Trace.{state_after}
-use Rattle.bpf_machine.specs.declared.status.Status.{Status}
-use Rattle.bpf_machine.specs.declared.status.Status.TheVariants.{Exited, Fault, Running}
-use Rattle.codegen_base.specs.Contexts.{HasValues}
-use Rattle.policy_glue.specs.Checking.{Ends, PartsEnd}
+use Rattle.bpf_machine.specs.declared.status.Status.TheVariants.{Fault}
 use Rattle.policy_glue.specs.Checking as checking
-use Rattle.policy_glue.specs.Budget.{policy_work}
-use Rattle.policy_glue.specs.Evaluation.{decision_of}
-use Rattle.policy_glue.specs.Layout.{outcome_word}
-use Rattle.policy_glue.specs.Limits.{Compiles}
-use Rattle.serde_json.specs.Written.{compact_text}
-use Rattle.policy_glue.specs.Objections.{objected_tree, objection_by, objection_of, response_text}
-use Rattle.policy_glue.specs.Response.{Denial, denials_of, response_of, review_tree, tree_of}
-use Rattle.policy_glue.specs.Verdict.{Verdict}
-use Rattle.policy_glue.specs.Policy.{Rules}
-use Rattle.policy_glue.specs.ProgramTrees.{Decides, Over, Left}
-use Rattle.policy_glue.specs.Trees.{PolicyTree}
-use Rattle.policy_glue.specs.Verdict.{Finding, Outcome, decided, judged_by, verdict_of}
-use Rattle.policy_glue.specs.declared.compile_error.CompileError.{CompileError}
-use Rattle.policy_glue.specs.declared.failure_policy.FailurePolicy.{FailurePolicy}
-use Rattle.review_runner.specs.declared.reviews.compiled_policy.CompiledPolicy.{CompiledPolicy}
-use Rattle.review_runner.specs.Deciding.{Answer, Documents, IsAnswered, IsPolicy, Reviews, answer_of, is_allowed, decision, started, values_given, IsPolicyOf}
-use Rattle.review_runner.specs.Saying.{IsSaid, IsSaidBy, Said, Says, SaysFrom, answer_by, is_silent, said_of}
-use Rattle.review_runner.specs.Standing.{Images, Runs, Stands, StandsBy, this}
-use Rattle.review_runner.specs.Reviews.{Gives, Parts, document_given, documents_from, documents_given, parts_given, root_refusal, uid_in, uid_of}
-use Rattle.review_runner.specs.declared.refusals.run_error.RunError.{RunError}
-use Rattle.review_runner.specs.declared.refusals.run_error.RunError.TheVariants.{N2, N3, N4, N5, Memory}
+use Rattle.policy_glue.specs.Verdict.{Outcome}
+use Rattle.review_runner.specs.Deciding.{answer_of}
+use Rattle.review_runner.specs.declared.refusals.run_error.RunError.TheVariants.{Memory}
 use Rattle.review_runner.proofs.RootContents.{are_five, are_started, contents_are, has_values, refused_documents, refused_roots, uid_is}
 
 -- ---- findings

@@ -1,27 +1,14 @@
 -- The negative numbers of documents are of 64 bits signed.
-use Rattle.std.proofs.Common.{◌≡◌, ℕ, zero, suc, ◌^◌, ◌<◌, ◌≤◌, Bool, true, false, List, Option, Some, None, Ordering, Less, Equal, Greater, nat_cmp, refl, subst, arith, Float}
-use Rattle.std.proofs.lemmas.Bool.{leb-true}
-use Rattle.std.specs.Cmp.Lexicographic.{slice_cmp}
-use Rattle.std.specs.Float.{binary64, float_is_finite}
-use Rattle.std.specs.Int.{w64}
-use Rattle.std.specs.Ordering.{match_ordering}
-use Rattle.std.specs.Prelude.{FitsSigned, ◌&&◌, drop, nat_le, nat_lt, option_map, option_and_then, slice_index, ◌==◌, if◌then◌else◌}
-use Rattle.std.specs.Str.{is_utf8}
-use Rattle.fast_float.specs.Text.{Parts, digits_of, minus, nearest, scan, with_sign}
+use Rattle.review_runner.proofs.Prelude.{◌≡◌, ℕ, zero, suc, ◌^◌, ◌<◌, ◌≤◌, Bool, true, false, List, Option, Some, None, Ordering, Less, Equal, Greater, nat_cmp, refl, subst, arith, Float, leb-true, slice_cmp, binary64, float_is_finite, w64, match_ordering, FitsSigned, ◌&&◌, drop, nat_le, nat_lt, option_map, option_and_then, slice_index, ◌==◌, if◌then◌else◌, is_utf8, digits_of, minus, nearest, scan, with_sign, if_last, value, tokens, get, get_member, float_of, is_integer, max_depth, number_from, of_items, of_json, of_members, FitsNumber, HasNumbers, HaveNumbers, MembersHaveNumbers, document_of}
+use Rattle.fast_float.specs.Text.{Parts}
 use Rattle.json.specs.Json as text
-use Rattle.json.specs.Json.{if_last, value}
-use Rattle.json.specs.Lex.{tokens}
 use Rattle.serde_json.specs.Data as json
-use Rattle.serde_json.specs.Find.{get, get_member}
-use Rattle.serde_json.specs.Read.{float_of, is_integer, max_depth, number_from, number_of, of_items, of_json, of_members}
-use Rattle.bpf_machine.specs.Starts.{FitsNumber, HasNumbers, HaveNumbers, MembersHaveNumbers}
-use Rattle.policy_glue.specs.Documents.{document_of}
+use Rattle.serde_json.specs.Read.{number_of}
 
 -- ---- numbers
 
 negative_fits : (d : ℕ) → d ≤ 2 ^ 63 → FitsSigned w64 (with_sign true d)
-negative_fits zero small = omega arith
-negative_fits (suc k) small = let below : k < 2 ^ 63 = omega (arith, small) in omega (arith, below)
+negative_fits d small = grind arith
 
 number_fits : (s : List ℕ) (n : json.Num) → number_of s ≡ Some n → FitsNumber n
 unfolding number_of

@@ -1,8 +1,5 @@
 -- Files that are read one after the other.
-use Rattle.std.proofs.Common.{ℕ, List, Option, Some, None, Ok, Err, refl}
-use Rattle.review_runner.specs.Debugging.{HoldsFiles, IsReadingGiven, ReadingGiven, held_by}
-use Rattle.review_runner.specs.FileSystem.{FileSystem, IsReading, Reading}
-use Rattle.review_runner.specs.Order.{DocumentFiles}
+use Rattle.review_runner.proofs.Prelude.{ℕ, List, Option, Some, None, Ok, Err, refl, HoldsFiles, IsReadingGiven, ReadingGiven, held_by, FileSystem, IsReading, Reading, DocumentFiles}
 use Rattle.review_runner.specs.declared.refusals.file_error.FileError.TheVariants as file_error
 
 -- a read of a file that may be left out

@@ -1,14 +1,5 @@
 -- No step changes the image.
-use Rattle.std.proofs.Common.{◌≡◌, ℕ, zero, suc, refl, ◌∙◌, arith}
-use Rattle.bpf_machine.specs.Access.{load_row, load_signed_row, load_wide_row, store_row}
-use Rattle.bpf_machine.specs.Arithmetic.{alu_row, byte_swap_row, neg_row, sign_extend_row}
-use Rattle.bpf_machine.specs.Atomics.{atomic_row}
-use Rattle.bpf_machine.specs.HelperCalls.{call_row}
-use Rattle.bpf_machine.specs.Jumps.{branch_row, call_local_row, exit_row, jump_row}
-use Rattle.bpf_machine.specs.State.{State, start_state}
-use Rattle.bpf_machine.specs.Step.{executed, next_state}
-use Rattle.bpf_machine.specs.Trace.{state_after}
-use Rattle.insn_codec.specs.declared.insn.Insn.{Insn}
+use Rattle.review_runner.proofs.Prelude.{◌≡◌, ℕ, zero, suc, refl, ◌∙◌, arith, load_row, load_signed_row, load_wide_row, store_row, alu_row, byte_swap_row, neg_row, sign_extend_row, atomic_row, call_row, branch_row, call_local_row, exit_row, jump_row, State, start_state, executed, next_state, state_after, Insn}
 use Rattle.loader.specs.Contents.{Contents}
 use Rattle.value_store.specs.Placing as store
 

@@ -1,24 +1,10 @@
 -- A property of the rows that each use of an argument keeps is kept over a whole walk without faults.
-use Rattle.std.proofs.Common.{◌≡◌, ℕ, zero, suc, List, [], ◌∷◌, Option, Some, None, Bool, true}
-use Rattle.std.proofs.Common.{false, refl, is_some, arith}
-use Rattle.std.specs.Prelude.{⊤, if◌then◌else◌, fold, find, slice_get}
-use Rattle.std.specs.Prelude.{◌&&◌}
-use Rattle.std.specs.Option.{option_map_or}
-use Rattle.std.specs.Str.{chars}
-use Rattle.clap.specs.Kinds.{Kinds, or_else}
-use Rattle.clap.specs.Simple.{Shape}
-use Rattle.clap.specs.Walk.{Held, Names, Outcome, Row, Rule, Step, Text, Waiting, Walk, after_flag}
-use Rattle.clap.specs.Walk.{after_step, arg_by_id}
-use Rattle.clap.specs.Walk.{attached_value, bundle_met, bundle_step, flag_met}
-use Rattle.clap.specs.Walk.{long_met, long_or_other, option_met}
-use Rattle.clap.specs.Walk.{reacted}
-use Rattle.clap.specs.Walk.{settled, settled_rows}
-use Rattle.clap.specs.Walk.{used, walked}
-use Rattle.clap.specs.Walk.{with_default, word_met}
-use Rattle.clap.specs.Faults.{bundle_step_fault, flag_word_fault, flags_fault, long_fault}
-use Rattle.clap.specs.Faults.{option_fault, react_fault}
-use Rattle.clap.specs.Faults.{settle_fault, step_fault, turn_fault, use_fault}
-use Rattle.clap.specs.Faults.{walk_fault, word_fault}
+use Rattle.review_runner.proofs.Prelude.{◌≡◌, ℕ, zero, suc, List, [], ◌∷◌, Option, Some, None, Bool, true, false, refl, is_some, arith, ⊤, if◌then◌else◌, fold, find, slice_get, ◌&&◌, option_map_or, chars, Kinds, or_else, Shape, Held, Names, Row, Rule, Step, Text, Waiting, Walk, after_flag, after_step, arg_by_id, attached_value, bundle_step, flag_met, long_met, long_or_other, option_met, reacted, settled, settled_rows, used, with_default, word_met, bundle_step_fault, flag_word_fault, long_fault, option_fault, react_fault, settle_fault, step_fault, turn_fault, use_fault, word_fault}
+use Rattle.clap.specs.Walk.{Outcome}
+use Rattle.clap.specs.Walk.{bundle_met}
+use Rattle.clap.specs.Walk.{walked}
+use Rattle.clap.specs.Faults.{flags_fault}
+use Rattle.clap.specs.Faults.{walk_fault}
 use Rattle.clap.specs.declared.error.kind.ErrorKind.TheVariants as kind
 
 abbrev pub Each : {X : Type 0} → (X → Type 0) → List X → Type 0
@@ -40,8 +26,7 @@ found Q p [] h = tt
 found Q p (x ∷ xs) h = picked Q x (p x) (find p xs) h.0 (found Q p xs h.1)
 
 pub nothing : (a b : Kinds) → or_else a b ≡ [] → (a ≡ []) × (b ≡ [])
-nothing [] b e = (refl, e)
-nothing (k ∷ ks) b e = cc
+nothing a b e = grind arith
 
 abbrev pub Keeps : (List Row → Type 0) → Bool → Rule → Type 0
 Keeps G again a = (values : List Text) (rows : List Row) → use_fault again a values rows ≡ [] → G rows → G (used a values rows)
@@ -99,8 +84,7 @@ module _ (G : List Row → Type 0) (s : Shape) (names : Names) (each : Each (Kee
       → G (bundle_met s.rules n flags skip so_far h).0.rows
   unfolding bundle_met flags_fault
   bundle_keeps zero flags skip so_far h e g = g
-  bundle_keeps (suc n) flags skip so_far h e g =
-      bundle_by (slice_get (chars flags) 0) flags skip so_far h (flags_fault s.rules s.args_override_self n) (bundle_met s.rules n) e (bundle_keeps n) g
+  bundle_keeps (suc n) flags skip so_far h e g = grind (arith, bundle_by, bundle_keeps n)
 
   after_keeps : (waiting : Waiting) (word : Text) (h : Held) (o : Outcome) → G h.rows
       → G (after_flag s.rules waiting word h o).0.rows

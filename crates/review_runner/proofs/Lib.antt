@@ -19,3 +19,4 @@ pub mod OneReview
 mod ImageKept
 mod ToldLines
 pub mod Telling
+pub mod Prelude

@@ -1,33 +1,11 @@
 -- The steps of an order whose words are taken are at most 1,000,000,000.
-use Rattle.std.proofs.Common.{◌≡◌, ◌≤◌, List, [], ◌∷◌, ◌++◌, Option, Some, None, Result}
-use Rattle.std.proofs.Common.{IfOk, Bool, true, false, refl, subst, arith, codes}
-use Rattle.std.specs.Prelude.{if◌then◌else◌, find, unwrap_or, option_map}
-use Rattle.std.specs.Prelude.{option_and_then, slice_get}
+use Rattle.review_runner.proofs.Prelude.{◌≡◌, ◌≤◌, List, [], ◌∷◌, ◌++◌, Option, Some, None, Result, IfOk, Bool, true, false, refl, subst, arith, codes, if◌then◌else◌, find, unwrap_or, option_map, option_and_then, slice_get, digits_value, without_leading_plus, option_map_or, bytes_eq-Decides, is_unsigned_in, values_kinds, App, Shape, built, label_of, rows_at, read_as, Row, Rule, Text, answers_to, at_row, default_rows, nothing_held, one_of, reading_by, row_text, rows_after, walk, walk_from, with_default, with_values, entered_fault, level_fault, ErrorKind, ValueSource, CommandLine, file_rule, option_rule, required_option_rule, list_app, steps_rule, making_app, with_documents, review_app, deciding_app, running_app, run_image_app, debug_app, bare_app, celbpf_app, faults, entered, number_of, number_written, Ordered, IsWithinLimits, assemble_in, compile_in, debug_in, list_in, order_in, order_view, review_in, run_image_in, task_named, Order, OrderError}
 use Rattle.std.specs.Str.{bytes_eq}
-use Rattle.std.specs.Str.Parse.{digits_value, without_leading_plus}
-use Rattle.std.specs.Option.{option_map_or}
-use Rattle.std.proofs.lemmas.Slice.Eq.{bytes_eq-Decides}
-use Rattle.clap.specs.ValueTests.{is_unsigned_in}
-use Rattle.clap.specs.Kinds.{values_kinds}
-use Rattle.clap.specs.Simple.{App, Shape, built, entered as entered_of, label_of, rows_at}
-use Rattle.clap.specs.Values.{read_as}
-use Rattle.clap.specs.Walk.{Row, Rule, Text, answers_to, at_row, default_rows}
-use Rattle.clap.specs.Walk.{nothing_held, one_of, reading_by, row_text, rows_after, walk, walk_from}
-use Rattle.clap.specs.Walk.{with_default, with_values, without}
-use Rattle.clap.specs.Faults.{entered_fault, level_fault}
+use Rattle.clap.specs.Simple.{entered as entered_of}
+use Rattle.clap.specs.Walk.{without}
 use Rattle.clap.specs.declared.builder.value_parser.Reading.{Reading}
 use Rattle.clap.specs.declared.builder.value_parser.Reading.TheVariants as reading
 use Rattle.clap.specs.declared.builder.value_parser.ValueParser.TheVariants as parser
-use Rattle.clap.specs.declared.error.kind.ErrorKind.{ErrorKind}
-use Rattle.clap.specs.declared.parser.matches.ValueSource.{ValueSource}
-use Rattle.clap.specs.declared.parser.matches.ValueSource.TheVariants.{CommandLine}
-use Rattle.review_runner.specs.Commands.{file_rule, option_rule, required_option_rule, list_app, steps_rule, making_app, with_documents, review_app, deciding_app, running_app, run_image_app, debug_app, bare_app}
-use Rattle.review_runner.specs.Commands.{celbpf_app, faults, entered}
-use Rattle.review_runner.specs.Number.{number_of, number_written}
-use Rattle.review_runner.specs.Order.{Ordered, IsWithinLimits, assemble_in, compile_in, debug_in, list_in, order_in, order_view, review_in, run_image_in}
-use Rattle.review_runner.specs.Order.{task_named}
-use Rattle.review_runner.specs.declared.command_line.order.Order.{Order}
-use Rattle.review_runner.specs.declared.refusals.order_error.OrderError.{OrderError}
 use Rattle.review_runner.proofs.Kept.{AtOption, Each, Keeps, defaults_keep, found, nothing}
 use Rattle.review_runner.proofs.Kept.{settle_keeps, walk_keeps}
 
@@ -51,12 +29,7 @@ at_row_keeps : (id : Text) (f : Row → List Row) (new rows : List Row) → ((r 
     → bytes_eq r.id id ≡ true → RowOk r → RowsOk (f r)) → RowsOk new → RowsOk rows
     → RowsOk (at_row id f new rows)
 at_row_keeps id f new [] change n g = n
-at_row_keeps id f new (r ∷ rs) change n g = by (at_row_keeps id f new rs change n g.1) (bytes_eq r.id id) refl
-  where
-    by : RowsOk (at_row id f new rs) → (b : Bool) → bytes_eq r.id id ≡ b
-        → RowsOk (if b then f r ++ rs else r ∷ at_row id f new rs)
-    by rest true e = each_append RowOk (f r) rs (change r e g.0) g.1
-    by rest false e = (g.0, rest)
+at_row_keeps id f new (r ∷ rs) change n g = grind (arith, each_append, at_row_keeps id f new rs change n g.1)
 
 without_keeps : (id : Text) (rows : List Row) → RowsOk rows → RowsOk (without id rows)
 without_keeps id rows g = at_row_keeps id (λ _. []) [] rows (λ r e ok. tt) tt g
@@ -124,12 +97,7 @@ shapes = grind (arith, with_keeps, set_keeps, values_within, nothing)
 found_so : {X : Type 0} (Q : X → Type 0) (p : X → Bool) (c : List X) → Each Q c
     → AtOption (λ x. Q x × (p x ≡ true)) (find p c)
 found_so Q p [] h = tt
-found_so Q p (x ∷ xs) h = by (found_so Q p xs h.1) (p x) refl
-  where
-    by : AtOption (λ x. Q x × (p x ≡ true)) (find p xs) → (b : Bool) → p x ≡ b
-        → AtOption (λ x. Q x × (p x ≡ true)) (if b then Some x else find p xs)
-    by rest true e = (h.0, e)
-    by rest false e = rest
+found_so Q p (x ∷ xs) h = grind (arith, found_so Q p xs h.1)
 
 small : (v : Text) → Within v → digits_value 10 (without_leading_plus v) ≤ 1000000000
 small v w = grind arith

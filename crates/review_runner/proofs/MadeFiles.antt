@@ -1,22 +1,8 @@
 -- Files that are made from files.
-use Rattle.std.proofs.Common.{◌≡◌, ◌∙◌, ℕ, List, [], Result, Ok, Err, Option, Vec, refl, sym, subst, ap, inl, inr, arith}
-use Rattle.std.specs.Prelude.{IsErrAnd}
-use Rattle.std.specs.declared.alloc.Global.{Global}
-use Rattle.policy_glue.specs.OneImage.{OneImage}
-use Rattle.review_runner.specs.FileSystem.{FileSystem, IsReading, IsWriting, KeepsFiles, Reading}
-use Rattle.review_runner.specs.Making.{MadeBy, MadeFrom, MadeOf, MayRunOut, RunsOut, no_file}
-use Rattle.review_runner.specs.Output.{Outcome, Report, outcome_of, succeeded}
-use Rattle.review_runner.specs.Performing.{MakesFile, PerformsBy, failed, lacks_memory, making, nothing, performs, written}
-use Rattle.review_runner.specs.PolicyFiles.{CompiledFrom, no_file as no_policy}
-use Rattle.review_runner.specs.Refusals.{file_refusal}
+use Rattle.review_runner.proofs.Prelude.{◌≡◌, ◌∙◌, ℕ, List, [], Result, Ok, Err, Option, Vec, refl, sym, subst, ap, inl, inr, arith, IsErrAnd, Global, OneImage, FileSystem, IsReading, IsWriting, KeepsFiles, Reading, MadeBy, MadeFrom, MadeOf, MayRunOut, RunsOut, no_file, Outcome, Report, outcome_of, succeeded, MakesFile, PerformsBy, failed, lacks_memory, making, nothing, performs, written, CompiledFrom, file_refusal, FileError, Failed, Refusal, Memory, SourceKind, PolicyDocument, ProgramText}
+use Rattle.review_runner.specs.PolicyFiles.{no_file as no_policy}
 use Rattle.review_runner.specs.declared.answer.Answer.{Answer}
-use Rattle.review_runner.specs.declared.refusals.file_error.FileError.{FileError}
-use Rattle.review_runner.specs.declared.refusals.file_error.FileError.TheVariants.{Failed}
 use Rattle.review_runner.specs.declared.refusals.file_error.FileError.TheVariants as file_error
-use Rattle.review_runner.specs.declared.refusals.refusal.Refusal.{Refusal}
-use Rattle.review_runner.specs.declared.refusals.refusal.Refusal.TheVariants.{Memory}
-use Rattle.review_runner.specs.declared.images.source_kind.SourceKind.{SourceKind}
-use Rattle.review_runner.specs.declared.images.source_kind.SourceKind.TheVariants.{PolicyDocument, ProgramText}
 use Rattle.review_runner.proofs.Assembled.{may_run_out as text_may}
 
 -- ---- the image's file
@@ -31,8 +17,7 @@ policy_may reading due file made is fails = grind arith
 
 -- memory may run out once the image's file is made
 may_run_out : (kind : SourceKind) (reading : Reading) (file : List ℕ) → MadeFrom OneImage kind reading (Ok file) → MayRunOut kind reading
-may_run_out PolicyDocument reading file made = policy_may reading _ file made refl
-may_run_out ProgramText reading file made = text_may reading _ file made refl
+may_run_out kind reading file made = grind (arith, policy_may, text_may)
 
 -- ---- the files
 

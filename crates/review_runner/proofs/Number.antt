@@ -1,12 +1,5 @@
 -- What clap reads as a u64 is the number that the text stands for.
-use Rattle.std.proofs.Common.{◌≡◌, ℕ, ◌^◌, ◌<◌, List, [], ◌∷◌, Option, Some, None, Result, Ok, Err}
-use Rattle.std.proofs.Common.{Bool, true, false, refl, ◌∙◌, arith}
-use Rattle.std.specs.Prelude.{nat_lt, ◌&&◌, if◌then◌else◌}
-use Rattle.std.proofs.lemmas.Bool.{and_from, and_parts, lt-ltb, ltb-true}
-use Rattle.std.specs.Str.Parse.{AllDigits, IsNumeral, ParsesUnsigned, digits_value}
-use Rattle.std.specs.Str.Parse.{without_leading_plus}
-use Rattle.clap.specs.Words.{ReadsOne}
-use Rattle.review_runner.specs.Number.{are_digits, writes_u64, number_written, number_of}
+use Rattle.review_runner.proofs.Prelude.{◌≡◌, ℕ, ◌^◌, ◌<◌, List, [], ◌∷◌, Option, Some, None, Result, Ok, Err, Bool, true, false, refl, ◌∙◌, arith, nat_lt, ◌&&◌, if◌then◌else◌, and_from, and_parts, lt-ltb, ltb-true, AllDigits, IsNumeral, ParsesUnsigned, digits_value, without_leading_plus, ReadsOne, are_digits, writes_u64, number_written, number_of}
 
 -- ---- a test that is true, and the facts that it tests
 
@@ -25,21 +18,10 @@ abbrev Fits : List ℕ → Type 0
 Fits t = IsNumeral 10 t × (digits_value 10 t < 2 ^ 64)
 
 when_it_fits : (t : List ℕ) (v : ℕ) → Fits t → v ≡ digits_value 10 t → Some v ≡ number_written t
-when_it_fits t v h is =
-    let digits = and_from _ _ (digits_true t h.0.1) (lt-ltb _ _ h.1) in
-    let test : writes_u64 t ≡ true = and_from _ _ (lt-ltb _ _ h.0.0) digits in
-    rw (test, is) refl
+when_it_fits t v h is = grind (arith, and_from, digits_true, lt-ltb)
 
 unless_it_fits : (t : List ℕ) → (Fits t → ⊥) → None ≡ number_written t
-unless_it_fits t not_so = by_test (writes_u64 t) refl
-  where
-    by_test : (b : Bool) → writes_u64 t ≡ b
-        → None ≡ (if b then Some (digits_value 10 t) else None)
-    by_test false p = refl
-    by_test true p =
-        let outer = and_parts _ _ p in
-        let inner = and_parts _ _ outer.1 in
-        absurd (not_so ((ltb-true _ _ outer.0, of_digits_true t inner.0), ltb-true _ _ inner.1))
+unless_it_fits t not_so = grind (arith, and_parts, ltb-true, of_digits_true)
 
 -- ---- what was read, where Read says how clap reads a text
 
@@ -47,9 +29,7 @@ pub of_a_text : {E : Type 0} (Read : List ℕ → Result ℕ E → Type 0) (t : 
     → ReadsOne Read t r → ((x : Result ℕ E) → Read t x → ParsesUnsigned 64 10 t x)
     → r ≡ number_of (Some t)
 unfolding number_of
-of_a_text Read t (Some v) h parses =
-    let is = parses (Ok v) h in when_it_fits (without_leading_plus t) v is.0 is.1
-of_a_text Read t None h parses = unless_it_fits (without_leading_plus t) (parses (Err h.0) h.1)
+of_a_text Read t r h parses = grind (arith, when_it_fits, unless_it_fits)
 
 pub of_no_text : None ≡ number_of None
 unfolding number_of

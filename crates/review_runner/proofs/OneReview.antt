@@ -1,10 +1,6 @@
 -- A review has one answer.
-use Rattle.std.proofs.Common.{◌≡◌, arith}
-use Rattle.cel_macros.specs.Environment.{Roots}
-use Rattle.policy_glue.specs.OneAnswer.{HasOneImage}
+use Rattle.review_runner.proofs.Prelude.{◌≡◌, arith, Roots, HasOneImage, Case, Documents, started, HasOneAnswer}
 use Rattle.policy_glue.specs.OneAnswer as policy
-use Rattle.review_runner.specs.Deciding.{Case, Documents, started}
-use Rattle.review_runner.specs.OneAnswer.{HasOneAnswer}
 
 -- the values at a start have one list of roots
 pub roots_once : (r s : Roots) → started r ≡ started s → r ≡ s

@@ -1,15 +1,5 @@
 -- Orders that are done, and what they leave.
-use Rattle.std.proofs.Common.{◌≡◌, ℕ, true, List, Result, Ok, Err, Option, refl, arith}
-use Rattle.std.specs.Prelude.{IfOk, IsErr, OnErr}
-use Rattle.std.specs.declared.alloc.AllocError.{AllocError}
-use Rattle.policy_glue.specs.OneImage.{OneImage}
-use Rattle.review_runner.specs.FileSystem.{FileSystem, KeepsFiles}
-use Rattle.review_runner.specs.Order.{Task}
-use Rattle.review_runner.specs.Output.{Outcome, output_of, refused}
-use Rattle.review_runner.specs.Performing.{lacks_memory, performs, IsDone, LacksMemory, Performs, PerformsBy, WritesImage, only_reads, written}
-use Rattle.review_runner.specs.declared.done.Done.{Done}
-use Rattle.review_runner.specs.declared.refusals.refusal.Refusal.{Refusal}
-use Rattle.review_runner.specs.declared.refusals.refusal.Refusal.TheVariants.{Memory}
+use Rattle.review_runner.proofs.Prelude.{◌≡◌, ℕ, true, List, Result, Ok, Err, Option, refl, arith, IfOk, IsErr, OnErr, AllocError, OneImage, FileSystem, KeepsFiles, Task, Outcome, output_of, refused, lacks_memory, performs, IsDone, LacksMemory, Performs, PerformsBy, WritesImage, only_reads, written, Done, Refusal, Memory}
 
 -- ---- files
 

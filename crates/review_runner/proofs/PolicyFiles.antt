@@ -1,21 +1,7 @@
 -- Policies and reviews in files.
-use Rattle.std.proofs.Common.{◌≡◌, ℕ, List, Option, Some, None, Result, Ok, Err, refl, sym, subst, inl, inr, arith}
-use Rattle.std.specs.Prelude.{IsSome}
-use Rattle.policy_glue.specs.OneImage.{OneImage}
-use Rattle.review_runner.specs.Debugging.{Held, HoldsFiles, IsReadingGiven, ReadingGiven, held_by}
-use Rattle.review_runner.specs.Deciding.{Answer, CompilesDocument, Documents, Reviews}
-use Rattle.review_runner.specs.FileSystem.{FileSystem, Reading}
-use Rattle.review_runner.specs.Making.{MadeBy}
-use Rattle.review_runner.specs.Order.{ReviewFiles, review}
-use Rattle.review_runner.specs.Output.{Outcome}
-use Rattle.review_runner.specs.Performing.{PerformsBy, performs}
-use Rattle.review_runner.specs.PolicyFiles.{ReviewsHeld, held_with, named_files, no_image, review_outcome, reviewed}
-use Rattle.review_runner.specs.Refusals.{policy_refusal_of}
-use Rattle.review_runner.specs.Standing.{StandsBy}
-use Rattle.review_runner.specs.declared.refusals.policy_refusal.PolicyRefusal.{PolicyRefusal}
+use Rattle.review_runner.proofs.Prelude.{◌≡◌, ℕ, List, Option, Some, None, Result, Ok, Err, refl, sym, subst, inl, inr, arith, IsSome, OneImage, HoldsFiles, IsReadingGiven, ReadingGiven, held_by, Answer, CompilesDocument, Documents, Reviews, FileSystem, Reading, MadeBy, ReviewFiles, review, Outcome, PerformsBy, performs, ReviewsHeld, held_with, named_files, no_image, review_outcome, reviewed, policy_refusal_of, StandsBy, PolicyRefusal, RunError, PolicyDocument}
+use Rattle.review_runner.specs.Debugging.{Held}
 use Rattle.review_runner.specs.declared.refusals.policy_refusal.PolicyRefusal.TheVariants as policy_refusal
-use Rattle.review_runner.specs.declared.refusals.run_error.RunError.{RunError}
-use Rattle.review_runner.specs.declared.images.source_kind.SourceKind.TheVariants.{PolicyDocument}
 use Rattle.review_runner.proofs.Results.{ok_same}
 
 -- a policy that gives no image
@@ -28,9 +14,7 @@ refused_so document e is = inl (no_image is)
 
 review_by : (known : Option FileSystem) (name : List ℕ) (s : Reading) (r n p : ReadingGiven) (h : Held) → IsReadingGiven known (Some name) r
     → held_by s r n p ≡ Ok h → IsSome h.review
-review_by known name (Ok s) (Ok (Some bytes)) (Ok n) (Ok p) h is are = subst (λ (k : Held). IsSome k.review) (ok_same _ _ h refl are) refl
-review_by known name s (Ok None) n p h is are = absurd is
-review_by known name s r n p h is are = cc
+review_by known name s r n p h is are = grind arith
 
 -- a review that has a name was read, if all was
 pub has_review : (known : Option FileSystem) (name bytes : List ℕ) (namespace params : Option (List ℕ)) (h : Held)

@@ -1,14 +1,8 @@
 -- How the program ends.
-use Rattle.std.proofs.Common.{◌≡◌, ℕ, ◌<◌, List, length, take, Result, Ok, Err, subst, inl, inr}
-use Rattle.std.specs.Prelude.{OnErr, OnOk}
+use Rattle.review_runner.proofs.Prelude.{◌≡◌, ℕ, ◌<◌, List, length, take, Result, Ok, Err, subst, inl, inr, OnErr, OnOk, AddsBytes, Stream, one_more, Ordered, AsksNothing, Ending, Writes, WritesPart, ending_line, no_memory, not_taken, order_refusal, OrderError, U1}
 use Rattle.clap.specs.Words.{Text}
-use Rattle.debugger.specs.Streams.{AddsBytes, Stream, one_more}
 use Rattle.debugger.specs.declared.failed.Failed.{Failed}
-use Rattle.review_runner.specs.Order.{Ordered}
-use Rattle.review_runner.specs.Program.{AsksNothing, Ending, Says, Writes, WritesPart, ending_line, no_memory, not_taken}
-use Rattle.review_runner.specs.Refusals.{order_refusal}
-use Rattle.review_runner.specs.declared.refusals.order_error.OrderError.{OrderError}
-use Rattle.review_runner.specs.declared.refusals.order_error.OrderError.TheVariants.{U1}
+use Rattle.review_runner.specs.Program.{Says}
 use Rattle.review_runner.specs.declared.refusals.order_error.OrderError.TheVariants as order_error
 
 pub says : (old new : Stream) (bytes : List ℕ) (ending : Ending) (result : Result (Unit {0}) Failed) → bytes ≡ ending_line ending → OnOk result (AddsBytes old.bytes new.bytes bytes)

@@ -1,29 +1,14 @@
 -- What is made of a read.
-use Rattle.std.proofs.Common.{◌≡◌, ℕ, List, Option, Result, Ok, Err, refl, sym, subst, arith}
+use Rattle.review_runner.proofs.Prelude.{◌≡◌, ℕ, List, Option, Result, Ok, Err, refl, sym, subst, arith, LoadError, OneImage, FileSystem, IsReading, Reading, IsAnswer, IsUnrefused, OpensFile, opened, opened_by, list, run_image, Outcome, Report, run_image_outcome, run_outcome, succeeded, Listing, Listed, PerformsBy, lacks_memory, listed, performs, unlisted, file_refusal, run_of, run_of_file, FileError, Failed, Refusal, Memory}
 use Rattle.loader.specs.Contents.{Contents}
-use Rattle.loader.specs.declared.load_error.LoadError.{LoadError}
-use Rattle.policy_glue.specs.OneImage.{OneImage}
-use Rattle.review_runner.specs.FileSystem.{FileSystem, IsReading, Reading}
-use Rattle.review_runner.specs.Opening.{IsAnswer, IsUnrefused, OpensFile, opened, opened_by}
-use Rattle.review_runner.specs.Order.{list, run_image}
-use Rattle.review_runner.specs.Output.{Outcome, Report, run_image_outcome, run_outcome, succeeded}
-use Rattle.insn_codec.specs.Statements.{Listing}
-use Rattle.review_runner.specs.Performing.{Listed, PerformsBy, lacks_memory, listed, performs, unlisted}
-use Rattle.review_runner.specs.Refusals.{file_refusal}
-use Rattle.review_runner.specs.Running.{run_of, run_of_file}
-use Rattle.review_runner.specs.declared.refusals.file_error.FileError.{FileError}
-use Rattle.review_runner.specs.declared.refusals.file_error.FileError.TheVariants.{Failed}
 use Rattle.review_runner.specs.declared.refusals.file_error.FileError.TheVariants as file_error
-use Rattle.review_runner.specs.declared.refusals.refusal.Refusal.{Refusal}
-use Rattle.review_runner.specs.declared.refusals.refusal.Refusal.TheVariants.{Memory}
 use Rattle.review_runner.proofs.Results.{not_both}
 
 -- ---- answers
 
 -- a failed read is answered
 pub read_failed : (A : Type 0) (e : FileError) → IsAnswer {A = A} (Err (file_refusal e)) (Err (file_refusal e))
-read_failed A Failed = refl
-read_failed A file_error.Memory = λ other due. cc
+read_failed A e = grind arith
 
 -- ---- runs
 

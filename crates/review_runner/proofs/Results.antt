@@ -1,6 +1,5 @@
 -- What results are.
-use Rattle.std.proofs.Common.{◌≡◌, Result, Ok, Err, ap}
-use Rattle.std.specs.Prelude.{IsErrAnd}
+use Rattle.review_runner.proofs.Prelude.{◌≡◌, Result, Ok, Err, ap, IsErrAnd}
 
 -- what the exit of a `?` answers is the error
 pub is_err : {A E : Type 0} {r : Result A E} {e : E} → IsErrAnd r (λ q. q ≡ e) → r ≡ Err e

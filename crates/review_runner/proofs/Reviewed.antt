@@ -1,17 +1,7 @@
 -- The members of documents, and what is left of them.
-use Rattle.std.proofs.Common.{◌≡◌, ℕ, Bool, false, List, [], ◌∷◌, Option, String, Global, string_bytes, bytes_eq, cond, is_eq, Ordering, nat_cmp, refl, ap, ◌∙◌, arith}
-use Rattle.std.specs.Prelude.{codes, if◌then◌else◌}
-use Rattle.std.specs.Cmp.Lexicographic.{slice_cmp}
-use Rattle.std.specs.Map.{remove_entry}
-use Rattle.std.specs.BTreeMap.{is_at}
-use Rattle.std.specs.Ordering.{match_ordering}
-use Rattle.std.proofs.lemmas.Map.Text.{is_eq-slice_cmp}
-use Rattle.std.proofs.lemmas.Slice.Eq.{bytes_eq-Decides}
+use Rattle.review_runner.proofs.Prelude.{◌≡◌, ℕ, Bool, false, List, [], ◌∷◌, Option, String, string_bytes, bytes_eq, cond, is_eq, Ordering, nat_cmp, refl, ap, ◌∙◌, arith, codes, if◌then◌else◌, slice_cmp, remove_entry, is_at, match_ordering, is_eq-slice_cmp, bytes_eq-Decides, get_member, view, members_view, Value, member_or_null, parts_of, without}
+use Rattle.std.proofs.Common.{Global}
 use Rattle.serde_json.specs.Data as json
-use Rattle.serde_json.specs.Find.{get_member}
-use Rattle.serde_json.specs.View.{view, members_view}
-use Rattle.serde_json.specs.declared.value.Value.{Value}
-use Rattle.review_runner.specs.Reviews.{member_or_null, parts_of, without}
 
 -- ---- members
 
@@ -24,9 +14,7 @@ view_cond b e es rest ms is = grind arith
 -- the members without that of a key
 pub view-remove_entry : (key : List ℕ) (es : List Entry) → members_view (remove_entry (is_at (λ k. slice_cmp nat_cmp key (string_bytes k))) es) ≡ without key (members_view es)
 view-remove_entry key [] = refl
-view-remove_entry key (e ∷ es) =
-    view_cond (is_eq (slice_cmp nat_cmp key (string_bytes e.0))) e es _ _ (view-remove_entry key es)
-    ∙ ap (λ (b : Bool). if b then members_view es else json.member (string_bytes e.0) (view e.1) (without key (members_view es))) (is_eq-slice_cmp key (string_bytes e.0))
+view-remove_entry key (e ∷ es) = grind (arith, view_cond, is_eq, nat_cmp, string_bytes, is_eq-slice_cmp, view-remove_entry key es)
 
 either : (o : Ordering) (a b : Option json.Data) → is_eq o ≡ false → match_ordering o a b a ≡ a
 either o a b e = grind arith

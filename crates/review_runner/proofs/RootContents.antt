@@ -1,22 +1,7 @@
 -- The contents at the start of a review's roots.
-use Rattle.std.proofs.Common.{◌≡◌, ℕ, suc, Bool, true, false, List, [], ◌∷◌, ◌++◌, length, Option, Some, None, Result, Ok, Err, bytes_eq, refl, sym, ap, ◌∙◌, subst, arith}
-use Rattle.std.specs.Prelude.{codes, map, nat_le, option_and_then, option_map, unwrap_or, if◌then◌else◌, slice_get}
+use Rattle.review_runner.proofs.Prelude.{◌≡◌, ℕ, suc, Bool, true, false, List, [], ◌∷◌, ◌++◌, length, Option, Some, None, Result, Ok, Err, bytes_eq, refl, sym, ap, ◌∙◌, subst, arith, codes, map, nat_le, option_and_then, option_map, unwrap_or, if◌then◌else◌, slice_get, get, get_member, StartIsCanonical, Contents, charge_limit, first_values, contents_of, root_of, root_then, roots_of, sizes, start_contents, TableError, V3, Roots, AreDocuments, HasNumbers, MembersHaveNumbers, StartsAreTables, HasValues, started, values_of_roots, document_of, Parts, accepted, contents_from, contents_given, document_given, documents_from, documents_given, is_review, is_text, members_in, null_parts, parts_given, parts_in, parts_of, request_of, root_refusal, roots_from, text_or_empty, uid_in, uid_of, without, AreOfRoots, DocumentsHaveValues, GivenHaveValues, RunError}
 use Rattle.serde_json.specs.Data as json
-use Rattle.serde_json.specs.Find.{get, get_member}
-use Rattle.value_store.specs.Laws.{StartIsCanonical}
-use Rattle.value_store.specs.Placing.{Contents, charge_limit, first_values}
-use Rattle.value_store.specs.Roots.{contents_of, root_of, root_then, roots_of, sizes, start_contents}
 use Rattle.value_store.specs.Value.{Value, value}
-use Rattle.value_store.specs.declared.table_error.TableError.{TableError}
-use Rattle.value_store.specs.declared.table_error.TableError.TheVariants.{V3}
-use Rattle.cel_macros.specs.Environment.{Roots}
-use Rattle.bpf_machine.specs.Starts.{AreDocuments, HasNumbers, MembersHaveNumbers, StartsAreTables}
-use Rattle.codegen_base.specs.Contexts.{HasValues}
-use Rattle.review_runner.specs.Deciding.{started, values_of_roots}
-use Rattle.policy_glue.specs.Documents.{document_of}
-use Rattle.review_runner.specs.Reviews.{Parts, accepted, contents_from, contents_given, document_given, documents_from, documents_given, is_review, is_text, members_in, null_parts, parts_given, parts_in, parts_of, request_of, root_refusal, roots_from, text_or_empty, uid_in, uid_of, without}
-use Rattle.review_runner.specs.RootValues.{AreOfRoots, DocumentsHaveValues, GivenHaveValues}
-use Rattle.review_runner.specs.declared.refusals.run_error.RunError.{RunError}
 use Rattle.review_runner.proofs.DocumentNumbers.{document_fits, get_fits, member_fits}
 use Rattle.review_runner.proofs.Reviewed.{member_kept}
 
@@ -89,9 +74,7 @@ are_five review namespace params ds e = five_by (parts_given review) (document_g
 
 uid_kept : (ms : json.Members) → uid_of (parts_of ms).request ≡ text_or_empty (get_member (codes "uid") ms)
 unfolding parts_of
-uid_kept ms =
-    ap text_or_empty (member_kept (codes "oldObject") (codes "uid") (without (codes "object") ms) refl)
-    ∙ ap text_or_empty (member_kept (codes "object") (codes "uid") ms refl)
+uid_kept ms = grind (arith, member_kept)
 
 uid_parts : (o : Option json.Members) (p : Parts) → option_map parts_of o ≡ Some p → uid_of p.request ≡ text_or_empty (option_and_then (get_member (codes "uid")) o)
 uid_parts o p e = grind (arith, uid_kept)

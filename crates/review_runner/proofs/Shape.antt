@@ -1,12 +1,6 @@
 -- The program's commands are simple ones, of which clap says exactly what it takes.
-use Rattle.std.proofs.Common.{◌≡◌, true, refl}
-use Rattle.std.specs.Prelude.{⊤}
-use Rattle.clap.specs.Words.{is_simple, is_simple_and_free}
+use Rattle.review_runner.proofs.Prelude.{◌≡◌, true, refl, ⊤, is_simple, is_simple_and_free, bare_app, celbpf_app, deciding_app, debug_app, entered, faults, file_rule, list_app, making_app, option_rule, required_option_rule, review_app, run_image_app, running_app, steps_rule, with_documents, number_of, assemble_in, compile_in, debug_in, list_in, review_in, run_image_in}
 use Rattle.clap.proofs.OnLiterals.{clap_on_literals}
-use Rattle.review_runner.specs.Commands.{bare_app, celbpf_app, deciding_app, debug_app, entered, faults, file_rule, list_app, making_app}
-use Rattle.review_runner.specs.Commands.{option_rule, required_option_rule, review_app, run_image_app, running_app, steps_rule, with_documents}
-use Rattle.review_runner.specs.Number.{number_of}
-use Rattle.review_runner.specs.Order.{assemble_in, compile_in, debug_in, list_in, review_in, run_image_in}
 
 -- what a proof unfolds to compute what words that are written out ask for
 unfoldable pub words_on_literals : ⊤

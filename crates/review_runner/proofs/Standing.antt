@@ -1,15 +1,6 @@
 -- Which images stand as a review is answered.
-use Rattle.std.proofs.Common.{◌≡◌, ℕ, Result, Ok, Err, sym, subst}
+use Rattle.review_runner.proofs.Prelude.{◌≡◌, ℕ, Result, Ok, Err, sym, subst, Status, OneImage, Rules, policy_in, Verdict, Documents, Stands, StandsBy, this, RunError, N4, N5}
 use Rattle.loader.specs.Contents as loader
-use Rattle.bpf_machine.specs.declared.status.Status.{Status}
-use Rattle.policy_glue.specs.OneImage.{OneImage}
-use Rattle.policy_glue.specs.Policy.{Rules}
-use Rattle.policy_glue.specs.Reading.{policy_in}
-use Rattle.policy_glue.specs.Verdict.{Verdict}
-use Rattle.review_runner.specs.Deciding.{Documents}
-use Rattle.review_runner.specs.Standing.{Stands, StandsBy, this}
-use Rattle.review_runner.specs.declared.refusals.run_error.RunError.{RunError}
-use Rattle.review_runner.specs.declared.refusals.run_error.RunError.TheVariants.{N4, N5}
 use Rattle.review_runner.proofs.Results.{ok_same}
 
 one_stands : (d : Documents) (n : ℕ) (due : Verdict → Status) (p : Rules) (image : loader.Contents) → policy_in d.policy ≡ Ok p → OneImage p image → Stands (this image) d n due → Stands OneImage d n due

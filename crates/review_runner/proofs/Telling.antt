@@ -1,35 +1,9 @@
 -- What a session on the image of a policy tells of the policy's verdict.
-use Rattle.std.proofs.Common.{◌≡◌, ℕ, ◌≤◌, false, List, [], ◌∷◌, ◌++◌, length, Some, Result, Ok, refl, sym, ap, ◌∙◌, subst, arith, codes, inl, inr}
-use Rattle.std.proofs.lemmas.List.Sums.{fold_push}
+use Rattle.review_runner.proofs.Prelude.{◌≡◌, ℕ, ◌≤◌, false, List, [], ◌∷◌, ◌++◌, length, Some, Result, Ok, refl, sym, ap, ◌∙◌, subst, arith, codes, inl, inr, fold_push, version_number, image_in, LoadError, Contents, Roots, State, start_state, state_after, HasValues, IsProgram, Rules, Decides, Over, Left, policy_in, policy_of, PolicyTree, FailurePolicy, Line, World, answer_of, answer_to, command_of, form_of, Talk, granted, hear, talk_of, with_answer, verdict_lines, verdict_text, Documents, decision, started, start_of, started_on, opened_by, GivenHaveValues, Runs, held_with, IsDecided, TellsVerdict, VerdictIsTold, shown_after, start, world_after}
 use Rattle.loader.specs.Contents as loader
-use Rattle.loader.specs.Contents.{version_number}
-use Rattle.loader.specs.Format.{image_in}
-use Rattle.loader.specs.declared.load_error.LoadError.{LoadError}
-use Rattle.value_store.specs.Placing.{Contents}
-use Rattle.cel_macros.specs.Environment.{Roots}
-use Rattle.bpf_machine.specs.State.{State, start_state}
-use Rattle.bpf_machine.specs.Trace.{state_after}
-use Rattle.codegen_base.specs.Contexts.{HasValues}
-use Rattle.policy_glue.specs.Compiled.{IsProgram}
-use Rattle.policy_glue.specs.Policy.{Rules}
-use Rattle.policy_glue.specs.ProgramTrees.{Decides, Over, Left}
-use Rattle.policy_glue.specs.Reading.{policy_in, policy_of}
 use Rattle.policy_glue.specs.Documents as policy
-use Rattle.policy_glue.specs.Trees.{PolicyTree}
-use Rattle.policy_glue.specs.declared.failure_policy.FailurePolicy.{FailurePolicy}
-use Rattle.debugger.specs.Answers.{Line, World, answer_of, answer_to}
-use Rattle.debugger.specs.Commands.{command_of, form_of}
-use Rattle.debugger.specs.Session.{Talk, granted, hear, talk_of, with_answer}
-use Rattle.debugger.specs.Verdict.{verdict_lines, verdict_text}
 use Rattle.debugger.specs.declared.command.Command.TheVariants.{Verdict}
-use Rattle.review_runner.specs.Deciding.{Documents, decision, started}
-use Rattle.review_runner.specs.Debugging.{start_of, started_on}
 use Rattle.review_runner.specs.Debugging as debugging
-use Rattle.review_runner.specs.Opening.{opened_by}
-use Rattle.review_runner.specs.RootValues.{GivenHaveValues}
-use Rattle.review_runner.specs.Standing.{Runs}
-use Rattle.review_runner.specs.PolicyFiles.{held_with}
-use Rattle.review_runner.specs.Telling.{IsDecided, TellsVerdict, VerdictIsTold, shown_after, start, world_after}
 use Rattle.review_runner.proofs.Decided.{compiled_length, few_findings}
 use Rattle.review_runner.proofs.ImageKept.{image_of_start}
 use Rattle.review_runner.proofs.OneReview.{roots_once}

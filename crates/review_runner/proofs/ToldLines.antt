@@ -1,15 +1,6 @@
 -- The lines of words of the verdict region, by lists of words.
-use Rattle.std.proofs.Common.{◌≡◌, ℕ, zero, suc, ◌+◌, ◌*◌, ◌<◌, ◌≤◌, List, [], ◌∷◌, ◌++◌, length, refl, sym, ap, ◌∙◌, subst, append_assoc, append-nil, arith, codes, decimal}
-use Rattle.std.specs.Prelude.{map, slice_get, slice_index}
+use Rattle.review_runner.proofs.Prelude.{◌≡◌, ℕ, zero, suc, ◌+◌, ◌*◌, ◌<◌, ◌≤◌, List, [], ◌∷◌, ◌++◌, length, refl, sym, ap, ◌∙◌, subst, append_assoc, append-nil, arith, codes, decimal, map, slice_get, slice_index, word_in, part, word_of, ValueOrError, IsLayout, IsMessageWord, finding_word, message_in, outcome_word, truth_word, Finding, Verdict, FailurePolicy, verdict_line, verdict_lines, verdict_word, word_line, word_lines, AreReferences, numbered_lines, outcome_line, told_text}
 use Rattle.guest_memory.specs.Memory.{Memory}
-use Rattle.guest_memory.specs.RegionWords.{word_in}
-use Rattle.guest_memory.specs.Word.{part, word_of}
-use Rattle.value_store.specs.Value.{ValueOrError}
-use Rattle.policy_glue.specs.Layout.{IsLayout, IsMessageWord, finding_word, message_in, outcome_word, truth_word}
-use Rattle.policy_glue.specs.Verdict.{Finding, Verdict}
-use Rattle.policy_glue.specs.declared.failure_policy.FailurePolicy.{FailurePolicy}
-use Rattle.debugger.specs.Verdict.{verdict_line, verdict_lines, verdict_word, word_line, word_lines}
-use Rattle.review_runner.specs.Telling.{AreReferences, numbered_lines, outcome_line, told_text}
 
 -- ---- numbered words
 

@@ -10,6 +10,7 @@ use value_store::laws::values_are_as_said;
 
 /// Within the same steps a review has one answer at most, its response or its refusal, but for want of
 /// memory.
+#[tactic(auto, using(crate::proofs::OneReview::one_review))]
 pub fn reviews_once()
     ensures { HasOneAnswer }
 {

@@ -52,6 +52,7 @@ pub fn ended<E: Sink>(alloc: Global, ending: Result<u8, Refusal>, errors: &mut E
 }
 
 /// Writes the refusal's line. There is nowhere to tell of a write that fails.
+#[tactic(auto, using(crate::proofs::Programs::says))]
 pub fn say<E: Sink>(alloc: Global, refusal: Refusal, errors: &mut E)
     ensures { Says (stream (E.taken errors.old) (E.failed errors.old)) (stream (E.taken errors.new) (E.failed errors.new)) (Err refusal) }
 {

@@ -1,5 +1,7 @@
 //! Command lines and documents written out, with the orders and the values that the definitions give
 //! for them.
+#![tactic(auto, using(crate::proofs::Shape::words_on_literals), unfolding(crate::proofs::Shape::words_on_literals))]
+
 ghost use Rattle.review_runner.specs.RootRows.{RootRowsStand};
 ghost use Rattle.review_runner.specs.Rows.{all_documents, asm_words, compile_words, debug_all_words, debug_words, four_files, list_words, no_documents, review_all_words, review_words, two_files, without_review, without_steps, with_steps, IsRefused, IsTakenAs};
 ghost use Rattle.review_runner.specs.Order.{assemble, compile, debug, list, review, run_image};

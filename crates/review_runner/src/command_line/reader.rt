@@ -114,6 +114,7 @@ fn given_order<'a>(alloc: Global, words: &'a [&'a str]) -> Result<Order, OrderEr
 ///
 /// `U1` exactly where `clap` refuses the words, as it does at `--help`; `Memory` where memory runs
 /// out, which says nothing of the words.
+#[tactic(auto, using(crate::proofs::Limit::within_limits))]
 pub fn order<'a>(alloc: Global, words: &'a [&'a str]) -> Result<Order, OrderError>
     ensures answer { Ordered (map (λ s. s.now) words.entry.now) result }
     ensures limits { IfOk result (λ o. IsWithinLimits (order_view o)) }

@@ -21,6 +21,7 @@ pub fn assembled_file(alloc: Global, held: &[u8]) -> Result<Vec<u8>, Refusal>
 }
 
 /// The bytes of the file of an image with this code and no constants.
+#[tactic(auto, using(crate::proofs::Results::is_err))]
 fn file_of(alloc: Global, code: Vec<u8>) -> Result<Vec<u8>, Refusal>
     ensures { FileBy code.items result }
 {

@@ -23,6 +23,7 @@ pub fn list_file<F: Files>(alloc: Global, image: &str, files: &mut F) -> Result<
 }
 
 /// Lists the image's code, which is whole and not too long.
+#[tactic(auto, using(crate::proofs::Readings::listing_was))]
 fn list_image(alloc: Global, image: &Image) -> Result<Answer, AllocError>
     ensures { IfOk result (λ a. Listed (Ok image.now) (Ok (report_of a))) }
 {

@@ -1,6 +1,4 @@
-use Rattle.std.proofs.Common.{◌∙◌, [], Some, ap, append-nil, sym}
-use Rattle.std.proofs.lemmas.Result.{on_err_weaker, on_ok_weaker}
-use Rattle.gatekeeper_runner.specs.Lines.{no_memory, passed_over}
+use Rattle.gatekeeper_runner.proofs.Prelude.{◌∙◌, [], Some, ap, append-nil, sym, on_err_weaker, on_ok_weaker, no_memory, passed_over}
 use Rattle.gatekeeper_runner.proofs.OneLine.{written_part}
 use Rattle.gatekeeper_runner.proofs.answering.answer_line.Goals as goal
 

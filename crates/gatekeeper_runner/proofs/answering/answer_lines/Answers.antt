@@ -1,7 +1,4 @@
-use Rattle.std.proofs.Common.{arith, ◌≡◌, ◌∙◌, ℕ, take, ap, refl}
-use Rattle.std.proofs.lemmas.Result.{on_err_weaker, on_ok_weaker}
-use Rattle.debugger.specs.Streams.{one_more}
-use Rattle.debugger.proofs.Cut.{cut-none, readable-is, take-end}
+use Rattle.gatekeeper_runner.proofs.Prelude.{arith, ◌≡◌, ◌∙◌, ℕ, take, ap, refl, on_err_weaker, on_ok_weaker, one_more, cut-none, readable-is, take-end}
 use Rattle.gatekeeper_runner.proofs.Going.{begun, end_read, fails_rest, going_byte, going_line, going_start, longer, told_part, told_rest, told_some}
 use Rattle.gatekeeper_runner.proofs.answering.answer_lines.Goals as goal
 

@@ -1,9 +1,4 @@
-use Rattle.std.proofs.Common.{◌≡◌, ℕ, List, Some, take}
-use Rattle.debugger.specs.Session.{cut}
-use Rattle.policy_glue.specs.OneImage.{OneImage}
-use Rattle.gatekeeper_runner.specs.Lines.{Keeps}
-use Rattle.gatekeeper_runner.specs.Together.{AreGates, terms_of}
-use Rattle.gatekeeper_runner.specs.Told.{Going}
+use Rattle.gatekeeper_runner.proofs.Prelude.{◌≡◌, ℕ, List, Some, take, cut, OneImage, Keeps, AreGates, terms_of, Going}
 use Rattle.gatekeeper_runner.proofs.answering.answer_lines.Given as goal
 
 abbrev pub invariant-loop-i : goal.invariant-loop-i

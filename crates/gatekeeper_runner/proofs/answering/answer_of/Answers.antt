@@ -1,6 +1,4 @@
-use Rattle.std.proofs.Common.{◌∙◌, ap, sym}
-use Rattle.std.proofs.lemmas.Result.{IfOk-weaker}
-use Rattle.gatekeeper_runner.specs.Lines.{line_of}
+use Rattle.gatekeeper_runner.proofs.Prelude.{◌∙◌, ap, sym, IfOk-weaker, line_of}
 use Rattle.gatekeeper_runner.proofs.OneLine.{was_long}
 use Rattle.gatekeeper_runner.proofs.answering.answer_of.Goals as goal
 

@@ -1,7 +1,4 @@
-use Rattle.std.proofs.Common.{◌∙◌, ap}
-use Rattle.std.specs.Prelude.{option_map}
-use Rattle.policy_glue.specs.Objections.{objection_view, response_text}
-use Rattle.std.proofs.lemmas.Result.{IfOk-weaker}
+use Rattle.gatekeeper_runner.proofs.Prelude.{◌∙◌, ap, option_map, objection_view, response_text, IfOk-weaker}
 use Rattle.gatekeeper_runner.proofs.OneLine.{all_said, one_refused, refuses}
 use Rattle.gatekeeper_runner.proofs.answering.decision.Goals as goal
 

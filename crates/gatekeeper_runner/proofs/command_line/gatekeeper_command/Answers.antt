@@ -1,8 +1,4 @@
-use Rattle.std.proofs.Common.{◌≡◌, ◌∙◌, ap, codes}
-use Rattle.std.proofs.lemmas.Result.{IfOk-weaker}
-use Rattle.clap.specs.Words.{app_of, new_app, with_rule}
-use Rattle.review_runner.specs.Commands.{with_documents}
-use Rattle.gatekeeper_runner.specs.Orders.{gatekeeper_app, policies_rule}
+use Rattle.gatekeeper_runner.proofs.Prelude.{◌≡◌, ◌∙◌, ap, codes, IfOk-weaker, app_of, new_app, with_rule, with_documents, gatekeeper_app, policies_rule}
 use Rattle.gatekeeper_runner.proofs.command_line.gatekeeper_command.Goals as goal
 
 pub returns : goal.returns

@@ -1,7 +1,4 @@
-use Rattle.std.proofs.Common.{ap, ◌∙◌, map, List, subst}
-use Rattle.std.proofs.lemmas.Result.{IfOk-weaker}
-use Rattle.clap.specs.Words.{App, Text, FailsBy, fault_of, is_simple, is_simple_and_free, matches_of}
-use Rattle.gatekeeper_runner.specs.Orders.{entered, faults}
+use Rattle.gatekeeper_runner.proofs.Prelude.{ap, ◌∙◌, map, List, subst, IfOk-weaker, App, Text, FailsBy, fault_of, is_simple, is_simple_and_free, matches_of, entered, faults}
 use Rattle.gatekeeper_runner.proofs.Shape.{simple, free}
 use Rattle.gatekeeper_runner.proofs.command_line.parse.Goals as goal
 

@@ -1,7 +1,4 @@
-use Rattle.std.proofs.Common.{◌∙◌, ap, map, string_bytes, unwrap_or, List, [], Option}
-use Rattle.std.proofs.lemmas.Result.{IfOk-weaker}
-use Rattle.clap.specs.Words.{Text, found_of}
-use Rattle.clap.proofs.WalkLemmas.{raw_values-rows}
+use Rattle.gatekeeper_runner.proofs.Prelude.{◌∙◌, ap, map, string_bytes, unwrap_or, List, [], Option, IfOk-weaker, Text, found_of, raw_values-rows}
 use Rattle.gatekeeper_runner.proofs.ordering.names_in.Goals as goal
 
 pub returns-in-Some : goal.returns-in-Some

@@ -1,4 +1,4 @@
-use Rattle.std.proofs.Common.{◌≡◌, map, string_bytes, take}
+use Rattle.gatekeeper_runner.proofs.Prelude.{◌≡◌, map, string_bytes, take}
 use Rattle.gatekeeper_runner.proofs.ordering.names_of.Given as goal
 
 abbrev pub invariant-loop-text : goal.invariant-loop-text

@@ -1,7 +1,5 @@
-use Rattle.std.proofs.Common.{Ok, Err, refl}
-use Rattle.gatekeeper_runner.specs.Program.{answers, no_words, not_started, nothing}
+use Rattle.gatekeeper_runner.proofs.Prelude.{Ok, Err, refl, answers, no_words, not_started, nothing, is_err}
 use Rattle.gatekeeper_runner.proofs.Programs.{asks, words_refused}
-use Rattle.review_runner.proofs.Results.{is_err}
 use Rattle.gatekeeper_runner.proofs.program.ending.Goals as goal
 
 pub returns-in_err-words : goal.returns-in_err-words

@@ -1,6 +1,5 @@
-use Rattle.gatekeeper_runner.specs.Starting.{unread}
+use Rattle.gatekeeper_runner.proofs.Prelude.{unread, is_err}
 use Rattle.gatekeeper_runner.proofs.Opened.{unopened_by}
-use Rattle.review_runner.proofs.Results.{is_err}
 use Rattle.gatekeeper_runner.proofs.starting.open.Goals as goal
 
 pub returns-in_err-document-clause-gate : goal.returns-in_err-document-clause-gate

@@ -1,8 +1,7 @@
-use Rattle.std.proofs.Common.{◌∙◌, [], refl}
+use Rattle.gatekeeper_runner.proofs.Prelude.{◌∙◌, [], refl, is_err}
 use Rattle.review_runner.specs.declared.refusals.refusal.Refusal.TheVariants.{Memory}
 use Rattle.gatekeeper_runner.specs.Starting.{no_memory, none}
 use Rattle.gatekeeper_runner.proofs.Opened.{opened_more, unopened}
-use Rattle.review_runner.proofs.Results.{is_err}
 use Rattle.gatekeeper_runner.proofs.starting.open_each.Goals as goal
 
 pub loop-name-init : goal.loop-name-init

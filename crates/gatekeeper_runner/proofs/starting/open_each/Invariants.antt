@@ -1,5 +1,4 @@
-use Rattle.std.proofs.Common.{◌≡◌, Ok, map, string_bytes, take}
-use Rattle.gatekeeper_runner.specs.Starting.{GatesFrom}
+use Rattle.gatekeeper_runner.proofs.Prelude.{◌≡◌, Ok, map, string_bytes, take, GatesFrom}
 use Rattle.gatekeeper_runner.proofs.starting.open_each.Given as goal
 
 abbrev pub invariant-loop-name : goal.invariant-loop-name

@@ -1,5 +1,4 @@
-use Rattle.gatekeeper_runner.specs.Starting.{no_namespace, no_params, no_policy, ready}
-use Rattle.review_runner.proofs.Results.{is_err}
+use Rattle.gatekeeper_runner.proofs.Prelude.{no_namespace, no_params, no_policy, ready, is_err}
 use Rattle.gatekeeper_runner.proofs.starting.start.Goals as goal
 
 pub returns-in_err-gates-clause-keeps : goal.returns-in_err-gates-clause-keeps

@@ -1,4 +1,4 @@
-use Rattle.std.proofs.Common.{Ok, Err}
+use Rattle.review_runner.proofs.Prelude.{Ok, Err}
 use Rattle.review_runner.proofs.Readings.{ran, read_failed}
 use Rattle.review_runner.proofs.Results.{is_err}
 use Rattle.review_runner.proofs.performing.run_file.Goals as goal

@@ -1,5 +1,5 @@
-use Rattle.std.proofs.Common.{Ok, Err, refl}
-use Rattle.review_runner.specs.Program.{cut, refused, whole}
+use Rattle.review_runner.proofs.Prelude.{Ok, Err, refl, cut, whole}
+use Rattle.review_runner.specs.Program.{refused}
 use Rattle.review_runner.proofs.Results.{is_err}
 use Rattle.review_runner.proofs.program.answer.Goals as goal
 

@@ -1,5 +1,4 @@
-use Rattle.std.proofs.Common.{Ok, Err, refl}
-use Rattle.review_runner.specs.Program.{order, session}
+use Rattle.review_runner.proofs.Prelude.{Ok, Err, refl, order, session}
 use Rattle.review_runner.proofs.Results.{is_err}
 use Rattle.review_runner.proofs.program.done.Goals as goal
 

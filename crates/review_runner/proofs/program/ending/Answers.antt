@@ -1,5 +1,5 @@
-use Rattle.std.proofs.Common.{refl}
-use Rattle.review_runner.specs.Program.{no_words, nothing, task}
+use Rattle.review_runner.proofs.Prelude.{refl, no_words, task}
+use Rattle.review_runner.specs.Program.{nothing}
 use Rattle.review_runner.proofs.Programs.{words_refused}
 use Rattle.review_runner.proofs.Results.{is_err}
 use Rattle.review_runner.proofs.program.ending.Goals as goal

@@ -1,4 +1,4 @@
-use Rattle.std.proofs.Common.{◌≡◌, map, string_bytes, take}
+use Rattle.review_runner.proofs.Prelude.{◌≡◌, map, string_bytes, take}
 use Rattle.review_runner.proofs.program.texts_of.Given as goal
 
 abbrev pub invariant-loop-word : goal.invariant-loop-word

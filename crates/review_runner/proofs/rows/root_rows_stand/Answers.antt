@@ -1,9 +1,7 @@
-use Rattle.std.proofs.Common.{refl}
+use Rattle.review_runner.proofs.Prelude.{refl, document_of, contents_given, documents_given, parts_of}
 use Rattle.std.specs.Char.{encode_utf8}
 use Rattle.std.specs.Str.{chars, is_utf8}
 use Rattle.serde_json.proofs.OnLiterals.{serde_json_on_literals}
-use Rattle.policy_glue.specs.Documents.{document_of}
-use Rattle.review_runner.specs.Reviews.{contents_given, documents_given, parts_of}
 use Rattle.review_runner.proofs.rows.root_rows_stand.Goals as goal
 
 pub returns : goal.returns

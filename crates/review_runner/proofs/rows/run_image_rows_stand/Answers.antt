@@ -1,4 +1,4 @@
-use Rattle.std.proofs.Common.{refl}
+use Rattle.review_runner.proofs.Prelude.{refl}
 use Rattle.review_runner.proofs.Shape.{words_on_literals}
 use Rattle.review_runner.proofs.rows.run_image_rows_stand.Goals as goal
 

@@ -1,6 +1,5 @@
-use Rattle.gatekeeper_runner.specs.Together.{none, terms_of}
+use Rattle.gatekeeper_runner.proofs.Prelude.{none, terms_of, is_err}
 use Rattle.gatekeeper_runner.proofs.Saying.{all_said, refused_at, said_more}
-use Rattle.review_runner.proofs.Results.{is_err}
 use Rattle.gatekeeper_runner.proofs.keeper.Keeper.say.Goals as goal
 
 pub loop-gate-init : goal.loop-gate-init

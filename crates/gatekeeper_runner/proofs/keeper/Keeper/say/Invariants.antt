@@ -1,7 +1,4 @@
-use Rattle.std.proofs.Common.{ℕ, List, take}
-use Rattle.policy_glue.specs.OneImage.{OneImage}
-use Rattle.review_runner.specs.Saying.{said_value}
-use Rattle.gatekeeper_runner.specs.Together.{AllSay, AreGates, terms_of}
+use Rattle.gatekeeper_runner.proofs.Prelude.{ℕ, List, take, OneImage, said_value, AllSay, AreGates, terms_of}
 use Rattle.gatekeeper_runner.proofs.keeper.Keeper.say.Given as goal
 
 abbrev pub invariant-loop-gate : goal.invariant-loop-gate

@@ -1,4 +1,4 @@
-use Rattle.review_runner.proofs.Standing.{of_one}
+use Rattle.gatekeeper_runner.proofs.Prelude.{of_one}
 use Rattle.gatekeeper_runner.proofs.keeper.Keeper.say_by.Goals as goal
 
 pub returns : goal.returns

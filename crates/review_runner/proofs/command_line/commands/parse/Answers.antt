@@ -1,9 +1,5 @@
-use Rattle.std.proofs.Common.{ap, ◌∙◌, map, List, subst}
-use Rattle.std.proofs.lemmas.Result.{IfOk-weaker}
-use Rattle.clap.specs.Words.{App, Text, FailsBy, fault_of, is_simple, is_simple_and_free}
-use Rattle.clap.specs.Words.{subcommand_of}
-use Rattle.clap.proofs.CallerLemmas.{subcommand_required}
-use Rattle.review_runner.specs.Commands.{celbpf_app, bare_app, deciding_app, running_app, faults, entered}
+use Rattle.review_runner.proofs.Prelude.{ap, ◌∙◌, map, List, subst, IfOk-weaker, FailsBy, fault_of, is_simple, is_simple_and_free, subcommand_of, subcommand_required, celbpf_app, bare_app, deciding_app, running_app, faults, entered}
+use Rattle.clap.specs.Words.{App, Text}
 use Rattle.review_runner.proofs.Shape.{simple, free}
 use Rattle.review_runner.proofs.command_line.commands.parse.Goals as goal
 

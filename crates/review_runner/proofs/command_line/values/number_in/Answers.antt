@@ -1,8 +1,4 @@
-use Rattle.std.proofs.Common.{◌∙◌, ap}
-use Rattle.std.specs.Str.Parse.{ParsesUnsigned, ExplainsUnsignedError, HasUnsignedDigitsIfOk}
-use Rattle.clap.specs.Words.{found_of, one_text}
-use Rattle.clap.proofs.WalkLemmas.{one_text-rows}
-use Rattle.review_runner.specs.Number.{number_of}
+use Rattle.review_runner.proofs.Prelude.{◌∙◌, ap, ParsesUnsigned, ExplainsUnsignedError, HasUnsignedDigitsIfOk, found_of, one_text, one_text-rows, number_of}
 use Rattle.review_runner.proofs.Number.{of_a_value}
 use Rattle.review_runner.proofs.command_line.values.number_in.Goals as goal
 

@@ -1,6 +1,4 @@
-use Rattle.std.proofs.Common.{◌∙◌}
-use Rattle.clap.specs.Words.{found_of}
-use Rattle.clap.proofs.WalkLemmas.{first_value-rows}
+use Rattle.review_runner.proofs.Prelude.{◌∙◌, found_of, first_value-rows}
 use Rattle.review_runner.proofs.command_line.values.text_in.Goals as goal
 
 pub returns : goal.returns

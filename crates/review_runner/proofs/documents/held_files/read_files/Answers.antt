@@ -1,4 +1,4 @@
-use Rattle.std.proofs.Common.{Ok, Err}
+use Rattle.review_runner.proofs.Prelude.{Ok, Err}
 use Rattle.review_runner.proofs.HeldFiles.{holds, unread}
 use Rattle.review_runner.proofs.Results.{is_err}
 use Rattle.review_runner.proofs.documents.held_files.read_files.Goals as goal

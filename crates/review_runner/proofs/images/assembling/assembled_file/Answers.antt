@@ -1,5 +1,4 @@
-use Rattle.std.proofs.Common.{inl}
-use Rattle.review_runner.specs.Making.{no_text}
+use Rattle.review_runner.proofs.Prelude.{inl, no_text}
 use Rattle.review_runner.proofs.Assembled.{of_cause, of_code}
 use Rattle.review_runner.proofs.Results.{is_err}
 use Rattle.review_runner.proofs.images.assembling.assembled_file.Goals as goal

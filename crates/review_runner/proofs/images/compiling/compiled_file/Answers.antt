@@ -1,5 +1,4 @@
-use Rattle.std.proofs.Common.{inr, refl}
-use Rattle.review_runner.specs.PolicyFiles.{image}
+use Rattle.review_runner.proofs.Prelude.{inr, refl, image}
 use Rattle.review_runner.proofs.PolicyFiles.{refused_so}
 use Rattle.review_runner.proofs.Results.{is_err}
 use Rattle.review_runner.proofs.images.compiling.compiled_file.Goals as goal

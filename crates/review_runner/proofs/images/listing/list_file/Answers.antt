@@ -1,4 +1,4 @@
-use Rattle.review_runner.specs.Performing.{lacks_memory}
+use Rattle.review_runner.proofs.Prelude.{lacks_memory}
 use Rattle.review_runner.proofs.Readings.{not_listed, opened_unrefused, was_listed}
 use Rattle.review_runner.proofs.Results.{is_err}
 use Rattle.review_runner.proofs.images.listing.list_file.Goals as goal

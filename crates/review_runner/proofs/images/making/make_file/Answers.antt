@@ -1,5 +1,4 @@
-use Rattle.std.proofs.Common.{ap, ◌∙◌}
-use Rattle.review_runner.specs.Output.{succeeded}
+use Rattle.review_runner.proofs.Prelude.{ap, ◌∙◌, succeeded}
 use Rattle.review_runner.proofs.MadeFiles.{not_made, not_written, was_written}
 use Rattle.review_runner.proofs.Results.{is_err}
 use Rattle.review_runner.proofs.images.making.make_file.Goals as goal

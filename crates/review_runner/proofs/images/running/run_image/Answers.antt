@@ -1,5 +1,4 @@
-use Rattle.std.proofs.Common.{refl}
-use Rattle.review_runner.specs.Running.{run_of_file}
+use Rattle.review_runner.proofs.Prelude.{refl, run_of_file}
 use Rattle.review_runner.proofs.Results.{is_err}
 use Rattle.review_runner.proofs.images.running.run_image.Goals as goal
 

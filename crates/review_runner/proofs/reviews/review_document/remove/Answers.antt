@@ -1,6 +1,4 @@
-use Rattle.std.proofs.Common.{option_map, ap, ◌∙◌}
-use Rattle.serde_json.specs.View.{members_view, view}
-use Rattle.serde_json.proofs.Views.{view-lookup}
+use Rattle.review_runner.proofs.Prelude.{option_map, ap, ◌∙◌, members_view, view, view-lookup}
 use Rattle.review_runner.proofs.Reviewed.{view-remove_entry}
 use Rattle.review_runner.proofs.reviews.review_document.remove.Goals as goal
 

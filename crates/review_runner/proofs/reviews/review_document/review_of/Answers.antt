@@ -1,7 +1,5 @@
-use Rattle.std.proofs.Common.{ap}
+use Rattle.review_runner.proofs.Prelude.{ap, view-Object, ◌∙◌}
 use Rattle.serde_json.specs.Data as json
-use Rattle.serde_json.proofs.Views.{view-Object}
-use Rattle.std.proofs.Common.{◌∙◌}
 use Rattle.review_runner.proofs.Reviewed.{parts_taken}
 use Rattle.review_runner.proofs.reviews.review_document.review_of.Goals as goal
 

@@ -1,6 +1,4 @@
-use Rattle.std.proofs.Common.{Err}
-use Rattle.review_runner.specs.Performing.{performs}
-use Rattle.review_runner.specs.PolicyFiles.{unread}
+use Rattle.review_runner.proofs.Prelude.{Err, performs, unread}
 use Rattle.review_runner.proofs.PolicyFiles.{has_review, was_held}
 use Rattle.review_runner.proofs.Results.{is_err}
 use Rattle.review_runner.proofs.reviews.review_files.review_files.Goals as goal

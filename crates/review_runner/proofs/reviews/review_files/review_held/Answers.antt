@@ -1,6 +1,4 @@
-use Rattle.std.proofs.Common.{◌∙◌, Some, Ok, Err, ap, sym, option_map}
-use Rattle.review_runner.specs.Debugging.{held_view}
-use Rattle.review_runner.specs.PolicyFiles.{reviewed}
+use Rattle.review_runner.proofs.Prelude.{◌∙◌, Some, Ok, Err, ap, sym, option_map, held_view, reviewed}
 use Rattle.review_runner.specs.declared.refusals.run_error.RunError.TheVariants.{Memory}
 use Rattle.review_runner.proofs.PolicyFiles.{same_documents, was_reviewed}
 use Rattle.review_runner.proofs.Results.{is_err}

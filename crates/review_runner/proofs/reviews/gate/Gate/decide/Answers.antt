@@ -1,4 +1,4 @@
-use Rattle.std.proofs.Common.{Err}
+use Rattle.review_runner.proofs.Prelude.{Err}
 use Rattle.review_runner.proofs.Decided.{answered, reviewed}
 use Rattle.review_runner.proofs.Results.{is_err}
 use Rattle.review_runner.proofs.reviews.gate.Gate.decide.Goals as goal

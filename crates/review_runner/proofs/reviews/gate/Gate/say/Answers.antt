@@ -1,7 +1,4 @@
-use Rattle.std.proofs.Common.{◌∙◌, get_or, ℕ, List}
-use Rattle.serde_json.specs.View.{view}
-use Rattle.review_runner.specs.Deciding.{IsPolicyOf}
-use Rattle.review_runner.specs.Lent.{documents_lent}
+use Rattle.review_runner.proofs.Prelude.{◌∙◌, get_or, ℕ, List, view, IsPolicyOf, documents_lent}
 use Rattle.review_runner.proofs.Decided.{Laws, at_four, not_given, not_started, was_run}
 use Rattle.review_runner.proofs.Results.{is_err}
 use Rattle.review_runner.proofs.reviews.gate.Gate.say.Goals as goal
