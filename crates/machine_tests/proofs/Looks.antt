@@ -1,12 +1,6 @@
 -- What is seen at a reference tells which calls may be made there.
-use Rattle.std.proofs.Common.{◌≡◌, ◌<◌, ℕ, zero, suc, List, [], ◌∷◌, length, Option, Some, None, slice_get, option_map, refl, sym, ap, ◌∙◌, arith}
-use Rattle.std.specs.Prelude.{ℤ, Bool, IsSome}
+use Rattle.machine_tests.proofs.Prelude.{◌≡◌, ◌<◌, ℕ, zero, suc, List, [], ◌∷◌, length, Option, Some, None, slice_get, option_map, refl, sym, ap, ◌∙◌, arith, ℤ, Bool, IsSome, Value, Items, Entries, ValueOrError, error, value, list_of, keys_of, pushed, part_at, key_at, joined, put_in, text_at, find_at, equal_at, less_at, member_at, place_of_key, inserted, seen, sees_bool, sees_int, sees_text, sees_list, sees_map, absent_fits}
 use Rattle.value_store.specs.Value as kind
-use Rattle.value_store.specs.Value.{Value, Items, Entries, ValueOrError, error, value, list_of, keys_of}
-use Rattle.value_store.specs.Calls.{pushed, part_at, key_at, joined, put_in, text_at, find_at, equal_at, less_at, member_at}
-use Rattle.value_store.specs.Lookup.{place_of_key, inserted}
-use Rattle.value_store.specs.Seen.{seen, sees_bool, sees_int, sees_text, sees_list, sees_map}
-use Rattle.value_store.proofs.Places.{absent_fits}
 
 -- ---- what stands where a kind is seen
 
