@@ -12,24 +12,24 @@ pub enum Operation {
     Mul,
     /// The unsigned quotient; 0 for the divisor 0.
     Div,
+    /// The unsigned remainder; the destination for the divisor 0.
+    Mod,
     /// The signed quotient, which truncates; 0 for the divisor 0.
     Sdiv,
-    /// The bits of either.
-    Or,
+    /// The signed remainder, which has the destination's sign; the destination for the divisor 0.
+    Smod,
     /// The bits of both.
     And,
+    /// The bits of either.
+    Or,
+    /// The bits of one alone.
+    Xor,
     /// A shift to the left, by the operand modulo the width.
     Lsh,
     /// A shift to the right that brings in zeros, by the operand modulo the width.
     Rsh,
-    /// The unsigned remainder; the destination for the divisor 0.
-    Mod,
-    /// The signed remainder, which has the destination's sign; the destination for the divisor 0.
-    Smod,
-    /// The bits of one alone.
-    Xor,
-    /// The operand.
-    Mov,
     /// A shift to the right that brings in the sign, by the operand modulo the width.
     Arsh,
+    /// The operand.
+    Mov,
 }

@@ -40,15 +40,15 @@ fn ending<F: Files, R: Source, W: Sink>(
     alloc: Global,
     words: Result<Vec<String>, OrderError>,
     files: &mut F,
-    input: &mut R,
-    output: &mut W,
+    requests: &mut R,
+    answers: &mut W,
 ) -> Result<u8, Refusal>
-    ensures { Does OneImage (given_of words) (system (F.known files.old) (stream (R.left input.old) (R.failed input.old)) (stream (W.taken output.old) (W.failed output.old))) (system (F.known files.new) (stream (R.left input.new) (R.failed input.new)) (stream (W.taken output.new) (W.failed output.new))) result }
+    ensures { Does OneImage (given_of words) (system (F.known files.old) (stream (R.left requests.old) (R.failed requests.old)) (stream (W.taken answers.old) (W.failed answers.old))) (system (F.known files.new) (stream (R.left requests.new) (R.failed requests.new)) (stream (W.taken answers.new) (W.failed answers.new))) result }
 {
     let words = words?;
     let order = asked_order(alloc, &words)?;
     let keeper = start(alloc, &order, files)?;
-    answer_lines(&keeper, input, output)?;
+    answer_lines(&keeper, requests, answers)?;
     Ok(0)
 }
 

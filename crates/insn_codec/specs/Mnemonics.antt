@@ -1,23 +1,18 @@
 -- The word that a line begins with, as RFC 9669 names instructions, with the width or the size (sections 4 and 5).
 use Rattle.std.specs.Prelude.{ℕ, List, ◌++◌, codes}
-use Rattle.insn_codec.specs.declared.alu_op.AluOp.{AluOp}
-use Rattle.insn_codec.specs.declared.alu_op.AluOp.TheVariants.{Add, Sub, Mul, Div, Sdiv, Or, And, Lsh, Rsh, Mod, Smod, Xor, Mov, Arsh}
+use Rattle.insn_codec.specs.declared.width.Width.{Width, TheVariants.W32, TheVariants.W64}
+use Rattle.insn_codec.specs.declared.alu_op.AluOp.{AluOp, TheVariants.Add, TheVariants.Sub, TheVariants.Mul, TheVariants.Div, TheVariants.Sdiv, TheVariants.Or, TheVariants.And, TheVariants.Lsh, TheVariants.Rsh, TheVariants.Mod, TheVariants.Smod, TheVariants.Xor, TheVariants.Mov, TheVariants.Arsh}
 use Rattle.insn_codec.specs.declared.atomic_op.AtomicOp.{AtomicOp}
 use Rattle.insn_codec.specs.declared.atomic_op.AtomicOp.TheVariants as atomic
-use Rattle.insn_codec.specs.declared.byte_order.ByteOrder.{ByteOrder}
-use Rattle.insn_codec.specs.declared.byte_order.ByteOrder.TheVariants.{Little, Big, Swap}
-use Rattle.insn_codec.specs.declared.comparison.Comparison.{Comparison}
-use Rattle.insn_codec.specs.declared.comparison.Comparison.TheVariants.{Eq, Gt, Ge, Set, Ne, Sgt, Sge, Lt, Le, Slt, Sle}
-use Rattle.insn_codec.specs.declared.extension.Extension.{Extension}
-use Rattle.insn_codec.specs.declared.extension.Extension.TheVariants.{From8To32, From16To32, From8To64, From16To64, From32To64}
-use Rattle.insn_codec.specs.declared.signed_size.SignedSize.{SignedSize}
-use Rattle.insn_codec.specs.declared.signed_size.SignedSize.TheVariants as signed
+use Rattle.insn_codec.specs.declared.comparison.Comparison.{Comparison, TheVariants.Eq, TheVariants.Gt, TheVariants.Ge, TheVariants.Set, TheVariants.Ne, TheVariants.Sgt, TheVariants.Sge, TheVariants.Lt, TheVariants.Le, TheVariants.Slt, TheVariants.Sle}
 use Rattle.insn_codec.specs.declared.size.Size.{Size}
 use Rattle.insn_codec.specs.declared.size.Size.TheVariants as size
+use Rattle.insn_codec.specs.declared.signed_size.SignedSize.{SignedSize}
+use Rattle.insn_codec.specs.declared.signed_size.SignedSize.TheVariants as signed
+use Rattle.insn_codec.specs.declared.extension.Extension.{Extension, TheVariants.From8To32, TheVariants.From16To32, TheVariants.From8To64, TheVariants.From16To64, TheVariants.From32To64}
+use Rattle.insn_codec.specs.declared.byte_order.ByteOrder.{ByteOrder, TheVariants.Little, TheVariants.Big, TheVariants.Swap}
 use Rattle.insn_codec.specs.declared.swap_width.SwapWidth.{SwapWidth}
 use Rattle.insn_codec.specs.declared.swap_width.SwapWidth.TheVariants as swap
-use Rattle.insn_codec.specs.declared.width.Width.{Width}
-use Rattle.insn_codec.specs.declared.width.Width.TheVariants.{W32, W64}
 use Rattle.insn_codec.specs.declared.mnemonic.Mnemonic.{Mnemonic}
 use Rattle.insn_codec.specs.declared.mnemonic.Mnemonic.TheVariants as mnemonic
 
