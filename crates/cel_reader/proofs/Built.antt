@@ -35,7 +35,8 @@ Built c room ws (One a) rest = BuiltOne c room ws a rest
 Built c room ws (Many items) rest = BuiltMany c room ws items rest
 Built c room ws (Keyed pairs) rest = BuiltKeyed c room ws pairs rest
 
-ended_infix : (l : Level) (room : ℕ) (ws rest : List Word) (a : Tree) → BuiltOne (Infix l) room ws a rest → Lacks (operator l) rest × Stops (below l) rest → Reads (Row (Infix l)) room ws (Got (One a) rest)
+ended_infix : (l : Level) (room : ℕ) (ws rest : List Word) (a : Tree) → BuiltOne (Infix l) room ws a rest
+    → Lacks (operator l) rest × Stops (below l) rest → Reads (Row (Infix l)) room ws (Got (One a) rest)
 ended_infix l room ws rest a f n = f (Got (One a) rest) n.1 (goes (missing n.0 stands))
 
 ended_below : (l : Level) (room : ℕ) (ws rest : List Word) (a : Tree) → BuiltOne (below l) room ws a rest → Stops (below l) rest → Reads (Row (below l)) room ws (Got (One a) rest)

@@ -1,6 +1,6 @@
 -- Where the reader refuses, some words go on from there to the end of its step; where a bracket or conditional is too
 -- many, with one more than there is room for, and with no more from the word before.
-use Rattle.cel_reader.proofs.Prelude.{◌≡◌, ℕ, suc, ◌≤◌, List, [], ◌∷◌, ◌++◌, pos, Bool, true, false, ◌⊎◌, inl, inr, refl, codes, arith, Word, name, int, mark, Mark, Colon, CloseBrace, Tree, trees, is_selector, is_identifier, is_reserved, role_of, Look, opens, opens_mark, closing_mark, Found, Is, this_mark, this_name, this_literal, Class, Expression, Infix, Unary, Prefixed, Member, Primary, Items, OptionalItems, Pairs, OptionalPairs, below, Cause, Misfit, Deep, Refused, Kind, whole, Of, Step, Row, Tail, Suffix, Selection, Enclosed, Listed, Item, Behind, Mapped, Entry, BehindEntry, Plan, done, misfit, go, call, look, enter, inside, operand, maybe_call, listed, behind, plan, Runs, Reads, Level, Or, Sum, Product, Closing, Map, UnaryOperator}
+use Rattle.cel_reader.proofs.Prelude.{◌≡◌, ℕ, suc, ◌≤◌, List, [], ◌∷◌, ◌++◌, pos, Bool, true, false, ◌⊎◌, inl, inr, refl, codes, arith, Word, int, mark, Mark, Colon, CloseBrace, Tree, trees, is_selector, is_identifier, is_reserved, role_of, Look, opens, opens_mark, closing_mark, Found, Is, this_mark, this_name, this_literal, Class, Expression, Infix, Unary, Prefixed, Member, Primary, Items, OptionalItems, Pairs, OptionalPairs, below, Cause, Misfit, Deep, Refused, Kind, whole, Of, Step, Row, Tail, Suffix, Selection, Enclosed, Listed, Item, Behind, Mapped, Entry, BehindEntry, Plan, done, misfit, go, call, look, enter, inside, operand, maybe_call, listed, behind, plan, Runs, Reads, Level, Or, Sum, Product, Closing, Map, UnaryOperator}
 use Rattle.cel_reader.specs.Tree as tree
 use Rattle.cel_reader.specs.Reading as runs
 use Rattle.cel_reader.specs.declared.operator.UnaryOperator.TheVariants as unary

@@ -1,6 +1,5 @@
 -- Where the reader's runs go wrong.
-use Rattle.cel_reader.proofs.Prelude.{◌≡◌, ℕ, suc, ◌+◌, ◌-◌, ◌<◌, List, [], ◌∷◌, ◌++◌, pos, map, length, take, Err, Result, true, false, refl, sym, ◌∙◌, ap, subst, arith, append_assoc, length-append, drop-map, take-append_seam, take-append-add, Word, seen, int, Token, ReadError, P4, Tree, words, opens, Expression, One, Derives, Misfit, Deep, Got, Refused, Row, go, Reads, place_left, refused_at, place_at, Viable, MisfitAt, DeepAt, StandsAt, ToldAt, Refusal, Expr}
-use Rattle.cel_tokens.specs.Lexis as tokens
+use Rattle.cel_reader.proofs.Prelude.{◌≡◌, ℕ, suc, ◌+◌, ◌-◌, ◌<◌, List, [], ◌∷◌, ◌++◌, pos, map, length, take, Err, true, false, refl, sym, ◌∙◌, ap, subst, arith, append_assoc, length-append, drop-map, take-append_seam, take-append-add, Word, seen, int, Token, P4, Tree, words, opens, Expression, One, Derives, Misfit, Deep, Got, Refused, Row, go, Reads, place_left, refused_at, place_at, Viable, MisfitAt, DeepAt, StandsAt, ToldAt, Refusal}
 use Rattle.cel_reader.specs.declared.refusal.Refusal.TheVariants as refusal
 use Rattle.cel_reader.proofs.Steps.{Fails, words_length}
 use Rattle.cel_reader.proofs.Alike.{Alike, same, down}
@@ -57,7 +56,8 @@ opening room ws rest h = grind arith
 counted : (front rest ws : List Word) → ws ≡ front ++ rest → length ws - length rest ≡ length front
 counted front rest ws e = omega (arith, parts front rest ws e)
 
-misfit_next : (front rest ws : List Word) → ws ≡ front ++ rest → Reads (Row Expression) 100 ws (Refused (Misfit rest)) → length front < length ws → (room : ℕ) → Viable room (take (suc (length front)) ws) → ⊥
+misfit_next : (front rest ws : List Word) → ws ≡ front ++ rest → Reads (Row Expression) 100 ws (Refused (Misfit rest)) → length front < length ws
+    → (room : ℕ) → Viable room (take (suc (length front)) ws) → ⊥
 misfit_next front [] ws e r h room v = absurd (omega (arith, h, parts front [] ws e))
 misfit_next front (w ∷ us) ws e r h room v =
     let d = subst (λ (x : List Word). Derives Expression room (x ++ v.0) (One v.1) []) (front_next (length front) w front us ws e refl) v.2 in
@@ -70,7 +70,8 @@ misfit_at ws rest r =
     let m : MisfitAt (length t.0) ws = (omega (arith, parts t.0 rest ws t.1), viable_as 100 (take (length t.0) ws) t.0 (front_is (length t.0) t.0 rest ws t.1 refl) t.2, misfit_next t.0 rest ws t.1 r) in
     subst (λ (n : ℕ). MisfitAt n ws) (sym (counted t.0 rest ws t.1)) m
 
-rest_next : (front us ws : List Word) (w : Word) (a : Tree) → ws ≡ front ++ w ∷ us → Reads (Row Expression) 100 ws (Got (One a) (w ∷ us)) → length front < length ws → (room : ℕ) → Viable room (take (suc (length front)) ws) → ⊥
+rest_next : (front us ws : List Word) (w : Word) (a : Tree) → ws ≡ front ++ w ∷ us → Reads (Row Expression) 100 ws (Got (One a) (w ∷ us))
+    → length front < length ws → (room : ℕ) → Viable room (take (suc (length front)) ws) → ⊥
 rest_next front us ws w a e r h room v =
     let d = subst (λ (x : List Word). Derives Expression room (x ++ v.0) (One v.1) []) (front_next (length front) w front us ws e refl) v.2 in
     let t = local r (w ∷ v.0) refl in
@@ -104,7 +105,8 @@ deep_at ws rest r =
     let h = front_next (length ws - suc (length rest)) x.0 u.0 rest ws u.1 n in
     (x.0, h ∙ ap (λ (y : List Word). y ++ x.0 ∷ []) (sym g), x.1, viable_as 100 (take (length ws - suc (length rest)) ws) u.0 g u.2, λ v. deep_next t.0 ws rest t.1 r (viable_as 100 t.0 (take (suc (length ws - suc (length rest))) ws) (sym f) v), viable_as 101 (take (suc (length ws - suc (length rest))) ws) t.0 f t.2)
 
-stands : (source : List ℕ) (tokens : List Token) (left : ℕ) (P : ℕ → List Word → Type 0) → P (length tokens - left) (words source tokens) → StandsAt (length source) (map (seen source) tokens) (place_left (length source) tokens left) P
+stands : (source : List ℕ) (tokens : List Token) (left : ℕ) (P : ℕ → List Word → Type 0) → P (length tokens - left) (words source tokens)
+    → StandsAt (length source) (map (seen source) tokens) (place_left (length source) tokens left) P
 stands source tokens left P p = (length tokens - left, (grind arith) ∙ ap (place_at (length source)) (sym (drop-map (seen source) (length tokens - left) tokens)), p)
 
 same_count : (source : List ℕ) (tokens : List Token) (left n : ℕ) → left ≡ n → length (words source tokens) - n ≡ length tokens - left
@@ -114,7 +116,8 @@ moved : (P : ℕ → List Word → Type 0) (source : List ℕ) (tokens : List To
 moved P source tokens left n e p = stands source tokens left P (subst (λ (k : ℕ). P k (words source tokens)) (same_count source tokens left n e) p)
 
 -- the reading is refused
-pub placed_fails : (source : List ℕ) (tokens : List Token) (e : Refusal) → Fails e (Reads (Row Expression) 100 (words source tokens)) → ToldAt (length source) (map (seen source) tokens) (Err (refused_at (length source) tokens e))
+pub placed_fails : (source : List ℕ) (tokens : List Token) (e : Refusal) → Fails e (Reads (Row Expression) 100 (words source tokens))
+    → ToldAt (length source) (map (seen source) tokens) (Err (refused_at (length source) tokens e))
 placed_fails source tokens (refusal.Misfit left) g = moved MisfitAt source tokens left (length g.0) g.1 (misfit_at (words source tokens) g.0 g.2)
 placed_fails source tokens (refusal.Deep left) g = moved DeepAt source tokens left (suc (length g.0)) g.1 (deep_at (words source tokens) g.0 g.2)
 placed_fails source tokens refusal.Memory g = tt
@@ -126,8 +129,6 @@ placed_rest source tokens rest us w a r e =
     moved MisfitAt source tokens (length rest) (suc (length us)) n (rest_at (words source tokens) us w a (subst (λ (x : List Word). Reads (Row Expression) 100 (words source tokens) (Got (One a) x)) e r))
 
 -- there are no words
-pub placed_none : (source : List ℕ) (tokens : List Token) → words source tokens ≡ [] → ToldAt (length source) (map (seen source) tokens) (Err (P4 (place_left (length source) tokens (length tokens))))
+pub placed_none : (source : List ℕ) (tokens : List Token) → words source tokens ≡ []
+    → ToldAt (length source) (map (seen source) tokens) (Err (P4 (place_left (length source) tokens (length tokens))))
 placed_none source tokens e = moved MisfitAt source tokens (length tokens) (length (words source tokens)) (words_length source tokens) (none_at (words source tokens) e)
-
-pub placed_same : (source bytes : List ℕ) (tokens items : List Token) (r : Result Expr ReadError) → bytes ≡ source → items ≡ tokens → ToldAt (length bytes) (map (seen bytes) items) r → ToldAt (length source) (map (seen source) tokens) r
-placed_same source bytes tokens items r e f t = subst (λ (xs : List ℕ). ToldAt (length xs) (map (seen xs) tokens) r) e (subst (λ (ts : List Token). ToldAt (length bytes) (map (seen bytes) ts) r) f t)

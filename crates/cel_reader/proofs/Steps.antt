@@ -44,7 +44,8 @@ module _ (source : List ℕ) (tokens : List Token) (P : List Word → Type 0) wh
   deep_left p = (words source tokens, ap suc (words_length source tokens), p)
 
 -- these words or those, of as many tokens
-pub either : (b : Bool) (source : List ℕ) (xs ys : List Token) (P : List Word → Type 0) → P (if b then words source xs else words source ys) → (rest : List Word) × (length (if b then xs else ys) ≡ length rest) × P rest
+pub either : (b : Bool) (source : List ℕ) (xs ys : List Token) (P : List Word → Type 0) → P (if b then words source xs else words source ys)
+    → (rest : List Word) × (length (if b then xs else ys) ≡ length rest) × P rest
 either true source xs ys P p = (words source xs, words_length source xs, p)
 either false source xs ys P p = (words source ys, words_length source ys, p)
 

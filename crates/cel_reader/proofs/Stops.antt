@@ -49,8 +49,10 @@ operator_member w ws op e = (operator_not Dot w op e refl, operator_not OpenBrac
 
 -- an operator of the level ends its left operand
 pub ends_operand : (l : Level) (w : Word) (ws : List Word) (op : BinaryOperator) → operator_of w ≡ Some op → level_of op ≡ l → Stops (below l) (w ∷ ws)
-ends_operand Or w ws op e f = (other_level Or And w ws op e f (λ q. cc), (other_level Or Relation w ws op e f (λ q. cc), (other_level Or Sum w ws op e f (λ q. cc), (other_level Or Product w ws op e f (λ q. cc), operator_member w ws op e))))
-ends_operand And w ws op e f = (other_level And Relation w ws op e f (λ q. cc), (other_level And Sum w ws op e f (λ q. cc), (other_level And Product w ws op e f (λ q. cc), operator_member w ws op e)))
+ends_operand Or w ws op e f =
+    (other_level Or And w ws op e f (λ q. cc), (other_level Or Relation w ws op e f (λ q. cc), (other_level Or Sum w ws op e f (λ q. cc), (other_level Or Product w ws op e f (λ q. cc), operator_member w ws op e))))
+ends_operand And w ws op e f =
+    (other_level And Relation w ws op e f (λ q. cc), (other_level And Sum w ws op e f (λ q. cc), (other_level And Product w ws op e f (λ q. cc), operator_member w ws op e)))
 ends_operand Relation w ws op e f = (other_level Relation Sum w ws op e f (λ q. cc), (other_level Relation Product w ws op e f (λ q. cc), operator_member w ws op e))
 ends_operand Sum w ws op e f = (other_level Sum Product w ws op e f (λ q. cc), operator_member w ws op e)
 ends_operand Product w ws op e f = operator_member w ws op e

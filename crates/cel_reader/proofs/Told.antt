@@ -1,5 +1,5 @@
 -- What the reader's runs tell of whole texts.
-use Rattle.cel_reader.proofs.Prelude.{◌≡◌, ◌≢◌, ℕ, List, [], ◌∷◌, map, Ok, Err, Result, refl, sym, ap, subst, MatchResult, Word, Lexeme, seen, Lexes, Token, ReadError, P1, P2, P3, P4, P5, P6, Memory, one_end, some_taken, Tree, view, spoken, words, Expression, One, Derives, Got, Row, Reads, IsExpression, IsNoExpression, Answers, Told, Expr, refused_at, Refusal}
+use Rattle.cel_reader.proofs.Prelude.{◌≡◌, ◌≢◌, ℕ, List, [], ◌∷◌, map, Ok, Err, Result, refl, sym, ap, subst, MatchResult, Word, Lexeme, seen, Lexes, Token, ReadError, P1, P2, P3, P4, P5, P6, Memory, one_end, some_taken, Tree, view, spoken, words, Expression, One, Derives, Got, Row, Reads, IsExpression, IsNoExpression, Answers, Told, Expr, refused_at, Refusal, Placed, ToldAt, length}
 use Rattle.cel_tokens.specs.Lexis as tokens
 use Rattle.cel_reader.proofs.FirstWords.{first}
 use Rattle.cel_reader.specs.declared.refusal.Refusal.TheVariants as refusal
@@ -32,6 +32,14 @@ told_text source tokens (Err (P5 place)) l t = (map (seen source) tokens, l, t)
 told_text source tokens (Err Memory) l t = some_taken source (map (seen source) tokens) l (λ e. t (ap (map (λ (x : Lexeme). x.word)) e))
 told_text source tokens _ l t = absurd t
 
+pub placed_text : (source : List ℕ) (tokens : List Token) (r : Result Expr ReadError) → Lexes source (Ok (map (seen source) tokens))
+    → ToldAt (length source) (map (seen source) tokens) r → Placed source r
+placed_text source tokens (Ok e) l t = tt
+placed_text source tokens (Err (P4 place)) l t = (map (seen source) tokens, l, t)
+placed_text source tokens (Err (P5 place)) l t = (map (seen source) tokens, l, t)
+placed_text source tokens (Err Memory) l t = tt
+placed_text source tokens _ l t = absurd t
+
 pub one_list : (source : List ℕ) (xs ys : List Lexeme) → Lexes source (Ok xs) → Lexes source (Ok ys) → xs ≡ ys
 one_list source xs ys x y = let same = one_end source (Ok xs) (Ok ys) x y in cc
 
@@ -42,7 +50,8 @@ moved : (xs ys : List Lexeme) (a : Tree) → xs ≡ ys → IsExpression 100 (spo
 moved xs ys a e d = subst (λ (zs : List Lexeme). IsExpression 100 (spoken zs) a) e d
 
 -- where the tokens are an expression, the answer is it, or that there was no memory
-pub only_of : (source : List ℕ) (r : Result Expr ReadError) → Answers source r → (lexemes : List Lexeme) (a : Tree) → Lexes source (Ok lexemes) → IsExpression 100 (spoken lexemes) a → MatchResult r (λ e. view e ≡ a) (λ e. e ≡ Memory)
+pub only_of : (source : List ℕ) (r : Result Expr ReadError) → Answers source r → (lexemes : List Lexeme) (a : Tree) → Lexes source (Ok lexemes)
+    → IsExpression 100 (spoken lexemes) a → MatchResult r (λ e. view e ≡ a) (λ e. e ≡ Memory)
 only_of source (Ok e) t xs a x d = whole_unique 100 100 (spoken xs) (view e) a (moved t.0 xs (view e) (one_list source t.0 xs t.1 x) t.2) d
 only_of source (Err (P1 place)) t xs a x d = not_refused source xs (P1 place) x t
 only_of source (Err (P2 place)) t xs a x d = not_refused source xs (P2 place) x t
@@ -57,6 +66,12 @@ pub tokens_fail : (source : List ℕ) (e : ReadError) → tokens.Answers source 
 tokens_fail source (P4 place) t = absurd t
 tokens_fail source (P5 place) t = absurd t
 tokens_fail source _ t = t
+
+pub tokens_placed : (source : List ℕ) (e : ReadError) → tokens.Answers source (Err e) → Placed source (Err e)
+tokens_placed source (P4 place) t = absurd t
+tokens_placed source (P5 place) t = absurd t
+tokens_placed source Memory t = tt
+tokens_placed source _ t = t
 
 pub told_at : (source bytes : List ℕ) (tokens items : List Token) (r : Result Expr ReadError) → bytes ≡ source → items ≡ tokens → Told (words bytes items) r → Told (words source tokens) r
 told_at source bytes tokens items r e f t = subst (λ (xs : List ℕ). Told (words xs tokens) r) e (subst (λ (ts : List Token). Told (words bytes ts) r) f t)

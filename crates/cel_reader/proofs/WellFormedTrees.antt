@@ -98,6 +98,7 @@ words_plain source (t ∷ ts) f =
     (token_plain (take (t.end - t.place) (drop t.place source)) t.kind fits, words_plain source ts (All-tail (λ (l : Lexeme). IntFits l.word) (seen source t) (map (seen source) ts) f))
 
 -- the tree of a text
-pub told_formed : (source : List ℕ) (tokens : List Token) (r : Result Expr ReadError) → Lexes source (Ok (map (seen source) tokens)) → Told (words source tokens) r → IfOk r (λ e. IsWellFormed (view e))
+pub told_formed : (source : List ℕ) (tokens : List Token) (r : Result Expr ReadError) → Lexes source (Ok (map (seen source) tokens))
+    → Told (words source tokens) r → IfOk r (λ e. IsWellFormed (view e))
 told_formed source tokens (Ok e) l t = (formed t (words_plain source tokens (lexemes_fit source (map (seen source) tokens) l))).0
 told_formed source tokens (Err e) l t = tt

@@ -75,13 +75,17 @@ StandsAt len lexemes place Holds = (count : ℕ) × (place ≡ place_at len (dro
 abbrev pub ToldAt : ℕ → List Lexeme → Result Expr ReadError → Type 0
 ToldAt len lexemes (Err (P4 place)) = StandsAt len lexemes place MisfitAt
 ToldAt len lexemes (Err (P5 place)) = StandsAt len lexemes place DeepAt
-ToldAt len lexemes _ = Unit {0}
+ToldAt len lexemes (Ok e) = Unit {0}
+ToldAt len lexemes (Err Memory) = Unit {0}
+ToldAt len lexemes _ = ⊥
 
--- where a text that has tokens goes wrong; of the other refusals `Answers` says the place
+-- where a text goes wrong; of a refusal that its tokens have, they say the place
 abbrev pub Placed : List ℕ → Result Expr ReadError → Type 0
 Placed source (Err (P4 place)) = (lexemes : List Lexeme) × Lexes source (Ok lexemes) × ToldAt (length source) lexemes (Err (P4 place))
 Placed source (Err (P5 place)) = (lexemes : List Lexeme) × Lexes source (Ok lexemes) × ToldAt (length source) lexemes (Err (P5 place))
-Placed source _ = Unit {0}
+Placed source (Err Memory) = Unit {0}
+Placed source (Err e) = Lexes source (Err e)
+Placed source (Ok e) = Unit {0}
 
 -- what is answered where there is memory: it says of the text what is so, and where
 pub record IsAnswer (source : List ℕ) (r : Result Expr ReadError) : Type 0 where

@@ -6,8 +6,7 @@ use Rattle.cel_tokens.specs.declared.mark.Mark.TheVariants.{OpenBrace, CloseBrac
 use Rattle.cel_reader.specs.Tree as tree
 use Rattle.cel_reader.specs.Tree.{Tree, Literal, trees, entries}
 use Rattle.cel_reader.specs.Words.{is_identifier, is_selector, literal_of, operator_of, level_of, unary_mark}
-use Rattle.cel_reader.specs.declared.level.Level.{Level}
-use Rattle.cel_reader.specs.declared.level.Level.TheVariants.{Or, And, Relation, Sum, Product}
+use Rattle.cel_reader.specs.declared.level.Level.{Level, TheVariants.Or, TheVariants.And, TheVariants.Relation, TheVariants.Sum, TheVariants.Product}
 use Rattle.cel_reader.specs.declared.operator.BinaryOperator.{BinaryOperator}
 use Rattle.cel_reader.specs.declared.operator.UnaryOperator.{UnaryOperator}
 

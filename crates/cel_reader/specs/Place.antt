@@ -3,8 +3,7 @@ use Rattle.std.specs.Prelude.{ℕ, ◌-◌, List, [], ◌∷◌, length, drop}
 use Rattle.cel_tokens.specs.declared.token.Token.{Token}
 use Rattle.cel_tokens.specs.declared.read_error.ReadError.{ReadError}
 use Rattle.cel_tokens.specs.declared.read_error.ReadError.TheVariants as errors
-use Rattle.cel_reader.specs.declared.refusal.Refusal.{Refusal}
-use Rattle.cel_reader.specs.declared.refusal.Refusal.TheVariants.{Misfit, Deep, Memory}
+use Rattle.cel_reader.specs.declared.refusal.Refusal.{Refusal, TheVariants.Misfit, TheVariants.Deep, TheVariants.Memory}
 
 -- the place of the first token, or of the end of a text of so many bytes
 abbrev pub place_of : ℕ → List Token → ℕ

@@ -2,16 +2,14 @@
 use Rattle.std.specs.Prelude.{◌≡◌, ℕ, zero, suc, List, [], ◌∷◌, ◌++◌, length, Bool, true, false, Result, Ok, Err}
 use Rattle.std.proofs.Common.{refl}
 use Rattle.cel_tokens.specs.Token.{Word, mark}
-use Rattle.cel_tokens.specs.declared.mark.Mark.{Mark}
+use Rattle.cel_tokens.specs.declared.mark.Mark.{Mark, TheVariants.CloseBracket, TheVariants.OpenBrace}
 use Rattle.cel_tokens.specs.declared.mark.Mark.TheVariants.{Question, Colon, Dot, Comma, Not, Minus, OpenParen, CloseParen, OpenBracket}
-use Rattle.cel_tokens.specs.declared.mark.Mark.TheVariants.{CloseBracket, OpenBrace}
 use Rattle.cel_reader.specs.Tree as tree
 use Rattle.cel_reader.specs.Tree.{Tree, trees, entries}
 use Rattle.cel_reader.specs.Words.{is_identifier, is_selector, unary_mark}
 use Rattle.cel_reader.specs.Grammar.{Class, Expression, Infix, Unary, Prefixed, Member, Primary, Phrase, One, Many, Keyed, below}
 use Rattle.cel_reader.specs.Look.{Look, at, in_literal, named, constant, operator, Found, Is, Lacks, opens_mark, closing_mark}
-use Rattle.cel_reader.specs.declared.level.Level.{Level}
-use Rattle.cel_reader.specs.declared.level.Level.TheVariants.{Or}
+use Rattle.cel_reader.specs.declared.level.Level.{Level, TheVariants.Or}
 use Rattle.cel_reader.specs.declared.closing.Closing.{Closing}
 use Rattle.cel_reader.specs.declared.closing.Closing.TheVariants.{Call, List as ListLiteral, Map}
 use Rattle.cel_reader.specs.declared.operator.UnaryOperator.{UnaryOperator}
@@ -105,8 +103,10 @@ plan (Suffix a) =
     (enter OpenBracket refl (call (Enclosed CloseBracket) (λ b. go (Suffix (tree.index a b)))) (done a))
 plan (Selection a) = look (named is_selector) (λ n. maybe_call (tree.select a n) (λ items. tree.method a n (trees items))) misfit
 plan (Row Primary) =
-    enter OpenParen refl (go (Enclosed CloseParen)) (enter OpenBracket refl (call (Listed ListLiteral) (λ items. done (tree.list (trees items))))
-    (enter OpenBrace refl (call Mapped (λ pairs. done (tree.map (entries pairs)))) (look constant (λ v. done (tree.literal v))
+    enter OpenParen refl (go (Enclosed CloseParen))
+    (enter OpenBracket refl (call (Listed ListLiteral) (λ items. done (tree.list (trees items))))
+    (enter OpenBrace refl (call Mapped (λ pairs. done (tree.map (entries pairs))))
+    (look constant (λ v. done (tree.literal v))
     (look (named is_identifier) (λ n. maybe_call (tree.name n) (λ items. tree.call n (trees items))) misfit))))
 plan (Row _) = never
 plan (Enclosed m) = inside (call (Row Expression) (λ a. look (at m) (λ x. done a) misfit))
@@ -114,27 +114,30 @@ plan (Listed c) = listed c [] (Item c [])
 plan (Item c items) = call (Row Expression) (λ a. go (Behind c (items ++ a ∷ [])))
 plan (Behind c items) = behind c items (Item c items)
 plan Mapped = listed Map [] (Entry [])
-plan (Entry pairs) = call (Row Expression) (λ a. look (at Colon) (λ x. call (Row Expression) (λ b. go (BehindEntry (pairs ++ (a, b) ∷ [])))) misfit)
+plan (Entry pairs) =
+    call (Row Expression) (λ a. look (at Colon) (λ x. call (Row Expression) (λ b. go (BehindEntry (pairs ++ (a, b) ∷ [])))) misfit)
 plan (BehindEntry pairs) = behind Map pairs (Entry pairs)
 
 -- with this room, before these words, the plan ends with this outcome
 pub data Comes : (b : Bool) (k : Kind) → Plan b k → ℕ → List Word → Outcome → Type 0 where
   stands : {k : Kind} {x : Of k} {room : ℕ} {ws : List Word} → Comes false k (done x) room ws (Got (phrase k x) ws)
   unfit : {k : Kind} {room : ℕ} {ws : List Word} → Comes false k misfit room ws (Refused (Misfit ws))
-  goes : {b : Bool} {k : Kind} {s : Step b k} {room : ℕ} {ws : List Word} {o : Outcome} → Comes b k (plan s) room ws o → Comes b k (go s) room ws o
+  goes : {b : Bool} {k : Kind} {s : Step b k} {room : ℕ} {ws : List Word} {o : Outcome}
+      → Comes b k (plan s) room ws o → Comes b k (go s) room ws o
   fails : {b : Bool} {j k : Kind} {s : Step b j} {f : Of j → Plan false k} {room : ℕ} {ws : List Word} {e : Cause}
       → Comes b j (go s) room ws (Refused e) → Comes b k (call s f) room ws (Refused e)
   calls : {b : Bool} {j k : Kind} {s : Step b j} {f : Of j → Plan false k} {room : ℕ} {ws rest : List Word} {o : Outcome} (x : Of j)
       → Comes b j (go s) room ws (Got (phrase j x) rest) → Comes false k (f x) room rest o → Comes b k (call s f) room ws o
-  found : {k : Kind} {l : Look} {f : Found l → Plan false k} {p : Plan false k} {room : ℕ} {w : Word} {ws : List Word} {x : Found l} {o : Outcome}
-      → Is l w x → Comes false k (f x) room ws o → Comes false k (look l f p) room (w ∷ ws) o
+  found : {k : Kind} {l : Look} {f : Found l → Plan false k} {p : Plan false k} {room : ℕ} {w : Word} {ws : List Word} {x : Found l}
+      {o : Outcome} → Is l w x → Comes false k (f x) room ws o → Comes false k (look l f p) room (w ∷ ws) o
   missing : {k : Kind} {l : Look} {f : Found l → Plan false k} {p : Plan false k} {room : ℕ} {ws : List Word} {o : Outcome}
       → Lacks l ws → Comes false k p room ws o → Comes false k (look l f p) room ws o
   enters : {k : Kind} {m : Mark} {e : opens_mark m ≡ true} {p : Plan true k} {q : Plan false k} {room : ℕ} {ws : List Word} {o : Outcome}
       → Comes true k p room ws o → Comes false k (enter m e p q) room (mark m ∷ ws) o
   passes : {k : Kind} {m : Mark} {e : opens_mark m ≡ true} {p : Plan true k} {q : Plan false k} {room : ℕ} {ws : List Word} {o : Outcome}
       → Lacks (at m) ws → Comes false k q room ws o → Comes false k (enter m e p q) room ws o
-  opened : {k : Kind} {p : Plan false k} {room : ℕ} {ws : List Word} {o : Outcome} → Comes false k p room ws o → Comes true k (inside p) (suc room) ws o
+  opened : {k : Kind} {p : Plan false k} {room : ℕ} {ws : List Word} {o : Outcome}
+      → Comes false k p room ws o → Comes true k (inside p) (suc room) ws o
   full : {k : Kind} {p : Plan false k} {ws : List Word} → Comes true k (inside p) zero ws (Refused (Deep ws))
 
 -- with this room, before these words, what the plan says comes to this outcome

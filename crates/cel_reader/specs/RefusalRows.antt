@@ -1,7 +1,6 @@
 -- Texts that are no expression, and how each is refused, worked by hand.
 use Rattle.std.specs.Prelude.{ℕ, zero, suc, List, [], ◌∷◌, ◌++◌, Err, codes}
-use Rattle.cel_tokens.specs.declared.read_error.ReadError.{ReadError}
-use Rattle.cel_tokens.specs.declared.read_error.ReadError.TheVariants.{P1, P2, P3, P4, P5}
+use Rattle.cel_tokens.specs.declared.read_error.ReadError.{ReadError, TheVariants.P1, TheVariants.P2, TheVariants.P3, TheVariants.P4, TheVariants.P5}
 use Rattle.cel_reader.specs.Answers.{IsAnswer}
 
 -- the text so many times

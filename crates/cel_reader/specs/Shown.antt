@@ -1,7 +1,6 @@
 -- What the code's words stand for.
 use Rattle.cel_tokens.specs.Token as word
-use Rattle.cel_reader.specs.declared.word.Word.{Word}
-use Rattle.cel_reader.specs.declared.word.Word.TheVariants.{Name, Int, Text, Mark}
+use Rattle.cel_reader.specs.declared.word.Word.{Word, TheVariants.Name, TheVariants.Int, TheVariants.Text, TheVariants.Mark}
 
 -- the word that the code's one stands for
 abbrev pub shown : Word → word.Word

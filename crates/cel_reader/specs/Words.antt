@@ -11,8 +11,7 @@ use Rattle.cel_reader.specs.declared.level.Level.TheVariants as level
 use Rattle.cel_reader.specs.declared.operator.BinaryOperator.{BinaryOperator}
 use Rattle.cel_reader.specs.declared.operator.BinaryOperator.TheVariants.{Or, And, Less, LessEqual, GreaterEqual, Greater, Equal, NotEqual}
 use Rattle.cel_reader.specs.declared.operator.BinaryOperator.TheVariants.{In, Add, Subtract, Multiply, Divide, Remainder}
-use Rattle.cel_reader.specs.declared.operator.UnaryOperator.{UnaryOperator}
-use Rattle.cel_reader.specs.declared.operator.UnaryOperator.TheVariants.{Not, Negate}
+use Rattle.cel_reader.specs.declared.operator.UnaryOperator.{UnaryOperator, TheVariants.Not, TheVariants.Negate}
 use Rattle.cel_reader.specs.declared.role.Role.{Role}
 use Rattle.cel_reader.specs.declared.role.Role.TheVariants as role
 

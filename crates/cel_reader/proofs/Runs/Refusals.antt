@@ -21,7 +21,8 @@ few_by so_far false e = None
 few : (so_far : List Lexeme) → Option (length so_far < 4096)
 few so_far = few_by so_far (nat_lt (length so_far) 4096) refl
 
-cut_by : ((signed : Bool) (so_far : List Lexeme) (place : ℕ) (rest : List ℕ) → Cut signed so_far place rest) → (signed : Bool) (so_far : List Lexeme) (place : ℕ) (rest : List ℕ) (f : Front) → front.front signed rest ≡ f → Cut signed so_far place rest
+cut_by : ((signed : Bool) (so_far : List Lexeme) (place : ℕ) (rest : List ℕ) → Cut signed so_far place rest)
+    → (signed : Bool) (so_far : List Lexeme) (place : ℕ) (rest : List ℕ) (f : Front) → front.front signed rest ≡ f → Cut signed so_far place rest
 cut_by go signed so_far place rest front.over e = cut (Ok so_far) (tokens.over e)
 cut_by go signed so_far place rest (front.space n) e = elim (go signed so_far (place + n) (drop n rest)) [ cut r c ↦ cut r (tokens.space n e c) | uncut ↦ uncut ]
 cut_by go signed so_far place rest (front.word n w) e = elim (few so_far) [
@@ -48,7 +49,8 @@ refusal_of len lexemes (Refused (Deep rest)) = Some (P5 (place_at len (drop (len
 refusal_of len lexemes (Got (One a) (w ∷ us)) = Some (P4 (place_at len (drop (length (spoken lexemes) - suc (length us)) lexemes)))
 refusal_of len lexemes o = None
 
-misread : (source : List ℕ) (lexemes : List Lexeme) (o : Outcome) (e : ReadError) → Lexes source (Ok lexemes) → Reads (Row Expression) 100 (spoken lexemes) o → refusal_of (length source) lexemes o ≡ Some e → IsAnswer source (Err e)
+misread : (source : List ℕ) (lexemes : List Lexeme) (o : Outcome) (e : ReadError) → Lexes source (Ok lexemes)
+    → Reads (Row Expression) 100 (spoken lexemes) o → refusal_of (length source) lexemes o ≡ Some e → IsAnswer source (Err e)
 unfolding refusal_of
 misread source lexemes (Refused (Misfit rest)) e l r is = same_refusal source _ e is (record {
   some = λ no. cc;
@@ -73,7 +75,8 @@ refusal_from : ℕ → (lexemes : List Lexeme) → Run false whole (reading.go (
 refusal_from len lexemes (ran o r) = refusal_of len lexemes o
 refusal_from len lexemes none = None
 
-from_run : (source : List ℕ) (lexemes : List Lexeme) (x : Run false whole (reading.go (Row Expression)) 100 (spoken lexemes)) (e : ReadError) → Lexes source (Ok lexemes) → refusal_from (length source) lexemes x ≡ Some e → IsAnswer source (Err e)
+from_run : (source : List ℕ) (lexemes : List Lexeme) (x : Run false whole (reading.go (Row Expression)) 100 (spoken lexemes)) (e : ReadError)
+    → Lexes source (Ok lexemes) → refusal_from (length source) lexemes x ≡ Some e → IsAnswer source (Err e)
 unfolding refusal_from
 from_run source lexemes (ran o r) e l is = misread source lexemes o e l r is
 from_run source lexemes none e l is = cc
@@ -89,9 +92,9 @@ refusal source x = None
 from_cut : (source : List ℕ) (x : Cut true [] 0 source) (e : ReadError) → length source ≤ 65536 → refusal source x ≡ Some e → IsAnswer source (Err e)
 unfolding refusal
 from_cut source (cut (Ok lexemes) c) e h is = from_run source lexemes (run 10000 (reading.go (Row Expression)) 100 (spoken lexemes)) e (tokens.read h c) is
-from_cut source (cut (Err (P1 place)) c) e h is = same_refusal source (P1 place) e is (record { some = λ no. cc; answers = tokens.read h c; placed = tt })
-from_cut source (cut (Err (P2 place)) c) e h is = same_refusal source (P2 place) e is (record { some = λ no. cc; answers = tokens.read h c; placed = tt })
-from_cut source (cut (Err (P3 place)) c) e h is = same_refusal source (P3 place) e is (record { some = λ no. cc; answers = tokens.read h c; placed = tt })
+from_cut source (cut (Err (P1 place)) c) e h is = same_refusal source (P1 place) e is (record { some = λ no. cc; answers = tokens.read h c; placed = tokens.read h c })
+from_cut source (cut (Err (P2 place)) c) e h is = same_refusal source (P2 place) e is (record { some = λ no. cc; answers = tokens.read h c; placed = tokens.read h c })
+from_cut source (cut (Err (P3 place)) c) e h is = same_refusal source (P3 place) e is (record { some = λ no. cc; answers = tokens.read h c; placed = tokens.read h c })
 from_cut source _ e h is = cc
 
 -- ---- rows
