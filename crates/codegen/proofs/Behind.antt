@@ -10,7 +10,8 @@ among t [] = refl
 among t (s ∷ more) = ap (λ b. bytes_eq (string_bytes t) (string_bytes s) || b) (among t more)
 
 -- the bytes of the texts after one more is used
-pub text_taken : (t : String Global) (texts : List (String Global)) → map string_bytes (if list_any (string_eq t) texts then texts else texts ++ t ∷ []) ≡ with_text (map string_bytes texts) (string_bytes t)
+pub text_taken : (t : String Global) (texts : List (String Global))
+    → map string_bytes (if list_any (string_eq t) texts then texts else texts ++ t ∷ []) ≡ with_text (map string_bytes texts) (string_bytes t)
 text_taken t texts = grind (arith, among, map-append)
 
 -- the bytes of the first texts are the first of the bytes

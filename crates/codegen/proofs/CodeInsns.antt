@@ -70,7 +70,8 @@ AreNear routines = (n : List ℕ) (found : ℕ × ℕ) → routine_named n routi
 abbrev pub AreLow : List ℕ → Type 0
 AreLow slots = AllByRecursion (λ slot. slot ≤ 0x7fff_ff00) slots
 
-pub near_named : (ds : List Declaration) (slots : List ℕ) → AreLow slots → (n : List ℕ) (found : ℕ × ℕ) → routine_named n (routines_of ds slots) ≡ Some found → (found.0 < length slots) × (found.1 ≤ 0x7fff_ff00)
+pub near_named : (ds : List Declaration) (slots : List ℕ) → AreLow slots → (n : List ℕ) (found : ℕ × ℕ)
+    → routine_named n (routines_of ds slots) ≡ Some found → (found.0 < length slots) × (found.1 ≤ 0x7fff_ff00)
 near_named [] slots low n found e = absurd (cc)
 near_named (d ∷ ds) [] low n found e = absurd (cc)
 near_named (d ∷ ds) (s ∷ slots) low n found e = grind (arith, near_named ds slots low.1 n)
@@ -95,21 +96,29 @@ module _ (ts : List (List ℕ)) (rs : List (List ℕ × ℕ)) (near : AreNear rs
   mutual
     unfolding code_of need nodes plain_tree
 
-    pub code_insns : (e : CoreTree) (ws : Kept) (k p : ℕ) → AreWithin ws → k + need e ≤ 60 → nodes e ≤ 512 → p + 63 * nodes e ≤ 0x8000_0000 → HasLiterals (plain_tree e) → AreInsns (code_of e ts rs ws k p)
+    pub code_insns : (e : CoreTree) (ws : Kept) (k p : ℕ) → AreWithin ws → k + need e ≤ 60 → nodes e ≤ 512 → p + 63 * nodes e ≤ 0x8000_0000
+        → HasLiterals (plain_tree e) → AreInsns (code_of e ts rs ws k p)
     code_insns (core.literal l) ws k p words room few inside h = literal_insns ts l h
     code_insns (core.name n) ws k p words room few inside h = name_insns n ws.items (words n)
     code_insns (core.variable v) ws k p words room few inside h = variable_insns (routine_named v rs) p (omega arith) (near v)
-    code_insns (core.select a f) ws k p words room few inside h = kept_insns (leaf_of (core.select a f) ws) _ (leaf_near (core.select a f) ws words) (one_insns (leaf_of a ws) (code a ws k p) (leaf_near a ws words) (code_insns a ws k p words room (omega arith) (omega arith) h) R1 _ (field_insns (address_of ts f) (length f) (address_small ts f)))
-    code_insns (core.has a f) ws k p words room few inside h = one_insns (leaf_of a ws) (code a ws k p) (leaf_near a ws words) (code_insns a ws k p words room (omega arith) (omega arith) h.0) R1 _ (has_insns (address_of ts f) (length f) (address_small ts f))
+    code_insns (core.select a f) ws k p words room few inside h =
+        kept_insns (leaf_of (core.select a f) ws) _ (leaf_near (core.select a f) ws words) (one_insns (leaf_of a ws) (code a ws k p) (leaf_near a ws words) (code_insns a ws k p words room (omega arith) (omega arith) h) R1 _ (field_insns (address_of ts f) (length f) (address_small ts f)))
+    code_insns (core.has a f) ws k p words room few inside h =
+        one_insns (leaf_of a ws) (code a ws k p) (leaf_near a ws words) (code_insns a ws k p words room (omega arith) (omega arith) h.0) R1 _ (has_insns (address_of ts f) (length f) (address_small ts f))
     code_insns (core.index a b) ws k p words room few inside h = grind (arith, parts, two_insns, index_insns, code_insns a ws k p, code_insns b ws (k + 1))
-    code_insns (core.call n (more_cores a no_cores)) ws k p words room few inside h = function_insns (leaf_of a ws) (code a ws k p) (leaf_near a ws words) (code_insns a ws k p words room (omega arith) (omega arith) h.0) (function_named n)
-    code_insns (core.method a n no_cores) ws k p words room few inside h = method_insns (leaf_of a ws) (code a ws k p) (leaf_near a ws words) (code_insns a ws k p words (omega arith) (omega arith) (omega arith) h.0) (function_named n)
+    code_insns (core.call n (more_cores a no_cores)) ws k p words room few inside h =
+        function_insns (leaf_of a ws) (code a ws k p) (leaf_near a ws words) (code_insns a ws k p words room (omega arith) (omega arith) h.0) (function_named n)
+    code_insns (core.method a n no_cores) ws k p words room few inside h =
+        method_insns (leaf_of a ws) (code a ws k p) (leaf_near a ws words) (code_insns a ws k p words (omega arith) (omega arith) (omega arith) h.0) (function_named n)
     code_insns (core.method a n (more_cores b no_cores)) ws k p words room few inside h = grind (arith, parts, tested_insns, code_insns a ws k p, code_insns b ws (k + 1))
-    code_insns (core.unary op a) ws k p words room few inside h = unary_insns (leaf_of a ws) (code a ws k p) (leaf_near a ws words) (code_insns a ws k p words room (omega arith) (omega arith) h) op
+    code_insns (core.unary op a) ws k p words room few inside h =
+        unary_insns (leaf_of a ws) (code a ws k p) (leaf_near a ws words) (code_insns a ws k p words room (omega arith) (omega arith) h) op
     code_insns (core.binary op a b) ws k p words room few inside h = grind (arith, parts, binary_insns, code_insns a ws k p, code_insns b ws (k + 1))
     code_insns (core.ternary c a b) ws k p words room few inside h = grind (arith, short_code, ternary_insns, code_insns c ws k p, code_insns a ws k, code_insns b ws k)
-    code_insns (core.list items) ws k p words room few inside h = list_insns (items_code items ts rs ws k (p + 2)) k (omega arith) (items_insns items ws k (p + 2) words (omega arith) (omega arith) (omega arith) h)
-    code_insns (core.map es) ws k p words room few inside h = map_insns (entries_code es ts rs ws k (p + 2)) k (omega arith) (entries_insns es ws k (p + 2) words (omega arith) (omega arith) (omega arith) h)
+    code_insns (core.list items) ws k p words room few inside h =
+        list_insns (items_code items ts rs ws k (p + 2)) k (omega arith) (items_insns items ws k (p + 2) words (omega arith) (omega arith) (omega arith) h)
+    code_insns (core.map es) ws k p words room few inside h =
+        map_insns (entries_code es ts rs ws k (p + 2)) k (omega arith) (entries_insns es ws k (p + 2) words (omega arith) (omega arith) (omega arith) h)
     code_insns (core.fold m n r e) ws k p words room few inside h =
         let ws1 = with_name n (k + 4) ws in
         let q = p + size (code r ws k p) + 17 in
@@ -127,12 +136,14 @@ module _ (ts : List (List ℕ)) (rs : List (List ℕ × ℕ)) (near : AreNear rs
         map_where_insns k (code r ws k p) (code e ws1 (k + 5) q) (code t ws1 (k + 5) u) (omega arith) (omega arith) (code_insns r ws k p words (omega arith) (omega arith) (omega arith) h.0) (code_insns e ws1 (k + 5) q inner (omega arith) (omega arith) (omega arith) h.1.1.0) (code_insns t ws1 (k + 5) u inner (omega arith) (omega arith) (omega arith) h.1.1.1.0)
     code_insns _ ws k p words room few inside h = no_insns
 
-    items_insns : (items : CoreTrees) (ws : Kept) (k p : ℕ) → AreWithin ws → k + 1 + needs items ≤ 60 → nodes_of items ≤ 512 → p + 63 * nodes_of items ≤ 0x8000_0000 → HaveLiterals (plain_trees items) → AreInsns (items_code items ts rs ws k p)
+    items_insns : (items : CoreTrees) (ws : Kept) (k p : ℕ) → AreWithin ws → k + 1 + needs items ≤ 60 → nodes_of items ≤ 512
+        → p + 63 * nodes_of items ≤ 0x8000_0000 → HaveLiterals (plain_trees items) → AreInsns (items_code items ts rs ws k p)
     items_insns no_cores ws k p words room few inside h = tt
     items_insns (more_cores a more) ws k p words room few inside h =
         grind (arith, short_code, insns_append, item_insns, code_insns a ws (k + 1) p, items_insns more ws k)
 
-    entries_insns : (es : CoreEntries) (ws : Kept) (k p : ℕ) → AreWithin ws → k + entries_need es ≤ 60 → entries_nodes es ≤ 512 → p + 63 * entries_nodes es ≤ 0x8000_0000 → EntriesHaveLiterals (plain_entries es) → AreInsns (entries_code es ts rs ws k p)
+    entries_insns : (es : CoreEntries) (ws : Kept) (k p : ℕ) → AreWithin ws → k + entries_need es ≤ 60 → entries_nodes es ≤ 512
+        → p + 63 * entries_nodes es ≤ 0x8000_0000 → EntriesHaveLiterals (plain_entries es) → AreInsns (entries_code es ts rs ws k p)
     entries_insns no_core_entries ws k p words room few inside h = tt
     entries_insns (more_core_entries key v more) ws k p words room few inside h =
         grind (arith, short_code, insns_append, entry_insns, code_insns key ws (k + 1) p, code_insns v ws (k + 2), entries_insns more ws k)

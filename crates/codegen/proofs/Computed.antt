@@ -13,11 +13,14 @@ module _ (s : Setting) (scope : List Variable) (rs : List (List ℕ × ℕ)) (te
   abbrev pub UseGives : List ℕ → Type 0
   UseGives v = (k ≤ 60 → IsAccepted (core.variable v) (names scope) → depth + deepest (core.variable v) (nestings scope) ≤ 7 → (p : ℕ) → Gives s p (code_of (core.variable v) texts rs c.words k p) c depth k (variable_value v c.environment.variables) 5 0)
 
-  variable_part : (v : List ℕ) → UseGives v → Part s scope rs texts depth c k (core.variable v) (variable_value v c.environment.variables) (node (variable_value v c.environment.variables) and nothing)
+  variable_part : (v : List ℕ) → UseGives v
+      → Part s scope rs texts depth c k (core.variable v) (variable_value v c.environment.variables) (node (variable_value v c.environment.variables) and nothing)
   unfolding need
   variable_part v used ready p = let room = ready.room in leaf s c depth k p _ (variable_value v c.environment.variables) 5 0 (node (variable_value v c.environment.variables) and nothing) (omega arith) (omega arith) (omega arith) (used (omega arith) ready.accepted ready.frames p)
 
-  pub selection_part : (b : Bool) (a : CoreTree) (f : List ℕ) (x : ValueOrError) (t : Cost) → UseGives f → LeafPart depth c k (selection b f a) (selected b f x c.environment) → LeafPart depth c k a x → Part s scope rs texts depth c k a x t → Part s scope rs texts depth c k (selection b f a) (selected b f x c.environment) (node (selected b f x c.environment) and selection_cost b f t)
+  pub selection_part : (b : Bool) (a : CoreTree) (f : List ℕ) (x : ValueOrError) (t : Cost) → UseGives f
+      → LeafPart depth c k (selection b f a) (selected b f x c.environment) → LeafPart depth c k a x → Part s scope rs texts depth c k a x t
+      → Part s scope rs texts depth c k (selection b f a) (selected b f x c.environment) (node (selected b f x c.environment) and selection_cost b f t)
   selection_part true a f x t used own named part ready p = variable_part f used ready p
   selection_part false a f x t used own named part ready p = select_part s scope rs texts depth c k a f x t own named part ready p
 
@@ -26,7 +29,8 @@ module _ (s : Setting) (scope : List Variable) (rs : List (List ℕ × ℕ)) (te
   by_function : (g : Option Function) → IsSome g → k ≤ 60 → (l : Option Leaf) (piece : List Insn) (x : ValueOrError) (t : Cost) (p : ℕ) → IsLeafOf c depth k l x → ComputesPart s p piece c depth k x t → ComputesPart s p (function_code g l piece) c depth k (function_of g x) (node (function_of g x) and t)
   by_function g known low l piece x t p named part = grind (arith, function_part)
 
-  plain_call : (n : List ℕ) (a : CoreTree) (x : ValueOrError) (t : Cost) → LeafPart depth c k a x → Part s scope rs texts depth c k a x t → Part s scope rs texts depth c k (core.call n (one_core a)) (function_of (function_named n) x) (node (function_of (function_named n) x) and t)
+  plain_call : (n : List ℕ) (a : CoreTree) (x : ValueOrError) (t : Cost) → LeafPart depth c k a x → Part s scope rs texts depth c k a x t
+      → Part s scope rs texts depth c k (core.call n (one_core a)) (function_of (function_named n) x) (node (function_of (function_named n) x) and t)
   unfolding code_of need deepest texts_of IsAccepted
   plain_call n a x t named part ready p = grind (arith, by_function, append-nil)
 
@@ -40,14 +44,17 @@ module _ (s : Setting) (scope : List Variable) (rs : List (List ℕ × ℕ)) (te
   by_method (Some Size) e low l piece x t p named part = function_part s scope rs texts depth c k Size l piece x t p low named part
   by_method _ e low l piece x t p named part = absurd (cc)
 
-  pub method_part : (n : List ℕ) (a : CoreTree) (x : ValueOrError) (t : Cost) → LeafPart depth c k a x → Part s scope rs texts depth c k a x t → Part s scope rs texts depth c k (core.method a n no_cores) (method_of (function_named n) x) (node (method_of (function_named n) x) and t)
+  pub method_part : (n : List ℕ) (a : CoreTree) (x : ValueOrError) (t : Cost) → LeafPart depth c k a x → Part s scope rs texts depth c k a x t
+      → Part s scope rs texts depth c k (core.method a n no_cores) (method_of (function_named n) x) (node (method_of (function_named n) x) and t)
   unfolding code_of need deepest texts_of IsAccepted
   method_part n a x t named part ready p = grind (arith, by_method, append-nil)
 
   by_test : (g : Option TextTest) → IsSome g → k < 60 → (l : Option Leaf) (left : List Insn) (m : Option Leaf) (right : List Insn) (x y : ValueOrError) (t u : Cost) (p : ℕ) → IsLeafOf c depth k l x → ComputesPart s p left c depth k x t → IsLeafOf c depth (k + 1) m y → ComputesPart s (p + kept_size l left) right c depth (k + 1) y u → ComputesPart s p (test_code g l left m right k) c depth k (text_test_of g x y) (node (text_test_of g x y) and t and u)
   by_test g known low l left m right x y t u p named first named_right second = grind (arith, test_part)
 
-  pub text_method_part : (n : List ℕ) (a b : CoreTree) (x y : ValueOrError) (t u : Cost) → LeafPart depth c k a x → LeafPart depth c (k + 1) b y → Part s scope rs texts depth c k a x t → Part s scope rs texts depth c (k + 1) b y u → Part s scope rs texts depth c k (core.method a n (one_core b)) (text_test_of (test_named n) x y) (node (text_test_of (test_named n) x y) and t and u)
+  pub text_method_part : (n : List ℕ) (a b : CoreTree) (x y : ValueOrError) (t u : Cost) → LeafPart depth c k a x → LeafPart depth c (k + 1) b y
+      → Part s scope rs texts depth c k a x t → Part s scope rs texts depth c (k + 1) b y u
+      → Part s scope rs texts depth c k (core.method a n (one_core b)) (text_test_of (test_named n) x y) (node (text_test_of (test_named n) x y) and t and u)
   unfolding code_of need deepest texts_of IsAccepted
   text_method_part n a b x y t u named named_right first second ready p = grind (arith, texts_back, by_test, texts_front, or_left, or_right)
 
@@ -103,14 +110,16 @@ module _ (c : Context) (depth k : ℕ) (low : k ≤ 64) where
   word_named : (b : Bool) (x : ValueOrError) → (b ≡ true → IsLeafOf c depth k (Some (Word 0)) x) → IsLeafOf c depth k (if b then Some (Word 0) else None) x
   word_named b x h = grind arith
 
-  field_named : (path : Option Path) (a : CoreTree) (f : List ℕ) (m : ValueOrError) → c.words.path ≡ path → IsLeafOf c depth k (leaf_of a c.words) m → IsLeafOf c depth k (field_leaf path a f) (field_of m f)
+  field_named : (path : Option Path) (a : CoreTree) (f : List ℕ) (m : ValueOrError) → c.words.path ≡ path → IsLeafOf c depth k (leaf_of a c.words) m
+      → IsLeafOf c depth k (field_leaf path a f) (field_of m f)
   unfolding name_value
   field_named None a f m kept named = tt
   field_named (Some path) (core.name n) f m kept named =
       word_named (bytes_eq n path.root && bytes_eq f path.field) (field_of m f) (λ h b fits. grind (arith, bytes_decides n path.root, bytes_decides f path.field, and_front, and_back, named_once, leaves_name.name c depth k n low b fits, named b fits, paths_give.names c depth k path kept b fits))
   field_named (Some path) _ f m kept named = tt
 
-  pub selection_leaf : (b : Bool) (f : List ℕ) (a : CoreTree) (m : ValueOrError) → IsLeafOf c depth k (leaf_of a c.words) m → LeafPart depth c k (selection b f a) (selected b f m c.environment)
+  pub selection_leaf : (b : Bool) (f : List ℕ) (a : CoreTree) (m : ValueOrError) → IsLeafOf c depth k (leaf_of a c.words) m
+      → LeafPart depth c k (selection b f a) (selected b f m c.environment)
   selection_leaf b f a m named = grind (arith, field_named)
 
 -- the expression itself is visited
@@ -144,36 +153,54 @@ module _ (image : Contents) (deep : Bool) (roots : Roots) (constants : List ℕ)
   mutual
     unfolding expanded meaning cost IsAccepted
 
-    computes : (e : Tree) (xs : List (List ℕ × Value)) (ws : Kept) (k : ℕ) → HasLiterals e → Part s scope rs texts depth (here xs ws) k (expanded e) (meaning e (around xs)) (cost e (around xs))
+    computes : (e : Tree) (xs : List (List ℕ × Value)) (ws : Kept) (k : ℕ) → HasLiterals e
+        → Part s scope rs texts depth (here xs ws) k (expanded e) (meaning e (around xs)) (cost e (around xs))
     computes (tree.literal l) xs ws k h = literal_part s scope rs texts depth (here xs ws) k l h
     computes (tree.name n) xs ws k h = name_part s scope rs texts depth (here xs ws) k n
-    computes (tree.select a f) xs ws k h = selection_part s scope rs texts depth (here xs ws) k (is_variables a) (expanded a) f (meaning a (around xs)) (cost a (around xs)) (use_gives image deep roots constants scope is few rs same texts xs ws depth k f) (leaf_named (tree.select a f) xs ws k) (leaf_named a xs ws k) (computes a xs ws k h)
-    computes (tree.index a b) xs ws k h = index_part s scope rs texts depth (here xs ws) k (expanded a) (expanded b) (meaning a (around xs)) (meaning b (around xs)) (cost a (around xs)) (cost b (around xs)) (leaf_named a xs ws k) (leaf_named b xs ws (k + 1)) (computes a xs ws k h.0) (computes b xs ws (k + 1) h.1)
-    computes (tree.unary op a) xs ws k h = unary_part s scope rs texts depth (here xs ws) k op (expanded a) (meaning a (around xs)) (cost a (around xs)) (leaf_named a xs ws k) (computes a xs ws k h)
-    computes (tree.binary op a b) xs ws k h = binary_part s scope rs texts depth (here xs ws) k (expanded a) (expanded b) (meaning a (around xs)) (meaning b (around xs)) (cost a (around xs)) (cost b (around xs)) (leaf_named a xs ws k) (leaf_named b xs ws (k + 1)) (computes a xs ws k h.0) (computes b xs ws (k + 1) h.1) op
-    computes (tree.ternary t a b) xs ws k h = ternary_part s scope rs texts depth (here xs ws) k (expanded t) (expanded a) (expanded b) (meaning t (around xs)) (meaning a (around xs)) (meaning b (around xs)) (cost t (around xs)) (cost a (around xs)) (cost b (around xs)) (computes t xs ws k h.0) (computes a xs ws k h.1) (computes b xs ws k h.2)
-    computes (tree.list items) xs ws k h = list_part s scope rs texts depth (here xs ws) k (expanded_trees items) (meanings items (around xs)) (costs items (around xs)) (items_compute items xs ws k h)
-    computes (tree.map es) xs ws k h = map_part s scope rs texts depth (here xs ws) k (expanded_entries es) (entry_meanings es (around xs)) (entry_costs es (around xs)) (entries_compute es xs ws k h)
+    computes (tree.select a f) xs ws k h =
+        selection_part s scope rs texts depth (here xs ws) k (is_variables a) (expanded a) f (meaning a (around xs)) (cost a (around xs)) (use_gives image deep roots constants scope is few rs same texts xs ws depth k f) (leaf_named (tree.select a f) xs ws k) (leaf_named a xs ws k) (computes a xs ws k h)
+    computes (tree.index a b) xs ws k h =
+        index_part s scope rs texts depth (here xs ws) k (expanded a) (expanded b) (meaning a (around xs)) (meaning b (around xs)) (cost a (around xs)) (cost b (around xs)) (leaf_named a xs ws k) (leaf_named b xs ws (k + 1)) (computes a xs ws k h.0) (computes b xs ws (k + 1) h.1)
+    computes (tree.unary op a) xs ws k h =
+        unary_part s scope rs texts depth (here xs ws) k op (expanded a) (meaning a (around xs)) (cost a (around xs)) (leaf_named a xs ws k) (computes a xs ws k h)
+    computes (tree.binary op a b) xs ws k h =
+        binary_part s scope rs texts depth (here xs ws) k (expanded a) (expanded b) (meaning a (around xs)) (meaning b (around xs)) (cost a (around xs)) (cost b (around xs)) (leaf_named a xs ws k) (leaf_named b xs ws (k + 1)) (computes a xs ws k h.0) (computes b xs ws (k + 1) h.1) op
+    computes (tree.ternary t a b) xs ws k h =
+        ternary_part s scope rs texts depth (here xs ws) k (expanded t) (expanded a) (expanded b) (meaning t (around xs)) (meaning a (around xs)) (meaning b (around xs)) (cost t (around xs)) (cost a (around xs)) (cost b (around xs)) (computes t xs ws k h.0) (computes a xs ws k h.1) (computes b xs ws k h.2)
+    computes (tree.list items) xs ws k h =
+        list_part s scope rs texts depth (here xs ws) k (expanded_trees items) (meanings items (around xs)) (costs items (around xs)) (items_compute items xs ws k h)
+    computes (tree.map es) xs ws k h =
+        map_part s scope rs texts depth (here xs ws) k (expanded_entries es) (entry_meanings es (around xs)) (entry_costs es (around xs)) (entries_compute es xs ws k h)
     computes (tree.call n no_trees) xs ws k h = λ ready p. absurd ready.accepted
-    computes (tree.call n (more_trees a no_trees)) xs ws k h = call_part s scope rs texts depth (here xs ws) k (is_has n) (field_name a) n (expanded_operand a) (expanded a) (operand_meaning a (around xs)) (meaning a (around xs)) (operand_cost a (around xs)) (cost a (around xs)) (operand_computes a xs ws k h.0) (leaf_named a xs ws k) (computes a xs ws k h.0)
+    computes (tree.call n (more_trees a no_trees)) xs ws k h =
+        call_part s scope rs texts depth (here xs ws) k (is_has n) (field_name a) n (expanded_operand a) (expanded a) (operand_meaning a (around xs)) (meaning a (around xs)) (operand_cost a (around xs)) (cost a (around xs)) (operand_computes a xs ws k h.0) (leaf_named a xs ws k) (computes a xs ws k h.0)
     computes (tree.call n (more_trees a (more_trees b more))) xs ws k h = λ ready p. absurd ready.accepted
-    computes (tree.method a n no_trees) xs ws k h = method_part s scope rs texts depth (here xs ws) k n (expanded a) (meaning a (around xs)) (cost a (around xs)) (leaf_named a xs ws k) (computes a xs ws k h.0)
-    computes (tree.method a n (more_trees b no_trees)) xs ws k h = text_method_part s scope rs texts depth (here xs ws) k n (expanded a) (expanded b) (meaning a (around xs)) (meaning b (around xs)) (cost a (around xs)) (cost b (around xs)) (leaf_named a xs ws k) (leaf_named b xs ws (k + 1)) (computes a xs ws k h.0) (computes b xs ws (k + 1) h.1.0)
-    computes (tree.method a n (more_trees x (more_trees p no_trees))) xs ws k h = fold_part s scope rs texts depth (here xs ws) k (macro_named n) (name_of x) n (expanded a) (expanded x) (expanded p) (meaning a (around xs)) (cost a (around xs)) (λ i v. meaning p (bind i v (around xs))) (λ i v. cost p (bind i v (around xs))) (computes a xs ws k h.0) (λ i v. computes p ((i, v) ∷ xs) (with_name i (k + 4) ws) (k + 5) h.1.1.0)
-    computes (tree.method a n (more_trees x (more_trees p (more_trees t no_trees)))) xs ws k h = fold_map_part s scope rs texts depth (here xs ws) k (is_map n) (name_of x) n (expanded a) (expanded x) (expanded p) (expanded t) (meaning a (around xs)) (cost a (around xs)) (λ i v. meaning p (bind i v (around xs))) (λ i v. meaning t (bind i v (around xs))) (λ i v. cost p (bind i v (around xs))) (λ i v. cost t (bind i v (around xs))) (computes a xs ws k h.0) (λ i v. computes p ((i, v) ∷ xs) (with_name i (k + 4) ws) (k + 5) h.1.1.0) (λ i v. computes t ((i, v) ∷ xs) (with_name i (k + 4) ws) (k + 5) h.1.1.1.0)
+    computes (tree.method a n no_trees) xs ws k h =
+        method_part s scope rs texts depth (here xs ws) k n (expanded a) (meaning a (around xs)) (cost a (around xs)) (leaf_named a xs ws k) (computes a xs ws k h.0)
+    computes (tree.method a n (more_trees b no_trees)) xs ws k h =
+        text_method_part s scope rs texts depth (here xs ws) k n (expanded a) (expanded b) (meaning a (around xs)) (meaning b (around xs)) (cost a (around xs)) (cost b (around xs)) (leaf_named a xs ws k) (leaf_named b xs ws (k + 1)) (computes a xs ws k h.0) (computes b xs ws (k + 1) h.1.0)
+    computes (tree.method a n (more_trees x (more_trees p no_trees))) xs ws k h =
+        fold_part s scope rs texts depth (here xs ws) k (macro_named n) (name_of x) n (expanded a) (expanded x) (expanded p) (meaning a (around xs)) (cost a (around xs)) (λ i v. meaning p (bind i v (around xs))) (λ i v. cost p (bind i v (around xs))) (computes a xs ws k h.0) (λ i v. computes p ((i, v) ∷ xs) (with_name i (k + 4) ws) (k + 5) h.1.1.0)
+    computes (tree.method a n (more_trees x (more_trees p (more_trees t no_trees)))) xs ws k h =
+        fold_map_part s scope rs texts depth (here xs ws) k (is_map n) (name_of x) n (expanded a) (expanded x) (expanded p) (expanded t) (meaning a (around xs)) (cost a (around xs)) (λ i v. meaning p (bind i v (around xs))) (λ i v. meaning t (bind i v (around xs))) (λ i v. cost p (bind i v (around xs))) (λ i v. cost t (bind i v (around xs))) (computes a xs ws k h.0) (λ i v. computes p ((i, v) ∷ xs) (with_name i (k + 4) ws) (k + 5) h.1.1.0) (λ i v. computes t ((i, v) ∷ xs) (with_name i (k + 4) ws) (k + 5) h.1.1.1.0)
     computes (tree.method a n (more_trees x (more_trees p (more_trees t (more_trees u more))))) xs ws k h = λ ready q. absurd ready.accepted
 
-    operand_computes : (a : Tree) (xs : List (List ℕ × Value)) (ws : Kept) (k : ℕ) → HasLiterals a → IfSome (field_name a) (λ f. LeafPart depth (here xs ws) k (expanded_operand a) (operand_meaning a (around xs)) × Part s scope rs texts depth (here xs ws) k (expanded_operand a) (operand_meaning a (around xs)) (operand_cost a (around xs)))
+    operand_computes : (a : Tree) (xs : List (List ℕ × Value)) (ws : Kept) (k : ℕ) → HasLiterals a
+        → IfSome (field_name a) (λ f. LeafPart depth (here xs ws) k (expanded_operand a) (operand_meaning a (around xs)) × Part s scope rs texts depth (here xs ws) k (expanded_operand a) (operand_meaning a (around xs)) (operand_cost a (around xs)))
     operand_computes (tree.select a f) xs ws k h = (leaf_named a xs ws k, computes a xs ws k h)
     operand_computes _ xs ws k h = tt
 
-    items_compute : (items : Trees) (xs : List (List ℕ × Value)) (ws : Kept) (k : ℕ) → HaveLiterals items → ItemsPart s scope rs texts depth (here xs ws) k (expanded_trees items) (meanings items (around xs)) (costs items (around xs))
+    items_compute : (items : Trees) (xs : List (List ℕ × Value)) (ws : Kept) (k : ℕ) → HaveLiterals items
+        → ItemsPart s scope rs texts depth (here xs ws) k (expanded_trees items) (meanings items (around xs)) (costs items (around xs))
     items_compute no_trees xs ws k h = items_none s scope rs texts depth (here xs ws) k
-    items_compute (more_trees a more) xs ws k h = items_more s scope rs texts depth (here xs ws) k (expanded a) (expanded_trees more) (meaning a (around xs)) (meanings more (around xs)) (cost a (around xs)) (costs more (around xs)) (visited a (around xs)) (computes a xs ws (k + 1) h.0) (items_compute more xs ws k h.1)
+    items_compute (more_trees a more) xs ws k h =
+        items_more s scope rs texts depth (here xs ws) k (expanded a) (expanded_trees more) (meaning a (around xs)) (meanings more (around xs)) (cost a (around xs)) (costs more (around xs)) (visited a (around xs)) (computes a xs ws (k + 1) h.0) (items_compute more xs ws k h.1)
 
-    entries_compute : (es : Entries) (xs : List (List ℕ × Value)) (ws : Kept) (k : ℕ) → EntriesHaveLiterals es → EntriesPart s scope rs texts depth (here xs ws) k (expanded_entries es) (entry_meanings es (around xs)) (entry_costs es (around xs))
+    entries_compute : (es : Entries) (xs : List (List ℕ × Value)) (ws : Kept) (k : ℕ) → EntriesHaveLiterals es
+        → EntriesPart s scope rs texts depth (here xs ws) k (expanded_entries es) (entry_meanings es (around xs)) (entry_costs es (around xs))
     entries_compute no_entries xs ws k h = entries_none s scope rs texts depth (here xs ws) k
-    entries_compute (more_entries key v more) xs ws k h = entries_more s scope rs texts depth (here xs ws) k (expanded key) (expanded v) (expanded_entries more) (meaning key (around xs)) (meaning v (around xs)) (entry_meanings more (around xs)) (cost key (around xs)) (cost v (around xs)) (entry_costs more (around xs)) (visited key (around xs)) (visited v (around xs)) (computes key xs ws (k + 1) h.0) (computes v xs ws (k + 2) h.1) (entries_compute more xs ws k h.2)
+    entries_compute (more_entries key v more) xs ws k h =
+        entries_more s scope rs texts depth (here xs ws) k (expanded key) (expanded v) (expanded_entries more) (meaning key (around xs)) (meaning v (around xs)) (entry_meanings more (around xs)) (cost key (around xs)) (cost v (around xs)) (entry_costs more (around xs)) (visited key (around xs)) (visited v (around xs)) (computes key xs ws (k + 1) h.0) (computes v xs ws (k + 2) h.1) (entries_compute more xs ws k h.2)
 
 -- also where later variables stand behind the scope
 module _ (image : Contents) (deep : Bool) (roots : Roots) (constants : List ℕ) (scope later : List Variable) (rs : List (List ℕ × ℕ))

@@ -74,7 +74,8 @@ module _ (ds : List Declaration) (shallow : AreShallow ds) where
 -- ---- what is ready
 
 module _ (image : Contents) (deep : Bool) (roots : Roots) (constants : List ℕ) (ds : List Declaration) (scope later : List Variable) (e : CoreTree) (is : IsExpression ds e) (depths : nestings scope ≡ depths_of ds) (may : IsDeep (plain_tree e) (environment_in roots [] scope) → deep ≡ true) (paid : List Variable) where
-  pub ready : (known : List (List ℕ)) → TextsStand constants known (texts_of e) → (frame : ℕ) → frame + deepest e (depths_of ds) ≤ 7 → Ready (scope_setting image deep paid) scope known (scope_context roots [] nothing_kept constants (scope ++ later)) frame 0 e (cost (plain_tree e) (environment_in roots [] scope)).is_deep
+  pub ready : (known : List (List ℕ)) → TextsStand constants known (texts_of e) → (frame : ℕ) → frame + deepest e (depths_of ds) ≤ 7
+      → Ready (scope_setting image deep paid) scope known (scope_context roots [] nothing_kept constants (scope ++ later)) frame 0 e (cost (plain_tree e) (environment_in roots [] scope)).is_deep
   ready known stand frame near = grind (arith, names_declared, typed_accepted, texts_stand)
 
 -- the texts that were taken stand among the constants
@@ -171,7 +172,8 @@ module _ (old : Emitted) (ds : List Declaration) (e : CoreTree) (few : 2 * lengt
   piece_spells p here short most = whole_insns known table (near most) e p fits short here literals
 
   -- the code with all declarations, where the type checker takes the expression with the first of them
-  computed : (first rest : List Declaration) (r : Running) (p frame : ℕ) → old.nodes ≤ 512 → ds ≡ first ++ rest → Suits old.routines known first e r → HasRoutines r r.scope → frame + deepest e (depths_of first) ≤ 7
+  computed : (first rest : List Declaration) (r : Running) (p frame : ℕ) → old.nodes ≤ 512 → ds ≡ first ++ rest → Suits old.routines known first e r
+      → HasRoutines r r.scope → frame + deepest e (depths_of first) ≤ 7
       → Computes (setting r) p (whole_code e known table p) (context r) frame 0 (meaning_in r e) (cost_in r e)
   computed first rest r p frame most whole suits scoped near =
       gives_among old.constants old.routines first table e p (is_expression first r suits) r.image r.is_deep r.roots r.constants r.scope r.later frame

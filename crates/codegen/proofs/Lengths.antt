@@ -51,13 +51,15 @@ binary_short : (op : BinaryOperator) → size (binary_tail op) ≤ 25
 unfolding binary_tail product_tail
 binary_short op = grind arith
 
-two_short : (l : Option Leaf) (a : List Insn) (m : Option Leaf) (b : List Insn) (k : ℕ) (r q : Register) (tail : List Insn) (n i : ℕ) → size a + 8 ≤ 63 * n → size b + 8 ≤ 63 * i → size tail ≤ 25 → size (operands_code l a m b k r q ++ tail) + 8 ≤ 63 * (1 + n + i)
+two_short : (l : Option Leaf) (a : List Insn) (m : Option Leaf) (b : List Insn) (k : ℕ) (r q : Register) (tail : List Insn) (n i : ℕ)
+    → size a + 8 ≤ 63 * n → size b + 8 ≤ 63 * i → size tail ≤ 25 → size (operands_code l a m b k r q ++ tail) + 8 ≤ 63 * (1 + n + i)
 two_short l a m b k r q tail n i ha hb ht = grind (arith, size_append, size_operands)
 
 absorbing_short : (d o : ℤ) (a b : List Insn) (k n m : ℕ) → size a + 8 ≤ 63 * n → size b + 8 ≤ 63 * m → size (absorbing_code d o a b k) + 8 ≤ 63 * (1 + n + m)
 absorbing_short d o a b k n m ha hb = grind (arith, size-append, size-cons)
 
-binary_code_short : (op : BinaryOperator) (l : Option Leaf) (a : List Insn) (m : Option Leaf) (b : List Insn) (k n i : ℕ) → size a + 8 ≤ 63 * n → size b + 8 ≤ 63 * i → size (binary_code op l a m b k) + 8 ≤ 63 * (1 + n + i)
+binary_code_short : (op : BinaryOperator) (l : Option Leaf) (a : List Insn) (m : Option Leaf) (b : List Insn) (k n i : ℕ) → size a + 8 ≤ 63 * n
+    → size b + 8 ≤ 63 * i → size (binary_code op l a m b k) + 8 ≤ 63 * (1 + n + i)
 binary_code_short binary.Or l a m b k n i ha hb = absorbing_short yes_ref no_ref a b k n i ha hb
 binary_code_short binary.And l a m b k n i ha hb = absorbing_short no_ref yes_ref a b k n i ha hb
 binary_code_short op l a m b k n i ha hb = two_short l a m b k _ _ _ n i ha hb (binary_short op)
@@ -71,11 +73,13 @@ method_short : (f : Option Function) (l : Option Leaf) (a : List Insn) (n : ℕ)
 method_short (Some Size) l a n ha = one_short l a R1 size_tail n ha (omega arith)
 method_short _ l a n ha = omega arith
 
-test_short : (t : Option TextTest) (l : Option Leaf) (a : List Insn) (m : Option Leaf) (b : List Insn) (k n i : ℕ) → size a + 8 ≤ 63 * n → size b + 8 ≤ 63 * i → size (test_code t l a m b k) + 8 ≤ 63 * (1 + n + i)
+test_short : (t : Option TextTest) (l : Option Leaf) (a : List Insn) (m : Option Leaf) (b : List Insn) (k n i : ℕ) → size a + 8 ≤ 63 * n
+    → size b + 8 ≤ 63 * i → size (test_code t l a m b k) + 8 ≤ 63 * (1 + n + i)
 test_short (Some t) l a m b k n i ha hb = two_short l a m b k R1 R2 (test_tail t) n i ha hb (omega arith)
 test_short None l a m b k n i ha hb = omega arith
 
-fold_short : (k : ℕ) (range first turn : List Insn) (n m : ℕ) → size range + 8 ≤ 63 * n → size first ≤ 1 → size turn ≤ 63 * m + 10 → size (fold_code k range first turn) + 20 ≤ 63 * (1 + n + m)
+fold_short : (k : ℕ) (range first turn : List Insn) (n m : ℕ) → size range + 8 ≤ 63 * n → size first ≤ 1 → size turn ≤ 63 * m + 10
+    → size (fold_code k range first turn) + 20 ≤ 63 * (1 + n + m)
 fold_short k range first turn n m hr hf ht = grind (arith, fold_size, loop_size)
 
 macro_short : (m : Macro) (k : ℕ) (r p : List Insn) (n q : ℕ) → size r + 8 ≤ 63 * n → size p + 8 ≤ 63 * q → size (macro_code m k r p) + 8 ≤ 63 * (1 + n + q)
@@ -105,7 +109,8 @@ module _ (ts : List (List ℕ)) (rs : List (List ℕ × ℕ)) where
     code_short (core.literal l) ws k p = literal_short ts l
     code_short (core.name n) ws k p = leaf_short (name_leaf n ws.items)
     code_short (core.variable v) ws k p = variable_short (routine_named v rs) p
-    code_short (core.select a f) ws k p = kept_short (leaf_of (core.select a f) ws) _ (nodes a) (one_short (leaf_of a ws) _ R1 (field_tail (address_of ts f) (length f)) (nodes a) (code_short a ws k p) (omega arith))
+    code_short (core.select a f) ws k p =
+        kept_short (leaf_of (core.select a f) ws) _ (nodes a) (one_short (leaf_of a ws) _ R1 (field_tail (address_of ts f) (length f)) (nodes a) (code_short a ws k p) (omega arith))
     code_short (core.has a f) ws k p = one_short (leaf_of a ws) _ R1 (has_tail (address_of ts f) (length f)) (nodes a) (code_short a ws k p) (omega arith)
     code_short (core.index a b) ws k p = two_short (leaf_of a ws) _ (leaf_of b ws) _ k R1 R2 index_tail (nodes a) (nodes b) (code_short a ws k p) (code_short b ws (k + 1) _) (omega arith)
     code_short (core.call n (more_cores a no_cores)) ws k p = let h = function_short (function_named n) (leaf_of a ws) _ (nodes a) (code_short a ws k p) in omega (arith, h)
@@ -119,7 +124,8 @@ module _ (ts : List (List ℕ)) (rs : List (List ℕ × ℕ)) where
     code_short (core.list items) ws k p = omega (arith, items_short items ws k (p + 2))
     code_short (core.map es) ws k p = omega (arith, entries_short es ws k (p + 2))
     code_short (core.fold m n r e) ws k p = macro_short m k _ _ (nodes r) (nodes e) (code_short r ws k p) (code_short e (with_name n (k + 4) ws) (k + 5) _)
-    code_short (core.fold_map n r e t) ws k p = map_short k _ _ _ (nodes r) (nodes e) (nodes t) (code_short r ws k p) (code_short e (with_name n (k + 4) ws) (k + 5) _) (code_short t (with_name n (k + 4) ws) (k + 5) _)
+    code_short (core.fold_map n r e t) ws k p =
+        map_short k _ _ _ (nodes r) (nodes e) (nodes t) (code_short r ws k p) (code_short e (with_name n (k + 4) ws) (k + 5) _) (code_short t (with_name n (k + 4) ws) (k + 5) _)
     code_short _ ws k p = omega arith
 
     items_short : (es : CoreTrees) (ws : Kept) (k p : ℕ) → size (items_code es ts rs ws k p) ≤ 63 * nodes_of es

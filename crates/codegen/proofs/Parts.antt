@@ -20,20 +20,24 @@ text_within x = grind arith
 
 module _ (s : Setting) (c : Context) (depth k : ℕ) where
   -- a construct without parts
-  pub leaf : (p : ℕ) (piece : List Insn) (x : ValueOrError) (n m : ℕ) (t : Cost) → n ≤ 112 → 1 ≤ t.visits → m ≤ 112 + 15 * t.sizes → Gives s p piece c depth k x n m → ComputesPart s p piece c depth k x t
+  pub leaf : (p : ℕ) (piece : List Insn) (x : ValueOrError) (n m : ℕ) (t : Cost) → n ≤ 112 → 1 ≤ t.visits → m ≤ 112 + 15 * t.sizes
+      → Gives s p piece c depth k x n m → ComputesPart s p piece c depth k x t
   leaf p piece x n m t hn hv hm g = gives_within s p piece c depth k x n m _ _ (omega arith) (omega arith) g
 
   -- a part in a register, and a piece behind it
   pub one : (p : ℕ) (l : Option Leaf) (operand piece : List Insn) (r : Register) (x z : ValueOrError) (n m : ℕ) (part t : Cost) → is_frame_pointer r ≡ false → n ≤ 111 → m ≤ 112 + 15 * result_size z → 1 + part.visits ≤ t.visits → result_size z + part.sizes ≤ t.sizes → IsLeafOf c depth k l x → ComputesPart s p operand c depth k x part → Converts s (p + size (operand_code l operand r)) piece r c depth k x z n m → ComputesPart s p (operand_code l operand r ++ piece) c depth k z t
-  one p l operand piece r x z n m part t free hn hm hv hs leaf g h = gives_within s p (operand_code l operand r ++ piece) c depth k z _ _ _ _ (omega arith) (omega arith) (one_gives s p l operand piece r c depth k x z _ _ n m free leaf g h)
+  one p l operand piece r x z n m part t free hn hm hv hs leaf g h =
+      gives_within s p (operand_code l operand r ++ piece) c depth k z _ _ _ _ (omega arith) (omega arith) (one_gives s p l operand piece r c depth k x z _ _ n m free leaf g h)
 
   -- two parts in registers, and a piece behind them
   pub two : (p : ℕ) (l : Option Leaf) (left : List Insn) (m : Option Leaf) (right piece : List Insn) (r q : Register) (x y z : ValueOrError) (n w : ℕ) (first second : Cost) → k < 60 → AreApart r q → n ≤ 109 → w ≤ 112 + 15 * result_size z → IsLeafOf c depth k l x → ComputesPart s p left c depth k x first → IsLeafOf c depth (k + 1) m y → ComputesPart s (p + kept_size l left) right c depth (k + 1) y second → Combines s (p + size (operands_code l left m right k r q)) piece r q c depth k x y z n w → ComputesPart s p (operands_code l left m right k r q ++ piece) c depth k z (node z and first and second)
-  two p l left m right piece r q x y z n w first second low apart hn hw leaf g leaf_right h t = gives_within s p (operands_code l left m right k r q ++ piece) c depth k z _ _ _ _ (omega arith) (omega arith) (two_gives s p k l left m right piece r q c depth x y z _ _ _ _ n w low apart leaf g leaf_right h t)
+  two p l left m right piece r q x y z n w first second low apart hn hw leaf g leaf_right h t =
+      gives_within s p (operands_code l left m right k r q ++ piece) c depth k z _ _ _ _ (omega arith) (omega arith) (two_gives s p k l left m right piece r q c depth x y z _ _ _ _ n w low apart leaf g leaf_right h t)
 
   -- two parts, of which the left one may decide
   pub absorbing : (p : ℕ) (decides other : ℤ) (f : ValueOrError → ValueOrError → ValueOrError) → AbsorbingGives decides other f → (left right : List Insn) (x y : ValueOrError) (first second : Cost) → k < 60 → ComputesPart s p left c depth k x first → ComputesPart s (p + size left + 2) right c depth (k + 1) y second → ComputesPart s p (absorbing_code decides other left right k) c depth k (f x y) (node (f x y) and first and second)
-  absorbing p decides other f law left right x y first second low g h = gives_within s p (absorbing_code decides other left right k) c depth k (f x y) _ _ _ _ (omega arith) (omega arith) (law s p k left right c depth x y _ _ _ _ low g h)
+  absorbing p decides other f law left right x y first second low g h =
+      gives_within s p (absorbing_code decides other left right k) c depth k (f x y) _ _ _ _ (omega arith) (omega arith) (law s p k left right c depth x y _ _ _ _ low g h)
 
   chosen_spent : (t : Truth) (first one_side other : Cost) (x : ℕ) → (15 * spent_by first - 8) + chosen t (15 * spent_by one_side - 8) (15 * spent_by other - 8) 0 ≤ 15 * (8 * (1 + first.visits + (chosen t one_side other nothing).visits) + (x + first.sizes + (chosen t one_side other nothing).sizes)) - 8
   chosen_spent t first one_side other x = grind arith
@@ -90,7 +94,8 @@ exchanged = record { first = refl; second = refl; apart = refl; back = refl }
 kept_two : AreApart R6 R7
 kept_two = record { first = refl; second = refl; apart = refl; back = refl }
 
-builds_within : (s : Setting) (p : ℕ) (piece : List Insn) (c : Context) (depth k : ℕ) (f : ValueOrError → ValueOrError) (n m n1 m1 : ℕ) → n ≤ n1 → m ≤ m1 → Builds s p piece c depth k f n m → Builds s p piece c depth k f n1 m1
+builds_within : (s : Setting) (p : ℕ) (piece : List Insn) (c : Context) (depth k : ℕ) (f : ValueOrError → ValueOrError) (n m n1 m1 : ℕ) → n ≤ n1
+    → m ≤ m1 → Builds s p piece c depth k f n m → Builds s p piece c depth k f n1 m1
 builds_within s p piece c depth k f n m n1 m1 hn hm g = record { runs = λ b x has made named. looser s n1 m1 hn hm (g.runs b x has made named) }
 
 -- what is ready for the items of a list, or the entries of a map: they are accepted, open so many frames, need so many words
@@ -143,7 +148,8 @@ module _ (s : Setting) (scope : List Variable) (rs : List (List ℕ × ℕ)) (te
   key_stands a f h = let last = texts_back c.constants texts (texts_of a) (f ∷ []) h in last.0
 
   -- a path that is kept is a leaf
-  kept_part : (l : Option Leaf) (piece : List Insn) (x : ValueOrError) (t : Cost) (p : ℕ) → 1 ≤ t.visits → IsLeafOf c depth k l x → ComputesPart s p piece c depth k x t → ComputesPart s p (kept_or l piece) c depth k x t
+  kept_part : (l : Option Leaf) (piece : List Insn) (x : ValueOrError) (t : Cost) (p : ℕ) → 1 ≤ t.visits → IsLeafOf c depth k l x
+      → ComputesPart s p piece c depth k x t → ComputesPart s p (kept_or l piece) c depth k x t
   kept_part (Some l) piece x t p some named given = leaf s c depth k p _ x 1 0 t (omega arith) some (omega arith) (leaf_gives s p c depth k l x named)
   kept_part None piece x t p some named given = given
 
@@ -155,7 +161,8 @@ module _ (s : Setting) (scope : List Variable) (rs : List (List ℕ × ℕ)) (te
       (omega arith) (omega arith) (omega arith) (named (omega arith)) (part (grind (arith, texts_front, or_left)) p)
       (selection_gives.field s _ c depth k x (address_of texts f) f (omega arith) (key_stands a f ready.texts_stand)))
 
-  pub has_part : (a : CoreTree) (f : List ℕ) (x : ValueOrError) (t : Cost) → LeafPart depth c k a x → Part s scope rs texts depth c k a x t → Part s scope rs texts depth c k (core.has a f) (has_of x f) (node (has_of x f) and (t and name_or_text f))
+  pub has_part : (a : CoreTree) (f : List ℕ) (x : ValueOrError) (t : Cost) → LeafPart depth c k a x → Part s scope rs texts depth c k a x t
+      → Part s scope rs texts depth c k (core.has a f) (has_of x f) (node (has_of x f) and (t and name_or_text f))
   unfolding code_of need deepest texts_of IsAccepted
   has_part a f x t named part ready p =
       one s c depth k p (leaf_of a c.words) (code a k p) _ R1 x (has_of x f) 3 1 t (node (has_of x f) and (t and name_or_text f)) refl (omega arith)
@@ -164,7 +171,8 @@ module _ (s : Setting) (scope : List Variable) (rs : List (List ℕ × ℕ)) (te
 
   -- a function of what a piece gives
   pub function_part : (g : Function) (l : Option Leaf) (piece : List Insn) (x : ValueOrError) (t : Cost) (p : ℕ) → k ≤ 60 → IsLeafOf c depth k l x → ComputesPart s p piece c depth k x t → ComputesPart s p (function_code (Some g) l piece) c depth k (function_of (Some g) x) (node (function_of (Some g) x) and t)
-  function_part Size l piece x t p low named part = one s c depth k p l piece _ R1 x (size_of x) 1 1 t (node (size_of x) and t) refl (omega arith) (omega arith) (omega arith) (omega arith) named part (selection_gives.size s _ c depth k x (omega arith))
+  function_part Size l piece x t p low named part =
+      one s c depth k p l piece _ R1 x (size_of x) 1 1 t (node (size_of x) and t) refl (omega arith) (omega arith) (omega arith) (omega arith) named part (selection_gives.size s _ c depth k x (omega arith))
   function_part String l piece x t p low named part = let short = text_within (string_of x) in one s c depth k p l piece _ R6 x (string_of x) 5 (2 + text_length (string_of x)) t (node (string_of x) and t) refl (omega arith) (omega arith) (omega arith) (omega arith) named part (selection_gives.string s _ c depth k x (omega arith))
   function_part Dyn l piece x t p low named part = gives_within s p piece c depth k x _ _ _ _ (omega arith) (omega arith) part
 
@@ -194,7 +202,8 @@ module _ (s : Setting) (scope : List Variable) (rs : List (List ℕ × ℕ)) (te
 
   -- ---- operators
 
-  pub unary_part : (u : UnaryOperator) (a : CoreTree) (x : ValueOrError) (t : Cost) → LeafPart depth c k a x → Part s scope rs texts depth c k a x t → Part s scope rs texts depth c k (core.unary u a) (unary_of u x) (node (unary_of u x) and t)
+  pub unary_part : (u : UnaryOperator) (a : CoreTree) (x : ValueOrError) (t : Cost) → LeafPart depth c k a x → Part s scope rs texts depth c k a x t
+      → Part s scope rs texts depth c k (core.unary u a) (unary_of u x) (node (unary_of u x) and t)
   unfolding code_of need deepest texts_of IsAccepted
   unary_part one_operand.Not a x t named part ready p =
       one s c depth k p (leaf_of a c.words) (code a k p) _ R1 x (not_of x) 1 1 t (node (not_of x) and t) refl (omega arith) (omega arith) (omega arith)
@@ -215,7 +224,9 @@ module _ (s : Setting) (scope : List Variable) (rs : List (List ℕ × ℕ)) (te
     sides o z ready = record { low = omega arith; left = first (grind (arith, texts_front, or_left)); right = second (grind (arith, texts_back, or_right)) }
 
     -- an operator by the piece behind its operands
-    by_tail : (tail : List Insn) (r q : Register) (z : ValueOrError) (n m : ℕ) → AreApart r q → n ≤ 109 → m ≤ 112 + 15 * result_size z → Sides → (p : ℕ) → ((i : ℕ) → k < 64 → Combines s i tail r q c depth k x y z n m) → ComputesPart s p (operands_code (leaf_of a c.words) (code a k p) (leaf_of b c.words) (code b (k + 1) (p + kept_size (leaf_of a c.words) (code a k p))) k r q ++ tail) c depth k z (node z and t and u)
+    by_tail : (tail : List Insn) (r q : Register) (z : ValueOrError) (n m : ℕ) → AreApart r q → n ≤ 109 → m ≤ 112 + 15 * result_size z → Sides
+        → (p : ℕ) → ((i : ℕ) → k < 64 → Combines s i tail r q c depth k x y z n m)
+        → ComputesPart s p (operands_code (leaf_of a c.words) (code a k p) (leaf_of b c.words) (code b (k + 1) (p + kept_size (leaf_of a c.words) (code a k p))) k r q ++ tail) c depth k z (node z and t and u)
     by_tail tail r q z n m apart hn hm both p combines = let low = both.low in two s c depth k p (leaf_of a c.words) (code a k p) (leaf_of b c.words) _ tail r q x y z n m t u low apart hn hm (named (omega arith)) (both.left p) (named_right (omega arith)) (both.right _) (combines _ (omega arith))
 
     -- the right side of an operator that may leave it out
@@ -229,17 +240,28 @@ module _ (s : Setting) (scope : List Variable) (rs : List (List ℕ × ℕ)) (te
     binary_part op.And ready p =
         let both = sides op.And (and_of x y) ready in absorbing s c depth k p no_ref yes_ref and_of logic_gives.and (code a k p) (right_code p) x y t u both.low (both.left p) (grind (arith, both.right (p + (size (code a k p) + 2))))
     binary_part op.Add ready p = let short = joined_within x y in by_tail (binary_tail op.Add) R6 R7 (sum_of x y) 20 (5 + joined_length (joined (Some x) (Some y))) kept_two (omega arith) (omega arith) (sides op.Add (sum_of x y) ready) p (λ q low. sum_gives s q k c depth x y low)
-    binary_part op.Less ready p = by_tail (binary_tail op.Less) R1 R2 (less_of x y) 1 1 first_two (omega arith) (omega arith) (sides op.Less (less_of x y) ready) p (λ q low. comparison_gives.less s q k c depth x y low)
-    binary_part op.LessEqual ready p = by_tail (binary_tail op.LessEqual) R2 R1 (less_equal_of x y) 3 2 exchanged (omega arith) (omega arith) (sides op.LessEqual (less_equal_of x y) ready) p (λ q low. comparison_gives.less_equal s q k c depth x y low)
-    binary_part op.GreaterEqual ready p = by_tail (binary_tail op.GreaterEqual) R1 R2 (greater_equal_of x y) 3 2 first_two (omega arith) (omega arith) (sides op.GreaterEqual (greater_equal_of x y) ready) p (λ q low. comparison_gives.greater_equal s q k c depth x y low)
-    binary_part op.Greater ready p = by_tail (binary_tail op.Greater) R2 R1 (greater_of x y) 1 1 exchanged (omega arith) (omega arith) (sides op.Greater (greater_of x y) ready) p (λ q low. comparison_gives.greater s q k c depth x y low)
-    binary_part op.Equal ready p = by_tail (binary_tail op.Equal) R1 R2 (equal_of x y) 1 1 first_two (omega arith) (omega arith) (sides op.Equal (equal_of x y) ready) p (λ q low. comparison_gives.equal s q k c depth x y low)
-    binary_part op.NotEqual ready p = by_tail (binary_tail op.NotEqual) R1 R2 (unequal_of x y) 3 2 first_two (omega arith) (omega arith) (sides op.NotEqual (unequal_of x y) ready) p (λ q low. comparison_gives.unequal s q k c depth x y low)
-    binary_part op.In ready p = by_tail (binary_tail op.In) R1 R2 (member_of x y) 1 1 first_two (omega arith) (omega arith) (sides op.In (member_of x y) ready) p (λ q low. comparison_gives.member s q k c depth x y low)
-    binary_part op.Subtract ready p = by_tail (binary_tail op.Subtract) R6 R7 (difference_of x y) 19 5 kept_two (omega arith) (omega arith) (sides op.Subtract (difference_of x y) ready) p (λ q low. difference_gives s q k c depth x y low)
-    binary_part op.Multiply ready p = by_tail (binary_tail op.Multiply) R6 R7 (product_of x y) 23 5 kept_two (omega arith) (omega arith) (sides op.Multiply (product_of x y) ready) p (λ q low. products_give.product s q k c depth x y low)
-    binary_part op.Divide ready p = by_tail (binary_tail op.Divide) R6 R7 (quotient_of x y) 20 5 kept_two (omega arith) (omega arith) (sides op.Divide (quotient_of x y) ready) p (λ q low. products_give.quotient s q k c depth x y low)
-    binary_part op.Remainder ready p = by_tail (binary_tail op.Remainder) R6 R7 (remainder_of x y) 20 5 kept_two (omega arith) (omega arith) (sides op.Remainder (remainder_of x y) ready) p (λ q low. products_give.remainder s q k c depth x y low)
+    binary_part op.Less ready p =
+        by_tail (binary_tail op.Less) R1 R2 (less_of x y) 1 1 first_two (omega arith) (omega arith) (sides op.Less (less_of x y) ready) p (λ q low. comparison_gives.less s q k c depth x y low)
+    binary_part op.LessEqual ready p =
+        by_tail (binary_tail op.LessEqual) R2 R1 (less_equal_of x y) 3 2 exchanged (omega arith) (omega arith) (sides op.LessEqual (less_equal_of x y) ready) p (λ q low. comparison_gives.less_equal s q k c depth x y low)
+    binary_part op.GreaterEqual ready p =
+        by_tail (binary_tail op.GreaterEqual) R1 R2 (greater_equal_of x y) 3 2 first_two (omega arith) (omega arith) (sides op.GreaterEqual (greater_equal_of x y) ready) p (λ q low. comparison_gives.greater_equal s q k c depth x y low)
+    binary_part op.Greater ready p =
+        by_tail (binary_tail op.Greater) R2 R1 (greater_of x y) 1 1 exchanged (omega arith) (omega arith) (sides op.Greater (greater_of x y) ready) p (λ q low. comparison_gives.greater s q k c depth x y low)
+    binary_part op.Equal ready p =
+        by_tail (binary_tail op.Equal) R1 R2 (equal_of x y) 1 1 first_two (omega arith) (omega arith) (sides op.Equal (equal_of x y) ready) p (λ q low. comparison_gives.equal s q k c depth x y low)
+    binary_part op.NotEqual ready p =
+        by_tail (binary_tail op.NotEqual) R1 R2 (unequal_of x y) 3 2 first_two (omega arith) (omega arith) (sides op.NotEqual (unequal_of x y) ready) p (λ q low. comparison_gives.unequal s q k c depth x y low)
+    binary_part op.In ready p =
+        by_tail (binary_tail op.In) R1 R2 (member_of x y) 1 1 first_two (omega arith) (omega arith) (sides op.In (member_of x y) ready) p (λ q low. comparison_gives.member s q k c depth x y low)
+    binary_part op.Subtract ready p =
+        by_tail (binary_tail op.Subtract) R6 R7 (difference_of x y) 19 5 kept_two (omega arith) (omega arith) (sides op.Subtract (difference_of x y) ready) p (λ q low. difference_gives s q k c depth x y low)
+    binary_part op.Multiply ready p =
+        by_tail (binary_tail op.Multiply) R6 R7 (product_of x y) 23 5 kept_two (omega arith) (omega arith) (sides op.Multiply (product_of x y) ready) p (λ q low. products_give.product s q k c depth x y low)
+    binary_part op.Divide ready p =
+        by_tail (binary_tail op.Divide) R6 R7 (quotient_of x y) 20 5 kept_two (omega arith) (omega arith) (sides op.Divide (quotient_of x y) ready) p (λ q low. products_give.quotient s q k c depth x y low)
+    binary_part op.Remainder ready p =
+        by_tail (binary_tail op.Remainder) R6 R7 (remainder_of x y) 20 5 kept_two (omega arith) (omega arith) (sides op.Remainder (remainder_of x y) ready) p (λ q low. products_give.remainder s q k c depth x y low)
 
   -- ---- list and map literals
 
@@ -254,7 +276,8 @@ module _ (s : Setting) (scope : List Variable) (rs : List (List ℕ × ℕ)) (te
       (list_gives.more s p k (code a (k + 1) p) (items_code more texts rs c.words k (p + size (code a (k + 1) p) + 4)) c depth x xs _ _ _ _ ready.low
       (λ h. ready.may (grind (arith, or_left, or_right))) (first (grind (arith, texts_front, or_left)) p) (rest (grind (arith, texts_back, or_right)) _))
 
-  pub list_part : (es : CoreTrees) (xs : List ValueOrError) (t : Cost) → ItemsPart s scope rs texts depth c k es xs t → Part s scope rs texts depth c k (core.list es) (list_literal xs) (node (list_literal xs) and t)
+  pub list_part : (es : CoreTrees) (xs : List ValueOrError) (t : Cost) → ItemsPart s scope rs texts depth c k es xs t
+      → Part s scope rs texts depth c k (core.list es) (list_literal xs) (node (list_literal xs) and t)
   unfolding code_of need deepest texts_of IsAccepted
   list_part es xs t items ready p = grind (arith, result_size_least, gives_within, list_gives)
 
@@ -271,6 +294,7 @@ module _ (s : Setting) (scope : List Variable) (rs : List (List ℕ × ℕ)) (te
       (λ h. ready.may (grind (arith, or_left, or_right))) (first (grind (arith, texts_front, or_left)) p)
       (second (grind (arith, texts_front, texts_back, or_left, or_right)) _) (rest (grind (arith, texts_back, or_right)) _))
 
-  pub map_part : (es : CoreEntries) (xs : List (ValueOrError × ValueOrError)) (t : Cost) → EntriesPart s scope rs texts depth c k es xs t → Part s scope rs texts depth c k (core.map es) (map_literal xs) (node (map_literal xs) and t)
+  pub map_part : (es : CoreEntries) (xs : List (ValueOrError × ValueOrError)) (t : Cost) → EntriesPart s scope rs texts depth c k es xs t
+      → Part s scope rs texts depth c k (core.map es) (map_literal xs) (node (map_literal xs) and t)
   unfolding code_of need deepest texts_of IsAccepted
   map_part es xs t entries ready p = grind (arith, result_size_least, gives_within, map_gives)

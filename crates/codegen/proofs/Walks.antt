@@ -32,12 +32,15 @@ module _ (ts : List (List ℕ)) (rs : List (List ℕ × ℕ)) (ws : Kept) (k p :
   call_of_others n (y ∷ []) other = absurd (other refl)
   call_of_others n _ other = refl
 
-  pub method_of_none : (a : CoreTree) (n : List ℕ) (items : List Core) (of : List Insn) → length items < 1 → of ≡ code_of a ts rs ws k p → method_function_code (function_named n) (leaf_of a ws) of ≡ code_of (core.method a n (cores (map core_view items))) ts rs ws k p
+  pub method_of_none : (a : CoreTree) (n : List ℕ) (items : List Core) (of : List Insn) → length items < 1 → of ≡ code_of a ts rs ws k p
+      → method_function_code (function_named n) (leaf_of a ws) of ≡ code_of (core.method a n (cores (map core_view items))) ts rs ws k p
   unfolding code_of
   method_of_none a n [] of few h = ap (method_function_code (function_named n) (leaf_of a ws)) h
   method_of_none a n (y ∷ items) of few h = absurd (omega arith)
 
-  pub method_of_one : (a : CoreTree) (n : List ℕ) (items : List Core) (x : Core) (left right : List Insn) → 1 ≤ length items → length items < 2 → x ≡ get_or items 0 x → left ≡ code_of a ts rs ws k p → right ≡ code_of (core_view x) ts rs ws (k + 1) (p + kept_size (leaf_of a ws) left) → test_code (test_named n) (leaf_of a ws) left (leaf_of (core_view x) ws) right k ≡ code_of (core.method a n (cores (map core_view items))) ts rs ws k p
+  pub method_of_one : (a : CoreTree) (n : List ℕ) (items : List Core) (x : Core) (left right : List Insn) → 1 ≤ length items → length items < 2
+      → x ≡ get_or items 0 x → left ≡ code_of a ts rs ws k p → right ≡ code_of (core_view x) ts rs ws (k + 1) (p + kept_size (leaf_of a ws) left)
+      → test_code (test_named n) (leaf_of a ws) left (leaf_of (core_view x) ws) right k ≡ code_of (core.method a n (cores (map core_view items))) ts rs ws k p
   unfolding code_of
   method_of_one a n (y ∷ []) x left right some few is hl hr = grind arith
   method_of_one a n _ x left right some few is hl hr = absurd (omega arith)

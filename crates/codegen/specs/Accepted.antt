@@ -1,9 +1,8 @@
 -- The forms of the expressions that have code: those that the type checker takes.
 use Rattle.std.specs.Prelude.{◌≡◌, ℕ, true, false, List, Some, IsSome, bytes_eq}
 use Rattle.std.specs.List.{list_any}
-use Rattle.cel_macros.specs.CoreTree.{CoreTree, CoreTrees, CoreEntries, no_cores, more_cores, no_core_entries, more_core_entries}
+use Rattle.cel_macros.specs.CoreTree.{CoreTree, CoreTrees, CoreEntries, no_cores, more_cores, no_core_entries, more_core_entries, map, fold, fold_map}
 use Rattle.cel_macros.specs.CoreTree.{plain_tree, literal, name, variable, select, has, index, call, method, unary, binary, ternary, list}
-use Rattle.cel_macros.specs.CoreTree.{map, fold, fold_map}
 use Rattle.cel_macros.specs.Functions.{Size, function_named, test_named}
 use Rattle.cel_macros.specs.Macros.{is_variables}
 

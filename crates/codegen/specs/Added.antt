@@ -12,8 +12,7 @@ use Rattle.codegen.specs.Code.Whole.{whole_code}
 use Rattle.codegen.specs.Constants.{with_texts}
 use Rattle.codegen.specs.Emitted.{Emitted, with_nodes, with_piece}
 use Rattle.codegen.specs.Surroundings.{routines_of}
-use Rattle.codegen.specs.declared.emitter.Addition.{Addition}
-use Rattle.codegen.specs.declared.emitter.Addition.TheVariants.{Expression, Variable}
+use Rattle.codegen.specs.declared.emitter.Addition.{Addition, TheVariants.Expression, TheVariants.Variable}
 
 -- there is room for code: an image has slots for 512 nodes, 128 for each
 abbrev pub has_room : Emitted → Bool
@@ -51,7 +50,7 @@ with_routine e scope tree =
 abbrev pub with_variable : Emitted → List Declaration → CoreTree → Emitted
 with_variable e scope tree = with_routine (with_counted e tree (1 + nodes tree)) scope tree
 
--- what the expression is added as
+-- the emitter once the expression is added as this
 abbrev pub with_addition : Addition → Emitted → List Declaration → CoreTree → Emitted
 with_addition Expression = with_expression
 with_addition Variable = with_variable

@@ -1,10 +1,12 @@
 //! The texts that code names.
 
 ghost use Rattle.std.specs.Prelude.{◌≡◌, map, option_map, length, string_bytes, take, IfOk, OnOk};
+ghost use Rattle.cel_macros.specs.CoreTree.{plain_tree};
 ghost use Rattle.cel_macros.specs.CoreView.{core_view};
 ghost use Rattle.cel_measures.specs.Saturated.{saturated};
 ghost use Rattle.codegen.specs.Code.Expressions.{texts_of};
 ghost use Rattle.codegen.specs.Constants as specs;
+ghost use Rattle.codegen.specs.HasLiterals.{HasLiterals};
 
 use crate::texts::add_texts;
 use cel_macros::Core;
@@ -35,14 +37,16 @@ fn take_each(alloc: Global, texts: &mut IndexSet<String>, used: &[String]) -> Re
     Ok(())
 }
 
-/// Takes the texts of the expression among the others, each if it is not there, in order of first use.
-/// The error says that there is no memory for all of them; those that were there are still in front.
+/// Takes the texts of the expression among the others, each if it is not there, in order of first use; its
+/// literals are values. The error says that there is no memory for all of them; those that were there are
+/// still in front.
 pub(crate) fn take_texts(
     alloc: Global,
     texts: &mut IndexSet<String>,
     core: &Core,
 ) -> Result<(), AllocError>
     ensures ok { OnOk result (map string_bytes texts.new.keys ≡ specs.with_texts (map string_bytes texts.old.keys) (texts_of (core_view core.now))) }
+    ensures literals { OnOk result (HasLiterals (plain_tree (core_view core.now))) }
     ensures front { take (length texts.old.keys) texts.new.keys ≡ texts.old.keys }
 {
     let mut used = Vec::new(alloc);

@@ -10,7 +10,6 @@ ghost use Rattle.codegen.specs.Layer.{EmitsMeaning, EmitsRoutine};
 
 use crate::code_error::CodeError;
 use crate::emitter::{Addition, Emitter};
-use crate::literals_fit::literals_fit;
 use crate::whole_expression::MOST_WORDS;
 use cel_macros::Core;
 use cel_measures::{depth, need};
@@ -47,8 +46,6 @@ pub fn expression(
     if need(core) > MOST_WORDS {
         return Err(CodeError::G1);
     }
-    // what is called only for its contract: the literals are values, by their types
-    literals_fit(core);
     emitter.add(alloc, Addition::Expression, core, scope.variables())?;
     Ok(())
 }
@@ -85,8 +82,6 @@ pub fn variable(
     if depth(core, scope) > GREATEST_DEPTH {
         return Err(CodeError::G2);
     }
-    // as above
-    literals_fit(core);
     emitter.add(alloc, Addition::Variable, core, scope.variables())?;
     Ok(())
 }

@@ -4,12 +4,14 @@ ghost use Rattle.std.specs.Prelude.{◌≡◌, ◌≢◌, ◌+◌, ◌*◌, ◌<
 ghost use Rattle.insn_codec.specs.Spelling.{slot_count, spelling};
 ghost use Rattle.insn_codec.specs.declared.insn.Insn.{Insn};
 ghost use Rattle.insn_codec.specs.declared.insn.Insn.TheVariants.{Exit};
+ghost use Rattle.cel_macros.specs.CoreTree.{plain_tree};
 ghost use Rattle.cel_macros.specs.CoreView.{core_view};
 ghost use Rattle.cel_measures.specs.Measures.{need, nodes};
 ghost use Rattle.cel_types.specs.Declarations.{declaration};
 ghost use Rattle.codegen.specs.Added.{code_at, with_addition, IsBehind};
 ghost use Rattle.codegen.specs.Constants.{joined as joined_texts};
 ghost use Rattle.codegen.specs.Emitted.{no_code, with_piece, with_insn_at, with_nodes, slot_spellings, IsTooLong, HasTooManyTexts};
+ghost use Rattle.codegen.specs.HasLiterals.{HasLiterals};
 ghost use Rattle.codegen_base.specs.Pieces.{slots, insn_slots, size};
 
 use crate::code::Code;
@@ -112,8 +114,8 @@ impl Emitter {
         self.nodes = self.nodes.saturating_add(n);
     }
 
-    /// Takes what is added: its texts and nodes, and its code behind the code where there is room. The
-    /// error says that there is no memory for it.
+    /// Takes what is added: its texts and nodes, and its code behind the code where there is room. Its
+    /// literals are values. The error says that there is no memory for it.
     pub(crate) fn add(
         &mut self,
         alloc: Global,
@@ -126,6 +128,7 @@ impl Emitter {
         ensures low { All (λ slot. slot ≤ 0x7fff_ff00) self.old.routines }
         ensures inside { length self.old.code ≤ 0x7fff_0000 }
         ensures ok { OnOk result (self.new ≡ with_addition addition self.old (map declaration scope.now) (core_view core.now)) }
+        ensures literals { OnOk result (HasLiterals (plain_tree (core_view core.now))) }
         ensures err { OnErr result (self.new ≡ self.old) }
     {
         let (texts, routines, nodes) = (self.constants.len(), self.routines.len(), self.nodes);
@@ -148,6 +151,7 @@ impl Emitter {
     ) -> Result<(), AllocError>
         requires { need (core_view core.now) ≤ 60 }
         ensures ok { OnOk result (self.new ≡ with_addition addition self.old (map declaration scope.now) (core_view core.now)) }
+        ensures literals { OnOk result (HasLiterals (plain_tree (core_view core.now))) }
         ensures err { OnErr result (IsBehind self.old self.new) }
     {
         take_texts(alloc, &mut self.constants, core)?;

@@ -10,7 +10,6 @@ mod expressions;
 mod frame_words;
 mod instructions;
 mod laws;
-mod literals_fit;
 mod part;
 mod path;
 mod spot;

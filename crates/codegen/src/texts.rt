@@ -1,10 +1,15 @@
-//! The texts that the code of an expression names.
+//! The texts that the code of an expression names, and that its literals are values.
 
-ghost use Rattle.std.specs.Prelude.{◌≡◌, ◌++◌, ◌∷◌, [], OnOk, string_bytes};
+ghost use Rattle.std.specs.Int.{w64};
+ghost use Rattle.std.specs.Prelude.{◌≡◌, ◌++◌, ◌∷◌, [], FitsSigned, OnOk, string_bytes};
 ghost use Rattle.std.specs.Prelude as list;
+ghost use Rattle.cel_macros.specs.CoreTree.{plain_tree, plain_trees, plain_entries};
 ghost use Rattle.cel_macros.specs.CoreView.{core_view, cores, core_entries};
 ghost use Rattle.cel_macros.specs.Expanding.{core_pair};
-ghost use Rattle.codegen.specs.Code.Expressions.{texts_of, texts_of_each, texts_of_entries};
+ghost use Rattle.cel_reader.specs.Tree.{literal_view};
+ghost use Rattle.cel_reader.specs.WellFormed.{IsWellFormedLiteral};
+ghost use Rattle.codegen.specs.Code.Expressions.{literal_texts, texts_of, texts_of_each, texts_of_entries};
+ghost use Rattle.codegen.specs.HasLiterals.{HasLiterals, HaveLiterals, EntriesHaveLiterals};
 
 use cel_macros::Core;
 use cel_reader::Literal;
@@ -19,11 +24,34 @@ fn add(alloc: Global, text: &str, texts: &mut Vec<String>) -> Result<(), AllocEr
     Ok(())
 }
 
-/// Puts the texts of these behind the others.
+/// An int is of 64 bits signed.
+fn int_fits(n: i64)
+    ensures { FitsSigned w64 n }
+{
+    let _ = n;
+}
+
+/// Puts the literal, where it is a text, behind the others. An int is of 64 bits, and a text is UTF-8, as
+/// their types have it.
+#[tactic(auto, using(crate::proofs::Behind::texts_fit))]
+fn add_literal(alloc: Global, literal: &Literal, texts: &mut Vec<String>) -> Result<(), AllocError>
+    ensures texts { OnOk result (list.map string_bytes texts.new.items ≡ list.map string_bytes texts.old.items ++ literal_texts (literal_view literal.now)) }
+    ensures literals { IsWellFormedLiteral (literal_view literal.now) }
+{
+    match literal {
+        Literal::Text(text) => add(alloc, text.as_str(), texts)?,
+        Literal::Int(n) => int_fits(*n),
+        Literal::Bool(_) | Literal::Null => {}
+    }
+    Ok(())
+}
+
+/// Puts the texts of these behind the others; their literals are values.
 #[cycle(texts)]
-#[tactic(auto, unfolding(crate::specs::Code::Expressions::texts_of))]
+#[tactic(auto, unfolding(crate::specs::Code::Expressions::texts_of, cel_macros::specs::CoreTree::plain_tree))]
 fn add_parts(alloc: Global, parts: &[Core], texts: &mut Vec<String>) -> Result<(), AllocError>
-    ensures { OnOk result (list.map string_bytes texts.new.items ≡ list.map string_bytes texts.old.items ++ texts_of_each (cores (list.map core_view parts.now))) }
+    ensures texts { OnOk result (list.map string_bytes texts.new.items ≡ list.map string_bytes texts.old.items ++ texts_of_each (cores (list.map core_view parts.now))) }
+    ensures literals { OnOk result (HaveLiterals (plain_trees (cores (list.map core_view parts.now)))) }
 {
     for part in parts {
         add_texts(alloc, part, texts)?;
@@ -31,15 +59,16 @@ fn add_parts(alloc: Global, parts: &[Core], texts: &mut Vec<String>) -> Result<(
     Ok(())
 }
 
-/// Puts the texts of these keys and values behind the others.
+/// Puts the texts of these keys and values behind the others; their literals are values.
 #[cycle(texts)]
-#[tactic(auto, unfolding(crate::specs::Code::Expressions::texts_of))]
+#[tactic(auto, unfolding(crate::specs::Code::Expressions::texts_of, cel_macros::specs::CoreTree::plain_tree))]
 fn add_entries(
     alloc: Global,
     pairs: &[(Core, Core)],
     texts: &mut Vec<String>,
 ) -> Result<(), AllocError>
-    ensures { OnOk result (list.map string_bytes texts.new.items ≡ list.map string_bytes texts.old.items ++ texts_of_entries (core_entries (list.map core_pair pairs.now))) }
+    ensures texts { OnOk result (list.map string_bytes texts.new.items ≡ list.map string_bytes texts.old.items ++ texts_of_entries (core_entries (list.map core_pair pairs.now))) }
+    ensures literals { OnOk result (EntriesHaveLiterals (plain_entries (core_entries (list.map core_pair pairs.now)))) }
 {
     for (key, value) in pairs {
         add_texts(alloc, key, texts)?;
@@ -48,20 +77,21 @@ fn add_entries(
     Ok(())
 }
 
-/// Puts the texts that the code of the expression names behind the others, in order of first use. The
-/// error says that there is no memory for them.
+/// Puts the texts that the code of the expression names behind the others, in order of first use; its
+/// literals are values. The error says that there is no memory for the texts.
 #[cycle(texts)]
-#[tactic(auto, unfolding(crate::specs::Code::Expressions::texts_of))]
+#[tactic(auto, unfolding(crate::specs::Code::Expressions::texts_of, cel_macros::specs::CoreTree::plain_tree))]
 pub(crate) fn add_texts(
     alloc: Global,
     core: &Core,
     texts: &mut Vec<String>,
 ) -> Result<(), AllocError>
-    ensures { OnOk result (list.map string_bytes texts.new.items ≡ list.map string_bytes texts.old.items ++ texts_of (core_view core.now)) }
+    ensures texts { OnOk result (list.map string_bytes texts.new.items ≡ list.map string_bytes texts.old.items ++ texts_of (core_view core.now)) }
+    ensures literals { OnOk result (HasLiterals (plain_tree (core_view core.now))) }
 {
     match core {
-        Core::Literal(Literal::Text(text)) => add(alloc, text.as_str(), texts),
-        Core::Literal(_) | Core::Name(_) | Core::Variable(_) => Ok(()),
+        Core::Literal(literal) => add_literal(alloc, literal, texts),
+        Core::Name(_) | Core::Variable(_) => Ok(()),
         Core::Select(of, field) | Core::Has(of, field) => {
             add_texts(alloc, of, texts)?;
             add(alloc, field.as_str(), texts)

@@ -1,9 +1,10 @@
 -- The checking of a policy, step by step, over plain variables.
-use Rattle.policy_glue.proofs.Prelude.{◌≡◌, ◌≤◌, ◌<◌, ◌++◌, ◌∷◌, ℕ, List, [], nat_lt, false, Option, Some, None, Result, Ok, Err, IsErr, IfSome, arith, refl, sym, ap, ◌∙◌, ◌+◌, drop, get_or, length, length-append, map, subst, false≢true, ltb-false, nat_tests, All, IsErrAnd, ReadError, P1, P2, P3, P4, P5, P6, Tree, Answers, Placed, CoreTree, expanded, core_view, MacroFault, ArgumentCount, IterationName, NoSelection, macro_fault, fault_error, Core, MacroError, Declaration, declared, depths_of, scope_of, allowed, typing, CelType, depth, need, saturated, ChecksRule, Expands, IsAdded, IsExpanded, Judges, JudgesVariable, Sorts, SortsMessage, AreTaken, Checks, ChecksConditions, ChecksRules, ChecksVariables, IsFormedVariable, rule_trees, variable_expanded, Reads, IsRefused, unread, judged, refused, of_another_type, expression, message, depth_in, expression_judged, texts, truths, type_or_any, variable_judged, with_depth, with_macros, with_typing, Ends, over, next, IsVariable, TakesVariable, RefusesVariable, ValidationsEnd, in_conditions, in_validations, in_variables, scope_after, taken, with_variable, from_macros, from_reader, in_part, CompileError, Named, Rule, Rules, CheckedValidation, K7, K9, PartKind, Message, Validation, ExpressionError, G1, G2, Unread, Unexpanded, Untyped, drop_of_length-le, drop_more, map-append, All-push, fold-append, Checked, NamedExpression}
+use Rattle.policy_glue.proofs.Prelude.{◌≡◌, ◌≤◌, ◌<◌, ◌++◌, ◌∷◌, ℕ, List, [], nat_lt, false, Option, Some, None, Result, Ok, Err, IsErr, IfSome, arith, refl, sym, ap, ◌∙◌, ◌+◌, drop, get_or, length, length-append, map, subst, false≢true, nat_tests, All, IsErrAnd, ReadError, P1, P2, P3, P4, P5, P6, Tree, Answers, Placed, CoreTree, expanded, core_view, MacroFault, ArgumentCount, IterationName, NoSelection, macro_fault, fault_error, Core, MacroError, Declaration, declared, depths_of, scope_of, allowed, typing, CelType, depth, need, saturated, ChecksRule, Expands, IsAdded, IsExpanded, Judges, JudgesVariable, Sorts, SortsMessage, AreTaken, Checks, ChecksConditions, ChecksRules, ChecksVariables, IsFormedVariable, rule_trees, variable_expanded, Reads, IsRefused, unread, judged, refused, of_another_type, expression, message, depth_in, expression_judged, texts, truths, type_or_any, variable_judged, with_depth, with_macros, with_typing, Ends, over, next, IsVariable, TakesVariable, RefusesVariable, ValidationsEnd, in_conditions, in_validations, in_variables, scope_after, taken, with_variable, from_macros, from_reader, in_part, CompileError, Named, Rule, Rules, CheckedValidation, K7, K9, PartKind, Message, Validation, ExpressionError, G1, G2, Unread, Unexpanded, Untyped, drop_of_length-le, drop_more, map-append, All-push, fold-append, Checked, NamedExpression}
 use Rattle.cel_tokens.specs.declared.read_error.ReadError.TheVariants as read_error
 use Rattle.cel_macros.specs.declared.macro_error.MacroError.TheVariants as macro_error
 use Rattle.policy_glue.specs.Checked.{AreConditions, AreRules, AreVariables}
 use Rattle.policy_glue.specs.declared.expression_error.ExpressionError.TheVariants as expression_error
+use Rattle.policy_glue.specs.declared.part_kind.PartKind.TheVariants.{Variable}
 use Rattle.policy_glue.proofs.OneAnswer.{err_same}
 
 unread_by : (text : List ℕ) (e : ReadError) → Answers text (Err e) → Placed text (Err e) → Expands text (Err (from_reader e))
@@ -69,21 +70,35 @@ refused_too : (scope : List Declaration) (text : List ℕ) (e : ExpressionError)
 refused_too scope text e (unread why is) = unread why is
 refused_too scope text e (judged a why reads is) = judged a why reads (ap (with_depth (depth_in scope a)) is)
 
-pub variable_refused : (scope : List Declaration) (text : List ℕ) (e : ExpressionError) (r : Result (Core × CelType) ExpressionError)
-    → Judges (expression_judged scope) text (Err e) → IsErr r → IsErrAnd r (λ x. x ≡ e) → Judges (variable_judged scope) text r
-variable_refused scope text e r judges err is = grind (arith, false≢true, refused_too)
+variable_by : (place : ℕ) (scope : List Declaration) (text : List ℕ) (e : ExpressionError) (x : CompileError)
+    → Judges (variable_judged scope) text (Err e) → x ≡ in_part Variable place e → JudgesVariable scope place text (Err x)
+variable_by place scope text e x judges is = grind arith
+
+pub variable_refused : (place : ℕ) (scope : List Declaration) (text : List ℕ) (e : ExpressionError) (x : CompileError)
+    → Judges (expression_judged scope) text (Err e) → x ≡ in_part Variable place e → JudgesVariable scope place text (Err x)
+variable_refused place scope text e x judges is = variable_by place scope text e x (λ some. refused_too scope text e (judges some)) is
 
 depth_by : (scope : List Declaration) (core : Core) (a : Tree) (m : ℕ) → core_view core ≡ expanded a → m ≡ saturated (depth (core_view core) (depths_of scope))
     → m ≡ saturated (depth_in scope a)
 depth_by scope core a m expands is = is ∙ ap (λ t. saturated (depth t (depths_of scope))) expands
 
-pub deep_is : (scope : List Declaration) (text : List ℕ) (core : Core) (t : CelType) (m : ℕ) → Judges (expression_judged scope) text (Ok (core, t))
-    → m ≡ saturated (depth (core_view core) (depths_of scope)) → 6 < m → Judges (variable_judged scope) text (Err G2)
-deep_is scope text core t m judges is above = λ some. judged judges.0 G2 judges.2.reads (grind (arith, nat_tests))
+pub deep_is : (place : ℕ) (scope : List Declaration) (text : List ℕ) (core : Core) (t : CelType) (m : ℕ) (x : CompileError)
+    → Judges (expression_judged scope) text (Ok (core, t)) → m ≡ saturated (depth (core_view core) (depths_of scope)) → 6 < m
+    → x ≡ in_part Variable place G2 → JudgesVariable scope place text (Err x)
+deep_is place scope text core t m x judges depth_is above is =
+    variable_by place scope text G2 x (λ some. judged judges.0 G2 judges.2.reads (grind (arith, nat_tests))) is
+
+pub shallow_is : (place : ℕ) (scope : List Declaration) (text : List ℕ) (core : Core) (t : CelType) (m : ℕ)
+    → Judges (expression_judged scope) text (Ok (core, t)) → m ≡ saturated (depth (core_view core) (depths_of scope)) → m ≤ 6
+    → JudgesVariable scope place text (Ok (core, t, m))
+shallow_is place scope text core t m judges is low =
+    let known : m ≡ depth_in scope judges.0 = let same = depth_by scope core judges.0 m judges.1.0 is in omega arith in
+    (judges.0, judges.1, record { reads = judges.2.reads; judged = grind (arith, nat_tests) }, known)
 
 -- ---- the kind of a type
 
-pub other_is : (types : List CelType) (other : CompileError) (part : PartKind) (place : ℕ) (scope : List Declaration) (text : List ℕ) (core : Core) (t : CelType) → Judges (expression_judged scope) text (Ok (core, t)) → allowed types t ≡ false → Sorts types other part place scope text (Err other)
+pub other_is : (types : List CelType) (other : CompileError) (part : PartKind) (place : ℕ) (scope : List Declaration) (text : List ℕ) (core : Core) (t : CelType)
+    → Judges (expression_judged scope) text (Ok (core, t)) → allowed types t ≡ false → Sorts types other part place scope text (Err other)
 other_is types other part place scope text core t judges kind =
     λ some. of_another_type (record { tree = judges.0; cel_type = t; taken = judges.2; kind = kind })
 
@@ -96,7 +111,8 @@ part_by types other part place scope text G1 judges = λ some. refused G1 (judge
 part_by types other part place scope text G2 judges = λ some. refused G2 (judges (λ no. cc))
 part_by types other part place scope text expression_error.Memory judges = λ some. absurd (some refl)
 
-pub part_refused : (types : List CelType) (other : CompileError) (part : PartKind) (place : ℕ) (scope : List Declaration) (text : List ℕ) (e : ExpressionError) (x : CompileError) → Judges (expression_judged scope) text (Err e) → x ≡ in_part part place e → Sorts types other part place scope text (Err x)
+pub part_refused : (types : List CelType) (other : CompileError) (part : PartKind) (place : ℕ) (scope : List Declaration) (text : List ℕ) (e : ExpressionError) (x : CompileError)
+    → Judges (expression_judged scope) text (Err e) → x ≡ in_part part place e → Sorts types other part place scope text (Err x)
 part_refused types other part place scope text e x judges is = grind (arith, part_by)
 
 -- ---- a variable in scope
@@ -105,25 +121,21 @@ part_refused types other part place scope text e x judges is = grind (arith, par
 pub shallow_known : (d : ℕ) (r : Result CelType ExpressionError) (u : CelType) → with_depth d r ≡ Ok u → (nat_lt 6 d ≡ false) × (r ≡ Ok u)
 shallow_known d r u is = grind arith
 
-small_by : (d : ℕ) → nat_lt 6 d ≡ false → saturated d ≡ d
-small_by d is = let within : d ≤ 6 = ltb-false 6 d is in omega arith
-
 type_in_scope : (scope : List Declaration) (a : Tree) (t : CelType) → expression_judged scope a ≡ Ok t → type_or_any (typing a (scope_of scope)) ≡ t
 unfolding expression_judged
 type_in_scope scope a t is = grind arith
 
 pub added_is : (n : Named) (place : ℕ) (old new : List Declaration) (core : Core) (t : CelType) (d : ℕ) (before after : List CoreTree)
-    → JudgesVariable old place n.expression (Ok (core, t)) → d ≡ saturated (depth (core_view core) (depths_of old)) → new ≡ old ++ declared n.name t d ∷ []
+    → JudgesVariable old place n.expression (Ok (core, t, d)) → new ≡ old ++ declared n.name t d ∷ []
     → after ≡ before ++ core_view core ∷ [] → IsAdded n old new before after
-added_is n place old new core t d before after judges depth_is scope_is trees_are =
+added_is n place old new core t d before after judges scope_is trees_are =
     let a = judges.0 in
     let known = shallow_known (depth_in old a) (expression_judged old a) t judges.2.judged in
-    let deep : d ≡ depth_in old a = depth_by old core a d judges.1.0 depth_is ∙ small_by (depth_in old a) known.0 in
     let kind : type_or_any (typing a (scope_of old)) ≡ t = type_in_scope old a t known.1 in
     record {
       variable = record { name = n.name; expression = a };
       taken = record { name = refl; cel_type = t; tree = judges.2 };
-      scope = scope_is ∙ ap (λ k. old ++ declared n.name t k ∷ []) deep ∙ ap (λ u. old ++ declared n.name u (depth_in old a) ∷ []) (sym kind);
+      scope = scope_is ∙ ap (λ k. old ++ declared n.name t k ∷ []) judges.3 ∙ ap (λ u. old ++ declared n.name u (depth_in old a) ∷ []) (sym kind);
       trees = trees_are ∙ ap (λ c. before ++ c ∷ []) judges.1.0;
       formed = judges.1.1;
     }
@@ -237,10 +249,12 @@ pushed f old new x is = ap (map f) is ∙ map-append f old (x ∷ [])
 pub refused_variables : (p : Rules) (e : CompileError) → ChecksVariables p.variables (Err e) → Checks p (Err e)
 refused_variables p e checks = λ some. in_variables e (checks some)
 
-pub refused_conditions : (p : Rules) (scope : List Declaration) (trees : List CoreTree) (e : CompileError) → AreVariables p.variables scope trees → ChecksConditions p.conditions (Err e) → Checks p (Err e)
+pub refused_conditions : (p : Rules) (scope : List Declaration) (trees : List CoreTree) (e : CompileError) → AreVariables p.variables scope trees
+    → ChecksConditions p.conditions (Err e) → Checks p (Err e)
 refused_conditions p scope trees e variables checks = λ some. in_conditions variables.are.taken e variables.are.end (checks some)
 
-pub refused_validations : (p : Rules) (scope : List Declaration) (trees others : List CoreTree) (e : CompileError) → AreVariables p.variables scope trees → AreConditions p.conditions others → ChecksRules scope p.validations (Err e) → Checks p (Err e)
+pub refused_validations : (p : Rules) (scope : List Declaration) (trees others : List CoreTree) (e : CompileError)
+    → AreVariables p.variables scope trees → AreConditions p.conditions others → ChecksRules scope p.validations (Err e) → Checks p (Err e)
 refused_validations p scope trees others e variables conditions checks = λ some.
     in_validations variables.are.taken conditions.taken e variables.are.end conditions.end (subst (λ s. ValidationsEnd s p.validations (Err e)) variables.scope_is (checks some))
 

@@ -5,12 +5,7 @@ mod Judged
 mod Lists
 mod OnLiterals
 mod OneAnswer
-mod ProgramConditions
-mod ProgramRuns
-mod ProgramSizes
-mod ProgramValidations
-mod ProgramWhole
-mod ProgramWords
+mod Programs
 mod Read
 mod Told
 pub mod Prelude

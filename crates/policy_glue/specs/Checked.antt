@@ -10,21 +10,18 @@ use Rattle.cel_macros.specs.declared.core_tree.Core.{Core}
 use Rattle.cel_types.specs.Declarations.{Declaration}
 use Rattle.cel_types.specs.declared.scope.Scope.{Scope}
 use Rattle.cel_types.specs.declared.cel_type.CelType.{CelType}
-use Rattle.policy_glue.specs.Checking.{Ends, Reads, IsTaken, IsRefused, IsOneOf, IsNoneOf, IsVariable, IsNoVariable, IsMessage, IsRule, IsNoRule}
+use Rattle.policy_glue.specs.Checking.{Ends, Reads, IsTaken, IsRefused, IsOneOf, IsNoneOf, IsVariable, IsNoVariable, IsMessage, IsRule, IsNoRule, with_variable}
 use Rattle.policy_glue.specs.Checking.{PartsEnd, VariablesEnd, ConditionsEnd, ValidationsEnd, TakesVariable, TakesCondition, TakesRule}
-use Rattle.policy_glue.specs.Checking.{RefusesVariable, RefusesCondition, RefusesRule, expression_judged, scope_after, texts, variable_judged}
-use Rattle.policy_glue.specs.Checking.{with_variable}
+use Rattle.policy_glue.specs.Checking.{RefusesVariable, RefusesCondition, RefusesRule, depth_in, expression_judged, scope_after, texts, variable_judged}
 use Rattle.policy_glue.specs.Policy.{Named, Rule, Rules}
 use Rattle.policy_glue.specs.Trees.{VariableTree, RuleTree, PolicyTree}
 use Rattle.policy_glue.specs.declared.checked.Checked.{Checked}
 use Rattle.policy_glue.specs.declared.checked_validation.CheckedValidation.{CheckedValidation}
-use Rattle.policy_glue.specs.declared.compile_error.CompileError.{CompileError}
-use Rattle.policy_glue.specs.declared.compile_error.CompileError.TheVariants.{K9}
+use Rattle.policy_glue.specs.declared.compile_error.CompileError.{CompileError, TheVariants.K9}
 use Rattle.policy_glue.specs.declared.compile_error.CompileError.TheVariants as compile_error
 use Rattle.policy_glue.specs.declared.expression_error.ExpressionError.{ExpressionError}
 use Rattle.policy_glue.specs.declared.expression_error.ExpressionError.TheVariants as expression_error
-use Rattle.policy_glue.specs.declared.part_kind.PartKind.{PartKind}
-use Rattle.policy_glue.specs.declared.part_kind.PartKind.TheVariants.{Message}
+use Rattle.policy_glue.specs.declared.part_kind.PartKind.{PartKind, TheVariants.Message}
 
 -- the tree with its macros expanded, whose literals are values and whose names are names
 abbrev pub IsExpanded : Core → Tree → Type 0
@@ -51,9 +48,10 @@ Sorts types other part place scope text (Err e) = e ≢ compile_error.Memory →
 
 -- ---- parts and lists of them
 
--- a variable's text is judged
-abbrev pub JudgesVariable : List Declaration → ℕ → List ℕ → Result (Core × CelType) CompileError → Type 0
-JudgesVariable scope place text (Ok x) = (a : Tree) × IsExpanded x.0 a × IsTaken (variable_judged scope) text a x.1
+-- a variable's text is judged, and its depth is told
+abbrev pub JudgesVariable : List Declaration → ℕ → List ℕ → Result (Core × CelType × ℕ) CompileError → Type 0
+JudgesVariable scope place text (Ok x) =
+    (a : Tree) × IsExpanded x.0 a × IsTaken (variable_judged scope) text a x.1 × (x.2 ≡ depth_in scope a)
 JudgesVariable scope place text (Err e) = e ≢ compile_error.Memory → IsNoVariable scope place text e
 
 -- a variable comes into scope, and its tree behind the others

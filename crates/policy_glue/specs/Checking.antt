@@ -1,7 +1,6 @@
 -- Which expressions a policy may have, and the first that is refused: variables, conditions and validations, each in its
 -- order, a message expression behind its validation, and each judged whole before the next.
-use Rattle.std.specs.Prelude.{◌≡◌, ℕ, true, false, List, [], ◌∷◌, ◌++◌, length, fold, nat_lt, Option, Some, None, Result, Ok, Err}
-use Rattle.std.specs.Prelude.{if◌then◌else◌}
+use Rattle.std.specs.Prelude.{◌≡◌, ℕ, true, false, List, [], ◌∷◌, ◌++◌, length, fold, nat_lt, Option, Some, None, Result, Ok, Err, if◌then◌else◌}
 use Rattle.cel_tokens.specs.declared.read_error.ReadError.{ReadError}
 use Rattle.cel_reader.specs.Tree.{Tree}
 use Rattle.cel_reader.specs.Answers.{HasTokens, IsAnswer, IsExpression}
@@ -13,17 +12,14 @@ use Rattle.cel_types.specs.Types.{TypeFault, Typing, UnknownName, NoOverload, Mi
 use Rattle.cel_types.specs.Typing.{typing as type_of}
 use Rattle.cel_types.specs.declared.cel_type.CelType.{CelType}
 use Rattle.cel_types.specs.declared.cel_type.CelType.TheVariants as type
-use Rattle.cel_types.specs.declared.type_error.TypeError.{TypeError}
-use Rattle.cel_types.specs.declared.type_error.TypeError.TheVariants.{Y1, Y2, Y3}
+use Rattle.cel_types.specs.declared.type_error.TypeError.{TypeError, TheVariants.Y1, TheVariants.Y2, TheVariants.Y3}
 use Rattle.cel_measures.specs.Measures.{need, depth}
 use Rattle.policy_glue.specs.Policy.{Named, Rule, Rules}
 use Rattle.policy_glue.specs.Trees.{VariableTree, RuleTree, PolicyTree}
-use Rattle.policy_glue.specs.declared.part_kind.PartKind.{PartKind}
-use Rattle.policy_glue.specs.declared.part_kind.PartKind.TheVariants.{Variable, Condition, Validation, Message}
+use Rattle.policy_glue.specs.declared.part_kind.PartKind.{PartKind, TheVariants.Variable, TheVariants.Condition, TheVariants.Validation, TheVariants.Message}
 use Rattle.policy_glue.specs.declared.expression_error.ExpressionError.{ExpressionError}
 use Rattle.policy_glue.specs.declared.expression_error.ExpressionError.TheVariants.{Unread, Unexpanded, Untyped, G1, G2}
-use Rattle.policy_glue.specs.declared.compile_error.CompileError.{CompileError}
-use Rattle.policy_glue.specs.declared.compile_error.CompileError.TheVariants.{K6, K7, K9}
+use Rattle.policy_glue.specs.declared.compile_error.CompileError.{CompileError, TheVariants.K6, TheVariants.K7, TheVariants.K9}
 
 -- ---- one tree: macros, types, stack words, and for a variable its depth
 

@@ -3,18 +3,14 @@ use Rattle.std.specs.Prelude.{ℕ, List, ◌++◌, codes, decimal}
 use Rattle.cel_tokens.specs.declared.read_error.ReadError.{ReadError}
 use Rattle.cel_tokens.specs.declared.read_error.ReadError.TheVariants.{P1, P2, P3, P4, P5, P6}
 use Rattle.cel_tokens.specs.declared.read_error.ReadError.TheVariants as read_error
-use Rattle.cel_macros.specs.declared.macro_error.MacroError.{MacroError}
-use Rattle.cel_macros.specs.declared.macro_error.MacroError.TheVariants.{M1, M2, M3}
+use Rattle.cel_macros.specs.declared.macro_error.MacroError.{MacroError, TheVariants.M1, TheVariants.M2, TheVariants.M3}
 use Rattle.cel_macros.specs.declared.macro_error.MacroError.TheVariants as macro_error
-use Rattle.cel_types.specs.declared.type_error.TypeError.{TypeError}
-use Rattle.cel_types.specs.declared.type_error.TypeError.TheVariants.{Y1, Y2, Y3}
-use Rattle.policy_glue.specs.declared.part_kind.PartKind.{PartKind}
-use Rattle.policy_glue.specs.declared.part_kind.PartKind.TheVariants.{Variable, Condition, Validation, Message}
+use Rattle.cel_types.specs.declared.type_error.TypeError.{TypeError, TheVariants.Y1, TheVariants.Y2, TheVariants.Y3}
+use Rattle.policy_glue.specs.declared.part_kind.PartKind.{PartKind, TheVariants.Variable, TheVariants.Condition, TheVariants.Validation, TheVariants.Message}
 use Rattle.policy_glue.specs.declared.expression_error.ExpressionError.{ExpressionError}
 use Rattle.policy_glue.specs.declared.expression_error.ExpressionError.TheVariants.{Unread, Unexpanded, Untyped, G1, G2}
 use Rattle.policy_glue.specs.declared.expression_error.ExpressionError.TheVariants as expression_error
-use Rattle.policy_glue.specs.declared.compile_error.CompileError.{CompileError}
-use Rattle.policy_glue.specs.declared.compile_error.CompileError.TheVariants.{K6, K7, K9, G3, G4}
+use Rattle.policy_glue.specs.declared.compile_error.CompileError.{CompileError, TheVariants.K6, TheVariants.K7, TheVariants.K9, TheVariants.G3, TheVariants.G4}
 use Rattle.policy_glue.specs.declared.compile_error.CompileError.TheVariants as compile_error
 
 -- the word for the kind of a part

@@ -13,8 +13,7 @@ use Rattle.policy_glue.specs.Limits.{Compiles, policy_nodes}
 use Rattle.policy_glue.specs.Policy.{Rules}
 use Rattle.policy_glue.specs.ProgramTrees.{Decides}
 use Rattle.policy_glue.specs.Trees.{PolicyTree}
-use Rattle.policy_glue.specs.declared.compile_error.CompileError.{CompileError}
-use Rattle.policy_glue.specs.declared.compile_error.CompileError.TheVariants.{Memory}
+use Rattle.policy_glue.specs.declared.compile_error.CompileError.{CompileError, TheVariants.Memory}
 use Rattle.policy_glue.specs.declared.failure_policy.FailurePolicy.{FailurePolicy}
 
 -- an image of version 2, with at most 128 slots of 8 bytes for each of the policy's nodes; on every five roots it has

@@ -16,8 +16,7 @@ use Rattle.policy_glue.specs.Evaluation.{decision_of}
 use Rattle.policy_glue.specs.Trees.{VariableTree, RuleTree, PolicyTree}
 use Rattle.policy_glue.specs.Verdict.{Verdict, Finding, Truth, Holds, Fails, Errs, Skipped, Rejected, Denied, Admitted}
 use Rattle.policy_glue.specs.declared.expression_error.ExpressionError.TheVariants.{Unexpanded, Untyped, G1, G2}
-use Rattle.policy_glue.specs.declared.failure_policy.FailurePolicy.{FailurePolicy}
-use Rattle.policy_glue.specs.declared.failure_policy.FailurePolicy.TheVariants.{Fail, Ignore}
+use Rattle.policy_glue.specs.declared.failure_policy.FailurePolicy.{FailurePolicy, TheVariants.Fail, TheVariants.Ignore}
 
 -- ---- decisions
 

@@ -7,8 +7,7 @@ use Rattle.policy_glue.specs.Response.{Denial}
 use Rattle.policy_glue.specs.declared.parts.Parts.{Parts}
 use Rattle.policy_glue.specs.declared.verdict.Verdict.{Verdict}
 use Rattle.policy_glue.specs.declared.denial.Denial.{Denial as CodeDenial}
-use Rattle.policy_glue.specs.declared.failure_policy.FailurePolicy.{FailurePolicy}
-use Rattle.policy_glue.specs.declared.failure_policy.FailurePolicy.TheVariants.{Fail, Ignore}
+use Rattle.policy_glue.specs.declared.failure_policy.FailurePolicy.{FailurePolicy, TheVariants.Fail, TheVariants.Ignore}
 
 abbrev pub denial_view : CodeDenial → Denial
 denial_view d = record { rule = rule_view d.validation.now; message = option_map (λ t. t.now) d.message }

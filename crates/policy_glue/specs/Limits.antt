@@ -9,8 +9,7 @@ use Rattle.codegen.specs.Code.Expressions.{texts_of}
 use Rattle.policy_glue.specs.Checking.{PartsEnd}
 use Rattle.policy_glue.specs.Policy.{Rules}
 use Rattle.policy_glue.specs.Trees.{VariableTree, RuleTree, PolicyTree}
-use Rattle.policy_glue.specs.declared.compile_error.CompileError.{CompileError}
-use Rattle.policy_glue.specs.declared.compile_error.CompileError.TheVariants.{G3, G4}
+use Rattle.policy_glue.specs.declared.compile_error.CompileError.{CompileError, TheVariants.G3, TheVariants.G4}
 
 -- ---- nodes: one for the policy, and one for each part beside those of its expression
 

@@ -6,8 +6,7 @@ use Rattle.policy_glue.specs.Policy.{Rules}
 use Rattle.policy_glue.specs.Response.{Denial, allowed_tree, denial_text, denials_of, denied_tree, first_reason, joined, review_tree}
 use Rattle.policy_glue.specs.Verdict.{Verdict, Outcome, Skipped, Admitted, Rejected, Denied}
 use Rattle.policy_glue.specs.declared.objection.Objection.{Objection as CodeObjection}
-use Rattle.policy_glue.specs.declared.reason.Reason.{Reason}
-use Rattle.policy_glue.specs.declared.reason.Reason.TheVariants.{Invalid}
+use Rattle.policy_glue.specs.declared.reason.Reason.{Reason, TheVariants.Invalid}
 
 -- what is said against a request
 pub record Objection : Type 0 where

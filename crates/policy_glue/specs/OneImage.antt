@@ -3,8 +3,7 @@
 -- `compiles_once`), which is the one that `compile` gives and that answers reviews, and a review one answer.
 use Rattle.std.specs.Prelude.{◌≡◌, ℕ, List, Ok}
 use Rattle.loader.specs.Contents as loader
-use Rattle.loader.specs.declared.version.Version.{Version}
-use Rattle.loader.specs.declared.version.Version.TheVariants.{Second}
+use Rattle.loader.specs.declared.version.Version.{Version, TheVariants.Second}
 use Rattle.codegen_base.specs.Pieces.{spellings}
 use Rattle.codegen.specs.Constants.{joined}
 use Rattle.policy_glue.specs.Limits.{Compiles, policy_texts}

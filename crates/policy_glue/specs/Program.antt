@@ -15,8 +15,7 @@ use Rattle.codegen_base.specs.Words.{verdict_address}
 use Rattle.codegen.specs.Added.{passed}
 use Rattle.policy_glue.specs.Layout.{first_message, outcome_word, truth_word}
 use Rattle.policy_glue.specs.Verdict.{Skipped, Denied, Admitted, Fails, Errs, undecided}
-use Rattle.policy_glue.specs.declared.failure_policy.FailurePolicy.{FailurePolicy}
-use Rattle.policy_glue.specs.declared.failure_policy.FailurePolicy.TheVariants.{Fail, Ignore}
+use Rattle.policy_glue.specs.declared.failure_policy.FailurePolicy.{FailurePolicy, TheVariants.Fail, TheVariants.Ignore}
 
 -- behind a condition: true goes on, false ends the program with the policy skipped, and an error leaves the outcome that
 -- stands where no condition is false

@@ -1,7 +1,6 @@
 -- What is proved of the code of a policy as a list of instructions.
 use Rattle.std.specs.Prelude.{◌≡◌, ℕ, ◌+◌, ◌<◌, ◌≤◌, All, Bool, true, List, [], ◌∷◌, ◌++◌, length, map, if◌then◌else◌}
-use Rattle.insn_codec.specs.declared.insn.Insn.{Insn}
-use Rattle.insn_codec.specs.declared.insn.Insn.TheVariants.{Exit}
+use Rattle.insn_codec.specs.declared.insn.Insn.{Insn, TheVariants.Exit}
 use Rattle.insn_codec.specs.declared.register.Register.TheVariants.{R0}
 use Rattle.loader.specs.Contents as loader
 use Rattle.value_store.specs.Placing.{Contents}

@@ -9,10 +9,8 @@ use Rattle.cel_reader.specs.Words.{is_identifier}
 use Rattle.policy_glue.specs.Documents.{document_of, has_only, is_object_or_absent, is_the_text, text_of, optional_text_of}
 use Rattle.policy_glue.specs.Documents.{text_or_empty_of, list_in, optional_list_in}
 use Rattle.policy_glue.specs.Policy.{Named, Rule, Rules}
-use Rattle.policy_glue.specs.declared.name_rule.NameRule.{NameRule}
-use Rattle.policy_glue.specs.declared.name_rule.NameRule.TheVariants.{NotEmpty, Identifier}
-use Rattle.policy_glue.specs.declared.failure_policy.FailurePolicy.{FailurePolicy}
-use Rattle.policy_glue.specs.declared.failure_policy.FailurePolicy.TheVariants.{Fail, Ignore}
+use Rattle.policy_glue.specs.declared.name_rule.NameRule.{NameRule, TheVariants.NotEmpty, TheVariants.Identifier}
+use Rattle.policy_glue.specs.declared.failure_policy.FailurePolicy.{FailurePolicy, TheVariants.Fail, TheVariants.Ignore}
 use Rattle.policy_glue.specs.declared.reason.Reason.{Reason}
 use Rattle.policy_glue.specs.declared.reason.Reason.TheVariants.{Unauthorized, Forbidden, Invalid, RequestEntityTooLarge}
 use Rattle.policy_glue.specs.declared.policy_error.PolicyError.{PolicyError}

@@ -7,8 +7,7 @@ use Rattle.policy_glue.specs.Policy.{Rule, Rules, reason_name, reason_code}
 use Rattle.policy_glue.specs.Reading.{has_line_break}
 use Rattle.policy_glue.specs.Verdict.{Finding, Verdict, Outcome, Skipped, Admitted, Rejected, Denied, is_denial}
 use Rattle.policy_glue.specs.declared.failure_policy.FailurePolicy.{FailurePolicy}
-use Rattle.policy_glue.specs.declared.reason.Reason.{Reason}
-use Rattle.policy_glue.specs.declared.reason.Reason.TheVariants.{Invalid}
+use Rattle.policy_glue.specs.declared.reason.Reason.{Reason, TheVariants.Invalid}
 
 -- ---- what a denial says
 

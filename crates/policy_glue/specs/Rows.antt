@@ -5,10 +5,8 @@ use Rattle.policy_glue.specs.Policy.{Rule, Rules}
 use Rattle.policy_glue.specs.Reading.{policy_in}
 use Rattle.policy_glue.specs.Response.{response_of}
 use Rattle.policy_glue.specs.Verdict.{Verdict, Holds, Fails, Errs, Skipped, Rejected, Denied, Admitted, verdict_of}
-use Rattle.policy_glue.specs.declared.failure_policy.FailurePolicy.{FailurePolicy}
-use Rattle.policy_glue.specs.declared.failure_policy.FailurePolicy.TheVariants.{Fail, Ignore}
-use Rattle.policy_glue.specs.declared.policy_error.PolicyError.{PolicyError}
-use Rattle.policy_glue.specs.declared.policy_error.PolicyError.TheVariants.{K1, K2, K3, K4, K8}
+use Rattle.policy_glue.specs.declared.failure_policy.FailurePolicy.{FailurePolicy, TheVariants.Fail, TheVariants.Ignore}
+use Rattle.policy_glue.specs.declared.policy_error.PolicyError.{PolicyError, TheVariants.K1, TheVariants.K2, TheVariants.K3, TheVariants.K4, TheVariants.K8}
 use Rattle.policy_glue.specs.declared.reason.Reason.TheVariants.{Forbidden, Invalid}
 
 -- ---- documents

@@ -10,8 +10,7 @@ use Rattle.bpf_machine.specs.declared.status.Status.TheVariants.{Exited}
 use Rattle.policy_glue.specs.DecisionRows.{bare, ruled}
 use Rattle.policy_glue.specs.OneImage.{program_image}
 use Rattle.policy_glue.specs.Trees.{PolicyTree}
-use Rattle.policy_glue.specs.declared.failure_policy.FailurePolicy.{FailurePolicy}
-use Rattle.policy_glue.specs.declared.failure_policy.FailurePolicy.TheVariants.{Fail, Ignore}
+use Rattle.policy_glue.specs.declared.failure_policy.FailurePolicy.{FailurePolicy, TheVariants.Fail, TheVariants.Ignore}
 
 -- after so many steps
 abbrev pub run : FailurePolicy → PolicyTree → ℕ → State

@@ -4,8 +4,7 @@ use Rattle.std.specs.Prelude.{ℕ, Bool, true, false, List, [], map, Option, Som
 use Rattle.std.specs.List.{list_any, list_all}
 use Rattle.value_store.specs.Value.{ValueOrError, value, boolean}
 use Rattle.value_store.specs.Calls.{text_at}
-use Rattle.policy_glue.specs.declared.failure_policy.FailurePolicy.{FailurePolicy}
-use Rattle.policy_glue.specs.declared.failure_policy.FailurePolicy.TheVariants.{Fail, Ignore}
+use Rattle.policy_glue.specs.declared.failure_policy.FailurePolicy.{FailurePolicy, TheVariants.Fail, TheVariants.Ignore}
 
 -- ---- what is decided
 

@@ -2,7 +2,7 @@
 
 ghost use Rattle.std.specs.Prelude.{◌≡◌, map, option_map, string_bytes};
 ghost use Rattle.cel_macros.specs.CoreView.{core_view};
-ghost use Rattle.policy_glue.specs.Checked.{Adds, Checks, ChecksConditions, ChecksRule, ChecksRules, ChecksVariables, JudgesVariable, SortsMessage};
+ghost use Rattle.policy_glue.specs.Checked.{Adds, Checks, ChecksConditions, ChecksRule, ChecksRules, ChecksVariables, SortsMessage};
 ghost use Rattle.policy_glue.specs.Policy.{named_view, rule_view, rules_view};
 
 use crate::checked::Checked;
@@ -15,8 +15,7 @@ use crate::parts::Parts;
 use crate::policy::Policy;
 use crate::validation::Validation;
 use cel_macros::Core;
-use cel_measures::depth;
-use cel_types::{CelType, Scope};
+use cel_types::Scope;
 use std::alloc::Global;
 
 /// The policy with its expressions checked, or its first refusal: of its variables, match conditions
@@ -63,26 +62,11 @@ fn add_variable(
 ) -> Result<(), CompileError>
     ensures { Adds (named_view variable.now) place scope.old scope.new (map core_view cores.old.items) (map core_view cores.new.items) result }
 {
-    let (core, cel_type) = variable_at(alloc, place, variable.expression.as_str(), scope)?;
-    let depth = depth(&core, scope);
+    let text = variable.expression.as_str();
+    let (core, cel_type, depth) = variable_judged(alloc, place, text, scope)?;
     cores.push(core)?;
     scope.add(variable.name.as_str(), cel_type, depth)?;
     Ok(())
-}
-
-/// The expression of the variable at this place, and its type.
-fn variable_at(
-    alloc: Global,
-    place: usize,
-    text: &str,
-    scope: &Scope,
-) -> Result<(Core, CelType), CompileError>
-    ensures { JudgesVariable scope.now place text.now result }
-{
-    match variable_judged(alloc, text, scope) {
-        Ok(judged) => Ok(judged),
-        Err(error) => Err(error.at(PartKind::Variable, place)),
-    }
 }
 
 /// The match conditions, which may use no variable.

@@ -7,8 +7,8 @@ ghost use Rattle.cel_types.specs.Declarations.{scope_of};
 ghost use Rattle.cel_types.specs.Types.{allowed};
 ghost use Rattle.cel_types.specs.Typing.{typing};
 ghost use Rattle.cel_measures.specs.Measures.{need};
-ghost use Rattle.policy_glue.specs.Checked.{Expands, IsExpanded, Judges, Sorts};
-ghost use Rattle.policy_glue.specs.Checking.{expression_judged, other_type, types_of, variable_judged, with_typing};
+ghost use Rattle.policy_glue.specs.Checked.{Expands, IsExpanded, Judges, JudgesVariable, Sorts};
+ghost use Rattle.policy_glue.specs.Checking.{expression_judged, other_type, types_of, with_typing};
 
 use crate::compile_error::CompileError;
 use crate::expression_error::ExpressionError;
@@ -55,19 +55,26 @@ pub fn judged(alloc: Global, text: &str, scope: &Scope) -> Result<(Core, CelType
     }
 }
 
-/// The same of a variable's expression.
+/// The expression of the variable at this place, its type and its depth.
 pub fn variable_judged(
     alloc: Global,
+    place: usize,
     text: &str,
     scope: &Scope,
-) -> Result<(Core, CelType), ExpressionError>
-    ensures { Judges (variable_judged scope.now) text.now result }
+) -> Result<(Core, CelType, u64), CompileError>
+    ensures { JudgesVariable scope.now place text.now result }
 {
-    let (core, cel_type) = judged(alloc, text, scope)?;
-    if depth(&core, scope) > MOST_DEPTH {
-        return Err(ExpressionError::G2);
+    match judged(alloc, text, scope) {
+        Ok((core, cel_type)) => {
+            let depth = depth(&core, scope);
+            if depth > MOST_DEPTH {
+                Err(ExpressionError::G2.at(PartKind::Variable, place))
+            } else {
+                Ok((core, cel_type, depth))
+            }
+        }
+        Err(error) => Err(error.at(PartKind::Variable, place)),
     }
-    Ok((core, cel_type))
 }
 
 /// Whether the expression of such a part may have this type.

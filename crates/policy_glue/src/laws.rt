@@ -61,7 +61,7 @@ pub fn run_rows_stand()
 {}
 
 /// The program of a policy has at most 128 slots for each of the policy's nodes, and can be spelled.
-#[tactic(auto, using(crate::proofs::ProgramSizes::program_is_short, crate::proofs::ProgramSizes::program_is_code))]
+#[tactic(auto, using(crate::proofs::Programs::Sizes::program_is_short, crate::proofs::Programs::Sizes::program_is_code))]
 pub fn program_is_code()
     ensures short { ProgramIsShort }
     ensures code { ProgramIsCode }
@@ -70,7 +70,7 @@ pub fn program_is_code()
 /// The program of a policy, run from the start, has decided as the policy does after 128 steps for each
 /// unit of the policy's work, and wherever it stands stopped: it left the verdict, or it was stopped where
 /// 16 of charge for each unit of what is spent pass the limit, or where a value is too deep.
-#[tactic(auto, using(crate::proofs::ProgramRuns::program_decides, crate::proofs::ProgramSizes::program_is_code, crate::proofs::ProgramRuns::program_stops))]
+#[tactic(auto, using(crate::proofs::Programs::Runs::program_decides, crate::proofs::Programs::Sizes::program_is_code, crate::proofs::Programs::Runs::program_stops))]
 pub fn program_decides()
     ensures decides { ProgramDecides }
     ensures stops { ProgramStops }

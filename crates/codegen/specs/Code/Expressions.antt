@@ -12,8 +12,7 @@ use Rattle.cel_reader.specs.declared.operator.UnaryOperator.TheVariants as unary
 use Rattle.cel_macros.specs.CoreTree as core
 use Rattle.cel_macros.specs.CoreTree.{CoreTree, CoreTrees, CoreEntries, no_cores, more_cores, no_core_entries, more_core_entries}
 use Rattle.cel_macros.specs.Functions.{Function, Size, String, Dyn, function_named, TextTest, test_named}
-use Rattle.insn_codec.specs.declared.register.Register.{Register}
-use Rattle.insn_codec.specs.declared.register.Register.TheVariants.{R1, R2, R6, R7}
+use Rattle.insn_codec.specs.declared.register.Register.{Register, TheVariants.R1, TheVariants.R2, TheVariants.R6, TheVariants.R7}
 use Rattle.codegen_base.specs.Code.Leaves.{leaf_code}
 use Rattle.codegen_base.specs.Code.Calls.{kept_size, operand_code, operands_code}
 use Rattle.codegen_base.specs.Code.Logic.{and_code, or_code, not_tail, ternary_code}
@@ -27,8 +26,7 @@ use Rattle.codegen_base.specs.Code.Folds.{macro_code, map_where_code}
 use Rattle.codegen_base.specs.Paths.{Kept, Path, with_name}
 use Rattle.codegen_base.specs.Pieces.{size}
 use Rattle.codegen_base.specs.Variables.{use_code}
-use Rattle.codegen_base.specs.declared.leaf.Leaf.{Leaf}
-use Rattle.codegen_base.specs.declared.leaf.Leaf.TheVariants.{Reference, Word}
+use Rattle.codegen_base.specs.declared.leaf.Leaf.{Leaf, TheVariants.Reference, TheVariants.Word}
 
 -- word 0, where it keeps this field of the expression
 abbrev pub field_leaf : Option Path → CoreTree → List ℕ → Option Leaf

@@ -5,5 +5,6 @@ use Rattle.codegen.proofs.constants.place_of.Given as goal
 abbrev pub invariant-loop-other : goal.invariant-loop-other
 invariant-loop-other l = record {
   fits : l.place ≡ saturated l.place;
-  so_far : option_map saturated (specs.place_of l.text (map string_bytes l.texts)) ≡ option_map (λ n. saturated (l.place + n)) (specs.place_of l.text (map string_bytes (drop l.other-index l.texts)));
+  so_far : option_map saturated (specs.place_of l.text (map string_bytes l.texts))
+      ≡ option_map (λ n. saturated (l.place + n)) (specs.place_of l.text (map string_bytes (drop l.other-index l.texts)));
 }

@@ -3,4 +3,4 @@ use Rattle.codegen.proofs.Layer.{emits_routine}
 use Rattle.codegen.proofs.emission.variable.Goals as goal
 
 pub returns-clause-joins : goal.returns-clause-joins
-returns-clause-joins c = emits_routine c.args.emitter.now c.args.scope.now (core_view c.args.core.now) (omega (arith, c.need.ensures)) c.literals_fit.ensures
+returns-clause-joins c = emits_routine c.args.emitter.now c.args.scope.now (core_view c.args.core.now) (omega (arith, c.need.ensures)) c.in_ok-add.ensures.literals

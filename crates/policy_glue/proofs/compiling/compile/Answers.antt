@@ -1,11 +1,12 @@
 use Rattle.policy_glue.proofs.Prelude.{Err, Ok, subst, IsChecked, CompilesTo, Emits, IsAccepted, PolicyTree}
 use Rattle.policy_glue.proofs.Compiles.{has_trees, image_compiled, image_due, image_is_one, refused_part, refused_whole}
 use Rattle.policy_glue.proofs.Judged.{passed_on}
-use Rattle.policy_glue.proofs.ProgramSizes.{program_is_short}
+use Rattle.policy_glue.proofs.Programs.Sizes.{program_is_short}
 use Rattle.policy_glue.proofs.compiling.compile.Goals as goal
 
 pub returns-in_err-checked-clause-compiles : goal.returns-in_err-checked-clause-compiles
-returns-in_err-checked-clause-compiles c = passed_on (CompilesTo c.args.policy.now) c.in_err-checked.field-0.0 c.from_residual.result (refused_part c.args.policy.now c.in_err-checked.field-0.0 c.in_err-checked.ensures) c.from_residual.ensures.0 c.from_residual.ensures.1
+returns-in_err-checked-clause-compiles c =
+    passed_on (CompilesTo c.args.policy.now) c.in_err-checked.field-0.0 c.from_residual.result (refused_part c.args.policy.now c.in_err-checked.field-0.0 c.in_err-checked.ensures) c.from_residual.ensures.0 c.from_residual.ensures.1
 
 pub program-requires : goal.program-requires
 program-requires c = has_trees c.args.policy.now c.in_ok-checked.checked (subst IsAccepted c.policy.view_is c.policy.invariant) c.in_ok-checked.ensures

@@ -1,8 +1,14 @@
-use Rattle.policy_glue.proofs.Judged.{deep_is, variable_refused}
+use Rattle.policy_glue.proofs.Prelude.{arith}
+use Rattle.policy_glue.proofs.Judged.{deep_is, shallow_is, variable_refused}
 use Rattle.policy_glue.proofs.judging.variable_judged.Goals as goal
 
-pub returns-in_err-core : goal.returns-in_err-core
-returns-in_err-core c = variable_refused c.args.scope.now c.args.text.now c.in_err-core.field-0.0 c.from_residual.result c.in_err-core.ensures c.from_residual.ensures.0 c.from_residual.ensures.1
-
 pub returns-then-depth-gt-MOST_DEPTH : goal.returns-then-depth-gt-MOST_DEPTH
-returns-then-depth-gt-MOST_DEPTH c = deep_is c.args.scope.now c.args.text.now c.in_ok-core.core c.in_ok-core.cel_type c.depth.result c.in_ok-core.ensures c.depth.ensures c.if-depth-gt-MOST_DEPTH.true
+returns-then-depth-gt-MOST_DEPTH c =
+    deep_is c.args.place c.args.scope.now c.args.text.now c.in-Ok.core c.in-Ok.cel_type c.depth-depth.result _ c.in-Ok.ensures c.depth-depth.ensures
+    c.if-depth-gt-MOST_DEPTH.true c.at.ensures
+
+pub returns-else-depth-gt-MOST_DEPTH : goal.returns-else-depth-gt-MOST_DEPTH
+returns-else-depth-gt-MOST_DEPTH c = grind (arith, shallow_is)
+
+pub returns-in-Err : goal.returns-in-Err
+returns-in-Err c = grind (arith, variable_refused)

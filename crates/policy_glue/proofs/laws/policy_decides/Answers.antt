@@ -1,4 +1,4 @@
-use Rattle.policy_glue.proofs.ProgramWhole.{policy_decides}
+use Rattle.policy_glue.proofs.Programs.Whole.{policy_decides}
 use Rattle.policy_glue.proofs.laws.policy_decides.Goals as goal
 
 pub returns : goal.returns

@@ -2,7 +2,8 @@ use Rattle.codegen.proofs.Prelude.{◌≡◌, ℕ, ◌+◌, List, [], ◌∷◌,
 use Rattle.codegen.proofs.code.folds.fold.Goals as goal
 
 -- the parts of a fold, put together from left to right
-joined : (k n : ℕ) (range : List Insn) (first : Insn) (turn : List Insn) → size (first ∷ []) ≡ 1 → n ≡ size turn + 17 → (((range ++ range_tail k n) ++ first ∷ []) ++ store (k + 3) R0 ∷ []) ++ loop_code k turn ≡ fold_code k range (first ∷ []) turn
+joined : (k n : ℕ) (range : List Insn) (first : Insn) (turn : List Insn) → size (first ∷ []) ≡ 1 → n ≡ size turn + 17
+    → (((range ++ range_tail k n) ++ first ∷ []) ++ store (k + 3) R0 ∷ []) ++ loop_code k turn ≡ fold_code k range (first ∷ []) turn
 joined k n range first turn one is =
     let whole = loop_size k turn in
     let behind : n ≡ size (first ∷ []) + size (loop_code k turn) + 4 = omega (arith, one, is, whole) in

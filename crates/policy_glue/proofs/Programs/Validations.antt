@@ -1,8 +1,8 @@
 -- The validations of a policy's program, one behind another, and its outcome.
 use Rattle.policy_glue.proofs.Prelude.{◌≡◌, ℕ, ◌+◌, ◌<◌, ◌%◌, ◌^◌, List, [], ◌∷◌, ◌++◌, length, length-append, None, Bool, true, false, refl, ap, ◌∙◌, sym, arith, true≢false, ◌≤◌, Some, Option, subst, append-nil, append_assoc, if◌then◌else◌, pos, map, option_map, ◌||◌, Insn, R1, R2, R0, R6, ValueOrError, error, value, null, boolean, int, text, list, Body, set_register, Context, Fits, Setting, Comes, Stands, size, set_verdict, verdict_address, verdict_at, add_is, differs_no, differs_yes, equal_no, equal_yes, alu, begins, jump, load_wide, no, yes, ask, mov, done, from_place, looser, and_then, to_place, first_result, most_validations, truth_word, IsMessageWord, first_message, finding_word, message_in, denial_code, error_way, result_code, message_tail, if_true, message_code, validation_code, validations_code, outcome_tail, Finding, Truth, Holds, Fails, Errs, denies, is_denial, truth_of, text_given, Denied, Admitted, FailurePolicy, cases_lt, kind_number, Names, Ne, W64, text_at, charge_limit, seen, compares, Tells, answered, fits_registers, helpers, fits_told, names_error, small_reference, size-append, size-cons, stands_back, stands_front, MessageGives, Part, PartGives, RulePart, ValidationsGive, found, message_charge, message_size, message_steps, rule_charge, rule_code, rule_codes, rule_size, rule_steps, validations_charge, validations_steps, list_any, sum_by-cons}
 use Rattle.value_store.specs.Value.{map as map_value}
-use Rattle.policy_glue.proofs.ProgramWords.{Judges, Marked, Marks, denials_stored, marks_registers, marks_told, result_stored, tested, message_stored, marks_shown, outcome_stored, load_verdict, put_verdict, store_verdict, count_more, count_of, count_small, message_none, message_of, result_of, message_last, get_last, get_other, none_more}
-use Rattle.policy_glue.proofs.ProgramConditions.{part_runs, Ends}
+use Rattle.policy_glue.proofs.Programs.Words.{Judges, Marked, Marks, denials_stored, marks_registers, marks_told, result_stored, tested, message_stored, marks_shown, outcome_stored, load_verdict, put_verdict, store_verdict, count_more, count_of, count_small, message_none, message_of, result_of, message_last, get_last, get_other, none_more}
+use Rattle.policy_glue.proofs.Programs.Conditions.{part_runs, Ends}
 
 -- an error that denies goes to the count, and one that does not behind the message
 way_counts : (f : FailurePolicy) (n : ℕ) → denies f Errs ≡ true → error_way f n ≡ 1
@@ -265,7 +265,9 @@ module _ (s : Setting) (c : Context) (f : FailurePolicy) where
       result_runs s c f xs (found f r) few q r.message e.value d b1 behind told refl refl refl judges)))
 
   -- a row of them
-  pub rules_run : (rules : List RulePart) (xs : List Finding) (p : ℕ) (b : Body) → length xs + length rules ≤ most_validations → Stands s.image.code p (validations_code f (length xs) (rule_codes rules)) → ValidationsGive f s c p rules → Marked c f 0 xs b → Comes s (validations_steps f rules) (validations_charge f rules) p b (p + rules_slots rules) (Marked c f 0 (xs ++ map (found f) rules))
+  pub rules_run : (rules : List RulePart) (xs : List Finding) (p : ℕ) (b : Body) → length xs + length rules ≤ most_validations
+      → Stands s.image.code p (validations_code f (length xs) (rule_codes rules)) → ValidationsGive f s c p rules → Marked c f 0 xs b
+      → Comes s (validations_steps f rules) (validations_charge f rules) p b (p + rules_slots rules) (Marked c f 0 (xs ++ map (found f) rules))
   unfolding validations_code
   rules_run [] xs p b few has gives marked =
       to_place s (p + 0) (omega arith) (done s p b (Marked c f 0 (xs ++ [])) (subst (λ (ys : List Finding). Marked c f 0 ys b) (sym (append-nil xs)) marked))

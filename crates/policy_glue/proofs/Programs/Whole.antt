@@ -2,9 +2,9 @@
 use Rattle.policy_glue.proofs.Prelude.{◌≡◌, ℕ, ◌+◌, ◌<◌, ◌≤◌, List, [], ◌∷◌, ◌++◌, length, Option, Some, None, true, refl, ap, ◌∙◌, subst, sym, arith, append_assoc, All, map, pos, if◌then◌else◌, list_any, ints, start_memory, Insn, Exit, Contents, ValueOrError, Roots, DecodesSpelling, fetched, State, state_after, Frame, Body, Context, HasValues, Setting, Comes, Halts, skip, Stands, size, start_body, bindings, scope_setting, routine_context, comes_to_exit, size-append, size-cons, stands_back, stands_first, stands_front, stands_rest, halts_into, start_fits, start_is, steps-most, word_in-zeros, and_then, done, looser, to_place, spelled_stands, is_running, most_validations, conditions_code, decided_code, outcome_tail, policy_code, routines_code, validations_code, LeavesVerdict, PolicyDecides, conditions_place, program_charge, program_steps, validations_place, ConditionsGive, Part, RulePart, ValidationsGive, codes_of, conditions_charge, conditions_steps, found, rule_codes, rules_given, validations_charge, validations_steps, values_given, Denied, Admitted, Finding, Outcome, Verdict, decided, decided_before, finding_of, is_denial, judged_by, truth_of, verdict_of, FailurePolicy}
 use Rattle.loader.specs.Contents as loader
 use Rattle.codegen_base.proofs.Steps as step
-use Rattle.policy_glue.proofs.ProgramConditions.{Ends, Exits, conditions_end, conditions_pass, decided_size, truths_of}
-use Rattle.policy_glue.proofs.ProgramWords.{Marked, is_layout}
-use Rattle.policy_glue.proofs.ProgramValidations.{outcome_runs, outcome_tail_size, rules_run, rules_size}
+use Rattle.policy_glue.proofs.Programs.Conditions.{Ends, Exits, conditions_end, conditions_pass, decided_size, truths_of}
+use Rattle.policy_glue.proofs.Programs.Words.{Marked, is_layout}
+use Rattle.policy_glue.proofs.Programs.Validations.{outcome_runs, outcome_tail_size, rules_run, rules_size}
 
 -- ---- lists of values
 
@@ -26,7 +26,8 @@ verdict_is f conditions rules = grind (arith, truths_are, truths_of, findings_ar
 
 -- ---- routines are jumped over
 
-pub routines_pass : (s : Setting) (routines : List (List Insn)) (p : ℕ) (b : Body) → Stands s.image.code p (routines_code routines) → Comes s (length routines) 0 p b (p + size (routines_code routines)) (λ last. last ≡ b)
+pub routines_pass : (s : Setting) (routines : List (List Insn)) (p : ℕ) (b : Body) → Stands s.image.code p (routines_code routines)
+    → Comes s (length routines) 0 p b (p + size (routines_code routines)) (λ last. last ≡ b)
 routines_pass s [] p b has = to_place s (p + 0) (omega arith) (done s p b (λ last. last ≡ b) refl)
 routines_pass s (routine ∷ more) p b has =
     let jump = skip (size routine) in
@@ -102,7 +103,8 @@ module _ (s : Setting) (c : Context) (f : FailurePolicy) (routines : List (List 
       subst (λ (b2 : Body). Comes s n x first b2 q Q) (sym same) comes)
 
   -- the policy runs
-  runs : decided_before f (truths_of conditions) ≡ None → Comes s (conditions_steps conditions + 3 + (validations_steps f rules + 6)) (conditions_charge conditions + 0 + (validations_charge f rules + 0)) first b (third + 7) (Ends c f (if list_any (is_denial f) found_all then Denied else Admitted) found_all)
+  runs : decided_before f (truths_of conditions) ≡ None
+      → Comes s (conditions_steps conditions + 3 + (validations_steps f rules + 6)) (conditions_charge conditions + 0 + (validations_charge f rules + 0)) first b (third + 7) (Ends c f (if list_any (is_denial f) found_all then Denied else Admitted) found_all)
   runs e =
       let Q = Ends c f (if list_any (is_denial f) found_all then Denied else Admitted) found_all in
       let long = rules_size f 0 rules in

@@ -1,9 +1,10 @@
 -- The program of a policy decides as the policy does, within its budget.
-use Rattle.policy_glue.proofs.Prelude.{◌≡◌, ℕ, ◌+◌, ◌-◌, ◌*◌, ◌≤◌, List, [], ◌∷◌, ◌++◌, length, length-append, append-nil, append_assoc, Bool, true, refl, ap, ◌∙◌, subst, sym, arith, Option, Some, None, suc, ◌<◌, false, ◌||◌, fold, map, All, if◌then◌else◌, map-append, fold-append, ValueOrError, value, expanded, plain_tree, Roots, Environment, expansion_plain, Declaration, scope_of, typing as type_of, skip, Stands, size, AreInsns, spellings, total, start_body, IsScope, Variable, bindings, first_charges, first_steps, scope_setting, stands_back, stands_front, stands_rest, environment_in, variable_of, joined, with_text, with_texts, IsDeep, cost, spent_by, Cost, AreShallow, HasConstants, IsExpression, variable_is_taken, variable_joins, expression_gives, frames_are_enough, variables_cost, conditions_cost, message_cost, rules_cost, is_running, policy_cost, policy_spent, policy_work, runs_on, depth_in, type_or_any, with_variable, scope_after, environment_with, with_value, condition_values, rule_value, decision_of, values_of, tree_texts, variable_texts, condition_texts, message_texts, rule_texts, validation_texts, policy_texts, routines_code, policy_code, Laid, after_variables, texts_with, variable_code, variable_codes, with_routine, after_condition, before_message, condition_codes, tree_code, validation_codes, with_message, laid_conditions, laid_routines, nothing_laid, program_of, AreVariables, AreConditions, AreRules, IsMessage, Decides, HasProgram, ProgramDecides, ProgramIsCode, ProgramStops, Tree, VariableTree, RuleTree, PolicyTree, Insn, meaning, Context, HasValues, Setting, Halts, routine_context, wider_gives, no_scope, ConditionsGive, MessageGives, Part, PartGives, RulePart, ValidationsGive, codes_of, conditions_charge, conditions_steps, message_size, rule_codes, rule_size, rules_given, validations_charge, validations_steps, values_given, denies, truth_of, Verdict, decided_before, verdict_of, FailurePolicy, Exit, Contents, DecodesSpelling, stays_stopped, State, start_state, state_after, Body, charges-most, spelled_stands, LeavesVerdict, conditions_place, passes, program_charge, program_steps, validations_place}
+use Rattle.policy_glue.proofs.Prelude.{◌≡◌, ℕ, ◌+◌, ◌-◌, ◌*◌, ◌≤◌, List, [], ◌∷◌, ◌++◌, length, length-append, append-nil, append_assoc, Bool, true, refl, ap, ◌∙◌, subst, sym, arith, Option, ◌<◌, false, ◌||◌, fold, map, All, if◌then◌else◌, map-append, fold-append, ValueOrError, expanded, plain_tree, Roots, Environment, expansion_plain, Declaration, scope_of, typing as type_of, skip, Stands, size, AreInsns, spellings, total, start_body, IsScope, Variable, bindings, first_charges, first_steps, scope_setting, stands_back, stands_front, stands_rest, environment_in, variable_of, joined, with_text, with_texts, IsDeep, cost, spent_by, Cost, AreShallow, HasConstants, IsExpression, variable_is_taken, variable_joins, expression_gives, frames_are_enough, variables_cost, conditions_cost, message_cost, rules_cost, is_running, policy_cost, policy_spent, policy_work, runs_on, depth_in, type_or_any, with_variable, scope_after, environment_with, with_value, decision_of, values_of, tree_texts, variable_texts, condition_texts, message_texts, rule_texts, validation_texts, policy_texts, routines_code, policy_code, Laid, after_variables, texts_with, variable_code, variable_codes, with_routine, after_condition, before_message, with_message, laid_conditions, laid_routines, nothing_laid, program_of, AreVariables, AreConditions, AreRules, IsMessage, Decides, HasProgram, ProgramDecides, ProgramIsCode, ProgramStops, Tree, VariableTree, RuleTree, PolicyTree, Insn, meaning, Context, HasValues, Setting, Halts, routine_context, wider_gives, no_scope, ConditionsGive, MessageGives, Part, PartGives, RulePart, ValidationsGive, codes_of, message_size, rule_codes, rule_size, rules_given, validations_charge, validations_steps, values_given, denies, truth_of, Verdict, decided_before, verdict_of, FailurePolicy, Exit, Contents, DecodesSpelling, stays_stopped, State, start_state, state_after, Body, charges-most, spelled_stands, LeavesVerdict, conditions_place, passes, program_charge, program_steps, validations_place}
 use Rattle.codegen.specs.Layer.{AreTaken}
-use Rattle.policy_glue.proofs.ProgramSizes.{message_texts_are, conditions_place_is, conditions_slots, variables_place, conditions_texts, variables_texts}
+use Rattle.policy_glue.proofs.Programs.Sizes.{message_texts_are, conditions_place_is, conditions_slots, variables_place, conditions_texts, variables_texts}
 use Rattle.loader.specs.Contents as loader
-use Rattle.policy_glue.proofs.ProgramWhole.{policy_decides}
+use Rattle.policy_glue.proofs.Programs.Whole.{policy_decides}
+use Rattle.policy_glue.proofs.Programs.Parts.{tree_part, condition_parts, message_part, rule_part, after_rule, rule_parts, condition_codes_are, condition_values_are, rule_codes_are, rule_values_are, conditions_within, validations_within, rules_length}
 
 -- ---- texts
 
@@ -11,7 +12,8 @@ use Rattle.policy_glue.proofs.ProgramWhole.{policy_decides}
 pub used_more : (all texts first rest : List (List ℕ)) → all ≡ with_texts texts (first ++ rest) → all ≡ with_texts (with_texts texts first) rest
 used_more all texts first rest e = e ∙ fold-append with_text texts first rest
 
-pub has_constants : (constants : List ℕ) (all texts : List (List ℕ)) (a : Tree) (rest : List (List ℕ)) → constants ≡ joined all → length constants ≤ 1048576 → all ≡ with_texts texts (tree_texts a ++ rest) → HasConstants constants texts (expanded a)
+pub has_constants : (constants : List ℕ) (all texts : List (List ℕ)) (a : Tree) (rest : List (List ℕ)) → constants ≡ joined all
+    → length constants ≤ 1048576 → all ≡ with_texts texts (tree_texts a ++ rest) → HasConstants constants texts (expanded a)
 has_constants constants all texts a rest is few e = record { more = rest; constants_are = is ∙ ap joined (used_more all texts (tree_texts a) rest e); few = few }
 
 -- ---- depths
@@ -99,7 +101,8 @@ module _ (image : loader.Contents) (deep : Bool) (roots : Roots) where
       let same : (variables_cost roots (bindings (scope ++ u ∷ [])) more).visits ≡ (variables_cost roots (with_value roots (bindings scope) v) more).visits = ap (λ (bs : List (List ℕ × ValueOrError)). (variables_cost roots bs more).visits) (newest_value scope l v) in
       omega arith
 
-  pub charges_within : (vs : List VariableTree) (scope : List Variable) (ds : List Declaration) (l : Laid) → total (first_charges (scope_with scope ds l vs)) ≤ total (first_charges scope) + 16 * spent_by (variables_cost roots (bindings scope) vs)
+  pub charges_within : (vs : List VariableTree) (scope : List Variable) (ds : List Declaration) (l : Laid)
+      → total (first_charges (scope_with scope ds l vs)) ≤ total (first_charges scope) + 16 * spent_by (variables_cost roots (bindings scope) vs)
   charges_within [] scope ds l = omega arith
   charges_within (v ∷ more) scope ds l =
       let u = newest scope l v in
@@ -109,49 +112,6 @@ module _ (image : loader.Contents) (deep : Bool) (roots : Roots) where
       let spent : u.charge ≡ 16 * spent_by (cost v.expression (environment_with roots (bindings scope))) - 8 = ap (λ (a : Tree). 16 * spent_by (cost a (environment_with roots (bindings scope))) - 8) (expansion_plain v.expression) in
       let same : spent_by (variables_cost roots (bindings (scope ++ u ∷ [])) more) ≡ spent_by (variables_cost roots (with_value roots (bindings scope) v) more) = ap (λ (bs : List (List ℕ × ValueOrError)). spent_by (variables_cost roots bs more)) (newest_value scope l v) in
       omega arith
-
--- ---- the parts of the trees
-
-abbrev pub tree_part : List Declaration → Laid → Environment → Tree → Part
-tree_part ds l env a = record { code = tree_code ds l a; value = meaning a env; steps = 128 * (cost a env).visits - 8; charge = 16 * spent_by (cost a env) - 8 }
-
-abbrev pub condition_parts : Roots → Laid → List Tree → List Part
-condition_parts roots l [] = []
-condition_parts roots l (a ∷ more) = tree_part [] l (environment_with roots []) a ∷ condition_parts roots (after_condition l a) more
-
-abbrev pub message_part : List Declaration → Laid → Environment → Option Tree → Option Part
-message_part ds l env (Some a) = Some (tree_part ds l env a)
-message_part ds l env None = None
-
-abbrev pub rule_part : List Declaration → Laid → Environment → RuleTree → RulePart
-rule_part ds l env r = record { expression = tree_part ds l env r.expression; message = message_part ds (before_message ds l r) env r.message }
-
-abbrev pub after_rule : List Declaration → Laid → RuleTree → Laid
-after_rule ds l r = with_message ds (before_message ds l r) r.message
-
-abbrev pub rule_parts : List Declaration → Laid → Environment → List RuleTree → List RulePart
-rule_parts ds l env [] = []
-rule_parts ds l env (r ∷ more) = rule_part ds l env r ∷ rule_parts ds (after_rule ds l r) env more
-
--- ---- their codes and values
-
-pub condition_codes_are : (roots : Roots) (l : Laid) (trees : List Tree) → codes_of (condition_parts roots l trees) ≡ condition_codes l trees
-condition_codes_are roots l [] = refl
-condition_codes_are roots l (a ∷ more) = ap (λ (cs : List (List Insn)). tree_code [] l a ∷ cs) (condition_codes_are roots (after_condition l a) more)
-
-pub condition_values_are : (roots : Roots) (l : Laid) (trees : List Tree) → values_given (condition_parts roots l trees) ≡ condition_values roots trees
-condition_values_are roots l [] = refl
-condition_values_are roots l (a ∷ more) = grind (arith, condition_values_are roots (after_condition l a) more)
-
-pub rule_codes_are : (ds : List Declaration) (l : Laid) (env : Environment) (rs : List RuleTree)
-    → rule_codes (rule_parts ds l env rs) ≡ validation_codes ds l rs
-rule_codes_are ds l env [] = refl
-rule_codes_are ds l env (r ∷ more) = grind (arith, rule_codes_are ds (after_rule ds l r) env more)
-
-pub rule_values_are : (ds : List Declaration) (l : Laid) (env : Environment) (rs : List RuleTree)
-    → rules_given (rule_parts ds l env rs) ≡ map (rule_value env) rs
-rule_values_are ds l env [] = refl
-rule_values_are ds l env (r ∷ more) = grind (arith, rule_values_are ds (after_rule ds l r) env more)
 
 -- ---- an expression gives what it means
 
@@ -222,30 +182,15 @@ module _ (image : loader.Contents) (deep : Bool) (roots : Roots) (everything : L
         let place : l2.place ≡ l.place + rule_size (rule_part ds l rule_env r) = message_place l1 r.message ∙ omega arith in
         (first, told, subst (λ (p : ℕ). ValidationsGive f s c p (rule_parts ds l2 rule_env more)) place others)
 
--- ---- budgets: steps, and what is charged
+-- ---- the variables
 
-pub conditions_within : (roots : Roots) (l : Laid) (trees : List Tree)
-    → (conditions_steps (condition_parts roots l trees) ≤ 128 * (conditions_cost roots trees).visits)
-    × (conditions_charge (condition_parts roots l trees) ≤ 16 * spent_by (conditions_cost roots trees))
-conditions_within roots l [] = (omega arith, omega arith)
-conditions_within roots l (a ∷ more) = let rest = conditions_within roots (after_condition l a) more in (omega (arith, rest.0), omega (arith, rest.1))
-
-pub validations_within : (f : FailurePolicy) (ds : List Declaration) (l : Laid) (env : Environment) (rs : List RuleTree)
-    → (validations_steps f (rule_parts ds l env rs) ≤ 128 * (rules_cost true f env rs).visits)
-    × (validations_charge f (rule_parts ds l env rs) ≤ 16 * spent_by (rules_cost true f env rs))
-validations_within f ds l env [] = (omega arith, omega arith)
-validations_within f ds l env (r ∷ more) = grind (arith, validations_within f ds (after_rule ds l r) env more)
-
-scope_length : (image : loader.Contents) (deep : Bool) (roots : Roots) (vs : List VariableTree) (scope : List Variable) (ds : List Declaration) (l : Laid) → length (scope_with image deep roots scope ds l vs) ≡ length scope + length vs
+scope_length : (image : loader.Contents) (deep : Bool) (roots : Roots) (vs : List VariableTree) (scope : List Variable) (ds : List Declaration) (l : Laid)
+    → length (scope_with image deep roots scope ds l vs) ≡ length scope + length vs
 scope_length image deep roots [] scope ds l = omega arith
 scope_length image deep roots (v ∷ more) scope ds l =
     let u = newest image deep roots scope l v in
     let one = length-append scope (u ∷ []) in
     scope_length image deep roots more (scope ++ u ∷ []) (with_variable ds v) (with_routine ds l v) ∙ omega arith
-
-pub rules_length : (ds : List Declaration) (l : Laid) (env : Environment) (rs : List RuleTree) → length (rule_parts ds l env rs) ≡ length rs
-rules_length ds l env [] = refl
-rules_length ds l env (r ∷ more) = ap suc (rules_length ds (after_rule ds l r) env more)
 
 -- ---- the policy
 
@@ -355,7 +300,8 @@ module _ (law : DecodesSpelling) (f : FailurePolicy) (p : PolicyTree) (roots : R
       → rules_cost true f env p.validations ≡ rules_cost (runs_on f p roots) f (environment_with roots (values_of roots p.variables)) p.validations
   cost_is runs = grind (arith, names_are, runs_is)
 
-  give_validations : passes f conditions ≡ true → ValidationsGive f (scope_setting image deep scope) (routine_context roots (bindings scope) image.constants) (validations_place f routines conditions) rules
+  give_validations : passes f conditions ≡ true
+      → ValidationsGive f (scope_setting image deep scope) (routine_context roots (bindings scope) image.constants) (validations_place f routines conditions) rules
   give_validations runs =
       subst (λ (n : ℕ). ValidationsGive f (scope_setting image deep scope) (routine_context roots (bindings scope) image.constants) n rules) second_place
       (validations_give image deep roots (policy_texts p) constants_are few_constants f scope ds known.shallow known.is short_scope p.validations

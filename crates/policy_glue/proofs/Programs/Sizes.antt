@@ -1,7 +1,7 @@
 -- The slots of a policy's program, and that it can be spelled.
 use Rattle.policy_glue.proofs.Prelude.{◌≡◌, ℕ, ◌+◌, ◌*◌, ◌≤◌, List, [], ◌∷◌, ◌++◌, Option, refl, sym, ◌∙◌, arith, suc, ◌<◌, length, length-append, ap, subst, sum_by, fold-append, sum_by-cons, Insn, Tree, expanded, nodes, Declaration, size, AreInsns, size-append, size-cons, with_text, with_texts, routines_of, whole_short, whole_insns, with_variable, scope_after, condition_texts, message_nodes, message_texts, part_nodes, policy_nodes, rule_nodes, tree_texts, variable_texts, condition_tail, conditions_code, message_code, policy_code, routines_code, validation_code, validations_code, denial_code, message_tail, outcome_tail, result_code, Laid, after_condition, after_conditions, after_variables, before_message, condition_codes, message_codes, program_of, texts_with, tree_code, validation_codes, variable_code, variable_codes, with_message, with_routine, laid_conditions, laid_routines, nothing_laid, ProgramIsShort, AreConditions, AreRules, AreVariables, IsMessage, ProgramIsCode, RuleTree, VariableTree, FailurePolicy, memo_tail, insns_append, memo_insns, whole_code, IsExpression, AreLow, AreNear, near_named, decided_slots}
-use Rattle.policy_glue.proofs.ProgramValidations.{outcome_tail_size, message_tail_size, result_size}
-use Rattle.policy_glue.proofs.ProgramConditions.{condition_size}
+use Rattle.policy_glue.proofs.Programs.Validations.{outcome_tail_size, message_tail_size, result_size}
+use Rattle.policy_glue.proofs.Programs.Conditions.{condition_size}
 
 -- ---- expressions
 
@@ -27,7 +27,8 @@ conditions_short f l (a ∷ more) = omega (arith, condition_size, tree_short, su
 pub message_short : (scope : List Declaration) (l : Laid) (i : ℕ) (m : Option Tree) → size (message_code i (message_codes scope l m)) ≤ 63 * message_nodes m
 message_short scope l i m = grind (arith, size-append, message_tail_size, tree_short)
 
-pub validations_short : (f : FailurePolicy) (scope : List Declaration) (l : Laid) (i : ℕ) (rs : List RuleTree) → size (validations_code f i (validation_codes scope l rs)) ≤ 128 * sum_by rule_nodes rs
+pub validations_short : (f : FailurePolicy) (scope : List Declaration) (l : Laid) (i : ℕ) (rs : List RuleTree)
+    → size (validations_code f i (validation_codes scope l rs)) ≤ 128 * sum_by rule_nodes rs
 unfolding validations_code
 validations_short f scope l i [] = omega arith
 validations_short f scope l i (r ∷ more) =
@@ -116,7 +117,8 @@ tree_insns scope l a is low inside =
     let fits = is.fits in
     whole_insns (texts_with l a) (routines_of scope l.routines) (near_all scope l 0 low) (expanded a) l.place fits (omega arith) (omega arith) is.literals
 
-routine_insns : (scope : List Declaration) (l : Laid) (v : VariableTree) (n : ℕ) → IsExpression scope (expanded v.expression) → Low l (suc n) → l.place + 128 * part_nodes v.expression ≤ 65536 → AreInsns (variable_code scope l v)
+routine_insns : (scope : List Declaration) (l : Laid) (v : VariableTree) (n : ℕ) → IsExpression scope (expanded v.expression) → Low l (suc n)
+    → l.place + 128 * part_nodes v.expression ≤ 65536 → AreInsns (variable_code scope l v)
 routine_insns scope l v n is low inside =
     let fits = is.fits in
     insns_append (whole_code (expanded v.expression) (texts_with l v.expression) (routines_of scope l.routines) (l.place + 1)) (memo_tail (length l.routines))
@@ -128,7 +130,8 @@ routine_insns scope l v n is low inside =
 with_routine_low : (scope : List Declaration) (l : Laid) (v : VariableTree) (n : ℕ) → Low l (suc n) → l.place + 1 ≤ 65536 → Low (with_routine scope l v) n
 with_routine_low scope l v n low inside = grind (arith, length-append, low_more)
 
-routines_insns : (scope : List Declaration) (l : Laid) (vs : List VariableTree) → AreVariables scope vs → Low l (length vs) → l.place + 128 * sum_by (λ v. part_nodes v.expression) vs ≤ 65536 → AreInsns (routines_code (variable_codes scope l vs))
+routines_insns : (scope : List Declaration) (l : Laid) (vs : List VariableTree) → AreVariables scope vs → Low l (length vs)
+    → l.place + 128 * sum_by (λ v. part_nodes v.expression) vs ≤ 65536 → AreInsns (routines_code (variable_codes scope l vs))
 routines_insns scope l [] are low inside = tt
 routines_insns scope l (v ∷ more) are low inside =
     let counted = sum_by-cons (λ u. part_nodes u.expression) v more in
@@ -151,7 +154,8 @@ after_routines scope l (v ∷ more) low inside =
 same_low : (l m : Laid) → l.routines ≡ m.routines → Low l 0 → Low m 0
 same_low l m same low = let few = low.few in let long = ap length same in record { slots = subst AreLow same low.slots; few = omega arith }
 
-conditions_insns : (f : FailurePolicy) (l : Laid) (cs : List Tree) → AreConditions cs → Low l 0 → l.place + 128 * sum_by part_nodes cs ≤ 65536 → AreInsns (conditions_code f (condition_codes l cs))
+conditions_insns : (f : FailurePolicy) (l : Laid) (cs : List Tree) → AreConditions cs → Low l 0 → l.place + 128 * sum_by part_nodes cs ≤ 65536
+    → AreInsns (conditions_code f (condition_codes l cs))
 unfolding conditions_code
 conditions_insns f l [] are low inside = tt
 conditions_insns f l (a ∷ more) are low inside =
@@ -162,13 +166,15 @@ conditions_insns f l (a ∷ more) are low inside =
 
 -- ---- validations
 
-message_insns : (scope : List Declaration) (l : Laid) (i : ℕ) (m : Option Tree) → i < 64 → IsMessage scope m → Low l 0 → l.place + 128 * message_nodes m ≤ 65536 → AreInsns (message_code i (message_codes scope l m))
+message_insns : (scope : List Declaration) (l : Laid) (i : ℕ) (m : Option Tree) → i < 64 → IsMessage scope m → Low l 0
+    → l.place + 128 * message_nodes m ≤ 65536 → AreInsns (message_code i (message_codes scope l m))
 message_insns scope l i m few is low inside = grind (arith, insns_append, tree_insns, message_tail_insns)
 
 message_inside : (scope : List Declaration) (l : Laid) (m : Option Tree) → (with_message scope l m).place ≤ l.place + 128 * message_nodes m
 message_inside scope l m = grind (arith, tree_short)
 
-validations_insns : (f : FailurePolicy) (scope : List Declaration) (l : Laid) (i : ℕ) (rs : List RuleTree) → AreRules scope rs → Low l 0 → i + length rs ≤ 64 → l.place + 128 * sum_by rule_nodes rs ≤ 65536 → AreInsns (validations_code f i (validation_codes scope l rs))
+validations_insns : (f : FailurePolicy) (scope : List Declaration) (l : Laid) (i : ℕ) (rs : List RuleTree) → AreRules scope rs → Low l 0
+    → i + length rs ≤ 64 → l.place + 128 * sum_by rule_nodes rs ≤ 65536 → AreInsns (validations_code f i (validation_codes scope l rs))
 unfolding validations_code
 validations_insns f scope l i [] are low few inside = tt
 validations_insns f scope l i (r ∷ more) are low few inside =

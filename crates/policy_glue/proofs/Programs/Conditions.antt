@@ -1,6 +1,6 @@
 -- The conditions of a policy's program, one behind another, and what they decide.
 use Rattle.policy_glue.proofs.Prelude.{◌≡◌, ℕ, ◌+◌, List, [], Some, refl, subst, sym, arith, ◌∷◌, ◌++◌, Bool, true, false, true≢false, None, Option, ap, ◌∙◌, pos, ◌||◌, map, if◌then◌else◌, w64, cast_unsigned, Exit, R0, R1, R2, ValueOrError, fetched, Body, set_register, Context, Setting, Comes, Stands, size, set_verdict, verdict_address, begins, load_wide, mov, no, yes, done, looser, and_then, into, to_place, outcome_word, condition_tail, conditions_code, decided_code, decided_tail, Finding, Outcome, Skipped, Holds, Fails, Errs, truth_of, undecided, Truth, is_failed, is_held, decided_before, FailurePolicy, list_any, list_all, Insn, size-append, stands_back, stands_front, ConditionsGive, Part, PartGives, codes_of, conditions_charge, conditions_steps, decided_slots, equal_no, equal_yes}
-use Rattle.policy_glue.proofs.ProgramWords.{Judges, Marked, marks_registers, outcome_stored, tested, marks_shown, store_verdict, load_verdict}
+use Rattle.policy_glue.proofs.Programs.Words.{Judges, Marked, marks_registers, outcome_stored, tested, marks_shown, store_verdict, load_verdict}
 
 -- the outcome stands in the verdict region and in R0
 pub record Ends (c : Context) (f : FailurePolicy) (outcome : Outcome) (xs : List Finding) (b : Body) : Type 0 where
@@ -56,7 +56,8 @@ unfolding condition_tail
 exit_stands code f o has = has.here 7 Exit refl
 
 -- an expression has run between the others
-pub part_runs : (s : Setting) (c : Context) (f : FailurePolicy) (w p : ℕ) (xs : List Finding) (a : Part) (b : Body) → Stands s.image.code p a.code → PartGives s c p a → Marked c f w xs b → Comes s a.steps a.charge p b (p + size a.code) (Judges c f w xs a.value)
+pub part_runs : (s : Setting) (c : Context) (f : FailurePolicy) (w p : ℕ) (xs : List Finding) (a : Part) (b : Body) → Stands s.image.code p a.code
+    → PartGives s c p a → Marked c f w xs b → Comes s a.steps a.charge p b (p + size a.code) (Judges c f w xs a.value)
 part_runs s c f w p xs a b has gives marked =
     into s (Judges c f w xs a.value) (λ last shown. record { marked = marks_shown marked a.value last shown; named = shown.shows }) (gives.runs b has marked.fits)
 

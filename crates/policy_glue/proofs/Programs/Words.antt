@@ -175,14 +175,16 @@ tested c x t b fits named is = grind (arith, told)
 
 -- a register has the address of word i, and word w is j words behind it
 module _ (image : Contents) (p : ℕ) (b : Body) (i j w : ℕ) (is : IsMemory b.memory) (same : w ≡ i + j) (below : w < 256) where
-  load_does : (dst src : Register) → b.registers src ≡ verdict_address i → is_frame_pointer dst ≡ false → load_row Dw dst src (pos (8 * j)) (at image p b) ≡ at image (p + 1) (set_register b dst (verdict_at w b))
+  load_does : (dst src : Register) → b.registers src ≡ verdict_address i → is_frame_pointer dst ≡ false
+      → load_row Dw dst src (pos (8 * j)) (at image p b) ≡ at image (p + 1) (set_register b dst (verdict_at w b))
   unfolding load_row
   load_does dst src e free =
       let place : (b.registers src + cast_unsigned w64 (pos (8 * j))) % 2 ^ 64 ≡ base_of VerdictRegion + 8 * w = omega arith in
       let read = read_word b.memory VerdictRegion w _ is (has_verdict w b.memory is below) place in
       rw (free, operand_is image p b (Reg src)) (ap (λ (t : Result ℕ Fault). loaded dst t (at image p b)) read ∙ register_set image p b (p + 1) dst (verdict_at w b))
 
-  put_does : (dst : Register) (n : ℤ) → b.registers dst ≡ verdict_address i → store_row Dw dst (pos (8 * j)) (Imm n) (at image p b) ≡ at image (p + 1) (set_verdict w (cast_unsigned w64 n) b)
+  put_does : (dst : Register) (n : ℤ) → b.registers dst ≡ verdict_address i
+      → store_row Dw dst (pos (8 * j)) (Imm n) (at image p b) ≡ at image (p + 1) (set_verdict w (cast_unsigned w64 n) b)
   unfolding store_row
   put_does dst n e =
       let place : (b.registers dst + cast_unsigned w64 (pos (8 * j))) % 2 ^ 64 ≡ base_of VerdictRegion + 8 * w = omega arith in
