@@ -3,11 +3,13 @@ use Rattle.assembler.proofs.Prelude.{◌≡◌, ◌≢◌, ◌+◌, ◌*◌, ◌
 use mathlib.Core.List.{append-nil}
 
 -- one more digit at the end
-one_more : (front : List ℕ) (d n : ℕ) → d < 10 → n ≡ number_from_digits 10 front → digits_of 10 n ≡ front → 0 < n * 10 + d → digits_of 10 (number_from_digits 10 (front ++ d ∷ [])) ≡ front ++ d ∷ []
+one_more : (front : List ℕ) (d n : ℕ) → d < 10 → n ≡ number_from_digits 10 front → digits_of 10 n ≡ front → 0 < n * 10 + d
+    → digits_of 10 (number_from_digits 10 (front ++ d ∷ [])) ≡ front ++ d ∷ []
 one_more front d n low e again some = grind (arith, number_push, digits_of_step)
 
 -- digits with no zero before them are those of their number
-goes_on : (rest front : List ℕ) → digits_of 10 (number_from_digits 10 front) ≡ front → 0 < number_from_digits 10 front → AllBelowBase 10 rest → digits_of 10 (number_from_digits 10 (front ++ rest)) ≡ front ++ rest
+goes_on : (rest front : List ℕ) → digits_of 10 (number_from_digits 10 front) ≡ front → 0 < number_from_digits 10 front → AllBelowBase 10 rest
+    → digits_of 10 (number_from_digits 10 (front ++ rest)) ≡ front ++ rest
 goes_on [] front again some low = rw append-nil again
 goes_on (d ∷ rest) front again some low =
     let n = number_from_digits 10 front in

@@ -30,7 +30,8 @@ one_more front c n e is again =
     (λ i. hex_digits (long i) (value i)) ∙ hex_step (length front) (n * 16 + digit_value c) ∙ (λ i. hex_digits (length front) (high i) ++ hex_digit (last i) ∷ [])
     ∙ (λ i. again i ++ d.1 i ∷ [])
 
-goes_on : (rest front : List ℕ) → hex_digits (length front) (digits_value 16 front) ≡ front → all_hex_digits rest ≡ true → hex_digits (length (front ++ rest)) (digits_value 16 (front ++ rest)) ≡ front ++ rest
+goes_on : (rest front : List ℕ) → hex_digits (length front) (digits_value 16 front) ≡ front → all_hex_digits rest ≡ true
+    → hex_digits (length (front ++ rest)) (digits_value 16 (front ++ rest)) ≡ front ++ rest
 goes_on [] front again e = rw append-nil again
 goes_on (c ∷ rest) front again e =
     let t = and_parts (is_hex_digit c) (all_hex_digits rest) e in

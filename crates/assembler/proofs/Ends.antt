@@ -39,5 +39,6 @@ no_name word name width e neg alu comparisons _ i p = i
 pub no_atomic_front : (word : List ℕ) → ((rest : List ℕ) → word ≡ codes "atomic_" ++ rest → ⊥) → (m : Mnemonic) → IsAtomic m → word ≡ mnemonic_text m → ⊥
 no_atomic_front word none m i e = grind arith
 
-pub no_operation : (text name : List ℕ) (width : Width) → text ≡ name ++ width_text width → ((op : AtomicOp) → name ≡ atomic_text op → ⊥) → (op : AtomicOp) (w : Width) → text ≡ atomic_text op ++ width_text w → ⊥
+pub no_operation : (text name : List ℕ) (width : Width) → text ≡ name ++ width_text width → ((op : AtomicOp) → name ≡ atomic_text op → ⊥)
+    → (op : AtomicOp) (w : Width) → text ≡ atomic_text op ++ width_text w → ⊥
 no_operation text name width is none op w e = none op (same_name text name (atomic_text op) width w is e)

@@ -29,7 +29,8 @@ pub operands_at : (j : Jump) (z : ℤ) (goal : List ℕ) → goal ≡ offset_tex
 operands_at j z goal e = ap (λ g. operands_text (jump_operands j g)) e ∙ (grind arith)
 
 -- its offset is out of range
-pub jump_out : (j : Jump) (z : ℤ) (goal : List ℕ) → goal ≡ offset_text z → (IsStatement (jump_by j z) → ⊥) → ReadsOperands (jump_mnemonic j) (operands_text (jump_operands j goal)) (Err OutOfRange)
+pub jump_out : (j : Jump) (z : ℤ) (goal : List ℕ) → goal ≡ offset_text z → (IsStatement (jump_by j z) → ⊥)
+    → ReadsOperands (jump_mnemonic j) (operands_text (jump_operands j goal)) (Err OutOfRange)
 jump_out j z goal e out = (statement (jump_by j z), has_line j z, mnemonic_is j z, operands_at j z goal e, out)
 
 -- what it is with an offset that it has room for
@@ -41,7 +42,8 @@ jump_said j z n goal x e same fits h is = either (reaches j n)
     (mnemonic_is j n, operands_at j n goal (e ∙ ap offset_text same), has_line j n, (grind arith)))
     (λ far. let none : Some x ≡ None = rw far at is in absurd cc)
 
-pub jump_refused : (j : Jump) (z n : ℤ) (goal : List ℕ) → goal ≡ offset_text z → z ≡ n → None ≡ with_offset j n → ReadsOperands (jump_mnemonic j) (operands_text (jump_operands j goal)) (Err OutOfRange)
+pub jump_refused : (j : Jump) (z n : ℤ) (goal : List ℕ) → goal ≡ offset_text z → z ≡ n → None ≡ with_offset j n
+    → ReadsOperands (jump_mnemonic j) (operands_text (jump_operands j goal)) (Err OutOfRange)
 jump_refused j z n goal e same is = either (reaches j n)
     (λ near. let some : None ≡ Some (jump_by j n) = rw near at is in absurd cc)
     (λ far. jump_out j z goal e (λ r. both_ways (reaches j n) far (subst (λ y. reaches j y ≡ true) same (reaches_of j z r))))
@@ -71,7 +73,8 @@ of_jump m (label name) is e = absurd cc
 of_jump m (statement (statement_kind.Insn (insn.Jump z))) is e = (Near, same mnemonic.Ja m e, inl (z, refl))
 of_jump m (statement (statement_kind.Insn (insn.JumpLong z))) is e = (Long, same mnemonic.JaLong m e, inl (z, refl))
 of_jump m (statement (statement_kind.Insn (insn.CallLocal z))) is e = (CallLocal, same mnemonic.CallLocal m e, inl (z, refl))
-of_jump m (statement (statement_kind.Insn (insn.Branch comparison width dst operand z))) is e = (Branch comparison width dst operand, same (mnemonic.Branch comparison width) m e, inl (z, refl))
+of_jump m (statement (statement_kind.Insn (insn.Branch comparison width dst operand z))) is e =
+    (Branch comparison width dst operand, same (mnemonic.Branch comparison width) m e, inl (z, refl))
 of_jump m (statement (statement_kind.Insn insn.Exit)) is e = absurd cc
 of_jump m (statement _) is e = other _ m (λ never. never) is e
 

@@ -64,7 +64,8 @@ stands_of spelled filled code (x ∷ xs) small whole (place {byte = byte} {bytes
     let more = stands_of spelled filled after later (all_after (statement_bytes (statement_of (byte ∷ bytes))) after (subst (λ z. All (λ b. b < 256) z) first.bytes small)) (grind arith) rest in
     ((first.in_range, more.0), first.bytes ∙ ap (λ z. statement_bytes (statement_of (byte ∷ bytes)) ++ z) more.1)
 
-pub listed : NoLineFeed → StatementIsSpelled → SlotsAreFilled → (code text : List ℕ) → All (λ b. b < 256) code → length code % 8 ≡ 0 → length code / 8 ≤ 65536 → Listing code text → Source text code
+pub listed : NoLineFeed → StatementIsSpelled → SlotsAreFilled → (code text : List ℕ) → All (λ b. b < 256) code → length code % 8 ≡ 0
+    → length code / 8 ≤ 65536 → Listing code text → Source text code
 listed quiet spelled filled code text small whole room l =
     let stands = stands_of spelled filled code l.statements small whole l.lists in
     let lines : lines_of text ≡ map statement_text l.statements = ap lines_of l.text_is ∙ lines_again quiet l.statements stands.0 in

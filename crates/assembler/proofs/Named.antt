@@ -18,7 +18,8 @@ or_else None y = y
 abbrev pub slot_if : Bool → ℕ → Option ℕ
 slot_if b slot = if b then Some slot else None
 
-pub label_slot_append : (before later : List Item) (slot : ℕ) (q : List ℕ) → label_slot_from slot (before ++ later) q ≡ or_else (label_slot_from slot before q) (label_slot_from (slot + slots_of before) later q)
+pub label_slot_append : (before later : List Item) (slot : ℕ) (q : List ℕ)
+    → label_slot_from slot (before ++ later) q ≡ or_else (label_slot_from slot before q) (label_slot_from (slot + slots_of before) later q)
 label_slot_append [] later slot q = let e : slot + 0 ≡ slot = omega arith in rw e refl
 label_slot_append (x ∷ xs) later slot q = grind (arith, label_slot_append xs later (slot + item_slots x) q)
 
@@ -29,12 +30,14 @@ or_none : (o : Option ℕ) → o ≡ or_else o None
 or_none h0 = grind (arith, Some)
 
 -- a label that was free gets its slot
-named_last : (before : Option ℕ) (i : Item) (q : List ℕ) (labels : List ℕ → Option ℕ) (slot : ℕ) → labels q ≡ before → IsFreeIn labels i → (if names i q then Some slot else labels q) ≡ or_else before (slot_if (names i q) slot)
+named_last : (before : Option ℕ) (i : Item) (q : List ℕ) (labels : List ℕ → Option ℕ) (slot : ℕ) → labels q ≡ before → IsFreeIn labels i
+    → (if names i q then Some slot else labels q) ≡ or_else before (slot_if (names i q) slot)
 named_last before (statement x) q labels slot e free = e ∙ or_none before
 named_last before (jump j name) q labels slot e free = e ∙ or_none before
 named_last before (label name) q labels slot e free = search (rules, either, same_name, or_none)
 
-pub slots_after_label : (before : List Item) (i : Item) (old new : List ℕ → Option ℕ) (slot : ℕ) → slot ≡ slots_of before → HasSlots old before → IsFreeIn old i → ((q : List ℕ) → new q ≡ (if names i q then Some slot else old q)) → HasSlots new (before ++ (i ∷ []))
+pub slots_after_label : (before : List Item) (i : Item) (old new : List ℕ → Option ℕ) (slot : ℕ) → slot ≡ slots_of before → HasSlots old before
+    → IsFreeIn old i → ((q : List ℕ) → new q ≡ (if names i q then Some slot else old q)) → HasSlots new (before ++ (i ∷ []))
 slots_after_label before i old new slot s has free step q = grind (arith, named_last, zero-add, label_slot_append)
 
 names_itself : (name : List ℕ) → bytes_eq name name ≡ true
@@ -46,7 +49,8 @@ same_label (jump j name) q e = absurd cc
 same_label (label name) q e = ap label (same_name name q e)
 
 -- a label with a place is named by a line, with as many slots before it
-pub found : (items : List Item) (from : ℕ) (q : List ℕ) (slot : ℕ) → label_slot_from from items q ≡ Some slot → (before : List Item) × NamedAfter items q before × (slot ≡ from + slots_of before)
+pub found : (items : List Item) (from : ℕ) (q : List ℕ) (slot : ℕ) → label_slot_from from items q ≡ Some slot
+    → (before : List Item) × NamedAfter items q before × (slot ≡ from + slots_of before)
 found [] from q slot e = absurd cc
 found (i ∷ is) from q slot e = either (names i q)
     (λ is_it. let here : Some from ≡ Some slot = rw is_it at e in ([], (is, ap (λ x. x ∷ is) (same_label i q is_it)), (let same : from ≡ slot = cc in omega (arith, same))))
@@ -76,7 +80,8 @@ once_at front [] later name once = rw (append-nil front) once.0
 once_at front (i ∷ before) later name once = let k = once_at (front ++ (i ∷ [])) before later name once.1 in rw append_assoc at k
 
 -- two lines that name a label, with none before that names it, are the same line
-same_front : (before again later other : List Item) (from : ℕ) (name : List ℕ) → before ++ label name ∷ later ≡ again ++ label name ∷ other → label_slot_from from before name ≡ None → label_slot_from from again name ≡ None → before ≡ again
+same_front : (before again later other : List Item) (from : ℕ) (name : List ℕ) → before ++ label name ∷ later ≡ again ++ label name ∷ other
+    → label_slot_from from before name ≡ None → label_slot_from from again name ≡ None → before ≡ again
 same_front [] [] later other from name e f g = refl
 same_front [] (j ∷ again) later other from name e f g = search (rules, none_named)
 same_front (i ∷ before) [] later other from name e f g = search (rules, none_named)
@@ -103,7 +108,8 @@ longer : (before later : List Item) (i : Item) → length before ≡ length (bef
 longer [] later i e = cc
 longer (x ∷ before) later i e = longer before later i (omega (arith, e))
 
-free_from : (labels : List ℕ → Option ℕ) (items front is : List Item) (name : List ℕ) (o : Option ℕ) → GivesSlots labels items → items ≡ front ++ label name ∷ is → label_slot front name ≡ o → o ≡ None
+free_from : (labels : List ℕ → Option ℕ) (items front is : List Item) (name : List ℕ) (o : Option ℕ) → GivesSlots labels items
+    → items ≡ front ++ label name ∷ is → label_slot front name ≡ o → o ≡ None
 free_from labels items front is name None g e p = refl
 free_from labels items front is name (Some slot) g e p =
     let h = found front 0 name slot p in

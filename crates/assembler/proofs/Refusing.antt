@@ -14,7 +14,8 @@ out_of_reach h0 z e = grind (arith, both_ways, of_fits, true)
 unnamed_at : (all front : List Item) (j : Jump) (name : List ℕ) (e : AsmError) → label_slot all name ≡ None → A3 (suc (length front)) ≡ e → IsRefused all front (jump j name) e
 unnamed_at all front j name e at is = subst (λ x. IsRefused all front (jump j name) x) is (unnamed (λ before n. named_none all before name n at))
 
-far_at : (all front : List Item) (j : Jump) (name : List ℕ) (target : ℕ) (e : AsmError) → label_slot all name ≡ Some target → reaches j (offset_to (slots_of front) target) ≡ false → A5 (suc (length front)) ≡ e → IsRefused all front (jump j name) e
+far_at : (all front : List Item) (j : Jump) (name : List ℕ) (target : ℕ) (e : AsmError) → label_slot all name ≡ Some target
+    → reaches j (offset_to (slots_of front) target) ≡ false → A5 (suc (length front)) ≡ e → IsRefused all front (jump j name) e
 far_at all front j name target e at far is =
     let f = found all 0 name target at in
     let slot : target ≡ slots_of f.0 = f.2 ∙ zero-add (slots_of f.0) in
@@ -26,17 +27,20 @@ cause_of all front i e h = grind (arith, unnamed_at, either, far_at)
 
 -- and what it refuses a line for that has a cause
 
-no_place : (all : List Item) (name : List ℕ) (target : Option ℕ) → label_slot all name ≡ target → ((before : List Item) → (later : List Item) × (all ≡ before ++ label name ∷ later) → ⊥) → target ≡ None
+no_place : (all : List Item) (name : List ℕ) (target : Option ℕ) → label_slot all name ≡ target
+    → ((before : List Item) → (later : List Item) × (all ≡ before ++ label name ∷ later) → ⊥) → target ≡ None
 no_place all name None at none = refl
 no_place all name (Some target) at none = let f = found all 0 name target at in absurd (none f.0 f.1)
 
-refused_for : (all front : List Item) (i : Item) (e : AsmError) → GivesSlots (label_slot all) all → IsRefused all front i e → line_statement (label_slot all) (suc (length front)) (slots_of front) i ≡ Err e
+refused_for : (all front : List Item) (i : Item) (e : AsmError) → GivesSlots (label_slot all) all → IsRefused all front i e
+    → line_statement (label_slot all) (suc (length front)) (slots_of front) i ≡ Err e
 refused_for all front i e gives (unnamed {j = j} {name = name} none) = ap (λ t. jump_at (suc (length front)) (slots_of front) j t) (no_place all name (label_slot all name) refl none)
 refused_for all front i e gives (too_far {j = j} {name = name} t) = grind arith
 
 -- one more line that is not refused
 
-snoc_parts : (before : List Item) (i : Item) (front : List Item) (k : Item) (rest : List Item) → before ++ (i ∷ []) ≡ front ++ k ∷ rest → ((front ≡ before) × (k ≡ i)) ⊎ ((more : List Item) × (before ≡ front ++ k ∷ more))
+snoc_parts : (before : List Item) (i : Item) (front : List Item) (k : Item) (rest : List Item) → before ++ (i ∷ []) ≡ front ++ k ∷ rest
+    → ((front ≡ before) × (k ≡ i)) ⊎ ((more : List Item) × (before ≡ front ++ k ∷ more))
 snoc_parts [] i [] k rest e = inl (refl, cc)
 snoc_parts [] i (x ∷ front) k rest e = absurd (omega (arith, ap (λ (z : List Item). length z) e, length-append front (k ∷ rest)))
 snoc_parts (b ∷ before) i [] k rest e = let head : b ≡ k = cc in inr (before, ap (λ x. x ∷ before) head)
@@ -59,7 +63,8 @@ none_yet all (x ∷ front) i rest e at r = cc
 abbrev emitted_after : List Item → List Item → List Item → Result (List ℕ) AsmError
 emitted_after all before items = code_bytes (label_slot all) (suc (length before)) (slots_of before) items
 
-next_line : (all before : List Item) (i : Item) (is : List Item) → emitted_after all (before ++ (i ∷ [])) is ≡ code_bytes (label_slot all) (suc (suc (length before))) (slots_of before + item_slots i) is
+next_line : (all before : List Item) (i : Item) (is : List Item)
+    → emitted_after all (before ++ (i ∷ [])) is ≡ code_bytes (label_slot all) (suc (suc (length before))) (slots_of before + item_slots i) is
 next_line all before i is = grind (arith, length-append, slots_snoc)
 
 after_refused : (bytes : List ℕ) (r : Result (List ℕ) AsmError) (e : AsmError) → after bytes r ≡ Err e → r ≡ Err e
@@ -72,7 +77,8 @@ first_by : (all before : List Item) (i : Item) (is : List Item) (e : AsmError) (
     → and_then r (code_bytes (label_slot all) (suc (suc (length before))) (slots_of before + item_slots i) is) ≡ Err e → FirstRefused all e
 first_by all before i is e r gives at none is_r later h = grind (arith, cause_of, none_more, refused_for, next_line, after_refused)
 
-first_of : (all before items : List Item) (e : AsmError) → GivesSlots (label_slot all) all → all ≡ before ++ items → NoneRefused all before → emitted_after all before items ≡ Err e → FirstRefused all e
+first_of : (all before items : List Item) (e : AsmError) → GivesSlots (label_slot all) all → all ≡ before ++ items → NoneRefused all before
+    → emitted_after all before items ≡ Err e → FirstRefused all e
 first_of all before [] e gives at none h = absurd cc
 first_of all before (i ∷ is) e gives at none h =
     first_by all before i is e (line_statement (label_slot all) (suc (length before)) (slots_of before) i) gives at none refl
@@ -82,7 +88,8 @@ passed_by : (all before : List Item) (i : Item) (items : List Item) (e : AsmErro
 passed_by all before i items e (Ok x) none is_r h = ap (λ r. after (bytes_of x) r) h
 passed_by all before i items e (Err x) none is_r h = absurd (none x (cause_of all before i x is_r))
 
-ends_at : (all : List Item) (e : AsmError) (before mid : List Item) (here : Item) (later : List Item) → GivesSlots (label_slot all) all → IsRefused all (before ++ mid) here e → NoneRefused all (before ++ mid) → emitted_after all before (mid ++ here ∷ later) ≡ Err e
+ends_at : (all : List Item) (e : AsmError) (before mid : List Item) (here : Item) (later : List Item) → GivesSlots (label_slot all) all
+    → IsRefused all (before ++ mid) here e → NoneRefused all (before ++ mid) → emitted_after all before (mid ++ here ∷ later) ≡ Err e
 ends_at all e before [] here later gives refused none = grind (arith, refused_for, append-nil)
 ends_at all e before (m ∷ ms) here later gives refused none =
     let at : (before ++ (m ∷ [])) ++ ms ≡ before ++ m ∷ ms = append_assoc before (m ∷ []) ms in

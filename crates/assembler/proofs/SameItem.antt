@@ -1,6 +1,5 @@
 -- A mnemonic and operands are those of one item.
-use Rattle.assembler.proofs.Prelude.{◌≡◌, ℕ, ℤ, pos, negsuc, List, [], ◌∷◌, ◌++◌, Some, inl, inr, refl, sym, ◌∙◌, ap, subst, Option, None, arith, Jump, CallLocal, jump_by, jump_mnemonic, jump_operands, operands_text, address_text, offset_text, operand_text, place_text, register_text, signed_decimal, Operand, Register, HasLine, Item, statement, jump, Lacks, item_mnemonic, item_operands, operand_list, Mnemonic, append_cancel_right}
-use Rattle.assembler.specs.declared.lines.jump.Jump.TheVariants.{Branch}
+use Rattle.assembler.proofs.Prelude.{◌≡◌, ℕ, ℤ, pos, negsuc, List, [], ◌∷◌, ◌++◌, Some, inl, inr, refl, sym, ◌∙◌, ap, subst, Option, None, arith, Jump, jump_by, jump_mnemonic, jump_operands, operands_text, address_text, offset_text, operand_text, place_text, register_text, signed_decimal, Operand, Register, HasLine, Item, statement, jump, Lacks, item_mnemonic, item_operands, operand_list, Mnemonic, append_cancel_right}
 use Rattle.insn_codec.specs.declared.insn.Insn.TheVariants as insn
 use Rattle.insn_codec.specs.declared.statement.Statement.TheVariants as statement_kind
 use Rattle.insn_codec.specs.declared.mnemonic.Mnemonic.TheVariants as mnemonic

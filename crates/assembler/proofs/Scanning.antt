@@ -67,7 +67,8 @@ Begun rest lines = (rest ≡ lines) ⊎ FirstLineSays lines
 ends_with : (before : List Item) (line : List ℕ) (more rest lines : List (List ℕ)) (r : Result (List Item) AsmError) → GoesOn before rest lines → rest ≡ line ∷ more → Scans before (line ∷ more) r → ((s : Result (List Item) AsmError) → Scans before (line ∷ more) s → s ≡ r) → ScansOnlyTo lines r
 ends_with before line more rest lines r goes cut scans only = ((goes r).0 (rw cut scans), λ s t. only s (rw cut at ((goes s).1 t)))
 
-pub read_refused : (before : List Item) (line : List ℕ) (more rest lines : List (List ℕ)) (number : ℕ) (e : AsmError) → GoesOn before rest lines → rest ≡ line ∷ more → number ≡ suc (length before) → ReadsAt line number (Err e) → FirstPass lines (Err e)
+pub read_refused : (before : List Item) (line : List ℕ) (more rest lines : List (List ℕ)) (number : ℕ) (e : AsmError) → GoesOn before rest lines
+    → rest ≡ line ∷ more → number ≡ suc (length before) → ReadsAt line number (Err e) → FirstPass lines (Err e)
 read_refused before line more rest lines number (A1 n) goes cut num h =
     let at : n ≡ suc (length before) = h.0 ∙ num in
     rw at (ends_with before line more rest lines (Err (A1 (suc (length before)))) goes cut (formless h.1) (λ s t. after_line before line more s no_form (only_formless line h.1) t))
@@ -76,7 +77,9 @@ read_refused before line more rest lines number (A2 n) goes cut num h =
     rw at (ends_with before line more rest lines (Err (A2 (suc (length before)))) goes cut (wide h.1.0) (λ s t. after_line before line more s out_of_range (only_wide line h.1.0 h.1.1) t))
 read_refused before line more rest lines number _ goes cut num h = absurd h
 
-pub label_refused : (before : List Item) (old new : List ℕ → Option ℕ) (l : Line) (line : List ℕ) (more rest lines : List (List ℕ)) (slot number : ℕ) (e : AsmError) → Begun rest lines → GoesOn before rest lines → rest ≡ line ∷ more → number ≡ suc (length before) → HasSlots old before → ReadsAs line (Ok l) → AddsLabel old new (item_of l) slot number (Err e) → FirstPass lines (Err e)
+pub label_refused : (before : List Item) (old new : List ℕ → Option ℕ) (l : Line) (line : List ℕ) (more rest lines : List (List ℕ)) (slot number : ℕ) (e : AsmError)
+    → Begun rest lines → GoesOn before rest lines → rest ≡ line ∷ more → number ≡ suc (length before) → HasSlots old before → ReadsAs line (Ok l)
+    → AddsLabel old new (item_of l) slot number (Err e) → FirstPass lines (Err e)
 label_refused before old new l line more rest lines slot number (A4 n) start goes cut num has reads h =
     let at : n ≡ suc (length before) = h.0 ∙ num in
     let taken : IsFree before (item_of l) → ⊥ = λ free. h.1 (grind arith) in
@@ -84,7 +87,9 @@ label_refused before old new l line more rest lines slot number (A4 n) start goe
 label_refused before old new l line more rest lines slot number Memory start goes cut num has reads h = grind arith
 label_refused before old new l line more rest lines slot number _ start goes cut num has reads h = absurd h
 
-pub full_refused : (before : List Item) (labels : List ℕ → Option ℕ) (l : Line) (line : List ℕ) (more rest lines : List (List ℕ)) (number : ℕ) → GoesOn before rest lines → rest ≡ line ∷ more → number ≡ suc (length before) → HasSlots labels before → ReadsAs line (Ok l) → IsFreeIn labels (item_of l) → 65536 < slots_of before + item_slots (item_of l) → ScansOnlyTo lines (Err (A6 number))
+pub full_refused : (before : List Item) (labels : List ℕ → Option ℕ) (l : Line) (line : List ℕ) (more rest lines : List (List ℕ)) (number : ℕ)
+    → GoesOn before rest lines → rest ≡ line ∷ more → number ≡ suc (length before) → HasSlots labels before → ReadsAs line (Ok l)
+    → IsFreeIn labels (item_of l) → 65536 < slots_of before + item_slots (item_of l) → ScansOnlyTo lines (Err (A6 number))
 full_refused before labels l line more rest lines number goes cut num has reads free past =
     let is_free = free_of before labels (item_of l) has free in
     rw num (ends_with before line more rest lines (Err (A6 (suc (length before)))) goes cut (full (item_of l) reads.0 is_free past) (λ s t. (after_line before line more s (says (item_of l)) (only_says line (item_of l) reads.0 reads.1) t).2 is_free past))

@@ -5,7 +5,8 @@ use Rattle.assembler.proofs.Resolving.{EachInRange, SlotsFit, emitted_of, emitte
 use Rattle.assembler.proofs.Scanning.{one_scan}
 
 -- lines that say something each, with no label twice and few slots, are scanned
-pub scanned_of : (before : List Item) (lines : List (List ℕ)) (items : List Item) → EachSays lines items → Once before items → slots_of (before ++ items) ≤ 65536 → Scans before lines (Ok (before ++ items))
+pub scanned_of : (before : List Item) (lines : List (List ℕ)) (items : List Item) → EachSays lines items → Once before items
+    → slots_of (before ++ items) ≤ 65536 → Scans before lines (Ok (before ++ items))
 scanned_of before [] [] told once room = rw (append-nil before) ended
 scanned_of before [] (i ∷ is) told once room = absurd told
 scanned_of before (line ∷ lines) [] told once room = absurd told

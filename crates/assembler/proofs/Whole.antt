@@ -39,7 +39,8 @@ operands_lack_colon i h =
     grind (arith, lacks_listed, plain_lacks, register_plain, lacks_operand, offset_plain, signed_decimal_plain, place_lacks_colon, wide_plain, name_lacks)
 
 code_lacks_colon : (i : Item) (m : Mnemonic) → HasLine i → item_mnemonic i ≡ Some m → Lacks 58 (item_text i)
-code_lacks_colon i m h e = subst (λ t. Lacks 58 t) (sym (line_halves i m e)) (lacks_append 58 (mnemonic_text m) (32 ∷ item_operands i) (mnemonic_lacks 58 refl m) (apart 32 58 refl, operands_lack_colon i h))
+code_lacks_colon i m h e =
+    subst (λ t. Lacks 58 t) (sym (line_halves i m e)) (lacks_append 58 (mnemonic_text m) (32 ∷ item_operands i) (mnemonic_lacks 58 refl m) (apart 32 58 refl, operands_lack_colon i h))
 
 named_lacks_space : (name : List ℕ) → IsName name → Lacks 32 (name ++ 58 ∷ [])
 named_lacks_space name h = lacks_append 32 name (58 ∷ []) (name_lacks 32 refl name h) (apart 58 32 refl, tt)
@@ -55,7 +56,8 @@ label_only name i h e = elim (kind_of i) [
 ]
 
 -- a line with a space is that of a mnemonic and operands
-pub code_only : (word operands : List ℕ) (i : Item) → Lacks 32 word → HasLine i → word ++ 32 ∷ operands ≡ item_text i → (m : Mnemonic) × (item_mnemonic i ≡ Some m) × (word ≡ mnemonic_text m) × (operands ≡ item_operands i)
+pub code_only : (word operands : List ℕ) (i : Item) → Lacks 32 word → HasLine i → word ++ 32 ∷ operands ≡ item_text i
+    → (m : Mnemonic) × (item_mnemonic i ≡ Some m) × (word ≡ mnemonic_text m) × (operands ≡ item_operands i)
 code_only word operands i w h e = elim (kind_of i) [
   | inl k ↦ let t = split_same 32 word operands (mnemonic_text k.0) (item_operands i) w (mnemonic_lacks 32 refl k.0) (e ∙ line_halves i k.0 k.1) in (k.0, k.1, t.0, t.1)
   | inr k ↦ elim k [
@@ -79,7 +81,8 @@ pub nothing_only : (line : List ℕ) → Lacks 32 line → (line ≡ codes "exit
 nothing_only line space other colon i h e = grind arith
 
 -- an item with this line has this mnemonic and these operands
-behind : (m : Mnemonic) (operands text : List ℕ) → text ≡ mnemonic_text m ++ 32 ∷ operands → (i : Item) → HasLine i → text ≡ item_text i → (item_mnemonic i ≡ Some m) × (operands ≡ item_operands i)
+behind : (m : Mnemonic) (operands text : List ℕ) → text ≡ mnemonic_text m ++ 32 ∷ operands → (i : Item) → HasLine i → text ≡ item_text i
+    → (item_mnemonic i ≡ Some m) × (operands ≡ item_operands i)
 behind m operands text t i h e =
     let k = code_only (mnemonic_text m) operands i (plain_lacks 32 refl (mnemonic_text m) (mnemonic_plain m)) h (sym t ∙ e) in
     (k.1 ∙ ap (λ n. Some n) (sym (mnemonic_injective m k.0 k.2)), k.3)

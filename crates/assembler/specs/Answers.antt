@@ -10,8 +10,7 @@ use Rattle.assembler.specs.Labels.{names, label_slot}
 use Rattle.assembler.specs.LineAnswers.{ReadsAs}
 use Rattle.assembler.specs.Reading.{Reads, says}
 use Rattle.assembler.specs.Source.{Source}
-use Rattle.assembler.specs.declared.asm_error.AsmError.{AsmError}
-use Rattle.assembler.specs.declared.asm_error.AsmError.TheVariants.{A1, A2, A4, Memory}
+use Rattle.assembler.specs.declared.asm_error.AsmError.{AsmError, TheVariants.A1, TheVariants.A2, TheVariants.A4, TheVariants.Memory}
 use Rattle.assembler.specs.declared.lines.line.Line.{Line}
 use Rattle.assembler.specs.declared.lines.line_error.LineError.TheVariants.{NoForm, OutOfRange}
 use Rattle.assembler.specs.declared.passes.scan.Scanned.{Scanned}

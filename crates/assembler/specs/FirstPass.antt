@@ -3,8 +3,7 @@ use Rattle.std.specs.Prelude.{ℕ, suc, ◌+◌, ◌<◌, ◌≤◌, List, [], �
 use Rattle.assembler.specs.Items.{Item, item_slots, slots_of}
 use Rattle.assembler.specs.Labels.{IsFree}
 use Rattle.assembler.specs.Reading.{Reads, says, no_form, out_of_range}
-use Rattle.assembler.specs.declared.asm_error.AsmError.{AsmError}
-use Rattle.assembler.specs.declared.asm_error.AsmError.TheVariants.{A1, A2, A4, A6}
+use Rattle.assembler.specs.declared.asm_error.AsmError.{AsmError, TheVariants.A1, TheVariants.A2, TheVariants.A4, TheVariants.A6}
 
 -- Scans before lines r: after lines that say `before`, the pass over these lines ends with r.
 -- A line is tested for its form, its numbers, its label and the slots up to its end, in this order.

@@ -6,8 +6,7 @@ use Rattle.insn_codec.specs.declared.mnemonic.Mnemonic.{Mnemonic}
 use Rattle.assembler.specs.Items.{HasLine, InRange, Item, item_of, statement, label, jump}
 use Rattle.assembler.specs.Jumps.{jump_mnemonic, jump_operands}
 use Rattle.assembler.specs.declared.lines.line.Line.{Line}
-use Rattle.assembler.specs.declared.lines.line_error.LineError.{LineError}
-use Rattle.assembler.specs.declared.lines.line_error.LineError.TheVariants.{NoForm, OutOfRange}
+use Rattle.assembler.specs.declared.lines.line_error.LineError.{LineError, TheVariants.NoForm, TheVariants.OutOfRange}
 
 -- the byte stands nowhere in the text
 abbrev pub Lacks : ℕ → List ℕ → Type 0

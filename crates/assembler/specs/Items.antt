@@ -4,8 +4,7 @@ use Rattle.std.specs.List.{list_all}
 use Rattle.insn_codec.specs.Lines.{line_with}
 use Rattle.insn_codec.specs.Statements.{IsStatement, statement_slots, statement_text}
 use Rattle.insn_codec.specs.declared.insn.Insn.TheVariants.{LoadWide}
-use Rattle.insn_codec.specs.declared.statement.Statement.{Statement}
-use Rattle.insn_codec.specs.declared.statement.Statement.TheVariants.{Insn, Slot}
+use Rattle.insn_codec.specs.declared.statement.Statement.{Statement, TheVariants.Insn, TheVariants.Slot}
 use Rattle.assembler.specs.Jumps.{JumpInRange, jump_mnemonic, jump_operands}
 use Rattle.assembler.specs.declared.lines.jump.Jump.{Jump}
 use Rattle.assembler.specs.declared.lines.line.Line.{Line}

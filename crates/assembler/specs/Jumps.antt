@@ -5,10 +5,8 @@ use Rattle.insn_codec.specs.Spelling.{IsOperand}
 use Rattle.insn_codec.specs.declared.insn.Insn.TheVariants as insn
 use Rattle.insn_codec.specs.declared.mnemonic.Mnemonic.{Mnemonic}
 use Rattle.insn_codec.specs.declared.mnemonic.Mnemonic.TheVariants as mnemonic
-use Rattle.insn_codec.specs.declared.statement.Statement.{Statement}
-use Rattle.insn_codec.specs.declared.statement.Statement.TheVariants.{Insn}
-use Rattle.assembler.specs.declared.lines.jump.Jump.{Jump}
-use Rattle.assembler.specs.declared.lines.jump.Jump.TheVariants.{Near, Long, CallLocal, Branch}
+use Rattle.insn_codec.specs.declared.statement.Statement.{Statement, TheVariants.Insn}
+use Rattle.assembler.specs.declared.lines.jump.Jump.{Jump, TheVariants.Near, TheVariants.Long, TheVariants.CallLocal, TheVariants.Branch}
 
 -- the mnemonic of a jump
 abbrev pub jump_mnemonic : Jump → Mnemonic

@@ -3,8 +3,7 @@ use Rattle.std.specs.Prelude.{◌≡◌, ℕ, List, Result, Ok, Err}
 use Rattle.assembler.specs.Items.{HasLine, InRange, Item, item_of, item_text}
 use Rattle.assembler.specs.Reading.{Reads, says, out_of_range, no_form}
 use Rattle.assembler.specs.declared.lines.line.Line.{Line}
-use Rattle.assembler.specs.declared.lines.line_error.LineError.{LineError}
-use Rattle.assembler.specs.declared.lines.line_error.LineError.TheVariants.{NoForm, OutOfRange}
+use Rattle.assembler.specs.declared.lines.line_error.LineError.{LineError, TheVariants.NoForm, TheVariants.OutOfRange}
 
 -- the one thing that the line says; or a number of it is out of range, and nothing in range has this line; or nothing has it
 abbrev pub ReadsAs : List ℕ → Result Line LineError → Type 0

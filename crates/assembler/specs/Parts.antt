@@ -1,12 +1,9 @@
 -- What the parts of a line say.
 use Rattle.std.specs.Prelude.{◌≡◌, ℤ, FitsSigned}
 use Rattle.std.specs.Int.{w32}
-use Rattle.insn_codec.specs.declared.operand.Operand.{Operand}
-use Rattle.insn_codec.specs.declared.operand.Operand.TheVariants.{Imm, Reg}
-use Rattle.assembler.specs.declared.text.numerals.Numeral.{Numeral}
-use Rattle.assembler.specs.declared.text.numerals.Numeral.TheVariants.{Small, Wide}
-use Rattle.assembler.specs.declared.text.operands.Value.{Value}
-use Rattle.assembler.specs.declared.text.operands.Value.TheVariants.{Register, Number}
+use Rattle.insn_codec.specs.declared.operand.Operand.{Operand, TheVariants.Imm, TheVariants.Reg}
+use Rattle.assembler.specs.declared.text.numerals.Numeral.{Numeral, TheVariants.Small, TheVariants.Wide}
+use Rattle.assembler.specs.declared.text.operands.Value.{Value, TheVariants.Register, TheVariants.Number}
 
 -- a numeral stands for this number: one of 32 bits signed, or any outside
 abbrev pub NumeralIs : Numeral → ℤ → Type 0

@@ -4,10 +4,8 @@ use Rattle.std.specs.Int.{w16}
 use Rattle.assembler.specs.FirstPass.{Scans}
 use Rattle.assembler.specs.Items.{Item, jump, slots_of}
 use Rattle.assembler.specs.Source.{NamedAfter}
-use Rattle.assembler.specs.declared.asm_error.AsmError.{AsmError}
-use Rattle.assembler.specs.declared.asm_error.AsmError.TheVariants.{A3, A5}
-use Rattle.assembler.specs.declared.lines.jump.Jump.{Jump}
-use Rattle.assembler.specs.declared.lines.jump.Jump.TheVariants.{Near, Long, CallLocal, Branch}
+use Rattle.assembler.specs.declared.asm_error.AsmError.{AsmError, TheVariants.A3, TheVariants.A5}
+use Rattle.assembler.specs.declared.lines.jump.Jump.{Jump, TheVariants.Near, TheVariants.Long, TheVariants.CallLocal, TheVariants.Branch}
 
 -- no line names the label
 abbrev pub IsUnnamed : List Item → List ℕ → Type 0

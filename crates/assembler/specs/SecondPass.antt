@@ -5,8 +5,7 @@ use Rattle.insn_codec.specs.declared.statement.Statement.{Statement}
 use Rattle.assembler.specs.Items.{Item, statement, label, jump, item_slots}
 use Rattle.assembler.specs.Jumps.{with_offset}
 use Rattle.assembler.specs.declared.lines.jump.Jump.{Jump}
-use Rattle.assembler.specs.declared.asm_error.AsmError.{AsmError}
-use Rattle.assembler.specs.declared.asm_error.AsmError.TheVariants.{A3, A5}
+use Rattle.assembler.specs.declared.asm_error.AsmError.{AsmError, TheVariants.A3, TheVariants.A5}
 
 -- a jump's offset is the label's slot less the slot after the jump
 abbrev pub offset_to : ℕ → ℕ → ℤ

@@ -3,8 +3,7 @@ use Rattle.std.specs.Prelude.{◌≡◌, ℤ, List, ℕ}
 use Rattle.insn_codec.specs.Lines.{offset_text}
 use Rattle.assembler.specs.Items.{IsName}
 use Rattle.assembler.specs.Parts.{NumeralIs}
-use Rattle.assembler.specs.declared.text.targets.Target.{Target}
-use Rattle.assembler.specs.declared.text.targets.Target.TheVariants.{Offset, Name}
+use Rattle.assembler.specs.declared.text.targets.Target.{Target, TheVariants.Offset, TheVariants.Name}
 
 -- the text is an offset of this numeral, or it is this name
 abbrev pub TargetIs : Target → List ℕ → Type 0

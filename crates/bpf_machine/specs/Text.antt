@@ -5,8 +5,7 @@ use Rattle.guest_memory.specs.Text.{fault_text}
 use Rattle.insn_codec.specs.Lines.{wide_text}
 pub use Rattle.insn_codec.specs.Lines.{hex_digit, hex_digits}
 use Rattle.bpf_machine.specs.State.{State}
-use Rattle.bpf_machine.specs.declared.status.Status.{Status}
-use Rattle.bpf_machine.specs.declared.status.Status.TheVariants.{Running, Exited, Fault}
+use Rattle.bpf_machine.specs.declared.status.Status.{Status, TheVariants.Running, TheVariants.Exited, TheVariants.Fault}
 
 -- a word of 64 bits: `0x` and 16 digits
 abbrev pub word_text : ℕ → List ℕ

@@ -38,7 +38,9 @@ mag_quotient : (x y : ℤ) → mag (int_div x y) ≤ mag x + 1
 mag_quotient x y = grind arith
 
 -- `wrapping_div` of what two words read as leaves the word of the quotient
-pub quotient_is : (w : Width) (a b : ℕ) (x y q : ℤ) → FitsSigned w x → FitsSigned w y → FitsSigned w q → x ≡ signed_of (bits w) a → y ≡ signed_of (bits w) b → q ≡ int_wrapping_div w (cast_signed w (cast_unsigned w x)) (cast_signed w (cast_unsigned w y)) → word_of (bits w) (cast_signed w (cast_unsigned w q)) ≡ word_of (bits w) (int_div (signed_of (bits w) a) (signed_of (bits w) b))
+pub quotient_is : (w : Width) (a b : ℕ) (x y q : ℤ) → FitsSigned w x → FitsSigned w y → FitsSigned w q → x ≡ signed_of (bits w) a
+    → y ≡ signed_of (bits w) b → q ≡ int_wrapping_div w (cast_signed w (cast_unsigned w x)) (cast_signed w (cast_unsigned w y))
+    → word_of (bits w) (cast_signed w (cast_unsigned w q)) ≡ word_of (bits w) (int_div (signed_of (bits w) a) (signed_of (bits w) b))
 quotient_is w a b x y q fx fy fq ex ey e = grind (arith, to_z-of_z, wrapped_is, mag_quotient)
 
 -- a word that is not 0 is no number 0, wrapped or not

@@ -19,11 +19,13 @@ pub fold_of_many : (m : Macro) (items : List Expr) → 3 < length items → fold
 fold_of_many m (a ∷ b ∷ d ∷ e ∷ items) h = refl
 fold_of_many m _ h = absurd (omega arith)
 
-pub fold_of_two : (m : Macro) (items : List Expr) (x : Expr) → 1 < length items → length items < 3 → x ≡ get_or items 0 x → fold_fault (Some m) (trees (map view items)) ≡ name_fault (name_of (view x))
+pub fold_of_two : (m : Macro) (items : List Expr) (x : Expr) → 1 < length items → length items < 3 → x ≡ get_or items 0 x
+    → fold_fault (Some m) (trees (map view items)) ≡ name_fault (name_of (view x))
 fold_of_two m (a ∷ b ∷ []) x h g e = grind arith
 fold_of_two m _ x h g e = absurd (omega arith)
 
-pub fold_of_three : (m : Macro) (items : List Expr) (x : Expr) → 2 < length items → length items < 4 → x ≡ get_or items 0 x → fold_fault (Some m) (trees (map view items)) ≡ three_fault m (name_of (view x))
+pub fold_of_three : (m : Macro) (items : List Expr) (x : Expr) → 2 < length items → length items < 4 → x ≡ get_or items 0 x
+    → fold_fault (Some m) (trees (map view items)) ≡ three_fault m (name_of (view x))
 fold_of_three m (a ∷ b ∷ d ∷ []) x h g e = grind arith
 fold_of_three m _ x h g e = absurd (omega arith)
 

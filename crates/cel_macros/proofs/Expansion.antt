@@ -66,8 +66,10 @@ mutual
   expansion_plain (tree.call n (more_trees a (more_trees b more))) = λ j. tree.call n (more_trees (expansion_plain a j) (more_trees (expansion_plain b j) (trees_plain more j)))
   expansion_plain (tree.method a n no_trees) = ap (λ t. tree.method t n no_trees) (expansion_plain a)
   expansion_plain (tree.method a n (more_trees b no_trees)) = λ j. tree.method (expansion_plain a j) n (more_trees (expansion_plain b j) no_trees)
-  expansion_plain (tree.method a n (more_trees x (more_trees p no_trees))) = fold_plain (macro_named n) (name_of x) n (expanded a) (expanded x) (expanded p) a x p (macro_back n) (name_back x) (expansion_plain a) (expansion_plain x) (expansion_plain p)
-  expansion_plain (tree.method a n (more_trees x (more_trees p (more_trees t no_trees)))) = fold_map_plain (is_map n) (name_of x) n (expanded a) (expanded x) (expanded p) (expanded t) a x p t refl (name_back x) (expansion_plain a) (expansion_plain x) (expansion_plain p) (expansion_plain t)
+  expansion_plain (tree.method a n (more_trees x (more_trees p no_trees))) =
+      fold_plain (macro_named n) (name_of x) n (expanded a) (expanded x) (expanded p) a x p (macro_back n) (name_back x) (expansion_plain a) (expansion_plain x) (expansion_plain p)
+  expansion_plain (tree.method a n (more_trees x (more_trees p (more_trees t no_trees)))) =
+      fold_map_plain (is_map n) (name_of x) n (expanded a) (expanded x) (expanded p) (expanded t) a x p t refl (name_back x) (expansion_plain a) (expansion_plain x) (expansion_plain p) (expansion_plain t)
   expansion_plain (tree.method a n (more_trees x (more_trees p (more_trees t (more_trees u more))))) = λ j. tree.method (expansion_plain a j) n (more_trees (expansion_plain x j) (more_trees (expansion_plain p j) (more_trees (expansion_plain t j) (more_trees (expansion_plain u j) (trees_plain more j)))))
   expansion_plain _ = refl
 
@@ -114,11 +116,14 @@ mutual
   expansion_means (tree.ternary c a b) env = λ j. ternary_of (expansion_means c env j) (expansion_means a env j) (expansion_means b env j)
   expansion_means (tree.list items) env = ap list_literal (trees_mean items env)
   expansion_means (tree.map es) env = ap map_literal (entries_mean es env)
-  expansion_means (tree.call n (more_trees a no_trees)) env = call_means (is_has n) (field_name a) n (expanded_operand a) (expanded a) (operand_meaning a env) (meaning a env) env (operand_means a env) (expansion_means a env)
+  expansion_means (tree.call n (more_trees a no_trees)) env =
+      call_means (is_has n) (field_name a) n (expanded_operand a) (expanded a) (operand_meaning a env) (meaning a env) env (operand_means a env) (expansion_means a env)
   expansion_means (tree.method a n no_trees) env = ap (method_of (function_named n)) (expansion_means a env)
   expansion_means (tree.method a n (more_trees b no_trees)) env = λ j. text_test_of (test_named n) (expansion_means a env j) (expansion_means b env j)
-  expansion_means (tree.method a n (more_trees x (more_trees p no_trees))) env = fold_means (macro_named n) (name_of x) n (expanded a) (expanded x) (expanded p) env (meaning a env) (λ i v. meaning p (bind i v env)) (expansion_means a env) (λ i v. expansion_means p (bind i v env))
-  expansion_means (tree.method a n (more_trees x (more_trees p (more_trees t no_trees)))) env = fold_map_means (is_map n) (name_of x) n (expanded a) (expanded x) (expanded p) (expanded t) env (meaning a env) (λ i v. meaning p (bind i v env)) (λ i v. meaning t (bind i v env)) (expansion_means a env) (λ i v. expansion_means p (bind i v env)) (λ i v. expansion_means t (bind i v env))
+  expansion_means (tree.method a n (more_trees x (more_trees p no_trees))) env =
+      fold_means (macro_named n) (name_of x) n (expanded a) (expanded x) (expanded p) env (meaning a env) (λ i v. meaning p (bind i v env)) (expansion_means a env) (λ i v. expansion_means p (bind i v env))
+  expansion_means (tree.method a n (more_trees x (more_trees p (more_trees t no_trees)))) env =
+      fold_map_means (is_map n) (name_of x) n (expanded a) (expanded x) (expanded p) (expanded t) env (meaning a env) (λ i v. meaning p (bind i v env)) (λ i v. meaning t (bind i v env)) (expansion_means a env) (λ i v. expansion_means p (bind i v env)) (λ i v. expansion_means t (bind i v env))
   expansion_means _ env = refl
 
   operand_means : (a : Tree) (env : Environment) → IfSome (field_name a) (λ f. fold_meaning (expanded_operand a) env ≡ operand_meaning a env)

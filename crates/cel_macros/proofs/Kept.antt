@@ -38,7 +38,8 @@ counts : (f : Value → ValueOrError) (items : List Value) → Counts f items
 counts f [] n = refl
 counts f (v ∷ items) n = grind (arith, add-zero, count_error, counts f items)
 
-pub folds_exists_one : (f : Value → ValueOrError) (items : List Value) → end_of ExistsOne (fold (step_of ExistsOne f) (start_of ExistsOne) items) ≡ exists_one_of (map (λ x. truth (f x)) items)
+pub folds_exists_one : (f : Value → ValueOrError) (items : List Value)
+    → end_of ExistsOne (fold (step_of ExistsOne f) (start_of ExistsOne) items) ≡ exists_one_of (map (λ x. truth (f x)) items)
 folds_exists_one f items = counts f items 0
 
 -- ---- filter
@@ -55,7 +56,8 @@ folds_filter f items = filters f items []
 
 -- ---- map
 
-regrouped : (kept : List Value) (w : Value) (o : Option (List Value)) → list_or_error (option_map (λ vs. (kept ++ w ∷ []) ++ vs) o) ≡ list_or_error (option_map (λ vs. kept ++ vs) (option_map (λ vs. w ∷ vs) o))
+regrouped : (kept : List Value) (w : Value) (o : Option (List Value))
+    → list_or_error (option_map (λ vs. (kept ++ w ∷ []) ++ vs) o) ≡ list_or_error (option_map (λ vs. kept ++ vs) (option_map (λ vs. w ∷ vs) o))
 regrouped kept w o = grind (arith, append_assoc)
 
 from_none : (o : Option (List Value)) → list_or_error (option_map (λ vs. [] ++ vs) o) ≡ list_or_error o
@@ -64,7 +66,8 @@ from_none o = grind arith
 abbrev Maps : (Value → ValueOrError) → List Value → Type 0
 Maps f items = (kept : List Value) → fold (step_of Map f) (of_list kept) items ≡ list_or_error (option_map (λ vs. kept ++ vs) (values_in (map f items)))
 
-map_one : (f : Value → ValueOrError) (items kept : List Value) (x : ValueOrError) → Maps f items → fold (step_of Map f) (push_parts (Some (items_of kept)) x) items ≡ list_or_error (option_map (λ vs. kept ++ vs) (with_value x (values_in (map f items))))
+map_one : (f : Value → ValueOrError) (items kept : List Value) (x : ValueOrError) → Maps f items
+    → fold (step_of Map f) (push_parts (Some (items_of kept)) x) items ≡ list_or_error (option_map (λ vs. kept ++ vs) (with_value x (values_in (map f items))))
 map_one f items kept error ih = map_error f items
 map_one f items kept (value w) ih =
     ap (λ is. fold (step_of Map f) (value (list is)) items) (push_is kept w)

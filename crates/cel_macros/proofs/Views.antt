@@ -6,7 +6,8 @@ use Rattle.cel_reader.specs.Tree as tree
 pub view_call : (name : String Global) (arguments : Vec Expr Global) → view (code.Call name arguments) ≡ tree.call (string_bytes name) (trees (map view arguments.items))
 view_call name arguments = ap view (sym (rolls-Call name arguments)) ∙ fold-roll-Expr Tree view_step _
 
-pub view_method : (of : Box Expr Global) (name : String Global) (arguments : Vec Expr Global) → view (code.Method of name arguments) ≡ tree.method (view of.value) (string_bytes name) (trees (map view arguments.items))
+pub view_method : (of : Box Expr Global) (name : String Global) (arguments : Vec Expr Global)
+    → view (code.Method of name arguments) ≡ tree.method (view of.value) (string_bytes name) (trees (map view arguments.items))
 view_method of name arguments = ap view (sym (rolls-Method of name arguments)) ∙ fold-roll-Expr Tree view_step _
 
 pub view_list : (items : Vec Expr Global) → view (code.List items) ≡ tree.list (trees (map view items.items))

@@ -4,8 +4,7 @@ use Rattle.cel_reader.specs.Tree as tree
 use Rattle.cel_reader.specs.Tree.{Tree, Trees, Entries, no_trees, more_trees, no_entries, more_entries}
 use Rattle.cel_reader.specs.declared.operator.BinaryOperator.{BinaryOperator}
 use Rattle.cel_reader.specs.declared.operator.UnaryOperator.{UnaryOperator}
-use Rattle.cel_macros.specs.declared.macros.Macro.{Macro}
-use Rattle.cel_macros.specs.declared.macros.Macro.TheVariants.{Map}
+use Rattle.cel_macros.specs.declared.macros.Macro.{Macro, TheVariants.Map}
 use Rattle.cel_macros.specs.Macros.{macro_name, macro_named, has_name, variables_name, is_map, is_has, is_variables, name_of, field_name}
 
 mutual

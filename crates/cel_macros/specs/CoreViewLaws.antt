@@ -4,9 +4,8 @@ use Rattle.std.specs.declared.alloc.Global.{Global}
 use Rattle.std.specs.declared.vec.Vec.{Vec}
 use Rattle.std.specs.declared.string.String.{String}
 use Rattle.std.specs.declared.boxed.Box.{Box}
-use Rattle.cel_macros.specs.declared.core_tree.Core.{Core}
+use Rattle.cel_macros.specs.declared.core_tree.Core.{Core, TheVariants.rolls-Call, TheVariants.rolls-Method, TheVariants.rolls-List, TheVariants.rolls-Map}
 use Rattle.cel_macros.specs.declared.core_tree.Core as code
-use Rattle.cel_macros.specs.declared.core_tree.Core.TheVariants.{rolls-Call, rolls-Method, rolls-List, rolls-Map}
 use Rattle.cel_macros.specs.declared.core_tree.Core.TheFolds.{fold-roll-Core}
 use Rattle.cel_macros.specs.CoreTree as node
 use Rattle.cel_macros.specs.CoreTree.{CoreTree}

@@ -1,8 +1,7 @@
 -- What expansion makes of a call and of a method once their parts are expanded.
 use Rattle.std.specs.Prelude.{◌≡◌, ℕ, Bool, true, false, List, [], ◌∷◌, Option, Some, None}
 use Rattle.cel_macros.specs.Macros.{macro_named, is_map, is_has, variables_name}
-use Rattle.cel_macros.specs.declared.shape.Shape.{Shape}
-use Rattle.cel_macros.specs.declared.shape.Shape.TheVariants.{Pair, Triple, Other}
+use Rattle.cel_macros.specs.declared.shape.Shape.{Shape, TheVariants.Pair, TheVariants.Triple, TheVariants.Other}
 use Rattle.cel_macros.specs.declared.core_tree.Core.{Core}
 use Rattle.cel_reader.specs.declared.expr.Expr.{Expr}
 use Rattle.cel_reader.specs.Tree.{view}

@@ -9,8 +9,7 @@ use Rattle.cel_macros.specs.Comparison.{equal_of}
 use Rattle.cel_macros.specs.Selection.{field_of, has_of, index_of}
 use Rattle.cel_macros.specs.Literals.{literal_of, list_literal, map_literal}
 use Rattle.cel_macros.specs.Functions.{function_named, function_of, method_of, test_named, text_test_of}
-use Rattle.cel_macros.specs.declared.macros.Macro.{Macro}
-use Rattle.cel_macros.specs.declared.macros.Macro.TheVariants.{All, Exists, ExistsOne, Filter, Map}
+use Rattle.cel_macros.specs.declared.macros.Macro.{Macro, TheVariants.All, TheVariants.Exists, TheVariants.ExistsOne, TheVariants.Filter, TheVariants.Map}
 use Rattle.cel_macros.specs.Macros.{is_yes, is_no, range_of}
 use Rattle.cel_macros.specs.Meaning.{unary_of, binary_of}
 use Rattle.cel_macros.specs.CoreTree.{CoreTree, literal, name, variable, select, has, index, call, method, unary, binary, ternary, map}

@@ -2,11 +2,9 @@
 use Rattle.std.specs.Prelude.{ℕ, Bool, true, false, ◌||◌, List, Option, Some, None, Result, Ok, Err, if◌then◌else◌, bytes_eq}
 use Rattle.cel_reader.specs.Tree as tree
 use Rattle.cel_reader.specs.Tree.{Tree, Trees, Entries, no_trees, more_trees, no_entries, more_entries}
-use Rattle.cel_macros.specs.declared.macro_error.MacroError.{MacroError}
-use Rattle.cel_macros.specs.declared.macro_error.MacroError.TheVariants.{M1, M2, M3}
+use Rattle.cel_macros.specs.declared.macro_error.MacroError.{MacroError, TheVariants.M1, TheVariants.M2, TheVariants.M3}
 use Rattle.cel_macros.specs.Environment.{is_root}
-use Rattle.cel_macros.specs.declared.macros.Macro.{Macro}
-use Rattle.cel_macros.specs.declared.macros.Macro.TheVariants.{All, Exists, ExistsOne, Filter, Map}
+use Rattle.cel_macros.specs.declared.macros.Macro.{Macro, TheVariants.All, TheVariants.Exists, TheVariants.ExistsOne, TheVariants.Filter, TheVariants.Map}
 use Rattle.cel_macros.specs.Macros.{macro_named, is_has, variables_name, name_of, field_name}
 
 -- what is wrong with a macro: how many arguments it has, its iteration name, or that the argument of `has` selects no field

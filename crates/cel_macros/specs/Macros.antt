@@ -1,13 +1,11 @@
 -- Macros over the items of a list or the keys of a map (cel-spec, Macros).
-use Rattle.std.specs.Prelude.{ℕ, Bool, true, false, List, [], ◌∷◌, Option, Some, None, if◌then◌else◌, nat_eq, bytes_eq, codes, filter}
-use Rattle.std.specs.Prelude.{count_by, find}
+use Rattle.std.specs.Prelude.{ℕ, Bool, true, false, List, [], ◌∷◌, Option, Some, None, if◌then◌else◌, nat_eq, bytes_eq, codes, filter, count_by, find}
 use Rattle.std.specs.Prelude.{map as each}
 use Rattle.std.specs.List.{list_any, list_all}
 use Rattle.cel_reader.specs.Tree as tree
 use Rattle.cel_reader.specs.Tree.{Tree}
 use Rattle.value_store.specs.Value.{Value, ValueOrError, error, value, boolean, text, list, map, list_of, keys_of}
-use Rattle.cel_macros.specs.declared.macros.Macro.{Macro}
-use Rattle.cel_macros.specs.declared.macros.Macro.TheVariants.{All, Exists, ExistsOne, Filter, Map}
+use Rattle.cel_macros.specs.declared.macros.Macro.{Macro, TheVariants.All, TheVariants.Exists, TheVariants.ExistsOne, TheVariants.Filter, TheVariants.Map}
 use Rattle.cel_macros.specs.Logic.{Truth, Yes, No, Other, truth}
 use Rattle.cel_macros.specs.Literals.{list_literal, list_or_error}
 

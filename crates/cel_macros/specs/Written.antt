@@ -3,8 +3,7 @@ use Rattle.std.specs.Prelude.{◌≡◌, ℕ, ℤ, pos, List, [], ◌∷◌, tru
 use Prim.Native.String.{String}
 use Rattle.cel_reader.specs.Tree.{Tree}
 use Rattle.cel_reader.specs.Written.{name, dot}
-use Rattle.value_store.specs.Value.{Value, null, boolean, int, text, list, map, items_of, Entries, no_entries, entry, ValueOrError, error}
-use Rattle.value_store.specs.Value.{value}
+use Rattle.value_store.specs.Value.{Value, null, boolean, int, text, list, map, items_of, Entries, no_entries, entry, ValueOrError, error, value}
 use Rattle.cel_macros.specs.Environment.{Environment}
 use Rattle.cel_macros.specs.Meaning.{meaning}
 

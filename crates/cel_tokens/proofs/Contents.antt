@@ -25,14 +25,16 @@ pub closes : (raw : Bool) (quote n b : ℕ) (said bs : List ℕ) → b ≡ quote
 unfolding content
 closes raw quote n b said bs h = let e : (b == quote) ≡ true = grind (arith, nat_tests) in rw e refl
 
-pub goes_on : (raw : Bool) (quote n b : ℕ) (said bs : List ℕ) → b ≢ quote → content raw quote 0 n said (b ∷ bs) ≡ option_and_then (λ x. content raw quote (x.0 - 1) (n + 1) (said ++ x.1) bs) (piece raw (b ∷ bs))
+pub goes_on : (raw : Bool) (quote n b : ℕ) (said bs : List ℕ) → b ≢ quote
+    → content raw quote 0 n said (b ∷ bs) ≡ option_and_then (λ x. content raw quote (x.0 - 1) (n + 1) (said ++ x.1) bs) (piece raw (b ∷ bs))
 unfolding content
 goes_on raw quote n b said bs h = let e : (b == quote) ≡ false = grind (arith, nat_tests) in rw e refl
 
 pub content_refused : (raw : Bool) (quote n : ℕ) (said xs : List ℕ) → n < length xs → get_or xs n 0 ≢ quote → piece raw (drop n xs) ≡ None → content raw quote 0 n said (drop n xs) ≡ None
 content_refused raw quote n said xs h d = grind (arith, drop-cons, goes_on)
 
-pub more_at : (raw : Bool) (quote n b : ℕ) (said bs : List ℕ) (x : ℕ × List ℕ) → b ≢ quote → piece raw (b ∷ bs) ≡ Some x → 1 ≤ x.0 → x.0 ≤ length (b ∷ bs) → content raw quote 0 n said (b ∷ bs) ≡ content raw quote 0 (n + x.0) (said ++ x.1) (drop (x.0 - 1) bs)
+pub more_at : (raw : Bool) (quote n b : ℕ) (said bs : List ℕ) (x : ℕ × List ℕ) → b ≢ quote → piece raw (b ∷ bs) ≡ Some x → 1 ≤ x.0
+    → x.0 ≤ length (b ∷ bs) → content raw quote 0 n said (b ∷ bs) ≡ content raw quote 0 (n + x.0) (said ++ x.1) (drop (x.0 - 1) bs)
 more_at raw quote n b said bs x h e low high = grind (arith, goes_on, skipped)
 
 pub content_more : (raw : Bool) (quote n : ℕ) (said xs : List ℕ) (x : ℕ × List ℕ) → n < length xs → get_or xs n 0 ≢ quote → piece raw (drop n xs) ≡ Some x → 1 ≤ x.0 → x.0 ≤ length (drop n xs) → content raw quote 0 n said (drop n xs) ≡ content raw quote 0 (n + x.0) (said ++ x.1) (drop (n + x.0) xs)
@@ -64,6 +66,7 @@ rest_utf8 said bytes len u l a =
     subst IsUtf8 (ap (λ y. drop y (said ++ bytes)) q ∙ drop-append-add said bytes (len + 1)) (IsUtf8-drop (said ++ bytes) (length said + len + 1) u b)
 
 -- an escape that ends in an ASCII byte may be put for its code point
-pub escape_utf8 : (said bytes : List ℕ) (code len : ℕ) → IsUtf8 (said ++ bytes) → get_or bytes 0 0 < 128 → len < length bytes → get_or bytes len 0 < 128 → IsScalar code → IsUtf8 ((said ++ encode_utf8 code) ++ drop (len + 1) bytes)
+pub escape_utf8 : (said bytes : List ℕ) (code len : ℕ) → IsUtf8 (said ++ bytes) → get_or bytes 0 0 < 128 → len < length bytes
+    → get_or bytes len 0 < 128 → IsScalar code → IsUtf8 ((said ++ encode_utf8 code) ++ drop (len + 1) bytes)
 escape_utf8 said bytes code len u a l z s =
     IsUtf8-append (said ++ encode_utf8 code) (drop (len + 1) bytes) (IsUtf8-append said (encode_utf8 code) (said_utf8 said bytes u (omega arith) a) (IsUtf8-encode code s)) (rest_utf8 said bytes len u l z)

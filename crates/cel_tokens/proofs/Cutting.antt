@@ -11,7 +11,8 @@ there source rest signed at found e s = ap (front signed) (sym e) ∙ sym s
 pub ends_text : (source rest : List ℕ) (at : ℕ) → IsUtf8 source → rest ≡ drop at source → EndsText rest
 ends_text source rest at u e = (take at source, subst IsUtf8 (sym (take-append-drop at source) ∙ ap (λ (ys : List ℕ). take at source ++ ys) (sym e)) u)
 
-pub space_step : (source : List ℕ) (signed : Bool) (at n : ℕ) (so_far : List Lexeme) (r : Result (List Lexeme) ReadError) → front signed (drop at source) ≡ front.space n → Cuts signed so_far (at + n) (drop (at + n) source) r → Cuts signed so_far at (drop at source) r
+pub space_step : (source : List ℕ) (signed : Bool) (at n : ℕ) (so_far : List Lexeme) (r : Result (List Lexeme) ReadError)
+    → front signed (drop at source) ≡ front.space n → Cuts signed so_far (at + n) (drop (at + n) source) r → Cuts signed so_far at (drop at source) r
 space_step source signed at n so_far r f d =
     cut_space n f (subst (λ (xs : List ℕ). Cuts signed so_far (at + n) xs r) (sym (drop-drop n at source)) d)
 
@@ -19,13 +20,15 @@ token_step : (source : List ℕ) (signed : Bool) (at n : ℕ) (so_far : List Lex
 token_step source signed at n so_far w r f l d =
     cut_token n w f l (subst (λ (xs : List ℕ). Cuts (sign_may_follow w) (so_far ++ (lexeme at n w ∷ [])) (at + n) xs r) (sym (drop-drop n at source)) d)
 
-moved : (sign sign' : Bool) (new new' : List Lexeme) (next next' : ℕ) (source : List ℕ) (r : Result (List Lexeme) ReadError) → sign ≡ sign' → new ≡ new' → next ≡ next' → Cuts sign new next (drop next source) r → Cuts sign' new' next' (drop next' source) r
+moved : (sign sign' : Bool) (new new' : List Lexeme) (next next' : ℕ) (source : List ℕ) (r : Result (List Lexeme) ReadError) → sign ≡ sign'
+    → new ≡ new' → next ≡ next' → Cuts sign new next (drop next source) r → Cuts sign' new' next' (drop next' source) r
 moved sign sign' new new' next next' source r h0 h1 h2 h3 = grind arith
 
 same_word : (at n : ℕ) (source : List ℕ) (kind : Kind) → word_of (take (at + n - at) (drop at source)) kind ≡ word_of (take n (drop at source)) kind
 same_word at n source kind = let e : at + n - at ≡ n = omega arith in ap (λ (y : ℕ). word_of (take y (drop at source)) kind) e
 
-seen_new : (source : List ℕ) (at n : ℕ) (kind : Kind) (old new : List Token) → new ≡ old ++ ((record { place = at; end = at + n; kind = kind }) ∷ []) → map (seen source) new ≡ map (seen source) old ++ (lexeme at n (word_of (take n (drop at source)) kind) ∷ [])
+seen_new : (source : List ℕ) (at n : ℕ) (kind : Kind) (old new : List Token) → new ≡ old ++ ((record { place = at; end = at + n; kind = kind }) ∷ [])
+    → map (seen source) new ≡ map (seen source) old ++ (lexeme at n (word_of (take n (drop at source)) kind) ∷ [])
 seen_new source at n kind old new e = grind (arith, map-append, same_word)
 
 pub token_goes : (source rest : List ℕ) (signed sign : Bool) (at n next : ℕ) (kind : Kind) (old new : List Token) (r : Result (List Lexeme) ReadError) → rest ≡ drop at source → front.word n (word_of (take n rest) kind) ≡ front signed rest → length old < 4096 → next ≡ at + n → sign ≡ sign_may_follow (word_of (take n rest) kind) → new ≡ old ++ ((record { place = at; end = at + n; kind = kind }) ∷ []) → Ends source sign next new r → Ends source signed at old r
@@ -35,7 +38,8 @@ token_goes source rest signed sign at n next kind old new r e s l x g a d =
     token_step source signed at n (map (seen source) old) _ r f (omega (arith, length-map old (seen source))) (moved sign _ (map (seen source) new) _ next (at + n) source r (g ∙ ap sign_may_follow w) (seen_new source at n kind old new a) x d)
 
 -- one that comes behind blanks
-pub taken_behind : (source : List ℕ) (signed : Bool) (at n : ℕ) → front signed (drop at source) ≡ front.space n → TakesMemory signed (drop (at + n) source) → TakesMemory signed (drop at source)
+pub taken_behind : (source : List ℕ) (signed : Bool) (at n : ℕ) → front signed (drop at source) ≡ front.space n
+    → TakesMemory signed (drop (at + n) source) → TakesMemory signed (drop at source)
 taken_behind source signed at n f t = behind_space n f (subst (TakesMemory signed) (sym (drop-drop n at source)) t)
 
 -- a token's
@@ -48,7 +52,8 @@ taken_by_text signed bytes before None e = for_text e
 taken_by_text signed bytes before (Some x) e = for_word (before + x.0) (text x.1) e
 
 -- after 4,096 tokens what begins is one too many
-pub too_many_words : (source rest : List ℕ) (signed : Bool) (at n : ℕ) (w : Word) (old : List Token) → rest ≡ drop at source → front.word n w ≡ front signed rest → 4096 ≤ length old → Ends source signed at old (Err (P6 at))
+pub too_many_words : (source rest : List ℕ) (signed : Bool) (at n : ℕ) (w : Word) (old : List Token) → rest ≡ drop at source
+    → front.word n w ≡ front signed rest → 4096 ≤ length old → Ends source signed at old (Err (P6 at))
 too_many_words source rest signed at n w old e s l =
     too_many (subst Begins (sym (there source rest signed at _ e s)) (a_word n w)) (omega (arith, length-map old (seen source)))
 

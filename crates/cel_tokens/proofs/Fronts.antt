@@ -7,7 +7,8 @@ pub front_nil : (signed : Bool) (xs : List ℕ) → length xs ≤ 0 → front si
 unfolding front
 front_nil signed xs h0 = grind arith
 
-pub front_is : (signed : Bool) (xs : List ℕ) → 0 < length xs → front signed xs ≡ (if nat_lt 0 (between false xs) then space (between false xs) else front_word signed (get_or xs 0 0) xs (opening xs))
+pub front_is : (signed : Bool) (xs : List ℕ) → 0 < length xs
+    → front signed xs ≡ (if nat_lt 0 (between false xs) then space (between false xs) else front_word signed (get_or xs 0 0) xs (opening xs))
 unfolding front
 front_is signed xs h0 = grind arith
 

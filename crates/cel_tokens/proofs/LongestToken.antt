@@ -22,9 +22,6 @@ int_takes : (bytes : List ℕ) (k before : ℕ) (o : Option ℤ) → k ≤ befor
     → AtLeast bytes k (int_front before (int_at (drop before bytes)).0 o)
 int_takes bytes k before o h0 = grind arith
 
-opens_some : (raw : Bool) → 1 ≤ opening_len raw
-opens_some raw = grind arith
-
 name_byte : (b : ℕ) → is_letter b ≡ true → is_name_byte b ≡ true
 name_byte b l = rw l refl
 

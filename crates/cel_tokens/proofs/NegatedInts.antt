@@ -25,7 +25,8 @@ decimal_here b bs d =
     let e = taken (is_digit_of 10) b bs d in
     decimal _ (subst IsDecimal (sym e) (d, front_passes (is_digit_of 10) bs))
 
-hex_here : (d : ℕ) (ds : List ℕ) → is_digit_of 16 d ≡ true → Spells (take (run (is_digit_of 16) (d ∷ ds) + 2) (48 ∷ 120 ∷ d ∷ ds)) (number 16 (take (run (is_digit_of 16) (d ∷ ds)) (d ∷ ds)))
+hex_here : (d : ℕ) (ds : List ℕ) → is_digit_of 16 d ≡ true
+    → Spells (take (run (is_digit_of 16) (d ∷ ds) + 2) (48 ∷ 120 ∷ d ∷ ds)) (number 16 (take (run (is_digit_of 16) (d ∷ ds)) (d ∷ ds)))
 hex_here d ds h =
     let q : run (is_digit_of 16) (d ∷ ds) + 2 ≡ suc (suc (run (is_digit_of 16) (d ∷ ds))) = omega arith in
     let e = taken (is_digit_of 16) d ds h in
@@ -34,7 +35,8 @@ hex_here d ds h =
 both : (x y : Bool) → (x && y) ≡ true → (x ≡ true) × (y ≡ true)
 both x y h0 = grind arith
 
-spells_by : (bytes : List ℕ) → digit_begins bytes ≡ true → (t : Bool) → hex_begins bytes ≡ t → Spells (take (if t then ((spelled 16 (drop 2 bytes)).0 + 2, (spelled 16 (drop 2 bytes)).1) else spelled 10 bytes).0 bytes) (if t then ((spelled 16 (drop 2 bytes)).0 + 2, (spelled 16 (drop 2 bytes)).1) else spelled 10 bytes).1
+spells_by : (bytes : List ℕ) → digit_begins bytes ≡ true → (t : Bool) → hex_begins bytes ≡ t
+    → Spells (take (if t then ((spelled 16 (drop 2 bytes)).0 + 2, (spelled 16 (drop 2 bytes)).1) else spelled 10 bytes).0 bytes) (if t then ((spelled 16 (drop 2 bytes)).0 + 2, (spelled 16 (drop 2 bytes)).1) else spelled 10 bytes).1
 spells_by bytes d true t = grind (arith, both, nat_tests, hex_here)
 spells_by bytes d false t = grind (arith, decimal_here)
 
@@ -143,7 +145,8 @@ wide_back bytes before (gap, n, v, f, l, h) =
     let q : gap + 1 ≡ before = omega (arith, l) in
     too_wide bytes gap n v f h ∙ ap front.wide_int q
 
-pub negated_int : (bytes : List ℕ) (len : ℕ) (z : ℤ) → (front true (45 ∷ bytes) ≡ front.word len (int z) → Negated bytes len z) × (Negated bytes len z → front true (45 ∷ bytes) ≡ front.word len (int z))
+pub negated_int : (bytes : List ℕ) (len : ℕ) (z : ℤ)
+    → (front true (45 ∷ bytes) ≡ front.word len (int z) → Negated bytes len z) × (Negated bytes len z → front true (45 ∷ bytes) ≡ front.word len (int z))
 negated_int bytes len z = (is_negated bytes (front true (45 ∷ bytes)) len z (begun bytes), (grind (arith, negated)))
 
 pub wide_int : (bytes : List ℕ) (before : ℕ) → (front true (45 ∷ bytes) ≡ front.wide_int before → Wide bytes before) × (Wide bytes before → front true (45 ∷ bytes) ≡ front.wide_int before)

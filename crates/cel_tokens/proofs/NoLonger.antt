@@ -20,7 +20,8 @@ letter_is_name_byte b h = rw h refl
 pub begins_here : (b : ℕ) (bs : List ℕ) → (is_blank b ≡ false) × ((b == 47) ≡ false) → between false (b ∷ bs) ≡ 0
 begins_here b bs k = between_off false b bs (rw (k.0, no_comment b bs k.1) refl)
 
-name_front : (signed : Bool) (b : ℕ) (bs : List ℕ) → is_letter b ≡ true → opening (b ∷ bs) ≡ None → front signed (b ∷ bs) ≡ front.word (run is_name_byte (b ∷ bs)) (name (take (run is_name_byte (b ∷ bs)) (b ∷ bs)))
+name_front : (signed : Bool) (b : ℕ) (bs : List ℕ) → is_letter b ≡ true → opening (b ∷ bs) ≡ None
+    → front signed (b ∷ bs) ≡ front.word (run is_name_byte (b ∷ bs)) (name (take (run is_name_byte (b ∷ bs)) (b ∷ bs)))
 unfolding front
 name_front signed b bs l o = grind (arith, begins_here, letter_is_token)
 
@@ -63,5 +64,6 @@ hex_len d ds rest a =
     let r = run_prefix (is_digit_of 16) (d ∷ ds) rest a in
     rw (a.0) (omega (arith, r))
 
-pub no_longer_hex : (signed : Bool) (d : ℕ) (ds rest : List ℕ) → AllPass (is_digit_of 16) (d ∷ ds) → (front signed (48 ∷ 120 ∷ d ∷ (ds ++ rest)) ≡ front.wide_int 0) ⊎ Takes signed (48 ∷ 120 ∷ d ∷ ds) rest
+pub no_longer_hex : (signed : Bool) (d : ℕ) (ds rest : List ℕ) → AllPass (is_digit_of 16) (d ∷ ds)
+    → (front signed (48 ∷ 120 ∷ d ∷ (ds ++ rest)) ≡ front.wide_int 0) ⊎ Takes signed (48 ∷ 120 ∷ d ∷ ds) rest
 no_longer_hex signed d ds rest a = grind (arith, int_front_is, hex_len)

@@ -31,7 +31,8 @@ step : (base v : ℕ) (xs : List ℕ) (n : ℕ) → n < length xs → number_fro
 unfolding number_from
 step base v xs n h = let q : n + 1 ≡ suc n = omega arith in rw (q, drop-cons xs n 0) refl
 
-pub number_more : (base v m : ℕ) (xs : List ℕ) (n : ℕ) → 1 ≤ base → n < length xs → min (number_from base (min (min (v * base) m + digit_value (get_or xs n 0)) m) (drop (n + 1) xs)) m ≡ min (number_from base v (drop n xs)) m
+pub number_more : (base v m : ℕ) (xs : List ℕ) (n : ℕ) → 1 ≤ base → n < length xs
+    → min (number_from base (min (min (v * base) m + digit_value (get_or xs n 0)) m) (drop (n + 1) xs)) m ≡ min (number_from base v (drop n xs)) m
 number_more base v m xs n b h =
     let e : min (min (v * base) m + digit_value (get_or xs n 0)) m ≡ min (v * base + digit_value (get_or xs n 0)) m = omega arith in
     rw (e, step base v xs n h) (kept base (v * base + digit_value (get_or xs n 0)) m (drop (n + 1) xs) b)

@@ -18,19 +18,23 @@ Case so_far signed place rest r front.wrong_text = Within so_far place r (r ≡ 
 Case so_far signed place rest r (front.wide_int n) = Within so_far place r (r ≡ Err (P3 (place + n)))
 Case so_far signed place rest r front.nothing = r ≡ Err (P1 place)
 
-case_of : {so_far : List Lexeme} {signed : Bool} {place : ℕ} {rest : List ℕ} {r : Result (List Lexeme) ReadError} → Cuts signed so_far place rest r → Case so_far signed place rest r (front signed rest)
+case_of : {so_far : List Lexeme} {signed : Bool} {place : ℕ} {rest : List ℕ} {r : Result (List Lexeme) ReadError} → Cuts signed so_far place rest r
+    → Case so_far signed place rest r (front signed rest)
 case_of h0 = grind arith
 
 inside : (so_far : List Lexeme) (place : ℕ) (r : Result (List Lexeme) ReadError) (P : Type 0) → length so_far < 4096 → Within so_far place r P → P
 inside so_far place r P h0 h1 = grind arith
 
-only_full : (so_far : List Lexeme) (signed : Bool) (place : ℕ) (rest : List ℕ) (r : Result (List Lexeme) ReadError) (f : front.Front) → Begins f → 4096 ≤ length so_far → Case so_far signed place rest r f → r ≡ Err (P6 place)
+only_full : (so_far : List Lexeme) (signed : Bool) (place : ℕ) (rest : List ℕ) (r : Result (List Lexeme) ReadError) (f : front.Front) → Begins f
+    → 4096 ≤ length so_far → Case so_far signed place rest r f → r ≡ Err (P6 place)
 only_full so_far signed place rest r f h0 h1 h2 = grind arith
 
-at_front : {so_far : List Lexeme} {signed : Bool} {place : ℕ} {rest : List ℕ} {r : Result (List Lexeme) ReadError} (found : front.Front) → front signed rest ≡ found → Cuts signed so_far place rest r → Case so_far signed place rest r found
+at_front : {so_far : List Lexeme} {signed : Bool} {place : ℕ} {rest : List ℕ} {r : Result (List Lexeme) ReadError} (found : front.Front)
+    → front signed rest ≡ found → Cuts signed so_far place rest r → Case so_far signed place rest r found
 at_front {so_far} {signed} {place} {rest} {r} found f c = subst (Case so_far signed place rest r) f (case_of c)
 
-one_cut : {so_far : List Lexeme} {signed : Bool} {place : ℕ} {rest : List ℕ} {r s : Result (List Lexeme) ReadError} → Cuts signed so_far place rest r → Cuts signed so_far place rest s → r ≡ s
+one_cut : {so_far : List Lexeme} {signed : Bool} {place : ℕ} {rest : List ℕ} {r s : Result (List Lexeme) ReadError} → Cuts signed so_far place rest r
+    → Cuts signed so_far place rest s → r ≡ s
 one_cut (over f) c = sym (at_front front.over f c)
 one_cut (space n f d) c = one_cut d (at_front (front.space n) f c)
 one_cut {so_far} {signed} {place} {rest} {r} {s} (token n w f l d) c = one_cut d (inside so_far place s _ l (at_front (front.word n w) f c))
@@ -75,7 +79,8 @@ reach_token so_far x more out e = e ∙ append_assoc so_far (x ∷ []) more
 ok_same : (xs ys : List Lexeme) → ◌≡◌ {A = Result (List Lexeme) ReadError} (Ok xs) (Ok ys) → xs ≡ ys
 ok_same xs ys e = cc
 
-tokens_of : {so_far : List Lexeme} {signed : Bool} {place : ℕ} {rest : List ℕ} {r : Result (List Lexeme) ReadError} → Cuts signed so_far place rest r → (out : List Lexeme) → r ≡ Ok out → length so_far ≤ 4096 → Reaches so_far signed place rest out
+tokens_of : {so_far : List Lexeme} {signed : Bool} {place : ℕ} {rest : List ℕ} {r : Result (List Lexeme) ReadError} → Cuts signed so_far place rest r
+    → (out : List Lexeme) → r ≡ Ok out → length so_far ≤ 4096 → Reaches so_far signed place rest out
 tokens_of {so_far} (over f) out e h = ([], sym (ok_same so_far out e) ∙ sym (append-nil so_far), omega (arith, h, ap length (ok_same so_far out e)), no_more f)
 tokens_of (space n f d) out e h = let t = tokens_of d out e h in (t.0, t.1, t.2, then_space n f t.3)
 tokens_of {so_far} {signed} {place} (token n w f l d) out e h =
@@ -86,7 +91,8 @@ tokens_of (wrong_text f l) out e h = cc
 tokens_of (wide_int n f l) out e h = cc
 tokens_of (too_many b g) out e h = cc
 
-cuts_of : {signed : Bool} {place : ℕ} {rest : List ℕ} {more : List Lexeme} → Tokens signed place rest more → (so_far : List Lexeme) → length so_far + length more ≤ 4096 → Cuts signed so_far place rest (Ok (so_far ++ more))
+cuts_of : {signed : Bool} {place : ℕ} {rest : List ℕ} {more : List Lexeme} → Tokens signed place rest more → (so_far : List Lexeme)
+    → length so_far + length more ≤ 4096 → Cuts signed so_far place rest (Ok (so_far ++ more))
 cuts_of {signed} {place} {rest} (no_more f) so_far h = subst (λ (ls : List Lexeme). Cuts signed so_far place rest (Ok ls)) (sym (append-nil so_far)) (over f)
 cuts_of (then_space n f d) so_far h = space n f (cuts_of d so_far h)
 cuts_of {signed} {place} {rest} (then_token {more = more} n w f d) so_far h =

@@ -43,7 +43,8 @@ between_empty c [] (suc n) h = refl
 between_empty c (x ∷ xs) zero h = absurd (omega arith)
 between_empty c (x ∷ xs) (suc n) h = between_empty c xs n (omega arith)
 
-pub between_more : (c : Bool) (xs : List ℕ) (n : ℕ) → n < length xs → is_between c (get_or xs n 0) (drop n xs) ≡ true → between c (drop n xs) ≡ between (stays_in_comment c (get_or xs n 0)) (drop (n + 1) xs) + 1
+pub between_more : (c : Bool) (xs : List ℕ) (n : ℕ) → n < length xs → is_between c (get_or xs n 0) (drop n xs) ≡ true
+    → between c (drop n xs) ≡ between (stays_in_comment c (get_or xs n 0)) (drop (n + 1) xs) + 1
 between_more c xs n h = grind (arith, drop-cons, between_on)
 
 pub between_stops : (c : Bool) (xs : List ℕ) (n : ℕ) → n < length xs → is_between c (get_or xs n 0) (drop n xs) ≡ false → between c (drop n xs) ≡ 0

@@ -72,7 +72,8 @@ at_piece fuel raw quote m b so_far bs y x more l d e h c =
     let sum = f.3 in
     (x.0 + f.0, x.1 ++ f.1, one_piece x d e (subst (λ (zs : List ℕ). Says raw quote zs f.0 f.1) (behind x.0 b bs s) f.2), omega (arith, s, sum), sym (append_assoc so_far x.1 f.1) ∙ f.4)
 
-by_length : (fuel : ℕ) (raw : Bool) (quote m b : ℕ) (so_far bs : List ℕ) (y x : ℕ × List ℕ) → Finds fuel raw quote → length bs ≤ fuel → b ≢ quote → piece raw (b ∷ bs) ≡ Some x → content raw quote (x.0 - 1) (m + 1) (so_far ++ x.1) bs ≡ Some y → Found raw quote m so_far (b ∷ bs) y
+by_length : (fuel : ℕ) (raw : Bool) (quote m b : ℕ) (so_far bs : List ℕ) (y x : ℕ × List ℕ) → Finds fuel raw quote → length bs ≤ fuel → b ≢ quote
+    → piece raw (b ∷ bs) ≡ Some x → content raw quote (x.0 - 1) (m + 1) (so_far ++ x.1) bs ≡ Some y → Found raw quote m so_far (b ∷ bs) y
 by_length fuel raw quote m b so_far bs y x more l d e c =
     elim (cases_lt (length bs) (x.0 - 1)) [ inl h ↦ none_some _ y (run_off raw quote (x.0 - 1) (m + 1) (so_far ++ x.1) bs h) c | inr h ↦ at_piece fuel raw quote m b so_far bs y x more l d e h c ]
 
@@ -80,7 +81,8 @@ by_piece : (fuel : ℕ) (raw : Bool) (quote m b : ℕ) (so_far bs : List ℕ) (y
 by_piece fuel raw quote m b so_far bs y more l d None e c = none_some None y refl c
 by_piece fuel raw quote m b so_far bs y more l d (Some x) e c = by_length fuel raw quote m b so_far bs y x more l d e c
 
-by_quote : (fuel : ℕ) (raw : Bool) (quote m b : ℕ) (so_far bs : List ℕ) (y : ℕ × List ℕ) → Finds fuel raw quote → length bs ≤ fuel → (t : Bool) → (b == quote) ≡ t → content raw quote 0 m so_far (b ∷ bs) ≡ Some y → Found raw quote m so_far (b ∷ bs) y
+by_quote : (fuel : ℕ) (raw : Bool) (quote m b : ℕ) (so_far bs : List ℕ) (y : ℕ × List ℕ) → Finds fuel raw quote → length bs ≤ fuel → (t : Bool)
+    → (b == quote) ≡ t → content raw quote 0 m so_far (b ∷ bs) ≡ Some y → Found raw quote m so_far (b ∷ bs) y
 by_quote fuel raw quote m b so_far bs y more l true t c = at_closing raw quote m b so_far bs y (grind (arith, nat_tests)) c
 by_quote fuel raw quote m b so_far bs y more l false t c =
     let d = no_quote_here b quote t in

@@ -1,8 +1,6 @@
 -- What stands at the front of a text: its first token, or why there is none.
-use Rattle.std.specs.Prelude.{ℕ, ◌+◌, ℤ, List, [], ◌∷◌, take, drop, Bool, true, false, if◌then◌else◌, ◌==◌, ◌&&◌, nat_lt, Option, Some}
-use Rattle.std.specs.Prelude.{None, codes, bytes_eq}
-use Rattle.cel_tokens.specs.declared.mark.Mark.{Mark}
-use Rattle.cel_tokens.specs.declared.mark.Mark.TheVariants.{CloseParen, CloseBracket, CloseBrace}
+use Rattle.std.specs.Prelude.{ℕ, ◌+◌, ℤ, List, [], ◌∷◌, take, drop, Bool, true, false, if◌then◌else◌, ◌==◌, ◌&&◌, nat_lt, Option, Some, None, codes, bytes_eq}
+use Rattle.cel_tokens.specs.declared.mark.Mark.{Mark, TheVariants.CloseParen, TheVariants.CloseBracket, TheVariants.CloseBrace}
 use Rattle.cel_tokens.specs.Token.{Word, name, int, text, mark}
 use Rattle.cel_tokens.specs.Bytes.{is_letter, is_name_byte, is_digit_of, run, between}
 use Rattle.cel_tokens.specs.Marks.{mark_at}

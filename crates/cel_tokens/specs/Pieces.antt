@@ -1,7 +1,6 @@
 -- The pieces of a text, as the code holds them.
 use Rattle.std.specs.Prelude.{ℕ, ◌+◌, List, [], ◌∷◌, encode_utf8}
-use Rattle.cel_tokens.specs.declared.literal.Piece.{Piece}
-use Rattle.cel_tokens.specs.declared.literal.Piece.TheVariants.{Byte, Escape}
+use Rattle.cel_tokens.specs.declared.literal.Piece.{Piece, TheVariants.Byte, TheVariants.Escape}
 
 -- how many bytes a piece takes, and what it says
 abbrev pub said_by : Piece → ℕ × List ℕ

@@ -1,6 +1,5 @@
 -- One step of the code over a text, as the definitions say it.
-use Rattle.std.specs.Prelude.{ℕ, ◌<◌, ◌≤◌, List, [], length, drop, map, Bool, true, Result, Ok, Err, Option, Some, None, Vec, if◌then◌else◌}
-use Rattle.std.specs.Prelude.{nat_le}
+use Rattle.std.specs.Prelude.{ℕ, ◌<◌, ◌≤◌, List, [], length, drop, map, Bool, true, Result, Ok, Err, Option, Some, None, Vec, if◌then◌else◌, nat_le}
 use Rattle.std.specs.Global.{Global}
 use Rattle.cel_tokens.specs.Token.{Lexeme, seen}
 use Rattle.cel_tokens.specs.Lexis.{Cuts, TakesMemory}

@@ -12,7 +12,8 @@ unfolding core_typings
 call_of_none n [] s h = refl
 call_of_none n (a ∷ items) s h = absurd (omega arith)
 
-pub call_of_many : (n : List ℕ) (items : List Core) (s : Scope) → 1 < length items → call_typing n (cores (map core_view items)) s ≡ with_types (core_typings (cores (map core_view items)) s) (refused NoOverload)
+pub call_of_many : (n : List ℕ) (items : List Core) (s : Scope) → 1 < length items
+    → call_typing n (cores (map core_view items)) s ≡ with_types (core_typings (cores (map core_view items)) s) (refused NoOverload)
 call_of_many n (a ∷ b ∷ items) s h = refl
 call_of_many n _ s h = absurd (omega arith)
 
@@ -21,13 +22,15 @@ unfolding core_typing
 method_typed a n (more_cores b no_cores) s = refl
 method_typed a n _ s = refl
 
-pub method_of_many : (n : List ℕ) (t : CelType) (items : List Core) (s : Scope) → 1 < length items → method_typing n t (cores (map core_view items)) s ≡ with_types (core_typings (cores (map core_view items)) s) (refused NoOverload)
+pub method_of_many : (n : List ℕ) (t : CelType) (items : List Core) (s : Scope) → 1 < length items
+    → method_typing n t (cores (map core_view items)) s ≡ with_types (core_typings (cores (map core_view items)) s) (refused NoOverload)
 method_of_many n t (a ∷ b ∷ items) s h = refl
 method_of_many n t _ s h = absurd (omega arith)
 
 -- ---- the code's answers for a call, a method and a map literal are those of their tree
 
-pub call_seen : (core : CoreTree) (n m : List ℕ) (items more : List Core) (s : Scope) (r : Typing) → core ≡ call n (cores (map core_view items)) → m ≡ n → more ≡ items → r ≡ call_typing m (cores (map core_view more)) s → r ≡ core_typing core s
+pub call_seen : (core : CoreTree) (n m : List ℕ) (items more : List Core) (s : Scope) (r : Typing) → core ≡ call n (cores (map core_view items))
+    → m ≡ n → more ≡ items → r ≡ call_typing m (cores (map core_view more)) s → r ≡ core_typing core s
 call_seen core n m items more s r e en ei h = h ∙ (λ j. call_typing (en j) (cores (map core_view (ei j))) s) ∙ sym (call_typed n (cores (map core_view items)) s) ∙ ap (λ c. core_typing c s) (sym e)
 
 pub method_refused : (core a : CoreTree) (n : List ℕ) (parts : CoreTrees) (s : Scope) (y : TypeFault) → core ≡ method a n parts → refused y ≡ core_typing a s → refused y ≡ core_typing core s
@@ -37,8 +40,10 @@ pub method_seen : (core a : CoreTree) (n m : List ℕ) (items more : List Core) 
 method_seen core a n m items more s t r e en ei found h = h ∙ (λ j. method_typing (en j) t (cores (map core_view (ei j))) s) ∙ ap (λ x. with_type x (λ u. method_typing n u (cores (map core_view items)) s)) found ∙ sym (method_typed a n (cores (map core_view items)) s) ∙ ap (λ c. core_typing c s) (sym e)
 
 abbrev entries_typing : List (Core × Core) → Scope → Typing
-entries_typing pairs s = with_types (core_entry_typings (core_entries (map core_pair pairs)) s) (map_literal_row (list_all is_text_key (core_key_typings (core_entries (map core_pair pairs)) s)))
+entries_typing pairs s =
+    with_types (core_entry_typings (core_entries (map core_pair pairs)) s) (map_literal_row (list_all is_text_key (core_key_typings (core_entries (map core_pair pairs)) s)))
 
-pub map_seen : (core : CoreTree) (pairs more : List (Core × Core)) (s : Scope) (r : Typing) → core ≡ node.map (core_entries (map core_pair pairs)) → more ≡ pairs → r ≡ entries_typing more s → r ≡ core_typing core s
+pub map_seen : (core : CoreTree) (pairs more : List (Core × Core)) (s : Scope) (r : Typing) → core ≡ node.map (core_entries (map core_pair pairs))
+    → more ≡ pairs → r ≡ entries_typing more s → r ≡ core_typing core s
 unfolding core_typing
 map_seen core pairs more s r e ep h = h ∙ ap (λ es. entries_typing es s) ep ∙ ap (λ c. core_typing c s) (sym e)

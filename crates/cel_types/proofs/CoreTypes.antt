@@ -8,7 +8,8 @@ unfolding core_typing
 selection_typed true f c t s h = refl
 selection_typed false f c t s h = ap (λ r. with_type r field_row) h
 
-call_typed : (b : Bool) (k : Option (List ℕ)) (n : List ℕ) (inner c : CoreTree) (x y : Typing) (s : Scope) → IfSome k (λ f. core_typing inner s ≡ x) → core_typing c s ≡ y → core_typing (call_or_has b k n inner c) s ≡ call_type b k (function_named n) x y
+call_typed : (b : Bool) (k : Option (List ℕ)) (n : List ℕ) (inner c : CoreTree) (x y : Typing) (s : Scope) → IfSome k (λ f. core_typing inner s ≡ x)
+    → core_typing c s ≡ y → core_typing (call_or_has b k n inner c) s ≡ call_type b k (function_named n) x y
 unfolding core_typing
 call_typed true (Some f) n inner c x y s hx hy = ap (λ r. with_type r has_row) hx
 call_typed _ _ n inner c x y s hx hy = ap (λ r. with_type r (function_row (function_named n))) hy
@@ -34,12 +35,15 @@ mutual
   expansion_typed (tree.ternary c a b) s = λ j. with_type (expansion_typed c s j) (λ x. with_type (expansion_typed a s j) (λ y. with_type (expansion_typed b s j) (λ z. ternary_row x y z)))
   expansion_typed (tree.list items) s = ap (λ ts. with_types ts (typed type.List)) (trees_typed items s)
   expansion_typed (tree.map es) s = λ j. with_types (entries_typed es s j) (row (list_all is_text_key (keys_typed es s j)) type.Map)
-  expansion_typed (tree.call n (more_trees a no_trees)) s = call_typed (is_has n) (field_name a) n (expanded_operand a) (expanded a) (operand_typing a s) (typing a s) s (operand_typed a s) (expansion_typed a s)
+  expansion_typed (tree.call n (more_trees a no_trees)) s =
+      call_typed (is_has n) (field_name a) n (expanded_operand a) (expanded a) (operand_typing a s) (typing a s) s (operand_typed a s) (expansion_typed a s)
   expansion_typed (tree.call n (more_trees a (more_trees b more))) s = λ j. with_types (expansion_typed a s j ∷ expansion_typed b s j ∷ trees_typed more s j) (refused NoOverload)
   expansion_typed (tree.method a n no_trees) s = ap (λ t. with_type t (method_row (function_named n))) (expansion_typed a s)
   expansion_typed (tree.method a n (more_trees b no_trees)) s = λ j. with_type (expansion_typed a s j) (λ x. with_type (expansion_typed b s j) (λ y. test_row (test_named n) x y))
-  expansion_typed (tree.method a n (more_trees x (more_trees p no_trees))) s = fold_typed (macro_named n) (name_of x) n (expanded a) (expanded x) (expanded p) s (typing a s) (typing x s) (typing p s) (λ i. typing p (within i s)) (expansion_typed a s) (expansion_typed x s) (expansion_typed p s) (λ i. expansion_typed p (within i s))
-  expansion_typed (tree.method a n (more_trees x (more_trees p (more_trees t no_trees)))) s = fold_map_typed (is_map n) (name_of x) n (expanded a) (expanded x) (expanded p) (expanded t) s (typing a s) (typing x s) (typing p s) (typing t s) (λ i. typing p (within i s)) (λ i. typing t (within i s)) (expansion_typed a s) (expansion_typed x s) (expansion_typed p s) (expansion_typed t s) (λ i. expansion_typed p (within i s)) (λ i. expansion_typed t (within i s))
+  expansion_typed (tree.method a n (more_trees x (more_trees p no_trees))) s =
+      fold_typed (macro_named n) (name_of x) n (expanded a) (expanded x) (expanded p) s (typing a s) (typing x s) (typing p s) (λ i. typing p (within i s)) (expansion_typed a s) (expansion_typed x s) (expansion_typed p s) (λ i. expansion_typed p (within i s))
+  expansion_typed (tree.method a n (more_trees x (more_trees p (more_trees t no_trees)))) s =
+      fold_map_typed (is_map n) (name_of x) n (expanded a) (expanded x) (expanded p) (expanded t) s (typing a s) (typing x s) (typing p s) (typing t s) (λ i. typing p (within i s)) (λ i. typing t (within i s)) (expansion_typed a s) (expansion_typed x s) (expansion_typed p s) (expansion_typed t s) (λ i. expansion_typed p (within i s)) (λ i. expansion_typed t (within i s))
   expansion_typed (tree.method a n (more_trees x (more_trees p (more_trees t (more_trees u more))))) s = λ j. with_types (expansion_typed a s j ∷ expansion_typed x s j ∷ expansion_typed p s j ∷ expansion_typed t s j ∷ expansion_typed u s j ∷ trees_typed more s j) (refused NoOverload)
   expansion_typed _ s = refl
 

@@ -90,8 +90,10 @@ call_fits b k g x y u v = grind arith
 
 -- ---- macros
 
-pub fold_fits : (m : Option Macro) (k : Option (List ℕ)) (r : Typing) (p : List ℕ → Typing) (parts : List Typing) (f : List ℕ → Value → ValueOrError) (items : Option (List Value)) → Fits (fold_type m k r p parts) (over_range m k f items)
+pub fold_fits : (m : Option Macro) (k : Option (List ℕ)) (r : Typing) (p : List ℕ → Typing) (parts : List Typing) (f : List ℕ → Value → ValueOrError) (items : Option (List Value))
+    → Fits (fold_type m k r p parts) (over_range m k f items)
 fold_fits m k r p parts f items = grind arith
 
-pub fold_map_fits : (b : Bool) (k : Option (List ℕ)) (r : Typing) (p t : List ℕ → Typing) (parts : List Typing) (q f : List ℕ → Value → ValueOrError) (items : Option (List Value)) → Fits (fold_map_type b k r p t parts) (map_over_range b k q f items)
+pub fold_map_fits : (b : Bool) (k : Option (List ℕ)) (r : Typing) (p t : List ℕ → Typing) (parts : List Typing) (q f : List ℕ → Value → ValueOrError) (items : Option (List Value))
+    → Fits (fold_map_type b k r p t parts) (map_over_range b k q f items)
 fold_map_fits b k r p t parts q f items = grind arith

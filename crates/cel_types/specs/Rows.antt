@@ -1,5 +1,5 @@
 -- Types and faults, worked by hand.
-use Rattle.std.specs.Prelude.{◌≡◌, [], ◌∷◌}
+use Rattle.std.specs.Prelude.{◌≡◌, [], ◌∷◌, codes}
 use Rattle.cel_reader.specs.Tree.{Tree, index, binary, ternary}
 use Rattle.cel_reader.specs.declared.operator.BinaryOperator.TheVariants.{Less, Equal, In, Add}
 use Rattle.cel_types.specs.declared.cel_type.CelType.TheVariants as type
@@ -8,7 +8,6 @@ use Rattle.cel_types.specs.Scope.{Scope}
 use Rattle.cel_types.specs.Typing.{typing}
 use Rattle.cel_reader.specs.Written.{num, str, yes, no, nothing, name, dot, call, method, map_literal}
 use Rattle.cel_macros.specs.Written.{variable}
-use Rattle.std.specs.Prelude.{codes}
 
 -- one variable `v`, an int
 abbrev pub scope : Scope

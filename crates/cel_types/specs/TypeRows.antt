@@ -7,8 +7,7 @@ use Rattle.cel_reader.specs.declared.operator.BinaryOperator.TheVariants as bina
 use Rattle.cel_reader.specs.declared.operator.UnaryOperator.TheVariants as unary
 use Rattle.cel_macros.specs.Environment.{lookup}
 use Rattle.cel_macros.specs.Functions.{Size, String, Dyn, TextTest, function_named, test_named}
-use Rattle.cel_macros.specs.declared.macros.Macro.{Macro}
-use Rattle.cel_macros.specs.declared.macros.Macro.TheVariants.{All, Exists, ExistsOne, Filter, Map}
+use Rattle.cel_macros.specs.declared.macros.Macro.{Macro, TheVariants.All, TheVariants.Exists, TheVariants.ExistsOne, TheVariants.Filter, TheVariants.Map}
 use Rattle.cel_macros.specs.Macros.{macro_named, is_map, is_has, is_variables}
 use Rattle.cel_types.specs.declared.cel_type.CelType.{CelType}
 use Rattle.cel_types.specs.declared.cel_type.CelType.TheVariants as type

@@ -6,8 +6,7 @@ use Rattle.cel_reader.specs.declared.operator.BinaryOperator.TheVariants as bina
 use Rattle.cel_reader.specs.declared.operator.UnaryOperator.{UnaryOperator}
 use Rattle.cel_reader.specs.declared.operator.UnaryOperator.TheVariants as unary
 use Rattle.cel_macros.specs.Functions.{Function, Size, String, Dyn, TextTest}
-use Rattle.cel_macros.specs.declared.macros.Macro.{Macro}
-use Rattle.cel_macros.specs.declared.macros.Macro.TheVariants.{All, Exists, ExistsOne, Filter, Map}
+use Rattle.cel_macros.specs.declared.macros.Macro.{Macro, TheVariants.All, TheVariants.Exists, TheVariants.ExistsOne, TheVariants.Filter, TheVariants.Map}
 use Rattle.cel_types.specs.declared.cel_type.CelType.{CelType}
 use Rattle.cel_types.specs.declared.cel_type.CelType.TheVariants as type
 use Rattle.cel_types.specs.Types.{Typing, typed, refused, NoOverload, same_type, allowed, agree, known_of, both_allowed, row}

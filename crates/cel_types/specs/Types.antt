@@ -3,8 +3,7 @@ use Rattle.std.specs.Prelude.{Bool, true, false, ◌&&◌, ◌||◌, List, [], �
 use Rattle.std.specs.List.{list_any}
 use Rattle.cel_types.specs.declared.cel_type.CelType.{CelType}
 use Rattle.cel_types.specs.declared.cel_type.CelType.TheVariants as type
-use Rattle.cel_types.specs.declared.type_error.TypeError.{TypeError}
-use Rattle.cel_types.specs.declared.type_error.TypeError.TheVariants.{Y1, Y2, Y3}
+use Rattle.cel_types.specs.declared.type_error.TypeError.{TypeError, TheVariants.Y1, TheVariants.Y2, TheVariants.Y3}
 
 -- what can be wrong: a name that is not known, operands that no row of the table takes, or a wrong use of `variables`
 pub data TypeFault : Type 0 where

@@ -17,7 +17,8 @@ has_verdict i m is below = let long = is.verdict in omega arith
 
 module _ (image : Contents) (p : ℕ) (b : Body) where
   -- a word of the frame is loaded through the frame pointer
-  pub load_does : (depth k : ℕ) (dst : Register) → Framed depth b → k < 64 → is_frame_pointer dst ≡ false → load_row Dw dst R10 (word_offset k) (at image p b) ≡ at image (p + 1) (set_register b dst (word_at depth k b))
+  pub load_does : (depth k : ℕ) (dst : Register) → Framed depth b → k < 64 → is_frame_pointer dst ≡ false
+      → load_row Dw dst R10 (word_offset k) (at image p b) ≡ at image (p + 1) (set_register b dst (word_at depth k b))
   unfolding load_row
   load_does depth k dst f below free =
       let place = ap (λ (w : ℕ). (w + cast_unsigned w64 (word_offset k)) % 2 ^ 64) f.pointer_is ∙ (omega arith) in
@@ -25,7 +26,8 @@ module _ (image : Contents) (p : ℕ) (b : Body) where
       rw free (ap (λ (r : Result ℕ Fault). loaded dst r (at image p b)) read ∙ register_set image p b (p + 1) dst (word_at depth k b))
 
   -- a word of the frame is stored through the frame pointer
-  pub store_does : (depth k : ℕ) (src : Register) → Framed depth b → k < 64 → store_row Dw R10 (word_offset k) (Reg src) (at image p b) ≡ at image (p + 1) (set_word depth k (b.registers src) b)
+  pub store_does : (depth k : ℕ) (src : Register) → Framed depth b → k < 64
+      → store_row Dw R10 (word_offset k) (Reg src) (at image p b) ≡ at image (p + 1) (set_word depth k (b.registers src) b)
   unfolding store_row
   store_does depth k src f below =
       let place = ap (λ (w : ℕ). (w + cast_unsigned w64 (word_offset k)) % 2 ^ 64) f.pointer_is ∙ (omega arith) in

@@ -14,7 +14,8 @@ use Rattle.codegen_base.specs.Instructions as insn
 -- ---- the piece of two ints, whose words are in R6 and R7
 
 pub record OnInts (s : Setting) (p : ℕ) (tail : List Insn) (c : Context) (depth k : ℕ) (m n : ℤ) (z : ValueOrError) (steps charge : ℕ) : Type 0 where
-  pub runs : (b : Body) → Stands s.image.code p tail → Fits c depth k b → b.registers R6 ≡ cast_unsigned w64 m → b.registers R7 ≡ cast_unsigned w64 n → FitsSigned w64 m → FitsSigned w64 n → Comes s steps charge p b (p + size tail) (Shows c depth k z b)
+  pub runs : (b : Body) → Stands s.image.code p tail → Fits c depth k b → b.registers R6 ≡ cast_unsigned w64 m → b.registers R7 ≡ cast_unsigned w64 n
+      → FitsSigned w64 m → FitsSigned w64 n → Comes s steps charge p b (p + size tail) (Shows c depth k z b)
 
 -- the answer is the int whose word is in R1: three slots call for it and go on behind the error
 module _ (s : Setting) (c : Context) (depth k o : ℕ) (low : k ≤ 64) (piece : List Insn) (has : Stands s.image.code o piece) (i : ℕ) (call_at : slice_get (slots piece) i ≡ Some (Some (Call (pos 3)))) (jump_at : slice_get (slots piece) (i + 1) ≡ Some (Some (insn.skip 1))) (error_at : slice_get (slots piece) (i + 1 + 1) ≡ Some (Some (insn.put R0 (pos 0)))) where
@@ -180,7 +181,8 @@ module _ (s : Setting) (p k : ℕ) (c : Context) (depth : ℕ) (x y : ValueOrErr
       shown_behind s g1.stays.keeps (and_then s 1 0 (p + 25) (Q b1) ((sum_runs s (p + 12) c depth k m n (omega arith)).runs b1 (stands_front s.image.code (p + 12) sum_tail _ has_rest) g1.stays.fits g1.first g1.second (int_fits c depth k (b.registers R6) x m b fits left is_x) (int_fits c depth k (b.registers R7) y n b fits right is_y)) (λ b2 g2.
       jump has_rest 9 3 refl (arrived s (omega arith) g2)))))
 
-pub sum_gives : (s : Setting) (p k : ℕ) (c : Context) (depth : ℕ) (x y : ValueOrError) → k < 64 → Combines s p sum_code R6 R7 c depth k x y (sum_of x y) 20 (5 + joined_length (joined (Some x) (Some y)))
+pub sum_gives : (s : Setting) (p k : ℕ) (c : Context) (depth : ℕ) (x y : ValueOrError) → k < 64
+    → Combines s p sum_code R6 R7 c depth k x y (sum_of x y) 20 (5 + joined_length (joined (Some x) (Some y)))
 sum_gives s p k c depth x y low = record { runs = λ b has fits left right. (grind (arith, int_is, of_summed, of_joined)) }
 
 pub additions_give : AdditionsGive

@@ -4,11 +4,14 @@ use Rattle.codegen_base.proofs.HelperAnswers.{helpers}
 use Rattle.codegen_base.proofs.Operators.{call_on_result, calls_give, combines_then}
 
 -- a tail whose meaning has another form
-same_tail : (s : Setting) (p k : ℕ) (tail : List Insn) (r q : Register) (c : Context) (depth : ℕ) (x y z w : ValueOrError) (n m : ℕ) → z ≡ w → Combines s p tail r q c depth k x y z n m → Combines s p tail r q c depth k x y w n m
+same_tail : (s : Setting) (p k : ℕ) (tail : List Insn) (r q : Register) (c : Context) (depth : ℕ) (x y z w : ValueOrError) (n m : ℕ) → z ≡ w
+    → Combines s p tail r q c depth k x y z n m → Combines s p tail r q c depth k x y w n m
 same_tail s p k tail r q c depth x y z w n m e h = subst (λ (v : ValueOrError). Combines s p tail r q c depth k x y v n m) e h
 
-opposite_gives : (s : Setting) (p k : ℕ) (tail : List Insn) (r q : Register) (c : Context) (depth : ℕ) (x y z : ValueOrError) → k < 64 → Combines s p tail r q c depth k x y z 1 1 → Combines s p (opposite_of tail) r q c depth k x y (not_of z) 3 2
-opposite_gives s p k tail r q c depth x y z low h = combines_then s p k tail (copy R1 R0 ∷ not_tail) r q c depth x y z (not_of z) 1 1 2 1 h (call_on_result s (p + size tail) (pos 23) not_of c depth k z (omega arith) helpers.not)
+opposite_gives : (s : Setting) (p k : ℕ) (tail : List Insn) (r q : Register) (c : Context) (depth : ℕ) (x y z : ValueOrError) → k < 64
+    → Combines s p tail r q c depth k x y z 1 1 → Combines s p (opposite_of tail) r q c depth k x y (not_of z) 3 2
+opposite_gives s p k tail r q c depth x y z low h =
+    combines_then s p k tail (copy R1 R0 ∷ not_tail) r q c depth x y z (not_of z) 1 1 2 1 h (call_on_result s (p + size tail) (pos 23) not_of c depth k z (omega arith) helpers.not)
 
 equal_gives : TailGives equal_tail R1 R2 equal_of 1 1
 equal_gives s p k c depth x y low = calls_give.two s p k (pos 9) equal_of c depth x y low helpers.equal

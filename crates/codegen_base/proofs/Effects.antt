@@ -86,7 +86,8 @@ module _ (image : Contents) (p : ℕ) (b : Body) where
   unfolding exit_row
   exit_ends none = ap (λ (frames : List Frame). returned (newest frames) (at image p b)) none
 
-  pub exit_returns : (caller : Body) (q : ℕ) → b.records ≡ caller.records ++ frame_at q caller ∷ [] → b.registers R10 ≡ caller.registers R10 + 512 → caller.registers R10 < 2 ^ 64 → exit_row (at image p b) ≡ at image (q + 1) (resumed caller b)
+  pub exit_returns : (caller : Body) (q : ℕ) → b.records ≡ caller.records ++ frame_at q caller ∷ [] → b.registers R10 ≡ caller.registers R10 + 512
+      → caller.registers R10 < 2 ^ 64 → exit_row (at image p b) ≡ at image (q + 1) (resumed caller b)
   unfolding exit_row
   exit_returns caller q frames pointer small = grind (arith, newest-last, older)
 

@@ -30,18 +30,21 @@ MayBeNear None = Unit {0}
 pub operand_insns : (l : Option Leaf) (operand : List Insn) (r : Register) → MayBeNear l → AreInsns operand → AreInsns (operand_code l operand r)
 operand_insns l operand r near first = grind (arith, leaf_insns, insns_append)
 
-pub operands_insns : (l : Option Leaf) (left : List Insn) (m : Option Leaf) (right : List Insn) (k : ℕ) (r q : Register) → k < 64 → MayBeNear l → AreInsns left → MayBeNear m → AreInsns right → AreInsns (operands_code l left m right k r q)
+pub operands_insns : (l : Option Leaf) (left : List Insn) (m : Option Leaf) (right : List Insn) (k : ℕ) (r q : Register) → k < 64 → MayBeNear l
+    → AreInsns left → MayBeNear m → AreInsns right → AreInsns (operands_code l left m right k r q)
 operands_insns l left m right k r q below near first near_right second = grind (arith, insns_append, operand_insns, leaf_insns)
 
 -- ---- logic
 
-pub absorbing_insns : (decides other : ℤ) (left right : List Insn) (k : ℕ) → FitsSigned w32 decides → FitsSigned w32 other → k < 64 → size right ≤ short_size → AreInsns left → AreInsns right → AreInsns (absorbing_code decides other left right k)
+pub absorbing_insns : (decides other : ℤ) (left right : List Insn) (k : ℕ) → FitsSigned w32 decides → FitsSigned w32 other → k < 64
+    → size right ≤ short_size → AreInsns left → AreInsns right → AreInsns (absorbing_code decides other left right k)
 absorbing_insns decides other left right k d e below short first second = grind (arith, insns_append)
 
 pub not_insns : AreInsns not_tail
 not_insns = omega arith
 
-pub ternary_insns : (condition chosen other : List Insn) → size chosen + size other ≤ short_size → AreInsns condition → AreInsns chosen → AreInsns other → AreInsns (ternary_code condition chosen other)
+pub ternary_insns : (condition chosen other : List Insn) → size chosen + size other ≤ short_size → AreInsns condition → AreInsns chosen
+    → AreInsns other → AreInsns (ternary_code condition chosen other)
 ternary_insns condition chosen other short first second third = grind (arith, insns_append)
 
 -- ---- comparisons and membership
@@ -142,19 +145,23 @@ loop_insns : (k : ℕ) (turn : List Insn) → k < 56 → size turn ≤ short_siz
 loop_insns k turn below short first = insns_append (loop_head k (size turn + 8)) _ (omega arith) (insns_append turn (loop_tail k (size turn + 7)) first (omega (arith, ints)))
 
 -- a part and a short turn behind it
-turned : (k : ℕ) (range first part turn : List Insn) → size first ≡ 1 → size turn ≤ 20 → k < 56 → size part + 50 ≤ short_size → AreInsns range → AreInsns first → AreInsns part → AreInsns turn → AreInsns (fold_code k range first (part ++ turn))
+turned : (k : ℕ) (range first part turn : List Insn) → size first ≡ 1 → size turn ≤ 20 → k < 56 → size part + 50 ≤ short_size → AreInsns range
+    → AreInsns first → AreInsns part → AreInsns turn → AreInsns (fold_code k range first (part ++ turn))
 turned k range first part turn one few below short a b c d = grind (arith, size-append, loop_size, ints, loop_insns, insns_append)
 
 pub macro_insns : (m : Macro) (k : ℕ) (range part : List Insn) → k < 56 → size part + 50 ≤ short_size → AreInsns range → AreInsns part → AreInsns (macro_code m k range part)
 unfolding exists_one_turn filter_turn
-macro_insns All k range part below short first second = turned k range first_true part (absorbing_turn no_ref yes_ref k) refl (omega arith) below short first (omega arith) second (omega arith)
-macro_insns Exists k range part below short first second = turned k range first_false part (absorbing_turn yes_ref no_ref k) refl (omega arith) below short first (omega arith) second (omega arith)
+macro_insns All k range part below short first second =
+    turned k range first_true part (absorbing_turn no_ref yes_ref k) refl (omega arith) below short first (omega arith) second (omega arith)
+macro_insns Exists k range part below short first second =
+    turned k range first_false part (absorbing_turn yes_ref no_ref k) refl (omega arith) below short first (omega arith) second (omega arith)
 macro_insns ExistsOne k range part below short first second =
     insns_append (fold_code k range first_false (part ++ exists_one_turn k)) exists_one_end (turned k range first_false part (exists_one_turn k) refl (omega arith) below short first (omega arith) second (omega arith)) (omega arith)
 macro_insns Filter k range part below short first second = turned k range first_empty part (filter_turn k) refl (omega arith) below short first (omega arith) second (omega arith)
 macro_insns Map k range part below short first second = turned k range first_empty part (map_turn k) refl (omega arith) below short first (omega arith) second (omega arith)
 
-pub map_where_insns : (k : ℕ) (range predicate transform : List Insn) → k < 56 → size predicate + size transform + 50 ≤ short_size → AreInsns range → AreInsns predicate → AreInsns transform → AreInsns (map_where_code k range predicate transform)
+pub map_where_insns : (k : ℕ) (range predicate transform : List Insn) → k < 56 → size predicate + size transform + 50 ≤ short_size → AreInsns range
+    → AreInsns predicate → AreInsns transform → AreInsns (map_where_code k range predicate transform)
 map_where_insns k range predicate transform below short first second third = grind (arith, size-append, loop_size, ints, loop_insns, insns_append)
 
 -- ---- variables

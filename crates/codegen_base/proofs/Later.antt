@@ -29,7 +29,8 @@ module _ (image : Contents) (deep : Bool) (roots : Roots) (constants : List ℕ)
   }
 
 pub later_gives : LaterGives
-later_gives image deep roots constants scope later words items p piece depth base x n m g = runs image deep roots constants scope later words items depth base (scope_setting image deep scope) p piece x n m g
+later_gives image deep roots constants scope later words items p piece depth base x n m g =
+    runs image deep roots constants scope later words items depth base (scope_setting image deep scope) p piece x n m g
 
 pub wider_gives : WiderGives
 wider_gives image deep scope more p piece c depth base x n m g = grind (arith, map-append, runs, wider)

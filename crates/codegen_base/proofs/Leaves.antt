@@ -37,7 +37,8 @@ int_gives s p c depth base z low h = record {
       done s (p + 3) _ _ (shows_placed c depth base (pos 3) (value (int z)) 1 b asks.registers low refl fits a paid))));
 }
 
-text_gives : (s : Setting) (p : ℕ) (c : Context) (depth base : ℕ) (address : ℕ) (t : List ℕ) → base ≤ 64 → HasText c.constants address t → is_utf8 t ≡ true → Gives s p (text_code address (length t)) c depth base (value (text t)) 3 (1 + length t)
+text_gives : (s : Setting) (p : ℕ) (c : Context) (depth base : ℕ) (address : ℕ) (t : List ℕ) → base ≤ 64 → HasText c.constants address t
+    → is_utf8 t ≡ true → Gives s p (text_code address (length t)) c depth base (value (text t)) 3 (1 + length t)
 text_gives s p c depth base address t low h utf8 = record {
   runs = λ b has fits.
       let asks = set_register (set_register b R1 address) R2 (length t) in
@@ -63,11 +64,14 @@ root_by roots values h false false false true x = h.stand.namespace_object
 root_by roots values h false false false false true = h.stand.request
 root_by roots values h false false false false false = names_error values h.table.store
 
-root_named : (roots : Roots) (values : Contents) (n : List ℕ) → HasValues roots values → Names values.values (cast_unsigned w64 (root_reference n)) (value_or_error (lookup n (root_bindings roots)))
+root_named : (roots : Roots) (values : Contents) (n : List ℕ) → HasValues roots values
+    → Names values.values (cast_unsigned w64 (root_reference n)) (value_or_error (lookup n (root_bindings roots)))
 unfolding root_reference
-root_named roots values n h = root_by roots values h (bytes_eq (codes "object") n) (bytes_eq (codes "oldObject") n) (bytes_eq (codes "params") n) (bytes_eq (codes "namespaceObject") n) (bytes_eq (codes "request") n)
+root_named roots values n h =
+    root_by roots values h (bytes_eq (codes "object") n) (bytes_eq (codes "oldObject") n) (bytes_eq (codes "params") n) (bytes_eq (codes "namespaceObject") n) (bytes_eq (codes "request") n)
 
-held_named : (depth base : ℕ) (b : Body) (r : ℤ) (root : Option Value) → base ≤ 64 → Names b.values.values (cast_unsigned w64 r) (value_or_error root) → (word : Option ℕ) (item : Option Value) → IsHeld depth base b word item → IsLeafIn (held_leaf word r) depth b (item_or_root item root)
+held_named : (depth base : ℕ) (b : Body) (r : ℤ) (root : Option Value) → base ≤ 64 → Names b.values.values (cast_unsigned w64 r) (value_or_error root)
+    → (word : Option ℕ) (item : Option Value) → IsHeld depth base b word item → IsLeafIn (held_leaf word r) depth b (item_or_root item root)
 held_named depth base b r root low named word item held = grind arith
 
 name_named : (c : Context) (depth base : ℕ) (n : List ℕ) → base ≤ 64 → IsLeafOf c depth base (Some (name_leaf n c.words.items)) (name_value n c.environment)

@@ -12,7 +12,8 @@ use Rattle.codegen_base.specs.Instructions as insn
 -- ---- what is made part by part
 
 -- R0 is stored into the word
-pub made_stored : (c : Context) (depth k : ℕ) (x : ValueOrError) (a b : Body) → k < 64 → result_depth x ≤ depth_limit → Shows c depth k x a b → MadeFrom c depth k x a (set_word depth k (b.registers R0) b)
+pub made_stored : (c : Context) (depth k : ℕ) (x : ValueOrError) (a b : Body) → k < 64 → result_depth x ≤ depth_limit → Shows c depth k x a b
+    → MadeFrom c depth k x a (set_word depth k (b.registers R0) b)
 made_stored c depth k x a b low within shown =
     let r = b.registers R0 in
     let st = stored c depth k k r b shown.fits (omega arith) low (small_reference b.values r x shown.fits.values.table shown.shows) in
@@ -62,7 +63,8 @@ module _ (s : Setting) (p k : ℕ) (helper : ℤ) (empty : ValueOrError) (low : 
       store has 1 k refl shown.fits.frame low
       (done s (p + 2) _ _ (made_stored c depth k empty b (answered b a.word a.list (b.values.charge + 1)) low flat shown)))))
 
-  pub literal_runs : (parts : List Insn) (f : ValueOrError → ValueOrError) (n x : ℕ) → ((b : Body) → Fits c depth k b → Places helper b empty 1) → Builds s (p + 2) parts c depth k f n x → Gives s p (head ++ parts) c depth k (f empty) (2 + n) (1 + x)
+  pub literal_runs : (parts : List Insn) (f : ValueOrError → ValueOrError) (n x : ℕ) → ((b : Body) → Fits c depth k b → Places helper b empty 1)
+      → Builds s (p + 2) parts c depth k f n x → Gives s p (head ++ parts) c depth k (f empty) (2 + n) (1 + x)
   literal_runs parts f n x answers builds = record {
     runs = λ b has fits.
         let Q = Shows c depth k (f empty) b in

@@ -35,7 +35,8 @@ pub record Loaded (c : Context) (depth base : ℕ) (r : Register) (x : ValueOrEr
   pub fits : Fits c depth base new
   pub keeps : Keeps (variable_count c) depth base old new
 
-loaded : (c : Context) (depth base : ℕ) (r : Register) (x : ValueOrError) (old b : Body) (w : ℕ) → is_frame_pointer r ≡ false → Names b.values.values w x → Fits c depth base b → Keeps (variable_count c) depth base old b → Loaded c depth base r x old (set_register b r w)
+loaded : (c : Context) (depth base : ℕ) (r : Register) (x : ValueOrError) (old b : Body) (w : ℕ) → is_frame_pointer r ≡ false
+    → Names b.values.values w x → Fits c depth base b → Keeps (variable_count c) depth base old b → Loaded c depth base r x old (set_register b r w)
 loaded c depth base r x old b w free named fits keeps = grind (arith, written)
 
 module _ (s : Setting) (p : ℕ) (r : Register) (free : is_frame_pointer r ≡ false) (c : Context) (depth base : ℕ) (x : ValueOrError) (n m : ℕ) where
@@ -61,7 +62,8 @@ module _ (s : Setting) (k : ℕ) (right : List Insn) (c : Context) (depth : ℕ)
     pub left : Names last.values.values (word_at depth k last) x
     pub shown : Shows c depth k y b last
 
-  pub keeps_left : (q : ℕ) (b : Body) → Stands s.image.code q (insn.store k R0 ∷ right) → Fits c depth k b → Names b.values.values (b.registers R0) x → Gives s (q + 1) right c depth (k + 1) y n m → Comes s (1 + n) m q b (q + 1 + size right) (Both b)
+  pub keeps_left : (q : ℕ) (b : Body) → Stands s.image.code q (insn.store k R0 ∷ right) → Fits c depth k b → Names b.values.values (b.registers R0) x
+      → Gives s (q + 1) right c depth (k + 1) y n m → Comes s (1 + n) m q b (q + 1 + size right) (Both b)
   keeps_left q b has fits named gives =
       let r = b.registers R0 in
       let stored1 = stored c depth k k r b fits (omega arith) (omega arith) (small_reference b.values r x fits.values.table named) in
@@ -86,7 +88,8 @@ pub record LoadedBoth (c : Context) (depth k : ℕ) (r q : Register) (x y : Valu
 
 -- a right operand in R0 goes into its register, and the left one, by then a leaf, into its own
 module _ (s : Setting) (c : Context) (depth k : ℕ) (r q : Register) (apart : AreApart r q) (x y : ValueOrError) where
-  pub both_loaded : (p : ℕ) (l : Leaf) (old b : Body) → Stands s.image.code p (insn.copy q R0 ∷ leaf_insn l r ∷ []) → IsLeafIn l depth b x → Shows c depth k y old b → Comes s 2 0 p b (p + 2) (LoadedBoth c depth k r q x y old)
+  pub both_loaded : (p : ℕ) (l : Leaf) (old b : Body) → Stands s.image.code p (insn.copy q R0 ∷ leaf_insn l r ∷ []) → IsLeafIn l depth b x
+      → Shows c depth k y old b → Comes s 2 0 p b (p + 2) (LoadedBoth c depth k r q x y old)
   both_loaded p l old b has leaf shown =
       let w = b.registers R0 in
       let b1 = set_register b q w in
@@ -96,7 +99,9 @@ module _ (s : Setting) (c : Context) (depth k : ℕ) (r q : Register) (apart : A
       (leaf_step has r x 1 l refl one.fits.frame apart.first (grind arith) (λ v named. arrived s refl (grind (arith, unwritten, written)))))
 
   -- the right one is a leaf
-  right_leaf : (p n1 x1 : ℕ) (l : Option Leaf) (left : List Insn) (m : Leaf) → IsLeafOf c depth k l x → Gives s p left c depth k x n1 x1 → IsLeafOf c depth (k + 1) (Some m) y → (b : Body) → Stands s.image.code p (operand_code l left r ++ leaf_insn m q ∷ []) → Fits c depth k b → Comes s (n1 + 1 + 1) (x1 + 0) p b (p + size (operand_code l left r ++ leaf_insn m q ∷ [])) (LoadedBoth c depth k r q x y b)
+  right_leaf : (p n1 x1 : ℕ) (l : Option Leaf) (left : List Insn) (m : Leaf) → IsLeafOf c depth k l x → Gives s p left c depth k x n1 x1
+      → IsLeafOf c depth (k + 1) (Some m) y → (b : Body) → Stands s.image.code p (operand_code l left r ++ leaf_insn m q ∷ []) → Fits c depth k b
+      → Comes s (n1 + 1 + 1) (x1 + 0) p b (p + size (operand_code l left r ++ leaf_insn m q ∷ [])) (LoadedBoth c depth k r q x y b)
   right_leaf p n1 x1 l left m leaf gives right b has fits =
       runs_both s p (operand_code l left r) (leaf_insn m q ∷ []) 1 0 (LoadedBoth c depth k r q x y b) has
       (λ front. operand_runs s p r apart.first c depth k x n1 x1 l left leaf gives b front fits) (λ b1 back g1.

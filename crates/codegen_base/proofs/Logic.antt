@@ -241,7 +241,9 @@ module _ (s : Setting) (p base : ℕ) (condition one other : List Insn) (c : Con
       (mov has5 1 refl refl
       (arrived s (omega arith) (shows_registers c depth base b _ refl error fits (names_error b.values fits.values.table.store)))))))
 
-  ternary_runs : Gives s p condition c depth base t n1 x1 → (truth t ≡ Yes → Gives s (q + 2) one c depth base x n2 x2) → (truth t ≡ No → Gives s (q + 2 + size one + 1) other c depth base y n3 x3) → (b : Body) → Fits c depth base b → Comes s (n1 + (2 + (chosen (truth t) n2 n3 0 + 1))) (x1 + chosen (truth t) x2 x3 0) p b (p + size (ternary_code condition one other)) (Shows c depth base (ternary_of t x y) b)
+  ternary_runs : Gives s p condition c depth base t n1 x1 → (truth t ≡ Yes → Gives s (q + 2) one c depth base x n2 x2)
+      → (truth t ≡ No → Gives s (q + 2 + size one + 1) other c depth base y n3 x3) → (b : Body) → Fits c depth base b
+      → Comes s (n1 + (2 + (chosen (truth t) n2 n3 0 + 1))) (x1 + chosen (truth t) x2 x3 0) p b (p + size (ternary_code condition one other)) (Shows c depth base (ternary_of t x y) b)
   ternary_runs gives_condition gives_one gives_other b fits =
       let Q = Shows c depth base (ternary_of t x y) b in
       to_place s _ end_is

@@ -29,7 +29,8 @@ pub fold_size : (k : ℕ) (range first turn : List Insn) → size (fold_code k r
 fold_size k range first turn = grind (arith, size-append, size-cons)
 
 -- once the answer is the last, it stays
-fold_last : (f : ValueOrError → Value → ValueOrError) (is_last : ValueOrError → Bool) (acc : ValueOrError) (vs : List Value) → ((a : ValueOrError) (v : Value) → is_last a ≡ true → f a v ≡ a) → is_last acc ≡ true → fold_left f acc vs ≡ acc
+fold_last : (f : ValueOrError → Value → ValueOrError) (is_last : ValueOrError → Bool) (acc : ValueOrError) (vs : List Value)
+    → ((a : ValueOrError) (v : Value) → is_last a ≡ true → f a v ≡ a) → is_last acc ≡ true → fold_left f acc vs ≡ acc
 fold_last f is_last acc [] law last = refl
 fold_last f is_last acc (v ∷ vs) law last = ap (λ (a : ValueOrError). fold_left f a vs) (law acc v last) ∙ fold_last f is_last acc vs law last
 
@@ -105,7 +106,8 @@ module _ (s : Setting) (p k depth : ℕ) (turn : List Insn) (c : Context) (range
     pub all : i + length vs ≡ length items
 
   -- only registers have changed
-  told_before : {vs : List Value} {i : ℕ} {acc : ValueOrError} {b0 : Body} (b : Body) (registers : Register → ℕ) → registers R10 ≡ b.registers R10 → Before vs i acc b0 b → Before vs i acc b0 (record b { registers = registers })
+  told_before : {vs : List Value} {i : ℕ} {acc : ValueOrError} {b0 : Body} (b : Body) (registers : Register → ℕ) → registers R10 ≡ b.registers R10
+      → Before vs i acc b0 b → Before vs i acc b0 (record b { registers = registers })
   told_before b registers pointer before = grind arith
 
   has_head : Stands s.image.code p (loop_head k (size turn + 8))
@@ -168,7 +170,8 @@ module _ (s : Setting) (p k depth : ℕ) (turn : List Insn) (c : Context) (range
       }) g5.count g5.next)))))))
 
   -- from the end of a turn on
-  next_runs : (vs : List Value) (i : ℕ) (acc : ValueOrError) (b0 b : Body) → Before vs i acc b0 b → b.registers R1 ≡ length items → b.registers R2 ≡ i → Comes s (next_steps steps vs) (loop_charge charge vs) (tail_place + 4) b end (Result b0 vs acc)
+  next_runs : (vs : List Value) (i : ℕ) (acc : ValueOrError) (b0 b : Body) → Before vs i acc b0 b → b.registers R1 ≡ length items → b.registers R2 ≡ i
+      → Comes s (next_steps steps vs) (loop_charge charge vs) (tail_place + 4) b end (Result b0 vs acc)
   next_runs [] i acc b0 b before count next =
       no has_tail 4 refl (differs_no (b.registers R1) (b.registers R2) (omega arith)) (answers i acc b0 b before)
   next_runs (v ∷ vs) i acc b0 b before count next =

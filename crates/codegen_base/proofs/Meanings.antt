@@ -36,7 +36,8 @@ module _ (helper : ℤ) (b : Body) (args : List ℕ) (words : All (λ w. w < 2 ^
   within w added vs paid = rw (le-leb (b.values.charge + (1 + added)) charge_limit paid) refl
 
   -- a word and values that the row answers are a table's
-  after : (w added : ℕ) (vs : List ValueOrError) → answer_among b.values.values said ≡ Gives w vs (1 + added) → b.values.charge + (1 + added) ≤ charge_limit → IsTable (record { values = vs; charge = b.values.charge + (1 + added) })
+  after : (w added : ℕ) (vs : List ValueOrError) → answer_among b.values.values said ≡ Gives w vs (1 + added)
+      → b.values.charge + (1 + added) ≤ charge_limit → IsTable (record { values = vs; charge = b.values.charge + (1 + added) })
   after w added vs e paid =
       (tables_are_kept helper args b.values (record { values = vs; charge = b.values.charge + (1 + added) }) b.memory.constants w words table (ap (λ (a : HelperAnswer). charged a b.values.charge) e ∙ within w added vs paid)).1
 
@@ -47,7 +48,8 @@ module _ (helper : ℤ) (b : Body) (args : List ℕ) (words : All (λ w. w < 2 ^
   names_truth true = names_yes b.values table.store
   names_truth false = names_no b.values table.store
 
-  leaves : (x : ValueOrError) (added w : ℕ) (vs : List ValueOrError) → outcome_of helper (arguments_in b) b.values.values b.memory.constants ≡ said → answer_among b.values.values said ≡ Gives w vs (1 + added)
+  leaves : (x : ValueOrError) (added w : ℕ) (vs : List ValueOrError) → outcome_of helper (arguments_in b) b.values.values b.memory.constants ≡ said
+      → answer_among b.values.values said ≡ Gives w vs (1 + added)
       → Names vs w x → Extends b.values.values vs → Places helper b x (1 + added)
   leaves x added w vs clean e names extends = record { word = w; list = vs; answers = ap (answer_among b.values.values) clean ∙ e; names = names; extends = extends; table = after w added vs e }
 
@@ -58,7 +60,8 @@ module _ (helper : ℤ) (b : Body) (args : List ℕ) (words : All (λ w. w < 2 ^
   places_by x added clean (Decided t e is) = leaves x added _ _ clean (ap (answer_among b.values.values) e) (rw is (names_truth t)) (same b.values.values)
 
   -- where the row says a known outcome
-  pub places : (o : Outcome) (x : ValueOrError) (added : ℕ) → outcome_of helper (arguments_in b) b.values.values b.memory.constants ≡ said → said ≡ o → IsNamed x added o → Places helper b x (1 + added)
+  pub places : (o : Outcome) (x : ValueOrError) (added : ℕ) → outcome_of helper (arguments_in b) b.values.values b.memory.constants ≡ said → said ≡ o
+      → IsNamed x added o → Places helper b x (1 + added)
   places o x added clean e is = places_by x added clean (subst (IsNamed x added) (sym e) is)
 
 -- ---- each row says what the operation means

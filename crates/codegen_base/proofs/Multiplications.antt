@@ -29,7 +29,8 @@ module _ (s : Setting) (c : Context) (depth k o : ℕ) (low : k ≤ 64) (m n : �
     fails h = answers_error s c depth k o low product_tail has 10 refl refl refl b registers (product m n) pointer fitting (over (m *ℤ n) h)
 
   -- the product is divided back
-  divides : (registers : Register → ℕ) → registers R10 ≡ b.registers R10 → registers R1 ≡ check.result → registers R6 ≡ left → registers R7 ≡ right → compares W64 Eq right 0 ≡ false → IsFar left right → Comes s 5 1 (o + 7) (record b { registers = registers }) (o + 13) Q
+  divides : (registers : Register → ℕ) → registers R10 ≡ b.registers R10 → registers R1 ≡ check.result → registers R6 ≡ left → registers R7 ≡ right
+      → compares W64 Eq right 0 ≡ false → IsFar left right → Comes s 5 1 (o + 7) (record b { registers = registers }) (o + 13) Q
   unfolding product_tail
   divides registers pointer r1 r6 r7 some far =
       let here = record b { registers = registers } in

@@ -13,7 +13,8 @@ use Rattle.codegen_base.proofs.Frames.{Stays, begun, moved, said}
 
 -- ---- the instruction
 
-neg_does : (image : loader.Contents) (p : ℕ) (b : Body) (width : Width) (dst : Register) → is_frame_pointer dst ≡ false → neg_row width dst (at image p b) ≡ at image (p + 1) (set_register b dst (negated width (b.registers dst)))
+neg_does : (image : loader.Contents) (p : ℕ) (b : Body) (width : Width) (dst : Register) → is_frame_pointer dst ≡ false
+    → neg_row width dst (at image p b) ≡ at image (p + 1) (set_register b dst (negated width (b.registers dst)))
 unfolding neg_row
 neg_does image p b width dst free = grind arith
 

@@ -67,7 +67,8 @@ calls_give = record {
 }
 
 -- a call on what R0 names
-pub call_on_result : (s : Setting) (p : ℕ) (helper : ℤ) (f : ValueOrError → ValueOrError) (c : Context) (depth base : ℕ) (x : ValueOrError) → base ≤ 64 → Unary helper f → Converts s p (insn.copy R1 R0 ∷ Call helper ∷ []) R0 c depth base x (f x) 2 1
+pub call_on_result : (s : Setting) (p : ℕ) (helper : ℤ) (f : ValueOrError → ValueOrError) (c : Context) (depth base : ℕ) (x : ValueOrError)
+    → base ≤ 64 → Unary helper f → Converts s p (insn.copy R1 R0 ∷ Call helper ∷ []) R0 c depth base x (f x) 2 1
 call_on_result s p helper f c depth base x low unary = record {
   runs = λ b has fits named.
       let asks = set_register b R1 (b.registers R0) in

@@ -1,7 +1,7 @@
 -- Products, quotients and remainders of ints as words, and what shows that a product is no int.
 use lib.IntN.{+ℤ_invr, *ℤ-zero, zero-*ℤ, pos-*ℤ-pos}
 use lib.Signed.{mag_rem}
-use Rattle.codegen_base.proofs.Prelude.{◌≡◌, ℕ, zero, suc, ◌+◌, ◌-◌, ◌*◌, ◌/◌, ◌%◌, ◌^◌, ◌<◌, ◌⊎◌, Bool, true, false, not, refl, sym, ap, ap₂, ◌∙◌, arith, mod-lt, mul-div_cancel, suc-mul, ℤ, pos, negsuc, ◌+ℤ◌, ◌*ℤ◌, neg_ℤ, int_div, int_rem, if◌then◌else◌, w64, int_wrap, ints, int_wrap_fits, int_wrap-add_same, quot-rem, rem_below, wrapping_mul-bits, alu64_of, operated, word_of, signed_is, word_is, AluOp, Mul, Sdiv, Smod, Eq, Ne, W64, ValueOrError, error, value, int, fits, int_or_error, is_zero, quotient, remainder, alu_result, compares}
+use Rattle.codegen_base.proofs.Prelude.{◌≡◌, ℕ, zero, suc, ◌-◌, ◌*◌, ◌/◌, ◌%◌, ◌^◌, ◌<◌, ◌⊎◌, Bool, true, false, not, refl, sym, ap, ap₂, ◌∙◌, arith, mod-lt, mul-div_cancel, suc-mul, ℤ, pos, negsuc, ◌+ℤ◌, ◌*ℤ◌, neg_ℤ, int_div, int_rem, if◌then◌else◌, w64, int_wrap, ints, int_wrap_fits, int_wrap-add_same, quot-rem, rem_below, wrapping_mul-bits, alu64_of, operated, word_of, signed_is, word_is, AluOp, Mul, Sdiv, Smod, Eq, Ne, W64, ValueOrError, error, value, int, fits, int_or_error, is_zero, quotient, remainder, alu_result, compares}
 use Rattle.std.proofs.Common.{ne_eqb}
 use Rattle.codegen_base.proofs.Effects.{differs_no, differs_yes, equal_is}
 use Rattle.codegen_base.proofs.Ints.{different, fits_into, fits_is, from_word, is_nothing, is_something, least, minus_one, not_different, not_equal, number, number_word, word, word_fits}

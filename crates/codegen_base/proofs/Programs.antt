@@ -25,10 +25,13 @@ word_in-zeros n i = zeros_word (part (replicate n 0) (8 * i) 8) (All-take (λ b.
 
 -- what the first uses of a scope's variables take at most
 pub steps-most : (image : loader.Contents) (scope : List Variable) (scratch : List ℕ) → pending (map first_use scope) (λ v. v.steps) scratch ≤ total (first_steps scope)
-steps-most image scope scratch = subst (λ (ns : List ℕ). pending (map first_use scope) (λ v. v.steps) scratch ≤ total ns) (map-map (λ (v : FirstUse). v.steps) first_use scope) (pending-most image (map first_use scope) (λ v. v.steps) scratch)
+steps-most image scope scratch =
+    subst (λ (ns : List ℕ). pending (map first_use scope) (λ v. v.steps) scratch ≤ total ns) (map-map (λ (v : FirstUse). v.steps) first_use scope) (pending-most image (map first_use scope) (λ v. v.steps) scratch)
 
-pub charges-most : (image : loader.Contents) (scope : List Variable) (old new : List ℕ) (calls : List Frame) → first_uses image (map first_use scope) (λ v. v.charge) old new calls ≤ total (first_charges scope)
-charges-most image scope old new calls = subst (λ (ns : List ℕ). first_uses image (map first_use scope) (λ v. v.charge) old new calls ≤ total ns) (map-map (λ (v : FirstUse). v.charge) first_use scope) (uses-most image (map first_use scope) (λ v. v.charge) old new calls)
+pub charges-most : (image : loader.Contents) (scope : List Variable) (old new : List ℕ) (calls : List Frame)
+    → first_uses image (map first_use scope) (λ v. v.charge) old new calls ≤ total (first_charges scope)
+charges-most image scope old new calls =
+    subst (λ (ns : List ℕ). first_uses image (map first_use scope) (λ v. v.charge) old new calls ≤ total ns) (map-map (λ (v : FirstUse). v.charge) first_use scope) (uses-most image (map first_use scope) (λ v. v.charge) old new calls)
 
 pub start_is : (image : loader.Contents) (values : Contents) → start_state image values ≡ at image 0 (start_body image values)
 unfolding start_state

@@ -1,5 +1,5 @@
 -- The routine of a variable comes back to its caller with the value, and with the memo filled.
-use Rattle.codegen_base.proofs.Prelude.{◌≡◌, ℕ, ◌+◌, ◌<◌, ◌≤◌, List, [], ◌∷◌, ◌++◌, length, length-append, Option, Some, None, Bool, refl, sym, ap, ◌∙◌, subst, arith, inl, inr, slice_get, cases_eq, cases_lt, length-map, Insn, R0, R1, R2, Contents, Value, ValueOrError, value, Roots, Names, Body, set_register, entered, resumed, Context, Fits, Gives, IsMemo, Shows, Reaches, Setting, FirstUse, Kept, Stands, size, RoutineReturns, Variable, bindings, memo_tail, routine_context, used_context, with_variables, Framed, memo_address, memo_at, set_memo, same}
+use Rattle.codegen_base.proofs.Prelude.{◌≡◌, ℕ, ◌+◌, ◌<◌, ◌≤◌, List, [], ◌∷◌, ◌++◌, length, length-append, Some, Bool, refl, sym, ap, ◌∙◌, subst, arith, inl, inr, slice_get, cases_eq, cases_lt, length-map, Insn, R0, R1, R2, Contents, Value, ValueOrError, Roots, Names, Body, set_register, entered, resumed, Context, Fits, Gives, IsMemo, Shows, Reaches, Setting, FirstUse, Kept, Stands, size, RoutineReturns, Variable, bindings, memo_tail, routine_context, used_context, with_variables, Framed, memo_address, memo_at, set_memo, same}
 use Rattle.codegen_base.proofs.Effects.{add_is}
 use Rattle.codegen_base.proofs.Frames.{fits_on, frame_with, frame_memo, memo_kept, memo_stored}
 use Rattle.codegen_base.proofs.Listings.{alu, begins, load_wide, mov, store_memo}
@@ -7,10 +7,6 @@ use Rattle.codegen_base.proofs.Pieces.{stands_back, stands_front}
 use Rattle.codegen_base.proofs.Runs.{and_back, into}
 use Rattle.codegen_base.proofs.Steps as step
 use Rattle.codegen_base.proofs.Values.{get_at, get_before, get_front, short_reference}
-
-abbrev variable_in : Option (List ℕ × ValueOrError) → ValueOrError → ValueOrError
-variable_in (Some y) other = y.1
-variable_in None other = other
 
 module _ (image : Contents) (deep : Bool) (paid : List FirstUse) (constants : List ℕ) (words : Kept) (roots : Roots) (items : List (List ℕ × Value)) (variables later : List (List ℕ × ValueOrError)) (name : List ℕ) (v : ValueOrError) (body : List Insn) (routine depth base n x : ℕ) (below : length variables < 512) (low : base ≤ 60) (room : depth < 7) (there : Stands image.code routine (body ++ memo_tail (length variables))) where
   abbrev index : ℕ

@@ -22,7 +22,8 @@ unmoved {old} {new} e = subst (λ (bytes : List ℕ). StayFilled old bytes) (sym
 
 module _ (s : Setting) where
   -- the first uses of two stretches are first uses of the whole
-  joined_steps : (b b1 : Body) (scratch : List ℕ) (calls : List Frame) → StayFilled b.memory.scratch b1.memory.scratch → StayFilled b1.memory.scratch scratch → steps_to s 0 b b1.memory.scratch [] + steps_to s 0 b1 scratch calls ≤ steps_to s 0 b scratch calls
+  joined_steps : (b b1 : Body) (scratch : List ℕ) (calls : List Frame) → StayFilled b.memory.scratch b1.memory.scratch
+      → StayFilled b1.memory.scratch scratch → steps_to s 0 b b1.memory.scratch [] + steps_to s 0 b1 scratch calls ≤ steps_to s 0 b scratch calls
   joined_steps b b1 scratch calls first second = grind (arith, uses-join)
 
   joined_charge : (b b1 : Body) (scratch : List ℕ) (calls : List Frame) → StayFilled b.memory.scratch b1.memory.scratch → StayFilled b1.memory.scratch scratch → first_uses s.image s.variables (λ v. v.charge) b.memory.scratch b1.memory.scratch [] + first_uses s.image s.variables (λ v. v.charge) b1.memory.scratch scratch calls ≤ first_uses s.image s.variables (λ v. v.charge) b.memory.scratch scratch calls
@@ -78,11 +79,13 @@ module _ (s : Setting) where
       record { steps = k + c.steps; ends = subst (Ends s (n + m) (x + y) b r p2 Q (k + c.steps)) (sym (ap (λ (i : ℕ). state_after i (at s.image p b)) same ∙ parts)) (later k c.steps frames f (omega arith) (omega arith) c.ends) }
 
   -- one stretch after another
-  pub and_then : {n x p : ℕ} {b : Body} {p1 : ℕ} {P : Body → Type 0} (m y p2 : ℕ) (Q : Body → Type 0) → Comes s n x p b p1 P → ((b1 : Body) → P b1 → Comes s m y p1 b1 p2 Q) → Comes s (n + m) (x + y) p b p2 Q
+  pub and_then : {n x p : ℕ} {b : Body} {p1 : ℕ} {P : Body → Type 0} (m y p2 : ℕ) (Q : Body → Type 0) → Comes s n x p b p1 P
+      → ((b1 : Body) → P b1 → Comes s m y p1 b1 p2 Q) → Comes s (n + m) (x + y) p b p2 Q
   and_then {b = b} {p1 = p1} m y p2 Q c go = chain c.steps c.ends (λ b1 q same. subst (λ (r : List Frame). Reaches s m y p1 b1 r p2 Q) same (go b1 q))
 
   -- a stretch, and another one that comes back to other records
-  pub and_back : {n x p : ℕ} {b : Body} {r : List Frame} {p1 : ℕ} {P : Body → Type 0} (m y p2 : ℕ) (Q : Body → Type 0) → Comes s n x p b p1 P → ((b1 : Body) → P b1 → Reaches s m y p1 b1 r p2 Q) → Reaches s (n + m) (x + y) p b r p2 Q
+  pub and_back : {n x p : ℕ} {b : Body} {r : List Frame} {p1 : ℕ} {P : Body → Type 0} (m y p2 : ℕ) (Q : Body → Type 0) → Comes s n x p b p1 P
+      → ((b1 : Body) → P b1 → Reaches s m y p1 b1 r p2 Q) → Reaches s (n + m) (x + y) p b r p2 Q
   and_back m y p2 Q c go = chain c.steps c.ends (λ b1 q same. go b1 q)
 
   -- a step, and what comes after it
@@ -101,12 +104,14 @@ module _ (s : Setting) where
   one p b e same m v c = one_filled p b e same (unmoved m) v c
 
   -- a step that ends the run with the records of the body it comes to
-  pub last : {p1 : ℕ} {Q : Body → Type 0} (p : ℕ) (b b1 : Body) → next_state (at s.image p b) ≡ at s.image p1 b1 → b1.memory.scratch ≡ b.memory.scratch → b1.values.charge ≡ b.values.charge → Q b1 → Reaches s 1 0 p b b1.records p1 Q
+  pub last : {p1 : ℕ} {Q : Body → Type 0} (p : ℕ) (b b1 : Body) → next_state (at s.image p b) ≡ at s.image p1 b1
+      → b1.memory.scratch ≡ b.memory.scratch → b1.values.charge ≡ b.values.charge → Q b1 → Reaches s 1 0 p b b1.records p1 Q
   last p b b1 e m v q =
       record { steps = 1; ends = Came b1 (state_after-first 0 (at s.image p b) ∙ state_after-zero _ ∙ e) refl (unmoved m) (omega arith) (omega arith) q }
 
   -- a step that stops for the charge or a depth
-  pub stops : (n x p : ℕ) (b : Body) {r : List Frame} {p' : ℕ} {Q : Body → Type 0} (t : State) → next_state (at s.image p b) ≡ t → t.status ≡ Fault F8 → t.records ≡ b.records → t.memory ≡ b.memory → IsSpent s (b.values.charge + x) → Reaches s (suc n) x p b r p' Q
+  pub stops : (n x p : ℕ) (b : Body) {r : List Frame} {p' : ℕ} {Q : Body → Type 0} (t : State) → next_state (at s.image p b) ≡ t → t.status ≡ Fault F8
+      → t.records ≡ b.records → t.memory ≡ b.memory → IsSpent s (b.values.charge + x) → Reaches s (suc n) x p b r p' Q
   stops n x p b {r} {p'} {Q} t e h same m o =
       let after : state_after 1 (at s.image p b) ≡ t = state_after-first 0 (at s.image p b) ∙ state_after-zero _ ∙ e in
       let none : StayFilled b.memory.scratch t.memory.scratch = unmoved (ap (λ w. w.scratch) m) in
@@ -115,7 +120,8 @@ module _ (s : Setting) where
 -- ---- a run where some variables are paid is one where more are
 
 module _ (image : Contents) (deep : Bool) (few more : List FirstUse) where
-  ends_wider : {n x k p : ℕ} {b : Body} {r : List Frame} {Q : Body → Type 0} {t : State} → Ends (with_variables image deep few) n x b r p Q k t → Ends (with_variables image deep (few ++ more)) n x b r p Q k t
+  ends_wider : {n x k p : ℕ} {b : Body} {r : List Frame} {Q : Body → Type 0} {t : State} → Ends (with_variables image deep few) n x b r p Q k t
+      → Ends (with_variables image deep (few ++ more)) n x b r p Q k t
   ends_wider {b = b} {t = t} (Stopped calls e frames f l o) =
       let steps = uses-more image few (λ v. v.steps) more b.memory.scratch t.memory.scratch calls in
       let charge = uses-more image few (λ v. v.charge) more b.memory.scratch t.memory.scratch calls in
@@ -125,5 +131,6 @@ module _ (image : Contents) (deep : Bool) (few more : List FirstUse) where
       let charge = uses-more image few (λ v. v.charge) more b.memory.scratch b1.memory.scratch [] in
       Came b1 e frames f (omega arith) (omega arith) q
 
-  pub wider : {n x p : ℕ} {b : Body} {r : List Frame} {p1 : ℕ} {Q : Body → Type 0} → Reaches (with_variables image deep few) n x p b r p1 Q → Reaches (with_variables image deep (few ++ more)) n x p b r p1 Q
+  pub wider : {n x p : ℕ} {b : Body} {r : List Frame} {p1 : ℕ} {Q : Body → Type 0} → Reaches (with_variables image deep few) n x p b r p1 Q
+      → Reaches (with_variables image deep (few ++ more)) n x p b r p1 Q
   wider c = record { steps = c.steps; ends = ends_wider c.ends }

@@ -22,7 +22,8 @@ found_value name [] i v at e = absurd (cc)
 found_value name (u ∷ more) zero v at e = grind arith
 found_value name (u ∷ more) (suc i) v at e = grind (arith, found_value name more i v)
 
-pub value_named : (name : List ℕ) (scope : List Variable) (i : ℕ) (v : Variable) → place_named name scope ≡ Some i → slice_get scope i ≡ Some v → variable_value name (bindings scope) ≡ v.value
+pub value_named : (name : List ℕ) (scope : List Variable) (i : ℕ) (v : Variable) → place_named name scope ≡ Some i → slice_get scope i ≡ Some v
+    → variable_value name (bindings scope) ≡ v.value
 unfolding variable_value
 value_named name scope i v at e = rw (found_value name scope i v at e) refl
 

@@ -19,7 +19,8 @@ module _ (image : Contents) (deep : Bool) (before later : List FirstUse) (v : Fi
   paid_open cost scratch calls = grind (arith, nat_tests, uses-with, uses-more_calls)
 
   -- in one that has come back the memo is filled
-  paid_filled : (cost : FirstUse → ℕ) (scratch : List ℕ) → (word_in scratch (length before) ≡ 0 → ⊥) → first_uses image before cost b.memory.scratch scratch [] + cost v ≤ first_uses image (before ++ v ∷ later) cost b.memory.scratch scratch []
+  paid_filled : (cost : FirstUse → ℕ) (scratch : List ℕ) → (word_in scratch (length before) ≡ 0 → ⊥)
+      → first_uses image before cost b.memory.scratch scratch [] + cost v ≤ first_uses image (before ++ v ∷ later) cost b.memory.scratch scratch []
   paid_filled cost scratch filled = grind (arith, uses-with, nat_tests)
 
   ends_called : {n x k p : ℕ} {Q : Body → Type 0} {t : State} → n ≤ v.steps → x ≤ v.charge → ((last : Body) → Q last → memo_at (length before) last ≡ 0 → ⊥) → Ends (with_variables image deep before) n x (entered q b) b.records p Q k t → Ends outer 1 0 b b.records p Q (1 + k) t

@@ -1,10 +1,8 @@
 -- What a run takes for the first uses of variables in it, and for no others.
-use Rattle.std.specs.Prelude.{◌≡◌, ℕ, suc, ◌+◌, ℤ, pos, negsuc, ◌+ℤ◌, Bool, false, not, ◌&&◌, ◌||◌, List, [], ◌∷◌, nat_eq, Option, Some}
-use Rattle.std.specs.Prelude.{if◌then◌else◌}
+use Rattle.std.specs.Prelude.{◌≡◌, ℕ, suc, ◌+◌, ℤ, pos, negsuc, ◌+ℤ◌, Bool, false, not, ◌&&◌, ◌||◌, List, [], ◌∷◌, nat_eq, Option, Some, if◌then◌else◌}
 use Rattle.std.specs.List.{list_any}
 use Rattle.guest_memory.specs.RegionWords.{word_in}
-use Rattle.insn_codec.specs.declared.insn.Insn.{Insn}
-use Rattle.insn_codec.specs.declared.insn.Insn.TheVariants.{CallLocal}
+use Rattle.insn_codec.specs.declared.insn.Insn.{Insn, TheVariants.CallLocal}
 use Rattle.loader.specs.Contents.{Contents}
 use Rattle.bpf_machine.specs.Decoding.{fetched}
 use Rattle.bpf_machine.specs.declared.frame.Frame.{Frame}

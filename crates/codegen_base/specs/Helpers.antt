@@ -7,8 +7,7 @@ use Rattle.helper_table.specs.Building.{depth_limit, entered}
 use Rattle.helper_table.specs.Calls.{bytes_at}
 use Rattle.helper_table.specs.Conversions.{kind_number}
 use Rattle.helper_table.specs.Laws.{Names}
-use Rattle.insn_codec.specs.declared.register.Register.{Register}
-use Rattle.insn_codec.specs.declared.register.Register.TheVariants.{R1, R2, R3}
+use Rattle.insn_codec.specs.declared.register.Register.{Register, TheVariants.R1, TheVariants.R2, TheVariants.R3}
 use Rattle.value_store.specs.Calls.{joined}
 use Rattle.value_store.specs.Seen.{seen}
 use Rattle.value_store.specs.Size.{result_depth}

@@ -1,14 +1,12 @@
 -- Short words for the instructions that code is made of. A frame's words are counted from 0: word k begins 8 * (k + 1)
 -- bytes below R10.
 use Rattle.std.specs.Prelude.{ℕ, ℤ, pos, negsuc, min}
-use Rattle.insn_codec.specs.declared.alu_op.AluOp.{AluOp}
-use Rattle.insn_codec.specs.declared.alu_op.AluOp.TheVariants.{Mov}
+use Rattle.insn_codec.specs.declared.alu_op.AluOp.{AluOp, TheVariants.Mov}
 use Rattle.insn_codec.specs.declared.comparison.Comparison.{Comparison}
 use Rattle.insn_codec.specs.declared.insn.Insn.{Insn}
 use Rattle.insn_codec.specs.declared.insn.Insn.TheVariants.{Alu, Branch, Jump, Load, LoadWide, Store}
 use Rattle.insn_codec.specs.declared.operand.Operand.TheVariants.{Imm, Reg}
-use Rattle.insn_codec.specs.declared.register.Register.{Register}
-use Rattle.insn_codec.specs.declared.register.Register.TheVariants.{R10}
+use Rattle.insn_codec.specs.declared.register.Register.{Register, TheVariants.R10}
 use Rattle.insn_codec.specs.declared.size.Size.TheVariants.{Dw}
 use Rattle.insn_codec.specs.declared.width.Width.TheVariants.{W64}
 use Rattle.codegen_base.specs.Words.{word_offset}

@@ -20,7 +20,8 @@ use Rattle.codegen_base.specs.Pieces.{size, Stands}
 use Rattle.codegen_base.specs.Contexts.{Context, Fits, Gives, Keeps, Shows, variable_count}
 use Rattle.codegen_base.specs.Words.{word_at, word_offset}
 
--- Five words of the frame serve a loop: word k names the range, and the words after it have the count of its items, the place of the next one, and references of the answer so far and of the item.
+-- Five words of the frame serve a loop: word k names the range, and the words after it have the count of its items,
+-- the place of the next one, and references of the answer so far and of the item.
 
 -- the next item is placed and named, or the loop is left where there is none
 abbrev pub loop_head : ℕ → ℕ → List Insn
@@ -64,10 +65,16 @@ pub record Turned (c : Context) (depth k : ℕ) (acc : ValueOrError) (old new : 
   pub so_far : Names new.values.values (word_at depth (k + 3) new) acc
   pub keeps : Keeps (variable_count c) depth (k + 3) old new
 
--- for each item the piece at slot p makes the next answer, and leaves for slot `end` where that is the last; what `is_fine` asks of answers holds from one to the next
-pub record TurnGives (s : Setting) (p end : ℕ) (turn : List Insn) (c : Context) (depth k : ℕ) (items : List Value) (f : ValueOrError → Value → ValueOrError) (is_last is_fine : ValueOrError → Bool) (steps charge : Value → ℕ) : Type 0 where
-  pub goes_on : (b : Body) (acc : ValueOrError) (i : ℕ) (v : Value) → slice_get items i ≡ Some v → is_fine acc ≡ true → Stands s.image.code p turn → AtTurn c depth k acc v b → is_last acc ≡ false → is_last (f acc v) ≡ false → Comes s (steps v) (charge v) p b (p + size turn) (Turned c depth k (f acc v) b)
-  pub leaves : (b : Body) (acc : ValueOrError) (i : ℕ) (v : Value) → slice_get items i ≡ Some v → is_fine acc ≡ true → Stands s.image.code p turn → AtTurn c depth k acc v b → is_last acc ≡ false → is_last (f acc v) ≡ true → Comes s (steps v) (charge v) p b end (Shows c depth (k + 5) (f acc v) b)
+-- for each item the piece at slot p makes the next answer, and leaves for slot `end` where that is the last; what
+-- `is_fine` asks of answers holds from one to the next
+pub record TurnGives (s : Setting) (p end : ℕ) (turn : List Insn) (c : Context) (depth k : ℕ) (items : List Value)
+    (f : ValueOrError → Value → ValueOrError) (is_last is_fine : ValueOrError → Bool) (steps charge : Value → ℕ) : Type 0 where
+  pub goes_on : (b : Body) (acc : ValueOrError) (i : ℕ) (v : Value) → slice_get items i ≡ Some v → is_fine acc ≡ true
+      → Stands s.image.code p turn → AtTurn c depth k acc v b → is_last acc ≡ false → is_last (f acc v) ≡ false
+      → Comes s (steps v) (charge v) p b (p + size turn) (Turned c depth k (f acc v) b)
+  pub leaves : (b : Body) (acc : ValueOrError) (i : ℕ) (v : Value) → slice_get items i ≡ Some v → is_fine acc ≡ true
+      → Stands s.image.code p turn → AtTurn c depth k acc v b → is_last acc ≡ false → is_last (f acc v) ≡ true
+      → Comes s (steps v) (charge v) p b end (Shows c depth (k + 5) (f acc v) b)
   pub last : (acc : ValueOrError) (v : Value) → is_last acc ≡ true → f acc v ≡ acc
   pub fine : (acc : ValueOrError) (i : ℕ) (v : Value) → slice_get items i ≡ Some v → is_fine acc ≡ true → is_fine (f acc v) ≡ true
 
@@ -96,7 +103,8 @@ range_tail k off =
 
 -- the range, the answer before the first item, and the loop
 abbrev pub fold_code : ℕ → List Insn → List Insn → List Insn → List Insn
-fold_code k range first turn = range ++ (range_tail k (size first + size (loop_code k turn) + 4) ++ (first ++ (Store Dw R10 (word_offset (k + 3)) R0 ∷ loop_code k turn)))
+fold_code k range first turn =
+    range ++ (range_tail k (size first + size (loop_code k turn) + 4) ++ (first ++ (Store Dw R10 (word_offset (k + 3)) R0 ∷ loop_code k turn)))
 
 -- the fold over the items of a range, or the error where it has none
 abbrev pub fold_of : (ValueOrError → Value → ValueOrError) → ValueOrError → Option (List Value) → ValueOrError
@@ -113,9 +121,12 @@ fold_charge charge None = 0
 
 -- pieces for a range, for the first answer and for a turn make a fold, with 10 steps and 1 of charge of its own
 abbrev pub FoldGives : Type 0
-FoldGives = (s : Setting) (p k depth n1 x1 n2 x2 : ℕ) (range first turn : List Insn) (c : Context) (r acc : ValueOrError) (f : ValueOrError → Value → ValueOrError) (is_last is_fine : ValueOrError → Bool) (steps charge : Value → ℕ)
+FoldGives = (s : Setting) (p k depth n1 x1 n2 x2 : ℕ) (range first turn : List Insn) (c : Context) (r acc : ValueOrError)
+    (f : ValueOrError → Value → ValueOrError) (is_last is_fine : ValueOrError → Bool) (steps charge : Value → ℕ)
     → k < 56 → is_last acc ≡ false → is_fine acc ≡ true
     → Gives s p range c depth k r n1 x1
     → Gives s (p + size range + 9) first c depth (k + 3) acc n2 x2
-    → ((items : List Value) → range_of r ≡ Some items → TurnGives s (p + size range + 9 + size first + 7) (p + size (fold_code k range first turn)) turn c depth k items f is_last is_fine steps charge)
-    → Gives s p (fold_code k range first turn) c depth k (fold_of f acc (range_of r)) (n1 + (9 + (n2 + (1 + fold_steps steps (range_of r))))) (x1 + (1 + (x2 + fold_charge charge (range_of r))))
+    → ((items : List Value) → range_of r ≡ Some items
+    → TurnGives s (p + size range + 9 + size first + 7) (p + size (fold_code k range first turn)) turn c depth k items f is_last is_fine steps charge)
+    → Gives s p (fold_code k range first turn) c depth k (fold_of f acc (range_of r))
+    (n1 + (9 + (n2 + (1 + fold_steps steps (range_of r))))) (x1 + (1 + (x2 + fold_charge charge (range_of r))))

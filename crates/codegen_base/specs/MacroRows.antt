@@ -1,7 +1,6 @@
 -- Macros run by hand, step by step.
 use Rattle.std.specs.Prelude.{◌≡◌, true, false, List, [], ◌∷◌, ◌++◌}
-use Rattle.insn_codec.specs.declared.insn.Insn.{Insn}
-use Rattle.insn_codec.specs.declared.insn.Insn.TheVariants.{Exit}
+use Rattle.insn_codec.specs.declared.insn.Insn.{Insn, TheVariants.Exit}
 use Rattle.bpf_machine.specs.Trace.{state_after}
 use Rattle.bpf_machine.specs.declared.status.Status.TheVariants.{Exited}
 use Rattle.codegen_base.specs.Code.Aggregates.{item_code, list_code}

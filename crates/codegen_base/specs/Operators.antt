@@ -3,10 +3,8 @@ use Rattle.std.specs.Prelude.{◌≡◌, ℕ, ◌+◌, ◌<◌, ◌≤◌, ℤ, 
 use Rattle.std.specs.Int.{w64, cast_unsigned}
 use Rattle.helper_table.specs.Laws.{Names}
 use Rattle.insn_codec.specs.Codes.{register_number}
-use Rattle.insn_codec.specs.declared.insn.Insn.{Insn}
-use Rattle.insn_codec.specs.declared.insn.Insn.TheVariants.{Call}
-use Rattle.insn_codec.specs.declared.register.Register.{Register}
-use Rattle.insn_codec.specs.declared.register.Register.TheVariants.{R0, R1, R2}
+use Rattle.insn_codec.specs.declared.insn.Insn.{Insn, TheVariants.Call}
+use Rattle.insn_codec.specs.declared.register.Register.{Register, TheVariants.R0, TheVariants.R1, TheVariants.R2}
 use Rattle.bpf_machine.specs.Operands.{is_frame_pointer}
 use Rattle.value_store.specs.Value.{ValueOrError}
 use Rattle.codegen_base.specs.Body.{Body}
@@ -16,8 +14,7 @@ use Rattle.codegen_base.specs.Engine.{Setting, Comes}
 use Rattle.codegen_base.specs.Helpers.{Binary, Unary}
 use Rattle.codegen_base.specs.Pieces.{Stands, size}
 use Rattle.codegen_base.specs.Words.{word_at}
-use Rattle.codegen_base.specs.declared.leaf.Leaf.{Leaf}
-use Rattle.codegen_base.specs.declared.leaf.Leaf.TheVariants.{Reference, Word}
+use Rattle.codegen_base.specs.declared.leaf.Leaf.{Leaf, TheVariants.Reference, TheVariants.Word}
 
 -- the leaf names the value or the error in the body
 abbrev pub IsLeafIn : Leaf → ℕ → Body → ValueOrError → Type 0

@@ -4,10 +4,8 @@ use Rattle.std.specs.Prelude.{map as each}
 use Rattle.guest_memory.specs.Memory.{start_memory}
 use Rattle.helper_table.specs.Laws.{Names}
 use Rattle.insn_codec.specs.Codes.{register_number}
-use Rattle.insn_codec.specs.declared.insn.Insn.{Insn}
-use Rattle.insn_codec.specs.declared.insn.Insn.TheVariants.{Exit}
-use Rattle.insn_codec.specs.declared.register.Register.{Register}
-use Rattle.insn_codec.specs.declared.register.Register.TheVariants.{R0}
+use Rattle.insn_codec.specs.declared.insn.Insn.{Insn, TheVariants.Exit}
+use Rattle.insn_codec.specs.declared.register.Register.{Register, TheVariants.R0}
 use Rattle.loader.specs.Contents as loader
 use Rattle.value_store.specs.Placing.{Contents}
 use Rattle.value_store.specs.Value.{ValueOrError}

@@ -1,7 +1,6 @@
 -- Programs run by hand, step by step.
 use Rattle.std.specs.Prelude.{◌≡◌, ℕ, pos, true, List, [], ◌∷◌, ◌++◌, Some, replicate}
-use Rattle.insn_codec.specs.declared.insn.Insn.{Insn}
-use Rattle.insn_codec.specs.declared.insn.Insn.TheVariants.{Exit}
+use Rattle.insn_codec.specs.declared.insn.Insn.{Insn, TheVariants.Exit}
 use Rattle.insn_codec.specs.declared.register.Register.TheVariants.{R1, R2}
 use Rattle.loader.specs.declared.version.Version.TheVariants.{Second}
 use Rattle.bpf_machine.specs.State.{State, null_values, start_state}

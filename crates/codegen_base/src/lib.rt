@@ -5,9 +5,8 @@
 //! crates above, which make code of expressions and of policies, and are no part of the program's own
 //! surface.
 //!
-//! `laws` has the laws for crates above, each on a function that does nothing. Of the lemmas those of
-//! `proofs/Runs`, `Steps`, `Listings`, `Pieces`, `Frames`, `Values`, `HelperAnswers`, `Operators`, `Loops`,
-//! `Logic`, `Lists` and `Macros` are for crates above too.
+//! `laws` has the laws for crates above, each on a function that does nothing. The public lemmas of `proofs/`
+//! are for crates above too.
 #![tactic(auto)]
 
 pub mod helpers;

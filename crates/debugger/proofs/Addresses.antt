@@ -1,5 +1,5 @@
 -- Addresses in hex digits.
-use Rattle.debugger.proofs.Prelude.{◌≡◌, ℕ, zero, suc, ◌+◌, ◌-◌, ◌*◌, ◌/◌, ◌%◌, ◌^◌, ◌<◌, ◌≤◌, true, false, ◌&&◌, ◌||◌, List, [], ◌∷◌, ◌++◌, nat_eq, if◌then◌else◌, ap, ◌∙◌, append_assoc, arith, add-one, pow-le-pow_right, pow-suc, nat_tests, hex_digit, hex_digits, hex_value, is_hex_digit, numbered, number_of, read_address, MemoryAt}
+use Rattle.debugger.proofs.Prelude.{◌≡◌, ℕ, zero, suc, ◌+◌, ◌*◌, ◌/◌, ◌%◌, ◌^◌, ◌<◌, ◌≤◌, true, false, List, [], ◌∷◌, ◌++◌, nat_eq, ap, ◌∙◌, append_assoc, arith, add-one, pow-le-pow_right, pow-suc, nat_tests, hex_digit, hex_digits, hex_value, is_hex_digit, numbered, number_of, read_address, MemoryAt}
 
 -- one digit more
 pub below_digit : (d a v : ℕ) → a < 16 ^ d → v < 16 → a * 16 + v < 16 ^ (d + 1)

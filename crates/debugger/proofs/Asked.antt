@@ -1,13 +1,15 @@
 -- Commands that stand for one another.
-use Rattle.debugger.proofs.Prelude.{◌≡◌, ℕ, ◌+◌, ◌-◌, ◌<◌, ◌≤◌, ◌^◌, Bool, true, false, ◌&&◌, List, [], ◌∷◌, ◌++◌, length, length-take, take, nat_le, if◌then◌else◌, codes, refl, sym, ap, ◌∙◌, inl, inr, arith, cases_lt, nat_tests, take_all, length_push, take-append_seam, slice_get_past, ◌⊎◌, State, state_after, Fits, capped_command, command_of, World, answer_of, may_be_refused, answer_to, Answers, Command}
+use Rattle.debugger.proofs.Prelude.{◌≡◌, ℕ, ◌<◌, Bool, true, false, List, [], ◌∷◌, ◌++◌, length, length-take, take, nat_le, codes, refl, sym, ap, ◌∙◌, inl, inr, arith, cases_lt, nat_tests, take_all, length_push, take-append_seam, slice_get_past, State, state_after, Fits, capped_command, command_of, World, answer_of, may_be_refused, answer_to, Answers, Command}
 
 -- a line whose command was obeyed
-pub answers_granted : (s : State) (w next : World) (line : List ℕ) (c : Command) (text : List ℕ) → Fits (state_after w.place s) c → c ≡ capped_command (command_of line) → (answer_of s w c).next ≡ next → (answer_of s w c).text ≡ text → Answers s w line next text
+pub answers_granted : (s : State) (w next : World) (line : List ℕ) (c : Command) (text : List ℕ) → Fits (state_after w.place s) c
+    → c ≡ capped_command (command_of line) → (answer_of s w c).next ≡ next → (answer_of s w c).text ≡ text → Answers s w line next text
 unfolding answer_to answer_of
 answers_granted s w next line c text fits asked n t = grind (arith, nat_tests, nat_le, slice_get_past)
 
 -- a line at which memory was refused
-pub answers_refused : (s : State) (w next : World) (line : List ℕ) (c : Command) (text : List ℕ) → Fits (state_after w.place s) c → c ≡ capped_command (command_of line) → may_be_refused s w c ≡ true → w ≡ next → codes "? memory\n" ≡ text → Answers s w line next text
+pub answers_refused : (s : State) (w next : World) (line : List ℕ) (c : Command) (text : List ℕ) → Fits (state_after w.place s) c
+    → c ≡ capped_command (command_of line) → may_be_refused s w c ≡ true → w ≡ next → codes "? memory\n" ≡ text → Answers s w line next text
 unfolding answer_to may_be_refused
 answers_refused s w next line c text fits asked may n t = grind (arith, nat_tests, nat_le, slice_get_past)
 

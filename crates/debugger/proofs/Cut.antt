@@ -1,5 +1,5 @@
 -- How an input's lines grow byte by byte.
-use Rattle.debugger.proofs.Prelude.{◌≡◌, ℕ, suc, ◌+◌, ◌-◌, ◌<◌, ◌≤◌, Bool, List, [], ◌∷◌, ◌++◌, length, take, drop, fold, nat_eq, cond, refl, sym, ap, ◌∙◌, arith, append_assoc, append-nil, length-drop, length-take, take-add, drop-drop, fold_push, fold-append, nat_tests, cut, cut_byte, with_rest, input_lines, readable}
+use Rattle.debugger.proofs.Prelude.{◌≡◌, ℕ, suc, ◌+◌, ◌-◌, ◌≤◌, Bool, List, [], ◌∷◌, ◌++◌, length, take, drop, fold, nat_eq, cond, refl, sym, ap, ◌∙◌, arith, append_assoc, append-nil, length-drop, length-take, take-add, drop-drop, fold_push, fold-append, nat_tests, cut, cut_byte, with_rest, input_lines, readable}
 
 abbrev pub Pieces : Type 0
 Pieces = List (List ℕ) × List ℕ
@@ -22,7 +22,8 @@ cut-plain input i b first plain = grind (arith, nat_tests, fold_push, take-add, 
 abbrev behind : List (List ℕ) → Pieces → Pieces
 behind lines p = (lines ++ p.0, p.1)
 
-byte_behind : (feed : Bool) (lines : List (List ℕ)) (p : Pieces) (b : ℕ) → cond feed ((lines ++ p.0) ++ p.1 ∷ [], []) (lines ++ p.0, p.1 ++ b ∷ []) ≡ behind lines (cond feed (p.0 ++ p.1 ∷ [], []) (p.0, p.1 ++ b ∷ []))
+byte_behind : (feed : Bool) (lines : List (List ℕ)) (p : Pieces) (b : ℕ)
+    → cond feed ((lines ++ p.0) ++ p.1 ∷ [], []) (lines ++ p.0, p.1 ++ b ∷ []) ≡ behind lines (cond feed (p.0 ++ p.1 ∷ [], []) (p.0, p.1 ++ b ∷ []))
 byte_behind feed lines p b = grind (arith, nat_tests, append_assoc)
 
 pub cut_behind : (bytes : List ℕ) (lines : List (List ℕ)) (p : Pieces) → fold cut_byte (behind lines p) bytes ≡ behind lines (fold cut_byte p bytes)

@@ -31,14 +31,16 @@ hear_whole : (s : State) (t : Talk) (l : Line) (ended : Bool) → t.world.ended 
 hear_whole s t l ended is whole = grind (arith, nat_tests, answers_in_lines, hear-off, hear-on, whole-append)
 
 -- a line that does not answer `? memory` was not refused
-answer_granted : (s : State) (t : Talk) (l : Line) (refused : Bool) → is_refused s t.world l ≡ refused → Whole t.text → says_memory (t.text ++ (answer_to s t.world l).text) ≡ false → answer_to s t.world l ≡ answer_to s t.world (granted l.0)
+answer_granted : (s : State) (t : Talk) (l : Line) (refused : Bool) → is_refused s t.world l ≡ refused → Whole t.text
+    → says_memory (t.text ++ (answer_to s t.world l).text) ≡ false → answer_to s t.world l ≡ answer_to s t.world (granted l.0)
 unfolding answer_to
 answer_granted s t l refused is whole none = grind (arith, nat_tests, refusal_says)
 
 hear_granted : (s : State) (t : Talk) (l : Line) (ended : Bool) → t.world.ended ≡ ended → Whole t.text → says_memory (hear s t l).text ≡ false → hear s t l ≡ hear s t (granted l.0)
 hear_granted s t l ended is whole none = grind (arith, nat_tests, answer_granted, hear-off, hear-on)
 
-talk_granted : (s : State) (t : Talk) (marked : List Line) → Whole t.text → says_memory (fold (hear s) t marked).text ≡ false → fold (hear s) t marked ≡ fold (hear s) t (map granted (lines_of marked))
+talk_granted : (s : State) (t : Talk) (marked : List Line) → Whole t.text → says_memory (fold (hear s) t marked).text ≡ false
+    → fold (hear s) t marked ≡ fold (hear s) t (map granted (lines_of marked))
 talk_granted s t [] whole none = refl
 talk_granted s t (l ∷ marked) whole none =
     let next = talk_grows s (hear s t l) marked in

@@ -28,7 +28,8 @@ pub some_bytes : (bytes : List ℕ) → (length bytes ≡ 0 → ⊥) → 0 < len
 some_bytes bytes some = grind arith
 
 -- one line
-pub lines_one : (count a : ℕ) (old new bytes : List ℕ) → 0 < length bytes → length bytes ≤ 16 → length bytes ≤ 16 * count → new ≡ old ++ memory_line a bytes → new ≡ old ++ memory_lines count a bytes
+pub lines_one : (count a : ℕ) (old new bytes : List ℕ) → 0 < length bytes → length bytes ≤ 16 → length bytes ≤ 16 * count
+    → new ≡ old ++ memory_line a bytes → new ≡ old ++ memory_lines count a bytes
 unfolding memory_lines
 lines_one zero a old new bytes some few enough is = absurd (omega (arith, some, enough))
 lines_one (suc count) a old new [] some few enough is = absurd (omega (arith, some))

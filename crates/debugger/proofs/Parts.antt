@@ -22,15 +22,18 @@ part_behind old new last front rest one part =
     let whole : AddsBytes old last (front ++ take part.0 rest) = adds_both old new last front (take part.0 rest) one part.2 in
     (length front + part.0, omega (arith, part.1, length-append front rest), subst (λ (bytes : List ℕ). AddsBytes old last bytes) (sym (take_behind front rest part.0)) whole)
 
-pub whole_behind : {T E : Type 0} (r : Result T E) (old new last : Option (List ℕ)) (front rest : List ℕ) → AddsBytes old new front → OnOk r (AddsBytes new last rest) → OnOk r (AddsBytes old last (front ++ rest))
+pub whole_behind : {T E : Type 0} (r : Result T E) (old new last : Option (List ℕ)) (front rest : List ℕ) → AddsBytes old new front
+    → OnOk r (AddsBytes new last rest) → OnOk r (AddsBytes old last (front ++ rest))
 whole_behind (Ok x) old new last front rest one other = adds_both old new last front rest one other
 whole_behind (Err e) old new last front rest one other = tt
 
-pub part_left : {T E : Type 0} (r : Result T E) (old new last : Option (List ℕ)) (front rest : List ℕ) → AddsBytes old new front → OnErr r (AddsPart new last rest) → OnErr r (AddsPart old last (front ++ rest))
+pub part_left : {T E : Type 0} (r : Result T E) (old new last : Option (List ℕ)) (front rest : List ℕ) → AddsBytes old new front
+    → OnErr r (AddsPart new last rest) → OnErr r (AddsPart old last (front ++ rest))
 part_left (Ok x) old new last front rest one part = tt
 part_left (Err e) old new last front rest one part = part_behind old new last front rest one part
 
 -- the part between fails
-pub part_between : {T E : Type 0} (r : Result T E) (old new last : Option (List ℕ)) (front middle end : List ℕ) → AddsBytes old new front → AddsPart new last middle → OnErr r (AddsPart old last (front ++ (middle ++ end)))
+pub part_between : {T E : Type 0} (r : Result T E) (old new last : Option (List ℕ)) (front middle end : List ℕ) → AddsBytes old new front
+    → AddsPart new last middle → OnErr r (AddsPart old last (front ++ (middle ++ end)))
 part_between (Ok x) old new last front middle end one part = tt
 part_between (Err e) old new last front middle end one part = part_behind old new last front (middle ++ end) one (part_of_front new last middle end part)

@@ -1,5 +1,5 @@
 -- Lines that end a session.
-use Rattle.debugger.proofs.Prelude.{◌≡◌, ℕ, Bool, false, ◌&&◌, List, [], ◌∷◌, ◌++◌, arith, nat_tests, or-false, if◌then◌else◌, list_any-append, State, World, answer_of, answer_to, may_be_refused, command_of, is_quit, has_quit}
+use Rattle.debugger.proofs.Prelude.{◌≡◌, ℕ, Bool, false, List, [], ◌∷◌, ◌++◌, arith, nat_tests, or-false, if◌then◌else◌, list_any-append, State, World, answer_of, answer_to, may_be_refused, command_of, is_quit, has_quit}
 
 -- what holds on both sides of a test
 pub either : {A : Type 0} (P : A → Type 0) (b : Bool) (x y : A) → P x → P y → P (if b then x else y)

@@ -33,7 +33,8 @@ above : (low high : ℕ) (slots : List ℕ) → low < high → list_all (nat_lt 
 above low high [] less all = refl
 above low high (s ∷ slots) less all = grind (arith, nat_tests, above low high slots less)
 
-insert_more : (slot s : ℕ) (slots : List ℕ) (n : ℕ) (below : Bool) → nat_lt s slot ≡ below → nat_eq s slot ≡ false → list_all (nat_lt s) slots ≡ true → in_order slots ≡ true → in_order (insert slots n slot) ≡ true → in_order (insert (s ∷ slots) (if below then 1 + n else 0) slot) ≡ true
+insert_more : (slot s : ℕ) (slots : List ℕ) (n : ℕ) (below : Bool) → nat_lt s slot ≡ below → nat_eq s slot ≡ false → list_all (nat_lt s) slots ≡ true
+    → in_order slots ≡ true → in_order (insert slots n slot) ≡ true → in_order (insert (s ∷ slots) (if below then 1 + n else 0) slot) ≡ true
 insert_more slot s slots n below is other front later more = grind (arith, nat_tests, all-insert, above)
 
 pub insert_in_order : (slot : ℕ) (slots : List ℕ) → has_breakpoint slot slots ≡ false → in_order slots ≡ true → in_order (insert slots (place_of slot slots) slot) ≡ true

@@ -46,7 +46,8 @@ line_whole code slot = fed_whole (behind (decimal slot) (behind (codes " ") (beh
 listing_whole : (count : ℕ) (code : List ℕ) (slot : ℕ) → Whole (listing_lines count code slot)
 unfolding listing_lines cut
 listing_whole zero code slot = refl
-listing_whole (suc count) code slot = either Whole (nat_lt slot (slot_count code)) (listing_line code slot ++ listing_lines count code (slot + statement_slots (statement_at code slot))) [] (whole-append (listing_line code slot) _ (line_whole code slot) (listing_whole count code (slot + statement_slots (statement_at code slot)))) refl
+listing_whole (suc count) code slot =
+    either Whole (nat_lt slot (slot_count code)) (listing_line code slot ++ listing_lines count code (slot + statement_slots (statement_at code slot))) [] (whole-append (listing_line code slot) _ (line_whole code slot) (listing_whole count code (slot + statement_slots (statement_at code slot)))) refl
 
 outside_whole : (pc : ℤ) → Whole (outside_line pc)
 unfolding outside_line
@@ -69,7 +70,8 @@ memory_line-whole address bytes = fed_whole (behind (word_text address) (behind 
 
 memory_lines-whole : (count address : ℕ) (bytes : List ℕ) → Whole (memory_lines count address bytes)
 unfolding memory_lines cut
-memory_lines-whole (suc count) address (b ∷ bs) = whole-append (memory_line address (take 16 (b ∷ bs))) _ (memory_line-whole address (take 16 (b ∷ bs))) (memory_lines-whole count (address + 16) (drop 16 (b ∷ bs)))
+memory_lines-whole (suc count) address (b ∷ bs) =
+    whole-append (memory_line address (take 16 (b ∷ bs))) _ (memory_line-whole address (take 16 (b ∷ bs))) (memory_lines-whole count (address + 16) (drop 16 (b ∷ bs)))
 memory_lines-whole _ address _ = refl
 
 bytes_whole : (address : ℕ) (bytes : Option (List ℕ)) → Whole (memory_text address bytes)
@@ -99,7 +101,8 @@ word_whole name i word =
 words_whole : (name : List ℕ) (m : Memory) (from count : ℕ) → Whole (word_lines name m from count)
 unfolding word_lines cut
 words_whole name m from zero = refl
-words_whole name m from (suc i) = whole-append (word_lines name m from i) (word_line name i (verdict_word m (from + 8 * i))) (words_whole name m from i) (word_whole name i (verdict_word m (from + 8 * i)))
+words_whole name m from (suc i) =
+    whole-append (word_lines name m from i) (word_line name i (verdict_word m (from + 8 * i))) (words_whole name m from i) (word_whole name i (verdict_word m (from + 8 * i)))
 
 verdict_whole : (version : ℕ) (m : Memory) → Whole (verdict_lines version m)
 unfolding verdict_lines verdict_line cut

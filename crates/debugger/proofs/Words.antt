@@ -19,7 +19,9 @@ below_all k n low small = grind (arith, pow-le-pow_right)
 abbrev Writes : List ℕ → ℕ → Type 0
 Writes ds n = (ds ≡ decimal n) × (n < 10 ^ 64)
 
-written_by : (c : ℕ) (ds : List ℕ) (k m n : ℕ) (digit : Bool) → is_digit c ≡ digit → 0 < m → m < 10 ^ k → k + length (c ∷ ds) ≤ 64 → ((more : 0 < m * 10 + (c - 48)) → m * 10 + (c - 48) < 10 ^ (k + 1) → read_digits (m * 10 + (c - 48)) ds ≡ Some n → Writes (decimal (m * 10 + (c - 48)) ++ ds) n) → (if digit then read_digits (m * 10 + (c - 48)) ds else None) ≡ Some n → Writes (decimal m ++ c ∷ ds) n
+written_by : (c : ℕ) (ds : List ℕ) (k m n : ℕ) (digit : Bool) → is_digit c ≡ digit → 0 < m → m < 10 ^ k → k + length (c ∷ ds) ≤ 64
+    → ((more : 0 < m * 10 + (c - 48)) → m * 10 + (c - 48) < 10 ^ (k + 1) → read_digits (m * 10 + (c - 48)) ds ≡ Some n → Writes (decimal (m * 10 + (c - 48)) ++ ds) n)
+    → (if digit then read_digits (m * 10 + (c - 48)) ds else None) ≡ Some n → Writes (decimal m ++ c ∷ ds) n
 written_by c ds k m n true is some small long rest read =
     let more = below_more k m c small is in
     let one = decimal-more m c some (below_all (k + 1) (m * 10 + (c - 48)) (omega (arith, long)) more) is in
@@ -31,7 +33,8 @@ digits_written : (ds : List ℕ) (k m n : ℕ) → 0 < m → m < 10 ^ k → k + 
 digits_written [] k m n some small long read =
     let same : m ≡ n = cc in
     (append-nil (decimal m) ∙ ap decimal same, subst (λ (j : ℕ). j < 10 ^ 64) same (below_all k m (omega (arith, long)) small))
-digits_written (c ∷ ds) k m n some small long read = written_by c ds k m n (is_digit c) refl some small long (λ more below rest. digits_written ds (k + 1) (m * 10 + (c - 48)) n more below (omega (arith, long)) rest) read
+digits_written (c ∷ ds) k m n some small long read =
+    written_by c ds k m n (is_digit c) refl some small long (λ more below rest. digits_written ds (k + 1) (m * 10 + (c - 48)) n more below (omega (arith, long)) rest) read
 
 -- the first digit
 first_written : (c : ℕ) (ds : List ℕ) (n : ℕ) (digit zero_first : Bool) → is_digit c ≡ digit → nat_eq c 48 ≡ zero_first → nat_lt 1 (length (c ∷ ds)) && zero_first ≡ false → length (c ∷ ds) ≤ 64 → (if digit then read_digits (0 * 10 + (c - 48)) ds else None) ≡ Some n → Writes (c ∷ ds) n
@@ -53,7 +56,8 @@ first_written c (d ∷ ds) n true false is first alone short read =
     let all = digits_written (d ∷ ds) 1 (c - 48) n (omega (arith, other)) (omega (arith, high)) (omega (arith, short)) (ap (λ (m : ℕ). read_digits m (d ∷ ds)) (sym value) ∙ read) in
     (ap (λ (front : List ℕ). front ++ d ∷ ds) (ap (λ (e : ℕ). e ∷ []) (sym same) ∙ sym (decimal_digit (c - 48) (omega (arith, high)))) ∙ all.0, all.1)
 
-number_by : (c : ℕ) (ds : List ℕ) (n : ℕ) (empty leads : Bool) → leads_with_zero (c ∷ ds) ≡ leads → length (c ∷ ds) ≤ 64 → (if empty then None else (if leads then None else read_digits 0 (c ∷ ds))) ≡ Some n → Writes (c ∷ ds) n
+number_by : (c : ℕ) (ds : List ℕ) (n : ℕ) (empty leads : Bool) → leads_with_zero (c ∷ ds) ≡ leads → length (c ∷ ds) ≤ 64
+    → (if empty then None else (if leads then None else read_digits 0 (c ∷ ds))) ≡ Some n → Writes (c ∷ ds) n
 number_by c ds n false false is short read = first_written c ds n (is_digit c) (nat_eq c 48) refl refl is short read
 number_by c ds n _ _ is short read = cc
 
@@ -123,7 +127,8 @@ Found line c = (c ≡ Unknown) ⊎ IsLine c line
 by_test : (line : List ℕ) (b : Bool) (x y : Command) → (b ≡ true → Found line x) → Found line y → Found line (if b then x else y)
 by_test line b x y first second = grind arith
 
-found_number : (line word : List ℕ) (command : ℕ → Command) → length line ≤ 64 → ((n : ℕ) → IsNumbered word n line → IsLine (command n) line) → (o : Option ℕ) → number_of (drop (length word) line) ≡ o → begins_with word line ≡ true → Found line (numbered command o)
+found_number : (line word : List ℕ) (command : ℕ → Command) → length line ≤ 64 → ((n : ℕ) → IsNumbered word n line → IsLine (command n) line)
+    → (o : Option ℕ) → number_of (drop (length word) line) ≡ o → begins_with word line ≡ true → Found line (numbered command o)
 found_number line word command short form None read same_word = inl refl
 found_number line word command short form (Some n) read same_word =
     let w = number_written (drop (length word) line) n (omega (arith, short, length-drop (length word) line)) read in
@@ -137,7 +142,8 @@ abbrev Begun : List ℕ → ℕ → ℕ → List ℕ → Type 0
 Begun line d a rest = line ≡ codes "m 0x" ++ (hex_digits d a ++ rest)
 
 -- a number behind an address
-found_count : (line : List ℕ) (d a c : ℕ) (cs : List ℕ) → length line ≤ 64 → d ≤ 16 → a < 16 ^ d → Begun line d a (c ∷ cs) → nat_eq c 32 && nat_lt 0 d ≡ true → (o : Option ℕ) → number_of cs ≡ o → Found line (numbered (MemoryAt a) o)
+found_count : (line : List ℕ) (d a c : ℕ) (cs : List ℕ) → length line ≤ 64 → d ≤ 16 → a < 16 ^ d → Begun line d a (c ∷ cs)
+    → nat_eq c 32 && nat_lt 0 d ≡ true → (o : Option ℕ) → number_of cs ≡ o → Found line (numbered (MemoryAt a) o)
 found_count line d a c cs short few fits begun ends None read = inl refl
 found_count line d a c cs short few fits begun ends (Some n) read =
     let space : c ≡ 32 = grind (arith, nat_tests) in

@@ -1,6 +1,5 @@
 -- What a command answers.
-use Rattle.std.specs.Prelude.{ℕ, ◌+◌, ◌-◌, Bool, true, false, not, ◌&&◌, List, [], ◌∷◌, ◌++◌, codes, decimal, nat_le, is_some}
-use Rattle.std.specs.Prelude.{if◌then◌else◌}
+use Rattle.std.specs.Prelude.{ℕ, ◌+◌, ◌-◌, Bool, true, false, not, ◌&&◌, List, [], ◌∷◌, ◌++◌, codes, decimal, nat_le, is_some, if◌then◌else◌}
 use Rattle.bpf_machine.specs.State.{State}
 use Rattle.bpf_machine.specs.Trace.{state_after}
 use Rattle.bpf_machine.specs.Text.{move_text, registers_text}
@@ -10,10 +9,9 @@ use Rattle.debugger.specs.Commands.{command_of}
 use Rattle.debugger.specs.Inspection.{frames_text, memory_text, shown_bytes, value_at, value_text}
 use Rattle.debugger.specs.Listing.{is_inside, listing_text}
 use Rattle.debugger.specs.Verdict.{verdict_text}
-use Rattle.debugger.specs.declared.command.Command.{Command}
+use Rattle.debugger.specs.declared.command.Command.{Command, TheVariants.Quit, TheVariants.Unknown}
 use Rattle.debugger.specs.declared.command.Command.TheVariants.{SetBreakpoint, ClearBreakpoint, Forward, Back, Go, Continue}
 use Rattle.debugger.specs.declared.command.Command.TheVariants.{ReverseContinue, Registers, ValueAt, MemoryAt, Frames, Listing, Verdict}
-use Rattle.debugger.specs.declared.command.Command.TheVariants.{Quit, Unknown}
 
 -- what a session knows between two lines: the step that is shown, the slots with a breakpoint, and whether it has ended
 pub record World : Type 0 where

@@ -2,10 +2,9 @@
 use Rattle.std.specs.Prelude.{◌≡◌, ◌≢◌, ◌↔◌, ℕ, ◌^◌, ◌<◌, ◌≤◌, List, ◌++◌, codes, decimal, length}
 use Rattle.insn_codec.specs.Lines.{hex_digits}
 use Rattle.debugger.specs.Commands.{command_of}
-use Rattle.debugger.specs.declared.command.Command.{Command}
+use Rattle.debugger.specs.declared.command.Command.{Command, TheVariants.Quit, TheVariants.Unknown}
 use Rattle.debugger.specs.declared.command.Command.TheVariants.{SetBreakpoint, ClearBreakpoint, Forward, Back, Go, Continue}
 use Rattle.debugger.specs.declared.command.Command.TheVariants.{ReverseContinue, Registers, ValueAt, MemoryAt, Frames, Listing, Verdict}
-use Rattle.debugger.specs.declared.command.Command.TheVariants.{Quit, Unknown}
 
 -- a word and a number in decimals; a number has at most 64 digits: with more it would be longer than a line may be
 pub record IsNumbered (word : List ℕ) (n : ℕ) (line : List ℕ) : Type 0 where

@@ -4,8 +4,7 @@ use Rattle.std.specs.declared.alloc.AllocError.{AllocError}
 use Rattle.bpf_machine.specs.State.{State}
 use Rattle.bpf_machine.specs.Text.{move_text}
 use Rattle.bpf_machine.specs.Trace.{state_after}
-use Rattle.debugger.specs.declared.reply.Reply.{Reply}
-use Rattle.debugger.specs.declared.reply.Reply.TheVariants.{Fixed, Text, Lines, Value}
+use Rattle.debugger.specs.declared.reply.Reply.{Reply, TheVariants.Fixed, TheVariants.Text, TheVariants.Lines, TheVariants.Value}
 
 -- the bytes that a reply writes
 abbrev pub reply_text : Reply → List ℕ

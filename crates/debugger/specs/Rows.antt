@@ -2,8 +2,7 @@
 use Rattle.std.specs.Prelude.{◌≡◌, ℕ, true, false, List, [], ◌∷◌, ◌++◌, codes, map, replicate}
 use Rattle.bpf_machine.specs.State.{State, null_values, start_state}
 use Rattle.bpf_machine.specs.Rows.{start_of}
-use Rattle.loader.specs.declared.version.Version.{Version}
-use Rattle.loader.specs.declared.version.Version.TheVariants.{First, Second}
+use Rattle.loader.specs.declared.version.Version.{Version, TheVariants.First, TheVariants.Second}
 use Rattle.debugger.specs.Answers.{Line, World, answer_to}
 use Rattle.debugger.specs.Breakpoints.{in_order}
 use Rattle.debugger.specs.Commands.{command_of}

@@ -1,12 +1,10 @@
 -- What a session has read and written.
-use Rattle.std.specs.Prelude.{◌≡◌, ℕ, ◌<◌, ◌≤◌, ◌⊎◌, Bool, true, false, List, [], ◌∷◌, ◌++◌, length, take, drop, map, Option, Some, Result}
-use Rattle.std.specs.Prelude.{Ok, Err, OnOk}
+use Rattle.std.specs.Prelude.{◌≡◌, ℕ, ◌<◌, ◌≤◌, ◌⊎◌, Bool, true, false, List, [], ◌∷◌, ◌++◌, length, take, drop, map, Option, Some, Result, Ok, Err, OnOk}
 use Rattle.bpf_machine.specs.State.{State}
 use Rattle.debugger.specs.Streams.{AddsBytes, Stream, one_more}
 use Rattle.debugger.specs.Answers.{Line, World, world_at, answer_to}
 use Rattle.debugger.specs.Session.{Talk, talk_of, cut, has_quit, input_lines, readable, says_memory, session_text}
-use Rattle.debugger.specs.declared.session_error.SessionError.{SessionError}
-use Rattle.debugger.specs.declared.session_error.SessionError.TheVariants.{S1, S2, Memory}
+use Rattle.debugger.specs.declared.session_error.SessionError.{SessionError, TheVariants.S1, TheVariants.S2, TheVariants.Memory}
 
 -- the lines without their marks
 abbrev pub lines_of : List Line → List (List ℕ)

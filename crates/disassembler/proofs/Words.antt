@@ -6,7 +6,8 @@ big_is : (code : List ℕ) → 8 ≤ length code → big_number 8 code ≡ from_
 big_is code long = grind arith
 
 -- the words at hand are the first sixteen bytes
-pub on_hand_is : (code : List ℕ) (n : ℕ) (o : Option ℕ) → 8 ≤ length code → ((k : ℕ) → get_or code k 0 < 256) → n ≡ little_number 8 code → more_bytes o ≡ take 8 (drop 8 code) → on_hand n o ≡ take 16 code
+pub on_hand_is : (code : List ℕ) (n : ℕ) (o : Option ℕ) → 8 ≤ length code → ((k : ℕ) → get_or code k 0 < 256) → n ≡ little_number 8 code
+    → more_bytes o ≡ take 8 (drop 8 code) → on_hand n o ≡ take 16 code
 on_hand_is code n o long small first second = grind arith
 
 pub is_insn : (code : List ℕ) (i : Instruction) → spelled (take 16 code) ≡ Some i → Insn i ≡ statement_of code

@@ -1,8 +1,7 @@
 use Rattle.std.specs.Prelude.{◌≡◌, ℕ, ◌*◌, ◌/◌, ◌%◌, List, length, drop, Option, Some, None, Result, Ok, Err, String, string_bytes}
 use Rattle.std.specs.Prelude.{if◌then◌else◌, ◌==◌, nat_lt, not}
 use Rattle.std.specs.Global.{Global}
-use Rattle.disassembler.specs.declared.dis_error.DisError.{DisError}
-use Rattle.disassembler.specs.declared.dis_error.DisError.TheVariants.{D1, D2, Memory}
+use Rattle.disassembler.specs.declared.dis_error.DisError.{DisError, TheVariants.D1, TheVariants.D2, TheVariants.Memory}
 use Rattle.insn_codec.specs.Statements.{Listing, statement_of, statement_slots, statement_text}
 
 -- why code has no listing: it is no whole number of slots, else it has more than 65,536

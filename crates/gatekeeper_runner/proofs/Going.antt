@@ -1,8 +1,9 @@
 -- How the answers go on.
-use Rattle.gatekeeper_runner.proofs.Prelude.{◌≡◌, ℕ, Bool, ◌+◌, ◌<◌, ◌≤◌, List, [], ◌∷◌, ◌++◌, length, length-drop, take, drop, Option, Some, None, refl, sym, ap, ◌∙◌, inl, inr, subst, arith, append_assoc, append-nil, Result, Ok, Err, IfErr, OnErr, OnOk, ◌⊎◌, take-append-drop, AddsBytes, KeepsBytes, one_more, FailsByResult, GivesByte, cut, input_lines, readable, with_rest, SessionError, S2, Pieces, cut-none, cut-feed, cut-plain, input_lines-ended, one_within, drop-one, readable-within, readable-end, OneImage, Answers, IsKept, decided, no_memory, passed_over, too_long, Terms, Answered, AnsweredPart, AnswersEach, ByResult, Going, ToldAll, ToldPart, ToldSome}
+use Rattle.gatekeeper_runner.proofs.Prelude.{◌≡◌, ℕ, ◌+◌, ◌<◌, ◌≤◌, List, [], ◌∷◌, ◌++◌, length, length-drop, take, drop, Option, Some, None, refl, sym, ap, ◌∙◌, inl, inr, subst, arith, append_assoc, append-nil, Result, Ok, Err, IfErr, OnErr, OnOk, ◌⊎◌, take-append-drop, AddsBytes, KeepsBytes, one_more, FailsByResult, GivesByte, cut, input_lines, readable, with_rest, SessionError, S2, Pieces, cut-none, cut-feed, cut-plain, input_lines-ended, one_within, drop-one, readable-within, readable-end, OneImage, Answers, decided, no_memory, passed_over, too_long, Terms, Answered, AnsweredPart, AnswersEach, ByResult, Going, ToldPart, ToldSome}
 use Rattle.gatekeeper_runner.specs.Told as told
 
-pub end_read : (input : List ℕ) (i : ℕ) (left after : Option (List ℕ)) → left ≡ Some (drop i input) → ((bytes : List ℕ) → left ≡ Some bytes → GivesByte bytes after None) → (drop i input ≡ []) × (after ≡ Some (drop i input))
+pub end_read : (input : List ℕ) (i : ℕ) (left after : Option (List ℕ)) → left ≡ Some (drop i input)
+    → ((bytes : List ℕ) → left ≡ Some bytes → GivesByte bytes after None) → (drop i input ≡ []) × (after ≡ Some (drop i input))
 end_read input i left after e gives = let g = gives (drop i input) e in (g.0, g.1 ∙ ap Some (sym g.0))
 
 -- the failures of the reads, and of the writes at the last line
@@ -19,7 +20,8 @@ no_answer t line text none (decided some short why says) = absurd (let zero = ap
 no_answer t line text none (no_memory some) = absurd (let zero = ap length none in omega (arith, some, zero))
 
 -- the answers to ended lines and to the rest behind them
-with_last : (t : Terms) (lines : List (List ℕ)) (rest text answer : List ℕ) → AnswersEach OneImage t lines text → Answers OneImage t rest answer → AnswersEach OneImage t (with_rest lines rest) (text ++ answer)
+with_last : (t : Terms) (lines : List (List ℕ)) (rest text answer : List ℕ) → AnswersEach OneImage t lines text → Answers OneImage t rest answer
+    → AnswersEach OneImage t (with_rest lines rest) (text ++ answer)
 with_last t lines [] text answer each last = rw (no_answer t [] answer refl last, append-nil text) each
 with_last t lines (b ∷ bs) text answer each last = told.more each last
 

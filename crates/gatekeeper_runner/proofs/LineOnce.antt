@@ -1,5 +1,5 @@
 -- A line has one answer.
-use Rattle.gatekeeper_runner.proofs.Prelude.{◌≡◌, ◌≢◌, ℕ, ◌⊎◌, List, [], ◌∷◌, ◌++◌, length, Result, Ok, Err, inl, inr, refl, sym, ap, ◌∙◌, subst, arith, OneImage, HasOneAnswer, Said, RunError, Memory, Answers, answer_text, decided, line_of, no_memory, no_memory_text, passed_over, too_long, LinesHaveOneAnswer, AllSay, SayTogether, SaysAlone, Terms, next, none, under, unsaid, with_next}
+use Rattle.gatekeeper_runner.proofs.Prelude.{◌≡◌, ◌≢◌, ℕ, ◌⊎◌, List, [], ◌∷◌, ◌++◌, Result, Ok, Err, inl, inr, refl, sym, ap, ◌∙◌, subst, arith, OneImage, HasOneAnswer, Said, RunError, Memory, Answers, answer_text, decided, line_of, no_memory, no_memory_text, passed_over, too_long, LinesHaveOneAnswer, AllSay, SayTogether, SaysAlone, Terms, next, none, under, unsaid, with_next}
 use Rattle.policy_glue.specs.OneAnswer as policy
 use Rattle.gatekeeper_runner.proofs.Going.{no_answer}
 use Rattle.gatekeeper_runner.proofs.SaidOnce.{says_once}
@@ -23,7 +23,8 @@ module _ (compiles_once : policy.HasOneAnswer) (reviews_once : HasOneAnswer) (t 
   ends_more so_far m said (q ∷ qs) p (inl refused) by = absurd (cc)
   ends_more so_far m said (q ∷ qs) p (inr goes) by = inr (goes.0, goes.1, ends_more (with_next so_far goes.0) m said qs p goes.2 by)
 
-  ends_refused : (so_far m : Said) (before : List (List ℕ)) (p : List ℕ) (after : List (List ℕ)) (e : RunError) → Ends so_far before (Ok m) → By p (Err e) → Ends so_far (before ++ p ∷ after) (Err e)
+  ends_refused : (so_far m : Said) (before : List (List ℕ)) (p : List ℕ) (after : List (List ℕ)) (e : RunError) → Ends so_far before (Ok m)
+      → By p (Err e) → Ends so_far (before ++ p ∷ after) (Err e)
   unfolding Ends
   ends_refused so_far m [] p after e ends by = inl (e, by, refl)
   ends_refused so_far m (q ∷ qs) p after e (inl refused) by = absurd (cc)
@@ -36,7 +37,8 @@ module _ (compiles_once : policy.HasOneAnswer) (reviews_once : HasOneAnswer) (t 
 
   together_ends : (result : Result Said RunError) → SayTogether OneImage t line result → Ends unsaid t.policies result
   together_ends (Ok said) all = all_end t.policies said all
-  together_ends (Err e) one = subst (λ (ps : List (List ℕ)). Ends unsaid ps (Err e)) (sym one.are) (ends_refused unsaid one.so_far one.before one.policy one.after e (all_end one.before one.so_far one.say) one.refuses)
+  together_ends (Err e) one =
+      subst (λ (ps : List (List ℕ)). Ends unsaid ps (Err e)) (sym one.are) (ends_refused unsaid one.so_far one.before one.policy one.after e (all_end one.before one.so_far one.say) one.refuses)
 
   once : (d : List ℕ) (r s : Result Said RunError) → IsTold r → IsTold s → By d r → By d s → r ≡ s
   once d r s = says_once compiles_once reviews_once (under t d line) t.steps r s
@@ -70,7 +72,8 @@ module _ (compiles_once : policy.HasOneAnswer) (reviews_once : HasOneAnswer) (t 
   answers_same a b some other (too_long long) (too_long also) = refl
   answers_same a b some other (too_long long) (decided full short why says) = absurd (omega (arith, long, short))
   answers_same a b some other (decided full short why says) (too_long long) = absurd (omega (arith, long, short))
-  answers_same a b some other (decided full short why says) (decided full2 short2 why2 says2) = ap (λ (r : Result Said RunError). line_of (answer_text line r)) (together_once _ _ why why2 says says2)
+  answers_same a b some other (decided full short why says) (decided full2 short2 why2 says2) =
+      ap (λ (r : Result Said RunError). line_of (answer_text line r)) (together_once _ _ why why2 says says2)
 
 pub lines_once : policy.HasOneAnswer → HasOneAnswer → LinesHaveOneAnswer
 lines_once compiles reviews t line a b some other is also = answers_same compiles reviews t line a b some other is also

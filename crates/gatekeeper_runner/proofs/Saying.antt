@@ -1,12 +1,13 @@
 -- What the policies say, gate after gate.
-use Rattle.gatekeeper_runner.proofs.Prelude.{◌≡◌, ℕ, zero, suc, ◌+◌, ◌<◌, ◌≤◌, List, [], ◌∷◌, Result, Ok, Err, drop, length, take, refl, sym, ap, subst, arith, get_or, take_all, take_more, split_at, OneImage, Said, CompiledPolicy, RunError, AllSay, AreGates, IsGateOf, OneRefuses, SaysAlone, Terms, next, with_next}
+use Rattle.gatekeeper_runner.proofs.Prelude.{◌≡◌, ℕ, zero, suc, ◌+◌, ◌<◌, ◌≤◌, List, [], ◌∷◌, Ok, Err, drop, length, take, refl, sym, ap, subst, arith, get_or, take_all, take_more, split_at, OneImage, Said, CompiledPolicy, RunError, AllSay, AreGates, IsGateOf, OneRefuses, SaysAlone, Terms, next, with_next}
 
 as_many : (policies : List (List ℕ)) (gates : List CompiledPolicy) → AreGates policies gates → length policies ≡ length gates
 as_many [] [] are = refl
 as_many (p ∷ ps) (g ∷ gs) are = ap suc (as_many ps gs are.1)
 as_many policies gates are = absurd are
 
-gate_at : (policies : List (List ℕ)) (gates : List CompiledPolicy) (i : ℕ) (gate : CompiledPolicy) → AreGates policies gates → i < length gates → IsGateOf (get_or policies i []) (get_or gates i gate)
+gate_at : (policies : List (List ℕ)) (gates : List CompiledPolicy) (i : ℕ) (gate : CompiledPolicy) → AreGates policies gates → i < length gates
+    → IsGateOf (get_or policies i []) (get_or gates i gate)
 gate_at (p ∷ ps) (g ∷ gs) zero gate are within = are.0
 gate_at (p ∷ ps) (g ∷ gs) (suc i) gate are within = gate_at ps gs i gate are.1 (omega (arith, within))
 gate_at [] [] i gate are within = absurd (omega (arith, within))
@@ -24,7 +25,8 @@ module _ (t : Terms) (review : List ℕ) (gates : List CompiledPolicy) (are : Ar
     its_policy : IsGateOf (get_or t.policies i []) gate
     its_policy = subst (IsGateOf (get_or t.policies i [])) (sym is) (gate_at t.policies gates i gate are before)
 
-    pub said_more : (said both : Said) → ((policy : List ℕ) → IsGateOf policy gate → SaysAlone OneImage t policy review (Ok said)) → both ≡ with_next so_far said → AllSay OneImage t review (take (i + 1) t.policies) both
+    pub said_more : (said both : Said) → ((policy : List ℕ) → IsGateOf policy gate → SaysAlone OneImage t policy review (Ok said))
+        → both ≡ with_next so_far said → AllSay OneImage t review (take (i + 1) t.policies) both
     said_more said both says also = rw (also, take_more t.policies i [] within) (next say (says _ its_policy))
 
     pub refused_at : (e : RunError) → ((policy : List ℕ) → IsGateOf policy gate → SaysAlone OneImage t policy review (Err e)) → OneRefuses OneImage t review e

@@ -9,8 +9,7 @@ use Rattle.policy_glue.specs.Documents.{document_of}
 use Rattle.review_runner.specs.Refusals.{refusal_name}
 use Rattle.review_runner.specs.Saying.{Said}
 use Rattle.review_runner.specs.Standing.{Images}
-use Rattle.review_runner.specs.declared.refusals.run_error.RunError.{RunError}
-use Rattle.review_runner.specs.declared.refusals.run_error.RunError.TheVariants.{N2, Memory}
+use Rattle.review_runner.specs.declared.refusals.run_error.RunError.{RunError, TheVariants.N2, TheVariants.Memory}
 use Rattle.gatekeeper_runner.specs.Together.{SayTogether, Terms}
 use Rattle.gatekeeper_runner.specs.declared.line.Line.{Line}
 

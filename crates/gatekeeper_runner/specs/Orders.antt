@@ -5,8 +5,7 @@ use Rattle.clap.specs.Walk.{all_of}
 use Rattle.clap.specs.declared.builder.action.ArgAction.TheVariants as arg_action
 use Rattle.review_runner.specs.Commands.{required_option_rule, steps_rule, with_documents}
 use Rattle.review_runner.specs.Number.{number_of}
-use Rattle.review_runner.specs.declared.refusals.order_error.OrderError.{OrderError}
-use Rattle.review_runner.specs.declared.refusals.order_error.OrderError.TheVariants.{U1, Memory}
+use Rattle.review_runner.specs.declared.refusals.order_error.OrderError.{OrderError, TheVariants.U1, TheVariants.Memory}
 use Rattle.gatekeeper_runner.specs.declared.order.Order.{Order as CodeOrder}
 
 -- --policy F, once or more

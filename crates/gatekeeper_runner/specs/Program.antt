@@ -7,8 +7,7 @@ use Rattle.review_runner.specs.Program.{Ending, Given, Says, System, ending_stat
 use Rattle.review_runner.specs.Refusals.{order_refusal, session_refusal}
 use Rattle.review_runner.specs.Standing.{Images}
 use Rattle.review_runner.specs.declared.refusals.order_error.OrderError.{OrderError}
-use Rattle.review_runner.specs.declared.refusals.refusal.Refusal.{Refusal}
-use Rattle.review_runner.specs.declared.refusals.refusal.Refusal.TheVariants.{Memory, Words}
+use Rattle.review_runner.specs.declared.refusals.refusal.Refusal.{Refusal, TheVariants.Memory, TheVariants.Words}
 use Rattle.gatekeeper_runner.specs.Orders.{Order, entered, faults, order_from}
 use Rattle.gatekeeper_runner.specs.Starting.{Starts}
 use Rattle.gatekeeper_runner.specs.Together.{Terms}

@@ -9,8 +9,7 @@ use Rattle.review_runner.specs.FileSystem.{FileSystem, IsReading}
 use Rattle.review_runner.specs.Refusals.{file_refusal}
 use Rattle.review_runner.specs.declared.refusals.file_error.FileError.{FileError}
 use Rattle.review_runner.specs.declared.refusals.policy_refusal.PolicyRefusal.{PolicyRefusal}
-use Rattle.review_runner.specs.declared.refusals.refusal.Refusal.{Refusal}
-use Rattle.review_runner.specs.declared.refusals.refusal.Refusal.TheVariants.{Memory, Policy}
+use Rattle.review_runner.specs.declared.refusals.refusal.Refusal.{Refusal, TheVariants.Memory, TheVariants.Policy}
 use Rattle.gatekeeper_runner.specs.Orders.{Order}
 use Rattle.gatekeeper_runner.specs.Together.{AreGates, IsGateOf, Terms, terms_of}
 use Rattle.gatekeeper_runner.specs.declared.keeper.Keeper.{Keeper}

@@ -3,8 +3,7 @@ use Rattle.std.specs.Prelude.{◌≡◌, ℕ, ◌<◌, ◌≤◌, ◌⊎◌, Lis
 use Rattle.debugger.specs.Session.{cut, input_lines, readable}
 use Rattle.debugger.specs.Streams.{AddsBytes, Stream}
 use Rattle.debugger.specs.Told.{FailsByResult}
-use Rattle.debugger.specs.declared.session_error.SessionError.{SessionError}
-use Rattle.debugger.specs.declared.session_error.SessionError.TheVariants.{S1, S2, Memory}
+use Rattle.debugger.specs.declared.session_error.SessionError.{SessionError, TheVariants.S1, TheVariants.S2, TheVariants.Memory}
 use Rattle.review_runner.specs.Standing.{Images}
 use Rattle.gatekeeper_runner.specs.Lines.{Answers}
 use Rattle.gatekeeper_runner.specs.Together.{Terms}

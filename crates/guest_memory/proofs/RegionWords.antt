@@ -53,7 +53,8 @@ pub read_word : (m : Memory) (r : Region) (i address : ℕ) → IsMemory m → H
 unfolding read_of word_in
 read_word m r i address is room e = grind arith
 
-pub write_word : (m : Memory) (r : Region) (i address w : ℕ) → IsMemory m → (r ≡ Constants → ⊥) → HasWord (bytes_in r m) i → address ≡ base_of r + 8 * i → write_of m address Dw w ≡ Ok (with_bytes r (put_word (bytes_in r m) i w) m)
+pub write_word : (m : Memory) (r : Region) (i address w : ℕ) → IsMemory m → (r ≡ Constants → ⊥) → HasWord (bytes_in r m) i
+    → address ≡ base_of r + 8 * i → write_of m address Dw w ≡ Ok (with_bytes r (put_word (bytes_in r m) i w) m)
 unfolding write_of put_word
 write_word m r i address w is writable room e = grind arith
 

@@ -73,7 +73,8 @@ made_at : (m : Memory) (address n : ℕ) (bytes : List ℕ) → 1 ≤ n → IsMe
 unfolding is_writable
 made_at m address n bytes some is = grind (arith, nat_tests, where_stands m address n some, one_region)
 
-write_done : (m : Memory) (address : ℕ) (size : Size) (word : ℕ) → IsMemory m → IsOk (write_of m address size word) ↔ (StandInOne m address (size_bytes size) × AllWritable address (size_bytes size))
+write_done : (m : Memory) (address : ℕ) (size : Size) (word : ℕ) → IsMemory m
+    → IsOk (write_of m address size word) ↔ (StandInOne m address (size_bytes size) × AllWritable address (size_bytes size))
 unfolding write_of
 write_done m address size word is = made_at m address (size_bytes size) _ (some_bytes size) is
 
@@ -94,7 +95,8 @@ write_memory m after address size word is h =
     let n : ℕ = size_bytes size in
     memory_after m after address n (low_bytes n word) (length_low n word) (stores m after address word size h) (all-low_bytes n word) is
 
-write_written : (m after : Memory) (address : ℕ) (size : Size) (word : ℕ) → IsMemory m → write_of m address size word ≡ Ok after → (i : ℕ) → i < size_bytes size → byte_at after (address + i) ≡ Some (byte_of word i)
+write_written : (m after : Memory) (address : ℕ) (size : Size) (word : ℕ) → IsMemory m → write_of m address size word ≡ Ok after → (i : ℕ)
+    → i < size_bytes size → byte_at after (address + i) ≡ Some (byte_of word i)
 write_written m after address size word is h i inside =
     let n : ℕ = size_bytes size in
     stored_byte m after address n (low_bytes n word) (length_low n word) (stores m after address word size h) (write_memory m after address size word is h) i inside

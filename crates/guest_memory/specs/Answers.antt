@@ -1,7 +1,6 @@
 -- What accesses beyond the stack answer, in short.
 use Rattle.std.specs.Prelude.{ℕ, Option, Some, None, Result, Ok, Err}
-use Rattle.guest_memory.specs.declared.answer.Answer.{Answer}
-use Rattle.guest_memory.specs.declared.answer.Answer.TheVariants.{Made, Outside, Constant, NoMemory}
+use Rattle.guest_memory.specs.declared.answer.Answer.{Answer, TheVariants.Made, TheVariants.Outside, TheVariants.Constant, TheVariants.NoMemory}
 use Rattle.guest_memory.specs.declared.fault.Fault as fault
 use Rattle.guest_memory.specs.declared.fault.Fault.TheVariants.{F3, F4}
 use Rattle.guest_memory.specs.declared.write_error.WriteError.{WriteError}

@@ -4,8 +4,7 @@ use Rattle.guest_memory.specs.Memory.{Memory, start_memory}
 use Rattle.guest_memory.specs.Access.{read_of, stores_of, write_of}
 use Rattle.guest_memory.specs.declared.fault.Fault as fault
 use Rattle.guest_memory.specs.declared.fault.Fault.TheVariants.{F3, F4}
-use Rattle.guest_memory.specs.declared.size.Size.{Size}
-use Rattle.guest_memory.specs.declared.size.Size.TheVariants.{B, H, Dw}
+use Rattle.guest_memory.specs.declared.size.Size.{Size, TheVariants.B, TheVariants.H, TheVariants.Dw}
 
 -- a program's memory with no constants
 abbrev pub empty : Memory

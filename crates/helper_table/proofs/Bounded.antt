@@ -84,5 +84,6 @@ map_bounded n es o u short is e = grind (arith, looser_entries)
 put_bounded : (n : ℕ) (es : Entries) (key : List ℕ) (v u : Value) → IsBounded n (map es) → length key ≤ n → IsBounded n v → put_of es key v ≡ Some u → IsBounded (n + 2) u
 put_bounded n es key v u b short c e = map_bounded n es (inserted key v es) u b.0 (inserted_bounded n key v es short c b.1) e
 
-pub put_in_bounded : (n : ℕ) (m k x : ValueOrError) (u : Value) → IsResultBounded n m → IsResultBounded n k → IsResultBounded n x → put_in (Some m) (Some k) (Some x) ≡ Some u → IsBounded (n + 2) u
+pub put_in_bounded : (n : ℕ) (m k x : ValueOrError) (u : Value) → IsResultBounded n m → IsResultBounded n k → IsResultBounded n x
+    → put_in (Some m) (Some k) (Some x) ≡ Some u → IsBounded (n + 2) u
 put_in_bounded n m k x u b bk c e = grind (arith, put_bounded)

@@ -39,7 +39,8 @@ value_seen : (x : ValueOrError) → is_value (seen x) ≡ is_some (value_at (Som
 value_seen x = grind arith
 
 -- where a map can be entered
-pub enters : (m k x : Option ValueOrError) (s t : Seen) → option_map seen k ≡ Some s → option_map seen x ≡ Some t → (is_new_key (entries_at m) (text_part s) && is_value t) ≡ is_some (entered m k x)
+pub enters : (m k x : Option ValueOrError) (s t : Seen) → option_map seen k ≡ Some s → option_map seen x ≡ Some t
+    → (is_new_key (entries_at m) (text_part s) && is_value t) ≡ is_some (entered m k x)
 enters m k x s t e f = grind (arith, value_seen, enters_among)
 
 pub unless : (b : Bool) (o : Option Value) (w : Value) → (if b then None else o) ≡ Some w → o ≡ Some w
@@ -55,7 +56,8 @@ entries_are m es e = grind arith
 value_is : (x : Option ValueOrError) (v : Value) → value_at x ≡ Some v → depth_at x ≡ depth_of v
 value_is x v e = grind arith
 
-put_among_depth : (m x : Option ValueOrError) (es : Option Entries) (key : Option (List ℕ)) (y : Option Value) (w : Value) → entries_at m ≡ es → value_at x ≡ y → put_among es key y ≡ Some w → depth_of w ≡ max (depth_at m) (1 + depth_at x)
+put_among_depth : (m x : Option ValueOrError) (es : Option Entries) (key : Option (List ℕ)) (y : Option Value) (w : Value) → entries_at m ≡ es
+    → value_at x ≡ y → put_among es key y ≡ Some w → depth_of w ≡ max (depth_at m) (1 + depth_at x)
 put_among_depth m x (Some es) (Some key) (Some v) w e f g =
     put_depth es v w (inserted key v es) (inserted_depth key v es) g
     ∙ (let a = sym (entries_are m es e) in let b = sym (value_is x v f) in λ i. max (a i) (1 + b i))

@@ -37,5 +37,6 @@ record Joins (s t : Seen) (v : Option Value) : Type 0 where
 operands_join : (x y : ValueOrError) → Joins (seen x) (seen y) (joined (Some x) (Some y))
 operands_join x y = grind (arith, length-append, join_length)
 
-pub joins : (a b : Option ValueOrError) (s t : Seen) → option_map seen a ≡ Some s → option_map seen b ≡ Some t → can_join s t ≡ true → named (joined a b) (seen_size s + seen_size t) ≡ sequence (joined a b)
+pub joins : (a b : Option ValueOrError) (s t : Seen) → option_map seen a ≡ Some s → option_map seen b ≡ Some t → can_join s t ≡ true
+    → named (joined a b) (seen_size s + seen_size t) ≡ sequence (joined a b)
 joins a b s t e f can = grind (arith, operands_join)

@@ -30,7 +30,8 @@ module _ (n : ℕ) (vs : List ValueOrError) (all : All (IsResultBounded n) vs) w
   value_fits : (h : ℕ) (row : ValueOrError → Outcome) → ((x : ValueOrError) → IsResultBounded n x → IsFit n (row x)) → IsFit n (on_value vs h row)
   value_fits h row is = grind (arith, get_or_from_slice_get, slice_get_within)
 
-  values_fit : (a b : ℕ) (row : ValueOrError → ValueOrError → Outcome) → ((x y : ValueOrError) → IsResultBounded n x → IsResultBounded n y → IsFit n (row x y)) → IsFit n (on_values vs a b row)
+  values_fit : (a b : ℕ) (row : ValueOrError → ValueOrError → Outcome)
+      → ((x y : ValueOrError) → IsResultBounded n x → IsResultBounded n y → IsFit n (row x y)) → IsFit n (on_values vs a b row)
   values_fit a b row is = grind (arith, value_fits)
 
 -- ---- words

@@ -4,8 +4,7 @@ use Rattle.std.specs.List.{starts_with, ends_with}
 use Rattle.value_store.specs.Calls.{equal_at, less_at, member_at}
 use Rattle.value_store.specs.Seen.{seen}
 use Rattle.value_store.specs.Value.{ValueOrError}
-use Rattle.helper_table.specs.declared.text_test.TextTest.{TextTest}
-use Rattle.helper_table.specs.declared.text_test.TextTest.TheVariants.{Starts, Ends, Contains}
+use Rattle.helper_table.specs.declared.text_test.TextTest.{TextTest, TheVariants.Starts, TheVariants.Ends, TheVariants.Contains}
 use Rattle.helper_table.specs.Operands.{text_part}
 use Rattle.helper_table.specs.Outcome.{Outcome, truth}
 

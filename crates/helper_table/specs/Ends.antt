@@ -3,8 +3,7 @@ use Rattle.std.specs.Prelude.{◌≡◌, ◌&&◌, Bool, Result, Ok, Err}
 use Rattle.std.specs.declared.alloc.AllocError.{AllocError}
 use Rattle.value_store.specs.Placing.{Contents}
 use Rattle.helper_table.specs.Outcome.{Outcome, CallEnd, Leaves, Halts, needs_room, is_left, answer_among, charged}
-use Rattle.helper_table.specs.declared.helper_end.HelperEnd.{HelperEnd}
-use Rattle.helper_table.specs.declared.helper_end.HelperEnd.TheVariants.{Word, Stop}
+use Rattle.helper_table.specs.declared.helper_end.HelperEnd.{HelperEnd, TheVariants.Word, TheVariants.Stop}
 
 -- a call may be refused memory where its row puts a value behind the last and it is not stopped
 abbrev pub takes_memory : Outcome → Contents → Bool

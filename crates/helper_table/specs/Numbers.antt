@@ -1,10 +1,9 @@
 -- The helpers in the order of their numbers, the first being helper 1.
 use Rattle.std.specs.Prelude.{ℕ, zero, suc, ℤ, List, [], ◌∷◌, Option, None, option_and_then, slice_get}
 use Rattle.helper_table.specs.Operands.{place_of}
-use Rattle.helper_table.specs.declared.helper.Helper.{Helper}
+use Rattle.helper_table.specs.declared.helper.Helper.{Helper, TheVariants.Count, TheVariants.TextOfInt, TheVariants.Not}
 use Rattle.helper_table.specs.declared.helper.Helper.TheVariants.{Kind, IntOf, IntNew, TextConst, Field, Has, Index, Size, Equal, Less}
 use Rattle.helper_table.specs.declared.helper.Helper.TheVariants.{Join, Starts, Ends, Contains, Member, ListNew, Push, MapNew, Put, Item}
-use Rattle.helper_table.specs.declared.helper.Helper.TheVariants.{Count, TextOfInt, Not}
 
 -- all helpers
 abbrev pub helpers : List Helper

@@ -2,8 +2,7 @@
 use Rattle.std.specs.Prelude.{◌≡◌, ℕ, List, Option, Some, None, Result, Ok, Err, IsSome, slice_get, option_map}
 use Rattle.std.specs.Fmt.{signed_decimal}
 use Rattle.std.specs.declared.alloc.AllocError.{AllocError}
-use Rattle.guest_memory.specs.declared.fault.Fault.{Fault}
-use Rattle.guest_memory.specs.declared.fault.Fault.TheVariants.{F6}
+use Rattle.guest_memory.specs.declared.fault.Fault.{Fault, TheVariants.F6}
 use Rattle.value_store.specs.Calls.{Places, part_at, key_at, joined, pushed, put_in}
 use Rattle.value_store.specs.Seen.{seen, shown}
 use Rattle.value_store.specs.declared.shape.Shape.{Shape}

@@ -148,7 +148,8 @@ pub shown_again : (s u t : State) (n k : ℕ) → u ≡ s → t ≡ state_after 
 shown_again s u t n k origin here within reaches = grind (arith, nat_tests, is_reached, stands)
 
 -- the item that is read is one of those that are kept
-pub contains_at : {C : Type 0} (place : C → ℕ) (cs : List C) (ps : List ℕ) (i : ℕ) (a b c : C) → map place cs ≡ ps → slice_get cs i ≡ Some b → (c ≡ a) ⊎ (c ≡ b) → Contains (0 ∷ ps) (place a) → Contains (0 ∷ ps) (place c)
+pub contains_at : {C : Type 0} (place : C → ℕ) (cs : List C) (ps : List ℕ) (i : ℕ) (a b c : C) → map place cs ≡ ps → slice_get cs i ≡ Some b
+    → (c ≡ a) ⊎ (c ≡ b) → Contains (0 ∷ ps) (place a) → Contains (0 ∷ ps) (place c)
 contains_at place cs ps i a b c whole is one among =
     elim one [
       | inl same ↦ subst (λ (n : ℕ). Contains (0 ∷ ps) n) (ap place (sym same)) among
@@ -157,7 +158,8 @@ contains_at place cs ps i a b c whole is one among =
           subst (λ (n : ℕ). Contains (0 ∷ ps) n) (ap place (sym same)) (Contains-append_right (0 ∷ []) ps (place b) kept)
     ]
 
-pub none_more_at : {C : Type 0} (place : C → ℕ) (cs : List C) (ps : List ℕ) (i k p : ℕ) (b c : C) → map place cs ≡ ps → slice_get cs i ≡ Some b → NoneNearer ps i k p → p ≤ place c → (place b ≤ k → place b ≤ place c) → NoneNearer ps (i + 1) k (place c)
+pub none_more_at : {C : Type 0} (place : C → ℕ) (cs : List C) (ps : List ℕ) (i k p : ℕ) (b c : C) → map place cs ≡ ps → slice_get cs i ≡ Some b
+    → NoneNearer ps i k p → p ≤ place c → (place b ≤ k → place b ≤ place c) → NoneNearer ps (i + 1) k (place c)
 none_more_at place cs ps i k p b c whole is none more next = grind (arith, nat_tests, none_more, place_at)
 
 pub all_places : {C : Type 0} (place : C → ℕ) (cs : List C) (ps : List ℕ) (n : ℕ) → map place cs ≡ ps → length cs ≤ n → length ps ≤ n
@@ -183,7 +185,8 @@ pub read_none : {B C : Type 0} (now : B → C) (r : Option B) (cs : List C) (i :
 read_none now r cs i read is = grind arith
 
 -- the places of the machines that are kept with one more
-pub places_kept : {C : Type 0} (place : C → ℕ) (cs : List C) (c : C) (ps : List ℕ) (room : ℕ) → map place cs ≡ ps → room ≡ 64 → map place (keep_last room (cs ++ c ∷ [])) ≡ with_place ps (place c)
+pub places_kept : {C : Type 0} (place : C → ℕ) (cs : List C) (c : C) (ps : List ℕ) (room : ℕ) → map place cs ≡ ps → room ≡ 64
+    → map place (keep_last room (cs ++ c ∷ [])) ≡ with_place ps (place c)
 places_kept place cs c ps room is full = grind (arith, common_steps, drop-map, length-map, map-append)
 
 -- a checkpoint is due where the nearest one stands elsewhere

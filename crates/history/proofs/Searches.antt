@@ -9,7 +9,8 @@ only P apart x j here = grind arith
 first_not_before : (stops : List ℕ) (s : State) (k n i j : ℕ) → IsFirst stops s k n i → IsFirst stops s k n j → i < j → ⊥
 first_not_before stops s k n i j one other before = grind arith
 
-first_step : (stops : List ℕ) (s : State) (k n j : ℕ) (here : Bool) → is_stop stops (state_after (k + 1) s) ≡ here → IsFirst stops s (k + 1) (suc n) j → IsFirst stops s k (suc (suc n)) (if here then k + 1 else j)
+first_step : (stops : List ℕ) (s : State) (k n j : ℕ) (here : Bool) → is_stop stops (state_after (k + 1) s) ≡ here → IsFirst stops s (k + 1) (suc n) j
+    → IsFirst stops s k (suc (suc n)) (if here then k + 1 else j)
 first_step stops s k n j here is later = grind arith
 
 first_last : (stops : List ℕ) (s : State) (k : ℕ) (here : Bool) → IsFirst stops s k 1 (if here then k + 1 else k + 1)
@@ -46,11 +47,13 @@ pub none_first : (stops : List ℕ) (s : State) (k j : ℕ) → j ≡ k + 1 → 
 none_first stops s k j next i after before = grind arith
 
 -- the run goes on at j, too
-pub none_further : (stops : List ℕ) (s t : State) (k j : ℕ) (here : Bool) → NoneBefore stops s k j → t ≡ state_after j s → here ≡ is_stop stops t → here ≡ false → NoneBefore stops s k (j + 1)
+pub none_further : (stops : List ℕ) (s t : State) (k j : ℕ) (here : Bool) → NoneBefore stops s k j → t ≡ state_after j s → here ≡ is_stop stops t
+    → here ≡ false → NoneBefore stops s k (j + 1)
 none_further stops s t k j here none is said goes_on = grind arith
 
 -- the run is to stop at j, and at none before
-pub found_here : (stops : List ℕ) (s t : State) (k to j : ℕ) (here : Bool) → NoneBefore stops s k j → k < j → j < to → t ≡ state_after j s → here ≡ is_stop stops t → here ≡ true → j ≡ first_stop stops s k (to - k)
+pub found_here : (stops : List ℕ) (s t : State) (k to j : ℕ) (here : Bool) → NoneBefore stops s k j → k < j → j < to → t ≡ state_after j s
+    → here ≡ is_stop stops t → here ≡ true → j ≡ first_stop stops s k (to - k)
 found_here stops s t k to j here none after before is said stops_here = grind (arith, nat_tests, only, first_not_before, first_stop-some)
 
 -- the run is to stop at no place before the last one
@@ -105,12 +108,14 @@ pub last_here_is : (stops : List ℕ) (s t : State) (k : ℕ) (here : Bool) → 
 unfolding last_stop
 last_here_is stops s t k here is said stops_here = grind arith
 
-pub last_stays : (stops : List ℕ) (s t : State) (k j : ℕ) (here : Bool) → t ≡ state_after k s → here ≡ is_at stops t.pc → here ≡ false → j ≡ last_stop stops s k → j ≡ last_stop stops s (k + 1)
+pub last_stays : (stops : List ℕ) (s t : State) (k j : ℕ) (here : Bool) → t ≡ state_after k s → here ≡ is_at stops t.pc → here ≡ false
+    → j ≡ last_stop stops s k → j ≡ last_stop stops s (k + 1)
 unfolding last_stop
 last_stays stops s t k j here is said goes_on before = grind arith
 
 -- the run stands before place k, with a breakpoint there
-pub last_stands : (stops : List ℕ) (s t : State) (k n : ℕ) (here : Bool) → t ≡ state_after (k - 1) s → is_running t.status ≡ false → k ≤ n → 0 < n → here ≡ is_at stops t.pc → here ≡ true → n - 1 ≡ last_stop stops s n
+pub last_stands : (stops : List ℕ) (s t : State) (k n : ℕ) (here : Bool) → t ≡ state_after (k - 1) s → is_running t.status ≡ false → k ≤ n → 0 < n
+    → here ≡ is_at stops t.pc → here ≡ true → n - 1 ≡ last_stop stops s n
 last_stands stops s t k n here is stopped later some said stops_here =
     let same : t ≡ state_after (n - 1) s = stays_stopped s t (k - 1) (n - 1) is stopped (omega (arith, later)) in
     (last_only stops s n (n - 1)).0
@@ -121,7 +126,8 @@ last_stands stops s t k n here is stopped later some said stops_here =
     })
 
 -- the run stands before place k, with no breakpoint there
-pub last_stands_not : (stops : List ℕ) (s t : State) (k n j : ℕ) (here : Bool) → t ≡ state_after (k - 1) s → is_running t.status ≡ false → k ≤ n → here ≡ is_at stops t.pc → here ≡ false → j ≡ last_stop stops s k → j ≡ last_stop stops s n
+pub last_stands_not : (stops : List ℕ) (s t : State) (k n j : ℕ) (here : Bool) → t ≡ state_after (k - 1) s → is_running t.status ≡ false → k ≤ n
+    → here ≡ is_at stops t.pc → here ≡ false → j ≡ last_stop stops s k → j ≡ last_stop stops s n
 last_stands_not stops s t k n j here is stopped later said goes_on last =
     let earlier : IsLast stops s k j = (last_only stops s k j).1 last in
     (last_only stops s n j).0
@@ -141,7 +147,8 @@ pub last_low : (stops : List ℕ) (s : State) (n j : ℕ) → 0 < n → j ≡ la
 last_low stops s n j some last = grind (arith, nat_tests, last_stop-is)
 
 -- none after the answer of the stretch from p to end, nor behind end
-none_after_last : (stops : List ℕ) (s t : State) (p end k j i : ℕ) → t ≡ state_after p s → NoneFrom stops s end k → IsLast stops t (end - p) j → p + j < i → i < k → is_at stops (state_after i s).pc ≡ false
+none_after_last : (stops : List ℕ) (s t : State) (p end k j i : ℕ) → t ≡ state_after p s → NoneFrom stops s end k → IsLast stops t (end - p) j
+    → p + j < i → i < k → is_at stops (state_after i s).pc ≡ false
 none_after_last stops s t p end k j i is none last after before =
     elim (cases_lt i end) [
       | inl low ↦
@@ -150,7 +157,8 @@ none_after_last stops s t p end k j i is none last after before =
       | inr not_low ↦ none i (omega (arith, not_low)) before
     ]
 
-at_begin : (stops : List ℕ) (s t : State) (p j : ℕ) → t ≡ state_after p s → (0 < j) ⊎ (is_at stops t.pc ≡ true) → (j ≢ 0 → is_at stops (state_after j t).pc ≡ true) → is_at stops (state_after (p + j) s).pc ≡ true
+at_begin : (stops : List ℕ) (s t : State) (p j : ℕ) → t ≡ state_after p s → (0 < j) ⊎ (is_at stops t.pc ≡ true)
+    → (j ≢ 0 → is_at stops (state_after j t).pc ≡ true) → is_at stops (state_after (p + j) s).pc ≡ true
 at_begin stops s t p j is found stops_there =
     let whole : p + j - p ≡ j = omega arith in
     let same : state_after j t ≡ state_after (p + j) s = ap (λ (i : ℕ). state_after i t) (sym whole) ∙ goes_on s t p (p + j) is (omega arith) in
@@ -166,7 +174,8 @@ at_begin stops s t p j is found stops_there =
     ]
 
 -- the answer of a stretch with a breakpoint in it, with none behind the stretch
-pub found_in_stretch : (stops : List ℕ) (s t : State) (p end k j : ℕ) → t ≡ state_after p s → p < end → end ≤ k → NoneFrom stops s end k → j ≡ last_stop stops t (end - p) → (0 < j) ⊎ (is_at stops t.pc ≡ true) → p + j ≡ last_stop stops s k
+pub found_in_stretch : (stops : List ℕ) (s t : State) (p end k j : ℕ) → t ≡ state_after p s → p < end → end ≤ k → NoneFrom stops s end k
+    → j ≡ last_stop stops t (end - p) → (0 < j) ⊎ (is_at stops t.pc ≡ true) → p + j ≡ last_stop stops s k
 found_in_stretch stops s t p end k j is some within none answer found =
     let last : IsLast stops t (end - p) j = (last_only stops t (end - p) j).1 answer in
     let low : j < end - p = last_low stops t (end - p) j (omega (arith, some)) answer in
@@ -178,7 +187,8 @@ found_in_stretch stops s t p end k j is some within none answer found =
     })
 
 -- a stretch with no breakpoint
-pub none_in_stretch : (stops : List ℕ) (s t : State) (p end k j : ℕ) (here : Bool) → t ≡ state_after p s → NoneFrom stops s end k → j ≡ last_stop stops t (end - p) → j ≡ 0 → here ≡ is_at stops t.pc → here ≡ false → NoneFrom stops s p k
+pub none_in_stretch : (stops : List ℕ) (s t : State) (p end k j : ℕ) (here : Bool) → t ≡ state_after p s → NoneFrom stops s end k
+    → j ≡ last_stop stops t (end - p) → j ≡ 0 → here ≡ is_at stops t.pc → here ≡ false → NoneFrom stops s p k
 none_in_stretch stops s t p end k j here is none answer start said goes_on i behind before =
     let last : IsLast stops t (end - p) j = (last_only stops t (end - p) j).1 answer in
     elim (cases_lt p i) [

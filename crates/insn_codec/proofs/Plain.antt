@@ -1,5 +1,5 @@
 -- Which bytes do not stand in a line's parts, and that no line of a statement holds a line feed.
-use Rattle.insn_codec.proofs.Prelude.{◌≡◌, ◌/◌, ◌%◌, ◌<◌, ◌≤◌, ℕ, zero, suc, ℤ, List, [], ◌∷◌, ◌++◌, Bool, true, refl, arith, ◌∙◌, ◌≢◌, All, nat_eq, not, ◌&&◌, codes, list_all, AllDigits, and_from, and_parts, nat_tests, list_all-append, decimal, hex_digit, hex_digits, offset_text, operand_text, register_text, signed_decimal, wide_text, address_text, line_with, operands_text, place_text, mnemonic_text, Register, Operand, Mnemonic, All-nil, All-cons, NoLineFeed, statement_mnemonic, statement_operands, statement_text, Statement}
+use Rattle.insn_codec.proofs.Prelude.{◌≡◌, ◌/◌, ◌%◌, ◌<◌, ℕ, zero, suc, ℤ, List, [], ◌∷◌, ◌++◌, Bool, true, refl, arith, ◌∙◌, ◌≢◌, All, nat_eq, not, ◌&&◌, codes, list_all, AllDigits, and_from, and_parts, nat_tests, list_all-append, decimal, hex_digit, hex_digits, offset_text, operand_text, register_text, signed_decimal, wide_text, address_text, line_with, operands_text, place_text, mnemonic_text, Register, Operand, Mnemonic, All-nil, All-cons, NoLineFeed, statement_mnemonic, statement_operands, statement_text, Statement}
 use Rattle.insn_codec.proofs.Decimals.{decimal_digits}
 
 -- none of the bytes that stand between parts: line feed, space, comma, colon and square brackets
@@ -17,9 +17,6 @@ register_plain x = grind arith
 
 pub mnemonic_plain : (m : Mnemonic) → all_plain (mnemonic_text m) ≡ true
 mnemonic_plain m = grind arith
-
-plain_above : (c : ℕ) → 48 ≤ c → c ≤ 57 → is_plain c ≡ true
-plain_above c low high = grind (arith, nat_tests)
 
 digits_plain : (cs : List ℕ) → AllDigits 10 cs → all_plain cs ≡ true
 digits_plain [] d = refl

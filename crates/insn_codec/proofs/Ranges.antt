@@ -77,7 +77,8 @@ arithmetic_in_range s width h = bound IsInsn (register_of s.dst) _ (λ dst.
 
 branch_in_range : (s : Slot) (width : Width) → FitsSigned w16 s.offset → FitsSigned w32 s.imm → IfSome (branch_at s width) IsInsn
 unfolding branch_at
-branch_in_range s width g h = bound IsInsn (comparison_of (s.opcode / 16)) _ (λ x. bound IsInsn (register_of s.dst) _ (λ dst. with_operand (operand_at s) (λ operand. Branch x width dst operand s.offset) (operand_in_range s h) (λ x f. (f, g))))
+branch_in_range s width g h =
+    bound IsInsn (comparison_of (s.opcode / 16)) _ (λ x. bound IsInsn (register_of s.dst) _ (λ dst. with_operand (operand_at s) (λ operand. Branch x width dst operand s.offset) (operand_in_range s h) (λ x f. (f, g))))
 
 jump_in_range : (s : Slot) (width : Width) → FitsSigned w16 s.offset → FitsSigned w32 s.imm → IfSome (jump_at s width) IsInsn
 unfolding jump_at

@@ -36,7 +36,8 @@ word_below : (bytes : List ℕ) → ((k : ℕ) → get_or bytes k 0 < 256) → f
 word_below bytes small = omega arith
 
 -- by what the first sixteen bytes spell
-stands : (code : List ℕ) (o : Option Instruction) → spelled (take 16 code) ≡ o → All (λ b. b < 256) code → 8 ≤ length code → IsStatement (insn_or_slot o code) × (code ≡ statement_bytes (insn_or_slot o code) ++ drop (8 * statement_slots (insn_or_slot o code)) code)
+stands : (code : List ℕ) (o : Option Instruction) → spelled (take 16 code) ≡ o → All (λ b. b < 256) code → 8 ≤ length code
+    → IsStatement (insn_or_slot o code) × (code ≡ statement_bytes (insn_or_slot o code) ++ drop (8 * statement_slots (insn_or_slot o code)) code)
 stands code (Some i) e small long =
     let is = (spelled_is (take 16 code) (All-take (λ b. b < 256) 16 code small) i).0 e in
     (is.1, insn_bytes i code (begins_whole 16 (spelling i) code is.0))
@@ -44,7 +45,8 @@ stands code None e small long = (word_below (take 8 code) (byte_at (take 8 code)
 
 pub chosen_of : (code : List ℕ) (i : Instruction) → All (λ b. b < 256) code → IsInsn i → Begins (spelling i) code → statement_of code ≡ Insn i
 unfolding statement_of
-chosen_of code i small fits b = ap (λ (o : Option Instruction). insn_or_slot o code) ((spelled_is (take 16 code) (All-take (λ b. b < 256) 16 code small) i).1 fits (begins_within 16 (spelling i) code (grind arith) b))
+chosen_of code i small fits b =
+    ap (λ (o : Option Instruction). insn_or_slot o code) ((spelled_is (take 16 code) (All-take (λ b. b < 256) 16 code small) i).1 fits (begins_within 16 (spelling i) code (grind arith) b))
 
 pub is_spelled : StatementIsSpelled
 unfolding statement_of

@@ -3,8 +3,7 @@ use Rattle.std.specs.Prelude.{◌≡◌, ◌≢◌, ℕ, ◌*◌, ◌%◌, ◌<�
 use Rattle.insn_codec.specs.Spelling.{Begins, IsInsn, slot_count, spelling}
 use Rattle.insn_codec.specs.Statements.{IsStatement, after_statement, statement_bytes, statement_of, statement_slots, statement_text}
 use Rattle.insn_codec.specs.declared.insn.Insn.{Insn as Instruction}
-use Rattle.insn_codec.specs.declared.statement.Statement.{Statement}
-use Rattle.insn_codec.specs.declared.statement.Statement.TheVariants.{Insn}
+use Rattle.insn_codec.specs.declared.statement.Statement.{Statement, TheVariants.Insn}
 
 -- no bytes begin with the spellings of two instructions
 abbrev pub OneSpelling : Type 0

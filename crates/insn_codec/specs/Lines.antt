@@ -5,8 +5,7 @@ use Rattle.insn_codec.specs.Mnemonics.{mnemonic_text}
 use Rattle.insn_codec.specs.declared.insn.Insn.{Insn}
 use Rattle.insn_codec.specs.declared.insn.Insn.TheVariants.{Alu, Neg, SignExtend, ByteSwap, Jump, JumpLong, Branch, Call, CallLocal, Exit}
 use Rattle.insn_codec.specs.declared.insn.Insn.TheVariants.{Load, LoadSigned, StoreImm, Store, Atomic, LoadWide}
-use Rattle.insn_codec.specs.declared.operand.Operand.{Operand}
-use Rattle.insn_codec.specs.declared.operand.Operand.TheVariants.{Imm, Reg}
+use Rattle.insn_codec.specs.declared.operand.Operand.{Operand, TheVariants.Imm, TheVariants.Reg}
 use Rattle.insn_codec.specs.declared.register.Register.{Register}
 use Rattle.insn_codec.specs.declared.register.Register.TheVariants as register
 use Rattle.insn_codec.specs.declared.mnemonic.Mnemonic.{Mnemonic}

@@ -7,8 +7,7 @@ use Rattle.insn_codec.specs.Spelling.{IsInsn, slot_count, spelling}
 use Rattle.insn_codec.specs.declared.insn.Insn.{Insn as Instruction}
 use Rattle.insn_codec.specs.declared.mnemonic.Mnemonic.{Mnemonic}
 use Rattle.insn_codec.specs.declared.mnemonic.Mnemonic.TheVariants as mnemonic
-use Rattle.insn_codec.specs.declared.statement.Statement.{Statement}
-use Rattle.insn_codec.specs.declared.statement.Statement.TheVariants.{Insn, Slot}
+use Rattle.insn_codec.specs.declared.statement.Statement.{Statement, TheVariants.Insn, TheVariants.Slot}
 
 -- what the line of a statement begins with: its instruction's mnemonic, or `.slot`
 abbrev pub statement_mnemonic : Statement → Mnemonic

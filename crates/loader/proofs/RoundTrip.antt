@@ -35,11 +35,13 @@ constants_next : (file : List ℕ) → 16 ≤ length file → AreBytes file → 
 unfolding constants_in
 constants_next file h bytes = four 12 file h bytes
 
-joined : (file head from_8 slots from_12 constants from_16 code rest last : List ℕ) → file ≡ head ++ from_8 → from_8 ≡ slots ++ from_12 → from_12 ≡ constants ++ from_16 → from_16 ≡ code ++ rest → rest ≡ last → file ≡ head ++ (slots ++ (constants ++ (code ++ last)))
+joined : (file head from_8 slots from_12 constants from_16 code rest last : List ℕ) → file ≡ head ++ from_8 → from_8 ≡ slots ++ from_12
+    → from_12 ≡ constants ++ from_16 → from_16 ≡ code ++ rest → rest ≡ last → file ≡ head ++ (slots ++ (constants ++ (code ++ last)))
 joined file head from_8 slots from_12 constants from_16 code rest last a b c d e = cc
 
 -- a file is its head, its code and its constants
-whole : (file : List ℕ) → AreBytes file → HasShape file → file ≡ magic (version_in file) ++ (little_bytes 4 (slots_in file) ++ (little_bytes 4 (constants_in file) ++ (take (8 * slots_in file) (drop 16 file) ++ take (constants_in file) (drop (16 + 8 * slots_in file) file))))
+whole : (file : List ℕ) → AreBytes file → HasShape file
+    → file ≡ magic (version_in file) ++ (little_bytes 4 (slots_in file) ++ (little_bytes 4 (constants_in file) ++ (take (8 * slots_in file) (drop 16 file) ++ take (constants_in file) (drop (16 + 8 * slots_in file) file))))
 whole file bytes s =
     let e = s.length_is in
     joined file (magic (version_in file)) (drop 8 file) (little_bytes 4 (slots_in file)) (drop 12 file) (little_bytes 4 (constants_in file)) (drop 16 file) (take (8 * slots_in file) (drop 16 file)) (drop (16 + 8 * slots_in file) file) (take (constants_in file) (drop (16 + 8 * slots_in file) file)) (sym (take-append-drop 8 file) ∙ ap (λ (xs : List ℕ). xs ++ drop 8 file) s.magic_is) (slots_first file (omega arith) bytes) (constants_next file (omega arith) bytes) (cut 16 (8 * slots_in file) file) (sym (take_all (constants_in file) (drop (16 + 8 * slots_in file) file) (omega (arith, length-drop (16 + 8 * slots_in file) file))))

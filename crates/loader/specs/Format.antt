@@ -6,10 +6,8 @@ use Rattle.std.specs.Prelude.{drop, Result, Ok, Err, codes}
 use Rattle.std.specs.Str.{bytes_eq}
 use Rattle.byteorder.specs.Endian.{little_number, little_bytes}
 use Rattle.loader.specs.Contents.{Contents, version_number}
-use Rattle.loader.specs.declared.load_error.LoadError.{LoadError}
-use Rattle.loader.specs.declared.load_error.LoadError.TheVariants.{L1, L2, L3, L4, L5}
-use Rattle.loader.specs.declared.version.Version.{Version}
-use Rattle.loader.specs.declared.version.Version.TheVariants.{First, Second}
+use Rattle.loader.specs.declared.load_error.LoadError.{LoadError, TheVariants.L1, TheVariants.L2, TheVariants.L3, TheVariants.L4, TheVariants.L5}
+use Rattle.loader.specs.declared.version.Version.{Version, TheVariants.First, TheVariants.Second}
 
 -- what each file of a version begins with: this text and the version's digit
 unfoldable pub magic : Version → List ℕ

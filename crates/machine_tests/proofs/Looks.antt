@@ -1,5 +1,5 @@
 -- What is seen at a reference tells which calls may be made there.
-use Rattle.machine_tests.proofs.Prelude.{◌≡◌, ◌<◌, ℕ, zero, suc, List, [], ◌∷◌, length, Option, Some, None, slice_get, option_map, refl, sym, ap, ◌∙◌, arith, ℤ, Bool, IsSome, Value, Items, Entries, ValueOrError, error, value, list_of, keys_of, pushed, part_at, key_at, joined, put_in, text_at, find_at, equal_at, less_at, member_at, place_of_key, inserted, seen, sees_bool, sees_int, sees_text, sees_list, sees_map, absent_fits}
+use Rattle.machine_tests.proofs.Prelude.{◌≡◌, ◌<◌, ℕ, zero, suc, List, [], ◌∷◌, length, Option, Some, None, slice_get, option_map, refl, sym, ap, ◌∙◌, arith, ℤ, Bool, IsSome, Items, Entries, ValueOrError, value, list_of, keys_of, pushed, part_at, key_at, joined, put_in, text_at, find_at, equal_at, less_at, member_at, place_of_key, inserted, seen, sees_bool, sees_int, sees_text, sees_list, sees_map, absent_fits}
 use Rattle.value_store.specs.Value as kind
 
 -- ---- what stands where a kind is seen
@@ -89,7 +89,8 @@ none_found o p e f = cc
 key_is_free : (es : Entries) (key : List ℕ) → Some None ≡ find_at (Some (value (kind.map es))) key → place_of_key key es ≡ None
 key_is_free es key e = none_found None (place_of_key key es) e refl
 
-pub put_fits : (m k x : Option ValueOrError) (n : ℕ) (z : ℤ) (key : List ℕ) → Some (sees_map n) ≡ option_map seen m → Some (sees_int z) ≡ option_map seen x → Some key ≡ text_at k → Some None ≡ find_at m key → IsSome (put_in m k x)
+pub put_fits : (m k x : Option ValueOrError) (n : ℕ) (z : ℤ) (key : List ℕ) → Some (sees_map n) ≡ option_map seen m
+    → Some (sees_int z) ≡ option_map seen x → Some key ≡ text_at k → Some None ≡ find_at m key → IsSome (put_in m k x)
 put_fits m k x n z key e f t free =
     let a = map_here m n e in
     let b = int_here x z f in

@@ -136,7 +136,8 @@ module _ (gate : CompiledPolicy) (d : Documents) (of : IsPolicyOf d.policy gate)
       said_from (Err e) from = absurd from
 
     -- the program has run
-    pub was_run : Laws → (values : Contents) (request : json.Data) (result : Result Said RunError) → start_contents documents ≡ Ok values → (length documents ≡ 5 → slice_get documents 4 ≡ Some request)
+    pub was_run : Laws → (values : Contents) (request : json.Data) (result : Result Said RunError) → start_contents documents ≡ Ok values
+        → (length documents ≡ 5 → slice_get documents 4 ≡ Some request)
         → SaysFrom gate.policy (state_after n (start_state gate.image values)) (uid_of request) result → SaysSo result
     was_run laws values request result starts at from =
         let five = are_five (Some d.review) d.namespace d.params documents are_documents in

@@ -1,6 +1,5 @@
 -- The negative numbers of documents are of 64 bits signed.
-use Rattle.review_runner.proofs.Prelude.{◌≡◌, ℕ, zero, suc, ◌^◌, ◌<◌, ◌≤◌, Bool, true, false, List, Option, Some, None, Ordering, Less, Equal, Greater, nat_cmp, refl, subst, arith, Float, leb-true, slice_cmp, binary64, float_is_finite, w64, match_ordering, FitsSigned, ◌&&◌, drop, nat_le, nat_lt, option_map, option_and_then, slice_index, ◌==◌, if◌then◌else◌, is_utf8, digits_of, minus, nearest, scan, with_sign, if_last, value, tokens, get, get_member, float_of, is_integer, max_depth, number_from, of_items, of_json, of_members, FitsNumber, HasNumbers, HaveNumbers, MembersHaveNumbers, document_of}
-use Rattle.fast_float.specs.Text.{Parts}
+use Rattle.review_runner.proofs.Prelude.{◌≡◌, ℕ, ◌^◌, ◌≤◌, Bool, true, List, Option, Some, None, arith, leb-true, w64, FitsSigned, option_and_then, if◌then◌else◌, is_utf8, with_sign, if_last, value, tokens, get, get_member, max_depth, of_items, of_json, of_members, FitsNumber, HasNumbers, HaveNumbers, MembersHaveNumbers, document_of}
 use Rattle.json.specs.Json as text
 use Rattle.serde_json.specs.Data as json
 use Rattle.serde_json.specs.Read.{number_of}

@@ -1,13 +1,12 @@
 -- The steps of an order whose words are taken are at most 1,000,000,000.
-use Rattle.review_runner.proofs.Prelude.{◌≡◌, ◌≤◌, List, [], ◌∷◌, ◌++◌, Option, Some, None, Result, IfOk, Bool, true, false, refl, subst, arith, codes, if◌then◌else◌, find, unwrap_or, option_map, option_and_then, slice_get, digits_value, without_leading_plus, option_map_or, bytes_eq-Decides, is_unsigned_in, values_kinds, App, Shape, built, label_of, rows_at, read_as, Row, Rule, Text, answers_to, at_row, default_rows, nothing_held, one_of, reading_by, row_text, rows_after, walk, walk_from, with_default, with_values, entered_fault, level_fault, ErrorKind, ValueSource, CommandLine, file_rule, option_rule, required_option_rule, list_app, steps_rule, making_app, with_documents, review_app, deciding_app, running_app, run_image_app, debug_app, bare_app, celbpf_app, faults, entered, number_of, number_written, Ordered, IsWithinLimits, assemble_in, compile_in, debug_in, list_in, order_in, order_view, review_in, run_image_in, task_named, Order, OrderError}
+use Rattle.review_runner.proofs.Prelude.{◌≡◌, ◌≤◌, List, [], ◌∷◌, ◌++◌, Option, Some, None, Result, IfOk, Bool, true, false, subst, arith, codes, if◌then◌else◌, find, unwrap_or, option_map, option_and_then, slice_get, digits_value, without_leading_plus, option_map_or, bytes_eq-Decides, is_unsigned_in, values_kinds, App, Shape, built, label_of, rows_at, read_as, Row, Rule, Text, answers_to, at_row, default_rows, nothing_held, one_of, reading_by, row_text, rows_after, walk, walk_from, with_default, with_values, entered_fault, level_fault, ErrorKind, ValueSource, CommandLine, file_rule, option_rule, required_option_rule, list_app, steps_rule, making_app, with_documents, review_app, deciding_app, running_app, run_image_app, debug_app, bare_app, celbpf_app, faults, entered, number_of, number_written, Ordered, IsWithinLimits, assemble_in, compile_in, debug_in, list_in, order_in, order_view, review_in, run_image_in, task_named, Order, OrderError}
 use Rattle.std.specs.Str.{bytes_eq}
 use Rattle.clap.specs.Simple.{entered as entered_of}
 use Rattle.clap.specs.Walk.{without}
 use Rattle.clap.specs.declared.builder.value_parser.Reading.{Reading}
 use Rattle.clap.specs.declared.builder.value_parser.Reading.TheVariants as reading
 use Rattle.clap.specs.declared.builder.value_parser.ValueParser.TheVariants as parser
-use Rattle.review_runner.proofs.Kept.{AtOption, Each, Keeps, defaults_keep, found, nothing}
-use Rattle.review_runner.proofs.Kept.{settle_keeps, walk_keeps}
+use Rattle.review_runner.proofs.Kept.{AtOption, Each, Keeps, defaults_keep, found, nothing, settle_keeps, walk_keeps}
 
 -- ---- rows
 

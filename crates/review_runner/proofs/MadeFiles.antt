@@ -1,5 +1,5 @@
 -- Files that are made from files.
-use Rattle.review_runner.proofs.Prelude.{◌≡◌, ◌∙◌, ℕ, List, [], Result, Ok, Err, Option, Vec, refl, sym, subst, ap, inl, inr, arith, IsErrAnd, Global, OneImage, FileSystem, IsReading, IsWriting, KeepsFiles, Reading, MadeBy, MadeFrom, MadeOf, MayRunOut, RunsOut, no_file, Outcome, Report, outcome_of, succeeded, MakesFile, PerformsBy, failed, lacks_memory, making, nothing, performs, written, CompiledFrom, file_refusal, FileError, Failed, Refusal, Memory, SourceKind, PolicyDocument, ProgramText}
+use Rattle.review_runner.proofs.Prelude.{◌≡◌, ◌∙◌, ℕ, List, [], Result, Ok, Err, Option, Vec, refl, sym, subst, inl, inr, arith, IsErrAnd, Global, OneImage, FileSystem, IsReading, IsWriting, KeepsFiles, Reading, MadeBy, MadeFrom, MadeOf, MayRunOut, RunsOut, no_file, Outcome, Report, outcome_of, succeeded, MakesFile, PerformsBy, failed, lacks_memory, making, nothing, performs, written, CompiledFrom, file_refusal, FileError, Failed, Refusal, Memory, SourceKind, PolicyDocument, ProgramText}
 use Rattle.review_runner.specs.PolicyFiles.{no_file as no_policy}
 use Rattle.review_runner.specs.declared.answer.Answer.{Answer}
 use Rattle.review_runner.specs.declared.refusals.file_error.FileError.TheVariants as file_error

@@ -1,5 +1,5 @@
 -- What clap reads as a u64 is the number that the text stands for.
-use Rattle.review_runner.proofs.Prelude.{◌≡◌, ℕ, ◌^◌, ◌<◌, List, [], ◌∷◌, Option, Some, None, Result, Ok, Err, Bool, true, false, refl, ◌∙◌, arith, nat_lt, ◌&&◌, if◌then◌else◌, and_from, and_parts, lt-ltb, ltb-true, AllDigits, IsNumeral, ParsesUnsigned, digits_value, without_leading_plus, ReadsOne, are_digits, writes_u64, number_written, number_of}
+use Rattle.review_runner.proofs.Prelude.{◌≡◌, ℕ, ◌^◌, ◌<◌, List, [], ◌∷◌, Option, Some, None, Result, true, refl, ◌∙◌, arith, and_from, and_parts, lt-ltb, ltb-true, AllDigits, IsNumeral, ParsesUnsigned, digits_value, ReadsOne, are_digits, number_written, number_of}
 
 -- ---- a test that is true, and the facts that it tests
 

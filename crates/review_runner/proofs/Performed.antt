@@ -1,5 +1,5 @@
 -- Orders that are done, and what they leave.
-use Rattle.review_runner.proofs.Prelude.{◌≡◌, ℕ, true, List, Result, Ok, Err, Option, refl, arith, IfOk, IsErr, OnErr, AllocError, OneImage, FileSystem, KeepsFiles, Task, Outcome, output_of, refused, lacks_memory, performs, IsDone, LacksMemory, Performs, PerformsBy, WritesImage, only_reads, written, Done, Refusal, Memory}
+use Rattle.review_runner.proofs.Prelude.{◌≡◌, ℕ, true, List, Result, Ok, Err, Option, refl, arith, IfOk, IsErr, OnErr, AllocError, OneImage, FileSystem, KeepsFiles, Task, Outcome, output_of, refused, lacks_memory, performs, IsDone, LacksMemory, Performs, PerformsBy, WritesImage, only_reads, Done, Refusal, Memory}
 
 -- ---- files
 

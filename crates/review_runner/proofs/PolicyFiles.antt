@@ -2,7 +2,6 @@
 use Rattle.review_runner.proofs.Prelude.{◌≡◌, ℕ, List, Option, Some, None, Result, Ok, Err, refl, sym, subst, inl, inr, arith, IsSome, OneImage, HoldsFiles, IsReadingGiven, ReadingGiven, held_by, Answer, CompilesDocument, Documents, Reviews, FileSystem, Reading, MadeBy, ReviewFiles, review, Outcome, PerformsBy, performs, ReviewsHeld, held_with, named_files, no_image, review_outcome, reviewed, policy_refusal_of, StandsBy, PolicyRefusal, RunError, PolicyDocument}
 use Rattle.review_runner.specs.Debugging.{Held}
 use Rattle.review_runner.specs.declared.refusals.policy_refusal.PolicyRefusal.TheVariants as policy_refusal
-use Rattle.review_runner.proofs.Results.{ok_same}
 
 -- a policy that gives no image
 pub refused_so : (document : List ℕ) (e : PolicyRefusal) → CompilesDocument document (Err e)
@@ -35,7 +34,8 @@ pub same_documents : (d e : Documents) (h : Held) → held_with e.policy e ≡ h
     → d.params ≡ h.params → d ≡ e
 same_documents d e h is policy given namespace params = grind arith
 
-pub was_reviewed : (d e : Documents) (n : ℕ) (answer : Result Answer RunError) → d ≡ e → Reviews d n answer → StandsBy OneImage d n answer → ReviewsHeld OneImage n (Ok e) (review_outcome answer)
+pub was_reviewed : (d e : Documents) (n : ℕ) (answer : Result Answer RunError) → d ≡ e → Reviews d n answer → StandsBy OneImage d n answer
+    → ReviewsHeld OneImage n (Ok e) (review_outcome answer)
 was_reviewed d e n answer same reviews stands =
     reviewed answer (subst (λ (held : Documents). Reviews held n answer) same reviews) (subst (λ (held : Documents). StandsBy OneImage held n answer) same stands)
 

@@ -1,7 +1,6 @@
 -- What is made of a read.
-use Rattle.review_runner.proofs.Prelude.{◌≡◌, ℕ, List, Option, Result, Ok, Err, refl, sym, subst, arith, LoadError, OneImage, FileSystem, IsReading, Reading, IsAnswer, IsUnrefused, OpensFile, opened, opened_by, list, run_image, Outcome, Report, run_image_outcome, run_outcome, succeeded, Listing, Listed, PerformsBy, lacks_memory, listed, performs, unlisted, file_refusal, run_of, run_of_file, FileError, Failed, Refusal, Memory}
+use Rattle.review_runner.proofs.Prelude.{◌≡◌, ℕ, List, Option, Result, Ok, Err, sym, subst, arith, LoadError, OneImage, FileSystem, IsReading, Reading, IsAnswer, IsUnrefused, OpensFile, opened, opened_by, list, run_image, Outcome, Report, run_image_outcome, run_outcome, succeeded, Listing, Listed, PerformsBy, lacks_memory, listed, performs, unlisted, file_refusal, run_of, run_of_file, FileError, Refusal, Memory}
 use Rattle.loader.specs.Contents.{Contents}
-use Rattle.review_runner.specs.declared.refusals.file_error.FileError.TheVariants as file_error
 use Rattle.review_runner.proofs.Results.{not_both}
 
 -- ---- answers

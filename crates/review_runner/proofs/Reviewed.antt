@@ -1,5 +1,5 @@
 -- The members of documents, and what is left of them.
-use Rattle.review_runner.proofs.Prelude.{◌≡◌, ℕ, Bool, false, List, [], ◌∷◌, Option, String, string_bytes, bytes_eq, cond, is_eq, Ordering, nat_cmp, refl, ap, ◌∙◌, arith, codes, if◌then◌else◌, slice_cmp, remove_entry, is_at, match_ordering, is_eq-slice_cmp, bytes_eq-Decides, get_member, view, members_view, Value, member_or_null, parts_of, without}
+use Rattle.review_runner.proofs.Prelude.{◌≡◌, ℕ, Bool, false, List, [], ◌∷◌, Option, String, string_bytes, bytes_eq, cond, is_eq, Ordering, nat_cmp, refl, arith, codes, if◌then◌else◌, slice_cmp, remove_entry, is_at, match_ordering, is_eq-slice_cmp, bytes_eq-Decides, get_member, view, members_view, Value, member_or_null, parts_of, without}
 use Rattle.std.proofs.Common.{Global}
 use Rattle.serde_json.specs.Data as json
 
@@ -8,7 +8,8 @@ use Rattle.serde_json.specs.Data as json
 abbrev pub Entry : Type 0
 Entry = String Global × Value
 
-view_cond : (b : Bool) (e : Entry) (es rest : List Entry) (ms : json.Members) → members_view rest ≡ ms → members_view (cond b es (e ∷ rest)) ≡ (if b then members_view es else json.member (string_bytes e.0) (view e.1) ms)
+view_cond : (b : Bool) (e : Entry) (es rest : List Entry) (ms : json.Members) → members_view rest ≡ ms
+    → members_view (cond b es (e ∷ rest)) ≡ (if b then members_view es else json.member (string_bytes e.0) (view e.1) ms)
 view_cond b e es rest ms is = grind arith
 
 -- the members without that of a key

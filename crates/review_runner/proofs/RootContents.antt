@@ -1,5 +1,5 @@
 -- The contents at the start of a review's roots.
-use Rattle.review_runner.proofs.Prelude.{◌≡◌, ℕ, suc, Bool, true, false, List, [], ◌∷◌, ◌++◌, length, Option, Some, None, Result, Ok, Err, bytes_eq, refl, sym, ap, ◌∙◌, subst, arith, codes, map, nat_le, option_and_then, option_map, unwrap_or, if◌then◌else◌, slice_get, get, get_member, StartIsCanonical, Contents, charge_limit, first_values, contents_of, root_of, root_then, roots_of, sizes, start_contents, TableError, V3, Roots, AreDocuments, HasNumbers, MembersHaveNumbers, StartsAreTables, HasValues, started, values_of_roots, document_of, Parts, accepted, contents_from, contents_given, document_given, documents_from, documents_given, is_review, is_text, members_in, null_parts, parts_given, parts_in, parts_of, request_of, root_refusal, roots_from, text_or_empty, uid_in, uid_of, without, AreOfRoots, DocumentsHaveValues, GivenHaveValues, RunError}
+use Rattle.review_runner.proofs.Prelude.{◌≡◌, ℕ, suc, Bool, true, false, List, [], ◌∷◌, ◌++◌, length, Option, Some, None, Result, Ok, Err, bytes_eq, refl, sym, ap, ◌∙◌, subst, arith, codes, map, nat_le, option_and_then, option_map, unwrap_or, if◌then◌else◌, slice_get, get, get_member, StartIsCanonical, Contents, charge_limit, first_values, contents_of, root_of, root_then, roots_of, sizes, start_contents, TableError, V3, Roots, AreDocuments, HasNumbers, MembersHaveNumbers, StartsAreTables, HasValues, started, values_of_roots, document_of, Parts, accepted, contents_from, contents_given, document_given, documents_from, documents_given, is_review, members_in, parts_given, parts_in, parts_of, request_of, root_refusal, text_or_empty, uid_in, uid_of, without, AreOfRoots, DocumentsHaveValues, GivenHaveValues, RunError}
 use Rattle.serde_json.specs.Data as json
 use Rattle.value_store.specs.Value.{Value, value}
 use Rattle.review_runner.proofs.DocumentNumbers.{document_fits, get_fits, member_fits}
@@ -12,7 +12,8 @@ record HaveNumbers (p : Parts) : Type 0 where
   old_object : HasNumbers p.old_object
   request : HasNumbers p.request
 
-without_when : (b : Bool) (k : List ℕ) (d : json.Data) (ms more : json.Members) → HasNumbers d → MembersHaveNumbers ms → MembersHaveNumbers more → MembersHaveNumbers (if b then ms else json.member k d more)
+without_when : (b : Bool) (k : List ℕ) (d : json.Data) (ms more : json.Members) → HasNumbers d → MembersHaveNumbers ms → MembersHaveNumbers more
+    → MembersHaveNumbers (if b then ms else json.member k d more)
 without_when b k d ms more own rest later = grind arith
 
 without_fits : (key : List ℕ) (ms : json.Members) → MembersHaveNumbers ms → MembersHaveNumbers (without key ms)
@@ -33,7 +34,8 @@ request_by : (o : Option json.Data) (ms : json.Members) → ((d : json.Data) →
 request_by None ms fits e = absurd (cc)
 request_by (Some d) ms fits e = members_fit d ms (fits d refl) e
 
-request_when : (b : Bool) (o : Option json.Data) (ms : json.Members) → ((d : json.Data) → o ≡ Some d → HasNumbers d) → (if b then option_and_then members_in o else None) ≡ Some ms → MembersHaveNumbers ms
+request_when : (b : Bool) (o : Option json.Data) (ms : json.Members) → ((d : json.Data) → o ≡ Some d → HasNumbers d)
+    → (if b then option_and_then members_in o else None) ≡ Some ms → MembersHaveNumbers ms
 request_when true o ms fits e = request_by o ms fits e
 request_when false o ms fits e = absurd (cc)
 
@@ -58,7 +60,8 @@ pub record AreFive (ds : List json.Data) : Type 0 where
   pub five : length ds ≡ 5
   pub documents : AreDocuments ds
 
-five_by : (a : Option Parts) (b c : Option json.Data) (ds : List json.Data) → ((p : Parts) → a ≡ Some p → HaveNumbers p) → ((d : json.Data) → b ≡ Some d → HasNumbers d) → ((d : json.Data) → c ≡ Some d → HasNumbers d)
+five_by : (a : Option Parts) (b c : Option json.Data) (ds : List json.Data) → ((p : Parts) → a ≡ Some p → HaveNumbers p)
+    → ((d : json.Data) → b ≡ Some d → HasNumbers d) → ((d : json.Data) → c ≡ Some d → HasNumbers d)
     → documents_from a b c ≡ Ok ds → AreFive ds
 five_by a b c ds first second third e = grind arith
 
@@ -79,19 +82,23 @@ uid_kept ms = grind (arith, member_kept)
 uid_parts : (o : Option json.Members) (p : Parts) → option_map parts_of o ≡ Some p → uid_of p.request ≡ text_or_empty (option_and_then (get_member (codes "uid")) o)
 uid_parts o p e = grind (arith, uid_kept)
 
-uid_review : (o : Option json.Data) (p : Parts) → option_and_then parts_in o ≡ Some p → uid_of p.request ≡ text_or_empty (option_and_then (get_member (codes "uid")) (option_and_then request_of o))
+uid_review : (o : Option json.Data) (p : Parts) → option_and_then parts_in o ≡ Some p
+    → uid_of p.request ≡ text_or_empty (option_and_then (get_member (codes "uid")) (option_and_then request_of o))
 uid_review o p e = grind (arith, uid_parts)
 
-uid_by : (a : Option Parts) (b c : Option json.Data) (ds : List json.Data) (request : json.Data) (uid : List ℕ) → ((p : Parts) → a ≡ Some p → uid_of p.request ≡ uid) → documents_from a b c ≡ Ok ds → slice_get ds 4 ≡ Some request → uid_of request ≡ uid
+uid_by : (a : Option Parts) (b c : Option json.Data) (ds : List json.Data) (request : json.Data) (uid : List ℕ)
+    → ((p : Parts) → a ≡ Some p → uid_of p.request ≡ uid) → documents_from a b c ≡ Ok ds → slice_get ds 4 ≡ Some request → uid_of request ≡ uid
 uid_by a b c ds request uid is e at = grind arith
 
-pub uid_is : (review : List ℕ) (namespace params : Option (List ℕ)) (ds : List json.Data) (request : json.Data) → documents_given (Some review) namespace params ≡ Ok ds → slice_get ds 4 ≡ Some request → uid_of request ≡ uid_in review
+pub uid_is : (review : List ℕ) (namespace params : Option (List ℕ)) (ds : List json.Data) (request : json.Data)
+    → documents_given (Some review) namespace params ≡ Ok ds → slice_get ds 4 ≡ Some request → uid_of request ≡ uid_in review
 unfolding documents_given uid_in
 uid_is review namespace params ds request e at = grind (arith, uid_review, uid_by)
 
 -- ---- the contents
 
-more_roots : (count : ℕ) (r : Result Value TableError) (rest : Result (List Value) TableError) (vs : List Value) → ((ws : List Value) → rest ≡ Ok ws → length ws ≡ count) → root_then r rest ≡ Ok vs → length vs ≡ suc count
+more_roots : (count : ℕ) (r : Result Value TableError) (rest : Result (List Value) TableError) (vs : List Value)
+    → ((ws : List Value) → rest ≡ Ok ws → length ws ≡ count) → root_then r rest ≡ Ok vs → length vs ≡ suc count
 more_roots count r rest vs later h = grind arith
 
 as_many : (place : ℕ) (ds : List json.Data) (vs : List Value) → roots_of place ds ≡ Ok vs → length vs ≡ length ds
@@ -111,7 +118,8 @@ pub record AreStarted (values : Contents) : Type 0 where
   pub roots : Roots
   pub are : values ≡ started roots
 
-limited : (test : Bool) (vs : List Value) (values : Contents) → AreRoots vs → (if test then Ok (record { values = first_values ++ map value vs; charge = sizes vs }) else Err V3) ≡ Ok values → AreStarted values
+limited : (test : Bool) (vs : List Value) (values : Contents) → AreRoots vs
+    → (if test then Ok (record { values = first_values ++ map value vs; charge = sizes vs }) else Err V3) ≡ Ok values → AreStarted values
 limited test vs values own e = grind arith
 
 started_by : (r : Result (List Value) TableError) (values : Contents) → ((vs : List Value) → r ≡ Ok vs → length vs ≡ 5) → contents_of r ≡ Ok values → AreStarted values
@@ -129,9 +137,6 @@ has_values tables canonical ds r five e = record {
   stand = record { object = refl; old_object = refl; params = refl; namespace_object = refl; request = refl };
 }
 
-was_accepted : (r : Result Contents TableError) (values : Contents) → accepted r ≡ Ok values → r ≡ Ok values
-was_accepted r values e = grind arith
-
 -- five documents that are not refused give the contents of roots
 pub roots_have_values : StartsAreTables → StartIsCanonical → DocumentsHaveValues
 roots_have_values tables canonical ds values five documents e =
@@ -139,7 +144,8 @@ roots_have_values tables canonical ds values five documents e =
     let has = has_values tables canonical ds own.roots (record { five = five; documents = documents }) (e ∙ ap Ok own.are) in
     record { roots = own.roots; are = own.are; has = subst (HasValues own.roots) (sym own.are) has }
 
-values_of_documents : (r : Result (List json.Data) RunError) (values : Contents) → contents_from r ≡ Ok values → ((ds : List json.Data) → r ≡ Ok ds → start_contents ds ≡ Ok values → AreOfRoots values) → AreOfRoots values
+values_of_documents : (r : Result (List json.Data) RunError) (values : Contents) → contents_from r ≡ Ok values
+    → ((ds : List json.Data) → r ≡ Ok ds → start_contents ds ≡ Ok values → AreOfRoots values) → AreOfRoots values
 values_of_documents r values is then_have = grind arith
 
 pub given_have_values : StartsAreTables → StartIsCanonical → GivenHaveValues
@@ -150,7 +156,8 @@ given_have_values tables canonical review namespace params values is =
 -- ---- refusals
 
 -- documents that give no roots are refused so
-pub refused_documents : (review : List ℕ) (namespace params : Option (List ℕ)) (e : RunError) → documents_given (Some review) namespace params ≡ Err e → contents_given (Some review) namespace params ≡ Err e
+pub refused_documents : (review : List ℕ) (namespace params : Option (List ℕ)) (e : RunError) → documents_given (Some review) namespace params ≡ Err e
+    → contents_given (Some review) namespace params ≡ Err e
 unfolding contents_given
 refused_documents review namespace params e is = ap contents_from is
 

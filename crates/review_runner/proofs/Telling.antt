@@ -37,7 +37,8 @@ written s lines on = grind (arith, answered, heard, fold_push)
 -- ---- a policy's image
 
 -- the image has version 2, in every state
-version_is : (f : FailurePolicy) (t : PolicyTree) (image : loader.Contents) (values : Contents) (k : ℕ) → IsProgram f t image → version_number (state_after k (start_state image values)).image.version ≡ 2
+version_is : (f : FailurePolicy) (t : PolicyTree) (image : loader.Contents) (values : Contents) (k : ℕ) → IsProgram f t image
+    → version_number (state_after k (start_state image values)).image.version ≡ 2
 version_is f t image values k program = ap (λ (i : loader.Contents). version_number i.version) (image_of_start image values k) ∙ ap version_number program.version
 
 module _ (have : GivenHaveValues) (d : Documents) (run : Runs d) where

@@ -46,7 +46,8 @@ module _ (name : List ℕ) (words : ℕ → ℕ) where
   in_region m from is (suc n) = ap (λ (text : List ℕ). text ++ word_line name n (verdict_word m (from + 8 * n))) (in_region m from is n) ∙ ap (λ (w : ℕ). lines_before n ++ word_line name n w) (is n)
 
   -- so the lines of the first words of a part of the region are those of the list
-  pub lines_are : (m : Memory) (from n : ℕ) (ws : List ℕ) → ((i : ℕ) → verdict_word m (from + 8 * i) ≡ words i) → length ws ≤ n → ((i : ℕ) → i < n → words i ≡ slice_index ws i) → word_lines name m from n ≡ numbered_lines name 0 ws
+  pub lines_are : (m : Memory) (from n : ℕ) (ws : List ℕ) → ((i : ℕ) → verdict_word m (from + 8 * i) ≡ words i) → length ws ≤ n
+      → ((i : ℕ) → i < n → words i ≡ slice_index ws i) → word_lines name m from n ≡ numbered_lines name 0 ws
   lines_are m from n ws here short is =
       in_region m from here n ∙ sym (from_start n) ∙ are_numbered ws n 0 short (λ j k e lt. let same : k ≡ j = omega (arith, e) in ap words same ∙ is j lt)
 

@@ -1,7 +1,6 @@
 -- The commands of celbpf in clap's own words, and what clap makes of a command line.
 use Rattle.std.specs.Prelude.{true, List, [], ◌∷◌, Option, Some, codes}
-use Rattle.clap.specs.Words.{App, Kinds, Row, Rule, Text, fault_of, new_app, new_rule}
-use Rattle.clap.specs.Words.{subcommand_of, with_rule, with_subcommand}
+use Rattle.clap.specs.Words.{App, Kinds, Row, Rule, Text, fault_of, new_app, new_rule, subcommand_of, with_rule, with_subcommand}
 use Rattle.clap.specs.Simple.{on_top}
 use Rattle.clap.specs.declared.builder.value_parser.ValueParser.TheVariants as parser
 

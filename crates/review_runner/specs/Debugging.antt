@@ -5,8 +5,7 @@ use Rattle.loader.specs.Contents.{Contents}
 use Rattle.loader.specs.Format.{image_in}
 use Rattle.value_store.specs.Placing as store
 use Rattle.bpf_machine.specs.State.{State, start_state}
-use Rattle.debugger.specs.declared.session_error.SessionError.{SessionError}
-use Rattle.debugger.specs.declared.session_error.SessionError.TheVariants.{S1, S2}
+use Rattle.debugger.specs.declared.session_error.SessionError.{SessionError, TheVariants.S1, TheVariants.S2}
 use Rattle.debugger.specs.declared.session_error.SessionError.TheVariants as session_error
 use Rattle.debugger.specs.Streams.{Stream}
 use Rattle.debugger.specs.Told.{IsSession}

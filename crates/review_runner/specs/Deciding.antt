@@ -15,8 +15,7 @@ use Rattle.policy_glue.specs.Trees.{PolicyTree}
 use Rattle.policy_glue.specs.Verdict.{Outcome, Skipped, Rejected, Denied, Admitted, Verdict}
 use Rattle.review_runner.specs.Reviews.{contents_given, uid_in}
 use Rattle.review_runner.specs.declared.reviews.compiled_policy.CompiledPolicy.{CompiledPolicy}
-use Rattle.review_runner.specs.declared.refusals.policy_refusal.PolicyRefusal.{PolicyRefusal}
-use Rattle.review_runner.specs.declared.refusals.policy_refusal.PolicyRefusal.TheVariants.{Unread, Uncompiled}
+use Rattle.review_runner.specs.declared.refusals.policy_refusal.PolicyRefusal.{PolicyRefusal, TheVariants.Unread, TheVariants.Uncompiled}
 use Rattle.review_runner.specs.declared.refusals.policy_refusal.PolicyRefusal.TheVariants as policy_refusal
 use Rattle.review_runner.specs.declared.reviews.reply.Reply.{Reply}
 use Rattle.review_runner.specs.declared.refusals.run_error.RunError.{RunError}

@@ -2,8 +2,7 @@
 use Rattle.std.specs.Prelude.{◌≡◌, ℕ, Bool, true, false, List, Option, Some, None, Result, Ok, Err, Vec, if◌then◌else◌}
 use Rattle.std.specs.Str.{bytes_eq}
 use Rattle.std.specs.declared.alloc.Global.{Global}
-use Rattle.review_runner.specs.declared.refusals.file_error.FileError.{FileError}
-use Rattle.review_runner.specs.declared.refusals.file_error.FileError.TheVariants.{Failed, Memory}
+use Rattle.review_runner.specs.declared.refusals.file_error.FileError.{FileError, TheVariants.Failed, TheVariants.Memory}
 
 -- what each file holds that can be read, and which can be written
 pub record FileSystem : Type 0 where

@@ -15,12 +15,9 @@ use Rattle.review_runner.specs.FileSystem.{FileSystem, IsReading, Reading}
 use Rattle.review_runner.specs.PolicyFiles.{CompiledFrom}
 use Rattle.review_runner.specs.Refusals.{file_refusal, load_refusal}
 use Rattle.review_runner.specs.Standing.{Images}
-use Rattle.review_runner.specs.declared.refusals.file_error.FileError.{FileError}
-use Rattle.review_runner.specs.declared.refusals.file_error.FileError.TheVariants.{Failed}
-use Rattle.review_runner.specs.declared.refusals.refusal.Refusal.{Refusal}
-use Rattle.review_runner.specs.declared.refusals.refusal.Refusal.TheVariants.{Memory, Program, Text}
-use Rattle.review_runner.specs.declared.images.source_kind.SourceKind.{SourceKind}
-use Rattle.review_runner.specs.declared.images.source_kind.SourceKind.TheVariants.{PolicyDocument, ProgramText}
+use Rattle.review_runner.specs.declared.refusals.file_error.FileError.{FileError, TheVariants.Failed}
+use Rattle.review_runner.specs.declared.refusals.refusal.Refusal.{Refusal, TheVariants.Memory, TheVariants.Program, TheVariants.Text}
+use Rattle.review_runner.specs.declared.images.source_kind.SourceKind.{SourceKind, TheVariants.PolicyDocument, TheVariants.ProgramText}
 
 -- ---- from a program's text
 

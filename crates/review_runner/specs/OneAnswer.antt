@@ -3,8 +3,7 @@ use Rattle.std.specs.Prelude.{◌≡◌, ◌≢◌, ℕ, Result, Err}
 use Rattle.policy_glue.specs.OneImage.{OneImage}
 use Rattle.review_runner.specs.Deciding.{Answer, Documents, Reviews}
 use Rattle.review_runner.specs.Standing.{StandsBy}
-use Rattle.review_runner.specs.declared.refusals.run_error.RunError.{RunError}
-use Rattle.review_runner.specs.declared.refusals.run_error.RunError.TheVariants.{Memory}
+use Rattle.review_runner.specs.declared.refusals.run_error.RunError.{RunError, TheVariants.Memory}
 
 -- the review is answered so, and the policy's one image stands as the answer says
 pub record IsAnswerTo (d : Documents) (n : ℕ) (result : Result Answer RunError) : Type 0 where

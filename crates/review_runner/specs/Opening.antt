@@ -5,8 +5,7 @@ use Rattle.loader.specs.Format.{image_in}
 use Rattle.loader.specs.declared.load_error.LoadError.{LoadError}
 use Rattle.review_runner.specs.FileSystem.{FileSystem, Reading, IsReading}
 use Rattle.review_runner.specs.Refusals.{file_refusal, load_refusal}
-use Rattle.review_runner.specs.declared.refusals.refusal.Refusal.{Refusal}
-use Rattle.review_runner.specs.declared.refusals.refusal.Refusal.TheVariants.{Memory}
+use Rattle.review_runner.specs.declared.refusals.refusal.Refusal.{Refusal, TheVariants.Memory}
 
 -- the image that a file holds, or its refusal
 abbrev pub opened_by : Result Contents LoadError → Result Contents Refusal

@@ -9,8 +9,7 @@ use Rattle.review_runner.specs.declared.documents.document_names.DocumentNames.{
 use Rattle.review_runner.specs.declared.documents.review_names.ReviewNames.{ReviewNames}
 use Rattle.review_runner.specs.declared.command_line.order.Order.{Order}
 use Rattle.review_runner.specs.declared.command_line.order.Order.TheVariants as code
-use Rattle.review_runner.specs.declared.refusals.order_error.OrderError.{OrderError}
-use Rattle.review_runner.specs.declared.refusals.order_error.OrderError.TheVariants.{U1, Memory}
+use Rattle.review_runner.specs.declared.refusals.order_error.OrderError.{OrderError, TheVariants.U1, TheVariants.Memory}
 
 -- the file names of the documents of a review, which may be left out
 pub record DocumentFiles : Type 0 where

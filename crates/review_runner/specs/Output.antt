@@ -1,8 +1,7 @@
 -- What comes of an order: the status that the program ends with, and what it writes.
 use Rattle.std.specs.Prelude.{ℕ, List, [], Result, Ok, Err}
 use Rattle.loader.specs.declared.load_error.LoadError.{LoadError}
-use Rattle.bpf_machine.specs.declared.status.Status.{Status}
-use Rattle.bpf_machine.specs.declared.status.Status.TheVariants.{Running, Exited, Fault}
+use Rattle.bpf_machine.specs.declared.status.Status.{Status, TheVariants.Running, TheVariants.Exited, TheVariants.Fault}
 use Rattle.review_runner.specs.FileSystem.{Reading}
 use Rattle.review_runner.specs.Refusals.{file_refusal, load_refusal, refusal_line, refusal_status}
 use Rattle.review_runner.specs.Running.{Shown, run_of_file}

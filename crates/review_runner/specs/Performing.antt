@@ -10,10 +10,8 @@ use Rattle.review_runner.specs.Output.{Outcome, Output, output_by, run_image_out
 use Rattle.review_runner.specs.PolicyFiles.{ReviewsFiles}
 use Rattle.review_runner.specs.Standing.{Images}
 use Rattle.review_runner.specs.declared.refusals.file_error.FileError.TheVariants.{Failed}
-use Rattle.review_runner.specs.declared.refusals.refusal.Refusal.{Refusal}
-use Rattle.review_runner.specs.declared.refusals.refusal.Refusal.TheVariants.{File, Memory}
-use Rattle.review_runner.specs.declared.images.source_kind.SourceKind.{SourceKind}
-use Rattle.review_runner.specs.declared.images.source_kind.SourceKind.TheVariants.{PolicyDocument, ProgramText}
+use Rattle.review_runner.specs.declared.refusals.refusal.Refusal.{Refusal, TheVariants.File, TheVariants.Memory}
+use Rattle.review_runner.specs.declared.images.source_kind.SourceKind.{SourceKind, TheVariants.PolicyDocument, TheVariants.ProgramText}
 
 -- ---- single orders
 

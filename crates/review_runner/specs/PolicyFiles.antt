@@ -14,8 +14,7 @@ use Rattle.review_runner.specs.Refusals.{file_refusal, run_refusal}
 use Rattle.review_runner.specs.Standing.{Images, StandsBy}
 use Rattle.review_runner.specs.declared.refusals.file_error.FileError.{FileError}
 use Rattle.review_runner.specs.declared.refusals.policy_refusal.PolicyRefusal.{PolicyRefusal}
-use Rattle.review_runner.specs.declared.refusals.refusal.Refusal.{Refusal}
-use Rattle.review_runner.specs.declared.refusals.refusal.Refusal.TheVariants.{Policy}
+use Rattle.review_runner.specs.declared.refusals.refusal.Refusal.{Refusal, TheVariants.Policy}
 use Rattle.review_runner.specs.declared.refusals.run_error.RunError.{RunError}
 
 -- ---- images

@@ -12,8 +12,7 @@ use Rattle.review_runner.specs.Performing.{PerformsBy}
 use Rattle.review_runner.specs.Refusals.{order_refusal, refusal_line, refusal_status}
 use Rattle.review_runner.specs.Standing.{Images}
 use Rattle.review_runner.specs.declared.refusals.order_error.OrderError.{OrderError}
-use Rattle.review_runner.specs.declared.refusals.refusal.Refusal.{Refusal}
-use Rattle.review_runner.specs.declared.refusals.refusal.Refusal.TheVariants.{File, Memory, Words}
+use Rattle.review_runner.specs.declared.refusals.refusal.Refusal.{Refusal, TheVariants.File, TheVariants.Memory, TheVariants.Words}
 
 -- ---- words
 

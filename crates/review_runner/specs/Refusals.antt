@@ -3,8 +3,7 @@ use Rattle.std.specs.Prelude.{ℕ, List, [], ◌∷◌, ◌++◌, codes, decimal
 use Rattle.assembler.specs.declared.asm_error.AsmError.{AsmError}
 use Rattle.assembler.specs.declared.asm_error.AsmError.TheVariants.{A1, A2, A3, A4, A5, A6}
 use Rattle.assembler.specs.declared.asm_error.AsmError.TheVariants as asm_error
-use Rattle.debugger.specs.declared.session_error.SessionError.{SessionError}
-use Rattle.debugger.specs.declared.session_error.SessionError.TheVariants.{S1, S2}
+use Rattle.debugger.specs.declared.session_error.SessionError.{SessionError, TheVariants.S1, TheVariants.S2}
 use Rattle.debugger.specs.declared.session_error.SessionError.TheVariants as session_error
 use Rattle.policy_glue.specs.CompileErrors.{compile_text}
 use Rattle.policy_glue.specs.declared.compile_error.CompileError.{CompileError}
@@ -12,20 +11,15 @@ use Rattle.policy_glue.specs.declared.compile_error.CompileError.TheVariants as 
 use Rattle.policy_glue.specs.declared.policy_error.PolicyError.{PolicyError}
 use Rattle.policy_glue.specs.declared.policy_error.PolicyError.TheVariants.{K1, K2, K3, K4, K5, K8}
 use Rattle.policy_glue.specs.declared.policy_error.PolicyError.TheVariants as policy_error
-use Rattle.loader.specs.declared.load_error.LoadError.{LoadError}
-use Rattle.loader.specs.declared.load_error.LoadError.TheVariants.{L1, L2, L3, L4, L5}
+use Rattle.loader.specs.declared.load_error.LoadError.{LoadError, TheVariants.L1, TheVariants.L2, TheVariants.L3, TheVariants.L4, TheVariants.L5}
 use Rattle.loader.specs.declared.load_error.LoadError.TheVariants as load_error
-use Rattle.review_runner.specs.declared.refusals.file_error.FileError.{FileError}
-use Rattle.review_runner.specs.declared.refusals.file_error.FileError.TheVariants.{Failed}
+use Rattle.review_runner.specs.declared.refusals.file_error.FileError.{FileError, TheVariants.Failed}
 use Rattle.review_runner.specs.declared.refusals.file_error.FileError.TheVariants as file_error
-use Rattle.review_runner.specs.declared.refusals.order_error.OrderError.{OrderError}
-use Rattle.review_runner.specs.declared.refusals.order_error.OrderError.TheVariants.{U1}
+use Rattle.review_runner.specs.declared.refusals.order_error.OrderError.{OrderError, TheVariants.U1}
 use Rattle.review_runner.specs.declared.refusals.order_error.OrderError.TheVariants as order_error
-use Rattle.review_runner.specs.declared.refusals.run_error.RunError.{RunError}
-use Rattle.review_runner.specs.declared.refusals.policy_refusal.PolicyRefusal.{PolicyRefusal}
-use Rattle.review_runner.specs.declared.refusals.policy_refusal.PolicyRefusal.TheVariants.{Unread, Uncompiled}
+use Rattle.review_runner.specs.declared.refusals.run_error.RunError.{RunError, TheVariants.N1, TheVariants.N2, TheVariants.N3, TheVariants.N4, TheVariants.N5}
+use Rattle.review_runner.specs.declared.refusals.policy_refusal.PolicyRefusal.{PolicyRefusal, TheVariants.Unread, TheVariants.Uncompiled}
 use Rattle.review_runner.specs.declared.refusals.policy_refusal.PolicyRefusal.TheVariants as policy_refusal
-use Rattle.review_runner.specs.declared.refusals.run_error.RunError.TheVariants.{N1, N2, N3, N4, N5}
 use Rattle.review_runner.specs.declared.refusals.run_error.RunError.TheVariants as run_error
 use Rattle.review_runner.specs.declared.refusals.refusal.Refusal.{Refusal}
 use Rattle.review_runner.specs.declared.refusals.refusal.Refusal.TheVariants.{Words, Image, File, Text, Program, Policy, Run, Input, Output, Memory}

@@ -7,8 +7,7 @@ use Rattle.serde_json.specs.Find.{get, get_member}
 use Rattle.serde_json.specs.View.{view}
 use Rattle.value_store.specs.Placing.{Contents}
 use Rattle.value_store.specs.Roots.{start_contents}
-use Rattle.value_store.specs.declared.table_error.TableError.{TableError}
-use Rattle.value_store.specs.declared.table_error.TableError.TheVariants.{V1, V2, V3}
+use Rattle.value_store.specs.declared.table_error.TableError.{TableError, TheVariants.V1, TheVariants.V2, TheVariants.V3}
 use Rattle.value_store.specs.declared.table_error.TableError.TheVariants as table_error
 use Rattle.policy_glue.specs.Documents.{document_of, is_the_text}
 use Rattle.review_runner.specs.declared.reviews.review_document.Review.{Review}

@@ -4,8 +4,7 @@ use Rattle.value_store.specs.Placing.{Contents, first_values}
 use Rattle.value_store.specs.Value as kind
 use Rattle.value_store.specs.Value.{Value, value}
 use Rattle.review_runner.specs.Reviews.{contents_given}
-use Rattle.review_runner.specs.declared.refusals.run_error.RunError.{RunError}
-use Rattle.review_runner.specs.declared.refusals.run_error.RunError.TheVariants.{N2, N3}
+use Rattle.review_runner.specs.declared.refusals.run_error.RunError.{RunError, TheVariants.N2, TheVariants.N3}
 
 -- a review with this request
 abbrev pub review_of : List ℕ → List ℕ

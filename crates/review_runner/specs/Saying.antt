@@ -4,7 +4,7 @@ use Rattle.guest_memory.specs.Memory.{IsMemory}
 use Rattle.guest_memory.specs.declared.fault.Fault as guest
 use Rattle.bpf_machine.specs.State.{State}
 use Rattle.bpf_machine.specs.declared.status.Status.TheVariants.{Exited, Fault, Running}
-use Rattle.policy_glue.specs.Layout.{IsLayout, outcome_word}
+use Rattle.policy_glue.specs.Layout.{IsLayout}
 use Rattle.policy_glue.specs.Objections.{Objection, objection_of, objection_view, response_text}
 use Rattle.policy_glue.specs.Policy.{Rules}
 use Rattle.policy_glue.specs.Verdict.{Verdict}

@@ -4,8 +4,7 @@ use Rattle.guest_memory.specs.declared.fault.Fault.TheVariants.{F8}
 use Rattle.loader.specs.Contents as loader
 use Rattle.bpf_machine.specs.State.{State, start_state}
 use Rattle.bpf_machine.specs.Trace.{state_after}
-use Rattle.bpf_machine.specs.declared.status.Status.{Status}
-use Rattle.bpf_machine.specs.declared.status.Status.TheVariants.{Exited, Fault, Running}
+use Rattle.bpf_machine.specs.declared.status.Status.{Status, TheVariants.Exited, TheVariants.Fault, TheVariants.Running}
 use Rattle.policy_glue.specs.Compiled.{IsProgram}
 use Rattle.policy_glue.specs.Layout.{outcome_word}
 use Rattle.policy_glue.specs.Policy.{Rules}

@@ -3,7 +3,8 @@ use Rattle.value_store.proofs.Prelude.{◌≡◌, List, [], ◌∷◌, String, G
 use Rattle.std.specs.List.Sorted.{IsStrictlySortedBy}
 use Rattle.std.specs.Map.{keys_of}
 
-all_above : (k : String Global) (ms : List Entry) → AllByRecursion (λ l. string_cmp k l ≡ Less) (keys_of ms) → AllByRecursion (λ l. slice_cmp nat_cmp (string_bytes k) l ≡ Less) (member_keys (members_view ms))
+all_above : (k : String Global) (ms : List Entry) → AllByRecursion (λ l. string_cmp k l ≡ Less) (keys_of ms)
+    → AllByRecursion (λ l. slice_cmp nat_cmp (string_bytes k) l ≡ Less) (member_keys (members_view ms))
 all_above k [] h = tt
 all_above k (m ∷ ms) h = (h.0, all_above k ms h.1)
 

@@ -16,7 +16,8 @@ below_rest j k [] e h = tt
 below_rest j k (l ∷ ks) e h = grind (arith, nat_list_cmp_total, below_rest j k ks e h.1)
 
 -- what is below the key and all entries is below them all together
-below_inserted : (first key : List ℕ) (x : Value) (es : Entries) → slice_cmp nat_cmp first key ≡ Less → BelowAll first (keys_of es) → IfSome (inserted key x es) (λ more. BelowAll first (keys_of more))
+below_inserted : (first key : List ℕ) (x : Value) (es : Entries) → slice_cmp nat_cmp first key ≡ Less → BelowAll first (keys_of es)
+    → IfSome (inserted key x es) (λ more. BelowAll first (keys_of more))
 below_inserted first key x no_entries a b = (a, tt)
 below_inserted first key x (entry k v more) a b = grind (arith, below_inserted first key x more a b.1)
 

@@ -49,11 +49,13 @@ pub items_fail : (all : json.Items) (d : json.Data) (ds : json.Items) (m : Measu
 unfolding measure_of
 items_fail all d ds m go e = grind arith
 
-pub members_fail : (all : json.Members) (k : List ℕ) (d : json.Data) (ds : json.Members) (m : Measure) → MembersMeasured all (json.member k d ds) m → None ≡ measure_of d → None ≡ measure_of (json.object all)
+pub members_fail : (all : json.Members) (k : List ℕ) (d : json.Data) (ds : json.Members) (m : Measure) → MembersMeasured all (json.member k d ds) m
+    → None ≡ measure_of d → None ≡ measure_of (json.object all)
 unfolding measure_of
 members_fail all k d ds m go e = grind arith
 
-whole : {other : Bool} {size depth : ℕ} (m : Measure) → Measuring other size depth false 0 0 m → Some m ≡ (if other then None else Some (record { size = saturated (1 + size); depth = saturated (1 + depth) }))
+whole : {other : Bool} {size depth : ℕ} (m : Measure) → Measuring other size depth false 0 0 m
+    → Some m ≡ (if other then None else Some (record { size = saturated (1 + size); depth = saturated (1 + depth) }))
 whole {other = other} {size = size} {depth = depth} m go = grind arith
 
 pub items_end : (all : json.Items) (m : Measure) → ItemsMeasured all json.no_items m → Some m ≡ measure_of (json.array all)

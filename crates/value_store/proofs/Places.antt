@@ -17,7 +17,8 @@ pub has_key_place : (key : List ℕ) (es : Entries) → has_key key es ≡ is_so
 has_key_place key no_entries = refl
 has_key_place key (entry k v more) = grind (arith, has_key_place key more)
 
-fits_by : (o : Ordering) (key : List ℕ) (x : Value) (k : List ℕ) (v : Value) (more : Entries) (rest : Option Entries) → is_eq o ≡ false → IsSome rest → IsSome (inserted_by o key x k v more rest)
+fits_by : (o : Ordering) (key : List ℕ) (x : Value) (k : List ℕ) (v : Value) (more : Entries) (rest : Option Entries) → is_eq o ≡ false → IsSome rest
+    → IsSome (inserted_by o key x k v more rest)
 fits_by o key x k v more rest e there = grind arith
 
 other_key : (b : Bool) (p : Option ℕ) → (if b then Some 0 else option_map suc p) ≡ None → (b ≡ false) × (p ≡ None)

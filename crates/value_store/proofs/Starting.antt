@@ -106,10 +106,12 @@ pub record Opened (xs : List document.Value) (charge : ℕ) (vs : List ValueOrEr
   pub is : start_contents (map view xs) ≡ Ok (record { values = vs; charge = charge })
 
 -- these values and this charge are due
-pub due : (ds : List json.Data) (charge : ℕ) (vs : List ValueOrError) → Ok charge ≡ charge_in (start_contents ds) → vs ≡ first_values ++ map value (map plain_value ds) → start_contents ds ≡ Ok (record { values = vs; charge = charge })
+pub due : (ds : List json.Data) (charge : ℕ) (vs : List ValueOrError) → Ok charge ≡ charge_in (start_contents ds)
+    → vs ≡ first_values ++ map value (map plain_value ds) → start_contents ds ≡ Ok (record { values = vs; charge = charge })
 due ds charge vs e f = grind (arith, started ds (charged_ok (start_contents ds) charge e))
 
-pub opened : (xs : List document.Value) (charge : ℕ) (vs : List ValueOrError) → Ok charge ≡ charge_in (start_contents (map view xs)) → vs ≡ first_values ++ map (λ root. value (plain_value (view root))) xs → Opened xs charge vs
+pub opened : (xs : List document.Value) (charge : ℕ) (vs : List ValueOrError) → Ok charge ≡ charge_in (start_contents (map view xs))
+    → vs ≡ first_values ++ map (λ root. value (plain_value (view root))) xs → Opened xs charge vs
 opened xs charge vs e f =
     let start = started (map view xs) (charged_ok (start_contents (map view xs)) charge e) in
     let values_are : vs ≡ first_values ++ map value (map plain_value (map view xs)) = f ∙ ap (λ ws. first_values ++ ws) (map_plain xs) in

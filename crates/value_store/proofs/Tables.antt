@@ -17,7 +17,8 @@ pub record Stands (vs : List ValueOrError) : Type 0 where
 pub one_more : (vs : List ValueOrError) (v : ValueOrError) → Stands vs → result_depth v ≤ charge_limit + length vs + 1 → Stands (vs ++ v ∷ [])
 one_more vs v s fits = grind (arith, deepest-append, length-append)
 
-pub pushed_stands : (ok : Bool) (ns ms : List Node) (n : Node) → ms ≡ (if ok then ns ++ n ∷ [] else ns) → Stands (stored_values ns) → result_depth (stored n) ≤ charge_limit + length (stored_values ns) + 1 → Stands (stored_values ms)
+pub pushed_stands : (ok : Bool) (ns ms : List Node) (n : Node) → ms ≡ (if ok then ns ++ n ∷ [] else ns) → Stands (stored_values ns)
+    → result_depth (stored n) ≤ charge_limit + length (stored_values ns) + 1 → Stands (stored_values ms)
 pushed_stands true ns ms n e s fits = rw (e, map-append) (one_more (stored_values ns) (stored n) s fits)
 pushed_stands false ns ms n e s fits = rw e s
 

@@ -55,7 +55,8 @@ pub push_list : (v u : Vec document.Value Global) (x a b : document.Value) (m n 
 push_list v u x a b m n first second is whole1 whole2 deep1 deep2 =
     grind (arith, view-Array, items_view-append, joined_whole, join_depth, joined_value, join_push)
 
-put_value : (k : List ℕ) (d : json.Data) (ms : json.Members) → IsSome (inserted k (plain_value d) (plain_entries ms)) → Some (plain_entries (json.put k d ms)) ≡ inserted k (plain_value d) (plain_entries ms)
+put_value : (k : List ℕ) (d : json.Data) (ms : json.Members) → IsSome (inserted k (plain_value d) (plain_entries ms))
+    → Some (plain_entries (json.put k d ms)) ≡ inserted k (plain_value d) (plain_entries ms)
 put_value k d json.no_members there = refl
 put_value k d (json.member l e ms) there = grind (arith, put_value k d ms)
 
@@ -63,7 +64,8 @@ put_whole : (k : List ℕ) (d : json.Data) (ms : json.Members) → has_other d �
 put_whole k d json.no_members a b = grind arith
 put_whole k d (json.member l e ms) a b = grind (arith, put_whole k d ms)
 
-put_depth : (k : List ℕ) (d : json.Data) (ms : json.Members) → IsSome (inserted k (plain_value d) (plain_entries ms)) → entries_depth (plain_entries (json.put k d ms)) ≡ max (depth_of (plain_value d)) (entries_depth (plain_entries ms))
+put_depth : (k : List ℕ) (d : json.Data) (ms : json.Members) → IsSome (inserted k (plain_value d) (plain_entries ms))
+    → entries_depth (plain_entries (json.put k d ms)) ≡ max (depth_of (plain_value d)) (entries_depth (plain_entries ms))
 put_depth k d json.no_members there = refl
 put_depth k d (json.member l e ms) there = grind (arith, put_depth k d ms)
 

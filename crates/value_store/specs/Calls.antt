@@ -1,7 +1,6 @@
 -- What the calls of a store answer, from what stands at their references: nothing where a reference
 -- is none, or what stands there is of another kind.
-use Rattle.std.specs.Prelude.{◌≡◌, ℕ, Bool, true, List, [], ◌++◌, Option, Some, None, Result, Ok, Err, slice_get, option_map}
-use Rattle.std.specs.Prelude.{option_and_then}
+use Rattle.std.specs.Prelude.{◌≡◌, ℕ, Bool, true, List, [], ◌++◌, Option, Some, None, Result, Ok, Err, slice_get, option_map, option_and_then}
 use Rattle.value_store.specs.Value.{Value, null, boolean, int, text, list, map, Entries, ValueOrError, error, value, list_of, keys_of}
 use Rattle.value_store.specs.Value.{values_of, items_push, items_join}
 use Rattle.std.specs.declared.alloc.AllocError.{AllocError}

@@ -1,7 +1,6 @@
 -- What stands in lists and maps, and maps with one more entry.
 use Rattle.std.specs.Prelude.{ℕ, suc, Bool, ◌||◌, List, Option, Some, None, if◌then◌else◌, bytes_eq, is_some, option_map, false}
-use Rattle.std.specs.declared.cmp.Ordering.{Ordering}
-use Rattle.std.specs.declared.cmp.Ordering.TheVariants.{Less, Equal, Greater}
+use Rattle.std.specs.declared.cmp.Ordering.{Ordering, TheVariants.Less, TheVariants.Equal, TheVariants.Greater}
 use Rattle.std.specs.Ordering.{nat_cmp}
 use Rattle.std.specs.Cmp.Lexicographic.{slice_cmp}
 use Rattle.value_store.specs.Value.{Value, null, boolean, int, text, list, map, Items, no_items, item, Entries, no_entries, entry}

@@ -4,11 +4,10 @@ use Rattle.std.specs.Prelude.{IsOk, if◌then◌else◌, nat_le, ◌^◌, option
 use Rattle.serde_json.specs.Data as json
 use Rattle.serde_json.specs.Find.{as_i64}
 use Rattle.value_store.specs.Value as kind
-use Rattle.value_store.specs.Value.{Value, ValueOrError, value}
+use Rattle.value_store.specs.Value.{Value, value}
 use Rattle.value_store.specs.Size.{size_of}
 use Rattle.value_store.specs.Placing.{Contents, first_values, charge_limit}
-use Rattle.value_store.specs.declared.table_error.TableError.{TableError}
-use Rattle.value_store.specs.declared.table_error.TableError.TheVariants.{V1, V2, V3, Memory}
+use Rattle.value_store.specs.declared.table_error.TableError.{TableError, TheVariants.V1, TheVariants.V2, TheVariants.V3, TheVariants.Memory}
 
 abbrev mutual
   -- the value of a JSON document, the members of its objects as they stand; none where a number is no integer of 64 bits signed

@@ -2,8 +2,7 @@
 use Rattle.std.specs.Prelude.{◌≡◌, ℕ, ◌++◌, pos, negsuc, List, [], ◌∷◌, true, false, Some, None, Ok, Err, Float, codes, map}
 use Rattle.serde_json.specs.Data as json
 use Rattle.value_store.specs.Value as kind
-use Rattle.value_store.specs.Value.{Value, null, boolean, int, text, list, Items, no_items, item, Entries, no_entries, entry, ValueOrError}
-use Rattle.value_store.specs.Value.{error, value}
+use Rattle.value_store.specs.Value.{Value, null, boolean, int, text, list, no_items, item, Entries, no_entries, entry, ValueOrError, error, value}
 use Rattle.value_store.specs.Size.{size_of, depth_of}
 use Rattle.value_store.specs.Equality.{equal}
 use Rattle.value_store.specs.Order.{less}

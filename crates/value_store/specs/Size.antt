@@ -1,7 +1,6 @@
 -- How large and how deep a value is.
 use Rattle.std.specs.Prelude.{ℕ, ◌+◌, max, length}
-use Rattle.value_store.specs.Value.{Value, null, boolean, int, text, list, map, Items, no_items, item, Entries, no_entries, entry}
-use Rattle.value_store.specs.Value.{ValueOrError, error, value}
+use Rattle.value_store.specs.Value.{Value, null, boolean, int, text, list, map, Items, no_items, item, Entries, no_entries, entry, ValueOrError, error, value}
 
 abbrev mutual
   -- the size of a value: 1, and the bytes of a text, the sizes of items, and for each entry 1, the bytes of its key and its value's size

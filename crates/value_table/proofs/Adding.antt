@@ -61,7 +61,8 @@ get_last : (xs : List Cell) (c : Cell) → slice_get (xs ++ c ∷ []) (length xs
 get_last [] c = refl
 get_last (x ∷ xs) c = get_last xs c
 
-pub shared_put : (old : Heap) (bs : Backings) (ys mid : List Cell) (c lc : Cell) (l b n p i : ℕ) → slice_get old.cells l ≡ Some lc → lc.content ≡ cell.List b n → c.content ≡ cell.List p (n + 1) → ys ≡ mid ++ c ∷ [] → i ≡ length mid
+pub shared_put : (old : Heap) (bs : Backings) (ys mid : List Cell) (c lc : Cell) (l b n p i : ℕ) → slice_get old.cells l ≡ Some lc
+    → lc.content ≡ cell.List b n → c.content ≡ cell.List p (n + 1) → ys ≡ mid ++ c ∷ [] → i ≡ length mid
     → (n ≡ length (slice_index_or old.backings.lists b []) → (p ≡ b) × (length bs.lists ≡ length old.backings.lists))
     → (b' n' : ℕ) → content_at old.cells l ≡ Some (cell.List b' n') → n' ≡ length (slice_index_or old.backings.lists b' []) → (content_at ys i ≡ Some (cell.List b' (n' + 1))) × (length bs.lists ≡ length old.backings.lists)
 shared_put old bs ys mid c lc l b n p i get is made cells at shared h h1 e end = grind (arith, slice_get, get_last)

@@ -7,7 +7,8 @@ use Rattle.value_table.proofs.Mapped.{depth_one}
 use Rattle.value_table.proofs.TextLengths.{push_long, put_long}
 
 -- the measure of a list with one more item
-pub list_measured : (bs : Backings) (vs : List Value) (rs : List ℕ) (x n : ℕ) (m m' : Measure) (xc : Cell) → length rs ≡ n → IsMeasure (length vs) (kind.list (items_at vs rs)) m → Found bs vs x xc
+pub list_measured : (bs : Backings) (vs : List Value) (rs : List ℕ) (x n : ℕ) (m m' : Measure) (xc : Cell) → length rs ≡ n
+    → IsMeasure (length vs) (kind.list (items_at vs rs)) m → Found bs vs x xc
     → m'.depth ≡ max m.depth (xc.depth + 1) → m'.json ≡ saturated (m.json + commas n 1 + xc.json) → IsMeasure (length vs) (kind.list (items_at vs (rs ++ x ∷ []))) m'
 list_measured bs vs rs x n m m' xc count h fx deep long = grind (arith, items_more, push_long, items_length, push_depth)
 
@@ -16,7 +17,8 @@ with_last x [] = refl
 with_last x (y ∷ ys) = ap (λ zs. y ∷ zs) (with_last x ys)
 
 -- the measure of a map with one more entry behind the others
-pub map_measured : (bs : Backings) (bytes : List ℕ) (vs : List Value) (ks : List Part) (rs : List ℕ) (k : Part) (x n kj : ℕ) (m m' : Measure) (xc : Cell) → length ks ≡ n → length rs ≡ n → IsMeasure (length vs) (kind.map (entries_at bytes vs ks rs)) m → Found bs vs x xc
+pub map_measured : (bs : Backings) (bytes : List ℕ) (vs : List Value) (ks : List Part) (rs : List ℕ) (k : Part) (x n kj : ℕ) (m m' : Measure) (xc : Cell)
+    → length ks ≡ n → length rs ≡ n → IsMeasure (length vs) (kind.map (entries_at bytes vs ks rs)) m → Found bs vs x xc
     → kj ≡ saturated (length (quoted (part_of bytes k))) → m'.depth ≡ max m.depth (xc.depth + 1) → m'.json ≡ saturated (m.json + (1 + commas n 1) + kj + xc.json) → IsMeasure (length vs) (kind.map (entries_at bytes vs (ks ++ k ∷ []) (rs ++ x ∷ []))) m'
 map_measured bs bytes vs ks rs k x n kj m m' xc kc rc h fx key deep long =
     let same : length ks ≡ length rs = kc ∙ sym rc in
@@ -25,7 +27,8 @@ map_measured bs bytes vs ks rs k x n kj m m' xc kc rc h fx key deep long =
     grind (arith, depth_one, put_long)
 
 -- the cells of wholes
-pub list_gathered : (cs : Backings) (vs : List Value) (xs rs : List ℕ) (b : ℕ) (m : Measure) → xs ≡ rs → Holds cs.lists b (length xs) xs → AreBelow (length vs) rs → IsMeasure (length vs) (kind.list (items_at vs rs)) m → IsOrdered (kind.list (items_at vs rs))
+pub list_gathered : (cs : Backings) (vs : List Value) (xs rs : List ℕ) (b : ℕ) (m : Measure) → xs ≡ rs → Holds cs.lists b (length xs) xs
+    → AreBelow (length vs) rs → IsMeasure (length vs) (kind.list (items_at vs rs)) m → IsOrdered (kind.list (items_at vs rs))
     → Made cs vs (record { content = cell.List b (length rs); depth = m.depth; json = m.json }) (Some (kind.list (items_at vs rs)))
 list_gathered cs vs xs rs b m all held below measure ordered = grind arith
 

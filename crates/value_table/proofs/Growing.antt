@@ -89,7 +89,8 @@ pub record MembersStand (all : Entries) (vs : List Value) (keys : List (List ℕ
   pub whole : members_have_other rest ≡ false
   pub ordered : AreEntriesOrdered (plain_entries rest)
 
-pub members_step : (all : Entries) (us vs : List Value) (keys keys' : List (List ℕ)) (places places' : List ℕ) (r : ℕ) (key : List ℕ) (d : json.Data) (rest : json.Members) → keys' ≡ keys ++ key ∷ [] → places' ≡ places ++ r ∷ [] → HasGrown us vs → Stands vs r (plain_value d)
+pub members_step : (all : Entries) (us vs : List Value) (keys keys' : List (List ℕ)) (places places' : List ℕ) (r : ℕ) (key : List ℕ) (d : json.Data) (rest : json.Members)
+    → keys' ≡ keys ++ key ∷ [] → places' ≡ places ++ r ∷ [] → HasGrown us vs → Stands vs r (plain_value d)
     → MembersStand all us keys places (json.member key d rest) → MembersStand all vs keys' places' rest
 members_step all us vs keys keys' places places' r key d rest k e up s m =
     let left = values_of (plain_entries rest) in

@@ -1,5 +1,5 @@
 -- Values stay when backings grow and when values come behind them.
-use Rattle.value_table.proofs.Prelude.{◌≡◌, ℕ, zero, suc, ◌+◌, ◌-◌, ◌<◌, ◌≤◌, List, [], ◌∷◌, ◌++◌, length, get_or, take, drop, map, refl, sym, ap, ap₂, ◌∙◌, arith, length-append, append_assoc, append-nil, subst, zero-add, length-drop, Some, slice_get, slice_range, take-append-le, drop-append-le, get_or_append_left, get_or-append_seam, Value, part_of, value_in, items_at, entries_at, refs_at, keys_at, meaning, grown, IsText, AreTexts, AreBelow, IsRange, AreKeys, IsContent, IsCell, AreCells, Extends, Found, Part, Content, Cell, Backings}
+use Rattle.value_table.proofs.Prelude.{◌≡◌, ℕ, zero, suc, ◌+◌, ◌<◌, ◌≤◌, List, [], ◌∷◌, ◌++◌, length, get_or, take, drop, map, refl, sym, ap, ap₂, ◌∙◌, arith, length-append, append_assoc, append-nil, subst, zero-add, length-drop, Some, slice_get, slice_range, take-append-le, drop-append-le, get_or_append_left, get_or-append_seam, Value, part_of, value_in, items_at, entries_at, refs_at, keys_at, meaning, grown, IsText, AreTexts, AreBelow, IsRange, AreKeys, IsContent, IsCell, AreCells, Extends, Found, Part, Content, Cell, Backings}
 use Rattle.value_store.specs.Value as kind
 use Rattle.value_table.specs.declared.content.Content.TheVariants as cell
 

@@ -1,5 +1,5 @@
 -- What is seen of cells.
-use Rattle.value_table.proofs.Prelude.{◌≡◌, ℕ, zero, suc, ◌<◌, ◌≤◌, List, [], ◌∷◌, length, get_or, map, refl, sym, ap, ◌∙◌, arith, subst, Some, slice_get, IsSome, option_map, length-map, slice_get-map, slice_get-get_or, Value, list_of, keys_of, values_of, parts_of, part_of, value_in, entries_at, refs_at, keys_at, meaning, grown, key_in, parts, texts_of, values_at, IsText, IsRange, IsContent, Found, Part, Content, Cell, Backings, seen, sees_list, sees_map}
+use Rattle.value_table.proofs.Prelude.{◌≡◌, ℕ, zero, suc, ◌<◌, ◌≤◌, List, [], ◌∷◌, length, get_or, map, refl, sym, ap, ◌∙◌, arith, subst, Some, slice_get, IsSome, option_map, length-map, slice_get-map, slice_get-get_or, Value, parts_of, part_of, value_in, entries_at, refs_at, keys_at, meaning, grown, key_in, parts, texts_of, values_at, IsText, IsRange, IsContent, Found, Part, Content, Cell, Backings, seen, sees_list, sees_map}
 use Rattle.value_store.specs.Value as kind
 use Rattle.value_table.specs.declared.content.Content.TheVariants as cell
 use Rattle.value_table.proofs.Listed.{below_le, list_found}

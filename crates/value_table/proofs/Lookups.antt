@@ -1,5 +1,5 @@
 -- The place of a key that a search finds.
-use Rattle.value_table.proofs.Prelude.{◌≡◌, ℕ, zero, suc, ◌<◌, List, [], ◌∷◌, inl, inr, length, get_or, Option, Some, None, slice_get, false, true≢false, refl, sym, ap, ◌∙◌, subst, arith, bytes_eq, if◌then◌else◌, option_map, Less, nat_cmp, is_eq, slice_cmp, cases_lt, cond-false, cond-true, false_from_ne_true, is_eq-slice_cmp, bytes_eq-Decides, same_Some, get_or_from_slice_get, Ascend, IsOrdered, Value, Entries, no_entries, entry, keys_of, entries_part, place_of_key, value_in, entries_at, refs_at, keys_at, meaning, IsContent, Found, texts_of, Cell, Backings, IsAt, IsGap, place_among}
+use Rattle.value_table.proofs.Prelude.{◌≡◌, ℕ, zero, suc, ◌<◌, List, [], ◌∷◌, inl, inr, length, get_or, Some, None, slice_get, false, true≢false, refl, sym, ap, ◌∙◌, subst, arith, bytes_eq, if◌then◌else◌, option_map, Less, nat_cmp, is_eq, slice_cmp, cases_lt, cond-false, cond-true, false_from_ne_true, is_eq-slice_cmp, bytes_eq-Decides, same_Some, get_or_from_slice_get, Ascend, IsOrdered, Value, Entries, no_entries, entry, keys_of, entries_part, place_of_key, value_in, entries_at, refs_at, keys_at, meaning, IsContent, Found, texts_of, Cell, Backings, IsAt, IsGap, place_among}
 use Rattle.std.specs.List.Sorted.{IsStrictlySortedBy}
 use Rattle.value_store.specs.Value.{map}
 use Rattle.value_table.specs.declared.content.Content.TheVariants as cell
@@ -58,5 +58,6 @@ map_here bs vs r c k b n f e =
     let keys = map_keys bs vs r k b n (subst (IsContent bs r) e f.content) in
     record { entries = entries_at bs.bytes vs (keys_at bs.keys k n) (refs_at bs.lists b n); is = f.is ∙ m; keys = keys; ordered = subst Ascend keys (subst IsOrdered m f.ordered).0 }
 
-pub find_here : (bs : Backings) (v : Value) (k n : ℕ) (key : List ℕ) → MapHere bs v k n → option_map (place_of_key key) (entries_part v) ≡ Some (place_among key (texts_of bs.bytes (keys_at bs.keys k n)))
+pub find_here : (bs : Backings) (v : Value) (k n : ℕ) (key : List ℕ) → MapHere bs v k n
+    → option_map (place_of_key key) (entries_part v) ≡ Some (place_among key (texts_of bs.bytes (keys_at bs.keys k n)))
 find_here bs v k n key h = ap (λ w. option_map (place_of_key key) (entries_part w)) h.is ∙ ap (λ p. Some p) (place_by_keys key h.entries ∙ ap (place_among key) h.keys)

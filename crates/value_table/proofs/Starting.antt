@@ -27,13 +27,16 @@ pub due_with : (ds es : List json.Data) (charge : ℕ) (t : Held) → Ok charge 
 due_with ds es charge t e same is = rw is (due ds charge _ e (ap (λ xs. first_values ++ map value (map plain_value xs)) same))
 
 -- the error, null, false and true
-pub start_first : (h : Heap) (ps : List ℕ) (a b c : ℕ) → IsHeap h → ps ≡ a ∷ b ∷ c ∷ [] → Stands (heap_values h) a kind.null → Stands (heap_values h) b (kind.boolean false) → Stands (heap_values h) c (kind.boolean true) → StartsWith h ps first_values
+pub start_first : (h : Heap) (ps : List ℕ) (a b c : ℕ) → IsHeap h → ps ≡ a ∷ b ∷ c ∷ [] → Stands (heap_values h) a kind.null
+    → Stands (heap_values h) b (kind.boolean false) → Stands (heap_values h) c (kind.boolean true) → StartsWith h ps first_values
 start_first h ps a b c k e x y z = grind arith
 
-mapped_end : (ys : List document.Value) (x : document.Value) → map value (map plain_value (map view (ys ++ x ∷ []))) ≡ map value (map plain_value (map view ys)) ++ value (plain_value (view x)) ∷ []
+mapped_end : (ys : List document.Value) (x : document.Value)
+    → map value (map plain_value (map view (ys ++ x ∷ []))) ≡ map value (map plain_value (map view ys)) ++ value (plain_value (view x)) ∷ []
 mapped_end ys x = simp map-append
 
 -- one more root
-pub root_step : (ys zs : List document.Value) (x : document.Value) (mid new : List ValueOrError) (v : Value) → zs ≡ ys ++ x ∷ [] → mid ≡ first_values ++ map value (map plain_value (map view ys)) → v ≡ plain_value (view x) → new ≡ mid ++ value v ∷ []
+pub root_step : (ys zs : List document.Value) (x : document.Value) (mid new : List ValueOrError) (v : Value) → zs ≡ ys ++ x ∷ []
+    → mid ≡ first_values ++ map value (map plain_value (map view ys)) → v ≡ plain_value (view x) → new ≡ mid ++ value v ∷ []
     → new ≡ first_values ++ map value (map plain_value (map view zs))
 root_step ys zs x mid new v t m e n = grind (arith, ap₂, append_assoc, mapped_end)

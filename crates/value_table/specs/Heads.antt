@@ -1,7 +1,7 @@
 -- A value's head, which is all of it but the values of its parts.
 use Rattle.std.specs.Prelude.{ℕ, List, [], ◌∷◌, map, ⊤}
 use Rattle.value_store.specs.Value as kind
-use Rattle.value_store.specs.Value.{Value, Items, Entries, no_entries, entry, items_of}
+use Rattle.value_store.specs.Value.{Value, Entries, no_entries, entry, items_of}
 use Rattle.value_table.specs.Meaning.{part_of, value_in, refs_at, keys_at}
 use Rattle.value_table.specs.Heaps.{IsText, AreKeys}
 use Rattle.value_table.specs.declared.part.Part.{Part}

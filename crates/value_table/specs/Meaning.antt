@@ -1,6 +1,5 @@
 -- What cells stand for. A cell names parts of backings, which may have grown since it was placed.
-use Rattle.std.specs.Prelude.{ℕ, ◌+◌, List, [], ◌∷◌, ◌++◌, take, slice_range, slice_index_or, Option, Some, None, true, false}
-use Rattle.std.specs.Prelude.{option_and_then, slice_get}
+use Rattle.std.specs.Prelude.{ℕ, ◌+◌, List, [], ◌∷◌, ◌++◌, take, slice_range, slice_index_or, Option, Some, None, true, false, option_and_then, slice_get}
 use Rattle.value_store.specs.Value as kind
 use Rattle.value_store.specs.Value.{Value, Items, no_items, item, Entries, no_entries, entry}
 use Rattle.value_store.specs.Calls.{entries_part}

@@ -51,10 +51,12 @@ module _ (s : Setting) (p k depth : ℕ) (range part : List Insn) (c : Context) 
   -- ---- an operator for which one truth decides
 
   module _ (decides other : ℤ) (g : ValueOrError → ValueOrError → ValueOrError) (op : Absorbing decides other g) where
-    absorbing_tail : (items : List Value) (end : ℕ) → tail_at + 10 ≡ end → TailRuns s tail_at end (absorbing_turn decides other k) c depth k items f (λ acc v. g acc (f v)) (λ acc. is_decides (op.side acc)) (is_answer op) (λ v. 4) (λ v. 0)
+    absorbing_tail : (items : List Value) (end : ℕ) → tail_at + 10 ≡ end
+        → TailRuns s tail_at end (absorbing_turn decides other k) c depth k items f (λ acc v. g acc (f v)) (λ acc. is_decides (op.side acc)) (is_answer op) (λ v. 4) (λ v. 0)
     absorbing_tail items end place = grind (arith, goes_on, leaves, to_place)
 
-    absorbing_gives : (first : List Insn) (start z : ValueOrError) → size first ≡ 1 → is_decides (op.side start) ≡ false → is_answer op start ≡ true → Gives s start_at first c depth (k + 3) start 1 1
+    absorbing_gives : (first : List Insn) (start z : ValueOrError) → size first ≡ 1 → is_decides (op.side start) ≡ false → is_answer op start ≡ true
+        → Gives s start_at first c depth (k + 3) start 1 1
         → fold_of (λ acc v. g acc (f v)) start (range_of r) ≡ z → Gives s p (fold_code k range first (part ++ absorbing_turn decides other k)) c depth k z steps charge
     absorbing_gives first start z one undecided answers gives_first is =
         let tail = absorbing_turn decides other k in
@@ -79,7 +81,8 @@ module _ (s : Setting) (p k depth : ℕ) (range part : List Insn) (c : Context) 
 
   -- ---- `map` and `filter`
 
-  map_tail : (items : List Value) (end : ℕ) → range_of r ≡ Some items → ((v : Value) → IsItem r v → is_too_deep (f v) ≡ true → s.is_deep ≡ true) → TailRuns s tail_at end (map_turn k) c depth k items f (step_of Map f) (λ a. false) (is_shallow s.is_deep) (λ v. 4) (λ v. 2)
+  map_tail : (items : List Value) (end : ℕ) → range_of r ≡ Some items → ((v : Value) → IsItem r v → is_too_deep (f v) ≡ true → s.is_deep ≡ true)
+      → TailRuns s tail_at end (map_turn k) c depth k items f (step_of Map f) (λ a. false) (is_shallow s.is_deep) (λ v. 4) (λ v. 2)
   map_tail items end is may = record {
     goes_on = λ b acc i v item fine has at not_last on. map_turns s c depth k tail_at low b at.outer at.fits acc (f v) has at.part_is at.so_far (deep_excused s.is_deep acc (f v) (may v (record { items = items; place = i; range_is = is; item_is = item })) fine);
     leaves = λ b acc i v item fine has at not_last ends. absurd (cc);
@@ -100,7 +103,8 @@ module _ (s : Setting) (p k depth : ℕ) (range part : List Insn) (c : Context) 
 
   -- ---- all macros
 
-  by_macro : (m : Macro) → ((v : Value) → IsItem r v → holds_too_deep m v (f v) ≡ true → s.is_deep ≡ true) → Gives s p (macro_code m k range part) c depth k (folded m f (range_of r)) steps charge
+  by_macro : (m : Macro) → ((v : Value) → IsItem r v → holds_too_deep m v (f v) ≡ true → s.is_deep ≡ true)
+      → Gives s p (macro_code m k range part) c depth k (folded m f (range_of r)) steps charge
   unfolding and_absorbs or_absorbs
   by_macro All may = absorbing_gives no_ref yes_ref and_of and_absorbs first_true (start_of All) _ refl refl refl (true_gives s start_at c depth (k + 3) (omega arith)) (folds All f (range_of r) (λ a. refl))
   by_macro Exists may = absorbing_gives yes_ref no_ref or_of or_absorbs first_false (start_of Exists) _ refl refl refl (false_gives s start_at c depth (k + 3) (omega arith)) (folds Exists f (range_of r) (λ a. refl))

@@ -9,7 +9,8 @@ use Rattle.codegen_base.proofs.Leaves.{leaves_give}
 use Rattle.codegen_base.proofs.Lists.{pushed_depth}
 
 -- code within larger budgets
-pub gives_within : (s : Setting) (p : ℕ) (piece : List Insn) (c : Context) (depth base : ℕ) (x : ValueOrError) (n1 x1 n2 x2 : ℕ) → n1 ≤ n2 → x1 ≤ x2 → Gives s p piece c depth base x n1 x1 → Gives s p piece c depth base x n2 x2
+pub gives_within : (s : Setting) (p : ℕ) (piece : List Insn) (c : Context) (depth base : ℕ) (x : ValueOrError) (n1 x1 n2 x2 : ℕ) → n1 ≤ n2 → x1 ≤ x2
+    → Gives s p piece c depth base x n1 x1 → Gives s p piece c depth base x n2 x2
 gives_within s p piece c depth base x n1 x1 n2 x2 steps charge gives = record { runs = λ b has fits. looser s n2 x2 steps charge (gives.runs b has fits) }
 
 module _ (steps visits : Value → ℕ) (turn : (v : Value) → steps v + 11 ≤ 120 * (1 + visits v)) where

@@ -63,7 +63,9 @@ module _ (s : Setting) (q : ℕ) (transform : List Insn) (c : Context) (depth k 
       (store has3 5 (k + 3) refl at.fits.frame (omega arith)
       (arrived s refl (turned_put low at.outer (shows_registers c depth (k + 5) b _ refl error at.fits (names_error b.values at.fits.values.table.store)))))))))
 
-  pub where_turns : (truth x ≡ Yes → Gives s (q + 2) transform (with_item c k n v) depth (k + 5) y n2 x2) → (truth x ≡ Yes → is_too_deep y ≡ true → s.is_deep ≡ true) → is_shallow s.is_deep acc ≡ true → (b : Body) → BehindPart c depth k acc v x b → Comes s (chosen (truth x) n2 0 0 + 7) (chosen (truth x) x2 0 0 + 2) q b (q + size (map_where_turn transform k)) (Turned c depth k (when_true (truth x) (pushed acc y) acc) b)
+  pub where_turns : (truth x ≡ Yes → Gives s (q + 2) transform (with_item c k n v) depth (k + 5) y n2 x2)
+      → (truth x ≡ Yes → is_too_deep y ≡ true → s.is_deep ≡ true) → is_shallow s.is_deep acc ≡ true → (b : Body) → BehindPart c depth k acc v x b
+      → Comes s (chosen (truth x) n2 0 0 + 7) (chosen (truth x) x2 0 0 + 2) q b (q + size (map_where_turn transform k)) (Turned c depth k (when_true (truth x) (pushed acc y) acc) b)
   where_turns gives may fine b at =
       to_place s _ tail_end (tail_by (truth x) (is_error x) gives may fine b at (told_in c depth (k + 5) (b.registers R0) x b at.fits at.part_is))
 

@@ -19,7 +19,8 @@ module _ (decides other : ℤ) (f : ValueOrError → ValueOrError → ValueOrErr
   right : Tested decides other (op.side y) (b.registers R0)
   right = op.tested y (b.registers R0) (told_in c depth (k + 5) (b.registers R0) y b fits named)
 
-  goes_by : (u : Side) → op.side y ≡ u → Names b.values.values (word_at depth (k + 3) b) x → is_answer op x ≡ true → is_decides (op.side x) ≡ false → is_decides u ≡ false → Comes s 4 0 o b (o + 4) (Turned c depth k (f x y) b)
+  goes_by : (u : Side) → op.side y ≡ u → Names b.values.values (word_at depth (k + 3) b) x → is_answer op x ≡ true → is_decides (op.side x) ≡ false
+      → is_decides u ≡ false → Comes s 4 0 o b (o + 4) (Turned c depth k (f x y) b)
   goes_by Decides is_right so_far fine early on = absurd (cc)
   goes_by Leaves is_right so_far fine early on =
       begins has
@@ -35,7 +36,8 @@ module _ (decides other : ℤ) (f : ValueOrError → ValueOrError → ValueOrErr
       (arrived s refl (turned_put low outer (shows_registers c depth (k + 5) b _ refl (f x y) fits
       (rw (op.right_neither x y early is_right) (names_error b.values fits.values.table.store)))))))))
 
-  pub goes_on : Names b.values.values (word_at depth (k + 3) b) x → is_answer op x ≡ true → is_decides (op.side x) ≡ false → is_decides (op.side y) ≡ false → Comes s 4 0 o b (o + 4) (Turned c depth k (f x y) b)
+  pub goes_on : Names b.values.values (word_at depth (k + 3) b) x → is_answer op x ≡ true → is_decides (op.side x) ≡ false
+      → is_decides (op.side y) ≡ false → Comes s 4 0 o b (o + 4) (Turned c depth k (f x y) b)
   goes_on so_far fine early on = goes_by (op.side y) refl so_far fine early on
 
   pub leaves : is_decides (op.side y) ≡ true → Comes s 4 0 o b (o + 10) (Shows c depth (k + 5) (f x y) b)
@@ -101,7 +103,8 @@ module _ (s : Setting) (c : Context) (depth k o : ℕ) (low : k < 56) (b : Body)
       (arrived s refl (turned_put low outer shown)))))
       (λ deep. refused has 4 refl (helpers.push_deep asks acc x so_far item deep) (may refl deep)))))))
 
-  pub filter_turns : (y : ValueOrError) → (truth y ≡ Yes → depth_limit < result_depth (pushed acc x) → s.is_deep ≡ true) → Names b.values.values (b.registers R0) y → Comes s 7 2 o b (o + 8) (Turned c depth k (when_true (truth y) (pushed acc x) acc) b)
+  pub filter_turns : (y : ValueOrError) → (truth y ≡ Yes → depth_limit < result_depth (pushed acc x) → s.is_deep ≡ true)
+      → Names b.values.values (b.registers R0) y → Comes s 7 2 o b (o + 8) (Turned c depth k (when_true (truth y) (pushed acc x) acc) b)
   filter_turns y may named = filter_by (truth y) (is_error y) may (told b.values _ y fits.values.table.store fits.values.canonical named)
 
 -- ---- `exists_one`, and what is done behind its loop

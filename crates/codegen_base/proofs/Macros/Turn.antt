@@ -7,7 +7,8 @@ use Rattle.codegen_base.proofs.Runs.{and_then, into, to_place}
 
 module _ {c : Context} {depth k : ℕ} {x : ValueOrError} {b : Body} (low : k < 56) where
   -- the answer stays, and only registers have changed
-  pub turned_registers : (registers : Register → ℕ) → registers R10 ≡ b.registers R10 → Fits c depth k b → Names b.values.values (word_at depth (k + 3) b) x → Turned c depth k x b (record b { registers = registers })
+  pub turned_registers : (registers : Register → ℕ) → registers R10 ≡ b.registers R10 → Fits c depth k b
+      → Names b.values.values (word_at depth (k + 3) b) x → Turned c depth k x b (record b { registers = registers })
   turned_registers registers same fits named = grind arith
 
   -- all stays
@@ -34,7 +35,9 @@ fits_outside : (c : Context) (depth k : ℕ) (n : List ℕ) (v : Value) (old new
 fits_outside c depth k n v old new low first kept fits = grind arith
 
 -- code for an expression in which the item has its name is a piece of a turn
-pub item_gives : (s : Setting) (p : ℕ) (piece : List Insn) (c : Context) (depth k : ℕ) (n : List ℕ) (acc : ValueOrError) (v : Value) (x : ValueOrError) (steps charge : ℕ) (b : Body) → k < 56 → Gives s p piece (with_item c k n v) depth (k + 5) x steps charge → Stands s.image.code p piece → AtTurn c depth k acc v b → Comes s steps charge p b (p + size piece) (Shows c depth (k + 5) x b)
+pub item_gives : (s : Setting) (p : ℕ) (piece : List Insn) (c : Context) (depth k : ℕ) (n : List ℕ) (acc : ValueOrError) (v : Value) (x : ValueOrError) (steps charge : ℕ) (b : Body)
+    → k < 56 → Gives s p piece (with_item c k n v) depth (k + 5) x steps charge → Stands s.image.code p piece → AtTurn c depth k acc v b
+    → Comes s steps charge p b (p + size piece) (Shows c depth (k + 5) x b)
 item_gives s p piece c depth k n acc v x steps charge b low gives has turn =
     into s (Shows c depth (k + 5) x b) (λ b1 shown. record { shows = shown.shows; fits = fits_outside c depth k n v b b1 low turn.fits shown.keeps shown.fits; keeps = shown.keeps }) (gives.runs b has (grind arith))
 

@@ -1,7 +1,6 @@
 -- List and map literals. What is made so far stands in word k and, between the parts, in R0; the parts use the words behind it.
 use Rattle.std.specs.Prelude.{ℕ, ◌+◌, pos, List, [], ◌∷◌, ◌++◌}
-use Rattle.insn_codec.specs.declared.insn.Insn.{Insn}
-use Rattle.insn_codec.specs.declared.insn.Insn.TheVariants.{Call}
+use Rattle.insn_codec.specs.declared.insn.Insn.{Insn, TheVariants.Call}
 use Rattle.insn_codec.specs.declared.register.Register.TheVariants.{R0, R1, R2, R3}
 use Rattle.codegen_base.specs.Instructions.{copy, load, store}
 

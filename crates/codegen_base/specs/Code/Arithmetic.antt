@@ -1,12 +1,10 @@
 -- Arithmetic on ints of 64 bits, and the joining of texts and lists. A result that does not fit is found by comparing
 -- words, and of a product by dividing it back.
 use Rattle.std.specs.Prelude.{ℕ, ◌+◌, ◌^◌, ℤ, pos, negsuc, List, [], ◌∷◌, ◌++◌}
-use Rattle.insn_codec.specs.declared.alu_op.AluOp.{AluOp}
-use Rattle.insn_codec.specs.declared.alu_op.AluOp.TheVariants.{Add, Sub, Mul, Sdiv}
+use Rattle.insn_codec.specs.declared.alu_op.AluOp.{AluOp, TheVariants.Add, TheVariants.Sub, TheVariants.Mul, TheVariants.Sdiv}
 use Rattle.insn_codec.specs.declared.comparison.Comparison.{Comparison}
 use Rattle.insn_codec.specs.declared.comparison.Comparison.TheVariants.{Eq, Ne, Sge, Sgt, Sle, Slt}
-use Rattle.insn_codec.specs.declared.insn.Insn.{Insn}
-use Rattle.insn_codec.specs.declared.insn.Insn.TheVariants.{Call, Neg}
+use Rattle.insn_codec.specs.declared.insn.Insn.{Insn, TheVariants.Call, TheVariants.Neg}
 use Rattle.insn_codec.specs.declared.register.Register.TheVariants.{R0, R1, R2, R6, R7}
 use Rattle.insn_codec.specs.declared.width.Width.TheVariants.{W64}
 use Rattle.codegen_base.specs.Instructions.{compute, copy, load_wide, put, skip, skip_if, skip_where}

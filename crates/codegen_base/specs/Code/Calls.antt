@@ -1,13 +1,11 @@
 -- Operands, which go into registers.
 use Rattle.std.specs.Prelude.{ℕ, ◌+◌, List, [], ◌∷◌, ◌++◌, Option, Some, None}
 use Rattle.insn_codec.specs.declared.insn.Insn.{Insn}
-use Rattle.insn_codec.specs.declared.register.Register.{Register}
-use Rattle.insn_codec.specs.declared.register.Register.TheVariants.{R0}
+use Rattle.insn_codec.specs.declared.register.Register.{Register, TheVariants.R0}
 use Rattle.codegen_base.specs.Code.Leaves.{leaf_insn}
 use Rattle.codegen_base.specs.Instructions.{copy, store}
 use Rattle.codegen_base.specs.Pieces.{size}
-use Rattle.codegen_base.specs.declared.leaf.Leaf.{Leaf}
-use Rattle.codegen_base.specs.declared.leaf.Leaf.TheVariants.{Word}
+use Rattle.codegen_base.specs.declared.leaf.Leaf.{Leaf, TheVariants.Word}
 
 -- an operand into a register: a leaf by its own instruction, all else by its code, which leaves it in R0
 abbrev pub operand_code : Option Leaf → List Insn → Register → List Insn

@@ -1,7 +1,6 @@
 -- Comparisons of R1 with R2.
 use Rattle.std.specs.Prelude.{pos, List, [], ◌∷◌, ◌++◌}
-use Rattle.insn_codec.specs.declared.insn.Insn.{Insn}
-use Rattle.insn_codec.specs.declared.insn.Insn.TheVariants.{Call}
+use Rattle.insn_codec.specs.declared.insn.Insn.{Insn, TheVariants.Call}
 use Rattle.insn_codec.specs.declared.register.Register.TheVariants.{R0, R1}
 use Rattle.codegen_base.specs.Code.Logic.{not_tail}
 use Rattle.codegen_base.specs.Instructions.{copy}

@@ -1,11 +1,9 @@
 -- Macros: loops over the items of a list or the keys of a map, with the answer so far in word k + 3 and the item in word k + 4.
 use Rattle.std.specs.Prelude.{ℕ, ◌+◌, ℤ, pos, List, [], ◌∷◌, ◌++◌}
 use Rattle.insn_codec.specs.declared.comparison.Comparison.TheVariants.{Eq, Ne}
-use Rattle.insn_codec.specs.declared.insn.Insn.{Insn}
-use Rattle.insn_codec.specs.declared.insn.Insn.TheVariants.{Call}
+use Rattle.insn_codec.specs.declared.insn.Insn.{Insn, TheVariants.Call}
 use Rattle.insn_codec.specs.declared.register.Register.TheVariants.{R0, R1, R2}
-use Rattle.cel_macros.specs.declared.macros.Macro.{Macro}
-use Rattle.cel_macros.specs.declared.macros.Macro.TheVariants.{All, Exists, ExistsOne, Filter, Map}
+use Rattle.cel_macros.specs.declared.macros.Macro.{Macro, TheVariants.All, TheVariants.Exists, TheVariants.ExistsOne, TheVariants.Filter, TheVariants.Map}
 use Rattle.codegen_base.specs.Code.Logic.{no_ref, yes_ref}
 use Rattle.codegen_base.specs.Instructions.{copy, load, put, skip, skip_if, store}
 use Rattle.codegen_base.specs.Loops.{fold_code}
@@ -21,7 +19,8 @@ absorbing_turn decides other k =
     ∷ store (k + 3) R0
     ∷ []
 
--- `exists_one`: the answer so far is false where the predicate was never true, true where it was once, null where it was more often, and the error
+-- `exists_one`: the answer so far is false where the predicate was never true, true where it was once, null where it was
+-- more often, and the error
 unfoldable pub exists_one_turn : ℕ → List Insn
 exists_one_turn k =
     skip_if Eq R0 no_ref 8

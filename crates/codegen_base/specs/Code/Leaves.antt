@@ -1,11 +1,9 @@
 -- Leaves: values that one instruction puts into a register.
 use Rattle.std.specs.Prelude.{ℕ, ◌<◌, List, [], ◌∷◌}
 use Rattle.insn_codec.specs.declared.insn.Insn.{Insn}
-use Rattle.insn_codec.specs.declared.register.Register.{Register}
-use Rattle.insn_codec.specs.declared.register.Register.TheVariants.{R0}
+use Rattle.insn_codec.specs.declared.register.Register.{Register, TheVariants.R0}
 use Rattle.codegen_base.specs.Instructions.{load, put}
-use Rattle.codegen_base.specs.declared.leaf.Leaf.{Leaf}
-use Rattle.codegen_base.specs.declared.leaf.Leaf.TheVariants.{Reference, Word}
+use Rattle.codegen_base.specs.declared.leaf.Leaf.{Leaf, TheVariants.Reference, TheVariants.Word}
 
 -- the leaf into a register
 abbrev pub leaf_insn : Leaf → Register → Insn

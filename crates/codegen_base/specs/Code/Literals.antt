@@ -1,13 +1,11 @@
 -- Literals of null, truths, ints and texts.
 use Rattle.std.specs.Prelude.{ℕ, ℤ, pos, Bool, true, false, List, [], ◌∷◌}
 use Rattle.std.specs.Int.{w64, cast_unsigned}
-use Rattle.insn_codec.specs.declared.insn.Insn.{Insn}
-use Rattle.insn_codec.specs.declared.insn.Insn.TheVariants.{Call}
+use Rattle.insn_codec.specs.declared.insn.Insn.{Insn, TheVariants.Call}
 use Rattle.insn_codec.specs.declared.register.Register.TheVariants.{R1, R2}
 use Rattle.codegen_base.specs.Code.Leaves.{leaf_code}
 use Rattle.codegen_base.specs.Instructions.{load_wide, put_length}
-use Rattle.codegen_base.specs.declared.leaf.Leaf.{Leaf}
-use Rattle.codegen_base.specs.declared.leaf.Leaf.TheVariants.{Reference}
+use Rattle.codegen_base.specs.declared.leaf.Leaf.{Leaf, TheVariants.Reference}
 
 -- null, by its reference
 abbrev pub null_leaf : Leaf

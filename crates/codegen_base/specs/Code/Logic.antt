@@ -1,8 +1,7 @@
 -- Logical operators and the conditional. References 2 and 3 are those of false and true, 0 is the error's.
 use Rattle.std.specs.Prelude.{ℕ, ◌+◌, ℤ, pos, List, [], ◌∷◌, ◌++◌}
 use Rattle.insn_codec.specs.declared.comparison.Comparison.TheVariants.{Eq, Ne}
-use Rattle.insn_codec.specs.declared.insn.Insn.{Insn}
-use Rattle.insn_codec.specs.declared.insn.Insn.TheVariants.{Call}
+use Rattle.insn_codec.specs.declared.insn.Insn.{Insn, TheVariants.Call}
 use Rattle.insn_codec.specs.declared.register.Register.TheVariants.{R0, R1}
 use Rattle.codegen_base.specs.Instructions.{load, put, skip, skip_if, store}
 use Rattle.codegen_base.specs.Pieces.{size}

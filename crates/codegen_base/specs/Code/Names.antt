@@ -3,8 +3,7 @@ use Rattle.std.specs.Prelude.{ℕ, ℤ, pos, List, [], ◌∷◌, Option, Some, 
 use Rattle.insn_codec.specs.declared.insn.Insn.{Insn}
 use Rattle.cel_macros.specs.Environment.{lookup}
 use Rattle.codegen_base.specs.Code.Leaves.{leaf_code}
-use Rattle.codegen_base.specs.declared.leaf.Leaf.{Leaf}
-use Rattle.codegen_base.specs.declared.leaf.Leaf.TheVariants.{Reference, Word}
+use Rattle.codegen_base.specs.declared.leaf.Leaf.{Leaf, TheVariants.Reference, TheVariants.Word}
 
 -- the references of the roots
 abbrev pub root_references : List (List ℕ × ℤ)

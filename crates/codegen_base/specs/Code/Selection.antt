@@ -1,8 +1,7 @@
 -- Selection, indices, and functions of texts and sizes.
 use Rattle.std.specs.Prelude.{ℕ, ℤ, pos, List, [], ◌∷◌}
 use Rattle.insn_codec.specs.declared.comparison.Comparison.TheVariants.{Ne}
-use Rattle.insn_codec.specs.declared.insn.Insn.{Insn}
-use Rattle.insn_codec.specs.declared.insn.Insn.TheVariants.{Call}
+use Rattle.insn_codec.specs.declared.insn.Insn.{Insn, TheVariants.Call}
 use Rattle.insn_codec.specs.declared.register.Register.TheVariants.{R0, R1, R2, R3, R6}
 use Rattle.cel_macros.specs.Functions.{TextTest, StartsWith, EndsWith, Contains}
 use Rattle.codegen_base.specs.Instructions.{copy, load_wide, put_length, skip, skip_if}

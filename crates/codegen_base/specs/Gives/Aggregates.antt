@@ -34,7 +34,8 @@ pub record MadeFrom (c : Context) (depth k : ℕ) (x : ValueOrError) (old new : 
   pub keeps : Keeps (variable_count c) depth k old new
 
 -- the piece makes f x of the x in word k and R0
-pub record Builds (s : Setting) (p : ℕ) (piece : List Insn) (c : Context) (depth k : ℕ) (f : ValueOrError → ValueOrError) (steps charge : ℕ) : Type 0 where
+pub record Builds (s : Setting) (p : ℕ) (piece : List Insn) (c : Context) (depth k : ℕ) (f : ValueOrError → ValueOrError)
+    (steps charge : ℕ) : Type 0 where
   pub runs : (b : Body) (x : ValueOrError) → Stands s.image.code p piece → Made c depth k x b → Names b.values.values (b.registers R0) x
       → Comes s steps charge p b (p + size piece) (MadeFrom c depth k (f x) b)
 
@@ -53,7 +54,8 @@ EntriesGive s p piece c depth k es steps charge = Builds s p piece c depth k (λ
 -- a list takes 2 steps and 1 of charge beside its items, an item 4 steps and 2 of charge of its own
 pub record ListGives : Type 0 where
   pub none : (s : Setting) (p : ℕ) (c : Context) (depth k : ℕ) → ItemsGive s p [] c depth k [] 0 0
-  pub more : (s : Setting) (p k : ℕ) (item items : List Insn) (c : Context) (depth : ℕ) (x : ValueOrError) (xs : List ValueOrError) (n1 x1 n2 x2 : ℕ)
+  pub more : (s : Setting) (p k : ℕ) (item items : List Insn) (c : Context) (depth : ℕ)
+      (x : ValueOrError) (xs : List ValueOrError) (n1 x1 n2 x2 : ℕ)
       → k < 60
       → MayHold s x
       → Gives s p item c depth (k + 1) x n1 x1
@@ -67,7 +69,8 @@ pub record ListGives : Type 0 where
 -- a map takes 2 steps and 1 of charge beside its entries, an entry 6 steps and 2 of charge of its own
 pub record MapGives : Type 0 where
   pub none : (s : Setting) (p : ℕ) (c : Context) (depth k : ℕ) → EntriesGive s p [] c depth k [] 0 0
-  pub more : (s : Setting) (p k : ℕ) (key entry entries : List Insn) (c : Context) (depth : ℕ) (x y : ValueOrError) (es : List (ValueOrError × ValueOrError)) (n1 x1 n2 x2 n3 x3 : ℕ)
+  pub more : (s : Setting) (p k : ℕ) (key entry entries : List Insn) (c : Context) (depth : ℕ)
+      (x y : ValueOrError) (es : List (ValueOrError × ValueOrError)) (n1 x1 n2 x2 n3 x3 : ℕ)
       → k + 1 < 60
       → MayHold s y
       → Gives s p key c depth (k + 1) x n1 x1

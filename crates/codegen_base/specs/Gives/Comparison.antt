@@ -1,8 +1,7 @@
 -- Comparisons and membership.
 use Rattle.std.specs.Prelude.{ℕ, ◌<◌, List}
 use Rattle.insn_codec.specs.declared.insn.Insn.{Insn}
-use Rattle.insn_codec.specs.declared.register.Register.{Register}
-use Rattle.insn_codec.specs.declared.register.Register.TheVariants.{R1, R2}
+use Rattle.insn_codec.specs.declared.register.Register.{Register, TheVariants.R1, TheVariants.R2}
 use Rattle.value_store.specs.Value.{ValueOrError}
 use Rattle.cel_macros.specs.Comparison.{equal_of, greater_equal_of, greater_of, less_equal_of, less_of, member_of, unequal_of}
 use Rattle.codegen_base.specs.Code.Comparison.{equal_tail, less_tail, member_tail, not_less_tail, unequal_tail}

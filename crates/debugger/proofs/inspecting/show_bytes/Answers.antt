@@ -18,7 +18,8 @@ pub returns-in-Some : goal.returns-in-Some
 returns-in-Some g c = shows _ _ _ _ _ (search rules) (row_lent _ _ _ _ c.requires (count_within c.args.n (search rules)).0 (sym c.in-Some.ensures)) c.memory_lines.ensures
 
 pub returns-in-Some-read_bytes : goal.returns-in-Some-read_bytes
-returns-in-Some-read_bytes g c = shows_low _ _ _ (Some c.as_slice.result.now) _ (search rules) (ap (λ (t : List ℕ). Some t) c.as_slice.ensures.value ∙ c.in-Some-read_bytes.ensures.bytes) c.memory_lines-in-Some-read_bytes.ensures
+returns-in-Some-read_bytes g c =
+    shows_low _ _ _ (Some c.as_slice.result.now) _ (search rules) (ap (λ (t : List ℕ). Some t) c.as_slice.ensures.value ∙ c.in-Some-read_bytes.ensures.bytes) c.memory_lines-in-Some-read_bytes.ensures
 
 pub returns-in-None-read_bytes : goal.returns-in-None-read_bytes
 returns-in-None-read_bytes g c = shows_low _ _ _ None _ (search rules) c.in-None-read_bytes.ensures.bytes refl

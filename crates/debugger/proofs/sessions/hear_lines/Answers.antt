@@ -59,7 +59,8 @@ returns-in-Ok-None-clause-told g c = λ input before e f.
     c.hear_last.ensures.cause
 
 pub returns-in-Ok-None-clause-fails : goal.returns-in-Ok-None-clause-fails
-returns-in-Ok-None-clause-fails g c = fails_rest _ _ _ _ _ _ (c.in-Ok-None.ensures.ok ∙ c.loop-i.invariant.read) c.loop-i.invariant.wrote c.hear_last.ensures.ok c.hear_last.ensures.err c.hear_last.ensures.cause
+returns-in-Ok-None-clause-fails g c =
+    fails_rest _ _ _ _ _ _ (c.in-Ok-None.ensures.ok ∙ c.loop-i.invariant.read) c.loop-i.invariant.wrote c.hear_last.ensures.ok c.hear_last.ensures.err c.hear_last.ensures.cause
 
 pub returns-in-Ok-None-clause-no_memory : goal.returns-in-Ok-None-clause-no_memory
 returns-in-Ok-None-clause-no_memory g c = memory_rest _ c.hear_last.ensures.cause

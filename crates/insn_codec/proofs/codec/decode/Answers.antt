@@ -18,7 +18,8 @@ pub returns-in_err-insn-clause-alone : goal.returns-in_err-insn-clause-alone
 returns-in_err-insn-clause-alone c = alone_from c.args.first c.args.second c.from_residual.result (returns-in_err-insn-clause-is c)
 
 pub returns-then-spells-clause-is : goal.returns-then-spells-clause-is
-returns-then-spells-clause-is c = sym (spelled_some _ _ (candidate_of_words c.of_word.result c.args.first c.args.second c.high_part.result c.of_word.ensures.ranges c.of_word.ensures.bytes c.high_part.ensures ∙ sym c.candidate.ensures ∙ c.in_ok-insn.was) (c.if-spells.ensures.0 refl))
+returns-then-spells-clause-is c =
+    sym (spelled_some _ _ (candidate_of_words c.of_word.result c.args.first c.args.second c.high_part.result c.of_word.ensures.ranges c.of_word.ensures.bytes c.high_part.ensures ∙ sym c.candidate.ensures ∙ c.in_ok-insn.was) (c.if-spells.ensures.0 refl))
 
 pub returns-then-spells-clause-only : goal.returns-then-spells-clause-only
 returns-then-spells-clause-only c = only_from c.args.first c.args.second (Some c.in_ok-insn.insn) (returns-then-spells-clause-is c)
@@ -27,7 +28,8 @@ pub returns-then-spells-clause-alone : goal.returns-then-spells-clause-alone
 returns-then-spells-clause-alone c = alone_from c.args.first c.args.second (Some c.in_ok-insn.insn) (returns-then-spells-clause-is c)
 
 pub returns-else-spells-clause-is : goal.returns-else-spells-clause-is
-returns-else-spells-clause-is c = sym (spelled_other _ _ (candidate_of_words c.of_word.result c.args.first c.args.second c.high_part.result c.of_word.ensures.ranges c.of_word.ensures.bytes c.high_part.ensures ∙ sym c.candidate.ensures ∙ c.in_ok-insn.was) (iff_false c.if-spells.ensures refl))
+returns-else-spells-clause-is c =
+    sym (spelled_other _ _ (candidate_of_words c.of_word.result c.args.first c.args.second c.high_part.result c.of_word.ensures.ranges c.of_word.ensures.bytes c.high_part.ensures ∙ sym c.candidate.ensures ∙ c.in_ok-insn.was) (iff_false c.if-spells.ensures refl))
 
 pub returns-else-spells-clause-only : goal.returns-else-spells-clause-only
 returns-else-spells-clause-only c = only_from c.args.first c.args.second None (returns-else-spells-clause-is c)

@@ -1,5 +1,4 @@
 use Rattle.value_table.proofs.Prelude.{◌≡◌, ◌+◌, ◌++◌, ◌∷◌, [], ◌∙◌, map, string_bytes, take, sym, ap, append-nil, arith, rules, map-append, take_all, take_more}
-use Rattle.value_store.specs.Value as kind
 use Rattle.value_table.proofs.Growing.{enters, enters_on, keys_step, entries_stand}
 use Rattle.value_table.proofs.documents.add_entries.Goals as goal
 

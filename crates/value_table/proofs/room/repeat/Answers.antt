@@ -7,7 +7,8 @@ range_more {A} xs a b x h lt is =
     let whole : a + (b - a) ≡ b = omega (arith, h) in
     grind (arith, length-drop, get_or-drop, take_more)
 
-repeated : {A : Type 0} (xs ys zs : List A) (a b : ℕ) (x : A) → a ≤ b → b < length xs → ys ≡ xs ++ slice_range xs a b → x ≡ get_or ys b x → zs ≡ ys ++ x ∷ [] → zs ≡ xs ++ slice_range xs a (b + 1)
+repeated : {A : Type 0} (xs ys zs : List A) (a b : ℕ) (x : A) → a ≤ b → b < length xs → ys ≡ xs ++ slice_range xs a b → x ≡ get_or ys b x
+    → zs ≡ ys ++ x ∷ [] → zs ≡ xs ++ slice_range xs a (b + 1)
 repeated xs ys zs a b x h lt e is f = grind (arith, get_or_append_left, slice_range, append_assoc, range_more)
 
 pub loop-place-preserved : goal.loop-place-preserved

@@ -7,10 +7,12 @@ pub returns-in-Err : goal.returns-in-Err
 returns-in-Err c = read_refused (map item_of c.lines.lines.items) c.in-Some.front.now _ _ _ _ c.in-Err.error c.lines.invariant.4 c.in-Some.ensures.found (count c.lines.lines.items c.len-number.result (omega (arith, c.len-number.ensures, c.lines.lines.ok.0))) c.in-Err.ensures
 
 pub returns-in-Err-add_label : goal.returns-in-Err-add_label
-returns-in-Err-add_label c = label_refused (map item_of c.lines.lines.items) (λ q. get_by_text c.lines.labels q) (λ q. get_by_text c.add_label.new.labels q) c.in-Ok.line c.in-Some.front.now _ _ _ c.lines.slot _ c.in-Err-add_label.error c.lines.invariant.5 c.lines.invariant.4 c.in-Some.ensures.found (count c.lines.lines.items c.len-number.result (omega (arith, c.len-number.ensures, c.lines.lines.ok.0))) c.lines.invariant.3 c.in-Ok.ensures c.in-Err-add_label.ensures
+returns-in-Err-add_label c =
+    label_refused (map item_of c.lines.lines.items) (λ q. get_by_text c.lines.labels q) (λ q. get_by_text c.add_label.new.labels q) c.in-Ok.line c.in-Some.front.now _ _ _ c.lines.slot _ c.in-Err-add_label.error c.lines.invariant.5 c.lines.invariant.4 c.in-Some.ensures.found (count c.lines.lines.items c.len-number.result (omega (arith, c.len-number.ensures, c.lines.lines.ok.0))) c.lines.invariant.3 c.in-Ok.ensures c.in-Err-add_label.ensures
 
 pub returns-then-slot-gt-MAX_SLOTS : goal.returns-then-slot-gt-MAX_SLOTS
-returns-then-slot-gt-MAX_SLOTS c = full_refused (map item_of c.lines.lines.items) (λ q. get_by_text c.lines.labels q) c.in-Ok.line c.in-Some.front.now _ _ _ _ c.lines.invariant.4 c.in-Some.ensures.found (count c.lines.lines.items c.len-number.result (omega (arith, c.len-number.ensures, c.lines.lines.ok.0))) c.lines.invariant.3 c.in-Ok.ensures (c.in_default-add_label.ensures).0 (omega (arith, c.if-slot-gt-MAX_SLOTS.true, c.slots-slot.ensures, c.lines.invariant.0))
+returns-then-slot-gt-MAX_SLOTS c =
+    full_refused (map item_of c.lines.lines.items) (λ q. get_by_text c.lines.labels q) c.in-Ok.line c.in-Some.front.now _ _ _ _ c.lines.invariant.4 c.in-Some.ensures.found (count c.lines.lines.items c.len-number.result (omega (arith, c.len-number.ensures, c.lines.lines.ok.0))) c.lines.invariant.3 c.in-Ok.ensures (c.in_default-add_label.ensures).0 (omega (arith, c.if-slot-gt-MAX_SLOTS.true, c.slots-slot.ensures, c.lines.invariant.0))
 
 pub lines-preserved : goal.lines-preserved
 lines-preserved c =

@@ -9,7 +9,8 @@ pub count-requires-in-Map : goal.count-requires-in-Map
 count-requires-in-Map c = map_here c.args.self.now.backings c.args.self.now.cells c.args.place c.in-Map.field-0 c.in-Map.backing c.in-Map.count c.cell.result c.cell.ensures.found c.in-Map.is
 
 pub returns-in-List-clause-shape : goal.returns-in-List-clause-shape
-returns-in-List-clause-shape c = seen_list c.args.self.now.backings (heap_values c.args.self.now) c.args.place c.in-List.backing c.in-List.count c.count.result c.cell.result c.cell.ensures.found c.in-List.is c.count.ensures.count
+returns-in-List-clause-shape c =
+    seen_list c.args.self.now.backings (heap_values c.args.self.now) c.args.place c.in-List.backing c.in-List.count c.count.result c.cell.result c.cell.ensures.found c.in-List.is c.count.ensures.count
 
 pub returns-in-Map-clause-shape : goal.returns-in-Map-clause-shape
 returns-in-Map-clause-shape c =
