@@ -60,12 +60,13 @@ fn compiles_to_the_limits(rt: HostRuntime) -> Result<(), Fail> {
     Ok(())
 }
 
-/// A specification with this many validations, each with a text of 62,000 bytes that no other has.
-fn with_texts(alloc: Global, n: u64) -> Result<String, AllocError> {
-    let letters = "a".repeat(alloc, 61_998)?;
+/// A specification with 17 validations, each with a text that no other has: two digits, and behind them 61,998
+/// letters, or this many in the last. They share the text `a`.
+fn with_texts(alloc: Global, last: usize) -> Result<String, AllocError> {
     let mut spec = String::from_str(alloc, LIST)?;
-    for i in 0..n {
+    for i in 0..17 {
         let comma = if i == 0 { "" } else { "," };
+        let letters = "a".repeat(alloc, if i == 16 { last } else { 61_998 })?;
         let validation = format!(in alloc;
             "{comma}{{\"expression\":\"'{:02}{letters}' == 'a'\"}}",
             i
@@ -76,12 +77,13 @@ fn with_texts(alloc: Global, n: u64) -> Result<String, AllocError> {
     Ok(spec)
 }
 
+// 16 texts of 62,000 bytes and the one of `a` leave 56,575 bytes of 1,048,576 for the last.
 #[test]
 fn compiles_many_texts(rt: HostRuntime) -> Result<(), Fail> {
-    for (n, refusal) in [(16, None), (17, Some("G4"))] {
-        let spec = with_texts(rt.alloc(), n)?;
+    for (last, refusal) in [(56_573, None), (56_574, Some("G4"))] {
+        let spec = with_texts(rt.alloc(), last)?;
         let policy = policy_of(rt.alloc(), spec.as_str())?;
-        assert!(rt; comes_to(rt.alloc(), &policy, refusal)?, "{n}");
+        assert!(rt; comes_to(rt.alloc(), &policy, refusal)?, "{last}");
     }
     Ok(())
 }
