@@ -44,7 +44,7 @@ phrase whole a = One a
 phrase many items = Many items
 phrase keyed pairs = Keyed pairs
 
--- where the reader stands; `true` where the word before is an opening bracket
+-- where the reader stands; `true` where the word before is an opening bracket that is still to be counted
 pub data Step : Bool → Kind → Type 0 where
   Row : Class → Step false whole  -- at a phrase of the row
   Tail : Level → Tree → Step false whole  -- behind an operand of the level
@@ -58,7 +58,8 @@ pub data Step : Bool → Kind → Type 0 where
   Entry : List (Tree × Tree) → Step false keyed  -- at an entry, the others so far
   BehindEntry : List (Tree × Tree) → Step false keyed  -- behind an entry
 
--- what the reader does from there; `true` where the word before is an opening bracket or a question mark
+-- what the reader does from there; `true` where the word before is an opening bracket or a question mark that is still
+-- to be counted
 pub data Plan : Bool → Kind → Type 0 where
   never : {k : Kind} → Plan false k  -- it does not come there
   done : {k : Kind} → Of k → Plan false k  -- this is the phrase

@@ -1,4 +1,4 @@
--- Texts that are no expression, and how each is refused, worked by hand.
+-- Texts that are refused, and how, worked by hand.
 use Rattle.std.specs.Prelude.{ℕ, zero, suc, List, [], ◌∷◌, ◌++◌, Err, codes}
 use Rattle.cel_tokens.specs.declared.read_error.ReadError.{ReadError, TheVariants.P1, TheVariants.P2, TheVariants.P3, TheVariants.P4, TheVariants.P5}
 use Rattle.cel_reader.specs.Answers.{IsAnswer}

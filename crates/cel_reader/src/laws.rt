@@ -21,7 +21,7 @@ pub fn one_answer()
     ensures answer { HasOneAnswer }
 {}
 
-/// Texts that are no expression, and how each is refused, worked by hand.
+/// Texts that are refused, and how, worked by hand.
 #[tactic(auto, using(crate::proofs::Runs::Refusals::rows_stand))]
 pub fn refusal_rows_stand()
     ensures { RefusalRowsStand }

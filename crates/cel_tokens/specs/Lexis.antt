@@ -61,7 +61,7 @@ pub data TakesMemory : Bool → List ℕ → Type 0 where
       → TakesMemory signed rest
 
 -- what an answer of the code says. That there was no memory may be answered beside, but for a text that is refused
--- before any is taken: for its length, or at its first byte that is no blank and in no comment
+-- before any is taken: for its length, or in its first token, which is no text literal
 abbrev pub Answers : List ℕ → Result (Vec Token Global) ReadError → Type 0
 Answers source (Ok tokens) = Lexes source (Ok (map (seen source) tokens.items))
 Answers source (Err Memory) = (length source ≤ 65536) × TakesMemory true source

@@ -194,7 +194,7 @@ impl Emitter {
         whole_code(alloc, core, &around, slot)
     }
 
-    /// Puts the piece behind the code. The error says that there is no memory for it.
+    /// Puts the piece behind the code. The error says that there is no memory for it, or as in `put`.
     fn append(&mut self, alloc: Global, piece: &[Insn]) -> Result<(), AllocError>
         ensures ok { OnOk result (self.new ≡ with_piece self.old piece.now) }
         ensures err { OnErr result (self.new ≡ self.old) }
@@ -203,7 +203,7 @@ impl Emitter {
         self.extend(&begins)
     }
 
-    /// Puts these slots behind the code. The error says that there is no memory for them.
+    /// Puts these slots behind the code. The error says that there is no memory for them, or as in `put`.
     fn extend(&mut self, slots: &[Option<Insn>]) -> Result<(), AllocError>
         ensures ok { OnOk result (self.new ≡ record self.old { code = self.old.code ++ slots.now }) }
         ensures err { OnErr result (self.new ≡ self.old) }

@@ -1,4 +1,4 @@
--- Calls worked by hand, on fourteen values and five constants.
+-- Calls worked by hand, on the error, fifteen values and five constants.
 use Rattle.std.specs.Prelude.{◌≡◌, ℕ, zero, suc, ◌+◌, pos, negsuc, true, List, [], ◌∷◌, ◌++◌, codes}
 use Rattle.guest_memory.specs.declared.fault.Fault.TheVariants.{F3, F5, F6, F8}
 use Rattle.value_store.specs.Placing.{first_values}

@@ -63,7 +63,7 @@ pub record MadeOf (meant : Images) (kind : SourceKind) (known : Option FileSyste
   pub is_reading : IsReading known name reading
   pub made : MadeBy meant kind reading result
 
--- memory ran out, and the file of this name was read
+-- memory ran out at some reading of the file of this name, or behind it
 pub record RunsOut (kind : SourceKind) (known : Option FileSystem) (name : List ℕ) : Type 0 where
   pub reading : Reading
   pub is_reading : IsReading known name reading

@@ -68,7 +68,7 @@ Performs meant old (assemble text image) new outcome = MakesFile meant ProgramTe
 Performs meant old (list image) new outcome = ListsImage old image new outcome
 Performs meant old (debug image documents) new outcome = ⊥
 
--- memory ran out: known files stay, and no refusal stood before anything grew
+-- memory ran out: known files stay, and in what some reading gave no refusal stood before anything grew
 abbrev pub LacksMemory : Option FileSystem → Task → Option FileSystem → Type 0
 LacksMemory old (compile policy image) new = KeepsFiles old new × RunsOut PolicyDocument old policy
 LacksMemory old (review files n) new = ⊥
