@@ -1,6 +1,6 @@
 //! The checking of a policy's expressions.
 
-ghost use Rattle.std.specs.Prelude.{◌≡◌, map, option_map, string_bytes};
+ghost use Rattle.std.specs.Prelude.{◌≡◌, None, Ok, map, option_map, string_bytes};
 ghost use Rattle.cel_macros.specs.CoreView.{core_view};
 ghost use Rattle.policy_glue.specs.Checked.{Adds, Checks, ChecksConditions, ChecksRule, ChecksRules, ChecksVariables, SortsMessage};
 ghost use Rattle.policy_glue.specs.Policy.{named_view, rule_view, rules_view};
@@ -124,7 +124,8 @@ fn message_at(
     text: &Option<String>,
     scope: &Scope,
 ) -> Result<Option<Core>, CompileError>
-    ensures { SortsMessage scope.now place (option_map string_bytes text.now) result }
+    ensures sorts { SortsMessage scope.now place (option_map string_bytes text.now) result }
+    ensures none { option_map string_bytes text.now ≡ None → result ≡ Ok None }
 {
     match text {
         Some(text) => Ok(Some(part_judged(alloc, PartKind::Message, place, text.as_str(), scope)?)),

@@ -1,10 +1,11 @@
 //! Policies.
 
-ghost use Rattle.std.specs.Prelude.{◌≡◌, string_bytes};
+ghost use Rattle.std.specs.Prelude.{◌≡◌, ◌≢◌, Err, string_bytes};
 ghost use Rattle.std.specs.List.{list_any};
 ghost use Rattle.serde_json.specs.View.{view};
 ghost use Rattle.policy_glue.specs.Policy.{rules_view};
 ghost use Rattle.policy_glue.specs.Reading.{has_broken_message, has_line_break, has_too_many, judged, policy_in, policy_of, Reads};
+ghost use Rattle.policy_glue.specs.declared.policy_error.PolicyError.TheVariants.{Memory};
 
 use crate::documents::document;
 use crate::parts::Parts;
@@ -66,7 +67,8 @@ fn policy_of(alloc: Global, value: &Value) -> Result<Policy, PolicyError>
 
 /// The policy with these parts.
 fn judged(parts: Parts) -> Result<Policy, PolicyError>
-    ensures { Reads (judged (rules_view parts)) result }
+    ensures reads { Reads (judged (rules_view parts)) result }
+    ensures no_memory { result ≢ Err Memory }
 {
     if parts.validations.is_empty() {
         return Err(PolicyError::K4);

@@ -1,10 +1,11 @@
 //! The form of a policy's document.
 
-ghost use Rattle.std.specs.Prelude.{◌≡◌, option_map};
+ghost use Rattle.std.specs.Prelude.{◌≡◌, ◌≢◌, Err, option_map};
 ghost use Rattle.serde_json.specs.View.{view};
 ghost use Rattle.policy_glue.specs.Documents.{is_object_or_absent};
 ghost use Rattle.policy_glue.specs.Policy.{rules_view};
 ghost use Rattle.policy_glue.specs.Reading.{failure_in, has_head, has_spec_form, has_top_form, rules_in, spec_in, spec_parts, Forms};
+ghost use Rattle.policy_glue.specs.declared.policy_error.PolicyError.TheVariants.{Memory};
 
 use crate::documents::{has_only_keys, is_object_or_absent, is_the_text};
 use crate::failure_policy::FailurePolicy;
@@ -86,7 +87,8 @@ fn spec_parts(alloc: Global, value: &Value) -> Result<Parts, PolicyError>
 }
 
 fn failure_policy(value: Option<&Value>) -> Result<FailurePolicy, PolicyError>
-    ensures { Forms (λ f. f) (failure_in (option_map (λ v. view v.now) value.entry)) result }
+    ensures reads { Forms (λ f. f) (failure_in (option_map (λ v. view v.now) value.entry)) result }
+    ensures no_memory { result ≢ Err Memory }
 {
     match value {
         None => Ok(FailurePolicy::Fail),

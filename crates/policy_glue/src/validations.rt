@@ -1,10 +1,11 @@
 //! Validations in a document.
 
-ghost use Rattle.std.specs.Prelude.{◌≡◌, map, option_map};
+ghost use Rattle.std.specs.Prelude.{◌≡◌, ◌≢◌, Err, map, option_map};
 ghost use Rattle.serde_json.specs.View.{view, items_view};
 ghost use Rattle.policy_glue.specs.Documents.{each, list_in};
 ghost use Rattle.policy_glue.specs.Policy.{rule_view};
 ghost use Rattle.policy_glue.specs.Reading.{reason_in, rule_in, rule_parts, Forms};
+ghost use Rattle.policy_glue.specs.declared.policy_error.PolicyError.TheVariants.{Memory};
 
 use crate::documents::{has_only_keys, optional_text, text, text_or_empty};
 use crate::policy_error::PolicyError;
@@ -62,7 +63,8 @@ fn validation_parts(alloc: Global, value: &Value) -> Result<Validation, PolicyEr
 
 #[tactic(auto, unfolding(crate::specs::Reading::reason_in))]
 fn reason(value: Option<&Value>) -> Result<Reason, PolicyError>
-    ensures { Forms (λ r. r) (reason_in (option_map (λ v. view v.now) value.entry)) result }
+    ensures reads { Forms (λ r. r) (reason_in (option_map (λ v. view v.now) value.entry)) result }
+    ensures no_memory { result ≢ Err Memory }
 {
     match value {
         None => Ok(Reason::Invalid),

@@ -9,10 +9,10 @@ pub returns-in_err-message : goal.returns-in_err-message
 returns-in_err-message c =
     let n = rule_view c.args.validation.now in
     let sorts = rw c.as_str-text.ensures.value at c.in_ok-expression.ensures in
-    let unsaid = rule_unsaid c.args.scope.now c.args.place n c.in_ok-expression.expression c.in_err-message.field-0.0 sorts c.in_err-message.ensures in
+    let unsaid = rule_unsaid c.args.scope.now c.args.place n c.in_ok-expression.expression c.in_err-message.field-0.0 sorts c.in_err-message.ensures.sorts in
     passed_on (ChecksRule c.args.scope.now c.args.place n) _ _ unsaid c.from_residual-in_err-message.ensures.0 c.from_residual-in_err-message.ensures.1
 
 pub returns : goal.returns
 returns c =
     rule_is c.args.scope.now c.args.place (rule_view c.args.validation.now) _ (rw c.as_str-text.ensures.value at c.in_ok-expression.ensures)
-    c.in_ok-message.ensures
+    c.in_ok-message.ensures.sorts
