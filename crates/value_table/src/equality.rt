@@ -93,7 +93,7 @@ impl Heap {
     }
 
     // A place among the first items of a backing before which none is equal to the value at `x`. An index
-    // is made where no few items are searched a second time, and where there is memory for it.
+    // is made where that many items are searched a second time, and where there is memory for it.
     #[tactic(auto, using(crate::proofs::Comparisons::contents_of, crate::proofs::Growth::count_values, crate::proofs::Indexed::known_of))]
     fn start(&mut self, x: u64, backing: u64, count: u64) -> u64
         requires heap { IsHeap self.old }
