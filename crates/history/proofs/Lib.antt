@@ -1,3 +1,4 @@
+mod AsBefore
 mod Halving
 mod Places
 mod Searches

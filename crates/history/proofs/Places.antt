@@ -1,5 +1,5 @@
 -- Places at which a machine is kept.
-use Rattle.history.proofs.Prelude.{◌≡◌, ◌≢◌, ◌%◌, ◌++◌, append-nil, drop, ℕ, zero, suc, ◌+◌, ◌-◌, ◌<◌, ◌≤◌, Bool, true, false, not, List, [], ◌∷◌, length, refl, sym, ap, ◌∙◌, arith, subst, map, Option, Some, None, option_map, get_or, inl, inr, ◌⊎◌, common_steps, nat_tests, cases_lt, drop-append-le, drop-drop, drop-map, get_or-map, get_or_default, length-append, length-drop, length-map, map-append, append_assoc, Contains-append_cases, Contains-append_left, Contains-append_right, All-append, All-drop, All-nil, All-push, All-same, keep_last, get_or_from_slice_get, slice_get_within, All, Contains, slice_get, State, is_running, next_state, state_after, state_after-add, state_after-more, state_after-zero, stays_stopped, GivesUp, IsDue, IsKept, IsNearest, IsReplay, IsSpared, Keeps, Kept, Reaches, Trail, places_of, with_place}
+use Rattle.history.proofs.Prelude.{◌≡◌, ◌≢◌, ◌%◌, ◌++◌, append-nil, drop, ℕ, zero, suc, ◌+◌, ◌-◌, ◌<◌, ◌≤◌, Bool, true, false, not, List, [], ◌∷◌, length, refl, sym, ap, ◌∙◌, arith, subst, map, Option, Some, None, option_map, get_or, inl, inr, ◌⊎◌, common_steps, nat_tests, cases_lt, drop-append-le, drop-drop, drop-map, get_or-map, get_or_default, length-append, length-drop, length-map, map-append, append_assoc, Contains-append_cases, Contains-append_left, Contains-append_right, All-append, All-drop, All-nil, All-push, All-same, keep_last, get_or_from_slice_get, slice_get_within, All, Contains, slice_get, State, is_running, next_state, state_after, state_after-add, state_after-more, state_after-zero, stays_stopped, IsDue, IsKept, IsNearest, IsReplay, IsSpared, Keeps, Kept, Reaches, Trail, places_of, with_place}
 
 -- of the first n of these places, none at or before k is greater than p
 abbrev pub NoneNearer : List ℕ → ℕ → ℕ → ℕ → Type 0
@@ -193,60 +193,102 @@ places_kept place cs c ps room is full = grind (arith, common_steps, drop-map, l
 pub is_due : (ps : List ℕ) (k p : ℕ) → k % 1024 ≡ 0 → IsNearest (0 ∷ ps) k p → p ≢ k → IsDue ps k
 is_due ps k p round nearest other = grind arith
 
-pub spared_all : (a b : Kept) → b ≡ a → IsSpared a b
-spared_all a b same = grind arith
-
--- what was only given up is kept
-spared_keeps : (gave_up : Bool) (ps qs : List ℕ) → GivesUp gave_up ps qs → Keeps gave_up ps qs
-spared_keeps gave_up ps qs g = record {
-  added = [];
+-- nothing was added, and nothing given up
+keeps_same : (gave_up : Bool) (ps : List ℕ) → Keeps gave_up ps [] ps
+keeps_same gave_up ps = record {
   rounds = All-nil (λ (k : ℕ). k % 1024 ≡ 0);
-  gone = g.gone;
-  rest = g.rest ∙ ap (λ (xs : List ℕ). drop g.gone xs) (sym (append-nil ps));
-  within = omega (arith, g.within, ap (λ (xs : List ℕ). length xs) (append-nil ps));
-  room = λ told. omega (arith, g.none told);
+  gone = 0;
+  rest = sym (append-nil ps);
+  within = omega arith;
+  room = λ none. (omega arith, omega arith);
+}
+
+pub spared_all : (a b : Kept) → b ≡ a → IsSpared a b
+spared_all a b same = record {
+  origin = ap (λ (k : Kept). k.origin) same;
+  keeps = subst (λ (ps : List ℕ). Keeps b.gave_up ps [] b.places) (ap (λ (k : Kept). k.places) same) (keeps_same b.gave_up b.places);
+  told = λ none. ap (λ (k : Kept). k.gave_up) (sym same) ∙ none;
+}
+
+-- the oldest is given up
+pub spared_oldest : (a b : Kept) (x : ℕ) → b.origin ≡ a.origin → a.places ≡ x ∷ b.places → b.gave_up ≡ true → IsSpared a b
+spared_oldest a b x origin places told = record {
+  origin = origin;
+  keeps = record {
+    rounds = All-nil (λ (k : ℕ). k % 1024 ≡ 0);
+    gone = 1;
+    rest = sym (append-nil b.places) ∙ ap (λ (ps : List ℕ). drop 1 (ps ++ [])) (sym places);
+    within = omega (arith, ap (λ (ps : List ℕ). length ps) places, length-append a.places []);
+    room = λ none. let wrong : true ≡ false = sym told ∙ none in cc;
+  };
+  told = λ none. let wrong : true ≡ false = sym told ∙ none in cc;
 }
 
 pub kept_spared : (a b : Kept) → IsSpared a b → IsKept a b
-kept_spared a b s = record { origin = s.origin; keeps = spared_keeps b.gave_up a.places b.places s.gives_up; told = s.told }
+kept_spared a b s = record { origin = s.origin; added = []; keeps = s.keeps; told = s.told }
 
 pub kept_all : (a b : Kept) → b ≡ a → IsKept a b
 kept_all a b same = kept_spared a b (spared_all a b same)
 
-keeps_one : (gave_up : Bool) (ps qs : List ℕ) (k : ℕ) → k % 1024 ≡ 0 → qs ≡ with_place ps k → Keeps gave_up ps qs
-keeps_one gave_up ps qs k round is = grind arith
-
-pub spared_on : (a b c : Kept) → IsSpared a b → IsSpared b c → IsSpared a c
-spared_on a b c first second = grind (arith, nat_tests, drop-drop, length-drop)
-
-keeps_on : (f g : Bool) (ps qs rs : List ℕ) → (g ≡ false → f ≡ false) → Keeps f ps qs → Keeps g qs rs → Keeps g ps rs
-keeps_on f g ps qs rs told a b =
-    let all : qs ++ b.added ≡ drop a.gone (ps ++ (a.added ++ b.added)) =
-    ap (λ (xs : List ℕ). xs ++ b.added) a.rest ∙ sym (drop-append-le a.gone (ps ++ a.added) b.added a.within) ∙ ap (λ (xs : List ℕ). drop a.gone xs) (append_assoc ps a.added b.added) in
-    let long : length (qs ++ b.added) ≡ length (ps ++ (a.added ++ b.added)) - a.gone = ap (λ (xs : List ℕ). length xs) all ∙ length-drop a.gone (ps ++ (a.added ++ b.added)) in
-    let longer : length (ps ++ a.added) ≤ length (ps ++ (a.added ++ b.added)) = omega (arith, length-append ps a.added, length-append ps (a.added ++ b.added), length-append a.added b.added) in
+-- one place more, of at most 64
+keeps_one : (gave_up : Bool) (ps qs : List ℕ) (k : ℕ) → length ps ≤ 64 → k % 1024 ≡ 0 → qs ≡ with_place ps k → Keeps gave_up ps (k ∷ []) qs
+keeps_one gave_up ps qs k room round is =
+    let long : length (ps ++ k ∷ []) ≡ length ps + 1 = length-append ps (k ∷ []) in
     record {
-      added = a.added ++ b.added;
-      rounds = All-append (λ (k : ℕ). k % 1024 ≡ 0) a.added b.added a.rounds b.rounds;
-      gone = a.gone + b.gone;
-      rest = b.rest ∙ ap (λ (xs : List ℕ). drop b.gone xs) all ∙ drop-drop b.gone a.gone (ps ++ (a.added ++ b.added));
-      within = omega (arith, a.within, b.within, long, longer);
-      room = λ none. omega (arith, a.room (told none), b.room none, long, longer);
+      rounds = All-push (λ (i : ℕ). i % 1024 ≡ 0) [] k (All-nil (λ (i : ℕ). i % 1024 ≡ 0)) round;
+      gone = length (ps ++ k ∷ []) - 64;
+      rest = is;
+      within = omega arith;
+      room = λ none. (omega (arith, long, room), omega arith);
     }
 
+keeps_on : (f g : Bool) (ps qs rs xs ys : List ℕ) → (g ≡ false → f ≡ false) → Keeps f ps xs qs → Keeps g qs ys rs → Keeps g ps (xs ++ ys) rs
+keeps_on f g ps qs rs xs ys told a b =
+    let all : qs ++ ys ≡ drop a.gone (ps ++ (xs ++ ys)) =
+    ap (λ (zs : List ℕ). zs ++ ys) a.rest ∙ sym (drop-append-le a.gone (ps ++ xs) ys a.within) ∙ ap (λ (zs : List ℕ). drop a.gone zs) (append_assoc ps xs ys) in
+    let long : length (qs ++ ys) ≡ length (ps ++ (xs ++ ys)) - a.gone = ap (λ (zs : List ℕ). length zs) all ∙ length-drop a.gone (ps ++ (xs ++ ys)) in
+    let longer : length (ps ++ xs) ≤ length (ps ++ (xs ++ ys)) = omega (arith, length-append ps xs, length-append ps (xs ++ ys), length-append xs ys) in
+    record {
+      rounds = All-append (λ (k : ℕ). k % 1024 ≡ 0) xs ys a.rounds b.rounds;
+      gone = a.gone + b.gone;
+      rest = b.rest ∙ ap (λ (zs : List ℕ). drop b.gone zs) all ∙ drop-drop b.gone a.gone (ps ++ (xs ++ ys));
+      within = omega (arith, a.within, b.within, long, longer);
+      room = λ none.
+          let first = a.room (told none) in
+          let second = b.room none in
+          (omega (arith, first.0, second.0, length-append xs ys), omega (arith, first.1, second.1, long, longer));
+    }
+
+pub spared_on : (a b c : Kept) → IsSpared a b → IsSpared b c → IsSpared a c
+spared_on a b c first second = record {
+  origin = second.origin ∙ first.origin;
+  keeps = keeps_on b.gave_up c.gave_up a.places b.places c.places [] [] second.told first.keeps second.keeps;
+  told = λ none. first.told (second.told none);
+}
+
 pub kept_on : (a b c : Kept) → IsKept a b → IsKept b c → IsKept a c
-kept_on a b c first second = grind (arith, nat_tests, keeps_on)
+kept_on a b c first second = record {
+  origin = second.origin ∙ first.origin;
+  added = first.added ++ second.added;
+  keeps = keeps_on b.gave_up c.gave_up a.places b.places c.places first.added second.added second.told first.keeps second.keeps;
+  told = λ none. first.told (second.told none);
+}
 
 -- since these places were those of that run
-pub keeps_since : (ps : List ℕ) (a b : Kept) → a.places ≡ ps → IsKept a b → Keeps b.gave_up ps b.places
-keeps_since ps a b same kept = grind arith
+pub keeps_since : (ps : List ℕ) (a b : Kept) → a.places ≡ ps → IsKept a b → (added : List ℕ) × Keeps b.gave_up ps added b.places
+keeps_since ps a b same kept = (kept.added, subst (λ (qs : List ℕ). Keeps b.gave_up qs kept.added b.places) same kept.keeps)
 
--- one place more
-pub kept_one : (a b c : Kept) (k : ℕ) → k % 1024 ≡ 0 → IsSpared a b → c.origin ≡ b.origin → c.places ≡ with_place b.places k → c.gave_up ≡ b.gave_up → IsKept a c
-kept_one a b c k round spared origin places told =
+pub spares_since : (ps : List ℕ) (a b : Kept) → a.places ≡ ps → IsSpared a b → Keeps b.gave_up ps [] b.places
+spares_since ps a b same spared = subst (λ (qs : List ℕ). Keeps b.gave_up qs [] b.places) same spared.keeps
+
+-- one place more, of at most 64
+pub kept_one : (a b c : Kept) (k : ℕ) → length b.places ≤ 64 → k % 1024 ≡ 0 → IsSpared a b → c.origin ≡ b.origin → c.places ≡ with_place b.places k
+    → c.gave_up ≡ b.gave_up → IsKept a c
+kept_one a b c k room round spared origin places told =
     kept_on a b c (kept_spared a b spared) (record {
       origin = origin;
-      keeps = keeps_one c.gave_up b.places c.places k round places;
+      added = k ∷ [];
+      keeps = keeps_one c.gave_up b.places c.places k room round places;
       told = λ none. sym told ∙ none;
     })
 
@@ -282,3 +324,10 @@ rest_all P bs cs is all = All-same P bs (drop 1 cs) is (All-drop P 1 cs all)
 -- one more is kept, and the newest of them are
 pub newest_all : {C : Type 0} (P : C → Type 0) (bs cs : List C) (c : C) (room : ℕ) → bs ≡ keep_last room (cs ++ c ∷ []) → All P cs → P c → All P bs
 newest_all P bs cs c room is all one = All-same P bs (keep_last room (cs ++ c ∷ [])) is (All-drop P (length (cs ++ c ∷ []) - room) (cs ++ c ∷ []) (All-push P cs c all one))
+
+-- so many are kept at most
+pub rest_within : {C : Type 0} (bs cs : List C) (n : ℕ) → bs ≡ drop 1 cs → length cs ≤ n → length bs ≤ n
+rest_within {C = C} bs cs n is low = omega (arith, ap (λ (xs : List C). length xs) is, length-drop 1 cs, low)
+
+pub newest_within : {C : Type 0} (bs cs : List C) (room : ℕ) → bs ≡ keep_last room cs → room ≡ 64 → length bs ≤ 64
+newest_within {C = C} bs cs room is full = omega (arith, ap (λ (xs : List C). length xs) is, length-drop (length cs - room) cs, full)

@@ -4,5 +4,5 @@ pub use Rattle.std.specs.{List.All, List.Contains, List.IsAllAdjacentAnswer, Lis
 pub use Rattle.bpf_machine.specs.{Laws.goes_on, Laws.state_after-add, Laws.state_after-more, Laws.state_after-zero, Laws.stays_stopped, State.State, Step.is_running}
 unfoldable pub use Rattle.bpf_machine.specs.{Step.next_state, Trace.state_after}
 pub use Rattle.circular_buffer.specs.{Buffer.keep_last}
-pub use Rattle.history.specs.{Search.FirstIsLeast, Search.IsFirst, Search.IsLast, Search.LastIsGreatest, Trail.GivesUp, Trail.IsCheckpoint, Trail.IsDue, Trail.IsKept, Trail.IsNearest, Trail.IsReplay, Trail.IsSpared, Trail.Keeps, Trail.Kept, Trail.Reaches, Trail.Trail, Trail.places_of, Trail.with_place}
+pub use Rattle.history.specs.{AsBefore.IsAsBefore, Search.FirstIsLeast, Search.IsFirst, Search.IsLast, Search.LastIsGreatest, Trail.IsCheckpoint, Trail.IsDue, Trail.IsKept, Trail.IsNearest, Trail.IsReplay, Trail.IsSpared, Trail.Keeps, Trail.Kept, Trail.Reaches, Trail.Trail, Trail.places_of, Trail.with_place}
 unfoldable pub use Rattle.history.specs.{Search.first_stop, Search.is_at, Search.is_stop, Search.last_stop}

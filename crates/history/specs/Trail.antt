@@ -33,39 +33,32 @@ IsDue places k = (k % 1024 ≡ 0) × (Contains (0 ∷ places) k → ⊥)
 abbrev pub with_place : List ℕ → ℕ → List ℕ
 with_place places k = keep_last 64 (places ++ k ∷ [])
 
--- places behind the old ones were added, multiples of 1,024, and none is gone but the oldest of all: those that make room for the
--- newest 64, and where some were given up, those
-pub record Keeps (gave_up : Bool) (old new : List ℕ) : Type 0 where
-  pub added : List ℕ
+-- behind the old places stand those that were added, multiples of 1,024, and of all of them none is gone but the oldest: at most one for
+-- each that was added, those beyond the newest 64; and where some were given up, those
+pub record Keeps (gave_up : Bool) (old added new : List ℕ) : Type 0 where
   pub rounds : All (λ k. k % 1024 ≡ 0) added
   pub gone : ℕ
   pub rest : new ≡ drop gone (old ++ added)
   pub within : gone ≤ length (old ++ added)
-  pub room : gave_up ≡ false → gone ≤ length (old ++ added) - 64
+  pub room : gave_up ≡ false → (gone ≤ length added) × (gone ≤ length (old ++ added) - 64)
 
--- none was added, and none is gone but the oldest, where some were given up
-pub record GivesUp (gave_up : Bool) (old new : List ℕ) : Type 0 where
-  pub gone : ℕ
-  pub rest : new ≡ drop gone old
-  pub within : gone ≤ length old
-  pub none : gave_up ≡ false → gone ≡ 0
-
--- one run, whose places were kept or given up since
+-- one run, to which places were added since
 pub record IsKept (old new : Kept) : Type 0 where
   pub origin : new.origin ≡ old.origin
-  pub keeps : Keeps new.gave_up old.places new.places
+  pub added : List ℕ
+  pub keeps : Keeps new.gave_up old.places added new.places
   pub told : new.gave_up ≡ false → old.gave_up ≡ false
 
--- one run, whose places were at most given up since
+-- one run, to which no place was added since
 pub record IsSpared (old new : Kept) : Type 0 where
   pub origin : new.origin ≡ old.origin
-  pub gives_up : GivesUp new.gave_up old.places new.places
+  pub keeps : Keeps new.gave_up old.places [] new.places
   pub told : new.gave_up ≡ false → old.gave_up ≡ false
 
 -- place k was added where some may have been given up before
 pub record HasPlace (old new : Kept) (k : ℕ) : Type 0 where
   pub between : List ℕ
-  pub gives_up : GivesUp new.gave_up old.places between
+  pub keeps : Keeps new.gave_up old.places [] between
   pub added : new.places ≡ with_place between k
 
 -- the run stands at place k in the state of place n, or has not passed it

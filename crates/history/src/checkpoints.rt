@@ -25,7 +25,7 @@ pub(crate) struct Checkpoints<E: Emulator> {
 }
 
 impl<E: Emulator> Model for Checkpoints<E> {
-    ghost use Rattle.std.specs.Prelude.{◌≡◌, All, map};
+    ghost use Rattle.std.specs.Prelude.{◌≡◌, ◌≤◌, All, length, map};
     ghost use Rattle.std.specs.Coded.{codes};
     ghost use Rattle.value_store.specs.Codes.{coded_stored};
     ghost use Rattle.history.specs.Trail.{IsCheckpoint, Kept};
@@ -36,7 +36,7 @@ impl<E: Emulator> Model for Checkpoints<E> {
 
     ghost view = { λ c. record { origin = E.state c.start.machine; places = map (λ p. p.place) c.ring.items; gave_up = c.gave_up } };
 
-    ghost invariant = { λ c. (c.start.place ≡ 0) × (c.ring.capacity ≡ 64) × All (IsCheckpoint E.state (E.state c.start.machine)) c.ring.items };
+    ghost invariant = { λ c. (c.start.place ≡ 0) × (c.ring.capacity ≡ 64) × All (IsCheckpoint E.state (E.state c.start.machine)) c.ring.items × (length c.ring.items ≤ 64) };
 }
 
 impl<E: Emulator> Checkpoints<E> {
@@ -84,6 +84,7 @@ impl<E: Emulator> Checkpoints<E> {
     }
 
     /// Gives up the oldest checkpoint, for want of memory.
+    #[tactic(auto, using(crate::proofs::Places::spared_all, crate::proofs::Places::spared_oldest))]
     fn take_oldest(&mut self) -> Option<Checkpoint<E>>
         ensures spared { IsSpared self.old self.new }
         ensures some { IfSome result (λ c. IsCheckpoint E.state self.old.origin c × (self.old.places ≡ c.place ∷ self.new.places)) }
@@ -97,6 +98,7 @@ impl<E: Emulator> Checkpoints<E> {
     /// A machine of one's own at the greatest place at or before `k` of the start, the checkpoints
     /// and the machine that is shown. Where memory is refused, the oldest checkpoints are given up
     /// for it, and the one that is looked for is taken itself.
+    #[tactic(auto, using(crate::proofs::Places::spared_all))]
     pub(crate) fn aside(
         &mut self,
         shown: &Checkpoint<E>,
@@ -125,6 +127,7 @@ impl<E: Emulator> Checkpoints<E> {
 
     /// One step on of a machine aside. Where memory is refused, the oldest checkpoints are given up
     /// for it.
+    #[tactic(auto, using(crate::proofs::Places::spared_all, crate::proofs::Places::spared_on))]
     pub(crate) fn step(&mut self, machine: &mut Checkpoint<E>) -> Result<(), AllocError>
         requires { machine.old.place + 1 < 2 ^ 64 }
         ensures spared { IsSpared self.old self.new }

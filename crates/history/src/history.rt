@@ -2,6 +2,7 @@
 ghost use Rattle.std.specs.Prelude.{◌≡◌, ◌<◌, ◌-◌, ℕ, IfOk, OnErr, OnOk};
 ghost use Rattle.bpf_machine.specs.State.{State};
 ghost use Rattle.bpf_machine.specs.Trace.{state_after};
+ghost use Rattle.history.specs.AsBefore.{IsAsBefore};
 ghost use Rattle.history.specs.Search.{first_stop, last_stop};
 
 use crate::emulator::Emulator;
@@ -30,24 +31,23 @@ pub trait History: Drop {
     fn machine(&self) -> &Self::Machine
         ensures { Self.Machine.state result.now ≡ state_after (place self.now) (origin self.now) };
 
-    /// Shows place `k`. A refused growth leaves the place that is shown.
+    /// Shows place `k`. If it runs out of memory, every answer is as before.
     fn go(&mut self, k: u64) -> Result<(), AllocError>
         ensures ok { OnOk result (place self.new ≡ k) }
-        ensures err { OnErr result (place self.new ≡ place self.old) }
-        ensures origin { origin self.new ≡ origin self.old };
+        ensures origin { origin self.new ≡ origin self.old }
+        ensures as_before { OnErr result (IsAsBefore origin place self.old self.new) };
 
     /// The least place after the one shown and up to `to` at which the run is to stop, since it is
-    /// stopped there or `pc` is one of the slots in `stops`; else `to`. Shows what it showed.
+    /// stopped there or `pc` is one of the slots in `stops`; else `to`. Every answer is as before,
+    /// also if it runs out of memory.
     fn first(&mut self, to: u64, stops: &[u64]) -> Result<u64, AllocError>
         requires { place self.old < to }
         ensures found { IfOk result (λ j. j ≡ first_stop stops.now (origin self.old) (place self.old) (to - place self.old)) }
-        ensures place { place self.new ≡ place self.old }
-        ensures origin { origin self.new ≡ origin self.old };
+        ensures as_before { IsAsBefore origin place self.old self.new };
 
     /// The greatest place before the one shown whose `pc` is one of the slots in `stops`, else 0.
-    /// Shows what it showed.
+    /// Every answer is as before, also if it runs out of memory.
     fn last(&mut self, stops: &[u64]) -> Result<u64, AllocError>
         ensures found { IfOk result (λ j. j ≡ last_stop stops.now (origin self.old) (place self.old)) }
-        ensures place { place self.new ≡ place self.old }
-        ensures origin { origin self.new ≡ origin self.old };
+        ensures as_before { IsAsBefore origin place self.old self.new };
 }

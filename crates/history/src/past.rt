@@ -1,8 +1,9 @@
 //! A history that keeps checkpoints of its run and replays what lies between them.
-ghost use Rattle.std.specs.Prelude.{◌≡◌, ◌-◌, ◌<◌, ◌≤◌, [], false, IfOk, IsOk, OnErr, OnOk};
+ghost use Rattle.std.specs.Prelude.{◌≡◌, ◌-◌, ◌<◌, ◌≤◌, ℕ, List, [], false, IfOk, IsOk, OnErr, OnOk};
 ghost use Rattle.bpf_machine.specs.Trace.{state_after};
+ghost use Rattle.history.specs.AsBefore.{IsAsBefore};
 ghost use Rattle.history.specs.Search.{first_stop, last_stop};
-ghost use Rattle.history.specs.Trail.{GivesUp, IsCheckpoint, IsReplay, Keeps, Reaches};
+ghost use Rattle.history.specs.Trail.{IsCheckpoint, IsReplay, Keeps, Reaches, Trail};
 
 use crate::checkpoint::Checkpoint;
 use crate::checkpoints::Checkpoints;
@@ -87,13 +88,14 @@ impl<E: Emulator> History for Past<E> {
         &self.shown.machine
     }
 
+    #[tactic(auto, using(crate::proofs::AsBefore::as_before))]
     fn go(&mut self, k: u64) -> Result<(), AllocError>
         ensures ok { OnOk result (self.new.place ≡ k) }
-        ensures err { OnErr result (self.new.place ≡ self.old.place) }
         ensures origin { self.new.origin ≡ self.old.origin }
+        ensures as_before { OnErr result (IsAsBefore (λ (h : Trail). h.origin) (λ (h : Trail). h.place) self.old self.new) }
         ensures replayed { OnOk result (IsReplay self.old k self.new.replayed) }
         ensures unmoved { OnErr result (self.new.replayed ≡ self.old.replayed) }
-        ensures keeps { Keeps self.new.gave_up self.old.checkpoints self.new.checkpoints }
+        ensures keeps { (added : List ℕ) × Keeps self.new.gave_up self.old.checkpoints added self.new.checkpoints }
         ensures memory { OnErr result (self.new.checkpoints ≡ []) }
         // No memory is taken to stay, nor to go on behind a stopped state.
         ensures no_memory { self.old.place ≤ k → Reaches self.old.origin self.old.place k → IsOk result × (self.new.gave_up ≡ false) }
@@ -115,13 +117,13 @@ impl<E: Emulator> History for Past<E> {
         Ok(())
     }
 
+    #[tactic(auto, using(crate::proofs::AsBefore::as_before, crate::proofs::Places::keeps_since))]
     fn first(&mut self, to: u64, stops: &[u64]) -> Result<u64, AllocError>
         requires { self.old.place < to }
         ensures found { IfOk result (λ j. j ≡ first_stop stops.now self.old.origin self.old.place (to - self.old.place)) }
-        ensures place { self.new.place ≡ self.old.place }
-        ensures origin { self.new.origin ≡ self.old.origin }
+        ensures as_before { IsAsBefore (λ (h : Trail). h.origin) (λ (h : Trail). h.place) self.old self.new }
         ensures replayed { self.new.replayed ≡ self.old.replayed }
-        ensures keeps { Keeps self.new.gave_up self.old.checkpoints self.new.checkpoints }
+        ensures keeps { (added : List ℕ) × Keeps self.new.gave_up self.old.checkpoints added self.new.checkpoints }
         ensures memory { OnErr result (self.new.checkpoints ≡ []) }
         // No memory is taken to look one place on, nor behind a stopped state.
         ensures no_memory { Reaches self.old.origin self.old.place (to - 1) → IsOk result × (self.new.gave_up ≡ false) }
@@ -130,12 +132,12 @@ impl<E: Emulator> History for Past<E> {
         first_after(&mut self.checkpoints, &self.shown, to, &Stops::of(stops))
     }
 
+    #[tactic(auto, using(crate::proofs::AsBefore::as_before, crate::proofs::Places::spares_since))]
     fn last(&mut self, stops: &[u64]) -> Result<u64, AllocError>
         ensures found { IfOk result (λ j. j ≡ last_stop stops.now self.old.origin self.old.place) }
-        ensures place { self.new.place ≡ self.old.place }
-        ensures origin { self.new.origin ≡ self.old.origin }
+        ensures as_before { IsAsBefore (λ (h : Trail). h.origin) (λ (h : Trail). h.place) self.old self.new }
         ensures replayed { self.new.replayed ≡ self.old.replayed }
-        ensures gives_up { GivesUp self.new.gave_up self.old.checkpoints self.new.checkpoints }
+        ensures keeps { Keeps self.new.gave_up self.old.checkpoints [] self.new.checkpoints }
         ensures memory { OnErr result (self.new.checkpoints ≡ []) }
         ensures no_memory { self.old.place ≡ 0 → IsOk result × (self.new.gave_up ≡ false) }
         ensures no_stops { stops.now ≡ [] → IsOk result × (self.new.gave_up ≡ false) }
