@@ -31,8 +31,7 @@ chunk_long (xs ∷ xss) (suc i) e h low = chunk_long xss i e h.1 (omega (arith, 
 pub closed : {A : Type 0} (xss yss : List (List A)) (xs : List A) → yss ≡ xss ++ xs ∷ [] → joined yss ++ [] ≡ joined xss ++ xs
 closed xss yss xs e = append-nil (joined yss) ∙ ap joined e ∙ joined_one xss xs
 
-pub chunks_closed : {A : Type 0} (xss yss : List (List A)) (xs : List A) → yss ≡ xss ++ xs ∷ [] → length xs ≡ 256 → length xss < 1125899906842624 → AreChunks xss xs
-    → AreChunks yss []
+pub chunks_closed : {A : Type 0} (xss yss : List (List A)) (xs : List A) → yss ≡ xss ++ xs ∷ [] → length xs ≡ 256 → length xss < 1125899906842624 → AreChunks xss → AreChunks yss
 chunks_closed xss yss xs e long few h = grind (arith, full_one, length-append)
 
 -- how long chunks are, for the goals about places among them

@@ -11,8 +11,7 @@ joined (xs ∷ xss) = xs ++ joined xss
 abbrev pub AreFull : {A : Type 0} → List (List A) → Type 0
 AreFull xss = AllByRecursion (λ xs. length xs ≡ 256) xss
 
--- full chunks, and the items behind them
-pub record AreChunks {A : Type 0} (xss : List (List A)) (last : List A) : Type 0 where
+-- full chunks, at most 2^50
+pub record AreChunks {A : Type 0} (xss : List (List A)) : Type 0 where
   pub full : AreFull xss
   pub few : length xss ≤ 1125899906842624
-  pub short : length last ≤ 256

@@ -10,7 +10,8 @@ use std::rc::Rc;
 
 /// How many items a chunk has.
 const CHUNK: usize = 256;
-/// How many full chunks there are at most, so that a count of items never wraps.
+/// How many full chunks there are at most, so that a count of items never wraps. Items past them stay in one
+/// vector, which has a limit of its own.
 const MOST: usize = 1 << 50;
 
 /// Items, and for how many more there is room.
@@ -23,14 +24,14 @@ pub(crate) struct Chunks<T: Copy> {
 }
 
 impl<T: Copy> Model for Chunks<T> {
-    ghost use Rattle.std.specs.Prelude.{List, ℕ, ◌++◌, ◌-◌, min, vec_len, vec_capacity};
+    ghost use Rattle.std.specs.Prelude.{List, ℕ, ◌++◌, ◌-◌, vec_len, vec_capacity};
     ghost use Rattle.value_table.specs.Chunks.{joined, AreChunks};
 
     ghost Value = { List T × ℕ };
 
-    ghost view = { λ c. (joined c.full.value.items ++ c.last.items, min 256 (vec_capacity c.last) - vec_len c.last) };
+    ghost view = { λ c. (joined c.full.value.items ++ c.last.items, vec_capacity c.last - vec_len c.last) };
 
-    ghost invariant = { λ c. AreChunks c.full.value.items c.last.items };
+    ghost invariant = { λ c. AreChunks c.full.value.items };
 }
 
 impl<T: Copy> Chunks<T> {
@@ -50,7 +51,7 @@ impl<T: Copy> Chunks<T> {
 
     pub(crate) fn len(&self) -> usize
         ensures count { result ≡ length self.now.0 }
-        ensures short { result < 2 ^ 63 }
+        ensures short { result < 2 ^ 63 + 2 ^ 58 }
     {
         count(&self.full[..], &self.last[..])
     }
@@ -59,7 +60,7 @@ impl<T: Copy> Chunks<T> {
     pub(crate) fn at(&self, place: usize) -> T
         requires { place < length self.now.0 }
         ensures value { slice_get self.now.0 place ≡ Some result }
-        ensures short { place < 2 ^ 63 }
+        ensures short { place < 2 ^ 63 + 2 ^ 58 }
     {
         item(&self.full[..], &self.last[..], place)
     }
@@ -79,7 +80,7 @@ impl<T: Copy> Chunks<T> {
         ensures items { self.new.0 ≡ self.old.0 }
         ensures room { OnOk result (0 < self.new.1) }
     {
-        if self.last.len() == CHUNK {
+        if self.last.len() == CHUNK && self.full.len() < MOST {
             close(&mut self.full, &mut self.last)?;
         }
         self.last.reserve(1)?;
@@ -99,7 +100,7 @@ impl<T: Copy> Chunks<T> {
         requires { 0 < self.old.1 }
         ensures items { self.new.0 ≡ self.old.0 ++ item ∷ [] }
         ensures place { result ≡ length self.old.0 }
-        ensures short { result < 2 ^ 63 }
+        ensures short { result < 2 ^ 63 + 2 ^ 58 }
     {
         let place = self.len() as u64;
         self.last.push_reserved(item);
@@ -109,14 +110,12 @@ impl<T: Copy> Chunks<T> {
 
 // Puts the last items, as many as a chunk has, among the full chunks.
 fn close<T: Copy>(full: &mut Rc<Vec<Backing<T>>>, last: &mut Vec<T>) -> Result<(), AllocError>
-    requires { length last.old.items ≡ 256 }
+    requires whole { length last.old.items ≡ 256 }
+    requires few { length full.old.value.items < 1125899906842624 }
     ensures items { joined full.new.value.items ++ last.new.items ≡ joined full.old.value.items ++ last.old.items }
-    ensures chunks { AreChunks full.old.value.items last.old.items → AreChunks full.new.value.items last.new.items }
+    ensures chunks { AreChunks full.old.value.items → AreChunks full.new.value.items }
     ensures ok { OnOk result (last.new.items ≡ []) }
 {
-    if full.len() >= MOST {
-        return Err(AllocError);
-    }
     let chunk = Backing::of(*full.allocator(), last)?;
     add(full, chunk)?;
     last.clear();
@@ -134,9 +133,10 @@ fn add<T: Copy>(full: &mut Rc<Vec<Backing<T>>>, chunk: Backing<T>) -> Result<(),
 
 #[tactic(auto, using(crate::proofs::Chunked::chunk_lengths))]
 fn count<T: Copy>(full: &[Backing<T>], last: &[T]) -> usize
-    requires { AreChunks full.now last.now }
+    requires chunks { AreChunks full.now }
+    requires short { length last.now < 2 ^ 63 }
     ensures count { result ≡ length (joined full.now ++ last.now) }
-    ensures short { result < 2 ^ 63 }
+    ensures short { result < 2 ^ 63 + 2 ^ 58 }
 {
     full.len() * CHUNK + last.len()
 }
@@ -144,10 +144,11 @@ fn count<T: Copy>(full: &[Backing<T>], last: &[T]) -> usize
 #[inline(always)]
 #[tactic(auto, using(crate::proofs::Chunked::chunk_lengths))]
 fn item<T: Copy>(full: &[Backing<T>], last: &[T], place: usize) -> T
-    requires chunks { AreChunks full.now last.now }
+    requires chunks { AreChunks full.now }
+    requires short { length last.now < 2 ^ 63 }
     requires inside { place < length (joined full.now ++ last.now) }
     ensures value { slice_get (joined full.now ++ last.now) place ≡ Some result }
-    ensures short { place < 2 ^ 63 }
+    ensures short { place < 2 ^ 63 + 2 ^ 58 }
 {
     let chunk = place / CHUNK;
     if chunk < full.len() {

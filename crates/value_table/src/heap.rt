@@ -68,7 +68,7 @@ impl Heap {
         requires inside { place < length (heap_values self.now) }
         ensures found { Found self.now.backings (heap_values self.now) place result }
         ensures is { slice_get self.now.cells place ≡ Some result }
-        ensures short { place < 2 ^ 63 }
+        ensures short { place < 2 ^ 63 + 2 ^ 58 }
     {
         self.cells.at(place as usize)
     }

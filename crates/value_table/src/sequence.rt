@@ -1,6 +1,6 @@
 //! A sequence of items that copies share in chunks.
 
-ghost use Rattle.std.specs.Prelude.{◌≡◌, ◌<◌, ◌^◌, [], ◌∷◌, ◌++◌, length, slice_get, Some, IfOk, OnOk, OnErr};
+ghost use Rattle.std.specs.Prelude.{◌≡◌, ◌<◌, ◌+◌, ◌^◌, [], ◌∷◌, ◌++◌, length, slice_get, Some, IfOk, OnOk, OnErr};
 ghost use Rattle.std.specs.Borrow.{sem};
 ghost use Rattle.value_table.specs.Lending.{LendsChunks};
 
@@ -37,7 +37,7 @@ impl<T: Copy> Sequence<T> {
 
     pub(crate) fn len(&self) -> usize
         ensures count { result ≡ length self.now }
-        ensures short { result < 2 ^ 63 }
+        ensures short { result < 2 ^ 63 + 2 ^ 58 }
     {
         self.chunks.len()
     }
@@ -47,7 +47,7 @@ impl<T: Copy> Sequence<T> {
     pub(crate) fn at(&self, place: usize) -> T
         requires { place < length self.now }
         ensures value { slice_get self.now place ≡ Some result }
-        ensures short { place < 2 ^ 63 }
+        ensures short { place < 2 ^ 63 + 2 ^ 58 }
     {
         self.chunks.at(place)
     }
