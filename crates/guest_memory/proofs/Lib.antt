@@ -9,3 +9,4 @@ pub mod Writing
 pub mod Lending
 pub mod RegionWords
 pub mod Prelude
+pub mod PagedBytes

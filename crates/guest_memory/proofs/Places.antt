@@ -1,5 +1,5 @@
 -- Where a range of addresses lies.
-use Rattle.guest_memory.proofs.Prelude.{◌≡◌, ℕ, ◌+◌, ◌-◌, ◌%◌, ◌^◌, ◌<◌, ◌≤◌, length, Option, Some, None, arith, ◌⊎◌, Memory, Region, bytes_in, base_of, place_of, region_of, AllStandIn, StandInOne}
+use Rattle.guest_memory.proofs.Prelude.{◌≡◌, ℕ, ◌+◌, ◌-◌, ◌*◌, ◌/◌, ◌%◌, ◌^◌, ◌<◌, ◌≤◌, length, nat_tests, Option, Some, None, arith, ◌⊎◌, Memory, Region, bytes_in, base_of, place_of, region_of, AllStandIn, StandInOne}
 
 pub record HasPlace (base len address n at : ℕ) : Type 0 where
   pub low : base ≤ address
@@ -33,7 +33,11 @@ where_stands m address n some = grind arith
 pub one_region : (m : Memory) (address n : ℕ) → IsInside m address n → StandInOne m address n
 one_region m address n i = grind arith
 
--- an address below the stack is beyond its end, where the difference wraps
-pub place_on_stack : (len address n : ℕ) → address < 2 ^ 64 → len ≤ 65536 → n ≤ len → (address + 18446744069414584320) % 18446744073709551616 ≤ len - n
-    → Some ((address + 18446744069414584320) % 18446744073709551616) ≡ place_of 4294967296 len address n
-place_on_stack len address n word short some within = grind arith
+-- an address below a region is past its last page, where the difference wraps
+pub place_in_page : (base len address n page : ℕ) → address < 2 ^ 64 → base < 2 ^ 64 → base % 256 ≡ 0 → len ≤ 65536 → n ≤ 256 → page ≡ (address / 256 + (18446744073709551616 - base / 256)) % 18446744073709551616
+    → page < len / 256 → address % 256 ≤ 256 - n → place_of base len address n ≡ Some (256 * page + address % 256)
+place_in_page base len address n page word base_word first most short is inside within =
+    let low : base ≤ address = omega arith in
+    let high : address + n ≤ base + len = omega arith in
+    let at : address - base ≡ 256 * page + address % 256 = omega arith in
+    grind (arith, nat_tests)

@@ -3,6 +3,7 @@ pub mod Memory
 pub mod Word
 pub mod Access
 pub mod Answers
+pub mod Pages
 pub mod RegionWords
 pub mod Laws
 pub mod Rows

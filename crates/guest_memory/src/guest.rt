@@ -1,5 +1,5 @@
-//! Memory in blocks, which copies share.
-ghost use Rattle.std.specs.Prelude.{◌≡◌, length, replicate, IfOk, None};
+//! Memory in pages, which copies share.
+ghost use Rattle.std.specs.Prelude.{◌≡◌, length, replicate, IfOk};
 ghost use Rattle.guest_memory.specs.Answers.{answer_of, word_or_outside};
 ghost use Rattle.guest_memory.specs.Access.{place_of, read_of, size_bytes, write_of, Writes};
 
@@ -10,6 +10,7 @@ use crate::regions::Regions;
 use crate::size::Size;
 use crate::words::word_at;
 use crate::write_error::WriteError;
+use crate::zero_page::ZeroPage;
 use std::alloc::{AllocError, Global};
 use std::rc::Rc;
 
@@ -25,12 +26,13 @@ const VERDICT: u64 = 0x3_0000_0000;
 /// The first address of the constants.
 const CONSTANTS: u64 = 0x4_0000_0000;
 
-/// Memory that shares the blocks of its regions with its copies. A store copies a block that others share.
+/// Memory that shares its pages and its constants with its copies. A store copies a page of 256 bytes that
+/// others share.
 #[derive(Drop)]
 pub struct Guest {
-    stack: Region<4096>,
-    scratch: Region<4096>,
-    verdict: Region<2048>,
+    stack: Region<16>,
+    scratch: Region<16>,
+    verdict: Region<8>,
     constants: Rc<Vec<u8>>,
 }
 
@@ -62,35 +64,19 @@ fn shared(alloc: Global, constants: &[u8]) -> Result<Rc<Vec<u8>>, AllocError>
     Ok(block)
 }
 
+/// Loads and stores that are not in one page of the stack, which are rare: out of the way of those that
+/// are.
 impl Guest {
-    /// Where a word begins on the stack, if all of its bytes stand there. An address below the stack is
-    /// beyond its end as well, since the difference wraps.
-    #[tactic(auto, using(crate::proofs::Places::place_on_stack))]
-    #[inline(always)]
-    fn on_stack(&self, addr: u64, size: Size) -> Option<usize>
-        ensures { result ≡ place_of 0x100000000 (length self.now.stack) addr (size_bytes size) }
-    {
-        let at = addr.wrapping_sub(STACK);
-        let len = self.stack.len() as u64;
-        let n = size.bytes() as u64;
-        if n <= len && at <= len - n {
-            Some(at as usize)
-        } else {
-            None
-        }
-    }
-}
-
-/// Loads and stores beyond the stack, which are rare: out of the way of those on it.
-impl Guest {
-    /// The word of a load whose bytes do not all stand on the stack, if one region has them.
+    /// The word of a load, if one region has its bytes.
     #[tactic(auto, unfolding(crate::specs::Access::read_of))]
     #[inline(never)]
-    fn read_above(&self, addr: u64, size: Size) -> Option<u64>
-        requires { place_of 0x100000000 (length self.now.stack) addr (size_bytes size) ≡ None }
+    fn read_anywhere(&self, addr: u64, size: Size) -> Option<u64>
         ensures { word_or_outside result ≡ read_of (record { stack = self.now.stack; scratch = self.now.scratch; verdict = self.now.verdict; constants = self.now.constants.value.items }) addr size }
     {
         let n = size.bytes() as u64;
+        if let Some(at) = place(STACK, self.stack.len(), addr, n) {
+            return Some(self.stack.word_at(at, size));
+        }
         if let Some(at) = place(SCRATCH, self.scratch.len(), addr, n) {
             return Some(self.scratch.word_at(at, size));
         }
@@ -103,14 +89,19 @@ impl Guest {
         None
     }
 
-    /// A store whose bytes would not all stand on the stack.
+    /// A store, wherever its bytes are.
     #[tactic(auto, unfolding(crate::specs::Access::write_of))]
     #[inline(never)]
-    fn write_above(&mut self, addr: u64, size: Size, word: u64) -> Answer
-        requires { place_of 0x100000000 (length self.old.stack) addr (size_bytes size) ≡ None }
+    fn write_anywhere(&mut self, addr: u64, size: Size, word: u64) -> Answer
         ensures { Writes (write_of (record { stack = self.old.stack; scratch = self.old.scratch; verdict = self.old.verdict; constants = self.old.constants.value.items }) addr size word) (answer_of result) (record { stack = self.old.stack; scratch = self.old.scratch; verdict = self.old.verdict; constants = self.old.constants.value.items }) (record { stack = self.new.stack; scratch = self.new.scratch; verdict = self.new.verdict; constants = self.new.constants.value.items }) }
     {
         let n = size.bytes() as u64;
+        if let Some(at) = place(STACK, self.stack.len(), addr, n) {
+            let Ok(()) = self.stack.put_word(at, size, word) else {
+                return Answer::NoMemory;
+            };
+            return Answer::Made;
+        }
         if let Some(at) = place(SCRATCH, self.scratch.len(), addr, n) {
             let Ok(()) = self.scratch.put_word(at, size, word) else {
                 return Answer::NoMemory;
@@ -134,10 +125,11 @@ impl Regions for Guest {
     ghost bytes = { λ g. record { stack = g.stack; scratch = g.scratch; verdict = g.verdict; constants = g.constants.value.items } };
 
     fn of_constants(alloc: Global, constants: &[u8]) -> Result<Self, AllocError> {
+        let zero = ZeroPage::new(alloc)?;
         Ok(Guest {
-            stack: Region::zeroed(alloc)?,
-            scratch: Region::zeroed(alloc)?,
-            verdict: Region::zeroed(alloc)?,
+            stack: Region::zeroed(&zero)?,
+            scratch: Region::zeroed(&zero)?,
+            verdict: Region::zeroed(&zero)?,
             constants: shared(alloc, constants)?,
         })
     }
@@ -154,10 +146,10 @@ impl Regions for Guest {
     #[tactic(auto, unfolding(crate::specs::Access::read_of))]
     #[inline(always)]
     fn read(&self, addr: u64, size: Size) -> Result<u64, Fault> {
-        if let Some(at) = self.on_stack(addr, size) {
-            return Ok(self.stack.word_at(at, size));
+        if let Some((page, from)) = self.stack.in_page(STACK, addr, size) {
+            return Ok(self.stack.word_in(page, from, size));
         }
-        match self.read_above(addr, size) {
+        match self.read_anywhere(addr, size) {
             Some(word) => Ok(word),
             None => Err(Fault::F3),
         }
@@ -166,13 +158,13 @@ impl Regions for Guest {
     #[tactic(auto, unfolding(crate::specs::Access::write_of))]
     #[inline(always)]
     fn write(&mut self, addr: u64, size: Size, word: u64) -> Result<(), WriteError> {
-        if let Some(at) = self.on_stack(addr, size) {
-            let Ok(()) = self.stack.put_word(at, size, word) else {
+        if let Some((page, from)) = self.stack.in_page(STACK, addr, size) {
+            let Ok(()) = self.stack.put_in(page, from, size, word) else {
                 return Err(WriteError::Memory);
             };
             return Ok(());
         }
-        self.write_above(addr, size, word).result()
+        self.write_anywhere(addr, size, word).result()
     }
 
     #[tactic(auto, unfolding(crate::specs::Access::stores_of, crate::specs::Access::write_of))]

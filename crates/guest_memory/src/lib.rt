@@ -6,11 +6,14 @@ mod answer;
 mod fault;
 mod guest;
 pub mod laws;
+mod page;
+mod pages;
 mod region;
 mod regions;
 mod size;
 mod words;
 mod write_error;
+mod zero_page;
 
 pub use fault::Fault;
 pub use guest::Guest;

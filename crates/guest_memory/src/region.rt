@@ -1,93 +1,126 @@
 //! A region of bytes that can be written.
-ghost use Rattle.std.specs.Prelude.{◌≡◌, ◌+◌, ◌≤◌, length, replicate, IfOk, OnOk, OnErr};
-ghost use Rattle.guest_memory.specs.Access.{size_bytes};
+ghost use Rattle.std.specs.Prelude.{◌≡◌, ◌+◌, ◌*◌, ◌%◌, ◌≤◌, length, replicate, IfOk, IfSome, OnOk, OnErr, Some};
+ghost use Rattle.guest_memory.specs.Access.{place_of, size_bytes};
 ghost use Rattle.guest_memory.specs.Word.{low_bytes, overlay, part, word_of};
 
+use crate::page::{PAGE_LENGTH, Page};
+use crate::pages::{put_in, put_word, word_at, word_in};
 use crate::size::Size;
-use crate::words::{put_word, word_at};
-use std::alloc::{AllocError, Global};
+use crate::zero_page::ZeroPage;
+use std::alloc::AllocError;
+use std::array;
 use std::marker::Model;
-use std::rc::Rc;
 
-/// `N` bytes in one block, which copies share until one of them is written.
+/// `N` pages of 256 bytes, which copies share until one of them writes a page.
 #[derive(Drop)]
 pub struct Region<const N: usize> {
-    block: Rc<[u8; N]>,
+    pages: [Page; N],
 }
 
 impl<const N: usize> Model for Region<N> {
     ghost use Rattle.std.specs.Prelude.{◌≡◌, ◌≤◌, ℕ, List, length};
+    ghost use Rattle.guest_memory.specs.Pages.{joined};
 
     ghost Value = { List ℕ };
 
-    ghost view = { λ r. r.block.value };
+    ghost view = { λ r. joined r.pages };
 
-    ghost invariant = { λ r. (length r.block.value ≡ N) × (N ≤ 65536) };
+    ghost invariant = { λ r. (length r.pages ≡ N) × (N ≤ 256) };
 }
 
 impl<const N: usize> Region<N> {
-    /// Zeros. The error says that there is no memory for them.
-    pub fn zeroed(alloc: Global) -> Result<Region<N>, AllocError>
-        requires { N ≤ 65536 }
-        ensures { IfOk result (λ region. region ≡ replicate N 0) }
+    /// Zeros: each page is a clone of the given one. The error says that no more clones can be counted.
+    pub fn zeroed(zero: &ZeroPage) -> Result<Region<N>, AllocError>
+        requires { N ≤ 256 }
+        ensures { IfOk result (λ region. region ≡ replicate (256 * N) 0) }
     {
-        let Ok(block) = Rc::new(alloc, [0; N]) else {
-            return Err(AllocError);
-        };
-        Ok(Region { block })
+        let pages = array::try_from_fn(|_page| zero.page())?;
+        Ok(Region { pages })
     }
 
-    /// The same bytes, in the same block.
+    /// The same bytes, in the same pages.
     pub fn copy(&self) -> Result<Region<N>, AllocError>
         ensures { IfOk result (λ copy. copy ≡ self.now) }
     {
-        let block = self.block.clone()?;
-        Ok(Region { block })
+        let pages = self.pages.clone()?;
+        Ok(Region { pages })
     }
 
     /// How many bytes it has.
+    #[tactic(auto, using(crate::proofs::PagedBytes::joined_length))]
     #[inline(always)]
     pub fn len(&self) -> usize
         ensures same { result ≡ length self.now }
         ensures most { result ≤ 65536 }
     {
-        self.block[..].len()
+        self.pages[..].len() * PAGE_LENGTH
+    }
+
+    /// Where an access begins in a region from `base` on, if all of its bytes are in one page: the
+    /// number of the page, and the place in that page. An address below the region is past its end as
+    /// well, since the difference wraps.
+    #[inline(always)]
+    pub fn in_page(&self, base: u64, addr: u64, size: Size) -> Option<(usize, usize)>
+        requires { base % 256 ≡ 0 }
+        ensures place { IfSome result (λ p. place_of base (length self.now) addr (size_bytes size) ≡ Some (256 * p.0 + p.1)) }
+        ensures page { IfSome result (λ p. 256 * p.0 + 256 ≤ length self.now) }
+        ensures within { IfSome result (λ p. p.1 + size_bytes size ≤ 256) }
+    {
+        let len = self.len();
+        let page = (addr / 256).wrapping_sub(base / 256) as usize;
+        let from = (addr % 256) as usize;
+        if page < len / PAGE_LENGTH && from <= PAGE_LENGTH - size.bytes() {
+            Some((page, from))
+        } else {
+            None
+        }
+    }
+
+    /// The number whose bytes stand in a page from `from` on, the lowest first.
+    #[tactic(auto, using(crate::proofs::PagedBytes::joined_length))]
+    #[inline(always)]
+    pub fn word_in(&self, page: usize, from: usize, size: Size) -> u64
+        requires inside { 256 * page + 256 ≤ length self.now }
+        requires within { from + size_bytes size ≤ 256 }
+        ensures { result ≡ word_of (part self.now (256 * page + from) (size_bytes size)) }
+    {
+        word_in(&self.pages, page, from, size)
     }
 
     /// The number whose bytes stand from `at` on, the lowest first.
-    #[inline(always)]
     pub fn word_at(&self, at: usize, size: Size) -> u64
         requires { at + size_bytes size ≤ length self.now }
         ensures { result ≡ word_of (part self.now at (size_bytes size)) }
     {
-        word_at(&self.block[..], at, size)
+        word_at(&self.pages, at, size)
     }
 
-    /// Puts the low bytes of a word from `at` on. A refused growth leaves all as it was.
+    /// Puts the low bytes of a word into a page from `from` on. If an allocation fails, all is unchanged.
+    #[tactic(auto, using(crate::proofs::PagedBytes::joined_length))]
     #[inline(always)]
+    pub fn put_in(
+        &mut self,
+        page: usize,
+        from: usize,
+        size: Size,
+        word: u64,
+    ) -> Result<(), AllocError>
+        requires inside { 256 * page + 256 ≤ length self.old }
+        requires within { from + size_bytes size ≤ 256 }
+        ensures ok { OnOk result (self.new ≡ overlay self.old (256 * page + from) (low_bytes (size_bytes size) word)) }
+        ensures err { OnErr result (self.new ≡ self.old) }
+    {
+        put_in(&mut self.pages, page, from, size, word)?;
+        Ok(())
+    }
+
+    /// Puts the low bytes of a word from `at` on. If an allocation fails, all is unchanged.
     pub fn put_word(&mut self, at: usize, size: Size, word: u64) -> Result<(), AllocError>
         requires { at + size_bytes size ≤ length self.old }
         ensures ok { OnOk result (self.new ≡ overlay self.old at (low_bytes (size_bytes size) word)) }
         ensures err { OnErr result (self.new ≡ self.old) }
     {
-        match Rc::get_mut(&mut self.block) {
-            Some(own) => {
-                put_word(own, at, size, word);
-                Ok(())
-            }
-            None => self.put_in_copy(at, size, word),
-        }
-    }
-
-    /// The same in a copy of the block, which others share.
-    #[inline(never)]
-    fn put_in_copy(&mut self, at: usize, size: Size, word: u64) -> Result<(), AllocError>
-        requires { at + size_bytes size ≤ length self.old }
-        ensures ok { OnOk result (self.new ≡ overlay self.old at (low_bytes (size_bytes size) word)) }
-        ensures err { OnErr result (self.new ≡ self.old) }
-    {
-        let own = Rc::make_mut(&mut self.block)?;
-        put_word(own, at, size, word);
+        put_word(&mut self.pages, at, size, word)?;
         Ok(())
     }
 }

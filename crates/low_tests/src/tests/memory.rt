@@ -176,8 +176,14 @@ fn stores_nothing_around(rt: HostRuntime) -> Result<(), Fail> {
 /// Where 0x8877_6655_4433_2211 is stored near the border of two double words, the border, and the eight
 /// bytes before and behind it.
 #[rattlefmt::skip]
-const BORDERS: [(u64, Size, u64, u64, u64); 6] = [
+const BORDERS: [(u64, Size, u64, u64, u64); 12] = [
     (0x1_0000_00f8, Dw, 0x1_0000_0100, 0x8877_6655_4433_2211, 0),
+    (0x1_0000_00ff, B, 0x1_0000_0100, 0x1100_0000_0000_0000, 0),
+    (0x1_0000_0100, B, 0x1_0000_0100, 0, 0x11),
+    (0x1_0000_00f9, Dw, 0x1_0000_0100, 0x7766_5544_3322_1100, 0x88),
+    (0x1_0000_00ff, Dw, 0x1_0000_0100, 0x1100_0000_0000_0000, 0x88_7766_5544_3322),
+    (0x1_0000_0efe, W, 0x1_0000_0f00, 0x2211_0000_0000_0000, 0x4433),
+    (0x3_0000_06fd, W, 0x3_0000_0700, 0x3322_1100_0000_0000, 0x44),
     (0x1_0000_00fd, Dw, 0x1_0000_0100, 0x3322_1100_0000_0000, 0x88_7766_5544),
     (0x1_0000_0fff, B, 0x1_0000_0ff8, 0, 0x1100_0000_0000_0000),
     (0x2_0000_01ff, H, 0x2_0000_0200, 0x1100_0000_0000_0000, 0x22),
@@ -239,6 +245,73 @@ fn apart(alloc: Global, addr: u64) -> Result<[Option<u64>; 2], Fail> {
 fn copies_see_no_later_store(rt: HostRuntime) -> Result<(), Fail> {
     for addr in [0x1_0000_0000, 0x1_0000_00ff, 0x2_0000_0ff8, 0x3_0000_01f9] {
         assert!(rt; apart(rt.alloc(), addr)? == [Some(3), Some(2)], "at {addr}");
+    }
+    Ok(())
+}
+
+/// The first address of each page of 256 bytes that can be written.
+#[rattlefmt::skip]
+const PAGES: [u64; 40] = [
+    0x1_0000_0000, 0x1_0000_0100, 0x1_0000_0200, 0x1_0000_0300,
+    0x1_0000_0400, 0x1_0000_0500, 0x1_0000_0600, 0x1_0000_0700,
+    0x1_0000_0800, 0x1_0000_0900, 0x1_0000_0a00, 0x1_0000_0b00,
+    0x1_0000_0c00, 0x1_0000_0d00, 0x1_0000_0e00, 0x1_0000_0f00,
+    0x2_0000_0000, 0x2_0000_0100, 0x2_0000_0200, 0x2_0000_0300,
+    0x2_0000_0400, 0x2_0000_0500, 0x2_0000_0600, 0x2_0000_0700,
+    0x2_0000_0800, 0x2_0000_0900, 0x2_0000_0a00, 0x2_0000_0b00,
+    0x2_0000_0c00, 0x2_0000_0d00, 0x2_0000_0e00, 0x2_0000_0f00,
+    0x3_0000_0000, 0x3_0000_0100, 0x3_0000_0200, 0x3_0000_0300,
+    0x3_0000_0400, 0x3_0000_0500, 0x3_0000_0600, 0x3_0000_0700,
+];
+
+/// Stores a byte as the first and the last of a page.
+fn fill(guest: &mut Guest, page: u64, byte: u64) -> Result<(), WriteError> {
+    put(guest, page, B, byte)?;
+    put(guest, page.saturating_add(255), B, byte)
+}
+
+/// The memory with a byte as the first and the last of each page.
+fn filled(mut guest: Guest, byte: u64) -> Result<Guest, Fail> {
+    for page in PAGES {
+        fill(&mut guest, page, byte)?;
+    }
+    Ok(guest)
+}
+
+/// The sum of the first and the last byte of each page.
+fn sum(guest: &Guest) -> u64 {
+    let mut sum = 0u64;
+    for page in PAGES {
+        let first = word(guest, page, B).unwrap_or(0);
+        let last = word(guest, page.saturating_add(255), B).unwrap_or(0);
+        sum = sum.saturating_add(first).saturating_add(last);
+    }
+    sum
+}
+
+/// The sums of a memory and of its copy, after each page of the memory was stored to.
+fn sums_apart(alloc: Global) -> Result<[u64; 2], Fail> {
+    let guest = filled(start(alloc, b"")?, 1)?;
+    let copy = copied(&guest)?;
+    let guest = filled(guest, 2)?;
+    Ok([sum(&guest), sum(&copy)])
+}
+
+#[test]
+fn a_copy_sees_no_store_to_a_page(rt: HostRuntime) -> Result<(), Fail> {
+    assert!(rt; sums_apart(rt.alloc())? == [160, 80]);
+    Ok(())
+}
+
+/// The sum of a memory at the start after a store to one page.
+fn sum_of_one(alloc: Global, page: u64) -> Result<u64, Fail> {
+    Ok(sum(&stored(start(alloc, b"")?, page, B, 7)?))
+}
+
+#[test]
+fn a_store_is_seen_in_its_page_alone(rt: HostRuntime) -> Result<(), Fail> {
+    for page in PAGES {
+        assert!(rt; sum_of_one(rt.alloc(), page)? == 7, "at {page}");
     }
     Ok(())
 }

@@ -1,0 +1,17 @@
+use Rattle.std.proofs.Common.{◌≡◌, ◌++◌, ◌-◌, ℕ, List, [], ◌∷◌, ◌∙◌, ap, length, take, drop}
+use Rattle.std.proofs.lemmas.List.{length-take-le}
+use Rattle.guest_memory.specs.Word.{word_of}
+use Rattle.guest_memory.specs.Access.{size_bytes}
+use Rattle.guest_memory.proofs.PagedBytes.{part_whole}
+use Rattle.guest_memory.proofs.pages.word_across.Goals as goal
+
+zeros : List ℕ
+zeros = 0 ∷ 0 ∷ 0 ∷ 0 ∷ 0 ∷ 0 ∷ 0 ∷ 0 ∷ []
+
+pub returns : goal.returns
+unfolding zeros
+returns c =
+    let count : length (take c.bytes.result zeros) ≡ size_bytes c.args.size = length-take-le c.bytes.result zeros c.bytes.ensures.most ∙ c.bytes.ensures.value in
+    c.word_at.ensures
+    ∙ ap word_of (part_whole c.gather.new.bytes _ _ _ (c.gather.auto.bytes ∙ count) c.bytes-2.ensures.value)
+    ∙ ap word_of (c.gather.ensures ∙ ap (λ n. drop c.args.from c.args.low.now.bytes.value ++ take (n - (256 - c.args.from)) c.args.high.now.bytes.value) count)

@@ -1,0 +1,8 @@
+-- Bytes in pages.
+use Rattle.std.specs.Prelude.{ℕ, List, [], ◌∷◌, ◌++◌}
+use Rattle.guest_memory.specs.declared.page.Page.{Page}
+
+-- the bytes of all pages, one page after the other
+abbrev pub joined : List Page → List ℕ
+joined [] = []
+joined (p ∷ ps) = p.bytes.value ++ joined ps
