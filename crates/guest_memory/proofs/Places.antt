@@ -41,3 +41,10 @@ place_in_page base len address n page word base_word first most short is inside 
     let high : address + n ≤ base + len = omega arith in
     let at : address - base ≡ 256 * page + address % 256 = omega arith in
     grind (arith, nat_tests)
+
+-- the first byte of a range is in no page of the region
+pub place_beyond : (base len address n page : ℕ) → address < 2 ^ 64 → base < 2 ^ 64 → base % 256 ≡ 0 → len ≤ 65536 → len % 256 ≡ 0 → 1 ≤ n
+    → page ≡ (address / 256 + (18446744073709551616 - base / 256)) % 18446744073709551616 → len / 256 ≤ page → place_of base len address n ≡ None
+place_beyond base len address n page word base_word first most whole some is past =
+    let outside : base ≤ address → base + len ≤ address = (λ low. omega (arith, low)) in
+    grind (arith, nat_tests)

@@ -1,5 +1,5 @@
 //! Memory in pages, which copies share.
-ghost use Rattle.std.specs.Prelude.{◌≡◌, length, replicate, IfOk};
+ghost use Rattle.std.specs.Prelude.{◌≡◌, length, replicate, IfOk, None};
 ghost use Rattle.guest_memory.specs.Answers.{answer_of, word_or_outside};
 ghost use Rattle.guest_memory.specs.Access.{place_of, read_of, size_bytes, write_of, Writes};
 
@@ -8,6 +8,7 @@ use crate::fault::Fault;
 use crate::region::Region;
 use crate::regions::Regions;
 use crate::size::Size;
+use crate::spot::Spot;
 use crate::words::word_at;
 use crate::write_error::WriteError;
 use crate::zero_page::ZeroPage;
@@ -67,16 +68,26 @@ fn shared(alloc: Global, constants: &[u8]) -> Result<Rc<Vec<u8>>, AllocError>
 /// Loads and stores that are not in one page of the stack, which are rare: out of the way of those that
 /// are.
 impl Guest {
-    /// The word of a load, if one region has its bytes.
+    /// The word of a load over the border of a page of the stack, if one region has its bytes.
     #[tactic(auto, unfolding(crate::specs::Access::read_of))]
     #[inline(never)]
-    fn read_anywhere(&self, addr: u64, size: Size) -> Option<u64>
+    fn read_across(&self, addr: u64, size: Size) -> Option<u64>
+        ensures { word_or_outside result ≡ read_of (record { stack = self.now.stack; scratch = self.now.scratch; verdict = self.now.verdict; constants = self.now.constants.value.items }) addr size }
+    {
+        match place(STACK, self.stack.len(), addr, size.bytes() as u64) {
+            Some(at) => Some(self.stack.word_at(at, size)),
+            None => self.read_above(addr, size),
+        }
+    }
+
+    /// The word of a load whose bytes do not all stand on the stack, if one region has them.
+    #[tactic(auto, unfolding(crate::specs::Access::read_of))]
+    #[inline(never)]
+    fn read_above(&self, addr: u64, size: Size) -> Option<u64>
+        requires { place_of 0x100000000 (length self.now.stack) addr (size_bytes size) ≡ None }
         ensures { word_or_outside result ≡ read_of (record { stack = self.now.stack; scratch = self.now.scratch; verdict = self.now.verdict; constants = self.now.constants.value.items }) addr size }
     {
         let n = size.bytes() as u64;
-        if let Some(at) = place(STACK, self.stack.len(), addr, n) {
-            return Some(self.stack.word_at(at, size));
-        }
         if let Some(at) = place(SCRATCH, self.scratch.len(), addr, n) {
             return Some(self.scratch.word_at(at, size));
         }
@@ -89,19 +100,29 @@ impl Guest {
         None
     }
 
-    /// A store, wherever its bytes are.
+    /// A store over the border of a page of the stack.
     #[tactic(auto, unfolding(crate::specs::Access::write_of))]
     #[inline(never)]
-    fn write_anywhere(&mut self, addr: u64, size: Size, word: u64) -> Answer
+    fn write_across(&mut self, addr: u64, size: Size, word: u64) -> Answer
         ensures { Writes (write_of (record { stack = self.old.stack; scratch = self.old.scratch; verdict = self.old.verdict; constants = self.old.constants.value.items }) addr size word) (answer_of result) (record { stack = self.old.stack; scratch = self.old.scratch; verdict = self.old.verdict; constants = self.old.constants.value.items }) (record { stack = self.new.stack; scratch = self.new.scratch; verdict = self.new.verdict; constants = self.new.constants.value.items }) }
     {
-        let n = size.bytes() as u64;
-        if let Some(at) = place(STACK, self.stack.len(), addr, n) {
+        if let Some(at) = place(STACK, self.stack.len(), addr, size.bytes() as u64) {
             let Ok(()) = self.stack.put_word(at, size, word) else {
                 return Answer::NoMemory;
             };
             return Answer::Made;
         }
+        self.write_above(addr, size, word)
+    }
+
+    /// A store whose bytes would not all stand on the stack.
+    #[tactic(auto, unfolding(crate::specs::Access::write_of))]
+    #[inline(never)]
+    fn write_above(&mut self, addr: u64, size: Size, word: u64) -> Answer
+        requires { place_of 0x100000000 (length self.old.stack) addr (size_bytes size) ≡ None }
+        ensures { Writes (write_of (record { stack = self.old.stack; scratch = self.old.scratch; verdict = self.old.verdict; constants = self.old.constants.value.items }) addr size word) (answer_of result) (record { stack = self.old.stack; scratch = self.old.scratch; verdict = self.old.verdict; constants = self.old.constants.value.items }) (record { stack = self.new.stack; scratch = self.new.scratch; verdict = self.new.verdict; constants = self.new.constants.value.items }) }
+    {
+        let n = size.bytes() as u64;
         if let Some(at) = place(SCRATCH, self.scratch.len(), addr, n) {
             let Ok(()) = self.scratch.put_word(at, size, word) else {
                 return Answer::NoMemory;
@@ -118,6 +139,17 @@ impl Guest {
             return Answer::Constant;
         }
         Answer::Outside
+    }
+}
+
+/// The answer to a load: the word, if there is one.
+#[inline(always)]
+fn loaded(word: Option<u64>) -> Result<u64, Fault>
+    ensures { result ≡ word_or_outside word }
+{
+    match word {
+        Some(word) => Ok(word),
+        None => Err(Fault::F3),
     }
 }
 
@@ -146,25 +178,26 @@ impl Regions for Guest {
     #[tactic(auto, unfolding(crate::specs::Access::read_of))]
     #[inline(always)]
     fn read(&self, addr: u64, size: Size) -> Result<u64, Fault> {
-        if let Some((page, from)) = self.stack.in_page(STACK, addr, size) {
-            return Ok(self.stack.word_in(page, from, size));
-        }
-        match self.read_anywhere(addr, size) {
-            Some(word) => Ok(word),
-            None => Err(Fault::F3),
+        match self.stack.spot(STACK, addr, size) {
+            Spot::Within { page, from } => Ok(self.stack.word_in(page, from, size)),
+            Spot::Across => loaded(self.read_across(addr, size)),
+            Spot::Beyond => loaded(self.read_above(addr, size)),
         }
     }
 
     #[tactic(auto, unfolding(crate::specs::Access::write_of))]
     #[inline(always)]
     fn write(&mut self, addr: u64, size: Size, word: u64) -> Result<(), WriteError> {
-        if let Some((page, from)) = self.stack.in_page(STACK, addr, size) {
-            let Ok(()) = self.stack.put_in(page, from, size, word) else {
-                return Err(WriteError::Memory);
-            };
-            return Ok(());
+        match self.stack.spot(STACK, addr, size) {
+            Spot::Within { page, from } => {
+                let Ok(()) = self.stack.put_in(page, from, size, word) else {
+                    return Err(WriteError::Memory);
+                };
+                Ok(())
+            }
+            Spot::Across => self.write_across(addr, size, word).result(),
+            Spot::Beyond => self.write_above(addr, size, word).result(),
         }
-        self.write_anywhere(addr, size, word).result()
     }
 
     #[tactic(auto, unfolding(crate::specs::Access::stores_of, crate::specs::Access::write_of))]

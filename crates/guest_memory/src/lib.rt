@@ -11,6 +11,7 @@ mod pages;
 mod region;
 mod regions;
 mod size;
+mod spot;
 mod words;
 mod write_error;
 mod zero_page;

@@ -1,11 +1,13 @@
 //! A region of bytes that can be written.
-ghost use Rattle.std.specs.Prelude.{◌≡◌, ◌+◌, ◌*◌, ◌%◌, ◌≤◌, length, replicate, IfOk, IfSome, OnOk, OnErr, Some};
-ghost use Rattle.guest_memory.specs.Access.{place_of, size_bytes};
+ghost use Rattle.std.specs.Prelude.{◌≡◌, ◌+◌, ◌*◌, ◌%◌, ◌≤◌, length, replicate, IfOk, OnOk, OnErr};
+ghost use Rattle.guest_memory.specs.Access.{size_bytes};
+ghost use Rattle.guest_memory.specs.Spots.{IsSpot};
 ghost use Rattle.guest_memory.specs.Word.{low_bytes, overlay, part, word_of};
 
 use crate::page::{PAGE_LENGTH, Page};
 use crate::pages::{put_in, put_word, word_at, word_in};
 use crate::size::Size;
+use crate::spot::Spot;
 use crate::zero_page::ZeroPage;
 use std::alloc::AllocError;
 use std::array;
@@ -52,28 +54,28 @@ impl<const N: usize> Region<N> {
     pub fn len(&self) -> usize
         ensures same { result ≡ length self.now }
         ensures most { result ≤ 65536 }
+        ensures whole { result % 256 ≡ 0 }
     {
         self.pages[..].len() * PAGE_LENGTH
     }
 
-    /// Where an access begins in a region from `base` on, if all of its bytes are in one page: the
-    /// number of the page, and the place in that page. An address below the region is past its end as
+    /// Where an access is in a region from `base` on. An address below the region is past its end as
     /// well, since the difference wraps.
     #[inline(always)]
-    pub fn in_page(&self, base: u64, addr: u64, size: Size) -> Option<(usize, usize)>
+    pub fn spot(&self, base: u64, addr: u64, size: Size) -> Spot
         requires { base % 256 ≡ 0 }
-        ensures place { IfSome result (λ p. place_of base (length self.now) addr (size_bytes size) ≡ Some (256 * p.0 + p.1)) }
-        ensures page { IfSome result (λ p. 256 * p.0 + 256 ≤ length self.now) }
-        ensures within { IfSome result (λ p. p.1 + size_bytes size ≤ 256) }
+        ensures { IsSpot base (length self.now) addr (size_bytes size) result }
     {
         let len = self.len();
         let page = (addr / 256).wrapping_sub(base / 256) as usize;
-        let from = (addr % 256) as usize;
-        if page < len / PAGE_LENGTH && from <= PAGE_LENGTH - size.bytes() {
-            Some((page, from))
-        } else {
-            None
+        if page >= len / PAGE_LENGTH {
+            return Spot::Beyond;
         }
+        let from = (addr % 256) as usize;
+        if from > PAGE_LENGTH - size.bytes() {
+            return Spot::Across;
+        }
+        Spot::Within { page, from }
     }
 
     /// The number whose bytes stand in a page from `from` on, the lowest first.

@@ -1,0 +1,17 @@
+//! Where an access is in a region.
+
+/// Where an access is in a region of pages.
+#[derive(Drop)]
+pub enum Spot {
+    /// All of its bytes are in one page.
+    Within {
+        /// The number of the page.
+        page: usize,
+        /// Its first byte, counted in the page.
+        from: usize,
+    },
+    /// Its first byte is in the region, and the others are not all in the same page.
+    Across,
+    /// Its first byte is not in the region.
+    Beyond,
+}
