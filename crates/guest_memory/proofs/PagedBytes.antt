@@ -1,13 +1,5 @@
 -- Bytes in pages.
-use Rattle.std.proofs.Common.{◌≡◌, ℕ, zero, suc, ◌+◌, ◌-◌, ◌*◌, ◌<◌, ◌≤◌, List, [], ◌∷◌, ◌++◌, length, take, drop, get_or, replicate, refl, sym, ap, ◌∙◌, arith, length-append, append_assoc, append-nil, zero-add, length-drop}
-use Rattle.std.proofs.lemmas.Grind.{common_steps}
-use Rattle.std.proofs.lemmas.List.{take-append-le, drop-append-le, drop_all, replicate-append-replicate}
-use Rattle.std.proofs.Math.Seq.{drop-append-add, take-append-add}
-use Rattle.std.proofs.Math.ListN.{set}
-use Rattle.std.specs.List.{AllZip}
-use Rattle.guest_memory.specs.Word.{overlay, part}
-use Rattle.guest_memory.specs.Pages.{joined}
-use Rattle.guest_memory.specs.declared.page.Page.{Page}
+use Rattle.guest_memory.proofs.Prelude.{◌≡◌, ℕ, zero, suc, ◌+◌, ◌-◌, ◌*◌, ◌<◌, ◌≤◌, List, [], ◌∷◌, ◌++◌, length, take, drop, get_or, replicate, refl, sym, ap, ◌∙◌, arith, length-append, append_assoc, append-nil, zero-add, length-drop, common_steps, take-append-le, drop-append-le, drop_all, replicate-append-replicate, drop-append-add, take-append-add, set, AllZip, overlay, part, joined, Page}
 
 pub joined_length : (ps : List Page) → length (joined ps) ≡ 256 * length ps
 joined_length [] = refl

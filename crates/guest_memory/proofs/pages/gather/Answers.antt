@@ -1,5 +1,4 @@
-use Rattle.std.proofs.Common.{◌≡◌, ◌-◌, ◌≤◌, ◌++◌, length, drop, take, ap, arith, length-drop}
-use Rattle.std.proofs.lemmas.List.{take_all}
+use Rattle.guest_memory.proofs.Prelude.{◌≡◌, ◌-◌, ◌≤◌, ◌++◌, length, drop, take, ap, arith, length-drop, take_all}
 use Rattle.guest_memory.proofs.pages.gather.Goals as goal
 
 pub returns : goal.returns

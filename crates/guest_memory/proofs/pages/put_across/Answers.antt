@@ -1,5 +1,4 @@
-use Rattle.std.proofs.Common.{◌<◌, suc, ℕ, List, length, arith, add-one, ◌∙◌, ap, refl}
-use Rattle.guest_memory.specs.Word.{overlay}
+use Rattle.guest_memory.proofs.Prelude.{◌<◌, suc, ℕ, List, length, arith, add-one, ◌∙◌, ap, refl, overlay}
 use Rattle.guest_memory.proofs.PagedBytes.{joined_two}
 use Rattle.guest_memory.proofs.pages.put_across.Goals as goal
 

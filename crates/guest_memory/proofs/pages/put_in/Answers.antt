@@ -1,5 +1,4 @@
-use Rattle.std.proofs.Common.{rules, ◌+◌, ◌*◌, arith, refl}
-use Rattle.guest_memory.specs.Access.{size_bytes}
+use Rattle.guest_memory.proofs.Prelude.{rules, ◌+◌, ◌*◌, arith, refl, size_bytes}
 use Rattle.guest_memory.proofs.Bytes.{length_low}
 use Rattle.guest_memory.proofs.PagedBytes.{joined_one, joined_kept}
 use Rattle.guest_memory.proofs.pages.put_in.Goals as goal

@@ -1,4 +1,4 @@
-use Rattle.std.proofs.Common.{◌≡◌, ◌+◌, ◌*◌, ◌/◌, ◌%◌, arith}
+use Rattle.guest_memory.proofs.Prelude.{arith}
 use Rattle.guest_memory.proofs.PagedBytes.{joined_length}
 use Rattle.guest_memory.proofs.pages.put_word.Goals as goal
 

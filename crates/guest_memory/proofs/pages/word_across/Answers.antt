@@ -1,7 +1,4 @@
-use Rattle.std.proofs.Common.{◌≡◌, ◌++◌, ◌-◌, ℕ, List, [], ◌∷◌, ◌∙◌, ap, length, take, drop}
-use Rattle.std.proofs.lemmas.List.{length-take-le}
-use Rattle.guest_memory.specs.Word.{word_of}
-use Rattle.guest_memory.specs.Access.{size_bytes}
+use Rattle.guest_memory.proofs.Prelude.{◌≡◌, ◌++◌, ◌-◌, ℕ, List, [], ◌∷◌, ◌∙◌, ap, length, take, drop, length-take-le, word_of, size_bytes}
 use Rattle.guest_memory.proofs.PagedBytes.{part_whole}
 use Rattle.guest_memory.proofs.pages.word_across.Goals as goal
 

@@ -1,7 +1,4 @@
-use Rattle.std.proofs.Common.{◌+◌, ◌*◌, ◌-◌, ◌/◌, ◌%◌, ◌≡◌, arith, add-one, ap, sym, ◌∙◌}
-use Rattle.guest_memory.specs.Word.{part, word_of}
-use Rattle.guest_memory.specs.Access.{size_bytes}
-use Rattle.guest_memory.specs.Pages.{joined}
+use Rattle.guest_memory.proofs.Prelude.{◌+◌, ◌*◌, ◌-◌, ◌/◌, ◌%◌, ◌≡◌, arith, add-one, ap, sym, ◌∙◌, part, word_of, size_bytes, joined}
 use Rattle.guest_memory.proofs.PagedBytes.{joined_length, part_pages}
 use Rattle.guest_memory.proofs.pages.word_at.Goals as goal
 

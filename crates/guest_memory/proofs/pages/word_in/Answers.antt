@@ -1,7 +1,4 @@
-use Rattle.std.proofs.Common.{◌+◌, ◌*◌, ap, sym, ◌∙◌, refl}
-use Rattle.guest_memory.specs.Word.{part, word_of}
-use Rattle.guest_memory.specs.Access.{size_bytes}
-use Rattle.guest_memory.specs.declared.page.Page.{Page}
+use Rattle.guest_memory.proofs.Prelude.{◌+◌, ◌*◌, ap, sym, ◌∙◌, refl, part, word_of, size_bytes, Page}
 use Rattle.guest_memory.proofs.PagedBytes.{part_one}
 use Rattle.guest_memory.proofs.pages.word_in.Goals as goal
 

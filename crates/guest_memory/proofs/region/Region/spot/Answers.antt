@@ -1,4 +1,4 @@
-use Rattle.std.proofs.Common.{arith, refl}
+use Rattle.guest_memory.proofs.Prelude.{arith, refl}
 use Rattle.guest_memory.proofs.Places.{place_beyond, place_in_page}
 use Rattle.guest_memory.proofs.Reading.{some_bytes}
 use Rattle.guest_memory.proofs.region.Region.spot.Goals as goal

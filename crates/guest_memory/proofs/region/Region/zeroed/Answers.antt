@@ -1,4 +1,4 @@
-use Rattle.std.proofs.Common.{rules}
+use Rattle.guest_memory.proofs.Prelude.{rules}
 use Rattle.guest_memory.proofs.PagedBytes.{joined_zeros}
 use Rattle.guest_memory.proofs.region.Region.zeroed.Goals as goal
 
