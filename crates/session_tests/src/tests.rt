@@ -5,6 +5,7 @@ use serde_json::Value;
 mod doubles;
 mod errors;
 mod histories;
+mod kept_images;
 mod sessions;
 mod streams;
 mod verdicts;
