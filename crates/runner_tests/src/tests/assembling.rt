@@ -23,7 +23,12 @@ fn is_done(done: &Done, status: u8, out: &[u8], err: &[u8]) -> bool {
     done.status == status && done.out.as_slice() == out && done.err.as_slice() == err
 }
 
-/// The image of `r0 = 1`, a jump over `r0 = 2`, and `exit`.
+/// The image of `r0 = 5` and `exit`.
+const TWO: &[u8] = b"CELBPF01\x02\0\0\0\0\0\0\0\xb7\0\0\0\x05\0\0\0\x95\0\0\0\0\0\0\0";
+
+/// `r0 = 1`, a jump over `r0 = 2`, and `exit`; and its image.
+const JUMPS: &[u8] = b"mov64 r0, 1\nja end\nmov64 r0, 2\nend:\nexit";
+
 const JUMPING: &[u8] =
     b"CELBPF01\x04\0\0\0\0\0\0\0\xb7\0\0\0\x01\0\0\0\x05\0\x01\0\0\0\0\0\xb7\0\0\0\x02\0\0\0\x95\0\0\0\0\0\0\0";
 
@@ -42,10 +47,49 @@ fn assembles(alloc: Global, text: &[u8], made: &[u8]) -> Result<bool, AllocError
     Ok(is_done(&done, 0, b"", b"") && files.image.as_slice() == made)
 }
 
+/// Texts with their images.
+const IMAGES: [(&[u8], &[u8]); 2] = [(b"mov64 r0, 5\nexit\n", TWO), (JUMPS, JUMPING)];
+
 #[test]
-fn assembles_a_text(rt: HostRuntime) -> Result<(), Fail> {
-    let text = b"mov64 r0, 1\nja end\nmov64 r0, 2\nend:\nexit";
-    assert!(rt; assembles(rt.alloc(), text, JUMPING)?);
+fn assembles_texts(rt: HostRuntime) -> Result<(), Fail> {
+    for (row, &(text, made)) in IMAGES.iter().enumerate() {
+        assert!(rt; assembles(rt.alloc(), text, made)?, "row {row}");
+    }
+    Ok(())
+}
+
+/// What `run-image` leaves of the image that `asm` makes of this text.
+fn ran(alloc: Global, text: &[u8]) -> Result<Done, AllocError> {
+    let mut files = Folder {
+        text,
+        image: Vec::new(alloc),
+        is_writable: true,
+    };
+    assembled(alloc, "a.txt", "a.img", &mut files)?;
+    let image = String::from_str(alloc, "a.img")?;
+    let steps = 10_000_000;
+    perform(alloc, &Order::RunImage { image, steps }, &mut files)
+}
+
+/// Puts a list into a list of its own, over and over.
+const NESTS: &[u8] =
+    b"call 16\nmov64 r6, r0\na:\ncall 16\nmov64 r1, r0\nmov64 r2, r6\ncall 17\nmov64 r6, r0\nja a\n";
+
+/// Texts, how what is printed of their runs ends, and the status. A list of depth 256 is not made.
+const RUNS: [(&[u8], &[u8], u8); 2] = [
+    (JUMPS, b"\nstep 3 pc 3 exited 0x0000000000000001\n", 0),
+    (NESTS, b"\nstep 1530 pc 5 fault F8\n", 1),
+];
+
+#[test]
+fn runs_texts(rt: HostRuntime) -> Result<(), Fail> {
+    for (row, &(text, end, status)) in RUNS.iter().enumerate() {
+        let done = ran(rt.alloc(), text)?;
+        assert!(rt;
+            done.status == status && done.out.ends_with(end),
+            "row {row}"
+        );
+    }
     Ok(())
 }
 
@@ -82,6 +126,45 @@ const REFUSED: [(&[u8], &str, &str, bool, &str); 10] = [
     (b"exit", "a.txt", "a.img", false, "file"),
 ];
 
+/// Whether `asm` refuses these lines so, with as many lines `exit` between them.
+fn refuses_lines(
+    alloc: Global,
+    first: &str,
+    exits: usize,
+    last: &str,
+    refusal: &str,
+) -> Result<bool, AllocError> {
+    let mut text = String::from_str(alloc, first)?;
+    text.push_str("exit\n".repeat(alloc, exits)?.as_str())?;
+    text.push_str(last)?;
+    let line = refusal_line(alloc, refusal)?;
+    refuses(
+        alloc,
+        text.as_bytes(),
+        "a.txt",
+        "a.img",
+        true,
+        line.as_bytes(),
+    )
+}
+
+/// A first line, the number of lines `exit` after it, a last line, and the refusal.
+const FAR: [(&str, usize, &str, &str); 2] = [
+    ("ja away\n", 32_768, "away:", "A5 line 1"),
+    ("", 65_537, "", "A6 line 65537"),
+];
+
+#[test]
+fn refuses_long_texts(rt: HostRuntime) -> Result<(), Fail> {
+    for &(first, exits, last, refusal) in FAR.iter() {
+        assert!(rt;
+            refuses_lines(rt.alloc(), first, exits, last, refusal)?,
+            "{refusal}"
+        );
+    }
+    Ok(())
+}
+
 #[test]
 fn refuses_texts(rt: HostRuntime) -> Result<(), Fail> {
     for (row, &(text, from, to, is_writable, refusal)) in REFUSED.iter().enumerate() {
@@ -110,9 +193,17 @@ const LISTING: &[u8] = b"mov64 r0, 1\nja +1\nmov64 r0, 2\nexit\n";
 
 const CUT: &[u8] = b"CELBPF01\x01\0\0\0\0\0\0\0\x95\0\0\0\0\0\0";
 
+/// The image of a program that adds to a word of the stack, and its listing.
+const ADDING: &[u8] =
+    b"CELBPF01\x05\0\0\0\0\0\0\0\xb7\x01\0\0\x05\0\0\0\x7a\x0a\xf8\xff\x07\0\0\0\xdb\x1a\xf8\xff\x01\0\0\0\x79\xa0\xf8\xff\0\0\0\0\x95\0\0\0\0\0\0\0";
+
+const ADDING_LISTING: &[u8] =
+    b"mov64 r1, 5\nstdw [r10-8], 7\natomic_fetch_add64 [r10-8], r1\nldxdw r0, [r10-8]\nexit\n";
+
 /// What the image's file holds, the name that is asked for, what is written, and the status.
-const LISTED: [(&[u8], &str, &[u8], &[u8], u8); 4] = [
+const LISTED: [(&[u8], &str, &[u8], &[u8], u8); 5] = [
     (JUMPING, "a.img", LISTING, b"", 0),
+    (ADDING, "a.img", ADDING_LISTING, b"", 0),
     (OLD, "a.img", b"", b"celbpf: L1\n", 3),
     (CUT, "a.img", b"", b"celbpf: L5\n", 3),
     (JUMPING, "b.img", b"", b"celbpf: file\n", 3),

@@ -25,6 +25,9 @@ const NEWER: &[u8] = b"CELBPF02\x02\0\0\0\0\0\0\0\xb7\0\0\0\x05\0\0\0\x95\0\0\0\
 /// `r0 = 5`.
 const ONE: &[u8] = b"CELBPF01\x01\0\0\0\0\0\0\0\xb7\0\0\0\x05\0\0\0";
 
+/// The wide load without its second slot.
+const CUT_LOAD: &[u8] = b"CELBPF01\x01\0\0\0\0\0\0\0\x18\0\0\0\0\0\0\0";
+
 /// `r10 = 0`.
 const FRAME: &[u8] = b"CELBPF01\x01\0\0\0\0\0\0\0\xb7\x0a\0\0\0\0\0\0";
 
@@ -44,12 +47,13 @@ fn ends_with(done: &Done, end: &[u8], status: u8) -> bool {
 }
 
 /// The image, the limit of steps, the end of standard output and the status.
-const RUNS: [(&[u8], u64, &[u8], u8); 6] = [
+const RUNS: [(&[u8], u64, &[u8], u8); 7] = [
     (THREE, MOST, b"\nstep 3 pc 2 exited 0x0000000000000007\n", 0),
     (THREE, 0, b"\nstep 0 pc 0 running\n", 4),
     (TWO, MOST, b"\nstep 2 pc 1 exited 0x0000000000000005\n", 0),
     (NEWER, MOST, b"\nstep 2 pc 1 exited 0x0000000000000005\n", 0),
     (ONE, MOST, b"\nstep 2 pc 1 fault F1\n", 1),
+    (CUT_LOAD, MOST, b"\nstep 1 pc 0 fault F2\n", 1),
     (FRAME, MOST, b"\nstep 1 pc 0 fault F9\n", 1),
 ];
 

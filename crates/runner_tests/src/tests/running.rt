@@ -47,9 +47,11 @@ const CALLS: [(&[u8], &[u8], &[u8]); 6] = [
 
 /// Code without constants, and the last line that its run prints.
 #[rattlefmt::skip]
-const RUNS: [(&[u8], &[u8]); 9] = [
+const RUNS: [(&[u8], &[u8]); 12] = [
     // The wide load lacks its second slot.
     (b"\x18\0\0\0\0\0\0\0", b"\nstep 1 pc 0 fault F2\n"),
+    // An atomic instruction of no operation.
+    (b"\xdb\x1a\xf8\xff\xf0\0\0\0", b"\nstep 1 pc 0 fault F2\n"),
     // The jump goes to the second slot of a wide load.
     (b"\x05\0\x01\0\0\0\0\0\x18\0\0\0\x05\0\0\0\0\0\0\0\0\0\0\0\x95\0\0\0\0\0\0\0", b"\nstep 2 pc 2 fault F2\n"),
     // The load is from the last address.
@@ -62,6 +64,16 @@ const RUNS: [(&[u8], &[u8]); 9] = [
     // 0x1234 as two bytes in the other order, and as four.
     (b"\xb7\0\0\0\x34\x12\0\0\xdc\0\0\0\x10\0\0\0\x95\0\0\0\0\0\0\0", b"\nstep 3 pc 2 exited 0x0000000000003412\n"),
     (b"\xb7\0\0\0\x34\x12\0\0\xd7\0\0\0\x20\0\0\0\x95\0\0\0\0\0\0\0", b"\nstep 3 pc 2 exited 0x0000000034120000\n"),
+    // 0x100000007 modulo 0: the low half is left, with 32 bits.
+    (
+        b"\x18\x01\0\0\x07\0\0\0\0\0\0\0\x01\0\0\0\x9c\x21\0\0\0\0\0\0\xbf\x10\0\0\0\0\0\0\x95\0\0\0\0\0\0\0",
+        b"\nstep 4 pc 4 exited 0x0000000000000007\n",
+    ),
+    // An atomic instruction adds 5 to a word that is 7, and leaves the 7 in R1.
+    (
+        b"\xb7\x01\0\0\x05\0\0\0\x7a\x0a\xf8\xff\x07\0\0\0\xdb\x1a\xf8\xff\x01\0\0\0\x79\xa0\xf8\xff\0\0\0\0\x95\0\0\0\0\0\0\0",
+        b"r0 0x000000000000000c\nr1 0x0000000000000007\nr2 0x0000000000000000\nr3 0x0000000000000000\nr4 0x0000000000000000\nr5 0x0000000000000000\nr6 0x0000000000000000\nr7 0x0000000000000000\nr8 0x0000000000000000\nr9 0x0000000000000000\nr10 0x0000000100000200\nstep 5 pc 4 exited 0x000000000000000c\n",
+    ),
     // A move of 32 bits clears the others.
     (b"\xb4\0\0\0\xff\xff\xff\xff\x95\0\0\0\0\0\0\0", b"\nstep 2 pc 1 exited 0x00000000ffffffff\n"),
 ];
