@@ -140,12 +140,17 @@ fn limits_of_expressions(rt: HostRuntime) -> Result<(), Fail> {
     Ok(())
 }
 
-/// A specification with this many validations, each with a text of 62,000 bytes that no other has.
+/// A specification with this many validations, each with a text of 62,000 bytes that no other has: its place in
+/// two digits, then letters.
 fn with_texts(alloc: Global, n: u64) -> Result<String, AllocError> {
     let letters = "a".repeat(alloc, 61_998)?;
-    let mut spec = String::from_str(alloc, "{\"validations\":[{\"expression\":\"true\"}")?;
+    let mut spec = String::from_str(alloc, "{\"validations\":[")?;
     for i in 0..n {
-        let validation = format!(in alloc; ",{{\"expression\":\"'{:02}{letters}' == 'a'\"}}", i)?;
+        let comma = if i == 0 { "" } else { "," };
+        let validation = format!(in alloc;
+            "{comma}{{\"expression\":\"'{:02}{letters}' == 'a'\"}}",
+            i
+        )?;
         spec.push_str(validation.as_str())?;
     }
     spec.push_str("]}")?;

@@ -60,6 +60,8 @@ const ENDS: &str = r#"}]}¦
 }],"auditAnnotations":[]}¦K3
 }],"matchConditions":[{"name":"a b","expression":"a"}]}¦
 }],"matchConditions":[{"name":"","expression":"a"}]}¦K3
+}],"matchConditions":[{"name":"c","expression":"a"},{"name":"d","expression":"a"},{"name":"c","expression":"b"}]}¦K3
+}],"matchConditions":[{"name":"c","expression":"a"}],"variables":[{"name":"c","expression":"a"}]}¦
 }],"variables":[{"name":"object","expression":"a"}]}¦
 }],"variables":[{"name":"in","expression":"a"}]}¦K3
 }],"variables":[{"name":"a b","expression":"a"}]}¦K3
