@@ -37,12 +37,13 @@ const KIND_HEAD: &str = r#"{"validations":[{"expression":"true"}],"paramKind":{"
 /// A policy's specification, and why it is refused. Its first list in `paramKind` is four levels
 /// deep in the document, of which 127 are read.
 #[rattlefmt::skip]
-const POLICIES: [(Pieces<'static>, Option<&str>); 10] = [
+const POLICIES: [(Pieces<'static>, Option<&str>); 11] = [
     ((HEAD, "(", 101, "true", ")", TAIL), Some("K6 validation 0 P5 at 100")),
     ((HEAD, "1+(", 58, "1+1", ")", SUM_TAIL), None),
     ((HEAD, "1+(", 59, "1+1", ")", SUM_TAIL), Some("K6 validation 0 G1")),
     ((HEAD, "true && ", 254, "true", "", TAIL), None),
     ((HEAD, "true && ", 255, "true", "", TAIL), Some("G3")),
+    ((HEAD, "!", 4_095, "true", "", TAIL), Some("G3")),
     ((HEAD, "1*", 250, "1", "", SUM_TAIL), None),
     ((LIST, BEFORE, 63, VALIDATION, "", "]}"), None),
     ((LIST, BEFORE, 64, VALIDATION, "", "]}"), Some("K5")),
