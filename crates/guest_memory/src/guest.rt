@@ -70,6 +70,7 @@ fn shared(alloc: Global, constants: &[u8]) -> Result<Rc<Vec<u8>>, AllocError>
 impl Guest {
     /// The word of a load over the border of a page of the stack, if one region has its bytes.
     #[tactic(auto, unfolding(crate::specs::Access::read_of))]
+    #[cold]
     #[inline(never)]
     fn read_across(&self, addr: u64, size: Size) -> Option<u64>
         ensures { word_or_outside result ≡ read_of (record { stack = self.now.stack; scratch = self.now.scratch; verdict = self.now.verdict; constants = self.now.constants.value.items }) addr size }
@@ -82,6 +83,7 @@ impl Guest {
 
     /// The word of a load whose bytes do not all stand on the stack, if one region has them.
     #[tactic(auto, unfolding(crate::specs::Access::read_of))]
+    #[cold]
     #[inline(never)]
     fn read_above(&self, addr: u64, size: Size) -> Option<u64>
         requires { place_of 0x100000000 (length self.now.stack) addr (size_bytes size) ≡ None }
@@ -102,6 +104,7 @@ impl Guest {
 
     /// A store over the border of a page of the stack.
     #[tactic(auto, unfolding(crate::specs::Access::write_of))]
+    #[cold]
     #[inline(never)]
     fn write_across(&mut self, addr: u64, size: Size, word: u64) -> Answer
         ensures { Writes (write_of (record { stack = self.old.stack; scratch = self.old.scratch; verdict = self.old.verdict; constants = self.old.constants.value.items }) addr size word) (answer_of result) (record { stack = self.old.stack; scratch = self.old.scratch; verdict = self.old.verdict; constants = self.old.constants.value.items }) (record { stack = self.new.stack; scratch = self.new.scratch; verdict = self.new.verdict; constants = self.new.constants.value.items }) }
@@ -117,6 +120,7 @@ impl Guest {
 
     /// A store whose bytes would not all stand on the stack.
     #[tactic(auto, unfolding(crate::specs::Access::write_of))]
+    #[cold]
     #[inline(never)]
     fn write_above(&mut self, addr: u64, size: Size, word: u64) -> Answer
         requires { place_of 0x100000000 (length self.old.stack) addr (size_bytes size) ≡ None }

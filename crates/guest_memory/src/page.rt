@@ -64,6 +64,7 @@ impl Page {
     }
 
     /// The same in a copy of the bytes, which others share.
+    #[cold]
     #[inline(never)]
     fn put_word_in_copy(&mut self, at: usize, size: Size, word: u64) -> Result<(), AllocError>
         requires { at + size_bytes size ≤ 256 }
