@@ -3,7 +3,7 @@
 from collections import Counter
 from statistics import median
 
-from evaluator.verdicts import ADMITTED, DENIED, REJECTED, SKIPPED
+from ..evaluator.verdicts import ADMITTED, DENIED, REJECTED, SKIPPED
 
 OUTCOMES = {ADMITTED: "admitted", SKIPPED: "skipped", DENIED: "denied", REJECTED: "rejected"}
 

@@ -2,7 +2,7 @@
 
 import re
 
-from asking import policies
+from ..asking import policies
 
 from .texts import read, spans, tables
 

@@ -1,6 +1,6 @@
 """How long policies take to compile, and reviews to answer."""
 
-from measures.runs import row
+from .runs import row
 
 ALLOWED, DENIED, REFUSED = 0, 1, 3
 

@@ -1,6 +1,6 @@
 """Runs over the built program what the pages show: commands with what they print, sessions, and expressions.
 
-usage: python3 -m pages PROGRAM   (in tools, as tools/run-commands does)
+usage: python3 -m celbpf_tools.pages PROGRAM   (in tools, as tools/run-commands does)
 
 The commands are in the table tools/data/run-commands/pages. There `page` names a page and `end` ends it; `with` is
 a setting of its commands, and `file NAME WORDS` makes a file of the page's block that begins so. `$` is a command of
@@ -11,7 +11,7 @@ and the command prints, `block` for a block of the page, and its status. Session
 import sys
 import tempfile
 
-from asking.program import Program, located
+from ..asking.program import Program, located
 
 from .commands import Commands, run_table
 from .expressions import Expressions

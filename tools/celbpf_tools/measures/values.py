@@ -1,7 +1,7 @@
 """How long calls on values take, and a checkpoint's copy of them."""
 
-from measures.runs import left, row
-from measures.steps import COUNTING
+from .runs import left, row
+from .steps import COUNTING
 
 # each turn appends to the newest list
 PUSHES = """call 16

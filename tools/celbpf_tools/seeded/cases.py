@@ -4,10 +4,10 @@ import json
 from dataclasses import dataclass
 from typing import Optional
 
-from evaluator.macros import ROOTS
-from evaluator.refused import Refused
-from evaluator.review import answer
-from evaluator.verdicts import message_text
+from ..evaluator.macros import ROOTS
+from ..evaluator.refused import Refused
+from ..evaluator.review import answer
+from ..evaluator.verdicts import message_text
 
 from .policies import spec_of
 from .reviews import Documents

@@ -1,6 +1,6 @@
 """How long steps take, in runs and in sessions."""
 
-from measures.runs import left, row
+from .runs import left, row
 
 STEPS = 10_000_000
 

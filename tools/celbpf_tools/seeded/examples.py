@@ -1,10 +1,8 @@
 """The example policies of the repository, with their reviews."""
 
-from pathlib import Path
-
+from ..home import EXAMPLES
 from .cases import Case
 
-ROOT = Path(__file__).resolve().parent.parent.parent / "examples" / "policies"
 
 
 def bytes_of(path):
@@ -14,7 +12,7 @@ def bytes_of(path):
 
 def examples():
     """For each review its name, its case, and the response that is stored beside it."""
-    for path in sorted(ROOT.glob("*/*.review.json")):
+    for path in sorted(EXAMPLES.glob("*/*.review.json")):
         folder, name = path.parent, path.name.removesuffix(".review.json")
         beside = [bytes_of(folder / f"{kind}.json") for kind in ("namespace", "params")]
         case = Case(bytes_of(folder / "policy.json"), bytes_of(path), *beside)

@@ -7,8 +7,8 @@ import sys
 import tempfile
 from pathlib import Path
 
-ROOT = Path(__file__).resolve().parent.parent.parent
-BUILT = ROOT / "crates" / "celbpf" / "out" / "celbpf"
+from ..home import ROOT, built
+
 # the image of `exit`
 EXIT = b"CELBPF01\1" + bytes(7) + b"\x95" + bytes(7)
 # the most steps of one line of a session, and how many such lines are as many as a review may take
@@ -41,7 +41,7 @@ def located(given):
         ended = subprocess.run([ROOT / "celbpf", "list", image.name], stdout=subprocess.DEVNULL).returncode
     if ended:
         sys.exit(ended)
-    return BUILT
+    return built("celbpf")
 
 
 class Program:

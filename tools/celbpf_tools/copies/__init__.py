@@ -7,8 +7,8 @@ import subprocess
 import tempfile
 from pathlib import Path
 
-ROOT = Path(__file__).resolve().parent.parent.parent
-DATA = ROOT / "tools" / "data"
+from ..home import DATA, ROOT
+
 # for `tried`: compiled with checks alone, since the interpreter would take minutes
 CHECKED = ["--steps", "1"]
 MODULE = re.compile(r"^mod (.*);$", re.MULTILINE)

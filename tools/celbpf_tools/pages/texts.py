@@ -1,9 +1,9 @@
 """The text of a page: its indented blocks, its tables, and what stands in back quotes."""
 
 import re
-from pathlib import Path
 
-ROOT = Path(__file__).resolve().parent.parent.parent
+from ..home import ROOT
+
 SPAN = re.compile(r"`` (.+?) ``|`([^`\n]+)`")
 
 

@@ -2,8 +2,8 @@
 
 import os
 
-from measures.policies import ALLOWED, DENIED, policy
-from measures.runs import row
+from .policies import ALLOWED, DENIED, policy
+from .runs import row
 
 # one run each, since some take seconds
 COUNT = 1

@@ -6,7 +6,8 @@ import shutil
 import subprocess
 from pathlib import Path
 
-from .texts import ROOT, block, read, spans, tables
+from ..home import ROOT
+from .texts import block, read, spans, tables
 
 COMMAND = re.compile(r"\./celbpf (?:compile|review|run-image|asm|list) [^`\n]+")
 SESSION = re.compile(r"\./celbpf debug [^`\n]+")

@@ -1,0 +1,17 @@
+"""What the scripts of `tools` are made of: each script is a file that calls a command of this package.
+
+    home         where the repository or the installed package is
+    entry        how a script begins and ends: words, streams, statuses
+    commands     a module for each script in Python
+    documents    policies, reviews and tests, read as JSON or YAML
+    asking       questions to the built program about a policy
+    evaluator    what a policy answers to a review, written apart from the crates
+    seeded       policies and reviews from a seed
+    copies       copies of the crates, on which scripts work
+    measures     runs that are timed
+    pages        what the pages show, as runs
+    tests        unit tests, which `tools/run-units` runs
+
+All of it goes by the programs' command lines and outputs alone; nothing here reads a crate's sources but the scripts
+that work on copies of them.
+"""

@@ -1,0 +1,1 @@
+"""A module for each script in Python: its `main` returns the script's status."""

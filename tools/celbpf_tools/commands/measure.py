@@ -1,0 +1,35 @@
+"""Runs the built program on images and documents that it makes, and prints how long each run takes.
+
+usage: tools/measure [PROGRAM [PART..]]
+
+It builds nothing and proves nothing. Each row is the best of some runs, the program's start included:
+steps or calls a second where the row is of one long run, else milliseconds, of a whole run or of one of
+a session's lines; and the greatest resident memory, which GNU time tells. What is run stands in
+tools/measures.
+"""
+
+import os
+import sys
+import tempfile
+
+from ..home import EXAMPLES, built
+from ..measures import policies, steps, values, worst
+from ..measures.runs import Runs
+
+PARTS = {
+    "steps": steps.measure,
+    "values": values.measure,
+    "policies": lambda runs: policies.measure(runs, f"{EXAMPLES}/replicas"),
+    "worst": worst.measure,
+}
+
+
+def main():
+    program = os.path.abspath(sys.argv[1] if len(sys.argv) > 1 else built("celbpf"))
+    if not os.access(program, os.X_OK):
+        sys.exit(f"measure: no program at {program}; build it first")
+    with tempfile.TemporaryDirectory() as folder:
+        runs = Runs(program, folder)
+        for name in sys.argv[2:] or PARTS:
+            PARTS[name](runs)
+    print("each row was measured")

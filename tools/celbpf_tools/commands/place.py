@@ -1,0 +1,146 @@
+"""Says where a policy is refused: the part, its text, and the smallest piece of it that is refused.
+
+usage: tools/place POLICY [--program PROGRAM]
+
+The first line is what `celbpf compile` says, the second what is meant; carets stand under the piece. All is asked
+of the program, for the pieces of an expression and the keys of the document by small policies of their own.
+Status 0 is a policy that is accepted, 3 one that is refused.
+"""
+
+import argparse
+import sys
+import tempfile
+
+from ..asking import policies
+from ..asking.keys import TRUE, Keys
+from ..asking.places import cause_of, smallest
+from ..asking.program import Program, located
+from ..asking.texts import on_one_line, pointed
+
+MEANINGS = {
+    "K1": "the document is no JSON text",
+    "K2": "it is no object, or its apiVersion or kind is another or absent",
+    "K3": "a key is unknown, missing or of another type, or a name, failure policy or reason is none that there is",
+    "K4": "there is no validation",
+    "K5": "there are more than 64 conditions, variables or validations",
+    "K7": "a condition or validation is known to be no bool",
+    "K8": "a message has a line feed or a carriage return",
+    "K9": "a message expression is known to be no text",
+    "P1": "a character begins no token",
+    "P2": "a text literal does not end, or has a wrong escape",
+    "P3": "an int does not fit 64 bits",
+    "P4": "a token does not fit here, or the text ends too early",
+    "P5": "more than 100 brackets and conditionals are open",
+    "P6": "the text is longer than 65,536 bytes or 4,096 tokens",
+    "M1": "a macro has another number of arguments",
+    "M2": "a macro iterates by what is no free name",
+    "M3": "has() is asked of what is no field",
+    "Y1": "a name is unknown",
+    "Y2": "no function or operator takes operands of these types",
+    "Y3": "variables stands without a variable in scope behind it",
+    "G1": "it needs more than 60 words of the stack",
+    "G2": "a variable is nested more than six variables deep",
+    "G3": "the parts up to here have more than 512 nodes together",
+    "G4": "the names and texts up to here are more than 1,048,576 bytes together",
+}
+
+
+def show(part, begin, end):
+    """Prints a part with carets under a piece."""
+    print(f"{part.title}:")
+    print(pointed(part.text, begin, end))
+
+
+def show_whole(part):
+    show(part, 0, len(part.text))
+
+
+def of_part(program, policy, refusal):
+    """The part that K6 names, with the place of P or the smallest piece."""
+    _, kind, place, cause, *at = refusal.split()
+    part = next(one for one in policies.parts(policy) if one.kind == kind and one.place == int(place))
+    if at:
+        begin = len(part.text.encode()[: int(at[1])].decode(errors="ignore"))
+        return show(part, begin, begin + 1)
+    piece = smallest(program, part, cause)
+    show(part, piece.begin, piece.end)
+
+
+def of_type(program, policy, number):
+    """The first part that is refused alone for its type."""
+    for part in policies.parts(policy):
+        if cause_of(program.refusal(made_for(part))) == number:
+            return show_whole(part)
+    print("no part alone is refused so")
+
+
+def made_for(part):
+    """A policy whose only condition, validation or message is this part."""
+    spec = {"variables": policies.needed(part.scope, part.text), "validations": [TRUE]}
+    if part.kind == "condition":
+        spec["matchConditions"] = [{"name": part.name, "expression": part.text}]
+    elif part.kind == "message":
+        spec["validations"] = [{**TRUE, "messageExpression": part.text}]
+    elif part.kind == "validation":
+        spec["validations"] = [{"expression": part.text}]
+    return policies.whole(spec)
+
+
+def of_size(program, policy, number):
+    """The first part with which the policy up to it is too large."""
+    spec = {"variables": [], "matchConditions": [], "validations": []}
+    for part in policies.parts(policy):
+        add(spec, part)
+        whole = policies.whole({**spec, "validations": spec["validations"] or [TRUE]})
+        if cause_of(program.refusal(whole)) == number:
+            return show_whole(part)
+    print("no part up to the end is refused so")
+
+
+def add(spec, part):
+    """Adds a part to a specification that has those before it."""
+    if part.kind == "message":
+        spec["validations"][-1]["messageExpression"] = part.text
+    elif part.kind == "validation":
+        spec["validations"].append({"expression": part.text})
+    else:
+        key = "variables" if part.kind == "variable" else "matchConditions"
+        spec[key].append({"name": part.name, "expression": part.text})
+
+
+def of_key(program, policy, number):
+    """The key of the document that is refused alone."""
+    found = Keys(program, number).of_policy(policy)
+    print(f"{found[0]}: {on_one_line(shown(found[1]))}" if found else "no key alone is refused so")
+
+
+def shown(value):
+    return value if isinstance(value, str) else policies.json.dumps(value, ensure_ascii=False)
+
+
+def tell(program, path, refusal):
+    """Prints where a policy is refused."""
+    number = cause_of(refusal)
+    print(f"celbpf: {refusal}")
+    print(MEANINGS.get(number, "the policy cannot be read or its image not be written"))
+    finders = {"K3": of_key, "K5": of_key, "K8": of_key, "K7": of_type, "K9": of_type, "G3": of_size, "G4": of_size}
+    if refusal.startswith("K6 "):
+        of_part(program, policies.read(path), refusal)
+    elif number in finders:
+        finders[number](program, policies.read(path), number)
+
+
+def main():
+    parser = argparse.ArgumentParser(usage=__doc__.split("usage: ")[1].split("\n\n")[0])
+    parser.add_argument("policy")
+    parser.add_argument("--program")
+    given = parser.parse_args()
+    path = located(given.program)
+    with tempfile.TemporaryDirectory() as folder:
+        program = Program(path, folder)
+        refusal = program.refusal(given.policy)
+        if not refusal:
+            print("accepted")
+            return 0
+        tell(program, given.policy, refusal)
+    return 3

@@ -1,0 +1,67 @@
+"""Answers many reviews under a policy, a line for each, for a build pipeline.
+
+usage: tools/reviews POLICY FOLDER|FILE.. [--namespace F] [--params F] [--program PROGRAM]
+
+Of a folder those files are taken whose names end in `.review.json`, in their order. A line has the file, `allowed`,
+`denied` or `not decided`, and the message or the refusal; the last line counts them. Status 0 says that all are
+allowed, 1 that one is denied, 3 that one is not decided, whatever the others are, 2 that the words name no review.
+"""
+
+import argparse
+import sys
+import tempfile
+from collections import Counter
+from pathlib import Path
+
+from ..asking.program import NotAnswered, Program, located
+from ..asking.texts import on_one_line
+
+ALLOWED, DENIED, NOT_DECIDED = "allowed", "denied", "not decided"
+
+
+def words():
+    parser = argparse.ArgumentParser(usage=__doc__.split("usage: ")[1].split("\n\n")[0])
+    parser.add_argument("policy")
+    parser.add_argument("places", nargs="+", type=Path)
+    parser.add_argument("--namespace")
+    parser.add_argument("--params")
+    parser.add_argument("--program")
+    return parser.parse_args()
+
+
+def files(places):
+    """The files of the reviews."""
+    for place in places:
+        if not place.is_dir():
+            yield place
+            continue
+        found = sorted(place.glob("*.review.json"))
+        if not found:
+            print(f"reviews: no file *.review.json in {place}", file=sys.stderr)
+            sys.exit(2)
+        yield from found
+
+
+def answered(program, policy):
+    """What a review comes to, and the message or the refusal."""
+    try:
+        response = program.response(policy)
+    except NotAnswered as why:
+        return NOT_DECIDED, f"celbpf: {why.line}"
+    return (ALLOWED, "") if response["allowed"] else (DENIED, response["status"]["message"])
+
+
+def main():
+    given = words()
+    path = located(given.program)
+    pairs = [("--namespace", given.namespace), ("--params", given.params)]
+    beside = [word for pair in pairs if pair[1] for word in pair]
+    counts = Counter()
+    with tempfile.TemporaryDirectory() as folder:
+        for file in files(given.places):
+            outcome, message = answered(Program(path, folder, ["--review", file, *beside]), given.policy)
+            counts[outcome] += 1
+            print(f"{file}: {outcome}{': ' if message else ''}{on_one_line(message)}", flush=True)
+    told = ", ".join(f"{counts[outcome]} {outcome}" for outcome in (ALLOWED, DENIED, NOT_DECIDED))
+    print(f"{counts.total()} reviews: {told}")
+    return 3 if counts[NOT_DECIDED] else 1 if counts[DENIED] else 0

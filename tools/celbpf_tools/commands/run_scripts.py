@@ -1,0 +1,71 @@
+"""Runs the scripts why, place and reviews on small documents, and compares what they print with tables.
+
+usage: tools/run-scripts [PROGRAM]
+
+The tables are the files of tools/data/run-scripts, worked by hand. A line `policy SPEC` makes policy.json of a
+specification, `review REQUEST` review.json of a request beside a uid, and `file NAME TEXT` any other. A line
+`$ WORDS` runs a script; below it stands what it prints on both outputs, up to a line `[STATUS]`.
+"""
+
+import json
+import subprocess
+import sys
+import tempfile
+from pathlib import Path
+
+from ..asking.policies import whole
+from ..asking.program import located
+from ..home import DATA, TOOLS
+
+TABLES = DATA / "run-scripts"
+REVIEW = {"apiVersion": "admission.k8s.io/v1", "kind": "AdmissionReview"}
+
+
+def made(line):
+    """The name and the text of the file that a line makes, or None."""
+    word, _, rest = line.partition(" ")
+    if word == "policy":
+        return "policy.json", json.dumps(whole(json.loads(rest)))
+    if word == "review":
+        return "review.json", json.dumps({**REVIEW, "request": {"uid": "u", **json.loads(rest)}})
+    return tuple(rest.split(" ", 1)) if word == "file" else None
+
+
+def ran(words, program, folder):
+    """What a script prints on both outputs, and its status as a last line."""
+    command = [TOOLS / words[0], *words[1:], "--program", program]
+    outputs = {"stdout": subprocess.PIPE, "stderr": subprocess.STDOUT}
+    ended = subprocess.run(command, cwd=folder, text=True, **outputs)
+    return f"{ended.stdout}[{ended.returncode}]\n"
+
+
+def compared(name, lines, program, folder):
+    """The runs of a table, and how many of them differ."""
+    runs = differing = 0
+    while lines:
+        line = lines.pop(0)
+        if file := made(line):
+            path = Path(folder, file[0])
+            path.parent.mkdir(exist_ok=True)
+            path.write_text(file[1])
+        elif line.startswith("$ "):
+            wanted = ""
+            while not wanted.endswith("]\n") or not wanted.splitlines()[-1].startswith("["):
+                wanted += lines.pop(0) + "\n"
+            found = ran(line[2:].split(), program, folder)
+            runs += 1
+            if found != wanted:
+                differing += 1
+                print(f"{name}: {line}\nwanted:\n{wanted}found:\n{found}", flush=True)
+    return runs, differing
+
+
+def main():
+    program = located(sys.argv[1] if len(sys.argv) > 1 else "")
+    counts = []
+    for table in sorted(TABLES.iterdir()):
+        with tempfile.TemporaryDirectory() as folder:
+            counts.append(compared(table.name, table.read_text().splitlines(), program, folder))
+    runs, differing = map(sum, zip(*counts))
+    print(f"{runs - differing} of {runs} runs of scripts are as they are to be")
+    return 1 if differing else 0

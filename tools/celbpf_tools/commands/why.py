@@ -1,0 +1,108 @@
+"""Says why a policy decides a review as it does.
+
+usage: tools/why POLICY REVIEW [--namespace F] [--params F] [--program PROGRAM]
+
+The first line is the outcome. Then comes for each condition, variable and validation what it came to (true,
+false, the error, or its value as JSON) with its expression, and for an error the first part of it that is one;
+and for each denial its message and where that comes from. All is asked of the program, for the parts of an
+expression by small policies with the same variables. The status is that of `celbpf review`; where it refuses the
+policy or a document, its line is printed.
+"""
+
+import argparse
+import sys
+import tempfile
+
+from ..asking import policies
+from ..asking.errors import ERROR, first_error
+from ..asking.program import NotAnswered, Program, located
+from ..asking.texts import indented, on_one_line
+
+OUTCOMES = {"1": "skipped", "2": "rejected", "3": "denied", "4": "admitted"}
+RUNS = ("denied", "admitted")
+BOOLS = ("true", "false", ERROR)
+# stands for a message, to see whether the message is what is answered
+MARK = "the message"
+
+
+def words():
+    parser = argparse.ArgumentParser(usage=__doc__.split("usage: ")[1].split("\n\n")[0])
+    parser.add_argument("policy")
+    parser.add_argument("review")
+    parser.add_argument("--namespace")
+    parser.add_argument("--params")
+    parser.add_argument("--program")
+    return parser.parse_args()
+
+
+def documents(given):
+    """The words that name the documents."""
+    beside = [("--namespace", given.namespace), ("--params", given.params)]
+    return ["--review", given.review, *(word for pair in beside if pair[1] for word in pair)]
+
+
+def tell_value(program, part):
+    """Prints what a part came to, with its expression."""
+    try:
+        value = program.value(policies.asking(part.scope, part.text))
+    except NotAnswered as why:
+        print(f"{part.title}: not shown, since the program answers {why.line} for it alone")
+        return print(indented(part.text))
+    decides = part.kind in ("condition", "validation")
+    no_bool = ", which is no bool and counts as the error" if decides and value not in BOOLS else ""
+    print(f"{part.title}: {on_one_line(value)}{no_bool}")
+    print(indented(part.text))
+    if value == ERROR:
+        print(*(indented(on_one_line(line)) for line in first_error(program, part.scope, part.text)), sep="\n")
+
+
+def origin(program, policy, place):
+    """Where the message of a denial comes from."""
+    validation = policy["spec"]["validations"][place]
+    if "messageExpression" in validation:
+        marked = policies.alone(policy, place, message=MARK)
+        if program.response(marked)["status"]["message"] != MARK:
+            return "its message expression"
+    return "its message" if validation.get("message") else "its expression, since it has no message"
+
+
+def tell_denial(program, policy, place, parts):
+    """Prints the message of a denial, and the message expression where it has one."""
+    response = program.response(policies.alone(policy, place))
+    if response["allowed"]:
+        return
+    print(f"denial by validation {place}: {on_one_line(response['status']['message'])}")
+    print(f"    from {origin(program, policy, place)}")
+    for part in parts:
+        if part.kind == "message" and part.place == place:
+            tell_value(program, part)
+
+
+def tell(program, policy, verdict):
+    """Prints all of a verdict, whose lines these are."""
+    outcome = OUTCOMES[verdict[0].split()[1]]
+    print(outcome)
+    parts = list(policies.parts(policy))
+    for kind in ("condition", "variable", "validation"):
+        for part in parts:
+            if part.kind == kind and (outcome in RUNS or kind == "condition"):
+                tell_value(program, part)
+    if outcome not in RUNS:
+        return print("variables and validations are not asked")
+    for line in verdict:
+        if line.startswith("validation "):
+            tell_denial(program, policy, int(line.split()[1]), parts)
+
+
+def main():
+    given = words()
+    path = located(given.program)
+    with tempfile.TemporaryDirectory() as folder:
+        program = Program(path, folder, documents(given))
+        try:
+            allowed = program.response(given.policy)["allowed"]
+            tell(program, policies.read(given.policy), program.verdict(given.policy))
+        except NotAnswered as why:
+            print(f"celbpf: {why.line}", file=sys.stderr)
+            return why.status
+    return 0 if allowed else 1

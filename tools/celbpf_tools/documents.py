@@ -1,0 +1,99 @@
+"""Documents as people write them: JSON, and YAML if Python's `yaml` is installed."""
+
+import json
+import re
+from pathlib import Path
+from typing import Any, Optional
+
+try:
+    import yaml
+except ImportError:
+    yaml = None
+
+YAML_NAMES = (".yaml", ".yml")
+# PyYAML takes more texts for numbers and dates than a cluster does: 1:30 is a text there, and so is 2026-11-26
+NOT_RESOLVED = ("tag:yaml.org,2002:timestamp", "tag:yaml.org,2002:int", "tag:yaml.org,2002:float")
+INT = re.compile(r"[-+]?(?:0|[1-9][0-9_]*|0x[0-9a-fA-F_]+|0o?[0-7_]+|0b[01_]+)$")
+FLOAT = re.compile(r"[-+]?(?:\.[0-9]+|[0-9]+(?:\.[0-9]*)?)(?:[eE][-+]?[0-9]+)?$|[-+]?\.(?:inf|Inf|INF)$|\.(?:nan|NaN|NAN)$")
+
+
+class Unreadable(Exception):
+    """A document that cannot be read: the message has the file, and the line and the column if they are known."""
+
+
+def place_of(text: str, at: int) -> str:
+    """The line and the column of a place in a text, counted from 1."""
+    return f"line {text.count(chr(10), 0, at) + 1} column {at - text.rfind(chr(10), 0, at)}"
+
+
+def text_of(path: Path) -> str:
+    """The text of a file."""
+    try:
+        return Path(path).read_text(encoding="utf-8-sig")
+    except OSError as why:
+        raise Unreadable(f"{path}: {why.strerror}") from why
+    except UnicodeDecodeError as why:
+        raise Unreadable(f"{path}: byte {why.start} is not UTF-8") from why
+
+
+def json_fault(text: str) -> Optional[str]:
+    """Why a text is not JSON, with the line and the column; `None` if it is."""
+    try:
+        json.loads(text)
+    except json.JSONDecodeError as why:
+        return f"{why.msg[:1].lower()}{why.msg[1:]} at {place_of(text, why.pos)}"
+    except RecursionError:
+        return "it is nested too deep"
+    return None
+
+
+def loader() -> Any:
+    """A loader of YAML that takes numbers as a cluster does, and dates as texts."""
+
+    class Loader(yaml.SafeLoader):
+        """YAML 1.1 without dates and without numbers to the base of 60."""
+
+    Loader.yaml_implicit_resolvers = {
+        first: [(tag, found) for tag, found in pairs if tag not in NOT_RESOLVED]
+        for first, pairs in yaml.SafeLoader.yaml_implicit_resolvers.items()
+    }
+    Loader.add_implicit_resolver("tag:yaml.org,2002:int", INT, list("-+0123456789"))
+    Loader.add_implicit_resolver("tag:yaml.org,2002:float", FLOAT, list("-+0123456789."))
+    return Loader
+
+
+def yaml_of(text: str, path: Path) -> list:
+    """The documents of a text in YAML, without empty ones."""
+    if yaml is None:
+        raise Unreadable(f"{path}: reading YAML needs PyYAML (Debian's python3-yaml); JSON is read without it")
+    try:
+        return [one for one in yaml.load_all(text, loader()) if one is not None]
+    except yaml.YAMLError as why:
+        mark = getattr(why, "problem_mark", None)
+        where = f" at line {mark.line + 1} column {mark.column + 1}" if mark else ""
+        raise Unreadable(f"{path}: {getattr(why, 'problem', None) or why}{where}") from why
+    except ValueError as why:
+        raise Unreadable(f"{path}: {why}") from why
+
+
+def all_in(path: Path) -> list:
+    """The documents of a file, which is YAML if its name or its text says so."""
+    text = text_of(path)
+    is_named = Path(path).suffix in YAML_NAMES
+    fault = json_fault(text)
+    if fault is None:
+        return [json.loads(text)]
+    if is_named or not text.lstrip().startswith(("{", "[")):
+        # a text that is neither is told as JSON where there is no YAML
+        if yaml is None and not is_named:
+            raise Unreadable(f"{path}: {fault}; if it is YAML, it needs PyYAML (Debian's python3-yaml)")
+        return yaml_of(text, path)
+    raise Unreadable(f"{path}: {fault}")
+
+
+def one_in(path: Path) -> Any:
+    """The one document of a file."""
+    found = all_in(path)
+    if len(found) != 1:
+        raise Unreadable(f"{path}: {len(found)} documents, and not one")
+    return found[0]

@@ -1,0 +1,67 @@
+"""How a script begins and ends.
+
+A script's status is what its command returns (`None` counts as 0). Beside these:
+
+    3      a file cannot be read or written; one line on standard error says which
+    130    interrupted
+    141    what reads the output has closed it, as with `| head -1`
+"""
+
+import os
+import sys
+from typing import Callable, NoReturn, Optional
+
+FILE = 3
+INTERRUPTED = 130
+CLOSED = 141
+# trees are as deep as an expression has operators in a row
+DEEPEST = 50_000
+
+
+class Stop(Exception):
+    """Ends a script with a line on standard error and a status."""
+
+    def __init__(self, line: str, status: int = FILE):
+        super().__init__(line)
+        self.line = line
+        self.status = status
+
+
+def told(error: OSError) -> str:
+    """What an error of the system says, with the file that it is about."""
+    why = error.strerror or str(error)
+    return f"{error.filename}: {why}" if error.filename else f"cannot write: {why}"
+
+
+def ended(name: str, main: Callable[[], Optional[int]]) -> int:
+    """Runs a command; its status."""
+    try:
+        status = main() or 0
+        sys.stdout.flush()
+        return status
+    except BrokenPipeError:
+        return CLOSED
+    except KeyboardInterrupt:
+        return INTERRUPTED
+    except Stop as why:
+        line, status = why.line, why.status
+    except OSError as why:
+        line, status = told(why), FILE
+    print(f"{name}: {line}", file=sys.stderr)
+    return status
+
+
+def drop_output() -> None:
+    """What is still to be written goes nowhere, so that the end of the process does not fail on it."""
+    os.dup2(os.open(os.devnull, os.O_WRONLY), sys.stdout.fileno())
+
+
+def run(name: str, main: Callable[[], Optional[int]]) -> NoReturn:
+    """Runs a command as the script of this name, and ends the process."""
+    sys.setrecursionlimit(DEEPEST)
+    status = ended(name, main)
+    try:
+        sys.stdout.flush()
+    except OSError:
+        drop_output()
+    sys.exit(status)

@@ -1,0 +1,1 @@
+"""Unit tests, which ask no program: `tools/run-units` runs them."""

@@ -1,0 +1,64 @@
+"""Documents: JSON and YAML, and what is said of those that cannot be read."""
+
+import tempfile
+import unittest
+from pathlib import Path
+from unittest import mock
+
+from .. import documents
+
+
+class Files(unittest.TestCase):
+    """Tests with a folder of their own."""
+
+    def setUp(self) -> None:
+        folder = tempfile.TemporaryDirectory()
+        self.addCleanup(folder.cleanup)
+        self.folder = Path(folder.name)
+
+    def file(self, name: str, text: str) -> Path:
+        path = self.folder / name
+        path.write_text(text)
+        return path
+
+    def refused(self, path: Path) -> str:
+        with self.assertRaises(documents.Unreadable) as raised:
+            documents.one_in(path)
+        return str(raised.exception).removeprefix(f"{self.folder}/")
+
+
+class Documents(Files):
+    def test_json(self) -> None:
+        self.assertEqual(documents.one_in(self.file("a.json", '{"a": [1, "b"]}')), {"a": [1, "b"]})
+
+    def test_place_of_a_json_fault(self) -> None:
+        said = self.refused(self.file("a.json", '{\n  "a": 1,\n  b\n}'))
+        self.assertEqual(said, "a.json: expecting property name enclosed in double quotes at line 3 column 3")
+
+    def test_missing_file(self) -> None:
+        self.assertEqual(self.refused(self.folder / "none.json"), "none.json: No such file or directory")
+
+    def test_not_utf8(self) -> None:
+        path = self.folder / "a.json"
+        path.write_bytes(b'{"a": "\xe9"}')
+        self.assertEqual(self.refused(path), "a.json: byte 7 is not UTF-8")
+
+    def test_without_pyyaml(self) -> None:
+        with mock.patch.object(documents, "yaml", None):
+            self.assertIn("needs PyYAML", self.refused(self.file("a.yaml", "a: 1")))
+            self.assertEqual(documents.one_in(self.file("a.json", "[1]")), [1])
+
+
+@unittest.skipIf(documents.yaml is None, "PyYAML is not installed")
+class Yaml(Files):
+    def test_texts_that_look_like_dates_and_times(self) -> None:
+        path = self.file("a.yaml", "a: 2026-11-26\nb: 1:30\nc: 0x10\nd: 1.5\ne: true\n")
+        self.assertEqual(documents.one_in(path), {"a": "2026-11-26", "b": "1:30", "c": 16, "d": 1.5, "e": True})
+
+    def test_place_of_a_yaml_fault(self) -> None:
+        self.assertRegex(self.refused(self.file("a.yaml", "a: [1\nb: 2\n")), r"^a.yaml: .* at line 2 column 2$")
+
+    def test_several_documents(self) -> None:
+        path = self.file("a.yaml", "a: 1\n---\nb: 2\n---\n")
+        self.assertEqual(documents.all_in(path), [{"a": 1}, {"b": 2}])
+        self.assertEqual(self.refused(path), "a.yaml: 2 documents, and not one")
