@@ -6,14 +6,17 @@ import subprocess
 import sys
 import tempfile
 from pathlib import Path
+from typing import Optional
 
-from ..home import ROOT, built
+from ..entry import Stop
+from ..home import EXAMPLES, ROOT, built, installed, is_checkout
 
 # the image of `exit`
 EXIT = b"CELBPF01\1" + bytes(7) + b"\x95" + bytes(7)
 # the most steps of one line of a session, and how many such lines are as many as a review may take
 LINE_STEPS = 1_000_000
 LINES = 10
+TO_THE_END = f"c {LINE_STEPS}\n" * LINES + "w\nq\n"
 # where a compiled policy puts what its validation 0 came to
 RESULT = "stdw [r1+8], 2"
 # how many slots behind the expression it stands
@@ -31,17 +34,53 @@ class NotAnswered(Exception):
         super().__init__(self.line)
 
 
-def located(given):
-    """The program that was given, or the repository's, which is built first where it is not up to date."""
+def located(given: Optional[str]) -> Path:
+    """The program that was given, or the repository's, which is built first if it is not up to date."""
     if given:
-        return Path(given).resolve()
+        return usable(given)
+    if not is_checkout():
+        return installed_one("celbpf")
     with tempfile.NamedTemporaryFile() as image:
         image.write(EXIT)
         image.flush()
-        ended = subprocess.run([ROOT / "celbpf", "list", image.name], stdout=subprocess.DEVNULL).returncode
+        build("celbpf", ["list", image.name])
+    return built("celbpf")
+
+
+def located_gatekeeper(given: Optional[str], celbpf: Optional[str]) -> Optional[Path]:
+    """The gatekeeper that was given, or the one beside the given program if there is one, or the repository's."""
+    if given:
+        return usable(given)
+    if celbpf:
+        beside = Path(celbpf).resolve().parent / "gatekeeper"
+        return beside if os.access(beside, os.X_OK) else None
+    if not is_checkout():
+        return installed_one("gatekeeper")
+    build("gatekeeper", ["--policy", str(EXAMPLES / "replicas" / "policy.json")])
+    return built("gatekeeper")
+
+
+def usable(given: str) -> Path:
+    """A program that can be run."""
+    program = Path(given).resolve()
+    if not (program.is_file() and os.access(program, os.X_OK)):
+        raise Stop(f"{given}: not a program that can be run", 2)
+    return program
+
+
+def installed_one(name: str) -> Path:
+    """The installed program of this name."""
+    found = installed(name)
+    if not found:
+        raise Stop(f"there is no program {name} in the path", 10)
+    return Path(found)
+
+
+def build(name: str, words: list) -> None:
+    """Has the repository's launcher build a program if it is not up to date, and run it on these words."""
+    ended = subprocess.run([ROOT / name, *words], stdin=subprocess.DEVNULL, stdout=subprocess.DEVNULL).returncode
     if ended:
         sys.exit(ended)
-    return built("celbpf")
 
 
 class Program:
@@ -51,6 +90,7 @@ class Program:
         self.path = path
         self.folder = folder
         self.documents = [str(word) for word in documents]
+        self.kept = 0
 
     def run(self, *words):
         """A run whose status was one that the program has."""
@@ -90,8 +130,25 @@ class Program:
             raise NotAnswered(ran)
         return json.loads(ran.stdout)["response"]
 
+    def kept_image(self, policy):
+        """The image of a policy that is accepted, in a file of its own."""
+        self.kept += 1
+        kept = os.path.join(self.folder, f"kept{self.kept}.img")
+        os.replace(self.compiled(policy), kept)
+        return kept
+
     def session(self, image):
         return Session([self.path, "debug", image, *self.documents])
+
+    def shown_verdict(self, image, documents):
+        """The lines of `w` at the end of an image's program, over these documents."""
+        self.documents = [str(word) for word in documents]
+        ran = subprocess.run(
+            [self.path, "debug", image, *self.documents], input=TO_THE_END, capture_output=True, text=True
+        )
+        if ran.returncode:
+            raise NotAnswered(ran)
+        return [line for line in ran.stdout.splitlines() if not line.startswith("step ")]
 
     def verdict(self, policy):
         """The lines of `w` at the end of a policy's program."""

@@ -1,13 +1,17 @@
-"""Runs the scripts why, place and reviews on small documents, and compares what they print with tables.
+"""Runs the scripts for policies on small documents, and compares what they print with tables.
 
-usage: tools/run-scripts [PROGRAM]
+usage: tools/run-scripts [PROGRAM [TABLE..]]
 
 The tables are the files of tools/data/run-scripts, worked by hand. A line `policy SPEC` makes policy.json of a
-specification, `review REQUEST` review.json of a request beside a uid, and `file NAME TEXT` any other. A line
-`$ WORDS` runs a script; below it stands what it prints on both outputs, up to a line `[STATUS]`.
+specification, `review REQUEST` review.json of a request beside a uid, and `file NAME TEXT` any other; in TEXT the
+two characters \\n are a line feed. A line `$ WORDS` runs a script with `--program PROGRAM`, and `% TEXT` has bash run
+a text in which $TOOLS is the folder of the scripts and $PROGRAM the program. Below stands what it prints on both outputs,
+up to a line `[STATUS]`. A line `needs MODULE` ends a table where Python has no such module.
 """
 
+import importlib.util
 import json
+import os
 import subprocess
 import sys
 import tempfile
@@ -28,14 +32,20 @@ def made(line):
         return "policy.json", json.dumps(whole(json.loads(rest)))
     if word == "review":
         return "review.json", json.dumps({**REVIEW, "request": {"uid": "u", **json.loads(rest)}})
-    return tuple(rest.split(" ", 1)) if word == "file" else None
+    if word == "file":
+        name, text = rest.split(" ", 1)
+        return name, text.replace("\\n", "\n")
+    return None
 
 
-def ran(words, program, folder):
-    """What a script prints on both outputs, and its status as a last line."""
-    command = [TOOLS / words[0], *words[1:], "--program", program]
-    outputs = {"stdout": subprocess.PIPE, "stderr": subprocess.STDOUT}
-    ended = subprocess.run(command, cwd=folder, text=True, **outputs)
+def ran(line, program, folder):
+    """What a line has printed on both outputs, and its status as a last line."""
+    kind, text = line[0], line[2:]
+    words = text.split()
+    command = [TOOLS / words[0], *words[1:], "--program", program] if kind == "$" else ["bash", "-c", text]
+    path = {**os.environ, "TOOLS": str(TOOLS), "PROGRAM": str(program)}
+    outputs = {"stdout": subprocess.PIPE, "stderr": subprocess.STDOUT, "stdin": subprocess.DEVNULL}
+    ended = subprocess.run(command, cwd=folder, env=path, text=True, **outputs)
     return f"{ended.stdout}[{ended.returncode}]\n"
 
 
@@ -46,13 +56,15 @@ def compared(name, lines, program, folder):
         line = lines.pop(0)
         if file := made(line):
             path = Path(folder, file[0])
-            path.parent.mkdir(exist_ok=True)
+            path.parent.mkdir(parents=True, exist_ok=True)
             path.write_text(file[1])
-        elif line.startswith("$ "):
+        elif line.startswith("needs ") and not importlib.util.find_spec(line.split()[1]):
+            break
+        elif line.startswith(("$ ", "% ")):
             wanted = ""
             while not wanted.endswith("]\n") or not wanted.splitlines()[-1].startswith("["):
                 wanted += lines.pop(0) + "\n"
-            found = ran(line[2:].split(), program, folder)
+            found = ran(line, program, folder)
             runs += 1
             if found != wanted:
                 differing += 1
@@ -64,6 +76,8 @@ def main():
     program = located(sys.argv[1] if len(sys.argv) > 1 else "")
     counts = []
     for table in sorted(TABLES.iterdir()):
+        if sys.argv[2:] and table.name not in sys.argv[2:]:
+            continue
         with tempfile.TemporaryDirectory() as folder:
             counts.append(compared(table.name, table.read_text().splitlines(), program, folder))
     runs, differing = map(sum, zip(*counts))

@@ -1,0 +1,136 @@
+"""Runs the tests of policies: which requests they allow, which they deny, and by which message.
+
+usage: tools/test [--junit F] [--coverage] [--tap] [--program PROGRAM] [--gatekeeper PROGRAM] FOLDER|FILE..
+
+Of a folder those files are taken, in it and below, that are called tests.yaml, tests.yml or tests.json. A test file has
+the keys `policy` (by default policy.json or .yaml beside it), `namespace`, `params`, `steps`, and `cases`, a list of
+
+    name        how the case is told
+    review      the file of a review; or object, oldObject (each inline or a file), operation and request (more keys)
+    expect      allowed or denied
+    message     the whole message of a denial; contains: a part of it
+    refusal     in the place of expect: the refusal that is wanted, as N2 or K6 validation 0 Y2
+
+and of policy, namespace, params and steps what differs for it. On a terminal there is a line for each file and for each
+case that fails, else the Test Anything Protocol. Status 0 says that all passed, 1 that a case failed, 3 that a file
+cannot be read, 2 that the words are wrong.
+"""
+
+import argparse
+import sys
+import tempfile
+from pathlib import Path
+from typing import Iterator, Optional
+
+from ..asking.program import Program, located, located_gatekeeper
+from ..documents import Unreadable, one_in
+from ..testing import output
+from ..testing.answers import Asked, Programs, failures
+from ..testing.cases import Broken, Case, files_of, read
+from ..testing.coverage import Coverage
+from ..testing.output import Result
+from ..testing.reviews import text_of_review
+
+
+def words() -> argparse.Namespace:
+    parser = argparse.ArgumentParser(usage=__doc__.split("usage: ")[1].split("\n\n")[0])
+    parser.add_argument("places", nargs="+")
+    parser.add_argument("--junit")
+    parser.add_argument("--coverage", action="store_true")
+    parser.add_argument("--tap", action="store_true")
+    parser.add_argument("--program")
+    parser.add_argument("--gatekeeper")
+    return parser.parse_args()
+
+
+def results_of(places: list, programs: Programs) -> tuple:
+    """The results of all test files, and the files that were read."""
+    results, files = [], []
+    for place in places:
+        try:
+            for path in files_of([place]):
+                found, file = results_of_file(path, programs)
+                results += found
+                files += file
+        except Unreadable as why:
+            results.append(Result(str(place), "", [str(why)], True))
+    return results, files
+
+
+def results_of_file(path: Path, programs: Programs) -> tuple:
+    """The results of a test file's cases, and the file in a list if it was read."""
+    try:
+        file = read(path)
+    except (Unreadable, Broken) as why:
+        told = str(why) if isinstance(why, Unreadable) else f"{path}: {why}"
+        return [Result(str(path), "", [told], True)], []
+    found = []
+    for case, answer in zip(file.cases, programs.answers(file.cases)):
+        if isinstance(answer, Unreadable):
+            found.append(Result(str(path), case.name, [str(answer)], True))
+        else:
+            found.append(Result(str(path), case.name, failures(case, answer)))
+    return found, [file]
+
+
+def covered(files: list, program: Path, asked: Asked) -> Iterator[str]:
+    """The lines of the coverage of each policy by the cases of all files."""
+    policies: dict = {}
+    for case in (case for file in files for case in file.cases):
+        try:
+            words_of = list(asked.words(case))
+            review = asked.write("covered.json", text_of_review(case.review, case.name, case.file.parent))
+        except Unreadable:
+            continue
+        if "--policy" not in words_of:
+            continue
+        at = words_of.index("--policy")
+        path = words_of[at + 1]
+        if path not in policies:
+            policies[path] = coverage_of(case, path, program, asked)
+        if policies[path]:
+            beside = [word for pair in zip(words_of[::2], words_of[1::2]) if pair[0] in ("--namespace", "--params") for word in pair]
+            policies[path].add(["--review", review, *beside])
+    for coverage in filter(None, policies.values()):
+        yield from coverage.lines()
+
+
+def policy_in(path: str) -> Optional[dict]:
+    """What a policy's document says, or `None` if it is not read."""
+    try:
+        return one_in(Path(path))
+    except Unreadable:
+        return None
+
+
+def coverage_of(case: Case, path: str, program: Path, asked: Asked) -> Optional[Coverage]:
+    """The coverage of a case's policy, with nothing reached; `None` if the policy is refused."""
+    asks = Program(program, str(asked.folder))
+    policy = policy_in(path)
+    if policy is None or asks.refusal(path):
+        return None
+    shown = case.beside["policy"]
+    return Coverage(str(case.file.parent / shown) if isinstance(shown, str) else case.file, policy, asks)
+
+
+def status_of(results: list) -> int:
+    if any(result.is_unread for result in results):
+        return 3
+    return 1 if any(result.failures for result in results) else 0
+
+
+def main() -> int:
+    given = words()
+    celbpf = located(given.program)
+    gatekeeper = located_gatekeeper(given.gatekeeper, given.program)
+    with tempfile.TemporaryDirectory() as folder:
+        asked = Asked(Path(folder))
+        results, files = results_of(given.places, Programs(celbpf, gatekeeper, asked))
+        notes = list(covered(files, celbpf, asked)) if given.coverage else []
+    failed = sum(bool(result.failures) for result in results)
+    notes.append(f"{len(results) - failed} of {len(results)} passed")
+    shown = output.lines if sys.stdout.isatty() and not given.tap else output.tap
+    shown(results, notes, sys.stdout)
+    if given.junit:
+        output.junit(results, given.junit)
+    return status_of(results)

@@ -1,0 +1,159 @@
+"""What the programs answer to cases: many by one gatekeeper, and by `celbpf review` what a line cannot say."""
+
+import json
+import subprocess
+from dataclasses import dataclass
+from pathlib import Path
+from typing import Any, Optional
+
+from ..documents import Unreadable, json_fault, one_in
+from .cases import Case
+from .reviews import compact, text_of_review
+
+# the most bytes of a line that a gatekeeper reads
+MOST_LINE = 16_777_216
+WORDS = {"policy": "--policy", "namespace": "--namespace", "params": "--params", "cluster": "--cluster", "steps": "--steps"}
+
+
+@dataclass
+class Answer:
+    """A response's `allowed` and message, or a refusal."""
+
+    allowed: Optional[bool] = None
+    message: str = ""
+    refusal: str = ""
+
+    @property
+    def outcome(self) -> str:
+        if self.refusal:
+            return f"refused with {self.refusal}"
+        return "allowed" if self.allowed else "denied"
+
+
+def answer_of(text: str) -> Answer:
+    """What a line of a gatekeeper, or the output of `celbpf review`, says."""
+    said = json.loads(text)
+    if "refused" in said:
+        return Answer(refusal=said["refused"])
+    response = said["response"]
+    return Answer(response["allowed"], response.get("status", {}).get("message", ""))
+
+
+def failures(case: Case, answer: Answer) -> list:
+    """Why an answer is not the wanted one, a line each."""
+    if case.refusal is not None:
+        wanted = f"refused with {case.refusal}"
+        return [] if answer.refusal == case.refusal else [f"wanted {wanted}, got {told(answer)}"]
+    if answer.outcome != case.expect:
+        return [f"wanted {case.expect}, got {told(answer)}"]
+    if case.message is not None and answer.message != case.message:
+        return [f"wanted the message {case.message!r}, got {answer.message!r}"]
+    if case.contains is not None and case.contains not in answer.message:
+        return [f"wanted {case.contains!r} in the message, got {answer.message!r}"]
+    return []
+
+
+def told(answer: Answer) -> str:
+    """An answer in words, with its message."""
+    return f"{answer.outcome}: {answer.message!r}" if answer.message else answer.outcome
+
+
+class Asked:
+    """The files that cases name, as the programs read them: YAML and what stands inline become files of JSON."""
+
+    def __init__(self, folder: Path):
+        self.folder = folder
+        self.made: dict = {}
+
+    def file(self, value: Any, at: Path) -> str:
+        """The file of a document: a name beside the test file, or what stands inline."""
+        if isinstance(value, str):
+            path = at / value
+            if not path.is_file():
+                raise Unreadable(f"{path}: No such file or directory")
+            if path.suffix not in (".yaml", ".yml"):
+                return str(path)
+            value = one_in(path)
+        text = compact(value)
+        if text not in self.made:
+            self.made[text] = self.write(f"document{len(self.made)}.json", text)
+        return self.made[text]
+
+    def write(self, name: str, text: str) -> str:
+        path = self.folder / name
+        path.write_text(text, encoding="utf-8")
+        return str(path)
+
+    def words(self, case: Case) -> tuple:
+        """The words that name the documents of a case, but for its review."""
+        found = []
+        for key, word in WORDS.items():
+            value = case.beside.get(key)
+            if value is not None:
+                found += [word, str(value) if key == "steps" else self.file(value, case.file.parent)]
+        return tuple(found)
+
+
+class Programs:
+    """The programs; `gatekeeper` may be `None`, and then each case is a run of `celbpf review`."""
+
+    def __init__(self, celbpf: Path, gatekeeper: Optional[Path], asked: Asked):
+        self.celbpf = celbpf
+        self.gatekeeper = gatekeeper
+        self.asked = asked
+
+    def answers(self, cases: list) -> list:
+        """The answer to each case, or the `Unreadable` that keeps it from one."""
+        found: list = [None] * len(cases)
+        groups: dict = {}
+        for place, case in enumerate(cases):
+            try:
+                text = text_of_review(case.review, case.name, case.file.parent)
+                words = self.asked.words(case)
+            except Unreadable as why:
+                found[place] = why
+                continue
+            if self.is_line(text) or "--cluster" in words:
+                groups.setdefault(words, []).append((place, text))
+            else:
+                found[place] = self.review(words, text)
+        for words, lines in groups.items():
+            for (place, _), answer in zip(lines, self.stream(words, [text for _, text in lines])):
+                found[place] = answer
+        return found
+
+    def is_line(self, text: str) -> bool:
+        """Whether a gatekeeper can be asked: a line feed inside a text literal is no JSON, and a blank would be."""
+        is_short = len(text.encode("utf-8", "surrogatepass")) < MOST_LINE
+        return self.gatekeeper is not None and is_short and bool(text.strip()) and json_fault(text) is None
+
+    def review(self, words: tuple, text: str) -> Answer:
+        """What `celbpf review` answers."""
+        ran = run([self.celbpf, "review", *words, "--review", self.asked.write("review.json", text)])
+        if ran.returncode in (0, 1):
+            return answer_of(ran.stdout)
+        return Answer(refusal=refusal_of(ran))
+
+    def stream(self, words: tuple, texts: list) -> list:
+        """What one gatekeeper answers to reviews in a row."""
+        if self.gatekeeper is None:
+            return [Unreadable("a case with a cluster needs the program gatekeeper")] * len(texts)
+        lines = "".join(text.replace("\r", " ").replace("\n", " ") + "\n" for text in texts)
+        ran = run([self.gatekeeper, *words], lines)
+        answers = ran.stdout.splitlines()
+        if ran.returncode == 0 and len(answers) == len(texts):
+            return [answer_of(line) for line in answers]
+        if ran.returncode == 2 and "--cluster" in words:
+            return [Unreadable("this gatekeeper has no --cluster")] * len(texts)
+        return [Answer(refusal=refusal_of(ran))] * len(texts)
+
+
+def run(words: list, asked: str = "") -> subprocess.CompletedProcess:
+    """A run of a program."""
+    return subprocess.run([str(word) for word in words], input=asked, capture_output=True, encoding="utf-8", check=False)
+
+
+def refusal_of(ran: subprocess.CompletedProcess) -> str:
+    """The refusal on standard error; a policy's is told without the N1 of `review`."""
+    said = ran.stderr.strip().removeprefix("celbpf: ")
+    return said.removeprefix("N1 ") or f"status {ran.returncode} and no word"

@@ -1,0 +1,51 @@
+"""The review of a case."""
+
+import json
+from pathlib import Path
+from typing import Any
+
+from ..documents import one_in, text_of
+
+REVIEW = {"apiVersion": "admission.k8s.io/v1", "kind": "AdmissionReview"}
+
+
+def kind_of(thing: dict) -> dict:
+    """The group, the version and the kind of an object, as a request has them."""
+    group, _, version = str(thing.get("apiVersion", "")).rpartition("/")
+    return {"group": group, "version": version, "kind": thing.get("kind", "")}
+
+
+def operation_of(parts: dict) -> str:
+    """The operation that objects speak of, if none is given."""
+    if parts.get("object") is None:
+        return "DELETE"
+    return "CREATE" if parts.get("oldObject") is None else "UPDATE"
+
+
+def review_of_parts(parts: dict, uid: str, folder: Path) -> dict:
+    """A review of an object or an old one, which may be files; `request` adds what a request has besides."""
+    parts = {key: one_in(folder / value) if key in ("object", "oldObject") and isinstance(value, str) else value
+             for key, value in parts.items()}
+    thing = parts.get("object") if isinstance(parts.get("object"), dict) else parts.get("oldObject")
+    request: dict[str, Any] = {"uid": uid, "operation": parts.get("operation") or operation_of(parts)}
+    if isinstance(thing, dict):
+        request["kind"] = kind_of(thing)
+        metadata = thing.get("metadata")
+        if isinstance(metadata, dict):
+            request.update({key: metadata[key] for key in ("name", "namespace") if key in metadata})
+    request.update({key: parts[key] for key in ("object", "oldObject") if key in parts})
+    return {**REVIEW, "request": {**request, **parts.get("request", {})}}
+
+
+def text_of_review(review: Any, uid: str, folder: Path) -> str:
+    """The text of a case's review: that of its file, byte for byte, or a compact one."""
+    if isinstance(review, str):
+        path = folder / review
+        return compact(one_in(path)) if path.suffix in (".yaml", ".yml") else text_of(path)
+    document = review if "kind" in review and "request" in review else review_of_parts(review, uid, folder)
+    return compact(document)
+
+
+def compact(value: Any) -> str:
+    """A value as JSON on one line."""
+    return json.dumps(value, ensure_ascii=False, separators=(",", ":"))

@@ -1,0 +1,106 @@
+"""Test files, what is wanted of answers, and how results are told."""
+
+import io
+import unittest
+import xml.etree.ElementTree as xml
+
+from ..asking.policies import whole
+from ..testing import output
+from ..testing.answers import Answer, answer_of, failures
+from ..testing.cases import Broken, read
+from ..testing.coverage import items_of, states
+from ..testing.output import Result
+from ..testing.reviews import review_of_parts
+from .test_documents import Files
+
+
+class Reading(Files):
+    def broken(self, text: str) -> str:
+        with self.assertRaises(Broken) as raised:
+            read(self.file("tests.json", text))
+        return str(raised.exception)
+
+    def test_a_case_takes_what_its_file_has(self) -> None:
+        text = '{"policy": "p.json", "params": "a", "cases": [{"object": {}, "params": {"b": 1}, "refusal": "N2"}]}'
+        case = read(self.file("tests.json", text)).cases[0]
+        self.assertEqual((case.name, case.beside), ("case 0", {"policy": "p.json", "params": {"b": 1}}))
+
+    def test_what_no_test_file_may_say(self) -> None:
+        case = '{"policy": "p.json", "cases": [%s]}'
+        for text, why in [
+            ("[]", "it is not an object with a list `cases`"),
+            ('{"cases": []}', "`cases` is not a list with a case in it"),
+            ('{"case": []}', "unknown key case; there are cases, policy, namespace, params, cluster, steps"),
+            (case % "1", "case 0 is not an object"),
+            (case % '{"expect": "allowed"}', "case 0: no review, and no object"),
+            (case % '{"review": "a", "object": {}}', "case 0: a review and object: one of the two is enough"),
+            (case % '{"object": {}}', "case 0: wants one of expect and refusal"),
+            (case % '{"object": {}, "expect": true}', "case 0: expect is not a text"),
+            ('{"cases": [{"object": {}, "expect": "allowed"}]}',
+             "no `policy`, and none of policy.json, policy.yaml, policy.yml beside it"),
+        ]:
+            with self.subTest(text):
+                self.assertEqual(self.broken(text), why)
+
+    def test_a_review_of_an_object(self) -> None:
+        thing = {"apiVersion": "apps/v1", "kind": "Deployment", "metadata": {"name": "web", "namespace": "shop"}}
+        review = review_of_parts({"object": thing, "request": {"dryRun": True}}, "u", self.folder)
+        self.assertEqual(review["request"], {
+            "uid": "u", "operation": "CREATE", "kind": {"group": "apps", "version": "v1", "kind": "Deployment"},
+            "name": "web", "namespace": "shop", "object": thing, "dryRun": True,
+        })
+
+
+class Wanted(Files):
+    def case(self, wanted: str):
+        return read(self.file("tests.json", '{"policy": "p", "cases": [{"object": {}, %s}]}' % wanted)).cases[0]
+
+    def test_what_is_wanted_of_an_answer(self) -> None:
+        denied, refused = Answer(False, "too many"), Answer(refusal="N2")
+        for wanted, answer, lines in [
+            ('"expect": "denied"', denied, []),
+            ('"expect": "allowed"', denied, ["wanted allowed, got denied: 'too many'"]),
+            ('"expect": "denied", "contains": "many"', denied, []),
+            ('"expect": "denied", "message": "many"', denied, ["wanted the message 'many', got 'too many'"]),
+            ('"expect": "denied"', refused, ["wanted denied, got refused with N2"]),
+            ('"refusal": "N3"', refused, ["wanted refused with N3, got refused with N2"]),
+            ('"refusal": "N2"', Answer(True), ["wanted refused with N2, got allowed"]),
+        ]:
+            with self.subTest(wanted):
+                self.assertEqual(failures(self.case(wanted), answer), lines)
+
+    def test_lines_of_a_gatekeeper(self) -> None:
+        self.assertEqual(answer_of('{"refused":"N4","uid":"u"}'), Answer(refusal="N4"))
+        self.assertEqual(answer_of('{"response":{"allowed":true,"uid":"u"}}'), Answer(True))
+
+
+class Told(Files):
+    RESULTS = [Result("a", "one"), Result("a", "two # 2", ["wanted\n<x>"]), Result("b", "", ["b: missing"], True)]
+
+    def test_tap(self) -> None:
+        out = io.StringIO()
+        output.tap(self.RESULTS, ["1 of 3 passed"], out)
+        self.assertEqual(out.getvalue().splitlines(), [
+            "TAP version 13", "1..3", "ok 1 - a: one", "not ok 2 - a: two \\# 2", "# wanted <x>", "not ok 3 - b",
+            "# b: missing", "# 1 of 3 passed",
+        ])
+
+    def test_junit(self) -> None:
+        path = self.folder / "out.xml"
+        output.junit(self.RESULTS, str(path))
+        suites = xml.parse(path).getroot()
+        self.assertEqual([suite.attrib for suite in suites], [
+            {"name": "a", "tests": "2", "failures": "1", "errors": "0"},
+            {"name": "b", "tests": "1", "failures": "0", "errors": "1"},
+        ])
+        self.assertEqual(suites[0][1][0].attrib, {"message": "wanted\n<x>"})
+
+    def test_coverage_questions(self) -> None:
+        policy = whole({"validations": [{"expression": "a.all(x, x ? y : z)"}]})
+        items, questions = items_of(policy)
+        self.assertEqual(list(items), ["validation 0", "validation 0, `? :` 0 by x"])
+        self.assertEqual([question.text for question in questions[1:]], [
+            "(a).exists(x, (x))", "(a).exists(x, !(x))", "(a).all(x, ((x) || !(x)))",
+        ])
+        self.assertEqual(questions[1].needs, ("(a).all(x, true)",))
+        self.assertEqual(states(["verdict 3 1", "validation 1 2"], 2), ["true", "an error"])
