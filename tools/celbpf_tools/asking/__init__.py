@@ -4,6 +4,7 @@
     policies     the parts of a policy, and small policies of one expression
     splitter     an expression's text in pieces
     errors       the first piece of an expression that is the error
+    reasons      why an expression is false: the values of its pieces, and what to change
     places       the smallest piece of an expression that is refused
     keys         the key of a document that is refused
     texts        how texts are shown

@@ -1,10 +1,11 @@
 """The first piece of an expression that is the error, as the program answers for each piece."""
 
 import re
+from typing import Iterator
 
 from .policies import asking, bound
-from .program import NotAnswered
-from .splitter import NotCut, cut
+from .program import NotAnswered, Program
+from .splitter import NotCut, Piece, cut
 
 # the most items of a list that are asked one by one
 MOST_ITEMS = 100
@@ -18,25 +19,26 @@ LITERAL = re.compile(r"(true|false|null)$|[rR]?[\"']|-|[0-9]")
 class Asking:
     """The program, the variables in scope, and the text of an expression in pieces."""
 
-    def __init__(self, program, scope, text):
+    def __init__(self, program: Program, scope: list, text: str):
         self.program = program
         self.scope = scope
         self.text = text
-        self.answers = {}
+        self.answers: dict = {}
         # whether some part was not asked: one that the program refuses alone, or an item too far behind
         self.is_open = False
 
-    def of(self, piece):
+    def of(self, piece: Piece) -> str:
+        """The text of a piece."""
         return self.text[piece.begin : piece.end]
 
-    def value(self, text, frames):
+    def value(self, text: str, frames: list) -> str:
         """What a text comes to, as JSON or `error`."""
         asked = bound(text, frames)
         if asked not in self.answers:
             self.answers[asked] = self.program.value(asking(self.scope, asked))
         return self.answers[asked]
 
-    def evaluated(self, piece, frames):
+    def evaluated(self, piece: Piece, frames: list) -> Iterator[tuple]:
         """The parts of a piece that are evaluated, in their order, with the frames in which they are."""
         if piece.kind == "ternary":
             yield piece.parts[0], frames
@@ -48,12 +50,16 @@ class Asking:
         else:
             yield from ((part, frames) for part in piece.parts)
 
-    def turns(self, piece, frames):
-        """The parts of a macro behind its range, for each item."""
+    def number(self, piece: Piece, frames: list) -> int:
+        """How many items a macro goes over; what is neither a list nor a map has none."""
         range_text = self.of(piece.parts[0])
         count = self.value(f"size(({range_text}).map({piece.name}, {piece.name}))", frames)
-        # what is neither a list nor a map has no items
-        number = 0 if count == ERROR else int(count)
+        return 0 if count == ERROR else int(count)
+
+    def turns(self, piece: Piece, frames: list) -> Iterator[tuple]:
+        """The parts of a macro behind its range, for each item."""
+        range_text = self.of(piece.parts[0])
+        number = self.number(piece, frames)
         for place in range(min(number, MOST_ITEMS)):
             inner = [*frames, (range_text, piece.name, place)]
             for part in piece.parts[1:]:
@@ -63,7 +69,7 @@ class Asking:
                     break
         self.is_open = self.is_open or number > MOST_ITEMS
 
-    def first(self, piece, frames):
+    def first(self, piece: Piece, frames: list) -> tuple:
         """The first piece that is the error and has no part that is, in a piece that is the error."""
         try:
             for part, inner in self.evaluated(piece, frames):
@@ -74,7 +80,7 @@ class Asking:
             self.is_open = True
         return piece, frames
 
-    def known(self, piece, frames):
+    def known(self, piece: Piece, frames: list) -> Iterator[tuple]:
         """The evaluated parts of a piece that are no literals, with their values; of a macro the range alone."""
         try:
             for part, inner in self.evaluated(piece, frames):
@@ -86,7 +92,7 @@ class Asking:
             return
 
 
-def first_error(program, scope, text):
+def first_error(program: Program, scope: list, text: str) -> list:
     """Lines that say where an expression that is the error is it first."""
     try:
         whole = cut(text)

@@ -28,7 +28,9 @@ class Piece:
     """A piece with its place in the text; its parts in the order in which they are evaluated.
 
     `kind` is `leaf`, `ternary`, `macro` or `other`. A macro's first part is its range, and `name` stands for an
-    item in those behind it; `word` is which macro it is.
+    item in those behind it; `word` is which macro it is. Of others `form` is the operator between two operands, or
+    `not`, `minus`, `field`, `index`, `method`, `call`, `has`, `list`, `map` or `brackets`; `name` is the name of a
+    field, a method or a function.
     """
 
     begin: int
@@ -37,12 +39,13 @@ class Piece:
     parts: list = field(default_factory=list)
     word: str = ""
     name: str = ""
+    form: str = ""
 
 
 class Reader:
     """Tokens that are read into pieces."""
 
-    def __init__(self, text):
+    def __init__(self, text: str):
         self.tokens = list(tokens(text))
         self.at = 0
 
@@ -86,8 +89,8 @@ class Reader:
             return self.unary()
         left = self.level(number + 1)
         while self.is_next(*LEVELS[number]):
-            self.take(*LEVELS[number])
-            left = self.made(left.begin, "other", [left, self.level(number + 1)])
+            sign = self.take(*LEVELS[number])
+            left = self.made(left.begin, "other", [left, self.level(number + 1)], form=sign)
         return left
 
     def unary(self):
@@ -97,7 +100,7 @@ class Reader:
             self.take(sign)
         piece = self.member()
         for begin in reversed(begins):
-            piece = self.made(begin, "other", [piece])
+            piece = self.made(begin, "other", [piece], form={"!": "not", "-": "minus"}[sign])
         return piece
 
     def is_signed_int(self):
@@ -109,7 +112,7 @@ class Reader:
             if self.take(".", "[") == "[":
                 inner = self.expression()
                 self.take("]")
-                piece = self.made(piece.begin, "other", [piece, inner])
+                piece = self.made(piece.begin, "other", [piece, inner], form="index")
             else:
                 piece = self.behind_dot(piece)
         return piece
@@ -122,7 +125,9 @@ class Reader:
         if self.is_next("("):
             return self.method(target, name)
         is_variable = target.kind == "leaf" and target.word == "variables"
-        return self.made(target.begin, "leaf" if is_variable else "other", [] if is_variable else [target])
+        if is_variable:
+            return self.made(target.begin, "leaf", [])
+        return self.made(target.begin, "other", [target], form="field", name=name)
 
     def method(self, target, word):
         names = self.token(1)
@@ -131,7 +136,7 @@ class Reader:
             return self.made(target.begin, "macro", [target, *given[1:]], word=word, name=names[1])
         if word in MACROS:
             return self.made(target.begin, "other", [target])
-        return self.made(target.begin, "other", [target, *given])
+        return self.made(target.begin, "other", [target, *given], form="method", name=word)
 
     def primary(self):
         begin, (kind, text) = self.begin(), self.token()
@@ -142,7 +147,7 @@ class Reader:
             piece.begin, piece.end = begin, self.end()
             return piece
         if self.is_next("["):
-            return self.made(begin, "other", self.series("[", self.expression))
+            return self.made(begin, "other", self.series("[", self.expression), form="list")
         if self.is_next("{"):
             return self.map_literal(begin)
         self.at += 2 if self.is_signed_int() else 1
@@ -154,13 +159,14 @@ class Reader:
 
     def map_literal(self, begin):
         entries = self.series("{", self.entry)
-        return self.made(begin, "other", [part for entry in entries for part in entry])
+        return self.made(begin, "other", [part for entry in entries for part in entry], form="map")
 
     def call(self, begin, function):
         given = self.series("(", self.expression)
         # what `has` selects from is evaluated, the selection is not
-        parts = given[0].parts if function == "has" and given else given
-        return self.made(begin, "other", parts)
+        if function == "has" and given:
+            return self.made(begin, "other", given[0].parts, form="has", name=given[0].name)
+        return self.made(begin, "other", given, form="call", name=function)
 
     def entry(self):
         key = self.expression()

@@ -1,4 +1,8 @@
-"""How texts are shown."""
+"""How texts are shown, and the files that words name."""
+
+from typing import Optional
+
+from ..entry import Stop
 
 # the most characters of a value on a line
 MOST = 300
@@ -6,23 +10,23 @@ MOST = 300
 WIDTH = 60
 
 
-def escaped(text):
+def escaped(text: str) -> str:
     """A text without characters that a terminal would obey; line feeds stay."""
     return "".join(one if one.isprintable() or one == "\n" else f"\\u{ord(one):04x}" for one in text)
 
 
-def on_one_line(text):
+def on_one_line(text: str) -> str:
     """A text on one line, and not too long a one."""
     shown = escaped(text).replace("\n", " ")
     return shown if len(shown) <= MOST else f"{shown[:MOST]}.. ({len(shown)} characters)"
 
 
-def indented(text):
+def indented(text: str) -> str:
     """The lines of a text, each further in."""
     return "\n".join(f"    {line}" for line in escaped(text).strip("\n").split("\n"))
 
 
-def pointed(text, begin, end):
+def pointed(text: str, begin: int, end: int) -> str:
     """The line of a text in which a piece begins, and carets under the piece; of a long line a part of it."""
     first = text.rfind("\n", 0, begin) + 1
     last = text.find("\n", begin)
@@ -33,3 +37,13 @@ def pointed(text, begin, end):
     last = last if not right else first + 2 * WIDTH
     before, under = left + escaped(text[first:begin]), escaped(text[begin : min(end, last)])
     return f"    {left}{escaped(text[first:last])}{right}\n    {' ' * len(before)}{'^' * max(1, len(under))}"
+
+
+def readable(*files: Optional[str]) -> None:
+    """Stops the script at the first file that cannot be opened."""
+    for file in files:
+        if file:
+            try:
+                open(file, "rb").close()
+            except OSError as why:
+                raise Stop(f"{file}: {why.strerror}") from why

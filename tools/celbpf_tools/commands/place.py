@@ -2,9 +2,10 @@
 
 usage: tools/place POLICY [--program PROGRAM]
 
-The first line is what `celbpf compile` says, the second what is meant; carets stand under the piece. All is asked
-of the program, for the pieces of an expression and the keys of the document by small policies of their own.
-Status 0 is a policy that is accepted, 3 one that is refused.
+The first line is what `celbpf compile` says, the second what is meant; carets stand under the piece. Of a function
+that is not there its name is told, and of a document that is not JSON the line and the column. All is asked of the
+program, for the pieces of an expression and the keys of the document by small policies of their own. Status 0 is a
+policy that is accepted, 3 one that is refused.
 """
 
 import argparse
@@ -13,9 +14,10 @@ import tempfile
 
 from ..asking import policies
 from ..asking.keys import TRUE, Keys
-from ..asking.places import cause_of, smallest
+from ..asking.places import cause_of, of_function, smallest
 from ..asking.program import Program, located
-from ..asking.texts import on_one_line, pointed
+from ..asking.texts import on_one_line, pointed, readable
+from ..documents import json_fault, text_of
 
 MEANINGS = {
     "K1": "the document is no JSON text",
@@ -45,13 +47,13 @@ MEANINGS = {
 }
 
 
-def show(part, begin, end):
+def show(part: policies.Part, begin: int, end: int) -> None:
     """Prints a part with carets under a piece."""
     print(f"{part.title}:")
     print(pointed(part.text, begin, end))
 
 
-def show_whole(part):
+def show_whole(part: policies.Part) -> None:
     show(part, 0, len(part.text))
 
 
@@ -61,8 +63,10 @@ def of_part(program, policy, refusal):
     part = next(one for one in policies.parts(policy) if one.kind == kind and one.place == int(place))
     if at:
         begin = len(part.text.encode()[: int(at[1])].decode(errors="ignore"))
+        print(MEANINGS[cause])
         return show(part, begin, begin + 1)
     piece = smallest(program, part, cause)
+    print(cause == "Y2" and of_function(program, piece) or MEANINGS[cause])
     show(part, piece.begin, piece.end)
 
 
@@ -122,19 +126,24 @@ def tell(program, path, refusal):
     """Prints where a policy is refused."""
     number = cause_of(refusal)
     print(f"celbpf: {refusal}")
-    print(MEANINGS.get(number, "the policy cannot be read or its image not be written"))
+    if not refusal.startswith("K6 "):
+        print(MEANINGS.get(number, "the policy cannot be read or its image not be written"))
     finders = {"K3": of_key, "K5": of_key, "K8": of_key, "K7": of_type, "K9": of_type, "G3": of_size, "G4": of_size}
     if refusal.startswith("K6 "):
         of_part(program, policies.read(path), refusal)
+    elif number == "K1":
+        if fault := json_fault(text_of(path)):
+            print(fault)
     elif number in finders:
         finders[number](program, policies.read(path), number)
 
 
-def main():
+def main() -> int:
     parser = argparse.ArgumentParser(usage=__doc__.split("usage: ")[1].split("\n\n")[0])
     parser.add_argument("policy")
     parser.add_argument("--program")
     given = parser.parse_args()
+    readable(given.policy)
     path = located(given.program)
     with tempfile.TemporaryDirectory() as folder:
         program = Program(path, folder)

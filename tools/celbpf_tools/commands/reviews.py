@@ -2,7 +2,7 @@
 
 usage: tools/reviews POLICY FOLDER|FILE.. [--namespace F] [--params F] [--program PROGRAM]
 
-Of a folder those files are taken whose names end in `.review.json`, in their order. A line has the file, `allowed`,
+Of a folder those files are taken, in it and below, whose names end in `.review.json`, in their order. A line has the file, `allowed`,
 `denied` or `not decided`, and the message or the refusal; the last line counts them. Status 0 says that all are
 allowed, 1 that one is denied, 3 that one is not decided, whatever the others are, 2 that the words name no review.
 """
@@ -12,14 +12,15 @@ import sys
 import tempfile
 from collections import Counter
 from pathlib import Path
+from typing import Iterator
 
 from ..asking.program import NotAnswered, Program, located
-from ..asking.texts import on_one_line
+from ..asking.texts import on_one_line, readable
 
 ALLOWED, DENIED, NOT_DECIDED = "allowed", "denied", "not decided"
 
 
-def words():
+def words() -> argparse.Namespace:
     parser = argparse.ArgumentParser(usage=__doc__.split("usage: ")[1].split("\n\n")[0])
     parser.add_argument("policy")
     parser.add_argument("places", nargs="+", type=Path)
@@ -29,20 +30,20 @@ def words():
     return parser.parse_args()
 
 
-def files(places):
+def files(places: list) -> Iterator[Path]:
     """The files of the reviews."""
     for place in places:
         if not place.is_dir():
             yield place
             continue
-        found = sorted(place.glob("*.review.json"))
+        found = sorted(place.rglob("*.review.json"))
         if not found:
-            print(f"reviews: no file *.review.json in {place}", file=sys.stderr)
+            print(f"reviews: no file *.review.json in {place} or below", file=sys.stderr)
             sys.exit(2)
         yield from found
 
 
-def answered(program, policy):
+def answered(program: Program, policy: str) -> tuple:
     """What a review comes to, and the message or the refusal."""
     try:
         response = program.response(policy)
@@ -51,8 +52,9 @@ def answered(program, policy):
     return (ALLOWED, "") if response["allowed"] else (DENIED, response["status"]["message"])
 
 
-def main():
+def main() -> int:
     given = words()
+    readable(given.policy, given.namespace, given.params)
     path = located(given.program)
     pairs = [("--namespace", given.namespace), ("--params", given.params)]
     beside = [word for pair in pairs if pair[1] for word in pair]

@@ -2,11 +2,12 @@
 
 usage: tools/why POLICY REVIEW [--namespace F] [--params F] [--program PROGRAM]
 
-The first line is the outcome. Then comes for each condition, variable and validation what it came to (true,
-false, the error, or its value as JSON) with its expression, and for an error the first part of it that is one;
-and for each denial its message and where that comes from. All is asked of the program, for the parts of an
-expression by small policies with the same variables. The status is that of `celbpf review`; where it refuses the
-policy or a document, its line is printed.
+The first line is the outcome. Then comes each condition, variable and validation with its value (true, false, the
+error, or its value as JSON) and its expression. For an error the first part of it that is one follows; for what is
+false a tree of its parts with their values, the item of a macro that decides, and what to change; and for each denial
+its message and where that comes from. All is asked of the program, for the parts of an expression by small policies
+with the same variables. The status is that of `celbpf review`; if it refuses the policy or a document, its line is
+printed.
 """
 
 import argparse
@@ -16,16 +17,19 @@ import tempfile
 from ..asking import policies
 from ..asking.errors import ERROR, first_error
 from ..asking.program import NotAnswered, Program, located
-from ..asking.texts import indented, on_one_line
+from ..asking.reasons import reasons
+from ..asking.texts import escaped, indented, on_one_line, readable
 
 OUTCOMES = {"1": "skipped", "2": "rejected", "3": "denied", "4": "admitted"}
 RUNS = ("denied", "admitted")
 BOOLS = ("true", "false", ERROR)
+# before the lines of a tree
+INDENT = "      "
 # stands for a message, to see whether the message is what is answered
 MARK = "the message"
 
 
-def words():
+def words() -> argparse.Namespace:
     parser = argparse.ArgumentParser(usage=__doc__.split("usage: ")[1].split("\n\n")[0])
     parser.add_argument("policy")
     parser.add_argument("review")
@@ -35,28 +39,32 @@ def words():
     return parser.parse_args()
 
 
-def documents(given):
+def documents(given: argparse.Namespace) -> list:
     """The words that name the documents."""
     beside = [("--namespace", given.namespace), ("--params", given.params)]
     return ["--review", given.review, *(word for pair in beside if pair[1] for word in pair)]
 
 
-def tell_value(program, part):
+def tell_value(program: Program, part: policies.Part) -> None:
     """Prints what a part came to, with its expression."""
     try:
         value = program.value(policies.asking(part.scope, part.text))
     except NotAnswered as why:
         print(f"{part.title}: not shown, since the program answers {why.line} for it alone")
-        return print(indented(part.text))
+        print(indented(part.text))
+        return
     decides = part.kind in ("condition", "validation")
     no_bool = ", which is no bool and counts as the error" if decides and value not in BOOLS else ""
     print(f"{part.title}: {on_one_line(value)}{no_bool}")
     print(indented(part.text))
+    if value == "false" and decides:
+        for line in reasons(program, part.scope, part.text, True) or []:
+            print(INDENT + escaped(line))
     if value == ERROR:
         print(*(indented(on_one_line(line)) for line in first_error(program, part.scope, part.text)), sep="\n")
 
 
-def origin(program, policy, place):
+def origin(program: Program, policy: dict, place: int) -> str:
     """Where the message of a denial comes from."""
     validation = policy["spec"]["validations"][place]
     if "messageExpression" in validation:
@@ -66,7 +74,7 @@ def origin(program, policy, place):
     return "its message" if validation.get("message") else "its expression, since it has no message"
 
 
-def tell_denial(program, policy, place, parts):
+def tell_denial(program: Program, policy: dict, place: int, parts: list) -> None:
     """Prints the message of a denial, and the message expression where it has one."""
     response = program.response(policies.alone(policy, place))
     if response["allowed"]:
@@ -78,7 +86,7 @@ def tell_denial(program, policy, place, parts):
             tell_value(program, part)
 
 
-def tell(program, policy, verdict):
+def tell(program: Program, policy: dict, verdict: list) -> None:
     """Prints all of a verdict, whose lines these are."""
     outcome = OUTCOMES[verdict[0].split()[1]]
     print(outcome)
@@ -88,14 +96,16 @@ def tell(program, policy, verdict):
             if part.kind == kind and (outcome in RUNS or kind == "condition"):
                 tell_value(program, part)
     if outcome not in RUNS:
-        return print("variables and validations are not asked")
+        print("variables and validations are not asked")
+        return
     for line in verdict:
         if line.startswith("validation "):
             tell_denial(program, policy, int(line.split()[1]), parts)
 
 
-def main():
+def main() -> int:
     given = words()
+    readable(given.policy, given.review, given.namespace, given.params)
     path = located(given.program)
     with tempfile.TemporaryDirectory() as folder:
         program = Program(path, folder, documents(given))

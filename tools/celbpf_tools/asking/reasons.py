@@ -1,0 +1,245 @@
+"""Why an expression is false, as the program answers for its pieces: a tree of values, and what to change.
+
+Lines of the tree are `PIECE is VALUE`; those of the parts of a piece stand further in. Of a macro the item is shown
+that decides. Pieces that have no say in the outcome stand alone, without their parts.
+"""
+
+import re
+from typing import Iterator, Optional
+
+from .errors import BRANCHES, ERROR, LITERAL, MOST_ITEMS, Asking
+from .program import NotAnswered, Program
+from .splitter import NotCut, Piece, cut
+from .texts import on_one_line
+
+TRUE, FALSE = "true", "false"
+BOOLS = {True: TRUE, False: FALSE}
+INDENT = "  "
+# the most characters of a value in a tree, and the most items that are told of
+MOST_VALUE = 120
+MOST_TOLD = 3
+PATH = re.compile(r"[A-Za-z_][\w.]*(?:\[(?:[0-9]+|'[^']*'|\"[^\"]*\")\][\w.]*)*$")
+# how a relation that has to hold, or not to hold, is told of its left operand
+RELATIONS = {
+    "<": ("below", "at least"), "<=": ("at most", "above"), ">": ("above", "at most"), ">=": ("at least", "below"),
+    "==": ("equal to", "other than"), "!=": ("other than", "equal to"), "in": ("in", "not in"),
+}
+SWAPPED = {"<": ">", "<=": ">=", ">": "<", ">=": "<=", "==": "==", "!=": "!="}
+TESTS = {"startsWith": "start with", "endsWith": "end with", "contains": "contain"}
+# which items of a macro decide it: for its value the value of their predicate
+DECIDING = {("all", FALSE): FALSE, ("exists", TRUE): TRUE, ("exists", FALSE): FALSE, ("all", TRUE): TRUE}
+
+
+def is_path(piece: Piece) -> bool:
+    """Whether a piece is a name with fields and literal indices, whose parts say no more than it does."""
+    if piece.kind == "leaf":
+        return not LITERAL.match(piece.word)
+    if piece.form == "field":
+        return is_path(piece.parts[0])
+    return piece.form == "index" and is_path(piece.parts[0]) and piece.parts[1].kind == "leaf"
+
+
+def is_literal(piece: Piece) -> bool:
+    """Whether a piece says its value itself."""
+    if piece.form == "list":
+        return all(map(is_literal, piece.parts))
+    return piece.kind == "leaf" and bool(LITERAL.match(piece.word))
+
+
+def operands(piece: Piece) -> list:
+    """The operands of `a && b && c`, or of such a chain of `||`."""
+    found = []
+    for part in piece.parts:
+        found += operands(part) if part.form == piece.form else [part]
+    return found
+
+
+class Reasons:
+    """The pieces of an expression, with their values."""
+
+    def __init__(self, asked: Asking):
+        self.asked = asked
+
+    def text(self, piece: Piece) -> str:
+        """A piece on one line, without the brackets around it."""
+        text = " ".join(self.asked.of(piece).split())
+        return text[1:-1] if text.startswith("(") and cut_whole(text) else text
+
+    def value(self, piece: Piece, frames: list) -> str:
+        return self.asked.value(self.asked.of(piece), frames)
+
+    def shown(self, value: str) -> str:
+        if value == ERROR:
+            return "the error"
+        return on_one_line(value) if len(value) <= MOST_VALUE else f"{on_one_line(value[:MOST_VALUE])}.."
+
+    # the tree
+
+    def tree(self, piece: Piece, frames: list) -> Iterator[str]:
+        """The lines of a piece and of what decides it."""
+        value = self.value(piece, frames)
+        yield f"{self.text(piece)} is {self.shown(value)}"
+        if not is_path(piece):
+            for line in self.below(piece, value, frames):
+                yield INDENT + line
+
+    def line(self, piece: Piece, frames: list) -> Iterator[str]:
+        """The one line of a piece that has no say."""
+        yield f"{self.text(piece)} is {self.shown(self.value(piece, frames))}"
+
+    def below(self, piece: Piece, value: str, frames: list) -> Iterator[str]:
+        """The lines of the parts of a piece."""
+        if piece.kind == "macro":
+            yield from self.of_macro(piece, value, frames)
+            return
+        is_connective = piece.form in ("&&", "||")
+        parts = [(part, frames) for part in operands(piece)] if is_connective else self.asked.evaluated(piece, frames)
+        for part, inner in parts:
+            if is_literal(part):
+                continue
+            is_silent = is_connective and self.value(part, inner) != value
+            yield from self.line(part, inner) if is_silent else self.tree(part, inner)
+
+    def of_macro(self, piece: Piece, value: str, frames: list) -> Iterator[str]:
+        if not is_literal(piece.parts[0]):
+            yield from self.tree(piece.parts[0], frames)
+        wanted = DECIDING.get((piece.word, value))
+        if piece.word == "exists_one" and value == FALSE:
+            found = [place for place, _ in self.items(piece, frames, TRUE)]
+            yield f"{'no item' if not found else f'{len(found)} items'} of {self.asked.number(piece, frames)} are true"
+        elif wanted is not None:
+            yield from self.of_items(piece, value, wanted, frames)
+
+    def of_items(self, piece: Piece, value: str, wanted: str, frames: list) -> Iterator[str]:
+        """The lines of the first item that decides, or of the first of those that do so together."""
+        number = self.asked.number(piece, frames)
+        if not number:
+            yield "there are no items"
+            return
+        found = next(iter(self.items(piece, frames, wanted)), None)
+        if found is None:
+            return
+        place, inner = found
+        decides = (piece.word, value) in (("all", FALSE), ("exists", TRUE))
+        item = self.shown(self.asked.value(piece.name, inner))
+        which = f"item {place} of {number} decides" if decides else f"item {place} of {number}, as the others,"
+        yield f"{which}{':' if decides else ''} {piece.name} is {item}"
+        for line in self.tree(piece.parts[1], inner):
+            yield INDENT + line
+
+    def items(self, piece: Piece, frames: list, wanted: str) -> Iterator[tuple]:
+        """The items for which the predicate has a value, with the frames in which they are."""
+        for place in range(min(self.asked.number(piece, frames), MOST_ITEMS)):
+            inner = [*frames, (self.asked.of(piece.parts[0]), piece.name, place)]
+            if self.value(piece.parts[1], inner) == wanted:
+                yield place, inner
+
+    # what to change
+
+    def changes(self, piece: Piece, target: bool, frames: list) -> list:
+        """What has to be otherwise so that a piece is true, or false: sentences that have to hold together."""
+        if is_literal(piece) or self.value(piece, frames) == BOOLS[target]:
+            return []
+        if piece.kind == "ternary":
+            chosen = BRANCHES.get(self.value(piece.parts[0], frames))
+            return self.changes(piece.parts[chosen], target, frames) if chosen else []
+        if piece.kind == "macro":
+            return self.of_macro_changes(piece, target, frames)
+        if piece.form == "not":
+            return self.changes(piece.parts[0], not target, frames)
+        if piece.form in ("&&", "||"):
+            return self.of_logic(piece, target, frames)
+        return [self.change(piece, target, frames)]
+
+    def of_logic(self, piece: Piece, target: bool, frames: list) -> list:
+        found = [self.changes(part, target, frames) for part in operands(piece)]
+        if (piece.form == "&&") == target:
+            return [one for some in found for one in some]
+        choices = [" and ".join(some) for some in found if some]
+        return [", or ".join(choices)] if choices else []
+
+    def of_macro_changes(self, piece: Piece, target: bool, frames: list) -> list:
+        """What a macro wants: of `all` each item, of `exists` one."""
+        predicate = self.text(piece.parts[1])
+        if (piece.word, target) in (("all", True), ("exists", False)):
+            found = [self.changes(piece.parts[1], target, inner)
+                     for _, inner in self.items(piece, frames, BOOLS[not target])]
+            told = [one for some in found[:MOST_TOLD] for one in some]
+            return told + ([f"and {len(found) - MOST_TOLD} items more"] if len(found) > MOST_TOLD else [])
+        place = self.place(piece.parts[0], frames)
+        if piece.word == "exists" and target:
+            return [f"{place} has to have an item {piece.name} for which {predicate} is true"]
+        if piece.word == "exists_one" and target:
+            return [f"{place} has to have exactly one item {piece.name} for which {predicate} is true"]
+        return [f"{self.text(piece)} has to be {BOOLS[target]}"]
+
+    def change(self, piece: Piece, target: bool, frames: list) -> str:
+        """What has to be otherwise of a piece that is no connective."""
+        if piece.form in RELATIONS:
+            return self.of_relation(piece, target, frames)
+        place = self.place(piece, frames)
+        if piece.form == "has":
+            whole = self.place(piece.parts[0], frames)
+            return f"{whole} has to have the field {piece.name}" if target else f"{whole} may not have the field {piece.name}"
+        if piece.form == "method" and piece.name in TESTS:
+            word = "has to" if target else "may not"
+            return f"{self.place(piece.parts[0], frames)} {word} {TESTS[piece.name]} {self.other(piece.parts[1], frames)}"
+        return f"{place} has to be {BOOLS[target]}"
+
+    def of_relation(self, piece: Piece, target: bool, frames: list) -> str:
+        left, right = piece.parts
+        form = piece.form
+        if form in SWAPPED and is_literal(left) and not is_literal(right):
+            left, right, form = right, left, SWAPPED[form]
+        word = RELATIONS[form][0 if target else 1]
+        if form == "in" and (is_literal(left) or self.is_given(left, frames)):
+            return f"{self.place(right, frames)} {'has to' if target else 'may not'} have {self.place(left, frames)}"
+        return f"{self.place(left, frames)} has to be {word} {self.other(right, frames)}"
+
+    def other(self, piece: Piece, frames: list) -> str:
+        """What something is compared with: its value, and where that comes from."""
+        if is_literal(piece):
+            return self.text(piece)
+        return f"{self.shown(self.value(piece, frames))} ({self.place(piece, frames)})"
+
+    def is_given(self, piece: Piece, frames: list) -> bool:
+        """Whether a piece is an item of a list that the policy itself spells."""
+        ranges = {name: range_text for range_text, name, _ in frames}
+        return self.text(piece) in ranges and is_literal(cut(ranges[self.text(piece)]))
+
+    def place(self, piece: Piece, frames: list) -> str:
+        """A piece with items in the place of iteration names, as far as these are paths or spelled in the policy."""
+        text = self.text(piece)
+        for depth, (range_text, name, place) in reversed(list(enumerate(frames))):
+            used = re.compile(rf"(?<![\w.'\"]){re.escape(name)}(?![\w('\"])")
+            if is_literal(cut(range_text)):
+                value = self.asked.value(name, frames[: depth + 1])
+                text = used.sub(lambda _, value=value: value, text)
+            elif PATH.match(range_text.strip()) and self.asked.value(range_text, frames[:depth]).startswith("["):
+                item = f"{range_text.strip()}[{place}]"
+                text = used.sub(lambda _, item=item: item, text)
+        return text
+
+
+def cut_whole(text: str) -> bool:
+    """Whether the bracket with which a text begins is closed by its last character."""
+    try:
+        inner = cut(text[1:-1])
+    except (NotCut, IndexError):
+        return False
+    return inner is not None
+
+
+def reasons(program: Program, scope: list, text: str, wanted: bool) -> Optional[list]:
+    """The tree of an expression that is to be otherwise, and what to change; `None` if its text is not cut."""
+    try:
+        whole = cut(text)
+    except (NotCut, IndexError):
+        return None
+    told = Reasons(Asking(program, scope, text))
+    try:
+        lines = list(told.below(whole, told.value(whole, []), []))
+        changes = told.changes(whole, wanted, [])
+    except NotAnswered as why:
+        return [f"not shown further, since the program answers {why.line} for a part alone"]
+    return lines + ([f"to be {BOOLS[wanted]}: {'; '.join(changes)}"] if changes else [])
