@@ -6,7 +6,8 @@ The tables are the files of tools/data/run-scripts, worked by hand. A line `poli
 specification, `review REQUEST` review.json of a request beside a uid, and `file NAME TEXT` any other; in TEXT the
 two characters \\n are a line feed. A line `$ WORDS` runs a script with `--program PROGRAM`, and `% TEXT` has bash run
 a text in which $TOOLS is the folder of the scripts and $PROGRAM the program. Below stands what it prints on both outputs,
-up to a line `[STATUS]`. A line `needs MODULE` ends a table where Python has no such module.
+up to a line `[STATUS]`. A line `adapts EXPRESSION` is a pair of tools/adapt: below it stand the variables that it adds, a
+line `= EXPRESSION`, and lines `? OBJECT VALUE` with what that is over an object. A line `needs MODULE` ends a table where Python has no such module.
 """
 
 import importlib.util
@@ -17,8 +18,9 @@ import sys
 import tempfile
 from pathlib import Path
 
-from ..asking.policies import whole
-from ..asking.program import located
+from ..adapting.rewriter import Rewriter, Variables
+from ..asking.policies import asking, whole
+from ..asking.program import Program, located
 from ..home import DATA, TOOLS
 
 TABLES = DATA / "run-scripts"
@@ -49,6 +51,25 @@ def ran(line, program, folder):
     return f"{ended.stdout}[{ended.returncode}]\n"
 
 
+def pair(text, lines, program, folder):
+    """For a pair and each of its values what differs, or nothing."""
+    variables = Variables(set())
+    found, scope = Rewriter(text, variables).rewritten(), variables.added
+    while not lines[0].startswith("= "):
+        name, _, expression = lines.pop(0).partition(": ")
+        is_there = {"name": name, "expression": expression} in scope
+        yield "" if is_there else f"{text}\nwanted: the variable {name}: {expression}\nfound:  {scope}"
+    wanted = lines.pop(0).removeprefix("= ")
+    yield "" if found == wanted else f"{text}\nwanted: {wanted}\nfound:  {found}"
+    while lines and lines[0].startswith("? "):
+        given, end = json.JSONDecoder().raw_decode(lines[0], 2)
+        value = lines.pop(0)[end + 1 :]
+        review = Path(folder, "pair.json")
+        review.write_text(json.dumps({**REVIEW, "request": {"uid": "u", "object": given}}))
+        said = Program(program, folder, ["--review", review]).value(asking(scope, found))
+        yield "" if said == value else f"{found}\nover {json.dumps(given)}\nwanted: {value}\nfound:  {said}"
+
+
 def compared(name, lines, program, folder):
     """The runs of a table, and how many of them differ."""
     runs = differing = 0
@@ -60,6 +81,13 @@ def compared(name, lines, program, folder):
             path.write_text(file[1])
         elif line.startswith("needs ") and not importlib.util.find_spec(line.split()[1]):
             break
+        elif line.startswith("adapts "):
+            found = list(pair(line.removeprefix("adapts "), lines, program, folder))
+            runs += len(found)
+            wrong = [one for one in found if one]
+            differing += len(wrong)
+            for one in wrong:
+                print(f"{name}: {one}", flush=True)
         elif line.startswith(("$ ", "% ")):
             wanted = ""
             while not wanted.endswith("]\n") or not wanted.splitlines()[-1].startswith("["):

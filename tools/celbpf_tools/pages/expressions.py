@@ -75,14 +75,14 @@ class Expressions:
         self.measures(page, text)
 
     def clusters(self):
+        """The forms of docs/CLUSTERS.md that are refused here, and those that are refused in a cluster alone."""
         page = "docs/CLUSTERS.md"
         for _, head, rows in tables(read(page)):
-            for row in rows:
-                for form in spans(row[0]):
-                    if head[1] == "You get" and re.match("[PMY]", row[1]):
-                        self.same(page, form, row[1], self.cause(whole(form)).split(" ")[0])
-                    elif head[1] == "There" and not form.isidentifier():
-                        self.same(page, form, "", self.cause(form))
+            for form, here, there in ((form, *row[1:3]) for row in rows for form in spans(row[0])):
+                if re.fullmatch("[PMY][0-9]", here):
+                    self.same(page, form, here, self.cause(whole(form)).split(" ")[0])
+                elif there.startswith("refused") and here == "taken" and not form.isidentifier():
+                    self.same(page, form, "", self.cause(form))
 
 
 def nested(text, need, more):

@@ -1,0 +1,8 @@
+"""Policies as clusters have them, rewritten into what celbpf reads.
+
+    syntax       expressions as clusters take them, as trees over their text
+    texts        text literals, and patterns of literal characters
+    rewriter     an expression's rewritings
+    document     a policy's document
+    rows         the rows of docs/CLUSTERS.md by which changes are told
+"""

@@ -1,0 +1,553 @@
+"""An expression rewritten into the forms that celbpf reads, with its meaning kept, or left as it is.
+
+What is kept is the meaning on a cluster, errors and absence too: where the form is an error there, so is what stands in
+its place. Two things are taken for granted, as the schemas of a cluster's objects grant them: what a field is selected
+from by `.?f` is an object or null, and a field of Kubernetes' own that is a map or a list in its schema is one.
+"""
+
+import re
+from dataclasses import dataclass, field
+from typing import Callable, Iterator, Optional
+
+from . import rows
+from .syntax import AND, MEMBER, OR, RELATION, SUM, TERNARY, TEXTS, Node, Source, level_of, names_in, read
+from .texts import parts_of, spelled, test_of, value_of
+
+ROOTS = ("object", "oldObject", "params", "namespaceObject", "request")
+VARIABLES = "variables"
+RELATIONS = ("<", "<=", ">", ">=", "==", "!=")
+# what celbpf has; the rest is told as left
+CALLS = ("size", "string", "dyn", "has")
+METHODS = ("size", "startsWith", "endsWith", "contains", "all", "exists", "exists_one", "filter", "map")
+IDENTIFIER = re.compile(r"[_a-zA-Z][_a-zA-Z0-9]*$")
+NOT_SELECTED = ("in", "true", "false", "null")
+RESERVED = set(
+    "as break const continue else for function if import let loop package namespace return var void while".split()
+)
+# fields of Kubernetes' own objects that are maps, and lists
+MAP_FIELDS = set(
+    "labels annotations matchLabels nodeSelector data binaryData stringData limits requests capacity allocatable hard"
+    .split()
+)
+LIST_FIELDS = set(
+    "containers initContainers ephemeralContainers volumes volumeMounts env envFrom ports args command tolerations"
+    " imagePullSecrets finalizers ownerReferences subjects groups topologySpreadConstraints sysctls hostAliases".split()
+)
+# the longest expression that is written out at each use of a name that is bound to it
+SHORT = 60
+
+
+@dataclass
+class Change:
+    """A rewriting: the row of docs/CLUSTERS.md, what stood there, and what stands there now."""
+
+    row: str
+    before: str
+    after: str
+
+
+@dataclass
+class Left:
+    """A form that has no rewriting, or none that keeps its meaning, with its row."""
+
+    row: str
+    text: str
+
+
+@dataclass
+class Report:
+    """What was done in an expression or a policy."""
+
+    changes: list = field(default_factory=list)
+    left: list = field(default_factory=list)
+
+
+@dataclass
+class Found:
+    """An optional value: the conditions under which it is there, and it."""
+
+    conditions: list
+    value: str
+
+
+class Variables:
+    """The names of a policy's variables, and those that expressions have added before the one at hand."""
+
+    def __init__(self, taken: set):
+        self.taken = set(taken)
+        self.added: list = []
+        self.known: dict = {}
+
+    def add(self, name: str, expression: str) -> str:
+        """The name of a variable of this expression, which is added if there is none yet."""
+        if expression in self.known:
+            return self.known[expression]
+        base = name if name not in RESERVED and name not in (*NOT_SELECTED,) else f"{name}_"
+        chosen = next(one for one in (base, *(f"{base}{number}" for number in range(2, 200))) if one not in self.taken)
+        self.taken.add(chosen)
+        self.known[expression] = chosen
+        self.added.append({"name": chosen, "expression": expression})
+        return chosen
+
+
+class Rewriter:
+    """Rewrites one expression; `variables` is `None` where it may name none, as in a match condition."""
+
+    def __init__(self, text: str, variables: Optional[Variables] = None):
+        self.source = Source(text)
+        self.variables = variables
+        self.report = Report()
+        self.tree = read(text)
+
+    def rewritten(self) -> str:
+        """The expression with what could be rewritten."""
+        self.rewrite(self.tree, frozenset())
+        return self.source.written(self.tree)
+
+    # what is written, and what is told
+
+    def said(self, node: Node) -> str:
+        """What stands in the text in a node's place."""
+        return self.source.text[node.begin : node.end]
+
+    def put(self, node: Node, row: str, text: str, level: int) -> bool:
+        """Puts a text of this level in a node's place."""
+        node.text, node.level = text, level
+        self.report.changes.append(Change(row, self.said(node), text))
+        return True
+
+    def leave(self, node: Node, row: str) -> None:
+        self.report.left.append(Left(row, self.said(node)))
+
+    def text(self, node: Node, least: int, scope: frozenset) -> str:
+        """A part, rewritten, as it stands where a form has to bind as tightly as this."""
+        self.rewrite(node, scope)
+        return self.source.at_least(node, least)
+
+    def rewrite(self, node: Node, scope: frozenset) -> None:
+        """Rewrites a node where it stands; `scope` has the iteration names in force."""
+        if node.text is not None:
+            return
+        handler: Callable = getattr(self, f"of_{node.kind}", lambda *_: False)
+        if not handler(node, scope):
+            for place, part in enumerate(node.parts):
+                self.rewrite(part, scope | {one.text or one.name for one in node.names} if place else scope)
+
+    # leaves
+
+    def of_literal(self, node: Node, _: frozenset) -> bool:
+        if node.word == "float" or node.word in TEXTS and "b" in parts_of(node.name)[0]:
+            self.leave(node, rows.OTHER_LITERAL)
+        elif node.word == "uint":
+            self.leave(node, rows.UINT)
+        elif node.word == "text":
+            self.of_long_text(node)
+        return True
+
+    def of_long_text(self, node: Node) -> None:
+        """A text in three quotes, as one in one quote with the same escapes."""
+        prefix, _, content = parts_of(node.name)
+        if "r" in prefix:
+            self.put(node, rows.LONG_TEXT, spelled(content), MEMBER)
+            return
+        pieces = re.findall(r"\\.|[^\\]", content, re.DOTALL)
+        marks = {"'": "\\'", "\n": "\\n", "\r": "\\r"}
+        self.put(node, rows.LONG_TEXT, "'" + "".join(marks.get(one, one) for one in pieces) + "'", MEMBER)
+
+    def of_name(self, node: Node, scope: frozenset) -> bool:
+        if node.word == ".":
+            if node.name in scope:
+                self.leave(node, rows.DOT)
+            else:
+                self.put(node, rows.DOT, node.name, MEMBER)
+        elif node.name not in (*ROOTS, VARIABLES) and node.name not in scope:
+            self.leave(node, rows.NAMESPACES.get(node.name, rows.FUNCTIONS.get(node.name, rows.NAMES)))
+        return True
+
+    # selections
+
+    def of_field(self, node: Node, scope: frozenset) -> bool:
+        if node.optional[0]:
+            self.leave(node, rows.OPTIONAL)
+        elif node.word == "quoted":
+            return self.put(node, rows.QUOTED, f"{self.text(node.parts[0], MEMBER, scope)}[{spelled(node.name)}]", MEMBER)
+        return False
+
+    def of_index(self, node: Node, _: frozenset) -> bool:
+        if node.optional[0]:
+            self.leave(node, rows.OPTIONAL)
+        return False
+
+    def of_call(self, node: Node, scope: frozenset) -> bool:
+        if node.name == "has" and len(node.parts) == 1:
+            return self.of_has(node, node.parts[0], scope)
+        if node.name == "matches" and len(node.parts) == 2:
+            return self.of_matches(node, scope)
+        if node.name not in CALLS:
+            self.leave(node, rows.FUNCTIONS.get(node.name, rows.OTHER_FUNCTIONS))
+        return False
+
+    def of_has(self, node: Node, selected: Node, scope: frozenset) -> bool:
+        if selected.kind == "field" and selected.word == "quoted" and not selected.optional[0]:
+            operand = self.text(selected.parts[0], MEMBER, scope)
+            text = " && ".join(presence(operand, selected.name))
+            return self.put(node, rows.QUOTED, text, AND if "&&" in text else RELATION)
+        if selected.kind == "field" and selected.parts[0].kind == "name" and selected.parts[0].name == "oldObject":
+            if not re.search(r"oldObject\s*[!=]=\s*null|null\s*[!=]=\s*oldObject", self.source.text):
+                return self.put(node, rows.OLD, f"oldObject != null && {self.said(node)}", AND)
+        return False
+
+    # optional values
+
+    def found(self, node: Node, scope: frozenset) -> Optional[list]:
+        """The optional values that a node tries in turn, or `None` if it is no such form."""
+        if node.kind == "brackets":
+            return self.found(node.parts[0], scope)
+        if node.kind == "method" and node.name == "or" and len(node.parts) == 2:
+            first, second = (self.found(part, scope) for part in node.parts)
+            return first + second if first and second else None
+        if node.kind == "method" and node.name == "optMap" and len(node.names) == 1:
+            return self.mapped(node, scope)
+        return self.chain(node, scope)
+
+    def mapped(self, node: Node, scope: frozenset) -> Optional[list]:
+        """`X.optMap(v, t)`: `t` with the value of X for `v`."""
+        given = self.found(node.parts[0], scope)
+        if not given or len(given) != 1 or not self.substitute(node.parts[1], node.names[0].name, given[0].value):
+            return None
+        return [Found(given[0].conditions, self.text(node.parts[1], OR, scope))]
+
+    def chain(self, node: Node, scope: frozenset) -> Optional[list]:
+        """A chain of selections with a `?` in it: each from the first `?` on is tried."""
+        steps: list = []
+        while node.kind in ("field", "index"):
+            steps.insert(0, node)
+            node = node.parts[0]
+        while steps and not steps[0].optional[0]:
+            node = steps.pop(0)
+        if not steps or has_optional(node):
+            return None
+        value, conditions = self.text(node, MEMBER, scope), []
+        for step in steps:
+            key = key_of(step)
+            if key is None:
+                return None
+            conditions += presence(value, key)
+            value = selected(value, key, step)
+        return [Found(conditions, value)]
+
+    def of_optional(self, node: Node, scope: frozenset) -> bool:
+        """`X.orValue(d)`, `X.hasValue()` and `X.value()`."""
+        given = self.found(node.parts[0], scope)
+        if not given:
+            self.leave(node, rows.OPTIONAL if has_optional(node.parts[0]) else rows.OPTIONAL_OTHER)
+            return True
+        if node.name == "orValue" and len(node.parts) == 2:
+            otherwise = self.text(node.parts[1], TERNARY, scope)
+            tried = "".join(f"{' && '.join(one.conditions)} ? {one.value} : " for one in given)
+            return self.put(node, rows.OPTIONAL, tried + otherwise, TERNARY)
+        if len(given) > 1:
+            self.leave(node, rows.OPTIONAL)
+        elif node.name == "hasValue":
+            return self.put(node, rows.OPTIONAL, " && ".join(given[0].conditions), AND)
+        else:
+            return self.put(node, rows.OPTIONAL, given[0].value, OR)
+        return True
+
+    def of_none(self, node: Node, scope: frozenset) -> bool:
+        """`X == optional.none()` and `X != optional.none()`."""
+        others = [part for part in node.parts if self.source.text[part.begin : part.end] != "optional.none()"]
+        given = self.found(others[0], scope) if len(others) == 1 else None
+        if not given or len(given) > 1:
+            return False
+        there = " && ".join(given[0].conditions)
+        return self.put(node, rows.OPTIONAL, there if node.word == "!=" else f"!({there})", AND if node.word == "!=" else MEMBER)
+
+    def of_list(self, node: Node, scope: frozenset) -> bool:
+        """A list of which some items stand only if they are there."""
+        if not any(node.optional):
+            return False
+        pieces: list = []
+        for part, is_optional in zip(node.parts, node.optional):
+            if not is_optional:
+                text = self.text(part, TERNARY, scope)
+                if pieces and not pieces[-1].startswith("("):
+                    pieces[-1] = f"{pieces[-1][:-1]}, {text}]"
+                else:
+                    pieces.append(f"[{text}]")
+                continue
+            given = self.found(part, scope)
+            if not given or len(given) > 1:
+                self.leave(node, rows.OPTIONAL_OTHER)
+                return True
+            pieces.append(f"({' && '.join(given[0].conditions)} ? [{given[0].value}] : [])")
+        return self.put(node, rows.OPTIONAL_OTHER, " + ".join(pieces), SUM if len(pieces) > 1 else MEMBER)
+
+    def of_map(self, node: Node, _: frozenset) -> bool:
+        if any(node.optional):
+            self.leave(node, rows.OPTIONAL_OTHER)
+        elif any(key.kind == "literal" and key.word in ("int", "uint") for key in node.parts[::2]):
+            self.leave(node, rows.INT_KEY)
+        return False
+
+    def of_struct(self, node: Node, _: frozenset) -> bool:
+        self.leave(node, rows.OTHER_LITERAL)
+        return True
+
+    # operators
+
+    def of_binary(self, node: Node, scope: frozenset) -> bool:
+        if node.word in ("==", "!=") and any(self.said(part) == "optional.none()" for part in node.parts):
+            return self.of_none(node, scope)
+        if node.word in RELATIONS:
+            uints = [part for part in node.parts if part.kind == "literal" and part.word == "uint"]
+            others = [part for part in node.parts if part.kind != "literal"]
+            if len(uints) == len(others) == 1 and int(uints[0].name[:-1], 0) < 2**63:
+                self.put(uints[0], rows.UINT, uints[0].name[:-1], MEMBER)
+        return False
+
+    # functions
+
+    def of_method(self, node: Node, scope: frozenset) -> bool:
+        target = node.parts[0]
+        space = target.name if target.kind == "name" and target.name not in scope else ""
+        form = f"{space}.{node.name}/{len(node.parts) - 1}"
+        if form in SPACES:
+            return SPACES[form](self, node, scope)
+        if node.name in ("orValue", "hasValue", "value") and (node.name == "orValue" or has_optional(target)):
+            return self.of_optional(node, scope)
+        if node.name == "matches" and len(node.parts) == 2:
+            return self.of_matches(node, scope)
+        if node.names:
+            self.rename(node)
+            if len(node.names) == 2 or node.name == "existsOne":
+                return self.of_names(node, scope)
+        if space and space in rows.NAMESPACES:
+            self.leave(node, rows.FUNCTIONS.get(node.name, rows.NAMESPACES[space]))
+            return True
+        if node.name not in METHODS:
+            self.of_other_method(node, scope)
+            return True
+        return False
+
+    def of_other_method(self, node: Node, scope: frozenset) -> None:
+        """A method that is not there: it is told unless what it is called on is told already."""
+        for part in node.parts:
+            before = len(self.report.left)
+            self.rewrite(part, scope)
+            if part is node.parts[0] and len(self.report.left) == before:
+                self.leave(node, rows.FUNCTIONS.get(node.name, rows.OTHER_FUNCTIONS))
+
+    def listed(self, node: Node, scope: frozenset) -> str:
+        """A part that has to be a list: what is none is the error, as it is there."""
+        if is_constant_list(node):
+            return self.text(node, MEMBER, scope)
+        return f"{self.text(node, SUM, scope)} + []"
+
+    def ranged(self, node: Node, scope: frozenset) -> str:
+        """The same as the range of a macro."""
+        text = self.listed(node, scope)
+        return f"({text})" if text.endswith(" + []") else text
+
+    def item(self, *nodes: Node) -> str:
+        """An iteration name that none of these uses."""
+        used = set().union(*map(names_in, nodes))
+        return next(one for one in ("x", "y", "z", *(f"x{number}" for number in range(9))) if one not in used)
+
+    def of_contains(self, node: Node, scope: frozenset) -> bool:
+        """`sets.contains(a, b)`: each item of b is one of a; both have to be lists, also where b is empty."""
+        _, whole, part = node.parts
+        name = self.item(whole, part)
+        text = f"{self.ranged(part, scope)}.all({name}, {name} in {self.listed(whole, scope)})"
+        if is_constant_list(whole) or is_constant_list(part) and part.parts:
+            return self.put(node, rows.CONTAINS, text, MEMBER)
+        return self.put(node, rows.CONTAINS, f"size({self.listed(whole, scope)}) >= 0 && {text}", AND)
+
+    def of_intersects(self, node: Node, scope: frozenset) -> bool:
+        _, one, other = node.parts
+        name = self.item(one, other)
+        text = f"{self.ranged(one, scope)}.exists({name}, {name} in {self.listed(other, scope)})"
+        if is_constant_list(other) or is_constant_list(one) and one.parts:
+            return self.put(node, rows.INTERSECTS, text, MEMBER)
+        return self.put(node, rows.INTERSECTS, f"size({self.listed(other, scope)}) < 0 || {text}", OR)
+
+    def of_equivalent(self, node: Node, scope: frozenset) -> bool:
+        _, one, other = node.parts
+        name = self.item(one, other)
+        left = f"{self.ranged(one, scope)}.all({name}, {name} in {self.listed(other, scope)})"
+        right = f"{self.ranged(other, scope)}.all({name}, {name} in {self.listed(one, scope)})"
+        return self.put(node, rows.EQUIVALENT, f"{left} && {right}", AND)
+
+    def of_greatest(self, node: Node, scope: frozenset) -> bool:
+        """`math.greatest(a, b)` and `math.least(a, b)` of ints: the comparison has to be one of ints."""
+        sign = ">" if node.name == "greatest" else "<"
+        left, right = node.parts[1:]
+        is_int = any(part.kind == "literal" and part.word == "int" or is_size(part) for part in (left, right))
+        first, second = self.text(left, SUM, scope), self.text(right, SUM, scope)
+        guarded = first if is_int else f"{first} + 0"
+        return self.put(node, rows.GREATEST, f"{guarded} {sign} {second} ? {first} : {second}", TERNARY)
+
+    def of_abs(self, node: Node, scope: frozenset) -> bool:
+        value = self.text(node.parts[1], MEMBER, scope)
+        return self.put(node, rows.ABS, f"{value} < 0 ? -{value} : {value}", TERNARY)
+
+    def of_bind(self, node: Node, scope: frozenset) -> bool:
+        """`cel.bind(v, e, t)`: `t` with a variable of the policy for `v`, or with `e` itself."""
+        _, name, given, body = node.parts
+        if name.kind != "name":
+            return False
+        text = self.text(given, TERNARY, scope)
+        value = f"({text})" if self.source.at_least(given, MEMBER) != text else text
+        is_free = self.variables is not None and not names_in(given) & scope
+        if is_free and len(text) > SHORT:
+            value = f"{VARIABLES}.{self.variables.add(name.name, text)}"
+        if not self.substitute(body, name.name, value, set() if value.startswith(VARIABLES) else names_in(given)):
+            self.leave(node, rows.BIND)
+            return True
+        self.rewrite(body, scope)
+        return self.put(node, rows.BIND, self.source.written(body), body.level if body.text is not None else level_of(body))
+
+    def of_matches(self, node: Node, scope: frozenset) -> bool:
+        """A pattern of literal characters."""
+        given, pattern = node.parts
+        said = value_of(pattern.name) if pattern.kind == "literal" and pattern.word in TEXTS else None
+        test = test_of(said) if said is not None else None
+        if test is None:
+            self.leave(node, rows.MATCHES)
+            return False
+        word, texts = test
+        if word != "is":
+            return self.put(node, rows.MATCHES, f"{self.text(given, MEMBER, scope)}.{word}({spelled(texts[0])})", MEMBER)
+        value = f"{self.text(given, SUM, scope)} + ''"
+        wanted = f"== {spelled(texts[0])}" if len(texts) == 1 else f"in [{', '.join(map(spelled, texts))}]"
+        return self.put(node, rows.MATCHES, f"{value} {wanted}", RELATION)
+
+    # macros
+
+    def rename(self, node: Node) -> None:
+        """Gives iteration names that are a root's name other ones."""
+        for name in node.names:
+            if name.name in (*ROOTS, VARIABLES):
+                chosen = self.item(node)
+                for part in node.parts[1:]:
+                    self.substitute(part, name.name, chosen, {chosen})
+                name.text = chosen
+                self.report.changes.append(Change(rows.ROOT_NAME, name.name, chosen))
+
+    def of_names(self, node: Node, scope: frozenset) -> bool:
+        """A macro of two names over a map or a list that is known to be one, or `existsOne`."""
+        word = {"existsOne": "exists_one", "transformList": "map"}.get(node.name, node.name)
+        if len(node.names) == 1:
+            return self.one_name(node, rows.EXISTS_ONE, word, node.names[0], scope)
+        row = rows.TRANSFORM if node.name.startswith("transform") else rows.TWO_NAMES
+        key, value = node.names
+        kind = kind_of(node.parts[0])
+        uses_key = any(key.name in names_in(part) for part in node.parts[1:])
+        if word == "transformMap" or kind is None or kind == "list" and uses_key:
+            self.leave(node, row)
+            return False
+        if kind == "list":
+            return self.one_name(node, row, word, value, scope)
+        self.rewrite(node.parts[0], scope)
+        item = f"{self.source.at_least(node.parts[0], MEMBER)}[{key.text or key.name}]"
+        used = names_in(node.parts[0])
+        if not all(self.substitute(part, value.name, item, used) for part in node.parts[1:]):
+            self.leave(node, row)
+            return True
+        return self.one_name(node, row, word, key, scope)
+
+    def one_name(self, node: Node, row: str, word: str, name: Node, scope: frozenset) -> bool:
+        """The macro with one of its names."""
+        chosen = name.text or name.name
+        parts = [self.text(part, TERNARY, scope | {chosen}) for part in node.parts[1:]]
+        text = f"{self.text(node.parts[0], MEMBER, scope)}.{word}({', '.join([chosen, *parts])})"
+        return self.put(node, row, text, MEMBER)
+
+    def substitute(self, node: Node, name: str, text: str, used: frozenset | set = frozenset()) -> bool:
+        """Puts a text in the place of each free use of a name; not if a macro would catch a name that it uses."""
+        uses = list(free(node, name, frozenset()))
+        if any(declared & used for _, declared in uses):
+            return False
+        for use, _ in uses:
+            use.text, use.level = text, MEMBER
+        return True
+
+
+SPACES = {
+    "sets.contains/2": Rewriter.of_contains, "sets.intersects/2": Rewriter.of_intersects,
+    "sets.equivalent/2": Rewriter.of_equivalent, "math.greatest/2": Rewriter.of_greatest,
+    "math.least/2": Rewriter.of_greatest, "math.abs/1": Rewriter.of_abs, "cel.bind/3": Rewriter.of_bind,
+}
+
+
+def free(node: Node, name: str, declared: frozenset) -> Iterator[tuple]:
+    """The free uses of a name in a node, each with the names that are declared around it."""
+    if node.kind == "name" and node.name == name and node.word != "." and node.text is None:
+        yield node, declared
+    names = {one.name for one in node.names}
+    is_bind = node.kind == "method" and node.name == "bind" and len(node.parts) == 4 and node.parts[0].name == "cel"
+    for place, part in enumerate(node.parts):
+        if is_bind and place < 2:
+            continue
+        inner = names if node.names and place else {node.parts[1].name} if is_bind and place == 3 else set()
+        if name not in inner:
+            yield from free(part, name, declared | inner)
+
+
+def has_optional(node: Node) -> bool:
+    """Whether a `?` is in a chain of selections, or in what a method is called on."""
+    if node.kind in ("field", "index"):
+        return node.optional[0] or has_optional(node.parts[0])
+    return node.kind in ("brackets", "method") and has_optional(node.parts[0])
+
+
+def key_of(step: Node) -> object:
+    """The key that a selection asks for: a text, or an int that counts from 0; `None` if it is not spelled."""
+    if step.kind == "field":
+        return step.name
+    key = step.parts[1]
+    if key.kind == "literal" and key.word in TEXTS and "b" not in parts_of(key.name)[0]:
+        return value_of(key.name)
+    return int(key.name) if key.kind == "literal" and key.word == "int" and key.name.isdigit() else None
+
+
+def presence(value: str, key: object) -> list:
+    """The conditions under which a value has a key; null has none."""
+    not_null = [] if value == "request" else [f"{value} != null"]
+    if isinstance(key, int):
+        return [*not_null, f"size({value}) > {key}"]
+    if IDENTIFIER.match(key) and key not in NOT_SELECTED:
+        return [*not_null, f"has({value}.{key})"]
+    return [*not_null, f"{spelled(key)} in {value}"]
+
+
+def selected(value: str, key: object, step: Node) -> str:
+    """What a value has under a key."""
+    if isinstance(key, int):
+        return f"{value}[{key}]"
+    is_field = step.kind == "field" and step.word != "quoted"
+    return f"{value}.{key}" if is_field else f"{value}[{spelled(key)}]"
+
+
+def is_constant_list(node: Node) -> bool:
+    """Whether a node is a list of literals."""
+    return node.kind == "list" and not any(node.optional) and all(part.kind == "literal" for part in node.parts)
+
+
+def is_size(node: Node) -> bool:
+    """Whether a node is an int by its form."""
+    return node.kind in ("call", "method") and node.name == "size"
+
+
+def kind_of(node: Node) -> Optional[str]:
+    """Whether a range is a map or a list, as its form or a schema of Kubernetes says."""
+    if node.kind == "brackets":
+        return kind_of(node.parts[0])
+    if node.kind in ("map", "list"):
+        return node.kind
+    if node.kind == "ternary":
+        return kind_of(node.parts[1]) or kind_of(node.parts[2])
+    if node.kind == "method" and node.name == "orValue" and len(node.parts) == 2:
+        return kind_of(node.parts[1])
+    key = key_of(node) if node.kind in ("field", "index") else None
+    return "map" if key in MAP_FIELDS else "list" if key in LIST_FIELDS else None
