@@ -8,8 +8,11 @@ A script's status is what its command returns (`None` counts as 0). Beside these
 """
 
 import os
+import re
 import sys
 from typing import Callable, NoReturn, Optional
+
+from .home import is_checkout
 
 FILE = 3
 INTERRUPTED = 130
@@ -25,6 +28,12 @@ class Stop(Exception):
         super().__init__(line)
         self.line = line
         self.status = status
+
+
+def usage_of(doc: Optional[str]) -> str:
+    """The usage in what a script says of itself, by the name that it is installed by."""
+    usage = (doc or "").split("usage: ")[1].split("\n\n")[0]
+    return usage if is_checkout() else re.sub(r"\btools/", "celbpf-", usage)
 
 
 def told(error: OSError) -> str:

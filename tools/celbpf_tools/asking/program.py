@@ -11,6 +11,8 @@ from typing import Optional
 from ..entry import Stop
 from ..home import EXAMPLES, ROOT, built, installed, is_checkout
 
+# names the program to use, where no word does
+GIVEN = "CELBPF_PROGRAM"
 # the image of `exit`
 EXIT = b"CELBPF01\1" + bytes(7) + b"\x95" + bytes(7)
 # the most steps of one line of a session, and how many such lines are as many as a review may take
@@ -36,6 +38,7 @@ class NotAnswered(Exception):
 
 def located(given: Optional[str]) -> Path:
     """The program that was given, or the repository's, which is built first if it is not up to date."""
+    given = given or os.environ.get(GIVEN)
     if given:
         return usable(given)
     if not is_checkout():
@@ -51,6 +54,7 @@ def located_gatekeeper(given: Optional[str], celbpf: Optional[str]) -> Optional[
     """The gatekeeper that was given, or the one beside the given program if there is one, or the repository's."""
     if given:
         return usable(given)
+    celbpf = celbpf or os.environ.get(GIVEN)
     if celbpf:
         beside = Path(celbpf).resolve().parent / "gatekeeper"
         return beside if os.access(beside, os.X_OK) else None

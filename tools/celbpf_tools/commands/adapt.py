@@ -17,11 +17,11 @@ from ..adapting.document import Adapting, NoPolicy, policy_among
 from ..adapting.rewriter import Left
 from ..asking.texts import escaped
 from ..documents import Unreadable, all_in
-from ..entry import Stop
+from ..entry import Stop, usage_of
 
 
 def words() -> argparse.Namespace:
-    parser = argparse.ArgumentParser(usage=__doc__.split("usage: ")[1].split("\n\n")[0])
+    parser = argparse.ArgumentParser(usage=usage_of(__doc__))
     parser.add_argument("policy")
     # other scripts for policies take a program; this one asks none
     parser.add_argument("--program", help=argparse.SUPPRESS)

@@ -17,6 +17,7 @@ from ..asking.keys import TRUE, Keys
 from ..asking.places import cause_of, of_function, smallest
 from ..asking.program import Program, located
 from ..asking.texts import on_one_line, pointed, readable
+from ..entry import usage_of
 from ..documents import json_fault, text_of
 
 MEANINGS = {
@@ -139,7 +140,7 @@ def tell(program, path, refusal):
 
 
 def main() -> int:
-    parser = argparse.ArgumentParser(usage=__doc__.split("usage: ")[1].split("\n\n")[0])
+    parser = argparse.ArgumentParser(usage=usage_of(__doc__))
     parser.add_argument("policy")
     parser.add_argument("--program")
     given = parser.parse_args()

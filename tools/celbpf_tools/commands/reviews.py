@@ -16,12 +16,13 @@ from typing import Iterator
 
 from ..asking.program import NotAnswered, Program, located
 from ..asking.texts import on_one_line, readable
+from ..entry import usage_of
 
 ALLOWED, DENIED, NOT_DECIDED = "allowed", "denied", "not decided"
 
 
 def words() -> argparse.Namespace:
-    parser = argparse.ArgumentParser(usage=__doc__.split("usage: ")[1].split("\n\n")[0])
+    parser = argparse.ArgumentParser(usage=usage_of(__doc__))
     parser.add_argument("policy")
     parser.add_argument("places", nargs="+", type=Path)
     parser.add_argument("--namespace")

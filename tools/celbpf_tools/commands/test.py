@@ -23,6 +23,7 @@ from pathlib import Path
 from typing import Iterator, Optional
 
 from ..asking.program import Program, located, located_gatekeeper
+from ..entry import usage_of
 from ..documents import Unreadable, one_in
 from ..testing import output
 from ..testing.answers import Asked, Programs, failures
@@ -33,7 +34,7 @@ from ..testing.reviews import text_of_review
 
 
 def words() -> argparse.Namespace:
-    parser = argparse.ArgumentParser(usage=__doc__.split("usage: ")[1].split("\n\n")[0])
+    parser = argparse.ArgumentParser(usage=usage_of(__doc__))
     parser.add_argument("places", nargs="+")
     parser.add_argument("--junit")
     parser.add_argument("--coverage", action="store_true")

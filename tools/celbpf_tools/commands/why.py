@@ -19,6 +19,7 @@ from ..asking.errors import ERROR, first_error
 from ..asking.program import NotAnswered, Program, located
 from ..asking.reasons import reasons
 from ..asking.texts import escaped, indented, on_one_line, readable
+from ..entry import usage_of
 
 OUTCOMES = {"1": "skipped", "2": "rejected", "3": "denied", "4": "admitted"}
 RUNS = ("denied", "admitted")
@@ -30,7 +31,7 @@ MARK = "the message"
 
 
 def words() -> argparse.Namespace:
-    parser = argparse.ArgumentParser(usage=__doc__.split("usage: ")[1].split("\n\n")[0])
+    parser = argparse.ArgumentParser(usage=usage_of(__doc__))
     parser.add_argument("policy")
     parser.add_argument("review")
     parser.add_argument("--namespace")

@@ -21,13 +21,14 @@ class Commands:
 
     def __init__(self, program, folder):
         self.folder = Path(folder)
+        self.program = program
         self.runs = self.differing = 0
         for name, path in ("celbpf", program), ("examples", ROOT / "examples"), ("tools", ROOT / "tools"):
             os.symlink(path, self.folder / name)
 
     def shell(self, text, asked=""):
         """The status and both outputs of a text that a shell runs."""
-        path = {**os.environ, "PATH": f"{self.folder}:{os.environ['PATH']}"}
+        path = {**os.environ, "PATH": f"{self.folder}:{os.environ['PATH']}", "CELBPF_PROGRAM": str(self.program)}
         outputs = {"stdout": subprocess.PIPE, "stderr": subprocess.STDOUT}
         ended = subprocess.run(text, shell=True, cwd=self.folder, env=path, text=True, input=asked, **outputs)
         return ended.returncode, ended.stdout

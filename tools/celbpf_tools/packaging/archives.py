@@ -1,0 +1,100 @@
+"""A Debian package and a tar archive of a tree: the same bytes for the same sources and programs."""
+
+import io
+import os
+import platform
+import re
+import shutil
+import subprocess
+import tarfile
+from pathlib import Path
+
+from ..entry import Stop
+from ..home import ROOT
+
+ARCHES = {"x86_64": "amd64", "aarch64": "arm64"}
+GLIBC = re.compile(rb"GLIBC_2\.([0-9]+)")
+CONTROL = """Package: celbpf
+Version: {version}
+Architecture: {arch}
+Maintainer: the celbpf project <celbpf@example.invalid>
+Section: admin
+Priority: optional
+Installed-Size: {size}
+Depends: {libc}, python3 (>= 3.10)
+Recommends: python3-yaml
+Suggests: bash-completion, man-db
+Description: decides Kubernetes admission without a webhook
+ Compiles ValidatingAdmissionPolicy documents to BPF programs, runs them on a BPF
+ machine, answers reviews, and debugs a decision step by step. Its programs are
+ proved; docs/PROOFS.md says what of.
+"""
+
+
+def version_of() -> str:
+    """The version: the date of the newest entry of the changelog."""
+    found = re.search(r"^## (\d+)-(\d+)-(\d+)", (ROOT / "CHANGELOG.md").read_text(), re.MULTILINE)
+    return f"0.{''.join(found.groups())}" if found else "0"
+
+
+def arch_of() -> str:
+    machine = platform.machine()
+    return ARCHES.get(machine, machine)
+
+
+def libc_of(programs: dict) -> str:
+    """What of the C library the programs need, as a dependency."""
+    least = max((int(minor) for path in programs.values() for minor in GLIBC.findall(path.read_bytes())), default=0)
+    return f"libc6 (>= 2.{least})" if least else "libc6"
+
+
+def epoch_of() -> int:
+    """The time of the files: SOURCE_DATE_EPOCH, or that of the last commit, or 0."""
+    if given := os.environ.get("SOURCE_DATE_EPOCH", ""):
+        return int(given)
+    ran = subprocess.run(["git", "log", "-1", "--format=%ct"], cwd=ROOT, capture_output=True, text=True, check=False)
+    return int(ran.stdout) if ran.returncode == 0 and ran.stdout.strip() else 0
+
+
+def size_of(folder: Path) -> int:
+    """The size of a tree in KiB, as Debian counts it."""
+    return sum(-(-path.lstat().st_size // 1024) for path in folder.rglob("*") if not path.is_dir())
+
+
+def deb(root: Path, programs: dict, version: str, target: Path) -> None:
+    """The Debian package of a tree whose `usr` is planted."""
+    if not shutil.which("dpkg-deb"):
+        raise Stop("there is no command dpkg-deb; --tar makes the tar archive alone", 10)
+    control = root / "DEBIAN"
+    control.mkdir(mode=0o755)
+    text = CONTROL.format(version=version, arch=arch_of(), size=size_of(root / "usr"), libc=libc_of(programs))
+    (control / "control").write_text(text)
+    dated(root)
+    environment = {**os.environ, "SOURCE_DATE_EPOCH": str(epoch_of())}
+    words = ["dpkg-deb", "--root-owner-group", "-Zxz", "--build", str(root), str(target)]
+    ran = subprocess.run(words, env=environment, capture_output=True, text=True, check=False)
+    if ran.returncode:
+        raise Stop(f"dpkg-deb: {ran.stderr.strip()}")
+    shutil.rmtree(control)
+
+
+def dated(root: Path) -> None:
+    """Gives all files one time."""
+    for path in [root, *root.rglob("*")]:
+        os.utime(path, (epoch_of(), epoch_of()), follow_symlinks=False)
+
+
+def tar(prefix: Path, name: str, target: Path) -> None:
+    """A tar archive of a prefix, under a folder of this name."""
+
+    def plain(member: tarfile.TarInfo) -> tarfile.TarInfo:
+        member.uid = member.gid = 0
+        member.uname = member.gname = "root"
+        member.mtime = epoch_of()
+        return member
+
+    packed = io.BytesIO()
+    with tarfile.open(fileobj=packed, mode="w:xz") as archive:
+        for path in sorted(prefix.rglob("*")):
+            archive.add(path, f"{name}/{path.relative_to(prefix)}", recursive=False, filter=plain)
+    target.write_bytes(packed.getvalue())
