@@ -3,11 +3,12 @@
 usage: tools/seeded-policies [--seed N] [--count N] [--program PROGRAM]
        tools/seeded-policies --examples [--program PROGRAM]
        tools/seeded-policies --costs
-       tools/seeded-policies --print-rows N [--seed N]
+       tools/seeded-policies --rows | --write-rows
 
 The first form goes on until N policies (by default 1,000) were accepted with their reviews; the second goes
-over the reviews of examples/policies. The third prints EXAMPLE/REVIEW WORK SPENT, a line for each of these,
-and the fourth the rows of crates/review_tests/src/tests/seeded.rt. They need no program.
+over the reviews of examples/policies. The others need no program: --costs prints EXAMPLE/REVIEW WORK SPENT, a
+line for each of these, --rows makes the 1,000 rows of crates/review_tests/src/tests/seeded again and compares
+them with the stored ones, and --write-rows stores them.
 
 It builds nothing and proves nothing. `review` is run within 128 steps for each unit of the policy's work,
 and its status and both outputs are to be the evaluator's, byte for byte; where the bound on charge and depth
@@ -27,7 +28,7 @@ from ..seeded.counts import Counts
 from ..seeded.examples import examples
 from ..seeded.numbers import Numbers
 from ..seeded.program import Program
-from ..seeded.rows import rows
+from ..seeded.rows import other_files, write_rows
 
 SEED = 18
 
@@ -40,7 +41,8 @@ def words():
     parser.add_argument("--program", default=built("celbpf"))
     parser.add_argument("--examples", action="store_true")
     parser.add_argument("--costs", action="store_true")
-    parser.add_argument("--print-rows", type=int, default=0)
+    parser.add_argument("--rows", action="store_true")
+    parser.add_argument("--write-rows", action="store_true")
     return parser.parse_args()
 
 
@@ -84,12 +86,24 @@ def print_costs():
         print(name, costs.work, costs.spent)
 
 
+def over_rows():
+    """Compares the stored rows with those from the seed."""
+    others = other_files(Numbers(SEED))
+    print(*(f"{path.name} holds other rows" for path in others), sep="\n", end="\n" if others else "")
+    if others:
+        return 1
+    print("the stored rows are those from the seed")
+    return 0
+
+
 def main():
     given = words()
     if given.costs:
         return print_costs()
-    if given.print_rows:
-        return print(*rows(Numbers(given.seed), given.print_rows), sep="\n")
+    if given.write_rows:
+        write_rows(Numbers(SEED))
+    if given.rows or given.write_rows:
+        return over_rows()
     with tempfile.TemporaryDirectory() as folder:
         program = Program(Path(given.program).resolve(), folder)
         counts = over_examples(program) if given.examples else over_seed(program, given.seed, given.count)

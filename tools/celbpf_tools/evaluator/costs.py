@@ -43,6 +43,10 @@ class Costs:
         """After how many steps the program has stopped."""
         return STEPS_A_VISIT * self.work
 
+    def most_charged(self, charge):
+        """What a program has charged at most, where the roots are charged this."""
+        return charge + CHARGE_A_UNIT * self.spent
+
     def is_within(self, charge):
         """Whether no program is stopped for its charge or for depth, where the roots are charged this."""
-        return charge + CHARGE_A_UNIT * self.spent <= MOST_CHARGE and not self.deep
+        return self.most_charged(charge) <= MOST_CHARGE and not self.deep

@@ -1,13 +1,17 @@
-"""Cases as rows of a test in the crates."""
+"""Cases as rows of tests in the crates."""
 
 import json
 
+from ..home import ROOT
 from .cases import POLICY, REVIEW, Case, wanted
 from .policies import spec_of
 from .reviews import Documents
 
 # bytes of a row's two documents
 SHORTEST, LONGEST = 200, 500
+# where the rows stand
+FOLDER = ROOT / "crates" / "review_tests" / "src" / "tests" / "seeded"
+FILES, ROWS_A_FILE = 10, 100
 
 
 BAR = "¦"
@@ -55,12 +59,13 @@ def row_of(numbers):
     inner = given.response.split('"response":', 1)[1].removesuffix("}")
     if not all(is_part(text) for text in (spec, thing, inner)):
         return None
-    return given.verdict.outcome, [spec, thing, str(given.costs.steps), "0" if given.allowed else "1", inner]
+    costs = given.costs.work, given.costs.most_charged(given.charge)
+    return given.verdict.outcome, [spec, thing, *map(str, costs), "0" if given.allowed else "1", inner]
 
 
 def rows(numbers, count):
-    """So many rows, a line each: specification, object, bound on steps, status and response. Two beside each
-    other have different outcomes."""
+    """So many rows, a line each: specification, object, work, the most that may be charged, status and response.
+    Two beside each other have different outcomes."""
     before = None
     while count:
         row = row_of(numbers)
@@ -69,3 +74,24 @@ def rows(numbers, count):
         count -= 1
         before, parts = row
         yield BAR.join(parts)
+
+
+def files_of(numbers):
+    """The files of the rows, as pairs of a path and a text."""
+    lines = list(rows(numbers, FILES * ROWS_A_FILE))
+    for file in range(FILES):
+        first = file * ROWS_A_FILE
+        stored = "\n".join(lines[first : first + ROWS_A_FILE])
+        head = f"//! Rows {first + 1} to {first + ROWS_A_FILE}, as `tools/seeded-policies --write-rows` makes them."
+        yield FOLDER / f"rows_{file + 1}.rt", f'{head}\n\npub const ROWS: &str =\n    r#"{stored}"#;\n'
+
+
+def write_rows(numbers):
+    for path, text in files_of(numbers):
+        path.write_text(text)
+
+
+def other_files(numbers):
+    """The files that do not hold their rows."""
+    made = files_of(numbers)
+    return [path for path, text in made if not path.exists() or path.read_text() != text]
