@@ -1,5 +1,5 @@
 -- The code of expressions as an emitter makes it.
-use Rattle.codegen.proofs.Prelude.{◌≡◌, ℕ, ◌+◌, ◌≤◌, Bool, true, List, [], ◌∷◌, ◌++◌, length, append-nil, refl, sym, ap, ◌∙◌, arith, ◌*◌, false, length-append, suc, subst, leb-false, leb-true, if◌then◌else◌, map as each, pos, All, zip, length-map, map-append, Contents, CoreTree, CoreTrees, CoreEntries, no_cores, more_cores, no_core_entries, more_core_entries, variable, select, has, index, call, method, unary, binary, ternary, list, fold, fold_map, plain_tree, Roots, lookup, meaning, deepest, deepest_of, depth_or_none, entries_deepest, need, depth, nodes, Declaration, depths_of, declared, nothing_kept, Kept, IsScope, Variable, scope_setting, Returns, first_use, wider_gives, scope_begins, scope_grows, routine_named, texts_of, whole_code, routine_code, Computes, Ready, TextsStand, environment_in, names, nestings, routines, scope_context, variable_of, with_texts, IsDeep, cost, spent_by, AreShallow, AreTaken, EmitsRoutine, ExpressionGives, FramesAreEnough, HasConstants, IsExpression, VariableIsTaken, VariableJoins, RoutineGives, RoutineIsPassed, Emitted, with_piece, HasLiterals, routines_of, ints, Insn, skip, size, AreInsns, Stands, slots, size-append, size-cons, stands_first, stands_rest, done, looser, to_place, jump, passed, code_at, has_room, with_counted, with_expression, with_variable, Value, memo_tail, insns_append, memo_insns, routine_returns, EmitsExpression, EmitsVariable, HasRoutines, Running, Suits, caller_context, context, cost_in, meaning_in, next_routine, next_variable, setting}
+use Rattle.codegen.proofs.Prelude.{◌≡◌, ℕ, ◌+◌, ◌≤◌, Bool, true, List, [], ◌∷◌, ◌++◌, length, append-nil, refl, sym, ap, ◌∙◌, arith, ◌*◌, false, length-append, suc, subst, and_from, le-leb, nat_le, saturated, if◌then◌else◌, map as each, pos, All, zip, length-map, map-append, Contents, CoreTree, CoreTrees, CoreEntries, no_cores, more_cores, no_core_entries, more_core_entries, variable, select, has, index, call, method, unary, binary, ternary, list, fold, fold_map, plain_tree, Roots, lookup, meaning, deepest, deepest_of, depth_or_none, entries_deepest, need, depth, nodes, Declaration, depths_of, declared, nothing_kept, Kept, IsScope, Variable, scope_setting, Returns, first_use, wider_gives, scope_begins, scope_grows, routine_named, texts_of, whole_code, routine_code, Computes, Ready, TextsStand, environment_in, names, nestings, routines, scope_context, variable_of, with_texts, IsDeep, cost, spent_by, AreShallow, AreTaken, EmitsRoutine, ExpressionGives, FramesAreEnough, HasConstants, IsExpression, VariableIsTaken, VariableJoins, RoutineGives, RoutineIsPassed, Emitted, with_piece, HasLiterals, routines_of, ints, Insn, skip, size, AreInsns, Stands, slots, size-append, size-cons, stands_first, stands_rest, done, looser, to_place, jump, passed, code_at, has_room, with_counted, with_expression, with_variable, Value, memo_tail, insns_append, memo_insns, routine_returns, EmitsExpression, EmitsVariable, HasRoutines, Running, Suits, caller_context, context, cost_in, meaning_in, next_routine, next_variable, setting}
 use Rattle.cel_macros.specs.CoreTree.{map}
 use Rattle.codegen.proofs.Accepted.{names_declared, typed_accepted}
 use Rattle.codegen.proofs.Lent.{texts_stand}
@@ -143,7 +143,11 @@ pub low_each : (slots : List ℕ) → All (λ slot. slot ≤ 0x7fff_ff00) slots 
 low_each [] h = tt
 low_each (s ∷ slots) h = (h 0 0 (omega arith), low_each slots (λ k d inside. h (suc k) d (omega arith)))
 
-module _ (old : Emitted) (ds : List Declaration) (e : CoreTree) (few : 2 * length old.routines ≤ old.nodes) (low : AreLow old.routines) (inside : length old.code ≤ 0x7fff_0000) (fits : need e ≤ 60) (literals : HasLiterals (plain_tree e)) where
+-- where there is room
+room_is : (e : Emitted) → e.nodes ≤ 512 → length e.code ≤ 0x7fff_0000 → has_room e ≡ true
+room_is e few near = and_from (nat_le e.nodes 512) (nat_le (length e.code) 0x7fff_0000) (le-leb e.nodes 512 few) (le-leb (length e.code) 0x7fff_0000 near)
+
+module _ (old : Emitted) (ds : List Declaration) (e : CoreTree) (few : 2 * length old.routines ≤ old.nodes) (low : AreLow old.routines) (fits : need e ≤ 60) (literals : HasLiterals (plain_tree e)) where
   abbrev known : List (List ℕ)
   known = with_texts old.constants (texts_of e)
 
@@ -183,7 +187,9 @@ module _ (old : Emitted) (ds : List Declaration) (e : CoreTree) (few : 2 * lengt
   -- ---- an expression
 
   pub emits_expression : EmitsExpression old (with_expression old ds e) ds e
-  emits_expression short = grind (arith, leb-true, whole_short, piece_spells, near, computed, leb-false)
+  emits_expression short inside =
+      let room = room_is (with_counted old e (nodes e)) (omega (arith, short)) inside in
+      grind (arith, room, whole_short, piece_spells, near, computed)
 
   -- ---- a variable
 
@@ -219,8 +225,8 @@ module _ (old : Emitted) (ds : List Declaration) (e : CoreTree) (few : 2 * lengt
 
     variable_by : (here : Bool) → has_room (with_counted old e (1 + nodes e)) ≡ here
         → EmitsVariable old (if here then record (with_piece (with_counted old e (1 + nodes e)) (passed (code_at (with_counted old e (1 + nodes e)) ds e slot ++ memo_tail (length old.routines)))) { routines = old.routines ++ slot ∷ [] } else with_counted old e (1 + nodes e)) ds e
-    variable_by true room short =
-        let within = leb-true _ _ room in
+    variable_by true room short inside =
+        let within : saturated (old.nodes + (1 + nodes e)) ≤ 512 = omega (arith, short) in
         let most : old.nodes ≤ 512 = omega (arith, within) in
         let long = whole_short e known table slot in
         let whole = size-append body (memo_tail (length old.routines)) in
@@ -239,7 +245,7 @@ module _ (old : Emitted) (ds : List Declaration) (e : CoreTree) (few : 2 * lengt
               (variable_is_taken old.constants old.routines ds e slot roots scope name t taken);
           counted = omega (arith, short);
         }
-    variable_by false room short = absurd (omega (arith, leb-false _ _ room, short))
+    variable_by false room short inside = let yes = room_is (with_counted old e (1 + nodes e)) (omega (arith, short)) inside in absurd (cc)
 
     pub emits_variable : EmitsVariable old (with_variable old ds e) ds e
     emits_variable = variable_by (has_room (with_counted old e (1 + nodes e))) refl

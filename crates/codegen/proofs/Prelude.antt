@@ -1,5 +1,5 @@
 -- The names that these proofs cite of the library, of the crates below and of the definitions here. Declares nothing.
-pub use Rattle.std.proofs.{Common.All, Common.Bool, Common.IfOk, Common.IfSome, Common.IsSome, Common.List, Common.None, Common.Option, Common.Result, Common.Some, Common.ℕ, Common.ℤ, Common.[], Common.add-one, Common.ap, Common.append-nil, Common.append_assoc, Common.arith, Common.bytes_eq, Common.codes, Common.drop, Common.drop-cons, Common.false, Common.get_or, Common.if◌then◌else◌, Common.leb-false, Common.leb-true, Common.length, Common.length-append, Common.map, Common.min, Common.option_map, Common.pos, Common.refl, Common.rules, Common.slice_get, Common.string_bytes, Common.string_eq, Common.subst, Common.suc, Common.sym, Common.take, Common.true, Common.unwrap_or, Common.zero, Common.◌&&◌, Common.◌*◌, Common.◌++◌, Common.◌+◌, Common.◌-◌, Common.◌<◌, Common.◌^◌, Common.◌||◌, Common.◌∙◌, Common.◌∷◌, Common.◌≡◌, Common.◌≤◌, lemmas.Int.ints, lemmas.Int.to_z-of_z, lemmas.List.drop-drop, lemmas.List.drop_at, lemmas.List.length-map, lemmas.List.map-append, lemmas.List.take-map, lemmas.List.take_all, lemmas.List.take_at, lemmas.List.Folds.list_any-append, lemmas.Simd.map-map, lemmas.Slice.Eq.bytes_eq-Decides, lemmas.Str.IsUtf8-string_bytes, lemmas.Str.is_utf8-from_IsUtf8}
+pub use Rattle.std.proofs.{Common.All, Common.Bool, Common.IfOk, Common.IfSome, Common.IsSome, Common.List, Common.None, Common.Option, Common.Result, Common.Some, Common.le-leb, Common.nat_le, Common.ℕ, Common.ℤ, Common.[], Common.add-one, Common.ap, Common.append-nil, Common.append_assoc, Common.arith, Common.bytes_eq, Common.codes, Common.drop, Common.drop-cons, Common.false, Common.get_or, Common.if◌then◌else◌, Common.leb-false, Common.leb-true, Common.length, Common.length-append, Common.map, Common.min, Common.option_map, Common.pos, Common.refl, Common.rules, Common.slice_get, Common.string_bytes, Common.string_eq, Common.subst, Common.suc, Common.sym, Common.take, Common.true, Common.unwrap_or, Common.zero, Common.◌&&◌, Common.◌*◌, Common.◌++◌, Common.◌+◌, Common.◌-◌, Common.◌<◌, Common.◌^◌, Common.◌||◌, Common.◌∙◌, Common.◌∷◌, Common.◌≡◌, Common.◌≤◌, lemmas.Bool.and_from, lemmas.Int.ints, lemmas.Int.to_z-of_z, lemmas.List.drop-drop, lemmas.List.drop_at, lemmas.List.length-map, lemmas.List.map-append, lemmas.List.take-map, lemmas.List.take_all, lemmas.List.take_at, lemmas.List.Folds.list_any-append, lemmas.Simd.map-map, lemmas.Slice.Eq.bytes_eq-Decides, lemmas.Str.IsUtf8-string_bytes, lemmas.Str.is_utf8-from_IsUtf8}
 pub use Rattle.std.specs.{Borrow.Bor, Cmp.Lexicographic.bytes_decides, List.AllByRecursion, List.list_any, List.zip, declared.alloc.AllocError.AllocError, declared.alloc.Global.Global, declared.vec.Vec.Vec}
 pub use Rattle.bpf_machine.specs.{Operands.is_frame_pointer}
 pub use Rattle.cel_macros.proofs.{Folds.fold_maps_mean, Folds.folds_mean}

@@ -1,5 +1,5 @@
 -- What an emitter has taken once an expression or a variable is added to it.
-use Rattle.std.specs.Prelude.{◌≡◌, ℕ, ◌+◌, Bool, nat_le, if◌then◌else◌, List, [], ◌∷◌, ◌++◌, length, take}
+use Rattle.std.specs.Prelude.{◌≡◌, ℕ, ◌+◌, Bool, ◌&&◌, nat_le, if◌then◌else◌, List, [], ◌∷◌, ◌++◌, length, take}
 use Rattle.insn_codec.specs.declared.insn.Insn.{Insn}
 use Rattle.cel_macros.specs.CoreTree.{CoreTree}
 use Rattle.cel_measures.specs.Measures.{nodes}
@@ -14,9 +14,10 @@ use Rattle.codegen.specs.Emitted.{Emitted, with_nodes, with_piece}
 use Rattle.codegen.specs.Surroundings.{routines_of}
 use Rattle.codegen.specs.declared.emitter.Addition.{Addition, TheVariants.Expression, TheVariants.Variable}
 
--- there is room for code: an image has slots for 512 nodes, 128 for each
+-- there is room for code: an image has slots for 512 nodes, 128 for each, and calls in a piece behind the code reach all
+-- routines in it by offsets of 32 bits
 abbrev pub has_room : Emitted → Bool
-has_room e = nat_le e.nodes 512
+has_room e = nat_le e.nodes 512 && nat_le (length e.code) 0x7fff_0000
 
 -- an expression's code at a slot, from the start of a frame
 abbrev pub code_at : Emitted → List Declaration → CoreTree → ℕ → List Insn

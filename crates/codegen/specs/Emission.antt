@@ -72,6 +72,10 @@ pub record Suits (slots : List ℕ) (texts : List (List ℕ)) (declarations : Li
   pub texts_are : AreConstants r.constants texts
   pub may : IsDeep (plain_tree e) (environment_in r.roots [] r.scope) → r.is_deep ≡ true
 
+-- the code is so short that calls in a piece behind it reach all routines in it: in an image it always is
+abbrev pub IsNear : Emitted → Type 0
+IsNear e = length e.code ≤ 0x7fff_0000
+
 -- ---- an expression
 
 -- behind the old code stands a piece of at most 128 slots for each node, which can be spelled; from the start of each frame
@@ -91,7 +95,7 @@ pub record EmitsPiece (old new : Emitted) (declarations : List Declaration) (e :
 
 -- of at most 512 nodes in all
 abbrev pub EmitsExpression : Emitted → Emitted → List Declaration → CoreTree → Type 0
-EmitsExpression old new declarations e = old.nodes + nodes e ≤ 512 → EmitsPiece old new declarations e
+EmitsExpression old new declarations e = old.nodes + nodes e ≤ 512 → IsNear old → EmitsPiece old new declarations e
 
 -- ---- a variable
 
@@ -137,4 +141,4 @@ pub record EmitsPassedRoutine (old new : Emitted) (declarations : List Declarati
 
 -- of at most 512 nodes in all
 abbrev pub EmitsVariable : Emitted → Emitted → List Declaration → CoreTree → Type 0
-EmitsVariable old new declarations e = old.nodes + (1 + nodes e) ≤ 512 → EmitsPassedRoutine old new declarations e
+EmitsVariable old new declarations e = old.nodes + (1 + nodes e) ≤ 512 → IsNear old → EmitsPassedRoutine old new declarations e

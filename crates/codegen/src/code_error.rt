@@ -21,7 +21,7 @@ pub enum CodeError {
     /// The texts are more than an image of 1,048,576 bytes of constants has room for.
     #[error("the expressions have more than 1048576 bytes of texts")]
     G4,
-    /// There is no memory for the code, or it would pass 0x7fff_0000 slots.
+    /// There is no memory for the code.
     #[error("out of memory")]
     Memory,
 }

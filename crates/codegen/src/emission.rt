@@ -20,8 +20,8 @@ use std::alloc::Global;
 const GREATEST_DEPTH: u64 = 6;
 
 /// Adds the expression's code to the emitter, its texts and its nodes. The variables of the scope are
-/// the first that the emitter took, in their order. Beyond 512 nodes, where `finish` answers `G3`, texts
-/// and nodes alone are added.
+/// the first that the emitter took, in their order. Beyond 512 nodes, where `finish` answers `G3`, and behind
+/// 0x7fff_0000 slots, for which no image has room, texts and nodes alone are added.
 ///
 /// # Errors
 ///
@@ -52,7 +52,8 @@ pub fn expression(
 
 /// Adds the next variable to the emitter: the routine of its expression with its memo, its texts, and 1
 /// more than its nodes. The variables of the scope are the first that the emitter took, in their order.
-/// Beyond 512 nodes, where `finish` answers `G3`, texts and nodes alone are added.
+/// Beyond 512 nodes, where `finish` answers `G3`, and behind 0x7fff_0000 slots, for which no image has room,
+/// texts and nodes alone are added.
 ///
 /// # Errors
 ///

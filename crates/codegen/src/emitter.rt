@@ -1,6 +1,7 @@
 //! Code as it grows.
 
-ghost use Rattle.std.specs.Prelude.{◌≡◌, ◌≢◌, ◌+◌, ◌*◌, ◌<◌, ◌≤◌, ◌++◌, ◌∷◌, [], ◌↔◌, length, map, take, Some, nat_le, slice_get, All, IfOk, OnOk, OnErr, IsErrOf};
+ghost use Rattle.std.specs.Prelude.{◌≡◌, ◌≢◌, ◌+◌, ◌*◌, ◌<◌, ◌≤◌, ◌++◌, ◌∷◌, [], ◌↔◌, ◌&&◌, length, map, take, Some, nat_le, slice_get, All, IfOk, OnOk, OnErr, IsErrOf};
+ghost use Rattle.std.specs.Bool.{OnTrue};
 ghost use Rattle.insn_codec.specs.Spelling.{slot_count, spelling};
 ghost use Rattle.insn_codec.specs.declared.insn.Insn.{Insn};
 ghost use Rattle.insn_codec.specs.declared.insn.Insn.TheVariants.{Exit};
@@ -31,8 +32,8 @@ use std::marker::Model;
 /// The most nodes for which an image has room.
 const MOST_NODES: u64 = 512;
 
-/// The most slots that code may have while it grows: a call in an expression behind them still reaches every
-/// routine by an offset of 32 bits.
+/// The most slots behind which the code of an expression is put: a call in it still reaches every routine by
+/// an offset of 32 bits. No image has room for so many.
 const MOST_SLOTS: usize = 0x7fff_0000;
 
 /// The most bytes of constants that an image has.
@@ -67,7 +68,7 @@ impl Model for Emitter {
 
     ghost view = { λ e. record { code = e.code.items; constants = map string_bytes e.constants.keys; nodes = e.nodes; routines = e.routines.items } };
 
-    ghost invariant = { λ e. (length e.code.items ≤ 0x7fff_0000) × All (λ slot. slot ≤ 0x7fff_ff00) e.routines.items × (2 * length e.routines.items ≤ e.nodes) };
+    ghost invariant = { λ e. All (λ slot. slot ≤ 0x7fff_ff00) e.routines.items × (2 * length e.routines.items ≤ e.nodes) };
 }
 
 impl Emitter {
@@ -84,7 +85,7 @@ impl Emitter {
     }
 
     /// Puts the instruction behind the code and answers its slot. The error says that there is no
-    /// memory for it, or that the code would pass 0x7fff_0000 slots.
+    /// memory for it.
     pub fn put(&mut self, insn: &Insn) -> Result<u64, AllocError>
         ensures ok { IfOk result (λ slot. slot ≡ length self.old.code) }
         ensures code { OnOk result (self.new ≡ with_piece self.old (insn.now ∷ [])) }
@@ -126,7 +127,6 @@ impl Emitter {
         requires { need (core_view core.now) ≤ 60 }
         ensures few { 2 * length self.old.routines ≤ self.old.nodes }
         ensures low { All (λ slot. slot ≤ 0x7fff_ff00) self.old.routines }
-        ensures inside { length self.old.code ≤ 0x7fff_0000 }
         ensures ok { OnOk result (self.new ≡ with_addition addition self.old (map declaration scope.now) (core_view core.now)) }
         ensures literals { OnOk result (HasLiterals (plain_tree (core_view core.now))) }
         ensures err { OnErr result (self.new ≡ self.old) }
@@ -158,14 +158,14 @@ impl Emitter {
         self.nodes = self.nodes.saturating_add(nodes(core));
         match addition {
             Addition::Expression => {
-                if has_room(self.nodes) {
+                if has_room(self.nodes, self.code.len()) {
                     let piece = self.code_at(alloc, core, scope, self.code.len())?;
                     self.append(alloc, &piece)?;
                 }
             }
             Addition::Variable => {
                 self.nodes = self.nodes.saturating_add(1);
-                if has_room(self.nodes) {
+                if has_room(self.nodes, self.code.len()) {
                     let slot = self.code.len() + 1;
                     let body = self.code_at(alloc, core, scope, slot)?;
                     let routine = passed_routine(alloc, &body, self.routines.len())?;
@@ -194,7 +194,7 @@ impl Emitter {
         whole_code(alloc, core, &around, slot)
     }
 
-    /// Puts the piece behind the code. The error says that there is no memory for it, or as in `put`.
+    /// Puts the piece behind the code. The error says that there is no memory for it.
     fn append(&mut self, alloc: Global, piece: &[Insn]) -> Result<(), AllocError>
         ensures ok { OnOk result (self.new ≡ with_piece self.old piece.now) }
         ensures err { OnErr result (self.new ≡ self.old) }
@@ -203,14 +203,11 @@ impl Emitter {
         self.extend(&begins)
     }
 
-    /// Puts these slots behind the code. The error says that there is no memory for them, or as in `put`.
+    /// Puts these slots behind the code. The error says that there is no memory for them.
     fn extend(&mut self, slots: &[Option<Insn>]) -> Result<(), AllocError>
         ensures ok { OnOk result (self.new ≡ record self.old { code = self.old.code ++ slots.now }) }
         ensures err { OnErr result (self.new ≡ self.old) }
     {
-        if slots.len() > MOST_SLOTS - self.code.len() {
-            return Err(AllocError);
-        }
         self.code.extend_from_slice(slots)
     }
 
@@ -250,11 +247,12 @@ impl Emitter {
     }
 }
 
-/// Whether an image has room for the code of so many nodes.
-fn has_room(nodes: u64) -> bool
-    ensures { result ≡ nat_le nodes 512 }
+/// Whether an image has room for the code of so many nodes, behind so many slots.
+fn has_room(nodes: u64, slots: usize) -> bool
+    ensures room { result ≡ (nat_le nodes 512 && nat_le slots 0x7fff_0000) }
+    ensures few { OnTrue result ((nodes ≤ 512) × (slots ≤ 0x7fff_0000)) }
 {
-    nodes <= MOST_NODES
+    nodes <= MOST_NODES && slots <= MOST_SLOTS
 }
 
 /// What begins at each slot of the piece. The error says that there is no memory for it.

@@ -1,10 +1,10 @@
 -- The program of a policy as it is emitted.
-use Rattle.policy_glue.proofs.Prelude.{◌≡◌, ℕ, zero, suc, ◌+◌, ◌-◌, ◌<◌, ◌≤◌, Bool, true, false, List, [], ◌∷◌, ◌++◌, length, map, take, get_or, Option, Some, None, Result, Ok, OnOk, IfOk, refl, sym, ap, ◌∙◌, subst, arith, append_assoc, length-append, append-nil, ◌*◌, IsErrOf, take-append_seam, if◌then◌else◌, slice_get, slice_index_or, slice_set, option_map, fold, length-map, slice_get-map, slice_get_read, leb-true, le-leb, cases_lt, le-ltb, lt-ltb, slot_count, spelling, Insn, Tree, CoreTree, expanded, core_view, Core, depth, need, nodes, Declaration, declared, depths_of, scope_of, typing as type_of, code_at, has_room, with_counted, with_expression, passed, Emitted, with_insn_at, with_nodes, with_piece, no_code, HasTooManyTexts, IsTooLong, slot_spellings, routines_of, whole_short, size, slots, spellings, length-insn_slots, slots-append, size-append, size-cons, rule_expanded, rule_trees, variable_expanded, IsChecked, depth_in, scope_after, type_or_any, with_variable as with_declared, FitInOrder, MayFit, with_condition, with_conditions, with_decided, with_result, with_validation, with_validations, with_variables, with_way, emitted, denial_code, leave_error, message_tail, condition_tail, conditions_code, decided_code, decided_tail, if_true, message_code, outcome_tail, policy_code, result_code, routines_code, validation_code, validations_code, AreConditions, AreRules, AreVariables, RuleTree, VariableTree, PolicyTree, CheckedValidation, FailurePolicy, sum_by, fold-append, sum_by-cons, saturated, with_texts, joined, message_nodes, part_nodes, policy_nodes, policy_texts, rule_nodes, validation_texts, excess, Laid, after_condition, after_conditions, after_variables, before_message, condition_codes, laid_conditions, laid_routines, message_codes, nothing_laid, texts_with, tree_code, validation_codes, variable_code, variable_codes, with_routine, with_slots, with_tree, with_message as with_message_laid, program_of, decided_slots, Exit, slot_spellings-append, slots_spelled, Checked, G3, G4}
+use Rattle.policy_glue.proofs.Prelude.{◌≡◌, ℕ, zero, suc, ◌+◌, ◌-◌, ◌<◌, ◌≤◌, Bool, true, false, List, [], ◌∷◌, ◌++◌, length, map, take, get_or, Option, Some, None, Result, Ok, OnOk, IfOk, refl, sym, ap, ◌∙◌, subst, arith, append_assoc, length-append, append-nil, ◌*◌, IsErrOf, take-append_seam, if◌then◌else◌, slice_get, slice_index_or, slice_set, option_map, fold, length-map, slice_get-map, slice_get_read, and_from, and_parts, nat_le, leb-true, le-leb, cases_lt, le-ltb, lt-ltb, slot_count, spelling, Insn, Tree, CoreTree, expanded, core_view, Core, depth, need, nodes, Declaration, declared, depths_of, scope_of, typing as type_of, code_at, has_room, with_counted, with_expression, passed, Emitted, with_insn_at, with_nodes, with_piece, no_code, HasTooManyTexts, IsTooLong, slot_spellings, routines_of, whole_short, size, slots, spellings, length-insn_slots, slots-append, size-append, size-cons, rule_expanded, rule_trees, variable_expanded, IsChecked, depth_in, scope_after, type_or_any, with_variable as with_declared, FitInOrder, MayFit, with_condition, with_conditions, with_decided, with_result, with_validation, with_validations, with_variables, with_way, emitted, denial_code, leave_error, message_tail, condition_tail, conditions_code, decided_code, decided_tail, if_true, message_code, outcome_tail, policy_code, result_code, routines_code, validation_code, validations_code, AreConditions, AreRules, AreVariables, RuleTree, VariableTree, PolicyTree, CheckedValidation, FailurePolicy, sum_by, fold-append, sum_by-cons, saturated, with_texts, joined, message_nodes, part_nodes, policy_nodes, policy_texts, rule_nodes, validation_texts, excess, Laid, after_condition, after_conditions, after_variables, before_message, condition_codes, laid_conditions, laid_routines, message_codes, nothing_laid, texts_with, tree_code, validation_codes, variable_code, variable_codes, with_routine, with_slots, with_tree, with_message as with_message_laid, program_of, decided_slots, Exit, slot_spellings-append, slots_spelled, Checked, G3, G4}
 use Rattle.codegen.specs.Added.{with_variable}
 use Rattle.policy_glue.specs.Emission.{Fits, with_message}
 use Rattle.policy_glue.proofs.Programs.Validations.{denial_size, message_tail_size, outcome_tail_size, result_size}
 use Rattle.policy_glue.proofs.Programs.Conditions.{tail_size}
-use Rattle.policy_glue.proofs.Programs.Sizes.{conditions_texts, message_texts_are, variables_texts}
+use Rattle.policy_glue.proofs.Programs.Sizes.{conditions_texts, message_texts_are, program_is_short, variables_texts}
 
 -- ---- pieces
 
@@ -40,7 +40,7 @@ pub few_slots : (e : Emitted) (scope : List Declaration) (tree : CoreTree) → l
 few_slots e scope tree =
     let counted = with_counted e tree (nodes tree) in
     few_where (has_room counted) counted (code_at counted scope tree (length e.code)) (λ room.
-    let within : counted.nodes ≤ 512 = leb-true counted.nodes 512 room in
+    let within : counted.nodes ≤ 512 = leb-true counted.nodes 512 (and_parts (nat_le counted.nodes 512) (nat_le (length e.code) 0x7fff_0000) room).0 in
     let short = whole_short tree counted.constants (routines_of scope counted.routines) (length e.code) in
     omega (arith, within, short))
 
@@ -165,15 +165,17 @@ messages_fit scope (r ∷ more) (v ∷ vs) are same (suc k) d below = messages_f
 abbrev pub emitter : List Insn → List (List ℕ) → ℕ → List ℕ → Emitted
 emitter code texts n routines = record { code = slots code; constants = texts; nodes = saturated n; routines = routines }
 
--- the emitter has counted n nodes and what stands so far, and where there was room it has the code
+-- the emitter has counted n nodes and what stands so far, and where there was room, as behind few slots, it has the code
 pub record Same (e : Emitted) (l : Laid) (code : List Insn) (n : ℕ) : Type 0 where
   pub nodes_are : e.nodes ≡ saturated n
   pub texts_are : e.constants ≡ l.texts
-  pub is : n ≤ 512 → e ≡ emitter code l.texts n l.routines
+  pub is : n ≤ 512 → size code ≤ 0x7fff_0000 → e ≡ emitter code l.texts n l.routines
   pub place : l.place ≡ size code
 
-has_room_in : (code : List Insn) (texts : List (List ℕ)) (n : ℕ) (routines : List ℕ) → n ≤ 512 → has_room (emitter code texts n routines) ≡ true
-has_room_in code texts n routines short = le-leb (saturated n) 512 (omega arith)
+has_room_in : (code : List Insn) (texts : List (List ℕ)) (n : ℕ) (routines : List ℕ) → n ≤ 512 → size code ≤ 0x7fff_0000 → has_room (emitter code texts n routines) ≡ true
+has_room_in code texts n routines short near =
+    and_from (nat_le (saturated n) 512) (nat_le (length (slots code)) 0x7fff_0000) (le-leb (saturated n) 512 (omega arith))
+    (le-leb (length (slots code)) 0x7fff_0000 near)
 
 -- ---- one step
 
@@ -322,7 +324,7 @@ laid_whole t = with_slots 7 (after_rules (scope_after t.variables) (laid_conditi
 whole_is : (f : FailurePolicy) (t : PolicyTree) → Same (emitted_of f t) (laid_whole t) (code_before f t) (policy_nodes t)
 unfolding policy_nodes policy_code
 whole_is f t =
-    let start : Same (with_nodes no_code 1) nothing_laid [] 1 = record { nodes_are = omega arith; texts_are = refl; is = λ few. refl; place = refl } in
+    let start : Same (with_nodes no_code 1) nothing_laid [] 1 = record { nodes_are = omega arith; texts_are = refl; is = λ few near. refl; place = refl } in
     let variables = same_variables (scope_after t.variables) [] 0 t.variables refl refl start in
     let conditions = same_decided t.conditions (laid_routines t) (same_conditions f t.conditions variables) in
     let rules = same_validations f (scope_after t.variables) t.validations 0 conditions in
@@ -343,7 +345,11 @@ pub texts_counted : (f : FailurePolicy) (t : PolicyTree) → (emitted_of f t).co
 texts_counted f t = (whole_is f t).texts_are ∙ texts_laid t
 
 pub policy_emitted : (f : FailurePolicy) (t : PolicyTree) → policy_nodes t ≤ 512 → (emitted_of f t).code ≡ slots (code_before f t)
-policy_emitted f t few = ap (λ (e : Emitted). e.code) ((whole_is f t).is few)
+unfolding program_of
+policy_emitted f t few =
+    let short = program_is_short f t in
+    let whole = size-append (code_before f t) (Exit ∷ []) in
+    ap (λ (e : Emitted). e.code) ((whole_is f t).is few (omega (arith, short, whole, few)))
 
 -- what was checked is emitted as the policy's trees
 pub emitted_is : (f : FailurePolicy) (c : Checked) (t : PolicyTree) → IsChecked c t → emitted f c ≡ emitted_of f t

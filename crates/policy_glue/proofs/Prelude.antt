@@ -1,5 +1,5 @@
 -- The names that these proofs cite of the library, of the crates below and of the definitions here. Declares nothing.
-pub use Rattle.std.proofs.{Common.All, Common.Bool, Common.Err, Common.IfOk, Common.IfSome, Common.IsErr, Common.IsErrOf, Common.List, Common.None, Common.Ok, Common.OnOk, Common.Option, Common.Result, Common.Some, Common.ℕ, Common.ℤ, Common.[], Common.ap, Common.append-nil, Common.append_assoc, Common.arith, Common.codes, Common.count_by, Common.drop, Common.false, Common.fold, Common.get_or, Common.if◌then◌else◌, Common.length, Common.length-append, Common.map, Common.nat_lt, Common.not, Common.option_map, Common.pos, Common.refl, Common.rules, Common.set, Common.slice_get, Common.slice_index, Common.slice_index_or, Common.slice_set, Common.string_bytes, Common.subst, Common.suc, Common.sym, Common.take, Common.true, Common.true≢false, Common.vec_len, Common.zero, Common.◌%◌, Common.◌&&◌, Common.◌*◌, Common.◌++◌, Common.◌+◌, Common.◌-◌, Common.◌<◌, Common.◌^◌, Common.◌||◌, Common.◌∙◌, Common.◌∷◌, Common.◌≡◌, Common.◌≢◌, Common.◌≤◌, Math.ListN.drop_of_length-le, Math.Seq.take-append_seam, lemmas.Bool.cases_eq, lemmas.Bool.cases_lt, lemmas.Bool.false≢true, lemmas.Bool.le-leb, lemmas.Bool.le-ltb, lemmas.Bool.leb-true, lemmas.Bool.lt-ltb, lemmas.Bool.ltb-false, lemmas.Bool.Decides.nat_tests, lemmas.Cmp.nat_list_eq_equiv, lemmas.Int.ints, lemmas.List.drop_more, lemmas.List.get_or-set_other, lemmas.List.get_or-set_same, lemmas.List.length-map, lemmas.List.length-set, lemmas.List.map-append, lemmas.List.map-set, lemmas.List.take-append-drop, lemmas.List.take_more, lemmas.List.Elements.All-head, lemmas.List.Elements.All-push, lemmas.List.Elements.All-tail, lemmas.List.Folds.list_any-append, lemmas.List.Sums.count_by-le-length, lemmas.List.Sums.fold-append, lemmas.List.Sums.sum_by-append, lemmas.List.Sums.sum_by-cons, lemmas.Map.Text.is_eq-slice_cmp, lemmas.Option.slice_get-get_or, lemmas.Option.slice_get-map, lemmas.Option.slice_get_past, lemmas.Option.slice_get_read, lemmas.Result.IfOk-weaker, lemmas.Result.on_ok_weaker, lemmas.Str.IsUtf8-from_is_utf8, lemmas.Str.is_utf8-from_IsUtf8}
+pub use Rattle.std.proofs.{Common.All, Common.Bool, Common.Err, Common.IfOk, Common.IfSome, Common.IsErr, Common.IsErrOf, Common.List, Common.None, Common.Ok, Common.OnOk, Common.Option, Common.Result, Common.Some, Common.nat_le, Common.ℕ, Common.ℤ, Common.[], Common.ap, Common.append-nil, Common.append_assoc, Common.arith, Common.codes, Common.count_by, Common.drop, Common.false, Common.fold, Common.get_or, Common.if◌then◌else◌, Common.length, Common.length-append, Common.map, Common.nat_lt, Common.not, Common.option_map, Common.pos, Common.refl, Common.rules, Common.set, Common.slice_get, Common.slice_index, Common.slice_index_or, Common.slice_set, Common.string_bytes, Common.subst, Common.suc, Common.sym, Common.take, Common.true, Common.true≢false, Common.vec_len, Common.zero, Common.◌%◌, Common.◌&&◌, Common.◌*◌, Common.◌++◌, Common.◌+◌, Common.◌-◌, Common.◌<◌, Common.◌^◌, Common.◌||◌, Common.◌∙◌, Common.◌∷◌, Common.◌≡◌, Common.◌≢◌, Common.◌≤◌, Math.ListN.drop_of_length-le, Math.Seq.take-append_seam, lemmas.Bool.and_from, lemmas.Bool.and_parts, lemmas.Bool.cases_eq, lemmas.Bool.cases_lt, lemmas.Bool.false≢true, lemmas.Bool.le-leb, lemmas.Bool.le-ltb, lemmas.Bool.leb-true, lemmas.Bool.lt-ltb, lemmas.Bool.ltb-false, lemmas.Bool.Decides.nat_tests, lemmas.Cmp.nat_list_eq_equiv, lemmas.Int.ints, lemmas.List.drop_more, lemmas.List.get_or-set_other, lemmas.List.get_or-set_same, lemmas.List.length-map, lemmas.List.length-set, lemmas.List.map-append, lemmas.List.map-set, lemmas.List.take-append-drop, lemmas.List.take_more, lemmas.List.Elements.All-head, lemmas.List.Elements.All-push, lemmas.List.Elements.All-tail, lemmas.List.Folds.list_any-append, lemmas.List.Sums.count_by-le-length, lemmas.List.Sums.fold-append, lemmas.List.Sums.sum_by-append, lemmas.List.Sums.sum_by-cons, lemmas.Map.Text.is_eq-slice_cmp, lemmas.Option.slice_get-get_or, lemmas.Option.slice_get-map, lemmas.Option.slice_get_past, lemmas.Option.slice_get_read, lemmas.Result.IfOk-weaker, lemmas.Result.on_ok_weaker, lemmas.Str.IsUtf8-from_is_utf8, lemmas.Str.is_utf8-from_IsUtf8}
 pub use Rattle.std.specs.{BTreeSet.BTreeSet, BTreeSet.IsEmpty, BTreeSet.Updates, BTreeSet.contains, Borrow.Bor, Cmp.Lexicographic.slice_cmp, Int.cast_unsigned, Int.w64, List.list_all, List.list_any, List.sum_by, Ordering.is_eq, Ordering.nat_cmp, Prelude.⊤, Result.IsErrAnd, Str.IsUtf8, Str.bytes_eq}
 unfoldable pub use Rattle.std.specs.{Char.encode_utf8, Fmt.digits, Str.chars, Str.is_utf8}
 pub use Rattle.bpf_machine.specs.{Access.loaded, Access.stored, Decoding.DecodesSpelling, Decoding.fetched, Laws.stays_stopped, Operands.is_frame_pointer, State.State, Words.compares, declared.frame.Frame.Frame}
