@@ -2,6 +2,8 @@
 
     syntax       expressions as clusters take them, as trees over their text
     texts        text literals, and patterns of literal characters
+    forms        what forms are by their trees
+    report       changes, what is left, and variables that are added
     rewriter     an expression's rewritings
     document     a policy's document
     rows         the rows of docs/CLUSTERS.md by which changes are told

@@ -5,7 +5,8 @@ from typing import Any, Iterator, Optional
 
 from ..asking.policies import API_VERSION, KIND
 from . import rows
-from .rewriter import Change, Left, Rewriter, Variables
+from .report import Change, Left, Variables
+from .rewriter import Rewriter
 from .syntax import NotCel
 
 GROUP = API_VERSION.split("/", maxsplit=1)[0]

@@ -6,10 +6,12 @@ from by `.?f` is an object or null, and a field of Kubernetes' own that is a map
 """
 
 import re
-from dataclasses import dataclass, field
-from typing import Callable, Iterator, Optional
+from dataclasses import dataclass
+from typing import Callable, Optional
 
 from . import rows
+from .forms import free, has_optional, is_constant_list, is_list, is_size, key_of, kind_of, presence, selected
+from .report import Change, Left, Report, Variables
 from .syntax import AND, MEMBER, OR, RELATION, SUM, TERNARY, TEXTS, Node, Source, level_of, names_in, read
 from .texts import parts_of, spelled, test_of, value_of
 
@@ -19,47 +21,8 @@ RELATIONS = ("<", "<=", ">", ">=", "==", "!=")
 # what celbpf has; the rest is told as left
 CALLS = ("size", "string", "dyn", "has")
 METHODS = ("size", "startsWith", "endsWith", "contains", "all", "exists", "exists_one", "filter", "map")
-IDENTIFIER = re.compile(r"[_a-zA-Z][_a-zA-Z0-9]*$")
-NOT_SELECTED = ("in", "true", "false", "null")
-RESERVED = set(
-    "as break const continue else for function if import let loop package namespace return var void while".split()
-)
-# fields of Kubernetes' own objects that are maps, and lists
-MAP_FIELDS = set(
-    "labels annotations matchLabels nodeSelector data binaryData stringData limits requests capacity allocatable hard"
-    .split()
-)
-LIST_FIELDS = set(
-    "containers initContainers ephemeralContainers volumes volumeMounts env envFrom ports args command tolerations"
-    " imagePullSecrets finalizers ownerReferences subjects groups topologySpreadConstraints sysctls hostAliases".split()
-)
 # the longest expression that is written out at each use of a name that is bound to it
 SHORT = 60
-
-
-@dataclass
-class Change:
-    """A rewriting: the row of docs/CLUSTERS.md, what stood there, and what stands there now."""
-
-    row: str
-    before: str
-    after: str
-
-
-@dataclass
-class Left:
-    """A form that has no rewriting, or none that keeps its meaning, with its row."""
-
-    row: str
-    text: str
-
-
-@dataclass
-class Report:
-    """What was done in an expression or a policy."""
-
-    changes: list = field(default_factory=list)
-    left: list = field(default_factory=list)
 
 
 @dataclass
@@ -68,26 +31,6 @@ class Found:
 
     conditions: list
     value: str
-
-
-class Variables:
-    """The names of a policy's variables, and those that expressions have added before the one at hand."""
-
-    def __init__(self, taken: set):
-        self.taken = set(taken)
-        self.added: list = []
-        self.known: dict = {}
-
-    def add(self, name: str, expression: str) -> str:
-        """The name of a variable of this expression, which is added if there is none yet."""
-        if expression in self.known:
-            return self.known[expression]
-        base = name if name not in RESERVED and name not in (*NOT_SELECTED,) else f"{name}_"
-        chosen = next(one for one in (base, *(f"{base}{number}" for number in range(2, 200))) if one not in self.taken)
-        self.taken.add(chosen)
-        self.known[expression] = chosen
-        self.added.append({"name": chosen, "expression": expression})
-        return chosen
 
 
 class Rewriter:
@@ -340,14 +283,13 @@ class Rewriter:
 
     def listed(self, node: Node, scope: frozenset) -> str:
         """A part that has to be a list: what is none is the error, as it is there."""
-        if is_constant_list(node):
-            return self.text(node, MEMBER, scope)
+        if is_list(node):
+            return self.text(node, SUM, scope)
         return f"{self.text(node, SUM, scope)} + []"
 
     def ranged(self, node: Node, scope: frozenset) -> str:
         """The same as the range of a macro."""
-        text = self.listed(node, scope)
-        return f"({text})" if text.endswith(" + []") else text
+        return self.text(node, MEMBER, scope) if is_list(node) else f"({self.listed(node, scope)})"
 
     def item(self, *nodes: Node) -> str:
         """An iteration name that none of these uses."""
@@ -398,8 +340,7 @@ class Rewriter:
             return False
         text = self.text(given, TERNARY, scope)
         value = f"({text})" if self.source.at_least(given, MEMBER) != text else text
-        is_free = self.variables is not None and not names_in(given) & scope
-        if is_free and len(text) > SHORT:
+        if self.variables is not None and not names_in(given) & scope and len(text) > SHORT:
             value = f"{VARIABLES}.{self.variables.add(name.name, text)}"
         if not self.substitute(body, name.name, value, set() if value.startswith(VARIABLES) else names_in(given)):
             self.leave(node, rows.BIND)
@@ -415,12 +356,16 @@ class Rewriter:
         if test is None:
             self.leave(node, rows.MATCHES)
             return False
-        word, texts = test
-        if word != "is":
-            return self.put(node, rows.MATCHES, f"{self.text(given, MEMBER, scope)}.{word}({spelled(texts[0])})", MEMBER)
-        value = f"{self.text(given, SUM, scope)} + ''"
-        wanted = f"== {spelled(texts[0])}" if len(texts) == 1 else f"in [{', '.join(map(spelled, texts))}]"
-        return self.put(node, rows.MATCHES, f"{value} {wanted}", RELATION)
+        if test.word == "is":
+            value = f"{self.text(given, SUM, scope)} + ''"
+            texts = ", ".join(map(spelled, test.texts))
+            return self.put(node, rows.MATCHES, f"{value} {f'== {texts}' if len(test.texts) == 1 else f'in [{texts}]'}", RELATION)
+        value = self.text(given, MEMBER, scope)
+        asked = " || ".join(f"{value}.{test.word}({spelled(text)})" for text in test.texts)
+        if not test.on_one_line:
+            return self.put(node, rows.MATCHES, asked, MEMBER if len(test.texts) == 1 else OR)
+        asked = f"({asked})" if len(test.texts) > 1 else asked
+        return self.put(node, rows.MATCHES, f"{asked} && !{value}.contains('\\n')", AND)
 
     # macros
 
@@ -478,76 +423,3 @@ SPACES = {
     "sets.equivalent/2": Rewriter.of_equivalent, "math.greatest/2": Rewriter.of_greatest,
     "math.least/2": Rewriter.of_greatest, "math.abs/1": Rewriter.of_abs, "cel.bind/3": Rewriter.of_bind,
 }
-
-
-def free(node: Node, name: str, declared: frozenset) -> Iterator[tuple]:
-    """The free uses of a name in a node, each with the names that are declared around it."""
-    if node.kind == "name" and node.name == name and node.word != "." and node.text is None:
-        yield node, declared
-    names = {one.name for one in node.names}
-    is_bind = node.kind == "method" and node.name == "bind" and len(node.parts) == 4 and node.parts[0].name == "cel"
-    for place, part in enumerate(node.parts):
-        if is_bind and place < 2:
-            continue
-        inner = names if node.names and place else {node.parts[1].name} if is_bind and place == 3 else set()
-        if name not in inner:
-            yield from free(part, name, declared | inner)
-
-
-def has_optional(node: Node) -> bool:
-    """Whether a `?` is in a chain of selections, or in what a method is called on."""
-    if node.kind in ("field", "index"):
-        return node.optional[0] or has_optional(node.parts[0])
-    return node.kind in ("brackets", "method") and has_optional(node.parts[0])
-
-
-def key_of(step: Node) -> object:
-    """The key that a selection asks for: a text, or an int that counts from 0; `None` if it is not spelled."""
-    if step.kind == "field":
-        return step.name
-    key = step.parts[1]
-    if key.kind == "literal" and key.word in TEXTS and "b" not in parts_of(key.name)[0]:
-        return value_of(key.name)
-    return int(key.name) if key.kind == "literal" and key.word == "int" and key.name.isdigit() else None
-
-
-def presence(value: str, key: object) -> list:
-    """The conditions under which a value has a key; null has none."""
-    not_null = [] if value == "request" else [f"{value} != null"]
-    if isinstance(key, int):
-        return [*not_null, f"size({value}) > {key}"]
-    if IDENTIFIER.match(key) and key not in NOT_SELECTED:
-        return [*not_null, f"has({value}.{key})"]
-    return [*not_null, f"{spelled(key)} in {value}"]
-
-
-def selected(value: str, key: object, step: Node) -> str:
-    """What a value has under a key."""
-    if isinstance(key, int):
-        return f"{value}[{key}]"
-    is_field = step.kind == "field" and step.word != "quoted"
-    return f"{value}.{key}" if is_field else f"{value}[{spelled(key)}]"
-
-
-def is_constant_list(node: Node) -> bool:
-    """Whether a node is a list of literals."""
-    return node.kind == "list" and not any(node.optional) and all(part.kind == "literal" for part in node.parts)
-
-
-def is_size(node: Node) -> bool:
-    """Whether a node is an int by its form."""
-    return node.kind in ("call", "method") and node.name == "size"
-
-
-def kind_of(node: Node) -> Optional[str]:
-    """Whether a range is a map or a list, as its form or a schema of Kubernetes says."""
-    if node.kind == "brackets":
-        return kind_of(node.parts[0])
-    if node.kind in ("map", "list"):
-        return node.kind
-    if node.kind == "ternary":
-        return kind_of(node.parts[1]) or kind_of(node.parts[2])
-    if node.kind == "method" and node.name == "orValue" and len(node.parts) == 2:
-        return kind_of(node.parts[1])
-    key = key_of(node) if node.kind in ("field", "index") else None
-    return "map" if key in MAP_FIELDS else "list" if key in LIST_FIELDS else None

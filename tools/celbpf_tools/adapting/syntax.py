@@ -217,7 +217,8 @@ class Reader:
     def series(self, opening: str, part) -> tuple:
         """Parts between brackets, and which of them have a `?` before them."""
         closing = CLOSING[self.take(opening)]
-        found, optional = [], []
+        found: list = []
+        optional: list = []
         while not self.is_next(closing):
             if found:
                 self.take(",")

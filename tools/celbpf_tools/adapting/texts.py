@@ -1,6 +1,7 @@
 """Text literals and patterns: what they say, and how celbpf spells it."""
 
 import re
+from dataclasses import dataclass
 from typing import Optional
 
 ESCAPES = {"a": "\a", "b": "\b", "f": "\f", "n": "\n", "r": "\r", "t": "\t", "v": "\v",
@@ -8,15 +9,18 @@ ESCAPES = {"a": "\a", "b": "\b", "f": "\f", "n": "\n", "r": "\r", "t": "\t", "v"
 NUMBERED = re.compile(r"[xX]([0-9a-fA-F]{2})|u([0-9a-fA-F]{4})|U([0-9a-fA-F]{8})|([0-3][0-7]{2})")
 SPELLED = {"\n": "\\n", "\r": "\\r", "\t": "\\t", "\\": "\\\\", "'": "\\'"}
 LITERAL = r"(?:[^.^$*+?()\[\]{}|\\]|\\[^0-9A-Za-z])"
-PATTERN = re.compile(rf"(\^?)({LITERAL}*)(\$?)")
-CHOICE = re.compile(rf"\^\((?:\?:)?({LITERAL}*(?:\|{LITERAL}*)*)\)\$")
+PATTERN = re.compile(
+    rf"(?P<first>\^?)(?P<before>(?:\.\*)?)(?P<head>{LITERAL}*?)"
+    rf"(?:\((?:\?:)?(?P<choice>{LITERAL}*(?:\|{LITERAL}*)*)\)(?P<tail>{LITERAL}*?))?(?P<after>(?:\.\*)?)(?P<last>\$?)"
+)
 
 
 def parts_of(token: str) -> tuple:
     """The prefix, the quotes and the content of a text's token."""
-    found = re.match(r"([a-zA-Z]*)('''|\"\"\"|'|\")", token)
-    prefix, quotes = found[1].lower(), found[2]
-    return prefix, quotes, token[len(found[0]) : -len(quotes)]
+    prefix = token[: min(token.index(mark) for mark in "'\"" if mark in token)]
+    rest = token[len(prefix) :]
+    quotes = rest[:3] if rest[:3] in ("'''", '"""') else rest[:1]
+    return prefix.lower(), quotes, rest[len(quotes) : -len(quotes)]
 
 
 def value_of(token: str) -> Optional[str]:
@@ -53,16 +57,32 @@ def unescaped(pattern: str) -> str:
     return re.sub(r"\\(.)", r"\1", pattern, flags=re.DOTALL)
 
 
-def test_of(pattern: str) -> Optional[tuple]:
-    """What a pattern asks of a text, if it asks for literal characters: a word and the texts.
+@dataclass
+class Test:
+    """What a pattern of literal characters asks of a text.
 
-    The word is `is` (one of the texts), `startsWith`, `endsWith` or `contains`.
+    `word` is `is`, `startsWith`, `endsWith` or `contains` (one of the texts); a text of several lines may fit only if
+    not `on_one_line`, since `.` stands for no line feed.
     """
-    choice = CHOICE.fullmatch(pattern)
-    if choice:
-        return "is", [unescaped(one) for one in re.split(r"(?<!\\)\|", choice[1])]
-    plain = PATTERN.fullmatch(pattern)
-    if not plain:
+
+    word: str
+    texts: list
+    on_one_line: bool = False
+
+
+def test_of(pattern: str) -> Optional[Test]:
+    """What a pattern asks, if it is literal characters, one choice of them, `^`, `$`, and `.*` at its ends."""
+    found = PATTERN.fullmatch(pattern)
+    if not found:
         return None
-    word = {("^", "$"): "is", ("^", ""): "startsWith", ("", "$"): "endsWith", ("", ""): "contains"}
-    return word[plain[1], plain[3]], [unescaped(plain[2])]
+    first, last, before, after = (bool(found[name]) for name in ("first", "last", "before", "after"))
+    if first and before and not last or last and after and not first:
+        # the rest of one line is asked for, wherever that is
+        return None
+    choices = re.split(r"(?<!\\)\|", found["choice"]) if found["choice"] is not None else [""]
+    texts = [unescaped(f"{found['head']}{one}{found['tail'] or ''}") for one in choices]
+    on_one_line = first and last and (before or after)
+    if on_one_line and any("\n" in text for text in texts):
+        return None
+    word = {(True, True): "is", (True, False): "startsWith", (False, True): "endsWith", (False, False): "contains"}
+    return Test(word[first and not before, last and not after], texts, on_one_line)

@@ -56,7 +56,8 @@ def located_gatekeeper(given: Optional[str], celbpf: Optional[str]) -> Optional[
         return usable(given)
     celbpf = celbpf or os.environ.get(GIVEN)
     if celbpf:
-        beside = Path(celbpf).resolve().parent / "gatekeeper"
+        program = Path(celbpf).resolve()
+        beside = built("gatekeeper") if program == built("celbpf").resolve() else program.parent / "gatekeeper"
         return beside if os.access(beside, os.X_OK) else None
     if not is_checkout():
         return installed_one("gatekeeper")
@@ -162,8 +163,15 @@ class Program:
 
     def value(self, policy):
         """What the first validation of a policy with one validation and no message came to, as `v` shows it."""
+        return self.shown(*self.asked(policy))
+
+    def asked(self, policy):
+        """The image of a policy with one validation and no message, and the slot behind its expression."""
         image = self.compiled(policy)
-        slot = behind_expression(self.run("list", image).stdout)
+        return image, behind_expression(self.run("list", image).stdout)
+
+    def shown(self, image, slot):
+        """What the expression before a slot came to, over the documents."""
         with self.session(image) as session:
             session.ask(f"b {slot}")
             move = session.go()

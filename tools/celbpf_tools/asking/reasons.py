@@ -213,12 +213,15 @@ class Reasons:
         for depth, (range_text, name, place) in reversed(list(enumerate(frames))):
             used = re.compile(rf"(?<![\w.'\"]){re.escape(name)}(?![\w('\"])")
             if is_literal(cut(range_text)):
-                value = self.asked.value(name, frames[: depth + 1])
-                text = used.sub(lambda _, value=value: value, text)
+                text = replaced(used, self.asked.value(name, frames[: depth + 1]), text)
             elif PATH.match(range_text.strip()) and self.asked.value(range_text, frames[:depth]).startswith("["):
-                item = f"{range_text.strip()}[{place}]"
-                text = used.sub(lambda _, item=item: item, text)
+                text = replaced(used, f"{range_text.strip()}[{place}]", text)
         return text
+
+
+def replaced(used: re.Pattern, by: str, text: str) -> str:
+    """A text with another one for each match, as it stands."""
+    return used.sub(lambda _: by, text)
 
 
 def cut_whole(text: str) -> bool:

@@ -14,7 +14,7 @@ import json
 import sys
 
 from ..adapting.document import Adapting, NoPolicy, policy_among
-from ..adapting.rewriter import Left
+from ..adapting.report import Left
 from ..asking.texts import escaped
 from ..documents import Unreadable, all_in
 from ..entry import Stop, usage_of

@@ -15,7 +15,7 @@ from pathlib import Path
 
 from ..asking.program import located, located_gatekeeper, usable
 from ..entry import usage_of
-from ..home import ROOT
+from ..home import ROOT, built
 from ..packaging.archives import arch_of, deb, tar, version_of
 from ..packaging.tree import plant
 
@@ -34,7 +34,7 @@ def main() -> int:
     if given.programs:
         programs = {name: usable(str(given.programs / name)) for name in ("celbpf", "gatekeeper")}
     else:
-        programs = {"celbpf": located(None), "gatekeeper": located_gatekeeper(None, None)}
+        programs = {"celbpf": located(None), "gatekeeper": located_gatekeeper(None, None) or built("gatekeeper")}
     given.to.mkdir(parents=True, exist_ok=True)
     name = f"celbpf_{given.version}_{arch_of()}"
     with tempfile.TemporaryDirectory() as folder:

@@ -59,7 +59,7 @@ def main() -> int:
     path = located(given.program)
     pairs = [("--namespace", given.namespace), ("--params", given.params)]
     beside = [word for pair in pairs if pair[1] for word in pair]
-    counts = Counter()
+    counts: Counter = Counter()
     with tempfile.TemporaryDirectory() as folder:
         for file in files(given.places):
             outcome, message = answered(Program(path, folder, ["--review", file, *beside]), given.policy)

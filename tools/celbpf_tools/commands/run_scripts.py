@@ -18,7 +18,8 @@ import sys
 import tempfile
 from pathlib import Path
 
-from ..adapting.rewriter import Rewriter, Variables
+from ..adapting.report import Variables
+from ..adapting.rewriter import Rewriter
 from ..asking.policies import asking, whole
 from ..asking.program import Program, located
 from ..home import DATA, TOOLS
@@ -61,12 +62,15 @@ def pair(text, lines, program, folder):
         yield "" if is_there else f"{text}\nwanted: the variable {name}: {expression}\nfound:  {scope}"
     wanted = lines.pop(0).removeprefix("= ")
     yield "" if found == wanted else f"{text}\nwanted: {wanted}\nfound:  {found}"
+    asks = Program(program, folder)
+    image = asks.asked(asking(scope, found)) if lines and lines[0].startswith("? ") else ()
     while lines and lines[0].startswith("? "):
         given, end = json.JSONDecoder().raw_decode(lines[0], 2)
         value = lines.pop(0)[end + 1 :]
         review = Path(folder, "pair.json")
         review.write_text(json.dumps({**REVIEW, "request": {"uid": "u", "object": given}}))
-        said = Program(program, folder, ["--review", review]).value(asking(scope, found))
+        asks.documents = ["--review", str(review)]
+        said = asks.shown(*image)
         yield "" if said == value else f"{found}\nover {json.dumps(given)}\nwanted: {value}\nfound:  {said}"
 
 

@@ -79,21 +79,19 @@ def covered(files: list, program: Path, asked: Asked) -> Iterator[str]:
     policies: dict = {}
     for case in (case for file in files for case in file.cases):
         try:
-            words_of = list(asked.words(case))
+            words = asked.words(case)
             review = asked.write("covered.json", text_of_review(case.review, case.name, case.file.parent))
         except Unreadable:
             continue
-        if "--policy" not in words_of:
-            continue
-        at = words_of.index("--policy")
-        path = words_of[at + 1]
-        if path not in policies:
+        named = dict(zip(words[::2], words[1::2]))
+        path = named.get("--policy")
+        if path and path not in policies:
             policies[path] = coverage_of(case, path, program, asked)
-        if policies[path]:
-            beside = [word for pair in zip(words_of[::2], words_of[1::2]) if pair[0] in ("--namespace", "--params") for word in pair]
+        if path and policies[path]:
+            beside = [word for key in ("--namespace", "--params") if key in named for word in (key, named[key])]
             policies[path].add(["--review", review, *beside])
-    for coverage in filter(None, policies.values()):
-        yield from coverage.lines()
+    for coverage in policies.values():
+        yield from coverage.lines() if coverage else ()
 
 
 def policy_in(path: str) -> Optional[dict]:
@@ -111,7 +109,7 @@ def coverage_of(case: Case, path: str, program: Path, asked: Asked) -> Optional[
     if policy is None or asks.refusal(path):
         return None
     shown = case.beside["policy"]
-    return Coverage(str(case.file.parent / shown) if isinstance(shown, str) else case.file, policy, asks)
+    return Coverage(str(case.file.parent / shown if isinstance(shown, str) else case.file), policy, asks)
 
 
 def status_of(results: list) -> int:

@@ -41,49 +41,71 @@ def rows_of(lines: list) -> Iterator[str]:
         yield from (".TP", inline(first) or "\\&", inline("; ".join(filter(None, others))))
 
 
-def body(text: str) -> Iterator[str]:
-    """The text of a page without its first heading."""
-    lines, paragraph = text.split("\n"), []
+class Page:
+    """The lines of a page that are not read yet, and a paragraph that has begun."""
 
-    def ended() -> Iterator[str]:
-        if paragraph:
+    def __init__(self, text: str):
+        self.lines = text.split("\n")
+        self.paragraph: list = []
+
+    def ended(self) -> Iterator[str]:
+        """The paragraph that has begun, which ends here."""
+        if self.paragraph:
             yield ".PP"
-            yield inline(" ".join(paragraph))
-            paragraph.clear()
+            yield inline(" ".join(self.paragraph))
+            self.paragraph = []
 
-    while lines:
-        line = lines.pop(0)
-        if line.startswith("#"):
-            yield from ended()
-            if not line.startswith("# "):
-                yield f".SH {escaped(line.strip('# ').upper())}"
-        elif line.startswith(("    ", "```")) and not paragraph:
-            fence = line.startswith("```")
-            block = [] if fence else [line]
-            while lines and (not lines[0].startswith("```") if fence else lines[0].startswith("    ") or not lines[0]):
-                block.append(lines.pop(0))
-            if fence:
-                lines.pop(0)
-            shown = [one if fence else one[4:] for one in block]
-            yield from (".PP", ".RS 4", ".nf", *(escaped(one) for one in "\n".join(shown).strip("\n").split("\n")), ".fi", ".RE")
+    def while_next(self, first: str, *starts: str) -> list:
+        """A line and those after it that begin so."""
+        found = [first]
+        while self.lines and self.lines[0].startswith(starts):
+            found.append(self.lines.pop(0))
+        return found
+
+    def block(self, line: str) -> Iterator[str]:
+        """An indented or a fenced block."""
+        found = []
+        if line.startswith("```"):
+            while self.lines and not self.lines[0].startswith("```"):
+                found.append(self.lines.pop(0))
+            self.lines = self.lines[1:]
+        else:
+            found = [line[4:]]
+            while self.lines and (self.lines[0].startswith("    ") or not self.lines[0]):
+                found.append(self.lines.pop(0)[4:])
+        shown = "\n".join(found).strip("\n").split("\n")
+        yield from (".PP", ".RS 4", ".nf", *map(escaped, shown), ".fi", ".RE")
+
+    def line(self, line: str) -> Iterator[str]:
+        """What a line, and those that belong to it, become."""
+        if line.startswith(("    ", "```")) and not self.paragraph:
+            yield from self.block(line)
+        elif line.startswith(("#", "|", "- ")):
+            yield from self.ended()
+            yield from self.form(line)
+        elif line.strip():
+            self.paragraph.append(line.strip())
+        else:
+            yield from self.ended()
+
+    def form(self, line: str) -> Iterator[str]:
+        """A heading, a table or an item of a list."""
+        if line.startswith("## "):
+            yield f".SH {escaped(line.strip('# ').upper())}"
         elif line.startswith("|"):
-            yield from ended()
-            table = [line]
-            while lines and lines[0].startswith("|"):
-                table.append(lines.pop(0))
-            yield from rows_of(table)
+            yield from rows_of(self.while_next(line, "|"))
             yield ".PP"
         elif line.startswith("- "):
-            yield from ended()
-            item = [line[2:]]
-            while lines and lines[0].startswith("  ") and lines[0].strip():
-                item.append(lines.pop(0).strip())
-            yield from (".IP \\(bu 2", inline(" ".join(item)))
-        elif line.strip():
-            paragraph.append(line.strip())
-        else:
-            yield from ended()
-    yield from ended()
+            item = self.while_next(line[2:], "  ")
+            yield from (".IP \\(bu 2", inline(" ".join(part.strip() for part in item)))
+
+
+def body(text: str) -> Iterator[str]:
+    """The text of a page without its first heading."""
+    page = Page(text)
+    while page.lines:
+        yield from page.line(page.lines.pop(0))
+    yield from page.ended()
 
 
 def of_page(name: str, what: str, text: str, version: str) -> str:

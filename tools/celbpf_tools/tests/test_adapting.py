@@ -4,9 +4,10 @@ import re
 import unittest
 
 from ..adapting import rows
-from ..adapting.rewriter import Rewriter, Variables
+from ..adapting.report import Variables
+from ..adapting.rewriter import Rewriter
 from ..adapting.syntax import NotCel, Source, read
-from ..adapting.texts import spelled, test_of, value_of
+from ..adapting.texts import Test, spelled, test_of, value_of
 from ..home import ROOT, is_checkout
 
 FORMS = [
@@ -52,13 +53,21 @@ class Texts(unittest.TestCase):
         self.assertEqual(spelled("it's\n\\"), r"'it\'s\n\\'")
 
     def test_patterns(self) -> None:
-        for pattern, test in [
-            ("^a$", ("is", ["a"])), ("^a", ("startsWith", ["a"])), (r"\.a$", ("endsWith", [".a"])), ("a b", ("contains", ["a b"])),
-            ("", ("contains", [""])), ("^(a|b)$", ("is", ["a", "b"])), (r"^(?:a\|b|c)$", ("is", ["a|b", "c"])),
-            ("a|b", None), ("^(a|b)", None), ("a.b", None), (r"\d", None), ("a*", None), ("[a]", None), ("(?i)a", None), ("a^", None),
+        for pattern, word, texts, on_one_line in [
+            ("^a$", "is", ["a"], False), ("^a", "startsWith", ["a"], False), (r"\.a$", "endsWith", [".a"], False),
+            ("a b", "contains", ["a b"], False), ("", "contains", [""], False), ("^(a|b)$", "is", ["a", "b"], False),
+            (r"^(?:a\|b|c)$", "is", ["a|b", "c"], False), ("^(a|b)/", "startsWith", ["a/", "b/"], False),
+            ("^a.*", "startsWith", ["a"], False), ("^a.*$", "startsWith", ["a"], True), (".*a$", "endsWith", ["a"], False),
+            ("^.*a$", "endsWith", ["a"], True), ("^.*a.*$", "contains", ["a"], True), ("a.*", "contains", ["a"], False),
+            ("^x(|-y)$", "is", ["x", "x-y"], False),
         ]:
             with self.subTest(pattern):
-                self.assertEqual(test_of(pattern), test)
+                self.assertEqual(test_of(pattern), Test(word, texts, on_one_line))
+
+    def test_patterns_that_ask_for_more(self) -> None:
+        for pattern in ("a|b", "a.b", r"\d", "a*", "[a]", "(?i)a", "a^", "^.*a", "a.*$", "^a+$", "(a|b)(c|d)", "^a{2}$", r"\bA", "a?"):
+            with self.subTest(pattern):
+                self.assertIsNone(test_of(pattern))
 
 
 class Rows(unittest.TestCase):
