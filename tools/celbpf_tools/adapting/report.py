@@ -11,7 +11,7 @@ RESERVED = set(
 
 @dataclass
 class Change:
-    """A rewriting: the row of docs/CLUSTERS.md, what stood there, and what stands there now."""
+    """A rewriting: the row of docs/CLUSTERS.md, the text before, and the text after."""
 
     row: str
     before: str

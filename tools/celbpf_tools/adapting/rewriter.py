@@ -1,8 +1,8 @@
 """An expression rewritten into the forms that celbpf reads, with its meaning kept, or left as it is.
 
-What is kept is the meaning on a cluster, errors and absence too: where the form is an error there, so is what stands in
-its place. Two things are taken for granted, as the schemas of a cluster's objects grant them: what a field is selected
-from by `.?f` is an object or null, and a field of Kubernetes' own that is a map or a list in its schema is one.
+What is kept is the meaning on a cluster, errors and absence too: if the form is an error there, so is what replaces it.
+Two things are assumed, which the schemas of a cluster's objects grant: `.?f` selects from an object or null, and a field
+of Kubernetes' own that is a map or a list by its schema is one.
 """
 
 import re
@@ -50,11 +50,11 @@ class Rewriter:
     # what is written, and what is told
 
     def said(self, node: Node) -> str:
-        """What stands in the text in a node's place."""
+        """The source text of a node."""
         return self.source.text[node.begin : node.end]
 
     def put(self, node: Node, row: str, text: str, level: int) -> bool:
-        """Puts a text of this level in a node's place."""
+        """Replaces a node by a text of this level."""
         node.text, node.level = text, level
         self.report.changes.append(Change(row, self.said(node), text))
         return True
@@ -63,12 +63,12 @@ class Rewriter:
         self.report.left.append(Left(row, self.said(node)))
 
     def text(self, node: Node, least: int, scope: frozenset) -> str:
-        """A part, rewritten, as it stands where a form has to bind as tightly as this."""
+        """A part, rewritten, in brackets if it does not bind as tightly as this."""
         self.rewrite(node, scope)
         return self.source.at_least(node, least)
 
     def rewrite(self, node: Node, scope: frozenset) -> None:
-        """Rewrites a node where it stands; `scope` has the iteration names in force."""
+        """Rewrites a node; `scope` has the iteration names in force."""
         if node.text is not None:
             return
         handler: Callable = getattr(self, f"of_{node.kind}", lambda *_: False)
@@ -156,7 +156,8 @@ class Rewriter:
     def mapped(self, node: Node, scope: frozenset) -> Optional[list]:
         """`X.optMap(v, t)`: `t` with the value of X for `v`."""
         given = self.found(node.parts[0], scope)
-        if not given or len(given) != 1 or not self.substitute(node.parts[1], node.names[0].name, given[0].value):
+        used = names_in(node.parts[0])
+        if not given or len(given) != 1 or not self.substitute(node.parts[1], node.names[0].name, given[0].value, used):
             return None
         return [Found(given[0].conditions, self.text(node.parts[1], OR, scope))]
 
@@ -207,7 +208,7 @@ class Rewriter:
         return self.put(node, rows.OPTIONAL, there if node.word == "!=" else f"!({there})", AND if node.word == "!=" else MEMBER)
 
     def of_list(self, node: Node, scope: frozenset) -> bool:
-        """A list of which some items stand only if they are there."""
+        """A list with items that are in it only if they are there."""
         if not any(node.optional):
             return False
         pieces: list = []
@@ -395,7 +396,7 @@ class Rewriter:
             return self.one_name(node, row, word, value, scope)
         self.rewrite(node.parts[0], scope)
         item = f"{self.source.at_least(node.parts[0], MEMBER)}[{key.text or key.name}]"
-        used = names_in(node.parts[0])
+        used = names_in(node.parts[0]) | {key.text or key.name}
         if not all(self.substitute(part, value.name, item, used) for part in node.parts[1:]):
             self.leave(node, row)
             return True
@@ -409,7 +410,7 @@ class Rewriter:
         return self.put(node, row, text, MEMBER)
 
     def substitute(self, node: Node, name: str, text: str, used: frozenset | set = frozenset()) -> bool:
-        """Puts a text in the place of each free use of a name; not if a macro would catch a name that it uses."""
+        """Replaces each free use of a name by a text; not if a macro would catch a name that the text uses."""
         uses = list(free(node, name, frozenset()))
         if any(declared & used for _, declared in uses):
             return False

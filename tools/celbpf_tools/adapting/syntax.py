@@ -1,6 +1,6 @@
 """CEL expressions as clusters take them, as trees over their text: wider than what celbpf reads.
 
-A node knows its place in the text. Where nothing is rewritten the text stays as it was written.
+A node knows its place in the text. What is not rewritten keeps its source text.
 """
 
 import re
@@ -20,6 +20,7 @@ TOKEN = re.compile(
     r"|(?P<mark>\|\||&&|<=|>=|==|!=|[?:<>+\-*/%!.,()\[\]{}])",
     re.DOTALL,
 )
+WORD = re.compile(r"[_a-zA-Z][_a-zA-Z0-9]*")
 TEXTS = ("text", "raw", "short")
 CONSTANTS = ("true", "false", "null")
 LEVELS = [("||",), ("&&",), ("<", "<=", ">", ">=", "==", "!=", "in"), ("+", "-"), ("*", "/", "%")]
@@ -49,7 +50,7 @@ class Node:
     `kind` is literal, name, field, index, method, call, not, minus, binary, ternary, list, map, struct or brackets. The
     parts of a method begin with its target. `word` is the operator, the literal's token, or the kind of its token;
     `optional` has which selection, index or item has a `?` before it. A macro's names are no parts but in `names`.
-    `text` is what is written in the node's place, with `level` as its form binds.
+    `text` replaces the node, if it is not `None`, and `level` says how tightly that binds.
     """
 
     kind: str
@@ -240,7 +241,7 @@ def read(text: str) -> Node:
 
 
 def wanted(node: Node, place: int) -> int:
-    """How tightly a part has to bind where it stands."""
+    """How tightly a part of a node has to bind."""
     if node.kind == "ternary":
         return TERNARY if place == 2 else OR
     if node.kind == "binary":
@@ -252,7 +253,7 @@ def wanted(node: Node, place: int) -> int:
 
 
 def fitted(text: str, level: int, least: int) -> str:
-    """A text in brackets where its form does not bind as tightly as it has to."""
+    """A text, in brackets if its form does not bind as tightly as it has to."""
     return text if level >= least else f"({text})"
 
 
@@ -263,7 +264,7 @@ class Source:
         self.text = text
 
     def written(self, node: Node) -> str:
-        """What is written in a node's place: as in the text, but for the parts that are rewritten."""
+        """The text of a node: the source, except for the parts that are rewritten."""
         if node.text is not None:
             return node.text
         found, at = [], node.begin
@@ -276,7 +277,7 @@ class Source:
         return "".join(found) + self.text[at : node.end]
 
     def at_least(self, node: Node, least: int) -> str:
-        """What is written in a node's place, in brackets where it stands in a tighter form than in the text."""
+        """The text of a node, in brackets if it does not bind as tightly as this."""
         level = node.level if node.text is not None else level_of(node)
         return fitted(self.written(node), level, least)
 
@@ -291,7 +292,8 @@ def level_of(node: Node) -> int:
 
 
 def names_in(node: Node) -> set:
-    """The names that a node uses, whether declared in it or not."""
+    """The names that a node uses, whether declared in it or not, and those of the text that replaces it."""
     found = {node.name} if node.kind == "name" else set()
+    found |= set(WORD.findall(node.text or ""))
     found |= {one.name for one in node.names}
     return found.union(*map(names_in, node.parts))

@@ -62,7 +62,7 @@ class Test:
     """What a pattern of literal characters asks of a text.
 
     `word` is `is`, `startsWith`, `endsWith` or `contains` (one of the texts); a text of several lines may fit only if
-    not `on_one_line`, since `.` stands for no line feed.
+    not `on_one_line`, since `.` does not match a line feed.
     """
 
     word: str

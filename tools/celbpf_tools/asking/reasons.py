@@ -1,7 +1,7 @@
 """Why an expression is false, as the program answers for its pieces: a tree of values, and what to change.
 
-Lines of the tree are `PIECE is VALUE`; those of the parts of a piece stand further in. Of a macro the item is shown
-that decides. Pieces that have no say in the outcome stand alone, without their parts.
+Lines of the tree are `PIECE is VALUE`; the parts of a piece are indented below it. Of a macro the deciding item is
+shown. Pieces that do not affect the outcome have one line, without their parts.
 """
 
 import re
@@ -208,7 +208,7 @@ class Reasons:
         return self.text(piece) in ranges and is_literal(cut(ranges[self.text(piece)]))
 
     def place(self, piece: Piece, frames: list) -> str:
-        """A piece with items in the place of iteration names, as far as these are paths or spelled in the policy."""
+        """A piece with items instead of iteration names, if these are paths or literals of the policy."""
         text = self.text(piece)
         for depth, (range_text, name, place) in reversed(list(enumerate(frames))):
             used = re.compile(rf"(?<![\w.'\"]){re.escape(name)}(?![\w('\"])")
@@ -220,7 +220,7 @@ class Reasons:
 
 
 def replaced(used: re.Pattern, by: str, text: str) -> str:
-    """A text with another one for each match, as it stands."""
+    """A text in which each match is replaced."""
     return used.sub(lambda _: by, text)
 
 

@@ -36,7 +36,7 @@ def say(line: str) -> None:
 
 
 def handed(words: list) -> tuple:
-    """The words with names in the place of files, and the words of rt that hand these over."""
+    """The words with names instead of files, and the words of rt that hand these over."""
     found, given = [], []
     for place, word in enumerate(words):
         if place and word != STDIN and Path(word).is_file() and not word.startswith("-"):

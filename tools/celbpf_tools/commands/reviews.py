@@ -2,7 +2,7 @@
 
 usage: tools/reviews POLICY FOLDER|FILE.. [--namespace F] [--params F] [--program PROGRAM]
 
-Of a folder those files are taken, in it and below, whose names end in `.review.json`, in their order. A line has the file, `allowed`,
+In a folder it takes the files whose names end in `.review.json`, also in subfolders, in their order. A line has the file, `allowed`,
 `denied` or `not decided`, and the message or the refusal; the last line counts them. Status 0 says that all are
 allowed, 1 that one is denied, 3 that one is not decided, whatever the others are, 2 that the words name no review.
 """

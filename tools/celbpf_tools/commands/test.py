@@ -2,14 +2,14 @@
 
 usage: tools/test [--junit F] [--coverage] [--tap] [--program PROGRAM] [--gatekeeper PROGRAM] FOLDER|FILE..
 
-Of a folder those files are taken, in it and below, that are called tests.yaml, tests.yml or tests.json. A test file has
-the keys `policy` (by default policy.json or .yaml beside it), `namespace`, `params`, `steps`, and `cases`, a list of
+In a folder it takes the files tests.yaml, tests.yml and tests.json, also in subfolders. A test file has the keys
+`policy` (by default policy.json or .yaml beside it), `namespace`, `params`, `steps`, and `cases`, a list of
 
     name        how the case is told
     review      the file of a review; or object, oldObject (each inline or a file), operation and request (more keys)
     expect      allowed or denied
     message     the whole message of a denial; contains: a part of it
-    refusal     in the place of expect: the refusal that is wanted, as N2 or K6 validation 0 Y2
+    refusal     instead of expect: the refusal that is wanted, as N2 or K6 validation 0 Y2
 
 and of policy, namespace, params and steps what differs for it. On a terminal there is a line for each file and for each
 case that fails, else the Test Anything Protocol. Status 0 says that all passed, 1 that a case failed, 3 that a file

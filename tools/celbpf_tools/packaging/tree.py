@@ -1,4 +1,4 @@
-"""The files of a package, in a folder that stands for the root or for a prefix."""
+"""The files of a package, in a folder that becomes the root or a prefix."""
 
 import gzip
 import importlib

@@ -59,14 +59,14 @@ def told(answer: Answer) -> str:
 
 
 class Asked:
-    """The files that cases name, as the programs read them: YAML and what stands inline become files of JSON."""
+    """The files that cases name, as the programs read them: YAML and inline documents become files of JSON."""
 
     def __init__(self, folder: Path):
         self.folder = folder
         self.made: dict = {}
 
     def file(self, value: Any, at: Path) -> str:
-        """The file of a document: a name beside the test file, or what stands inline."""
+        """The file of a document: a name beside the test file, or an inline document."""
         if isinstance(value, str):
             path = at / value
             if not path.is_file():

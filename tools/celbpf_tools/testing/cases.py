@@ -23,7 +23,7 @@ class Broken(Exception):
 class Case:
     """A case: what is asked, and what is wanted.
 
-    `review` is a file or what stands inline; `beside` has the documents (a path or a value) and the steps.
+    `review` is a file or an inline document; `beside` has the documents (a path or a value) and the steps.
     """
 
     name: str
@@ -72,7 +72,7 @@ def read(path: Path) -> TestFile:
 
 
 def case_of(path: Path, place: int, given: Any, shared: dict) -> Case:
-    """The case that stands at this place."""
+    """The case at this place in the list."""
     where = f"case {place}"
     if not isinstance(given, dict):
         raise Broken(f"{where} is not an object")
