@@ -3,7 +3,7 @@
 import json
 import re
 from pathlib import Path
-from typing import Any, Optional
+from typing import Any, Optional, Union
 
 try:
     import yaml
@@ -26,7 +26,7 @@ def place_of(text: str, at: int) -> str:
     return f"line {text.count(chr(10), 0, at) + 1} column {at - text.rfind(chr(10), 0, at)}"
 
 
-def text_of(path: Path) -> str:
+def text_of(path: Union[str, Path]) -> str:
     """The text of a file."""
     try:
         return Path(path).read_text(encoding="utf-8-sig")

@@ -5,7 +5,7 @@ A node knows its place in the text. What is not rewritten keeps its source text.
 
 import re
 from dataclasses import dataclass, field
-from typing import Iterator, Optional
+from typing import Any, Iterator, Optional
 
 TOKEN = re.compile(
     r"(?P<gap>(?:[ \t\n\f\r]|//[^\n]*)+)"
@@ -112,7 +112,7 @@ class Reader:
             return True
         return False
 
-    def made(self, kind: str, begin: int, parts: list, **more) -> Node:
+    def made(self, kind: str, begin: int, parts: list, **more: Any) -> Node:
         return Node(kind, begin, self.end(), parts, **more)
 
     def expression(self) -> Node:
@@ -215,7 +215,7 @@ class Reader:
         self.take(":")
         return [key, self.expression()]
 
-    def series(self, opening: str, part) -> tuple:
+    def series(self, opening: str, part: Any) -> tuple:
         """Parts between brackets, and which of them have a `?` before them."""
         closing = CLOSING[self.take(opening)]
         found: list = []

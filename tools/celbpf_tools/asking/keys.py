@@ -1,5 +1,7 @@
 """The key of a policy's document that is refused, as the program answers for each key alone."""
 
+from typing import Any, Optional
+
 from .policies import whole
 
 TRUE = {"expression": "true"}
@@ -14,15 +16,15 @@ LEAST = {
 class Keys:
     """The program, and the number of the refusal that is looked for."""
 
-    def __init__(self, program, number):
+    def __init__(self, program: Any, number: str):
         self.program = program
         self.number = number
 
-    def refuses(self, spec, **beside):
+    def refuses(self, spec: dict, **beside: Any) -> bool:
         """Whether a policy with this specification and these other keys is refused so."""
         return self.program.refusal({**whole(spec), **beside}).split()[:1] == [self.number]
 
-    def of_policy(self, policy):
+    def of_policy(self, policy: dict) -> Optional[tuple]:
         """The path of the first key that is refused, and what it has; `None` where it is none alone."""
         for key, value in policy.items():
             if key not in ("apiVersion", "kind", "spec") and self.refuses({"validations": [TRUE]}, **{key: value}):
@@ -35,11 +37,11 @@ class Keys:
                 return self.of_list(key, value) if key in LEAST and isinstance(value, list) else (f"spec.{key}", value)
         return None if "validations" in spec else ("spec", "validations is missing")
 
-    def in_list(self, key, items):
+    def in_list(self, key: str, items: list) -> bool:
         """Whether a list of these items is refused."""
         return self.refuses({"validations": [TRUE], key: items})
 
-    def of_list(self, key, items):
+    def of_list(self, key: str, items: list) -> tuple:
         """The first item of a list that is refused, or the first with which the list is."""
         for place, item in enumerate(items):
             path = f"spec.{key}[{place}]"
@@ -49,7 +51,7 @@ class Keys:
                 return path, f"item {place + 1} of {len(items)}" if self.number == "K5" else item
         return f"spec.{key}", items
 
-    def of_item(self, key, path, item):
+    def of_item(self, key: Any, path: Any, item: Any) -> Any:
         """The first key of an item that is refused, or the one that is missing."""
         if not isinstance(item, dict):
             return path, item

@@ -1,5 +1,7 @@
 """The smallest piece of an expression that is refused, as the program answers for each piece."""
 
+from typing import Iterator
+
 from .policies import Part, as_variable, asking, bound
 from .program import Program
 from .splitter import NotCut, Piece, cut
@@ -30,7 +32,7 @@ class Refusals:
     def refuses(self, piece: Piece, frames: list) -> bool:
         return self.refuses_text(self.part.text[piece.begin : piece.end], frames)
 
-    def parts(self, piece: Piece, frames: list):
+    def parts(self, piece: Piece, frames: list) -> Iterator:
         """The parts of a piece with the frames in which they are; of a macro by a wrong name the range alone."""
         inner = [*frames, ("", piece.name, None)] if piece.kind == "macro" else frames
         for place, part in enumerate(piece.parts):

@@ -3,6 +3,7 @@
 import json
 import re
 from dataclasses import dataclass
+from typing import Any, Iterator
 
 API_VERSION = "admissionregistration.k8s.io/v1"
 KIND = "ValidatingAdmissionPolicy"
@@ -23,24 +24,24 @@ class Part:
     name: str = ""
 
     @property
-    def title(self):
+    def title(self) -> str:
         """How the part is called."""
         named = f" {self.name}" if self.name else ""
         return f"{'message of validation' if self.kind == 'message' else self.kind} {self.place}{named}"
 
 
-def read(path):
+def read(path: str) -> dict:
     """What a policy's document says."""
     with open(path, encoding="utf-8") as file:
         return json.load(file)
 
 
-def whole(spec):
+def whole(spec: dict) -> dict:
     """A policy with this specification."""
     return {"apiVersion": API_VERSION, "kind": KIND, "spec": spec}
 
 
-def parts(policy):
+def parts(policy: dict) -> Iterator:
     """The parts of a policy that is read, in the order in which they are compiled."""
     spec = policy["spec"]
     variables = spec.get("variables", [])
@@ -54,7 +55,7 @@ def parts(policy):
                 yield Part(kind, place, validation[key], variables)
 
 
-def needed(scope, text):
+def needed(scope: list, text: str) -> list:
     """The variables in scope that the text may name, with those that these may name."""
     words, found = set(WORD.findall(text)), []
     for variable in reversed(scope):
@@ -64,12 +65,12 @@ def needed(scope, text):
     return found
 
 
-def asking(scope, text):
+def asking(scope: list, text: str) -> dict:
     """A policy whose one validation is this expression, of whatever type."""
     return whole({"variables": needed(scope, text), "validations": [{"expression": f"dyn(\n{text}\n)"}]})
 
 
-def as_variable(scope, text):
+def as_variable(scope: Any, text: str) -> Any:
     """A policy whose last variable is this expression."""
     used = {variable["name"] for variable in scope}
     name = next(name for name in (f"piece{number}" for number in range(len(used) + 1)) if name not in used)
@@ -77,13 +78,13 @@ def as_variable(scope, text):
     return whole({"variables": variables, "validations": [{"expression": "true"}]})
 
 
-def alone(policy, place, **changed):
+def alone(policy: dict, place: int, **changed: Any) -> dict:
     """The policy with one of its validations alone, which is changed so, and without conditions."""
     spec = {key: value for key, value in policy["spec"].items() if key != "matchConditions"}
     return whole({**spec, "validations": [{**policy["spec"]["validations"][place], **changed}]})
 
 
-def bound(text, frames):
+def bound(text: str, frames: list) -> str:
     """The text with each iteration name standing for an item: `frames` are (range, name, place), outermost first.
 
     A place that is None stands for any item, of which only the type is asked.

@@ -6,7 +6,7 @@ import subprocess
 import sys
 import tempfile
 from pathlib import Path
-from typing import Optional
+from typing import Any, Optional
 
 from ..entry import Stop
 from ..home import EXAMPLES, ROOT, built, installed, is_checkout
@@ -30,7 +30,7 @@ MOST_SHOWN = 100_000
 class NotAnswered(Exception):
     """The program refused what it was asked; `line` is what it said, without `celbpf: `."""
 
-    def __init__(self, ran):
+    def __init__(self, ran: subprocess.CompletedProcess):
         self.line = ran.stderr.removeprefix("celbpf: ").rstrip("\n")
         self.status = ran.returncode
         super().__init__(self.line)
@@ -91,20 +91,20 @@ def build(name: str, words: list) -> None:
 class Program:
     """The program, and a folder for the files that it is run on; `documents` are words such as `--review F`."""
 
-    def __init__(self, path, folder, documents=()):
+    def __init__(self, path: Path, folder: str, documents: Any=()):
         self.path = path
         self.folder = folder
         self.documents = [str(word) for word in documents]
         self.kept = 0
 
-    def run(self, *words):
+    def run(self, *words: str) -> subprocess.CompletedProcess:
         """A run whose status was one that the program has."""
         ran = subprocess.run([self.path, *words], capture_output=True, text=True)
         if ran.returncode not in range(5):
             sys.exit(f"the program ended with status {ran.returncode} on {' '.join(map(str, words))}")
         return ran
 
-    def file(self, policy):
+    def file(self, policy: Any) -> str:
         """The file of a policy, which is a path or what the document says."""
         if not isinstance(policy, dict):
             return policy
@@ -113,39 +113,39 @@ class Program:
             json.dump(policy, file)
         return path
 
-    def refusal(self, policy):
+    def refusal(self, policy: Any) -> str:
         """What `compile` says to a policy, as `K6 validation 0 Y2`; empty where it is accepted."""
         ran = self.run("compile", self.file(policy), self.image())
         return NotAnswered(ran).line if ran.returncode else ""
 
-    def image(self):
+    def image(self) -> str:
         return os.path.join(self.folder, "policy.img")
 
-    def compiled(self, policy):
+    def compiled(self, policy: Any) -> str:
         """The image of a policy that is accepted."""
         ran = self.run("compile", self.file(policy), self.image())
         if ran.returncode:
             raise NotAnswered(ran)
         return self.image()
 
-    def response(self, policy):
+    def response(self, policy: Any) -> dict:
         """The response to the review under a policy."""
         ran = self.run("review", "--policy", self.file(policy), *self.documents)
         if ran.returncode > 1:
             raise NotAnswered(ran)
         return json.loads(ran.stdout)["response"]
 
-    def kept_image(self, policy):
+    def kept_image(self, policy: Any) -> Any:
         """The image of a policy that is accepted, in a file of its own."""
         self.kept += 1
         kept = os.path.join(self.folder, f"kept{self.kept}.img")
         os.replace(self.compiled(policy), kept)
         return kept
 
-    def session(self, image):
+    def session(self, image: str) -> "Session":
         return Session([self.path, "debug", image, *self.documents])
 
-    def shown_verdict(self, image, documents):
+    def shown_verdict(self, image: Any, documents: Any) -> Any:
         """The lines of `w` at the end of an image's program, over these documents."""
         self.documents = [str(word) for word in documents]
         ran = subprocess.run(
@@ -155,22 +155,22 @@ class Program:
             raise NotAnswered(ran)
         return [line for line in ran.stdout.splitlines() if not line.startswith("step ")]
 
-    def verdict(self, policy):
+    def verdict(self, policy: str) -> list:
         """The lines of `w` at the end of a policy's program."""
         with self.session(self.compiled(policy)) as session:
             session.go()
             return session.ask("w", until="q").splitlines()
 
-    def value(self, policy):
+    def value(self, policy: dict) -> str:
         """What the first validation of a policy with one validation and no message came to, as `v` shows it."""
         return self.shown(*self.asked(policy))
 
-    def asked(self, policy):
+    def asked(self, policy: dict) -> tuple:
         """The image of a policy with one validation and no message, and the slot behind its expression."""
         image = self.compiled(policy)
         return image, behind_expression(self.run("list", image).stdout)
 
-    def shown(self, image, slot):
+    def shown(self, image: str, slot: int) -> str:
         """What the expression before a slot came to, over the documents."""
         with self.session(image) as session:
             session.ask(f"b {slot}")
@@ -184,7 +184,7 @@ class Program:
             return shown.split(" ", 2)[2] if shown.startswith("value ") else "error"
 
 
-def behind_expression(listing):
+def behind_expression(listing: str) -> int:
     """The slot behind the expression of the one validation."""
     slot, found = 0, 0
     for line in listing.splitlines():
@@ -197,18 +197,18 @@ def behind_expression(listing):
 class Session:
     """A session of the debugger, asked line by line."""
 
-    def __init__(self, words):
+    def __init__(self, words: list):
         pipe = subprocess.PIPE
         self.process = subprocess.Popen(words, stdin=pipe, stdout=pipe, stderr=pipe, text=True, bufsize=1)
 
-    def __enter__(self):
+    def __enter__(self) -> "Session":
         return self
 
-    def __exit__(self, *_):
+    def __exit__(self, *_) -> None:
         self.process.kill()
         self.process.communicate()
 
-    def line(self):
+    def line(self) -> str:
         """The next line, or as much of it as is read."""
         said = self.process.stdout.readline(MOST_SHOWN)
         if not said:
@@ -216,7 +216,7 @@ class Session:
             raise NotAnswered(subprocess.CompletedProcess([], self.process.returncode, "", err))
         return said.rstrip("\n")
 
-    def ask(self, asked, until=""):
+    def ask(self, asked: str, until: str='') -> str:
         """The first line of the answer, or the whole of it where `until` ends the session."""
         try:
             self.process.stdin.write(f"{asked}\n{until}\n" if until else f"{asked}\n")
@@ -225,7 +225,7 @@ class Session:
             pass
         return self.process.stdout.read() if until else self.line()
 
-    def go(self):
+    def go(self) -> str:
         """Goes on to a breakpoint or to the end; the line of the move."""
         for _ in range(LINES):
             before = self.ask(f"c {LINE_STEPS}")

@@ -5,6 +5,7 @@ It goes by the grammar of docs/CEL.md and asks no meaning; a text that it cannot
 
 import re
 from dataclasses import dataclass, field
+from typing import Any, Callable, Iterator
 
 TOKEN = re.compile(
     r"(?P<gap>(?:[ \t\n\f\r]|//[^\n]*)+)"
@@ -49,30 +50,30 @@ class Reader:
         self.tokens = list(tokens(text))
         self.at = 0
 
-    def token(self, ahead=0):
+    def token(self, ahead: int=0) -> tuple:
         """The kind and the text of a token, or empty ones behind the last."""
         at = self.at + ahead
         return self.tokens[at][:2] if at < len(self.tokens) else ("", "")
 
-    def is_next(self, *words, ahead=0):
+    def is_next(self, *words: str, ahead: int=0) -> bool:
         kind, text = self.token(ahead)
         return kind in ("mark", "name") and text in words
 
-    def begin(self):
+    def begin(self) -> int:
         return self.tokens[self.at][2] if self.at < len(self.tokens) else self.end()
 
-    def end(self):
+    def end(self) -> int:
         """Where the last token that was taken ends."""
         return self.tokens[self.at - 1][3] if self.at else 0
 
-    def take(self, *words):
+    def take(self, *words: str) -> str:
         """Takes the next token, which has to be one of these."""
         if not self.is_next(*words):
             raise NotCut
         self.at += 1
         return self.tokens[self.at - 1][1]
 
-    def expression(self):
+    def expression(self) -> Piece:
         condition = self.level(0)
         if not self.is_next("?"):
             return condition
@@ -81,10 +82,10 @@ class Reader:
         self.take(":")
         return self.made(condition.begin, "ternary", [condition, chosen, self.expression()])
 
-    def made(self, begin, kind, parts, **named):
+    def made(self, begin: int, kind: str, parts: list, **named: str) -> Piece:
         return Piece(begin, self.end(), kind, parts, **named)
 
-    def level(self, number):
+    def level(self, number: int) -> Piece:
         if number == len(LEVELS):
             return self.unary()
         left = self.level(number + 1)
@@ -93,7 +94,7 @@ class Reader:
             left = self.made(left.begin, "other", [left, self.level(number + 1)], form=sign)
         return left
 
-    def unary(self):
+    def unary(self) -> Piece:
         begins, sign = [], next((mark for mark in "!-" if self.is_next(mark)), None)
         while sign and self.is_next(sign) and not self.is_signed_int():
             begins.append(self.begin())
@@ -103,10 +104,10 @@ class Reader:
             piece = self.made(begin, "other", [piece], form={"!": "not", "-": "minus"}[sign])
         return piece
 
-    def is_signed_int(self):
+    def is_signed_int(self) -> bool:
         return self.is_next("-") and self.token(1)[0] == "int"
 
-    def member(self):
+    def member(self) -> Piece:
         piece = self.primary()
         while self.is_next(".", "["):
             if self.take(".", "[") == "[":
@@ -117,7 +118,7 @@ class Reader:
                 piece = self.behind_dot(piece)
         return piece
 
-    def behind_dot(self, target):
+    def behind_dot(self, target: Piece) -> Piece:
         kind, name = self.token()
         if kind != "name":
             raise NotCut
@@ -129,7 +130,7 @@ class Reader:
             return self.made(target.begin, "leaf", [])
         return self.made(target.begin, "other", [target], form="field", name=name)
 
-    def method(self, target, word):
+    def method(self, target: Piece, word: str) -> Piece:
         names = self.token(1)
         given = self.series("(", self.expression)
         if word in MACROS and len(given) in MACROS[word] and names[0] == "name" and given[0].kind == "leaf":
@@ -138,7 +139,7 @@ class Reader:
             return self.made(target.begin, "other", [target])
         return self.made(target.begin, "other", [target, *given], form="method", name=word)
 
-    def primary(self):
+    def primary(self) -> Piece:
         begin, (kind, text) = self.begin(), self.token()
         if self.is_next("("):
             self.take("(")
@@ -157,23 +158,23 @@ class Reader:
             return self.call(begin, text)
         return self.made(begin, "leaf", [], word=text)
 
-    def map_literal(self, begin):
+    def map_literal(self, begin: Any) -> Any:
         entries = self.series("{", self.entry)
         return self.made(begin, "other", [part for entry in entries for part in entry], form="map")
 
-    def call(self, begin, function):
+    def call(self, begin: Any, function: Any) -> Any:
         given = self.series("(", self.expression)
         # what `has` selects from is evaluated, the selection is not
         if function == "has" and given:
             return self.made(begin, "other", given[0].parts, form="has", name=given[0].name)
         return self.made(begin, "other", given, form="call", name=function)
 
-    def entry(self):
+    def entry(self) -> Any:
         key = self.expression()
         self.take(":")
         return key, self.expression()
 
-    def series(self, opening, part):
+    def series(self, opening: str, part: Callable) -> list:
         """Parts between brackets, with commas between them and perhaps one behind them."""
         closing, found = CLOSING[self.take(opening)], []
         while not self.is_next(closing):
@@ -186,7 +187,7 @@ class Reader:
         return found
 
 
-def tokens(text):
+def tokens(text: str) -> Iterator:
     """The tokens of a text: kind, text, begin and end."""
     at = 0
     while at < len(text):
@@ -198,7 +199,7 @@ def tokens(text):
         at = found.end()
 
 
-def cut(text):
+def cut(text: str) -> Piece:
     """The piece that is the whole expression, with its parts."""
     reader = Reader(text)
     piece = reader.expression()

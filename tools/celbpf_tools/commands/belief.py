@@ -13,6 +13,7 @@ the types that the code has, are not counted.
 import re
 import sys
 from dataclasses import dataclass, field
+from typing import Any, Callable, Iterator, Optional
 
 from ..home import ROOT
 
@@ -50,7 +51,7 @@ class Definition:
 class Module:
     """A file: its definitions, and what the names mean that it imports or gives to the cases of its types."""
 
-    def __init__(self, path):
+    def __init__(self, path: Any):
         self.file = str(path.relative_to(CRATES))
         self.name = "Rattle." + self.file.removesuffix(".antt").replace("/", ".")
         self.definitions, self.names, self.modules, self.owners = {}, {}, {}, {}
@@ -62,25 +63,25 @@ class Module:
             if self.definitions:
                 self.add(line, *current)
 
-    def take(self, use):
+    def take(self, use: re.Match) -> None:
         """What a line `use` imports."""
         for name in use[2].split(", ") if use[2] else ():
             self.give(name.split(" as ")[-1], use[1], name.split(" as ")[0])
         if use[3] and not use[2]:
             self.modules[use[3]] = use[1]
 
-    def give(self, word, module, name):
+    def give(self, word: str, module: str, name: str) -> None:
         """What a word means, and of an operator also its sign alone."""
         for given in {word, word.strip("◌")}:
             self.names[given] = (module, name)
 
-    def add(self, line, definition, name):
+    def add(self, line: str, definition: Definition, name: str) -> None:
         case = CASE.match(line)
         if definition.has_cases and definition.lines and case:
             self.owners.setdefault(case[1], name)
         definition.lines.append(line)
 
-    def named(self, word):
+    def named(self, word: str) -> Optional[tuple]:
         """The module and the name of what a word, or the first word of a path, stands for, if that is a definition."""
         first, *rest = word.split(".")
         if rest and first in self.modules:
@@ -92,7 +93,7 @@ class Module:
         return (self.name, self.owners[first]) if first in self.owners else None
 
 
-def headed(lines, take):
+def headed(lines: list, take: Callable) -> Iterator:
     """The lines of definitions: place, line, whether a sentence stands above, and the match of a head, if it is one."""
     is_mutual = is_told = False
     for place, line in enumerate(lines, 1):
@@ -109,7 +110,7 @@ def headed(lines, take):
         is_told = line.lstrip().startswith("--")
 
 
-def rests_on(modules, file, name):
+def rests_on(modules: dict, file: str, name: str) -> set:
     """The definitions that one rests on, by their module and their name."""
     found, waiting = set(), [("Rattle." + file.removesuffix(".antt").replace("/", "."), name)]
     while waiting:
@@ -126,7 +127,7 @@ def rests_on(modules, file, name):
     return found
 
 
-def print_list(modules, found):
+def print_list(modules: dict, found: set) -> None:
     for at in sorted({at for at, _ in found}):
         of = {name: it for name, it in modules[at].definitions.items() if (at, name) in found}
         print(f"{modules[at].file}: {len(of)} definitions, {sum(len(it.lines) for it in of.values())} lines")
@@ -134,7 +135,7 @@ def print_list(modules, found):
             print(f"{it.place:5} {len(it.lines):3} {' ' if it.has_sentence else '*'} {name}")
 
 
-def total(modules, found):
+def total(modules: dict, found: set) -> str:
     of = [modules[at].definitions[name] for at, name in found]
     lines = [line for it in of for line in it.lines]
     return (
@@ -144,7 +145,7 @@ def total(modules, found):
     )
 
 
-def main():
+def main() -> None:
     words = sys.argv[1:]
     modules = {module.name: module for module in map(Module, sorted(CRATES.glob("*/specs/**/*.antt")))}
     if words and (len(words) != 2 or not rests_on(modules, *words)):

@@ -16,6 +16,7 @@ import re
 import statistics
 import subprocess
 import sys
+from typing import Any, Iterator
 
 from ..copies import CHECKED, copied, tried, with_driver
 from ..evaluator import grammar, macros, measures
@@ -35,13 +36,13 @@ ROOTS = {
 }
 
 
-def reviews():
+def reviews() -> Iterator:
     """The name of each review, as replicas/five."""
     for path in sorted(EXAMPLES.glob("*/*.review.json")):
         yield f"{path.parent.name}/{path.name.removesuffix('.review.json')}"
 
 
-def line(path):
+def line(path: Any) -> Any:
     """The document in a file on one line, which is empty where there is no such file."""
     if not os.path.exists(path):
         return "\n"
@@ -49,14 +50,14 @@ def line(path):
         return json.dumps(json.load(file), ensure_ascii=False) + "\n"
 
 
-def documents(name):
+def documents(name: str) -> Any:
     """The policy, the review, the namespace's object and the params of a review, a line each."""
     folder = f"{EXAMPLES}/{os.path.dirname(name)}"
     paths = ["policy.json", f"{os.path.basename(name)}.review.json", "namespace.json", "params.json"]
     return "".join(line(f"{folder}/{path}") for path in paths)
 
 
-def counted(copy):
+def counted(copy: Any) -> Any:
     """The steps and the charge of each review, by its name."""
     driver, cases = with_driver(copy, "costs", "costs", CRATES), f"{copy}/cases"
     os.mkdir(cases)
@@ -70,7 +71,7 @@ def counted(copy):
     return {case.replace(".", "/"): (int(steps), int(charge)) for case, steps, charge in rows}
 
 
-def defined():
+def defined() -> Any:
     """The work and what is spent of each review, by its name."""
     command = [f"{ROOT}/tools/seeded-policies", "--costs"]
     ran = subprocess.run(command, check=True, stdout=subprocess.PIPE, text=True)
@@ -78,13 +79,13 @@ def defined():
     return {name: (int(work), int(spent)) for name, work, spent in rows}
 
 
-def rows():
+def rows() -> Any:
     """The rows' expressions that name no variable."""
     texts = (json.loads(f'"{text}"') for text in ROW.findall(MEANINGS.read_text()))
     return [text for text in texts if "variables." not in text]
 
 
-def counted_rows(copy, texts):
+def counted_rows(copy: Any, texts: Any) -> Any:
     """The steps, the charge and the slots of each expression."""
     driver, cases = with_driver(copy, "costs", "rows", CRATES), f"{copy}/cases"
     os.mkdir(cases)
@@ -98,14 +99,14 @@ def counted_rows(copy, texts):
     return {int(number): tuple(map(int, words)) for number, *words in found}
 
 
-def defined_row(text):
+def defined_row(text: str) -> Any:
     """The visits, what is spent and the nodes of an expression."""
     tree, costs = macros.expand(grammar.read(text)), Costs()
     Meaning(ROOTS, {}, costs).of(tree)
     return costs.work, costs.spent, measures.nodes(tree)
 
 
-def print_rows():
+def print_rows() -> None:
     texts = rows()
     with copied("out") as copy:
         runs = counted_rows(copy, texts)
@@ -118,7 +119,7 @@ def print_rows():
     print(f"counted for {len(texts)} expressions")
 
 
-def main():
+def main() -> Any:
     if sys.argv[1:] == ["--rows"]:
         return print_rows()
     with copied("out") as copy:

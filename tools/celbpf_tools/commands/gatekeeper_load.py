@@ -18,6 +18,7 @@ import sys
 import tempfile
 import time
 from pathlib import Path
+from typing import Any, Iterator
 
 from ..home import EXAMPLES, built
 
@@ -26,7 +27,7 @@ POLICY = ("--policy", str(EXAMPLE / "policy.json"))
 WARM = 1000
 
 
-def given_words():
+def given_words() -> Any:
     parser = argparse.ArgumentParser(usage=__doc__.split("usage: ")[1].split("\n\n")[0])
     parser.add_argument("--count", type=int, default=100_000)
     parser.add_argument("--compare", type=int, default=200)
@@ -36,11 +37,11 @@ def given_words():
     return parser.parse_args()
 
 
-def line_of(document):
+def line_of(document: Any) -> Any:
     return json.dumps(document, separators=(",", ":")).encode() + b"\n"
 
 
-def reviews(count, seed):
+def reviews(count: int, seed: Any) -> Iterator:
     """The example's reviews in turn, each with a uid of its own and with replicas from the seed."""
     drawn = random.Random(seed)
     documents = [json.loads(file.read_text()) for file in sorted(EXAMPLE.glob("*.review.json"))]
@@ -50,20 +51,20 @@ def reviews(count, seed):
         yield line_of(document)
 
 
-def large():
+def large() -> Any:
     """A review of a megabyte, most of it annotations."""
     document = json.loads((EXAMPLE / "five.review.json").read_text())
     document["request"]["object"]["metadata"] = {"annotations": {f"note-{n:05}": "x" * 85 for n in range(10_000)}}
     return line_of(document)
 
 
-def resident(process):
+def resident(process: Any) -> Any:
     """The resident memory in KiB."""
     status = Path(f"/proc/{process.pid}/status").read_text()
     return int(next(line for line in status.splitlines() if line.startswith("VmRSS")).split()[1])
 
 
-def one_by_one(gatekeeper, lines):
+def one_by_one(gatekeeper: Any, lines: Any) -> Any:
     """The answers, the seconds of each, and the memory at the end and what of it grew since the first thousand."""
     answers, seconds, first = [], [], 0
     with subprocess.Popen([gatekeeper, *POLICY], stdin=subprocess.PIPE, stdout=subprocess.PIPE) as process:
@@ -80,7 +81,7 @@ def one_by_one(gatekeeper, lines):
     return answers, seconds, last, last - first
 
 
-def at_once(gatekeeper, lines, parts):
+def at_once(gatekeeper: Any, lines: Any, parts: Any) -> Any:
     """Decisions a second, where so many gatekeepers have a part of the lines each."""
     with tempfile.TemporaryDirectory() as folder:
         names = [Path(folder, str(part)) for part in range(parts)]
@@ -96,7 +97,7 @@ def at_once(gatekeeper, lines, parts):
         return len(lines) / (time.perf_counter() - began)
 
 
-def alone(program, line):
+def alone(program: Any, line: Any) -> Any:
     """What `celbpf review` prints, and the seconds that it takes."""
     with tempfile.NamedTemporaryFile() as file:
         file.write(line)
@@ -106,7 +107,7 @@ def alone(program, line):
         return done.stdout, time.perf_counter() - began
 
 
-def main():
+def main() -> None:
     given = given_words()
     lines = list(reviews(given.count, given.seed))
     answers, seconds, memory, grown = one_by_one(given.gatekeeper, lines)

@@ -24,7 +24,7 @@ PARTS = {
 }
 
 
-def main():
+def main() -> None:
     program = os.path.abspath(sys.argv[1] if len(sys.argv) > 1 else built("celbpf"))
     if not os.access(program, os.X_OK):
         sys.exit(f"measure: no program at {program}; build it first")

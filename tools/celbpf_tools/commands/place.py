@@ -11,6 +11,7 @@ policy that is accepted, 3 one that is refused.
 import argparse
 import sys
 import tempfile
+from typing import Any
 
 from ..asking import policies
 from ..asking.keys import TRUE, Keys
@@ -58,7 +59,7 @@ def show_whole(part: policies.Part) -> None:
     show(part, 0, len(part.text))
 
 
-def of_part(program, policy, refusal):
+def of_part(program: Program, policy: dict, refusal: str) -> None:
     """The part that K6 names, with the place of P or the smallest piece."""
     _, kind, place, cause, *at = refusal.split()
     part = next(one for one in policies.parts(policy) if one.kind == kind and one.place == int(place))
@@ -71,7 +72,7 @@ def of_part(program, policy, refusal):
     show(part, piece.begin, piece.end)
 
 
-def of_type(program, policy, number):
+def of_type(program: Program, policy: dict, number: str) -> None:
     """The first part that is refused alone for its type."""
     for part in policies.parts(policy):
         if cause_of(program.refusal(made_for(part))) == number:
@@ -79,7 +80,7 @@ def of_type(program, policy, number):
     print("no part alone is refused so")
 
 
-def made_for(part):
+def made_for(part: Any) -> dict:
     """A policy whose only condition, validation or message is this part."""
     spec = {"variables": policies.needed(part.scope, part.text), "validations": [TRUE]}
     if part.kind == "condition":
@@ -91,7 +92,7 @@ def made_for(part):
     return policies.whole(spec)
 
 
-def of_size(program, policy, number):
+def of_size(program: Program, policy: dict, number: str) -> None:
     """The first part with which the policy up to it is too large."""
     spec = {"variables": [], "matchConditions": [], "validations": []}
     for part in policies.parts(policy):
@@ -102,7 +103,7 @@ def of_size(program, policy, number):
     print("no part up to the end is refused so")
 
 
-def add(spec, part):
+def add(spec: dict, part: Any) -> None:
     """Adds a part to a specification that has those before it."""
     if part.kind == "message":
         spec["validations"][-1]["messageExpression"] = part.text
@@ -113,17 +114,17 @@ def add(spec, part):
         spec[key].append({"name": part.name, "expression": part.text})
 
 
-def of_key(program, policy, number):
+def of_key(program: Program, policy: dict, number: str) -> None:
     """The key of the document that is refused alone."""
     found = Keys(program, number).of_policy(policy)
     print(f"{found[0]}: {on_one_line(shown(found[1]))}" if found else "no key alone is refused so")
 
 
-def shown(value):
+def shown(value: Any) -> str:
     return value if isinstance(value, str) else policies.json.dumps(value, ensure_ascii=False)
 
 
-def tell(program, path, refusal):
+def tell(program: Program, path: str, refusal: str) -> None:
     """Prints where a policy is refused."""
     number = cause_of(refusal)
     print(f"celbpf: {refusal}")

@@ -17,6 +17,7 @@ as with ample memory; 0 is the answer with ample memory, and 1 any other. About 
 import re
 import sys
 from pathlib import Path
+from typing import Any
 
 from ..copies import copied, tried, with_driver
 
@@ -44,7 +45,7 @@ RUN = re.compile(r"^case=(\d+) run=ended status=([03]) ", re.MULTILINE)
 AS_IT_IS_TO_BE = re.compile(r"^allocations: |status=[03] ")
 
 
-def turns_folder(copy, count):
+def turns_folder(copy: Any, count: int) -> Any:
     """A folder with a case for each turn, which says its number."""
     folder = Path(copy, f"turns{count}")
     folder.mkdir(exist_ok=True)
@@ -53,7 +54,7 @@ def turns_folder(copy, count):
     return folder
 
 
-def refuse(copy, name):
+def refuse(copy: Any, name: str) -> Any:
     """Runs the work of a name for each allocation; whether each run answered as it is to."""
     count, crates = WORK[name]
     driver = with_driver(copy, "refused-allocations", name, crates)
@@ -71,7 +72,7 @@ def refuse(copy, name):
     return False
 
 
-def main():
+def main() -> Any:
     names = sys.argv[1:] or WORK
     if unknown := [name for name in names if name not in WORK]:
         sys.exit(f"refused-allocations: there is no {unknown[0]}, only {', '.join(WORK)}")

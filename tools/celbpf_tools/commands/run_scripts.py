@@ -17,6 +17,7 @@ import subprocess
 import sys
 import tempfile
 from pathlib import Path
+from typing import Any, Iterator, Optional
 
 from ..adapting.report import Variables
 from ..adapting.rewriter import Rewriter
@@ -28,7 +29,7 @@ TABLES = DATA / "run-scripts"
 REVIEW = {"apiVersion": "admission.k8s.io/v1", "kind": "AdmissionReview"}
 
 
-def made(line):
+def made(line: str) -> Optional[tuple]:
     """The name and the text of the file that a line makes, or None."""
     word, _, rest = line.partition(" ")
     if word == "policy":
@@ -41,7 +42,7 @@ def made(line):
     return None
 
 
-def ran(line, program, folder):
+def ran(line: str, program: Path, folder: str) -> str:
     """What a line has printed on both outputs, and its status as a last line."""
     kind, text = line[0], line[2:]
     words = text.split()
@@ -52,7 +53,7 @@ def ran(line, program, folder):
     return f"{ended.stdout}[{ended.returncode}]\n"
 
 
-def pair(text, lines, program, folder):
+def pair(text: str, lines: Any, program: Any, folder: Any) -> Iterator:
     """For a pair and each of its values what differs, or nothing."""
     variables = Variables(set())
     found, scope = Rewriter(text, variables).rewritten(), variables.added
@@ -74,7 +75,7 @@ def pair(text, lines, program, folder):
         yield "" if said == value else f"{found}\nover {json.dumps(given)}\nwanted: {value}\nfound:  {said}"
 
 
-def compared(name, lines, program, folder):
+def compared(name: str, lines: list, program: Path, folder: str) -> tuple:
     """The runs of a table, and how many of them differ."""
     runs = differing = 0
     while lines:
@@ -104,7 +105,7 @@ def compared(name, lines, program, folder):
     return runs, differing
 
 
-def main():
+def main() -> int:
     program = located(sys.argv[1] if len(sys.argv) > 1 else "")
     counts = []
     for table in sorted(TABLES.iterdir()):

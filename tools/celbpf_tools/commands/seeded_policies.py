@@ -21,6 +21,7 @@ import argparse
 import sys
 import tempfile
 from pathlib import Path
+from typing import Any
 
 from ..home import built
 from ..seeded.cases import case_of, outcome_of, wanted
@@ -33,7 +34,7 @@ from ..seeded.rows import other_files, write_rows
 SEED = 18
 
 
-def words():
+def words() -> argparse.Namespace:
     usage = __doc__.split("usage: ")[1].split("\n\n")[0]
     parser = argparse.ArgumentParser(usage=usage)
     parser.add_argument("--seed", type=int, default=SEED)
@@ -46,12 +47,12 @@ def words():
     return parser.parse_args()
 
 
-def tell(name, case, differences):
+def tell(name: str, case: Any, differences: Any) -> None:
     """Prints where the program differs, with the documents."""
     print(f"{name} differs", *differences, case, sep="\n    ")
 
 
-def over_seed(program, seed, count):
+def over_seed(program: Program, seed: int, count: int) -> Counts:
     """Cases from a seed, until so many are accepted."""
     numbers, counts, place = Numbers(seed), Counts(), 0
     while counts.accepted < count:
@@ -64,7 +65,7 @@ def over_seed(program, seed, count):
     return counts
 
 
-def over_examples(program):
+def over_examples(program: Any) -> Any:
     """The reviews of the examples, whose responses are stored."""
     counts = Counts()
     for name, case, stored in examples():
@@ -80,13 +81,13 @@ def over_examples(program):
     return counts
 
 
-def print_costs():
+def print_costs() -> None:
     for name, case, _ in examples():
         costs = wanted(case)[0].costs
         print(name, costs.work, costs.spent)
 
 
-def over_rows():
+def over_rows() -> Any:
     """Compares the stored rows with those from the seed."""
     others = other_files(Numbers(SEED))
     print(*(f"{path.name} holds other rows" for path in others), sep="\n", end="\n" if others else "")
@@ -96,7 +97,7 @@ def over_rows():
     return 0
 
 
-def main():
+def main() -> int:
     given = words()
     if given.costs:
         return print_costs()

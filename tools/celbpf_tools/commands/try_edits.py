@@ -10,6 +10,7 @@ works on a copy, over the libraries that are built.
 import shutil
 import subprocess
 import sys
+from typing import Any
 
 from ..copies import copied
 from ..home import TOOLS
@@ -17,7 +18,7 @@ from ..home import TOOLS
 EDITS = TOOLS / "more-edits"
 
 
-def main():
+def main() -> Any:
     names = sys.argv[1:] or sorted(folder.name for folder in EDITS.iterdir())
     with copied("incremental", "must-fail") as copy:
         for name in names:

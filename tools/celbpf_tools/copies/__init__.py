@@ -6,6 +6,7 @@ import shutil
 import subprocess
 import tempfile
 from pathlib import Path
+from typing import Any, Iterator
 
 from ..home import DATA, ROOT
 
@@ -15,7 +16,7 @@ MODULE = re.compile(r"^mod (.*);$", re.MULTILINE)
 
 
 @contextlib.contextmanager
-def copied(*left_out):
+def copied(*left_out: Any) -> Iterator:
     """A folder with a copy of the crates, without what has one of these names; it is there as long as it is used."""
     with tempfile.TemporaryDirectory() as folder:
         shutil.copytree(ROOT / "crates", Path(folder, "crates"), ignore=shutil.ignore_patterns(*left_out))
@@ -24,7 +25,7 @@ def copied(*left_out):
         yield Path(folder)
 
 
-def with_driver(copy, script, name, crates):
+def with_driver(copy: Any, script: Any, name: str, crates: Any) -> Any:
     """Puts the driver NAME.rt.txt of a script's data, with its modules, into a copy; its folder."""
     driver = copy / "crates" / f"driver_{name}"
     source = driver / "src"
@@ -38,6 +39,6 @@ def with_driver(copy, script, name, crates):
     return driver
 
 
-def tried(driver, *words):
+def tried(driver: Any, *words: Any) -> Any:
     """A run of a driver, built without proof."""
     return subprocess.run(["rt", "try", *words], cwd=driver, capture_output=True, text=True, stdin=subprocess.DEVNULL)

@@ -1,6 +1,7 @@
 """JSON documents."""
 
 import json
+from typing import Any
 
 from .refused import Refused
 from .values import GREATEST, LEAST
@@ -10,17 +11,17 @@ class NoInt:
     """A number that is no int of 64 bits."""
 
 
-def int_of(spelled):
+def int_of(spelled: str) -> Any:
     """A number without a fraction; `-0` is one of the floats."""
     number = int(spelled)
     return NoInt() if spelled == "-0" or not LEAST <= number <= GREATEST else number
 
 
-def refuse_constant(spelled):
+def refuse_constant(spelled: Any) -> None:
     raise ValueError(spelled)
 
 
-def read(document, number):
+def read(document: bytes, number: str) -> dict:
     """What a document says; with this refusal where it is no JSON."""
     try:
         text = document.decode()
@@ -33,7 +34,7 @@ def read(document, number):
         raise Refused(number) from why
 
 
-def has_other_number(value):
+def has_other_number(value: Any) -> bool:
     """Whether a number that is no int of 64 bits stands in a value."""
     if isinstance(value, dict):
         return any(map(has_other_number, value.values()))

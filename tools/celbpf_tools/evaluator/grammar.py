@@ -3,6 +3,8 @@
 Each function reads what the grammar's rule of its name derives, from the next token on.
 """
 
+from typing import Any, Callable
+
 from .refused import Refused
 from .tokens import tokens
 from .trees import Call, ListLiteral, Literal, MapLiteral, Method, Name, Operation, Selection, Ternary
@@ -19,12 +21,12 @@ LEVELS = [["||"], ["&&"], ["<", "<=", ">", ">=", "==", "!=", "in"], ["+", "-"], 
 OPENING = {"(": ")", "[": "]", "{": "}"}
 
 
-def is_selector(name):
+def is_selector(name: str) -> bool:
     """Whether a name can be selected."""
     return name not in NOT_SELECTED
 
 
-def is_identifier(name):
+def is_identifier(name: str) -> bool:
     """Whether a name can stand free."""
     return is_selector(name) and name not in RESERVED
 
@@ -32,48 +34,48 @@ def is_identifier(name):
 class Reader:
     """Tokens that are read into a tree."""
 
-    def __init__(self, text):
+    def __init__(self, text: str):
         self.tokens = tokens(text)
         self.end = len(text.encode())
         self.at = 0
         self.open = 0
 
-    def place(self):
+    def place(self) -> Any:
         return self.tokens[self.at].place if self.at < len(self.tokens) else self.end
 
-    def refuse(self):
+    def refuse(self) -> None:
         raise Refused(f"P4 at {self.place()}")
 
-    def is_next(self, *words):
+    def is_next(self, *words: str) -> bool:
         """Whether the next token is one of these marks or the name `in`."""
         if self.at == len(self.tokens):
             return False
         token = self.tokens[self.at]
         return token.kind in ("mark", "name") and token.value in words
 
-    def next(self):
+    def next(self) -> Any:
         self.at += 1
         return self.tokens[self.at - 1].value
 
-    def take(self, mark):
+    def take(self, mark: str) -> None:
         """Goes over this mark, which has to come."""
         if not self.is_next(mark):
             self.refuse()
         self.at += 1
 
-    def enter(self):
+    def enter(self) -> str:
         """Goes over a bracket that opens, or a question mark."""
         if self.open == MOST_OPEN:
             raise Refused(f"P5 at {self.place()}")
         self.open += 1
         return self.next()
 
-    def leave(self, mark):
+    def leave(self, mark: str) -> None:
         """Goes over the bracket that closes."""
         self.take(mark)
         self.open -= 1
 
-    def expression(self):
+    def expression(self) -> Any:
         condition = self.level(0)
         if not self.is_next("?"):
             return condition
@@ -84,7 +86,7 @@ class Reader:
         self.open -= 1
         return Ternary(condition, chosen, other)
 
-    def level(self, number):
+    def level(self, number: int) -> Any:
         """An expression of the operators of this level and of tighter ones."""
         if number == len(LEVELS):
             return self.unary()
@@ -94,7 +96,7 @@ class Reader:
             left = Operation(sign, (left, self.level(number + 1)))
         return left
 
-    def unary(self):
+    def unary(self) -> Any:
         sign = next((mark for mark in "!-" if self.is_next(mark)), None)
         count = 0
         while sign and self.is_next(sign):
@@ -105,7 +107,7 @@ class Reader:
             tree = Operation(sign, (tree,))
         return tree
 
-    def member(self):
+    def member(self) -> Any:
         tree = self.primary()
         while self.is_next(".", "["):
             if self.is_next("["):
@@ -118,7 +120,7 @@ class Reader:
             tree = Method(tree, name, self.arguments()) if self.is_next("(") else Selection(tree, name)
         return tree
 
-    def name(self, allowed):
+    def name(self, allowed: Callable) -> str:
         """The name that comes next and is allowed here."""
         if self.at == len(self.tokens) or self.tokens[self.at].kind != "name":
             self.refuse()
@@ -126,7 +128,7 @@ class Reader:
             self.refuse()
         return self.next()
 
-    def arguments(self):
+    def arguments(self) -> tuple:
         """What stands between the brackets of a call."""
         self.enter()
         found = []
@@ -138,7 +140,7 @@ class Reader:
         self.leave(")")
         return tuple(found)
 
-    def primary(self):
+    def primary(self) -> Any:
         if self.is_next(*OPENING):
             return self.bracketed()
         if self.at == len(self.tokens) or self.tokens[self.at].kind == "mark":
@@ -151,7 +153,7 @@ class Reader:
         name = self.name(is_identifier)
         return Call(name, self.arguments()) if self.is_next("(") else Name(name)
 
-    def bracketed(self):
+    def bracketed(self) -> Any:
         opening = self.enter()
         if opening == "(":
             tree = self.expression()
@@ -162,12 +164,12 @@ class Reader:
         self.leave(OPENING[opening])
         return tree
 
-    def entry(self):
+    def entry(self) -> tuple:
         key = self.expression()
         self.take(":")
         return key, self.expression()
 
-    def series(self, part, closing):
+    def series(self, part: Callable, closing: str) -> tuple:
         """Parts with commas between them, and perhaps one behind them, also where there is none."""
         found = []
         if not self.is_next(closing, ","):
@@ -182,7 +184,7 @@ class Reader:
         return tuple(found)
 
 
-def read(text):
+def read(text: str) -> Any:
     """The tree of a text, or the first of P1 to P6."""
     reader = Reader(text)
     tree = reader.expression()

@@ -1,6 +1,7 @@
 """Expansion: macros, `has` and the use of variables become nodes of their own."""
 
 from dataclasses import replace
+from typing import Any
 
 from .refused import Refused
 from .trees import (
@@ -13,7 +14,7 @@ VARIABLES = "variables"
 COUNTS = {"all": (2,), "exists": (2,), "exists_one": (2,), "filter": (2,), "map": (2, 3)}
 
 
-def has_of(call):
+def has_of(call: Call) -> Has:
     """The node of a call of `has`."""
     if len(call.arguments) != 1:
         raise Refused("M1")
@@ -23,7 +24,7 @@ def has_of(call):
     return Has(expand(selection.operand), selection.field)
 
 
-def macro_of(method):
+def macro_of(method: Method) -> Macro:
     """The node of a macro."""
     word, arguments = method.method, method.arguments
     if len(arguments) not in COUNTS[word]:
@@ -39,11 +40,11 @@ def macro_of(method):
     return Macro(word, target, name.name, predicate, others[-1])
 
 
-def expand_all(trees):
+def expand_all(trees: tuple) -> tuple:
     return tuple(expand(tree) for tree in trees)
 
 
-def expand(tree):
+def expand(tree: Any) -> Any:
     """The expanded tree, or the first of M1 to M3: a node before its parts, these from the left."""
     if isinstance(tree, Call):
         return has_of(tree) if tree.function == "has" else replace(tree, arguments=expand_all(tree.arguments))

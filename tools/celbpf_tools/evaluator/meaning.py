@@ -1,5 +1,7 @@
 """What an expanded expression means: a value, or the error."""
 
+from typing import Any, Optional
+
 from . import operations
 from .trees import ListLiteral, Literal, Macro, MapLiteral, Name, Ternary, Variable
 from .trees import Call, Has, Method, Selection
@@ -12,18 +14,18 @@ class Meaning:
     `roots` and `variables` are dicts from names to values; a variable may be the error.
     """
 
-    def __init__(self, roots, variables, costs):
+    def __init__(self, roots: dict, variables: dict, costs: Any):
         self.roots = roots
         self.variables = variables
         self.costs = costs
 
-    def of(self, tree, items=None):
+    def of(self, tree: Any, items: Optional[dict]=None) -> Any:
         """The meaning of a tree, where `items` are the iteration names in force."""
         result = self.of_node(tree, items or {})
         self.costs.visit(result)
         return result
 
-    def of_node(self, tree, items):
+    def of_node(self, tree: Any, items: dict) -> Any:
         if isinstance(tree, Literal):
             return self.of_literal(tree)
         if isinstance(tree, Name):
@@ -40,24 +42,24 @@ class Meaning:
             return self.of_map(tree, items)
         return self.of_operands(tree, items)
 
-    def of_literal(self, literal):
+    def of_literal(self, literal: Literal) -> Any:
         if kind(literal.value) == "text":
             self.costs.text(literal.value)
         return literal.value
 
-    def of_ternary(self, tree, items):
+    def of_ternary(self, tree: Ternary, items: dict) -> Any:
         condition = self.of(tree.condition, items)
         if kind(condition) != "bool":
             return ERROR
         return self.of(tree.chosen if condition else tree.other, items)
 
-    def of_list(self, literal, items):
+    def of_list(self, literal: ListLiteral, items: dict) -> Any:
         found = [self.of(item, items) for item in literal.items]
         for value in found:
             self.costs.keep(value)
         return ERROR if ERROR in found else found
 
-    def of_map(self, literal, items):
+    def of_map(self, literal: MapLiteral, items: dict) -> Any:
         entries = [(self.of(key, items), self.of(value, items)) for key, value in literal.entries]
         for _, value in entries:
             self.costs.keep(value)
@@ -65,7 +67,7 @@ class Meaning:
             return ERROR
         return dict(entries) if len(dict(entries)) == len(entries) else ERROR
 
-    def of_operands(self, tree, items):
+    def of_operands(self, tree: Any, items: dict) -> Any:
         """The meaning of a node whose operands are all evaluated."""
         if isinstance(tree, (Selection, Has)):
             self.costs.text(tree.field)
@@ -81,7 +83,7 @@ class Meaning:
         signs = operations.UNARY if len(operands) == 1 else operations.BINARY
         return signs[tree.sign](*operands)
 
-    def of_macro(self, macro, items):
+    def of_macro(self, macro: Macro, items: dict) -> Any:
         values = self.of(macro.range, items)
         if kind(values) not in ("list", "map"):
             return ERROR
@@ -90,7 +92,7 @@ class Meaning:
         turns = [self.turn(macro, items, value) for value in values]
         return operations.MACROS[macro.word](turns)
 
-    def turn(self, macro, items, value):
+    def turn(self, macro: Macro, items: dict, value: Any) -> tuple:
         """What the predicate is for an item, and what is kept of it."""
         self.costs.turn()
         inner = {**items, macro.name: value}

@@ -1,5 +1,7 @@
 """How large an expanded expression is."""
 
+from typing import Any
+
 from .trees import Has, ListLiteral, Literal, Macro, MapLiteral, Selection, Ternary, Variable, parts
 from .values import kind, length
 
@@ -10,12 +12,12 @@ MOST_SLOTS = 65_536
 MOST_CONSTANTS = 1_048_576
 
 
-def nodes(tree):
+def nodes(tree: Any) -> int:
     """One for each node."""
     return 1 + sum(nodes(part) for part in parts(tree))
 
 
-def need(tree):
+def need(tree: Any) -> int:
     """The words of the stack that its code is given."""
     needs = [need(part) for part in parts(tree)]
     if not needs:
@@ -31,18 +33,18 @@ def need(tree):
     return max([needs[0], *(1 + one for one in needs[1:])])
 
 
-def depth(tree, depths):
+def depth(tree: Any, depths: dict) -> int:
     """How deep a variable of this expression stands, over those that it names."""
     return 1 + deepest(tree, depths)
 
 
-def deepest(tree, depths):
+def deepest(tree: Any, depths: dict) -> int:
     if isinstance(tree, Variable):
         return depths[tree.name]
     return max((deepest(part, depths) for part in parts(tree)), default=0)
 
 
-def constants(tree):
+def constants(tree: Any) -> set:
     """The texts that its code has to hold: field names and text literals."""
     found = set()
     if isinstance(tree, (Selection, Has)):
@@ -52,6 +54,6 @@ def constants(tree):
     return found.union(*(constants(part) for part in parts(tree)))
 
 
-def bytes_of(texts):
+def bytes_of(texts: set) -> int:
     """The bytes of texts together."""
     return sum(length(text) for text in texts)

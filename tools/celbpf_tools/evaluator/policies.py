@@ -1,6 +1,7 @@
 """A policy: its document, its expressions, and what refuses it."""
 
 from dataclasses import dataclass, field
+from typing import Any
 
 from . import documents, grammar, macros, measures, types
 from .refused import Refused
@@ -56,12 +57,12 @@ class Compiled:
     messages: list = field(default_factory=list)
 
 
-def demand(condition, number):
+def demand(condition: Any, number: str) -> None:
     if not condition:
         raise Refused(number)
 
 
-def has_form(value, keys):
+def has_form(value: dict, keys: dict) -> bool:
     """Whether an object has only these keys, those that have to stand, and their types."""
     if not isinstance(value, dict) or not value.keys() <= keys.keys():
         return False
@@ -71,19 +72,19 @@ def has_form(value, keys):
     )
 
 
-def names_allowed(named, allowed):
+def names_allowed(named: list, allowed: Any) -> bool:
     """Whether every name is allowed, and none stands twice."""
     names = [one["name"] for one in named]
     return all(map(allowed, names)) and len(set(names)) == len(names)
 
 
-def is_identifier(name):
+def is_identifier(name: str) -> bool:
     """Whether a text is one identifier that may stand free."""
     spelled = NAME.fullmatch(name)
     return spelled is not None and grammar.is_identifier(name)
 
 
-def spec_allowed(spec):
+def spec_allowed(spec: dict) -> bool:
     """Whether a specification is one that a policy may have."""
     if not has_form(spec, SPEC) or spec.get("failurePolicy", "Fail") not in ("Fail", "Ignore"):
         return False
@@ -96,7 +97,7 @@ def spec_allowed(spec):
     return all(has_form(one, VALIDATION) and one.get("reason", "Invalid") in REASONS for one in validations)
 
 
-def read(document):
+def read(document: bytes) -> Policy:
     """The policy of a document, or the first of K1 to K5 and K8."""
     whole = documents.read(document, "K1")
     demand(isinstance(whole, dict), "K2")
@@ -120,7 +121,7 @@ class Compiler:
         self.nodes = 1
         self.constants = set()
 
-    def take(self, part, place, text, scope):
+    def take(self, part: str, place: int, text: str, scope: dict) -> tuple:
         """The tree and type of the next part."""
         try:
             tree = macros.expand(grammar.read(text))
@@ -134,30 +135,30 @@ class Compiler:
         self.constants |= measures.constants(tree)
         return tree, given
 
-    def variable(self, place, named):
+    def variable(self, place: int, named: dict) -> Any:
         tree, given = self.take("variable", place, named["expression"], self.types)
         self.types[named["name"]] = given
         self.depths[named["name"]] = measures.depth(tree, self.depths)
         return tree
 
-    def truth(self, part, place, text, scope):
+    def truth(self, part: str, place: int, text: str, scope: dict) -> Any:
         tree, given = self.take(part, place, text, scope)
         demand(given in ("Bool", "Dyn"), "K7")
         return tree
 
-    def message(self, place, validation):
+    def message(self, place: int, validation: dict) -> Any:
         if "messageExpression" not in validation:
             return None
         tree, given = self.take("message", place, validation["messageExpression"], self.types)
         demand(given in ("String", "Dyn"), "K9")
         return tree
 
-    def end(self):
+    def end(self) -> None:
         demand(measures.SLOTS_A_NODE * self.nodes <= measures.MOST_SLOTS, "G3")
         demand(measures.bytes_of(self.constants) <= measures.MOST_CONSTANTS, "G4")
 
 
-def compile_policy(policy):
+def compile_policy(policy: Policy) -> Compiled:
     """The trees of a policy, or the first of K6, K7, K9, G3 and G4."""
     compiler, compiled = Compiler(), Compiled(policy)
     for place, named in enumerate(policy.variables):

@@ -4,6 +4,6 @@
 class Refused(Exception):
     """A refusal; `text` is what stands behind `celbpf: ` for it."""
 
-    def __init__(self, text):
+    def __init__(self, text: str):
         super().__init__(text)
         self.text = text

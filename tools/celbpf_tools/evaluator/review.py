@@ -1,6 +1,7 @@
 """The answer of `celbpf review`, and what it costs."""
 
 from dataclasses import dataclass
+from typing import Any, Optional
 
 from . import policies, responses, reviews, verdicts
 from .refused import Refused
@@ -16,20 +17,20 @@ class Answer:
     charge: int
 
     @property
-    def costs(self):
+    def costs(self) -> Any:
         return self.verdict.costs
 
     @property
-    def allowed(self):
+    def allowed(self) -> bool:
         return responses.is_allowed(self.verdict)
 
     @property
-    def is_within(self):
+    def is_within(self) -> bool:
         """Whether no program of this policy is stopped over this review."""
         return self.costs.is_within(self.charge)
 
 
-def answer(policy, review, namespace=None, params=None):
+def answer(policy: bytes, review: bytes, namespace: Optional[bytes]=None, params: Optional[bytes]=None) -> Answer:
     """The answer to these documents, or what refuses them: the policy first, then the review."""
     try:
         compiled = policies.compile_policy(policies.read(policy))

@@ -1,6 +1,7 @@
 """A review, and the five roots that it gives with the documents beside it."""
 
 from dataclasses import dataclass
+from typing import Optional
 
 from . import documents
 from .costs import MOST_CHARGE
@@ -23,7 +24,7 @@ class Review:
     charge: int
 
 
-def has_form(review):
+def has_form(review: dict) -> bool:
     """Whether a document is a review with a request that has a uid."""
     if not isinstance(review, dict) or review.get("apiVersion") != API_VERSION or review.get("kind") != KIND:
         return False
@@ -31,7 +32,7 @@ def has_form(review):
     return isinstance(request, dict) and isinstance(request.get("uid"), str)
 
 
-def read(review, namespace, params):
+def read(review: bytes, namespace: Optional[bytes], params: Optional[bytes]) -> Review:
     """The review of these documents, of which the last two may be None; or the first of N2 and N3."""
     document = documents.read(review, "N2")
     if not has_form(document):

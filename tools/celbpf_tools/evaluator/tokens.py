@@ -2,6 +2,7 @@
 
 import re
 from dataclasses import dataclass
+from typing import Optional
 
 from .refused import Refused
 from .values import GREATEST, LEAST
@@ -29,23 +30,23 @@ class Token:
 class Tokens:
     """A text that is cut into tokens."""
 
-    def __init__(self, text):
+    def __init__(self, text: str):
         self.text = text
         self.at = 0
         self.found = []
 
-    def place(self, at):
+    def place(self, at: int) -> int:
         """The byte at which this character begins."""
         return len(self.text[:at].encode())
 
-    def refuse(self, number, at):
+    def refuse(self, number: str, at: int) -> None:
         raise Refused(f"{number} at {self.place(at)}")
 
-    def skip_gap(self):
+    def skip_gap(self) -> None:
         """Goes over blanks and comments."""
         self.at = GAP.match(self.text, self.at).end()
 
-    def sign_can_stand(self):
+    def sign_can_stand(self) -> bool:
         """Whether no operand ends before this place."""
         if not self.found:
             return True
@@ -54,14 +55,14 @@ class Tokens:
             return last.value not in (")", "]", "}")
         return last.kind == "name" and last.value == "in"
 
-    def signed_digits(self):
+    def signed_digits(self) -> Optional[int]:
         """Where the digits stand that the sign here belongs to, or None."""
         if self.text[self.at] != "-" or not self.sign_can_stand():
             return None
         behind = GAP.match(self.text, self.at + 1).end()
         return INT.match(self.text, behind) and behind
 
-    def kind_here(self):
+    def kind_here(self) -> str:
         """Which kind of token begins here; one that cannot be, or too many, is refused."""
         signed = self.signed_digits()
         for kind, begins in (("text", QUOTE), ("int", INT), ("name", NAME), ("mark", MARK)):
@@ -73,7 +74,7 @@ class Tokens:
             self.refuse("P6", self.at)
         return "signed" if signed is not None else kind
 
-    def int_at(self, digits, sign):
+    def int_at(self, digits: int, sign: int) -> tuple:
         """The int whose digits stand there, and where they end."""
         spelled = INT.match(self.text, digits).group()
         number = sign * (int(spelled[2:], 16) if spelled.startswith("0x") else int(spelled))
@@ -81,7 +82,7 @@ class Tokens:
             self.refuse("P3", digits)
         return number, digits + len(spelled)
 
-    def escape(self, begins, at):
+    def escape(self, begins: int, at: int) -> tuple:
         """The character of the escape behind a backslash, and where it ends."""
         if self.text[at : at + 1] in SIMPLE:
             return SIMPLE[self.text[at]], at + 1
@@ -94,7 +95,7 @@ class Tokens:
             self.refuse("P2", begins)
         return chr(number), spelled.end()
 
-    def text_here(self):
+    def text_here(self) -> tuple:
         """What the text literal here says, and where it ends."""
         begins = self.at
         opening = QUOTE.match(self.text, begins).group()
@@ -109,7 +110,7 @@ class Tokens:
             said.append(character)
         return "".join(said), at + 1
 
-    def take(self):
+    def take(self) -> None:
         """Takes the token that begins here."""
         begins, kind = self.at, self.kind_here()
         if kind == "text":
@@ -125,7 +126,7 @@ class Tokens:
         self.found.append(Token(self.place(begins), kind, value))
 
 
-def tokens(text):
+def tokens(text: str) -> list:
     """The tokens of a text, or the first of P6, P1, P2 and P3."""
     if len(text.encode()) > MOST_BYTES:
         raise Refused(f"P6 at {MOST_BYTES}")

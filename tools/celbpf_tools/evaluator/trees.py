@@ -1,6 +1,7 @@
 """The nodes of expressions, as they are read and as macros leave them."""
 
 from dataclasses import dataclass
+from typing import Any
 
 
 @dataclass(frozen=True)
@@ -99,7 +100,7 @@ class Macro:
     transform: object
 
 
-def parts(tree):
+def parts(tree: Any) -> list:
     """The parts of a node, from left to right; those of a macro without its iteration name."""
     if isinstance(tree, (Selection, Has)):
         return [tree.operand]

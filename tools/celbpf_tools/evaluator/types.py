@@ -4,6 +4,8 @@ The types are the words `Bool Int String Null List Map Dyn`. A scope is a dict f
 variables that may be used to their types.
 """
 
+from typing import Any, NoReturn
+
 from .macros import ROOTS, VARIABLES
 from .refused import Refused
 from .trees import Has, ListLiteral, Literal, Macro, MapLiteral, Name, Selection, Ternary, Variable, parts
@@ -15,21 +17,21 @@ ORDERED = ("Int", "String", "Bool")
 SIZED = ("String", "List", "Map")
 
 
-def no_type():
+def no_type() -> NoReturn:
     raise Refused("Y2")
 
 
-def is_one_of(given, *types):
+def is_one_of(given: str, *types: str) -> bool:
     """Whether a type may be one of these."""
     return given == "Dyn" or given in types
 
 
-def want(condition, given):
+def want(condition: bool, given: str) -> str:
     """The type where its row holds."""
     return given if condition else no_type()
 
 
-def common(types, given):
+def common(types: tuple, given: list) -> str:
     """The type that several share, one that is Dyn aside; it has to be one of these."""
     known = {one for one in given if one != "Dyn"}
     if len(known) > 1 or not known <= set(types):
@@ -37,16 +39,16 @@ def common(types, given):
     return known.pop() if known else "Dyn"
 
 
-def of_index(operand, key):
+def of_index(operand: str, key: str) -> str:
     fits = {"List": ("Int",), "Map": ("String",), "Dyn": ("Int", "String")}
     return want(operand in fits and is_one_of(key, *fits[operand]), "Dyn")
 
 
-def of_membership(item, container):
+def of_membership(item: str, container: str) -> str:
     return want(is_one_of(container, "List") or container == "Map" and is_one_of(item, "String"), "Bool")
 
 
-def of_operation(sign, given):
+def of_operation(sign: str, given: list) -> str:
     """The type of an operator on operands of these types."""
     if sign == "[]":
         return of_index(*given)
@@ -64,7 +66,7 @@ def of_operation(sign, given):
     return want(all(is_one_of(one, "Int") for one in given), "Int")
 
 
-def of_call(function, given):
+def of_call(function: str, given: list) -> str:
     """The type of a call of a function on arguments of these types."""
     if len(given) != 1 or function not in ("size", "string", "dyn"):
         no_type()
@@ -75,7 +77,7 @@ def of_call(function, given):
     return want(is_one_of(given[0], "Int", "String"), "String")
 
 
-def of_method(method, given):
+def of_method(method: str, given: list) -> str:
     """The type of a call of a method on a target and arguments of these types."""
     if method == "size" and len(given) == 1:
         return want(is_one_of(given[0], *SIZED), "Int")
@@ -84,7 +86,7 @@ def of_method(method, given):
     return no_type()
 
 
-def of_ternary(condition, chosen, other):
+def of_ternary(condition: str, chosen: str, other: str) -> str:
     if not is_one_of(condition, "Bool"):
         no_type()
     if chosen == other:
@@ -92,7 +94,7 @@ def of_ternary(condition, chosen, other):
     return want("Dyn" in (chosen, other), "Dyn")
 
 
-def of_macro(macro, given):
+def of_macro(macro: Macro, given: list) -> str:
     """The type of a macro whose range and predicate, where there is one, begin these types."""
     fits = is_one_of(given[0], "List", "Map")
     if macro.predicate is not None:
@@ -100,7 +102,7 @@ def of_macro(macro, given):
     return want(fits, "List" if macro.word in ("map", "filter") else "Bool")
 
 
-def of_leaf(tree, scope, names):
+def of_leaf(tree: Any, scope: dict, names: frozenset) -> str:
     """The type of a node without parts."""
     if isinstance(tree, Literal):
         return LITERALS[kind(tree.value)]
@@ -113,11 +115,11 @@ def of_leaf(tree, scope, names):
     return "Dyn"
 
 
-def refuse_variable():
+def refuse_variable() -> NoReturn:
     raise Refused("Y3")
 
 
-def of_parts(tree, scope, names):
+def of_parts(tree: Any, scope: dict, names: frozenset) -> list:
     """The types of the parts of a node, from the left."""
     found = []
     for place, part in enumerate(parts(tree)):
@@ -126,7 +128,7 @@ def of_parts(tree, scope, names):
     return found
 
 
-def check(tree, scope, names=frozenset()):
+def check(tree: Any, scope: dict, names: frozenset=frozenset()) -> str:
     """The type of a tree in a scope, or the first of Y1 to Y3: parts before their node, from the left."""
     if isinstance(tree, (Literal, Name, Variable)):
         return of_leaf(tree, scope, names)

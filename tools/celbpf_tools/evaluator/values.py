@@ -3,11 +3,13 @@
 They are Python's None, bool, int, str, list and dict. No list or map holds the error.
 """
 
+from typing import Any
+
 
 class Error:
     """The one error."""
 
-    def __repr__(self):
+    def __repr__(self) -> Any:
         return "error"
 
 
@@ -16,22 +18,22 @@ LEAST, GREATEST = -(2**63), 2**63 - 1
 KINDS = {type(None): "null", bool: "bool", int: "int", str: "text", list: "list", dict: "map", Error: "error"}
 
 
-def kind(value):
+def kind(value: Any) -> str:
     """The word for the kind of a value, or `error`."""
     return KINDS[type(value)]
 
 
-def kinds(*values):
+def kinds(*values: Any) -> tuple:
     """The words for the kinds of several."""
     return tuple(kind(value) for value in values)
 
 
-def in_range(number):
+def in_range(number: int) -> Any:
     """The int of this number, or the error where 64 bits do not hold it."""
     return number if LEAST <= number <= GREATEST else ERROR
 
 
-def equal(left, right):
+def equal(left: Any, right: Any) -> bool:
     """Deep equality of two values; values of different kinds are unequal."""
     if kind(left) != kind(right):
         return False
@@ -42,12 +44,12 @@ def equal(left, right):
     return left == right
 
 
-def length(text):
+def length(text: str) -> int:
     """The bytes of a text in UTF-8."""
     return len(text.encode())
 
 
-def size(value):
+def size(value: Any) -> int:
     """How large a value is: one for each part, and the bytes of its texts and keys. The error has 1."""
     if isinstance(value, str):
         return 1 + length(value)
@@ -58,7 +60,7 @@ def size(value):
     return 1
 
 
-def depth(value):
+def depth(value: Any) -> int:
     """How deep lists and maps are nested in a value; 0 where it is neither."""
     if isinstance(value, (list, dict)):
         items = value.values() if isinstance(value, dict) else value
@@ -66,6 +68,6 @@ def depth(value):
     return 0
 
 
-def in_byte_order(keys):
+def in_byte_order(keys: dict) -> list:
     """Keys in the order of their bytes in UTF-8."""
     return sorted(keys, key=str.encode)

@@ -1,6 +1,7 @@
 """What a policy decides of a review, and what that costs."""
 
 from dataclasses import dataclass, field
+from typing import Any, Optional
 
 from .costs import Costs
 from .meaning import Meaning
@@ -23,7 +24,7 @@ class Verdict:
     denials: list = field(default_factory=list)
 
 
-def result_of(value):
+def result_of(value: Any) -> int:
     """What a condition or validation with this value came to."""
     if kind(value) != "bool":
         return NO_BOOL
@@ -33,19 +34,19 @@ def result_of(value):
 class Deciding:
     """A compiled policy over the roots of a review."""
 
-    def __init__(self, compiled, roots):
+    def __init__(self, compiled: Any, roots: dict):
         self.compiled = compiled
         self.ignores = compiled.policy.ignores
         self.costs = Costs()
         self.costs.turn()
         self.meaning = Meaning(roots, {}, self.costs)
 
-    def value(self, tree):
+    def value(self, tree: Any) -> Any:
         """The value of a part."""
         self.costs.turn()
         return self.meaning.of(tree)
 
-    def gate(self, conditions):
+    def gate(self, conditions: list) -> Optional[int]:
         """The outcome that conditions give, or None where the policy runs."""
         if FALSE in conditions:
             return SKIPPED
@@ -53,7 +54,7 @@ class Deciding:
             return SKIPPED if self.ignores else REJECTED
         return None
 
-    def denials(self, results):
+    def denials(self, results: list) -> list:
         """The places of the validations that deny, with the values of their messages."""
         denying = (FALSE,) if self.ignores else (FALSE, NO_BOOL)
         found = []
@@ -63,7 +64,7 @@ class Deciding:
                 found.append((place, None if message is None else self.value(message)))
         return found
 
-    def verdict(self):
+    def verdict(self) -> Verdict:
         for name, tree in self.compiled.variables.items():
             self.meaning.variables[name] = self.value(tree)
         conditions = [result_of(self.value(tree)) for tree in self.compiled.conditions]
@@ -75,11 +76,11 @@ class Deciding:
         return Verdict(self.costs, DENIED if denials else ADMITTED, results, denials)
 
 
-def verdict_of(compiled, roots):
+def verdict_of(compiled: Any, roots: dict) -> Verdict:
     """The verdict of a policy over these roots."""
     return Deciding(compiled, roots).verdict()
 
 
-def message_text(value):
+def message_text(value: Optional[str]) -> Optional[str]:
     """The text that a message expression gave, or None."""
     return value if value is not ERROR and kind(value) == "text" else None

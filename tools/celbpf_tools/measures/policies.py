@@ -1,5 +1,7 @@
 """How long policies take to compile, and reviews to answer."""
 
+from typing import Any
+
 from .runs import row
 
 ALLOWED, DENIED, REFUSED = 0, 1, 3
@@ -8,7 +10,7 @@ ALLOWED, DENIED, REFUSED = 0, 1, 3
 COUNT = 20
 
 
-def policy(runs, name, expressions, variables=()):
+def policy(runs: Any, name: str, expressions: Any, variables: Any=()) -> Any:
     """A policy whose validations have these expressions, with variables of these names."""
     spec = {
         "variables": [{"name": variable, "expression": "1"} for variable in variables],
@@ -22,19 +24,19 @@ def policy(runs, name, expressions, variables=()):
     return runs.document(name, document)
 
 
-def timed(runs, name, words, status):
+def timed(runs: Any, name: str, words: Any, status: Any) -> None:
     """A run that ends with this status."""
     seconds, memory = runs.best(words, statuses=(status,), count=COUNT)
     row(name, f"{seconds * 1000:.1f} ms", memory)
 
 
-def reviewed(runs, name, policy_path, review_path, status):
+def reviewed(runs: Any, name: str, policy_path: Any, review_path: Any, status: Any) -> None:
     """A review that ends with this status."""
     words = ["review", "--policy", policy_path, "--review", review_path]
     timed(runs, name, words, status)
 
 
-def first_example(runs, example):
+def first_example(runs: Any, example: Any) -> None:
     """The first example, and a review of a megabyte under its policy."""
     path = f"{example}/policy.json"
     reviewed(runs, "review, the first example", path, f"{example}/five.review.json", DENIED)
@@ -43,7 +45,7 @@ def first_example(runs, example):
     reviewed(runs, "review, a document of 1 MB", path, runs.review("megabyte", thing), ALLOWED)
 
 
-def many_validations(runs, example):
+def many_validations(runs: Any, example: Any) -> None:
     """The most validations that a policy has; of five replicas the first two are false."""
     path = policy(runs, "most", [f"object.spec.replicas <= {most}" for most in range(3, 67)])
     words = ["compile", path, f"{runs.folder}/most.img"]
@@ -52,7 +54,7 @@ def many_validations(runs, example):
     reviewed(runs, "review, 64 validations", path, review, DENIED)
 
 
-def many_items(runs):
+def many_items(runs: Any) -> None:
     """A macro over lists without the item that is looked for, so that each item is visited."""
     path = policy(runs, "none", ["!object.items.exists(x, x == 1)"])
     for count in (1_000, 10_000, 100_000):
@@ -60,7 +62,7 @@ def many_items(runs):
         reviewed(runs, f"review, a macro over {count:,} items", path, review, ALLOWED)
 
 
-def many_variables(runs):
+def many_variables(runs: Any) -> None:
     """More variables than a policy may have, which are refused once all their names are found distinct."""
     for count in (1_000, 10_000, 100_000):
         path = policy(runs, "variables", ["true"], (f"v{place}" for place in range(count)))
@@ -68,7 +70,7 @@ def many_variables(runs):
         timed(runs, f"compile, {count:,} variables, refused", words, REFUSED)
 
 
-def members(runs):
+def members(runs: Any) -> None:
     """A list in which each of its own items is searched: ints, and then texts."""
     path = policy(runs, "members", ["object.items.all(x, x in object.items)"])
     for count in (1_000, 10_000, 100_000):
@@ -77,7 +79,7 @@ def members(runs):
             reviewed(runs, f"review, {count:,} searches among {kind}", path, review, ALLOWED)
 
 
-def measure(runs, example):
+def measure(runs: Any, example: Any) -> None:
     """Reviews and compilations; `example` is the folder of the first example."""
     first_example(runs, example)
     many_validations(runs, example)

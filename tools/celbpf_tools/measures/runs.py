@@ -5,16 +5,17 @@ import subprocess
 import sys
 import tempfile
 import time
+from typing import Any
 
 
 class Runs:
     """The built program, and a folder for the files that it is run on."""
 
-    def __init__(self, program, folder):
+    def __init__(self, program: Any, folder: Any):
         self.program = program
         self.folder = folder
 
-    def run(self, words, lines="", statuses=(0, 4)):
+    def run(self, words: Any, lines: Any='', statuses: Any=(0, 4)) -> Any:
         """The seconds of one run, whose output is dropped and whose status is one of these."""
         began = time.perf_counter()
         ended = subprocess.run([self.program, *words], input=lines.encode(), stdout=subprocess.DEVNULL, stderr=subprocess.PIPE)
@@ -23,19 +24,19 @@ class Runs:
             sys.exit(f"measure: {' '.join(words)} ended with status {ended.returncode}: {ended.stderr.decode()}")
         return seconds
 
-    def memory(self, words, lines=""):
+    def memory(self, words: Any, lines: Any='') -> Any:
         """The greatest resident memory of one run, in megabytes."""
         with tempfile.NamedTemporaryFile("r") as report:
             watched = ["env", "time", "-q", "-f", "%M", "-o", report.name, self.program, *words]
             subprocess.run(watched, input=lines.encode(), stdout=subprocess.DEVNULL, stderr=subprocess.DEVNULL)
             return int(report.read()) / 1024
 
-    def best(self, words, lines="", statuses=(0, 4), count=3):
+    def best(self, words: Any, lines: Any='', statuses: Any=(0, 4), count: int=3) -> Any:
         """The least seconds of so many runs, and the memory of one more."""
         seconds = min(self.run(words, lines, statuses) for _ in range(count))
         return seconds, self.memory(words, lines)
 
-    def image(self, name, source):
+    def image(self, name: str, source: Any) -> Any:
         """The image of these lines."""
         text, path = f"{self.folder}/{name}.asm", f"{self.folder}/{name}.img"
         with open(text, "w") as file:
@@ -43,25 +44,25 @@ class Runs:
         self.run(["asm", text, path])
         return path
 
-    def document(self, name, value):
+    def document(self, name: str, value: Any) -> Any:
         """The file of this document."""
         path = f"{self.folder}/{name}.json"
         with open(path, "w") as file:
             json.dump(value, file, separators=(",", ":"))
         return path
 
-    def review(self, name, thing):
+    def review(self, name: str, thing: Any) -> Any:
         """A review of this object."""
         request = {"uid": "u", "object": thing}
         document = {"apiVersion": "admission.k8s.io/v1", "kind": "AdmissionReview", "request": request}
         return self.document(name, document)
 
 
-def left(seconds, without, form):
+def left(seconds: Any, without: Any, form: Any) -> Any:
     """The figure of the seconds of a run that are left without those of another; none where none are left."""
     return form(seconds - without) if seconds > without else "too short to be told"
 
 
-def row(name, figure, memory):
+def row(name: str, figure: Any, memory: Any) -> None:
     """Prints a row."""
     print(f"{name:38} {figure:>24} {memory:8.1f} MB", flush=True)

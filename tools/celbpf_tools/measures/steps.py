@@ -1,5 +1,7 @@
 """How long steps take, in runs and in sessions."""
 
+from typing import Any
+
 from .runs import left, row
 
 STEPS = 10_000_000
@@ -26,13 +28,13 @@ MILLION = "s 1000000\n"
 SLOTS = range(4, 65_536)
 
 
-def long_run(runs, name, steps, words, lines=""):
+def long_run(runs: Any, name: str, steps: Any, words: Any, lines: Any='') -> None:
     """How many steps a second a run of so many takes."""
     seconds, memory = runs.best(words, lines)
     row(name, f"{steps / seconds:,.0f} steps/s", memory)
 
 
-def after(runs, name, path, before, lines):
+def after(runs: Any, name: str, path: Any, before: Any, lines: Any) -> None:
     """What each of `lines` adds to a session that begins with `before`."""
     without = min(runs.run(["debug", path], before) for _ in range(3))
     whole, memory = runs.best(["debug", path], before + lines)
@@ -40,12 +42,12 @@ def after(runs, name, path, before, lines):
     row(name, left(whole, without, lambda seconds: f"{seconds * 1000 / count:.2f} ms a line"), memory)
 
 
-def breakpoints_set(slots):
+def breakpoints_set(slots: Any) -> Any:
     """The lines that set breakpoints at these slots."""
     return "".join(f"b {slot}\n" for slot in slots)
 
 
-def breakpoints(runs, path):
+def breakpoints(runs: Any, path: Any) -> None:
     """Searches without breakpoints, and among as many as there can be where the loop does not come."""
     after(runs, "rc without breakpoints, at 100,000,000", path, "g 100000000\n", "rc\n")
     rising, falling = breakpoints_set(SLOTS), breakpoints_set(reversed(SLOTS))
@@ -56,7 +58,7 @@ def breakpoints(runs, path):
     after(runs, "rc with 65,532 breakpoints", path, MILLION + rising, "rc\n")
 
 
-def measure(runs):
+def measure(runs: Any) -> None:
     """Two loops, and sessions on one of them."""
     arithmetic = runs.image("arithmetic", ARITHMETIC)
     counting = runs.image("counting", COUNTING)

@@ -1,5 +1,7 @@
 """How long calls on values take, and a checkpoint's copy of them."""
 
+from typing import Any
+
 from .runs import left, row
 from .steps import COUNTING
 
@@ -57,14 +59,14 @@ ja again
 STEPS = 1_000_000
 
 
-def pushes(runs):
+def pushes(runs: Any) -> None:
     """Calls that append to the newest list."""
     path = runs.image("pushes", PUSHES)
     seconds, memory = runs.best(["run-image", path, "--steps", "5000000"])
     row("push onto the newest list", f"{1_000_000 / seconds:,.0f} calls/s", memory)
 
 
-def lists(runs):
+def lists(runs: Any) -> None:
     """One call that compares two long lists."""
     path = runs.image("lists", LISTS)
     built, _ = runs.best(["run-image", path, "--steps", str(BUILDING)])
@@ -73,7 +75,7 @@ def lists(runs):
     row("equal, two lists of 100,000 ints", figure, memory)
 
 
-def on_object(runs, image, name, thing):
+def on_object(runs: Any, image: Any, name: str, thing: Any) -> Any:
     """The seconds of a session of so many steps on this object, those of its start, and the memory."""
     session = ["debug", image, "--review", runs.review(name, thing)]
     begun, _ = runs.best(session, "s 1\n")
@@ -81,7 +83,7 @@ def on_object(runs, image, name, thing):
     return whole, begun, memory
 
 
-def keys(runs):
+def keys(runs: Any) -> None:
     """Calls that find a key of a map."""
     image = runs.image("keys", KEYS)
     for count in (10_000, 100_000):
@@ -91,7 +93,7 @@ def keys(runs):
         row(f"find, a map of {count:,} keys", figure, memory)
 
 
-def checkpoints(runs):
+def checkpoints(runs: Any) -> None:
     """What a checkpoint adds to a session for a table of many cells."""
     image = runs.image("counting", COUNTING)
     without, _ = runs.best(["debug", image], f"s {STEPS}\n")
@@ -100,7 +102,7 @@ def checkpoints(runs):
     row("a checkpoint over 100,000 cells", figure, memory)
 
 
-def measure(runs):
+def measure(runs: Any) -> None:
     """Each kind of call."""
     pushes(runs)
     lists(runs)

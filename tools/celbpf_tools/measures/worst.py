@@ -1,6 +1,7 @@
 """Reviews and sessions of the shapes that cost most, each at three sizes, ten times apart."""
 
 import os
+from typing import Any
 
 from .policies import ALLOWED, DENIED, policy
 from .runs import row
@@ -51,13 +52,13 @@ exit
 """
 
 
-def timed(runs, name, given, words, lines="", statuses=(ALLOWED,)):
+def timed(runs: Any, name: str, given: Any, words: Any, lines: Any='', statuses: Any=(ALLOWED,)) -> None:
     """A row of one run on files of so many bytes."""
     seconds, memory = runs.best(words, lines, statuses, COUNT)
     row(name, f"{given / 1_000_000:.2f} MB in {seconds:.2f} s", memory)
 
 
-def on_request(runs, name, expression, request, status=ALLOWED):
+def on_request(runs: Any, name: str, expression: Any, request: Any, status: Any=ALLOWED) -> None:
     """A review of this request under a policy with this validation."""
     path = policy(runs, "worst", [expression])
     whole = {"apiVersion": "admission.k8s.io/v1", "kind": "AdmissionReview", "request": {"uid": "u", **request}}
@@ -66,7 +67,7 @@ def on_request(runs, name, expression, request, status=ALLOWED):
     timed(runs, name, os.path.getsize(review), words, statuses=(status,))
 
 
-def searches(runs):
+def searches(runs: Any) -> None:
     """Each item of one list is searched in another: ints that are there, and texts that are not."""
     expression = "oldObject.h.all(h, h in object.h)"
     for size in SIZES:
@@ -80,7 +81,7 @@ def searches(runs):
         on_request(runs, f"! in, {count:,} texts", expression.replace("h in", "!(h in").replace(".h)", ".h))"), request)
 
 
-def comparisons(runs):
+def comparisons(runs: Any) -> None:
     """Two lists that differ in their last item, compared in each turn of a loop, and each list of some with each."""
     for size in SIZES:
         count = 1_000 * size
@@ -96,7 +97,7 @@ def comparisons(runs):
         on_request(runs, name, "object.a.all(x, object.b.all(y, x != y))", {"object": thing})
 
 
-def long_keys(runs):
+def long_keys(runs: Any) -> None:
     """A long key that is named in each turn of a loop, and one whose beginning is compared."""
     for size in SIZES:
         length = 10_000 * size
@@ -108,7 +109,7 @@ def long_keys(runs):
         on_request(runs, f"annotations in {10 * size:,} containers", expression, {"object": thing})
 
 
-def shapes(runs):
+def shapes(runs: Any) -> None:
     """Documents of many small maps, of maps in maps, and of containers."""
     for count in (1_900, 19_000, 190_000, 2_600_000):
         on_request(runs, f"{count:,} maps of one key", "true", {"object": {"l": [{"": 0}] * count}})
@@ -122,7 +123,7 @@ def shapes(runs):
         on_request(runs, f"{count:,} containers", expression, {"object": {"spec": {"containers": [CONTAINER] * count}}})
 
 
-def session(runs, name, image, lines, thing=None):
+def session(runs: Any, name: str, image: Any, lines: Any, thing: Any=None) -> None:
     """A row of a session on these lines."""
     words = ["debug", image]
     given = len(lines)
@@ -133,7 +134,7 @@ def session(runs, name, image, lines, thing=None):
     timed(runs, name, given, words, lines)
 
 
-def sessions(runs):
+def sessions(runs: Any) -> None:
     """Sessions on programs that place values, on a compiled policy, and on long lines."""
     image = runs.image("placing", PLACING)
     for size in SIZES:
@@ -149,7 +150,7 @@ def sessions(runs):
         session(runs, f"a line of {500_000 * size:,} bytes", image, "x" * (500_000 * size) + "\n", {"t": "x"})
 
 
-def measure(runs):
+def measure(runs: Any) -> None:
     """Each of them."""
     searches(runs)
     comparisons(runs)

@@ -10,6 +10,7 @@ and the command prints, `block` for a block of the page, and its status. Session
 
 import sys
 import tempfile
+from typing import Any
 
 from ..asking.program import Program, located
 
@@ -18,7 +19,7 @@ from .expressions import Expressions
 from .texts import read
 
 
-def main():
+def main() -> Any:
     path = located(sys.argv[1] if len(sys.argv) > 1 else "")
     with tempfile.TemporaryDirectory() as folder, tempfile.TemporaryDirectory() as other:
         commands = Commands(path, folder)

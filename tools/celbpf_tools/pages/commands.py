@@ -5,6 +5,7 @@ import re
 import shutil
 import subprocess
 from pathlib import Path
+from typing import Any
 
 from ..home import ROOT
 from .texts import block, read, spans, tables
@@ -19,27 +20,27 @@ MORE = {"seven lines more": 7, "ten lines more": 10}
 class Commands:
     """A folder in which the commands of a page are run as at the top of the repository."""
 
-    def __init__(self, program, folder):
+    def __init__(self, program: Any, folder: Any):
         self.folder = Path(folder)
         self.program = program
         self.runs = self.differing = 0
         for name, path in ("celbpf", program), ("examples", ROOT / "examples"), ("tools", ROOT / "tools"):
             os.symlink(path, self.folder / name)
 
-    def shell(self, text, asked=""):
+    def shell(self, text: str, asked: Any='') -> Any:
         """The status and both outputs of a text that a shell runs."""
         path = {**os.environ, "PATH": f"{self.folder}:{os.environ['PATH']}", "CELBPF_PROGRAM": str(self.program)}
         outputs = {"stdout": subprocess.PIPE, "stderr": subprocess.STDOUT}
         ended = subprocess.run(text, shell=True, cwd=self.folder, env=path, text=True, input=asked, **outputs)
         return ended.returncode, ended.stdout
 
-    def tell(self, page, what, is_right, found):
+    def tell(self, page: Any, what: Any, is_right: Any, found: Any) -> None:
         self.runs += 1
         if not is_right:
             self.differing += 1
             print(f"{page}: {what}\nfound: {found}", flush=True)
 
-    def sessions(self, page, text, setting):
+    def sessions(self, page: Any, text: str, setting: Any) -> None:
         """Each table of a session, by the last command above it that begins one."""
         for at, head, rows in tables(text):
             if head[:2] != ["You type", "It answers"]:
@@ -55,7 +56,7 @@ class Commands:
 class Page:
     """A page, the commands in it that were not run yet, and the command of the table that is read."""
 
-    def __init__(self, commands, name):
+    def __init__(self, commands: Any, name: str):
         self.commands = commands
         self.name = name
         self.text = read(name)
@@ -64,7 +65,7 @@ class Page:
         self.setting = ""
         self.command, self.is_shown, self.wanted = "", False, []
 
-    def read_line(self, word, rest, line):
+    def read_line(self, word: Any, rest: Any, line: Any) -> None:
         """Obeys a line of the table."""
         if word == "with":
             self.setting = f"{rest}; "
@@ -83,7 +84,7 @@ class Page:
         else:
             self.wanted.append(line)
 
-    def run(self, status):
+    def run(self, status: Any) -> None:
         """Runs the command, or the block that it begins."""
         done = block(self.text, self.command) if self.is_shown else ""
         done = done or self.command
@@ -97,7 +98,7 @@ class Page:
         self.commands.tell(self.name, self.command, fits and ended == status, f"{said}[{ended}]")
 
 
-def run_table(commands, lines):
+def run_table(commands: Any, lines: Any) -> None:
     """Runs a table of commands, and sees that each command of its pages is in it."""
     page, named = None, set()
     for line in lines:
@@ -112,7 +113,7 @@ def run_table(commands, lines):
     commands.tell("pages", "pages with commands that are not in the table", not others, others)
 
 
-def answers(cell, said):
+def answers(cell: Any, said: Any) -> Any:
     """Whether a session answered as a cell says: its lines, the last of which may go on, and perhaps more."""
     lines, wanted = said.splitlines(), spans(cell.split(":")[0])
     more = next((many for words, many in MORE.items() if words in cell), 0)

@@ -1,6 +1,7 @@
 """The expressions of docs/CEL.md and docs/CLUSTERS.md, with what the pages say that they come to."""
 
 import re
+from typing import Any
 
 from ..asking import policies
 
@@ -16,31 +17,31 @@ FREE = "mabet"
 class Expressions:
     """The program, and how many examples were compared."""
 
-    def __init__(self, program):
+    def __init__(self, program: Any):
         self.program = program
         self.compared = 0
         self.differing = 0
 
-    def same(self, page, text, wanted, found):
+    def same(self, page: Any, text: str, wanted: Any, found: Any) -> None:
         self.compared += 1
         if wanted != found:
             self.differing += 1
             print(f"{page}: {text}\nwanted: {wanted}\nfound: {found}", flush=True)
 
-    def cause(self, text):
+    def cause(self, text: str) -> Any:
         """Why a variable of this expression is refused; empty where it is not."""
         return self.program.refusal(policies.as_variable([], text)).removeprefix("K6 variable 0 ")
 
-    def of_type(self, text):
+    def of_type(self, text: str) -> Any:
         if refusal := self.cause(text):
             return "refused" if refusal == "Y2" else refusal
         fitting = [name for name, probe in PROBES.items() if not self.cause(f"({text}) == {probe}")]
         return fitting[0] if len(fitting) == 1 else "Dyn"
 
-    def value(self, text):
+    def value(self, text: str) -> Any:
         return self.program.value(policies.asking([], text))
 
-    def examples(self, page, cell):
+    def examples(self, page: Any, cell: Any) -> None:
         """An example cell: values, types and refused expressions."""
         word = ""
         for text, code, said in EXAMPLE.findall(cell):
@@ -52,7 +53,7 @@ class Expressions:
             else:
                 self.same(page, text, word.removeprefix("the "), self.value(text))
 
-    def measures(self, page, text):
+    def measures(self, page: Any, text: str) -> None:
         """`E` needs N and `E` has N: the greatest policies with E are accepted, and those one larger are not."""
         for inner, kind, number in re.findall(r"`([^`]+)` (needs|has) ([0-9]+)", text):
             made = nested if kind == "needs" else filled
@@ -60,7 +61,7 @@ class Expressions:
             wanted = ["", "K6 validation 0 G1" if kind == "needs" else "G3"]
             self.same(page, inner, wanted, refusals)
 
-    def cel(self):
+    def cel(self) -> None:
         page = "docs/CEL.md"
         text = read(page)
         for _, head, rows in tables(text):
@@ -74,7 +75,7 @@ class Expressions:
             self.same(page, one, number, self.cause(one))
         self.measures(page, text)
 
-    def clusters(self):
+    def clusters(self) -> None:
         """The forms of docs/CLUSTERS.md that are refused here, and those that are refused in a cluster alone."""
         page = "docs/CLUSTERS.md"
         for _, head, rows in tables(read(page)):
@@ -85,24 +86,24 @@ class Expressions:
                     self.same(page, form, "", self.cause(form))
 
 
-def nested(text, need, more):
+def nested(text: str, need: Any, more: Any) -> Any:
     """A policy that needs as many words as it may, or more of them, if the text needs so many."""
     many = MOST_NEED - need + more
     return policies.whole({"validations": [{"expression": "[" * many + f"dyn({text})" + "]" * many + " == []"}]})
 
 
-def chain(nodes):
+def chain(nodes: Any) -> Any:
     """A bool of so many nodes."""
     return " && ".join(["true"] * ((nodes + 1) // 2)) if nodes % 2 else f"!({chain(nodes - 1)})"
 
 
-def filled(text, nodes, more):
+def filled(text: str, nodes: Any, more: Any) -> Any:
     """A policy of as many nodes as it may have, or more of them, if the text has so many."""
     rest = chain(MOST_NODES - 3 - nodes + more)
     return policies.whole({"validations": [{"expression": text}, {"expression": rest}]})
 
 
-def whole(form):
+def whole(form: Any) -> Any:
     """A form of docs/CLUSTERS.md as an expression."""
     text = f"object.{form}(1)" if form.isidentifier() else form.removesuffix("..").replace("..", "true")
     for name in FREE:

@@ -2,7 +2,7 @@
 
 import json
 from dataclasses import dataclass
-from typing import Optional
+from typing import Any, Optional
 
 from ..evaluator.macros import ROOTS
 from ..evaluator.refused import Refused
@@ -29,13 +29,13 @@ class Case:
     params: Optional[bytes] = None
 
 
-def document(numbers, value):
+def document(numbers: Any, value: dict) -> bytes:
     """A document that says this, compact or laid out, with escapes or without."""
     indent = 2 if numbers.one_in(4) else None
     return cut(numbers, json.dumps(value, indent=indent, ensure_ascii=numbers.one_in(2)).encode())
 
 
-def case_of(numbers):
+def case_of(numbers: Any) -> Case:
     """The next case."""
     policy = spoiled(numbers, POLICIES, {**POLICY, "spec": spec_of(numbers, ROOTS)})
     request, namespace, params = Documents(numbers).review()
@@ -54,7 +54,7 @@ class Outcome:
     differences: tuple = ()
 
 
-def wanted(case):
+def wanted(case: Case) -> tuple:
     """The evaluator's answer to a case, or the refusal's text."""
     try:
         return answer(case.policy, case.review, case.namespace, case.params), ""
@@ -62,24 +62,24 @@ def wanted(case):
         return None, why.text
 
 
-def compared(name, found, *allowed):
+def compared(name: str, found: Any, *allowed: Any) -> list:
     """Nothing, where what was found is one of what is allowed; else a line that says so."""
     return [] if found in allowed else [f"{name}: {found!r} and not {allowed[0]!r}"]
 
 
-def verdict_lines(verdict):
+def verdict_lines(verdict: Any) -> list:
     """What `w` says of a verdict, but for where the messages' texts stand."""
     lines = [f"verdict {verdict.outcome} {len(verdict.denials)}"]
     lines += [f"validation {place} {result}" for place, result in enumerate(verdict.results) if result]
     return lines + [f"message {place}" for place, value in verdict.denials if message_text(value) is not None]
 
 
-def without_places(lines):
+def without_places(lines: list) -> list:
     """Lines of `w` without the places of the messages' texts."""
     return [line.rsplit(" ", 1)[0] if line.startswith("message") else line for line in lines]
 
 
-def look_at_steps(program, words, given, answered):
+def look_at_steps(program: Any, words: list, given: Any, answered: tuple) -> tuple:
     """How many steps the program takes, and where what it shows at its end, or a step before, differs."""
     move, shown = program.session(words, given.costs.steps)
     end = f"exited 0x{given.verdict.outcome:016x}"
@@ -92,7 +92,7 @@ def look_at_steps(program, words, given, answered):
     return steps, differences
 
 
-def outcome_of(program, case):
+def outcome_of(program: Any, case: Case) -> Outcome:
     """Runs the program on a case and compares it with the evaluator."""
     given, refusal = wanted(case)
     words = program.hold(case)

@@ -2,6 +2,7 @@
 
 from collections import Counter
 from statistics import median
+from typing import Any, Iterator
 
 from ..evaluator.verdicts import ADMITTED, DENIED, REJECTED, SKIPPED
 
@@ -19,10 +20,10 @@ class Counts:
         self.differing = 0
 
     @property
-    def accepted(self):
+    def accepted(self) -> int:
         return self.outcomes.total()
 
-    def add(self, outcome):
+    def add(self, outcome: Any) -> None:
         self.differing += bool(outcome.differences)
         if outcome.answer is None:
             self.refusals[kind_of(outcome.refusal)] += 1
@@ -32,7 +33,7 @@ class Counts:
         if outcome.steps:
             self.ratios.append(outcome.steps / outcome.answer.costs.work)
 
-    def lines(self):
+    def lines(self) -> Iterator:
         """The numbers, a line each."""
         yield f"accepted {self.accepted}: {listed(self.outcomes)}"
         if self.refusals:
@@ -44,10 +45,10 @@ class Counts:
         yield f"different {self.differing}"
 
 
-def kind_of(refusal):
+def kind_of(refusal: str) -> str:
     """The numbers of a refusal, without its places."""
     return " ".join(word for word in refusal.split() if len(word) == 2 and word[0].isupper())
 
 
-def listed(counter):
+def listed(counter: Counter) -> str:
     return ", ".join(f"{name} {count}" for name, count in sorted(counter.items()))

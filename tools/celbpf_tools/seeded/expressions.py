@@ -4,6 +4,8 @@ An expression is made as its text with its level: how tightly it binds, so that 
 have to, and now and then where they need not.
 """
 
+from typing import Any
+
 from .texts import INTS, TEXTS, int_literal, text_literal
 
 TERNARY, OR, AND, RELATION, SUM, PRODUCT, UNARY, MEMBER = range(8)
@@ -61,21 +63,21 @@ NAMES = ["x", "y", "c", "k", "item", "r", "all", "e"]
 class Expressions:
     """Makes expressions that may use these variables, a dict from names to kinds, and mostly these roots."""
 
-    def __init__(self, numbers, variables, roots):
+    def __init__(self, numbers: Any, variables: dict, roots: list):
         self.numbers = numbers
         self.variables = variables
         self.roots = roots
         # the iteration names in force, with the kinds that their items mostly have
         self.names = []
 
-    def text(self, kind, room):
+    def text(self, kind: str, room: int) -> str:
         """The text of an expression of a kind, with at most so many nodes above one another."""
         made, _ = self.make(kind, room)
         if self.numbers.one_in(30):
             made = self.numbers.pick([f" {made}", f"{made}\n", f"// why\n{made}", f"{made} // why"])
         return made
 
-    def make(self, kind, room):
+    def make(self, kind: str, room: int) -> tuple:
         """The text and the level of an expression."""
         if self.numbers.one_in(250):
             kind = self.numbers.pick(KINDS)
@@ -84,24 +86,24 @@ class Expressions:
         form = self.numbers.pick(FORMS["any" if self.numbers.one_in(8) else kind])
         return form(self, kind, room - 1)
 
-    def part(self, kind, room, level):
+    def part(self, kind: str, room: int, level: int) -> str:
         """The text of a part that has to bind as tightly as this."""
         made, given = self.make(kind, room)
         if given < level or self.numbers.one_in(25):
             return self.numbers.pick(["({})", "({})", "( {} )"]).format(made)
         return made
 
-    def blank(self):
+    def blank(self) -> str:
         return "" if self.numbers.one_in(8) else self.numbers.pick([" ", " ", " ", " ", "  ", "\n"])
 
-    def between(self, left, sign, right):
+    def between(self, left: str, sign: str, right: str) -> str:
         """Two parts with an operator between them."""
         blank = self.blank() if sign != "in" else " "
         return f"{left}{blank}{sign}{blank}{right}"
 
     # leaves
 
-    def leaf(self, kind):
+    def leaf(self, kind: str) -> tuple:
         """A literal, a path, an iteration name or a variable."""
         chosen = self.numbers.below(12)
         items = self.items_of(kind) if chosen < 6 else []
@@ -114,13 +116,13 @@ class Expressions:
             return self.path(kind), MEMBER
         return self.literal(kind), MEMBER
 
-    def path(self, kind):
+    def path(self, kind: str) -> str:
         """A path from a root, or what may stand nowhere."""
         paths = MISSING if self.numbers.one_in(30) else PATHS[kind]
         known = [path for path in paths if path.split(".")[0].split("[")[0] in self.roots]
         return self.numbers.pick(known) if known else self.literal(kind)
 
-    def items_of(self, kind):
+    def items_of(self, kind: str) -> list:
         """The iteration names in force, and the fields of their items, that mostly are of a kind."""
         found = []
         for name, given in self.names:
@@ -131,7 +133,7 @@ class Expressions:
                 found += [f"has({name}.{self.numbers.pick(FIELDS)})"] if kind == "bool" else []
         return found
 
-    def literal(self, kind):
+    def literal(self, kind: str) -> str:
         numbers = self.numbers
         if kind == "bool":
             return numbers.pick(["true", "true", "false"])
@@ -143,18 +145,18 @@ class Expressions:
             return self.list_literal(numbers.pick(["int", "text", "bool"]), 0)
         return self.map_literal("any", 0)
 
-    def any(self, room, level):
+    def any(self, room: int, level: int) -> str:
         """A part of any kind."""
         if self.numbers.one_in(12):
             return "null"
         return self.part(self.numbers.pick(KINDS), room, level)
 
-    def list_literal(self, kind, room):
+    def list_literal(self, kind: str, room: int) -> str:
         items = [self.part(kind, room, TERNARY) for _ in range(self.numbers.below(4))]
         comma = self.numbers.pick(["", "", "", "", ","])
         return f"[{', '.join(items)}{comma}]"
 
-    def map_literal(self, _, room):
+    def map_literal(self, _, room: int) -> str:
         entries = []
         for _ in range(self.numbers.below(4)):
             key = text_literal(self.numbers, self.numbers.pick(FIELDS))
@@ -166,12 +168,12 @@ class Expressions:
 
     # forms of every kind
 
-    def ternary(self, kind, room):
+    def ternary(self, kind: str, room: int) -> tuple:
         condition = self.part("bool", room, OR)
         chosen, other = self.part(kind, room, OR), self.part(kind, room, TERNARY)
         return f"{condition} ? {chosen} : {other}", TERNARY
 
-    def of_map(self, kind, room):
+    def of_map(self, kind: str, room: int) -> tuple:
         """What a map has under a key, which it mostly has."""
         field = self.numbers.pick(FIELDS)
         target = f"{{'{field}': {self.part(kind, room, TERNARY)}, 'a': {self.any(0, TERNARY)}}}"
@@ -181,91 +183,91 @@ class Expressions:
             return f"{target}[{text_literal(self.numbers, field)}]", MEMBER
         return f"{target}.{field}", MEMBER
 
-    def of_list(self, kind, room):
+    def of_list(self, kind: str, room: int) -> tuple:
         """An item of a list, which it mostly has."""
         if self.numbers.one_in(4):
             return f"{self.part('list', room, MEMBER)}[{self.part('int', 0, TERNARY)}]", MEMBER
         items = f"[{self.part(kind, room, TERNARY)}, {self.any(0, TERNARY)}]"
         return f"{items}[{self.numbers.pick('0001')}]", MEMBER
 
-    def dynamic(self, kind, room):
+    def dynamic(self, kind: str, room: int) -> tuple:
         wanted = self.numbers.pick(KINDS) if self.numbers.one_in(8) else kind
         return f"dyn({self.part(wanted, room, TERNARY)})", MEMBER
 
     # bools
 
-    def logic(self, _, room):
+    def logic(self, _, room: int) -> tuple:
         if self.numbers.one_in(2):
             return self.between(self.part("bool", room, AND), "&&", self.part("bool", room, RELATION)), AND
         return self.between(self.part("bool", room, OR), "||", self.part("bool", room, AND)), OR
 
-    def no(self, _, room):
+    def no(self, _, room: int) -> tuple:
         return self.numbers.pick(["!", "!", "!!"]) + self.part("bool", room, MEMBER), UNARY
 
-    def equality(self, _, room):
+    def equality(self, _, room: int) -> tuple:
         kind = self.numbers.pick(KINDS)
         other = "null" if self.numbers.one_in(40) else self.part(kind, room, SUM)
         sign = self.numbers.pick(["==", "!="])
         return self.between(self.part(kind, room, RELATION), sign, other), RELATION
 
-    def ordering(self, _, room):
+    def ordering(self, _, room: int) -> tuple:
         kind = self.numbers.pick(["int", "int", "int", "text", "bool"])
         sign = self.numbers.pick(["<", "<=", ">", ">="])
         return self.between(self.part(kind, room, SUM), sign, self.part(kind, room, SUM)), RELATION
 
-    def membership(self, _, room):
+    def membership(self, _, room: int) -> tuple:
         if self.numbers.one_in(3):
             return self.between(self.part("text", room, SUM), "in", self.part("map", room, SUM)), RELATION
         return self.between(self.any(room, SUM), "in", self.part("list", room, SUM)), RELATION
 
-    def presence(self, _, room):
+    def presence(self, _, room: int) -> tuple:
         return f"has({self.part('map', room, MEMBER)}.{self.numbers.pick(FIELDS)})", MEMBER
 
-    def text_test(self, _, room):
+    def text_test(self, _, room: int) -> tuple:
         method = self.numbers.pick(["startsWith", "endsWith", "contains"])
         return f"{self.part('text', room, MEMBER)}.{method}({self.part('text', room, TERNARY)})", MEMBER
 
-    def quantifier(self, _, room):
+    def quantifier(self, _, room: int) -> tuple:
         word = self.numbers.pick(["all", "exists", "exists_one"])
         return self.macro(word, ["bool"], room), MEMBER
 
     # ints
 
-    def sum(self, kind, room):
+    def sum(self, kind: str, room: int) -> tuple:
         sign = self.numbers.pick(["+", "-"]) if kind == "int" else "+"
         return self.between(self.part(kind, room, SUM), sign, self.part(kind, room, PRODUCT)), SUM
 
-    def product(self, _, room):
+    def product(self, _, room: int) -> tuple:
         sign = self.numbers.pick(["*", "/", "%"])
         return self.between(self.part("int", room, PRODUCT), sign, self.part("int", room, UNARY)), PRODUCT
 
-    def negative(self, _, room):
+    def negative(self, _, room: int) -> tuple:
         return self.numbers.pick(["-", "-", "--", "- "]) + self.part("int", room, MEMBER), UNARY
 
-    def count(self, _, room):
+    def count(self, _, room: int) -> tuple:
         target = self.part(self.numbers.pick(["text", "list", "map"]), room, MEMBER)
         return (f"size({target})" if self.numbers.one_in(2) else f"{target}.size()"), MEMBER
 
     # texts, lists and maps
 
-    def decimal(self, _, room):
+    def decimal(self, _, room: int) -> tuple:
         return f"string({self.part(self.numbers.pick(['int', 'int', 'text']), room, TERNARY)})", MEMBER
 
-    def items(self, _, room):
+    def items(self, _, room: Any) -> Any:
         return self.list_literal(self.numbers.pick(KINDS), room), MEMBER
 
-    def entries(self, kind, room):
+    def entries(self, kind: str, room: int) -> tuple:
         return self.map_literal(kind, room), MEMBER
 
-    def filtered(self, _, room):
+    def filtered(self, _, room: int) -> tuple:
         return self.macro("filter", ["bool"], room), MEMBER
 
-    def mapped(self, _, room):
+    def mapped(self, _, room: int) -> tuple:
         kind = self.numbers.pick(KINDS)
         kinds = ["bool", kind] if self.numbers.one_in(3) else [kind]
         return self.macro("map", kinds, room), MEMBER
 
-    def range_of(self, kind, room):
+    def range_of(self, kind: str, room: int) -> str:
         """What a macro goes over, whose items are mostly of a kind."""
         chosen = self.numbers.below(8)
         if chosen == 0:
@@ -276,7 +278,7 @@ class Expressions:
             return self.macro("map", [kind], room - 1)
         return self.numbers.pick(RANGES[kind])
 
-    def macro(self, word, kinds, room):
+    def macro(self, word: str, kinds: list, room: int) -> str:
         """A macro whose parts behind the iteration name are of these kinds."""
         given = self.numbers.pick(["bool", "int", "int", "text", "text", "list", "map", "map"])
         name, target = self.numbers.pick(NAMES), self.range_of(given, room)

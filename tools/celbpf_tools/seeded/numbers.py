@@ -1,15 +1,17 @@
 """Numbers from a seed, the same on every machine and with every Python."""
 
+from typing import Any
+
 MASK = 2**64 - 1
 
 
 class Numbers:
     """A stream of numbers (splitmix64)."""
 
-    def __init__(self, seed):
+    def __init__(self, seed: int):
         self.state = seed & MASK
 
-    def next(self):
+    def next(self) -> int:
         """A number of 64 bits."""
         self.state = (self.state + 0x9E3779B97F4A7C15) & MASK
         mixed = self.state
@@ -17,19 +19,19 @@ class Numbers:
         mixed = (mixed ^ (mixed >> 27)) * 0x94D049BB133111EB & MASK
         return mixed ^ (mixed >> 31)
 
-    def below(self, bound):
+    def below(self, bound: int) -> int:
         """A number below a bound."""
         return self.next() % bound
 
-    def one_in(self, count):
+    def one_in(self, count: int) -> bool:
         """True once in this many times."""
         return self.below(count) == 0
 
-    def pick(self, values):
+    def pick(self, values: Any) -> Any:
         """One of a list."""
         return values[self.below(len(values))]
 
-    def some(self, values, most):
+    def some(self, values: list, most: int) -> list:
         """At most so many of a list, in its order."""
         wanted = self.below(most + 1)
         picked = set()

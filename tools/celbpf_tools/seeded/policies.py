@@ -1,5 +1,7 @@
 """The specifications of policies."""
 
+from typing import Any
+
 from .expressions import KINDS, Expressions
 from .texts import TEXTS
 
@@ -14,7 +16,7 @@ SPOILS = [
 ]
 
 
-def spoiled(numbers, text):
+def spoiled(numbers: Any, text: str) -> str:
     """A text with one thing wrong."""
     old, new = numbers.pick(SPOILS)
     return text.replace(old, new, 1)
@@ -23,18 +25,18 @@ def spoiled(numbers, text):
 class Specifications:
     """Makes specifications whose expressions mostly keep to these roots."""
 
-    def __init__(self, numbers, roots):
+    def __init__(self, numbers: Any, roots: list):
         self.numbers = numbers
         self.roots = roots
         # the variables so far, and the kind of each
         self.kinds = {}
 
-    def expression(self, kind, room, variables):
+    def expression(self, kind: str, room: int, variables: dict) -> str:
         """The text of an expression, which now and then is spoiled."""
         made = Expressions(self.numbers, variables, self.roots).text(kind, room)
         return spoiled(self.numbers, made) if self.numbers.one_in(60) else made
 
-    def variables(self):
+    def variables(self) -> list:
         numbers, made = self.numbers, []
         for name in numbers.some(VARIABLE_NAMES, 4):
             kind = numbers.pick(KINDS)
@@ -42,7 +44,7 @@ class Specifications:
             self.kinds[name] = kind
         return made
 
-    def conditions(self):
+    def conditions(self) -> list:
         """Conditions, most of which are true."""
         numbers, made = self.numbers, []
         for place in range(numbers.pick([0, 0, 0, 1, 2])):
@@ -51,7 +53,7 @@ class Specifications:
             made.append({"name": f"{numbers.pick(['when', 'é', 'a b'])}{place}", "expression": text})
         return made
 
-    def validation(self):
+    def validation(self) -> dict:
         numbers = self.numbers
         made = {"expression": self.expression("bool", 1 + numbers.below(5), self.kinds)}
         if numbers.one_in(3):
@@ -62,7 +64,7 @@ class Specifications:
             made["reason"] = numbers.pick(REASONS)
         return made
 
-    def specification(self):
+    def specification(self) -> dict:
         numbers, spec = self.numbers, {}
         if numbers.one_in(2):
             spec["failurePolicy"] = numbers.pick(["Fail", "Ignore", "Ignore"])
@@ -75,6 +77,6 @@ class Specifications:
         return spec
 
 
-def spec_of(numbers, roots):
+def spec_of(numbers: Any, roots: list) -> dict:
     """The specification of a policy whose expressions mostly keep to these roots."""
     return Specifications(numbers, roots).specification()

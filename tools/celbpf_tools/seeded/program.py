@@ -1,6 +1,7 @@
 """Runs of the built program on documents in a folder."""
 
 import subprocess
+from typing import Any
 
 SECONDS = 60
 MOST_STEPS_A_LINE = 1_000_000
@@ -9,18 +10,18 @@ MOST_STEPS_A_LINE = 1_000_000
 class Program:
     """The built program at a path, with a folder for its files."""
 
-    def __init__(self, path, folder):
+    def __init__(self, path: Any, folder: str):
         self.path = path
         self.folder = folder
 
-    def run(self, *words, lines=""):
+    def run(self, *words: str, lines: str='') -> tuple:
         """The status and both outputs of one run."""
         ended = subprocess.run(
             [self.path, *words], input=lines.encode(), capture_output=True, cwd=self.folder, timeout=SECONDS
         )
         return ended.returncode, ended.stdout.decode(), ended.stderr.decode()
 
-    def hold(self, case):
+    def hold(self, case: Any) -> list:
         """Writes the documents of a case, and answers the words that name those of the review."""
         words = []
         for name in ("review", "namespace", "params"):
@@ -31,15 +32,15 @@ class Program:
         self.write("policy.json", case.policy)
         return words
 
-    def write(self, name, document):
+    def write(self, name: str, document: bytes) -> None:
         with open(f"{self.folder}/{name}", "wb") as file:
             file.write(document)
 
-    def review(self, words, steps):
+    def review(self, words: list, steps: int) -> tuple:
         """What reviewing the documents that are held ends with, within so many steps."""
         return self.run("review", "--policy", "policy.json", *words, "--steps", str(steps))
 
-    def session(self, words, steps):
+    def session(self, words: list, steps: int) -> tuple:
         """In a session on the held policy's program, the last move's line, and those of `w` behind it."""
         self.run("compile", "policy.json", "policy.img")
         moves = -(-steps // MOST_STEPS_A_LINE)

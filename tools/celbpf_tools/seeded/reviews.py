@@ -1,5 +1,7 @@
 """The documents of reviews: objects, requests, namespaces and params."""
 
+from typing import Any, Callable
+
 from .texts import INTS, TEXTS
 
 LABELS = ["app", "team", "tier", "example.com/owner", "é", "name", ""]
@@ -8,29 +10,29 @@ LABELS = ["app", "team", "tier", "example.com/owner", "é", "name", ""]
 class Documents:
     """Makes documents whose values are mostly of the kinds that expressions look for."""
 
-    def __init__(self, numbers):
+    def __init__(self, numbers: Any):
         self.numbers = numbers
 
-    def whole(self):
+    def whole(self) -> int:
         return self.numbers.pick(INTS)
 
-    def text(self):
+    def text(self) -> str:
         return self.numbers.pick(TEXTS)
 
-    def truth(self):
+    def truth(self) -> bool:
         return self.numbers.one_in(2)
 
-    def anything(self):
+    def anything(self) -> Any:
         numbers = self.numbers
         lists, maps = [[], [1, "a", None], [[1], {"a": [2]}]], [{}, {"name": "a"}]
         return numbers.pick([None, True, 3, -1, "a", *lists, *maps])
 
-    def several(self, make, most):
+    def several(self, make: Callable, most: int) -> list:
         """At most so many, and now and then six times as many."""
         most = 6 * most if self.numbers.one_in(20) else most
         return [make() for _ in range(self.numbers.below(most + 1))]
 
-    def object(self, **makers):
+    def object(self, **makers: Callable) -> dict:
         """An object whose keys mostly stand there, with a value of their own kind."""
         made = {}
         for key, make in makers.items():
@@ -39,42 +41,42 @@ class Documents:
                 made[key] = make() if chosen > 1 else self.anything()
         return made
 
-    def labels(self):
+    def labels(self) -> dict:
         return {key: self.text() for key in self.numbers.some(LABELS, 24)}
 
-    def limits(self):
+    def limits(self) -> dict:
         return {key: self.whole() for key in self.numbers.some(["cpu", "memory", "pods"], 12)}
 
-    def container(self):
+    def container(self) -> dict:
         return self.object(
             name=self.text, image=self.text, port=self.whole, privileged=self.truth,
             args=lambda: self.several(self.text, 3), env=self.labels,
         )
 
-    def metadata(self):
+    def metadata(self) -> dict:
         return self.object(name=self.text, labels=self.labels, annotations=self.labels, generation=self.whole)
 
-    def spec(self):
+    def spec(self) -> dict:
         return self.object(
             replicas=self.whole, paused=self.truth, image=self.text, limits=self.limits,
             ports=lambda: self.several(self.whole, 12), args=lambda: self.several(self.text, 8),
             containers=lambda: self.several(self.container, 4),
         )
 
-    def thing(self):
+    def thing(self) -> dict:
         """What stands under `object` or `oldObject`."""
         return self.object(kind=self.text, metadata=self.metadata, spec=self.spec)
 
-    def params(self):
+    def params(self) -> dict:
         return self.object(
             most=self.whole, prefix=self.text, strict=self.truth, limits=self.limits,
             names=lambda: self.several(self.text, 4),
         )
 
-    def user(self):
+    def user(self) -> dict:
         return self.object(username=self.text, groups=lambda: self.several(self.text, 3))
 
-    def request(self):
+    def request(self) -> dict:
         """A request, whose object may be null or absent."""
         numbers = self.numbers
         made = {
@@ -91,12 +93,12 @@ class Documents:
             made["oldObject"] = numbers.pick([now, now, self.thing(), self.thing(), None])
         return made
 
-    def spoiled_root(self):
+    def spoiled_root(self) -> Any:
         """What no root may be."""
         numbers = [{"a": 1.5}, {"a": [2**63]}, {"a": {"b": -(2**63) - 1}}, {"a": -0.0}]
         return self.numbers.pick([1, "a", [], True, *numbers])
 
-    def review(self):
+    def review(self) -> tuple:
         """A review, its namespace and its params, of which the last two may be None."""
         request = self.request()
         if self.numbers.one_in(60):

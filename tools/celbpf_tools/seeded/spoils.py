@@ -1,22 +1,24 @@
 """Documents with one thing wrong."""
 
+from typing import Any
 
-def with_key(key, value):
+
+def with_key(key: Any, value: Any) -> Any:
     """A change that sets a key of a document."""
     return lambda document: {**document, key: value}
 
 
-def in_spec(key, value):
+def in_spec(key: Any, value: Any) -> Any:
     """A change that sets a key of the specification."""
     return lambda document: {**document, "spec": {**document["spec"], key: value}}
 
 
-def in_request(key, value):
+def in_request(key: Any, value: Any) -> Any:
     """A change that sets a key of the request."""
     return lambda document: {**document, "request": {**document["request"], key: value}}
 
 
-def without(key):
+def without(key: Any) -> Any:
     """A change that takes a key away."""
     return lambda document: {name: value for name, value in document.items() if name != key}
 
@@ -41,11 +43,11 @@ REVIEWS = [
 ]
 
 
-def spoiled(numbers, spoils, document):
+def spoiled(numbers: Any, spoils: list, document: dict) -> dict:
     """A document that now and then has one thing wrong."""
     return numbers.pick(spoils)(document) if numbers.one_in(50) else document
 
 
-def cut(numbers, written):
+def cut(numbers: Any, written: bytes) -> bytes:
     """A document's bytes, of which now and then the last is missing."""
     return written[:-1] if numbers.one_in(200) else written

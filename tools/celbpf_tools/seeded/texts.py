@@ -1,5 +1,7 @@
 """Texts and ints of documents and expressions, and the literals that spell them."""
 
+from typing import Any
+
 TEXTS = [
     "", "a", "b", "ab", "ba", "web", "web-1", "app", "team", "front", "back", "prod", "CREATE", "UPDATE",
     "registry.example.com/web:1", "registry.example.com/", "example.com/owner", ":latest", "a:latest",
@@ -14,7 +16,7 @@ INTS = [
 SHORT = {"\a": "\\a", "\n": "\\n", "\t": "\\t", "\\": "\\\\"}
 
 
-def escaped(numbers, character, quote):
+def escaped(numbers: Any, character: str, quote: str) -> str:
     """A character inside a text literal, by one of the escapes where it needs one, and now and then else."""
     code = ord(character)
     plain = character not in SHORT and character != quote
@@ -28,7 +30,7 @@ def escaped(numbers, character, quote):
     return numbers.pick([*forms, f"\\U{code:08X}"])
 
 
-def text_literal(numbers, text):
+def text_literal(numbers: Any, text: str) -> str:
     """A literal of this text, raw where that can be and is drawn."""
     quote = numbers.pick(["'", "'", '"'])
     if numbers.one_in(6) and quote not in text and "\n" not in text and "\r" not in text:
@@ -36,7 +38,7 @@ def text_literal(numbers, text):
     return quote + "".join(escaped(numbers, one, quote) for one in text) + quote
 
 
-def int_literal(numbers, number):
+def int_literal(numbers: Any, number: int) -> str:
     """A literal of this int, in hex now and then."""
     sign, magnitude = ("-" if number < 0 else ""), abs(number)
     if numbers.one_in(8):
