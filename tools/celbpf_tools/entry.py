@@ -24,7 +24,7 @@ DEEPEST = 50_000
 class Stop(Exception):
     """Ends a script with a line on standard error and a status."""
 
-    def __init__(self, line: str, status: int=FILE):
+    def __init__(self, line: str, status: int = FILE):
         super().__init__(line)
         self.line = line
         self.status = status

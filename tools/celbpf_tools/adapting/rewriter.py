@@ -36,7 +36,7 @@ class Found:
 class Rewriter:
     """Rewrites one expression; `variables` is `None` where it may name none, as in a match condition."""
 
-    def __init__(self, text: str, variables: Optional[Variables]=None):
+    def __init__(self, text: str, variables: Optional[Variables] = None):
         self.source = Source(text)
         self.variables = variables
         self.report = Report()

@@ -91,7 +91,7 @@ def build(name: str, words: list) -> None:
 class Program:
     """The program, and a folder for the files that it is run on; `documents` are words such as `--review F`."""
 
-    def __init__(self, path: Path, folder: str, documents: Any=()):
+    def __init__(self, path: Path, folder: str, documents: Any = ()):
         self.path = path
         self.folder = folder
         self.documents = [str(word) for word in documents]
@@ -216,7 +216,7 @@ class Session:
             raise NotAnswered(subprocess.CompletedProcess([], self.process.returncode, "", err))
         return said.rstrip("\n")
 
-    def ask(self, asked: str, until: str='') -> str:
+    def ask(self, asked: str, until: str = '') -> str:
         """The first line of the answer, or the whole of it where `until` ends the session."""
         try:
             self.process.stdin.write(f"{asked}\n{until}\n" if until else f"{asked}\n")

@@ -50,12 +50,12 @@ class Reader:
         self.tokens = list(tokens(text))
         self.at = 0
 
-    def token(self, ahead: int=0) -> tuple:
+    def token(self, ahead: int = 0) -> tuple:
         """The kind and the text of a token, or empty ones behind the last."""
         at = self.at + ahead
         return self.tokens[at][:2] if at < len(self.tokens) else ("", "")
 
-    def is_next(self, *words: str, ahead: int=0) -> bool:
+    def is_next(self, *words: str, ahead: int = 0) -> bool:
         kind, text = self.token(ahead)
         return kind in ("mark", "name") and text in words
 

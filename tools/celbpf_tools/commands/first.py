@@ -3,11 +3,13 @@
 usage: tools/first COMMAND ..      (as ./celbpf COMMAND ..)
        tools/first gatekeeper ..   (as ./gatekeeper ..)
 
-`rt try` compiles the sources with checks and runs them, in a minute or two; nothing is kept, and the next run takes as
-long. The files that the words name are handed over, and an image that is written is handed back. Standard input is read
-to its end first. The status is the program's; 10 if there is no command rt, 13 if the sources do not run.
+`rt try` compiles the sources with checks and runs them, in some minutes; nothing is kept, and the next run takes as
+long. The files that the words name are handed over. An image that `compile` or `asm` writes is not kept, since rt hands
+back no file: these commands say whether a text is accepted. Standard input is read to its end first. The status is the
+program's; 10 if there is no command rt, 13 if the sources do not run.
 """
 
+import os
 import re
 import shutil
 import subprocess
@@ -39,7 +41,7 @@ def handed(words: list) -> tuple:
     """The words with names instead of files, and the words of rt that hand these over."""
     found, given = [], []
     for place, word in enumerate(words):
-        if place and word != STDIN and Path(word).is_file() and not word.startswith("-"):
+        if place and word not in (STDIN, os.devnull) and Path(word).is_file() and not word.startswith("-"):
             name = f"file{place}{Path(word).suffix}"
             given += ["--data", f"{name}={Path(word).resolve()}"]
             word = name
@@ -48,12 +50,13 @@ def handed(words: list) -> tuple:
 
 
 def plan(words: list) -> tuple:
-    """The crate to run, the program's words, and the file that it writes, if it writes one."""
+    """The crate to run, and the program's words; what it would write goes nowhere."""
     if words[:1] == ["gatekeeper"]:
-        return "gatekeeper", words[1:], None
-    if words[:1] and words[0] in WRITING and len(words) == 3:
-        return "celbpf", [*words[:2], "/dev/stdout"], words[2]
-    return "celbpf", words, None
+        return "gatekeeper", words[1:]
+    if words[0] in WRITING and len(words) == 3:
+        say(f"{words[2]} is not written: rt hands back no file")
+        return "celbpf", [*words[:2], os.devnull]
+    return "celbpf", words
 
 
 def waited(running: subprocess.Popen) -> None:
@@ -89,8 +92,8 @@ def main() -> Optional[int]:
         raise Stop(f"usage: {__doc__.split('usage: ')[1].split(chr(10) * 2)[0]}", 2)
     if not shutil.which("rt"):
         raise Stop("there is no command rt in the path; it comes with the toolchain", NO_RT)
-    crate, words, written = plan(words)
-    say("nothing is proved of this run: it compiles the sources with checks, which takes a minute or two")
+    crate, words = plan(words)
+    say("nothing is proved of this run: it compiles the sources with checks, which takes some minutes")
     status, output, said = tried(crate, words, words[:1] == ["debug"] or crate == "gatekeeper" or STDIN in words)
     if status is None:
         print(said, end="", file=sys.stderr)
@@ -98,10 +101,7 @@ def main() -> Optional[int]:
     for line in said.splitlines():
         if not OF_RT.match(line):
             print(line, file=sys.stderr)
-    if written and status == 0:
-        Path(written).write_bytes(output)
-    else:
-        sys.stdout.buffer.write(output)
-        sys.stdout.flush()
+    sys.stdout.buffer.write(output)
+    sys.stdout.flush()
     say(f"to prove and build the program run ./{crate}, which takes some 45 minutes on four processors")
     return status

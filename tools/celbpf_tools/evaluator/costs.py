@@ -18,7 +18,7 @@ class Costs:
         self.sizes = 0
         self.deep = False
 
-    def turn(self, count: int=1) -> None:
+    def turn(self, count: int = 1) -> None:
         """Counts what is not a node: a part of a policy, or an item that a macro goes over."""
         self.work += count
 

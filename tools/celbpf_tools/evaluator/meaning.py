@@ -19,7 +19,7 @@ class Meaning:
         self.variables = variables
         self.costs = costs
 
-    def of(self, tree: Any, items: Optional[dict]=None) -> Any:
+    def of(self, tree: Any, items: Optional[dict] = None) -> Any:
         """The meaning of a tree, where `items` are the iteration names in force."""
         result = self.of_node(tree, items or {})
         self.costs.visit(result)

@@ -30,7 +30,7 @@ class Answer:
         return self.costs.is_within(self.charge)
 
 
-def answer(policy: bytes, review: bytes, namespace: Optional[bytes]=None, params: Optional[bytes]=None) -> Answer:
+def answer(policy: bytes, review: bytes, namespace: Optional[bytes] = None, params: Optional[bytes] = None) -> Answer:
     """The answer to these documents, or what refuses them: the policy first, then the review."""
     try:
         compiled = policies.compile_policy(policies.read(policy))

@@ -128,7 +128,7 @@ def of_parts(tree: Any, scope: dict, names: frozenset) -> list:
     return found
 
 
-def check(tree: Any, scope: dict, names: frozenset=frozenset()) -> str:
+def check(tree: Any, scope: dict, names: frozenset = frozenset()) -> str:
     """The type of a tree in a scope, or the first of Y1 to Y3: parts before their node, from the left."""
     if isinstance(tree, (Literal, Name, Variable)):
         return of_leaf(tree, scope, names)

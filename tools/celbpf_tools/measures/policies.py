@@ -10,7 +10,7 @@ ALLOWED, DENIED, REFUSED = 0, 1, 3
 COUNT = 20
 
 
-def policy(runs: Any, name: str, expressions: Any, variables: Any=()) -> Any:
+def policy(runs: Any, name: str, expressions: Any, variables: Any = ()) -> Any:
     """A policy whose validations have these expressions, with variables of these names."""
     spec = {
         "variables": [{"name": variable, "expression": "1"} for variable in variables],

@@ -15,7 +15,7 @@ class Runs:
         self.program = program
         self.folder = folder
 
-    def run(self, words: Any, lines: Any='', statuses: Any=(0, 4)) -> Any:
+    def run(self, words: Any, lines: Any = '', statuses: Any = (0, 4)) -> Any:
         """The seconds of one run, whose output is dropped and whose status is one of these."""
         began = time.perf_counter()
         ended = subprocess.run([self.program, *words], input=lines.encode(), stdout=subprocess.DEVNULL, stderr=subprocess.PIPE)
@@ -24,14 +24,14 @@ class Runs:
             sys.exit(f"measure: {' '.join(words)} ended with status {ended.returncode}: {ended.stderr.decode()}")
         return seconds
 
-    def memory(self, words: Any, lines: Any='') -> Any:
+    def memory(self, words: Any, lines: Any = '') -> Any:
         """The greatest resident memory of one run, in megabytes."""
         with tempfile.NamedTemporaryFile("r") as report:
             watched = ["env", "time", "-q", "-f", "%M", "-o", report.name, self.program, *words]
             subprocess.run(watched, input=lines.encode(), stdout=subprocess.DEVNULL, stderr=subprocess.DEVNULL)
             return int(report.read()) / 1024
 
-    def best(self, words: Any, lines: Any='', statuses: Any=(0, 4), count: int=3) -> Any:
+    def best(self, words: Any, lines: Any = '', statuses: Any = (0, 4), count: int = 3) -> Any:
         """The least seconds of so many runs, and the memory of one more."""
         seconds = min(self.run(words, lines, statuses) for _ in range(count))
         return seconds, self.memory(words, lines)

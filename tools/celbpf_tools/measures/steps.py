@@ -28,7 +28,7 @@ MILLION = "s 1000000\n"
 SLOTS = range(4, 65_536)
 
 
-def long_run(runs: Any, name: str, steps: Any, words: Any, lines: Any='') -> None:
+def long_run(runs: Any, name: str, steps: Any, words: Any, lines: Any = '') -> None:
     """How many steps a second a run of so many takes."""
     seconds, memory = runs.best(words, lines)
     row(name, f"{steps / seconds:,.0f} steps/s", memory)

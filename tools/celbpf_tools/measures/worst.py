@@ -52,13 +52,13 @@ exit
 """
 
 
-def timed(runs: Any, name: str, given: Any, words: Any, lines: Any='', statuses: Any=(ALLOWED,)) -> None:
+def timed(runs: Any, name: str, given: Any, words: Any, lines: Any = '', statuses: Any = (ALLOWED,)) -> None:
     """A row of one run on files of so many bytes."""
     seconds, memory = runs.best(words, lines, statuses, COUNT)
     row(name, f"{given / 1_000_000:.2f} MB in {seconds:.2f} s", memory)
 
 
-def on_request(runs: Any, name: str, expression: Any, request: Any, status: Any=ALLOWED) -> None:
+def on_request(runs: Any, name: str, expression: Any, request: Any, status: Any = ALLOWED) -> None:
     """A review of this request under a policy with this validation."""
     path = policy(runs, "worst", [expression])
     whole = {"apiVersion": "admission.k8s.io/v1", "kind": "AdmissionReview", "request": {"uid": "u", **request}}
@@ -123,7 +123,7 @@ def shapes(runs: Any) -> None:
         on_request(runs, f"{count:,} containers", expression, {"object": {"spec": {"containers": [CONTAINER] * count}}})
 
 
-def session(runs: Any, name: str, image: Any, lines: Any, thing: Any=None) -> None:
+def session(runs: Any, name: str, image: Any, lines: Any, thing: Any = None) -> None:
     """A row of a session on these lines."""
     words = ["debug", image]
     given = len(lines)

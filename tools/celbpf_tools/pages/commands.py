@@ -27,7 +27,7 @@ class Commands:
         for name, path in ("celbpf", program), ("examples", ROOT / "examples"), ("tools", ROOT / "tools"):
             os.symlink(path, self.folder / name)
 
-    def shell(self, text: str, asked: Any='') -> Any:
+    def shell(self, text: str, asked: Any = '') -> Any:
         """The status and both outputs of a text that a shell runs."""
         path = {**os.environ, "PATH": f"{self.folder}:{os.environ['PATH']}", "CELBPF_PROGRAM": str(self.program)}
         outputs = {"stdout": subprocess.PIPE, "stderr": subprocess.STDOUT}

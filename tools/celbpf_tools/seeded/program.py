@@ -14,7 +14,7 @@ class Program:
         self.path = path
         self.folder = folder
 
-    def run(self, *words: str, lines: str='') -> tuple:
+    def run(self, *words: str, lines: str = '') -> tuple:
         """The status and both outputs of one run."""
         ended = subprocess.run(
             [self.path, *words], input=lines.encode(), capture_output=True, cwd=self.folder, timeout=SECONDS
