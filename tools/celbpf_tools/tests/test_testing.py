@@ -85,6 +85,15 @@ class Told(Files):
             "# b: missing", "# 1 of 3 passed",
         ])
 
+    def test_lines_on_a_terminal(self) -> None:
+        out = io.StringIO()
+        output.lines([*self.RESULTS, Result("c", "three")], ["2 of 4 passed"], out)
+        plain = out.getvalue().replace(output.GREEN, "").replace(output.RED, "").replace(output.PLAIN, "")
+        self.assertEqual(plain.splitlines(), [
+            "FAIL a: 1 of 2", "     two # 2", "         wanted <x>", "FAIL b: 0 of 1", "         b: missing", "ok   c: 1 of 1",
+            "2 of 4 passed",
+        ])
+
     def test_junit(self) -> None:
         path = self.folder / "out.xml"
         output.junit(self.RESULTS, str(path))
