@@ -122,6 +122,10 @@ class Rewriter:
         return False
 
     def of_call(self, node: Node, scope: frozenset) -> bool:
+        if node.word == ".":
+            node.word = ""
+            self.rewrite(node, scope)
+            return self.put(node, rows.DOT, self.source.written(node).removeprefix("."), node.level)
         if node.name == "has" and len(node.parts) == 1:
             return self.of_has(node, node.parts[0], scope)
         if node.name == "matches" and len(node.parts) == 2:

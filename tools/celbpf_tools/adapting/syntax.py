@@ -196,7 +196,9 @@ class Reader:
                 raise NotCel(begin)
             self.at += 1
             if self.is_next("("):
-                return self.call("call", begin, text, [])
+                call = self.call("call", begin, text, [])
+                call.word = "."
+                return call
             return self.made("name", begin, [], name=text, word=".")
         if self.is_next("-"):
             self.at += 1
