@@ -78,8 +78,7 @@ def of_function(program: Program, piece: Piece) -> str:
         return ""
     least = 1 if is_method else 0
     counts = [str(count - least) for count in range(least, MOST_ARGUMENTS + 2) if is_there(count)]
-    word = "method" if is_method else "function"
     if not counts:
-        return f"there is no {word} `{piece.name}`"
+        return f"there is no function `{piece.name}`"
     takes = f"{' or '.join(counts)} argument{'' if counts == ['1'] else 's'}"
-    return f"the {word} `{piece.name}` takes {takes}, and not {len(piece.parts) - least}"
+    return f"the function `{piece.name}` takes {takes}, and not {len(piece.parts) - least}"
