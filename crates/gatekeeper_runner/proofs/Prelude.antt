@@ -9,8 +9,8 @@ pub use Rattle.debugger.specs.{Byte.GivesByte, Session.input_lines, Session.with
 unfoldable pub use Rattle.debugger.specs.{Session.cut, Session.readable}
 pub use Rattle.policy_glue.specs.{Objections.objection_view, OneImage.OneImage}
 unfoldable pub use Rattle.policy_glue.specs.{Documents.document_of, Evaluation.decision_of, Objections.response_text}
-pub use Rattle.review_runner.proofs.{Decided.answer_said, Decided.reviewed, OneReview.cases_once, Results.is_err, Standing.of_one}
-pub use Rattle.review_runner.specs.{Deciding.CompilesDocument, Deciding.Documents, Deciding.IsPolicy, Deciding.decision, FileSystem.FileSystem, FileSystem.IsReading, OneAnswer.HasOneAnswer, OneAnswer.IsAnswerTo, Refusals.order_refusal, Refusals.policy_refusal_of, Saying.IsSaid, Saying.Said, Saying.Says, Saying.said_of, Saying.said_value, Standing.StandsBy, declared.refusals.order_error.OrderError.OrderError, declared.refusals.order_error.OrderError.TheVariants.U1, declared.refusals.policy_refusal.PolicyRefusal.PolicyRefusal, declared.refusals.refusal.Refusal.Refusal, declared.refusals.run_error.RunError.RunError, declared.refusals.run_error.RunError.TheVariants.Memory, declared.refusals.run_error.RunError.TheVariants.N2, declared.reviews.compiled_policy.CompiledPolicy.CompiledPolicy}
+pub use Rattle.review_runner.proofs.{Decided.refused_so, Decided.reviews_refused, OneReview.cases_once, Results.is_err, Standing.of_one}
+pub use Rattle.review_runner.specs.{Deciding.Answer, Deciding.CompilesDocument, Deciding.Documents, Deciding.IsPolicy, Deciding.answer_of, Deciding.decision, FileSystem.FileSystem, FileSystem.IsReading, OneAnswer.HasOneAnswer, OneAnswer.IsAnswerTo, Refusals.order_refusal, Refusals.policy_refusal_of, Saying.IsSaid, Saying.Said, Saying.Says, Saying.said_of, Saying.said_value, Standing.StandsBy, declared.refusals.order_error.OrderError.OrderError, declared.refusals.order_error.OrderError.TheVariants.U1, declared.refusals.policy_refusal.PolicyRefusal.PolicyRefusal, declared.refusals.refusal.Refusal.Refusal, declared.refusals.run_error.RunError.RunError, declared.refusals.run_error.RunError.TheVariants.Memory, declared.refusals.run_error.RunError.TheVariants.N2, declared.reviews.compiled_policy.CompiledPolicy.CompiledPolicy}
 unfoldable pub use Rattle.review_runner.specs.{Commands.option_rule, Commands.required_option_rule, Commands.steps_rule, Commands.with_documents, Reviews.uid_in}
 pub use Rattle.gatekeeper_runner.specs.{Lines.Answers, Lines.IsKept, Lines.Keeps, Lines.answer_text, Lines.decided, Lines.line_of, Lines.no_memory, Lines.no_memory_text, Lines.passed_over, Lines.too_long, Lines.uid_shown, Orders.Ordered, Orders.order_view, Program.Asks, Program.AsksNothing, Program.answers, Program.no_words, Program.not_started, Program.not_taken, Program.nothing, SameAnswers.LinesHaveOneAnswer, Starting.GatesFrom, Starting.IsUnopened, Starting.OneUnopened, Starting.Opens, Starting.OpensGate, Starting.no_namespace, Starting.no_params, Starting.no_policy, Starting.ready, Starting.refused, Starting.unread, Together.AllSay, Together.AreGates, Together.IsGateOf, Together.OneRefuses, Together.SayTogether, Together.SaysAlone, Together.Terms, Together.next, Together.none, Together.terms_of, Together.under, Together.unsaid, Together.with_next, Told.Answered, Told.AnsweredPart, Told.AnswersEach, Told.ByResult, Told.Going, Told.ToldAll, Told.ToldPart, Told.ToldSome, declared.order.Order.Order}
 unfoldable pub use Rattle.gatekeeper_runner.specs.{Lines.longest_line, Lines.refusal_text, Orders.entered, Orders.faults, Orders.gatekeeper_app, Orders.policies_rule}

@@ -1,10 +1,16 @@
 -- A policy says one thing of a review.
-use Rattle.gatekeeper_runner.proofs.Prelude.{◌≡◌, ◌≢◌, ℕ, Result, Ok, Err, sym, ap, ◌∙◌, decision_of, OneImage, Documents, decision, HasOneAnswer, IsAnswerTo, uid_in, IsSaid, Said, Says, said_of, StandsBy, RunError, Memory, answer_said, reviewed, cases_once}
+use Rattle.gatekeeper_runner.proofs.Prelude.{◌≡◌, ◌≢◌, ℕ, Result, Ok, Err, refl, sym, ap, ◌∙◌, decision_of, OneImage, Answer, Documents, answer_of, decision, HasOneAnswer, IsAnswerTo, uid_in, IsSaid, Said, Says, said_of, StandsBy, RunError, Memory, cases_once, refused_so, reviews_refused}
 use Rattle.policy_glue.specs.OneAnswer as policy
 
-some_answer : (r : Result Said RunError) → r ≢ Err Memory → answer_said r ≢ Err Memory
-some_answer (Ok said) some is = cc
-some_answer (Err e) some is = let same : e ≡ Memory = cc in some (ap Err same)
+-- memory was not wanted
+said_cause : (r : Result Said RunError) (e : RunError) → r ≡ Err e → r ≢ Err Memory → e ≢ Memory
+said_cause r e is some same = some (is ∙ ap Err same)
+
+answer_cause : (r : Result Answer RunError) (e : RunError) → r ≡ Err e → e ≢ Memory → r ≢ Err Memory
+answer_cause r e is cause same = let one : e ≡ Memory = cc in cause one
+
+some_answer : (r : Result Answer RunError) (a : Answer) → r ≡ Ok a → r ≢ Err Memory
+some_answer r a is same = cc
 
 module _ (compiles_once : policy.HasOneAnswer) (reviews_once : HasOneAnswer) (d : Documents) (n : ℕ) where
   -- what is said, as whose image stands
@@ -18,14 +24,25 @@ module _ (compiles_once : policy.HasOneAnswer) (reviews_once : HasOneAnswer) (d 
       λ i. said_of (same.0 i) (decision_of (same.0 i).failure_policy (same.1 i) (same.2 i)) (uid_in d.review) in
       is.said_is ∙ both ∙ sym also.said_is
 
-  answer_to : (r : Result Said RunError) → IsTrue r → IsAnswerTo d n (answer_said r)
-  answer_to r is = let so = reviewed OneImage d n r is.0 is.1 in record { reviews = so.0; runs = so.1 }
+  -- a review of which something is said has an answer
+  answered : (x : Said) → IsTrue (Ok x) → (a : Answer) × IsAnswerTo d n (Ok a)
+  answered x is = (answer_of is.0.case.policy.rules (decision is.0.case) (uid_in d.review), record { reviews = record { case = is.0.case; answer_is = refl }; runs = is.1 })
 
-  both : (r s : Result Said RunError) → r ≢ Err Memory → s ≢ Err Memory → IsTrue r → IsTrue s → answer_said r ≡ answer_said s
-  both r s some other is also = reviews_once d n (answer_said r) (answer_said s) (some_answer r some) (some_answer s other) (answer_to r is) (answer_to s also)
+  -- and one that is refused has none
+  refused : (e : RunError) → IsTrue (Err e) → IsAnswerTo d n (Err e)
+  refused e is = record { reviews = reviews_refused d n e is.0; runs = refused_so Said Answer OneImage d n e is.1 }
+
+  not_both : (x : Said) (e : RunError) → e ≢ Memory → IsTrue (Ok x) → IsTrue (Err e) → ⊥
+  not_both x e cause is also =
+      let a = answered x is in
+      let same = reviews_once d n (Ok a.0) (Err e) (some_answer (Ok a.0) a.0 refl) (answer_cause (Err e) e refl cause) a.1 (refused e also) in cc
 
   pub says_once : (r s : Result Said RunError) → r ≢ Err Memory → s ≢ Err Memory → IsTrue r → IsTrue s → r ≡ s
   says_once (Ok x) (Ok y) some other is also = ap Ok (said_same x y is.0 also.0)
-  says_once (Ok x) (Err f) some other is also = let same = both (Ok x) (Err f) some other is also in cc
-  says_once (Err e) (Ok y) some other is also = let same = both (Err e) (Ok y) some other is also in cc
-  says_once (Err e) (Err f) some other is also = let same = both (Err e) (Err f) some other is also in let cause : e ≡ f = cc in ap Err cause
+  says_once (Ok x) (Err f) some other is also = absurd (not_both x f (said_cause (Err f) f refl other) is also)
+  says_once (Err e) (Ok y) some other is also = absurd (not_both y e (said_cause (Err e) e refl some) also is)
+  says_once (Err e) (Err f) some other is also =
+      let none = answer_cause (Err e) e refl (said_cause (Err e) e refl some) in
+      let neither = answer_cause (Err f) f refl (said_cause (Err f) f refl other) in
+      let same = reviews_once d n (Err e) (Err f) none neither (refused e is) (refused f also) in
+      let cause : e ≡ f = cc in ap Err cause

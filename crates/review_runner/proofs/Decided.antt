@@ -1,10 +1,11 @@
 -- Reviews, from the states in which the policies' programs stand.
-use Rattle.review_runner.proofs.Prelude.{◌≡◌, ℕ, ◌+◌, ◌*◌, ◌≤◌, ◌⊎◌, Bool, false, List, [], ◌∷◌, ◌++◌, length, Option, Some, Result, Ok, Err, refl, ap, ◌∙◌, subst, arith, inl, inr, get_or, map, slice_get, if◌then◌else◌, cases_lt, length-map, length_push, Fault as GuestFault, F8, StartIsCanonical, Contents, Starts, start_contents, TableError, view, Value, Roots, StartsAreTables, State, start_state, StatesAreKept, is_running, state_after, Status, Exited, Running, HasValues, Ends, PartsEnd, policy_work, decision_of, outcome_word, Compiles, compact_text, objected_tree, objection_by, objection_of, response_text, Denial, denials_of, response_of, review_tree, tree_of, Verdict, Rules, Decides, Over, Left, PolicyTree, Finding, decided, judged_by, verdict_of, CompileError, FailurePolicy, CompiledPolicy, Answer, Documents, IsAnswered, IsPolicy, Reviews, is_allowed, decision, started, values_given, IsPolicyOf, IsSaid, IsSaidBy, Said, Says, SaysFrom, answer_by, is_silent, said_of, Images, Runs, Stands, StandsBy, this, Gives, Parts, document_given, documents_from, documents_given, parts_given, root_refusal, uid_in, uid_of, RunError, N2, N3, N4, N5}
+use Rattle.review_runner.proofs.Prelude.{◌≡◌, ℕ, ◌+◌, ◌*◌, ◌≤◌, ◌⊎◌, Bool, false, List, [], ◌∷◌, ◌++◌, length, Option, Some, Result, Ok, Err, refl, sym, ap, ◌∙◌, subst, arith, inl, inr, get_or, map, slice_get, if◌then◌else◌, cases_lt, length-map, length_push, Fault as GuestFault, F8, StartIsCanonical, Contents, Starts, start_contents, TableError, view, Value, Roots, StartsAreTables, State, start_state, StatesAreKept, is_running, state_after, Status, Exited, Running, HasValues, Ends, PartsEnd, policy_work, decision_of, outcome_word, Compiles, Verdict, Rules, Decides, Over, Left, PolicyTree, Finding, decided, judged_by, verdict_of, CompileError, FailurePolicy, CompiledPolicy, Answer, Documents, IsAnswered, IsPolicy, Reviews, decision, started, values_given, IsPolicyOf, Exit, Exits, HasExited, IsExit, OfVerdict, IsSaid, Said, Says, said_of, Images, Runs, Stands, StandsBy, this, Gives, Parts, document_given, documents_from, documents_given, parts_given, root_refusal, uid_in, uid_of, RunError, N2, N3, N4, N5}
 use Rattle.serde_json.specs.Data as json
 use Rattle.bpf_machine.specs.declared.status.Status.TheVariants.{Fault}
 use Rattle.policy_glue.specs.Checking as checking
+use Rattle.policy_glue.specs.Response.{response_of}
 use Rattle.policy_glue.specs.Verdict.{Outcome}
-use Rattle.review_runner.specs.Deciding.{answer_of}
+use Rattle.review_runner.specs.Deciding.{answer_of, is_allowed}
 use Rattle.review_runner.specs.declared.refusals.run_error.RunError.TheVariants.{Memory}
 use Rattle.review_runner.proofs.RootContents.{are_five, are_started, contents_are, has_values, refused_documents, refused_roots, uid_is}
 
@@ -36,7 +37,7 @@ pub few_findings : (f : FailurePolicy) (t : PolicyTree) (roots : Roots) → leng
 unfolding decision_of verdict_of
 few_findings f t roots = grind (arith, findings_by, length-map)
 
--- ---- what is said, and where the program stands
+-- ---- where the program stands
 
 -- the laws of starts and of the states behind them
 pub record Laws : Type 0 where
@@ -58,25 +59,25 @@ module _ (gate : CompiledPolicy) (d : Documents) (of : IsPolicyOf d.policy gate)
   abbrev policy : IsPolicy d.policy
   policy = record { rules = gate.policy; is_said = of.0; trees = of.1.trees; compiles = of.1.compiles }
 
-  -- what is said of a review, and how the image stands
-  abbrev pub SaysSo : Result Said RunError → Type 0
-  SaysSo result = Says d n result × StandsBy (this gate.image) d n result
+  -- what the program has left of a review, and how the image stands
+  abbrev pub ExitsSo : Result Exit RunError → Type 0
+  ExitsSo result = Exits gate.policy d n result × StandsBy (this gate.image) d n result
 
-  by_documents : (e : RunError) → values_given d ≡ Err e → IsOfDocuments e → SaysSo (Err e)
+  by_documents : (e : RunError) → values_given d ≡ Err e → IsOfDocuments e → ExitsSo (Err e)
   by_documents e is of = grind (arith, policy)
 
   -- the documents are refused
-  pub not_given : (e : RunError) → Gives {B = List Value} (λ ds. map view ds) (documents_given (Some d.review) d.namespace d.params) (Err e) → SaysSo (Err e)
+  pub not_given : (e : RunError) → Gives {B = List Value} (λ ds. map view ds) (documents_given (Some d.review) d.namespace d.params) (Err e) → ExitsSo (Err e)
   unfolding documents_given
   not_given Memory due = (tt, tt)
   not_given e due = by_documents e (refused_documents d.review d.namespace d.params e due) (given_refusal (parts_given (Some d.review)) (document_given d.namespace) (document_given d.params) e due)
 
   module _ (documents : List json.Data) (are_documents : documents_given (Some d.review) d.namespace d.params ≡ Ok documents) where
-    no_roots : (e : TableError) → start_contents documents ≡ Err e → IsOfDocuments (root_refusal e) → SaysSo (Err (root_refusal e))
+    no_roots : (e : TableError) → start_contents documents ≡ Err e → IsOfDocuments (root_refusal e) → ExitsSo (Err (root_refusal e))
     no_roots e is = by_documents (root_refusal e) (refused_roots d.review d.namespace d.params documents e are_documents is)
 
     -- the roots are refused
-    pub not_started : (e : TableError) → Starts {S = Contents} (λ c. c) (start_contents documents) (Err e) → SaysSo (Err (root_refusal e))
+    pub not_started : (e : TableError) → Starts {S = Contents} (λ c. c) (start_contents documents) (Err e) → ExitsSo (Err (root_refusal e))
     not_started e due = grind (arith, by_test, no_roots)
 
     module _ (laws : Laws) (roots : Roots) (starts : start_contents documents ≡ Ok (started roots)) where
@@ -109,74 +110,92 @@ module _ (gate : CompiledPolicy) (d : Documents) (of : IsPolicyOf d.policy gate)
       standing : (due : Verdict → Status) → s.status ≡ due (decision run.case) → Stands (this gate.image) d n due
       standing due is = record { run = run; is_meant = refl; status = is }
 
-      unended : s.status ≡ Running → SaysSo (Err N4)
+      unended : s.status ≡ Running → ExitsSo (Err N4)
       unended running =
           elim (cases_lt n (128 * policy_work f of.1.trees roots)) [
             | inl before ↦ (record { case = run.case; early = before }, standing (λ v. Running) running)
             | inr not_before ↦ absurd (not_running (decides not_before) running)
           ]
 
-      stopped_by : (fault : GuestFault) → s.status ≡ Fault fault → Decides f of.1.trees roots (started roots) s → SaysSo (Err N5)
+      stopped_by : (fault : GuestFault) → s.status ≡ Fault fault → Decides f of.1.trees roots (started roots) s → ExitsSo (Err N5)
       stopped_by fault is (Over by why) = (record { case = run.case; beyond = why }, standing (λ v. Fault F8) by)
       stopped_by fault is (Left by layout) = cc
 
-      said_by : (w : ℕ) (said : Said) → s.status ≡ Exited w → IsSaidBy gate.policy s (uid_in d.review) said → Decides f of.1.trees roots (started roots) s → SaysSo (Ok said)
-      said_by w said is told (Over by why) = cc
-      said_by w said is told (Left by layout) =
+      exit_by : (w : ℕ) → s.status ≡ Exited w → Decides f of.1.trees roots (started roots) s → ExitsSo (Ok (record { state = s; uid = uid_in d.review }))
+      exit_by w is (Over by why) = cc
+      exit_by w is (Left by layout) =
           let memory = (laws.states.after gate.image (started roots) n of.1.program.code of.1.program.constants has.table).memory in
           let many = compiled_length gate.policy (Ok of.1.trees) of.1.trees of.1.compiles refl in
           let few : length (decision run.case).findings ≤ length gate.policy.validations = omega (arith, few_findings f of.1.trees roots, many) in
-          (record { case = run.case; said_is = told (decision run.case) memory few layout }, standing (λ v. Exited (outcome_word v.outcome)) by)
+          (record { case = run.case; of_policy = refl; is_memory = memory; few = few; layout = layout; uid_is = refl }, standing (λ v. Exited (outcome_word v.outcome)) by)
 
-      said_from : (result : Result Said RunError) → SaysFrom gate.policy s (uid_in d.review) result → SaysSo result
-      said_from (Ok said) from = said_by from.0.0 said from.0.1 from.1 (stopped (ap is_running from.0.1))
-      said_from (Err N4) from = unended from
-      said_from (Err N5) from = stopped_by from.0 from.1 (stopped (ap is_running from.1))
-      said_from (Err Memory) from = (tt, tt)
-      said_from (Err e) from = absurd from
+      ended : HasExited s.status (Ok tt) → ExitsSo (Ok (record { state = s; uid = uid_in d.review }))
+      ended exited = exit_by exited.0 exited.1 (stopped (ap is_running exited.1))
 
-    -- the program has run
-    pub was_run : Laws → (values : Contents) (request : json.Data) (result : Result Said RunError) → start_contents documents ≡ Ok values
-        → (length documents ≡ 5 → slice_get documents 4 ≡ Some request)
-        → SaysFrom gate.policy (state_after n (start_state gate.image values)) (uid_of request) result → SaysSo result
-    was_run laws values request result starts at from =
-        let five = are_five (Some d.review) d.namespace d.params documents are_documents in
-        let begun = are_started documents values five.five starts in
-        let same : uid_of request ≡ uid_in d.review = uid_is d.review d.namespace d.params documents request are_documents (at five.five) in
-        let from = subst (λ (uid : List ℕ). SaysFrom gate.policy (state_after n (start_state gate.image values)) uid result) same from in
-        said_from laws begun.roots (starts ∙ ap Ok begun.are) result
-        (subst (λ (v : Contents). SaysFrom gate.policy (state_after n (start_state gate.image v)) (uid_in d.review) result) begun.are from)
+      not_ended : (e : RunError) → HasExited s.status (Err e) → ExitsSo (Err e)
+      not_ended N4 running = unended running
+      not_ended N5 faulted = stopped_by faulted.0 faulted.1 (stopped (ap is_running faulted.1))
+      not_ended e none = absurd none
+
+    module _ (laws : Laws) (values : Contents) (starts : start_contents documents ≡ Ok values) (machine : State) (is : machine ≡ state_after n (start_state gate.image values)) where
+      -- what holds of a state behind a start on roots holds of the machine
+      of_machine : (P : State → Type 0) → ((roots : Roots) → start_contents documents ≡ Ok (started roots) → P (state_after n (start_state gate.image (started roots)))) → P machine
+      of_machine P of_roots =
+          let begun = are_started documents values (are_five (Some d.review) d.namespace d.params documents are_documents).five starts in
+          subst P (sym is) (subst (λ (v : Contents). P (state_after n (start_state gate.image v))) (sym begun.are) (of_roots begun.roots (starts ∙ ap Ok begun.are)))
+
+      -- the program has not exited
+      pub not_exited : (e : RunError) → HasExited machine.status (Err e) → ExitsSo (Err e)
+      not_exited e = of_machine (λ s. HasExited s.status (Err e) → ExitsSo (Err e)) (λ roots begins. not_ended laws roots begins e)
+
+      -- the program has exited
+      pub has_exited : (request : json.Data) (uid : List ℕ) → (length documents ≡ 5 → slice_get documents 4 ≡ Some request) → uid ≡ uid_of request
+          → HasExited machine.status (Ok tt) → ExitsSo (Ok (record { state = machine; uid = uid }))
+      has_exited request uid at of_request =
+          let five = (are_five (Some d.review) d.namespace d.params documents are_documents).five in
+          let same : uid ≡ uid_in d.review = of_request ∙ uid_is d.review d.namespace d.params documents request are_documents (at five) in
+          of_machine (λ s. HasExited s.status (Ok tt) → ExitsSo (Ok (record { state = s; uid = uid })))
+          (λ roots begins exited. subst (λ (u : List ℕ). ExitsSo (Ok (record { state = state_after n (start_state gate.image (started roots)); uid = u }))) (sym same) (ended laws roots begins exited))
 
 -- the fifth document
 pub at_four : (ds : List Value) (x : Value) → length (map view ds) ≡ 5 → slice_get (map view ds) 4 ≡ Some (view (get_or ds 4 x))
 at_four (a ∷ b ∷ c ∷ e ∷ g ∷ more) x five = refl
 at_four ds x five = absurd (omega (arith, five))
 
--- ---- answers by what is said
+-- ---- what is made of it
 
-allowed_by : (o : Outcome) (ds : List Denial) → is_silent (objection_by o ds) ≡ is_allowed o
-allowed_by o ds = grind arith
+-- a refusal of a review says the same, whatever is answered else
+pub refused_so : (A B : Type 0) (meant : Images) (d : Documents) (n : ℕ) (e : RunError) → StandsBy {A = A} meant d n (Err e) → StandsBy {A = B} meant d n (Err e)
+refused_so A B meant d n N4 stands = stands
+refused_so A B meant d n N5 stands = stands
+refused_so A B meant d n e stands = tt
 
-tree_by : (o : Outcome) (ds : List Denial) (uid : List ℕ) → objected_tree (objection_by o ds) uid ≡ tree_of o ds uid
-tree_by o ds uid = grind arith
+-- a reply of this text, which allows so
+pub replied : (p : Rules) (v : Verdict) (uid response : List ℕ) (allowed : Bool) → response ≡ response_of p v uid → allowed ≡ is_allowed v.outcome
+    → record { response = response; allowed = allowed } ≡ answer_of p v uid
+replied p v uid response allowed text allows = λ i. record { response = text i; allowed = allows i }
 
-text_is : (p : Rules) (v : Verdict) (uid : List ℕ) → response_text (objection_of p v) uid ≡ response_of p v uid
-unfolding response_of response_text
-text_is p v uid = ap (λ t. compact_text (review_tree t)) (tree_by v.outcome (denials_of p.failure_policy p.validations v.findings) uid)
+-- the reply to the verdict that was left
+pub answered : (p : Rules) (d : Documents) (exit : Exit) (answer : Answer) → IsExit p d exit → OfVerdict p exit.state (λ v. answer ≡ answer_of p v exit.uid) → IsAnswered d answer
+answered p d exit answer is of = record {
+  case = is.case;
+  answer_is = of (decision is.case) is.is_memory is.few is.layout ∙ ap (answer_of p (decision is.case)) is.uid_is
+      ∙ ap (λ (q : Rules). answer_of q (decision is.case) (uid_in d.review)) (sym is.of_policy);
+}
 
-answer_is : (p : Rules) (v : Verdict) (uid : List ℕ) → answer_by (said_of p v uid) ≡ answer_of p v uid
-answer_is p v uid = grind (arith, allowed_by, text_is)
+-- what the verdict that was left says
+pub said_so : (p : Rules) (d : Documents) (exit : Exit) (said : Said) → IsExit p d exit → OfVerdict p exit.state (λ v. said ≡ said_of p v exit.uid) → IsSaid d said
+said_so p d exit said is of = record {
+  case = is.case;
+  said_is = of (decision is.case) is.is_memory is.few is.layout ∙ ap (said_of p (decision is.case)) is.uid_is
+      ∙ ap (λ (q : Rules). said_of q (decision is.case) (uid_in d.review)) (sym is.of_policy);
+}
 
--- the reply that says it
-pub answered : (d : Documents) (said : Said) (answer : Answer) → IsSaid d said → answer ≡ answer_by said → IsAnswered d answer
-answered d said answer is by =
-    record { case = is.case; answer_is = by ∙ ap answer_by is.said_is ∙ answer_is is.case.policy.rules (decision is.case) (uid_in d.review) }
+-- a review that is refused
+pub says_refused : (d : Documents) (n : ℕ) (e : RunError) → Reviews d n (Err e) → Says d n (Err e)
+says_refused d n N4 refused = refused
+says_refused d n e refused = refused
 
--- the answer by what is said
-abbrev pub answer_said : Result Said RunError → Result Answer RunError
-answer_said (Ok said) = Ok (answer_by said)
-answer_said (Err e) = Err e
-
--- a review comes to that answer, and the image stands as before
-pub reviewed : (meant : Images) (d : Documents) (n : ℕ) (r : Result Said RunError) → Says d n r → StandsBy meant d n r → Reviews d n (answer_said r) × StandsBy meant d n (answer_said r)
-reviewed meant d n r says stands = grind (arith, answered)
+pub reviews_refused : (d : Documents) (n : ℕ) (e : RunError) → Says d n (Err e) → Reviews d n (Err e)
+reviews_refused d n N4 refused = refused
+reviews_refused d n e refused = refused

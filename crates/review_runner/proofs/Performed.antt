@@ -1,5 +1,13 @@
 -- Orders that are done, and what they leave.
-use Rattle.review_runner.proofs.Prelude.{◌≡◌, ℕ, true, List, Result, Ok, Err, Option, refl, arith, IfOk, IsErr, OnErr, AllocError, OneImage, FileSystem, KeepsFiles, Task, Outcome, output_of, refused, lacks_memory, performs, IsDone, LacksMemory, Performs, PerformsBy, WritesImage, only_reads, Done, Refusal, Memory}
+use Rattle.review_runner.proofs.Prelude.{◌≡◌, ◌∙◌, ℕ, true, false, List, [], Result, Ok, Err, Option, refl, sym, ap, subst, arith, IfOk, IsErr, OnErr, OnOk, AllocError, OneImage, FileSystem, KeepsFiles, OpensFile, RunsOut, ReviewFiles, Task, is_session, Outcome, output_by, output_of, refused, report_of, lacks_memory, performs, IsDone, LacksMemory, Performs, PerformsBy, WritesImage, only_reads, named_files, unread, Done, Refusal, Memory, SourceKind, PolicyDocument, ProgramText}
+use Rattle.std.proofs.Common.{◌≢◌}
+use Rattle.review_runner.specs.Order.{assemble, compile, debug, list, review, run_image}
+use Rattle.review_runner.specs.Output.{Output}
+use Rattle.review_runner.specs.PolicyFiles.{HoldsReview}
+use Rattle.review_runner.specs.declared.answer.Answer.{Answer}
+use Rattle.review_runner.specs.declared.refusals.file_error.FileError.TheVariants as file_error
+use Rattle.review_runner.proofs.HeldFiles.{holds, unread as unread_file}
+use Rattle.review_runner.proofs.MadeFiles.{same_files}
 
 -- ---- files
 
@@ -25,12 +33,66 @@ kept old new task r p = by (Err r) p refl
     by outcome (performs p) is = kept_by_task old new task outcome p is
     by outcome (lacks_memory l) is = kept_by_lack old new task l
 
+unread_source : (kind : SourceKind) (known : Option FileSystem) (name : List ℕ) → RunsOut kind known name
+unread_source PolicyDocument known name = record { reading = Err file_error.Memory; is_reading = λ f is. tt; may = λ e. cc }
+unread_source ProgramText known name = record { reading = Err file_error.Memory; is_reading = λ f is. tt; may = (λ e. cc, λ held e. cc) }
+
+unread_image : (known : Option FileSystem) (image : List ℕ) → OpensFile known image (Err Memory)
+unread_image known image = record { reading = Err file_error.Memory; is_reading = λ f is. tt; opens = λ r is. cc }
+
+unread_review : (known : Option FileSystem) (files : ReviewFiles) → HoldsReview known files (Err file_error.Memory)
+unread_review known files =
+    holds known files.policy (named_files files) (Err file_error.Memory) (λ f is. tt) (unread_file known (named_files files).review) (unread_file known (named_files files).namespace)
+    (unread_file known (named_files files).params)
+
+-- memory may run out before a file is read
+pub no_room : (old : Option FileSystem) (task : Task) → is_session task ≡ false → PerformsBy OneImage old task old (Err Memory)
+no_room old (compile policy image) is = lacks_memory (same_files old old refl, unread_source PolicyDocument old policy)
+no_room old (review files n) is = performs (record { held = Err file_error.Memory; holds = unread_review old files; stays = refl; reviews = unread })
+no_room old (run_image image n) is = lacks_memory (refl, unread_image old image)
+no_room old (assemble text image) is = lacks_memory (same_files old old refl, unread_source ProgramText old text)
+no_room old (list image) is = lacks_memory (refl, unread_image old image)
+no_room old (debug image documents) is = cc
+
 -- ---- what is to be written
 
+-- what is written of an answer, and this to standard error
+abbrev pub answered_with : Answer → List ℕ → Output
+answered_with answer err = record { status = answer.status; out = answer.out.items; err = err }
+
+-- an order that was answered
+pub is_answered : (old new : Option FileSystem) (task : Task) (answer : Answer) (err : List ℕ) → PerformsBy OneImage old task new (Ok (report_of answer)) → err ≡ []
+    → IsDone OneImage old task new (answered_with answer err)
+is_answered old new task answer err p none = by (Ok (report_of answer)) p refl
+  where
+    by : (outcome : Outcome) → PerformsBy OneImage old task new outcome → outcome ≡ Ok (report_of answer) → IsDone OneImage old task new (answered_with answer err)
+    by outcome (performs p) is = record {
+      outcome = outcome;
+      performs = p;
+      has_memory = λ lacks. cc;
+      output_is = ap (answered_with answer) none ∙ ap output_by (sym is);
+    }
+    by outcome (lacks_memory l) is = cc
+
 -- an order that was refused
-pub is_refused : (old new : Option FileSystem) (task : Task) (r : Refusal) (result : Result Done AllocError) → PerformsBy OneImage old task new (Err r) → (r ≡ Memory → IsErr result)
+pub is_refused : (old new : Option FileSystem) (task : Task) (r : Refusal) (result : Result Done AllocError) → PerformsBy OneImage old task new (Err r) → OnOk result (r ≢ Memory)
     → IfOk result (λ d. output_of d ≡ refused r) → IfOk result (λ d. IsDone OneImage old task new (output_of d))
-is_refused old new task r result p memory is = grind arith
+is_refused old new task r (Err e) p other is = tt
+is_refused old new task r (Ok d) p other is = by (Err r) p refl
+  where
+    by : (outcome : Outcome) → PerformsBy OneImage old task new outcome → outcome ≡ Err r → IsDone OneImage old task new (output_of d)
+    by outcome (performs p) so = record {
+      outcome = outcome;
+      performs = p;
+      has_memory = λ lacks. other (let same : r ≡ Memory = cc in same);
+      output_is = is ∙ ap output_by (sym so);
+    }
+    by outcome (lacks_memory l) so = absurd (other (let same : r ≡ Memory = cc in same))
+
+pub lacks_on_err : (old new : Option FileSystem) (task : Task) (r : Refusal) (result : Result Done AllocError) → PerformsBy OneImage old task new (Err r) → OnErr result (r ≡ Memory)
+    → OnErr result (PerformsBy OneImage old task new (Err Memory))
+lacks_on_err old new task r (Ok d) p is = tt
+lacks_on_err old new task r (Err e) p is = subst (λ (q : Refusal). PerformsBy OneImage old task new (Err q)) is p
 
 pub kept_on_err : (old new : Option FileSystem) (task : Task) (r : Refusal) (result : Result Done AllocError) → PerformsBy OneImage old task new (Err r)
     → OnErr result (KeepsFiles old new)

@@ -22,11 +22,11 @@ pub use Rattle.json.specs.{Json.if_last, Lex.tokens}
 unfoldable pub use Rattle.json.specs.{Json.value}
 pub use Rattle.loader.specs.{Contents.version_number, declared.load_error.LoadError.LoadError, declared.version.Version.TheVariants.First}
 unfoldable pub use Rattle.loader.specs.{Format.image_from, Format.image_in}
-pub use Rattle.policy_glue.specs.{Budget.policy_work, Checking.Ends, Checking.PartsEnd, Compiled.IsProgram, Layout.IsLayout, Layout.IsMessageWord, Layout.finding_word, Layout.message_in, Layout.outcome_word, Layout.truth_word, Limits.Compiles, Objections.objected_tree, Objections.objection_by, Objections.objection_of, OneAnswer.HasOneImage, OneImage.OneImage, Policy.Rules, ProgramTrees.Decides, ProgramTrees.Left, ProgramTrees.Over, Response.Denial, Response.denials_of, Response.tree_of, Trees.PolicyTree, Verdict.Finding, Verdict.Verdict, Verdict.decided, Verdict.judged_by, declared.compile_error.CompileError.CompileError, declared.failure_policy.FailurePolicy.FailurePolicy}
-unfoldable pub use Rattle.policy_glue.specs.{Documents.document_of, Evaluation.decision_of, Objections.response_text, Reading.policy_in, Reading.policy_of, Response.response_of, Response.review_tree, Verdict.verdict_of}
+pub use Rattle.policy_glue.specs.{Budget.policy_work, Checking.Ends, Checking.PartsEnd, Compiled.IsProgram, Layout.IsLayout, Layout.IsMessageWord, Layout.finding_word, Layout.message_in, Layout.outcome_word, Layout.truth_word, Limits.Compiles, OneAnswer.HasOneImage, OneImage.OneImage, Policy.Rules, ProgramTrees.Decides, ProgramTrees.Left, ProgramTrees.Over, Trees.PolicyTree, Verdict.Finding, Verdict.Verdict, Verdict.decided, Verdict.judged_by, declared.compile_error.CompileError.CompileError, declared.failure_policy.FailurePolicy.FailurePolicy}
+unfoldable pub use Rattle.policy_glue.specs.{Documents.document_of, Evaluation.decision_of, Reading.policy_in, Reading.policy_of, Verdict.verdict_of}
 pub use Rattle.serde_json.proofs.{Views.view-Object, Views.view-lookup, Views.view_of_ref}
 unfoldable pub use Rattle.serde_json.proofs.{OnLiterals.serde_json_on_literals}
-pub use Rattle.serde_json.specs.{Find.get, Find.get_member, Read.float_of, Read.is_integer, Read.max_depth, Read.number_from, Read.of_items, Read.of_json, Read.of_members, View.members_view, View.view, Written.compact_text, declared.value.Value.Value}
+pub use Rattle.serde_json.specs.{Find.get, Find.get_member, Read.float_of, Read.is_integer, Read.max_depth, Read.number_from, Read.of_items, Read.of_json, Read.of_members, View.members_view, View.view, declared.value.Value.Value}
 pub use Rattle.value_store.specs.{Laws.StartIsCanonical, Placing.Contents, Placing.charge_limit, Placing.first_values, Roots.Starts, Roots.contents_of, Roots.root_of, Roots.root_then, Roots.roots_of, Roots.sizes, Roots.start_contents, Value.ValueOrError, declared.table_error.TableError.TableError, declared.table_error.TableError.TheVariants.V3}
-pub use Rattle.review_runner.specs.{Debugging.HoldsFiles, Debugging.IsReadingGiven, Debugging.ReadingGiven, Debugging.held_by, Debugging.held_view, Debugging.start_of, Debugging.started_on, Deciding.Answer, Deciding.Case, Deciding.CompilesDocument, Deciding.Documents, Deciding.IsAnswered, Deciding.IsPolicy, Deciding.IsPolicyOf, Deciding.Reviews, Deciding.decision, Deciding.is_allowed, Deciding.started, Deciding.values_given, Deciding.values_of_roots, FileSystem.FileSystem, FileSystem.IsReading, FileSystem.IsWriting, FileSystem.KeepsFiles, FileSystem.Reading, Lent.documents_lent, Making.Assembled, Making.FileBy, Making.MadeBy, Making.MadeFrom, Making.MadeOf, Making.MayRunOut, Making.RunsOut, Making.file_from, Making.no_file, Making.no_program, Making.no_text, Making.program, Number.are_digits, Number.number_written, Number.writes_u64, OneAnswer.HasOneAnswer, Opening.IsAnswer, Opening.IsUnrefused, Opening.OpensFile, Opening.opened, Opening.opened_by, Order.DocumentFiles, Order.IsWithinLimits, Order.Ordered, Order.ReviewFiles, Order.Task, Order.list, Order.order_in, Order.order_view, Order.review, Order.run_image, Order.task_named, Output.Outcome, Output.Report, Output.outcome_of, Output.output_of, Output.refused, Output.run_image_outcome, Output.run_outcome, Output.succeeded, Performing.IsDone, Performing.LacksMemory, Performing.Listed, Performing.MakesFile, Performing.Performs, Performing.PerformsBy, Performing.WritesImage, Performing.failed, Performing.lacks_memory, Performing.listed, Performing.making, Performing.nothing, Performing.only_reads, Performing.performs, Performing.unlisted, Performing.written, PolicyFiles.CompiledFrom, PolicyFiles.ReviewsHeld, PolicyFiles.held_with, PolicyFiles.image, PolicyFiles.named_files, PolicyFiles.no_image, PolicyFiles.review_outcome, PolicyFiles.reviewed, PolicyFiles.unread, Program.AsksNothing, Program.Ending, Program.Writes, Program.WritesPart, Program.cut, Program.ending_line, Program.no_memory, Program.no_words, Program.not_taken, Program.order, Program.session, Program.task, Program.whole, Refusals.file_refusal, Refusals.order_refusal, Refusals.policy_refusal_of, Refusals.program_refusal, Reviews.Gives, Reviews.Parts, Reviews.accepted, Reviews.contents_from, Reviews.document_given, Reviews.documents_from, Reviews.is_review, Reviews.is_text, Reviews.member_or_null, Reviews.members_in, Reviews.null_parts, Reviews.parts_given, Reviews.parts_in, Reviews.request_of, Reviews.root_refusal, Reviews.roots_from, Reviews.text_or_empty, Reviews.uid_of, Reviews.without, RootValues.AreOfRoots, RootValues.DocumentsHaveValues, RootValues.GivenHaveValues, Running.run_of, Saying.IsSaid, Saying.IsSaidBy, Saying.Said, Saying.Says, Saying.SaysFrom, Saying.answer_by, Saying.is_silent, Saying.said_of, Standing.Images, Standing.Runs, Standing.Stands, Standing.StandsBy, Standing.this, Telling.AreReferences, Telling.IsDecided, Telling.TellsVerdict, Telling.VerdictIsTold, Telling.numbered_lines, Telling.outcome_line, Telling.shown_after, Telling.start, Telling.world_after, declared.command_line.order.Order.Order, declared.done.Done.Done, declared.images.source_kind.SourceKind.SourceKind, declared.images.source_kind.SourceKind.TheVariants.PolicyDocument, declared.images.source_kind.SourceKind.TheVariants.ProgramText, declared.refusals.file_error.FileError.FileError, declared.refusals.file_error.FileError.TheVariants.Failed, declared.refusals.order_error.OrderError.OrderError, declared.refusals.order_error.OrderError.TheVariants.U1, declared.refusals.policy_refusal.PolicyRefusal.PolicyRefusal, declared.refusals.refusal.Refusal.Refusal, declared.refusals.refusal.Refusal.TheVariants.Memory, declared.refusals.run_error.RunError.RunError, declared.refusals.run_error.RunError.TheVariants.N2, declared.refusals.run_error.RunError.TheVariants.N3, declared.refusals.run_error.RunError.TheVariants.N4, declared.refusals.run_error.RunError.TheVariants.N5, declared.reviews.compiled_policy.CompiledPolicy.CompiledPolicy}
+pub use Rattle.review_runner.specs.{Debugging.HoldsFiles, Debugging.IsReadingGiven, Debugging.ReadingGiven, Debugging.held_by, Debugging.held_view, Debugging.start_of, Debugging.started_on, Deciding.Answer, Deciding.Case, Deciding.CompilesDocument, Deciding.Documents, Deciding.IsAnswered, Deciding.IsPolicy, Deciding.IsPolicyOf, Deciding.Reviews, Deciding.decision, Deciding.started, Deciding.values_given, Deciding.values_of_roots, Exiting.Exit, Exiting.Exits, Exiting.HasExited, Exiting.IsExit, Exiting.OfVerdict, FileSystem.FileSystem, FileSystem.IsReading, FileSystem.IsWriting, FileSystem.KeepsFiles, FileSystem.Reading, Lent.documents_lent, Making.Assembled, Making.FileBy, Making.MadeBy, Making.MadeFrom, Making.MadeOf, Making.MayRunOut, Making.RunsOut, Making.file_from, Making.no_file, Making.no_program, Making.no_text, Making.program, Number.are_digits, Number.number_written, Number.writes_u64, OneAnswer.HasOneAnswer, Opening.IsAnswer, Opening.IsUnrefused, Opening.OpensFile, Opening.opened, Opening.opened_by, Order.DocumentFiles, Order.IsWithinLimits, Order.Ordered, Order.ReviewFiles, Order.Task, Order.is_session, Order.list, Order.order_in, Order.order_view, Order.review, Order.run_image, Order.task_named, Output.Outcome, Output.Report, Output.outcome_of, Output.output_by, Output.output_of, Output.refused, Output.report_of, Output.run_image_outcome, Output.run_outcome, Output.succeeded, Performing.IsDone, Performing.LacksMemory, Performing.Listed, Performing.MakesFile, Performing.Performs, Performing.PerformsBy, Performing.WritesImage, Performing.failed, Performing.lacks_memory, Performing.listed, Performing.making, Performing.nothing, Performing.only_reads, Performing.performs, Performing.unlisted, Performing.written, PolicyFiles.CompiledFrom, PolicyFiles.ReviewsHeld, PolicyFiles.held_with, PolicyFiles.image, PolicyFiles.named_files, PolicyFiles.no_image, PolicyFiles.review_outcome, PolicyFiles.reviewed, PolicyFiles.unread, Program.AnswersOrder, Program.Asks, Program.AsksNothing, Program.Does, Program.DoesTask, Program.Ending, Program.EndsBy, Program.Given, Program.Puts, Program.System, Program.Writes, Program.WritesPart, Program.cut, Program.ending_line, Program.no_memory, Program.no_words, Program.not_taken, Program.order, Program.session, Program.task, Program.whole, Refusals.file_refusal, Refusals.order_refusal, Refusals.policy_refusal_of, Refusals.program_refusal, Reviews.Gives, Reviews.Parts, Reviews.accepted, Reviews.contents_from, Reviews.document_given, Reviews.documents_from, Reviews.is_review, Reviews.is_text, Reviews.member_or_null, Reviews.members_in, Reviews.null_parts, Reviews.parts_given, Reviews.parts_in, Reviews.request_of, Reviews.root_refusal, Reviews.roots_from, Reviews.text_or_empty, Reviews.uid_of, Reviews.without, RootValues.AreOfRoots, RootValues.DocumentsHaveValues, RootValues.GivenHaveValues, Running.run_of, Saying.IsSaid, Saying.Said, Saying.Says, Saying.said_of, Standing.Images, Standing.Runs, Standing.Stands, Standing.StandsBy, Standing.this, Telling.AreReferences, Telling.IsDecided, Telling.TellsVerdict, Telling.VerdictIsTold, Telling.numbered_lines, Telling.outcome_line, Telling.shown_after, Telling.start, Telling.world_after, declared.command_line.order.Order.Order, declared.done.Done.Done, declared.images.source_kind.SourceKind.SourceKind, declared.images.source_kind.SourceKind.TheVariants.PolicyDocument, declared.images.source_kind.SourceKind.TheVariants.ProgramText, declared.refusals.file_error.FileError.FileError, declared.refusals.file_error.FileError.TheVariants.Failed, declared.refusals.order_error.OrderError.OrderError, declared.refusals.order_error.OrderError.TheVariants.U1, declared.refusals.policy_refusal.PolicyRefusal.PolicyRefusal, declared.refusals.refusal.Refusal.Refusal, declared.refusals.refusal.Refusal.TheVariants.File, declared.refusals.refusal.Refusal.TheVariants.Memory, declared.refusals.run_error.RunError.RunError, declared.refusals.run_error.RunError.TheVariants.N2, declared.refusals.run_error.RunError.TheVariants.N3, declared.refusals.run_error.RunError.TheVariants.N4, declared.refusals.run_error.RunError.TheVariants.N5, declared.reviews.compiled_policy.CompiledPolicy.CompiledPolicy}
 unfoldable pub use Rattle.review_runner.specs.{Commands.bare_app, Commands.celbpf_app, Commands.debug_app, Commands.deciding_app, Commands.entered, Commands.faults, Commands.file_rule, Commands.list_app, Commands.making_app, Commands.option_rule, Commands.required_option_rule, Commands.review_app, Commands.run_image_app, Commands.running_app, Commands.steps_rule, Commands.with_documents, Number.number_of, Order.assemble_in, Order.compile_in, Order.debug_in, Order.list_in, Order.review_in, Order.run_image_in, Reviews.contents_given, Reviews.documents_given, Reviews.parts_of, Reviews.uid_in, Running.run_of_file, Telling.told_text}

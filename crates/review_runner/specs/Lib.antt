@@ -10,6 +10,7 @@ pub mod Deciding
 pub mod Lent
 pub mod OneAnswer
 pub mod Saying
+pub mod Exiting
 pub mod Standing
 pub mod RootRows
 pub mod Rows

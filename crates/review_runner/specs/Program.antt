@@ -3,6 +3,7 @@ use Rattle.std.specs.Prelude.{◌≡◌, ℕ, ◌<◌, List, [], length, take, m
 use Rattle.std.specs.declared.alloc.Global.{Global}
 use Rattle.clap.specs.Words.{Text}
 use Rattle.debugger.specs.Streams.{AddsBytes, Stream, one_more}
+use Rattle.debugger.specs.declared.failed.Failed.{Failed}
 use Rattle.review_runner.specs.Commands.{entered, faults}
 use Rattle.review_runner.specs.Debugging.{DebugsByResult}
 use Rattle.review_runner.specs.FileSystem.{FileSystem}
@@ -11,6 +12,7 @@ use Rattle.review_runner.specs.Output.{Outcome, Report}
 use Rattle.review_runner.specs.Performing.{PerformsBy}
 use Rattle.review_runner.specs.Refusals.{order_refusal, refusal_line, refusal_status}
 use Rattle.review_runner.specs.Standing.{Images}
+use Rattle.review_runner.specs.declared.done.Done.{Done}
 use Rattle.review_runner.specs.declared.refusals.order_error.OrderError.{OrderError}
 use Rattle.review_runner.specs.declared.refusals.refusal.Refusal.{Refusal, TheVariants.File, TheVariants.Memory, TheVariants.Words}
 
@@ -121,3 +123,20 @@ pub record Ends (meant : Images) (given : Given) (old new : System) (errors erro
   pub does : Does meant given old new ending
   pub status_is : status ≡ ending_status ending
   pub says : Says errors errors_after ending
+
+-- ---- parts
+
+-- these bytes were written, and nothing was written of none, or a write failed
+abbrev pub Puts : Stream → Stream → List ℕ → Result (Unit {0}) Failed → Type 0
+Puts old new bytes (Ok u) = Writes old new bytes × (bytes ≡ [] → new ≡ old)
+Puts old new bytes (Err e) = WritesPart old new bytes
+
+-- the line that is left for standard error, and the status
+pub record LeavesEnding (done : Done) (ending : Ending) : Type 0 where
+  pub status : done.status ≡ ending_status ending
+  pub line : done.err.items ≡ ending_line ending
+
+-- an ending of this kind, whose line is left to be written, or which is a refusal
+abbrev pub EndsBy : (Ending → Type 0) → Result Done Refusal → Type 0
+EndsBy does (Ok done) = (ending : Ending) × does ending × LeavesEnding done ending
+EndsBy does (Err r) = does (Err r)

@@ -147,6 +147,10 @@ refusal_text Memory = codes "memory"
 abbrev pub refusal_line : Refusal → List ℕ
 refusal_line r = codes "celbpf: " ++ (refusal_text r ++ 10 ∷ [])
 
+-- the room that every such line has
+abbrev pub longest_line : ℕ
+longest_line = 80
+
 -- a run without a verdict ends with 4, all else that keeps a review from its answer with 3
 abbrev pub run_error_status : RunError → ℕ
 run_error_status (N1 e) = 3

@@ -2,7 +2,7 @@
 
 mod commands;
 pub(crate) mod order;
-pub mod reader;
+pub(crate) mod reader;
 pub mod values;
 
 pub use commands::{parse, required_option_argument, steps_argument, with_documents};

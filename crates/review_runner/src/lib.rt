@@ -1,6 +1,6 @@
 //! What the program does: orders read from the words of a command line, and done with files and
-//! streams that the caller gives. `exit_code` is the program whole; `reader::order` reads the words,
-//! `perform` does an order and `debug` a session.
+//! streams that the caller gives. `exit_code` is the program whole; `order` reads the words, `perform`
+//! does an order and `debug` a session.
 #![tactic(auto)]
 
 mod answer;
@@ -16,7 +16,8 @@ mod reviews;
 pub mod rows;
 
 pub use command_line::order::Order;
-pub use command_line::{reader, values};
+pub use command_line::reader::order;
+pub use command_line::values;
 pub use documents::document_names::DocumentNames;
 pub use documents::files::Files;
 pub use documents::review_names::ReviewNames;

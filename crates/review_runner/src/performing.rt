@@ -1,11 +1,12 @@
 //! Orders, done with files that the caller gives.
-ghost use Rattle.std.specs.Prelude.{◌≡◌, false, true, IfOk, OnErr};
+ghost use Rattle.std.specs.Prelude.{◌≡◌, false, true, Err, IfOk, OnErr};
 ghost use Rattle.policy_glue.specs.OneImage.{OneImage};
 ghost use Rattle.review_runner.specs.FileSystem.{KeepsFiles};
 ghost use Rattle.review_runner.specs.Opening.{IsAnswer};
 ghost use Rattle.review_runner.specs.Order.{is_session, order_view, run_image};
 ghost use Rattle.review_runner.specs.Output.{outcome_of, output_by, output_of, report_of, run_image_outcome, run_status};
 ghost use Rattle.review_runner.specs.Performing.{IsDone, only_reads, PerformsBy};
+ghost use Rattle.review_runner.specs.declared.refusals.refusal.Refusal.TheVariants.{Memory};
 
 use crate::answer::Answer;
 use crate::command_line::order::Order;
@@ -16,6 +17,7 @@ use crate::images::making::make_file;
 use crate::images::running::run_image;
 use crate::images::source_kind::SourceKind;
 use crate::refusals::refusal::Refusal;
+use crate::refusals::refusal_line::LONGEST_LINE;
 use crate::reviews::review_files::review_files;
 use bpf_machine::Status;
 use std::alloc::{AllocError, Global};
@@ -25,25 +27,26 @@ use std::alloc::{AllocError, Global};
 pub fn perform<F: Files>(alloc: Global, order: &Order, files: &mut F) -> Result<Done, AllocError>
     requires { is_session (order_view order.now) ≡ false }
     ensures done { IfOk result (λ d. IsDone OneImage (F.known files.old) (order_view order.now) (F.known files.new) (output_of d)) }
+    // Memory runs out only where the order may lack it, so what is refused is answered as itself.
+    ensures lacks { OnErr result (PerformsBy OneImage (F.known files.old) (order_view order.now) (F.known files.new) (Err Memory)) }
     ensures memory { OnErr result (KeepsFiles (F.known files.old) (F.known files.new)) }
     ensures stays { only_reads (order_view order.now) ≡ true → F.known files.new ≡ F.known files.old }
 {
-    match outcome(alloc, order, files) {
+    // The room for a refusal's line comes first: no refusal is lost for want of memory behind it.
+    let room = Vec::with_capacity(alloc, LONGEST_LINE)?;
+    match answer(alloc, order, files) {
         Ok(answer) => Ok(Done {
             status: answer.status,
             out: answer.out,
-            err: Vec::new(alloc),
+            err: room,
         }),
-        Err(refusal) => refusal.answer(alloc),
+        Err(refusal) => refusal.done(alloc, room),
     }
 }
 
-/// Does the order. What is refused before anything grows is answered as itself.
-pub(crate) fn outcome<F: Files>(
-    alloc: Global,
-    order: &Order,
-    files: &mut F,
-) -> Result<Answer, Refusal>
+/// What is answered to an order, or its refusal. What is refused before anything grows is answered as
+/// itself.
+fn answer<F: Files>(alloc: Global, order: &Order, files: &mut F) -> Result<Answer, Refusal>
     requires { is_session (order_view order.now) ≡ false }
     ensures { PerformsBy OneImage (F.known files.old) (order_view order.now) (F.known files.new) (outcome_of result) }
 {

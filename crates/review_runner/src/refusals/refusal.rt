@@ -1,7 +1,7 @@
 //! Why the program does not do what it is asked.
-ghost use Rattle.std.specs.Prelude.{◌≡◌, IfOk};
+ghost use Rattle.std.specs.Prelude.{◌≡◌, ◌≢◌, ◌≤◌, [], vec_capacity, vec_len, IfOk, OnErr, OnOk};
 ghost use Rattle.review_runner.specs.Output.{output_of, refused};
-ghost use Rattle.review_runner.specs.Refusals.{file_refusal, load_refusal, order_refusal, policy_refusal_of, program_refusal, refusal_status, run_error_status, run_refusal, session_refusal};
+ghost use Rattle.review_runner.specs.Refusals.{file_refusal, load_refusal, longest_line, order_refusal, policy_refusal_of, program_refusal, refusal_status, run_error_status, run_refusal, session_refusal};
 ghost use Rattle.review_runner.specs.declared.refusals.refusal.Refusal.TheVariants as refusal;
 
 use crate::done::Done;
@@ -52,30 +52,34 @@ impl Refusal {
         }
     }
 
-    /// What the program writes in place of an answer.
-    pub fn done(self, alloc: Global) -> Result<Done, AllocError>
-        ensures { IfOk result (λ d. output_of d ≡ refused self) }
-    {
-        let line = refusal_line(alloc, self);
-        Ok(Done {
-            status: self.status(),
-            out: Vec::new(alloc),
-            err: Vec::from_slice(alloc, line.as_slice())?,
-        })
-    }
-}
-
-impl Refusal {
-    ghost use Rattle.std.specs.Prelude.{IsErr};
-
-    /// What the program writes in place of an answer, of which want of memory is none.
-    pub(crate) fn answer(self, alloc: Global) -> Result<Done, AllocError>
+    /// What the program writes in place of an answer, of which want of memory is none: the refusal's
+    /// line, in the room that is given.
+    pub(crate) fn done(self, alloc: Global, room: Vec<u8>) -> Result<Done, AllocError>
+        requires empty { room.items ≡ [] }
+        requires len { vec_len room ≡ 0 }
+        requires enough { longest_line ≤ vec_capacity room }
         ensures done { IfOk result (λ d. output_of d ≡ refused self) }
-        ensures memory { self ≡ refusal.Memory → IsErr result }
+        ensures memory { OnErr result (self ≡ refusal.Memory) }
+        ensures told { OnOk result (self ≢ refusal.Memory) }
     {
         match self {
             Refusal::Memory => Err(AllocError),
-            _ => self.done(alloc),
+            _ => Ok(self.told(alloc, room)),
+        }
+    }
+
+    /// The refusal's line, in the room that is given, and its status.
+    fn told(self, alloc: Global, room: Vec<u8>) -> Done
+        requires empty { room.items ≡ [] }
+        requires len { vec_len room ≡ 0 }
+        requires enough { longest_line ≤ vec_capacity room }
+        ensures { output_of result ≡ refused self }
+    {
+        let line = refusal_line(alloc, self);
+        Done {
+            status: self.status(),
+            out: Vec::new(alloc),
+            err: line.in_room(room),
         }
     }
 }

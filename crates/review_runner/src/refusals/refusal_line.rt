@@ -1,6 +1,6 @@
 //! The line of standard error that tells of a refusal.
-ghost use Rattle.std.specs.Prelude.{◌≡◌, ◌≤◌, ◌+◌, ◌++◌, [], length, decimal, codes};
-ghost use Rattle.review_runner.specs.Refusals.{document_text, image_refusal, policy_text, refusal_line, refusal_text, run_text, text_refusal};
+ghost use Rattle.std.specs.Prelude.{◌≡◌, ◌≤◌, ◌+◌, ◌++◌, [], length, decimal, codes, vec_capacity, vec_len};
+ghost use Rattle.review_runner.specs.Refusals.{document_text, image_refusal, longest_line, policy_text, refusal_line, refusal_text, run_text, text_refusal};
 ghost use Rattle.policy_glue.specs.CompileErrors.{compile_text, expression_text, kind_text};
 
 use crate::refusals::policy_refusal::PolicyRefusal;
@@ -14,10 +14,14 @@ use smallvec::SmallVec;
 use std::alloc::Global;
 use std::marker::Model;
 
+/// The most bytes of a refusal's line.
+pub(crate) const LONGEST_LINE: usize = 80;
+
 /// The line that tells of a refusal. It takes no memory, and is written by hand: a `Display` may
 /// fail whatever it writes to, and this line is told of every refusal.
 pub fn refusal_line(alloc: Global, refusal: Refusal) -> RefusalLine
-    ensures { result ≡ refusal_line refusal }
+    ensures text { result ≡ refusal_line refusal }
+    ensures length { length result ≤ longest_line }
 {
     let mut line = RefusalLine::new(alloc);
     line.push_text("celbpf: ");
@@ -58,6 +62,20 @@ impl RefusalLine {
         ensures { result.now ≡ self.now }
     {
         self.bytes.as_slice()
+    }
+
+    /// The line in the room that is given, which has enough of it.
+    pub fn in_room(&self, room: Vec<u8>) -> Vec<u8>
+        requires empty { room.items ≡ [] }
+        requires len { vec_len room ≡ 0 }
+        requires enough { length self.now ≤ vec_capacity room }
+        ensures { result.items ≡ self.now }
+    {
+        let mut line = room;
+        match line.extend_from_slice(self.as_slice()) {
+            Ok(()) => line,
+            Err(_) => unreachable!(),
+        }
     }
 
     /// Appends the refusal's number or its word.

@@ -7,10 +7,13 @@ ghost use Rattle.bpf_machine.specs.States.{StatesAreKept};
 ghost use Rattle.bpf_machine.specs.Trace.{state_after};
 ghost use Rattle.value_store.specs.Laws.{StartIsCanonical};
 ghost use Rattle.policy_glue.specs.OneImage.{OneImage};
-ghost use Rattle.review_runner.specs.Deciding.{answer_view, CompilesDocument, IsPolicyOf, Reviews};
+ghost use Rattle.policy_glue.specs.Layout.{outcome_word};
+ghost use Rattle.policy_glue.specs.Verdict.{Outcome};
+ghost use Rattle.review_runner.specs.Deciding.{answer_of, answer_view, is_allowed, CompilesDocument, IsPolicyOf, Reviews};
+ghost use Rattle.review_runner.specs.Exiting.{exit_view, Exits, HasExited, OfVerdict};
 ghost use Rattle.review_runner.specs.Lent.{documents_lent};
 ghost use Rattle.review_runner.specs.Reviews.{uid_of};
-ghost use Rattle.review_runner.specs.Saying.{said_value, said_view, IsSaidBy, Says, SaysFrom};
+ghost use Rattle.review_runner.specs.Saying.{said_of, said_value, said_view, Says};
 ghost use Rattle.review_runner.specs.Standing.{this, StandsBy};
 
 use crate::refusals::policy_refusal::PolicyRefusal;
@@ -22,7 +25,7 @@ use crate::reviews::said::Said;
 use bpf_machine::laws::{starts_are_tables, states_are_kept};
 use bpf_machine::{Machine, Program, Status};
 use guest_memory::Guest;
-use policy_glue::{Policy, Verdict, objection_of};
+use policy_glue::{Policy, Verdict, objection_of, respond};
 use serde_json::Value;
 use std::alloc::{AllocError, Global};
 use std::marker::Model;
@@ -88,8 +91,8 @@ impl Gate {
         // And its image stands as the answer says.
         ensures runs { (policy : List ℕ) → IsPolicyOf policy self.now → StandsBy (this self.now.image) (documents_lent policy review.now namespace.entry params.entry) n (answer_view result) }
     {
-        let said = self.say(review, namespace, params, n)?;
-        Ok(said.reply(self.alloc)?)
+        let (machine, uid) = self.run(review, namespace, params, n)?;
+        Ok(reply(self.alloc, &self.policy, &machine, uid.as_str())?)
     }
 
     /// What the policy says of a review, in the terms of `decide`.
@@ -107,6 +110,21 @@ impl Gate {
         ensures says { (policy : List ℕ) → IsPolicyOf policy self.now → Says (documents_lent policy review.now namespace.entry params.entry) n (said_view result) }
         ensures runs { (policy : List ℕ) → IsPolicyOf policy self.now → StandsBy (this self.now.image) (documents_lent policy review.now namespace.entry params.entry) n (said_view result) }
     {
+        let (machine, uid) = self.run(review, namespace, params, n)?;
+        Ok(said(self.alloc, &self.policy, &machine, uid)?)
+    }
+
+    /// The machine in which the policy's program has exited on a review, and the uid of its request.
+    fn run(
+        &self,
+        review: &[u8],
+        namespace: Option<&[u8]>,
+        params: Option<&[u8]>,
+        n: u64,
+    ) -> Result<(Machine<Table, Guest>, String), RunError>
+        ensures exits { (policy : List ℕ) → IsPolicyOf policy self.now → Exits self.now.policy (documents_lent policy review.now namespace.entry params.entry) n (exit_view result) }
+        ensures runs { (policy : List ℕ) → IsPolicyOf policy self.now → StandsBy (this self.now.image) (documents_lent policy review.now namespace.entry params.entry) n (exit_view result) }
+    {
         starts_stand();
         let documents = root_documents(self.alloc, Some(review), namespace, params)?;
         // The table takes the documents, and what it refuses counts before want of memory for the uid.
@@ -114,7 +132,8 @@ impl Gate {
         let table = Table::of_documents(self.alloc, documents)?;
         let uid = uid?;
         let machine = ran(self.alloc, &self.program, table, n)?;
-        said(self.alloc, &self.policy, &machine, uid)
+        has_exited(&machine)?;
+        Ok((machine, uid))
     }
 }
 
@@ -153,30 +172,48 @@ fn uid_of(request: &Value) -> &str
     }
 }
 
-/// What is said to the request with this uid, by the state in which the policy's program stands.
-fn said(
-    alloc: Global,
-    policy: &Policy,
-    machine: &Machine<Table, Guest>,
-    uid: String,
-) -> Result<Said, RunError>
-    ensures { SaysFrom policy.now machine.now (string_bytes uid) (said_view result) }
+/// That the policy's program has exited, or why it left no verdict. It takes no memory.
+fn has_exited(machine: &Machine<Table, Guest>) -> Result<(), RunError>
+    ensures { HasExited machine.now.status result }
 {
     match machine.status() {
-        Status::Exited(_) => Ok(said_by(alloc, policy, machine, uid)?),
+        Status::Exited(_) => Ok(()),
         Status::Fault(_) => Err(RunError::N5),
         Status::Running => Err(RunError::N4),
     }
 }
 
-/// What is said by the verdict that the policy's program has left.
-fn said_by(
+/// The reply to the request with this uid, by the verdict that the policy's program has left.
+#[tactic(auto, using(crate::proofs::Decided::replied))]
+fn reply(
+    alloc: Global,
+    policy: &Policy,
+    machine: &Machine<Table, Guest>,
+    uid: &str,
+) -> Result<Reply, AllocError>
+    ensures { IfOk result (λ r. OfVerdict policy.now machine.now (λ v. (record { response = r.response.items; allowed = r.allowed }) ≡ answer_of policy.now v uid.now)) }
+{
+    let verdict = Verdict::of(machine.memory(), machine.values(), policy);
+    let response = respond(alloc, policy, &verdict, uid)?;
+    let allowed = allows(verdict.outcome);
+    Ok(Reply { response, allowed })
+}
+
+/// Whether this word of an outcome allows the request: the policy was skipped, or admits it.
+fn allows(outcome: u64) -> bool
+    ensures { (o : Outcome) → outcome ≡ outcome_word o → result ≡ is_allowed o }
+{
+    outcome == 1 || outcome == 4
+}
+
+/// What is said to the request with this uid, by the verdict that the policy's program has left.
+fn said(
     alloc: Global,
     policy: &Policy,
     machine: &Machine<Table, Guest>,
     uid: String,
 ) -> Result<Said, AllocError>
-    ensures { IfOk result (λ x. IsSaidBy policy.now machine.now (string_bytes uid) (said_value x)) }
+    ensures { IfOk result (λ x. OfVerdict policy.now machine.now (λ v. said_value x ≡ said_of policy.now v (string_bytes uid))) }
 {
     let verdict = Verdict::of(machine.memory(), machine.values(), policy);
     let objection = objection_of(alloc, policy, &verdict)?;

@@ -1,10 +1,6 @@
 //! What policies say of reviews.
-ghost use Rattle.std.specs.Prelude.{◌≡◌, IfOk};
-ghost use Rattle.review_runner.specs.Saying.{answer_by, said_value};
 
-use crate::reviews::reply::Reply;
-use policy_glue::{Objection, response_text};
-use std::alloc::{AllocError, Global};
+use policy_glue::Objection;
 
 /// What a policy says of a review.
 #[derive(Drop)]
@@ -13,15 +9,4 @@ pub struct Said {
     pub objection: Option<Objection>,
     /// The uid of the request.
     pub uid: String,
-}
-
-impl Said {
-    /// The reply that says it.
-    pub fn reply(&self, alloc: Global) -> Result<Reply, AllocError>
-        ensures { IfOk result (λ r. (record { response = r.response.items; allowed = r.allowed }) ≡ answer_by (said_value self.now)) }
-    {
-        let response = response_text(alloc, &self.objection, self.uid.as_str())?;
-        let allowed = self.objection.is_none();
-        Ok(Reply { response, allowed })
-    }
 }

@@ -7,7 +7,7 @@ use std::test::Fail;
 /// The order of a command line.
 fn order(alloc: Global, line: &str) -> Result<Order, OrderError> {
     let words: Vec<&str> = line.split(' ').collect(alloc)?;
-    review_runner::reader::order(alloc, words.as_slice())
+    review_runner::order(alloc, words.as_slice())
 }
 
 fn is_run(order: &Result<Order, OrderError>, name: &str, number: u64) -> bool {

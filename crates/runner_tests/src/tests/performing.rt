@@ -2,7 +2,7 @@
 
 use super::doubles::OneFile;
 use debugger::Counting;
-use review_runner::{DocumentNames, Done, Order, OrderError, Refusal, debug, perform};
+use review_runner::{DocumentNames, Done, Order, Refusal, debug, perform};
 use std::alloc::{AllocError, Global};
 use std::test::Fail;
 
@@ -122,15 +122,5 @@ fn debugs_images(rt: HostRuntime) -> Result<(), Fail> {
     assert!(rt; debugs(rt.alloc(), "a.img", SAID.len(), Ok(())));
     assert!(rt; debugs(rt.alloc(), "a.img", 25, Err(Refusal::Output)));
     assert!(rt; debugs(rt.alloc(), "b.img", 0, Err(Refusal::File)));
-    Ok(())
-}
-
-/// The lines of refusals that no order leaves.
-#[test]
-fn refuses_words_and_memory(rt: HostRuntime) -> Result<(), Fail> {
-    let words = Refusal::from(OrderError::U1).done(rt.alloc())?;
-    assert!(rt; is_refused(&words, b"celbpf: U1\n", 2));
-    let memory = Refusal::from(OrderError::Memory).done(rt.alloc())?;
-    assert!(rt; is_refused(&memory, b"celbpf: memory\n", 3));
     Ok(())
 }

@@ -1,4 +1,6 @@
-use Rattle.review_runner.proofs.Prelude.{Ok, Err, refl, order, session}
+use Rattle.review_runner.proofs.Prelude.{Ok, Err, refl, ap, session}
+use Rattle.review_runner.proofs.Programs.{as_task}
+use Rattle.review_runner.specs.Output.{Output}
 use Rattle.review_runner.proofs.Results.{is_err}
 use Rattle.review_runner.proofs.program.done.Goals as goal
 
@@ -8,7 +10,11 @@ returns-in_err-debug-in-Debug g c =
 
 pub returns-in_ok-debug-in-Debug : goal.returns-in_ok-debug-in-Debug
 returns-in_ok-debug-in-Debug g c =
-    rw (c.in-Debug.is, ← c.as_str.ensures.value) (session (Ok tt) c.in_ok-debug-in-Debug.ensures.debugs c.in_ok-debug-in-Debug.ensures.known)
+    rw (c.in-Debug.is, ← c.as_str.ensures.value) (
+      Ok 0,
+      session (Ok tt) c.in_ok-debug-in-Debug.ensures.debugs c.in_ok-debug-in-Debug.ensures.known,
+      record { status = ap (λ (o : Output). o.status) c.nothing.ensures; line = ap (λ (o : Output). o.err) c.nothing.ensures },
+    )
 
 pub returns-in-Compile : goal.returns-in-Compile
-returns-in-Compile g c = order c.answer.ensures refl
+returns-in-Compile g c = as_task _ _ _ c.answer.result c.answer.ensures refl

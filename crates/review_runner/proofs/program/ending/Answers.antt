@@ -1,6 +1,6 @@
-use Rattle.review_runner.proofs.Prelude.{refl, no_words, task}
+use Rattle.review_runner.proofs.Prelude.{refl, no_words}
 use Rattle.review_runner.specs.Program.{nothing}
-use Rattle.review_runner.proofs.Programs.{words_refused}
+use Rattle.review_runner.proofs.Programs.{as_asked, words_refused}
 use Rattle.review_runner.proofs.Results.{is_err}
 use Rattle.review_runner.proofs.program.ending.Goals as goal
 
@@ -14,4 +14,4 @@ returns-in_err-asked g c =
 pub returns : goal.returns
 returns g c =
     let ordered = rw c.deref.ensures.value at c.in_ok-asked.ensures in
-    rw c.in_ok-words.was (task (record { words = _; are_given = refl; are_taken = ordered.0; asked = ordered.1 }) c.done.ensures)
+    rw c.in_ok-words.was (as_asked _ _ _ _ c.done.result (record { words = _; are_given = refl; are_taken = ordered.0; asked = ordered.1 }) c.done.ensures)

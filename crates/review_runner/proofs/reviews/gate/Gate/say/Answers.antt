@@ -1,26 +1,16 @@
-use Rattle.review_runner.proofs.Prelude.{◌∙◌, get_or, ℕ, List, view, IsPolicyOf, documents_lent}
-use Rattle.review_runner.proofs.Decided.{Laws, at_four, not_given, not_started, was_run}
+use Rattle.review_runner.proofs.Prelude.{ℕ, List, Exit, Said, documents_lent, this}
+use Rattle.review_runner.proofs.Decided.{refused_so, said_so, says_refused}
 use Rattle.review_runner.proofs.Results.{is_err}
 use Rattle.review_runner.proofs.reviews.gate.Gate.say.Goals as goal
 
-pub returns-in_err-documents : goal.returns-in_err-documents
-returns-in_err-documents c =
-    let due = λ (policy : List ℕ) (of : IsPolicyOf policy c.args.self.now).
-    not_given c.args.self.now (documents_lent policy c.args.review.now c.args.namespace c.args.params) of c.args.n _ c.in_err-documents.ensures in
-    rw (is_err c.from_residual.ensures.1) (record { says = λ policy of. (due policy of).0; runs = λ policy of. (due policy of).1 })
-
-pub returns-in_err-table : goal.returns-in_err-table
-returns-in_err-table c =
-    let due = λ (policy : List ℕ) (of : IsPolicyOf policy c.args.self.now).
-    not_started c.args.self.now (documents_lent policy c.args.review.now c.args.namespace c.args.params) of c.args.n _ c.in_ok-documents.ensures _ c.in_err-table.ensures in
-    rw (is_err c.from_residual-in_err-table.ensures.1) (record { says = λ policy of. (due policy of).0; runs = λ policy of. (due policy of).1 })
+pub returns-in_err-machine : goal.returns-in_err-machine
+returns-in_err-machine c =
+    let documents = λ (policy : List ℕ). documents_lent policy c.args.review.now c.args.namespace c.args.params in
+    rw (is_err c.from_residual.ensures.1)
+    (record { says = λ policy of. says_refused (documents policy) c.args.n c.in_err-machine.field-0.0 (c.in_err-machine.ensures.exits policy of); runs = λ policy of. refused_so Exit Said (this c.args.self.now.image) (documents policy) c.args.n c.in_err-machine.field-0.0 (c.in_err-machine.ensures.runs policy of) })
 
 pub returns : goal.returns
 returns c =
-    let laws : Laws = record { tables = c.starts_stand.ensures.tables; canonical = c.starts_stand.ensures.canonical; states = c.starts_stand.ensures.states } in
-    let request = view (get_or c.in_ok-documents.documents 4 c.index-documents-4.result) in
-    let fifth = at_four c.in_ok-documents.documents c.index-documents-4.result in
-    let from = rw (c.in_ok-machine.ensures, c.in_ok-uid.ensures.ok ∙ c.uid_of.ensures) at c.said.ensures in
-    let due = λ (policy : List ℕ) (of : IsPolicyOf policy (record { policy = c.self.inside.policy; image = c.self.inside.program })).
-    was_run _ (documents_lent policy c.args.review.now c.args.namespace c.args.params) of c.args.n _ c.in_ok-documents.ensures laws _ request _ c.in_ok-table.ensures fifth from in
-    rw (← c.self.view_is) (record { says = λ policy of. (due policy of).0; runs = λ policy of. (due policy of).1 })
+    let exits = rw (← c.self.view_is) at c.in_ok-machine.ensures.exits in
+    let runs = rw (← c.self.view_is) at c.in_ok-machine.ensures.runs in
+    rw (← c.self.view_is) (record { says = λ policy of. said_so _ _ _ _ (exits policy of) c.in_ok-said.ensures; runs = λ policy of. runs policy of })

@@ -1,4 +1,4 @@
-use Rattle.review_runner.proofs.performing.outcome.Goals as goal
+use Rattle.review_runner.proofs.performing.answer.Goals as goal
 
 pub returns-in-Compile : goal.returns-in-Compile
 returns-in-Compile g c = rw (c.in-Compile.is, ← c.as_str.ensures.value, ← c.as_str-in-Compile.ensures.value) c.make_file.ensures

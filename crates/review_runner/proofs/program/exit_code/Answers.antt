@@ -1,0 +1,9 @@
+use Rattle.review_runner.proofs.Prelude.{Err}
+use Rattle.review_runner.proofs.Programs.{closes}
+use Rattle.review_runner.proofs.program.exit_code.Goals as goal
+
+pub returns-in-Ok : goal.returns-in-Ok
+returns-in-Ok g c = closes _ _ _ _ _ c.in-Ok.done _ c.in-Ok.ensures c.left.ensures.status c.left.ensures.says
+
+pub returns-in-Err : goal.returns-in-Err
+returns-in-Err g c = record { ending = Err _; does = c.in-Err.ensures; status_is = c.ended.ensures.status; says = c.ended.ensures.says }
